@@ -1,0 +1,2 @@
+//! Serial search passes.
+#![tactic(auto)]

@@ -1,0 +1,2 @@
+//! Environment files.
+#![tactic(auto)]

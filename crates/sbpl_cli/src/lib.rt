@@ -1,0 +1,2 @@
+//! The program's top call.
+#![tactic(auto)]

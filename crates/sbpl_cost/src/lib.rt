@@ -1,0 +1,2 @@
+//! Costs of primitives, and the lattice as a graph.
+#![tactic(auto)]

@@ -1,0 +1,2 @@
+//! Labels of states, the bound that they show, and the walk along their back arcs.
+#![tactic(auto)]

@@ -1,0 +1,2 @@
+//! The map of cell costs.
+#![tactic(auto)]

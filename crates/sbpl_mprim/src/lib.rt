@@ -1,0 +1,2 @@
+//! Motion primitive files.
+#![tactic(auto)]
