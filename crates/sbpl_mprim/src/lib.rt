@@ -1,2 +1,10 @@
 //! Motion primitive files.
 #![tactic(auto)]
+
+mod poses;
+mod prim;
+mod prims;
+
+pub use poses::Poses;
+pub use prim::Prim;
+pub use prims::Prims;

@@ -1,0 +1,54 @@
+-- An environment's numbers, and which of them an environment file may give.
+use Rattle.std.specs.Prelude.{◌≡◌, ℕ, ℤ, pos, negsuc, ◌+◌, ◌*◌, ◌^◌, ◌≤◌, ◌≤ℤ◌, ◌<ℤ◌}
+use Rattle.sbpl_cfg.specs.declared.pose.Pose.{Pose}
+use Rattle.sbpl_cfg.specs.Place.{cell_of}
+
+-- the numbers of an environment file
+pub record Environment : Type 0 where
+  pub width : ℕ
+  pub height : ℕ
+  pub obsthresh : ℕ
+  pub inscribed : ℕ
+  pub circumscribed : ℤ
+  pub cell : ℤ
+  pub speed : ℤ
+  pub turn45 : ℤ
+  pub start : Pose
+  pub end : Pose
+  pub headings : ℕ
+
+-- a number lies between two others
+abbrev pub IsWithin : ℤ → ℤ → ℤ → Type 0
+IsWithin low high z = (low ≤ℤ z) × (z ≤ℤ high)
+
+-- the numbers of headings that an environment file may have
+abbrev pub IsHeadingCount : ℕ → Type 0
+IsHeadingCount n = n ≡ 16
+
+-- a pose of an environment file lies in its ranges
+pub record IsPoseInRange (p : Pose) : Type 0 where
+  pub x : IsWithin (negsuc 999999999999999999) (pos 1000000000000000000) p.x
+  pub y : IsWithin (negsuc 999999999999999999) (pos 1000000000000000000) p.y
+  pub theta : IsWithin (negsuc 999999999999999999) (pos 1000000000000000000) p.theta
+
+-- the cell of a pose is on the map
+pub record IsPoseOnMap (e : Environment) (p : Pose) : Type 0 where
+  pub x : (pos 0 ≤ℤ cell_of e.cell p.x) × (cell_of e.cell p.x <ℤ pos e.width)
+  pub y : (pos 0 ≤ℤ cell_of e.cell p.y) × (cell_of e.cell p.y <ℤ pos e.height)
+
+-- each number lies in its range, there are at most 2 ^ 23 states, and both poses are on the map
+pub record IsEnvironment (e : Environment) : Type 0 where
+  pub width : (1 ≤ e.width) × (e.width ≤ 8388608)
+  pub height : (1 ≤ e.height) × (e.height ≤ 8388608)
+  pub obsthresh : e.obsthresh ≤ 255
+  pub inscribed : e.inscribed ≤ 255
+  pub circumscribed : IsWithin (negsuc 0) (pos 255) e.circumscribed
+  pub cell : IsWithin (pos 1) (pos 1000000000000) e.cell
+  pub speed : IsWithin (pos 1) (pos 1000000000000) e.speed
+  pub turn45 : IsWithin (pos 1) (pos 1000000000000) e.turn45
+  pub start_in_range : IsPoseInRange e.start
+  pub end_in_range : IsPoseInRange e.end
+  pub headings : IsHeadingCount e.headings
+  pub states : e.width * e.height * e.headings ≤ 8388608
+  pub start_on_map : IsPoseOnMap e e.start
+  pub end_on_map : IsPoseOnMap e e.end

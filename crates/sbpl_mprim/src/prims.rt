@@ -1,0 +1,50 @@
+//! The primitives of a file.
+
+ghost use Rattle.std.specs.Prelude.{◌≡◌, ◌<◌, ◌≤◌, Some, length, slice_get};
+
+use crate::prim::Prim;
+use std::marker::Model;
+
+/// The primitives of a file in file order, for one cell size and one number of headings. Its type keeps what the
+/// format asks of them.
+#[derive(Debug, Drop)]
+pub struct Prims {
+    cell: i64,
+    headings: u32,
+    items: Vec<Prim>,
+}
+
+impl Model for Prims {
+    ghost use Rattle.sbpl_mprim.specs.Primitives.{Primitives, ArePrimitives};
+
+    ghost Value = { Primitives };
+
+    ghost view = { λ p. record {
+      cell = p.cell;
+      headings = p.headings;
+      items = p.items.items;
+    } };
+
+    ghost invariant = { λ p. ArePrimitives (record {
+      cell = p.cell;
+      headings = p.headings;
+      items = p.items.items;
+    }) };
+}
+
+impl Prims {
+    /// How many primitives there are, at most 4096.
+    pub fn len(&self) -> u32
+        ensures count { result ≡ length self.now.items }
+    {
+        self.items.len() as u32
+    }
+
+    /// The primitive at place `i` of the file.
+    pub fn get(&self, i: u32) -> &Prim
+        requires place { i < length self.now.items }
+        ensures prim { slice_get self.now.items i ≡ Some result.now }
+    {
+        &self.items[i as usize]
+    }
+}
