@@ -1,3 +1,5 @@
-pub mod Fault
+pub mod Earlier
+pub mod Faults
 pub mod Judging
 pub mod Primitives
+pub mod Printed

@@ -1,9 +1,10 @@
 //! Why a text stands for no primitives.
 
 ghost use Rattle.std.specs.Prelude.{◌≡◌};
-ghost use Rattle.sbpl_mprim.specs.declared.fault.PrimFault.TheVariants.{NoMemory};
-ghost use Rattle.sbpl_mprim.specs.Fault.{fault_name, fault_number, fault_place};
+ghost use Rattle.sbpl_mprim.specs.declared.fault.PrimFault.TheVariants.{NoMemory as Memory};
+ghost use Rattle.sbpl_mprim.specs.Faults.{name_of, number_of, place_of};
 
+use sbpl_fixed::NoMemory;
 use std::alloc::{AllocError, AllocFailed};
 use thiserror::Error;
 
@@ -50,37 +51,37 @@ pub enum PrimFault {
     /// The poses read so far and those announced are above 200,000. The place is the number announced.
     #[error("byte {0}: too many poses")]
     TooLarge(usize),
-    /// Memory ran out.
+    /// Memory ran out. This says nothing of the text.
     #[error("out of memory")]
     NoMemory,
 }
 
 impl PrimFault {
-    /// The fault's number, 1..13 in the order of the variants. Want of memory has none.
-    pub fn number(self) -> Option<u8>
-        ensures number { result ≡ fault_number self }
+    /// The number that the program prints, 1 to 13 in the order of the variants; 0 for `NoMemory`, which isn't printed.
+    pub fn number(&self) -> u8
+        ensures number { result ≡ number_of self.now }
     {
         match self {
-            PrimFault::Word(_) => Some(1),
-            PrimFault::Number(_) => Some(2),
-            PrimFault::Range(_) => Some(3),
-            PrimFault::Ended(_) => Some(4),
-            PrimFault::Trailing(_) => Some(5),
-            PrimFault::Resolution(_) => Some(6),
-            PrimFault::Angles(_) => Some(7),
-            PrimFault::EndCell(_) => Some(8),
-            PrimFault::EndHeading(_) => Some(9),
-            PrimFault::NoPose(_) => Some(10),
-            PrimFault::SameId(_) => Some(11),
-            PrimFault::ZeroCost(_) => Some(12),
-            PrimFault::TooLarge(_) => Some(13),
-            PrimFault::NoMemory => None,
+            PrimFault::Word(_) => 1,
+            PrimFault::Number(_) => 2,
+            PrimFault::Range(_) => 3,
+            PrimFault::Ended(_) => 4,
+            PrimFault::Trailing(_) => 5,
+            PrimFault::Resolution(_) => 6,
+            PrimFault::Angles(_) => 7,
+            PrimFault::EndCell(_) => 8,
+            PrimFault::EndHeading(_) => 9,
+            PrimFault::NoPose(_) => 10,
+            PrimFault::SameId(_) => 11,
+            PrimFault::ZeroCost(_) => 12,
+            PrimFault::TooLarge(_) => 13,
+            PrimFault::NoMemory => 0,
         }
     }
 
-    /// The fault's name, as the variant has it.
-    pub fn name(self) -> &'static str
-        ensures name { result.now ≡ fault_name self }
+    /// The variant's name, as the program prints it.
+    pub fn name(&self) -> &'static str
+        ensures name { result.now ≡ name_of self.now }
     {
         match self {
             PrimFault::Word(_) => "Word",
@@ -100,9 +101,9 @@ impl PrimFault {
         }
     }
 
-    /// The place of the token that is wrong. Want of memory has none.
-    pub fn place(self) -> Option<usize>
-        ensures place { result ≡ fault_place self }
+    /// The fault's place in the text; 0 for `NoMemory`, which has none.
+    pub fn place(&self) -> usize
+        ensures place { result ≡ place_of self.now }
     {
         match self {
             PrimFault::Word(place)
@@ -117,14 +118,22 @@ impl PrimFault {
             | PrimFault::NoPose(place)
             | PrimFault::SameId(place)
             | PrimFault::ZeroCost(place)
-            | PrimFault::TooLarge(place) => Some(place),
-            PrimFault::NoMemory => None,
+            | PrimFault::TooLarge(place) => *place,
+            PrimFault::NoMemory => 0,
         }
     }
 }
 
+impl From<NoMemory> for PrimFault {
+    ghost from_gives = { λ _ e. e ≡ Memory };
+
+    fn from(_error: NoMemory) -> PrimFault {
+        PrimFault::NoMemory
+    }
+}
+
 impl From<AllocError> for PrimFault {
-    ghost from_gives = { λ _ e. e ≡ NoMemory };
+    ghost from_gives = { λ _ e. e ≡ Memory };
 
     fn from(_error: AllocError) -> PrimFault {
         PrimFault::NoMemory
@@ -132,7 +141,7 @@ impl From<AllocError> for PrimFault {
 }
 
 impl<T: Drop> From<AllocFailed<T>> for PrimFault {
-    ghost from_gives = { λ _ e. e ≡ NoMemory };
+    ghost from_gives = { λ _ e. e ≡ Memory };
 
     fn from(_error: AllocFailed<T>) -> PrimFault {
         PrimFault::NoMemory
