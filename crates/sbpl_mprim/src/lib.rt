@@ -11,6 +11,6 @@ mod printing;
 
 pub use fault::PrimFault;
 pub use poses::Poses;
-pub use prim::Prim;
+pub use prim::{Prim, Primitive};
 pub use prims::Prims;
 pub use printing::print_prims;
