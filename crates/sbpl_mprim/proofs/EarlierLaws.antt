@@ -5,7 +5,7 @@ use Rattle.std.proofs.lemmas.List.Folds.{list_any-append}
 use Rattle.std.proofs.lemmas.List.Sums.{sum_by-append}
 use Rattle.std.specs.BTreeSet.{BTreeSet, contains, Updates}
 use Rattle.std.specs.Ordering.{is_eq}
-use Rattle.sbpl_mprim.specs.declared.prim.Prim.{Prim}
+use Rattle.sbpl_mprim.specs.declared.prim.Primitive.{Primitive}
 use Rattle.sbpl_mprim.specs.Earlier.{id_cmp, IsKept}
 use Rattle.sbpl_mprim.specs.Judging.{has_id}
 use Rattle.sbpl_mprim.specs.Primitives.{pose_count}
@@ -20,10 +20,10 @@ or_swapped true false = refl
 or_swapped false true = refl
 or_swapped false false = refl
 
-has_id_more : (prims : List Prim) (prim : Prim) (from id : ℕ) → has_id (prims ++ prim ∷ []) from id ≡ (has_id prims from id || (((prim.from == from) && (prim.id == id)) || false))
-has_id_more prims prim from id = list_any-append (λ (p : Prim). (p.from == from) && (p.id == id)) prims (prim ∷ [])
+has_id_more : (prims : List Primitive) (prim : Primitive) (from id : ℕ) → has_id (prims ++ prim ∷ []) from id ≡ (has_id prims from id || (((prim.from == from) && (prim.id == id)) || false))
+has_id_more prims prim from id = list_any-append (λ (p : Primitive). (p.from == from) && (p.id == id)) prims (prim ∷ [])
 
-pub kept_more : (prims : List Prim) (prim : Prim) (old new : BTreeSet (ℕ × ℕ)) (count : ℕ) → IsKept prims old count → sum_by pose_count prims + length prim.poses ≤ 200000
+pub kept_more : (prims : List Primitive) (prim : Primitive) (old new : BTreeSet (ℕ × ℕ)) (count : ℕ) → IsKept prims old count → sum_by pose_count prims + length prim.poses ≤ 200000
     → Updates id_cmp old new (prim.from, prim.id) true → IsKept (prims ++ prim ∷ []) new (count + length prim.poses)
 kept_more prims prim old new count kept few updates = record {
   ids = λ from id.

@@ -5,7 +5,7 @@ use Rattle.std.specs.List.{list_all, list_any}
 use Rattle.std.specs.Ordering.{int_eq}
 use Rattle.sbpl_cfg.specs.declared.pose.Pose.{Pose}
 use Rattle.sbpl_cfg.specs.Place.{heading_of}
-use Rattle.sbpl_mprim.specs.declared.prim.Prim.{Prim}
+use Rattle.sbpl_mprim.specs.declared.prim.Primitive.{Primitive}
 use Rattle.sbpl_mprim.specs.Primitives.{offset_cell}
 
 -- an end heading as a file writes it, taken modulo the number of headings
@@ -29,9 +29,9 @@ are_at_one_point [] = true
 are_at_one_point (p ∷ ps) = list_all (is_same_point p) ps
 
 -- a primitive costs nothing: its multiplier is 0, or it neither moves nor turns
-abbrev pub costs_nothing : Prim → Bool
+abbrev pub costs_nothing : Primitive → Bool
 costs_nothing prim = (prim.mult == 0) || ((prim.from == prim.to) && are_at_one_point prim.poses)
 
 -- one of these has this start heading and this id
-abbrev pub has_id : List Prim → ℕ → ℕ → Bool
+abbrev pub has_id : List Primitive → ℕ → ℕ → Bool
 has_id prims from id = list_any (λ p. (p.from == from) && (p.id == id)) prims

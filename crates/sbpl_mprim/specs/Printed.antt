@@ -4,7 +4,7 @@ use Rattle.std.specs.Fmt.{signed_decimal}
 use Rattle.std.specs.List.{flat_map}
 use Rattle.sbpl_cfg.specs.declared.pose.Pose.{Pose}
 use Rattle.sbpl_fixed.specs.Printed.{nano_text}
-use Rattle.sbpl_mprim.specs.declared.prim.Prim.{Prim}
+use Rattle.sbpl_mprim.specs.declared.prim.Primitive.{Primitive}
 use Rattle.sbpl_mprim.specs.Primitives.{Primitives, IsOffsetInRange}
 
 -- the text of a line of words
@@ -24,16 +24,16 @@ abbrev pub pose_line : Pose → List (List ℕ)
 pose_line p = nano_text p.x ∷ nano_text p.y ∷ nano_text p.theta ∷ []
 
 -- the line of a word and the end of a primitive
-abbrev pub end_line : List ℕ → Prim → List (List ℕ)
+abbrev pub end_line : List ℕ → Primitive → List (List ℕ)
 end_line name p = name ∷ signed_decimal p.dx ∷ signed_decimal p.dy ∷ decimal p.to ∷ []
 
 -- the lines of a primitive without its poses
-abbrev pub prim_head : Prim → List (List (List ℕ))
+abbrev pub prim_head : Primitive → List (List (List ℕ))
 prim_head p =
     field (codes "primID:") p.id ∷ field (codes "startangle_c:") p.from ∷ end_line (codes "endpose_c:") p
     ∷ field (codes "additionalactioncostmult:") p.mult ∷ field (codes "intermediateposes:") (length p.poses) ∷ []
 
-abbrev pub prim_lines : Prim → List (List (List ℕ))
+abbrev pub prim_lines : Primitive → List (List (List ℕ))
 prim_lines p = prim_head p ++ map pose_line p.poses
 
 -- the lines before the first primitive
@@ -54,6 +54,6 @@ abbrev pub ArePrintable : List Pose → Type 0
 ArePrintable poses = (i : ℕ) (p : Pose) → slice_get poses i ≡ Some p → IsOffsetInRange p
 
 -- a primitive with few enough poses, whose numbers lie in their ranges
-pub record IsPrintable (p : Prim) : Type 0 where
+pub record IsPrintable (p : Primitive) : Type 0 where
   pub few : length p.poses ≤ 200000
   pub poses : ArePrintable p.poses

@@ -21,10 +21,10 @@ pub(crate) struct Earlier {
 
 impl Model for Earlier {
     ghost use Rattle.std.specs.Prelude.{List};
-    ghost use Rattle.sbpl_mprim.specs.declared.prim.Prim.{Prim};
+    ghost use Rattle.sbpl_mprim.specs.declared.prim.Primitive.{Primitive};
     ghost use Rattle.sbpl_mprim.specs.Earlier.{IsKept};
 
-    ghost Value = { List Prim };
+    ghost Value = { List Primitive };
 
     ghost view = { λ e. e.prims.items };
 

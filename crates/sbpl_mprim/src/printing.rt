@@ -6,7 +6,7 @@ ghost use Rattle.std.specs.List.{flat_map};
 ghost use Rattle.sbpl_cfg.specs.Environment.{IsWithin};
 ghost use Rattle.sbpl_fixed.specs.Printed.{nano_text};
 ghost use Rattle.sbpl_mprim.specs.Primitives.{IsOffsetInRange};
-ghost use Rattle.sbpl_mprim.specs.declared.prim.Prim.{Prim as APrim};
+ghost use Rattle.sbpl_mprim.specs.declared.prim.Primitive.{Primitive as APrim};
 ghost use Rattle.sbpl_mprim.specs.Printed.{ArePrintable, IsPrintable, end_line, field, line_text, lines_text, pose_line, prim_head, prim_lines, prims_head, prims_text};
 
 use crate::prim::Prim;
@@ -117,7 +117,6 @@ fn print_prim(prim: &Prim, out: &mut Vec<u8>) -> Result<(), NoMemory>
 }
 
 /// The lines before the first primitive.
-#[tactic(auto, using(crate::proofs::Pieces::three))]
 fn print_head(prims: &Prims, out: &mut Vec<u8>) -> Result<(), NoMemory>
     ensures ok { OnOk result (out.new.items ≡ out.old.items ++ lines_text (prims_head prims.now)) }
 {
