@@ -2,9 +2,13 @@
 #![tactic(auto)]
 
 mod env;
+mod fault;
 mod grid;
+mod place;
 mod pose;
 
 pub use env::Env;
+pub use fault::EnvFault;
 pub use grid::Grid;
+pub use place::{TAU, cell_at, heading_at, place_at, places_in_plain_words};
 pub use pose::{Place, Pose};
