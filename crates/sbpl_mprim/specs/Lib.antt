@@ -3,3 +3,4 @@ pub mod Faults
 pub mod Judging
 pub mod Primitives
 pub mod Printed
+pub mod Reading

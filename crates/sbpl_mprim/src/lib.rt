@@ -4,10 +4,12 @@
 mod earlier;
 mod fault;
 mod judging;
+mod parts;
 mod poses;
 mod prim;
 mod prims;
 mod printing;
+mod reading;
 
 pub use fault::PrimFault;
 pub use poses::Poses;
