@@ -1,5 +1,15 @@
-//! Graphs with costs, and what labels on them show.
+//! Graphs with costs, guides to a goal, and what labels on a graph show.
 #![tactic(auto)]
 
-/// The label that stands for infinity.
+mod facts;
+mod graph;
+mod guide;
+mod zero;
+
+pub use facts::{bound_holds, none_holds};
+pub use graph::Graph;
+pub use guide::Guide;
+pub use zero::Zero;
+
+/// The label that stands for infinity. Every finite label is below `2^62`.
 pub const FAR: u64 = 1 << 63;
