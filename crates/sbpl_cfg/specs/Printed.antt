@@ -6,7 +6,7 @@ use Rattle.sbpl_cfg.specs.declared.pose.Pose.{Pose}
 use Rattle.sbpl_cfg.specs.Environment.{Environment}
 
 -- words parted by one space, with a line feed behind the last
-abbrev pub line_text : List (List ℕ) → List ℕ
+unfoldable pub line_text : List (List ℕ) → List ℕ
 line_text [] = 10 ∷ []
 line_text (w ∷ []) = w ++ 10 ∷ []
 line_text (w ∷ v ∷ ws) = w ++ 32 ∷ line_text (v ∷ ws)
@@ -20,17 +20,27 @@ lines_text (l ∷ ls) = line_text l ++ lines_text ls
 abbrev pub pose_words : List ℕ → Pose → List (List ℕ)
 pose_words word p = word ∷ nano_text p.x ∷ nano_text p.y ∷ nano_text p.theta ∷ []
 
--- the lines before the grid
-abbrev pub header_lines : Environment → List (List (List ℕ))
-header_lines e =
+-- the map's size, and what its costs mean
+abbrev pub size_lines : Environment → List (List (List ℕ))
+size_lines e =
     (codes "discretization(cells):" ∷ decimal e.width ∷ decimal e.height ∷ [])
     ∷ (codes "obsthresh:" ∷ decimal e.obsthresh ∷ [])
     ∷ (codes "cost_inscribed_thresh:" ∷ decimal e.inscribed ∷ [])
     ∷ (codes "cost_possibly_circumscribed_thresh:" ∷ signed_decimal e.circumscribed ∷ [])
-    ∷ (codes "cellsize(meters):" ∷ nano_text e.cell ∷ [])
+    ∷ []
+
+-- a cell's side, and the robot's speeds
+abbrev pub rate_lines : Environment → List (List (List ℕ))
+rate_lines e =
+    (codes "cellsize(meters):" ∷ nano_text e.cell ∷ [])
     ∷ (codes "nominalvel(mpersecs):" ∷ nano_text e.speed ∷ [])
     ∷ (codes "timetoturn45degsinplace(secs):" ∷ nano_text e.turn45 ∷ [])
-    ∷ pose_words (codes "start(meters,rads):") e.start
+    ∷ []
+
+-- the start, the end, and the word before the grid
+abbrev pub end_lines : Environment → List (List (List ℕ))
+end_lines e =
+    pose_words (codes "start(meters,rads):") e.start
     ∷ pose_words (codes "end(meters,rads):") e.end
     ∷ (codes "environment:" ∷ [])
     ∷ []
@@ -40,5 +50,9 @@ unfoldable pub grid_lines : ℕ → ℕ → List ℕ → List (List (List ℕ))
 grid_lines zero width cells = []
 grid_lines (suc rows) width cells = map decimal (take width cells) ∷ grid_lines rows width (drop width cells)
 
+-- all lines
+abbrev pub environment_lines : Environment → List ℕ → List (List (List ℕ))
+environment_lines e cells = size_lines e ++ (rate_lines e ++ (end_lines e ++ grid_lines e.height e.width cells))
+
 abbrev pub environment_text : Environment → List ℕ → List ℕ
-environment_text e cells = lines_text (header_lines e ++ grid_lines e.height e.width cells)
+environment_text e cells = lines_text (environment_lines e cells)
