@@ -1,0 +1,226 @@
+//! The labels of all states.
+
+ghost use Rattle.std.specs.Prelude.{◌≡◌, ◌≢◌, ℕ, ◌^◌, ◌<◌, ◌≤◌, ◌↔◌, IfOk, IsTrue, Some, List, [], length, vec_capacity, slice_index_or};
+ghost use Rattle.sbpl_graph.specs.Bound.{IsLow};
+ghost use Rattle.sbpl_graph.specs.Certificate.{IsLabel, AreSupported};
+ghost use Rattle.sbpl_graph.specs.Exact.{AreExact};
+ghost use Rattle.sbpl_graph.specs.Fit.{FitCount};
+ghost use Rattle.sbpl_graph.specs.Kept.{NoneUnder};
+ghost use Rattle.sbpl_graph.specs.Laws.{IsSound};
+ghost use Rattle.sbpl_graph.specs.Network.{Network};
+ghost use Rattle.sbpl_graph.specs.Path.{IsFreePath};
+ghost use Rattle.sbpl_labels.specs.CutOff.{IsCutOff};
+ghost use Rattle.sbpl_labels.specs.Marks.{Marks, AreLabels, IsOpened, ChangesRow, states_of, g_of, v_of, back_of, no_row, far_row};
+ghost use Rattle.sbpl_labels.specs.Walks.{WalkGives};
+
+use crate::row::Row;
+use crate::walk::Walk;
+use sbpl_fixed::NoMemory;
+use sbpl_graph::{FAR, Graph, Guide};
+use std::alloc::Global;
+use std::marker::Model;
+
+/// The labels g and v of each state of a graph, and a back arc where one was set. A label is 2^63,
+/// which stands for infinity, or below 2^62.
+#[derive(Drop)]
+pub struct Labels {
+    start: u32,
+    rows: Vec<Row>,
+}
+
+/// The labels of a state that no way is known to.
+const FAR_ROW: Row = Row {
+    g: FAR,
+    v: FAR,
+    back: None,
+};
+
+/// The labels of the start before it is expanded.
+const START_ROW: Row = Row {
+    g: 0,
+    v: FAR,
+    back: None,
+};
+
+impl Model for Labels {
+    ghost use Rattle.sbpl_labels.specs.Marks.{Marks, AreLabels};
+
+    ghost Value = { Marks };
+
+    ghost view = { λ a. record { start = a.start; rows = a.rows.items } };
+
+    ghost invariant = { λ a. AreLabels (record { start = a.start; rows = a.rows.items }) };
+}
+
+impl Labels {
+    /// Opened labels of this many states, 1 to 2^23: g is 0 at the start, all other labels are
+    /// infinite, and there is no back arc. They are exact on every graph of this size.
+    pub fn open(alloc: Global, states: u32, start: u32) -> Result<Labels, NoMemory>
+        requires few { states ≤ 2 ^ 23 }
+        requires start { start < states }
+        ensures opened { IfOk result (λ m. IsOpened m states start) }
+        ensures exact { IfOk result (λ m. (n : Network) → n.states ≡ states → AreExact n start (g_of m) (v_of m) (back_of m)) }
+        ensures not_under { IfOk result (λ m. NoneUnder states (g_of m) (v_of m)) }
+        ensures fits { IfOk result (λ m. (count : ℕ) → FitCount states (g_of m) (v_of m) count) }
+    {
+        let mut rows = vec![in alloc; FAR_ROW; states as usize]?;
+        rows[start as usize] = START_ROW;
+        Ok(Labels { start, rows })
+    }
+
+    /// Makes these opened labels again.
+    pub fn reset(&mut self)
+        ensures opened { IsOpened self.new (states_of self.old) self.old.start }
+        ensures exact { (n : Network) → n.states ≡ states_of self.old → AreExact n self.old.start (g_of self.new) (v_of self.new) (back_of self.new) }
+        ensures not_under { NoneUnder (states_of self.old) (g_of self.new) (v_of self.new) }
+        ensures fits { (count : ℕ) → FitCount (states_of self.old) (g_of self.new) (v_of self.new) count }
+    {
+        clear(&mut self.rows);
+        self.rows[self.start as usize] = START_ROW;
+    }
+
+    /// The start.
+    pub fn start(&self) -> u32
+        ensures value { result ≡ self.now.start }
+        ensures labels { AreLabels self.now }
+    {
+        self.start
+    }
+
+    /// The number of states.
+    fn count(&self) -> u32
+        ensures value { result ≡ states_of self.now }
+        ensures labels { AreLabels self.now }
+    {
+        self.rows.len() as u32
+    }
+
+    /// What the best known way to `s` costs.
+    pub fn g(&self, s: u32) -> u64
+        requires state { s < states_of self.now }
+        ensures value { result ≡ g_of self.now s }
+        ensures label { IsLabel result }
+    {
+        self.rows[s as usize].g
+    }
+
+    /// What that way cost when `s` was last expanded, or infinity where it never was.
+    pub fn v(&self, s: u32) -> u64
+        requires state { s < states_of self.now }
+        ensures value { result ≡ v_of self.now s }
+        ensures label { IsLabel result }
+    {
+        self.rows[s as usize].v
+    }
+
+    /// The last arc of that way, as its source and its number there, where one was set.
+    pub fn back(&self, s: u32) -> Option<(u32, u32)>
+        requires state { s < states_of self.now }
+        ensures value { result ≡ back_of self.now s }
+    {
+        self.rows[s as usize].back
+    }
+
+    /// Lowers g of `t` to this value, which comes over arc `k` of `s`, where that is lower, and
+    /// answers whether it did.
+    pub fn lower(&mut self, t: u32, s: u32, k: u32, value: u64) -> bool
+        requires state { t < states_of self.old }
+        requires not_start { t ≢ self.old.start }
+        requires small { value < 2 ^ 62 }
+        ensures lowered { IsTrue result ↔ (value < g_of self.old t) }
+        ensures yes { IsTrue result → ChangesRow self.old self.new t (record { g = value; v = v_of self.old t; back = Some (s, k) }) }
+        ensures no { g_of self.old t ≤ value → self.new ≡ self.old }
+    {
+        let row = &mut self.rows[t as usize];
+        if value < row.g {
+            row.g = value;
+            row.back = Some((s, k));
+            true
+        } else {
+            false
+        }
+    }
+
+    /// Settles `s`: its v becomes its g.
+    pub fn settle(&mut self, s: u32)
+        requires state { s < states_of self.old }
+        requires over { g_of self.old s < v_of self.old s }
+        ensures settled { ChangesRow self.old self.new s (record { g = g_of self.old s; v = g_of self.old s; back = back_of self.old s }) }
+    {
+        let row = &mut self.rows[s as usize];
+        row.v = row.g;
+    }
+    /// The least of g at the goal and of g + h over all states whose g and v differ, with h by this
+    /// guide, which knows every state. Where the labels are supported on a graph that the guide was
+    /// built for, every free path from the start to the goal costs at least this.
+    pub fn low<H: Guide>(&self, guide: &H, goal: u32) -> u64
+        requires goal { goal < states_of self.now }
+        requires known { (s : ℕ) → s < states_of self.now → H.knows guide.now s }
+        ensures least { IsLow (states_of self.now) goal (g_of self.now) (v_of self.now) (H.distance guide.now) result }
+        ensures bound { (n : Network) → n.states ≡ states_of self.now → IsSound n → H.guides guide.now n goal
+            → AreSupported n self.now.start (g_of self.now) (v_of self.now)
+            → (arcs : List ℕ) (cost : ℕ) → IsFreePath n self.now.start arcs goal cost → result ≤ cost }
+    {
+        let mut low = self.g(goal);
+        for s in 0..self.count() {
+            let g = self.g(s);
+            if self.v(s) != g {
+                low = low.min(g + guide.to_goal(s));
+            }
+        }
+        low
+    }
+
+    /// Whether the goal's label is infinite and every state of finite g has a finite v. Where it is
+    /// so and the labels are supported on a graph, no free path leads from the start to the goal.
+    pub fn shows_none(&self, goal: u32) -> bool
+        requires goal { goal < states_of self.now }
+        ensures cut_off { IsTrue result ↔ IsCutOff (states_of self.now) goal (g_of self.now) (v_of self.now) }
+        ensures no_path { IsTrue result → (n : Network) → n.states ≡ states_of self.now → IsSound n
+            → AreSupported n self.now.start (g_of self.now) (v_of self.now)
+            → (arcs : List ℕ) (cost : ℕ) → IsFreePath n self.now.start arcs goal cost → ⊥ }
+    {
+        self.rows[goal as usize].g == FAR && self.rows.iter().all(|row| row.g >= FAR || row.v < FAR)
+    }
+
+    /// Follows the back arcs from the goal. There is none exactly where the goal's label is
+    /// infinite. Else the chain is broken at its first underconsistent state, exactly where there is
+    /// one. Else it leads to the start, and `into` holds the arc numbers from there; they are a free
+    /// path whose summed cost is at most the goal's label. After the other answers `into` is empty.
+    pub fn walk<G: Graph>(&self, graph: &G, goal: u32, into: &mut Vec<u32>) -> Walk
+        requires states { states_of self.now ≡ (G.network graph.now).states }
+        requires goal { goal < states_of self.now }
+        requires empty { into.old.items ≡ [] }
+        requires room { states_of self.now ≤ vec_capacity into.old }
+        requires exact { AreExact (G.network graph.now) self.now.start (g_of self.now) (v_of self.now) (back_of self.now) }
+        ensures walk { WalkGives (G.network graph.now) self.now goal into.new.items result }
+        ensures room { vec_capacity into.new ≡ vec_capacity into.old }
+    {
+        if self.g(goal) == FAR {
+            return Walk::None;
+        }
+        let mut at = goal;
+        let mut cost = 0;
+        loop {
+            if self.v(at) < self.g(at) {
+                into.clear();
+                return Walk::Broken(at);
+            }
+            let Some((s, k)) = self.back(at) else { break };
+            cost += u64::from(graph.judge(s, k).unwrap());
+            into.push_reserved(k);
+            at = s;
+        }
+        into.reverse();
+        Walk::Path(cost)
+    }
+}
+
+/// Writes infinite labels without a back arc into each row.
+fn clear(rows: &mut [Row])
+    ensures far { (s : ℕ) → s < length rows.old → slice_index_or rows.new s no_row ≡ far_row }
+{
+    for row in rows.iter_mut() {
+        *row = FAR_ROW;
+    }
+}
