@@ -1,5 +1,5 @@
 -- What cells, turns and headings are, in plain words.
-use Rattle.std.proofs.Common.{◌≡◌, ◌↔◌, ℕ, ℤ, pos, negsuc, zero, suc, ◌+◌, ◌-◌, ◌*◌, ◌/◌, ◌%◌, ◌<◌, ◌≤◌, ◌+ℤ◌, ◌*ℤ◌, ◌≤ℤ◌, ◌<ℤ◌, ◌⊎◌, inl, inr, refl, sym, ◌∙◌, ap, subst, arith}
+use Rattle.std.proofs.Common.{◌≡◌, ℕ, ℤ, pos, negsuc, zero, suc, ◌+◌, ◌*◌, ◌/◌, ◌%◌, ◌<◌, ◌≤◌, ◌<ℤ◌, ◌⊎◌, inl, inr, sym, ap, subst, arith}
 use Rattle.std.proofs.Math.Nat.{add-mod_right, div-eq_of_lt-le, eq-or-lt_of_le, mod-eq_of_lt, mod_self, mul-le-mul_left}
 use Rattle.std.proofs.lemmas.Int.{ints}
 use Rattle.sbpl_cfg.specs.Place.{cell_of, heading_of, turn_of, full_turn, IsCellOf, IsInBin, IsTurnOf}
@@ -41,8 +41,9 @@ bin-le n b h = omega (arith, mul-le-mul_left n h)
 
 wrapped : (n c : ℕ) → 0 < n → c ≤ n → (c ≡ c % n) ⊎ (c ≡ c % n + n)
 wrapped n c some h = elim (eq-or-lt_of_le h) [
-      inl at ↦ inr (subst (λ m. m ≡ m % n + n) (sym at) (omega (arith, mod_self n)))
-    | inr below ↦ inl (sym (mod-eq_of_lt below)) ]
+  | inl at ↦ inr (subst (λ m. m ≡ m % n + n) (sym at) (omega (arith, mod_self n)))
+  | inr below ↦ inl (sym (mod-eq_of_lt below))
+]
 
 pub IsInBin-heading_of : (n : ℕ) (a : ℤ) → 0 < n → IsInBin n (heading_of n a) (turn_of a)
 unfolding heading_of bin_of
@@ -61,8 +62,9 @@ heading_of_is n t a small h =
     let low = h.from in let high = h.to in
     let e : (2 * n * turn_of a + full_turn) / (2 * full_turn) ≡ h.centre = quotient (2 * full_turn) _ h.centre (omega arith) (omega arith) in
     rw e (elim h.heading [
-      inl here ↦ rw here (mod-eq_of_lt small)
-    | inr further ↦ rw (further, add-mod_right) (mod-eq_of_lt small) ])
+      | inl here ↦ rw here (mod-eq_of_lt small)
+      | inr further ↦ rw (further, add-mod_right) (mod-eq_of_lt small)
+    ])
 
 pub heading_of-lt : (n : ℕ) (a : ℤ) → 0 < n → heading_of n a < n
 unfolding heading_of

@@ -67,5 +67,4 @@ pub fn places_in_plain_words()
     ensures turn { (a : ℤ) → IsTurnOf a (turn_of a) }
     ensures heading { (n t : ℕ) (a : ℤ) → t < n → (heading_of n a ≡ t) ↔ IsInBin n t (turn_of a) }
     ensures some { (n : ℕ) (a : ℤ) → 0 < n → heading_of n a < n }
-{
-}
+{}

@@ -1,5 +1,5 @@
 -- Formats: which tokens stand in a text, one after another, and what they say.
-use Rattle.std.specs.Prelude.{◌≡◌, ◌≢◌, ℕ, zero, suc, ℤ, pos, Bool, true, false, if◌then◌else◌, ◌&&◌, int_le, bytes_eq, ◌⊎◌, List, [], ◌∷◌, length, Result, Ok, Err}
+use Rattle.std.specs.Prelude.{◌≡◌, ◌≢◌, ℕ, zero, suc, ℤ, pos, if◌then◌else◌, ◌&&◌, int_le, bytes_eq, ◌⊎◌, List, [], ◌∷◌, length, Result, Ok, Err}
 use Rattle.sbpl_fixed.specs.Tokens.{Piece, tokens}
 use Rattle.sbpl_fixed.specs.Numbers.{whole_of, nano_of}
 use Rattle.sbpl_fixed.specs.declared.fault.NumFault.{NumFault}
@@ -102,12 +102,29 @@ over_of end (t ∷ ts) = Err (Trailing t.place)
 unfoldable pub over : Left → Result Left TextFault
 over left = over_of left.end left.tokens
 
+abbrev pub then_read : {X Y E : Type 0} → (TextFault → E) → Result X TextFault → (X → Result Y E) → Result Y E
+then_read tell (Ok x) more = more x
+then_read tell (Err t) more = Err (tell t)
+
 -- Reading from left to right, with the first fault that is met. `tell` gives the common faults the reader's own names.
 unfoldable pub reads : {E A : Type 0} → (TextFault → E) → Format E A → Left → Result (A × Left) E
-reads tell (item i more) left = elim (next i left) [ Ok m ↦ reads tell (more m.place m.value) m.left | Err t ↦ Err (tell t) ]
-reads tell (ended f) left = elim (over left) [ Ok rest ↦ reads tell f rest | Err t ↦ Err (tell t) ]
+reads tell (item i more) left = then_read tell (next i left) (λ m. reads tell (more m.place m.value) m.left)
+reads tell (ended f) left = then_read tell (over left) (λ rest. reads tell f rest)
 reads tell (wrong e) left = Err e
 reads tell (done x) left = Ok (x, left)
+
+-- what was read is read on, and a fault stands
+abbrev pub read_on : {E A B : Type 0} → Result (A × Left) E → (A → Left → Result (B × Left) E) → Result (B × Left) E
+read_on (Ok x) next = next x.0 x.1
+read_on (Err e) next = Err e
+
+abbrev pub value_of : {A E : Type 0} → Result (A × Left) E → Result A E
+value_of (Ok x) = Ok x.0
+value_of (Err e) = Err e
+
+-- what a whole text gives
+unfoldable pub reads_text : {E A : Type 0} → (TextFault → E) → Format E A → List ℕ → Result A E
+reads_text tell f text = value_of (reads tell f (start text))
 
 -- ---- what a format means, without reading
 
@@ -142,6 +159,11 @@ Steps place value (Err t) left step = step ≡ Err t
 abbrev pub Gives : {X A E : Type 0} → E → (X → A) → Result X E → Left → Result (A × Left) E → Type 0
 Gives spared view (Ok x) left read = read ≡ Ok (view x, left)
 Gives spared view (Err e) left read = e ≢ spared → read ≡ Err e
+
+-- The same of a whole text.
+abbrev pub Answers : {X A E : Type 0} → E → (X → A) → Result X E → Result A E → Type 0
+Answers spared view (Ok x) read = read ≡ Ok (view x)
+Answers spared view (Err e) read = e ≢ spared → read ≡ Err e
 
 -- The end was reached, or the fault.
 abbrev pub Stops : Result (Unit {0}) TextFault → Left → Result Left TextFault → Type 0

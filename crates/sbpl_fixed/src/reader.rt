@@ -8,7 +8,7 @@ ghost use Rattle.sbpl_fixed.specs.declared.fault.TextFault.TheVariants.{Ended};
 use crate::fault::{NumFault, TextFault};
 use crate::number::{read_nano, read_whole};
 use crate::placed::Placed;
-use crate::token::{next_token, Token};
+use crate::token::{Token, next_token};
 use std::marker::Model;
 
 /// A text that is read token by token. Contracts see it as what is left of the text: the text's length, and the tokens
