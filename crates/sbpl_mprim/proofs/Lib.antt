@@ -1,2 +1,5 @@
 pub mod EarlierLaws
+pub mod JudgingLaws
 pub mod Pieces
+pub mod Places
+pub mod Spelling
