@@ -1,5 +1,5 @@
 -- Elements of a list by their places.
-use Rattle.std.proofs.Common.{◌≡◌, ℕ, zero, suc, ◌+◌, ◌<◌, Bool, true, false, ◌||◌, List, [], ◌∷◌, ◌++◌, length, Option, Some, None, refl, ap, subst}
+use Rattle.std.proofs.Common.{◌≡◌, ℕ, zero, suc, ◌+◌, ◌<◌, Bool, true, false, ◌||◌, List, [], ◌∷◌, ◌++◌, length, Option, Some, None, refl, ap, subst, arith}
 use Rattle.std.specs.List.{slice_get, list_any, AllByRecursion}
 
 some_of : {A : Type 0} → A → Option A
@@ -42,3 +42,8 @@ pub record Last {A : Type 0} (xs : List A) : Type 0 where
 pub last_of : {A : Type 0} (x : A) (xs : List A) → Last (x ∷ xs)
 last_of x [] = record { front = []; last = x; parts = refl }
 last_of x (y ∷ ys) = let l = last_of y ys in record { front = x ∷ l.front; last = l.last; parts = ap (λ zs. x ∷ zs) l.parts }
+
+pub front_at : {A : Type 0} (xs ys : List A) (i : ℕ) (x : A) → i < length xs → slice_get (xs ++ ys) i ≡ Some x → slice_get xs i ≡ Some x
+front_at [] ys i x lt e = absurd (omega arith)
+front_at (z ∷ zs) ys zero x lt e = e
+front_at (z ∷ zs) ys (suc i) x lt e = front_at zs ys i x (omega arith) e

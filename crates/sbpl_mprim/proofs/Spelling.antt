@@ -33,6 +33,14 @@ all_meant headings [] (t ∷ ts) h = absurd cc
 all_meant headings (s ∷ ss) [] h = absurd h
 all_meant headings (s ∷ ss) (t ∷ ts) h = (h.0, all_meant headings ss ts h.1)
 
+pub spells_none : (headings : ℕ) (ts rest : List Piece) → rest ≡ ts → Spells headings [] ts rest
+unfolding Spells
+spells_none headings ts rest e = e
+
+pub none_spelled : (headings : ℕ) (ts rest : List Piece) → Spells headings [] ts rest → rest ≡ ts
+unfolding Spells
+none_spelled headings ts rest h = h
+
 pub spells_append : (headings : ℕ) (ss us : List Saying) (ts mid rest : List Piece) → Spells headings ss ts mid → Spells headings us mid rest → Spells headings (ss ++ us) ts rest
 unfolding Spells
 spells_append headings [] us ts mid rest h k = subst (λ (l : List Piece). Spells headings us l rest) h k
@@ -191,3 +199,14 @@ found_test false e f ts x rest h = (refl, h)
 pub say_test : {E A : Type 0} (b : Bool) (e : E) (f : Format E A) (ts : List Piece) (x : A) (rest : List Piece) → b ≡ false → Says f ts x rest
     → Says (if b then wrong e else f) ts x rest
 say_test b e f ts x rest p h = rw p h
+
+abbrev pub just : {E A : Type 0} → A → Format E A
+just x = done x
+
+pub found_done : {A : Type 0} (E : Type 0) (y : A) (ts : List Piece) (x : A) (rest : List Piece) → Says (just {E = E} y) ts x rest → (x ≡ y) × (rest ≡ ts)
+unfolding Says
+found_done E y ts x rest h = h
+
+pub say_done : {A : Type 0} (E : Type 0) (x : A) (ts rest : List Piece) → rest ≡ ts → Says (just {E = E} x) ts x rest
+unfolding Says
+say_done E x ts rest e = (refl, e)
