@@ -1,8 +1,8 @@
 -- Elements of a list by their places.
-use Rattle.std.proofs.Common.{◌≡◌, ℕ, zero, suc, ◌+◌, ◌<◌, Bool, true, false, ◌||◌, List, [], ◌∷◌, ◌++◌, length, Option, Some, None, refl, ap, subst, arith}
+use Rattle.std.proofs.Common.{◌≡◌, ℕ, zero, suc, ◌+◌, ◌<◌, Bool, true, false, ◌||◌, List, [], ◌∷◌, ◌++◌, length, Option, Some, None, refl, sym, ap, subst, ◌∙◌, arith, length-append}
 use Rattle.std.specs.List.{slice_get, list_any, AllByRecursion}
 
-some_of : {A : Type 0} → A → Option A
+abbrev some_of : {A : Type 0} → A → Option A
 some_of x = Some x
 
 pub all_at : {A : Type 0} (P : A → Type 0) (xs : List A) → AllByRecursion P xs → (i : ℕ) (x : A) → slice_get xs i ≡ Some x → P x
@@ -47,3 +47,17 @@ pub front_at : {A : Type 0} (xs ys : List A) (i : ℕ) (x : A) → i < length xs
 front_at [] ys i x lt e = absurd (omega arith)
 front_at (z ∷ zs) ys zero x lt e = e
 front_at (z ∷ zs) ys (suc i) x lt e = front_at zs ys i x (omega arith) e
+
+-- the last element is the one that stands last
+pub last_at : {A : Type 0} (front : List A) (last : A) (xs : List A) (i : ℕ) (x : A) → xs ≡ front ++ last ∷ [] → i + 1 ≡ length xs → slice_get xs i ≡ Some x → x ≡ last
+last_at {A} front last xs i x parts at_end here =
+    let long : length xs ≡ length front + 1 = ap length parts ∙ length-append front (last ∷ []) in
+    let place : i ≡ length front = omega arith in
+    let found : slice_get (front ++ last ∷ []) (length front) ≡ Some x = subst (λ (n : ℕ). slice_get (front ++ last ∷ []) n ≡ Some x) place (subst (λ (l : List A). slice_get l i ≡ Some x) parts here) in
+    let seam = at_seam front last [] in
+    let same : some_of x ≡ some_of last = sym found ∙ seam in
+    cc
+
+pub last_some : {A : Type 0} (xs : List A) → 0 < length xs → Last xs
+last_some [] h = absurd (omega arith)
+last_some (x ∷ xs) h = last_of x xs

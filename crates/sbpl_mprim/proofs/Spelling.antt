@@ -210,3 +210,7 @@ found_done E y ts x rest h = h
 pub say_done : {A : Type 0} (E : Type 0) (x : A) (ts rest : List Piece) → rest ≡ ts → Says (just {E = E} x) ts x rest
 unfolding Says
 say_done E x ts rest e = (refl, e)
+
+-- what a format says of just one value
+pub just_said : {E A : Type 0} (y : A) (f : Format E A) (ts rest : List Piece) → SaysSome (λ x. x ≡ y) f ts rest → Says f ts y rest
+just_said {E} {A} y f ts rest h = subst (λ (x : A). Says f ts x rest) h.1 h.2
