@@ -1,4 +1,5 @@
 pub mod EarlierLaws
+pub mod FileLaws
 pub mod JudgingLaws
 pub mod NextLaws
 pub mod PathLaws

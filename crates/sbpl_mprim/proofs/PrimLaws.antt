@@ -26,7 +26,7 @@ use Rattle.sbpl_mprim.proofs.Places.{Last, all_at, at_all, at_seam, last_at, las
 use Rattle.sbpl_mprim.proofs.Spelling.{Spells, SaysSome, just_said, found_behind, found_done, found_test, found_whole, found_word, natural_is, none_spelled, say_behind, say_done, say_test, say_whole, say_word, spells_append, spells_none, spells_split}
 
 -- a whole number of zero or more that was found, as a natural number
-natural_front : (headings high : ℕ) (n : ℤ) (ss : List Saying) (ts rest : List Piece) → IsWithin (pos 0) (pos high) n → Spells headings (a_whole n ∷ ss) ts rest → Spells headings (a_whole (pos (unsigned_abs n)) ∷ ss) ts rest
+pub natural_front : (headings high : ℕ) (n : ℤ) (ss : List Saying) (ts rest : List Piece) → IsWithin (pos 0) (pos high) n → Spells headings (a_whole n ∷ ss) ts rest → Spells headings (a_whole (pos (unsigned_abs n)) ∷ ss) ts rest
 natural_front headings high n ss ts rest w h = subst (λ (z : ℤ). Spells headings (a_whole z ∷ ss) ts rest) (natural_is high n w).0 h
 
 -- ---- the id and the start heading
@@ -53,7 +53,7 @@ start_found headings earlier ts s rest h =
     rw f.0 (a.front _ (natural_front headings 65535 b.value _ a.behind rest b.within (b.front _ (c.front _ last))),
       record { id = (natural_is 65535 b.value b.within).1; from = (natural_is (headings - 1) d.value d.within).1; own = e.0 })
 
-natural_within : (n high : ℕ) → n ≤ high → IsWithin (pos 0) (pos high) (pos n)
+pub natural_within : (n high : ℕ) → n ≤ high → IsWithin (pos 0) (pos high) (pos n)
 natural_within n high h = (omega (arith, ints), omega (arith, ints, h))
 
 pub start_said : (headings : ℕ) (earlier : List Primitive) (id from : ℕ) (ts rest : List Piece) → id ≤ 65535 → from ≤ headings - 1 → has_id earlier from id ≡ false

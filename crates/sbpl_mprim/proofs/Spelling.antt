@@ -214,3 +214,23 @@ say_done E x ts rest e = (refl, e)
 -- what a format says of just one value
 pub just_said : {E A : Type 0} (y : A) (f : Format E A) (ts rest : List Piece) → SaysSome (λ x. x ≡ y) f ts rest → Says f ts y rest
 just_said {E} {A} y f ts rest h = subst (λ (x : A). Says f ts x rest) h.1 h.2
+
+pub found_yes : {E A : Type 0} (b : Bool) (e : E) (f : Format E A) (ts : List Piece) (x : A) (rest : List Piece) → Says (if b then f else wrong e) ts x rest
+    → (b ≡ true) × Says f ts x rest
+unfolding Says
+found_yes true e f ts x rest h = (refl, h)
+found_yes false e f ts x rest h = absurd h
+
+pub say_yes : {E A : Type 0} (b : Bool) (e : E) (f : Format E A) (ts : List Piece) (x : A) (rest : List Piece) → b ≡ true → Says f ts x rest
+    → Says (if b then f else wrong e) ts x rest
+say_yes b e f ts x rest p h = rw p h
+
+-- nothing stands behind the last token
+pub found_end : {A : Type 0} (E : Type 0) (y : A) (ts : List Piece) (x : A) (rest : List Piece) → Says (ended (just {E = E} y)) ts x rest → (ts ≡ []) × (x ≡ y)
+unfolding Says
+found_end E y [] x rest h = (refl, h.0)
+found_end E y (t ∷ ts) x rest h = absurd h
+
+pub say_end : {A : Type 0} (E : Type 0) (x : A) → Says (ended (just {E = E} x)) [] x []
+unfolding Says
+say_end E x = (refl, refl)
