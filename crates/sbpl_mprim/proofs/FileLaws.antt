@@ -63,7 +63,7 @@ prims_said cell headings earlier (p ∷ ps) ts rest next h =
     let a = spells_split headings (spelled_prim p) (flat_map spelled_prim ps) ts rest h in
     let b = prim_said cell headings earlier p ts a.0 next.0 a.1 in
     let turn : Says (prim_turn cell headings earlier) ts (earlier ++ p ∷ []) a.0 =
-        say_behind (prim_format cell headings earlier) (λ (prim : Primitive). done (earlier ++ prim ∷ [])) ts p a.0 (earlier ++ p ∷ []) a.0 b (say_done PrimFault (earlier ++ p ∷ []) a.0 a.0 refl) in
+    say_behind (prim_format cell headings earlier) (λ (prim : Primitive). done (earlier ++ prim ∷ [])) ts p a.0 (earlier ++ p ∷ []) a.0 b (say_done PrimFault (earlier ++ p ∷ []) a.0 a.0 refl) in
     let c = prims_said cell headings (earlier ++ p ∷ []) ps a.0 rest next.1 a.2 in
     say_behind (prim_turn cell headings earlier) (turns (length ps) (prim_turn cell headings)) ts (earlier ++ p ∷ []) a.0 (earlier ++ p ∷ ps) rest turn (rw append_assoc at c)
 
@@ -116,9 +116,11 @@ unfolding head_format
 head_found cell headings ts n rest h =
     let a = found_behind (resolution_format cell) _ ts n rest h in
     let b = found_behind (angles_format headings) _ a.1 n rest a.3 in
-    let t = total_found headings b.1 n rest b.3 in
-    (spells_append headings (a_word (codes "resolution_m:") ∷ a_nano cell ∷ []) _ ts a.1 rest (resolution_found cell headings ts a.0 a.1 a.2)
-      (spells_append headings (a_word (codes "numberofangles:") ∷ a_whole (pos headings) ∷ []) _ a.1 b.1 rest (angles_found headings a.1 b.0 b.1 b.2) t.0), t.1)
+    let t = total_found headings b.1 n rest b.3 in (
+      spells_append headings (a_word (codes "resolution_m:") ∷ a_nano cell ∷ []) _ ts a.1 rest (resolution_found cell headings ts a.0 a.1 a.2)
+          (spells_append headings (a_word (codes "numberofangles:") ∷ a_whole (pos headings) ∷ []) _ a.1 b.1 rest (angles_found headings a.1 b.0 b.1 b.2) t.0),
+      t.1,
+    )
 
 head_said : (cell : ℤ) (headings total : ℕ) (ts rest : List Piece) → IsWithin (pos 1) (pos 1000000000000) cell → 1 ≤ headings → headings ≤ 64 → total ≤ 4096
     → Spells headings (spelled_head cell headings total) ts rest → Says (head_format cell headings) ts total rest
@@ -127,14 +129,14 @@ head_said cell headings total ts rest size some most count h =
     let a = spells_split headings (a_word (codes "resolution_m:") ∷ a_nano cell ∷ []) (a_word (codes "numberofangles:") ∷ a_whole (pos headings) ∷ a_word (codes "totalnumberofprimitives:") ∷ a_whole (pos total) ∷ []) ts rest h in
     let b = spells_split headings (a_word (codes "numberofangles:") ∷ a_whole (pos headings) ∷ []) (a_word (codes "totalnumberofprimitives:") ∷ a_whole (pos total) ∷ []) a.0 rest a.2 in
     let r = just_said cell (resolution_format cell) ts a.0 (say_word _ headings _ _ _ ts a.0 a.1 (λ _ us k.
-        say_nano _ headings (pos 1) (pos 1000000000000) cell (same_resolution cell) _ us a.0 size k (λ place vs l.
-        (cell, refl, say_yes (int_eq cell cell) (Resolution place) (done cell) vs cell a.0 ((Decides-int_eq cell cell).1 refl) (say_done PrimFault cell vs a.0 (none_spelled headings vs a.0 l)))))) in
+    say_nano _ headings (pos 1) (pos 1000000000000) cell (same_resolution cell) _ us a.0 size k (λ place vs l.
+    (cell, refl, say_yes (int_eq cell cell) (Resolution place) (done cell) vs cell a.0 ((Decides-int_eq cell cell).1 refl) (say_done PrimFault cell vs a.0 (none_spelled headings vs a.0 l)))))) in
     let n = just_said headings (angles_format headings) a.0 b.0 (say_word _ headings _ _ _ a.0 b.0 b.1 (λ _ us k.
-        say_whole _ headings (pos 1) (pos 64) (pos headings) (same_angles headings) _ us b.0 (omega (arith, ints, some), omega (arith, ints, most)) k (λ place vs l.
-        (headings, refl, say_yes (headings == headings) (Angles place) (done headings) vs headings b.0 ((Decides-eqb headings headings).1 refl) (say_done PrimFault headings vs b.0 (none_spelled headings vs b.0 l)))))) in
+    say_whole _ headings (pos 1) (pos 64) (pos headings) (same_angles headings) _ us b.0 (omega (arith, ints, some), omega (arith, ints, most)) k (λ place vs l.
+    (headings, refl, say_yes (headings == headings) (Angles place) (done headings) vs headings b.0 ((Decides-eqb headings headings).1 refl) (say_done PrimFault headings vs b.0 (none_spelled headings vs b.0 l)))))) in
     let t = just_said total total_format b.0 rest (say_word _ headings _ _ _ b.0 rest b.2 (λ _ us k.
-        say_whole _ headings (pos 0) (pos 4096) (pos total) (λ _ m. done (unsigned_abs m)) _ us rest (natural_within total 4096 count) k (λ _ vs l.
-        (total, refl, say_done PrimFault total vs rest (none_spelled headings vs rest l))))) in
+    say_whole _ headings (pos 0) (pos 4096) (pos total) (λ _ m. done (unsigned_abs m)) _ us rest (natural_within total 4096 count) k (λ _ vs l.
+    (total, refl, say_done PrimFault total vs rest (none_spelled headings vs rest l))))) in
     say_behind (resolution_format cell) (λ _. behind (angles_format headings) (λ _. total_format)) ts cell a.0 total rest r
     (say_behind (angles_format headings) (λ _. total_format) a.0 headings b.0 total rest n t)
 
@@ -152,9 +154,9 @@ file_found cell headings text prims size some most h =
     let p = prims_found cell headings a.0 [] a.1 b.0 b.1 some b.2 in
     let all : prims ≡ p.more = e.1 ∙ p.all in
     let spells : Spells headings (spelled_head cell headings (length p.more) ++ flat_map spelled_prim p.more) (tokens text) [] =
-        subst (λ (l : List Piece). Spells headings (spelled_head cell headings (length p.more) ++ flat_map spelled_prim p.more) (tokens text) l) e.0
-        (spells_append headings (spelled_head cell headings (length p.more)) (flat_map spelled_prim p.more) (tokens text) a.1 b.1
-        (subst (λ (n : ℕ). Spells headings (spelled_head cell headings n) (tokens text) a.1) (sym p.many) front.0) p.spells) in
+    subst (λ (l : List Piece). Spells headings (spelled_head cell headings (length p.more) ++ flat_map spelled_prim p.more) (tokens text) l) e.0
+    (spells_append headings (spelled_head cell headings (length p.more)) (flat_map spelled_prim p.more) (tokens text) a.1 b.1
+    (subst (λ (n : ℕ). Spells headings (spelled_head cell headings n) (tokens text) a.1) (sym p.many) front.0) p.spells) in
     let there : IsTextOf (record { cell = cell; headings = headings; items = p.more }) text = record {
       fits = next_are cell headings p.more size some most (omega (arith, p.many, front.1)) p.next;
       tokens = all_meant headings (spelled (record { cell = cell; headings = headings; items = p.more })) (tokens text) spells;
@@ -169,6 +171,8 @@ file_said ps text h =
     let spells = spells_all ps.headings (spelled ps) (tokens text) h.tokens in
     let a = spells_split ps.headings (spelled_head ps.cell ps.headings (length ps.items)) (flat_map spelled_prim ps.items) (tokens text) [] spells in
     let front = head_said ps.cell ps.headings (length ps.items) (tokens text) a.0 fits.cell fits.headings.0 fits.headings.1 fits.count a.1 in
-    let each = prims_said ps.cell ps.headings [] ps.items a.0 [] (are_next ps fits) a.2 in
-    ([], say_behind (head_format ps.cell ps.headings) _ (tokens text) (length ps.items) a.0 ps.items [] front
-      (say_behind (turns (length ps.items) (prim_turn ps.cell ps.headings) []) (λ (qs : List Primitive). ended (done qs)) a.0 ps.items [] ps.items [] each (say_end PrimFault ps.items)))
+    let each = prims_said ps.cell ps.headings [] ps.items a.0 [] (are_next ps fits) a.2 in (
+      [],
+      say_behind (head_format ps.cell ps.headings) _ (tokens text) (length ps.items) a.0 ps.items [] front
+          (say_behind (turns (length ps.items) (prim_turn ps.cell ps.headings) []) (λ (qs : List Primitive). ended (done qs)) a.0 ps.items [] ps.items [] each (say_end PrimFault ps.items)),
+    )

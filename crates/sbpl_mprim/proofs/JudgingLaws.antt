@@ -52,15 +52,15 @@ one_point_tests (p ∷ ps) h = pass_all (is_same_point p) ps (at_all (λ q. is_s
 pub costs_something : (prim : Primitive) → costs_nothing prim ≡ false → (1 ≤ prim.mult) × (AreAtOnePoint prim.poses → prim.from ≢ prim.to)
 costs_something prim e =
     let go : (a b c : Bool) → (prim.mult == 0) ≡ a → (prim.from == prim.to) ≡ b → are_at_one_point prim.poses ≡ c → (a || (b && c)) ≡ false
-        → (prim.mult ≢ 0) × (AreAtOnePoint prim.poses → prim.from ≢ prim.to) = elim [
+    → (prim.mult ≢ 0) × (AreAtOnePoint prim.poses → prim.from ≢ prim.to) = elim [
       | true ↦ λ b c p q r h. absurd (false≢true (sym h))
       | false ↦ elim [
-          | true ↦ elim [
-              | true ↦ λ p q r h. absurd (false≢true (sym h))
-              | false ↦ λ p q r h. (λ z. absurd (false≢true (sym p ∙ (Decides-eqb prim.mult 0).1 z)), λ at _. false≢true (sym r ∙ one_point_tests prim.poses at))
-            ]
-          | false ↦ λ c p q r h. (λ z. absurd (false≢true (sym p ∙ (Decides-eqb prim.mult 0).1 z)), λ _ z. false≢true (sym q ∙ (Decides-eqb prim.from prim.to).1 z))
+        | true ↦ elim [
+          | true ↦ λ p q r h. absurd (false≢true (sym h))
+          | false ↦ λ p q r h. (λ z. absurd (false≢true (sym p ∙ (Decides-eqb prim.mult 0).1 z)), λ at _. false≢true (sym r ∙ one_point_tests prim.poses at))
         ]
+        | false ↦ λ c p q r h. (λ z. absurd (false≢true (sym p ∙ (Decides-eqb prim.mult 0).1 z)), λ _ z. false≢true (sym q ∙ (Decides-eqb prim.from prim.to).1 z))
+      ]
     ] in
     let k = go (prim.mult == 0) (prim.from == prim.to) (are_at_one_point prim.poses) refl refl refl e in
     (omega (arith, k.0), k.1)
@@ -70,12 +70,12 @@ costs_then prim some moves =
     let go : (a b c : Bool) → (prim.mult == 0) ≡ a → (prim.from == prim.to) ≡ b → are_at_one_point prim.poses ≡ c → (a || (b && c)) ≡ false = elim [
       | true ↦ λ b c p q r. let z = (Decides-eqb prim.mult 0).0 p in absurd (omega arith)
       | false ↦ elim [
-          | true ↦ elim [
-              | true ↦ λ p q r. absurd (moves (one_point_holds prim.poses r) ((Decides-eqb prim.from prim.to).0 q))
-              | false ↦ λ p q r. refl
-            ]
-          | false ↦ λ c p q r. refl
+        | true ↦ elim [
+          | true ↦ λ p q r. absurd (moves (one_point_holds prim.poses r) ((Decides-eqb prim.from prim.to).0 q))
+          | false ↦ λ p q r. refl
         ]
+        | false ↦ λ c p q r. refl
+      ]
     ] in
     go (prim.mult == 0) (prim.from == prim.to) (are_at_one_point prim.poses) refl refl refl
 

@@ -6,4 +6,5 @@ pub mod PathLaws
 pub mod Pieces
 pub mod Places
 pub mod PrimLaws
+pub mod ReadLaws
 pub mod Spelling

@@ -79,9 +79,10 @@ next_behind cell headings earlier (p ∷ ps) each few own =
       | false ↦ λ e. e
     ] in
     let sums : sum_by pose_count (earlier ++ p ∷ ps) ≡ sum_by pose_count earlier + (length p.poses + sum_by pose_count ps) = sum_by-append pose_count earlier (p ∷ ps) ∙ ap (λ (n : ℕ). sum_by pose_count earlier + n) (sum_by-cons pose_count p ps) in
-    let apart : (earlier ++ p ∷ []) ++ ps ≡ earlier ++ p ∷ ps = append_assoc earlier (p ∷ []) ps in
-    (record { prim_is = each.0; own = free (has_id earlier p.from p.id) refl; few = omega (arith, sums) },
-      next_behind cell headings (earlier ++ p ∷ []) ps each.1 (rw apart few) (rw apart own))
+    let apart : (earlier ++ p ∷ []) ++ ps ≡ earlier ++ p ∷ ps = append_assoc earlier (p ∷ []) ps in (
+      record { prim_is = each.0; own = free (has_id earlier p.from p.id) refl; few = omega (arith, sums) },
+      next_behind cell headings (earlier ++ p ∷ []) ps each.1 (rw apart few) (rw apart own),
+    )
 
 pub are_next : (ps : Primitives) → ArePrimitives ps → AreNext ps.cell ps.headings [] ps.items
 are_next ps h = next_behind ps.cell ps.headings [] ps.items (at_all (IsPrimitive ps.cell ps.headings) ps.items h.each) h.poses h.ids

@@ -120,7 +120,7 @@ path_found headings count ts path rest some h =
     let e = found_done PrimFault (a.0 ++ c.0.pose ∷ [], c.0) c.1 path rest c.3 in
     let front : List Pose = b.more in
     let spelled : Spells headings (flat_map spelled_pose (front ++ c.0.pose ∷ [])) ts c.1 =
-        rw flat_map-append (spells_append headings (flat_map spelled_pose front) (flat_map spelled_pose (c.0.pose ∷ [])) ts a.1 c.1 b.spells (rw append-nil d.0)) in
+    rw flat_map-append (spells_append headings (flat_map spelled_pose front) (flat_map spelled_pose (c.0.pose ∷ [])) ts a.1 c.1 b.spells (rw append-nil d.0)) in
     let there : PathFound headings count ts (front ++ c.0.pose ∷ [], c.0) c.1 = record {
       many = rw length-append (omega (arith, b.many));
       range = all_more front c.0.pose b.range d.1;
@@ -142,8 +142,8 @@ path_said headings front last ts rest range h =
     let b = poses_said headings [] front ts a.0 ranges.0 a.1 in
     let c = pose_said headings a.0 last rest ranges.1 one in
     let end : Says (path_end front) a.0 (front ++ c.0.pose ∷ [], c.0) rest =
-        say_behind pose_format (λ (p : PlacedPose). done (front ++ p.pose ∷ [], p)) a.0 c.0 rest (front ++ c.0.pose ∷ [], c.0) rest c.2 (say_done PrimFault (front ++ c.0.pose ∷ [], c.0) rest rest refl) in
+    say_behind pose_format (λ (p : PlacedPose). done (front ++ p.pose ∷ [], p)) a.0 c.0 rest (front ++ c.0.pose ∷ [], c.0) rest c.2 (say_done PrimFault (front ++ c.0.pose ∷ [], c.0) rest rest refl) in
     let count : length front + 1 - 1 ≡ length front = omega arith in
     let all : Says (behind (turns (length front + 1 - 1) pose_turn []) path_end) ts (front ++ c.0.pose ∷ [], c.0) rest =
-        rw count (say_behind (turns (length front) pose_turn []) path_end ts front a.0 (front ++ c.0.pose ∷ [], c.0) rest b end) in
+    rw count (say_behind (turns (length front) pose_turn []) path_end ts front a.0 (front ++ c.0.pose ∷ [], c.0) rest b end) in
     ((front ++ c.0.pose ∷ [], c.0), (ap (λ (p : Pose). front ++ p ∷ []) c.1, c.1), all)

@@ -50,8 +50,10 @@ start_found headings earlier ts s rest h =
     let e = found_test (has_id earlier (unsigned_abs d.value) (unsigned_abs b.value)) _ _ d.behind s rest d.says in
     let f = found_done PrimFault _ d.behind s rest e.1 in
     let last = natural_front headings (headings - 1) d.value [] c.behind rest d.within (d.front [] (spells_none headings d.behind rest f.1)) in
-    rw f.0 (a.front _ (natural_front headings 65535 b.value _ a.behind rest b.within (b.front _ (c.front _ last))),
-      record { id = (natural_is 65535 b.value b.within).1; from = (natural_is (headings - 1) d.value d.within).1; own = e.0 })
+    rw f.0 (
+      a.front _ (natural_front headings 65535 b.value _ a.behind rest b.within (b.front _ (c.front _ last))),
+      record { id = (natural_is 65535 b.value b.within).1; from = (natural_is (headings - 1) d.value d.within).1; own = e.0 },
+    )
 
 pub natural_within : (n high : ℕ) → n ≤ high → IsWithin (pos 0) (pos high) (pos n)
 natural_within n high h = (omega (arith, ints), omega (arith, ints, h))
@@ -121,8 +123,10 @@ end_found headings ts e rest some h =
     let y = signed_found headings b.1 c.0 c.1 c.2 in
     let t = signed_found headings c.1 d.0 d.1 d.2 in
     let last : Spells headings (a_heading (heading_modulo headings d.0) ∷ []) c.1 rest = subst (λ (l : List Piece). Spells headings (a_heading (heading_modulo headings d.0) ∷ []) c.1 l) (sym f.1) (heading_front headings d.0 c.1 d.1 t.1 t.0) in
-    rw f.0 (a.front _ (spells_append headings (a_whole b.0 ∷ []) _ a.behind b.1 rest x.0 (spells_append headings (a_whole c.0 ∷ []) _ b.1 c.1 rest y.0 last)),
-      record { dx = x.1; dy = y.1; to = heading_below headings d.0 some })
+    rw f.0 (
+      a.front _ (spells_append headings (a_whole b.0 ∷ []) _ a.behind b.1 rest x.0 (spells_append headings (a_whole c.0 ∷ []) _ b.1 c.1 rest y.0 last)),
+      record { dx = x.1; dy = y.1; to = heading_below headings d.0 some },
+    )
 
 pub end_said : (headings : ℕ) (ts : List Piece) (e : End) (rest : List Piece) → IsEnd headings e → Spells headings (spelled_end e) ts rest → SaysSome (λ d. d ≡ e) (end_format headings) ts rest
 unfolding end_format
@@ -133,10 +137,12 @@ end_said headings ts e rest range h =
     let t = heading_number headings e.to b.0 rest b.2 in
     let same : record e { to = heading_modulo headings t.0 } ≡ e = ap (λ (to : ℕ). record e { to = to }) t.2 in
     let last = say_behind signed_format (λ (n : ℤ). done (record { dx = e.dx; dy = e.dy; to = heading_modulo headings n })) b.0 t.0 rest (record e { to = heading_modulo headings t.0 }) rest
-        (signed_said headings b.0 t.0 rest t.1 t.3) (say_done PrimFault (record e { to = heading_modulo headings t.0 }) rest rest refl) in
-    (record e { to = heading_modulo headings t.0 }, same,
+    (signed_said headings b.0 t.0 rest t.1 t.3) (say_done PrimFault (record e { to = heading_modulo headings t.0 }) rest rest refl) in (
+      record e { to = heading_modulo headings t.0 },
+      same,
       say_behind signed_format _ us e.dx a.0 _ rest (signed_said headings us e.dx a.0 range.dx a.1)
-      (say_behind signed_format _ a.0 e.dy b.0 _ rest (signed_said headings a.0 e.dy b.0 range.dy b.1) last)))
+          (say_behind signed_format _ a.0 e.dy b.0 _ rest (signed_said headings a.0 e.dy b.0 range.dy b.1) last),
+    ))
 
 -- ---- the multiplier
 
@@ -224,11 +230,13 @@ front_said headings earlier id from e mult ts rest small below own end_is most h
     let b = spells_split headings (spelled_end e) (a_word (codes "additionalactioncostmult:") ∷ a_whole (pos mult) ∷ []) a.0 rest a.2 in
     let s = start_said headings earlier id from ts a.0 small below own a.1 in
     let d = end_said headings a.0 e b.0 end_is b.1 in
-    let m = mult_said headings b.0 mult rest most b.2 in
-    ((s.0, d.0, m.0), (s.1.0, s.1.1, d.1, m.1),
+    let m = mult_said headings b.0 mult rest most b.2 in (
+      (s.0, d.0, m.0),
+      (s.1.0, s.1.1, d.1, m.1),
       say_behind (start_format headings earlier) _ ts s.0 a.0 (s.0, d.0, m.0) rest s.2
-      (say_behind (end_format headings) _ a.0 d.0 b.0 (s.0, d.0, m.0) rest d.2
-      (say_behind mult_format _ b.0 m.0 rest (s.0, d.0, m.0) rest m.2 (say_done PrimFault (s.0, d.0, m.0) rest rest refl))))
+          (say_behind (end_format headings) _ a.0 d.0 b.0 (s.0, d.0, m.0) rest d.2
+          (say_behind mult_format _ b.0 m.0 rest (s.0, d.0, m.0) rest m.2 (say_done PrimFault (s.0, d.0, m.0) rest rest refl))),
+    )
 
 -- ---- a primitive whose tokens were read
 
@@ -292,7 +300,7 @@ prim_found cell headings earlier ts prim rest some h =
     let j = judged_found cell headings a.0.0.place c.0.1 whole c.1 prim rest c.3 in
     let many : 1 ≤ length c.0.0 = omega (arith, p.many, n.1) in
     let counted : Spells headings (a_word (codes "intermediateposes:") ∷ a_whole (pos (length c.0.0)) ∷ []) a.1 b.1 =
-        subst (λ (k : ℕ). Spells headings (a_word (codes "intermediateposes:") ∷ a_whole (pos k) ∷ []) a.1 b.1) (sym p.many) n.0 in
+    subst (λ (k : ℕ). Spells headings (a_word (codes "intermediateposes:") ∷ a_whole (pos k) ∷ []) a.1 b.1) (sym p.many) n.0 in
     let there : PrimFound cell headings earlier ts whole c.1 = record {
       next = record {
         prim_is = made_is cell headings earlier a.0.0 a.0.1 a.0.2 c.0.0 p.front c.0.1.pose some f.start f.end_is f.mult many p.range p.ends j.2 j.3;
@@ -330,9 +338,11 @@ own_path cell headings prim ts rest is h =
     let spells = subst (λ (ps : List Pose). Spells headings (flat_map spelled_pose ps) ts rest) l.parts h in
     let p = path_said headings l.front l.last ts rest range spells in
     let here : slice_get prim.poses (length l.front) ≡ Some l.last = subst (λ (ps : List Pose). slice_get ps (length l.front) ≡ Some l.last) (sym l.parts) (at_seam l.front l.last []) in
-    let ends = is.end l.last (length l.front) (sym long) here in
-    (p.0, (p.1.0 ∙ sym l.parts, subst (λ (q : Pose). EndsAt cell headings prim q) (sym p.1.1) ends),
-      subst (λ (n : ℕ). Says (path_format n) ts p.0 rest) (sym long) p.2)
+    let ends = is.end l.last (length l.front) (sym long) here in (
+      p.0,
+      (p.1.0 ∙ sym l.parts, subst (λ (q : Pose). EndsAt cell headings prim q) (sym p.1.1) ends),
+      subst (λ (n : ℕ). Says (path_format n) ts p.0 rest) (sym long) p.2,
+    )
 
 pub prim_said : (cell : ℤ) (headings : ℕ) (earlier : List Primitive) (prim : Primitive) (ts rest : List Piece) → IsNext cell headings earlier prim → Spells headings (spelled_prim prim) ts rest
     → Says (prim_format cell headings earlier) ts prim rest

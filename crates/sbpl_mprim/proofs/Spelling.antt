@@ -74,9 +74,9 @@ pub within_tells : (low high v : ℤ) (r : Result ℤ NumFault) → within low h
 within_tells low high v (Ok n) e =
     let go : (a b : Bool) → int_le low n ≡ a → int_le n high ≡ b → ranged a b n ≡ Ok v → (was_read n ≡ was_read v) × IsWithin low high v = elim [
       | true ↦ elim [
-          | true ↦ λ p q h. let same : n ≡ v = cc in (ap was_read same, (subst (λ (z : ℤ). low ≤ℤ z) same (int_le_tells low n p), subst (λ (z : ℤ). z ≤ℤ high) same (int_le_tells n high q)))
-          | false ↦ λ p q h. absurd cc
-        ]
+        | true ↦ λ p q h. let same : n ≡ v = cc in (ap was_read same, (subst (λ (z : ℤ). low ≤ℤ z) same (int_le_tells low n p), subst (λ (z : ℤ). z ≤ℤ high) same (int_le_tells n high q)))
+        | false ↦ λ p q h. absurd cc
+      ]
       | false ↦ λ b p q h. absurd cc
     ] in
     go (int_le low n) (int_le n high) refl refl e
@@ -119,7 +119,11 @@ pub found_word : {E A : Type 0} (headings : ℕ) (word : List ℕ) (more : ℕ �
 unfolding Says Spells
 found_word headings word more [] x rest h = absurd h
 found_word headings word more (t ∷ ts) x rest h = record {
-  place = t.place; value = h.0; behind = ts; within = tt; says = h.2;
+  place = t.place;
+  value = h.0;
+  behind = ts;
+  within = tt;
+  says = h.2;
   front = λ ss k. (fixed_tells word t.bytes h.0 h.1, k);
 }
 

@@ -9,6 +9,7 @@ mod poses;
 mod prim;
 mod prims;
 mod printing;
+mod read;
 mod reading;
 
 pub use fault::PrimFault;
@@ -16,3 +17,4 @@ pub use poses::Poses;
 pub use prim::{Prim, Primitive};
 pub use prims::Prims;
 pub use printing::print_prims;
+pub use read::read_prims;
