@@ -4,9 +4,11 @@
 mod env;
 mod fault;
 mod grid;
+mod parts;
 mod place;
 mod pose;
 mod print;
+mod read;
 
 pub use env::Env;
 pub use fault::EnvFault;
