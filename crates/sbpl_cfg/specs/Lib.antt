@@ -3,3 +3,4 @@ pub mod Faults
 pub mod Format
 pub mod Place
 pub mod Printed
+pub mod Text

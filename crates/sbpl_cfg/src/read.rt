@@ -1,11 +1,14 @@
 //! An environment file is read.
 
-ghost use Rattle.std.specs.Prelude.{true, ◌≡◌, ◌*◌, ◌<◌, ◌≤◌, pos, negsuc, ◌≤ℤ◌, ◌<ℤ◌, IfOk, length};
-ghost use Rattle.sbpl_fixed.specs.Formats.{Gives, reads};
+ghost use Rattle.std.specs.Prelude.{true, ℕ, List, Ok, Err, ◌≡◌, ◌≢◌, ◌*◌, ◌<◌, ◌≤◌, pos, negsuc, ◌≤ℤ◌, ◌<ℤ◌, IfOk, IfErr, length};
+ghost use Rattle.sbpl_fixed.specs.Formats.{Answers, Gives, reads};
+ghost use Rattle.sbpl_fixed.specs.Meaning.{HasFirstFault};
+ghost use Rattle.sbpl_cfg.specs.declared.fault.EnvFault.{EnvFault};
 ghost use Rattle.sbpl_cfg.specs.declared.fault.EnvFault.TheVariants.{NoMemory};
-ghost use Rattle.sbpl_cfg.specs.Environment.{IsEnvironment, IsPoseInRange, IsWithin};
+ghost use Rattle.sbpl_cfg.specs.Environment.{Environment, IsEnvironment, IsPoseInRange, IsWithin};
 ghost use Rattle.sbpl_cfg.specs.Faults.{told};
 ghost use Rattle.sbpl_cfg.specs.Format.{cell_format, circumscribed_format, cost_format, end_format, end_pose_format, ends_format, environment_format, environment_of, grid_format, header_format, inscribed_format, is_on_map_of, IsHeaderInRange, nano_format, numbers_format, obsthresh_format, pose_format, rates_format, size_format, speed_format, start_format, start_pose_format, thresholds_format, turn45_format, whole_format};
+ghost use Rattle.sbpl_cfg.specs.Text.{IsTextOf};
 
 use crate::env::Env;
 use crate::fault::EnvFault;
@@ -324,4 +327,22 @@ fn environment(alloc: Global, reader: &mut Reader) -> Result<(Env, Grid), EnvFau
     let costs = costs(alloc, reader, env.width * env.height)?;
     reader.end()?;
     Ok((env, Grid::of(costs)))
+}
+
+/// Reads an environment file: its tokens, in order, are the words and numbers of `print_env`, parted in any way; a whole
+/// number may have a sign and zeros in front, a decimal any decimals, of which the first nine are read. The ranges are
+/// those of `Env`. A fault is the first one in reading order, at its place; `TooLarge` comes directly after the height,
+/// `StartOff` and `EndOff` directly after their pose. Memory is taken for the costs alone.
+#[tactic(auto, using(sbpl_fixed::proofs::Meaning::answering))]
+pub fn read_env(alloc: Global, text: &[u8]) -> Result<(Env, Grid), EnvFault>
+    // What is read is what the text stands for.
+    ensures found { IfOk result (λ x. IsTextOf text.now x.0 x.1) }
+    // What a text stands for is read, unless memory runs out.
+    ensures only { (x : Environment × List ℕ) → IsTextOf text.now x.0 x.1 → Answers NoMemory (λ y. y) result (Ok x) }
+    // A fault is the text's first one.
+    ensures faulty { IfErr result (λ f. f ≢ NoMemory → HasFirstFault told environment_format text.now f) }
+    // The first fault of a text is answered, unless memory runs out.
+    ensures only_faulty { (f : EnvFault) → HasFirstFault told environment_format text.now f → Answers NoMemory (λ y. y) result (Err f) }
+{
+    environment(alloc, &mut Reader::new(text))
 }

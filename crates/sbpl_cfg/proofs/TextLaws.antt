@@ -1,0 +1,221 @@
+-- The format of an environment and its list of tokens say the same.
+use Rattle.std.proofs.Common.{◌≡◌, ℕ, ℤ, pos, negsuc, zero, suc, ◌+◌, ◌*◌, ◌<◌, ◌≤◌, ◌≤ℤ◌, ◌<ℤ◌, Bool, true, false, ltb, cond, ◌&&◌, List, [], ◌∷◌, ◌++◌, length, map, codes, Ok, refl, sym, ap, subst, ◌∙◌, append_assoc, append-nil, arith}
+use Rattle.std.specs.Prelude.{int_le, int_lt, nat_abs}
+use Rattle.std.specs.List.{AllByRecursion}
+use Rattle.std.proofs.lemmas.Bool.{and_from, and_parts, ltb-false, le-ltb}
+use Rattle.std.proofs.lemmas.Int.{ints}
+use Rattle.sbpl_fixed.specs.Formats.{Says, behind, turns}
+use Rattle.sbpl_fixed.specs.Numbers.{nano_of, whole_of}
+use Rattle.sbpl_fixed.specs.Tokens.{Piece}
+use Rattle.sbpl_fixed.specs.declared.placed.Placed.{Placed}
+use Rattle.sbpl_cfg.specs.declared.pose.Pose.{Pose}
+use Rattle.sbpl_cfg.specs.declared.parts.Ends.{Ends}
+use Rattle.sbpl_cfg.specs.declared.parts.Header.{Header}
+use Rattle.sbpl_cfg.specs.declared.parts.Rates.{Rates}
+use Rattle.sbpl_cfg.specs.declared.parts.Size.{Size}
+use Rattle.sbpl_cfg.specs.declared.parts.Thresholds.{Thresholds}
+use Rattle.sbpl_cfg.specs.Environment.{Environment, IsEnvironment, IsOnAxis, IsPoseInRange, IsPoseOnMap, IsWithin, is_on_axis}
+use Rattle.sbpl_cfg.specs.Format as format
+use Rattle.sbpl_cfg.specs.Format.{whole_format, nano_format, size_format, obsthresh_format, inscribed_format, circumscribed_format, thresholds_format, cell_format, speed_format, turn45_format, rates_format, pose_format, start_pose_format, end_pose_format, start_format, end_format, header_format, ends_format, numbers_format, cost_format, grid_format, environment_format, environment_of, usual_headings, IsHeaderInRange, is_on_map_of}
+use Rattle.sbpl_cfg.specs.Text.{Said, word, number, nano, IsGrid, spelled_pose, spelled_grid}
+use Rattle.sbpl_cfg.proofs.Items.{Begins, Ranged, append_begins, begins_append, behind_says, fixed_is, if_right, is_fixed, is_within, says_behind, unless_wrong, within_is}
+
+-- ---- a word with a number
+
+pub whole_said : (w : List ℕ) (low high n : ℤ) (ts rest : List Piece) → Says (whole_format w low high) ts n rest
+    → Begins (word w ∷ number n ∷ []) ts rest × IsWithin low high n
+unfolding whole_format Says
+whole_said w low high n [] rest h = absurd h
+whole_said w low high n (t ∷ []) rest h = absurd h.2
+whole_said w low high n (t ∷ u ∷ ts) rest h =
+    let r = within_is low high h.2.0 (whole_of u.bytes) h.2.1 in
+    let same : h.2.0 ≡ n = sym h.2.2.0 in
+    ((fixed_is w t.bytes h.0 h.1, (r.value ∙ ap (λ z. Ok z) same, h.2.2.1)), subst (IsWithin low high) same r.between)
+
+pub says_whole : (w : List ℕ) (low high n : ℤ) (ts rest : List Piece) → Begins (word w ∷ number n ∷ []) ts rest → IsWithin low high n
+    → Says (whole_format w low high) ts n rest
+unfolding whole_format Says
+says_whole w low high n [] rest h k = absurd h
+says_whole w low high n (t ∷ []) rest h k = absurd h.1
+says_whole w low high n (t ∷ u ∷ ts) rest h k =
+    (pos 0, is_fixed w t.bytes h.0, (n, is_within low high n (whole_of u.bytes) (record { value = h.1.0; between = k }), (refl, h.1.1)))
+
+pub nano_said : (w : List ℕ) (low high n : ℤ) (ts rest : List Piece) → Says (nano_format w low high) ts n rest
+    → Begins (word w ∷ nano n ∷ []) ts rest × IsWithin low high n
+unfolding nano_format Says
+nano_said w low high n [] rest h = absurd h
+nano_said w low high n (t ∷ []) rest h = absurd h.2
+nano_said w low high n (t ∷ u ∷ ts) rest h =
+    let r = within_is low high h.2.0 (nano_of u.bytes) h.2.1 in
+    let same : h.2.0 ≡ n = sym h.2.2.0 in
+    ((fixed_is w t.bytes h.0 h.1, (r.value ∙ ap (λ z. Ok z) same, h.2.2.1)), subst (IsWithin low high) same r.between)
+
+pub says_nano : (w : List ℕ) (low high n : ℤ) (ts rest : List Piece) → Begins (word w ∷ nano n ∷ []) ts rest → IsWithin low high n
+    → Says (nano_format w low high) ts n rest
+unfolding nano_format Says
+says_nano w low high n [] rest h k = absurd h
+says_nano w low high n (t ∷ []) rest h k = absurd h.1
+says_nano w low high n (t ∷ u ∷ ts) rest h k =
+    (pos 0, is_fixed w t.bytes h.0, (n, is_within low high n (nano_of u.bytes) (record { value = h.1.0; between = k }), (refl, h.1.1)))
+
+-- ---- the size
+
+natural_is : (k : ℕ) (v : ℤ) → pos k ≤ℤ v → v ≡ pos (nat_abs v)
+natural_is k (pos n) h = refl
+natural_is k (negsuc n) h = absurd (omega (arith, ints))
+
+pub record IsSize (x : Size) : Type 0 where
+  pub width : (1 ≤ x.width) × (x.width ≤ 8388608)
+  pub height : (1 ≤ x.height) × (x.height ≤ 8388608)
+  pub states : x.width * x.height * usual_headings ≤ 8388608
+
+abbrev pub size_words : Size → List Said
+size_words x = word (codes "discretization(cells):") ∷ number (pos x.width) ∷ number (pos x.height) ∷ []
+
+pub size_said : (x : Size) (ts rest : List Piece) → Says size_format ts x rest → Begins (size_words x) ts rest × IsSize x
+unfolding size_format Says
+size_said x [] rest h = absurd h
+size_said x (t ∷ []) rest h = absurd h.2
+size_said x (t ∷ u ∷ []) rest h = absurd h.2.2
+size_said x (t ∷ u ∷ v ∷ ts) rest h =
+    let w = within_is (pos 1) (pos 8388608) h.2.0 (whole_of u.bytes) h.2.1 in
+    let r = within_is (pos 1) (pos 8388608) h.2.2.0 (whole_of v.bytes) h.2.2.1 in
+    let g = unless_wrong _ _ x _ ts rest h.2.2.2 in
+    let width : h.2.0 ≡ pos x.width = natural_is 1 h.2.0 w.between.0 ∙ ap (λ (y : Size). pos y.width) (sym g.1) in
+    let height : h.2.2.0 ≡ pos x.height = natural_is 1 h.2.2.0 r.between.0 ∙ ap (λ (y : Size). pos y.height) (sym g.1) in
+    let states = subst (λ (y : ℤ). nat_abs y * nat_abs h.2.2.0 * usual_headings ≤ 8388608) width (ltb-false _ _ g.0) in
+    let states' = subst (λ (y : ℤ). x.width * nat_abs y * usual_headings ≤ 8388608) height states in
+    let in_width = subst (IsWithin (pos 1) (pos 8388608)) width w.between in
+    let in_height = subst (IsWithin (pos 1) (pos 8388608)) height r.between in
+    (
+      (fixed_is _ t.bytes h.0 h.1, (w.value ∙ ap (λ z. Ok z) width, (r.value ∙ ap (λ z. Ok z) height, g.2))),
+      record {
+        width = (omega (arith, ints, in_width.0), omega (arith, ints, in_width.1));
+        height = (omega (arith, ints, in_height.0), omega (arith, ints, in_height.1));
+        states = states';
+      },
+    )
+
+within_naturals : (low high n : ℕ) → low ≤ n → n ≤ high → IsWithin (pos low) (pos high) (pos n)
+within_naturals low high n h k = (omega (arith, ints), omega (arith, ints))
+
+naturals_within : (low high n : ℕ) → IsWithin (pos low) (pos high) (pos n) → (low ≤ n) × (n ≤ high)
+naturals_within low high n h = let low = h.0 in let high = h.1 in (omega (arith, ints), omega (arith, ints))
+
+pub says_size : (x : Size) (ts rest : List Piece) → Begins (size_words x) ts rest → IsSize x → Says size_format ts x rest
+unfolding size_format Says
+says_size x [] rest h k = absurd h
+says_size x (t ∷ []) rest h k = absurd h.1
+says_size x (t ∷ u ∷ []) rest h k = absurd h.1.1
+says_size x (t ∷ u ∷ v ∷ ts) rest h k =
+    let small : ltb 8388608 (x.width * x.height * usual_headings) ≡ false = le-ltb _ _ k.states in
+    (pos 0, is_fixed _ t.bytes h.0,
+     (pos x.width, is_within (pos 1) (pos 8388608) (pos x.width) (whole_of u.bytes) (record { value = h.1.0; between = within_naturals 1 8388608 x.width k.width.0 k.width.1 }),
+      (pos x.height, is_within (pos 1) (pos 8388608) (pos x.height) (whole_of v.bytes) (record { value = h.1.1.0; between = within_naturals 1 8388608 x.height k.height.0 k.height.1 }),
+       rw small (refl, h.1.1.1))))
+
+-- ---- the thresholds
+
+pub record AreThresholds (x : Thresholds) : Type 0 where
+  pub obsthresh : x.obsthresh ≤ 255
+  pub inscribed : x.inscribed ≤ 255
+  pub circumscribed : IsWithin (negsuc 0) (pos 255) x.circumscribed
+
+abbrev pub obsthresh_words : ℤ → List Said
+obsthresh_words n = word (codes "obsthresh:") ∷ number n ∷ []
+
+abbrev pub inscribed_words : ℤ → List Said
+inscribed_words n = word (codes "cost_inscribed_thresh:") ∷ number n ∷ []
+
+abbrev pub circumscribed_words : ℤ → List Said
+circumscribed_words n = word (codes "cost_possibly_circumscribed_thresh:") ∷ number n ∷ []
+
+abbrev pub thresholds_words : Thresholds → List Said
+thresholds_words x = obsthresh_words (pos x.obsthresh) ++ (inscribed_words (pos x.inscribed) ++ circumscribed_words x.circumscribed)
+
+pub thresholds_said : (x : Thresholds) (ts rest : List Piece) → Says thresholds_format ts x rest → Begins (thresholds_words x) ts rest × AreThresholds x
+unfolding thresholds_format obsthresh_format inscribed_format circumscribed_format Says
+thresholds_said x ts rest h =
+    let a = says_behind _ _ ts x rest h in
+    let b = says_behind _ _ a.1 x rest a.3 in
+    let c = says_behind _ _ b.1 x rest b.3 in
+    let o = whole_said _ (pos 0) (pos 255) a.0 ts a.1 a.2 in
+    let i = whole_said _ (pos 0) (pos 255) b.0 a.1 b.1 b.2 in
+    let r = whole_said _ (negsuc 0) (pos 255) c.0 b.1 c.1 c.2 in
+    let obsthresh : a.0 ≡ pos x.obsthresh = natural_is 0 a.0 o.1.0 ∙ ap (λ (y : Thresholds). pos y.obsthresh) (sym c.3.0) in
+    let inscribed : b.0 ≡ pos x.inscribed = natural_is 0 b.0 i.1.0 ∙ ap (λ (y : Thresholds). pos y.inscribed) (sym c.3.0) in
+    let circumscribed : c.0 ≡ x.circumscribed = ap (λ (y : Thresholds). y.circumscribed) (sym c.3.0) in
+    (
+      begins_append (obsthresh_words (pos x.obsthresh)) (inscribed_words (pos x.inscribed) ++ circumscribed_words x.circumscribed) ts a.1 rest
+        (subst (λ n. Begins (obsthresh_words n) ts a.1) obsthresh o.0)
+        (begins_append (inscribed_words (pos x.inscribed)) (circumscribed_words x.circumscribed) a.1 b.1 rest
+          (subst (λ n. Begins (inscribed_words n) a.1 b.1) inscribed i.0)
+          (subst (λ m. Begins (circumscribed_words x.circumscribed) b.1 m) (sym c.3.1) (subst (λ n. Begins (circumscribed_words n) b.1 c.1) circumscribed r.0))),
+      record {
+        obsthresh = (naturals_within 0 255 x.obsthresh (subst (IsWithin (pos 0) (pos 255)) obsthresh o.1)).1;
+        inscribed = (naturals_within 0 255 x.inscribed (subst (IsWithin (pos 0) (pos 255)) inscribed i.1)).1;
+        circumscribed = subst (IsWithin (negsuc 0) (pos 255)) circumscribed r.1;
+      },
+    )
+
+pub says_thresholds : (x : Thresholds) (ts rest : List Piece) → Begins (thresholds_words x) ts rest → AreThresholds x → Says thresholds_format ts x rest
+unfolding thresholds_format obsthresh_format inscribed_format circumscribed_format Says
+says_thresholds x ts rest h k =
+    let a = append_begins (obsthresh_words (pos x.obsthresh)) (inscribed_words (pos x.inscribed) ++ circumscribed_words x.circumscribed) ts rest h in
+    let b = append_begins (inscribed_words (pos x.inscribed)) (circumscribed_words x.circumscribed) a.0 rest a.2 in
+    behind_says obsthresh_format _ ts x rest (pos x.obsthresh) a.0 (says_whole _ (pos 0) (pos 255) (pos x.obsthresh) ts a.0 a.1 (within_naturals 0 255 x.obsthresh (omega arith) k.obsthresh))
+      (behind_says inscribed_format _ a.0 x rest (pos x.inscribed) b.0 (says_whole _ (pos 0) (pos 255) (pos x.inscribed) a.0 b.0 b.1 (within_naturals 0 255 x.inscribed (omega arith) k.inscribed))
+        (behind_says circumscribed_format _ b.0 x rest x.circumscribed rest (says_whole _ (negsuc 0) (pos 255) x.circumscribed b.0 rest b.2 k.circumscribed) (refl, refl)))
+
+-- ---- the rates
+
+pub record AreRates (x : Rates) : Type 0 where
+  pub cell : IsWithin (pos 1) (pos 1000000000000) x.cell
+  pub speed : IsWithin (pos 1) (pos 1000000000000) x.speed
+  pub turn45 : IsWithin (pos 1) (pos 1000000000000) x.turn45
+
+abbrev pub cell_words : ℤ → List Said
+cell_words n = word (codes "cellsize(meters):") ∷ nano n ∷ []
+
+abbrev pub speed_words : ℤ → List Said
+speed_words n = word (codes "nominalvel(mpersecs):") ∷ nano n ∷ []
+
+abbrev pub turn45_words : ℤ → List Said
+turn45_words n = word (codes "timetoturn45degsinplace(secs):") ∷ nano n ∷ []
+
+abbrev pub rates_words : Rates → List Said
+rates_words x = cell_words x.cell ++ (speed_words x.speed ++ turn45_words x.turn45)
+
+pub rates_said : (x : Rates) (ts rest : List Piece) → Says rates_format ts x rest → Begins (rates_words x) ts rest × AreRates x
+unfolding rates_format cell_format speed_format turn45_format Says
+rates_said x ts rest h =
+    let a = says_behind _ _ ts x rest h in
+    let b = says_behind _ _ a.1 x rest a.3 in
+    let c = says_behind _ _ b.1 x rest b.3 in
+    let p = nano_said _ (pos 1) (pos 1000000000000) a.0 ts a.1 a.2 in
+    let q = nano_said _ (pos 1) (pos 1000000000000) b.0 a.1 b.1 b.2 in
+    let r = nano_said _ (pos 1) (pos 1000000000000) c.0 b.1 c.1 c.2 in
+    let cell : a.0 ≡ x.cell = ap (λ (y : Rates). y.cell) (sym c.3.0) in
+    let speed : b.0 ≡ x.speed = ap (λ (y : Rates). y.speed) (sym c.3.0) in
+    let turn45 : c.0 ≡ x.turn45 = ap (λ (y : Rates). y.turn45) (sym c.3.0) in
+    (
+      begins_append (cell_words x.cell) (speed_words x.speed ++ turn45_words x.turn45) ts a.1 rest
+        (subst (λ n. Begins (cell_words n) ts a.1) cell p.0)
+        (begins_append (speed_words x.speed) (turn45_words x.turn45) a.1 b.1 rest
+          (subst (λ n. Begins (speed_words n) a.1 b.1) speed q.0)
+          (subst (λ m. Begins (turn45_words x.turn45) b.1 m) (sym c.3.1) (subst (λ n. Begins (turn45_words n) b.1 c.1) turn45 r.0))),
+      record {
+        cell = subst (IsWithin (pos 1) (pos 1000000000000)) cell p.1;
+        speed = subst (IsWithin (pos 1) (pos 1000000000000)) speed q.1;
+        turn45 = subst (IsWithin (pos 1) (pos 1000000000000)) turn45 r.1;
+      },
+    )
+
+pub says_rates : (x : Rates) (ts rest : List Piece) → Begins (rates_words x) ts rest → AreRates x → Says rates_format ts x rest
+unfolding rates_format cell_format speed_format turn45_format Says
+says_rates x ts rest h k =
+    let a = append_begins (cell_words x.cell) (speed_words x.speed ++ turn45_words x.turn45) ts rest h in
+    let b = append_begins (speed_words x.speed) (turn45_words x.turn45) a.0 rest a.2 in
+    behind_says cell_format _ ts x rest x.cell a.0 (says_nano _ (pos 1) (pos 1000000000000) x.cell ts a.0 a.1 k.cell)
+      (behind_says speed_format _ a.0 x rest x.speed b.0 (says_nano _ (pos 1) (pos 1000000000000) x.speed a.0 b.0 b.1 k.speed)
+        (behind_says turn45_format _ b.0 x rest x.turn45 rest (says_nano _ (pos 1) (pos 1000000000000) x.turn45 b.0 rest b.2 k.turn45) (refl, refl)))
