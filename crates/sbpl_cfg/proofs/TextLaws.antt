@@ -219,3 +219,170 @@ says_rates x ts rest h k =
     behind_says cell_format _ ts x rest x.cell a.0 (says_nano _ (pos 1) (pos 1000000000000) x.cell ts a.0 a.1 k.cell)
       (behind_says speed_format _ a.0 x rest x.speed b.0 (says_nano _ (pos 1) (pos 1000000000000) x.speed a.0 b.0 b.1 k.speed)
         (behind_says turn45_format _ b.0 x rest x.turn45 rest (says_nano _ (pos 1) (pos 1000000000000) x.turn45 b.0 rest b.2 k.turn45) (refl, refl)))
+
+-- ---- the poses
+
+pub pose_said : (w : List ℕ) (p : Placed Pose) (ts rest : List Piece) → Says (pose_format w) ts p rest
+    → Begins (spelled_pose w p.value) ts rest × IsPoseInRange p.value
+unfolding pose_format Says
+pose_said w p [] rest h = absurd h
+pose_said w p (t ∷ []) rest h = absurd h.2
+pose_said w p (t ∷ u ∷ []) rest h = absurd h.2.2
+pose_said w p (t ∷ u ∷ v ∷ []) rest h = absurd h.2.2.2
+pose_said w p (t ∷ u ∷ v ∷ a ∷ ts) rest h =
+    let low = negsuc 999999999999999999 in
+    let high = pos 1000000000000000000 in
+    let x = within_is low high h.2.0 (nano_of u.bytes) h.2.1 in
+    let y = within_is low high h.2.2.0 (nano_of v.bytes) h.2.2.1 in
+    let theta = within_is low high h.2.2.2.0 (nano_of a.bytes) h.2.2.2.1 in
+    let g = h.2.2.2.2 in
+    let is_x : h.2.0 ≡ p.value.x = ap (λ (q : Placed Pose). q.value.x) (sym g.0) in
+    let is_y : h.2.2.0 ≡ p.value.y = ap (λ (q : Placed Pose). q.value.y) (sym g.0) in
+    let is_theta : h.2.2.2.0 ≡ p.value.theta = ap (λ (q : Placed Pose). q.value.theta) (sym g.0) in
+    (
+      (fixed_is w t.bytes h.0 h.1, (x.value ∙ ap (λ z. Ok z) is_x, (y.value ∙ ap (λ z. Ok z) is_y, (theta.value ∙ ap (λ z. Ok z) is_theta, g.1)))),
+      record {
+        x = subst (IsWithin low high) is_x x.between;
+        y = subst (IsWithin low high) is_y y.between;
+        theta = subst (IsWithin low high) is_theta theta.between;
+      },
+    )
+
+pub says_pose : (w : List ℕ) (p : Pose) (ts rest : List Piece) → Begins (spelled_pose w p) ts rest → IsPoseInRange p
+    → (place : ℕ) × Says (pose_format w) ts (record { value = p; place = place }) rest
+unfolding pose_format Says
+says_pose w p [] rest h k = absurd h
+says_pose w p (t ∷ []) rest h k = absurd h.1
+says_pose w p (t ∷ u ∷ []) rest h k = absurd h.1.1
+says_pose w p (t ∷ u ∷ v ∷ []) rest h k = absurd h.1.1.1
+says_pose w p (t ∷ u ∷ v ∷ a ∷ ts) rest h k =
+    let low = negsuc 999999999999999999 in
+    let high = pos 1000000000000000000 in
+    (u.place,
+     (pos 0, is_fixed w t.bytes h.0,
+      (p.x, is_within low high p.x (nano_of u.bytes) (record { value = h.1.0; between = k.x }),
+       (p.y, is_within low high p.y (nano_of v.bytes) (record { value = h.1.1.0; between = k.y }),
+        (p.theta, is_within low high p.theta (nano_of a.bytes) (record { value = h.1.1.1.0; between = k.theta }),
+         (refl, h.1.1.1.1))))))
+
+-- a pose in its ranges and on the map
+pub record IsGood (h : Header) (p : Pose) : Type 0 where
+  pub in_range : IsPoseInRange p
+  pub on_map : is_on_map_of h p ≡ true
+
+pub start_said : (h : Header) (p : Pose) (ts rest : List Piece) → Says (start_format h) ts p rest
+    → Begins (spelled_pose (codes "start(meters,rads):") p) ts rest × IsGood h p
+unfolding start_format start_pose_format
+start_said h p ts rest s =
+    let a = says_behind _ _ ts p rest s in
+    let r = pose_said _ a.0 ts a.1 a.2 in
+    let g = if_right _ _ p _ a.1 rest a.3 in
+    let same : a.0.value ≡ p = sym g.1 in
+    (
+      subst (λ m. Begins (spelled_pose (codes "start(meters,rads):") p) ts m) (sym g.2) (subst (λ q. Begins (spelled_pose (codes "start(meters,rads):") q) ts a.1) same r.0),
+      record { in_range = subst IsPoseInRange same r.1; on_map = subst (λ q. is_on_map_of h q ≡ true) same g.0 },
+    )
+
+pub says_start : (h : Header) (p : Pose) (ts rest : List Piece) → Begins (spelled_pose (codes "start(meters,rads):") p) ts rest → IsGood h p
+    → Says (start_format h) ts p rest
+unfolding start_format start_pose_format Says
+says_start h p ts rest s good =
+    let a = says_pose _ p ts rest s good.in_range in
+    behind_says (pose_format (codes "start(meters,rads):")) _ ts p rest (record { value = p; place = a.0 }) rest a.1 (rw good.on_map (refl, refl))
+
+pub end_said : (h : Header) (p : Pose) (ts rest : List Piece) → Says (end_format h) ts p rest
+    → Begins (spelled_pose (codes "end(meters,rads):") p) ts rest × IsGood h p
+unfolding end_format end_pose_format
+end_said h p ts rest s =
+    let a = says_behind _ _ ts p rest s in
+    let r = pose_said _ a.0 ts a.1 a.2 in
+    let g = if_right _ _ p _ a.1 rest a.3 in
+    let same : a.0.value ≡ p = sym g.1 in
+    (
+      subst (λ m. Begins (spelled_pose (codes "end(meters,rads):") p) ts m) (sym g.2) (subst (λ q. Begins (spelled_pose (codes "end(meters,rads):") q) ts a.1) same r.0),
+      record { in_range = subst IsPoseInRange same r.1; on_map = subst (λ q. is_on_map_of h q ≡ true) same g.0 },
+    )
+
+pub says_end : (h : Header) (p : Pose) (ts rest : List Piece) → Begins (spelled_pose (codes "end(meters,rads):") p) ts rest → IsGood h p
+    → Says (end_format h) ts p rest
+unfolding end_format end_pose_format Says
+says_end h p ts rest s good =
+    let a = says_pose _ p ts rest s good.in_range in
+    behind_says (pose_format (codes "end(meters,rads):")) _ ts p rest (record { value = p; place = a.0 }) rest a.1 (rw good.on_map (refl, refl))
+
+abbrev pub ends_words : Ends → List Said
+ends_words x = spelled_pose (codes "start(meters,rads):") x.start ++ spelled_pose (codes "end(meters,rads):") x.end
+
+pub ends_said : (h : Header) (x : Ends) (ts rest : List Piece) → Says (ends_format h) ts x rest → Begins (ends_words x) ts rest × IsGood h x.start × IsGood h x.end
+unfolding ends_format Says
+ends_said h x ts rest s =
+    let a = says_behind _ _ ts x rest s in
+    let b = says_behind _ _ a.1 x rest a.3 in
+    let p = start_said h a.0 ts a.1 a.2 in
+    let q = end_said h b.0 a.1 b.1 b.2 in
+    let start : a.0 ≡ x.start = ap (λ (y : Ends). y.start) (sym b.3.0) in
+    let end : b.0 ≡ x.end = ap (λ (y : Ends). y.end) (sym b.3.0) in
+    (
+      begins_append (spelled_pose (codes "start(meters,rads):") x.start) (spelled_pose (codes "end(meters,rads):") x.end) ts a.1 rest
+        (subst (λ p. Begins (spelled_pose (codes "start(meters,rads):") p) ts a.1) start p.0)
+        (subst (λ m. Begins (spelled_pose (codes "end(meters,rads):") x.end) a.1 m) (sym b.3.1)
+          (subst (λ p. Begins (spelled_pose (codes "end(meters,rads):") p) a.1 b.1) end q.0)),
+      subst (IsGood h) start p.1,
+      subst (IsGood h) end q.1,
+    )
+
+pub says_ends : (h : Header) (x : Ends) (ts rest : List Piece) → Begins (ends_words x) ts rest → IsGood h x.start → IsGood h x.end → Says (ends_format h) ts x rest
+unfolding ends_format Says
+says_ends h x ts rest s good fine =
+    let a = append_begins (spelled_pose (codes "start(meters,rads):") x.start) (spelled_pose (codes "end(meters,rads):") x.end) ts rest s in
+    behind_says (start_format h) _ ts x rest x.start a.0 (says_start h x.start ts a.0 a.1 good)
+      (behind_says (end_format h) _ a.0 x rest x.end rest (says_end h x.end a.0 rest a.2 fine) (refl, refl))
+
+-- ---- the header
+
+abbrev pub header_words : Header → List Said
+header_words h = size_words h.size ++ (thresholds_words h.thresholds ++ rates_words h.rates)
+
+pub header_said : (h : Header) (ts rest : List Piece) → Says header_format ts h rest → Begins (header_words h) ts rest × IsHeaderInRange h
+unfolding header_format Says
+header_said h ts rest s =
+    let a = says_behind _ _ ts h rest s in
+    let b = says_behind _ _ a.1 h rest a.3 in
+    let c = says_behind _ _ b.1 h rest b.3 in
+    let p = size_said a.0 ts a.1 a.2 in
+    let q = thresholds_said b.0 a.1 b.1 b.2 in
+    let r = rates_said c.0 b.1 c.1 c.2 in
+    let size : a.0 ≡ h.size = ap (λ (y : Header). y.size) (sym c.3.0) in
+    let thresholds : b.0 ≡ h.thresholds = ap (λ (y : Header). y.thresholds) (sym c.3.0) in
+    let rates : c.0 ≡ h.rates = ap (λ (y : Header). y.rates) (sym c.3.0) in
+    let is_size = subst IsSize size p.1 in
+    let are_thresholds = subst AreThresholds thresholds q.1 in
+    let are_rates = subst AreRates rates r.1 in
+    (
+      begins_append (size_words h.size) (thresholds_words h.thresholds ++ rates_words h.rates) ts a.1 rest
+        (subst (λ x. Begins (size_words x) ts a.1) size p.0)
+        (begins_append (thresholds_words h.thresholds) (rates_words h.rates) a.1 b.1 rest
+          (subst (λ x. Begins (thresholds_words x) a.1 b.1) thresholds q.0)
+          (subst (λ m. Begins (rates_words h.rates) b.1 m) (sym c.3.1) (subst (λ x. Begins (rates_words x) b.1 c.1) rates r.0))),
+      record {
+        width = is_size.width;
+        height = is_size.height;
+        states = is_size.states;
+        obsthresh = are_thresholds.obsthresh;
+        inscribed = are_thresholds.inscribed;
+        circumscribed = are_thresholds.circumscribed;
+        cell = are_rates.cell;
+        speed = are_rates.speed;
+        turn45 = are_rates.turn45;
+      },
+    )
+
+pub says_header : (h : Header) (ts rest : List Piece) → Begins (header_words h) ts rest → IsHeaderInRange h → Says header_format ts h rest
+unfolding header_format Says
+says_header h ts rest s k =
+    let a = append_begins (size_words h.size) (thresholds_words h.thresholds ++ rates_words h.rates) ts rest s in
+    let b = append_begins (thresholds_words h.thresholds) (rates_words h.rates) a.0 rest a.2 in
+    behind_says size_format _ ts h rest h.size a.0 (says_size h.size ts a.0 a.1 (record { width = k.width; height = k.height; states = k.states }))
+      (behind_says thresholds_format _ a.0 h rest h.thresholds b.0
+        (says_thresholds h.thresholds a.0 b.0 b.1 (record { obsthresh = k.obsthresh; inscribed = k.inscribed; circumscribed = k.circumscribed }))
+        (behind_says rates_format _ b.0 h rest h.rates rest (says_rates h.rates b.0 rest b.2 (record { cell = k.cell; speed = k.speed; turn45 = k.turn45 })) (refl, refl)))
