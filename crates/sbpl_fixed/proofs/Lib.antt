@@ -1,4 +1,6 @@
 pub mod Tokens
+pub mod Runs
+pub mod Forms
 pub mod Digits
 pub mod Roots
 pub mod Printing

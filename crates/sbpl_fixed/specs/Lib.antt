@@ -1,5 +1,7 @@
 pub mod Tokens
+pub mod Runs
 pub mod Numbers
+pub mod NumberForms
 pub mod Printed
 pub mod Formats
 pub mod Meaning
