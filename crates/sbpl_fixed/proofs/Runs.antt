@@ -75,14 +75,14 @@ each_is_run false place (b ∷ bs) =
 -- ---- each longest run is a token
 
 -- the front that is filled, where a blank or nothing is behind it
-whole_front : (bytes behind : List ℕ) → list_all is_filled bytes ≡ true → begins_blank behind ≡ true → prefix_len is_filled (bytes ++ behind) ≡ length bytes
+pub whole_front : (bytes behind : List ℕ) → list_all is_filled bytes ≡ true → begins_blank behind ≡ true → prefix_len is_filled (bytes ++ behind) ≡ length bytes
 whole_front [] [] f e = refl
 whole_front [] (c ∷ cs) f e = rw e refl
 whole_front (b ∷ bs) behind f e =
     let both = and_parts (is_filled b) (list_all is_filled bs) f in
     rw (both.0, one-add) (ap suc (whole_front bs behind both.1 e))
 
-is_front : (bytes behind : List ℕ) → list_all is_filled bytes ≡ true → begins_blank behind ≡ true → take_while is_filled (bytes ++ behind) ≡ bytes
+pub is_front : (bytes behind : List ℕ) → list_all is_filled bytes ≡ true → begins_blank behind ≡ true → take_while is_filled (bytes ++ behind) ≡ bytes
 is_front bytes behind f e = rw (whole_front bytes behind f e) (take_at bytes behind (length bytes) refl)
 
 same_piece : (s t : Piece) → s.place ≡ t.place → s.bytes ≡ t.bytes → s ≡ t

@@ -3,5 +3,6 @@ pub mod Runs
 pub mod Numbers
 pub mod NumberForms
 pub mod Printed
+pub mod ReadBack
 pub mod Formats
 pub mod Meaning
