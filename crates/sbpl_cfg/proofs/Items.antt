@@ -120,3 +120,8 @@ pub if_right : {E A : Type 0} (b : Bool) (e : E) (x y : A) (ts rest : List Piece
 unfolding Says
 if_right true e x y ts rest h = (refl, h.0, h.1)
 if_right false e x y ts rest h = absurd h
+
+pub at_end : (E A : Type 0) (x y : A) (ts rest : List Piece) → Says {E = E} (ended (done y)) ts x rest → (x ≡ y) × (ts ≡ [])
+unfolding Says
+at_end E A x y [] rest h = (h.0, refl)
+at_end E A x y (t ∷ ts) rest h = absurd h

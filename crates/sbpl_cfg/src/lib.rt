@@ -16,3 +16,4 @@ pub use grid::Grid;
 pub use place::{TAU, cell_at, heading_at, place_at, places_in_plain_words};
 pub use pose::{Place, Pose};
 pub use print::print_env;
+pub use read::read_env;
