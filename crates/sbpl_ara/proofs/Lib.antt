@@ -8,3 +8,4 @@ pub mod Parting
 pub mod Running
 pub mod Ordering
 pub mod Passing
+pub mod Finishing

@@ -1,5 +1,5 @@
 -- The least open state is next, or there is rest.
-use Rattle.std.proofs.Common.{◌≡◌, ◌≢◌, ℕ, ◌+◌, ◌*◌, ◌<◌, ◌≤◌, ◌⊎◌, ◌↔◌, Bool, true, false, IsTrue, refl, arith, ⊎_elim, inl, inr, sym}
+use Rattle.std.proofs.Common.{◌≡◌, ◌≢◌, ℕ, ◌+◌, ◌*◌, ◌<◌, ◌≤◌, ◌⊎◌, ◌↔◌, Bool, true, false, IsTrue, IfSome, refl, arith, ⊎_elim, inl, inr, sym}
 use Rattle.std.proofs.lemmas.Bool.{cases_eq, false≢true}
 use Rattle.std.specs.Bool.{then_some}
 use Rattle.sbpl_labels.specs.Marks.{Marks, states_of}
@@ -47,3 +47,8 @@ pub next_or_rest : (q : Query) {m : Marks} (closed closed' : ℕ → Bool) → (
     → (IsTrue low ↔ IsBelow key (goal_key_at q m)) → IsNextOrRest q closed' m (then_some low s)
 next_or_rest q closed closed' same true least tells = next_at closed closed' same least (tells.0 refl)
 next_or_rest q closed closed' same false least tells = rest_at closed closed' same least (λ low. false≢true (tells.1 low))
+
+-- what holds anyway holds where the test gives a state
+pub if_then_some : {P : Type 0} (low : Bool) (s : ℕ) → P → IfSome (then_some low s) (λ _. P)
+if_then_some true s holds = holds
+if_then_some false s holds = tt

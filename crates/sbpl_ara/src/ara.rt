@@ -1,9 +1,10 @@
 //! The search.
 
-ghost use Rattle.std.specs.Prelude.{◌≡◌, ◌≢◌, ℕ, ◌+◌, ◌-◌, ◌*◌, ◌^◌, ◌<◌, ◌≤◌, ◌↔◌, [], ◌∷◌, ◌++◌, length, IfOk, false};
+ghost use Rattle.std.specs.Prelude.{◌≡◌, ◌≢◌, ℕ, ◌+◌, ◌-◌, ◌*◌, ◌^◌, ◌<◌, ◌≤◌, ◌↔◌, [], ◌∷◌, ◌++◌, length, IfOk, IfSome, IsTrue, false};
 ghost use Rattle.std.specs.List.{All, AllPairs};
 ghost use Rattle.sbpl_graph.specs.Network.{Network};
-ghost use Rattle.sbpl_graph.specs.Certificate.{AreSupported};
+ghost use Rattle.sbpl_graph.specs.Certificate.{AreSupported, ShowBound, ShowNone};
+ghost use Rattle.sbpl_graph.specs.declared.TheConstants.{FAR};
 ghost use Rattle.sbpl_graph.specs.Kept.{NoneUnder};
 ghost use Rattle.sbpl_labels.specs.Counts.{IsSpent};
 ghost use Rattle.sbpl_labels.specs.Marks.{IsOpened, AreLabels, states_of, g_of, v_of};
@@ -97,6 +98,17 @@ impl Ara {
         ensures lowered { All (λ step. step.raised ≡ false) self.new.trace }
         ensures once { AllPairs (λ a b. a.state ≢ b.state) self.new.trace }
         ensures few { length self.new.trace ≤ states_of self.old.labels }
+        // It rests exactly where no open key is below the goal's, and is spent exactly where one is
+        // and the budget is spent. A pass that is spent has not expanded every state.
+        ensures rest { (result ≡ PassEnd.Rest) ↔ IsAtRest (query (G.network graph.now) (H.distance guide.now) eps self.old.goal) (closed_after none_closed self.new.trace) self.new.labels }
+        ensures spent { (result ≡ PassEnd.Spent) ↔ (IsSpent budget.new × ((s : ℕ) × IsNext (query (G.network graph.now) (H.distance guide.now) eps self.old.goal) (closed_after none_closed self.new.trace) self.new.labels s)) }
+        ensures unfinished { result ≡ PassEnd.Spent → length self.new.trace < states_of self.old.labels }
+        ensures enough { budget.old.plan + states_of self.old.labels ≤ budget.old.per_plan → budget.old.run + states_of self.old.labels ≤ 2 ^ 30 → result ≡ PassEnd.Rest }
+        // At rest an infinite goal shows that there is no path. With inflation one every expanded
+        // state is settled, and at rest the labels show that every path costs at least g of the goal.
+        ensures none { result ≡ PassEnd.Rest → g_of self.new.labels self.old.goal ≡ FAR → ShowNone (G.network graph.now) self.new.labels.start self.old.goal (g_of self.new.labels) (v_of self.new.labels) }
+        ensures settled { eps ≡ 1000 → (s : ℕ) → IsTrue (closed_after none_closed self.new.trace s) → v_of self.new.labels s ≡ g_of self.new.labels s }
+        ensures tight { result ≡ PassEnd.Rest → eps ≡ 1000 → ShowBound (G.network graph.now) self.new.labels.start self.old.goal (g_of self.new.labels) (v_of self.new.labels) (H.distance guide.now) (g_of self.new.labels self.old.goal) }
         // Each expansion is counted.
         ensures counted { budget.new ≡ record budget.old { plan = budget.old.plan + length self.new.trace; run = budget.old.run + length self.new.trace } }
         // The labels may begin another pass, and support a bound.
@@ -153,6 +165,7 @@ impl Ara {
         requires guide { H.guides guide.now (G.network graph.now) self.now.goal }
         ensures next { IsNextOrRest (query (G.network graph.now) (H.distance guide.now) eps self.now.goal) (closed_after none_closed self.now.trace) self.now.labels result }
         ensures labels { AreLabels self.now.labels }
+        ensures few { IfSome result (λ _. length self.now.trace < states_of self.now.labels) }
     {
         let _start = self.labels.start();
         let (key, s) = least_open(&self.labels, &self.closed, guide, eps, graph.states())?;
