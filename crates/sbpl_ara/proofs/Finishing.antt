@@ -14,6 +14,9 @@ use Rattle.sbpl_labels.specs.Marks.{Marks, AreLabels, states_of, g_of, v_of}
 use Rattle.sbpl_ara.specs.Order.{IsBelow}
 use Rattle.sbpl_ara.specs.Run.{Query, IsOpen, IsOver, IsNext, IsAtRest, key_at, goal_key_at}
 use Rattle.sbpl_ara.proofs.Ordering.{AreOrdered, key_over}
+use Rattle.sbpl_ara.proofs.Passing.{IsPassing, closed_by, none_under_of}
+use Rattle.sbpl_ara.specs.Search.{Search}
+use Rattle.sbpl_graph.proofs.Keeping.{supported_from_exact}
 
 rest_not_spent : Rest ≡ Spent → ⊥
 rest_not_spent e = cc
@@ -93,3 +96,18 @@ module _ {q : Query} {closed : ℕ → Bool} {m : Marks} where
         omega arith)
         (cases_Bool (closed s));
   }
+
+-- What the labels of a pass show.
+module _ {q : Query} {old now : Search} {before counts : Counts} (here : IsPassing q old now before counts) (labels : AreLabels now.labels) where
+  pub passing_supported : AreSupported q.network now.labels.start (g_of now.labels) (v_of now.labels)
+  passing_supported = supported_from_exact (λ s inside. labels.labels s (omega (arith, here.ready.states))) here.ready.exact
+
+  pub passing_shows_none : IsAtRest q (closed_by now) now.labels → q.eps ≤ 100000 → ((s : ℕ) → s < q.network.states → q.guide s < 2 ^ 55)
+      → g_of now.labels q.goal ≡ FAR → ShowNone q.network now.labels.start q.goal (g_of now.labels) (v_of now.labels)
+  passing_shows_none rest eps bounded far =
+      rest_shows_none rest labels eps here.ready.states (λ s inside. bounded s (omega (arith, here.ready.states))) here.near passing_supported far
+
+  pub passing_shows_bound : IsAtRest q (closed_by now) now.labels → q.eps ≡ 1000 → IsConsistent q.network q.goal q.guide
+      → ShowBound q.network now.labels.start q.goal (g_of now.labels) (v_of now.labels) q.guide (g_of now.labels q.goal)
+  passing_shows_bound rest one consistent =
+      rest_shows_bound rest one (none_under_of here.ready) here.ready.states consistent (here.ordered one) passing_supported

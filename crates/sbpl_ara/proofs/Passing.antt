@@ -52,7 +52,7 @@ ready_more more ready above = record {
 }
 
 -- none of a search's labels is underconsistent
-none_under_of : {n : Network} {m : Marks} {count : ℕ} → AreReady n m count → NoneUnder (states_of m) (g_of m) (v_of m)
+pub none_under_of : {n : Network} {m : Marks} {count : ℕ} → AreReady n m count → NoneUnder (states_of m) (g_of m) (v_of m)
 none_under_of ready = record { at = λ s inside. ready.none_under.at s (omega (arith, ready.states)) }
 
 -- the counts rise by one with each step
