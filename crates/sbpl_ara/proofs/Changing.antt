@@ -1,5 +1,5 @@
 -- A change of one state's labels, as functions see it.
-use Rattle.std.proofs.Common.{◌≡◌, ◌≢◌, ℕ, Option, Some, ap, ⊎_elim}
+use Rattle.std.proofs.Common.{◌≡◌, ◌≢◌, ℕ, Some, ap, ⊎_elim}
 use Rattle.std.proofs.lemmas.Bool.{cases_eq}
 use Rattle.sbpl_graph.specs.Kept.{SettlesState, LowersState}
 use Rattle.sbpl_labels.specs.declared.row.Row.{Row}

@@ -1,18 +1,16 @@
 -- How a pass ends, and what its labels then show.
-use Rattle.std.proofs.Common.{◌≡◌, ◌≢◌, ℕ, ◌+◌, ◌*◌, ◌^◌, ◌<◌, ◌≤◌, ◌⊎◌, ◌↔◌, Bool, true, false, arith, ⊎_elim, inl, inr, refl, sym, ◌∙◌}
+use Rattle.std.proofs.Common.{◌≡◌, ℕ, ◌+◌, ◌*◌, ◌^◌, ◌<◌, ◌≤◌, ◌↔◌, Bool, true, false, arith, ⊎_elim, inl, inr, refl, sym}
 use Rattle.std.proofs.Math.Nat.{mul-le-mul_right}
-use Rattle.std.proofs.lemmas.Bool.{cases_lt, cases_Bool, true≢false}
+use Rattle.std.proofs.lemmas.Bool.{cases_lt, cases_Bool}
 use Rattle.sbpl_graph.specs.declared.TheConstants.{FAR}
-use Rattle.sbpl_graph.specs.Network.{Network}
 use Rattle.sbpl_graph.specs.Laws.{IsConsistent}
-use Rattle.sbpl_graph.specs.Certificate.{IsLabel, AreSupported, ShowBound, ShowNone}
+use Rattle.sbpl_graph.specs.Certificate.{AreSupported, ShowBound, ShowNone}
 use Rattle.sbpl_graph.specs.Kept.{NoneUnder}
-use Rattle.sbpl_labels.specs.declared.pass_end.PassEnd.{PassEnd}
 use Rattle.sbpl_labels.specs.declared.pass_end.PassEnd.TheVariants.{Rest, Spent}
 use Rattle.sbpl_labels.specs.Counts.{Counts, IsSpent}
 use Rattle.sbpl_labels.specs.Marks.{Marks, AreLabels, states_of, g_of, v_of}
 use Rattle.sbpl_ara.specs.Order.{IsBelow}
-use Rattle.sbpl_ara.specs.Run.{Query, IsOpen, IsOver, IsNext, IsAtRest, key_at, goal_key_at}
+use Rattle.sbpl_ara.specs.Run.{Query, IsOver, IsNext, IsAtRest, key_at, goal_key_at}
 use Rattle.sbpl_ara.proofs.Ordering.{AreOrdered, key_over}
 use Rattle.sbpl_ara.proofs.Passing.{IsPassing, closed_by, none_under_of}
 use Rattle.sbpl_ara.specs.Search.{Search}

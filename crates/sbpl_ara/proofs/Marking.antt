@@ -1,5 +1,5 @@
 -- Marks by the number of a pass, seen as a test of each state.
-use Rattle.std.proofs.Common.{◌≡◌, ℕ, ◌+◌, ◌<◌, ◌≤◌, Bool, true, false, nat_eq, List, length, map, slice_index, slice_index_or, slice_set, arith, ⊎_elim, ◌∙◌, ap}
+use Rattle.std.proofs.Common.{◌≡◌, ℕ, ◌<◌, ◌≤◌, Bool, true, false, nat_eq, List, length, map, slice_index, slice_set, arith, ⊎_elim, ◌∙◌, ap}
 use Rattle.std.proofs.lemmas.Bool.{cases_lt, ne_eqb, eq-eqb}
 use Rattle.std.proofs.lemmas.List.{get_or-map, get_or_past, map-set, length-map}
 use Rattle.std.proofs.Common.{refl}

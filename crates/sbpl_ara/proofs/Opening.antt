@@ -1,5 +1,5 @@
 -- The open states of labels where none is underconsistent.
-use Rattle.std.proofs.Common.{◌≡◌, ◌≢◌, ℕ, ◌+◌, ◌<◌, ◌≤◌, Bool, false, arith, ⊎_elim, inl, inr, sym, ◌∙◌}
+use Rattle.std.proofs.Common.{◌≡◌, ℕ, Bool, false, arith, ⊎_elim, inl, inr, sym, ◌∙◌}
 use Rattle.sbpl_graph.specs.Kept.{NoneUnder}
 use Rattle.sbpl_labels.specs.Marks.{Marks, states_of, g_of, v_of}
 use Rattle.sbpl_ara.specs.Run.{IsOpen, IsOver, IsUnder}

@@ -1,12 +1,12 @@
 -- At inflation one the closed states stay settled, and none of them has a greater g + h than an open state.
-use Rattle.std.proofs.Common.{◌≡◌, ◌≢◌, ℕ, ◌+◌, ◌*◌, ◌<◌, ◌≤◌, ◌⊎◌, Bool, true, false, Option, Some, arith, ⊎_elim, inl, inr, refl, sym, ◌∙◌, nat_eq}
+use Rattle.std.proofs.Common.{◌≡◌, ◌≢◌, ℕ, ◌+◌, ◌*◌, ◌<◌, ◌≤◌, ◌⊎◌, Bool, true, false, arith, ⊎_elim, inl, inr, sym, ◌∙◌, nat_eq}
 use Rattle.std.proofs.lemmas.Bool.{cases_eq, cases_lt, or_cases, or_parts, eqb-true, eqb-false, true≢false, cond_below}
 use Rattle.sbpl_graph.specs.Network.{Network, IsFreeArc}
 use Rattle.sbpl_graph.specs.Laws.{IsSound, IsConsistent}
 use Rattle.sbpl_graph.specs.Kept.{NoneUnder}
-use Rattle.sbpl_labels.specs.Marks.{Marks, states_of, g_of, v_of, back_of}
-use Rattle.sbpl_ara.specs.Order.{IsBelow, ComesBefore}
-use Rattle.sbpl_ara.specs.Run.{Query, IsOpen, IsOver, IsNext, IsAtRest, LowersHeads, GetsLesser, key_at, goal_key_at, closed_with}
+use Rattle.sbpl_labels.specs.Marks.{Marks, states_of, g_of, v_of}
+use Rattle.sbpl_ara.specs.Order.{ComesBefore}
+use Rattle.sbpl_ara.specs.Run.{Query, IsOpen, IsOver, IsNext, LowersHeads, key_at, closed_with}
 use Rattle.sbpl_ara.proofs.Closing.{lowers}
 use Rattle.sbpl_ara.proofs.Opening.{open_is_over}
 

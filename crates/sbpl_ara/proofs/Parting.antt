@@ -1,10 +1,9 @@
 -- The parts of a search stay together.
-use Rattle.std.proofs.Common.{◌≡◌, ◌≢◌, ℕ, ◌+◌, ◌*◌, ◌<◌, ◌≤◌, Bool, true, false, List, [], ◌∷◌, ◌++◌, length, slice_set, arith, refl, sym, ◌∙◌, ap, length-append}
+use Rattle.std.proofs.Common.{◌≡◌, ℕ, ◌+◌, ◌*◌, ◌<◌, ◌≤◌, Bool, true, false, List, [], ◌∷◌, ◌++◌, length, slice_set, arith, sym, ◌∙◌, ap, length-append}
 use Rattle.std.proofs.lemmas.List.{length-set}
 use Rattle.sbpl_labels.specs.Marks.{Marks, states_of}
-use Rattle.sbpl_ara.specs.declared.step.Step.{Step}
-use Rattle.sbpl_ara.specs.Marked.{closed_at, open_count}
-use Rattle.sbpl_ara.specs.Run.{none_closed, closed_after}
+use Rattle.sbpl_ara.specs.Marked.{closed_at}
+use Rattle.sbpl_ara.specs.Run.{none_closed}
 use Rattle.sbpl_ara.specs.Search.{Room, AreParts}
 use Rattle.sbpl_ara.proofs.Closing.{open_count_all, open_count_less, closed_at_push, lowers}
 

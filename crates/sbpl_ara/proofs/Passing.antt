@@ -1,28 +1,24 @@
 -- A pass from its beginning on.
-use Rattle.std.proofs.Common.{◌≡◌, ◌≢◌, ℕ, ◌+◌, ◌*◌, ◌^◌, ◌<◌, ◌≤◌, ◌⊎◌, Bool, true, false, List, [], ◌∷◌, ◌++◌, length, slice_index_or, arith, ⊎_elim, inl, inr, refl, sym, ◌∙◌, ap, add-zero, nat_eq, length-append}
+use Rattle.std.proofs.Common.{◌≡◌, ◌≢◌, ℕ, ◌+◌, ◌<◌, ◌≤◌, Bool, true, false, [], ◌∷◌, ◌++◌, length, arith, ⊎_elim, refl, sym, ◌∙◌, ap, add-zero, nat_eq, length-append}
 use Rattle.std.specs.List.{All, AllPairs}
 use Rattle.std.proofs.lemmas.List.Elements.{All-nil, All-push}
 use Rattle.std.proofs.lemmas.List.Quantifiers.{all_pairs_push}
-use Rattle.std.proofs.lemmas.Bool.{cases_lt, cases_Bool, or_cases, eqb-true, true≢false}
+use Rattle.std.proofs.lemmas.Bool.{or_cases, eqb-true, true≢false}
 use Rattle.sbpl_graph.specs.declared.TheConstants.{FAR}
 use Rattle.sbpl_graph.specs.Network.{Network}
 use Rattle.sbpl_graph.specs.Laws.{IsSound, IsConsistent}
-use Rattle.sbpl_graph.specs.Fit.{FitCount}
 use Rattle.sbpl_graph.specs.Kept.{NoneUnder}
-use Rattle.sbpl_graph.specs.Certificate.{IsLabel, AreSupported, ShowBound, ShowNone}
 use Rattle.sbpl_graph.proofs.Paths.{label_at_most}
 use Rattle.sbpl_graph.proofs.Fitting.{fit_more}
-use Rattle.sbpl_graph.proofs.Keeping.{supported_from_exact}
-use Rattle.sbpl_labels.specs.Counts.{Counts, IsSpent, HasLeft}
-use Rattle.sbpl_labels.specs.Marks.{Marks, AreLabels, states_of, g_of, v_of, back_of}
+use Rattle.sbpl_labels.specs.Counts.{Counts}
+use Rattle.sbpl_labels.specs.Marks.{Marks, AreLabels, states_of, g_of, v_of}
 use Rattle.sbpl_ara.specs.declared.step.Step.{Step}
-use Rattle.sbpl_ara.specs.Order.{IsBelow}
-use Rattle.sbpl_ara.specs.Run.{Query, IsOpen, IsOver, IsNext, IsAtRest, IsRun, LowersHeads, none_closed, closed_with, closed_after, key_at, goal_key_at}
+use Rattle.sbpl_ara.specs.Run.{Query, IsNext, IsRun, LowersHeads, none_closed, closed_with, closed_after}
 use Rattle.sbpl_ara.specs.Search.{Search, AreReady}
 use Rattle.sbpl_ara.proofs.Closing.{lowers, closed_after_push}
 use Rattle.sbpl_ara.proofs.Opening.{open_is_over, open_alike}
 use Rattle.sbpl_ara.proofs.Running.{run_push, not_closed_apart}
-use Rattle.sbpl_ara.proofs.Ordering.{AreOrdered, ordered_none, ordered_more, key_over}
+use Rattle.sbpl_ara.proofs.Ordering.{AreOrdered, ordered_none, ordered_more}
 
 -- the states that the steps of a search have closed
 abbrev pub closed_by : Search → ℕ → Bool

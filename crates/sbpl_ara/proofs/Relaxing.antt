@@ -1,16 +1,15 @@
 -- The arcs of a state, relaxed one after the other.
-use Rattle.std.proofs.Common.{◌≡◌, ◌≢◌, ℕ, ◌+◌, ◌-◌, ◌*◌, ◌^◌, ◌<◌, ◌≤◌, ◌⊎◌, Option, Some, None, arith, ⊎_elim, inl, inr, refl, sym, ap, ◌∙◌}
-use Rattle.std.proofs.lemmas.Bool.{cases_lt, cases_eq}
+use Rattle.std.proofs.Common.{◌≡◌, ◌≢◌, ℕ, ◌+◌, ◌^◌, ◌<◌, ◌≤◌, Option, Some, None, arith, ⊎_elim, refl, sym, ◌∙◌}
+use Rattle.std.proofs.lemmas.Bool.{cases_eq}
 use Rattle.sbpl_graph.specs.declared.TheConstants.{FAR}
 use Rattle.sbpl_graph.specs.Network.{Network, IsFreeArc}
 use Rattle.sbpl_graph.specs.Laws.{IsSound}
-use Rattle.sbpl_graph.specs.Exact.{AreExact}
 use Rattle.sbpl_graph.specs.Fit.{FitCount}
 use Rattle.sbpl_graph.specs.Kept.{AreKept, NoneUnder, pending_from, none_pending}
 use Rattle.sbpl_graph.proofs.Keeping.{kept_from_exact, kept_settled, kept_lowered, kept_next_from, kept_done, exact_from_kept, none_under_settled, none_under_lowered}
 use Rattle.sbpl_graph.proofs.Fitting.{fit_settled, fit_lowered, fit_small}
 use Rattle.sbpl_labels.specs.Marks.{Marks, ChangesRow, states_of, g_of, v_of, back_of}
-use Rattle.sbpl_ara.specs.Run.{LowersHeads, GetsLesser, IsFirstArc, IsOver}
+use Rattle.sbpl_ara.specs.Run.{IsFirstArc, IsOver}
 use Rattle.sbpl_ara.specs.Relaxed.{LowersHead, IsRelaxed}
 use Rattle.sbpl_ara.specs.Search.{AreReady}
 use Rattle.sbpl_ara.proofs.Changing.{settles_state, lowers_state}

@@ -1,5 +1,5 @@
 -- The least open state is next, or there is rest.
-use Rattle.std.proofs.Common.{◌≡◌, ◌≢◌, ℕ, ◌+◌, ◌*◌, ◌<◌, ◌≤◌, ◌⊎◌, ◌↔◌, Bool, true, false, IsTrue, IfSome, refl, arith, ⊎_elim, inl, inr, sym}
+use Rattle.std.proofs.Common.{◌≡◌, ◌≢◌, ℕ, ◌<◌, ◌↔◌, Bool, true, false, IsTrue, IfSome, refl, arith, ⊎_elim, sym}
 use Rattle.std.proofs.lemmas.Bool.{cases_eq, false≢true}
 use Rattle.std.specs.Bool.{then_some}
 use Rattle.sbpl_labels.specs.Marks.{Marks, states_of}

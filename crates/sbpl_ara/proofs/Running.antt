@@ -1,6 +1,5 @@
 -- Runs grow by a step at their end.
-use Rattle.std.proofs.Common.{◌≡◌, ◌≢◌, ℕ, zero, suc, ◌+◌, ◌<◌, ◌≤◌, Bool, true, false, not, ◌&&◌, ◌||◌, nat_eq, List, [], ◌∷◌, ◌++◌, length, slice_index_or, arith, ⊎_elim, refl, sym, ◌∙◌, ap}
-use Rattle.std.specs.List.{All}
+use Rattle.std.proofs.Common.{◌≡◌, ◌≢◌, ℕ, zero, suc, ◌<◌, Bool, false, not, nat_eq, List, [], ◌∷◌, ◌++◌, length, slice_index_or, arith, ⊎_elim, refl, sym, ◌∙◌, ap}
 use Rattle.std.proofs.lemmas.Bool.{or_parts, and_cases, eqb-false, true≢false}
 use Rattle.sbpl_labels.specs.Marks.{Marks}
 use Rattle.sbpl_ara.specs.declared.step.Step.{Step}

@@ -1,7 +1,7 @@
-use Rattle.std.proofs.Common.{◌≡◌, ℕ, ◌<◌, ◌≤◌, arith, rules}
+use Rattle.std.proofs.Common.{◌<◌, arith}
 use Rattle.sbpl_graph.specs.declared.TheConstants.{FAR}
 use Rattle.sbpl_graph.proofs.Paths.{label_at_most}
-use Rattle.sbpl_labels.specs.Marks.{g_of, v_of}
+use Rattle.sbpl_labels.specs.Marks.{g_of}
 use Rattle.sbpl_ara.proofs.Relaxing.{expanding_none, expanding_more, ready_all}
 use Rattle.sbpl_ara.proofs.expand.expand.Goals as goal
 

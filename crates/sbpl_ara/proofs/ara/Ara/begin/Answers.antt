@@ -1,4 +1,4 @@
-use Rattle.std.proofs.Common.{arith, ◌∙◌}
+use Rattle.std.proofs.Common.{◌∙◌}
 use Rattle.sbpl_ara.proofs.Parting.{parts_none}
 use Rattle.sbpl_ara.proofs.ara.Ara.begin.Goals as goal
 

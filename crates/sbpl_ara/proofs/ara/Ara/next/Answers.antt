@@ -1,4 +1,4 @@
-use Rattle.std.proofs.Common.{arith, ◌∙◌, sym}
+use Rattle.std.proofs.Common.{◌∙◌, sym}
 use Rattle.sbpl_ara.specs.Marked.{closed_at}
 use Rattle.sbpl_ara.specs.Run.{query, none_closed, closed_after}
 use Rattle.sbpl_ara.proofs.Resting.{next_or_rest, if_then_some}

@@ -1,4 +1,4 @@
-use Rattle.std.proofs.Common.{arith, ◌∙◌, sym, length, ap}
+use Rattle.std.proofs.Common.{arith, ◌∙◌, ap}
 use Rattle.sbpl_labels.specs.Marks.{states_of}
 use Rattle.sbpl_ara.specs.Search.{Search}
 use Rattle.sbpl_ara.proofs.Parting.{parts_more, steps_at_most}

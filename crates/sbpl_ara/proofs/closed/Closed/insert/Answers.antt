@@ -1,5 +1,4 @@
 use Rattle.sbpl_ara.proofs.Marking.{marked}
-use Rattle.std.proofs.Common.{◌∙◌, ap}
 use Rattle.sbpl_ara.proofs.closed.Closed.insert.Goals as goal
 
 pub returns : goal.returns

@@ -1,5 +1,5 @@
 use Rattle.sbpl_ara.proofs.Marking.{none_marked}
-use Rattle.std.proofs.Common.{ℕ, ◌<◌, arith, length, rules}
+use Rattle.std.proofs.Common.{arith}
 use Rattle.std.proofs.lemmas.Grind.{common_steps}
 use Rattle.sbpl_ara.proofs.closed.Closed.open.Goals as goal
 
