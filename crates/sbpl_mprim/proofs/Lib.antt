@@ -6,5 +6,6 @@ pub mod PathLaws
 pub mod Pieces
 pub mod Places
 pub mod PrimLaws
+pub mod PrintedText
 pub mod ReadLaws
 pub mod Spelling
