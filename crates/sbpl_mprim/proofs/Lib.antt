@@ -2,6 +2,7 @@ pub mod EarlierLaws
 pub mod FileLaws
 pub mod JudgingLaws
 pub mod NextLaws
+pub mod OwnFaults
 pub mod PathLaws
 pub mod Pieces
 pub mod Places
@@ -9,3 +10,4 @@ pub mod PrimLaws
 pub mod PrintedText
 pub mod ReadLaws
 pub mod Spelling
+pub mod TextLaws

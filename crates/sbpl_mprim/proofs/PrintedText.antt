@@ -103,10 +103,6 @@ prints_poses headings (p ∷ ps) h = prints_both headings (spelled_pose p) (flat
 
 -- ---- a primitive
 
--- a word of a file
-abbrev is_name : List ℕ → Type 0
-is_name w = IsWord w
-
 prints_field : (headings : ℕ) (name : List ℕ) (n : ℕ) → IsWord name → n ≤ most → Prints headings (a_word name ∷ a_whole (pos n) ∷ []) (line_text (field name n))
 unfolding AreShown
 prints_field headings name n word small = prints_line headings _ _ _ _ (record { is_word = word; means = refl }, (shows_count headings n small, tt))
@@ -162,6 +158,6 @@ unfolding Prints
 text_is_printed ps h =
     let k = prints_file ps h 0 [] in
     let all : Spells ps.headings (spelled ps) (tokens (prims_text ps)) [] =
-        subst (λ (bytes : List ℕ). Spells ps.headings (spelled ps) (tokens_past true 0 bytes) []) (append-nil (prims_text ps))
-        (subst (λ l. Spells ps.headings (spelled ps) (tokens_past true 0 (prims_text ps ++ [])) l) (no_tokens k.0) k.1) in
+    subst (λ (bytes : List ℕ). Spells ps.headings (spelled ps) (tokens_past true 0 bytes) []) (append-nil (prims_text ps))
+    (subst (λ l. Spells ps.headings (spelled ps) (tokens_past true 0 (prims_text ps ++ [])) l) (no_tokens k.0) k.1) in
     record { tokens = all_meant ps.headings (spelled ps) (tokens (prims_text ps)) all; fits = h }
