@@ -161,7 +161,7 @@ file_found cell headings text prims size some most h =
       fits = next_are cell headings p.more size some most (omega (arith, p.many, front.1)) p.next;
       tokens = all_meant headings (spelled (record { cell = cell; headings = headings; items = p.more })) (tokens text) spells;
     } in
-    subst (λ (ps : List Primitive). IsTextOf text (record { cell = cell; headings = headings; items = ps })) (sym all) there
+    rw all there
 
 -- and what the tokens spell is said by the format
 pub file_said : (ps : Primitives) (text : List ℕ) → IsTextOf text ps → StandsFor (prims_format ps.cell ps.headings) text ps.items
