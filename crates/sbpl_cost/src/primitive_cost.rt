@@ -114,3 +114,6 @@ pub fn cost_parts_are_least()
     ensures ceilings { CeilingsRoundUp }
     ensures gaps { GapsAreShortest }
 {}
+
+#[cfg(test)]
+mod tests;
