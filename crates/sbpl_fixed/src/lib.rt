@@ -9,10 +9,12 @@ mod placed;
 mod printed;
 mod reader;
 mod rounding;
+#[cfg(test)]
+mod tests;
 mod token;
 
 pub use fault::{NumFault, TextFault};
-pub use formats::reading_is_what_is_said;
+pub use formats::{items_in_plain_words, reading_is_what_is_said};
 pub use no_memory::NoMemory;
 pub use number::{numbers_are_read_by_parts, read_nano, read_whole};
 pub use placed::Placed;
