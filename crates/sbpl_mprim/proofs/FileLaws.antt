@@ -1,5 +1,5 @@
 -- What the format of a primitive file says: primitives, spelled token by token.
-use Rattle.std.proofs.Common.{◌≡◌, ℕ, zero, suc, ◌+◌, ◌≤◌, ℤ, pos, Bool, true, false, ◌==◌, List, [], ◌∷◌, ◌++◌, length, refl, sym, ap, subst, ◌∙◌, arith, append_assoc, append-nil}
+use Rattle.std.proofs.Common.{◌≡◌, ℕ, zero, suc, ◌≤◌, ℤ, pos, ◌==◌, List, [], ◌∷◌, ◌++◌, length, refl, sym, ap, subst, ◌∙◌, arith, append_assoc, append-nil}
 use Rattle.std.specs.Prelude.{◌≤ℤ◌, unsigned_abs, codes, if◌then◌else◌}
 use Rattle.std.proofs.lemmas.Bool.Decides.{Decides-eqb, Decides-int_eq}
 use Rattle.std.proofs.lemmas.Int.{ints}
@@ -12,7 +12,7 @@ use Rattle.sbpl_cfg.specs.Environment.{IsWithin}
 use Rattle.sbpl_mprim.specs.declared.fault.PrimFault.{PrimFault}
 use Rattle.sbpl_mprim.specs.declared.fault.PrimFault.TheVariants.{Resolution, Angles}
 use Rattle.sbpl_mprim.specs.declared.prim.Primitive.{Primitive}
-use Rattle.sbpl_mprim.specs.Primitives.{ArePrimitives, Primitives}
+use Rattle.sbpl_mprim.specs.Primitives.{Primitives}
 use Rattle.sbpl_mprim.specs.Reading.{angles_format, head_format, prim_format, prim_turn, prims_format, resolution_format, total_format}
 use Rattle.sbpl_mprim.specs.Text.{IsTextOf, Saying, a_nano, a_whole, a_word, spelled, spelled_prim}
 use Rattle.sbpl_mprim.proofs.NextLaws.{AreNext, are_next, next_are}

@@ -1,5 +1,5 @@
 -- The faults of a primitive file are its own: want of memory is none of them.
-use Rattle.std.proofs.Common.{◌≡◌, ℕ, zero, suc, ℤ, Bool, true, false, cond, List, [], ◌∷◌, inl, inr, length, subst, sym}
+use Rattle.std.proofs.Common.{ℕ, zero, suc, ℤ, Bool, true, false, List, [], ◌∷◌, inl, inr, length, subst, sym}
 use Rattle.std.specs.Prelude.{◌≢◌, if◌then◌else◌}
 use Rattle.sbpl_fixed.specs.Formats.{Format, Item, item, ended, wrong, done, behind, turns, IsFaulty}
 use Rattle.sbpl_fixed.specs.Tokens.{Piece, tokens}

@@ -1,5 +1,5 @@
 -- What the formats of poses say.
-use Rattle.std.proofs.Common.{◌≡◌, ◌≢◌, ℕ, zero, suc, ◌+◌, ◌-◌, ◌<◌, ◌≤◌, ℤ, pos, negsuc, List, [], ◌∷◌, ◌++◌, length, refl, sym, ap, subst, ◌∙◌, arith, append_assoc, append-nil, length-append}
+use Rattle.std.proofs.Common.{◌≡◌, ℕ, zero, suc, ◌+◌, ◌-◌, ◌≤◌, List, [], ◌∷◌, ◌++◌, length, refl, sym, ap, subst, ◌∙◌, arith, append_assoc, append-nil, length-append}
 use Rattle.std.proofs.lemmas.List.Concat.{flat_map-append}
 use Rattle.std.specs.List.{flat_map, AllByRecursion}
 use Rattle.sbpl_fixed.specs.Tokens.{Piece}
@@ -10,7 +10,6 @@ use Rattle.sbpl_mprim.specs.declared.parts.PlacedPose.{PlacedPose}
 use Rattle.sbpl_mprim.specs.Primitives.{IsOffsetInRange}
 use Rattle.sbpl_mprim.specs.Reading.{path_format, pose_format, pose_turn}
 use Rattle.sbpl_mprim.specs.Text.{spelled_pose}
-use Rattle.sbpl_mprim.proofs.Places.{Last, last_of}
 use Rattle.sbpl_mprim.proofs.Spelling.{Spells, SaysSome, found_behind, found_done, found_nano, say_behind, say_done, say_nano, spells_append, spells_none, spells_split, none_spelled}
 
 -- ---- one pose

@@ -1,5 +1,5 @@
 -- What is printed of primitives stands for them.
-use Rattle.std.proofs.Common.{◌≡◌, ℕ, zero, suc, ◌+◌, ◌%◌, ◌^◌, ◌<◌, ◌≤◌, ℤ, pos, negsuc, true, List, [], ◌∷◌, ◌++◌, length, map, refl, sym, ap, subst, ◌∙◌, arith, append_assoc, append-nil}
+use Rattle.std.proofs.Common.{◌≡◌, ℕ, suc, ◌+◌, ◌<◌, ◌≤◌, ℤ, pos, negsuc, true, List, [], ◌∷◌, ◌++◌, length, map, refl, subst, arith, append_assoc, append-nil}
 use Rattle.std.specs.Prelude.{codes, decimal, unsigned_abs}
 use Rattle.std.specs.Fmt.{signed_decimal}
 use Rattle.std.specs.List.{flat_map, AllByRecursion}
@@ -16,7 +16,7 @@ use Rattle.sbpl_cfg.specs.declared.pose.Pose.{Pose}
 use Rattle.sbpl_mprim.specs.declared.prim.Primitive.{Primitive}
 use Rattle.sbpl_mprim.specs.Judging.{heading_modulo}
 use Rattle.sbpl_mprim.specs.Primitives.{ArePrimitives, IsOffsetInRange, IsPrimitive, Primitives}
-use Rattle.sbpl_mprim.specs.Printed.{end_line, field, line_text, lines_text, pose_line, prim_head, prim_lines, prims_head, prims_lines, prims_text}
+use Rattle.sbpl_mprim.specs.Printed.{end_line, field, line_text, lines_text, pose_line, prim_lines, prims_text}
 use Rattle.sbpl_mprim.specs.Text.{IsTextOf, Means, Saying, a_heading, a_nano, a_whole, a_word, spelled, spelled_pose, spelled_prim}
 use Rattle.sbpl_mprim.proofs.Pieces.{printable}
 use Rattle.sbpl_mprim.proofs.Places.{at_all}

@@ -1,10 +1,9 @@
 -- What a reader of primitives answers, in terms of what texts stand for.
-use Rattle.std.proofs.Common.{◌≡◌, ◌≢◌, ℕ, ◌≤◌, ℤ, pos, List, Result, Ok, Err, refl, sym, ap, subst, ◌∙◌}
+use Rattle.std.proofs.Common.{◌≡◌, ◌≢◌, ℕ, ◌≤◌, ℤ, pos, List, Result, Ok, Err, sym, ap, subst, ◌∙◌}
 use Rattle.std.specs.Prelude.{IfOk, IfErr}
 use Rattle.sbpl_cfg.specs.Environment.{IsWithin}
 use Rattle.sbpl_fixed.specs.Formats.{Answers, reads_text}
-use Rattle.sbpl_fixed.specs.Meaning.{StandsFor}
-use Rattle.sbpl_fixed.proofs.Meaning.{faulty_if_answered, found_if_answered, only_faulty_if_answered, only_if_answered, text_found, text_only}
+use Rattle.sbpl_fixed.proofs.Meaning.{faulty_if_answered, only_faulty_if_answered, text_found, text_only}
 use Rattle.sbpl_mprim.specs.declared.fault.PrimFault.{PrimFault}
 use Rattle.sbpl_mprim.specs.declared.fault.PrimFault.TheVariants.{NoMemory}
 use Rattle.sbpl_mprim.specs.declared.prim.Primitive.{Primitive}

@@ -1,8 +1,7 @@
 -- Each text stands for one list of primitives or has one fault.
-use Rattle.std.proofs.Common.{◌≡◌, ℕ, ℤ, pos, List, [], ◌∷◌, Result, Ok, length, refl, sym, ap, subst, ◌∙◌, inl, inr, ◌⊎◌}
+use Rattle.std.proofs.Common.{◌≡◌, ℕ, ℤ, pos, List, [], ◌∷◌, Result, Ok, refl, sym, ap, subst, ◌∙◌, inl, inr, ◌⊎◌}
 use Rattle.sbpl_fixed.specs.declared.fault.NumFault.{NumFault}
 use Rattle.sbpl_fixed.specs.Meaning.{StandsFor}
-use Rattle.sbpl_fixed.specs.Numbers.{nano_of, whole_of}
 use Rattle.sbpl_fixed.specs.Tokens.{Piece, tokens}
 use Rattle.sbpl_fixed.proofs.Meaning.{faulty_once, said_once, said_or_faulty, said_or_faulty_alone}
 use Rattle.sbpl_fixed.specs.Formats.{start}

@@ -14,6 +14,7 @@ mod reading;
 mod text;
 
 pub use fault::PrimFault;
+pub use judging::primitives_are_judged_in_plain_words;
 pub use poses::Poses;
 pub use prim::{Prim, Primitive};
 pub use prims::Prims;
