@@ -1,2 +1,13 @@
-//! The program's top call.
+//! The program's top call: from the words to the written bytes.
 #![tactic(auto)]
+
+mod job;
+mod name;
+mod parts;
+mod record;
+mod report;
+
+pub use job::{Job, JobFault, PlanJob, read_job};
+pub use name::Name;
+pub use parts::{Arcs, Passes, Steps};
+pub use record::{Found, Outcome, PassRecord, PathRecord, PlanRecord, Step};
