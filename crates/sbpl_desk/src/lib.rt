@@ -1,2 +1,8 @@
 //! The outside of the program: files that are read, and outputs that are written.
 #![tactic(auto)]
+
+mod desk;
+mod memory;
+
+pub use desk::{Desk, ReadStop, WriteStop};
+pub use memory::MemoryDesk;

@@ -1,0 +1,63 @@
+-- What a desk in memory has, as its calls show it.
+use Rattle.std.specs.Prelude.{◌+◌, ◌-◌, ◌^◌, min, ℕ, List, [], replicate, Option, option_map, unwrap_or, Result, Ok, Err}
+use Rattle.std.specs.BTreeMap.{get, get_by_text, BTreeMap}
+use Rattle.std.specs.Ordering.{nat_cmp}
+use Rattle.std.specs.Prelude.{Vec, String}
+use Rattle.std.specs.Global.{Global}
+use Rattle.sbpl_desk.specs.declared.desk.ReadStop.{ReadStop}
+use Rattle.sbpl_desk.specs.declared.desk.ReadStop.TheVariants as reads
+use Rattle.sbpl_desk.specs.declared.desk.WriteStop.{WriteStop}
+use Rattle.sbpl_desk.specs.declared.desk.WriteStop.TheVariants as writes
+use Rattle.sbpl_desk.specs.declared.memory.MemoryDesk.{MemoryDesk}
+use Rattle.sbpl_desk.specs.declared.memory.Content.{Content}
+use Rattle.sbpl_desk.specs.declared.memory.Content.TheVariants.{Stored, Filled}
+
+-- the bytes that are held there
+abbrev pub content_bytes : Content → List ℕ
+content_bytes (Stored bytes) = bytes.items
+content_bytes (Filled len byte) = replicate len byte
+
+-- the bytes that a name holds, and None where it isn't held
+abbrev pub memory_held : MemoryDesk → List ℕ → Option (List ℕ)
+memory_held desk name = option_map content_bytes (get_by_text desk.held name)
+
+-- the bytes under a name of a map, and none where it has no such name
+abbrev pub text_at : BTreeMap (String Global) (Vec ℕ Global) → List ℕ → List ℕ
+text_at texts name = unwrap_or (option_map (λ text. text.items) (get_by_text texts name)) []
+
+-- the bytes written under a name so far
+abbrev pub memory_written : MemoryDesk → List ℕ → List ℕ
+memory_written desk name = text_at desk.written name
+
+-- after how many bytes the call with this number fails, and None where it isn't listed
+abbrev pub memory_failing : MemoryDesk → ℕ → Option ℕ
+memory_failing desk call = get nat_cmp desk.failing call
+
+-- how many reads and writes there were: the number of the next one
+abbrev pub memory_calls : MemoryDesk → ℕ
+memory_calls desk = desk.calls
+
+-- how many reads failed
+abbrev pub memory_read_faults : MemoryDesk → ℕ
+memory_read_faults desk = desk.read_faults
+
+-- how many writes failed
+abbrev pub memory_write_faults : MemoryDesk → ℕ
+memory_write_faults desk = desk.write_faults
+
+-- one more, or the end of the count
+abbrev pub risen : ℕ → ℕ
+risen count = min (count + 1) (2 ^ 64 - 1)
+
+-- the count of failed reads after this answer
+abbrev pub read_count : {T : Type 0} → Result T ReadStop → ℕ → ℕ
+read_count (Ok _) count = count
+read_count (Err reads.Failed) count = risen count
+read_count (Err reads.TooLong) count = count
+read_count (Err reads.NoMemory) count = count
+
+-- the count of failed writes after this answer
+abbrev pub write_count : {T : Type 0} → Result T WriteStop → ℕ → ℕ
+write_count (Ok _) count = count
+write_count (Err writes.Failed) count = risen count
+write_count (Err writes.NoMemory) count = count

@@ -1,0 +1,4 @@
+pub mod Tokens
+pub mod Digits
+pub mod Roots
+pub mod Printing
