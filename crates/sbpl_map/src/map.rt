@@ -1,0 +1,97 @@
+//! The costs of the cells, as they are at present.
+
+ghost use Rattle.std.specs.Prelude.{◌≡◌, ◌*◌, ◌<◌, ◌≤◌, ◌↔◌, length, IsSome, IsOk, IfOk, OnOk, OnErr, Some};
+ghost use Rattle.sbpl_map.specs.CellMap.{cost_at, place_in, IsOnMap, IsCellMap, ChangesCell};
+
+use crate::off_map::OffMap;
+use sbpl_cfg::{Env, Grid};
+use std::marker::Model;
+
+/// The cost of each cell, 0..255. Cell `(x, y)` is on the map where `x` is in `0..width` and `y` is in `0..height`.
+/// No call takes memory.
+#[derive(Debug, Drop)]
+pub struct Map {
+    width: u32,
+    height: u32,
+    costs: Vec<u8>,
+}
+
+impl Model for Map {
+    ghost use Rattle.sbpl_map.specs.CellMap.{CellMap, IsCellMap};
+
+    ghost Value = { CellMap };
+
+    ghost view = { λ m. record { width = m.width; height = m.height; costs = m.costs.items } };
+
+    ghost invariant = { λ m. IsCellMap (record { width = m.width; height = m.height; costs = m.costs.items }) };
+}
+
+impl Map {
+    /// The map of an environment, with the costs of its file. The grid has the environment's size.
+    pub fn new(env: &Env, grid: Grid) -> Map
+        requires size { length grid ≡ env.now.width * env.now.height }
+        ensures map { result ≡ record { width = env.now.width; height = env.now.height; costs = grid } }
+        ensures kept { IsCellMap result }
+    {
+        let costs = grid.into_vec();
+        Map {
+            width: env.width,
+            height: env.height,
+            costs,
+        }
+    }
+
+    /// Cells along x.
+    pub fn width(&self) -> u32
+        ensures value { result ≡ self.now.width }
+        ensures kept { IsCellMap self.now }
+    {
+        self.width
+    }
+
+    /// Cells along y.
+    pub fn height(&self) -> u32
+        ensures value { result ≡ self.now.height }
+        ensures kept { IsCellMap self.now }
+    {
+        self.height
+    }
+
+    /// The cost of cell `(x, y)`, or `None` exactly off the map.
+    pub fn cost(&self, x: i64, y: i64) -> Option<u8>
+        ensures value { result ≡ cost_at self.now x y }
+        ensures on_map { IsSome result ↔ IsOnMap self.now x y }
+    {
+        let place = self.place(x, y)?;
+        Some(self.costs[place])
+    }
+
+    /// Writes cost `c` to cell `(x, y)` and returns the old cost. `OffMap` comes exactly off the map, and then nothing
+    /// changes.
+    pub fn set(&mut self, x: i64, y: i64, c: u8) -> Result<u8, OffMap>
+        ensures on_map { IsOk result ↔ IsOnMap self.old x y }
+        ensures old { IfOk result (λ was. cost_at self.old x y ≡ Some was) }
+        ensures changes { OnOk result (ChangesCell self.old self.new x y c) }
+        ensures refused { OnErr result (self.new ≡ self.old) }
+    {
+        let Some(place) = self.place(x, y) else {
+            return Err(OffMap);
+        };
+        let was = self.costs[place];
+        self.costs[place] = c;
+        Ok(was)
+    }
+
+    /// The place of cell `(x, y)` among the costs.
+    fn place(&self, x: i64, y: i64) -> Option<usize>
+        ensures value { result ≡ place_in self.now x y }
+        ensures on_map { IsSome result ↔ IsOnMap self.now x y }
+    {
+        let on_map = 0 <= x && x < i64::from(self.width) && 0 <= y && y < i64::from(self.height);
+        if on_map {
+            Some(y as usize * self.width as usize + x as usize)
+        } else {
+            None
+        }
+    }
+}
