@@ -1,0 +1,56 @@
+-- How a job ends: the status, and what is written.
+use Rattle.std.specs.Prelude.{ℕ, List, [], ◌∷◌, ◌++◌, codes, decimal}
+use Rattle.sbpl_cfg.specs.Faults.{number_of, name_of, place_of}
+use Rattle.sbpl_mprim.specs.Fault.{fault_number, fault_name, fault_place}
+use Rattle.sbpl_cli.specs.declared.ending.Input.{Input}
+use Rattle.sbpl_cli.specs.declared.ending.Input.TheVariants as input
+use Rattle.sbpl_cli.specs.declared.ending.Refusal.{Refusal}
+use Rattle.sbpl_cli.specs.declared.ending.Refusal.TheVariants as refusal
+use Rattle.sbpl_cli.specs.declared.ending.Ending.{Ending}
+use Rattle.sbpl_cli.specs.declared.ending.Ending.TheVariants as ending
+use Rattle.sbpl_cli.specs.declared.job.PlanJob.{PlanJob}
+use Rattle.sbpl_cli.specs.Report.{line_feed, section_text, done_text}
+
+-- the standard output
+abbrev pub standard_output : List ℕ
+standard_output = codes "-"
+
+-- the name of a file of the job
+abbrev pub input_name : PlanJob → Input → List ℕ
+input_name job input.Environment = job.env
+input_name job input.Primitives = job.prims
+
+-- the statuses of refusals
+abbrev pub refusal_status : Refusal → ℕ
+refusal_status (refusal.Environment _) = 3
+refusal_status (refusal.Primitives _) = 4
+refusal_status (refusal.TooDear _) = 4
+refusal_status (refusal.Read _) = 6
+refusal_status (refusal.Length _) = 8
+
+-- the statuses of endings
+abbrev pub ending_status : Ending → ℕ
+ending_status (ending.Done _) = 0
+ending_status (ending.Refused r) = refusal_status r
+ending_status ending.Write = 7
+ending_status ending.NoMemory = 9
+
+-- the line for words that name no job
+abbrev pub words_text : List ℕ
+words_text = codes "refused words\n"
+
+-- the line of a fault in a file: the file's kind, the fault's number and name, and its place
+unfoldable pub fault_text : List ℕ → ℕ → List ℕ → ℕ → List ℕ
+fault_text kind number name place = codes "refused " ++ (kind ++ (codes " " ++ (decimal number ++ (codes " " ++ (name ++ (codes " " ++ (decimal place ++ line_feed)))))))
+
+-- the line for a file that was not read
+unfoldable pub unread_text : List ℕ → List ℕ → List ℕ
+unread_text why name = codes "refused " ++ (why ++ (codes " " ++ (name ++ line_feed)))
+
+-- the line of a refusal
+abbrev pub refusal_text : PlanJob → Refusal → List ℕ
+refusal_text job (refusal.Environment f) = fault_text (codes "environment") (number_of f) (name_of f) (place_of f)
+refusal_text job (refusal.Primitives f) = fault_text (codes "primitives") (fault_number f) (fault_name f) (fault_place f)
+refusal_text job (refusal.TooDear i) = fault_text (codes "primitives") 15 (codes "TooDear") i
+refusal_text job (refusal.Read i) = unread_text (codes "read") (input_name job i)
+refusal_text job (refusal.Length i) = unread_text (codes "length") (input_name job i)
