@@ -1,0 +1,4 @@
+pub mod RoundedUp
+pub mod HeadingGaps
+pub mod Ways
+pub mod Costs
