@@ -1,7 +1,7 @@
 -- How a job ends: the status, and what is written.
 use Rattle.std.specs.Prelude.{ℕ, List, [], ◌∷◌, ◌++◌, codes, decimal}
-use Rattle.sbpl_cfg.specs.Faults.{number_of, name_of, place_of}
-use Rattle.sbpl_mprim.specs.Fault.{fault_number, fault_name, fault_place}
+use Rattle.sbpl_cfg.specs.Faults as environments
+use Rattle.sbpl_mprim.specs.Faults as primitives
 use Rattle.sbpl_cli.specs.declared.ending.Input.{Input}
 use Rattle.sbpl_cli.specs.declared.ending.Input.TheVariants as input
 use Rattle.sbpl_cli.specs.declared.ending.Refusal.{Refusal}
@@ -49,8 +49,8 @@ unread_text why name = codes "refused " ++ (why ++ (codes " " ++ (name ++ line_f
 
 -- the line of a refusal
 abbrev pub refusal_text : PlanJob → Refusal → List ℕ
-refusal_text job (refusal.Environment f) = fault_text (codes "environment") (number_of f) (name_of f) (place_of f)
-refusal_text job (refusal.Primitives f) = fault_text (codes "primitives") (fault_number f) (fault_name f) (fault_place f)
+refusal_text job (refusal.Environment f) = fault_text (codes "environment") (environments.number_of f) (environments.name_of f) (environments.place_of f)
+refusal_text job (refusal.Primitives f) = fault_text (codes "primitives") (primitives.number_of f) (primitives.name_of f) (primitives.place_of f)
 refusal_text job (refusal.TooDear i) = fault_text (codes "primitives") 15 (codes "TooDear") i
 refusal_text job (refusal.Read i) = unread_text (codes "read") (input_name job i)
 refusal_text job (refusal.Length i) = unread_text (codes "length") (input_name job i)

@@ -2,9 +2,11 @@
 #![tactic(auto)]
 
 mod job;
+mod ending;
 mod name;
 mod parts;
 mod record;
+mod refusal;
 mod report;
 
 pub use job::{Job, JobFault, PlanJob, read_job};

@@ -1,14 +1,13 @@
 //! The lines of refusals.
 
 ghost use Rattle.std.specs.Prelude.{◌≡◌, ◌++◌, OnOk, IfOk};
-ghost use Rattle.sbpl_cli.specs.Endings.{fault_text, unread_text, refusal_text};
+ghost use Rattle.sbpl_cli.specs.Endings.{fault_text, input_name, refusal_text, unread_text};
 
 use crate::ending::{Input, Refusal};
 use crate::job::PlanJob;
 use crate::name::Name;
 use crate::report::{push_bytes, push_field};
 use sbpl_fixed::NoMemory;
-use std::alloc::Global;
 
 /// Appends the line of a fault in a file.
 #[tactic(auto, unfolding(crate::specs::Endings::fault_text))]
