@@ -1,4 +1,7 @@
 pub mod Tokens
+pub mod Runs
+pub mod Forms
+pub mod ReadBack
 pub mod Digits
 pub mod Roots
 pub mod Printing

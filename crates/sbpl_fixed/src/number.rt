@@ -3,6 +3,7 @@
 ghost use Rattle.std.specs.Prelude.{◌≡◌, ◌+◌, ◌*◌, ◌^◌, ◌<◌, ◌≤◌, true, min, length, slice_index_or};
 ghost use Rattle.std.specs.List.{prefix_len};
 ghost use Rattle.sbpl_fixed.specs.Numbers.{all_digits, decimals_part, is_digit, is_minus, is_no_point, most, nano_of, nine_decimals, number_of, signed, sized, whole_of, whole_part, without_sign};
+ghost use Rattle.sbpl_fixed.specs.NumberForms.{WholesHaveValues, NoOthersAreWhole, DecimalsHaveValues, NoOthersAreDecimals, MissingDecimalsAreZeros, DigitsWriteNumbers};
 
 use crate::fault::NumFault;
 
@@ -147,3 +148,14 @@ pub fn read_nano(text: &[u8]) -> Result<i64, NumFault>
     let number = capped_number(whole, 1_000_000_001) * 1_000_000_000 + billionths(decimals);
     sized(is_minus(text), number)
 }
+
+/// What is read as a number: each text of the form asked for, as the value of its sign and its digits, and no other text.
+/// A decimal's value is that of its whole part and its first nine decimals, those that are missing taken as zeros.
+pub fn numbers_are_read_by_parts()
+    ensures wholes { WholesHaveValues }
+    ensures other_wholes { NoOthersAreWhole }
+    ensures decimals { DecimalsHaveValues }
+    ensures other_decimals { NoOthersAreDecimals }
+    ensures missing { MissingDecimalsAreZeros }
+    ensures digits { DigitsWriteNumbers }
+{}
