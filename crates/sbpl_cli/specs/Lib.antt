@@ -1,3 +1,4 @@
 pub mod Jobs
 pub mod Report
 pub mod Endings
+pub mod Solved

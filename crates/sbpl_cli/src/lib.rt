@@ -8,6 +8,7 @@ mod parts;
 mod record;
 mod refusal;
 mod report;
+mod solve;
 
 pub use job::{Job, JobFault, PlanJob, read_job};
 pub use name::Name;
