@@ -2,6 +2,7 @@
 #![tactic(auto)]
 
 mod job;
+mod files;
 mod ending;
 mod name;
 mod parts;
