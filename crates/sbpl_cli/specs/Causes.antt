@@ -50,14 +50,18 @@ pub record IsFaultyEnvironment (held : Held) (job : PlanJob) (f : EnvFault) : Ty
   pub read : IsRead (held job.env) text
   pub faulty : HasEnvironmentFault text f
 
+-- the primitive file has this first fault, for an environment
+pub record IsFaultyFor (held : Held) (job : PlanJob) (e : Environment) (f : PrimFault) : Type 0 where
+  pub text : List ℕ
+  pub read : IsRead (held job.prims) text
+  pub faulty : HasPrimitiveFault e text f
+
 -- the environment file stands for an environment, and the primitive file has this first fault for it
 pub record IsFaultyPrimitives (held : Held) (job : PlanJob) (f : PrimFault) : Type 0 where
   pub env : Environment
   pub cells : List ℕ
   pub environment : SaysEnvironment held job env cells
-  pub text : List ℕ
-  pub read : IsRead (held job.prims) text
-  pub faulty : HasPrimitiveFault env text f
+  pub primitives : IsFaultyFor held job env f
 
 -- the files stand for an environment and primitives, and the one at this place is the first that is too dear
 pub record IsTooDearJob (held : Held) (job : PlanJob) (place : ℕ) : Type 0 where
@@ -116,3 +120,14 @@ IsPrimitivesRefused e text (stop.Refused (refusal.TooDear place)) = ⊥
 IsPrimitivesRefused e text (stop.Refused (refusal.Read i)) = ⊥
 IsPrimitivesRefused e text (stop.Refused (refusal.Length i)) = ⊥
 IsPrimitivesRefused e text stop.NoMemory = Unit {0}
+
+-- why the primitive file of a job, for an environment, was refused
+abbrev pub PrimitivesStopFor : Held → FaultCounts → FaultCounts → PlanJob → Environment → Stop → Type 0
+PrimitivesStopFor held before after job e (stop.Refused (refusal.Environment f)) = ⊥
+PrimitivesStopFor held before after job e (stop.Refused (refusal.Primitives f)) = IsFaultyFor held job e f
+PrimitivesStopFor held before after job e (stop.Refused (refusal.TooDear place)) = ⊥
+PrimitivesStopFor held before after job e (stop.Refused (refusal.Read input.Environment)) = ⊥
+PrimitivesStopFor held before after job e (stop.Refused (refusal.Read input.Primitives)) = Rose (before job.prims) (after job.prims)
+PrimitivesStopFor held before after job e (stop.Refused (refusal.Length input.Environment)) = ⊥
+PrimitivesStopFor held before after job e (stop.Refused (refusal.Length input.Primitives)) = IsTooLong (held job.prims)
+PrimitivesStopFor held before after job e stop.NoMemory = Unit {0}

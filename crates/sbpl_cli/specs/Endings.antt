@@ -1,5 +1,7 @@
 -- How a job ends: the status, and what is written.
-use Rattle.std.specs.Prelude.{ℕ, List, [], ◌∷◌, ◌++◌, codes, decimal}
+use Rattle.std.specs.Prelude.{◌≡◌, ℕ, List, [], ◌∷◌, ◌++◌, take, Option, codes, decimal}
+use Rattle.std.specs.List.{concat}
+use Rattle.sbpl_desk.specs.Desk.{Appends, AppendsFront, Rose}
 use Rattle.sbpl_cfg.specs.Faults as environments
 use Rattle.sbpl_mprim.specs.Faults as primitives
 use Rattle.sbpl_cli.specs.declared.ending.Input.{Input}
@@ -54,3 +56,30 @@ refusal_text job (refusal.Primitives f) = fault_text (codes "primitives") (primi
 refusal_text job (refusal.TooDear i) = fault_text (codes "primitives") 15 (codes "TooDear") i
 refusal_text job (refusal.Read i) = unread_text (codes "read") (input_name job i)
 refusal_text job (refusal.Length i) = unread_text (codes "length") (input_name job i)
+
+-- the texts that are written for an ending, one for each write
+abbrev pub sections_of : PlanJob → Ending → List (List ℕ)
+sections_of job (ending.Done r) = section_text r ∷ done_text ∷ []
+sections_of job (ending.Refused r) = refusal_text job r ∷ []
+sections_of job ending.Write = []
+sections_of job ending.NoMemory = []
+
+-- the whole text that is written for an ending
+abbrev pub text_of : PlanJob → Ending → List ℕ
+text_of job (ending.Done r) = section_text r ++ done_text
+text_of job (ending.Refused r) = refusal_text job r
+text_of job ending.Write = []
+text_of job ending.NoMemory = []
+
+-- told bytes grow by the first few of these texts, each of them whole
+pub record AppendsWhole (before after : Option (List ℕ)) (texts : List (List ℕ)) : Type 0 where
+  pub count : ℕ
+  pub written : Appends before after (concat (take count texts))
+
+-- how the writing of an intended ending ends: with it, and its text is written; or a write failed behind some front of
+-- that text; or memory ran out behind some of its sections
+abbrev pub IsEndOf : Option (List ℕ) → Option (List ℕ) → ℕ → ℕ → PlanJob → Ending → Ending → Type 0
+IsEndOf before after faults faults' job intended (ending.Done r) = (intended ≡ ending.Done r) × Appends before after (text_of job (ending.Done r))
+IsEndOf before after faults faults' job intended (ending.Refused r) = (intended ≡ ending.Refused r) × Appends before after (text_of job (ending.Refused r))
+IsEndOf before after faults faults' job intended ending.Write = Rose faults faults' × AppendsFront before after (text_of job intended)
+IsEndOf before after faults faults' job intended ending.NoMemory = AppendsWhole before after (sections_of job intended)

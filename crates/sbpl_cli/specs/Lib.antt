@@ -2,5 +2,3 @@ pub mod Jobs
 pub mod Report
 pub mod Endings
 pub mod Solved
-pub mod Texts
-pub mod Causes

@@ -9,6 +9,8 @@ use Rattle.sbpl_cfg.specs.Text as environment_text
 use Rattle.sbpl_mprim.specs.declared.fault.PrimFault.{PrimFault}
 use Rattle.sbpl_mprim.specs.Faults as primitive_faults
 use Rattle.sbpl_mprim.specs.Primitives.{Primitives}
+use Rattle.sbpl_mprim.specs.Reading.{prims_format}
+use Rattle.sbpl_mprim.specs.Spelled as primitive_text
 
 -- the text of an environment file stands for an environment and the costs of its cells
 abbrev pub IsEnvironmentText : List ℕ → Environment → List ℕ → Type 0
@@ -20,10 +22,10 @@ HasEnvironmentFault text f = HasFirstFault environment_faults.told environment_f
 
 -- the text of a primitive file stands for primitives, for this environment
 pub record IsPrimitiveText (e : Environment) (text : List ℕ) (ps : Primitives) : Type 0 where
-  pub stands : Unit {0}
+  pub stands : primitive_text.IsTextOf ps text
   pub cell : ps.cell ≡ e.cell
   pub headings : ps.headings ≡ e.headings
 
 -- the first fault of the text of a primitive file, for this environment
 abbrev pub HasPrimitiveFault : Environment → List ℕ → PrimFault → Type 0
-HasPrimitiveFault e text f = Unit {0}
+HasPrimitiveFault e text f = HasFirstFault primitive_faults.told (prims_format e.cell e.headings) text f

@@ -1,10 +1,8 @@
 //! The files of a job, read and judged.
 
-ghost use Rattle.std.specs.Prelude.{◌≡◌, ◌≢◌, ℕ, List, Ok, Err, IfOk, IfErr, ◌*◌, length};
+ghost use Rattle.std.specs.Prelude.{IfOk, IfErr};
 ghost use Rattle.sbpl_desk.specs.Desk.{NoneFalls, Stays};
-ghost use Rattle.sbpl_cfg.specs.Environment.{Environment};
-ghost use Rattle.sbpl_mprim.specs.Primitives.{Primitives};
-ghost use Rattle.sbpl_cli.specs.Causes.{IsRead, IsUnread, SaysEnvironment, SaysPrimitives, StopsFor, IsEnvironmentRefused, IsPrimitivesRefused};
+ghost use Rattle.sbpl_cli.specs.Causes.{IsEnvironmentRefused, IsPrimitivesRefused, IsRead, IsUnread, PrimitivesStopFor, SaysEnvironment, SaysPrimitives, StopsFor};
 ghost use Rattle.sbpl_cli.specs.Texts.{IsEnvironmentText, IsPrimitiveText};
 
 use crate::ending::{Input, Refusal, Stop};
@@ -56,4 +54,29 @@ pub(crate) fn read_environment<D: Desk>(alloc: Global, job: &PlanJob, desk: &mut
 {
     let text = read_file(alloc, &job.env, Input::Environment, desk)?;
     judge_environment(alloc, text.as_slice())
+}
+
+/// The primitives that a text stands for, for this environment.
+fn judge_primitives(alloc: Global, text: &[u8], env: &Env) -> Result<Prims, Stop>
+    ensures stands { IfOk result (IsPrimitiveText env.now text.now) }
+    ensures stop { IfErr result (IsPrimitivesRefused env.now text.now) }
+{
+    match read_prims(alloc, text, env.cell, env.headings) {
+        Ok(prims) => Ok(prims),
+        Err(PrimFault::NoMemory) => Err(Stop::NoMemory),
+        Err(fault) => Err(Stop::Refused(Refusal::Primitives(fault))),
+    }
+}
+
+/// The primitive file of the job, for this environment.
+pub(crate) fn read_primitives<D: Desk>(alloc: Global, job: &PlanJob, env: &Env, desk: &mut D) -> Result<Prims, Stop>
+    ensures says { IfOk result (SaysPrimitives (D.held desk.old) job.now env.now) }
+    ensures stop { IfErr result (PrimitivesStopFor (D.held desk.old) (D.read_faults desk.old) (D.read_faults desk.new) job.now env.now) }
+    ensures held { Stays (D.held desk.old) (D.held desk.new) }
+    ensures written { Stays (D.written desk.old) (D.written desk.new) }
+    ensures reads { NoneFalls (D.read_faults desk.old) (D.read_faults desk.new) }
+    ensures writes { NoneFalls (D.write_faults desk.old) (D.write_faults desk.new) }
+{
+    let text = read_file(alloc, &job.prims, Input::Primitives, desk)?;
+    judge_primitives(alloc, text.as_slice(), env)
 }

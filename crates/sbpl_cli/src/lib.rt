@@ -2,11 +2,11 @@
 #![tactic(auto)]
 
 mod job;
-mod files;
 mod ending;
 mod name;
 mod parts;
 mod record;
+mod print;
 mod refusal;
 mod report;
 mod solve;
