@@ -7,3 +7,4 @@ pub mod Roots
 pub mod Printing
 pub mod Reading
 pub mod Meaning
+pub mod Spelling

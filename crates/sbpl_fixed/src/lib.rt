@@ -9,6 +9,8 @@ mod placed;
 mod printed;
 mod reader;
 mod rounding;
+#[cfg(test)]
+mod tests;
 mod token;
 
 pub use fault::{NumFault, TextFault};
