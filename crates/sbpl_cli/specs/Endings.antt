@@ -1,7 +1,7 @@
 -- How a job ends: the status, and what is written.
 use Rattle.std.specs.Prelude.{◌≡◌, ℕ, List, [], ◌∷◌, ◌++◌, take, Option, codes, decimal}
 use Rattle.std.specs.List.{concat}
-use Rattle.sbpl_desk.specs.Desk.{Appends, AppendsFront, Rose}
+use Rattle.sbpl_desk.specs.Desk.{Appends, AppendsFront, Keeps, Rose}
 use Rattle.sbpl_cfg.specs.Faults as environments
 use Rattle.sbpl_mprim.specs.Faults as primitives
 use Rattle.sbpl_cli.specs.declared.ending.Input.{Input}
@@ -11,6 +11,7 @@ use Rattle.sbpl_cli.specs.declared.ending.Refusal.TheVariants as refusal
 use Rattle.sbpl_cli.specs.declared.ending.Ending.{Ending}
 use Rattle.sbpl_cli.specs.declared.ending.Ending.TheVariants as ending
 use Rattle.sbpl_cli.specs.declared.job.PlanJob.{PlanJob}
+use Rattle.sbpl_cli.specs.declared.record.PlanRecord.{PlanRecord}
 use Rattle.sbpl_cli.specs.Report.{line_feed, section_text, done_text}
 
 -- the standard output
@@ -76,10 +77,17 @@ pub record AppendsWhole (before after : Option (List ℕ)) (texts : List (List �
   pub count : ℕ
   pub written : Appends before after (concat (take count texts))
 
--- how the writing of an intended ending ends: with it, and its text is written; or a write failed behind some front of
--- that text; or memory ran out behind some of its sections
-abbrev pub IsEndOf : Option (List ℕ) → Option (List ℕ) → ℕ → ℕ → PlanJob → Ending → Ending → Type 0
-IsEndOf before after faults faults' job intended (ending.Done r) = (intended ≡ ending.Done r) × Appends before after (text_of job (ending.Done r))
-IsEndOf before after faults faults' job intended (ending.Refused r) = (intended ≡ ending.Refused r) × Appends before after (text_of job (ending.Refused r))
-IsEndOf before after faults faults' job intended ending.Write = Rose faults faults' × AppendsFront before after (text_of job intended)
-IsEndOf before after faults faults' job intended ending.NoMemory = AppendsWhole before after (sections_of job intended)
+-- How the writing of an intended ending ends, whose text is written in these sections: with it, and its text is written; or
+-- a write failed behind some front of the text; or memory ran out behind some of the sections.
+abbrev pub IsEndOf : Option (List ℕ) → Option (List ℕ) → ℕ → ℕ → List ℕ → List (List ℕ) → Ending → Ending → Type 0
+IsEndOf before after faults faults' text sections intended (ending.Done r) = (intended ≡ ending.Done r) × Appends before after text
+IsEndOf before after faults faults' text sections intended (ending.Refused r) = (intended ≡ ending.Refused r) × Appends before after text
+IsEndOf before after faults faults' text sections intended ending.Write = Rose faults faults' × AppendsFront before after text
+IsEndOf before after faults faults' text sections intended ending.NoMemory = AppendsWhole before after sections
+
+-- how the writing of the last line ends
+abbrev pub IsLastLineEnd : Option (List ℕ) → Option (List ℕ) → ℕ → ℕ → PlanRecord → Ending → Type 0
+IsLastLineEnd before after faults faults' plan (ending.Done r) = (r ≡ plan) × Appends before after done_text
+IsLastLineEnd before after faults faults' plan (ending.Refused r) = ⊥
+IsLastLineEnd before after faults faults' plan ending.Write = Rose faults faults' × AppendsFront before after done_text
+IsLastLineEnd before after faults faults' plan ending.NoMemory = Keeps before after

@@ -2,3 +2,5 @@ pub mod Jobs
 pub mod Report
 pub mod Endings
 pub mod Solved
+pub mod Texts
+pub mod Causes

@@ -1,6 +1,7 @@
 //! The program's top call: from the words to the written bytes.
 #![tactic(auto)]
 
+mod files;
 mod job;
 mod ending;
 mod name;
