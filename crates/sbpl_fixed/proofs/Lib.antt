@@ -8,3 +8,4 @@ pub mod Printing
 pub mod Reading
 pub mod Meaning
 pub mod Spelling
+pub mod Items

@@ -1,13 +1,19 @@
 -- Formats in parts, as lists of tokens.
-use Rattle.std.proofs.Common.{◌≡◌, ℕ, zero, suc, ◌+◌, Bool, true, false, List, [], ◌∷◌, ◌++◌, length, ℤ, refl, sym, ap, subst, ◌∙◌, append_assoc, arith}
-use Rattle.std.specs.Prelude.{if◌then◌else◌}
+use Rattle.std.proofs.Common.{◌≡◌, ℕ, zero, suc, ◌+◌, Bool, true, false, List, [], ◌∷◌, ◌++◌, length, ℤ, pos, Result, Ok, Err, refl, sym, ap, subst, ◌∙◌, append_assoc, arith}
+use Rattle.std.specs.Prelude.{if◌then◌else◌, bytes_eq}
 use Rattle.std.specs.List.{flat_map}
 use Rattle.std.proofs.lemmas.List.{append-nil}
 use Rattle.sbpl_fixed.specs.Tokens.{Piece, tokens_past, tokens}
-use Rattle.sbpl_fixed.specs.Formats.{Item, Format, item, ended, wrong, done, behind, turns, Says}
+use Rattle.sbpl_fixed.specs.Formats.{Item, Miss, no_word, fixed, Format, item, ended, wrong, done, behind, turns, Says}
 use Rattle.sbpl_fixed.specs.Meaning.{StandsFor}
 use Rattle.sbpl_fixed.specs.Spelling.{Expected, Spells, IsSpelled, AllAfter, Spaced, written, AreSpelledBy}
 use Rattle.sbpl_fixed.proofs.ReadBack.{words_are_tokens, at_end}
+
+abbrev ok_value : ℤ → Result ℤ Miss
+ok_value v = Ok v
+
+abbrev fixed_by : Bool → Result ℤ Miss
+fixed_by met = if met then Ok (pos 0) else Err no_word
 
 -- ---- parts
 
@@ -66,13 +72,28 @@ unfolding Says
 spelled_done x = record { holds = λ y ts rest h. h.0; spells = λ y ts rest h. h.1; said = λ y ts rest h s. (h, s) }
 
 pub spelled_item : {E A : Type 0} (i : Item) (more : ℕ → ℤ → Format E A) (Holds : A → Type 0) (value : A → ℤ) (spelled : A → List Expected)
-    → ((place : ℕ) (v : ℤ) → IsSpelled (more place v) (λ x. (value x ≡ v) × Holds x) spelled)
+    → ((place : ℕ) (v : ℤ) (bytes : List ℕ) → i bytes ≡ Ok v → IsSpelled (more place v) (λ x. (value x ≡ v) × Holds x) spelled)
     → IsSpelled (item i more) Holds (λ x. record { item = i; value = value x } ∷ spelled x)
 unfolding Says
 spelled_item i more Holds value spelled rule = record {
-  holds = λ x. elim [ [] ↦ λ rest h. absurd h | ◌∷◌ t ts ↦ λ rest h. ((rule t.place h.0).holds x ts rest h.2).1 ];
-  spells = λ x. elim [ [] ↦ λ rest h. absurd h | ◌∷◌ t ts ↦ λ rest h. (rw ((rule t.place h.0).holds x ts rest h.2).0 h.1, (rule t.place h.0).spells x ts rest h.2) ];
-  said = λ x. elim [ [] ↦ λ rest h s. absurd s | ◌∷◌ t ts ↦ λ rest h s. (value x, s.0, (rule t.place (value x)).said x ts rest (refl, h) s.1) ];
+  holds = λ x. elim [ [] ↦ λ rest h. absurd h | ◌∷◌ t ts ↦ λ rest h. ((rule t.place h.0 t.bytes h.1).holds x ts rest h.2).1 ];
+  spells = λ x. elim [ [] ↦ λ rest h. absurd h | ◌∷◌ t ts ↦ λ rest h. (rw ((rule t.place h.0 t.bytes h.1).holds x ts rest h.2).0 h.1, (rule t.place h.0 t.bytes h.1).spells x ts rest h.2) ];
+  said = λ x. elim [ [] ↦ λ rest h s. absurd s | ◌∷◌ t ts ↦ λ rest h s. (value x, s.0, (rule t.place (value x) t.bytes s.0).said x ts rest (refl, h) s.1) ];
+}
+
+word_is : (word bytes : List ℕ) (v : ℤ) → fixed word bytes ≡ Ok v → v ≡ pos 0
+word_is word bytes v e =
+    let go : (b : Bool) → fixed_by b ≡ Ok v → v ≡ pos 0 = elim [ true ↦ λ q. cc | false ↦ λ q. absurd cc ] in
+    go (bytes_eq bytes word) e
+
+-- a fixed word, whose value says nothing
+pub spelled_word : {E A : Type 0} (word : List ℕ) (f : Format E A) (Holds : A → Type 0) (spelled : A → List Expected) → IsSpelled f Holds spelled
+    → IsSpelled (item (fixed word) (λ _ _. f)) Holds (λ x. record { item = fixed word; value = pos 0 } ∷ spelled x)
+unfolding Says
+spelled_word word f Holds spelled rule = record {
+  holds = λ x. elim [ [] ↦ λ rest h. absurd h | ◌∷◌ t ts ↦ λ rest h. rule.holds x ts rest h.2 ];
+  spells = λ x. elim [ [] ↦ λ rest h. absurd h | ◌∷◌ t ts ↦ λ rest h. (h.1 ∙ ap ok_value (word_is word t.bytes h.0 h.1), rule.spells x ts rest h.2) ];
+  said = λ x. elim [ [] ↦ λ rest h s. absurd s | ◌∷◌ t ts ↦ λ rest h s. (pos 0, s.0, rule.said x ts rest h s.1) ];
 }
 
 -- a check of the reader's own
@@ -114,6 +135,12 @@ spelled_like f Holds Same spelled like rule to from same = record {
 abbrev pub collected_behind : {E X : Type 0} → (List X → Format E X) → List X → Format E (List X)
 collected_behind f before = behind (f before) (λ x. done (before ++ x ∷ []))
 
+one_longer : {X : Type 0} (xs : List X) (x : X) (n : ℕ) → length xs ≡ n → length (x ∷ xs) ≡ suc n
+one_longer xs x n h = ap suc h
+
+grouped : {X : Type 0} (all before xs : List X) (x : X) → all ≡ before ++ x ∷ [] ++ xs → all ≡ before ++ x ∷ xs
+grouped all before xs x h = h ∙ append_assoc before (x ∷ []) xs
+
 module _ {E X : Type 0} (f : List X → Format E X) (Holds : List X → X → Type 0) (spelled : X → List Expected)
     (rule : (before : List X) → IsSpelled (f before) (Holds before) spelled) where
   collected : (n : ℕ) (before all : List X) (ts rest : List Piece) → Says (turns n (collected_behind f) before) ts all rest
@@ -128,8 +155,8 @@ module _ {E X : Type 0} (f : List X → Format E X) (Holds : List X → X → Ty
       let place : round.1 ≡ one.1 = one.3.1 in
       let others = collected n (before ++ x ∷ []) all one.1 rest (subst (λ (m : List Piece). Says (turns n (collected_behind f) (before ++ x ∷ [])) m all rest) place (subst (λ (s : List X). Says (turns n (collected_behind f) s) round.1 all rest) state round.3)) in (
         x ∷ others.0,
-        others.1 ∙ append_assoc before (x ∷ []) others.0,
-        ap suc others.2,
+        grouped all before others.0 x others.1,
+        one_longer others.0 x n others.2,
         ((rule before).holds x ts one.1 one.2, others.3),
         spells_both (spelled x) (flat_map spelled others.0) ts one.1 rest ((rule before).spells x ts one.1 one.2) others.4,
       )

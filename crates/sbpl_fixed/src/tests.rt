@@ -98,5 +98,6 @@ fn laws_are_called() {
     numbers_are_read_by_parts();
     printed_numbers_are_read_back();
     printed_words_are_tokens();
+    items_in_plain_words();
     reading_is_what_is_said::<TextFault, u8>();
 }

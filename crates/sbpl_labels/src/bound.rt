@@ -1,4 +1,4 @@
-//! The bound of a path.
+//! The bound of a path, in thousandths (this project's profile).
 
 ghost use Rattle.std.specs.Prelude.{◌≡◌, ◌<◌, ◌↔◌, IfSome, IsNone};
 ghost use Rattle.sbpl_graph.specs.Bound.{IsBound};

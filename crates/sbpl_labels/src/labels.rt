@@ -21,7 +21,8 @@ use std::alloc::Global;
 use std::marker::Model;
 
 /// The labels g and v of each state of a graph, and a back arc where one was set. A label is 2^63,
-/// which stands for infinity, or below 2^62.
+/// which stands for infinity, or below 2^62. ARA* (Likhachev, Gordon and Thrun 2003) has these
+/// labels; Anytime D* (2005) calls g `rhs` and v `g`.
 #[derive(Drop)]
 pub struct Labels {
     start: u32,
@@ -197,6 +198,7 @@ impl Labels {
     /// infinite. Else the chain is broken at its first underconsistent state, exactly where there is
     /// one. Else it leads to the start, and `into` holds the arc numbers from there; they are a free
     /// path whose summed cost is at most the goal's label. After the other answers `into` is empty.
+    /// It takes no memory: `into` has room for as many arcs as there are states, and keeps it.
     pub fn walk<G: Graph>(&self, graph: &G, goal: u32, into: &mut Vec<u32>) -> Walk
         requires states { states_of self.now ≡ (G.network graph.now).states }
         requires goal { goal < states_of self.now }
