@@ -18,7 +18,7 @@ use Rattle.sbpl_mprim.specs.declared.prim.Primitive.{Primitive}
 use Rattle.sbpl_mprim.specs.Judging.{costs_nothing, has_id, heading_modulo, is_in_bin, is_in_cell}
 use Rattle.sbpl_mprim.specs.Primitives.{EndsAt, IsOffsetInRange, IsPrimitive, pose_count}
 use Rattle.sbpl_mprim.specs.Reading.{count_format, end_format, front_format, judged, made, mult_format, path_format, prim_format, prim_turn, signed_format, start_format}
-use Rattle.sbpl_mprim.specs.Spelled.{Saying, a_word, a_whole, a_heading, spelled_pose, spelled_prim}
+use Rattle.sbpl_mprim.specs.Text.{Saying, a_word, a_whole, a_heading, spelled_pose, spelled_prim}
 use Rattle.sbpl_mprim.proofs.JudgingLaws.{costs_something, costs_then, ends_at, in_end_bin, in_end_cell}
 use Rattle.sbpl_mprim.proofs.NextLaws.{IsNext}
 use Rattle.sbpl_mprim.proofs.PathLaws.{path_found, path_said}

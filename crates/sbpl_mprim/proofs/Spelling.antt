@@ -9,7 +9,7 @@ use Rattle.sbpl_fixed.specs.declared.fault.NumFault.{NumFault}
 use Rattle.sbpl_fixed.specs.declared.fault.NumFault.TheVariants.{Form, Size}
 use Rattle.sbpl_fixed.specs.Formats.{Item, Miss, out_of_range, no_word, Format, item, ended, wrong, done, fixed, whole, nano, within, behind, Says}
 use Rattle.sbpl_cfg.specs.Environment.{IsWithin}
-use Rattle.sbpl_mprim.specs.Spelled.{Saying, a_word, a_whole, a_nano, a_heading, Means, AreMeant}
+use Rattle.sbpl_mprim.specs.Text.{Saying, a_word, a_whole, a_nano, a_heading, Means, AreMeant}
 
 -- ---- tokens in front of others
 

@@ -11,6 +11,7 @@ mod prims;
 mod printing;
 mod read;
 mod reading;
+mod text;
 
 pub use fault::PrimFault;
 pub use poses::Poses;
@@ -18,3 +19,9 @@ pub use prim::{Prim, Primitive};
 pub use prims::Prims;
 pub use printing::print_prims;
 pub use read::read_prims;
+pub use text::texts_are_primitives_or_faulty;
+
+#[cfg(test)]
+mod samples;
+#[cfg(test)]
+mod tests;
