@@ -3,13 +3,13 @@ use Rattle.std.specs.Prelude.{◌≡◌, ◌≢◌, ℕ, ℤ, pos, negsuc, ◌+�
 use Rattle.sbpl_cfg.specs.declared.pose.Pose.{Pose}
 use Rattle.sbpl_cfg.specs.Environment.{IsWithin}
 use Rattle.sbpl_cfg.specs.Place.{cell_of, heading_of}
-use Rattle.sbpl_mprim.specs.declared.prim.Prim.{Prim}
+use Rattle.sbpl_mprim.specs.declared.prim.Primitive.{Primitive}
 
 -- the primitives of a file in file order, with the cell size and the number of headings that they are for
 pub record Primitives : Type 0 where
   pub cell : ℤ
   pub headings : ℕ
-  pub items : List Prim
+  pub items : List Primitive
 
 -- the cell of a pose's offset from the centre of the source cell, exact in half nanometres
 abbrev pub offset_cell : ℤ → ℤ → ℤ
@@ -22,7 +22,7 @@ pub record IsOffsetInRange (p : Pose) : Type 0 where
   pub theta : IsWithin (negsuc 999999999999999999) (pos 1000000000000000000) p.theta
 
 -- the motion ends at this pose: in the end cell, and in the end heading's bin
-pub record EndsAt (cell : ℤ) (headings : ℕ) (prim : Prim) (last : Pose) : Type 0 where
+pub record EndsAt (cell : ℤ) (headings : ℕ) (prim : Primitive) (last : Pose) : Type 0 where
   pub x : offset_cell cell last.x ≡ prim.dx
   pub y : offset_cell cell last.y ≡ prim.dy
   pub heading : heading_of headings last.theta ≡ prim.to
@@ -32,7 +32,7 @@ abbrev pub AreAtOnePoint : List Pose → Type 0
 AreAtOnePoint poses = (p q : Pose) (i j : ℕ) → slice_get poses i ≡ Some p → slice_get poses j ≡ Some q → (p.x ≡ q.x) × (p.y ≡ q.y)
 
 -- what a primitive file asks of one primitive
-pub record IsPrimitive (cell : ℤ) (headings : ℕ) (prim : Prim) : Type 0 where
+pub record IsPrimitive (cell : ℤ) (headings : ℕ) (prim : Primitive) : Type 0 where
   pub id : prim.id ≤ 65535
   pub from : prim.from < headings
   pub dx : IsWithin (negsuc 32766) (pos 32767) prim.dx
@@ -45,18 +45,18 @@ pub record IsPrimitive (cell : ℤ) (headings : ℕ) (prim : Prim) : Type 0 wher
   pub moves : AreAtOnePoint prim.poses → prim.from ≢ prim.to
 
 -- how many poses a primitive has
-abbrev pub pose_count : Prim → ℕ
+abbrev pub pose_count : Primitive → ℕ
 pose_count prim = length prim.poses
 
 -- no two primitives with the same start heading have the same id
-abbrev pub HaveOwnIds : List Prim → Type 0
-HaveOwnIds prims = (i j : ℕ) (p q : Prim) → i < j → slice_get prims i ≡ Some p → slice_get prims j ≡ Some q → p.from ≡ q.from → p.id ≢ q.id
+abbrev pub HaveOwnIds : List Primitive → Type 0
+HaveOwnIds prims = (i j : ℕ) (p q : Primitive) → i < j → slice_get prims i ≡ Some p → slice_get prims j ≡ Some q → p.from ≡ q.from → p.id ≢ q.id
 
 -- what a primitive file asks of its primitives
 pub record ArePrimitives (ps : Primitives) : Type 0 where
   pub cell : IsWithin (pos 1) (pos 1000000000000) ps.cell
   pub headings : (1 ≤ ps.headings) × (ps.headings ≤ 64)
   pub count : length ps.items ≤ 4096
-  pub each : (i : ℕ) (p : Prim) → slice_get ps.items i ≡ Some p → IsPrimitive ps.cell ps.headings p
+  pub each : (i : ℕ) (p : Primitive) → slice_get ps.items i ≡ Some p → IsPrimitive ps.cell ps.headings p
   pub poses : sum_by pose_count ps.items ≤ 200000
   pub ids : HaveOwnIds ps.items

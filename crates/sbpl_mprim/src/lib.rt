@@ -6,5 +6,5 @@ mod prim;
 mod prims;
 
 pub use poses::Poses;
-pub use prim::Prim;
+pub use prim::{Prim, Primitive};
 pub use prims::Prims;

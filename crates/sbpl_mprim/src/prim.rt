@@ -2,9 +2,13 @@
 
 use crate::poses::Poses;
 
+/// A motion primitive.
+// The name `Prim` itself can't be the struct's: the proofs' own library has a module of that name.
+pub type Prim = Primitive;
+
 /// A motion primitive, as SBPL's primitive files give them.
 #[derive(Debug, Drop)]
-pub struct Prim {
+pub struct Primitive {
     /// The id, 0..65535. No two primitives with the same start heading have the same id.
     pub id: u32,
     /// The start heading, below the number of headings.

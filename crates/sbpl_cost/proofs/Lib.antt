@@ -1,0 +1,2 @@
+pub mod RoundedUp
+pub mod HeadingGaps
