@@ -3,6 +3,8 @@
 
 mod desk;
 mod memory;
+mod real;
 
 pub use desk::{Desk, ReadStop, WriteStop};
 pub use memory::MemoryDesk;
+pub use real::RealDesk;

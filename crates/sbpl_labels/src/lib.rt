@@ -1,2 +1,13 @@
 //! Labels of states, the bound that they show, and the walk along their back arcs.
 #![tactic(auto)]
+
+mod bound;
+mod budget;
+mod labels;
+mod pass_end;
+mod row;
+
+pub use bound::bound_of;
+pub use budget::Budget;
+pub use labels::Labels;
+pub use pass_end::PassEnd;

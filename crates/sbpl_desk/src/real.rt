@@ -1,0 +1,166 @@
+//! The real outside: files, and the standard output.
+ghost use Rattle.std.specs.Prelude.{◌≡◌, ◌≢◌, ◌≤◌, ◌<◌, ◌^◌, ◌++◌, None, length, take, Err, IfOk, IfSome, OnOk, OnErr, vec_len};
+ghost use Rattle.std.specs.Io.KnownBytes.{Consumes, IsAtEnd};
+ghost use Rattle.sbpl_desk.specs.Desk.{Appends, AppendsFront, TooLongWhere};
+
+use crate::{Desk, ReadStop, WriteStop};
+use std::fs::{OpenFile, OpenOptions};
+use std::io::{Read, Write};
+use std::rt::Files;
+use std::{fs, io};
+
+/// The most bytes that a read gives.
+const MOST: usize = 1 << 30;
+
+/// The bytes that are asked of the system at once.
+const PIECE: usize = 8192;
+
+/// The files of the system and the standard output. It tells no bytes.
+///
+/// Its counts of failed reads and of failed writes are those of every name. Each rises where the system
+/// answers a call with an error, and where it takes nothing of what is to be written.
+#[derive(Drop)]
+pub struct RealDesk<R: Files + Print + Alloc> {
+    rt: R,
+    begun: Vec<String<R::A>, R::A>,
+    read_faults: u64,
+    write_faults: u64,
+}
+
+impl<R: Files + Print + Alloc> RealDesk<R> {
+    /// A desk that has written nothing. The first write under a name makes the file, or empties it, and
+    /// the later ones append.
+    pub fn new(rt: R) -> RealDesk<R> {
+        let begun = Vec::new(rt.alloc());
+        RealDesk {
+            rt,
+            begun,
+            read_faults: 0,
+            write_faults: 0,
+        }
+    }
+}
+
+/// One read, whose bytes are appended. It tells how many there are.
+fn read_piece<F: Read>(
+    file: &mut F,
+    piece: &mut [u8],
+    into: &mut Vec<u8>,
+) -> Result<usize, ReadStop>
+    ensures appended { IfOk result (λ count. into.new.items ≡ into.old.items ++ take count piece.new) }
+    ensures consumed { IfOk result (λ count. Consumes (F.remaining file.old) (F.remaining file.new) (take count piece.new)) }
+    ensures end { IfOk result (λ count. count ≡ 0 → 0 < length piece.old → IsAtEnd (F.remaining file.new)) }
+    ensures within { IfOk result (λ count. count ≤ length piece.old) }
+    ensures short { result ≢ Err ReadStop.TooLong }
+{
+    let Ok(count) = file.read(piece) else {
+        return Err(ReadStop::Failed);
+    };
+    into.extend_from_slice(&piece[..count])?;
+    Ok(count)
+}
+
+/// Reads to the end, in place of what is there, and stops after 2^30 + 1 bytes.
+fn read_whole<F: Read>(file: &mut F, into: &mut Vec<u8>) -> Result<(), ReadStop>
+    ensures bytes { OnOk result (IfSome (F.remaining file.old) (λ bytes. into.new.items ≡ bytes)) }
+    ensures bounded { OnOk result (vec_len into.new ≤ 2 ^ 30) }
+    ensures long { IfSome (F.remaining file.old) (TooLongWhere result) }
+{
+    into.clear();
+    let mut piece = [0u8; PIECE];
+    while into.len() <= MOST {
+        let room = (MOST + 1 - into.len()).min(PIECE);
+        if read_piece(file, &mut piece[..room], into)? == 0 {
+            return Ok(());
+        }
+    }
+    Err(ReadStop::TooLong)
+}
+
+/// Writes all of the bytes, in as many calls as it takes.
+fn write_whole<W: Write>(to: &mut W, bytes: &[u8]) -> Result<(), WriteStop>
+    ensures bytes { OnOk result (Appends (W.contents to.old) (W.contents to.new) bytes.now) }
+    ensures front { OnErr result (AppendsFront (W.contents to.old) (W.contents to.new) bytes.now) }
+{
+    let mut rest = bytes;
+    while !rest.is_empty() {
+        match to.write(rest) {
+            Ok(count) if count > 0 => rest = &rest[count..],
+            _ => return Err(WriteStop::Failed),
+        }
+    }
+    Ok(())
+}
+
+/// Reads a file, with room for it from the start.
+fn read_file<R: Files>(rt: &R, name: &str, into: &mut Vec<u8>) -> Result<(), ReadStop>
+    ensures bounded { OnOk result (vec_len into.new ≤ 2 ^ 30) }
+{
+    let Ok(mut file) = fs::open(rt, name) else {
+        return Err(ReadStop::Failed);
+    };
+    let Ok(metadata) = file.metadata() else {
+        return Err(ReadStop::Failed);
+    };
+    into.clear();
+    into.reserve(metadata.len().min(MOST as u64 + 1) as usize)?;
+    read_whole(&mut file, into)
+}
+
+/// Opens the file of a name to append to it. The first time it makes the file, or empties it.
+fn open_output<R: Files + Alloc>(
+    rt: &R,
+    begun: &mut Vec<String<R::A>, R::A>,
+    name: &str,
+) -> Result<R::File, WriteStop> {
+    if begun.iter().any(|other| other.as_str() == name) {
+        return OpenOptions::new()
+            .append(true)
+            .open(rt, name)
+            .map_err(|_| WriteStop::Failed);
+    }
+    begun.push(String::from_str(rt.alloc(), name)?)?;
+    match fs::create(rt, name) {
+        Ok(file) => Ok(file),
+        Err(_) => {
+            begun.pop();
+            Err(WriteStop::Failed)
+        }
+    }
+}
+
+impl<R: Files + Print + Alloc> Desk for RealDesk<R> {
+    ghost held = { λ _ _. None };
+
+    ghost written = { λ _ _. None };
+
+    ghost read_faults = { λ desk _. desk.read_faults };
+
+    ghost write_faults = { λ desk _. desk.write_faults };
+
+    fn read(&mut self, name: &str, into: &mut Vec<u8>) -> Result<(), ReadStop> {
+        let result = read_file(&self.rt, name, into);
+        if let Err(stop) = result {
+            into.clear();
+            if stop == ReadStop::Failed {
+                self.read_faults = self.read_faults.saturating_add(1);
+            }
+        }
+        result
+    }
+
+    fn write(&mut self, name: &str, bytes: &[u8]) -> Result<(), WriteStop> {
+        let result = if name == "-" {
+            write_whole(&mut io::writer(&self.rt), bytes)
+        } else {
+            match open_output(&self.rt, &mut self.begun, name) {
+                Ok(mut file) => write_whole(&mut file, bytes),
+                Err(stop) => Err(stop),
+            }
+        };
+        if let Err(WriteStop::Failed) = result {
+            self.write_faults = self.write_faults.saturating_add(1);
+        }
+        result
+    }
+}
