@@ -1,1 +1,6 @@
 pub mod PrimitiveCost
+pub mod States
+pub mod Sweep
+pub mod World
+pub mod Arc
+pub mod Lattices
