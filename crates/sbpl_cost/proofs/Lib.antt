@@ -1,2 +1,6 @@
 pub mod RoundedUp
 pub mod HeadingGaps
+pub mod Numbered
+pub mod Heads
+pub mod Freedom
+pub mod Arcs
