@@ -4,3 +4,4 @@ pub mod Numbered
 pub mod Heads
 pub mod Freedom
 pub mod Arcs
+pub mod LatticeLaws
