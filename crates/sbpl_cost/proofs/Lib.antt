@@ -5,3 +5,4 @@ pub mod Heads
 pub mod Freedom
 pub mod Arcs
 pub mod LatticeLaws
+pub mod Cuts

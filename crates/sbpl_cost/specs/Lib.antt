@@ -4,3 +4,5 @@ pub mod Sweep
 pub mod World
 pub mod Arc
 pub mod Lattices
+pub mod Cut
+pub mod Centres

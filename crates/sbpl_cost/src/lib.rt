@@ -1,8 +1,11 @@
 //! Costs of primitives, and the lattice as a graph.
 #![tactic(auto)]
 
+mod cell;
+mod centres;
 mod laws;
 mod primitive_cost;
+mod runs;
 
 pub use laws::{lattice_has_its_arcs, point_sweeps_centres};
 pub use primitive_cost::{MOST_COST, cost_parts_are_least, prim_cost};

@@ -1,3 +1,4 @@
+use Rattle.sbpl_cost.proofs.Cuts.{cut_push}
 use Rattle.sbpl_cost.proofs.LatticeLaws.{sound}
 use Rattle.sbpl_cost.proofs.Arcs.{has_lattice_arcs}
 use Rattle.sbpl_cost.proofs.laws.lattice_has_its_arcs.Goals as goal
