@@ -1,7 +1,8 @@
 -- An environment's numbers, and which of them an environment file may give.
-use Rattle.std.specs.Prelude.{◌≡◌, ℕ, ℤ, pos, negsuc, ◌+◌, ◌*◌, ◌^◌, ◌≤◌, ◌≤ℤ◌, ◌<ℤ◌}
+use Rattle.std.specs.Prelude.{◌≡◌, ℕ, ℤ, pos, negsuc, ◌*◌, ◌≤◌, ◌≤ℤ◌, ◌<ℤ◌}
+use Rattle.sbpl_cfg.specs.declared.pose.Place.{Place}
 use Rattle.sbpl_cfg.specs.declared.pose.Pose.{Pose}
-use Rattle.sbpl_cfg.specs.Place.{cell_of}
+use Rattle.sbpl_cfg.specs.Place.{cell_of, heading_of}
 
 -- the numbers of an environment file
 pub record Environment : Type 0 where
@@ -31,10 +32,14 @@ pub record IsPoseInRange (p : Pose) : Type 0 where
   pub y : IsWithin (negsuc 999999999999999999) (pos 1000000000000000000) p.y
   pub theta : IsWithin (negsuc 999999999999999999) (pos 1000000000000000000) p.theta
 
+-- the cell of a coordinate is one of the `count` cells of its axis
+abbrev pub IsOnAxis : ℤ → ℕ → ℤ → Type 0
+IsOnAxis size count x = (pos 0 ≤ℤ cell_of size x) × (cell_of size x <ℤ pos count)
+
 -- the cell of a pose is on the map
 pub record IsPoseOnMap (e : Environment) (p : Pose) : Type 0 where
-  pub x : (pos 0 ≤ℤ cell_of e.cell p.x) × (cell_of e.cell p.x <ℤ pos e.width)
-  pub y : (pos 0 ≤ℤ cell_of e.cell p.y) × (cell_of e.cell p.y <ℤ pos e.height)
+  pub x : IsOnAxis e.cell e.width p.x
+  pub y : IsOnAxis e.cell e.height p.y
 
 -- each number lies in its range, there are at most 2 ^ 23 states, and both poses are on the map
 pub record IsEnvironment (e : Environment) : Type 0 where
@@ -52,3 +57,9 @@ pub record IsEnvironment (e : Environment) : Type 0 where
   pub states : e.width * e.height * e.headings ≤ 8388608
   pub start_on_map : IsPoseOnMap e e.start
   pub end_on_map : IsPoseOnMap e e.end
+
+-- the cell and the heading of a pose
+pub record IsPlaceOf (e : Environment) (p : Pose) (q : Place) : Type 0 where
+  pub x : pos q.x ≡ cell_of e.cell p.x
+  pub y : pos q.y ≡ cell_of e.cell p.y
+  pub t : q.t ≡ heading_of e.headings p.theta

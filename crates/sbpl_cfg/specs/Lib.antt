@@ -1,2 +1,4 @@
 pub mod Environment
+pub mod Faults
 pub mod Place
+pub mod Printed

@@ -6,7 +6,7 @@ use std::marker::Model;
 /// The numbers of an environment file. Lengths are nanometres, times nanoseconds, speeds nanometres per second,
 /// angles nanoradians. Its type keeps the ranges of the format, that `width * height * headings` is at most 2^23,
 /// and that the cells of both poses are on the map.
-#[derive(Debug, Drop)]
+#[derive(Clone, Copy, Debug, PartialEq, Eq)]
 pub struct Env {
     /// Cells along x, 1..8388608.
     pub width: u32,
@@ -64,4 +64,18 @@ impl Model for Env {
       end = e.end;
       headings = e.headings;
     }) };
+
+    ghost inverse = { λ e. record {
+      width = e.width;
+      height = e.height;
+      obsthresh = e.obsthresh;
+      inscribed = e.inscribed;
+      circumscribed = e.circumscribed;
+      cell = e.cell;
+      speed = e.speed;
+      turn45 = e.turn45;
+      start = e.start;
+      end = e.end;
+      headings = e.headings;
+    } };
 }

@@ -2,9 +2,15 @@
 #![tactic(auto)]
 
 mod env;
+mod fault;
 mod grid;
+mod place;
 mod pose;
+mod print;
 
 pub use env::Env;
+pub use fault::EnvFault;
 pub use grid::Grid;
+pub use place::{TAU, cell_at, heading_at, place_at, places_in_plain_words};
 pub use pose::{Place, Pose};
+pub use print::print_env;

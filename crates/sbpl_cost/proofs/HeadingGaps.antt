@@ -1,7 +1,6 @@
 -- How far apart headings are.
-use Rattle.std.proofs.Common.{◌≡◌, ℕ, ◌+◌, ◌-◌, ◌*◌, ◌/◌, ◌%◌, ◌<◌, ◌≤◌, min, refl, ap, ◌∙◌, arith, inl, inr, ◌⊎◌}
+use Rattle.std.proofs.Common.{◌≡◌, ◌≢◌, ℕ, ◌+◌, ◌-◌, ◌%◌, ◌<◌, ◌≤◌, ap, ◌∙◌, arith, inl, inr, ◌⊎◌}
 use Rattle.std.proofs.lemmas.Bool.{cases_lt}
-use Rattle.std.specs.Int.{abs_diff}
 use Rattle.std.proofs.Math.Nat.{mod-eq_of_lt, add-mod_right}
 use Rattle.sbpl_cost.specs.PrimitiveCost.{heading_gap, IsLeast}
 
@@ -46,3 +45,7 @@ heading_gap-least n from to below_from below_to = record {
     | inr back ↦ (none_fewer n to from d below_to below_from back).1
   ];
 }
+
+-- headings that differ are a bin or more apart
+pub heading_gap-some : (n from to : ℕ) → from < n → to < n → from ≢ to → 0 < heading_gap n from to
+heading_gap-some n from to below_from below_to differ = omega arith

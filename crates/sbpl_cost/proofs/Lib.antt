@@ -6,3 +6,6 @@ pub mod Freedom
 pub mod Arcs
 pub mod LatticeLaws
 pub mod Cuts
+pub mod Ways
+pub mod Costs
+pub mod Offsets

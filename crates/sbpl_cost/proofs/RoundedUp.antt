@@ -1,7 +1,6 @@
 -- Roots and quotients, rounded up.
-use Rattle.std.proofs.Common.{◌≡◌, ℕ, zero, suc, ◌+◌, ◌-◌, ◌*◌, ◌/◌, ◌%◌, ◌<◌, ◌≤◌, Bool, true, false, nat_le, if◌then◌else◌, refl, arith, inl, inr, ◌⊎◌}
+use Rattle.std.proofs.Common.{◌≡◌, ℕ, zero, suc, ◌+◌, ◌-◌, ◌*◌, ◌/◌, ◌<◌, ◌≤◌, Bool, true, false, nat_le, if◌then◌else◌, refl, arith, inl, inr}
 use Rattle.std.proofs.lemmas.Bool.{cases_lt, leb-true, leb-false}
-use Rattle.std.proofs.lemmas.Bool.Decides.{nat_tests}
 use Rattle.std.proofs.lemmas.Nat.{mul-le, div_below, div-add-mod', mod_below}
 use Rattle.sbpl_cost.specs.PrimitiveCost.{root_above, ceiling, IsLeast}
 
@@ -27,11 +26,13 @@ unfolding root_above
 root_above-least zero = record { holds = omega arith; least = λ s h. omega arith }
 root_above-least (suc n) = root_step (nat_le (suc n) (root_above n * root_above n)) n (root_above n) refl (root_above-least n)
 
-pub root_above-is : (n r : ℕ) → n ≤ r * r → ((s : ℕ) → n ≤ s * s → r ≤ s) → r ≡ root_above n
-root_above-is n r holds least =
+-- the root that a search finds is the root
+pub root_above-is : (n m r : ℕ) → m ≡ n → m ≤ r * r → ((s : ℕ) → m ≤ s * s → r ≤ s) → r ≡ root_above n
+root_above-is n m r same holds least =
     let root = root_above-least n in
-    let low = root.least r holds in
-    let high = least (root_above n) root.holds in
+    let low = root.least r (omega arith) in
+    let enough = root.holds in
+    let high = least (root_above n) (omega arith) in
     omega arith
 
 pub ceiling-least : (a b : ℕ) → 0 < b → IsLeast (λ q. a ≤ q * b) (ceiling a b)
@@ -40,9 +41,10 @@ ceiling-least a b some = record {
   least = λ q h. let l : (a + (b - 1)) / b < q + 1 = div_below (a + (b - 1)) b (q + 1) some (omega arith) in omega arith;
 }
 
-pub ceiling-is : (a b q : ℕ) → 0 < b → a ≤ q * b → ((s : ℕ) → a ≤ s * b → q ≤ s) → q ≡ ceiling a b
-ceiling-is a b q some holds least =
+-- the quotient that a search finds is the quotient
+pub ceiling-is : (a b m n q : ℕ) → m ≡ a → n ≡ b → 0 < b → m ≤ q * n → ((s : ℕ) → m ≤ s * n → q ≤ s) → q ≡ ceiling a b
+ceiling-is a b m n q same_a same_b some holds least =
     let up = ceiling-least a b some in
-    let low = up.least q holds in
-    let high = least (ceiling a b) up.holds in
+    let low = up.least q (rw (← same_a, ← same_b) holds) in
+    let high = least (ceiling a b) (rw (same_a, same_b) up.holds) in
     omega arith

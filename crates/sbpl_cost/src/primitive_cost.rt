@@ -1,16 +1,28 @@
 //! The cost of a primitive by itself: SBPL's rule, in whole numbers.
 
-ghost use Rattle.std.specs.Prelude.{◌≡◌, ℕ, ◌+◌, ◌*◌, ◌^◌, ◌<◌, ◌≤◌, length, slice_get, Some, IfSome, IfNone};
+ghost use Rattle.std.specs.Prelude.{◌≡◌, ◌≢◌, ℕ, pos, negsuc, ◌-ℤ◌, ◌+◌, ◌*◌, ◌^◌, ◌<◌, ◌≤◌, length, slice_get, Some, IfSome, IfNone};
 ghost use Rattle.sbpl_cfg.specs.declared.pose.Pose.{Pose};
+ghost use Rattle.sbpl_cfg.specs.Environment.{IsWithin};
 ghost use Rattle.sbpl_mprim.specs.Primitives.{IsPrimitive, IsOffsetInRange, pose_count};
-ghost use Rattle.sbpl_cost.specs.PrimitiveCost.{distance, way_length, heading_gap, linear_time, angular_time, primitive_cost, most_cost, DistancesRoundUp, CeilingsRoundUp, GapsAreShortest};
+ghost use Rattle.sbpl_cost.specs.PrimitiveCost.{squared, distance, way_length, heading_gap, linear_time, angular_time, primitive_cost, most_cost, IsTooDear, DistancesRoundUp, CeilingsRoundUp, GapsAreShortest};
 
-use sbpl_fixed::{ceil_div, ceil_root};
 use sbpl_cfg::{Env, Pose};
+use sbpl_fixed::{ceil_div, ceil_root};
 use sbpl_mprim::Prim;
 
 /// The greatest cost that a primitive may have.
 pub const MOST_COST: u32 = 16_777_215;
+
+/// The square of how far two coordinates of poses are apart, in square nanometres.
+fn squared_difference(a: i64, b: i64) -> u128
+    requires a { IsWithin (negsuc 999999999999) (pos 1000000000000) a }
+    requires b { IsWithin (negsuc 999999999999) (pos 1000000000000) b }
+    ensures value { result ≡ squared (a -ℤ b) }
+    ensures small { result ≤ 4 * 10 ^ 24 }
+{
+    let apart = u128::from(a.abs_diff(b));
+    apart * apart
+}
 
 /// The distance of two poses in nanometres, rounded up.
 fn pose_distance(p: &Pose, q: &Pose) -> u64
@@ -19,9 +31,7 @@ fn pose_distance(p: &Pose, q: &Pose) -> u64
     ensures value { result ≡ distance p.now q.now }
     ensures small { result ≤ 3 * 10 ^ 12 }
 {
-    let dx = u128::from(p.x.abs_diff(q.x));
-    let dy = u128::from(p.y.abs_diff(q.y));
-    ceil_root(dx * dx + dy * dy)
+    ceil_root(squared_difference(p.x, q.x) + squared_difference(p.y, q.y))
 }
 
 /// The distances of consecutive poses in nanometres, together.
@@ -42,8 +52,7 @@ fn length_of_way(poses: &[Pose]) -> u64
 fn bins_turned(headings: u32, from: u32, to: u32) -> u32
     requires from { from < headings }
     requires to { to < headings }
-    ensures value { result ≡ heading_gap headings from to }
-    ensures small { result ≤ headings }
+    ensures { result ≡ heading_gap headings from to }
 {
     let apart = from.abs_diff(to);
     apart.min(headings - apart)
@@ -54,6 +63,7 @@ fn milliseconds_of_way(p: &Prim, env: &Env) -> u128
     requires primitive { IsPrimitive env.now.cell env.now.headings p.now }
     requires few_poses { pose_count p.now ≤ 200000 }
     ensures value { result ≡ linear_time env.now p.now }
+    ensures positive { 0 < way_length p.now.poses → 1 ≤ result }
     ensures small { result ≤ 10 ^ 21 }
 {
     let way = u128::from(length_of_way(p.poses.as_slice()));
@@ -64,7 +74,8 @@ fn milliseconds_of_way(p: &Prim, env: &Env) -> u128
 fn milliseconds_of_turn(p: &Prim, env: &Env) -> u128
     requires { IsPrimitive env.now.cell env.now.headings p.now }
     ensures value { result ≡ angular_time env.now p.now }
-    ensures small { result ≤ 10 ^ 21 }
+    ensures positive { p.now.from ≢ p.now.to → 1 ≤ result }
+    ensures small { result ≤ 10 ^ 26 }
 {
     let bins = u128::from(bins_turned(env.headings, p.from, p.to));
     let turn45 = u128::from(env.turn45.unsigned_abs());
@@ -82,7 +93,7 @@ pub fn prim_cost(p: &Prim, env: &Env) -> Option<u32>
     requires few_poses { pose_count p.now ≤ 200000 }
     ensures value { IfSome result (λ c. c ≡ primitive_cost env.now p.now) }
     ensures limit { IfSome result (λ c. c ≤ most_cost) }
-    ensures none { IfNone result (most_cost < primitive_cost env.now p.now) }
+    ensures none { IfNone result (IsTooDear env.now p.now) }
     ensures positive { IfSome result (λ c. 1 ≤ c) }
 {
     let time = milliseconds_of_way(p, env).max(milliseconds_of_turn(p, env));

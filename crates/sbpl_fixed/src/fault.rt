@@ -12,3 +12,24 @@ pub enum NumFault {
     #[error("a number too large")]
     Size,
 }
+
+/// The faults that every text of tokens can have, each with its place: the offset of the token's first byte, and for
+/// `Ended` the length of the text.
+#[derive(Clone, Copy, Debug, PartialEq, Eq, Error)]
+pub enum TextFault {
+    /// Another token stands where a fixed word must stand.
+    #[error("another word at {0}")]
+    Word(usize),
+    /// A token is not a number of the form asked for.
+    #[error("no number at {0}")]
+    Number(usize),
+    /// A number lies outside its range.
+    #[error("a number out of range at {0}")]
+    Range(usize),
+    /// The text ended where a token must stand.
+    #[error("the text ended at {0}")]
+    Ended(usize),
+    /// A token stands behind the last one.
+    #[error("more text at {0}")]
+    Trailing(usize),
+}

@@ -1,3 +1,5 @@
 pub mod Bounds
 pub mod Opened
 pub mod Changes
+pub mod Lowest
+pub mod Walking

@@ -1,2 +1,5 @@
 pub mod Counts
 pub mod Marks
+pub mod CutOff
+pub mod Chain
+pub mod Walks

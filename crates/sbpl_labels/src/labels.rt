@@ -1,16 +1,22 @@
 //! The labels of all states.
 
-ghost use Rattle.std.specs.Prelude.{◌≡◌, ◌≢◌, ℕ, ◌^◌, ◌<◌, ◌≤◌, ◌↔◌, IfOk, IsTrue, Some, None, length, slice_index_or};
-ghost use Rattle.sbpl_graph.specs.Certificate.{IsLabel};
+ghost use Rattle.std.specs.Prelude.{◌≡◌, ◌≢◌, ℕ, ◌^◌, ◌<◌, ◌≤◌, ◌↔◌, IfOk, IsTrue, Some, List, [], length, vec_capacity, slice_index_or};
+ghost use Rattle.sbpl_graph.specs.Bound.{IsLow};
+ghost use Rattle.sbpl_graph.specs.Certificate.{IsLabel, AreSupported};
 ghost use Rattle.sbpl_graph.specs.Exact.{AreExact};
 ghost use Rattle.sbpl_graph.specs.Fit.{FitCount};
 ghost use Rattle.sbpl_graph.specs.Kept.{NoneUnder};
+ghost use Rattle.sbpl_graph.specs.Laws.{IsSound};
 ghost use Rattle.sbpl_graph.specs.Network.{Network};
+ghost use Rattle.sbpl_graph.specs.Path.{IsFreePath};
+ghost use Rattle.sbpl_labels.specs.CutOff.{IsCutOff};
 ghost use Rattle.sbpl_labels.specs.Marks.{Marks, AreLabels, IsOpened, ChangesRow, states_of, g_of, v_of, back_of, no_row, far_row};
+ghost use Rattle.sbpl_labels.specs.Walks.{WalkGives};
 
 use crate::row::Row;
+use crate::walk::Walk;
 use sbpl_fixed::NoMemory;
-use sbpl_graph::FAR;
+use sbpl_graph::{FAR, Graph, Guide};
 use std::alloc::Global;
 use std::marker::Model;
 
@@ -81,6 +87,14 @@ impl Labels {
         self.start
     }
 
+    /// The number of states.
+    fn count(&self) -> u32
+        ensures value { result ≡ states_of self.now }
+        ensures labels { AreLabels self.now }
+    {
+        self.rows.len() as u32
+    }
+
     /// What the best known way to `s` costs.
     pub fn g(&self, s: u32) -> u64
         requires state { s < states_of self.now }
@@ -135,6 +149,70 @@ impl Labels {
     {
         let row = &mut self.rows[s as usize];
         row.v = row.g;
+    }
+    /// The least of g at the goal and of g + h over all states whose g and v differ, with h by this
+    /// guide, which knows every state. Where the labels are supported on a graph that the guide was
+    /// built for, every free path from the start to the goal costs at least this.
+    pub fn low<H: Guide>(&self, guide: &H, goal: u32) -> u64
+        requires goal { goal < states_of self.now }
+        requires known { (s : ℕ) → s < states_of self.now → H.knows guide.now s }
+        ensures least { IsLow (states_of self.now) goal (g_of self.now) (v_of self.now) (H.distance guide.now) result }
+        ensures bound { (n : Network) → n.states ≡ states_of self.now → IsSound n → H.guides guide.now n goal
+            → AreSupported n self.now.start (g_of self.now) (v_of self.now)
+            → (arcs : List ℕ) (cost : ℕ) → IsFreePath n self.now.start arcs goal cost → result ≤ cost }
+    {
+        let mut low = self.g(goal);
+        for s in 0..self.count() {
+            let g = self.g(s);
+            if self.v(s) != g {
+                low = low.min(g + guide.to_goal(s));
+            }
+        }
+        low
+    }
+
+    /// Whether the goal's label is infinite and every state of finite g has a finite v. Where it is
+    /// so and the labels are supported on a graph, no free path leads from the start to the goal.
+    pub fn shows_none(&self, goal: u32) -> bool
+        requires goal { goal < states_of self.now }
+        ensures cut_off { IsTrue result ↔ IsCutOff (states_of self.now) goal (g_of self.now) (v_of self.now) }
+        ensures no_path { IsTrue result → (n : Network) → n.states ≡ states_of self.now → IsSound n
+            → AreSupported n self.now.start (g_of self.now) (v_of self.now)
+            → (arcs : List ℕ) (cost : ℕ) → IsFreePath n self.now.start arcs goal cost → ⊥ }
+    {
+        self.rows[goal as usize].g == FAR && self.rows.iter().all(|row| row.g >= FAR || row.v < FAR)
+    }
+
+    /// Follows the back arcs from the goal. There is none exactly where the goal's label is
+    /// infinite. Else the chain is broken at its first underconsistent state, exactly where there is
+    /// one. Else it leads to the start, and `into` holds the arc numbers from there; they are a free
+    /// path whose summed cost is at most the goal's label. After the other answers `into` is empty.
+    pub fn walk<G: Graph>(&self, graph: &G, goal: u32, into: &mut Vec<u32>) -> Walk
+        requires states { states_of self.now ≡ (G.network graph.now).states }
+        requires goal { goal < states_of self.now }
+        requires empty { into.old.items ≡ [] }
+        requires room { states_of self.now ≤ vec_capacity into.old }
+        requires exact { AreExact (G.network graph.now) self.now.start (g_of self.now) (v_of self.now) (back_of self.now) }
+        ensures walk { WalkGives (G.network graph.now) self.now goal into.new.items result }
+        ensures room { vec_capacity into.new ≡ vec_capacity into.old }
+    {
+        if self.g(goal) == FAR {
+            return Walk::None;
+        }
+        let mut at = goal;
+        let mut cost = 0;
+        loop {
+            if self.v(at) < self.g(at) {
+                into.clear();
+                return Walk::Broken(at);
+            }
+            let Some((s, k)) = self.back(at) else { break };
+            cost += u64::from(graph.judge(s, k).unwrap());
+            into.push_reserved(k);
+            at = s;
+        }
+        into.reverse();
+        Walk::Path(cost)
     }
 }
 

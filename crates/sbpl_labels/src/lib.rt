@@ -6,8 +6,10 @@ mod budget;
 mod labels;
 mod pass_end;
 mod row;
+mod walk;
 
 pub use bound::bound_of;
 pub use budget::Budget;
 pub use labels::Labels;
 pub use pass_end::PassEnd;
+pub use walk::Walk;

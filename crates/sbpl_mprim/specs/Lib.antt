@@ -1,1 +1,5 @@
+pub mod Earlier
+pub mod Faults
+pub mod Judging
 pub mod Primitives
+pub mod Printed

@@ -1,5 +1,5 @@
 -- Primitives, and which of them a primitive file may give.
-use Rattle.std.specs.Prelude.{◌≡◌, ◌≢◌, ℕ, ℤ, pos, negsuc, ◌+◌, ◌*◌, ◌<◌, ◌≤◌, ◌≤ℤ◌, ◌+ℤ◌, ◌*ℤ◌, List, length, slice_get, Some, sum_by, All}
+use Rattle.std.specs.Prelude.{◌≡◌, ◌≢◌, ℕ, ℤ, pos, negsuc, ◌+◌, ◌<◌, ◌≤◌, ◌+ℤ◌, ◌*ℤ◌, List, length, slice_get, Some, sum_by}
 use Rattle.sbpl_cfg.specs.declared.pose.Pose.{Pose}
 use Rattle.sbpl_cfg.specs.Environment.{IsWithin}
 use Rattle.sbpl_cfg.specs.Place.{cell_of, heading_of}

@@ -1,10 +1,16 @@
 //! Motion primitive files.
 #![tactic(auto)]
 
+mod earlier;
+mod fault;
+mod judging;
 mod poses;
 mod prim;
 mod prims;
+mod printing;
 
+pub use fault::PrimFault;
 pub use poses::Poses;
 pub use prim::{Prim, Primitive};
 pub use prims::Prims;
+pub use printing::print_prims;

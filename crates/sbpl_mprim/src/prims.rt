@@ -1,6 +1,7 @@
 //! The primitives of a file.
 
 ghost use Rattle.std.specs.Prelude.{◌≡◌, ◌<◌, ◌≤◌, Some, length, slice_get};
+ghost use Rattle.sbpl_mprim.specs.Primitives.{ArePrimitives};
 
 use crate::prim::Prim;
 use std::marker::Model;
@@ -33,11 +34,35 @@ impl Model for Prims {
 }
 
 impl Prims {
+    /// The cell size, 1..10^12 nanometres.
+    pub fn cell(&self) -> i64
+        ensures cell { result ≡ self.now.cell }
+        ensures kept { ArePrimitives self.now }
+    {
+        self.cell
+    }
+
+    /// The number of headings, 1..64.
+    pub fn headings(&self) -> u32
+        ensures headings { result ≡ self.now.headings }
+        ensures kept { ArePrimitives self.now }
+    {
+        self.headings
+    }
+
     /// How many primitives there are, at most 4096.
     pub fn len(&self) -> u32
         ensures count { result ≡ length self.now.items }
     {
         self.items.len() as u32
+    }
+
+    /// The primitives in file order.
+    pub fn as_slice(&self) -> &[Prim]
+        ensures prims { result.now ≡ self.now.items }
+        ensures kept { ArePrimitives self.now }
+    {
+        self.items.as_slice()
     }
 
     /// The primitive at place `i` of the file.

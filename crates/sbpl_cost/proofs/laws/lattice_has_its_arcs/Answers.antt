@@ -1,3 +1,4 @@
+use Rattle.sbpl_cost.proofs.Offsets.{offset_within}
 use Rattle.sbpl_cost.proofs.Cuts.{cut_push}
 use Rattle.sbpl_cost.proofs.LatticeLaws.{sound}
 use Rattle.sbpl_cost.proofs.Arcs.{has_lattice_arcs}

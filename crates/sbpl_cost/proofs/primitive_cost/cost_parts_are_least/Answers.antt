@@ -1,4 +1,3 @@
-use Rattle.std.proofs.Common.{rules}
 use Rattle.sbpl_cost.specs.PrimitiveCost.{squared_distance}
 use Rattle.sbpl_cost.proofs.RoundedUp.{root_above-least, ceiling-least}
 use Rattle.sbpl_cost.proofs.HeadingGaps.{heading_gap-least}

@@ -1,0 +1,11 @@
+use Rattle.std.proofs.Common.{arith}
+use Rattle.std.proofs.lemmas.Fmt.{decimal_digit, decimal_step}
+use Rattle.sbpl_cfg.proofs.PrintLaws.{after_two}
+use Rattle.sbpl_cfg.proofs.print.+put_digits.Goals as goal
+
+pub returns-then-n-lt10 : goal.returns-then-n-lt10
+returns-then-n-lt10 t c = rw (decimal_digit c.args.n (omega arith)) c.in_ok-put_digit.ensures
+
+pub returns : goal.returns
+returns t c = rw (decimal_step c.args.n (omega arith) (omega arith))
+    (after_two _ _ _ c.in_ok-put_digits.ensures c.in_ok-put_digit-2.ensures)

@@ -1,0 +1,8 @@
+use Rattle.sbpl_cfg.specs.Printed.{line_text}
+use Rattle.sbpl_cfg.proofs.PrintLaws.{after_three}
+use Rattle.sbpl_cfg.proofs.print.put_ends.Goals as goal
+
+pub returns : goal.returns
+unfolding line_text
+returns c = rw (← c.env.view_is)
+    (after_three _ _ _ _ c.in_ok-put_pose_line.ensures c.in_ok-put_pose_line-2.ensures c.in_ok-put_word.ensures)

@@ -1,0 +1,40 @@
+-- What the program prints of a fault.
+use Rattle.std.specs.Prelude.{ℕ, List, codes}
+use Rattle.sbpl_cfg.specs.declared.fault.EnvFault.{EnvFault}
+use Rattle.sbpl_cfg.specs.declared.fault.EnvFault.TheVariants.{Word, Number, Range, Ended, Trailing, TooLarge, StartOff, EndOff, NoMemory}
+
+-- its number
+abbrev pub number_of : EnvFault → ℕ
+number_of (Word _) = 1
+number_of (Number _) = 2
+number_of (Range _) = 3
+number_of (Ended _) = 4
+number_of (Trailing _) = 5
+number_of (TooLarge _) = 6
+number_of (StartOff _) = 7
+number_of (EndOff _) = 8
+number_of NoMemory = 0
+
+-- its name
+abbrev pub name_of : EnvFault → List ℕ
+name_of (Word _) = codes "Word"
+name_of (Number _) = codes "Number"
+name_of (Range _) = codes "Range"
+name_of (Ended _) = codes "Ended"
+name_of (Trailing _) = codes "Trailing"
+name_of (TooLarge _) = codes "TooLarge"
+name_of (StartOff _) = codes "StartOff"
+name_of (EndOff _) = codes "EndOff"
+name_of NoMemory = codes "NoMemory"
+
+-- its place
+abbrev pub place_of : EnvFault → ℕ
+place_of (Word place) = place
+place_of (Number place) = place
+place_of (Range place) = place
+place_of (Ended place) = place
+place_of (Trailing place) = place
+place_of (TooLarge place) = place
+place_of (StartOff place) = place
+place_of (EndOff place) = place
+place_of NoMemory = 0

@@ -1,0 +1,58 @@
+-- The text of an environment.
+use Rattle.std.specs.Prelude.{ℕ, zero, suc, List, [], ◌∷◌, ◌++◌, map, take, drop, codes}
+use Rattle.std.specs.Fmt.{decimal, signed_decimal}
+use Rattle.sbpl_fixed.specs.Printed.{nano_text}
+use Rattle.sbpl_cfg.specs.declared.pose.Pose.{Pose}
+use Rattle.sbpl_cfg.specs.Environment.{Environment}
+
+-- words parted by one space, with a line feed behind the last
+unfoldable pub line_text : List (List ℕ) → List ℕ
+line_text [] = 10 ∷ []
+line_text (w ∷ []) = w ++ 10 ∷ []
+line_text (w ∷ v ∷ ws) = w ++ 32 ∷ line_text (v ∷ ws)
+
+-- one line behind the other
+abbrev pub lines_text : List (List (List ℕ)) → List ℕ
+lines_text [] = []
+lines_text (l ∷ ls) = line_text l ++ lines_text ls
+
+-- a pose, behind its word
+abbrev pub pose_words : List ℕ → Pose → List (List ℕ)
+pose_words word p = word ∷ nano_text p.x ∷ nano_text p.y ∷ nano_text p.theta ∷ []
+
+-- the map's size, and what its costs mean
+abbrev pub size_lines : Environment → List (List (List ℕ))
+size_lines e =
+    (codes "discretization(cells):" ∷ decimal e.width ∷ decimal e.height ∷ [])
+    ∷ (codes "obsthresh:" ∷ decimal e.obsthresh ∷ [])
+    ∷ (codes "cost_inscribed_thresh:" ∷ decimal e.inscribed ∷ [])
+    ∷ (codes "cost_possibly_circumscribed_thresh:" ∷ signed_decimal e.circumscribed ∷ [])
+    ∷ []
+
+-- a cell's side, and the robot's speeds
+abbrev pub rate_lines : Environment → List (List (List ℕ))
+rate_lines e =
+    (codes "cellsize(meters):" ∷ nano_text e.cell ∷ [])
+    ∷ (codes "nominalvel(mpersecs):" ∷ nano_text e.speed ∷ [])
+    ∷ (codes "timetoturn45degsinplace(secs):" ∷ nano_text e.turn45 ∷ [])
+    ∷ []
+
+-- the start, the end, and the word before the grid
+abbrev pub end_lines : Environment → List (List (List ℕ))
+end_lines e =
+    pose_words (codes "start(meters,rads):") e.start
+    ∷ pose_words (codes "end(meters,rads):") e.end
+    ∷ (codes "environment:" ∷ [])
+    ∷ []
+
+-- a line for each row of the grid
+unfoldable pub grid_lines : ℕ → ℕ → List ℕ → List (List (List ℕ))
+grid_lines zero width cells = []
+grid_lines (suc rows) width cells = map decimal (take width cells) ∷ grid_lines rows width (drop width cells)
+
+-- all lines
+abbrev pub environment_lines : Environment → List ℕ → List (List (List ℕ))
+environment_lines e cells = size_lines e ++ (rate_lines e ++ (end_lines e ++ grid_lines e.height e.width cells))
+
+abbrev pub environment_text : Environment → List ℕ → List ℕ
+environment_text e cells = lines_text (environment_lines e cells)

@@ -1,0 +1,37 @@
+-- Each primitive costs something.
+use Rattle.std.proofs.Common.{◌≡◌, ◌≢◌, ℕ, ℤ, ◌*◌, ◌<◌, ◌≤◌, max, Some, slice_get, arith, inl, inr}
+use Rattle.std.proofs.lemmas.Bool.{cases_lt}
+use Rattle.std.proofs.lemmas.Nat.{mul-le}
+use Rattle.std.proofs.lemmas.List.Sums.{get_or-le-sum_by}
+use Rattle.std.proofs.lemmas.Option.{slice_get_within, get_or_from_slice_get}
+use Rattle.sbpl_mprim.specs.declared.prim.Primitive.{Primitive}
+use Rattle.sbpl_mprim.specs.Primitives.{Primitives, IsPrimitive, ArePrimitives, pose_count}
+use Rattle.sbpl_cost.specs.PrimitiveCost.{way_length}
+use Rattle.sbpl_cost.proofs.Ways.{AreAtOnePoint-none}
+
+pub product-some : (a b : ℕ) → 0 < a → 0 < b → 0 < a * b
+product-some a b p q = let h = mul-le 1 1 a b p q in omega arith
+
+-- a quotient of something, rounded up, is something
+pub quotient-some : (a b q : ℕ) → 0 < a → a ≤ q * b → 1 ≤ q
+quotient-some a b q some enough = elim (cases_lt 0 q) [
+  | inl lt ↦ lt
+  | inr le ↦ absurd (let n = mul-le q b 0 b le (omega arith) in omega arith)
+]
+
+-- a primitive goes somewhere or turns
+pub time-some : (cell : ℤ) (headings way turn : ℕ) (prim : Primitive) → IsPrimitive cell headings prim → (0 < way_length prim.poses → 1 ≤ way) → (prim.from ≢ prim.to → 1 ≤ turn) → 1 ≤ max way turn
+time-some cell headings way turn prim is goes turns = elim (cases_lt 0 (way_length prim.poses)) [
+  | inl lt ↦ let h = goes lt in omega arith
+  | inr le ↦ let h = turns (is.moves (AreAtOnePoint-none prim.poses (omega arith))) in omega arith
+]
+
+-- one primitive of a file has no more poses than all of them
+pub pose_count-few : (ps : Primitives) (i : ℕ) (prim : Primitive) → ArePrimitives ps → slice_get ps.items i ≡ Some prim → pose_count prim ≤ 200000
+pose_count-few ps i prim are here =
+    let within = slice_get_within ps.items i prim here in
+    let le = get_or-le-sum_by pose_count ps.items i prim within in
+    let is = get_or_from_slice_get ps.items i prim prim here in
+    let few = are.poses in
+    let all = rw is at le in
+    omega arith

@@ -1,0 +1,2 @@
+pub mod EarlierLaws
+pub mod Pieces

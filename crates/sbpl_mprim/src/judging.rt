@@ -1,0 +1,79 @@
+//! Tests of one primitive: where its last pose lies, and whether it moves at all.
+
+ghost use Rattle.std.specs.Prelude.{◌≡◌, ◌<◌, ◌≤◌, pos, negsuc, ◌<ℤ◌, ◌≤ℤ◌};
+ghost use Rattle.std.specs.List.{list_all};
+ghost use Rattle.std.specs.Ordering.{int_eq};
+ghost use Rattle.sbpl_cfg.specs.Environment.{IsWithin};
+ghost use Rattle.sbpl_cfg.specs.Place.{heading_of};
+ghost use Rattle.sbpl_mprim.specs.Judging.{are_at_one_point, costs_nothing, heading_modulo, is_in_bin, is_in_cell, is_same_point};
+ghost use Rattle.sbpl_mprim.specs.Primitives.{offset_cell, IsOffsetInRange};
+
+use crate::prim::Prim;
+use sbpl_cfg::Pose;
+
+/// An end heading as a file writes it, taken modulo the number of headings: -1 is the last one, and `headings` is 0.
+pub(crate) fn heading_modulo(headings: u32, t: i32) -> u32
+    requires some { 0 < headings }
+    requires few { headings ≤ 64 }
+    ensures heading { result ≡ heading_modulo headings t }
+    ensures bound { result < headings }
+{
+    t.rem_euclid(headings as i32) as u32
+}
+
+/// The cell of an offset from the centre of the source cell, counted from the source cell. Both are nanometres.
+/// The centre is half a cell away, so that the quotient is taken in half nanometres, rounded down also below zero.
+fn offset_cell(cell: i64, x: i64) -> i64
+    requires cell { IsWithin (pos 1) (pos 1000000000000) cell }
+    requires offset { IsWithin (negsuc 999999999999) (pos 1000000000000) x }
+    ensures cell { result ≡ offset_cell cell x }
+{
+    (cell + 2 * x).div_euclid(2 * cell)
+}
+
+/// An offset lies in a cell, counted from the source cell.
+fn is_cell_of(cell: i64, x: i64, wanted: i32) -> bool
+    requires cell { IsWithin (pos 1) (pos 1000000000000) cell }
+    requires offset { IsWithin (negsuc 999999999999) (pos 1000000000000) x }
+    ensures inside { result ≡ int_eq (offset_cell cell x) wanted }
+{
+    offset_cell(cell, x) == i64::from(wanted)
+}
+
+/// A pose lies in a cell, counted from the source cell.
+pub(crate) fn is_in_cell(cell: i64, dx: i32, dy: i32, last: Pose) -> bool
+    requires cell { IsWithin (pos 1) (pos 1000000000000) cell }
+    requires last { IsOffsetInRange last }
+    ensures inside { result ≡ is_in_cell cell dx dy last }
+{
+    is_cell_of(cell, last.x, dx) && is_cell_of(cell, last.y, dy)
+}
+
+fn is_same_point(p: &Pose, q: &Pose) -> bool
+    ensures same { result ≡ is_same_point p.now q.now }
+{
+    p.x == q.x && p.y == q.y
+}
+
+fn are_at(point: &Pose, poses: &[Pose]) -> bool
+    ensures same { result ≡ list_all (is_same_point point.now) poses.now }
+{
+    poses.iter().all(|p| is_same_point(point, p))
+}
+
+/// No pose leaves the point of the first.
+fn are_at_one_point(poses: &[Pose]) -> bool
+    ensures same { result ≡ are_at_one_point poses.now }
+{
+    match poses.split_first() {
+        Some((first, rest)) => are_at(first, rest),
+        None => true,
+    }
+}
+
+/// The primitive costs nothing: its multiplier is 0, or it neither moves nor turns.
+pub(crate) fn costs_nothing(prim: &Prim) -> bool
+    ensures nothing { result ≡ costs_nothing prim.now }
+{
+    prim.mult == 0 || (prim.from == prim.to && are_at_one_point(prim.poses.as_slice()))
+}
