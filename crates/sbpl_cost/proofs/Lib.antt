@@ -9,3 +9,4 @@ pub mod Cuts
 pub mod Ways
 pub mod Costs
 pub mod Offsets
+pub mod CellOrders

@@ -1,13 +1,13 @@
 //! The centre cells of primitives.
 
-ghost use Rattle.std.specs.Prelude.{◌≡◌, ℕ, ℤ, pos, negsuc, ◌<◌, ◌≤◌, length, slice_get, Some, IfOk};
+ghost use Rattle.std.specs.Prelude.{◌≡◌, ℕ, ℤ, pos, negsuc, ◌<◌, ◌≤◌, length, slice_get, Some, IfOk, OnOk};
 ghost use Rattle.sbpl_cfg.specs.declared.pose.Pose.{Pose};
 ghost use Rattle.sbpl_cfg.specs.Environment.{IsWithin};
 ghost use Rattle.sbpl_mprim.specs.Primitives.{offset_cell, IsOffsetInRange};
-ghost use Rattle.sbpl_cost.specs.Centres.{cell_of_pose, AreCentres};
+ghost use Rattle.sbpl_cost.specs.Centres.{cell_of_pose, AreOrdered, AreCentres};
 
 use crate::cell::Cell;
-use sbpl_cfg::Pose;
+use sbpl_cfg::{Pose, cell_at};
 use sbpl_fixed::NoMemory;
 use std::alloc::Global;
 
@@ -17,9 +17,8 @@ fn offset_cell(cell: i64, offset: i64) -> i64
     requires cell { IsWithin (pos 1) (pos 1000000000000) cell }
     requires offset { IsWithin (negsuc 999999999999) (pos 1000000000000) offset }
     ensures value { result ≡ offset_cell cell offset }
-    ensures small { IsWithin (negsuc 1999999999999) (pos 2000000000000) result }
 {
-    (cell + 2 * offset).div_euclid(2 * cell)
+    cell_at(2 * cell, cell + 2 * offset)
 }
 
 /// The cell in which a pose lies.
@@ -34,6 +33,15 @@ fn cell_of_pose(cell: i64, pose: &Pose) -> Cell
     }
 }
 
+/// Brings cells into order and drops repeats.
+fn sort_cells(cells: &mut Vec<Cell>) -> Result<(), NoMemory>
+    ensures sorted { OnOk result (AreOrdered cells.old.items cells.new.items) }
+{
+    cells.sort()?;
+    cells.dedup();
+    Ok(())
+}
+
 /// The cells in which poses lie, without repeats and in order.
 pub(crate) fn centre_cells(alloc: Global, cell: i64, poses: &[Pose]) -> Result<Vec<Cell>, NoMemory>
     requires cell { IsWithin (pos 1) (pos 1000000000000) cell }
@@ -44,7 +52,6 @@ pub(crate) fn centre_cells(alloc: Global, cell: i64, poses: &[Pose]) -> Result<V
     for pose in poses {
         cells.push(cell_of_pose(cell, pose))?;
     }
-    cells.sort()?;
-    cells.dedup();
+    sort_cells(&mut cells)?;
     Ok(cells)
 }
