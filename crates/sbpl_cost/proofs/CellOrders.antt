@@ -80,3 +80,8 @@ centres_from cell poses made cells is ordered = record {
     ordered.all centre.number c (ap (λ l. slice_get l centre.number) is ∙ made_at (cell_of_pose cell) poses centre.number centre.pose centre.stands ∙ ap (λ z. Some z) same);
   ordered = ordered.ordered;
 }
+
+-- what holds of a list of centre cells holds of the same list by other names
+pub same_centres : (cell size : ℤ) (poses ps : List Pose) (cells cs : List Cell) → cell ≡ size → ps ≡ poses → cs ≡ cells → AreCentres cell ps cells → AreCentres size poses cs
+same_centres cell size poses ps cells cs same_size same_poses same_cells h =
+    subst (λ c. AreCentres size poses c) (sym same_cells) (subst (λ q. AreCentres size q cells) same_poses (subst (λ z. AreCentres z ps cells) same_size h))

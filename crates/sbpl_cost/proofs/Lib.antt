@@ -10,3 +10,5 @@ pub mod Ways
 pub mod Costs
 pub mod Offsets
 pub mod CellOrders
+pub mod Filling
+pub mod CostTables

@@ -6,3 +6,4 @@ pub mod Arc
 pub mod Lattices
 pub mod Cut
 pub mod Centres
+pub mod Tables
