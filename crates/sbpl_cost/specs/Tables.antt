@@ -9,6 +9,7 @@ use Rattle.sbpl_cost.specs.declared.fault.LatticeFault.TheVariants.{TooDear, NoM
 use Rattle.sbpl_cost.specs.PrimitiveCost.{primitive_cost, most_cost, IsFirstTooDear}
 use Rattle.sbpl_cost.specs.Lattices.{leaving}
 use Rattle.sbpl_cost.specs.Centres.{AreCentres}
+use Rattle.sbpl_cost.specs.World.{World, IsWorld}
 
 -- each heading has the places of the primitives that start at it
 abbrev pub AreLeaving : Primitives → List (List ℕ) → Type 0
@@ -26,3 +27,10 @@ AreCheap e prims = (i : ℕ) (p : Primitive) → slice_get prims i ≡ Some p �
 abbrev pub IsCause : Environment → List Primitive → LatticeFault → Type 0
 IsCause e prims (TooDear i) = IsFirstTooDear e prims i
 IsCause e prims NoMemory = Unit {0}
+
+-- the tables of a lattice are those of its world
+pub record AreTables (w : World) (places : List (List ℕ)) (prices : List ℕ) (cells : List (List Cell)) : Type 0 where
+  pub world : IsWorld w
+  pub leaving : AreLeaving w.prims places
+  pub costs : prices ≡ map (primitive_cost w.env) w.prims.items
+  pub centres : HaveCentres w.prims cells

@@ -4,11 +4,13 @@
 mod cell;
 mod centres;
 mod fault;
+mod lattice;
 mod laws;
 mod primitive_cost;
 mod runs;
 mod tables;
 
 pub use fault::LatticeFault;
+pub use lattice::Lattice;
 pub use laws::{lattice_has_its_arcs, point_sweeps_centres};
 pub use primitive_cost::{MOST_COST, cost_parts_are_least, prim_cost};

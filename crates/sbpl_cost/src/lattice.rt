@@ -1,0 +1,120 @@
+//! The lattice: an environment, primitives and a map, as a graph.
+
+ghost use Rattle.std.specs.Prelude.{◌≡◌, ℕ, ◌<◌, ◌≤◌, ◌^◌, ◌↔◌, length, slice_get, Some, IsSome, IfSome, IfOk, IfErr, MatchOption};
+ghost use Rattle.sbpl_mprim.specs.declared.prim.Primitive.{Primitive};
+ghost use Rattle.sbpl_map.specs.CellMap.{cost_at, IsOnMap};
+ghost use Rattle.sbpl_graph.specs.Laws.{IsSound};
+ghost use Rattle.sbpl_cost.specs.PrimitiveCost.{primitive_cost, most_cost};
+ghost use Rattle.sbpl_cost.specs.States.{IsPlace, place_of, state_number, state_in, state_count};
+ghost use Rattle.sbpl_cost.specs.World.{World, IsWorld};
+ghost use Rattle.sbpl_cost.specs.Arc.{IsArcBy, IsFree, IsFreeAt};
+ghost use Rattle.sbpl_cost.specs.Lattices.{network_of, arc_place, leaving};
+ghost use Rattle.sbpl_cost.specs.Tables.{AreCheap, IsCause};
+
+use crate::cell::Cell;
+use crate::fault::LatticeFault;
+use crate::runs::Runs;
+use crate::tables::{centre_table, leaving_table, primitive_costs};
+use sbpl_cfg::{Env, Place};
+use sbpl_map::Map;
+use sbpl_mprim::Prims;
+use std::alloc::Global;
+use std::marker::Model;
+
+/// SBPL's lattice over a map. A state is a cell with a heading; its arcs are the primitives that start at its heading,
+/// in the order of the file. The present map decides which arcs are free and what they cost. Only `new` takes memory.
+#[derive(Drop)]
+pub struct Lattice {
+    env: Env,
+    prims: Prims,
+    map: Map,
+    /// For each heading the places in the file of the primitives that start at it.
+    leaving: Runs<u32>,
+    /// For each primitive its cost by itself.
+    costs: Vec<u32>,
+    /// For each primitive its centre cells.
+    centres: Runs<Cell>,
+}
+
+impl Model for Lattice {
+    ghost use Rattle.sbpl_cost.specs.World.{World};
+    ghost use Rattle.sbpl_cost.specs.Tables.{AreTables};
+
+    ghost Value = { World };
+
+    ghost view = { λ l. record { env = l.env; prims = l.prims; radius = 0; map = l.map } };
+
+    ghost invariant = { λ l. AreTables (record { env = l.env; prims = l.prims; radius = 0; map = l.map }) l.leaving l.costs.items l.centres };
+}
+
+impl Lattice {
+    /// The lattice of an environment, its primitives and its map, for a robot of radius 0: they belong together by cell
+    /// size, headings and size. `TooDear` names the first primitive, by its place in the file, whose cost by itself is
+    /// above `MOST_COST`, and comes exactly where there is one.
+    pub fn new(alloc: Global, env: &Env, prims: Prims, map: Map) -> Result<Lattice, LatticeFault>
+        requires cell { prims.cell ≡ env.now.cell }
+        requires headings { prims.headings ≡ env.now.headings }
+        requires width { map.width ≡ env.now.width }
+        requires height { map.height ≡ env.now.height }
+        ensures world { IfOk result (λ l. l ≡ record { env = env.now; prims = prims; radius = 0; map = map }) }
+        ensures kept { IfOk result (λ l. IsWorld l) }
+        ensures cheap { IfOk result (λ _. AreCheap env.now prims.items) }
+        ensures cause { IfErr result (λ e. IsCause env.now prims.items e) }
+    {
+        let _width = map.width();
+        let costs = primitive_costs(alloc, env, &prims)?;
+        let leaving = leaving_table(alloc, &prims)?;
+        let centres = centre_table(alloc, &prims)?;
+        Ok(Lattice {
+            env: copy_of(env),
+            prims,
+            map,
+            leaving,
+            costs,
+            centres,
+        })
+    }
+
+    /// The environment that the lattice was made of.
+    pub fn env(&self) -> &Env
+        ensures env { result.now ≡ self.now.env }
+        ensures kept { IsWorld self.now }
+    {
+        &self.env
+    }
+
+    /// The primitives that the lattice was made of.
+    pub fn prims(&self) -> &Prims
+        ensures prims { result.now ≡ self.now.prims }
+        ensures kept { IsWorld self.now }
+    {
+        &self.prims
+    }
+
+    /// The present map.
+    pub fn map(&self) -> &Map
+        ensures map { result.now ≡ self.now.map }
+        ensures kept { IsWorld self.now }
+    {
+        &self.map
+    }
+}
+
+/// The same environment.
+fn copy_of(env: &Env) -> Env
+    ensures same { result ≡ env.now }
+{
+    Env {
+        width: env.width,
+        height: env.height,
+        obsthresh: env.obsthresh,
+        inscribed: env.inscribed,
+        circumscribed: env.circumscribed,
+        cell: env.cell,
+        speed: env.speed,
+        turn45: env.turn45,
+        start: env.start,
+        end: env.end,
+        headings: env.headings,
+    }
+}
