@@ -8,7 +8,7 @@ use Rattle.sbpl_cfg.specs.Environment.{Environment}
 use Rattle.sbpl_mprim.specs.declared.prim.Primitive.{Primitive}
 use Rattle.sbpl_mprim.specs.Primitives.{IsPrimitive}
 use Rattle.sbpl_map.specs.CellMap.{CellMap, IsOnMap}
-use Rattle.sbpl_cost.specs.States.{IsPlace, place_of, state_number, state_in}
+use Rattle.sbpl_cost.specs.States.{IsPlace, IsOff, place_of, state_number, state_in}
 use Rattle.sbpl_cost.specs.World.{World, IsWorld}
 use Rattle.sbpl_cost.specs.Arc.{column_from, row_from, EndsIn}
 use Rattle.sbpl_cost.specs.Lattices.{head_by}
@@ -64,6 +64,12 @@ pub state_in_at : (e : Environment) (x y : ℤ) (t a b : ℕ) → x ≡ pos a �
     → state_in e x y t ≡ Some (state_number e (record { x = a; y = b; t = t }))
 state_in_at e x y t a b at_column at_row right high =
     rw (at_column, at_row) (cond-true _ _ _ (and_from _ _ (lt-ltb a e.width right) (lt-ltb b e.height high)))
+
+pub none_beside : (e : Environment) (x y : ℤ) (t : ℕ) → IsOff e.width x → state_in e x y t ≡ None
+none_beside e x y t off = none_where_nothing (state_in e x y t) (λ r h. let at = state_in_some e x y t r h in off at.column at.x_is at.right)
+
+pub none_above : (e : Environment) (x y : ℤ) (t : ℕ) → IsOff e.height y → state_in e x y t ≡ None
+none_above e x y t off = none_where_nothing (state_in e x y t) (λ r h. let at = state_in_some e x y t r h in off at.row at.y_is at.high)
 
 module _ (w : World) (is_world : IsWorld w) (s : ℕ) (p : Primitive) (is_primitive : IsPrimitive w.prims.cell w.prims.headings p) where
   pub ends_in : (t : ℕ) → head_by w s p ≡ Some t → EndsIn w s p t

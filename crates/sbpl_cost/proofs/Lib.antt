@@ -12,3 +12,5 @@ pub mod Offsets
 pub mod CellOrders
 pub mod Filling
 pub mod CostTables
+pub mod PlaceLaws
+pub mod GreatestCosts

@@ -7,3 +7,4 @@ pub mod Lattices
 pub mod Cut
 pub mod Centres
 pub mod Tables
+pub mod Judging

@@ -21,6 +21,10 @@ state_number e p = (p.y * e.width + p.x) * e.headings + p.t
 abbrev pub place_of : Environment → ℕ → Place
 place_of e s = record { x = s / e.headings % e.width; y = s / e.headings / e.width; t = s % e.headings }
 
+-- a coordinate is none of the cells of an axis
+abbrev pub IsOff : ℕ → ℤ → Type 0
+IsOff count x = (q : ℕ) → x ≡ pos q → q < count → ⊥
+
 -- the state of a cell of the plane with a heading, none where the cell is off the map
 abbrev pub state_in : Environment → ℤ → ℤ → ℕ → Option ℕ
 state_in e (pos x) (pos y) t = if nat_lt x e.width && nat_lt y e.height then Some (state_number e (record { x = x; y = y; t = t })) else None

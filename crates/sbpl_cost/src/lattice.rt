@@ -13,6 +13,7 @@ ghost use Rattle.sbpl_cost.specs.Tables.{AreCheap, IsCause};
 
 use crate::cell::Cell;
 use crate::fault::LatticeFault;
+use crate::places::{place_at, state_at};
 use crate::runs::Runs;
 use crate::tables::{centre_table, leaving_table, primitive_costs};
 use sbpl_cfg::{Env, Place};
@@ -97,6 +98,65 @@ impl Lattice {
         ensures kept { IsWorld self.now }
     {
         &self.map
+    }
+
+    /// The state at a place, or `None` exactly where its cell is off the map or its heading is not one of the
+    /// environment's.
+    pub fn state_of(&self, p: &Place) -> Option<u32>
+        ensures value { IfSome result (λ s. s ≡ state_number self.now.env p.now) }
+        ensures place { IsSome result ↔ IsPlace self.now.env p.now }
+        ensures state { IfSome result (λ s. s < (network_of self.now).states) }
+        ensures back { IfSome result (λ s. place_of self.now.env s ≡ p.now) }
+    {
+        state_at(&self.env, p)
+    }
+
+    /// The place of state `s`.
+    pub fn place_of(&self, s: u32) -> Place
+        requires state { s < (network_of self.now).states }
+        ensures value { result ≡ place_of self.now.env s }
+        ensures place { IsPlace self.now.env result }
+        ensures back { state_number self.now.env result ≡ s }
+    {
+        place_at(&self.env, s)
+    }
+
+    /// The place in the file of the primitive of arc `k` of state `s`: it is the `k`-th, from 0, of those that start at
+    /// the heading of `s`.
+    pub fn prim_of(&self, s: u32, k: u32) -> u32
+        requires state { s < (network_of self.now).states }
+        requires number { k < (network_of self.now).fan s }
+        ensures value { arc_place self.now s k ≡ Some result }
+        ensures primitive { (p : Primitive) × IsArcBy self.now s k result p }
+    {
+        let source = place_at(&self.env, s);
+        self.leaving.at(source.t as usize)[k as usize]
+    }
+
+    /// The id of the primitive at place `i` of the file.
+    pub fn prim_id(&self, i: u32) -> u32
+        requires place { i < length self.now.prims.items }
+        ensures id { (p : Primitive) × (slice_get self.now.prims.items i ≡ Some p) × (result ≡ p.id) }
+    {
+        self.prims.get(i).id
+    }
+
+    /// The cost by itself of the primitive at place `i` of the file, 1..16777215.
+    pub fn cost_of(&self, i: u32) -> u32
+        requires place { i < length self.now.prims.items }
+        ensures cost { (p : Primitive) × (slice_get self.now.prims.items i ≡ Some p) × (result ≡ primitive_cost self.now.env p) }
+        ensures positive { 1 ≤ result }
+        ensures limit { result ≤ most_cost }
+    {
+        self.costs[i as usize]
+    }
+
+    /// The present cost of cell `(x, y)`, or `None` exactly off the map.
+    pub fn cell_cost(&self, x: i64, y: i64) -> Option<u8>
+        ensures value { result ≡ cost_at self.now.map x y }
+        ensures on_map { IsSome result ↔ IsOnMap self.now.map x y }
+    {
+        self.map.cost(x, y)
     }
 }
 

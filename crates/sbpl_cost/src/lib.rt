@@ -4,8 +4,10 @@
 mod cell;
 mod centres;
 mod fault;
+mod judging;
 mod lattice;
 mod laws;
+mod places;
 mod primitive_cost;
 mod runs;
 mod tables;
