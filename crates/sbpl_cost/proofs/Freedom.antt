@@ -97,7 +97,7 @@ module _ (w : World) (is_world : IsWorld w) (s : ℕ) (p : Primitive) where
       let from = centre_from i o at in
       is_below_true threshold o (subst (λ z. IsSomeAnd z (λ c. c < threshold)) from.3 (each from.0 from.1 from.2)))
 
-  centre_where_swept : (x y : ℤ) → IsSwept w.env.cell w.radius p.poses x y → IsCentre w.env.cell p.poses x y
+  pub centre_where_swept : (x y : ℤ) → IsSwept w.env.cell w.radius p.poses x y → IsCentre w.env.cell p.poses x y
   centre_where_swept x y (inl centre) = centre
   centre_where_swept x y (inr touched) = absurd (let none : 2 * w.radius * (2 * w.radius) ≡ 0 = ap (λ r. 2 * r * (2 * r)) is_world.radius in omega (arith, touched.near))
 

@@ -14,3 +14,5 @@ pub mod Filling
 pub mod CostTables
 pub mod PlaceLaws
 pub mod GreatestCosts
+pub mod Judged
+pub mod Views

@@ -13,10 +13,12 @@ ghost use Rattle.sbpl_cost.specs.Tables.{AreCheap, IsCause};
 
 use crate::cell::Cell;
 use crate::fault::LatticeFault;
-use crate::places::{place_at, state_at};
+use crate::judging::greatest_paid;
+use crate::places::{end_state, heading_of, place_at, state_at, state_count};
 use crate::runs::Runs;
 use crate::tables::{centre_table, leaving_table, primitive_costs};
 use sbpl_cfg::{Env, Place};
+use sbpl_graph::Graph;
 use sbpl_map::Map;
 use sbpl_mprim::Prims;
 use std::alloc::Global;
@@ -129,8 +131,17 @@ impl Lattice {
         ensures value { arc_place self.now s k ≡ Some result }
         ensures primitive { (p : Primitive) × IsArcBy self.now s k result p }
     {
-        let source = place_at(&self.env, s);
-        self.leaving.at(source.t as usize)[k as usize]
+        self.leaving_at(heading_of(&self.env, s), k)
+    }
+
+    /// The place in the file of the `k`-th primitive, from 0, of those that start at heading `t`.
+    fn leaving_at(&self, t: u32, k: u32) -> u32
+        requires heading { t < self.now.env.headings }
+        requires number { k < length (leaving self.now.prims.items t) }
+        ensures place { slice_get (leaving self.now.prims.items t) k ≡ Some result }
+        ensures inside { result < length self.now.prims.items }
+    {
+        self.leaving.at(t as usize)[k as usize]
     }
 
     /// The id of the primitive at place `i` of the file.
@@ -157,6 +168,36 @@ impl Lattice {
         ensures on_map { IsSome result ↔ IsOnMap self.now.map x y }
     {
         self.map.cost(x, y)
+    }
+}
+
+impl Graph for Lattice {
+    ghost use Rattle.sbpl_cost.specs.Lattices.{network_of};
+
+    ghost network = { network_of };
+
+    fn states(&self) -> u32 {
+        state_count(&self.env)
+    }
+
+    fn fan(&self, s: u32) -> u32 {
+        self.leaving.at(heading_of(&self.env, s) as usize).len() as u32
+    }
+
+    fn head(&self, s: u32, k: u32) -> Option<u32> {
+        let source = place_at(&self.env, s);
+        let i = self.leaving_at(source.t, k);
+        end_state(&self.env, source, self.prims.get(i))
+    }
+
+    fn judge(&self, s: u32, k: u32) -> Option<u32> {
+        let source = place_at(&self.env, s);
+        let i = self.leaving_at(source.t, k);
+        let centres = self.centres.at(i as usize);
+        let Some(greatest) = greatest_paid(&self.env, &self.map, source, self.prims.get(i), centres) else {
+            return None;
+        };
+        Some(self.costs[i as usize] * (u32::from(greatest) + 1))
     }
 }
 

@@ -1,9 +1,17 @@
 //! States and their places.
 
-ghost use Rattle.std.specs.Prelude.{◌≡◌, ◌<◌, ◌↔◌, pos, IsSome, IfSome, IfNone};
+ghost use Rattle.std.specs.Prelude.{◌≡◌, ◌<◌, ◌↔◌, pos, ◌+ℤ◌, IsSome, IfSome, IfNone};
 ghost use Rattle.sbpl_cost.specs.States.{IsPlace, IsOff, place_of, state_number, state_in, state_count};
 
 use sbpl_cfg::{Env, Place};
+use sbpl_mprim::Prim;
+
+/// How many states there are, 1 to 2^23.
+pub(crate) fn state_count(env: &Env) -> u32
+    ensures value { result ≡ state_count env.now }
+{
+    env.width * env.height * env.headings
+}
 
 /// The number of the state of cell `(x, y)` with heading `t`.
 fn number_of(env: &Env, x: u32, y: u32, t: u32) -> u32
@@ -15,6 +23,14 @@ fn number_of(env: &Env, x: u32, y: u32, t: u32) -> u32
     ensures back { place_of env.now result ≡ record { x = x; y = y; t = t } }
 {
     (y * env.width + x) * env.headings + t
+}
+
+/// The heading of a state.
+pub(crate) fn heading_of(env: &Env, s: u32) -> u32
+    ensures value { result ≡ (place_of env.now s).t }
+    ensures heading { result < env.now.headings }
+{
+    s % env.headings
 }
 
 /// The state at a place, or `None` where it is not a place of this environment.
@@ -61,11 +77,21 @@ fn on_axis(count: u32, x: i64) -> Option<u32>
 }
 
 /// The state of a cell of the plane with heading `t`, or `None` where the cell is off the map.
-pub(crate) fn state_in(env: &Env, x: i64, y: i64, t: u32) -> Option<u32>
+fn state_in(env: &Env, x: i64, y: i64, t: u32) -> Option<u32>
     requires heading { t < env.now.headings }
     ensures value { result ≡ state_in env.now x y t }
 {
     let column = on_axis(env.width, x)?;
     let row = on_axis(env.height, y)?;
     Some(number_of(env, column, row, t))
+}
+
+/// The state where the motion by a primitive from this place ends, or `None` where its cell is off the map.
+pub(crate) fn end_state(env: &Env, source: Place, prim: &Prim) -> Option<u32>
+    requires heading { prim.now.to < env.now.headings }
+    ensures value { result ≡ state_in env.now (pos source.x +ℤ prim.now.dx) (pos source.y +ℤ prim.now.dy) prim.now.to }
+{
+    let x = i64::from(source.x) + i64::from(prim.dx);
+    let y = i64::from(source.y) + i64::from(prim.dy);
+    state_in(env, x, y, prim.to)
 }

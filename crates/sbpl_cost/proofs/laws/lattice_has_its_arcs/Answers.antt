@@ -1,3 +1,5 @@
+use Rattle.sbpl_cost.proofs.Views.{states_are}
+use Rattle.sbpl_cost.proofs.Judged.{near_centres}
 use Rattle.sbpl_cost.proofs.Offsets.{offset_within}
 use Rattle.sbpl_cost.proofs.Cuts.{cut_push}
 use Rattle.sbpl_cost.proofs.LatticeLaws.{sound}
