@@ -18,9 +18,11 @@ use Rattle.sbpl_cost.specs.World.{World, IsWorld}
 use Rattle.sbpl_cost.specs.Arc.{column_from, row_from, cost_from, IsBelow, IsFree, IsPaid, IsGreatestPaid, IsFreeAt}
 use Rattle.sbpl_cost.specs.Lattices.{network_of}
 use Rattle.sbpl_cost.specs.Judging.{IsNear, IsCellBelow, IsGreatestBelow, IsSomeBlocked, IsGreatestPassed, IsObstructed, at_source, at_target, at_centre}
+use Rattle.sbpl_cost.specs.Tables.{HaveCentres}
 use Rattle.sbpl_cost.proofs.Arcs.{IsFound, arc_of}
 use Rattle.sbpl_cost.proofs.Freedom.{centre_where_swept}
 use Rattle.sbpl_cost.proofs.Offsets.{offset_within}
+use Rattle.sbpl_cost.proofs.CellOrders.{same_centres}
 
 -- what is below the lesser of two limits is below both
 below_both : (o : Option ℕ) (a b : ℕ) → IsSomeAnd o (λ c. c < a) → IsSomeAnd o (λ c. c < b) → IsSomeAnd o (λ c. c < min a b)
@@ -40,13 +42,13 @@ some_and None c limit h below = absurd (none-some c h)
 some_and (Some k) c limit h below = let same = same_Some k c h in omega arith
 
 -- centre cells are not far off
-pub near_centres : (cell : ℤ) (headings : ℕ) (p : Primitive) (cells : List Cell) → IsWithin (pos 1) (pos 1000000000000) cell → IsPrimitive cell headings p → AreCentres cell p.poses cells
+pub near_centres : (cell size : ℤ) (headings : ℕ) (p : Primitive) (cells : List Cell) → IsWithin (pos 1) (pos 1000000000000) cell → IsPrimitive size headings p → AreCentres cell p.poses cells
     → (i : ℕ) (c : Cell) → slice_get cells i ≡ Some c → IsNear c
-near_centres cell headings p cells size good are i c h =
+near_centres cell size headings p cells in_size good are i c h =
     let centre = are.each i c h in
     let in_range = good.poses centre.number centre.pose centre.stands in
     let P : ℤ → Type 0 = λ z. IsWithin (negsuc 4000000000000) (pos 4000000000000) z in
-    (subst P centre.column (offset_within cell centre.pose.x size in_range.x), subst P centre.row (offset_within cell centre.pose.y size in_range.y))
+    (subst P centre.column (offset_within cell centre.pose.x in_size in_range.x), subst P centre.row (offset_within cell centre.pose.y in_size in_range.y))
 
 module _ (w : World) (is_world : IsWorld w) (s k place : ℕ) (p : Primitive) (f : IsFound w s k place p) (cells : List Cell) (are : AreCentres w.env.cell p.poses cells) where
   none_where_blocked : (IsFree w s p → ⊥) → None ≡ (network_of w).cost s k
@@ -119,3 +121,22 @@ module _ (w : World) (is_world : IsWorld w) (s k place : ℕ) (p : Primitive) (f
   some_where_passed source greatest price cost same passed own product =
       let there = subst (λ q. IsGreatestPassed w.env w.map q p cells greatest) same passed in
       some_where_free there.start there.end greatest there.start_is there.start_below there.end_is there.end_below there.rest price cost own product
+
+-- the table's centre cells of a primitive
+pub centres_at : (w : World) → IsWorld w → (table : List (List Cell)) (place : ℕ) (p : Primitive) (cells : List Cell) → HaveCentres w.prims table → slice_get w.prims.items place ≡ Some p → slice_get table place ≡ Some cells
+    → AreCentres w.env.cell p.poses cells
+centres_at w is_world table place p cells have stands at =
+    let entry = have place p stands in
+    same_centres w.prims.cell w.env.cell p.poses p.poses entry.0 cells is_world.cell refl (same_Some cells entry.0 (sym at ∙ entry.1)) entry.2
+
+-- what the walk over the cells answered for an arc
+pub record IsWalked (w : World) (s k place : ℕ) (p : Primitive) (cells : List Cell) (source : Place) (price : ℕ) : Type 0 where
+  pub found : IsFound w s k place p
+  pub are : AreCentres w.env.cell p.poses cells
+  pub same : source ≡ place_of w.env s
+  pub own : price ≡ primitive_cost w.env p
+
+pub walked_some : (w : World) → IsWorld w → (s k place : ℕ) (p : Primitive) (cells : List Cell) (source : Place) (price greatest more : ℕ) → IsWalked w s k place p cells source price
+    → IsGreatestPassed w.env w.map source p cells greatest → more ≡ greatest → Some (price * (more + 1)) ≡ (network_of w).cost s k
+walked_some w is_world s k place p cells source price greatest more walked passed same =
+    some_where_passed w is_world s k place p walked.found cells walked.are source greatest price (price * (more + 1)) walked.same passed walked.own (ap (λ g. price * (g + 1)) same)

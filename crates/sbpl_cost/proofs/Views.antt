@@ -74,3 +74,9 @@ found_prim w s k t place p is_world same h at =
 pub head_inside : (w : World) → IsWorld w → (s k : ℕ) → s < (network_of w).states → k < (network_of w).fan s → (o : Option ℕ) → o ≡ (network_of w).head s k → IfSome o (λ t. t < (network_of w).states)
 head_inside w is_world s k state number None is = tt
 head_inside w is_world s k state number (Some t) is = (sound w is_world).head_is_state s k t state number (sym is)
+
+-- the price of the primitive that was read
+pub price_of : (e : Environment) (prims : List Primitive) (prices : List ℕ) (i price : ℕ) (p : Primitive) → prices ≡ map (primitive_cost e) prims → slice_get prims i ≡ Some p → price ≡ get_or prices i price → price ≡ primitive_cost e p
+price_of e prims prices i price p same at is =
+    let found = price_is e prims prices i price same (slice_get_within prims i p at) is in
+    found.2 ∙ ap (primitive_cost e) (same_Some found.0 p (sym found.1 ∙ at))

@@ -1,4 +1,4 @@
-use Rattle.std.proofs.Common.{arith, ap, sym, ◌∙◌, length}
+use Rattle.std.proofs.Common.{arith, rules, ap, sym, ◌≤◌, ◌∙◌, length}
 use Rattle.std.proofs.lemmas.Option.{same_Some}
 use Rattle.sbpl_cost.specs.Lattices.{leaving}
 use Rattle.sbpl_cost.proofs.Views.{fan_is, few_leaving}
@@ -8,7 +8,8 @@ pub overflow_cast-result : goal.overflow_cast-result
 overflow_cast-result c =
     let entry = c.self.invariant.leaving c.heading_of.result (omega (arith, c.heading_of.ensures.heading, c.self.invariant.world.headings)) in
     let same = same_Some c.at.result.now _ (sym c.at.ensures.list ∙ entry) in
-    ?
+    let few : length c.at.result.now ≤ 4096 = omega (arith, ap length same, few_leaving c.self.inside.prims.items c.heading_of.result, c.self.invariant.world.prims.count) in
+    search rules
 
 pub returns-clause-value : goal.returns-clause-value
 returns-clause-value c =
