@@ -1,24 +1,15 @@
 -- The arcs of the lattice, by their motions.
-use Rattle.std.proofs.Common.{◌≡◌, ℕ, zero, suc, ℤ, pos, negsuc, ◌+◌, ◌*◌, ◌^◌, ◌<◌, ◌≤◌, ◌==◌, ◌&&◌, ◌↔◌, Bool, true, false, List, length, take, count_by, slice_get, slice_index, Option, Some, None, option_and_then, IsSome, IsSomeAnd, nat_lt, refl, ap, sym, ◌∙◌, arith, subst}
-use Rattle.std.proofs.Math.Nat.{mul-le-mul_right, mul-le-mul_left}
-use Rattle.std.proofs.lemmas.Bool.{eqb-true, and_parts, ltb-true}
-use Rattle.std.proofs.lemmas.List.Sums.{count_by-le-length}
-use Rattle.std.proofs.lemmas.Nat.{mul-add-lt}
-use Rattle.std.proofs.lemmas.Option.{slice_get-get_or, get_or_from_slice_get, cond_some, none-some}
-use Rattle.sbpl_graph.specs.Network.{Network}
-use Rattle.sbpl_graph.specs.Laws.{IsSound}
-use Rattle.sbpl_cfg.specs.declared.pose.Place.{Place}
-use Rattle.sbpl_cfg.specs.Environment.{Environment, IsEnvironment}
+use Rattle.std.proofs.Common.{◌≡◌, ℕ, ◌<◌, ◌==◌, length, take, count_by, slice_get, slice_index, Some, option_and_then, refl, ap, sym, ◌∙◌, arith, subst}
+use Rattle.std.proofs.lemmas.Bool.{eqb-true}
+use Rattle.std.proofs.lemmas.Option.{slice_get-get_or}
 use Rattle.sbpl_mprim.specs.declared.prim.Primitive.{Primitive}
 use Rattle.sbpl_mprim.specs.Primitives.{IsPrimitive}
-use Rattle.sbpl_map.specs.CellMap.{CellMap, IsCellMap, IsOnMap, place_in, cost_at}
-use Rattle.sbpl_cost.specs.PrimitiveCost.{primitive_cost, most_cost}
-use Rattle.sbpl_cost.specs.States.{IsPlace, place_of, state_number, state_count}
+use Rattle.sbpl_cost.specs.States.{place_of}
 use Rattle.sbpl_cost.specs.World.{World, IsWorld}
-use Rattle.sbpl_cost.specs.Arc.{column_from, row_from, cost_from, IsArcBy, EndsIn, IsFree, IsFreeAt, IsArcOf, HasLatticeArcs}
+use Rattle.sbpl_cost.specs.Arc.{IsArcBy, IsArcOf, HasLatticeArcs}
 use Rattle.sbpl_cost.specs.Lattices.{leaving, arc_place, arc_primitive, head_by, cost_by, network_of}
 use Rattle.sbpl_cost.proofs.Numbered.{numbered, length-places_from}
-use Rattle.sbpl_cost.proofs.Heads.{on_map_at, ends_in, head_where_ends, off_map_where_none, none_where_off_map}
+use Rattle.sbpl_cost.proofs.Heads.{ends_in, head_where_ends, off_map_where_none, none_where_off_map}
 use Rattle.sbpl_cost.proofs.Freedom.{free_at, cost_where_free, not_free_where_none, none_where_not_free}
 
 -- the motion of arc k of state s
@@ -33,17 +24,19 @@ pub found_at : (w : World) (s k place : ℕ) → IsWorld w → arc_place w s k �
 found_at w s k place is_world at =
     let n = numbered (λ p. p.from == (place_of w.env s).t) 0 w.prims.items k place at in
     let same : n.at ≡ place = omega (arith, n.number) in
-    let stands = subst (λ i. slice_get w.prims.items i ≡ Some n.item) same n.stands in
-    (n.item, record {
-      by = record {
-        stands = stands;
-        heading = eqb-true n.item.from (place_of w.env s).t n.passes;
-        number = subst (λ i. count_by (λ p. p.from == (place_of w.env s).t) (take i w.prims.items) ≡ k) same n.before;
-      };
-      at = at;
-      primitive = ap (λ o. option_and_then (slice_get w.prims.items) o) at ∙ stands;
-      good = is_world.prims.each place n.item stands;
-    })
+    let stands = subst (λ i. slice_get w.prims.items i ≡ Some n.item) same n.stands in (
+      n.item,
+      record {
+        by = record {
+          stands = stands;
+          heading = eqb-true n.item.from (place_of w.env s).t n.passes;
+          number = subst (λ i. count_by (λ p. p.from == (place_of w.env s).t) (take i w.prims.items) ≡ k) same n.before;
+        };
+        at = at;
+        primitive = ap (λ o. option_and_then (slice_get w.prims.items) o) at ∙ stands;
+        good = is_world.prims.each place n.item stands;
+      },
+    )
 
 -- each arc below the fan has a motion
 pub found : (w : World) (s k : ℕ) → IsWorld w → k < length (leaving w.prims.items (place_of w.env s).t) → (place : ℕ) × (p : Primitive) × IsFound w s k place p

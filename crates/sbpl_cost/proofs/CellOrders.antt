@@ -1,9 +1,9 @@
 -- Cells in order, without repeats.
-use Rattle.std.proofs.Common.{◌≡◌, ℕ, ℤ, ◌+◌, ◌<◌, ◌≤◌, ◌&&◌, ◌⊎◌, inl, inr, ◌<ℤ◌, Bool, true, false, List, length, map, get_or, slice_get, Some, refl, ap, sym, ◌∙◌, arith, subst, Ordering}
+use Rattle.std.proofs.Common.{◌≡◌, ℕ, ℤ, ◌+◌, ◌&&◌, inl, inr, ◌<ℤ◌, Bool, true, List, map, get_or, slice_get, Some, refl, ap, sym, ◌∙◌, arith, subst, Ordering}
 use Rattle.std.specs.Cmp.{IsTotalOrder, IsEquivalence}
 use Rattle.std.specs.List.{Contains, dedup}
 use Rattle.std.specs.List.Sorted.{IsPermutation, IsSorted, IsStrictlySortedBy}
-use Rattle.std.specs.Ordering.{MatchOrdering, ordering_then, int_cmp, int_eq, is_eq, eq_by_cmp}
+use Rattle.std.specs.Ordering.{MatchOrdering, ordering_then, int_cmp, int_eq, eq_by_cmp}
 use Rattle.std.specs.declared.cmp.Ordering.TheVariants.{Less, Equal, Greater}
 use Rattle.std.proofs.lemmas.Bool.{and_parts}
 use Rattle.std.proofs.lemmas.Bool.Decides.{Decides-int_eq}
@@ -54,30 +54,30 @@ pub ordered_cells : (cells sorted result : List Cell) → IsTotalOrder cell_cmp 
     → IsPermutation cells sorted → IsSorted cell_cmp sorted → result ≡ dedup cell_eq sorted → AreOrdered cells result
 ordered_cells cells sorted result total equiv ties moved in_order is = record {
   each = λ i c h.
-    let kept = subst (λ l. Contains l c) is (contains_at result i c h) in
-    at_contained cells c (Contains-permutation sorted cells c (IsPermutation-sym cells sorted moved) (Contains-from_dedup cell_eq sorted c kept));
+      let kept = subst (λ l. Contains l c) is (contains_at result i c h) in
+      at_contained cells c (Contains-permutation sorted cells c (IsPermutation-sym cells sorted moved) (Contains-from_dedup cell_eq sorted c kept));
   all = λ i c h.
-    let there = Contains-dedup equiv same_cell sorted c (Contains-permutation cells sorted c moved (contains_at cells i c h)) in
-    at_contained result c (subst (λ l. Contains l c) (sym is) there);
+      let there = Contains-dedup equiv same_cell sorted c (Contains-permutation cells sorted c moved (contains_at cells i c h)) in
+      at_contained result c (subst (λ l. Contains l c) (sym is) there);
   ordered = λ i a b first second.
-    let strict = subst (λ l. IsStrictlySortedBy cell_cmp l) (sym is) (IsStrictlySortedBy-dedup total ties sorted in_order) in
-    let less = Less-from_sorted cell_cmp result i (i + 1) a strict (omega arith) (slice_get_within result (i + 1) b second) in
-    before a b (ap (λ z. cell_cmp z b) (sym (get_or_from_slice_get result i a a first)) ∙ ap (λ z. cell_cmp (get_or result i a) z) (sym (get_or_from_slice_get result (i + 1) b a second)) ∙ less);
+      let strict = subst (λ l. IsStrictlySortedBy cell_cmp l) (sym is) (IsStrictlySortedBy-dedup total ties sorted in_order) in
+      let less = Less-from_sorted cell_cmp result i (i + 1) a strict (omega arith) (slice_get_within result (i + 1) b second) in
+      before a b (ap (λ z. cell_cmp z b) (sym (get_or_from_slice_get result i a a first)) ∙ ap (λ z. cell_cmp (get_or result i a) z) (sym (get_or_from_slice_get result (i + 1) b a second)) ∙ less);
 }
 
 -- the cells of poses, in order and without repeats, are the centre cells
 pub centres_from : (cell : ℤ) (poses : List Pose) (made cells : List Cell) → made ≡ map (cell_of_pose cell) poses → AreOrdered made cells → AreCentres cell poses cells
 centres_from cell poses made cells is ordered = record {
   each = λ i c h.
-    let there = ordered.each i c h in
-    let from = made_from (cell_of_pose cell) poses there.0 c (ap (λ l. slice_get l there.0) (sym is) ∙ there.1) in
-    record { number = there.0; pose = from.0; stands = from.1; column = ap (λ (z : Cell). z.x) from.2; row = ap (λ (z : Cell). z.y) from.2 };
+      let there = ordered.each i c h in
+      let from = made_from (cell_of_pose cell) poses there.0 c (ap (λ l. slice_get l there.0) (sym is) ∙ there.1) in
+      record { number = there.0; pose = from.0; stands = from.1; column = ap (λ (z : Cell). z.x) from.2; row = ap (λ (z : Cell). z.y) from.2 };
   all = λ x y centre.
-    let c : Cell = record { y = y; x = x } in
-    let by_row : ℤ → Cell = λ v. record { y = v; x = offset_cell cell centre.pose.x } in
-    let by_column : ℤ → Cell = λ v. record { y = y; x = v } in
-    let same : cell_of_pose cell centre.pose ≡ c = ap by_row centre.row ∙ ap by_column centre.column in
-    ordered.all centre.number c (ap (λ l. slice_get l centre.number) is ∙ made_at (cell_of_pose cell) poses centre.number centre.pose centre.stands ∙ ap (λ z. Some z) same);
+      let c : Cell = record { y = y; x = x } in
+      let by_row : ℤ → Cell = λ v. record { y = v; x = offset_cell cell centre.pose.x } in
+      let by_column : ℤ → Cell = λ v. record { y = y; x = v } in
+      let same : cell_of_pose cell centre.pose ≡ c = ap by_row centre.row ∙ ap by_column centre.column in
+      ordered.all centre.number c (ap (λ l. slice_get l centre.number) is ∙ made_at (cell_of_pose cell) poses centre.number centre.pose centre.stands ∙ ap (λ z. Some z) same);
   ordered = ordered.ordered;
 }
 

@@ -15,15 +15,16 @@ AreCosts e prims costs n =
 -- one more primitive
 pub costs_more : (e : Environment) (prims : List Primitive) (costs new : List ℕ) (i cost : ℕ) (p : Primitive) → slice_get prims i ≡ Some p → AreCosts e prims costs i
     → new ≡ costs ++ cost ∷ [] → cost ≡ primitive_cost e p → cost ≤ most_cost → 1 ≤ cost → AreCosts e prims new (i + 1)
-costs_more e prims costs new i cost p there old added is high low =
-    (added ∙ ap (λ l. l ++ cost ∷ []) old.0 ∙ ap (λ c. map (primitive_cost e) (take i prims) ++ c ∷ []) is ∙ sym (map_more (primitive_cost e) prims i p there),
-    λ k q before at. elim (cases_lt k i) [
-      inl earlier ↦ old.1 k q earlier at
+costs_more e prims costs new i cost p there old added is high low = (
+  added ∙ ap (λ l. l ++ cost ∷ []) old.0 ∙ ap (λ c. map (primitive_cost e) (take i prims) ++ c ∷ []) is ∙ sym (map_more (primitive_cost e) prims i p there),
+  λ k q before at. elim (cases_lt k i) [
+    | inl earlier ↦ old.1 k q earlier at
     | inr now ↦
         let last : i ≡ k = omega arith in
         let same = same_Some p q (sym (ap (λ n. slice_get prims n) (sym last) ∙ there) ∙ at) in
         (subst (λ z. 1 ≤ z) (is ∙ ap (primitive_cost e) same) low, subst (λ z. z ≤ most_cost) (is ∙ ap (primitive_cost e) same) high)
-    ])
+  ],
+)
 
 -- what is read from a list by another name
 pub read_there : {X : Type 0} (list items : List X) (i : ℕ) (x : X) → list ≡ items → i < length items → x ≡ get_or list i x → slice_get items i ≡ Some x

@@ -1,7 +1,6 @@
 -- Lists that lie one after another in one table.
-use Rattle.std.proofs.Common.{◌≡◌, ℕ, zero, suc, ◌+◌, ◌-◌, ◌<◌, ◌≤◌, ◌⊎◌, inl, inr, List, [], ◌∷◌, ◌++◌, length, take, drop, get_or, slice_get, slice_range, slice_index, Some, refl, ap, sym, ◌∙◌, arith, subst}
+use Rattle.std.proofs.Common.{◌≡◌, ℕ, zero, suc, ◌+◌, ◌-◌, ◌<◌, ◌≤◌, inl, inr, List, [], ◌∷◌, ◌++◌, length, take, drop, slice_get, slice_range, slice_index, Some, refl, ap, sym, ◌∙◌, arith, subst}
 use Rattle.std.proofs.lemmas.Bool.{cases_lt}
-use Rattle.std.proofs.lemmas.Grind.{common_steps}
 use Rattle.std.proofs.lemmas.List.{length-append, length-drop, drop-append-le, take-append-le, drop_at, take_all, get_or_append_left, get_or_push, get_or_past, length_push}
 use Rattle.sbpl_cost.specs.Cut.{cut_after, cut, IsCut}
 
@@ -46,7 +45,7 @@ cut_after_push items more a (b ∷ starts) e h =
 pub cut_push : {X : Type 0} (items more : List X) (starts : List ℕ) (e : ℕ) → IsCut (length items) starts → e ≡ length (items ++ more)
     → cut (items ++ more) (starts ++ e ∷ []) ≡ cut items starts ++ more ∷ []
 cut_push items more [] e kept end = absurd (omega (arith, kept.some))
-cut_push items more (a ∷ starts) e kept end = 
+cut_push items more (a ∷ starts) e kept end =
     let last : suc (length starts) - 1 ≡ length starts = omega arith in
     let from = subst (λ n. slice_index (a ∷ starts) n ≡ length items) last kept.whole in
     let enough : length more ≤ e - slice_index (a ∷ starts) (length starts) = omega (arith, length-append items more) in
@@ -63,14 +62,14 @@ is_cut_push items more starts e kept end =
     record {
       some = omega (arith, one_more);
       rising = λ i h. elim (cases_lt (i + 1) (length starts)) [
-        inl before ↦ omega (arith, old i (omega arith), old (i + 1) before, kept.rising i before)
-      | inr last ↦ omega (arith, old i (omega (arith, one_more, kept.some)), new (i + 1) (omega (arith, one_more)), kept.inside i)
+        | inl before ↦ omega (arith, old i (omega arith), old (i + 1) before, kept.rising i before)
+        | inr last ↦ omega (arith, old i (omega (arith, one_more, kept.some)), new (i + 1) (omega (arith, one_more)), kept.inside i)
       ];
       inside = λ i. elim (cases_lt i (length starts)) [
-        inl before ↦ omega (arith, old i before, kept.inside i)
-      | inr after ↦ elim (cases_lt (length starts) i) [
-          inl past ↦ omega (arith, get_or_past (starts ++ e ∷ []) i 0 (omega (arith, one_more)))
-        | inr last ↦ omega (arith, new i (omega arith))
+        | inl before ↦ omega (arith, old i before, kept.inside i)
+        | inr after ↦ elim (cases_lt (length starts) i) [
+          | inl past ↦ omega (arith, get_or_past (starts ++ e ∷ []) i 0 (omega (arith, one_more)))
+          | inr last ↦ omega (arith, new i (omega arith))
         ]
       ];
       whole = new (length (starts ++ e ∷ []) - 1) (omega (arith, one_more));

@@ -1,9 +1,9 @@
 -- Tables that are filled one entry after another.
-use Rattle.std.proofs.Common.{◌≡◌, ℕ, zero, suc, ◌+◌, ◌<◌, ◌≤◌, ◌⊎◌, inl, inr, Bool, true, false, cond, List, [], ◌∷◌, ◌++◌, length, take, map, get_or, sum_by, slice_get, Some, refl, ap, sym, ◌∙◌, arith, subst}
+use Rattle.std.proofs.Common.{◌≡◌, ℕ, zero, suc, ◌+◌, ◌<◌, ◌≤◌, inl, inr, Bool, true, false, cond, List, [], ◌∷◌, ◌++◌, length, take, map, sum_by, slice_get, Some, refl, ap, ◌∙◌, arith, subst}
 use Rattle.std.proofs.lemmas.Bool.{cases_lt}
 use Rattle.std.proofs.lemmas.List.{take_more, map-append, length-take-le, append-nil, length_push}
 use Rattle.std.proofs.lemmas.List.Sums.{get_or-le-sum_by}
-use Rattle.std.proofs.lemmas.Option.{none-some, slice_get_within, get_or_from_slice_get, same_Some}
+use Rattle.std.proofs.lemmas.Option.{slice_get_within, get_or_from_slice_get}
 use Rattle.sbpl_cost.specs.Lattices.{places_from}
 use Rattle.sbpl_cost.proofs.Numbered.{places_from-push}
 
@@ -53,13 +53,15 @@ IsFilled {X} P table n = (length table ≡ n) × ((k : ℕ) → k < n → (y : X
 
 -- one more entry
 pub filled_more : {X : Type 0} (P : ℕ → X → Type 0) (table new : List X) (n : ℕ) (x : X) → IsFilled P table n → new ≡ table ++ x ∷ [] → P n x → IsFilled P new (n + 1)
-filled_more P table new n x filled added right =
-    (ap length added ∙ length_push table x ∙ ap (λ m. m + 1) filled.0, λ k h.
+filled_more P table new n x filled added right = (
+  ap length added ∙ length_push table x ∙ ap (λ m. m + 1) filled.0,
+  λ k h.
       elim (cases_lt k n) [
-        inl before ↦
-          let old = filled.1 k before in
-          (old.0, ap (λ l. slice_get l k) added ∙ before_push table x k (omega (arith, filled.0)) ∙ old.1, old.2)
-      | inr after ↦
-          let last : n ≡ k = omega arith in
-          (x, ap (λ l. slice_get l k) added ∙ at_push table x k (omega (arith, filled.0)), subst (λ m. P m x) last right)
-      ])
+        | inl before ↦
+            let old = filled.1 k before in
+            (old.0, ap (λ l. slice_get l k) added ∙ before_push table x k (omega (arith, filled.0)) ∙ old.1, old.2)
+        | inr after ↦
+            let last : n ≡ k = omega arith in
+            (x, ap (λ l. slice_get l k) added ∙ at_push table x k (omega (arith, filled.0)), subst (λ m. P m x) last right)
+      ],
+)

@@ -1,7 +1,7 @@
 -- When the lattice's arcs are free, and what they cost.
-use Rattle.std.proofs.Common.{◌≡◌, ℕ, zero, suc, ℤ, pos, ◌+◌, ◌*◌, ◌<◌, ◌≤◌, ◌&&◌, ◌⊎◌, inl, inr, Bool, true, false, List, [], ◌∷◌, map, length, slice_get, Option, Some, None, IsSomeAnd, unwrap_or, nat_lt, max, refl, ap, sym, ◌∙◌, arith, subst}
+use Rattle.std.proofs.Common.{◌≡◌, ℕ, zero, suc, ℤ, pos, ◌+◌, ◌*◌, ◌<◌, ◌≤◌, ◌&&◌, inl, inr, Bool, true, false, List, [], ◌∷◌, map, slice_get, Option, Some, None, IsSomeAnd, unwrap_or, nat_lt, max, refl, ap, sym, ◌∙◌, arith, subst}
 use Rattle.std.specs.List.{list_all}
-use Rattle.std.proofs.lemmas.Bool.{and_parts, and_from, lt-ltb, ltb-true, cond-true, cases_Bool, cases_lt, cond-false}
+use Rattle.std.proofs.lemmas.Bool.{and_parts, and_from, lt-ltb, ltb-true, cond-true, cases_lt}
 use Rattle.std.proofs.lemmas.Option.{cond_some, none-some, same_Some}
 use Rattle.sbpl_cfg.specs.declared.pose.Pose.{Pose}
 use Rattle.sbpl_mprim.specs.declared.prim.Primitive.{Primitive}
@@ -55,8 +55,8 @@ greatest_from threshold c (None ∷ os) all = absurd (let no : false ≡ true = 
 greatest_from threshold c (Some d ∷ os) all =
     let later = greatest_from threshold d os (and_parts (nat_lt d threshold) (list_all (is_below threshold) os) all).1 in
     elim (cases_lt c (max d (greatest_of os))) [
-      inl less ↦ let same : max d (greatest_of os) ≡ max c (max d (greatest_of os)) = omega arith in (suc later.0, later.1 ∙ ap (λ n. Some (Some n)) same)
-    | inr more ↦ let same : c ≡ max c (max d (greatest_of os)) = omega arith in (0, ap (λ n. Some (Some n)) same)
+      | inl less ↦ let same : max d (greatest_of os) ≡ max c (max d (greatest_of os)) = omega arith in (suc later.0, later.1 ∙ ap (λ n. Some (Some n)) same)
+      | inr more ↦ let same : c ≡ max c (max d (greatest_of os)) = omega arith in (0, ap (λ n. Some (Some n)) same)
     ]
 
 pub greatest_is_one : (threshold : ℕ) (o : Option ℕ) (os : List (Option ℕ)) → list_all (is_below threshold) (o ∷ os) ≡ true → (i : ℕ) × (slice_get (o ∷ os) i ≡ Some (Some (greatest_of (o ∷ os))))
@@ -123,8 +123,8 @@ module _ (w : World) (is_world : IsWorld w) (s : ℕ) (p : Primitive) where
       let inscribed = is_below_true w.env.inscribed (cost_from w s p.dx p.dy) f.target_inscribed in
       let all = all_centres_below w.env.inscribed f.centres in
       and_from (list_all (is_below w.env.obsthresh) (paid_costs w s p)) (is_below w.env.inscribed (cost_from w s p.dx p.dy) && list_all (is_below w.env.inscribed) (centre_costs w s p))
-        (and_from _ (is_below w.env.obsthresh (cost_from w s p.dx p.dy) && list_all (is_below w.env.obsthresh) (centre_costs w s p)) source (and_from _ _ target centres))
-        (and_from _ _ inscribed all)
+      (and_from _ (is_below w.env.obsthresh (cost_from w s p.dx p.dy) && list_all (is_below w.env.obsthresh) (centre_costs w s p)) source (and_from _ _ target centres))
+      (and_from _ _ inscribed all)
 
   pub greatest_paid : is_free w s p ≡ true → IsGreatestPaid w s p (greatest_of (paid_costs w s p))
   greatest_paid h =

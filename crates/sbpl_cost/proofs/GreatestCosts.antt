@@ -1,11 +1,11 @@
 -- The greatest of some cells' costs.
-use Rattle.std.proofs.Common.{◌≡◌, ℕ, ℤ, ◌+◌, ◌<◌, ◌≤◌, ◌+ℤ◌, ◌⊎◌, inl, inr, List, [], ◌∷◌, ◌++◌, length, take, slice_get, Option, Some, None, IsSomeAnd, max, refl, ap, sym, ◌∙◌, arith, subst}
+use Rattle.std.proofs.Common.{◌≡◌, ℕ, ℤ, ◌+◌, ◌<◌, ◌+ℤ◌, inl, inr, List, [], ◌∷◌, ◌++◌, length, take, slice_get, Option, Some, None, IsSomeAnd, max, ap, sym, ◌∙◌, arith, subst}
 use Rattle.std.proofs.lemmas.Bool.{cases_lt}
 use Rattle.std.proofs.lemmas.List.{length-take-le, length_push}
 use Rattle.std.proofs.lemmas.Option.{slice_get_within, same_Some}
 use Rattle.sbpl_map.specs.CellMap.{CellMap, cost_at}
 use Rattle.sbpl_cost.specs.declared.cell.Cell.{Cell}
-use Rattle.sbpl_cost.specs.Judging.{IsCellBelow, IsGreatestBelow, IsSomeBlocked}
+use Rattle.sbpl_cost.specs.Judging.{IsCellBelow, IsGreatestBelow}
 use Rattle.sbpl_cost.proofs.Filling.{take_next, before_push, at_push}
 
 -- an element of the first n + 1 is one of the first n or the next
@@ -20,8 +20,8 @@ among xs n x i y next at =
     let pushed = ap (λ l. slice_get l i) (sym (take_next xs n x next)) ∙ at in
     let inside = slice_get_within (take n xs ++ x ∷ []) i y pushed in
     elim (cases_lt i n) [
-      inl less ↦ earlier (sym (before_push (take n xs) x i (omega arith)) ∙ pushed)
-    | inr more ↦ last (same_Some x y (sym (at_push (take n xs) x i (omega (arith, length_push (take n xs) x))) ∙ pushed))
+      | inl less ↦ earlier (sym (before_push (take n xs) x i (omega arith)) ∙ pushed)
+      | inr more ↦ last (same_Some x y (sym (at_push (take n xs) x i (omega (arith, length_push (take n xs) x))) ∙ pushed))
     ]
 
 some_below : (o : Option ℕ) (limit c : ℕ) → o ≡ Some c → c < limit → IsSomeAnd o (λ k. k < limit)
@@ -50,20 +50,20 @@ module _ (m : CellMap) (cells : List Cell) (x y : ℤ) (limit least greatest n c
     below = λ i c h. elim (among cells n next i c at h) [ earlier e ↦ old.below i c e | last e ↦ below_next c e ];
     at_least = omega (arith, old.at_least);
     none_above = λ i k c h there. elim (among cells n next i c at h) [
-      earlier e ↦ omega (arith, old.none_above i k c e there)
-    | last e ↦ 
-        let cost_is = cost_next c k e there in
-        omega arith
+      | earlier e ↦ omega (arith, old.none_above i k c e there)
+      | last e ↦
+          let cost_is = cost_next c k e there in
+          omega arith
     ];
     reached = elim (cases_lt greatest cost) [
-      inl less ↦
-        let whole : max greatest cost ≡ cost = omega arith in
-        inr (n, next, at_end, is ∙ ap (λ k. Some k) (sym whole))
-    | inr more ↦
-        let whole : max greatest cost ≡ greatest = omega arith in
-        elim old.reached [
-          inl first ↦ inl (whole ∙ first)
-        | inr some ↦ inr (some.0, some.1, kept some.0 some.1 some.2, some.3 ∙ ap (λ k. Some k) (sym whole))
-        ]
+      | inl less ↦
+          let whole : max greatest cost ≡ cost = omega arith in
+          inr (n, next, at_end, is ∙ ap (λ k. Some k) (sym whole))
+      | inr more ↦
+          let whole : max greatest cost ≡ greatest = omega arith in
+          elim old.reached [
+            | inl first ↦ inl (whole ∙ first)
+            | inr some ↦ inr (some.0, some.1, kept some.0 some.1 some.2, some.3 ∙ ap (λ k. Some k) (sym whole))
+          ]
     ];
   }

@@ -1,14 +1,13 @@
 -- The heads of the lattice's arcs.
-use Rattle.std.proofs.Common.{◌≡◌, ℕ, zero, suc, ℤ, pos, negsuc, ◌+◌, ◌*◌, ◌<◌, ◌≤◌, ◌≤ℤ◌, ◌<ℤ◌, ◌&&◌, ◌↔◌, Bool, true, false, cond, Option, Some, None, nat_lt, refl, ap, sym, ◌∙◌, arith, rules, subst}
+use Rattle.std.proofs.Common.{◌≡◌, ℕ, ℤ, pos, negsuc, ◌<◌, ◌≤ℤ◌, ◌<ℤ◌, ◌&&◌, Option, Some, None, nat_lt, refl, ap, sym, ◌∙◌, arith, subst}
 use Rattle.std.proofs.lemmas.Bool.{and_parts, and_from, lt-ltb, ltb-true, cond-true}
 use Rattle.std.proofs.lemmas.Int.{ints}
-use Rattle.std.proofs.lemmas.Option.{cond_some, none-some, same_Some}
-use Rattle.sbpl_cfg.specs.declared.pose.Place.{Place}
+use Rattle.std.proofs.lemmas.Option.{cond_some, none-some}
 use Rattle.sbpl_cfg.specs.Environment.{Environment}
 use Rattle.sbpl_mprim.specs.declared.prim.Primitive.{Primitive}
 use Rattle.sbpl_mprim.specs.Primitives.{IsPrimitive}
 use Rattle.sbpl_map.specs.CellMap.{CellMap, IsOnMap}
-use Rattle.sbpl_cost.specs.States.{IsPlace, IsOff, place_of, state_number, state_in}
+use Rattle.sbpl_cost.specs.States.{IsOff, state_number, state_in}
 use Rattle.sbpl_cost.specs.World.{World, IsWorld}
 use Rattle.sbpl_cost.specs.Arc.{column_from, row_from, EndsIn}
 use Rattle.sbpl_cost.specs.Lattices.{head_by}

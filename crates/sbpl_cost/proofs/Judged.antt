@@ -1,21 +1,18 @@
 -- What the costs of cells say of an arc.
-use Rattle.std.proofs.Common.{◌≡◌, ℕ, ℤ, pos, negsuc, ◌+◌, ◌*◌, ◌^◌, ◌<◌, ◌≤◌, ◌≤ℤ◌, ◌+ℤ◌, ◌⊎◌, inl, inr, List, slice_get, Option, Some, None, IsSome, IsSomeAnd, max, min, refl, ap, sym, ◌∙◌, arith, subst}
+use Rattle.std.proofs.Common.{◌≡◌, ℕ, ℤ, pos, negsuc, ◌+◌, ◌*◌, ◌<◌, ◌≤◌, inl, inr, List, slice_get, Option, Some, None, IsSomeAnd, max, min, refl, ap, sym, ◌∙◌, arith, subst}
 use Rattle.std.proofs.lemmas.Bool.{cases_lt}
 use Rattle.std.proofs.lemmas.Option.{same_Some, none-some}
-use Rattle.sbpl_graph.specs.Network.{Network}
-use Rattle.sbpl_graph.specs.Laws.{IsSound}
 use Rattle.sbpl_cfg.specs.declared.pose.Place.{Place}
 use Rattle.sbpl_cfg.specs.Environment.{IsWithin}
 use Rattle.sbpl_mprim.specs.declared.prim.Primitive.{Primitive}
-use Rattle.sbpl_mprim.specs.Primitives.{IsPrimitive, offset_cell}
-use Rattle.sbpl_map.specs.CellMap.{CellMap, cost_at}
+use Rattle.sbpl_mprim.specs.Primitives.{IsPrimitive}
 use Rattle.sbpl_cost.specs.declared.cell.Cell.{Cell}
 use Rattle.sbpl_cost.specs.PrimitiveCost.{primitive_cost}
 use Rattle.sbpl_cost.specs.States.{place_of}
-use Rattle.sbpl_cost.specs.Sweep.{IsCentre, IsSwept}
+use Rattle.sbpl_cost.specs.Sweep.{IsCentre}
 use Rattle.sbpl_cost.specs.Centres.{AreCentres}
 use Rattle.sbpl_cost.specs.World.{World, IsWorld}
-use Rattle.sbpl_cost.specs.Arc.{column_from, row_from, cost_from, IsBelow, IsFree, IsPaid, IsGreatestPaid, IsFreeAt}
+use Rattle.sbpl_cost.specs.Arc.{column_from, row_from, cost_from, IsFree, IsPaid, IsGreatestPaid, IsFreeAt}
 use Rattle.sbpl_cost.specs.Lattices.{network_of}
 use Rattle.sbpl_cost.specs.Judging.{IsNear, IsCellBelow, IsGreatestBelow, IsSomeBlocked, IsGreatestPassed, IsObstructed, at_source, at_target, at_centre}
 use Rattle.sbpl_cost.specs.Tables.{HaveCentres}
@@ -96,16 +93,16 @@ module _ (w : World) (is_world : IsWorld w) (s k place : ℕ) (p : Primitive) (f
 
     paid : IsGreatestPaid w s p greatest
     paid = elim rest.reached [
-        inl first ↦ elim (cases_lt end start) [
-            inl less ↦
-              let same : start ≡ greatest = omega (arith, first) in
-              record { dx = pos 0; dy = pos 0; paid = inl (refl, refl); cost = start_is ∙ ap (λ c. Some c) same; none_above = none_above }
-          | inr more ↦
-              let same : end ≡ greatest = omega (arith, first) in
-              record { dx = p.dx; dy = p.dy; paid = inr (inl (refl, refl)); cost = end_is ∙ ap (λ c. Some c) same; none_above = none_above }
-          ]
-      | inr some ↦ record { dx = some.1.x; dy = some.1.y; paid = inr (inr (are.each some.0 some.1 some.2)); cost = some.3; none_above = none_above }
+      | inl first ↦ elim (cases_lt end start) [
+        | inl less ↦
+            let same : start ≡ greatest = omega (arith, first) in
+            record { dx = pos 0; dy = pos 0; paid = inl (refl, refl); cost = start_is ∙ ap (λ c. Some c) same; none_above = none_above }
+        | inr more ↦
+            let same : end ≡ greatest = omega (arith, first) in
+            record { dx = p.dx; dy = p.dy; paid = inr (inl (refl, refl)); cost = end_is ∙ ap (λ c. Some c) same; none_above = none_above }
       ]
+      | inr some ↦ record { dx = some.1.x; dy = some.1.y; paid = inr (inr (are.each some.0 some.1 some.2)); cost = some.3; none_above = none_above }
+    ]
 
     pub some_where_free : (price cost : ℕ) → price ≡ primitive_cost w.env p → cost ≡ price * (greatest + 1) → Some cost ≡ (network_of w).cost s k
     some_where_free price cost own product =

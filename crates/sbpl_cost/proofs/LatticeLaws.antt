@@ -1,22 +1,21 @@
 -- The lattice keeps the laws of a graph.
-use Rattle.std.proofs.Common.{◌≡◌, ℕ, zero, suc, ℤ, pos, negsuc, ◌+◌, ◌*◌, ◌^◌, ◌<◌, ◌≤◌, ◌==◌, ◌&&◌, Bool, true, false, List, length, slice_get, slice_index, Option, Some, None, option_and_then, is_some, IsSome, IsSomeAnd, nat_lt, refl, ap, sym, ◌∙◌, arith, subst}
+use Rattle.std.proofs.Common.{◌≡◌, ℕ, ℤ, pos, negsuc, ◌+◌, ◌*◌, ◌^◌, ◌<◌, ◌≤◌, ◌==◌, ◌&&◌, List, slice_get, Option, Some, None, option_and_then, IsSome, IsSomeAnd, nat_lt, refl, arith}
 use Rattle.std.proofs.Math.Nat.{mul-le-mul}
 use Rattle.std.proofs.lemmas.Bool.{and_parts, ltb-true}
 use Rattle.std.proofs.lemmas.List.Sums.{count_by-le-length}
 use Rattle.std.proofs.lemmas.Nat.{mul-add-lt}
 use Rattle.std.proofs.lemmas.Option.{get_or_from_slice_get, cond_some, none-some}
-use Rattle.sbpl_graph.specs.Network.{Network}
 use Rattle.sbpl_graph.specs.Laws.{IsSound, HasGaps}
 use Rattle.sbpl_cfg.specs.declared.pose.Place.{Place}
-use Rattle.sbpl_cfg.specs.Environment.{Environment, IsEnvironment}
+use Rattle.sbpl_cfg.specs.Environment.{Environment}
 use Rattle.sbpl_map.specs.CellMap.{CellMap, IsCellMap, IsOnMap, place_in, cost_at}
-use Rattle.sbpl_cost.specs.PrimitiveCost.{primitive_cost, most_cost}
+use Rattle.sbpl_cost.specs.PrimitiveCost.{primitive_cost}
 use Rattle.sbpl_cost.specs.States.{IsPlace, place_of, state_number, state_count}
 use Rattle.sbpl_cost.specs.World.{World, IsWorld}
-use Rattle.sbpl_cost.specs.Arc.{column_from, row_from, cost_from, EndsIn, IsFree, IsFreeAt}
+use Rattle.sbpl_cost.specs.Arc.{cost_from, IsFreeAt}
 use Rattle.sbpl_cost.specs.Lattices.{network_of}
 use Rattle.sbpl_cost.proofs.Numbered.{length-places_from}
-use Rattle.sbpl_cost.proofs.Heads.{on_map_at, none_where_nothing}
+use Rattle.sbpl_cost.proofs.Heads.{on_map_at}
 use Rattle.sbpl_cost.proofs.Arcs.{found, arc_of}
 
 -- a place's state is one of the states
@@ -85,22 +84,22 @@ module _ (w : World) (is_world : IsWorld w) where
     few_states = is_world.env.states;
     few_arcs = λ s _. omega (arith, length-places_from (λ p. p.from == (place_of w.env s).t) 0 w.prims.items, count_by-le-length (λ p. p.from == (place_of w.env s).t) w.prims.items, is_world.prims.count);
     head_is_state = λ s k t _ number h.
-      let f = found w s k is_world number in
-      let ends = (((arc_of w is_world s k f.0 f.1 f.2).head t).0 h) in
-      let below = state_number_below w.env ends.place ends.on_map in
-      omega (arith, below, ends.number);
+        let f = found w s k is_world number in
+        let ends = (((arc_of w is_world s k f.0 f.1 f.2).head t).0 h) in
+        let below = state_number_below w.env ends.place ends.on_map in
+        omega (arith, below, ends.number);
     cost_at_least_one = λ s k c _ number h.
-      let f = found w s k is_world number in
-      (cost_in_range s f.1 c f.0 f.2.by.stands (((arc_of w is_world s k f.0 f.1 f.2).cost c).0 h)).0;
+        let f = found w s k is_world number in
+        (cost_in_range s f.1 c f.0 f.2.by.stands (((arc_of w is_world s k f.0 f.1 f.2).cost c).0 h)).0;
     cost_fits = λ s k c _ number h.
-      let f = found w s k is_world number in
-      (cost_in_range s f.1 c f.0 f.2.by.stands (((arc_of w is_world s k f.0 f.1 f.2).cost c).0 h)).1;
+        let f = found w s k is_world number in
+        (cost_in_range s f.1 c f.0 f.2.by.stands (((arc_of w is_world s k f.0 f.1 f.2).cost c).0 h)).1;
     free_has_head = λ s k c _ number h.
-      let f = found w s k is_world number in
-      let arc = arc_of w is_world s k f.0 f.1 f.2 in
-      let free = (((arc.cost c).0 h).free).target in
-      let cost = has_cost (cost_from w s f.1.dx f.1.dy) w.env.obsthresh free in
-      some_where_not_none _ (λ none. arc.no_head.0 none (on_map_where_cost w.map _ _ cost.0 is_world.map cost.1).0);
+        let f = found w s k is_world number in
+        let arc = arc_of w is_world s k f.0 f.1 f.2 in
+        let free = (((arc.cost c).0 h).free).target in
+        let cost = has_cost (cost_from w s f.1.dx f.1.dy) w.env.obsthresh free in
+        some_where_not_none _ (λ none. arc.no_head.0 none (on_map_where_cost w.map _ _ cost.0 is_world.map cost.1).0);
   }
 
   pub gaps : HasGaps (network_of w)

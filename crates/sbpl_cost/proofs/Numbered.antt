@@ -1,6 +1,5 @@
 -- The numbers of the elements that pass a test.
-use Rattle.std.proofs.Common.{◌≡◌, ℕ, zero, suc, ◌+◌, ◌<◌, ◌≤◌, Bool, true, false, cond, List, [], ◌∷◌, ◌++◌, length, take, slice_get, Option, Some, None, count_by, sum_by, refl, ap, sym, ◌∙◌, arith, add-zero}
-use Rattle.std.proofs.lemmas.List.{length-append}
+use Rattle.std.proofs.Common.{◌≡◌, ℕ, zero, suc, ◌+◌, Bool, true, false, cond, List, [], ◌∷◌, ◌++◌, length, take, slice_get, Some, count_by, refl, ap, sym, ◌∙◌, arith, add-zero}
 use Rattle.std.proofs.lemmas.List.Sums.{sum_by-cons}
 use Rattle.std.proofs.lemmas.Option.{none-some, same_Some}
 use Rattle.sbpl_cost.specs.Lattices.{places_from}
@@ -61,4 +60,4 @@ places_from-push test i (y ∷ xs) x =
     let later = places_from-push test (i + 1) xs x in
     let same : i + 1 + length xs ≡ i + suc (length xs) = omega arith in
     ap (λ places. cond (test y) (i ∷ places) places) (later ∙ ap (λ n. places_from test (i + 1) xs ++ cond (test x) (n ∷ []) []) same)
-      ∙ sym (append_if (test y) i (places_from test (i + 1) xs) (cond (test x) ((i + suc (length xs)) ∷ []) []))
+    ∙ sym (append_if (test y) i (places_from test (i + 1) xs) (cond (test x) ((i + suc (length xs)) ∷ []) []))

@@ -1,5 +1,5 @@
 -- States and places are one to one.
-use Rattle.std.proofs.Common.{◌≡◌, ℕ, zero, ◌+◌, ◌*◌, ◌/◌, ◌%◌, ◌<◌, ◌≤◌, refl, ap, sym, ◌∙◌, arith, subst}
+use Rattle.std.proofs.Common.{◌≡◌, ℕ, ◌+◌, ◌*◌, ◌/◌, ◌%◌, ◌<◌, ◌≤◌, ap, ◌∙◌, arith}
 use Rattle.std.proofs.Math.Nat.{div-lt_iff_lt-mul}
 use Rattle.std.proofs.lemmas.Nat.{div-mul-add, div-add-mod', mod-mul-add}
 use Rattle.sbpl_cfg.specs.declared.pose.Place.{Place}
@@ -29,5 +29,5 @@ module _ (e : Environment) (good : IsEnvironment e) where
       let by_y : ℕ → Place = λ y. record { x = p.x; y = y; t = state_number e p % e.headings } in
       let by_t : ℕ → Place = λ t. record { x = p.x; y = p.y; t = t } in
       ap by_x (ap (λ c. c % e.width) cell ∙ mod-mul-add p.y e.width p.x at.x)
-        ∙ ap by_y (ap (λ c. c / e.width) cell ∙ div-mul-add p.y e.width p.x at.x)
-        ∙ ap by_t (mod-mul-add (p.y * e.width + p.x) e.headings p.t at.t)
+      ∙ ap by_y (ap (λ c. c / e.width) cell ∙ div-mul-add p.y e.width p.x at.x)
+      ∙ ap by_t (mod-mul-add (p.y * e.width + p.x) e.headings p.t at.t)

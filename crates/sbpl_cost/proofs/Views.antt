@@ -1,16 +1,15 @@
 -- What the methods of a lattice answer, in terms of its graph.
-use Rattle.std.proofs.Common.{◌≡◌, ℕ, pos, ◌+◌, ◌*◌, ◌<◌, ◌≤◌, ◌==◌, ◌+ℤ◌, List, length, map, slice_get, get_or, Option, Some, None, option_and_then, IfSome, refl, ap, sym, ◌∙◌, arith, subst}
+use Rattle.std.proofs.Common.{◌≡◌, ℕ, ◌<◌, ◌≤◌, ◌==◌, List, length, map, slice_get, get_or, Option, Some, None, option_and_then, IfSome, refl, ap, sym, ◌∙◌, arith, subst}
 use Rattle.std.proofs.lemmas.List.{length-map}
 use Rattle.std.proofs.lemmas.List.Sums.{count_by-le-length}
 use Rattle.std.proofs.lemmas.Option.{slice_get_within, slice_get_read, slice_get-get_or, same_Some}
-use Rattle.sbpl_graph.specs.Network.{Network}
 use Rattle.sbpl_cfg.specs.Environment.{Environment}
 use Rattle.sbpl_mprim.specs.declared.prim.Primitive.{Primitive}
-use Rattle.sbpl_cost.specs.PrimitiveCost.{primitive_cost, most_cost}
+use Rattle.sbpl_cost.specs.PrimitiveCost.{primitive_cost}
 use Rattle.sbpl_cost.specs.States.{place_of, state_in, state_count}
 use Rattle.sbpl_cost.specs.World.{World, IsWorld}
 use Rattle.sbpl_cost.specs.Arc.{column_from, row_from}
-use Rattle.sbpl_cost.specs.Lattices.{leaving, arc_place, arc_primitive, head_by, network_of}
+use Rattle.sbpl_cost.specs.Lattices.{leaving, head_by, network_of}
 use Rattle.sbpl_cost.proofs.Numbered.{numbered, length-places_from}
 use Rattle.sbpl_cost.proofs.Freedom.{made_from}
 use Rattle.sbpl_cost.proofs.Arcs.{IsFound, found_at}

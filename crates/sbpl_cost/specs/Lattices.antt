@@ -1,5 +1,5 @@
 -- The lattice of a world, as a graph.
-use Rattle.std.specs.Prelude.{◌≡◌, ℕ, zero, suc, ℤ, pos, ◌+◌, ◌*◌, ◌-ℤ◌, ◌&&◌, ◌==◌, Bool, false, List, [], ◌∷◌, length, take, map, count_by, slice_get, Option, Some, None, option_and_then, option_map, unwrap_or, nat_lt, max, if◌then◌else◌}
+use Rattle.std.specs.Prelude.{ℕ, pos, ◌+◌, ◌*◌, ◌-ℤ◌, ◌&&◌, ◌==◌, Bool, false, List, [], ◌∷◌, length, take, map, count_by, slice_get, Option, Some, None, option_and_then, option_map, unwrap_or, nat_lt, max, if◌then◌else◌}
 use Rattle.std.specs.List.{list_all}
 use Rattle.sbpl_graph.specs.Network.{Network}
 use Rattle.sbpl_mprim.specs.declared.prim.Primitive.{Primitive}

@@ -63,7 +63,13 @@ fn end_cell(prim: &Prim) -> Cell
 
 /// The greatest cost of the source cell, the end cell and the centre cells of the motion by a primitive, where all of them
 /// are low enough for the robot's centre, and the source cell at least for the robot.
-pub(crate) fn greatest_paid(env: &Env, map: &Map, source: Place, prim: &Prim, centres: &[Cell]) -> Option<u8>
+pub(crate) fn greatest_paid(
+    env: &Env,
+    map: &Map,
+    source: Place,
+    prim: &Prim,
+    centres: &[Cell],
+) -> Option<u8>
     requires centres { (i : ℕ) (c : Cell) → slice_get centres.now i ≡ Some c → IsNear c }
     ensures greatest { IfSome result (IsGreatestPassed env.now map.now source prim.now centres.now) }
     ensures blocked { IfNone result (IsObstructed env.now map.now source prim.now centres.now) }

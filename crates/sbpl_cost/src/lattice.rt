@@ -194,7 +194,8 @@ impl Graph for Lattice {
         let source = place_at(&self.env, s);
         let i = self.leaving_at(source.t, k);
         let centres = self.centres.at(i as usize);
-        let Some(greatest) = greatest_paid(&self.env, &self.map, source, self.prims.get(i), centres) else {
+        let Some(greatest) = greatest_paid(&self.env, &self.map, source, self.prims.get(i), centres)
+        else {
             return None;
         };
         Some(self.costs[i as usize] * (u32::from(greatest) + 1))

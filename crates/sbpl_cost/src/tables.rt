@@ -56,7 +56,11 @@ pub(crate) fn centre_table(alloc: Global, prims: &Prims) -> Result<Runs<Cell>, N
 
 /// The cost of each primitive by itself. `TooDear` names the first whose cost is above `MOST_COST`, and comes exactly
 /// where there is one.
-pub(crate) fn primitive_costs(alloc: Global, env: &Env, prims: &Prims) -> Result<Vec<u32>, LatticeFault>
+pub(crate) fn primitive_costs(
+    alloc: Global,
+    env: &Env,
+    prims: &Prims,
+) -> Result<Vec<u32>, LatticeFault>
     requires cell { prims.now.cell ≡ env.now.cell }
     requires headings { prims.now.headings ≡ env.now.headings }
     ensures costs { IfOk result (λ v. v.items ≡ map (primitive_cost env.now) prims.now.items) }
@@ -75,4 +79,3 @@ pub(crate) fn primitive_costs(alloc: Global, env: &Env, prims: &Prims) -> Result
     }
     Ok(costs)
 }
-

@@ -19,4 +19,4 @@ pub loop-cell-preserved : goal.loop-cell-preserved
 loop-cell-preserved c =
     rw c.max-greatest.ensures
     (greatest_more c.args.map.now c.args.cells.now (pos c.args.x) (pos c.args.y) c.args.limit c.args.least c.loop-cell.greatest c.loop-cell.cell-index c.in-Some.cost _
-      (slice_get-get_or c.args.cells.now c.loop-cell.cell-index _ c.loop-cell-test.true) c.in-Some.ensures.cost c.in-Some.ensures.below c.loop-cell.invariant)
+    (slice_get-get_or c.args.cells.now c.loop-cell.cell-index _ c.loop-cell-test.true) c.in-Some.ensures.cost c.in-Some.ensures.below c.loop-cell.invariant)

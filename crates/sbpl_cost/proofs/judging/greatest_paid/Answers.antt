@@ -1,4 +1,4 @@
-use Rattle.sbpl_cost.specs.Judging.{IsObstructed, at_source, at_target}
+use Rattle.sbpl_cost.specs.Judging.{at_source, at_target}
 use Rattle.sbpl_cost.proofs.judging.greatest_paid.Goals as goal
 
 pub returns-in_default-clause-blocked : goal.returns-in_default-clause-blocked

@@ -21,13 +21,13 @@ loop-prim-preserved c =
     let fits : FitsSigned w64 c.cell-cell.result = search rules in
     filled_more (λ k cells. (p : Primitive) → slice_get c.args.prims.now.items k ≡ Some p → AreCentres c.args.prims.now.cell p.poses cells) c.loop-prim.table c.push.new.self c.loop-prim.prim-index c.as_slice-in-loop-prim.result.now c.loop-prim.invariant c.in_ok-push.ensures.added
     (λ p h.
-      let same = same_Some c.prim-item.result p (sym there ∙ h) in
-      same_centres _ c.args.prims.now.cell p.poses _ _ _ (to_z-of_z w64 c.cell-cell.result fits ∙ c.cell-cell.ensures.cell) (c.as_slice.ensures.poses ∙ ap (λ q. q.poses) same) c.as_slice-in-loop-prim.ensures.value c.in_ok-cells.ensures.centres)
+    let same = same_Some c.prim-item.result p (sym there ∙ h) in
+    same_centres _ c.args.prims.now.cell p.poses _ _ _ (to_z-of_z w64 c.cell-cell.result fits ∙ c.cell-cell.ensures.cell) (c.as_slice.ensures.poses ∙ ap (λ q. q.poses) same) c.as_slice-in-loop-prim.ensures.value c.in_ok-cells.ensures.centres)
 
 pub returns : goal.returns
 returns c = record {
   table = λ i p h.
-    let within = slice_get_within c.args.prims.now.items i p h in
-    let entry = c.loop-prim.invariant.1 i (omega (arith, within, ap length c.as_slice-prim-items.ensures.prims)) in
-    (entry.0, entry.1, entry.2 p h);
+      let within = slice_get_within c.args.prims.now.items i p h in
+      let entry = c.loop-prim.invariant.1 i (omega (arith, within, ap length c.as_slice-prim-items.ensures.prims)) in
+      (entry.0, entry.1, entry.2 p h);
 }

@@ -1,4 +1,4 @@
-use Rattle.std.proofs.Common.{arith, subst, sym, ◌<◌, ℕ}
+use Rattle.std.proofs.Common.{subst, sym, ◌<◌}
 use Rattle.std.proofs.lemmas.Option.{IfSome_then}
 use Rattle.sbpl_cost.proofs.Views.{states_are}
 use Rattle.sbpl_cost.proofs.lattice.Lattice.state_of.Goals as goal

@@ -1,8 +1,8 @@
-use Rattle.std.proofs.Common.{arith, rules, ap, sym, ◌∙◌, ◌*◌, ◌+◌, ◌<◌, ◌^◌, ◌≡◌, Some}
+use Rattle.std.proofs.Common.{rules, ap, sym, ◌*◌, ◌+◌, ◌<◌, ◌^◌, ◌≡◌, Some}
 use Rattle.sbpl_graph.specs.Laws.{IsSound}
 use Rattle.sbpl_cost.specs.Lattices.{network_of}
 use Rattle.std.proofs.lemmas.Option.{slice_get_within}
-use Rattle.sbpl_cost.proofs.Judged.{IsWalked, centres_at, near_centres, none_where_obstructed, walked_some}
+use Rattle.sbpl_cost.proofs.Judged.{centres_at, near_centres, none_where_obstructed, walked_some}
 use Rattle.sbpl_cost.proofs.LatticeLaws.{sound}
 use Rattle.sbpl_cost.proofs.Views.{found_by, found_prim, number_below, state_below, price_of}
 use Rattle.sbpl_cost.proofs.lattice.LatticeGraph.judge.Goals as goal
@@ -46,7 +46,7 @@ is_cost c =
     let are = centres_at _ c.self.invariant.world c.self.inside.centres c.leaving_at-i.result c.get.result.now c.at-centres.result.now c.self.invariant.centres c.get.ensures.prim c.at-centres.ensures.list in
     let own = price_of c.self.inside.env c.self.inside.prims.items c.self.inside.costs.items c.leaving_at-i.result c.index.result.now c.get.result.now c.self.invariant.costs c.get.ensures.prim c.index.ensures in
     rw (← c.self.view_is) (walked_some _ c.self.invariant.world c.args.s c.args.k c.leaving_at-i.result c.get.result.now c.at-centres.result.now c.place_at-source.result c.index.result.now c.in-Some.greatest c.from.result
-      (record { found = found; are = are; same = c.place_at-source.ensures.value; own = own }) c.in-Some.ensures.greatest c.from.ensures)
+    (record { found = found; are = are; same = c.place_at-source.ensures.value; own = own }) c.in-Some.ensures.greatest c.from.ensures)
 
 is_sound : (c : goal.After-from) → IsSound (network_of c.args.self.now)
 is_sound c = rw (← c.self.view_is) (sound _ c.self.invariant.world)
