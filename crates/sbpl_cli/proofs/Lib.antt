@@ -1,1 +1,5 @@
 pub mod Printing
+pub mod Laws
+pub mod Ends
+pub mod Converse
+pub mod Steps

@@ -1,11 +1,13 @@
 -- What the files of a job say, and why a job is refused.
-use Rattle.std.specs.Prelude.{◌≡◌, ℕ, ◌^◌, ◌<◌, ◌≤◌, List, length, Option, IfSome}
+use Rattle.std.specs.Prelude.{◌≡◌, ℕ, ◌^◌, ◌<◌, ◌≤◌, List, length, slice_get, Option, Some, IfSome}
 use Rattle.sbpl_desk.specs.Desk.{Rose}
 use Rattle.sbpl_cfg.specs.declared.fault.EnvFault.{EnvFault}
 use Rattle.sbpl_cfg.specs.Environment.{Environment}
 use Rattle.sbpl_mprim.specs.declared.fault.PrimFault.{PrimFault}
+use Rattle.sbpl_mprim.specs.declared.prim.Primitive.{Primitive}
 use Rattle.sbpl_mprim.specs.Primitives.{Primitives}
-use Rattle.sbpl_cost.specs.PrimitiveCost.{IsFirstTooDear}
+use Rattle.sbpl_cost.specs.PrimitiveCost.{IsFirstTooDear, most_cost, primitive_cost}
+use Rattle.sbpl_cost.specs.World.{World}
 use Rattle.sbpl_cli.specs.declared.ending.Input.{Input}
 use Rattle.sbpl_cli.specs.declared.ending.Input.TheVariants as input
 use Rattle.sbpl_cli.specs.declared.ending.Refusal.{Refusal}
@@ -13,6 +15,8 @@ use Rattle.sbpl_cli.specs.declared.ending.Refusal.TheVariants as refusal
 use Rattle.sbpl_cli.specs.declared.ending.Stop.{Stop}
 use Rattle.sbpl_cli.specs.declared.ending.Stop.TheVariants as stop
 use Rattle.sbpl_cli.specs.declared.job.PlanJob.{PlanJob}
+use Rattle.sbpl_cli.specs.declared.record.PlanRecord.{PlanRecord}
+use Rattle.sbpl_cli.specs.Headline.{IsPlanOf}
 use Rattle.sbpl_cli.specs.Texts.{IsEnvironmentText, HasEnvironmentFault, IsPrimitiveText, HasPrimitiveFault}
 
 -- what a desk holds under each name, where it tells
@@ -43,6 +47,25 @@ pub record SaysPrimitives (held : Held) (job : PlanJob) (e : Environment) (ps : 
   pub text : List ℕ
   pub read : IsRead (held job.prims) text
   pub stands : IsPrimitiveText e text ps
+
+-- no primitive costs more than it may
+abbrev pub NoneTooDear : Environment → Primitives → Type 0
+NoneTooDear e ps = (i : ℕ) (p : Primitive) → slice_get ps.items i ≡ Some p → primitive_cost e p ≤ most_cost
+
+-- the files of a job stand for a world, for a point robot
+pub record SaysWorld (held : Held) (job : PlanJob) (w : World) : Type 0 where
+  pub cells : List ℕ
+  pub environment : SaysEnvironment held job w.env cells
+  pub primitives : SaysPrimitives held job w.env w.prims
+  pub radius : w.radius ≡ 0
+  pub map : w.map ≡ record { width = w.env.width; height = w.env.height; costs = cells }
+  pub cheap : NoneTooDear w.env w.prims
+
+-- the files of a job stand for a world, and this is the record of a plan in it
+pub record IsPlanned (held : Held) (job : PlanJob) (plan : PlanRecord) : Type 0 where
+  pub world : World
+  pub says : SaysWorld held job world
+  pub plan_of : IsPlanOf world plan
 
 -- the environment file has this first fault
 pub record IsFaultyEnvironment (held : Held) (job : PlanJob) (f : EnvFault) : Type 0 where
