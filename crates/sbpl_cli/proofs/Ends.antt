@@ -1,5 +1,6 @@
 -- How a plan job ends, from how its planning and its writing end.
 use Rattle.std.proofs.Common.{◌≡◌, ℕ, ◌+◌, ◌≢◌, ◌<◌, ◌≤◌, ◌^◌, ◌-◌, ◌⊎◌, List, [], ◌∷◌, ◌++◌, Option, Some, None, sym, ◌∙◌, ap, refl, subst, append-nil, arith, inl, inr}
+use Rattle.std.proofs.lemmas.Bool.{cases_lt}
 use Rattle.sbpl_desk.specs.Desk.{Appends, AppendsFront, Keeps, NoneFalls, Rose, Stays}
 use Rattle.sbpl_cli.specs.declared.ending.Ending.{Ending}
 use Rattle.sbpl_cli.specs.declared.ending.Ending.TheVariants as ending
@@ -17,10 +18,7 @@ use Rattle.sbpl_cli.proofs.Printing.{rose_since}
 -- what rose has risen later too
 pub rose_later : (f g h : ℕ) → f ≤ g → g ≤ h → Rose f g → Rose f h
 rose_later f g h low high (inl more) = inl (omega arith)
-rose_later f g h low high (inr most) = elim (le_cases g h high) [ inl same ↦ inr (sym same ∙ most) | inr less ↦ inl (omega arith) ]
-  where
-    le_cases : (a b : ℕ) → a ≤ b → (a ≡ b) ⊎ (a < b)
-    le_cases a b h = omega arith
+rose_later f g h low high (inr most) = elim (cases_lt f h) [ inl less ↦ inl less | inr same ↦ inr (omega arith) ]
 
 -- a cause stands while the counts of failed reads go on
 pub cause_later : (held : Held) (f g h : FaultCounts) (job : PlanJob) (r : Refusal) → NoneFalls f g → NoneFalls g h → IsCause held f g job r → IsCause held f h job r
@@ -131,3 +129,27 @@ cause_of held reads reads' out out' f f' job (ending.Done r) ends no_write memor
 cause_of held reads reads' out out' f f' job (ending.Refused r) ends no_write memory = subst (λ i. Intends held reads reads' job i) ends.ends.0 ends.cause
 cause_of held reads reads' out out' f f' job ending.Write ends no_write memory = absurd (no_write refl)
 cause_of held reads reads' out out' f f' job ending.NoMemory ends no_write memory = absurd (memory refl)
+
+-- a plan that was made, and its report
+pub plan_ended : (held : Held) (reads mid reads' : FaultCounts) (out mid_out out' : Option (List ℕ)) (f g f' : ℕ) (job : PlanJob) (plan : PlanRecord) (e : Ending) → IsPlanned held job plan → mid_out ≡ out → f ≤ g → IsEndOf mid_out out' g f' (section_text plan ++ done_text) (section_text plan ∷ done_text ∷ []) (ending.Done plan) e → EndsJob held reads reads' out out' f f' job e
+plan_ended held reads mid reads' out mid_out out' f g f' job plan e planned same below ends = record {
+  intended = ending.Done plan;
+  cause = planned;
+  ends = end_since out mid_out out' f g f' _ _ _ e same below ends;
+}
+
+-- a plan that was refused, and the line that says so
+pub refusal_ended : (held : Held) (reads mid reads' : FaultCounts) (out mid_out out' : Option (List ℕ)) (f g f' : ℕ) (job : PlanJob) (r : Refusal) (e : Ending) → NoneFalls reads mid → NoneFalls mid reads' → IsCause held reads mid job r → mid_out ≡ out → f ≤ g → IsEndOf mid_out out' g f' (refusal_text job r) (refusal_text job r ∷ []) (ending.Refused r) e → EndsJob held reads reads' out out' f f' job e
+refusal_ended held reads mid reads' out mid_out out' f g f' job r e low high cause same below ends = record {
+  intended = ending.Refused r;
+  cause = cause_later held reads mid reads' job r low high cause;
+  ends = end_since out mid_out out' f g f' _ _ _ e same below ends;
+}
+
+-- memory ran out before anything was written
+pub memory_ended : (held : Held) (reads reads' : FaultCounts) (out out' : Option (List ℕ)) (f f' : ℕ) (job : PlanJob) → out' ≡ out → EndsJob held reads reads' out out' f f' job ending.NoMemory
+memory_ended held reads reads' out out' f f' job same = record {
+  intended = ending.NoMemory;
+  cause = tt;
+  ends = nothing_written out out' same;
+}

@@ -2,4 +2,5 @@ pub mod Printing
 pub mod Laws
 pub mod Ends
 pub mod Converse
-pub mod Steps
+pub mod PathSteps
+pub mod Runs

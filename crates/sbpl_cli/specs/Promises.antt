@@ -13,7 +13,7 @@ use Rattle.sbpl_cli.specs.declared.job.Job.TheVariants.{Plan}
 use Rattle.sbpl_cli.specs.declared.job.PlanJob.{PlanJob}
 use Rattle.sbpl_cli.specs.declared.record.PlanRecord.{PlanRecord}
 use Rattle.sbpl_cli.specs.Causes.{FaultCounts, Held, IsCause, IsPlanned}
-use Rattle.sbpl_cli.specs.Endings.{AppendsWhole, IsEndOf, refusal_status, refusal_text, sections_of, text_of, words_text}
+use Rattle.sbpl_cli.specs.Endings.{AppendsWhole, IsEndOf, ending_status, refusal_status, refusal_text, sections_of, text_of, words_text}
 use Rattle.sbpl_cli.specs.Report.{done_text, section_text}
 use Rattle.sbpl_cli.specs.Texts.{HasEnvironmentFault, HasPrimitiveFault, IsEnvironmentText, IsPrimitiveText}
 
@@ -64,6 +64,17 @@ abbrev pub EndsWords : Option (List ℕ) → Option (List ℕ) → ℕ → ℕ �
 EndsWords out out' faults faults' status = ((status ≡ 2) × Appends out out' words_text)
     ⊎ (((status ≡ 7) × Rose faults faults' × AppendsFront out out' words_text)
     ⊎ ((status ≡ 9) × Keeps out out'))
+
+-- how a run ends, whose words name a job or none
+abbrev pub EndsRun : Option Job → Held → FaultCounts → FaultCounts → Option (List ℕ) → Option (List ℕ) → ℕ → ℕ → ℕ → Type 0
+EndsRun named held reads reads' out out' faults faults' status =
+    ((job : PlanJob) × (e : Ending) × (named ≡ Some (Plan job)) × EndsJob held reads reads' out out' faults faults' job e × (status ≡ ending_status e))
+    ⊎ (((named ≡ None) × EndsWords out out' faults faults' status)
+    ⊎ ((status ≡ 9) × Keeps out out'))
+
+-- the statuses of the program
+abbrev pub IsStatus : ℕ → Type 0
+IsStatus s = (s ≡ 0) ⊎ ((s ≡ 2) ⊎ ((s ≡ 3) ⊎ ((s ≡ 4) ⊎ ((s ≡ 6) ⊎ ((s ≡ 7) ⊎ ((s ≡ 8) ⊎ (s ≡ 9)))))))
 
 -- the status is this one, unless a read or a write failed or memory ran out
 abbrev pub IsOrFailed : ℕ → ℕ → Type 0
