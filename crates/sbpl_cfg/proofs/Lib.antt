@@ -1,2 +1,4 @@
+mod Items
 mod PlaceLaws
 mod PrintLaws
+mod TextLaws

@@ -1,7 +1,7 @@
 //! Where a pose lies on the lattice.
 
-ghost use Rattle.std.specs.Prelude.{◌≡◌, ◌<◌, ◌↔◌, ℕ, ℤ, pos, ◌<ℤ◌, IsSome, IfSome};
-ghost use Rattle.sbpl_cfg.specs.Environment.{IsOnAxis, IsPlaceOf, IsPoseOnMap};
+ghost use Rattle.std.specs.Prelude.{◌≡◌, ◌<◌, ◌↔◌, ℕ, ℤ, pos, ◌<ℤ◌, is_some, IsSome, IfSome};
+ghost use Rattle.sbpl_cfg.specs.Environment.{is_on_axis, is_on_map, IsOnAxis, IsPlaceOf, IsPoseOnMap};
 ghost use Rattle.sbpl_cfg.specs.Place.{cell_of, heading_of, turn_of, IsCellOf, IsInBin, IsTurnOf};
 
 use crate::env::Env;
@@ -38,13 +38,22 @@ fn cell_on_axis(size: i64, count: u32, x: i64) -> Option<u32>
     requires { pos 0 <ℤ size }
     ensures cell { IfSome result (λ q. pos q ≡ cell_of size x) }
     ensures bound { IfSome result (λ q. q < count) }
-    ensures on_axis { IsSome result ↔ IsOnAxis size count x }
+    ensures on_axis { is_some result ≡ is_on_axis size count x }
+    ensures inside { IsSome result ↔ IsOnAxis size count x }
 {
     let cell = cell_at(size, x);
     if cell < 0 || cell >= i64::from(count) {
         return None;
     }
     Some(cell as u32)
+}
+
+/// Whether a pose is on a map of `width` times `height` cells of the side `size`.
+pub(crate) fn is_on_map(size: i64, width: u32, height: u32, p: &Pose) -> bool
+    requires { pos 0 <ℤ size }
+    ensures { result ≡ is_on_map size width height p.now }
+{
+    cell_on_axis(size, width, p.x).is_some() && cell_on_axis(size, height, p.y).is_some()
 }
 
 /// The cell and the heading of a pose. `None` exactly where the cell is off the map.
