@@ -1,7 +1,6 @@
 -- What formats say of the front of a list of tokens.
-use Rattle.std.proofs.Common.{◌≡◌, ℕ, ℤ, pos, negsuc, zero, suc, ◌+◌, ◌*◌, ◌<◌, ◌≤◌, ◌≤ℤ◌, ◌<ℤ◌, Bool, true, false, cond, ◌&&◌, List, [], ◌∷◌, ◌++◌, length, map, codes, Result, Ok, Err, refl, sym, ap, subst, ◌∙◌, append_assoc, append-nil, arith}
-use Rattle.std.specs.Prelude.{int_le, int_lt, nat_abs, bytes_eq}
-use Rattle.std.specs.List.{AllByRecursion}
+use Rattle.std.proofs.Common.{◌≡◌, ℕ, ℤ, pos, ◌≤ℤ◌, Bool, true, false, cond, ◌&&◌, List, [], ◌∷◌, ◌++◌, map, Result, Ok, Err, refl, ap, subst, arith}
+use Rattle.std.specs.Prelude.{int_le, bytes_eq}
 use Rattle.std.proofs.lemmas.Bool.{and_parts}
 use Rattle.std.proofs.lemmas.Int.{ints}
 use Rattle.std.proofs.lemmas.Slice.Eq.{bytes_eq-Decides}
@@ -9,8 +8,7 @@ use Rattle.sbpl_fixed.specs.Formats as Formats
 use Rattle.sbpl_fixed.specs.declared.fault.NumFault.{NumFault}
 use Rattle.sbpl_fixed.specs.declared.fault.NumFault.TheVariants as faults
 use Rattle.sbpl_fixed.specs.Formats.{Format, item, ended, wrong, done, behind, turns, fixed, within, whole, nano, Miss, Says}
-use Rattle.sbpl_fixed.specs.Numbers.{nano_of, whole_of}
-use Rattle.sbpl_fixed.specs.Tokens.{Piece, tokens}
+use Rattle.sbpl_fixed.specs.Tokens.{Piece}
 use Rattle.sbpl_cfg.specs.Environment.{IsWithin}
 use Rattle.sbpl_cfg.specs.Text.{Said, Means, AllMean}
 

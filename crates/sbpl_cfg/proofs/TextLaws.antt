@@ -1,10 +1,10 @@
 -- The format of an environment and its list of tokens say the same.
-use Rattle.std.proofs.Common.{◌≡◌, ℕ, ℤ, pos, negsuc, zero, suc, ◌+◌, ◌*◌, ◌<◌, ◌≤◌, ◌≤ℤ◌, ◌<ℤ◌, Bool, true, false, ltb, cond, ◌&&◌, List, [], ◌∷◌, ◌++◌, length, map, codes, Ok, refl, sym, ap, subst, ◌∙◌, append_assoc, append-nil, arith}
+use Rattle.std.proofs.Common.{◌≡◌, ℕ, ℤ, pos, negsuc, zero, suc, ◌*◌, ◌≤◌, ◌≤ℤ◌, true, false, ltb, List, [], ◌∷◌, ◌++◌, length, map, codes, Ok, refl, sym, ap, subst, ◌∙◌, append_assoc, append-nil, arith}
 use Rattle.std.specs.Prelude.{int_le, int_lt, nat_abs}
 use Rattle.std.specs.List.{AllByRecursion}
 use Rattle.std.proofs.lemmas.Bool.{and_from, and_parts, ltb-false, le-ltb}
 use Rattle.std.proofs.lemmas.Int.{ints}
-use Rattle.sbpl_fixed.specs.Formats.{Says, behind, turns}
+use Rattle.sbpl_fixed.specs.Formats.{Says, turns}
 use Rattle.sbpl_fixed.specs.Numbers.{nano_of, whole_of}
 use Rattle.sbpl_fixed.specs.Tokens.{Piece}
 use Rattle.sbpl_fixed.specs.declared.placed.Placed.{Placed}
@@ -14,14 +14,13 @@ use Rattle.sbpl_cfg.specs.declared.parts.Header.{Header}
 use Rattle.sbpl_cfg.specs.declared.parts.Rates.{Rates}
 use Rattle.sbpl_cfg.specs.declared.parts.Size.{Size}
 use Rattle.sbpl_cfg.specs.declared.parts.Thresholds.{Thresholds}
-use Rattle.sbpl_cfg.specs.Environment.{Environment, IsEnvironment, IsOnAxis, IsPoseInRange, IsPoseOnMap, IsWithin, is_on_axis}
+use Rattle.sbpl_cfg.specs.Environment.{Environment, IsEnvironment, IsOnAxis, IsPoseInRange, IsWithin, is_on_axis}
 use Rattle.sbpl_cfg.specs.Place.{cell_of}
-use Rattle.sbpl_cfg.specs.Format as format
 use Rattle.sbpl_cfg.specs.Format.{whole_format, nano_format, size_format, obsthresh_format, inscribed_format, circumscribed_format, thresholds_format, cell_format, speed_format, turn45_format, rates_format, pose_format, start_pose_format, end_pose_format, start_format, end_format, header_format, ends_format, numbers_format, cost_format, grid_format, environment_format, environment_of, usual_headings, IsHeaderInRange, is_on_map_of}
 use Rattle.sbpl_fixed.specs.Meaning.{StandsFor}
 use Rattle.sbpl_fixed.specs.Tokens.{tokens}
-use Rattle.sbpl_cfg.specs.Text.{AllMean, Said, word, number, nano, IsGrid, IsTextOf, spelled, spelled_ends, spelled_grid, spelled_pose, spelled_rates, spelled_size, spelled_thresholds, words_of}
-use Rattle.sbpl_cfg.proofs.Items.{Begins, Ranged, all_begins, append_begins, at_end, begins_all, begins_append, behind_says, fixed_is, if_right, is_fixed, is_within, says_behind, unless_wrong, within_is}
+use Rattle.sbpl_cfg.specs.Text.{Said, word, number, nano, IsTextOf, spelled, spelled_grid, spelled_pose}
+use Rattle.sbpl_cfg.proofs.Items.{Begins, all_begins, append_begins, at_end, begins_all, begins_append, behind_says, fixed_is, if_right, is_fixed, is_within, says_behind, unless_wrong, within_is}
 
 -- ---- a word with a number
 

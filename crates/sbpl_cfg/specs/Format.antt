@@ -1,5 +1,5 @@
 -- The environment file: which tokens stand in it, one after another, with their ranges and faults.
-use Rattle.std.specs.Prelude.{ℕ, ℤ, pos, negsuc, nat_abs, ◌+◌, ◌*◌, ◌++◌, ◌≤◌, nat_lt, int_le, int_lt, Bool, ◌&&◌, if◌then◌else◌, List, [], ◌∷◌, codes}
+use Rattle.std.specs.Prelude.{ℕ, ℤ, pos, negsuc, nat_abs, ◌*◌, ◌++◌, ◌≤◌, nat_lt, Bool, if◌then◌else◌, List, [], ◌∷◌, codes}
 use Rattle.sbpl_fixed.specs.Formats.{Format, item, wrong, done, ended, fixed, whole, nano, behind, turns}
 use Rattle.sbpl_fixed.specs.declared.placed.Placed.{Placed}
 use Rattle.sbpl_cfg.specs.declared.fault.EnvFault.{EnvFault}

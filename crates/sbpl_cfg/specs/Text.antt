@@ -1,9 +1,14 @@
 -- What the text of an environment is: its list of tokens, each number with its value and in its range.
-use Rattle.std.specs.Prelude.{◌≡◌, ℕ, ℤ, pos, ◌*◌, ◌≤◌, List, [], ◌∷◌, ◌++◌, length, map, codes, Ok}
+use Rattle.std.specs.Prelude.{◌≡◌, ◌≢◌, ℕ, ℤ, pos, ◌*◌, ◌≤◌, List, [], ◌∷◌, ◌++◌, length, map, codes, Ok}
 use Rattle.std.specs.List.{AllByRecursion}
 use Rattle.sbpl_fixed.specs.Numbers.{nano_of, whole_of}
 use Rattle.sbpl_fixed.specs.Tokens.{tokens}
+use Rattle.sbpl_fixed.specs.Meaning.{HasFirstFault}
+use Rattle.sbpl_cfg.specs.declared.fault.EnvFault.{EnvFault}
+use Rattle.sbpl_cfg.specs.declared.fault.EnvFault.TheVariants.{NoMemory}
 use Rattle.sbpl_cfg.specs.declared.pose.Pose.{Pose}
+use Rattle.sbpl_cfg.specs.Faults.{told}
+use Rattle.sbpl_cfg.specs.Format.{environment_format}
 use Rattle.sbpl_cfg.specs.Environment.{Environment, IsEnvironment}
 
 -- what a token says: a fixed word, a whole number, or a decimal by its billionths
@@ -70,3 +75,14 @@ pub record IsTextOf (text : List ℕ) (e : Environment) (cells : List ℕ) : Typ
   pub tokens : AllMean (spelled e cells) (words_of text)
   pub environment : IsEnvironment e
   pub grid : IsGrid e cells
+
+-- the text stands for an environment and a grid
+abbrev pub IsText : List ℕ → Type 0
+IsText text = (e : Environment) × (cells : List ℕ) × IsTextOf text e cells
+
+-- Up to the fault's place the text is what the format calls for, and there it fails in the way that the fault names.
+abbrev pub HasFault : List ℕ → EnvFault → Type 0
+HasFault text f = HasFirstFault told environment_format text f
+
+abbrev pub IsFaulty : List ℕ → Type 0
+IsFaulty text = (f : EnvFault) × (f ≢ NoMemory) × HasFault text f

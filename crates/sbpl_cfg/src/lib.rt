@@ -9,6 +9,7 @@ mod place;
 mod pose;
 mod print;
 mod read;
+mod text;
 
 pub use env::Env;
 pub use fault::EnvFault;
@@ -17,3 +18,9 @@ pub use place::{TAU, cell_at, heading_at, place_at, places_in_plain_words};
 pub use pose::{Place, Pose};
 pub use print::print_env;
 pub use read::read_env;
+pub use text::texts_are_environments_or_faulty;
+
+#[cfg(test)]
+mod samples;
+#[cfg(test)]
+mod tests;

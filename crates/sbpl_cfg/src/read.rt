@@ -2,13 +2,12 @@
 
 ghost use Rattle.std.specs.Prelude.{true, ℕ, List, Ok, Err, ◌≡◌, ◌≢◌, ◌*◌, ◌<◌, ◌≤◌, pos, negsuc, ◌≤ℤ◌, ◌<ℤ◌, IfOk, IfErr, length};
 ghost use Rattle.sbpl_fixed.specs.Formats.{Answers, Gives, reads};
-ghost use Rattle.sbpl_fixed.specs.Meaning.{HasFirstFault};
 ghost use Rattle.sbpl_cfg.specs.declared.fault.EnvFault.{EnvFault};
 ghost use Rattle.sbpl_cfg.specs.declared.fault.EnvFault.TheVariants.{NoMemory};
 ghost use Rattle.sbpl_cfg.specs.Environment.{Environment, IsEnvironment, IsPoseInRange, IsWithin};
 ghost use Rattle.sbpl_cfg.specs.Faults.{told};
 ghost use Rattle.sbpl_cfg.specs.Format.{cell_format, circumscribed_format, cost_format, end_format, end_pose_format, ends_format, environment_format, environment_of, grid_format, header_format, inscribed_format, is_on_map_of, IsHeaderInRange, nano_format, numbers_format, obsthresh_format, pose_format, rates_format, size_format, speed_format, start_format, start_pose_format, thresholds_format, turn45_format, whole_format};
-ghost use Rattle.sbpl_cfg.specs.Text.{IsTextOf};
+ghost use Rattle.sbpl_cfg.specs.Text.{HasFault, IsTextOf};
 
 use crate::env::Env;
 use crate::fault::EnvFault;
@@ -340,9 +339,9 @@ pub fn read_env(alloc: Global, text: &[u8]) -> Result<(Env, Grid), EnvFault>
     // What a text stands for is read, unless memory runs out.
     ensures only { (x : Environment × List ℕ) → IsTextOf text.now x.0 x.1 → Answers NoMemory (λ y. y) result (Ok x) }
     // A fault is the text's first one.
-    ensures faulty { IfErr result (λ f. f ≢ NoMemory → HasFirstFault told environment_format text.now f) }
+    ensures faulty { IfErr result (λ f. f ≢ NoMemory → HasFault text.now f) }
     // The first fault of a text is answered, unless memory runs out.
-    ensures only_faulty { (f : EnvFault) → HasFirstFault told environment_format text.now f → Answers NoMemory (λ y. y) result (Err f) }
+    ensures only_faulty { (f : EnvFault) → HasFault text.now f → Answers NoMemory (λ y. y) result (Err f) }
 {
     environment(alloc, &mut Reader::new(text))
 }

@@ -7,3 +7,5 @@ pub mod Roots
 pub mod Printing
 pub mod Reading
 pub mod Meaning
+pub mod Spelling
+pub mod Items

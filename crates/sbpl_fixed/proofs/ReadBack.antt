@@ -151,7 +151,7 @@ at_blank : (blank : ℕ) (rest : List ℕ) (place : ℕ) → is_blank blank ≡ 
 unfolding tokens_past
 at_blank blank rest place e = rw e refl
 
-at_end : (place : ℕ) → tokens_past true place [] ≡ []
+pub at_end : (place : ℕ) → tokens_past true place [] ≡ []
 unfolding tokens_past
 at_end place = refl
 

@@ -6,3 +6,4 @@ pub mod Printed
 pub mod ReadBack
 pub mod Formats
 pub mod Meaning
+pub mod Spelling

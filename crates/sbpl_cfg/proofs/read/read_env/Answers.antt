@@ -5,7 +5,6 @@ use Rattle.sbpl_cfg.specs.declared.fault.EnvFault.TheVariants.{NoMemory}
 use Rattle.sbpl_cfg.specs.Environment.{Environment}
 use Rattle.sbpl_cfg.specs.Faults.{told}
 use Rattle.sbpl_cfg.specs.Format.{environment_format}
-use Rattle.sbpl_cfg.specs.Text.{IsTextOf}
 use Rattle.sbpl_cfg.proofs.TextLaws.{says_text, text_said}
 use Rattle.sbpl_cfg.proofs.read.read_env.Goals as goal
 
