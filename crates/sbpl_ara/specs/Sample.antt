@@ -1,5 +1,5 @@
 -- A graph of six states with a guide, for tests.
-use Rattle.std.specs.Prelude.{◌≡◌, ℕ, ◌+◌, ◌-◌, ◌*◌, ◌<◌, ◌≤◌, ◌&&◌, min, max, nat_lt, if◌then◌else◌, Option, Some, None, List, slice_index, slice_index_or}
+use Rattle.std.specs.Prelude.{◌≡◌, ℕ, ◌+◌, ◌-◌, ◌*◌, ◌≤◌, ◌&&◌, min, max, nat_lt, if◌then◌else◌, Some, None, List, slice_index, slice_index_or}
 use Rattle.std.proofs.Common.{arith}
 use Rattle.std.proofs.lemmas.Bool.Decides.{nat_tests}
 use Rattle.sbpl_graph.specs.Network.{Network}

@@ -1,4 +1,3 @@
-use Rattle.std.proofs.Common.{arith}
 use Rattle.sbpl_ara.proofs.Parting.{parts_alike}
 use Rattle.sbpl_ara.proofs.ara.Ara.reset.Goals as goal
 
