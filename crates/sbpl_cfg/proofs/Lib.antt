@@ -1,2 +1,6 @@
+mod Items
+mod OwnFaults
 mod PlaceLaws
 mod PrintLaws
+mod PrintedText
+mod TextLaws

@@ -1,5 +1,5 @@
 -- An environment's numbers, and which of them an environment file may give.
-use Rattle.std.specs.Prelude.{◌≡◌, ℕ, ℤ, pos, negsuc, ◌*◌, ◌≤◌, ◌≤ℤ◌, ◌<ℤ◌}
+use Rattle.std.specs.Prelude.{Bool, ◌&&◌, int_le, int_lt, ◌≡◌, ℕ, ℤ, pos, negsuc, ◌*◌, ◌≤◌, ◌≤ℤ◌, ◌<ℤ◌}
 use Rattle.sbpl_cfg.specs.declared.pose.Place.{Place}
 use Rattle.sbpl_cfg.specs.declared.pose.Pose.{Pose}
 use Rattle.sbpl_cfg.specs.Place.{cell_of, heading_of}
@@ -35,6 +35,13 @@ pub record IsPoseInRange (p : Pose) : Type 0 where
 -- the cell of a coordinate is one of the `count` cells of its axis
 abbrev pub IsOnAxis : ℤ → ℕ → ℤ → Type 0
 IsOnAxis size count x = (pos 0 ≤ℤ cell_of size x) × (cell_of size x <ℤ pos count)
+
+-- a test of that for both coordinates of a pose
+abbrev pub is_on_axis : ℤ → ℕ → ℤ → Bool
+is_on_axis size count x = int_le (pos 0) (cell_of size x) && int_lt (cell_of size x) (pos count)
+
+abbrev pub is_on_map : ℤ → ℕ → ℕ → Pose → Bool
+is_on_map size width height p = is_on_axis size width p.x && is_on_axis size height p.y
 
 -- the cell of a pose is on the map
 pub record IsPoseOnMap (e : Environment) (p : Pose) : Type 0 where

@@ -1,5 +1,7 @@
--- What the program prints of a fault.
+-- What the program prints of a fault, and the faults that other texts of tokens have too.
 use Rattle.std.specs.Prelude.{ℕ, List, codes}
+use Rattle.sbpl_fixed.specs.declared.fault.TextFault.{TextFault}
+use Rattle.sbpl_fixed.specs.declared.fault.TextFault.TheVariants as common
 use Rattle.sbpl_cfg.specs.declared.fault.EnvFault.{EnvFault}
 use Rattle.sbpl_cfg.specs.declared.fault.EnvFault.TheVariants.{Word, Number, Range, Ended, Trailing, TooLarge, StartOff, EndOff, NoMemory}
 
@@ -38,3 +40,11 @@ place_of (TooLarge place) = place
 place_of (StartOff place) = place
 place_of (EndOff place) = place
 place_of NoMemory = 0
+
+-- the faults that every text of tokens can have
+abbrev pub told : TextFault → EnvFault
+told (common.Word place) = Word place
+told (common.Number place) = Number place
+told (common.Range place) = Range place
+told (common.Ended place) = Ended place
+told (common.Trailing place) = Trailing place

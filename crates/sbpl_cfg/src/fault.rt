@@ -2,9 +2,9 @@
 
 ghost use Rattle.std.specs.Prelude.{◌≡◌};
 ghost use Rattle.sbpl_cfg.specs.declared.fault.EnvFault.TheVariants.{NoMemory as Memory};
-ghost use Rattle.sbpl_cfg.specs.Faults.{name_of, number_of, place_of};
+ghost use Rattle.sbpl_cfg.specs.Faults.{name_of, number_of, place_of, told};
 
-use sbpl_fixed::NoMemory;
+use sbpl_fixed::{NoMemory, TextFault};
 use std::alloc::{AllocError, AllocFailed};
 use thiserror::Error;
 
@@ -90,6 +90,20 @@ impl EnvFault {
             | EnvFault::StartOff(place)
             | EnvFault::EndOff(place) => *place,
             EnvFault::NoMemory => 0,
+        }
+    }
+}
+
+impl From<TextFault> for EnvFault {
+    ghost from_gives = { λ t e. e ≡ told t };
+
+    fn from(fault: TextFault) -> EnvFault {
+        match fault {
+            TextFault::Word(place) => EnvFault::Word(place),
+            TextFault::Number(place) => EnvFault::Number(place),
+            TextFault::Range(place) => EnvFault::Range(place),
+            TextFault::Ended(place) => EnvFault::Ended(place),
+            TextFault::Trailing(place) => EnvFault::Trailing(place),
         }
     }
 }

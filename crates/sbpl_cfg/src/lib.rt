@@ -4,9 +4,12 @@
 mod env;
 mod fault;
 mod grid;
+mod parts;
 mod place;
 mod pose;
 mod print;
+mod read;
+mod text;
 
 pub use env::Env;
 pub use fault::EnvFault;
@@ -14,3 +17,10 @@ pub use grid::Grid;
 pub use place::{TAU, cell_at, heading_at, place_at, places_in_plain_words};
 pub use pose::{Place, Pose};
 pub use print::print_env;
+pub use read::read_env;
+pub use text::texts_are_environments_or_faulty;
+
+#[cfg(test)]
+mod samples;
+#[cfg(test)]
+mod tests;

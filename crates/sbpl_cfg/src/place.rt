@@ -1,7 +1,7 @@
 //! Where a pose lies on the lattice.
 
-ghost use Rattle.std.specs.Prelude.{◌≡◌, ◌<◌, ◌↔◌, ℕ, ℤ, pos, ◌<ℤ◌, IsSome, IfSome};
-ghost use Rattle.sbpl_cfg.specs.Environment.{IsOnAxis, IsPlaceOf, IsPoseOnMap};
+ghost use Rattle.std.specs.Prelude.{◌≡◌, ◌<◌, ◌↔◌, ℕ, ℤ, pos, ◌<ℤ◌, is_some, IsSome, IfSome};
+ghost use Rattle.sbpl_cfg.specs.Environment.{is_on_axis, is_on_map, IsOnAxis, IsPlaceOf, IsPoseOnMap};
 ghost use Rattle.sbpl_cfg.specs.Place.{cell_of, heading_of, turn_of, IsCellOf, IsInBin, IsTurnOf};
 
 use crate::env::Env;
@@ -20,7 +20,7 @@ pub fn cell_at(size: i64, x: i64) -> i64
 }
 
 /// The heading of an angle in nanoradians, among `headings` equal bins that are centred on the multiples of
-/// `TAU / headings`: the nearest bin, and the one above where two are equally near.
+/// `TAU / headings`: the nearest bin. Two are never equally near, since `TAU` is odd.
 #[tactic(auto, unfolding(crate::specs::Place::heading_of))]
 pub fn heading_at(headings: u32, angle: i64) -> u32
     requires { 0 < headings }
@@ -38,13 +38,22 @@ fn cell_on_axis(size: i64, count: u32, x: i64) -> Option<u32>
     requires { pos 0 <ℤ size }
     ensures cell { IfSome result (λ q. pos q ≡ cell_of size x) }
     ensures bound { IfSome result (λ q. q < count) }
-    ensures on_axis { IsSome result ↔ IsOnAxis size count x }
+    ensures on_axis { is_some result ≡ is_on_axis size count x }
+    ensures inside { IsSome result ↔ IsOnAxis size count x }
 {
     let cell = cell_at(size, x);
     if cell < 0 || cell >= i64::from(count) {
         return None;
     }
     Some(cell as u32)
+}
+
+/// Whether a pose is on a map of `width` times `height` cells of the side `size`.
+pub(crate) fn is_on_map(size: i64, width: u32, height: u32, p: &Pose) -> bool
+    requires { pos 0 <ℤ size }
+    ensures { result ≡ is_on_map size width height p.now }
+{
+    cell_on_axis(size, width, p.x).is_some() && cell_on_axis(size, height, p.y).is_some()
 }
 
 /// The cell and the heading of a pose. `None` exactly where the cell is off the map.
@@ -60,8 +69,8 @@ pub fn place_at(env: &Env, p: &Pose) -> Option<Place>
 }
 
 /// What a cell and a heading are, in plain words. Cell `q` of a coordinate is the one with
-/// `q * size <= x < (q + 1) * size`. An angle and its turn differ by whole turns. A heading's bin reaches half a bin
-/// below its centre, and that edge belongs to it, and half a bin above, and that edge doesn't.
+/// `q * size <= x < (q + 1) * size`. An angle and its turn, which is in `0..TAU`, differ by whole turns. A heading is that
+/// of the bin whose centre is at most half a bin away.
 pub fn places_in_plain_words()
     ensures cell { (size x q : ℤ) → pos 0 <ℤ size → (cell_of size x ≡ q) ↔ IsCellOf size x q }
     ensures turn { (a : ℤ) → IsTurnOf a (turn_of a) }

@@ -79,15 +79,17 @@ fn milliseconds_of_turn(p: &Prim, env: &Env) -> u128
 {
     let bins = u128::from(bins_turned(env.headings, p.from, p.to));
     let turn45 = u128::from(env.turn45.unsigned_abs());
-    ceil_div(
-        8000 * bins * turn45,
-        u128::from(env.headings) * 1_000_000_000,
-    )
+    let all_bins = u128::from(env.headings) * 1_000_000_000;
+    ceil_div(8000 * bins * turn45, all_bins)
 }
 
-/// The cost of a primitive by itself, by SBPL's rule: its multiplier times the milliseconds that the way takes at
-/// the nominal speed, or that the turn takes, whichever are more, each rounded up. None where that is above
-/// `MOST_COST`.
+/// The cost of a primitive of a file that was read for this environment's cell size and headings: its multiplier
+/// times the milliseconds that the way along its poses takes at the nominal speed, or that its turn takes, whichever
+/// are more, each rounded up. A turn goes the shorter way round, and 45 degrees of it take the time that the
+/// environment gives. None where the cost is above `MOST_COST`.
+///
+/// This is SBPL's rule in whole numbers. That the distance of each two consecutive poses is rounded up to whole
+/// nanometres is this project's profile.
 pub fn prim_cost(p: &Prim, env: &Env) -> Option<u32>
     requires primitive { IsPrimitive env.now.cell env.now.headings p.now }
     requires few_poses { pose_count p.now ≤ 200000 }
@@ -112,3 +114,6 @@ pub fn cost_parts_are_least()
     ensures ceilings { CeilingsRoundUp }
     ensures gaps { GapsAreShortest }
 {}
+
+#[cfg(test)]
+mod tests;

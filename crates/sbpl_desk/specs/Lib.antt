@@ -1,2 +1,4 @@
+pub mod Counts
 pub mod Desk
 pub mod Memory
+pub mod Real

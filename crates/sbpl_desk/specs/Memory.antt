@@ -1,13 +1,9 @@
 -- What a desk in memory has, as its calls show it.
-use Rattle.std.specs.Prelude.{◌+◌, ◌-◌, ◌^◌, min, ℕ, List, [], replicate, Option, option_map, unwrap_or, Result, Ok, Err}
+use Rattle.std.specs.Prelude.{ℕ, List, [], replicate, Option, option_map, unwrap_or}
 use Rattle.std.specs.BTreeMap.{get, get_by_text, BTreeMap}
 use Rattle.std.specs.Ordering.{nat_cmp}
 use Rattle.std.specs.Prelude.{Vec, String}
 use Rattle.std.specs.Global.{Global}
-use Rattle.sbpl_desk.specs.declared.desk.ReadStop.{ReadStop}
-use Rattle.sbpl_desk.specs.declared.desk.ReadStop.TheVariants as reads
-use Rattle.sbpl_desk.specs.declared.desk.WriteStop.{WriteStop}
-use Rattle.sbpl_desk.specs.declared.desk.WriteStop.TheVariants as writes
 use Rattle.sbpl_desk.specs.declared.memory.MemoryDesk.{MemoryDesk}
 use Rattle.sbpl_desk.specs.declared.memory.Content.{Content}
 use Rattle.sbpl_desk.specs.declared.memory.Content.TheVariants.{Stored, Filled}
@@ -44,20 +40,3 @@ memory_read_faults desk = desk.read_faults
 -- how many writes failed
 abbrev pub memory_write_faults : MemoryDesk → ℕ
 memory_write_faults desk = desk.write_faults
-
--- one more, or the end of the count
-abbrev pub risen : ℕ → ℕ
-risen count = min (count + 1) (2 ^ 64 - 1)
-
--- the count of failed reads after this answer
-abbrev pub read_count : {T : Type 0} → Result T ReadStop → ℕ → ℕ
-read_count (Ok _) count = count
-read_count (Err reads.Failed) count = risen count
-read_count (Err reads.TooLong) count = count
-read_count (Err reads.NoMemory) count = count
-
--- the count of failed writes after this answer
-abbrev pub write_count : {T : Type 0} → Result T WriteStop → ℕ → ℕ
-write_count (Ok _) count = count
-write_count (Err writes.Failed) count = risen count
-write_count (Err writes.NoMemory) count = count

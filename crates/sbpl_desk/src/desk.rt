@@ -7,6 +7,9 @@ ghost use Rattle.sbpl_desk.specs.declared.desk.WriteStop.TheVariants as WriteSto
 use std::alloc::{AllocError, AllocFailed};
 use thiserror::Error;
 
+/// The most bytes that a read gives.
+pub(crate) const MOST: usize = 1 << 30;
+
 /// Why a read stopped.
 #[derive(Clone, Copy, Debug, PartialEq, Eq, Error)]
 pub enum ReadStop {

@@ -1,17 +1,16 @@
 //! A desk in memory, for tests.
-ghost use Rattle.std.specs.Prelude.{◌≡◌, ◌≢◌, ◌≤◌, ◌^◌, ◌++◌, [], Some, None, Err, IsSome, IsNone, IfSome, IsErr, IsErrOf, IsOkUnless, OnOk, OnErr, ℕ, List, if◌then◌else◌, bytes_eq, replicate, take, vec_len};
+ghost use Rattle.std.specs.Prelude.{◌≡◌, ◌≢◌, ◌≤◌, ◌^◌, ◌++◌, [], Some, None, Err, IsSome, IsNone, IfSome, IsErr, IsErrOf, IsOkUnless, OnOk, OnErr, ℕ, List, replicate, take, vec_len};
 ghost use Rattle.std.specs.BTreeMap.{get};
 ghost use Rattle.std.specs.Ordering.{nat_cmp};
+ghost use Rattle.sbpl_desk.specs.Counts.{risen, read_count, write_count};
 ghost use Rattle.sbpl_desk.specs.Desk.{Stays, AppendsFront, TooLongWhere};
-ghost use Rattle.sbpl_desk.specs.Memory.{memory_held, memory_written, memory_failing, memory_calls, memory_read_faults, memory_write_faults, risen, read_count, write_count, text_at, content_bytes};
+ghost use Rattle.sbpl_desk.specs.Memory.{memory_held, memory_written, memory_failing, memory_calls, memory_read_faults, memory_write_faults, text_at, content_bytes};
 
+use crate::desk::MOST;
 use crate::{Desk, ReadStop, WriteStop};
 use sbpl_fixed::NoMemory;
 use std::alloc::{AllocError, Global};
 use std::collections::BTreeMap;
-
-/// The most bytes that a read gives.
-const MOST: u64 = 1 << 30;
 
 /// What a name holds.
 #[derive(Drop)]
@@ -159,21 +158,21 @@ fn append(
 
 /// Copies what is held, where that is at most 2^30 bytes.
 fn copy(content: &Content, into: &mut Vec<u8>) -> Result<(), ReadStop>
+    requires { into.old.items ≡ [] }
     ensures bytes { OnOk result (into.new.items ≡ content_bytes content.now) }
     ensures refused { OnErr result (into.new.items ≡ []) }
     ensures long { TooLongWhere result (content_bytes content.now) }
     ensures answered { result ≢ Err ReadStop.Failed }
 {
-    into.clear();
     match content {
         Content::Stored(bytes) => {
-            if bytes.len() as u64 > MOST {
+            if bytes.len() > MOST {
                 return Err(ReadStop::TooLong);
             }
             into.extend_from_slice(bytes)?;
         }
         Content::Filled(len, byte) => {
-            if *len > MOST {
+            if *len > MOST as u64 {
                 return Err(ReadStop::TooLong);
             }
             into.resize(*len as usize, *byte)?;

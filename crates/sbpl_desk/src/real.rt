@@ -1,16 +1,16 @@
 //! The real outside: files, and the standard output.
-ghost use Rattle.std.specs.Prelude.{◌≡◌, ◌≢◌, ◌≤◌, ◌<◌, ◌^◌, ◌++◌, None, length, take, Err, IfOk, IfSome, OnOk, OnErr, vec_len};
+ghost use Rattle.std.specs.Prelude.{◌≡◌, ◌≢◌, ◌≤◌, ◌<◌, ◌^◌, ◌++◌, [], None, length, take, Err, IfOk, IfSome, OnOk, OnErr, vec_len};
 ghost use Rattle.std.specs.Io.KnownBytes.{Consumes, IsAtEnd};
+ghost use Rattle.sbpl_desk.specs.Counts.{read_count, write_count};
 ghost use Rattle.sbpl_desk.specs.Desk.{Appends, AppendsFront, TooLongWhere};
+ghost use Rattle.sbpl_desk.specs.Real.{real_read_faults, real_write_faults};
 
+use crate::desk::MOST;
 use crate::{Desk, ReadStop, WriteStop};
 use std::fs::{OpenFile, OpenOptions};
 use std::io::{Read, Write};
 use std::rt::Files;
 use std::{fs, io};
-
-/// The most bytes that a read gives.
-const MOST: usize = 1 << 30;
 
 /// The bytes that are asked of the system at once.
 const PIECE: usize = 8192;
@@ -30,7 +30,10 @@ pub struct RealDesk<R: Files + Print + Alloc> {
 impl<R: Files + Print + Alloc> RealDesk<R> {
     /// A desk that has written nothing. The first write under a name makes the file, or empties it, and
     /// the later ones append.
-    pub fn new(rt: R) -> RealDesk<R> {
+    pub fn new(rt: R) -> RealDesk<R>
+        ensures reads { real_read_faults result ≡ 0 }
+        ensures writes { real_write_faults result ≡ 0 }
+    {
         let begun = Vec::new(rt.alloc());
         RealDesk {
             rt,
@@ -60,13 +63,13 @@ fn read_piece<F: Read>(
     Ok(count)
 }
 
-/// Reads to the end, in place of what is there, and stops after 2^30 + 1 bytes.
+/// Reads to the end, and stops after 2^30 + 1 bytes.
 fn read_whole<F: Read>(file: &mut F, into: &mut Vec<u8>) -> Result<(), ReadStop>
+    requires { into.old.items ≡ [] }
     ensures bytes { OnOk result (IfSome (F.remaining file.old) (λ bytes. into.new.items ≡ bytes)) }
     ensures bounded { OnOk result (vec_len into.new ≤ 2 ^ 30) }
     ensures long { IfSome (F.remaining file.old) (TooLongWhere result) }
 {
-    into.clear();
     let mut piece = [0u8; PIECE];
     while into.len() <= MOST {
         let room = (MOST + 1 - into.len()).min(PIECE);
@@ -81,6 +84,7 @@ fn read_whole<F: Read>(file: &mut F, into: &mut Vec<u8>) -> Result<(), ReadStop>
 fn write_whole<W: Write>(to: &mut W, bytes: &[u8]) -> Result<(), WriteStop>
     ensures bytes { OnOk result (Appends (W.contents to.old) (W.contents to.new) bytes.now) }
     ensures front { OnErr result (AppendsFront (W.contents to.old) (W.contents to.new) bytes.now) }
+    ensures failed { result ≢ Err WriteStop.NoMemory }
 {
     let mut rest = bytes;
     while !rest.is_empty() {
@@ -94,6 +98,7 @@ fn write_whole<W: Write>(to: &mut W, bytes: &[u8]) -> Result<(), WriteStop>
 
 /// Reads a file, with room for it from the start.
 fn read_file<R: Files>(rt: &R, name: &str, into: &mut Vec<u8>) -> Result<(), ReadStop>
+    requires { into.old.items ≡ [] }
     ensures bounded { OnOk result (vec_len into.new ≤ 2 ^ 30) }
 {
     let Ok(mut file) = fs::open(rt, name) else {
@@ -102,7 +107,6 @@ fn read_file<R: Files>(rt: &R, name: &str, into: &mut Vec<u8>) -> Result<(), Rea
     let Ok(metadata) = file.metadata() else {
         return Err(ReadStop::Failed);
     };
-    into.clear();
     into.reserve(metadata.len().min(MOST as u64 + 1) as usize)?;
     read_whole(&mut file, into)
 }
@@ -134,11 +138,18 @@ impl<R: Files + Print + Alloc> Desk for RealDesk<R> {
 
     ghost written = { λ _ _. None };
 
-    ghost read_faults = { λ desk _. desk.read_faults };
+    ghost read_faults = { λ desk _. real_read_faults desk };
 
-    ghost write_faults = { λ desk _. desk.write_faults };
+    ghost write_faults = { λ desk _. real_write_faults desk };
 
-    fn read(&mut self, name: &str, into: &mut Vec<u8>) -> Result<(), ReadStop> {
+    fn read(&mut self, name: &str, into: &mut Vec<u8>) -> Result<(), ReadStop>
+        ensures bounded { OnOk result (vec_len into.new ≤ 2 ^ 30) }
+        ensures refused { OnErr result (into.new.items ≡ []) }
+        ensures reads { real_read_faults self.new ≡ read_count result (real_read_faults self.old) }
+        ensures counts { real_read_faults self.old ≤ real_read_faults self.new }
+        ensures writes { real_write_faults self.new ≡ real_write_faults self.old }
+    {
+        into.clear();
         let result = read_file(&self.rt, name, into);
         if let Err(stop) = result {
             into.clear();
@@ -149,7 +160,11 @@ impl<R: Files + Print + Alloc> Desk for RealDesk<R> {
         result
     }
 
-    fn write(&mut self, name: &str, bytes: &[u8]) -> Result<(), WriteStop> {
+    fn write(&mut self, name: &str, bytes: &[u8]) -> Result<(), WriteStop>
+        ensures reads { real_read_faults self.new ≡ real_read_faults self.old }
+        ensures writes { real_write_faults self.new ≡ write_count result (real_write_faults self.old) }
+        ensures counts { real_write_faults self.old ≤ real_write_faults self.new }
+    {
         let result = if name == "-" {
             write_whole(&mut io::writer(&self.rt), bytes)
         } else {

@@ -1,6 +1,11 @@
 pub mod Tokens
+pub mod Runs
+pub mod Forms
+pub mod ReadBack
 pub mod Digits
 pub mod Roots
 pub mod Printing
 pub mod Reading
 pub mod Meaning
+pub mod Spelling
+pub mod Items

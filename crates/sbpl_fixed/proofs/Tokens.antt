@@ -17,7 +17,7 @@ past_front p (b ∷ bs) =
     ]
 
 -- within a token none begins
-skip_filled : (place : ℕ) (bs : List ℕ) → tokens_past false place bs ≡ tokens_past true (place + prefix_len is_filled bs) (drop (prefix_len is_filled bs) bs)
+pub skip_filled : (place : ℕ) (bs : List ℕ) → tokens_past false place bs ≡ tokens_past true (place + prefix_len is_filled bs) (drop (prefix_len is_filled bs) bs)
 unfolding tokens_past
 skip_filled place [] = refl
 skip_filled place (b ∷ bs) =
@@ -42,7 +42,7 @@ fresh_or_not true place bs h = refl
 fresh_or_not false place bs h = skip_filled place bs ∙ rw (h, add-zero) refl
 
 -- the token that begins at a filled byte
-first_token : (place b : ℕ) (bs : List ℕ) → is_blank b ≡ false → tokens_past true place (b ∷ bs) ≡ record { place = place; bytes = take_while is_filled (b ∷ bs) } ∷ tokens_past false place (b ∷ bs)
+pub first_token : (place b : ℕ) (bs : List ℕ) → is_blank b ≡ false → tokens_past true place (b ∷ bs) ≡ record { place = place; bytes = take_while is_filled (b ∷ bs) } ∷ tokens_past false place (b ∷ bs)
 unfolding tokens_past
 first_token place b bs e = rw e refl
 

@@ -1,5 +1,9 @@
 pub mod Tokens
+pub mod Runs
 pub mod Numbers
+pub mod NumberForms
 pub mod Printed
+pub mod ReadBack
 pub mod Formats
 pub mod Meaning
+pub mod Spelling

@@ -1,8 +1,10 @@
 -- What holds of every format.
-use Rattle.std.specs.Prelude.{◌≡◌, ◌⊎◌, ◌↔◌, ℕ, List, length, Ok, Err}
+use Rattle.std.specs.Prelude.{◌≡◌, ◌≢◌, ◌⊎◌, ◌↔◌, ◌≤ℤ◌, ◌<ℤ◌, ℕ, ℤ, pos, List, length, Result, Ok, Err}
 use Rattle.sbpl_fixed.specs.Tokens.{Piece, tokens}
 use Rattle.sbpl_fixed.specs.declared.fault.TextFault.{TextFault}
-use Rattle.sbpl_fixed.specs.Formats.{Format, Left, reads, Says, IsFaulty}
+use Rattle.sbpl_fixed.specs.Formats.{Miss, no_word, no_number, out_of_range, fixed, within, Format, Left, reads, Says, IsFaulty}
+use Rattle.sbpl_fixed.specs.declared.fault.NumFault.{NumFault}
+use Rattle.sbpl_fixed.specs.declared.fault.NumFault.TheVariants.{Form, Size}
 
 -- the tokens begin with what the format says
 abbrev pub IsSaid : {E A : Type 0} → Format E A → List Piece → Type 0
@@ -42,3 +44,25 @@ IsSaidOrFaultyAlone E A = (tell : TextFault → E) (f : Format E A) (left : Left
 
 abbrev pub IsFaultyOnce : (E A : Type 0) → Type 0
 IsFaultyOnce E A = (tell : TextFault → E) (f : Format E A) (left : Left) (e d : E) → IsFaulty tell f left.end left.tokens e → IsFaulty tell f left.end left.tokens d → e ≡ d
+
+-- ---- items in plain words
+
+-- a word is met by these very bytes
+abbrev pub WordsAreMet : Type 0
+WordsAreMet = (word bytes : List ℕ) (v : ℤ) → (fixed word bytes ≡ Ok v) ↔ ((bytes ≡ word) × (v ≡ pos 0))
+
+abbrev pub WordsAreMissed : Type 0
+WordsAreMissed = (word bytes : List ℕ) (m : Miss) → (fixed word bytes ≡ Err m) ↔ ((bytes ≢ word) × (m ≡ no_word))
+
+-- a number that was read is met in its range
+abbrev pub NumbersAreMet : Type 0
+NumbersAreMet = (low high v : ℤ) (r : Result ℤ NumFault) → (within low high r ≡ Ok v) ↔ ((r ≡ Ok v) × (low ≤ℤ v) × (v ≤ℤ high))
+
+-- it is missed where it has not the form
+abbrev pub NumbersWithoutForm : Type 0
+NumbersWithoutForm = (low high : ℤ) (r : Result ℤ NumFault) → (within low high r ≡ Err no_number) ↔ (r ≡ Err Form)
+
+-- or lies outside the range, also where it is above every range
+abbrev pub NumbersOutOfRange : Type 0
+NumbersOutOfRange = (low high : ℤ) (r : Result ℤ NumFault)
+    → (within low high r ≡ Err out_of_range) ↔ ((r ≡ Err Size) ⊎ ((v : ℤ) × (r ≡ Ok v) × ((v <ℤ low) ⊎ (high <ℤ v))))

@@ -1,6 +1,6 @@
 //! What holds of every format, whatever its text.
 
-ghost use Rattle.sbpl_fixed.specs.Meaning.{ReadsWhatIsSaid, ReadsFirstFault, IsSaidOrFaulty, IsSaidOnce, IsSaidOrFaultyAlone, IsFaultyOnce};
+ghost use Rattle.sbpl_fixed.specs.Meaning.{ReadsWhatIsSaid, ReadsFirstFault, IsSaidOrFaulty, IsSaidOnce, IsSaidOrFaultyAlone, IsFaultyOnce, WordsAreMet, WordsAreMissed, NumbersAreMet, NumbersWithoutForm, NumbersOutOfRange};
 
 /// A format of values `A` with faults `E` is read from left to right, with the first fault that is met. What is read so
 /// is just what the format says of the tokens, and the fault that is answered is just the one at the first place where
@@ -12,4 +12,14 @@ pub fn reading_is_what_is_said<E, A>()
     ensures not_both { IsSaidOrFaultyAlone E A }
     ensures one_value { IsSaidOnce E A }
     ensures one_fault { IsFaultyOnce E A }
+{}
+
+/// Which tokens meet an item: a fixed word its own bytes, and a number those that read as one in the range. A token
+/// misses a number as no number where it has not the form, and as out of range otherwise.
+pub fn items_in_plain_words()
+    ensures word { WordsAreMet }
+    ensures other_word { WordsAreMissed }
+    ensures number { NumbersAreMet }
+    ensures no_number { NumbersWithoutForm }
+    ensures out_of_range { NumbersOutOfRange }
 {}

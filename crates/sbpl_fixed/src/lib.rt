@@ -1,4 +1,5 @@
-//! Tokens of a text, and numbers in fixed point.
+//! Tokens and numbers of SBPL's text files, in this project's profile: tokens between blanks, whole numbers, and decimals
+//! in billionths; formats as data, which every reader of such a text shares; numbers printed; and rounding up.
 #![tactic(auto)]
 
 mod fault;
@@ -9,14 +10,18 @@ mod placed;
 mod printed;
 mod reader;
 mod rounding;
+#[cfg(test)]
+mod tests;
 mod token;
 
 pub use fault::{NumFault, TextFault};
-pub use formats::reading_is_what_is_said;
+pub use formats::{items_in_plain_words, reading_is_what_is_said};
 pub use no_memory::NoMemory;
-pub use number::{read_nano, read_whole};
+pub use number::{numbers_are_read_by_parts, read_nano, read_whole};
 pub use placed::Placed;
-pub use printed::{print_milli, print_nano};
+pub use printed::{
+    print_milli, print_nano, printed_numbers_are_read_back, printed_words_are_tokens,
+};
 pub use reader::Reader;
 pub use rounding::{ceil_div, ceil_root};
-pub use token::{Token, next_token};
+pub use token::{Token, next_token, tokens_are_longest_runs};

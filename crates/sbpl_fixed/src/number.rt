@@ -3,6 +3,7 @@
 ghost use Rattle.std.specs.Prelude.{◌≡◌, ◌+◌, ◌*◌, ◌^◌, ◌<◌, ◌≤◌, true, min, length, slice_index_or};
 ghost use Rattle.std.specs.List.{prefix_len};
 ghost use Rattle.sbpl_fixed.specs.Numbers.{all_digits, decimals_part, is_digit, is_minus, is_no_point, most, nano_of, nine_decimals, number_of, signed, sized, whole_of, whole_part, without_sign};
+ghost use Rattle.sbpl_fixed.specs.NumberForms.{WholesHaveValues, NoOthersAreWhole, DecimalsHaveValues, NoOthersAreDecimals, MissingDecimalsAreZeros, DigitsWriteNumbers};
 
 use crate::fault::NumFault;
 
@@ -134,7 +135,8 @@ fn parts(body: &[u8]) -> (&[u8], &[u8])
 }
 
 /// Reads a decimal, in billionths: a plus, a minus or no sign, then digits with at most one point among, before or
-/// behind them, and at least one digit. Digits behind the ninth decimal are dropped, so that it is cut toward zero.
+/// behind them, and at least one digit. Digits behind the ninth decimal are dropped, so that it is cut toward zero (this
+/// project's profile).
 /// `Form` where the text is no decimal, `Size` where it is one and its absolute value in billionths is above `10^18`.
 #[tactic(auto, using(crate::proofs::Digits::sized_nano_capped), unfolding(crate::specs::Numbers::nano_of))]
 pub fn read_nano(text: &[u8]) -> Result<i64, NumFault>
@@ -147,3 +149,14 @@ pub fn read_nano(text: &[u8]) -> Result<i64, NumFault>
     let number = capped_number(whole, 1_000_000_001) * 1_000_000_000 + billionths(decimals);
     sized(is_minus(text), number)
 }
+
+/// What is read as a number: each text of the form asked for, as the value of its sign and its digits, and no other text.
+/// A decimal's value is that of its whole part and its first nine decimals, those that are missing taken as zeros.
+pub fn numbers_are_read_by_parts()
+    ensures wholes { WholesHaveValues }
+    ensures other_wholes { NoOthersAreWhole }
+    ensures decimals { DecimalsHaveValues }
+    ensures other_decimals { NoOthersAreDecimals }
+    ensures missing { MissingDecimalsAreZeros }
+    ensures digits { DigitsWriteNumbers }
+{}

@@ -2,6 +2,7 @@
 
 ghost use Rattle.std.specs.Prelude.{◌≡◌, ◌+◌, ◌-◌, ◌^◌, ◌<◌, ◌≤◌, ◌++◌, ◌∷◌, length, drop, pos, neg_ℤ, ◌≤ℤ◌, OnOk, OnErr, decimal, slice_set};
 ghost use Rattle.sbpl_fixed.specs.Printed.{last_digits, milli_text, nano_text, point_text};
+ghost use Rattle.sbpl_fixed.specs.ReadBack.{NanosAreReadBack, MillisAreReadBack, WholesAreReadBack, NanosAreWords, WholesAreWords, WordsAreTokens, LastWordsAreTokens, BlanksPartTokens};
 
 use crate::no_memory::NoMemory;
 
@@ -101,3 +102,19 @@ pub fn print_nano(value: i64, out: &mut Vec<u8>) -> Result<(), NoMemory>
     out.extend_from_slice(&buffer[begin..])?;
     Ok(())
 }
+
+/// What is printed is read back as the same value: numbers in fixed point, and whole numbers as std writes them.
+pub fn printed_numbers_are_read_back()
+    ensures nanos { NanosAreReadBack }
+    ensures millis { MillisAreReadBack }
+    ensures wholes { WholesAreReadBack }
+{}
+
+/// What is printed is one token: a number, and each word before a blank or at the end of a text.
+pub fn printed_words_are_tokens()
+    ensures nanos { NanosAreWords }
+    ensures wholes { WholesAreWords }
+    ensures words { WordsAreTokens }
+    ensures last { LastWordsAreTokens }
+    ensures blanks { BlanksPartTokens }
+{}

@@ -1,8 +1,9 @@
 //! Tokens: the longest runs of bytes of a text between blanks.
 
-ghost use Rattle.std.specs.Prelude.{◌≡◌, ◌+◌, ◌<◌, ◌≤◌, [], ◌∷◌, true, length, drop, MatchOption, IfSome};
-ghost use Rattle.std.specs.List.{prefix_len};
-ghost use Rattle.sbpl_fixed.specs.Tokens.{is_blank, is_filled, is_fresh, token_at, tokens_from, tokens_past};
+ghost use Rattle.std.specs.Prelude.{ℕ, List, ◌≡◌, ◌+◌, ◌<◌, ◌≤◌, [], ◌∷◌, true, length, drop, MatchOption, IfSome};
+ghost use Rattle.std.specs.List.{prefix_len, AllByRecursion};
+ghost use Rattle.sbpl_fixed.specs.Runs.{IsLongestRun, IsOneOf, AreAbove};
+ghost use Rattle.sbpl_fixed.specs.Tokens.{tokens, Piece, is_blank, is_filled, is_fresh, token_at, tokens_from, tokens_past};
 
 /// Where a token stands in a text: the offset of its first byte, and the offset behind its last.
 #[derive(Clone, Copy, Debug, PartialEq, Eq)]
@@ -71,3 +72,10 @@ pub fn next_token(text: &[u8], at: usize) -> Option<Token>
     let to = from + filled_front(&text[from..]);
     Some(Token { from, to })
 }
+
+/// The tokens of a text are its longest runs of bytes between blanks, each once, in the order in which they stand.
+pub fn tokens_are_longest_runs()
+    ensures each { (text : List ℕ) → AllByRecursion (IsLongestRun text) (tokens text) }
+    ensures all { (text : List ℕ) (t : Piece) → IsLongestRun text t → IsOneOf t (tokens text) }
+    ensures order { (text : List ℕ) → AreAbove 0 (tokens text) }
+{}

@@ -7,7 +7,7 @@ use Rattle.sbpl_graph.specs.declared.TheConstants.{FAR}
 use Rattle.sbpl_graph.specs.Network.{Network, IsFreeArc}
 use Rattle.sbpl_graph.specs.Path.{IsFreePath}
 use Rattle.sbpl_graph.specs.Exact.{AreExact, GivesLabel}
-use Rattle.sbpl_labels.specs.Chain.{chain_at, IsBackPath, IsFirstBreak, IsWalk}
+use Rattle.sbpl_labels.specs.Chain.{chain_at, IsBackPath, IsWalk}
 
 -- the lesser label of a state
 abbrev pub least_of : (ℕ → ℕ) → (ℕ → ℕ) → ℕ → ℕ
@@ -121,17 +121,6 @@ walk_begins inside near = record {
   place = refl;
   before = λ i u before on. absurd (omega arith);
   counted = omega arith;
-}
-
--- it breaks at an underconsistent state
-pub walk_breaks : {n : Network} {g v : ℕ → ℕ} {back : ℕ → Option (ℕ × ℕ)} {goal here cost : ℕ} {arcs : List ℕ}
-    → Walking n g v back goal here cost arcs → v here < g here → g goal < FAR → IsFirstBreak g v back goal here
-walk_breaks {arcs = arcs} walking under near = record {
-  near = near;
-  place = length arcs;
-  on_chain = walking.place;
-  under = under;
-  before = walking.before;
 }
 
 module _ {n : Network} {start : ℕ} {g v : ℕ → ℕ} {back : ℕ → Option (ℕ × ℕ)} {goal here cost : ℕ} {arcs : List ℕ}

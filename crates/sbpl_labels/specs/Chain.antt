@@ -15,8 +15,9 @@ IsBackPath back s [] t = s ≡ t
 IsBackPath back s (k ∷ ks) t = (u : ℕ) × (back u ≡ Some (s, k)) × IsBackPath back u ks t
 
 -- s is the first underconsistent state on the chain from a goal that is not infinite
-pub record IsFirstBreak (g v : ℕ → ℕ) (back : ℕ → Option (ℕ × ℕ)) (goal s : ℕ) : Type 0 where
+pub record IsFirstBreak (states : ℕ) (g v : ℕ → ℕ) (back : ℕ → Option (ℕ × ℕ)) (goal s : ℕ) : Type 0 where
   pub near : g goal < FAR
+  pub inside : s < states
   pub place : ℕ
   pub on_chain : chain_at back goal place ≡ Some s
   pub under : v s < g s

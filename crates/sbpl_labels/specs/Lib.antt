@@ -3,3 +3,4 @@ pub mod Marks
 pub mod CutOff
 pub mod Chain
 pub mod Walks
+pub mod Listed

@@ -1,4 +1,4 @@
-//! The bound of a path.
+//! The bound of a path, in thousandths (this project's profile).
 
 ghost use Rattle.std.specs.Prelude.{◌≡◌, ◌<◌, ◌↔◌, IfSome, IsNone};
 ghost use Rattle.sbpl_graph.specs.Bound.{IsBound};
@@ -16,9 +16,6 @@ pub fn bound_of(cost: u64, low: u64) -> Option<u128>
     if low == 0 {
         return None;
     }
-    Some(
-        (1000 * u128::from(cost))
-            .div_ceil(u128::from(low))
-            .max(1000),
-    )
+    let thousandths = (1000 * u128::from(cost)).div_ceil(u128::from(low));
+    Some(thousandths.max(1000))
 }

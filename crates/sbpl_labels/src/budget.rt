@@ -1,4 +1,4 @@
-//! Counts of expansions.
+//! Counts of expansions, this project's profile of a limit in time.
 
 ghost use Rattle.std.specs.Prelude.{◌≡◌, ◌+◌, ◌^◌, ◌≤◌, ◌↔◌, IsTrue, IsFalse};
 ghost use Rattle.sbpl_labels.specs.Counts.{AreCounts, HasLeft, IsSpent};

@@ -21,7 +21,8 @@ use std::alloc::Global;
 use std::marker::Model;
 
 /// The labels g and v of each state of a graph, and a back arc where one was set. A label is 2^63,
-/// which stands for infinity, or below 2^62.
+/// which stands for infinity, or below 2^62. ARA* (Likhachev, Gordon and Thrun 2003) has these
+/// labels; Anytime D* (2005) calls g `rhs` and v `g`.
 #[derive(Drop)]
 pub struct Labels {
     start: u32,
@@ -54,12 +55,14 @@ impl Model for Labels {
 
 impl Labels {
     /// Opened labels of this many states, 1 to 2^23: g is 0 at the start, all other labels are
-    /// infinite, and there is no back arc. They are exact on every graph of this size.
+    /// infinite, and there is no back arc. They are exact on every graph of this size. The one
+    /// error is that memory ran out.
     pub fn open(alloc: Global, states: u32, start: u32) -> Result<Labels, NoMemory>
         requires few { states ≤ 2 ^ 23 }
         requires start { start < states }
         ensures opened { IfOk result (λ m. IsOpened m states start) }
-        ensures exact { IfOk result (λ m. (n : Network) → n.states ≡ states → AreExact n start (g_of m) (v_of m) (back_of m)) }
+        ensures exact { IfOk result (λ m. (n : Network) → n.states ≡ states
+            → AreExact n start (g_of m) (v_of m) (back_of m)) }
         ensures not_under { IfOk result (λ m. NoneUnder states (g_of m) (v_of m)) }
         ensures fits { IfOk result (λ m. (count : ℕ) → FitCount states (g_of m) (v_of m) count) }
     {
@@ -71,7 +74,8 @@ impl Labels {
     /// Makes these opened labels again.
     pub fn reset(&mut self)
         ensures opened { IsOpened self.new (states_of self.old) self.old.start }
-        ensures exact { (n : Network) → n.states ≡ states_of self.old → AreExact n self.old.start (g_of self.new) (v_of self.new) (back_of self.new) }
+        ensures exact { (n : Network) → n.states ≡ states_of self.old
+            → AreExact n self.old.start (g_of self.new) (v_of self.new) (back_of self.new) }
         ensures not_under { NoneUnder (states_of self.old) (g_of self.new) (v_of self.new) }
         ensures fits { (count : ℕ) → FitCount (states_of self.old) (g_of self.new) (v_of self.new) count }
     {
@@ -122,13 +126,14 @@ impl Labels {
     }
 
     /// Lowers g of `t` to this value, which comes over arc `k` of `s`, where that is lower, and
-    /// answers whether it did.
+    /// answers whether it did. Else nothing changes.
     pub fn lower(&mut self, t: u32, s: u32, k: u32, value: u64) -> bool
         requires state { t < states_of self.old }
         requires not_start { t ≢ self.old.start }
         requires small { value < 2 ^ 62 }
         ensures lowered { IsTrue result ↔ (value < g_of self.old t) }
-        ensures yes { IsTrue result → ChangesRow self.old self.new t (record { g = value; v = v_of self.old t; back = Some (s, k) }) }
+        ensures yes { IsTrue result → ChangesRow self.old self.new t
+            (record { g = value; v = v_of self.old t; back = Some (s, k) }) }
         ensures no { g_of self.old t ≤ value → self.new ≡ self.old }
     {
         let row = &mut self.rows[t as usize];
@@ -145,19 +150,23 @@ impl Labels {
     pub fn settle(&mut self, s: u32)
         requires state { s < states_of self.old }
         requires over { g_of self.old s < v_of self.old s }
-        ensures settled { ChangesRow self.old self.new s (record { g = g_of self.old s; v = g_of self.old s; back = back_of self.old s }) }
+        ensures settled { ChangesRow self.old self.new s
+            (record { g = g_of self.old s; v = g_of self.old s; back = back_of self.old s }) }
     {
         let row = &mut self.rows[s as usize];
         row.v = row.g;
     }
+
     /// The least of g at the goal and of g + h over all states whose g and v differ, with h by this
     /// guide, which knows every state. Where the labels are supported on a graph that the guide was
     /// built for, every free path from the start to the goal costs at least this.
     pub fn low<H: Guide>(&self, guide: &H, goal: u32) -> u64
         requires goal { goal < states_of self.now }
         requires known { (s : ℕ) → s < states_of self.now → H.knows guide.now s }
-        ensures least { IsLow (states_of self.now) goal (g_of self.now) (v_of self.now) (H.distance guide.now) result }
-        ensures bound { (n : Network) → n.states ≡ states_of self.now → IsSound n → H.guides guide.now n goal
+        ensures least { IsLow (states_of self.now) goal (g_of self.now) (v_of self.now)
+            (H.distance guide.now) result }
+        ensures bound { (n : Network) → n.states ≡ states_of self.now → IsSound n
+            → H.guides guide.now n goal
             → AreSupported n self.now.start (g_of self.now) (v_of self.now)
             → (arcs : List ℕ) (cost : ℕ) → IsFreePath n self.now.start arcs goal cost → result ≤ cost }
     {
@@ -175,8 +184,10 @@ impl Labels {
     /// so and the labels are supported on a graph, no free path leads from the start to the goal.
     pub fn shows_none(&self, goal: u32) -> bool
         requires goal { goal < states_of self.now }
-        ensures cut_off { IsTrue result ↔ IsCutOff (states_of self.now) goal (g_of self.now) (v_of self.now) }
-        ensures no_path { IsTrue result → (n : Network) → n.states ≡ states_of self.now → IsSound n
+        ensures cut_off { IsTrue result ↔
+            IsCutOff (states_of self.now) goal (g_of self.now) (v_of self.now) }
+        ensures no_path { IsTrue result
+            → (n : Network) → n.states ≡ states_of self.now → IsSound n
             → AreSupported n self.now.start (g_of self.now) (v_of self.now)
             → (arcs : List ℕ) (cost : ℕ) → IsFreePath n self.now.start arcs goal cost → ⊥ }
     {
@@ -187,12 +198,14 @@ impl Labels {
     /// infinite. Else the chain is broken at its first underconsistent state, exactly where there is
     /// one. Else it leads to the start, and `into` holds the arc numbers from there; they are a free
     /// path whose summed cost is at most the goal's label. After the other answers `into` is empty.
+    /// It takes no memory: `into` has room for as many arcs as there are states, and keeps it.
     pub fn walk<G: Graph>(&self, graph: &G, goal: u32, into: &mut Vec<u32>) -> Walk
         requires states { states_of self.now ≡ (G.network graph.now).states }
         requires goal { goal < states_of self.now }
         requires empty { into.old.items ≡ [] }
         requires room { states_of self.now ≤ vec_capacity into.old }
-        requires exact { AreExact (G.network graph.now) self.now.start (g_of self.now) (v_of self.now) (back_of self.now) }
+        requires exact { AreExact (G.network graph.now) self.now.start
+            (g_of self.now) (v_of self.now) (back_of self.now) }
         ensures walk { WalkGives (G.network graph.now) self.now goal into.new.items result }
         ensures room { vec_capacity into.new ≡ vec_capacity into.old }
     {

@@ -1,2 +1,10 @@
 pub mod EarlierLaws
+pub mod FileLaws
+pub mod JudgingLaws
+pub mod NextLaws
+pub mod PathLaws
 pub mod Pieces
+pub mod Places
+pub mod PrimLaws
+pub mod ReadLaws
+pub mod Spelling

@@ -1,5 +1,7 @@
--- What the program prints of a fault.
+-- What the program prints of a fault, and the faults that every text of tokens can have.
 use Rattle.std.specs.Prelude.{ℕ, List, codes}
+use Rattle.sbpl_fixed.specs.declared.fault.TextFault.{TextFault}
+use Rattle.sbpl_fixed.specs.declared.fault.TextFault.TheVariants as common
 use Rattle.sbpl_mprim.specs.declared.fault.PrimFault.{PrimFault}
 use Rattle.sbpl_mprim.specs.declared.fault.PrimFault.TheVariants.{Word, Number, Range, Ended, Trailing, Resolution, Angles, EndCell, EndHeading, NoPose, SameId, ZeroCost, TooLarge, NoMemory}
 
@@ -53,3 +55,11 @@ place_of (SameId place) = place
 place_of (ZeroCost place) = place
 place_of (TooLarge place) = place
 place_of NoMemory = 0
+
+-- the faults that every text of tokens can have
+abbrev pub told : TextFault → PrimFault
+told (common.Word place) = Word place
+told (common.Number place) = Number place
+told (common.Range place) = Range place
+told (common.Ended place) = Ended place
+told (common.Trailing place) = Trailing place

@@ -3,3 +3,5 @@ pub mod Faults
 pub mod Judging
 pub mod Primitives
 pub mod Printed
+pub mod Reading
+pub mod Spelled

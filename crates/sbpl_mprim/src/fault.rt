@@ -2,9 +2,9 @@
 
 ghost use Rattle.std.specs.Prelude.{◌≡◌};
 ghost use Rattle.sbpl_mprim.specs.declared.fault.PrimFault.TheVariants.{NoMemory as Memory};
-ghost use Rattle.sbpl_mprim.specs.Faults.{name_of, number_of, place_of};
+ghost use Rattle.sbpl_mprim.specs.Faults.{name_of, number_of, place_of, told};
 
-use sbpl_fixed::NoMemory;
+use sbpl_fixed::{NoMemory, TextFault};
 use std::alloc::{AllocError, AllocFailed};
 use thiserror::Error;
 
@@ -120,6 +120,20 @@ impl PrimFault {
             | PrimFault::ZeroCost(place)
             | PrimFault::TooLarge(place) => *place,
             PrimFault::NoMemory => 0,
+        }
+    }
+}
+
+impl From<TextFault> for PrimFault {
+    ghost from_gives = { λ fault e. e ≡ told fault };
+
+    fn from(fault: TextFault) -> PrimFault {
+        match fault {
+            TextFault::Word(place) => PrimFault::Word(place),
+            TextFault::Number(place) => PrimFault::Number(place),
+            TextFault::Range(place) => PrimFault::Range(place),
+            TextFault::Ended(place) => PrimFault::Ended(place),
+            TextFault::Trailing(place) => PrimFault::Trailing(place),
         }
     }
 }

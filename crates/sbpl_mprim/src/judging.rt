@@ -9,7 +9,7 @@ ghost use Rattle.sbpl_mprim.specs.Judging.{are_at_one_point, costs_nothing, head
 ghost use Rattle.sbpl_mprim.specs.Primitives.{offset_cell, IsOffsetInRange};
 
 use crate::prim::Prim;
-use sbpl_cfg::Pose;
+use sbpl_cfg::{Pose, heading_at};
 
 /// An end heading as a file writes it, taken modulo the number of headings: -1 is the last one, and `headings` is 0.
 pub(crate) fn heading_modulo(headings: u32, t: i32) -> u32
@@ -47,6 +47,14 @@ pub(crate) fn is_in_cell(cell: i64, dx: i32, dy: i32, last: Pose) -> bool
     ensures inside { result ≡ is_in_cell cell dx dy last }
 {
     is_cell_of(cell, last.x, dx) && is_cell_of(cell, last.y, dy)
+}
+
+/// A pose's angle lies in the bin of a heading.
+pub(crate) fn is_in_bin(headings: u32, to: u32, last: Pose) -> bool
+    requires { 0 < headings }
+    ensures inside { result ≡ is_in_bin headings to last }
+{
+    heading_at(headings, last.theta) == to
 }
 
 fn is_same_point(p: &Pose, q: &Pose) -> bool

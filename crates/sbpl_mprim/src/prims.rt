@@ -34,6 +34,18 @@ impl Model for Prims {
 }
 
 impl Prims {
+    /// These primitives, which are what a file may give for the cell size and the headings.
+    pub(crate) fn of(cell: i64, headings: u32, items: Vec<Prim>) -> Prims
+        requires { ArePrimitives (record { cell = cell; headings = headings; items = items.items }) }
+        ensures prims { result ≡ record { cell = cell; headings = headings; items = items.items } }
+    {
+        Prims {
+            cell,
+            headings,
+            items,
+        }
+    }
+
     /// The cell size, 1..10^12 nanometres.
     pub fn cell(&self) -> i64
         ensures cell { result ≡ self.now.cell }

@@ -1,0 +1,11 @@
+pub mod Marking
+pub mod Closing
+pub mod Opening
+pub mod Resting
+pub mod Changing
+pub mod Relaxing
+pub mod Parting
+pub mod Running
+pub mod Ordering
+pub mod Passing
+pub mod Finishing

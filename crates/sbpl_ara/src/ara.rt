@@ -1,0 +1,193 @@
+//! The search.
+
+ghost use Rattle.std.specs.Prelude.{◌≡◌, ◌≢◌, ℕ, ◌+◌, ◌-◌, ◌*◌, ◌^◌, ◌<◌, ◌≤◌, ◌↔◌, [], ◌∷◌, ◌++◌, length, IfOk, IfSome, IsTrue, false};
+ghost use Rattle.std.specs.List.{All, AllPairs};
+ghost use Rattle.sbpl_graph.specs.Network.{Network};
+ghost use Rattle.sbpl_graph.specs.Certificate.{AreSupported, ShowBound, ShowNone};
+ghost use Rattle.sbpl_graph.specs.declared.TheConstants.{FAR};
+ghost use Rattle.sbpl_graph.specs.Kept.{NoneUnder};
+ghost use Rattle.sbpl_labels.specs.Counts.{IsSpent};
+ghost use Rattle.sbpl_labels.specs.Marks.{IsOpened, AreLabels, states_of, g_of, v_of};
+ghost use Rattle.sbpl_ara.specs.Ranked.{IsNextOrRest};
+ghost use Rattle.sbpl_ara.specs.Run.{query, none_closed, closed_after, IsOpen, IsNext, IsAtRest, LowersHeads, IsRun};
+ghost use Rattle.sbpl_ara.specs.Search.{AreReady};
+
+use crate::expand::expand;
+use crate::least::{is_below, least_open};
+use crate::{Closed, Step, Steps};
+use sbpl_fixed::NoMemory;
+use sbpl_graph::{Graph, Guide};
+use sbpl_labels::{Budget, Labels, PassEnd};
+use std::alloc::Global;
+use std::marker::Model;
+
+/// A search by Anytime Repairing A*: the labels of all states, the goal, and the expansions of the
+/// last pass. All its memory is taken when it is opened.
+#[derive(Drop)]
+pub struct Ara {
+    labels: Labels,
+    goal: u32,
+    closed: Closed,
+    steps: Steps,
+}
+
+impl Model for Ara {
+    ghost use Rattle.sbpl_ara.specs.Search.{Search, AreParts};
+
+    ghost Value = { Search };
+
+    ghost view = { λ a. record { labels = a.labels; goal = a.goal; trace = a.steps.items } };
+
+    ghost invariant = { λ a. AreParts a.labels a.goal a.closed a.steps };
+}
+
+impl Ara {
+    /// A search from `start` to `goal` on a graph of this many states, 1 to 2^23, before its first
+    /// pass: its labels are opened and its trace is empty.
+    pub fn open(alloc: Global, states: u32, start: u32, goal: u32) -> Result<Ara, NoMemory>
+        requires few { states ≤ 2 ^ 23 }
+        requires start { start < states }
+        requires goal { goal < states }
+        ensures opened { IfOk result (λ a. IsOpened a.labels states start) }
+        ensures ready { IfOk result (λ a. (n : Network) (count : ℕ) → n.states ≡ states → AreReady n a.labels count) }
+        ensures goal { IfOk result (λ a. a.goal ≡ goal) }
+        ensures untraced { IfOk result (λ a. a.trace ≡ []) }
+    {
+        let labels = Labels::open(alloc, states, start)?;
+        let closed = Closed::open(alloc, states)?;
+        let steps = Steps::with_room(alloc, 3 * states as usize)?;
+        Ok(Ara {
+            labels,
+            goal,
+            closed,
+            steps,
+        })
+    }
+
+    /// Opens the labels again and empties the trace. The start, the goal and the number of states
+    /// stay. It takes no memory.
+    pub fn reset(&mut self)
+        ensures opened { IsOpened self.new.labels (states_of self.old.labels) self.old.labels.start }
+        ensures ready { (n : Network) (count : ℕ) → n.states ≡ states_of self.old.labels → AreReady n self.new.labels count }
+        ensures goal { self.new.goal ≡ self.old.goal }
+        ensures untraced { self.new.trace ≡ [] }
+    {
+        self.labels.reset();
+        self.closed.clear();
+        self.steps.clear();
+    }
+
+    /// A pass: open states are expanded, the least key first, until no open key is below the goal's
+    /// or the budget is spent. Open are the states with g below v that this pass has not expanded; of
+    /// each key the first part is 1000 g and `eps` times the guide, the second is g, and of equal keys
+    /// the state of lower number comes first. `eps` is the inflation in thousandths, 1000 to 100000.
+    /// Each expansion is counted, and no state is expanded twice. It takes no memory.
+    pub fn pass<G: Graph, H: Guide>(
+        &mut self,
+        graph: &G,
+        guide: &H,
+        eps: u32,
+        budget: &mut Budget,
+    ) -> PassEnd
+        requires eps_low { 1000 ≤ eps }
+        requires eps_high { eps ≤ 100000 }
+        requires guide { H.guides guide.now (G.network graph.now) self.old.goal }
+        requires ready { AreReady (G.network graph.now) self.old.labels budget.old.run }
+        // The trace is a serial run, which lowers each state at most once.
+        ensures run { IsRun (query (G.network graph.now) (H.distance guide.now) eps self.old.goal) none_closed self.new.trace self.old.labels self.new.labels }
+        ensures lowered { All (λ step. step.raised ≡ false) self.new.trace }
+        ensures once { AllPairs (λ a b. a.state ≢ b.state) self.new.trace }
+        ensures few { length self.new.trace ≤ states_of self.old.labels }
+        // It rests exactly where no open key is below the goal's, and is spent exactly where one is
+        // and the budget is spent. A pass that is spent has not expanded every state.
+        ensures rest { (result ≡ PassEnd.Rest) ↔ IsAtRest (query (G.network graph.now) (H.distance guide.now) eps self.old.goal) (closed_after none_closed self.new.trace) self.new.labels }
+        ensures spent { (result ≡ PassEnd.Spent) ↔ (IsSpent budget.new × ((s : ℕ) × IsNext (query (G.network graph.now) (H.distance guide.now) eps self.old.goal) (closed_after none_closed self.new.trace) self.new.labels s)) }
+        ensures unfinished { result ≡ PassEnd.Spent → length self.new.trace < states_of self.old.labels }
+        ensures enough { budget.old.plan + states_of self.old.labels ≤ budget.old.per_plan → budget.old.run + states_of self.old.labels ≤ 2 ^ 30 → result ≡ PassEnd.Rest }
+        // At rest an infinite goal shows that there is no path. With inflation one every expanded
+        // state is settled, and at rest the labels show that every path costs at least g of the goal.
+        ensures none { result ≡ PassEnd.Rest → g_of self.new.labels self.old.goal ≡ FAR → ShowNone (G.network graph.now) self.new.labels.start self.old.goal (g_of self.new.labels) (v_of self.new.labels) }
+        ensures settled { eps ≡ 1000 → (s : ℕ) → IsTrue (closed_after none_closed self.new.trace s) → v_of self.new.labels s ≡ g_of self.new.labels s }
+        ensures tight { result ≡ PassEnd.Rest → eps ≡ 1000 → ShowBound (G.network graph.now) self.new.labels.start self.old.goal (g_of self.new.labels) (v_of self.new.labels) (H.distance guide.now) (g_of self.new.labels self.old.goal) }
+        // Each expansion is counted.
+        ensures counted { budget.new ≡ record budget.old { plan = budget.old.plan + length self.new.trace; run = budget.old.run + length self.new.trace } }
+        // The labels may begin another pass, and support a bound.
+        ensures ready { AreReady (G.network graph.now) self.new.labels budget.new.run }
+        ensures supported { AreSupported (G.network graph.now) self.new.labels.start (g_of self.new.labels) (v_of self.new.labels) }
+        ensures start { self.new.labels.start ≡ self.old.labels.start }
+        ensures states { states_of self.new.labels ≡ states_of self.old.labels }
+        ensures goal { self.new.goal ≡ self.old.goal }
+    {
+        let _states = graph.states();
+        self.begin();
+        'expansions: while let Some(s) = self.next(graph, guide, eps) {
+            if budget.spent() {
+                return PassEnd::Spent;
+            }
+            budget.spend();
+            self.take(graph, s);
+        }
+        PassEnd::Rest
+    }
+
+    /// The labels.
+    pub fn labels(&self) -> &Labels
+        ensures value { result.now ≡ self.now.labels }
+        ensures labels { AreLabels self.now.labels }
+        ensures goal { self.now.goal < states_of self.now.labels }
+    {
+        let _start = self.labels.start();
+        &self.labels
+    }
+
+    /// The expansions of the last pass in order, or none before the first one and after a reset.
+    pub fn trace(&self) -> &[Step]
+        ensures value { result.now ≡ self.now.trace }
+    {
+        self.steps.as_slice()
+    }
+
+    /// Begins a pass: no state is closed.
+    fn begin(&mut self)
+        ensures labels { self.new.labels ≡ self.old.labels }
+        ensures goal { self.new.goal ≡ self.old.goal }
+        ensures untraced { self.new.trace ≡ [] }
+        ensures goal_inside { self.old.goal < states_of self.old.labels }
+    {
+        self.closed.clear();
+        self.steps.clear();
+    }
+
+    /// The next open state, or none at rest.
+    fn next<G: Graph, H: Guide>(&self, graph: &G, guide: &H, eps: u32) -> Option<u32>
+        requires states { states_of self.now.labels ≡ (G.network graph.now).states }
+        requires none_under { NoneUnder (G.network graph.now).states (g_of self.now.labels) (v_of self.now.labels) }
+        requires guide { H.guides guide.now (G.network graph.now) self.now.goal }
+        ensures next { IsNextOrRest (query (G.network graph.now) (H.distance guide.now) eps self.now.goal) (closed_after none_closed self.now.trace) self.now.labels result }
+        ensures labels { AreLabels self.now.labels }
+        ensures few { IfSome result (λ _. length self.now.trace < states_of self.now.labels) }
+    {
+        let _start = self.labels.start();
+        let (key, s) = least_open(&self.labels, &self.closed, guide, eps, graph.states())?;
+        let g = self.labels.g(self.goal);
+        is_below(key, (1000 * u128::from(g), g)).then_some(s)
+    }
+
+    /// Expands the open state `s` and closes it.
+    fn take<G: Graph>(&mut self, graph: &G, s: u32)
+        requires open { IsOpen (closed_after none_closed self.old.trace) self.old.labels s }
+        requires ready { AreReady (G.network graph.now) self.old.labels (2 ^ 30 - 1) }
+        ensures lowered { LowersHeads (G.network graph.now) self.old.labels self.new.labels s }
+        ensures ready { (count : ℕ) → AreReady (G.network graph.now) self.old.labels count → AreReady (G.network graph.now) self.new.labels (count + 1) }
+        ensures goal { self.new.goal ≡ self.old.goal }
+        ensures traced { self.new.trace ≡ self.old.trace ++ record { state = s; raised = false } ∷ [] }
+        ensures few { length self.new.trace ≤ states_of self.old.labels }
+    {
+        expand(&mut self.labels, graph, s);
+        self.closed.insert(s);
+        self.steps.push(Step {
+            state: s,
+            raised: false,
+        });
+    }
+}

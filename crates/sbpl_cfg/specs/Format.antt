@@ -1,0 +1,160 @@
+-- The environment file: which tokens stand in it, one after another, with their ranges and faults.
+use Rattle.std.specs.Prelude.{ℕ, ℤ, pos, negsuc, nat_abs, ◌*◌, ◌++◌, ◌≤◌, nat_lt, Bool, if◌then◌else◌, List, [], ◌∷◌, codes}
+use Rattle.sbpl_fixed.specs.Formats.{Format, item, wrong, done, ended, fixed, whole, nano, behind, turns}
+use Rattle.sbpl_fixed.specs.declared.placed.Placed.{Placed}
+use Rattle.sbpl_cfg.specs.declared.fault.EnvFault.{EnvFault}
+use Rattle.sbpl_cfg.specs.declared.fault.EnvFault.TheVariants.{TooLarge, StartOff, EndOff}
+use Rattle.sbpl_cfg.specs.declared.pose.Pose.{Pose}
+use Rattle.sbpl_cfg.specs.declared.parts.Ends.{Ends}
+use Rattle.sbpl_cfg.specs.declared.parts.Header.{Header}
+use Rattle.sbpl_cfg.specs.declared.parts.Rates.{Rates}
+use Rattle.sbpl_cfg.specs.declared.parts.Size.{Size}
+use Rattle.sbpl_cfg.specs.declared.parts.Thresholds.{Thresholds}
+use Rattle.sbpl_cfg.specs.Environment.{Environment, is_on_map, IsWithin}
+
+-- the number of headings, where a file doesn't say one
+abbrev pub usual_headings : ℕ
+usual_headings = 16
+
+-- whether a pose is on the map
+abbrev pub is_on_map_of : Header → Pose → Bool
+is_on_map_of h p = is_on_map h.rates.cell h.size.width h.size.height p
+
+-- the numbers of a header lie in their ranges
+pub record IsHeaderInRange (h : Header) : Type 0 where
+  pub width : (1 ≤ h.size.width) × (h.size.width ≤ 8388608)
+  pub height : (1 ≤ h.size.height) × (h.size.height ≤ 8388608)
+  pub states : h.size.width * h.size.height * usual_headings ≤ 8388608
+  pub obsthresh : h.thresholds.obsthresh ≤ 255
+  pub inscribed : h.thresholds.inscribed ≤ 255
+  pub circumscribed : IsWithin (negsuc 0) (pos 255) h.thresholds.circumscribed
+  pub cell : IsWithin (pos 1) (pos 1000000000000) h.rates.cell
+  pub speed : IsWithin (pos 1) (pos 1000000000000) h.rates.speed
+  pub turn45 : IsWithin (pos 1) (pos 1000000000000) h.rates.turn45
+
+-- the numbers that were read
+abbrev pub environment_of : Header → Ends → Environment
+environment_of h ends = record {
+  width = h.size.width;
+  height = h.size.height;
+  obsthresh = h.thresholds.obsthresh;
+  inscribed = h.thresholds.inscribed;
+  circumscribed = h.thresholds.circumscribed;
+  cell = h.rates.cell;
+  speed = h.rates.speed;
+  turn45 = h.rates.turn45;
+  start = ends.start;
+  end = ends.end;
+  headings = usual_headings;
+}
+
+-- a word and a whole number behind it
+unfoldable pub whole_format : List ℕ → ℤ → ℤ → Format EnvFault ℤ
+whole_format word low high = item (fixed word) (λ _ _. item (whole low high) (λ _ n. done n))
+
+-- a word and a decimal behind it
+unfoldable pub nano_format : List ℕ → ℤ → ℤ → Format EnvFault ℤ
+nano_format word low high = item (fixed word) (λ _ _. item (nano low high) (λ _ n. done n))
+
+-- the map's size; its fault, where there are too many states, is at the width
+unfoldable pub size_format : Format EnvFault Size
+size_format =
+    item (fixed (codes "discretization(cells):")) (λ _ _.
+    item (whole (pos 1) (pos 8388608)) (λ place width.
+    item (whole (pos 1) (pos 8388608)) (λ _ height.
+    if nat_lt 8388608 (nat_abs width * nat_abs height * usual_headings) then wrong (TooLarge place)
+    else done (record { width = nat_abs width; height = nat_abs height }))))
+
+unfoldable pub obsthresh_format : Format EnvFault ℤ
+obsthresh_format = whole_format (codes "obsthresh:") (pos 0) (pos 255)
+
+unfoldable pub inscribed_format : Format EnvFault ℤ
+inscribed_format = whole_format (codes "cost_inscribed_thresh:") (pos 0) (pos 255)
+
+unfoldable pub circumscribed_format : Format EnvFault ℤ
+circumscribed_format = whole_format (codes "cost_possibly_circumscribed_thresh:") (negsuc 0) (pos 255)
+
+-- what costs mean
+unfoldable pub thresholds_format : Format EnvFault Thresholds
+thresholds_format =
+    behind obsthresh_format (λ obsthresh.
+    behind inscribed_format (λ inscribed.
+    behind circumscribed_format (λ circumscribed.
+    done (record { obsthresh = nat_abs obsthresh; inscribed = nat_abs inscribed; circumscribed = circumscribed }))))
+
+unfoldable pub cell_format : Format EnvFault ℤ
+cell_format = nano_format (codes "cellsize(meters):") (pos 1) (pos 1000000000000)
+
+unfoldable pub speed_format : Format EnvFault ℤ
+speed_format = nano_format (codes "nominalvel(mpersecs):") (pos 1) (pos 1000000000000)
+
+unfoldable pub turn45_format : Format EnvFault ℤ
+turn45_format = nano_format (codes "timetoturn45degsinplace(secs):") (pos 1) (pos 1000000000000)
+
+-- a cell's side, the speed and the time to turn
+unfoldable pub rates_format : Format EnvFault Rates
+rates_format =
+    behind cell_format (λ cell.
+    behind speed_format (λ speed.
+    behind turn45_format (λ turn45.
+    done (record { cell = cell; speed = speed; turn45 = turn45 }))))
+
+-- a number of a pose
+abbrev pub coordinate : (ℕ → ℤ → Format EnvFault (Placed Pose)) → Format EnvFault (Placed Pose)
+coordinate more = item (nano (negsuc 999999999999999999) (pos 1000000000000000000)) more
+
+-- a word and a pose behind it, with the place of its x
+unfoldable pub pose_format : List ℕ → Format EnvFault (Placed Pose)
+pose_format word =
+    item (fixed word) (λ _ _.
+    coordinate (λ place x.
+    coordinate (λ _ y.
+    coordinate (λ _ theta.
+    done (record { value = record { x = x; y = y; theta = theta }; place = place })))))
+
+unfoldable pub start_pose_format : Format EnvFault (Placed Pose)
+start_pose_format = pose_format (codes "start(meters,rads):")
+
+unfoldable pub end_pose_format : Format EnvFault (Placed Pose)
+end_pose_format = pose_format (codes "end(meters,rads):")
+
+-- the start, which must be on the map
+unfoldable pub start_format : Header → Format EnvFault Pose
+start_format h = behind start_pose_format (λ p. if is_on_map_of h p.value then done p.value else wrong (StartOff p.place))
+
+-- the end, which must be on the map
+unfoldable pub end_format : Header → Format EnvFault Pose
+end_format h = behind end_pose_format (λ p. if is_on_map_of h p.value then done p.value else wrong (EndOff p.place))
+
+-- all but the poses and the costs
+unfoldable pub header_format : Format EnvFault Header
+header_format =
+    behind size_format (λ size.
+    behind thresholds_format (λ thresholds.
+    behind rates_format (λ rates.
+    done (record { size = size; thresholds = thresholds; rates = rates }))))
+
+unfoldable pub ends_format : Header → Format EnvFault Ends
+ends_format h =
+    behind (start_format h) (λ start.
+    behind (end_format h) (λ end.
+    done (record { start = start; end = end })))
+
+-- all numbers but the costs
+unfoldable pub numbers_format : Format EnvFault Environment
+numbers_format = behind header_format (λ h. behind (ends_format h) (λ ends. done (environment_of h ends)))
+
+-- one more cost
+unfoldable pub cost_format : List ℕ → Format EnvFault (List ℕ)
+cost_format cells = item (whole (pos 0) (pos 255)) (λ _ cost. done (cells ++ nat_abs cost ∷ []))
+
+-- a word, and so many costs
+unfoldable pub grid_format : ℕ → Format EnvFault (List ℕ)
+grid_format count = item (fixed (codes "environment:")) (λ _ _. turns count cost_format [])
+
+-- the whole file
+unfoldable pub environment_format : Format EnvFault (Environment × List ℕ)
+environment_format =
+    behind numbers_format (λ e.
+    behind (grid_format (e.width * e.height)) (λ cells.
+    ended (done (e, cells))))

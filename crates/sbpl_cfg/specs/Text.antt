@@ -1,0 +1,88 @@
+-- What the text of an environment is: its list of tokens, each number with its value and in its range.
+use Rattle.std.specs.Prelude.{◌≡◌, ◌≢◌, ℕ, ℤ, pos, ◌*◌, ◌≤◌, List, [], ◌∷◌, ◌++◌, length, map, codes, Ok}
+use Rattle.std.specs.List.{AllByRecursion}
+use Rattle.sbpl_fixed.specs.Numbers.{nano_of, whole_of}
+use Rattle.sbpl_fixed.specs.Tokens.{tokens}
+use Rattle.sbpl_fixed.specs.Meaning.{HasFirstFault}
+use Rattle.sbpl_cfg.specs.declared.fault.EnvFault.{EnvFault}
+use Rattle.sbpl_cfg.specs.declared.fault.EnvFault.TheVariants.{NoMemory}
+use Rattle.sbpl_cfg.specs.declared.pose.Pose.{Pose}
+use Rattle.sbpl_cfg.specs.Faults.{told}
+use Rattle.sbpl_cfg.specs.Format.{environment_format}
+use Rattle.sbpl_cfg.specs.Environment.{Environment, IsEnvironment}
+
+-- what a token says: a fixed word, a whole number, or a decimal by its billionths
+pub data Said : Type 0 where
+  word : List ℕ → Said
+  number : ℤ → Said
+  nano : ℤ → Said
+
+abbrev pub Means : Said → List ℕ → Type 0
+Means (word w) bytes = bytes ≡ w
+Means (number n) bytes = whole_of bytes ≡ Ok n
+Means (nano n) bytes = nano_of bytes ≡ Ok n
+
+-- each token says what stands at its place in the list, and there are as many
+abbrev pub AllMean : List Said → List (List ℕ) → Type 0
+AllMean [] [] = Unit {0}
+AllMean [] (bytes ∷ others) = ⊥
+AllMean (said ∷ more) [] = ⊥
+AllMean (said ∷ more) (bytes ∷ others) = Means said bytes × AllMean more others
+
+-- the tokens of a text, without their places
+abbrev pub words_of : List ℕ → List (List ℕ)
+words_of text = map (λ t. t.bytes) (tokens text)
+
+abbrev pub spelled_pose : List ℕ → Pose → List Said
+spelled_pose name p = word name ∷ nano p.x ∷ nano p.y ∷ nano p.theta ∷ []
+
+abbrev pub spelled_size : Environment → List Said
+spelled_size e = word (codes "discretization(cells):") ∷ number (pos e.width) ∷ number (pos e.height) ∷ []
+
+abbrev pub spelled_thresholds : Environment → List Said
+spelled_thresholds e =
+    word (codes "obsthresh:") ∷ number (pos e.obsthresh)
+    ∷ word (codes "cost_inscribed_thresh:") ∷ number (pos e.inscribed)
+    ∷ word (codes "cost_possibly_circumscribed_thresh:") ∷ number e.circumscribed
+    ∷ []
+
+abbrev pub spelled_rates : Environment → List Said
+spelled_rates e =
+    word (codes "cellsize(meters):") ∷ nano e.cell
+    ∷ word (codes "nominalvel(mpersecs):") ∷ nano e.speed
+    ∷ word (codes "timetoturn45degsinplace(secs):") ∷ nano e.turn45
+    ∷ []
+
+abbrev pub spelled_ends : Environment → List Said
+spelled_ends e = spelled_pose (codes "start(meters,rads):") e.start ++ spelled_pose (codes "end(meters,rads):") e.end
+
+-- the costs row by row
+abbrev pub spelled_grid : List ℕ → List Said
+spelled_grid cells = word (codes "environment:") ∷ map (λ c. number (pos c)) cells
+
+-- the whole list
+abbrev pub spelled : Environment → List ℕ → List Said
+spelled e cells = spelled_size e ++ (spelled_thresholds e ++ (spelled_rates e ++ (spelled_ends e ++ spelled_grid cells)))
+
+-- The costs of a grid of an environment's size.
+pub record IsGrid (e : Environment) (cells : List ℕ) : Type 0 where
+  pub size : length cells ≡ e.width * e.height
+  pub costs : AllByRecursion (λ c. c ≤ 255) cells
+
+-- The text stands for the environment and the grid: its tokens are the list above, the numbers lie in their ranges, there
+-- are not too many states, both poses are on the map, and the grid has the size.
+pub record IsTextOf (text : List ℕ) (e : Environment) (cells : List ℕ) : Type 0 where
+  pub tokens : AllMean (spelled e cells) (words_of text)
+  pub environment : IsEnvironment e
+  pub grid : IsGrid e cells
+
+-- the text stands for an environment and a grid
+abbrev pub IsText : List ℕ → Type 0
+IsText text = (e : Environment) × (cells : List ℕ) × IsTextOf text e cells
+
+-- Up to the fault's place the text is what the format calls for, and there it fails in the way that the fault names.
+abbrev pub HasFault : List ℕ → EnvFault → Type 0
+HasFault text f = HasFirstFault told environment_format text f
+
+abbrev pub IsFaulty : List ℕ → Type 0
+IsFaulty text = (f : EnvFault) × (f ≢ NoMemory) × HasFault text f

@@ -1,0 +1,39 @@
+-- What a token is, whole: a longest run of bytes that part no words.
+use Rattle.std.specs.Prelude.{◌≡◌, ℕ, ◌+◌, ◌<◌, ◌≤◌, Bool, true, ◌⊎◌, List, [], ◌∷◌, ◌++◌, length}
+use Rattle.std.specs.List.{list_all}
+use Rattle.sbpl_fixed.specs.Tokens.{is_blank, is_filled, Piece}
+
+-- a blank stands last, or nothing, and then it is as given
+abbrev pub ends_blank : Bool → List ℕ → Bool
+ends_blank empty [] = empty
+ends_blank empty (b ∷ bs) = ends_blank (is_blank b) bs
+
+-- a blank stands first, or nothing
+abbrev pub begins_blank : List ℕ → Bool
+begins_blank [] = true
+begins_blank (b ∷ bs) = is_blank b
+
+-- A run in a text that stands at a place, with or without a blank in front of it (fresh): filled bytes, with a blank or
+-- nothing before them and behind them.
+pub record IsRun (fresh : Bool) (place : ℕ) (text : List ℕ) (t : Piece) : Type 0 where
+  pub before : List ℕ
+  pub behind : List ℕ
+  pub parts : text ≡ before ++ (t.bytes ++ behind)
+  pub here : t.place ≡ place + length before
+  pub some : 0 < length t.bytes
+  pub filled : list_all is_filled t.bytes ≡ true
+  pub begins : ends_blank fresh before ≡ true
+  pub ends : begins_blank behind ≡ true
+
+-- one of the longest runs of a text
+abbrev pub IsLongestRun : List ℕ → Piece → Type 0
+IsLongestRun text t = IsRun true 0 text t
+
+abbrev pub IsOneOf : Piece → List Piece → Type 0
+IsOneOf t [] = ⊥
+IsOneOf t (s ∷ ss) = (t ≡ s) ⊎ IsOneOf t ss
+
+-- each stands behind the one before it, and none before low
+abbrev pub AreAbove : ℕ → List Piece → Type 0
+AreAbove low [] = Unit {0}
+AreAbove low (t ∷ ts) = (low ≤ t.place) × AreAbove (t.place + 1) ts

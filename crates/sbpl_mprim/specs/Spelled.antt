@@ -1,0 +1,53 @@
+-- Which texts stand for primitives, token by token and with no reading in it.
+use Rattle.std.specs.Prelude.{◌≡◌, ℕ, ℤ, pos, negsuc, List, [], ◌∷◌, length, codes, Ok}
+use Rattle.std.specs.List.{flat_map}
+use Rattle.sbpl_fixed.specs.Numbers.{nano_of, whole_of}
+use Rattle.sbpl_fixed.specs.Tokens.{Piece, tokens}
+use Rattle.sbpl_cfg.specs.declared.pose.Pose.{Pose}
+use Rattle.sbpl_cfg.specs.Environment.{IsWithin}
+use Rattle.sbpl_mprim.specs.declared.prim.Primitive.{Primitive}
+use Rattle.sbpl_mprim.specs.Judging.{heading_modulo}
+use Rattle.sbpl_mprim.specs.Primitives.{ArePrimitives, Primitives}
+
+-- what a token of a primitive file says: this word, this whole number, this number in billionths, or this end heading
+pub data Saying : Type 0 where
+  a_word : List ℕ → Saying
+  a_whole : ℤ → Saying
+  a_nano : ℤ → Saying
+  a_heading : ℕ → Saying
+
+-- The bytes of a token say it. An end heading is any number that is the heading modulo the number of headings.
+abbrev pub Means : ℕ → Saying → List ℕ → Type 0
+Means headings (a_word word) bytes = bytes ≡ word
+Means headings (a_whole n) bytes = whole_of bytes ≡ Ok n
+Means headings (a_nano n) bytes = nano_of bytes ≡ Ok n
+Means headings (a_heading to) bytes = (n : ℤ) × (whole_of bytes ≡ Ok n) × IsWithin (negsuc 32766) (pos 32767) n × (heading_modulo headings n ≡ to)
+
+-- as many tokens as sayings, each of which says its own
+unfoldable pub AreMeant : ℕ → List Saying → List Piece → Type 0
+AreMeant headings [] [] = Unit {0}
+AreMeant headings [] (t ∷ ts) = ⊥
+AreMeant headings (s ∷ ss) [] = ⊥
+AreMeant headings (s ∷ ss) (t ∷ ts) = Means headings s t.bytes × AreMeant headings ss ts
+
+abbrev pub spelled_pose : Pose → List Saying
+spelled_pose p = a_nano p.x ∷ a_nano p.y ∷ a_nano p.theta ∷ []
+
+abbrev pub spelled_prim : Primitive → List Saying
+spelled_prim p =
+    a_word (codes "primID:") ∷ a_whole (pos p.id)
+    ∷ a_word (codes "startangle_c:") ∷ a_whole (pos p.from)
+    ∷ a_word (codes "endpose_c:") ∷ a_whole p.dx ∷ a_whole p.dy ∷ a_heading p.to
+    ∷ a_word (codes "additionalactioncostmult:") ∷ a_whole (pos p.mult)
+    ∷ a_word (codes "intermediateposes:") ∷ a_whole (pos (length p.poses)) ∷ flat_map spelled_pose p.poses
+
+unfoldable pub spelled : Primitives → List Saying
+spelled ps =
+    a_word (codes "resolution_m:") ∷ a_nano ps.cell
+    ∷ a_word (codes "numberofangles:") ∷ a_whole (pos ps.headings)
+    ∷ a_word (codes "totalnumberofprimitives:") ∷ a_whole (pos (length ps.items)) ∷ flat_map spelled_prim ps.items
+
+-- the text stands for the primitives: they are what a primitive file may give, and its tokens spell them
+pub record IsTextOf (ps : Primitives) (text : List ℕ) : Type 0 where
+  pub fits : ArePrimitives ps
+  pub tokens : AreMeant ps.headings (spelled ps) (tokens text)
