@@ -1,7 +1,7 @@
 -- How a plan job ends, from how its planning and its writing end.
-use Rattle.std.proofs.Common.{◌≡◌, ℕ, ◌+◌, ◌≢◌, ◌<◌, ◌≤◌, ◌^◌, ◌-◌, ◌⊎◌, List, [], ◌∷◌, ◌++◌, Option, Some, None, sym, ◌∙◌, ap, refl, subst, append-nil, arith, inl, inr}
+use Rattle.std.proofs.Common.{◌≡◌, ℕ, ◌≢◌, ◌≤◌, List, [], ◌∷◌, ◌++◌, Option, Some, None, sym, refl, subst, append-nil, arith, inl, inr}
 use Rattle.std.proofs.lemmas.Bool.{cases_lt}
-use Rattle.sbpl_desk.specs.Desk.{Appends, AppendsFront, Keeps, NoneFalls, Rose, Stays}
+use Rattle.sbpl_desk.specs.Desk.{Appends, NoneFalls, Rose}
 use Rattle.sbpl_cli.specs.declared.ending.Ending.{Ending}
 use Rattle.sbpl_cli.specs.declared.ending.Ending.TheVariants as ending
 use Rattle.sbpl_cli.specs.declared.ending.Input.TheVariants as input
@@ -9,8 +9,8 @@ use Rattle.sbpl_cli.specs.declared.ending.Refusal.{Refusal}
 use Rattle.sbpl_cli.specs.declared.ending.Refusal.TheVariants as refusal
 use Rattle.sbpl_cli.specs.declared.job.PlanJob.{PlanJob}
 use Rattle.sbpl_cli.specs.declared.record.PlanRecord.{PlanRecord}
-use Rattle.sbpl_cli.specs.Causes.{FaultCounts, Held, IsCause, IsPlanned, IsSecond}
-use Rattle.sbpl_cli.specs.Endings.{AppendsWhole, IsEndOf, ending_status, refusal_status, refusal_text, sections_of, text_of}
+use Rattle.sbpl_cli.specs.Causes.{FaultCounts, Held, IsCause, IsPlanned}
+use Rattle.sbpl_cli.specs.Endings.{AppendsWhole, IsEndOf, ending_status, refusal_status, refusal_text, text_of}
 use Rattle.sbpl_cli.specs.Promises.{EndsJob, Intends, IsCutShort, IsRefused, IsReported, IsStopped}
 use Rattle.sbpl_cli.specs.Report.{done_text, section_text}
 use Rattle.sbpl_cli.proofs.Printing.{rose_since}

@@ -1,5 +1,5 @@
 -- How writing ends, once its last line was tried.
-use Rattle.std.proofs.Common.{◌≡◌, ℕ, ◌+◌, ◌<◌, ◌≤◌, ◌^◌, ◌-◌, ◌⊎◌, List, [], ◌∷◌, ◌++◌, Option, Some, None, sym, ◌∙◌, ap, refl, append_assoc, append-nil, arith, inl, inr}
+use Rattle.std.proofs.Common.{ℕ, ◌≤◌, List, [], ◌∷◌, ◌++◌, Option, Some, None, sym, ◌∙◌, ap, append_assoc, append-nil, arith, inl, inr}
 use Rattle.sbpl_desk.specs.Desk.{Appends, AppendsFront, Keeps, Rose}
 use Rattle.sbpl_cli.specs.declared.ending.Ending.{Ending}
 use Rattle.sbpl_cli.specs.declared.ending.Ending.TheVariants.{Done, Refused, Write, NoMemory}

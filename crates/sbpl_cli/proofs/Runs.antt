@@ -20,7 +20,6 @@ use Rattle.sbpl_cli.proofs.Ends.{cause_of, cut_short, not_words, refused, report
 use Rattle.sbpl_cli.proofs.Converse.{complete, environment_faulty, environment_long, primitives_faulty, primitives_long, too_dear}
 
 module _ (named : Option Job) (held : Held) (reads reads' : FaultCounts) (out out' : Option (List ℕ)) (f f' status : ℕ) where
-
   -- words that name no job end with 2, 7 or 9
   pub words_statuses : EndsWords out out' f f' status → (status ≡ 2) ⊎ ((status ≡ 7) ⊎ (status ≡ 9))
   words_statuses (inl two) = inl two.0

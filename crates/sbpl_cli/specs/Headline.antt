@@ -1,5 +1,5 @@
 -- What a plan's record says of the world that it was planned in.
-use Rattle.std.specs.Prelude.{◌≡◌, ℕ, ◌+◌, ◌*◌, ◌≤◌, List, [], ◌∷◌, Option, Some, None}
+use Rattle.std.specs.Prelude.{◌≡◌, ℕ, ◌*◌, ◌≤◌, List, [], ◌∷◌, Some, None}
 use Rattle.sbpl_graph.specs.Network.{Network}
 use Rattle.sbpl_graph.specs.Path.{IsFreePath}
 use Rattle.sbpl_cfg.specs.declared.pose.Pose.{Pose}

@@ -1,5 +1,5 @@
 -- What the program promises of its status and of what it writes.
-use Rattle.std.specs.Prelude.{◌≡◌, ℕ, ◌^◌, ◌<◌, ◌≤◌, ◌⊎◌, ◌++◌, List, [], ◌∷◌, length, slice_get, Option, Some, None}
+use Rattle.std.specs.Prelude.{◌≡◌, ℕ, ◌^◌, ◌<◌, ◌≤◌, ◌⊎◌, ◌++◌, List, length, Option, Some, None}
 use Rattle.sbpl_desk.specs.Desk.{Appends, AppendsFront, Keeps, Rose}
 use Rattle.sbpl_cfg.specs.declared.fault.EnvFault.{EnvFault}
 use Rattle.sbpl_cfg.specs.Environment.{Environment}

@@ -14,7 +14,12 @@ use sbpl_mprim::{PrimFault, Prims, read_prims};
 use std::alloc::Global;
 
 /// The bytes of a file of the job.
-fn read_file<D: Desk>(alloc: Global, name: &Name, input: Input, desk: &mut D) -> Result<Vec<u8>, Stop>
+fn read_file<D: Desk>(
+    alloc: Global,
+    name: &Name,
+    input: Input,
+    desk: &mut D,
+) -> Result<Vec<u8>, Stop>
     ensures text { IfOk result (λ text. IsRead (D.held desk.old name.now) text.items) }
     ensures stop { IfErr result (IsUnread (D.held desk.old name.now) (D.read_faults desk.old name.now) (D.read_faults desk.new name.now) input) }
     ensures held { Stays (D.held desk.old) (D.held desk.new) }
@@ -44,7 +49,11 @@ fn judge_environment(alloc: Global, text: &[u8]) -> Result<(Env, Grid), Stop>
 }
 
 /// The environment file of the job.
-pub(crate) fn read_environment<D: Desk>(alloc: Global, job: &PlanJob, desk: &mut D) -> Result<(Env, Grid), Stop>
+pub(crate) fn read_environment<D: Desk>(
+    alloc: Global,
+    job: &PlanJob,
+    desk: &mut D,
+) -> Result<(Env, Grid), Stop>
     ensures says { IfOk result (λ x. SaysEnvironment (D.held desk.old) job.now x.0 x.1) }
     ensures stop { IfErr result (StopsFor (D.held desk.old) (D.read_faults desk.old) (D.read_faults desk.new) job.now) }
     ensures held { Stays (D.held desk.old) (D.held desk.new) }
@@ -69,7 +78,12 @@ fn judge_primitives(alloc: Global, text: &[u8], env: &Env) -> Result<Prims, Stop
 }
 
 /// The primitive file of the job, for this environment.
-pub(crate) fn read_primitives<D: Desk>(alloc: Global, job: &PlanJob, env: &Env, desk: &mut D) -> Result<Prims, Stop>
+pub(crate) fn read_primitives<D: Desk>(
+    alloc: Global,
+    job: &PlanJob,
+    env: &Env,
+    desk: &mut D,
+) -> Result<Prims, Stop>
     ensures says { IfOk result (SaysPrimitives (D.held desk.old) job.now env.now) }
     ensures stop { IfErr result (PrimitivesStopFor (D.held desk.old) (D.read_faults desk.old) (D.read_faults desk.new) job.now env.now) }
     ensures held { Stays (D.held desk.old) (D.held desk.new) }

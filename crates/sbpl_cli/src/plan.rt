@@ -72,7 +72,15 @@ fn steps_of(alloc: Global, lattice: &Lattice, from: u32, arcs: &[u32]) -> Result
 }
 
 /// A path that a search found, step by step.
-fn path_of(alloc: Global, lattice: &Lattice, start: u32, goal: u32, arcs: Arcs, cost: u64, bound: u128) -> Result<PathRecord, NoMemory>
+fn path_of(
+    alloc: Global,
+    lattice: &Lattice,
+    start: u32,
+    goal: u32,
+    arcs: Arcs,
+    cost: u64,
+    bound: u128,
+) -> Result<PathRecord, NoMemory>
     requires state { start < (network_of lattice.now).states }
     requires best { IsBestPath (network_of lattice.now) start goal arcs cost bound }
     ensures joins { IfOk result (JoinsStates lattice.now start goal) }
@@ -90,7 +98,13 @@ fn path_of(alloc: Global, lattice: &Lattice, start: u32, goal: u32, arcs: Arcs, 
 }
 
 /// The result of a plan, from what a search found.
-fn outcome_of(alloc: Global, lattice: &Lattice, start: u32, goal: u32, solved: Solved) -> Result<Outcome, NoMemory>
+fn outcome_of(
+    alloc: Global,
+    lattice: &Lattice,
+    start: u32,
+    goal: u32,
+    solved: Solved,
+) -> Result<Outcome, NoMemory>
     requires state { start < (network_of lattice.now).states }
     requires solved { IsSolved (network_of lattice.now) start goal solved }
     ensures joins { IfOk result (Joins lattice.now start goal) }
@@ -99,7 +113,9 @@ fn outcome_of(alloc: Global, lattice: &Lattice, start: u32, goal: u32, solved: S
     ensures answered { IfOk result (IsAnswered 1000) }
 {
     match solved {
-        Solved::Path { arcs, cost, bound } => Ok(Outcome::Path(path_of(alloc, lattice, start, goal, arcs, cost, bound)?)),
+        Solved::Path { arcs, cost, bound } => Ok(Outcome::Path(path_of(
+            alloc, lattice, start, goal, arcs, cost, bound,
+        )?)),
         Solved::NoPath => Ok(Outcome::NoPath),
         Solved::Unknown => Ok(Outcome::Unknown),
     }

@@ -66,7 +66,12 @@ pub(crate) fn print_record<D: Desk>(alloc: Global, plan: PlanRecord, desk: &mut 
 }
 
 /// Writes the line of a refusal.
-pub(crate) fn print_refusal<D: Desk>(alloc: Global, job: &PlanJob, refusal: Refusal, desk: &mut D) -> Ending
+pub(crate) fn print_refusal<D: Desk>(
+    alloc: Global,
+    job: &PlanJob,
+    refusal: Refusal,
+    desk: &mut D,
+) -> Ending
     ensures ends { IsEndOf (D.written desk.old (codes "-")) (D.written desk.new (codes "-")) (D.write_faults desk.old (codes "-")) (D.write_faults desk.new (codes "-")) (refusal_text job.now refusal) (refusal_text job.now refusal ∷ []) (Refused refusal) result }
     ensures others { (name : List ℕ) → name ≢ codes "-" → D.written desk.new name ≡ D.written desk.old name }
     ensures reads { NoneFalls (D.read_faults desk.old) (D.read_faults desk.new) }

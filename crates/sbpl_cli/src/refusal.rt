@@ -11,7 +11,13 @@ use sbpl_fixed::NoMemory;
 
 /// Appends the line of a fault in a file.
 #[tactic(auto, unfolding(crate::specs::Endings::fault_text))]
-fn push_fault(out: &mut Vec<u8>, kind: &[u8], number: u8, name: &str, place: u64) -> Result<(), NoMemory>
+fn push_fault(
+    out: &mut Vec<u8>,
+    kind: &[u8],
+    number: u8,
+    name: &str,
+    place: u64,
+) -> Result<(), NoMemory>
     ensures appended { OnOk result (out.new.items ≡ out.old.items ++ fault_text kind.now number name.now place) }
 {
     push_bytes(out, b"refused ")?;
@@ -46,12 +52,28 @@ fn name_of<'a>(job: &'a PlanJob, input: Input) -> &'a Name
 }
 
 /// Appends the line of a refusal.
-pub(crate) fn push_refusal(out: &mut Vec<u8>, job: &PlanJob, refusal: &Refusal) -> Result<(), NoMemory>
+pub(crate) fn push_refusal(
+    out: &mut Vec<u8>,
+    job: &PlanJob,
+    refusal: &Refusal,
+) -> Result<(), NoMemory>
     ensures appended { OnOk result (out.new.items ≡ out.old.items ++ refusal_text job.now refusal.now) }
 {
     match refusal {
-        Refusal::Environment(fault) => push_fault(out, b"environment", fault.number(), fault.name(), fault.place() as u64),
-        Refusal::Primitives(fault) => push_fault(out, b"primitives", fault.number(), fault.name(), fault.place() as u64),
+        Refusal::Environment(fault) => push_fault(
+            out,
+            b"environment",
+            fault.number(),
+            fault.name(),
+            fault.place() as u64,
+        ),
+        Refusal::Primitives(fault) => push_fault(
+            out,
+            b"primitives",
+            fault.number(),
+            fault.name(),
+            fault.place() as u64,
+        ),
         Refusal::TooDear(prim) => push_fault(out, b"primitives", 15, "TooDear", u64::from(*prim)),
         Refusal::Read(input) => push_unread(out, b"read", name_of(job, *input)),
         Refusal::Length(input) => push_unread(out, b"length", name_of(job, *input)),

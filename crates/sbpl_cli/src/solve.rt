@@ -33,7 +33,12 @@ pub(crate) enum Solved {
 }
 
 /// What labels show after a pass that rested.
-fn read_labels<G: Graph>(alloc: Global, graph: &G, labels: &Labels, goal: u32) -> Result<Solved, NoMemory>
+fn read_labels<G: Graph>(
+    alloc: Global,
+    graph: &G,
+    labels: &Labels,
+    goal: u32,
+) -> Result<Solved, NoMemory>
     requires goal { goal < (G.network graph.now).states }
     requires ready { AreReady (G.network graph.now) labels.now 1073741824 }
     requires tight { IsTight (G.network graph.now) labels.now goal }
@@ -57,7 +62,12 @@ fn read_labels<G: Graph>(alloc: Global, graph: &G, labels: &Labels, goal: u32) -
 }
 
 /// Searches a path from `start` to `goal` by one pass of inflation 1. The first answer is the number of expansions.
-pub(crate) fn solve<G: Graph>(alloc: Global, graph: &G, start: u32, goal: u32) -> Result<(u64, Solved), NoMemory>
+pub(crate) fn solve<G: Graph>(
+    alloc: Global,
+    graph: &G,
+    start: u32,
+    goal: u32,
+) -> Result<(u64, Solved), NoMemory>
     requires start { start < (G.network graph.now).states }
     requires goal { goal < (G.network graph.now).states }
     ensures solved { IfOk result (λ x. IsSolved (G.network graph.now) start goal x.1) }

@@ -3,9 +3,8 @@
 
 use sbpl_cli::run;
 use sbpl_desk::RealDesk;
-use std::env;
-use std::io;
 use std::process::ExitCode;
+use std::{env, io};
 
 /// The status for want of memory.
 const NO_MEMORY: u8 = 9;

@@ -1,4 +1,4 @@
-use Rattle.std.proofs.Common.{◌≡◌, List, ℕ, Option, sym, refl, subst}
+use Rattle.std.proofs.Common.{sym, refl, subst}
 use Rattle.sbpl_cfg.specs.Environment.{Environment}
 use Rattle.sbpl_desk.specs.Desk.{Stays}
 use Rattle.sbpl_mprim.specs.Primitives.{Primitives}

@@ -1,7 +1,7 @@
-use Rattle.std.proofs.Common.{◌≡◌, ℕ, ◌+◌, ◌<◌, ◌≤◌, [], ◌∷◌, List, length, drop, get_or, sym, subst, refl, arith, add-one, drop-cons}
+use Rattle.std.proofs.Common.{◌≡◌, ℕ, ◌+◌, ◌<◌, ◌≤◌, [], ◌∷◌, List, length, drop, get_or, subst, add-one, drop-cons}
 use Rattle.std.proofs.lemmas.List.{drop_all}
 use Rattle.sbpl_cost.specs.Lattices.{network_of}
-use Rattle.sbpl_cli.specs.Headline.{AreSteps, IsPathFrom}
+use Rattle.sbpl_cli.specs.Headline.{IsPathFrom}
 use Rattle.sbpl_cli.proofs.PathSteps.{Completes, all_done, one_more, path_behind}
 use Rattle.sbpl_cli.proofs.plan.steps_of.Goals as goal
 
