@@ -25,7 +25,7 @@ pub record IsTurnOf (a : ℤ) (b : ℕ) : Type 0 where
   pub within : b < full_turn
   pub apart : (k : ℤ) × (a ≡ (pos b +ℤ (k *ℤ pos full_turn)))
 
--- the heading of an angle among n: the nearest bin, and a tie goes to the bin above
+-- the heading of an angle among n: the nearest bin
 unfoldable pub heading_of : ℕ → ℤ → ℕ
 heading_of n a = (2 * n * turn_of a + full_turn) / (2 * full_turn) % n
 

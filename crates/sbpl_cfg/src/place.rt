@@ -20,7 +20,7 @@ pub fn cell_at(size: i64, x: i64) -> i64
 }
 
 /// The heading of an angle in nanoradians, among `headings` equal bins that are centred on the multiples of
-/// `TAU / headings`: the nearest bin, and the one above where two are equally near.
+/// `TAU / headings`: the nearest bin. Two are never equally near, since `TAU` is odd.
 #[tactic(auto, unfolding(crate::specs::Place::heading_of))]
 pub fn heading_at(headings: u32, angle: i64) -> u32
     requires { 0 < headings }
@@ -60,7 +60,8 @@ pub(crate) fn is_on_map(size: i64, width: u32, height: u32, p: &Pose) -> bool
 pub fn place_at(env: &Env, p: &Pose) -> Option<Place>
     ensures on_map { IsSome result ↔ IsPoseOnMap env.now p.now }
     ensures place { IfSome result (IsPlaceOf env.now p.now) }
-    ensures bounds { IfSome result (λ q. (q.x < env.now.width) × (q.y < env.now.height) × (q.t < env.now.headings)) }
+    ensures bounds { IfSome result (λ q.
+        (q.x < env.now.width) × (q.y < env.now.height) × (q.t < env.now.headings)) }
 {
     let x = cell_on_axis(env.cell, env.width, p.x)?;
     let y = cell_on_axis(env.cell, env.height, p.y)?;
@@ -69,8 +70,8 @@ pub fn place_at(env: &Env, p: &Pose) -> Option<Place>
 }
 
 /// What a cell and a heading are, in plain words. Cell `q` of a coordinate is the one with
-/// `q * size <= x < (q + 1) * size`. An angle and its turn differ by whole turns. A heading's bin reaches half a bin
-/// below its centre, and that edge belongs to it, and half a bin above, and that edge doesn't.
+/// `q * size <= x < (q + 1) * size`. An angle and its turn, which is in `0..TAU`, differ by whole turns. A heading is that
+/// of the bin whose centre is at most half a bin away.
 pub fn places_in_plain_words()
     ensures cell { (size x q : ℤ) → pos 0 <ℤ size → (cell_of size x ≡ q) ↔ IsCellOf size x q }
     ensures turn { (a : ℤ) → IsTurnOf a (turn_of a) }

@@ -135,6 +135,9 @@ spelled_like f Holds Same spelled like rule to from same = record {
 abbrev pub collected_behind : {E X : Type 0} → (List X → Format E X) → List X → Format E (List X)
 collected_behind f before = behind (f before) (λ x. done (before ++ x ∷ []))
 
+one_longer : {X : Type 0} (xs : List X) (x : X) (n : ℕ) → length xs ≡ n → length (x ∷ xs) ≡ suc n
+one_longer xs x n h = ap suc h
+
 grouped : {X : Type 0} (all before xs : List X) (x : X) → all ≡ before ++ x ∷ [] ++ xs → all ≡ before ++ x ∷ xs
 grouped all before xs x h = h ∙ append_assoc before (x ∷ []) xs
 
@@ -153,7 +156,7 @@ module _ {E X : Type 0} (f : List X → Format E X) (Holds : List X → X → Ty
       let others = collected n (before ++ x ∷ []) all one.1 rest (subst (λ (m : List Piece). Says (turns n (collected_behind f) (before ++ x ∷ [])) m all rest) place (subst (λ (s : List X). Says (turns n (collected_behind f) s) round.1 all rest) state round.3)) in (
         x ∷ others.0,
         grouped all before others.0 x others.1,
-        ap suc others.2,
+        one_longer others.0 x n others.2,
         ((rule before).holds x ts one.1 one.2, others.3),
         spells_both (spelled x) (flat_map spelled others.0) ts one.1 rest ((rule before).spells x ts one.1 one.2) others.4,
       )

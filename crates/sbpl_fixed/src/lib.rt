@@ -1,4 +1,5 @@
-//! Tokens of a text, and numbers in fixed point.
+//! Tokens and numbers of SBPL's text files, in this project's profile: tokens between blanks, whole numbers, and decimals
+//! in billionths; formats as data, which every reader of such a text shares; numbers printed; and rounding up.
 #![tactic(auto)]
 
 mod fault;

@@ -1,0 +1,67 @@
+-- The arcs of the lattice, by their motions.
+use Rattle.std.proofs.Common.{◌≡◌, ℕ, ◌<◌, ◌==◌, length, take, count_by, slice_get, slice_index, Some, option_and_then, refl, ap, sym, ◌∙◌, arith, subst}
+use Rattle.std.proofs.lemmas.Bool.{eqb-true}
+use Rattle.std.proofs.lemmas.Option.{slice_get-get_or}
+use Rattle.sbpl_mprim.specs.declared.prim.Primitive.{Primitive}
+use Rattle.sbpl_mprim.specs.Primitives.{IsPrimitive}
+use Rattle.sbpl_cost.specs.States.{place_of}
+use Rattle.sbpl_cost.specs.World.{World, IsWorld}
+use Rattle.sbpl_cost.specs.Arc.{IsArcBy, IsArcOf, HasLatticeArcs}
+use Rattle.sbpl_cost.specs.Lattices.{leaving, arc_place, arc_primitive, head_by, cost_by, network_of}
+use Rattle.sbpl_cost.proofs.Numbered.{numbered, length-places_from}
+use Rattle.sbpl_cost.proofs.Heads.{ends_in, head_where_ends, off_map_where_none, none_where_off_map}
+use Rattle.sbpl_cost.proofs.Freedom.{free_at, cost_where_free, not_free_where_none, none_where_not_free}
+
+-- the motion of arc k of state s
+pub record IsFound (w : World) (s k place : ℕ) (p : Primitive) : Type 0 where
+  pub by : IsArcBy w s k place p
+  pub at : arc_place w s k ≡ Some place
+  pub primitive : arc_primitive w s k ≡ Some p
+  pub good : IsPrimitive w.prims.cell w.prims.headings p
+
+-- the arc with this place in the table is the motion by the primitive that stands there
+pub found_at : (w : World) (s k place : ℕ) → IsWorld w → arc_place w s k ≡ Some place → (p : Primitive) × IsFound w s k place p
+found_at w s k place is_world at =
+    let n = numbered (λ p. p.from == (place_of w.env s).t) 0 w.prims.items k place at in
+    let same : n.at ≡ place = omega (arith, n.number) in
+    let stands = subst (λ i. slice_get w.prims.items i ≡ Some n.item) same n.stands in (
+      n.item,
+      record {
+        by = record {
+          stands = stands;
+          heading = eqb-true n.item.from (place_of w.env s).t n.passes;
+          number = subst (λ i. count_by (λ p. p.from == (place_of w.env s).t) (take i w.prims.items) ≡ k) same n.before;
+        };
+        at = at;
+        primitive = ap (λ o. option_and_then (slice_get w.prims.items) o) at ∙ stands;
+        good = is_world.prims.each place n.item stands;
+      },
+    )
+
+-- each arc below the fan has a motion
+pub found : (w : World) (s k : ℕ) → IsWorld w → k < length (leaving w.prims.items (place_of w.env s).t) → (place : ℕ) × (p : Primitive) × IsFound w s k place p
+found w s k is_world h =
+    let place = slice_index (leaving w.prims.items (place_of w.env s).t) k in
+    let there = found_at w s k place is_world (slice_get-get_or (leaving w.prims.items (place_of w.env s).t) k 0 h) in
+    (place, there.0, there.1)
+
+module _ (w : World) (is_world : IsWorld w) where
+  pub arc_of : (s k place : ℕ) (p : Primitive) → IsFound w s k place p → IsArcOf (network_of w) w s k p
+  unfolding network_of
+  arc_of s k place p f =
+      let head_is : option_and_then (head_by w s) (arc_primitive w s k) ≡ head_by w s p = ap (λ o. option_and_then (head_by w s) o) f.primitive in
+      let cost_is : option_and_then (cost_by w s) (arc_primitive w s k) ≡ cost_by w s p = ap (λ o. option_and_then (cost_by w s) o) f.primitive in
+      record {
+        head = λ t. (λ h. ends_in w is_world s p f.good t (sym head_is ∙ h), λ ends. head_is ∙ head_where_ends w is_world s p f.good t ends);
+        no_head = (λ h. off_map_where_none w is_world s p f.good (sym head_is ∙ h), λ off. head_is ∙ none_where_off_map w is_world s p f.good off);
+        cost = λ c. (λ h. free_at w is_world s p c (sym cost_is ∙ h), λ at. cost_is ∙ cost_where_free w is_world s p c at);
+        no_cost = (λ h. not_free_where_none w is_world s p (sym cost_is ∙ h), λ blocked. cost_is ∙ none_where_not_free w is_world s p blocked);
+      }
+
+  pub has_lattice_arcs : HasLatticeArcs (network_of w) w
+  unfolding network_of
+  has_lattice_arcs = record {
+    states = refl;
+    fan = λ s _. length-places_from (λ p. p.from == (place_of w.env s).t) 0 w.prims.items;
+    arcs = λ s k _ h. let f = found w s k is_world h in (f.0, f.1, f.2.by, arc_of s k f.0 f.1 f.2);
+  }

@@ -1,0 +1,31 @@
+-- The table of the primitives' costs.
+use Rattle.std.proofs.Common.{◌≡◌, ◌<◌, ◌≤◌, ◌+◌, ◌++◌, ◌∷◌, [], ℕ, List, inl, inr, ap, sym, ◌∙◌, map, take, length, slice_get, get_or, Some, arith, refl, subst}
+use Rattle.std.proofs.lemmas.Bool.{cases_lt}
+use Rattle.std.proofs.lemmas.Option.{same_Some, slice_get_read}
+use Rattle.sbpl_cfg.specs.Environment.{Environment}
+use Rattle.sbpl_mprim.specs.declared.prim.Primitive.{Primitive}
+use Rattle.sbpl_cost.specs.PrimitiveCost.{primitive_cost, most_cost}
+use Rattle.sbpl_cost.proofs.Filling.{map_more}
+
+-- the costs of the first n primitives, none of which is too dear
+abbrev pub AreCosts : Environment → List Primitive → List ℕ → ℕ → Type 0
+AreCosts e prims costs n =
+    (costs ≡ map (primitive_cost e) (take n prims)) × ((k : ℕ) (p : Primitive) → k < n → slice_get prims k ≡ Some p → (1 ≤ primitive_cost e p) × (primitive_cost e p ≤ most_cost))
+
+-- one more primitive
+pub costs_more : (e : Environment) (prims : List Primitive) (costs new : List ℕ) (i cost : ℕ) (p : Primitive) → slice_get prims i ≡ Some p → AreCosts e prims costs i
+    → new ≡ costs ++ cost ∷ [] → cost ≡ primitive_cost e p → cost ≤ most_cost → 1 ≤ cost → AreCosts e prims new (i + 1)
+costs_more e prims costs new i cost p there old added is high low = (
+  added ∙ ap (λ l. l ++ cost ∷ []) old.0 ∙ ap (λ c. map (primitive_cost e) (take i prims) ++ c ∷ []) is ∙ sym (map_more (primitive_cost e) prims i p there),
+  λ k q before at. elim (cases_lt k i) [
+    | inl earlier ↦ old.1 k q earlier at
+    | inr now ↦
+        let last : i ≡ k = omega arith in
+        let same = same_Some p q (sym (ap (λ n. slice_get prims n) (sym last) ∙ there) ∙ at) in
+        (subst (λ z. 1 ≤ z) (is ∙ ap (primitive_cost e) same) low, subst (λ z. z ≤ most_cost) (is ∙ ap (primitive_cost e) same) high)
+  ],
+)
+
+-- what is read from a list by another name
+pub read_there : {X : Type 0} (list items : List X) (i : ℕ) (x : X) → list ≡ items → i < length items → x ≡ get_or list i x → slice_get items i ≡ Some x
+read_there list items i x same h is = ap (λ l. slice_get l i) (sym same) ∙ slice_get_read list (length list) i x refl (omega (arith, h, ap length same)) is

@@ -1,0 +1,69 @@
+-- The greatest of some cells' costs.
+use Rattle.std.proofs.Common.{◌≡◌, ℕ, ℤ, ◌+◌, ◌<◌, ◌+ℤ◌, inl, inr, List, [], ◌∷◌, ◌++◌, length, take, slice_get, Option, Some, None, IsSomeAnd, max, ap, sym, ◌∙◌, arith, subst}
+use Rattle.std.proofs.lemmas.Bool.{cases_lt}
+use Rattle.std.proofs.lemmas.List.{length-take-le, length_push}
+use Rattle.std.proofs.lemmas.Option.{slice_get_within, same_Some}
+use Rattle.sbpl_map.specs.CellMap.{CellMap, cost_at}
+use Rattle.sbpl_cost.specs.declared.cell.Cell.{Cell}
+use Rattle.sbpl_cost.specs.Judging.{IsCellBelow, IsGreatestBelow}
+use Rattle.sbpl_cost.proofs.Filling.{take_next, before_push, at_push}
+
+-- an element of the first n + 1 is one of the first n or the next
+data IsAmong {X : Type 0} (xs : List X) (n : ℕ) (x : X) (i : ℕ) (y : X) : Type 0 where
+  earlier : slice_get (take n xs) i ≡ Some y → IsAmong xs n x i y
+  last : x ≡ y → IsAmong xs n x i y
+
+among : {X : Type 0} (xs : List X) (n : ℕ) (x : X) (i : ℕ) (y : X) → slice_get xs n ≡ Some x → slice_get (take (n + 1) xs) i ≡ Some y → IsAmong xs n x i y
+among xs n x i y next at =
+    let within = slice_get_within xs n x next in
+    let size : length (take n xs) ≡ n = length-take-le n xs (omega arith) in
+    let pushed = ap (λ l. slice_get l i) (sym (take_next xs n x next)) ∙ at in
+    let inside = slice_get_within (take n xs ++ x ∷ []) i y pushed in
+    elim (cases_lt i n) [
+      | inl less ↦ earlier (sym (before_push (take n xs) x i (omega arith)) ∙ pushed)
+      | inr more ↦ last (same_Some x y (sym (at_push (take n xs) x i (omega (arith, length_push (take n xs) x))) ∙ pushed))
+    ]
+
+some_below : (o : Option ℕ) (limit c : ℕ) → o ≡ Some c → c < limit → IsSomeAnd o (λ k. k < limit)
+some_below None limit c h below = absurd (let no : None ≡ Some c = h in cc)
+some_below (Some k) limit c h below = let same = same_Some k c h in omega arith
+
+module _ (m : CellMap) (cells : List Cell) (x y : ℤ) (limit least greatest n cost : ℕ) (next : Cell) (at : slice_get cells n ≡ Some next) (is : cost_at m (x +ℤ next.x) (y +ℤ next.y) ≡ Some cost) (small : cost < limit) where
+  below_next : (c : Cell) → next ≡ c → IsCellBelow m (x +ℤ c.x) (y +ℤ c.y) limit
+  below_next c same = subst (λ (z : Cell). IsCellBelow m (x +ℤ z.x) (y +ℤ z.y) limit) same (some_below _ limit cost is small)
+
+  cost_next : (c : Cell) (k : ℕ) → next ≡ c → cost_at m (x +ℤ c.x) (y +ℤ c.y) ≡ Some k → cost ≡ k
+  cost_next c k same there = same_Some cost k (sym is ∙ ap (λ (z : Cell). cost_at m (x +ℤ z.x) (y +ℤ z.y)) same ∙ there)
+
+  size : length (take n cells) ≡ n
+  size = let within = slice_get_within cells n next at in length-take-le n cells (omega arith)
+
+  at_end : slice_get (take (n + 1) cells) n ≡ Some next
+  at_end = ap (λ l. slice_get l n) (take_next cells n next at) ∙ at_push (take n cells) next n (sym size)
+
+  kept : (i : ℕ) (c : Cell) → slice_get (take n cells) i ≡ Some c → slice_get (take (n + 1) cells) i ≡ Some c
+  kept i c h = ap (λ l. slice_get l i) (take_next cells n next at) ∙ before_push (take n cells) next i (slice_get_within (take n cells) i c h) ∙ h
+
+  -- one more cell
+  pub greatest_more : IsGreatestBelow m (take n cells) x y limit least greatest → IsGreatestBelow m (take (n + 1) cells) x y limit least (max greatest cost)
+  greatest_more old = record {
+    below = λ i c h. elim (among cells n next i c at h) [ earlier e ↦ old.below i c e | last e ↦ below_next c e ];
+    at_least = omega (arith, old.at_least);
+    none_above = λ i k c h there. elim (among cells n next i c at h) [
+      | earlier e ↦ omega (arith, old.none_above i k c e there)
+      | last e ↦
+          let cost_is = cost_next c k e there in
+          omega arith
+    ];
+    reached = elim (cases_lt greatest cost) [
+      | inl less ↦
+          let whole : max greatest cost ≡ cost = omega arith in
+          inr (n, next, at_end, is ∙ ap (λ k. Some k) (sym whole))
+      | inr more ↦
+          let whole : max greatest cost ≡ greatest = omega arith in
+          elim old.reached [
+            | inl first ↦ inl (whole ∙ first)
+            | inr some ↦ inr (some.0, some.1, kept some.0 some.1 some.2, some.3 ∙ ap (λ k. Some k) (sym whole))
+          ]
+    ];
+  }

@@ -1,0 +1,111 @@
+-- The lattice keeps the laws of a graph.
+use Rattle.std.proofs.Common.{◌≡◌, ℕ, ℤ, pos, negsuc, ◌+◌, ◌*◌, ◌^◌, ◌<◌, ◌≤◌, ◌==◌, ◌&&◌, List, slice_get, Option, Some, None, option_and_then, IsSome, IsSomeAnd, nat_lt, refl, arith}
+use Rattle.std.proofs.Math.Nat.{mul-le-mul}
+use Rattle.std.proofs.lemmas.Bool.{and_parts, ltb-true}
+use Rattle.std.proofs.lemmas.List.Sums.{count_by-le-length}
+use Rattle.std.proofs.lemmas.Nat.{mul-add-lt}
+use Rattle.std.proofs.lemmas.Option.{get_or_from_slice_get, cond_some, none-some}
+use Rattle.sbpl_graph.specs.Laws.{IsSound, HasGaps}
+use Rattle.sbpl_cfg.specs.declared.pose.Place.{Place}
+use Rattle.sbpl_cfg.specs.Environment.{Environment}
+use Rattle.sbpl_map.specs.CellMap.{CellMap, IsCellMap, IsOnMap, place_in, cost_at}
+use Rattle.sbpl_cost.specs.PrimitiveCost.{primitive_cost}
+use Rattle.sbpl_cost.specs.States.{IsPlace, place_of, state_number, state_count}
+use Rattle.sbpl_cost.specs.World.{World, IsWorld}
+use Rattle.sbpl_cost.specs.Arc.{cost_from, IsFreeAt}
+use Rattle.sbpl_cost.specs.Lattices.{network_of}
+use Rattle.sbpl_cost.proofs.Numbered.{length-places_from}
+use Rattle.sbpl_cost.proofs.Heads.{on_map_at}
+use Rattle.sbpl_cost.proofs.Arcs.{found, arc_of}
+
+-- a place's state is one of the states
+pub state_number_below : (e : Environment) (p : Place) → IsPlace e p → state_number e p < state_count e
+state_number_below e p at =
+    let cell = mul-add-lt p.y e.width p.x e.height at.y at.x in
+    let state = mul-add-lt (p.y * e.width + p.x) e.headings p.t (e.width * e.height) cell at.t in
+    omega (arith, state)
+
+place_where_cost : (costs : List ℕ) (o : Option ℕ) (c : ℕ) → option_and_then (slice_get costs) o ≡ Some c → (place : ℕ) × (o ≡ Some place) × (slice_get costs place ≡ Some c)
+place_where_cost costs None c h = absurd (none-some c h)
+place_where_cost costs (Some place) c h = (place, refl, h)
+
+-- a cell that has a cost is on the map, and its cost is at most 255
+pub on_map_where_cost : (m : CellMap) (x y : ℤ) (c : ℕ) → IsCellMap m → cost_at m x y ≡ Some c → IsOnMap m x y × (c ≤ 255)
+on_map_where_cost m (pos a) (pos b) c kept h =
+    let place = place_where_cost m.costs (place_in m (pos a) (pos b)) c h in
+    let inside = cond_some (nat_lt a m.width && nat_lt b m.height) (b * m.width + a) place.0 place.1 in
+    let parts = and_parts (nat_lt a m.width) (nat_lt b m.height) inside.0 in
+    let cost = get_or_from_slice_get m.costs place.0 c 0 place.2 in
+    (on_map_at m (pos a) (pos b) a b refl refl (ltb-true a m.width parts.0) (ltb-true b m.height parts.1), omega (arith, kept.costs place.0, cost))
+on_map_where_cost m (pos a) (negsuc b) c kept h = absurd (none-some c h)
+on_map_where_cost m (negsuc a) y c kept h = absurd (none-some c h)
+
+-- something is there where nothing can't be
+some_where_not_none : {A : Type 0} (o : Option A) → (o ≡ None → ⊥) → IsSome o
+some_where_not_none None h = absurd (h refl)
+some_where_not_none (Some x) h = refl
+
+-- what a cost below a threshold says of the cell
+has_cost : (o : Option ℕ) (n : ℕ) → IsSomeAnd o (λ c. c < n) → (c : ℕ) × (o ≡ Some c)
+has_cost None n h = absurd h
+has_cost (Some c) n h = (c, refl)
+
+product_below : (a g : ℕ) → a ≤ 16777215 → g ≤ 255 → a * (g + 1) < 2 ^ 32
+product_below a g ha hg =
+    let hg' : g + 1 ≤ 256 = omega arith in
+    let h : a * (g + 1) ≤ 16777215 * 256 = mul-le-mul ha hg' in
+    omega arith
+
+product_positive : (a g : ℕ) → 1 ≤ a → 1 ≤ a * (g + 1)
+product_positive a g ha =
+    let hg : 1 ≤ g + 1 = omega arith in
+    let h : 1 * 1 ≤ a * (g + 1) = mul-le-mul ha hg in
+    omega arith
+
+count_positive : (a b c : ℕ) → 1 ≤ a → 1 ≤ b → 1 ≤ c → 1 ≤ a * b * c
+count_positive a b c ha hb hc =
+    let h : 1 * 1 ≤ a * b = mul-le-mul ha hb in
+    let k : 1 * 1 * 1 ≤ a * b * c = mul-le-mul h hc in
+    omega arith
+
+module _ (w : World) (is_world : IsWorld w) where
+  pub cost_in_range : (s : ℕ) (p : _) (c place : ℕ) → slice_get w.prims.items place ≡ Some p → IsFreeAt w s p c → (1 ≤ c) × (c < 2 ^ 32)
+  cost_in_range s p c place stands at =
+      let own = is_world.costs place p stands in
+      let small = (on_map_where_cost w.map _ _ at.greatest is_world.map at.paid.cost).1 in
+      let low = product_positive (primitive_cost w.env p) at.greatest own.0 in
+      let high = product_below (primitive_cost w.env p) at.greatest own.1 small in
+      (omega (arith, low, at.product), omega (arith, high, at.product))
+
+  pub sound : IsSound (network_of w)
+  unfolding network_of
+  sound = record {
+    some_state = count_positive w.env.width w.env.height w.env.headings is_world.env.width.0 is_world.env.height.0 (omega (arith, is_world.headings, is_world.prims.headings.0));
+    few_states = is_world.env.states;
+    few_arcs = λ s _. omega (arith, length-places_from (λ p. p.from == (place_of w.env s).t) 0 w.prims.items, count_by-le-length (λ p. p.from == (place_of w.env s).t) w.prims.items, is_world.prims.count);
+    head_is_state = λ s k t _ number h.
+        let f = found w s k is_world number in
+        let ends = (((arc_of w is_world s k f.0 f.1 f.2).head t).0 h) in
+        let below = state_number_below w.env ends.place ends.on_map in
+        omega (arith, below, ends.number);
+    cost_at_least_one = λ s k c _ number h.
+        let f = found w s k is_world number in
+        (cost_in_range s f.1 c f.0 f.2.by.stands (((arc_of w is_world s k f.0 f.1 f.2).cost c).0 h)).0;
+    cost_fits = λ s k c _ number h.
+        let f = found w s k is_world number in
+        (cost_in_range s f.1 c f.0 f.2.by.stands (((arc_of w is_world s k f.0 f.1 f.2).cost c).0 h)).1;
+    free_has_head = λ s k c _ number h.
+        let f = found w s k is_world number in
+        let arc = arc_of w is_world s k f.0 f.1 f.2 in
+        let free = (((arc.cost c).0 h).free).target in
+        let cost = has_cost (cost_from w s f.1.dx f.1.dy) w.env.obsthresh free in
+        some_where_not_none _ (λ none. arc.no_head.0 none (on_map_where_cost w.map _ _ cost.0 is_world.map cost.1).0);
+  }
+
+  pub gaps : HasGaps (network_of w)
+  unfolding network_of
+  gaps = record {
+    small = λ a b _ _. omega arith;
+    to_itself = λ a _. refl;
+    along = λ s k t c b _ _. omega arith;
+  }

@@ -1,0 +1,45 @@
+-- Costs of cells below a limit.
+use Rattle.std.specs.Prelude.{◌≡◌, ℕ, ℤ, pos, negsuc, ◌<◌, ◌≤◌, ◌+ℤ◌, ◌⊎◌, List, slice_get, Some, IsSomeAnd, min, max}
+use Rattle.sbpl_cfg.specs.declared.pose.Place.{Place}
+use Rattle.sbpl_cfg.specs.Environment.{Environment, IsWithin}
+use Rattle.sbpl_mprim.specs.declared.prim.Primitive.{Primitive}
+use Rattle.sbpl_map.specs.CellMap.{CellMap, cost_at}
+use Rattle.sbpl_cost.specs.declared.cell.Cell.{Cell}
+
+-- an offset is that of a cell in which a pose can lie
+abbrev pub IsNear : Cell → Type 0
+IsNear c = IsWithin (negsuc 4000000000000) (pos 4000000000000) c.x × IsWithin (negsuc 4000000000000) (pos 4000000000000) c.y
+
+-- cell (x, y) is on the map and costs less than a limit
+abbrev pub IsCellBelow : CellMap → ℤ → ℤ → ℕ → Type 0
+IsCellBelow m x y limit = IsSomeAnd (cost_at m x y) (λ c. c < limit)
+
+-- some cell that lies this far from (x, y) is off the map or costs the limit or more
+pub record IsSomeBlocked (m : CellMap) (cells : List Cell) (x y : ℤ) (limit : ℕ) : Type 0 where
+  pub number : ℕ
+  pub cell : Cell
+  pub at : slice_get cells number ≡ Some cell
+  pub blocked : IsCellBelow m (x +ℤ cell.x) (y +ℤ cell.y) limit → ⊥
+
+-- all cells that lie this far from (x, y) cost less than the limit, and the greatest of their costs and a number is this
+pub record IsGreatestBelow (m : CellMap) (cells : List Cell) (x y : ℤ) (limit least greatest : ℕ) : Type 0 where
+  pub below : (i : ℕ) (c : Cell) → slice_get cells i ≡ Some c → IsCellBelow m (x +ℤ c.x) (y +ℤ c.y) limit
+  pub at_least : least ≤ greatest
+  pub none_above : (i cost : ℕ) (c : Cell) → slice_get cells i ≡ Some c → cost_at m (x +ℤ c.x) (y +ℤ c.y) ≡ Some cost → cost ≤ greatest
+  pub reached : (greatest ≡ least) ⊎ ((i : ℕ) × (c : Cell) × (slice_get cells i ≡ Some c) × (cost_at m (x +ℤ c.x) (y +ℤ c.y) ≡ Some greatest))
+
+-- the costs of a motion's source cell, end cell and centre cells are below their limits, and this is the greatest of them
+pub record IsGreatestPassed (e : Environment) (m : CellMap) (source : Place) (p : Primitive) (cells : List Cell) (greatest : ℕ) : Type 0 where
+  pub start : ℕ
+  pub end : ℕ
+  pub start_is : cost_at m (pos source.x +ℤ pos 0) (pos source.y +ℤ pos 0) ≡ Some start
+  pub start_below : start < e.obsthresh
+  pub end_is : cost_at m (pos source.x +ℤ p.dx) (pos source.y +ℤ p.dy) ≡ Some end
+  pub end_below : end < min e.obsthresh e.inscribed
+  pub rest : IsGreatestBelow m cells (pos source.x) (pos source.y) (min e.obsthresh e.inscribed) (max start end) greatest
+
+-- the source cell, the end cell or a centre cell of a motion is not below its limit
+pub data IsObstructed (e : Environment) (m : CellMap) (source : Place) (p : Primitive) (cells : List Cell) : Type 0 where
+  at_source : (IsCellBelow m (pos source.x +ℤ pos 0) (pos source.y +ℤ pos 0) e.obsthresh → ⊥) → IsObstructed e m source p cells
+  at_target : (IsCellBelow m (pos source.x +ℤ p.dx) (pos source.y +ℤ p.dy) (min e.obsthresh e.inscribed) → ⊥) → IsObstructed e m source p cells
+  at_centre : IsSomeBlocked m cells (pos source.x) (pos source.y) (min e.obsthresh e.inscribed) → IsObstructed e m source p cells

@@ -1,0 +1,222 @@
+//! The lattice: an environment, primitives and a map, as a graph.
+
+ghost use Rattle.std.specs.Prelude.{◌≡◌, ℕ, ◌<◌, ◌≤◌, ◌^◌, ◌↔◌, length, slice_get, Some, IsSome, IfSome, IfOk, IfErr, MatchOption};
+ghost use Rattle.sbpl_mprim.specs.declared.prim.Primitive.{Primitive};
+ghost use Rattle.sbpl_map.specs.CellMap.{cost_at, IsOnMap};
+ghost use Rattle.sbpl_graph.specs.Laws.{IsSound};
+ghost use Rattle.sbpl_cost.specs.PrimitiveCost.{primitive_cost, most_cost};
+ghost use Rattle.sbpl_cost.specs.States.{IsPlace, place_of, state_number, state_in, state_count};
+ghost use Rattle.sbpl_cost.specs.World.{World, IsWorld};
+ghost use Rattle.sbpl_cost.specs.Arc.{IsArcBy, IsFree, IsFreeAt};
+ghost use Rattle.sbpl_cost.specs.Lattices.{network_of, arc_place, leaving};
+ghost use Rattle.sbpl_cost.specs.Tables.{AreCheap, IsCause};
+
+use crate::cell::Cell;
+use crate::fault::LatticeFault;
+use crate::judging::greatest_paid;
+use crate::places::{end_state, heading_of, place_at, state_at, state_count};
+use crate::runs::Runs;
+use crate::tables::{centre_table, leaving_table, primitive_costs};
+use sbpl_cfg::{Env, Place};
+use sbpl_graph::Graph;
+use sbpl_map::Map;
+use sbpl_mprim::Prims;
+use std::alloc::Global;
+use std::marker::Model;
+
+/// SBPL's lattice over a map. A state is a cell with a heading; its arcs are the primitives that start at its heading,
+/// in the order of the file. The present map decides which arcs are free and what they cost. Only `new` takes memory.
+#[derive(Drop)]
+pub struct Lattice {
+    env: Env,
+    prims: Prims,
+    map: Map,
+    /// For each heading the places in the file of the primitives that start at it.
+    leaving: Runs<u32>,
+    /// For each primitive its cost by itself.
+    costs: Vec<u32>,
+    /// For each primitive its centre cells.
+    centres: Runs<Cell>,
+}
+
+impl Model for Lattice {
+    ghost use Rattle.sbpl_cost.specs.World.{World};
+    ghost use Rattle.sbpl_cost.specs.Tables.{AreTables};
+
+    ghost Value = { World };
+
+    ghost view = { λ l. record { env = l.env; prims = l.prims; radius = 0; map = l.map } };
+
+    ghost invariant = { λ l. AreTables (record { env = l.env; prims = l.prims; radius = 0; map = l.map }) l.leaving l.costs.items l.centres };
+}
+
+impl Lattice {
+    /// The lattice of an environment, its primitives and its map, for a robot of radius 0: they belong together by cell
+    /// size, headings and size. `TooDear` names the first primitive, by its place in the file, whose cost by itself is
+    /// above `MOST_COST`, and comes exactly where there is one.
+    pub fn new(alloc: Global, env: &Env, prims: Prims, map: Map) -> Result<Lattice, LatticeFault>
+        requires cell { prims.cell ≡ env.now.cell }
+        requires headings { prims.headings ≡ env.now.headings }
+        requires width { map.width ≡ env.now.width }
+        requires height { map.height ≡ env.now.height }
+        ensures world { IfOk result (λ l. l ≡ record { env = env.now; prims = prims; radius = 0; map = map }) }
+        ensures kept { IfOk result (λ l. IsWorld l) }
+        ensures cheap { IfOk result (λ _. AreCheap env.now prims.items) }
+        ensures cause { IfErr result (λ e. IsCause env.now prims.items e) }
+    {
+        let _width = map.width();
+        let costs = primitive_costs(alloc, env, &prims)?;
+        let leaving = leaving_table(alloc, &prims)?;
+        let centres = centre_table(alloc, &prims)?;
+        Ok(Lattice {
+            env: copy_of(env),
+            prims,
+            map,
+            leaving,
+            costs,
+            centres,
+        })
+    }
+
+    /// The environment that the lattice was made of.
+    pub fn env(&self) -> &Env
+        ensures env { result.now ≡ self.now.env }
+        ensures kept { IsWorld self.now }
+    {
+        &self.env
+    }
+
+    /// The primitives that the lattice was made of.
+    pub fn prims(&self) -> &Prims
+        ensures prims { result.now ≡ self.now.prims }
+        ensures kept { IsWorld self.now }
+    {
+        &self.prims
+    }
+
+    /// The present map.
+    pub fn map(&self) -> &Map
+        ensures map { result.now ≡ self.now.map }
+        ensures kept { IsWorld self.now }
+    {
+        &self.map
+    }
+
+    /// The state at a place, or `None` exactly where its cell is off the map or its heading is not one of the
+    /// environment's.
+    pub fn state_of(&self, p: &Place) -> Option<u32>
+        ensures value { IfSome result (λ s. s ≡ state_number self.now.env p.now) }
+        ensures place { IsSome result ↔ IsPlace self.now.env p.now }
+        ensures state { IfSome result (λ s. s < (network_of self.now).states) }
+        ensures back { IfSome result (λ s. place_of self.now.env s ≡ p.now) }
+    {
+        state_at(&self.env, p)
+    }
+
+    /// The place of state `s`.
+    pub fn place_of(&self, s: u32) -> Place
+        requires state { s < (network_of self.now).states }
+        ensures value { result ≡ place_of self.now.env s }
+        ensures place { IsPlace self.now.env result }
+        ensures back { state_number self.now.env result ≡ s }
+    {
+        place_at(&self.env, s)
+    }
+
+    /// The place in the file of the primitive of arc `k` of state `s`: it is the `k`-th, from 0, of those that start at
+    /// the heading of `s`.
+    pub fn prim_of(&self, s: u32, k: u32) -> u32
+        requires state { s < (network_of self.now).states }
+        requires number { k < (network_of self.now).fan s }
+        ensures value { arc_place self.now s k ≡ Some result }
+        ensures primitive { (p : Primitive) × IsArcBy self.now s k result p }
+    {
+        self.leaving_at(heading_of(&self.env, s), k)
+    }
+
+    /// The place in the file of the `k`-th primitive, from 0, of those that start at heading `t`.
+    fn leaving_at(&self, t: u32, k: u32) -> u32
+        requires heading { t < self.now.env.headings }
+        requires number { k < length (leaving self.now.prims.items t) }
+        ensures place { slice_get (leaving self.now.prims.items t) k ≡ Some result }
+        ensures inside { result < length self.now.prims.items }
+    {
+        self.leaving.at(t as usize)[k as usize]
+    }
+
+    /// The id of the primitive at place `i` of the file.
+    pub fn prim_id(&self, i: u32) -> u32
+        requires place { i < length self.now.prims.items }
+        ensures id { (p : Primitive) × (slice_get self.now.prims.items i ≡ Some p) × (result ≡ p.id) }
+    {
+        self.prims.get(i).id
+    }
+
+    /// The cost by itself of the primitive at place `i` of the file, 1..16777215.
+    pub fn cost_of(&self, i: u32) -> u32
+        requires place { i < length self.now.prims.items }
+        ensures cost { (p : Primitive) × (slice_get self.now.prims.items i ≡ Some p) × (result ≡ primitive_cost self.now.env p) }
+        ensures positive { 1 ≤ result }
+        ensures limit { result ≤ most_cost }
+    {
+        self.costs[i as usize]
+    }
+
+    /// The present cost of cell `(x, y)`, or `None` exactly off the map.
+    pub fn cell_cost(&self, x: i64, y: i64) -> Option<u8>
+        ensures value { result ≡ cost_at self.now.map x y }
+        ensures on_map { IsSome result ↔ IsOnMap self.now.map x y }
+    {
+        self.map.cost(x, y)
+    }
+}
+
+impl Graph for Lattice {
+    ghost use Rattle.sbpl_cost.specs.Lattices.{network_of};
+
+    ghost network = { network_of };
+
+    fn states(&self) -> u32 {
+        state_count(&self.env)
+    }
+
+    fn fan(&self, s: u32) -> u32 {
+        self.leaving.at(heading_of(&self.env, s) as usize).len() as u32
+    }
+
+    fn head(&self, s: u32, k: u32) -> Option<u32> {
+        let source = place_at(&self.env, s);
+        let i = self.leaving_at(source.t, k);
+        end_state(&self.env, source, self.prims.get(i))
+    }
+
+    fn judge(&self, s: u32, k: u32) -> Option<u32> {
+        let source = place_at(&self.env, s);
+        let i = self.leaving_at(source.t, k);
+        let centres = self.centres.at(i as usize);
+        let Some(greatest) = greatest_paid(&self.env, &self.map, source, self.prims.get(i), centres)
+        else {
+            return None;
+        };
+        Some(self.costs[i as usize] * (u32::from(greatest) + 1))
+    }
+}
+
+/// The same environment.
+fn copy_of(env: &Env) -> Env
+    ensures same { result ≡ env.now }
+{
+    Env {
+        width: env.width,
+        height: env.height,
+        obsthresh: env.obsthresh,
+        inscribed: env.inscribed,
+        circumscribed: env.circumscribed,
+        cell: env.cell,
+        speed: env.speed,
+        turn45: env.turn45,
+        start: env.start,
+        end: env.end,
+        headings: env.headings,
+    }
+}
