@@ -1,13 +1,12 @@
 //! The lattice: an environment, primitives and a map, as a graph.
 
-ghost use Rattle.std.specs.Prelude.{◌≡◌, ℕ, ◌<◌, ◌≤◌, ◌^◌, ◌↔◌, length, slice_get, Some, IsSome, IfSome, IsOk, IfOk, IfErr, OnOk, OnErr, MatchOption};
+ghost use Rattle.std.specs.Prelude.{◌≡◌, ◌<◌, ◌≤◌, ◌↔◌, length, slice_get, Some, IsSome, IfSome, IsOk, IfOk, IfErr, OnOk, OnErr};
 ghost use Rattle.sbpl_mprim.specs.declared.prim.Primitive.{Primitive};
 ghost use Rattle.sbpl_map.specs.CellMap.{cost_at, IsOnMap, ChangesCell};
-ghost use Rattle.sbpl_graph.specs.Laws.{IsSound};
 ghost use Rattle.sbpl_cost.specs.PrimitiveCost.{primitive_cost, most_cost};
-ghost use Rattle.sbpl_cost.specs.States.{IsPlace, place_of, state_number, state_in, state_count};
+ghost use Rattle.sbpl_cost.specs.States.{IsPlace, place_of, state_number};
 ghost use Rattle.sbpl_cost.specs.World.{World, IsWorld};
-ghost use Rattle.sbpl_cost.specs.Arc.{IsArcBy, IsFree, IsFreeAt};
+ghost use Rattle.sbpl_cost.specs.Arc.{IsArcBy};
 ghost use Rattle.sbpl_cost.specs.Lattices.{network_of, arc_place, leaving};
 ghost use Rattle.sbpl_cost.specs.Tables.{AreCheap, IsCause};
 
@@ -130,6 +129,7 @@ impl Lattice {
         requires number { k < (network_of self.now).fan s }
         ensures value { arc_place self.now s k ≡ Some result }
         ensures primitive { (p : Primitive) × IsArcBy self.now s k result p }
+        ensures inside { result < length self.now.prims.items }
     {
         self.leaving_at(heading_of(&self.env, s), k)
     }

@@ -1,6 +1,6 @@
 //! The costs of the cells, as they are at present.
 
-ghost use Rattle.std.specs.Prelude.{◌≡◌, ◌*◌, ◌<◌, ◌≤◌, ◌↔◌, length, IsSome, IsOk, IfOk, OnOk, OnErr, Some};
+ghost use Rattle.std.specs.Prelude.{◌≡◌, ◌*◌, ◌<◌, ◌↔◌, length, IsSome, IsOk, IfOk, OnOk, OnErr, Some};
 ghost use Rattle.sbpl_map.specs.CellMap.{cost_at, place_in, IsOnMap, IsCellMap, ChangesCell};
 
 use crate::off_map::OffMap;
