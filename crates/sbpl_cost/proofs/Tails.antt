@@ -1,24 +1,23 @@
 -- The tails of the lattice are its arcs, read from the other end.
-use Rattle.std.proofs.Common.{◌≡◌, ℕ, ℤ, pos, ◌+◌, ◌*◌, ◌^◌, ◌<◌, ◌≤◌, ◌==◌, ◌+ℤ◌, ◌-ℤ◌, List, length, take, count_by, slice_get, Option, Some, None, option_and_then, refl, ap, sym, zero-add, ◌∙◌, arith, subst}
+use Rattle.std.proofs.Common.{◌≡◌, ℕ, ℤ, pos, ◌<◌, ◌≤◌, ◌==◌, ◌+ℤ◌, ◌-ℤ◌, List, length, take, count_by, slice_get, Option, Some, None, option_and_then, refl, ap, sym, zero-add, ◌∙◌, arith}
 use Rattle.std.specs.Option.{option_map}
 use Rattle.std.proofs.lemmas.Bool.{eqb-true, eq-eqb}
 use Rattle.std.proofs.lemmas.Grind.{merely}
 use Rattle.std.proofs.lemmas.Int.{ints}
 use Rattle.std.proofs.lemmas.List.Sums.{count_by-le-length}
 use Rattle.std.proofs.lemmas.Option.{none-some, same_Some, slice_get_within}
-use Rattle.sbpl_graph.specs.Network.{Network, IsArc}
+use Rattle.sbpl_graph.specs.Network.{IsArc}
 use Rattle.sbpl_graph.specs.Laws.{IsTail, HasExactTails}
 use Rattle.sbpl_cfg.specs.declared.pose.Place.{Place}
 use Rattle.sbpl_mprim.specs.declared.prim.Primitive.{Primitive}
-use Rattle.sbpl_mprim.specs.Primitives.{IsPrimitive}
 use Rattle.sbpl_cost.specs.States.{IsPlace, place_of, state_number, state_in, state_count}
 use Rattle.sbpl_cost.specs.World.{World, IsWorld}
 use Rattle.sbpl_cost.specs.Lattices.{leaving, entering, arc_place, arc_primitive, head_by, tail_by, network_of}
-use Rattle.sbpl_cost.proofs.Numbered.{IsNumbered, numbered, numbered_at, length-places_from}
+use Rattle.sbpl_cost.proofs.Numbered.{numbered, numbered_at, length-places_from}
 use Rattle.sbpl_cost.proofs.Heads.{state_in_some, state_in_at, ends_in}
 use Rattle.sbpl_cost.proofs.PlaceLaws.{place_of_state, state_of_place_of, place_of_state_number}
 use Rattle.sbpl_cost.proofs.LatticeLaws.{state_number_below}
-use Rattle.sbpl_cost.proofs.Arcs.{IsFound, found, found_at}
+use Rattle.sbpl_cost.proofs.Arcs.{found}
 
 -- a tail of state t: the primitive that ends at its heading, and the place that it leads from
 pub record IsTailBy (w : World) (t j s k : ℕ) : Type 0 where
