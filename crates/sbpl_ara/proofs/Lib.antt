@@ -1,6 +1,7 @@
 pub mod Marking
 pub mod Closing
 pub mod Opening
+pub mod Ranking
 pub mod Resting
 pub mod Changing
 pub mod Relaxing

@@ -47,3 +47,14 @@ parts_more {labels' = labels'} {goal = goal} {closed = closed} {steps = steps} {
 pub steps_at_most : {labels : Marks} {goal : ℕ} {closed : List Bool} {steps : Room} → AreParts labels goal closed steps
     → length steps.items ≤ states_of labels
 steps_at_most parts = omega (arith, parts.counted)
+
+-- other labels of as many states serve as well
+pub parts_alike : {labels labels' : Marks} {goal : ℕ} {closed : List Bool} {steps : Room} → AreParts labels goal closed steps
+    → states_of labels' ≡ states_of labels → AreParts labels' goal closed steps
+parts_alike parts same = record {
+  goal_inside = omega (arith, parts.goal_inside);
+  closed_states = parts.closed_states ∙ sym same;
+  enough_room = omega (arith, parts.enough_room);
+  closed_by_steps = parts.closed_by_steps;
+  counted = omega (arith, parts.counted);
+}

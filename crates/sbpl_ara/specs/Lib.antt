@@ -5,3 +5,4 @@ pub mod Run
 pub mod Ranked
 pub mod Relaxed
 pub mod Search
+pub mod Sample

@@ -49,7 +49,8 @@ impl Ara {
         requires start { start < states }
         requires goal { goal < states }
         ensures opened { IfOk result (λ a. IsOpened a.labels states start) }
-        ensures ready { IfOk result (λ a. (n : Network) (count : ℕ) → n.states ≡ states → AreReady n a.labels count) }
+        ensures ready { IfOk result
+            (λ a. (n : Network) (count : ℕ) → n.states ≡ states → AreReady n a.labels count) }
         ensures goal { IfOk result (λ a. a.goal ≡ goal) }
         ensures untraced { IfOk result (λ a. a.trace ≡ []) }
     {
@@ -67,14 +68,15 @@ impl Ara {
     /// Opens the labels again and empties the trace. The start, the goal and the number of states
     /// stay. It takes no memory.
     pub fn reset(&mut self)
-        ensures opened { IsOpened self.new.labels (states_of self.old.labels) self.old.labels.start }
-        ensures ready { (n : Network) (count : ℕ) → n.states ≡ states_of self.old.labels → AreReady n self.new.labels count }
+        ensures opened { IsOpened self.new.labels (states_of self.old.labels)
+            self.old.labels.start }
+        ensures ready { (n : Network) (count : ℕ) → n.states ≡ states_of self.old.labels
+            → AreReady n self.new.labels count }
         ensures goal { self.new.goal ≡ self.old.goal }
         ensures untraced { self.new.trace ≡ [] }
     {
         self.labels.reset();
-        self.closed.clear();
-        self.steps.clear();
+        self.begin();
     }
 
     /// A pass: open states are expanded, the least key first, until no open key is below the goal's
@@ -94,26 +96,46 @@ impl Ara {
         requires guide { H.guides guide.now (G.network graph.now) self.old.goal }
         requires ready { AreReady (G.network graph.now) self.old.labels budget.old.run }
         // The trace is a serial run, which lowers each state at most once.
-        ensures run { IsRun (query (G.network graph.now) (H.distance guide.now) eps self.old.goal) none_closed self.new.trace self.old.labels self.new.labels }
+        ensures run { IsRun (query (G.network graph.now) (H.distance guide.now) eps self.old.goal)
+            none_closed self.new.trace self.old.labels self.new.labels }
         ensures lowered { All (λ step. step.raised ≡ false) self.new.trace }
         ensures once { AllPairs (λ a b. a.state ≢ b.state) self.new.trace }
         ensures few { length self.new.trace ≤ states_of self.old.labels }
         // It rests exactly where no open key is below the goal's, and is spent exactly where one is
-        // and the budget is spent. A pass that is spent has not expanded every state.
-        ensures rest { (result ≡ PassEnd.Rest) ↔ IsAtRest (query (G.network graph.now) (H.distance guide.now) eps self.old.goal) (closed_after none_closed self.new.trace) self.new.labels }
-        ensures spent { (result ≡ PassEnd.Spent) ↔ (IsSpent budget.new × ((s : ℕ) × IsNext (query (G.network graph.now) (H.distance guide.now) eps self.old.goal) (closed_after none_closed self.new.trace) self.new.labels s)) }
-        ensures unfinished { result ≡ PassEnd.Spent → length self.new.trace < states_of self.old.labels }
-        ensures enough { budget.old.plan + states_of self.old.labels ≤ budget.old.per_plan → budget.old.run + states_of self.old.labels ≤ 2 ^ 30 → result ≡ PassEnd.Rest }
+        // and the budget is spent. A pass that is spent has not expanded every state, so one that
+        // may still expand as many states as there are rests.
+        ensures rest { (result ≡ PassEnd.Rest)
+            ↔ IsAtRest (query (G.network graph.now) (H.distance guide.now) eps self.old.goal)
+            (closed_after none_closed self.new.trace) self.new.labels }
+        ensures spent { (result ≡ PassEnd.Spent)
+            ↔ (IsSpent budget.new
+            × ((s : ℕ) × IsNext (query (G.network graph.now) (H.distance guide.now) eps self.old.goal)
+            (closed_after none_closed self.new.trace) self.new.labels s)) }
+        ensures unfinished { result ≡ PassEnd.Spent
+            → length self.new.trace < states_of self.old.labels }
+        ensures enough { budget.old.plan + states_of self.old.labels ≤ budget.old.per_plan
+            → budget.old.run + states_of self.old.labels ≤ 2 ^ 30 → result ≡ PassEnd.Rest }
         // At rest an infinite goal shows that there is no path. With inflation one every expanded
-        // state is settled, and at rest the labels show that every path costs at least g of the goal.
-        ensures none { result ≡ PassEnd.Rest → g_of self.new.labels self.old.goal ≡ FAR → ShowNone (G.network graph.now) self.new.labels.start self.old.goal (g_of self.new.labels) (v_of self.new.labels) }
-        ensures settled { eps ≡ 1000 → (s : ℕ) → IsTrue (closed_after none_closed self.new.trace s) → v_of self.new.labels s ≡ g_of self.new.labels s }
-        ensures tight { result ≡ PassEnd.Rest → eps ≡ 1000 → ShowBound (G.network graph.now) self.new.labels.start self.old.goal (g_of self.new.labels) (v_of self.new.labels) (H.distance guide.now) (g_of self.new.labels self.old.goal) }
+        // state is settled, and at rest the labels show that each path costs at least g of the goal.
+        ensures none { result ≡ PassEnd.Rest → g_of self.new.labels self.old.goal ≡ FAR
+            → ShowNone (G.network graph.now) self.new.labels.start self.old.goal
+            (g_of self.new.labels) (v_of self.new.labels) }
+        ensures settled { eps ≡ 1000
+            → (s : ℕ) → IsTrue (closed_after none_closed self.new.trace s)
+            → v_of self.new.labels s ≡ g_of self.new.labels s }
+        ensures tight { result ≡ PassEnd.Rest → eps ≡ 1000
+            → ShowBound (G.network graph.now) self.new.labels.start self.old.goal
+            (g_of self.new.labels) (v_of self.new.labels) (H.distance guide.now)
+            (g_of self.new.labels self.old.goal) }
         // Each expansion is counted.
-        ensures counted { budget.new ≡ record budget.old { plan = budget.old.plan + length self.new.trace; run = budget.old.run + length self.new.trace } }
+        ensures counted { budget.new ≡ record budget.old {
+          plan = budget.old.plan + length self.new.trace;
+          run = budget.old.run + length self.new.trace;
+        } }
         // The labels may begin another pass, and support a bound.
         ensures ready { AreReady (G.network graph.now) self.new.labels budget.new.run }
-        ensures supported { AreSupported (G.network graph.now) self.new.labels.start (g_of self.new.labels) (v_of self.new.labels) }
+        ensures supported { AreSupported (G.network graph.now) self.new.labels.start
+            (g_of self.new.labels) (v_of self.new.labels) }
         ensures start { self.new.labels.start ≡ self.old.labels.start }
         ensures states { states_of self.new.labels ≡ states_of self.old.labels }
         ensures goal { self.new.goal ≡ self.old.goal }
@@ -161,9 +183,12 @@ impl Ara {
     /// The next open state, or none at rest.
     fn next<G: Graph, H: Guide>(&self, graph: &G, guide: &H, eps: u32) -> Option<u32>
         requires states { states_of self.now.labels ≡ (G.network graph.now).states }
-        requires none_under { NoneUnder (G.network graph.now).states (g_of self.now.labels) (v_of self.now.labels) }
+        requires none_under { NoneUnder (G.network graph.now).states
+            (g_of self.now.labels) (v_of self.now.labels) }
         requires guide { H.guides guide.now (G.network graph.now) self.now.goal }
-        ensures next { IsNextOrRest (query (G.network graph.now) (H.distance guide.now) eps self.now.goal) (closed_after none_closed self.now.trace) self.now.labels result }
+        ensures next { IsNextOrRest
+            (query (G.network graph.now) (H.distance guide.now) eps self.now.goal)
+            (closed_after none_closed self.now.trace) self.now.labels result }
         ensures labels { AreLabels self.now.labels }
         ensures few { IfSome result (λ _. length self.now.trace < states_of self.now.labels) }
     {
@@ -178,9 +203,11 @@ impl Ara {
         requires open { IsOpen (closed_after none_closed self.old.trace) self.old.labels s }
         requires ready { AreReady (G.network graph.now) self.old.labels (2 ^ 30 - 1) }
         ensures lowered { LowersHeads (G.network graph.now) self.old.labels self.new.labels s }
-        ensures ready { (count : ℕ) → AreReady (G.network graph.now) self.old.labels count → AreReady (G.network graph.now) self.new.labels (count + 1) }
+        ensures ready { (count : ℕ) → AreReady (G.network graph.now) self.old.labels count
+            → AreReady (G.network graph.now) self.new.labels (count + 1) }
         ensures goal { self.new.goal ≡ self.old.goal }
-        ensures traced { self.new.trace ≡ self.old.trace ++ record { state = s; raised = false } ∷ [] }
+        ensures traced { self.new.trace
+            ≡ self.old.trace ++ record { state = s; raised = false } ∷ [] }
         ensures few { length self.new.trace ≤ states_of self.old.labels }
     {
         expand(&mut self.labels, graph, s);

@@ -18,7 +18,8 @@ pub(crate) fn expand<G: Graph>(labels: &mut Labels, graph: &G, s: u32)
     requires over { IsOver labels.old s }
     requires ready { AreReady (G.network graph.now) labels.old (2 ^ 30 - 1) }
     ensures lowered { LowersHeads (G.network graph.now) labels.old labels.new s }
-    ensures ready { (count : ℕ) → AreReady (G.network graph.now) labels.old count → AreReady (G.network graph.now) labels.new (count + 1) }
+    ensures ready { (count : ℕ) → AreReady (G.network graph.now) labels.old count
+        → AreReady (G.network graph.now) labels.new (count + 1) }
 {
     let _start = labels.start();
     let _states = graph.states();
@@ -36,7 +37,8 @@ fn relax<G: Graph>(labels: &mut Labels, graph: &G, s: u32, k: u32) -> Option<u32
     requires state { s < states_of labels.old }
     requires number { k < (G.network graph.now).fan s }
     requires near { v_of labels.old s < FAR }
-    requires fits { FitCount (states_of labels.old) (g_of labels.old) (v_of labels.old) (2 ^ 30) }
+    requires fits { FitCount (states_of labels.old) (g_of labels.old) (v_of labels.old)
+        (2 ^ 30) }
     ensures relaxed { IsRelaxed (G.network graph.now) labels.old labels.new s k result }
 {
     let _start = labels.start();

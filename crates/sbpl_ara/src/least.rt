@@ -31,7 +31,8 @@ pub(crate) fn least_open<H: Guide>(
     requires closed { length closed.now ≡ states_of labels.now }
     requires none_under { NoneUnder states (g_of labels.now) (v_of labels.now) }
     requires known { (s : ℕ) → s < states → H.knows guide.now s }
-    ensures least { IsLeastBelow eps (H.distance guide.now) (closed_at closed.now) labels.now states result }
+    ensures least { IsLeastBelow eps (H.distance guide.now) (closed_at closed.now) labels.now
+        states result }
 {
     let mut best = None;
     for s in 0..states {
@@ -52,7 +53,8 @@ fn ranked<H: Guide>(
     requires closed { length closed.now ≡ states_of labels.now }
     requires not_under { g_of labels.now s ≤ v_of labels.now s }
     requires known { H.knows guide.now s }
-    ensures ranked { IsRanked eps (H.distance guide.now) (closed_at closed.now) labels.now s result }
+    ensures ranked { IsRanked eps (H.distance guide.now) (closed_at closed.now) labels.now s
+        result }
 {
     let g = labels.g(s);
     if g < labels.v(s) && !closed.has(s) {

@@ -12,3 +12,6 @@ pub use ara::Ara;
 pub use closed::Closed;
 pub use step::Step;
 pub use steps::Steps;
+
+#[cfg(test)]
+mod tests;

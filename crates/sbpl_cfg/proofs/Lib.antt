@@ -1,4 +1,4 @@
-mod Items
+pub mod Items
 mod OwnFaults
 mod PlaceLaws
 mod PrintLaws

@@ -60,7 +60,8 @@ pub(crate) fn is_on_map(size: i64, width: u32, height: u32, p: &Pose) -> bool
 pub fn place_at(env: &Env, p: &Pose) -> Option<Place>
     ensures on_map { IsSome result ↔ IsPoseOnMap env.now p.now }
     ensures place { IfSome result (IsPlaceOf env.now p.now) }
-    ensures bounds { IfSome result (λ q. (q.x < env.now.width) × (q.y < env.now.height) × (q.t < env.now.headings)) }
+    ensures bounds { IfSome result (λ q.
+        (q.x < env.now.width) × (q.y < env.now.height) × (q.t < env.now.headings)) }
 {
     let x = cell_on_axis(env.cell, env.width, p.x)?;
     let y = cell_on_axis(env.cell, env.height, p.y)?;

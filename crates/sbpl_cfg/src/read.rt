@@ -337,11 +337,13 @@ pub fn read_env(alloc: Global, text: &[u8]) -> Result<(Env, Grid), EnvFault>
     // What is read is what the text stands for.
     ensures found { IfOk result (λ x. IsTextOf text.now x.0 x.1) }
     // What a text stands for is read, unless memory runs out.
-    ensures only { (x : Environment × List ℕ) → IsTextOf text.now x.0 x.1 → Answers NoMemory (λ y. y) result (Ok x) }
+    ensures only { (x : Environment × List ℕ)
+        → IsTextOf text.now x.0 x.1 → Answers NoMemory (λ y. y) result (Ok x) }
     // A fault is the text's first one.
     ensures faulty { IfErr result (λ f. f ≢ NoMemory → HasFault text.now f) }
     // The first fault of a text is answered, unless memory runs out.
-    ensures only_faulty { (f : EnvFault) → HasFault text.now f → Answers NoMemory (λ y. y) result (Err f) }
+    ensures only_faulty { (f : EnvFault)
+        → HasFault text.now f → Answers NoMemory (λ y. y) result (Err f) }
 {
     environment(alloc, &mut Reader::new(text))
 }

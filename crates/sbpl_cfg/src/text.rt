@@ -13,10 +13,13 @@ ghost use Rattle.sbpl_cfg.specs.Text.{HasFault, IsFaulty, IsGrid, IsText, IsText
 /// just what the format says which gives the faults. What is printed of an environment and its grid stands for them, so
 /// reading it gives them back.
 pub fn texts_are_environments_or_faulty()
-    ensures format { (text : List ℕ) (x : Environment × List ℕ) → StandsFor environment_format text x ↔ IsTextOf text x.0 x.1 }
+    ensures format { (text : List ℕ) (x : Environment × List ℕ)
+        → StandsFor environment_format text x ↔ IsTextOf text x.0 x.1 }
     ensures either { (text : List ℕ) → IsText text ⊎ IsFaulty text }
     ensures not_both { (text : List ℕ) (f : EnvFault) → IsText text → HasFault text f → ⊥ }
-    ensures one_value { (text : List ℕ) (e d : Environment) (cells others : List ℕ) → IsTextOf text e cells → IsTextOf text d others → (e ≡ d) × (cells ≡ others) }
+    ensures one_value { (text : List ℕ) (e d : Environment) (cells others : List ℕ)
+        → IsTextOf text e cells → IsTextOf text d others → (e ≡ d) × (cells ≡ others) }
     ensures one_fault { (text : List ℕ) (f g : EnvFault) → HasFault text f → HasFault text g → f ≡ g }
-    ensures printed { (e : Environment) (cells : List ℕ) → IsEnvironment e → IsGrid e cells → IsTextOf (environment_text e cells) e cells }
+    ensures printed { (e : Environment) (cells : List ℕ)
+        → IsEnvironment e → IsGrid e cells → IsTextOf (environment_text e cells) e cells }
 {}

@@ -1,5 +1,5 @@
 -- What the format of a primitive file says: primitives, spelled token by token.
-use Rattle.std.proofs.Common.{◌≡◌, ℕ, zero, suc, ◌+◌, ◌≤◌, ℤ, pos, Bool, true, false, ◌==◌, List, [], ◌∷◌, ◌++◌, length, refl, sym, ap, subst, ◌∙◌, arith, append_assoc, append-nil}
+use Rattle.std.proofs.Common.{◌≡◌, ℕ, zero, suc, ◌≤◌, ℤ, pos, ◌==◌, List, [], ◌∷◌, ◌++◌, length, refl, sym, ap, subst, ◌∙◌, arith, append_assoc, append-nil}
 use Rattle.std.specs.Prelude.{◌≤ℤ◌, unsigned_abs, codes, if◌then◌else◌}
 use Rattle.std.proofs.lemmas.Bool.Decides.{Decides-eqb, Decides-int_eq}
 use Rattle.std.proofs.lemmas.Int.{ints}
@@ -12,9 +12,9 @@ use Rattle.sbpl_cfg.specs.Environment.{IsWithin}
 use Rattle.sbpl_mprim.specs.declared.fault.PrimFault.{PrimFault}
 use Rattle.sbpl_mprim.specs.declared.fault.PrimFault.TheVariants.{Resolution, Angles}
 use Rattle.sbpl_mprim.specs.declared.prim.Primitive.{Primitive}
-use Rattle.sbpl_mprim.specs.Primitives.{ArePrimitives, Primitives}
+use Rattle.sbpl_mprim.specs.Primitives.{Primitives}
 use Rattle.sbpl_mprim.specs.Reading.{angles_format, head_format, prim_format, prim_turn, prims_format, resolution_format, total_format}
-use Rattle.sbpl_mprim.specs.Spelled.{IsTextOf, Saying, a_nano, a_whole, a_word, spelled, spelled_prim}
+use Rattle.sbpl_mprim.specs.Text.{IsTextOf, Saying, a_nano, a_whole, a_word, spelled, spelled_prim}
 use Rattle.sbpl_mprim.proofs.NextLaws.{AreNext, are_next, next_are}
 use Rattle.sbpl_mprim.proofs.PrimLaws.{PrimFound, natural_front, natural_within, prim_found, prim_said}
 use Rattle.sbpl_mprim.proofs.Spelling.{Spells, all_meant, found_behind, found_done, found_end, found_nano, found_whole, found_word, found_yes, just_said, natural_is, none_spelled, say_behind, say_done, say_end, say_nano, say_whole, say_word, say_yes, spells_all, spells_append, spells_none, spells_split}
@@ -144,7 +144,7 @@ head_said cell headings total ts rest size some most count h =
 
 -- what the format says is spelled by the tokens
 pub file_found : (cell : ℤ) (headings : ℕ) (text : List ℕ) (prims : List Primitive) → IsWithin (pos 1) (pos 1000000000000) cell → 1 ≤ headings → headings ≤ 64
-    → StandsFor (prims_format cell headings) text prims → IsTextOf (record { cell = cell; headings = headings; items = prims }) text
+    → StandsFor (prims_format cell headings) text prims → IsTextOf text (record { cell = cell; headings = headings; items = prims })
 unfolding prims_format spelled
 file_found cell headings text prims size some most h =
     let a = found_behind (head_format cell headings) _ (tokens text) prims h.0 h.1 in
@@ -157,14 +157,14 @@ file_found cell headings text prims size some most h =
     subst (λ (l : List Piece). Spells headings (spelled_head cell headings (length p.more) ++ flat_map spelled_prim p.more) (tokens text) l) e.0
     (spells_append headings (spelled_head cell headings (length p.more)) (flat_map spelled_prim p.more) (tokens text) a.1 b.1
     (subst (λ (n : ℕ). Spells headings (spelled_head cell headings n) (tokens text) a.1) (sym p.many) front.0) p.spells) in
-    let there : IsTextOf (record { cell = cell; headings = headings; items = p.more }) text = record {
+    let there : IsTextOf text (record { cell = cell; headings = headings; items = p.more }) = record {
       fits = next_are cell headings p.more size some most (omega (arith, p.many, front.1)) p.next;
       tokens = all_meant headings (spelled (record { cell = cell; headings = headings; items = p.more })) (tokens text) spells;
     } in
-    subst (λ (ps : List Primitive). IsTextOf (record { cell = cell; headings = headings; items = ps }) text) (sym all) there
+    rw all there
 
 -- and what the tokens spell is said by the format
-pub file_said : (ps : Primitives) (text : List ℕ) → IsTextOf ps text → StandsFor (prims_format ps.cell ps.headings) text ps.items
+pub file_said : (ps : Primitives) (text : List ℕ) → IsTextOf text ps → StandsFor (prims_format ps.cell ps.headings) text ps.items
 unfolding prims_format spelled
 file_said ps text h =
     let fits = h.fits in

@@ -1,14 +1,15 @@
 -- What the tests of a primitive say.
-use Rattle.std.proofs.Common.{◌≡◌, ◌≢◌, ℕ, zero, suc, ◌≤◌, ℤ, Bool, true, false, not, ◌&&◌, ◌||◌, ◌==◌, List, [], ◌∷◌, Some, refl, sym, ap, ◌∙◌, arith}
+use Rattle.std.proofs.Common.{◌≡◌, ◌≢◌, ℕ, zero, suc, ◌≤◌, ℤ, Bool, true, false, not, ◌&&◌, ◌||◌, ◌==◌, List, [], ◌∷◌, Some, ◌↔◌, inl, inr, refl, sym, ap, ◌∙◌, arith}
 use Rattle.std.proofs.lemmas.Bool.{false≢true}
-use Rattle.std.proofs.lemmas.Bool.Decides.{Decides-int_eq, Decides-eqb, Decides-and}
+use Rattle.std.proofs.lemmas.Bool.Decides.{Decides-int_eq, Decides-eqb, Decides-and, nat_tests}
+use Rattle.std.proofs.lemmas.Map.Keys.{any_passes_from_place}
 use Rattle.std.specs.Bool.{Decides}
-use Rattle.std.specs.List.{slice_get, list_all, list_any, AllByRecursion}
+use Rattle.std.specs.List.{slice_get, list_all, AllByRecursion}
 use Rattle.std.specs.Ordering.{int_eq}
 use Rattle.sbpl_cfg.specs.declared.pose.Pose.{Pose}
 use Rattle.sbpl_cfg.specs.Place.{heading_of}
 use Rattle.sbpl_mprim.specs.declared.prim.Primitive.{Primitive}
-use Rattle.sbpl_mprim.specs.Judging.{are_at_one_point, costs_nothing, has_id, is_in_bin, is_in_cell, is_same_point}
+use Rattle.sbpl_mprim.specs.Judging.{CostsNothing, HasId, are_at_one_point, costs_nothing, has_id, is_in_bin, is_in_cell, is_same_point}
 use Rattle.sbpl_mprim.specs.Primitives.{AreAtOnePoint, EndsAt, offset_cell}
 use Rattle.sbpl_mprim.proofs.Places.{all_at, at_all, one_passes}
 
@@ -110,3 +111,35 @@ id_taken prims from id e =
     let k = one_passes (λ (p : Primitive). (p.from == from) && (p.id == id)) prims e in
     let both = (taken from id k.1).0 k.3 in
     (k.0, k.1, k.2, both.0, both.1)
+
+-- ---- the tests in plain words
+
+nothing_costs : (prim : Primitive) → costs_nothing prim ≡ true → CostsNothing prim
+nothing_costs prim e =
+    let go : (a b c : Bool) → (prim.mult == 0) ≡ a → (prim.from == prim.to) ≡ b → are_at_one_point prim.poses ≡ c → (a || (b && c)) ≡ true → CostsNothing prim = elim [
+      | true ↦ λ b c p q r h. inl ((Decides-eqb prim.mult 0).0 p)
+      | false ↦ elim [
+        | true ↦ elim [
+          | true ↦ λ p q r h. inr ((Decides-eqb prim.from prim.to).0 q, one_point_holds prim.poses r)
+          | false ↦ λ p q r h. absurd (false≢true h)
+        ]
+        | false ↦ λ c p q r h. absurd (false≢true h)
+      ]
+    ] in
+    go (prim.mult == 0) (prim.from == prim.to) (are_at_one_point prim.poses) refl refl refl e
+
+pub cost_test : (prim : Primitive) → (costs_nothing prim ≡ true) ↔ CostsNothing prim
+cost_test prim = (
+  nothing_costs prim,
+  λ h. elim h [
+    | inl z ↦ rw ((Decides-eqb prim.mult 0).1 z) refl
+    | inr w ↦ let last : (prim.mult == 0 || true) ≡ true = grind (arith, nat_tests) in rw ((Decides-eqb prim.from prim.to).1 w.0, one_point_tests prim.poses w.1) last
+  ],
+)
+
+pub cell_test : (cell dx dy : ℤ) (p : Pose) → (is_in_cell cell dx dy p ≡ true) ↔ ((offset_cell cell p.x ≡ dx) × (offset_cell cell p.y ≡ dy))
+cell_test cell dx dy p = in_cell cell dx dy p
+
+pub id_test : (prims : List Primitive) (from id : ℕ) → (has_id prims from id ≡ true) ↔ HasId prims from id
+id_test prims from id =
+    (id_taken prims from id, λ h. any_passes_from_place (λ (p : Primitive). (p.from == from) && (p.id == id)) prims h.0 h.1 h.2 ((taken from id h.1).1 (h.3, h.4)))

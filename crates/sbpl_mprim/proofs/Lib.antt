@@ -2,9 +2,12 @@ pub mod EarlierLaws
 pub mod FileLaws
 pub mod JudgingLaws
 pub mod NextLaws
+pub mod OwnFaults
 pub mod PathLaws
 pub mod Pieces
 pub mod Places
 pub mod PrimLaws
+pub mod PrintedText
 pub mod ReadLaws
 pub mod Spelling
+pub mod TextLaws

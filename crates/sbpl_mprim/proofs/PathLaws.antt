@@ -1,5 +1,5 @@
 -- What the formats of poses say.
-use Rattle.std.proofs.Common.{◌≡◌, ◌≢◌, ℕ, zero, suc, ◌+◌, ◌-◌, ◌<◌, ◌≤◌, ℤ, pos, negsuc, List, [], ◌∷◌, ◌++◌, length, refl, sym, ap, subst, ◌∙◌, arith, append_assoc, append-nil, length-append}
+use Rattle.std.proofs.Common.{◌≡◌, ℕ, zero, suc, ◌+◌, ◌-◌, ◌≤◌, List, [], ◌∷◌, ◌++◌, length, refl, sym, ap, subst, ◌∙◌, arith, append_assoc, append-nil, length-append}
 use Rattle.std.proofs.lemmas.List.Concat.{flat_map-append}
 use Rattle.std.specs.List.{flat_map, AllByRecursion}
 use Rattle.sbpl_fixed.specs.Tokens.{Piece}
@@ -9,8 +9,7 @@ use Rattle.sbpl_mprim.specs.declared.fault.PrimFault.{PrimFault}
 use Rattle.sbpl_mprim.specs.declared.parts.PlacedPose.{PlacedPose}
 use Rattle.sbpl_mprim.specs.Primitives.{IsOffsetInRange}
 use Rattle.sbpl_mprim.specs.Reading.{path_format, pose_format, pose_turn}
-use Rattle.sbpl_mprim.specs.Spelled.{spelled_pose}
-use Rattle.sbpl_mprim.proofs.Places.{Last, last_of}
+use Rattle.sbpl_mprim.specs.Text.{spelled_pose}
 use Rattle.sbpl_mprim.proofs.Spelling.{Spells, SaysSome, found_behind, found_done, found_nano, say_behind, say_done, say_nano, spells_append, spells_none, spells_split, none_spelled}
 
 -- ---- one pose
@@ -128,7 +127,7 @@ path_found headings count ts path rest some h =
       ends = refl;
       spells = spelled;
     } in
-    let same : (front ++ c.0.pose ∷ [], c.0) ≡ path = ap (λ (l : List Pose). (l ++ c.0.pose ∷ [], c.0)) (sym b.all) ∙ sym e.0 in
+    let same : (front ++ c.0.pose ∷ [], c.0) ≡ path = rw (← b.all) (sym e.0) in
     subst (λ (l : List Piece). PathFound headings count ts path l) (sym e.1) (subst (λ (p : List Pose × PlacedPose). PathFound headings count ts p c.1) same there)
 
 pub path_said : (headings : ℕ) (front : List Pose) (last : Pose) (ts rest : List Piece) → AllByRecursion IsOffsetInRange (front ++ last ∷ []) → Spells headings (flat_map spelled_pose (front ++ last ∷ [])) ts rest

@@ -1,28 +1,27 @@
 -- What the format of one primitive says.
-use Rattle.std.proofs.Common.{◌≡◌, ◌≢◌, ℕ, zero, suc, ◌+◌, ◌-◌, ◌<◌, ◌≤◌, ℤ, pos, negsuc, Bool, true, false, not, ◌==◌, List, [], ◌∷◌, ◌++◌, length, sum_by, Some, refl, sym, ap, subst, ◌∙◌, arith, length-append}
+use Rattle.std.proofs.Common.{◌≡◌, ℕ, ◌+◌, ◌-◌, ◌<◌, ◌≤◌, ℤ, pos, negsuc, false, not, ◌==◌, List, [], ◌∷◌, ◌++◌, length, sum_by, Some, refl, sym, ap, subst, ◌∙◌, arith, length-append}
 use Rattle.std.specs.Prelude.{unsigned_abs, nat_lt, codes}
-use Rattle.std.proofs.lemmas.Bool.{false≢true}
 use Rattle.std.proofs.lemmas.Bool.Decides.{nat_tests}
 use Rattle.std.proofs.lemmas.Int.{ints}
 use Rattle.std.specs.List.{flat_map, slice_get, AllByRecursion}
 use Rattle.sbpl_fixed.specs.Tokens.{Piece}
-use Rattle.sbpl_fixed.specs.Formats.{Format, item, wrong, done, behind, turns, Says}
+use Rattle.sbpl_fixed.specs.Formats.{done, Says}
 use Rattle.sbpl_cfg.specs.Environment.{IsWithin}
 use Rattle.sbpl_cfg.specs.declared.pose.Pose.{Pose}
 use Rattle.sbpl_mprim.specs.declared.fault.PrimFault.{PrimFault}
-use Rattle.sbpl_mprim.specs.declared.fault.PrimFault.TheVariants.{SameId, NoPose, TooLarge, EndCell, EndHeading, ZeroCost}
+use Rattle.sbpl_mprim.specs.declared.fault.PrimFault.TheVariants.{SameId}
 use Rattle.sbpl_mprim.specs.declared.parts.PlacedPose.{PlacedPose}
 use Rattle.sbpl_mprim.specs.declared.parts.Start.{Start}
 use Rattle.sbpl_mprim.specs.declared.parts.End.{End}
 use Rattle.sbpl_mprim.specs.declared.prim.Primitive.{Primitive}
 use Rattle.sbpl_mprim.specs.Judging.{costs_nothing, has_id, heading_modulo, is_in_bin, is_in_cell}
 use Rattle.sbpl_mprim.specs.Primitives.{EndsAt, IsOffsetInRange, IsPrimitive, pose_count}
-use Rattle.sbpl_mprim.specs.Reading.{count_format, end_format, front_format, judged, made, mult_format, path_format, prim_format, prim_turn, signed_format, start_format}
-use Rattle.sbpl_mprim.specs.Spelled.{Saying, a_word, a_whole, a_heading, spelled_pose, spelled_prim}
+use Rattle.sbpl_mprim.specs.Reading.{count_format, end_format, front_format, judged, made, mult_format, path_format, prim_format, signed_format, start_format}
+use Rattle.sbpl_mprim.specs.Text.{Saying, a_word, a_whole, a_heading, spelled_pose, spelled_prim}
 use Rattle.sbpl_mprim.proofs.JudgingLaws.{costs_something, costs_then, ends_at, in_end_bin, in_end_cell}
 use Rattle.sbpl_mprim.proofs.NextLaws.{IsNext}
 use Rattle.sbpl_mprim.proofs.PathLaws.{path_found, path_said}
-use Rattle.sbpl_mprim.proofs.Places.{Last, all_at, at_all, at_seam, last_at, last_some}
+use Rattle.sbpl_mprim.proofs.Places.{all_at, at_all, at_seam, last_at, last_some}
 use Rattle.sbpl_mprim.proofs.Spelling.{Spells, SaysSome, just_said, found_behind, found_done, found_test, found_whole, found_word, natural_is, none_spelled, say_behind, say_done, say_test, say_whole, say_word, spells_append, spells_none, spells_split}
 
 -- a whole number of zero or more that was found, as a natural number

@@ -1,17 +1,16 @@
 -- What a reader of primitives answers, in terms of what texts stand for.
-use Rattle.std.proofs.Common.{◌≡◌, ◌≢◌, ℕ, ◌≤◌, ℤ, pos, List, Result, Ok, Err, refl, sym, ap, subst, ◌∙◌}
+use Rattle.std.proofs.Common.{◌≡◌, ◌≢◌, ℕ, ◌≤◌, ℤ, pos, List, Result, Ok, Err, sym, ap, subst, ◌∙◌}
 use Rattle.std.specs.Prelude.{IfOk, IfErr}
 use Rattle.sbpl_cfg.specs.Environment.{IsWithin}
 use Rattle.sbpl_fixed.specs.Formats.{Answers, reads_text}
-use Rattle.sbpl_fixed.specs.Meaning.{HasFirstFault, StandsFor}
-use Rattle.sbpl_fixed.proofs.Meaning.{faulty_if_answered, found_if_answered, only_faulty_if_answered, only_if_answered, text_found, text_only}
+use Rattle.sbpl_fixed.proofs.Meaning.{faulty_if_answered, only_faulty_if_answered, text_found, text_only}
 use Rattle.sbpl_mprim.specs.declared.fault.PrimFault.{PrimFault}
 use Rattle.sbpl_mprim.specs.declared.fault.PrimFault.TheVariants.{NoMemory}
 use Rattle.sbpl_mprim.specs.declared.prim.Primitive.{Primitive}
 use Rattle.sbpl_mprim.specs.Faults.{told}
 use Rattle.sbpl_mprim.specs.Primitives.{ArePrimitives, Primitives}
 use Rattle.sbpl_mprim.specs.Reading.{prims_format}
-use Rattle.sbpl_mprim.specs.Spelled.{IsTextOf}
+use Rattle.sbpl_mprim.specs.Text.{HasFault, IsTextOf}
 use Rattle.sbpl_mprim.proofs.FileLaws.{file_found, file_said}
 
 -- the items that were read may be a file's
@@ -33,9 +32,9 @@ same_parts : (cell : ℤ) (headings : ℕ) (ps : Primitives) → ps.cell ≡ cel
 same_parts cell headings ps c h = ap (λ (z : ℤ). record { cell = z; headings = headings; items = ps.items }) (sym c) ∙ ap (λ (n : ℕ). record ps { headings = n }) (sym h)
 
 pub found_in_text : (cell : ℤ) (headings : ℕ) (text : List ℕ) (r : Result Primitives PrimFault) → IsWithin (pos 1) (pos 1000000000000) cell → 1 ≤ headings → headings ≤ 64
-    → IsGiven cell headings r → IsExact cell headings text r → IfOk r (λ ps. IsTextOf ps text)
+    → IsGiven cell headings r → IsExact cell headings text r → IfOk r (λ ps. IsTextOf text ps)
 found_in_text cell headings text (Ok ps) size some most given exact =
-    subst (λ (qs : Primitives). IsTextOf qs text) (same_parts cell headings ps given.0 given.1)
+    subst (λ (qs : Primitives). IsTextOf text qs) (same_parts cell headings ps given.0 given.1)
     (file_found cell headings text ps.items size some most (text_found told (prims_format cell headings) text ps.items exact))
 found_in_text cell headings text (Err e) size some most given exact = tt
 
@@ -46,7 +45,7 @@ abbrev items_read : List Primitive → Result (List Primitive) PrimFault
 items_read items = Ok items
 
 pub only_in_text : (cell : ℤ) (headings : ℕ) (text : List ℕ) (r : Result Primitives PrimFault) → IsGiven cell headings r → IsExact cell headings text r
-    → (ps : Primitives) → ps.cell ≡ cell → ps.headings ≡ headings → IsTextOf ps text → Answers NoMemory (λ (x : Primitives). x) r (Ok ps)
+    → (ps : Primitives) → ps.cell ≡ cell → ps.headings ≡ headings → IsTextOf text ps → Answers NoMemory (λ (x : Primitives). x) r (Ok ps)
 only_in_text cell headings text (Ok qs) given exact ps c h stands =
     let said : reads_text told (prims_format ps.cell ps.headings) text ≡ Ok ps.items = text_only told (prims_format ps.cell ps.headings) text ps.items (file_said ps text stands) in
     let here : reads_text told (prims_format cell headings) text ≡ Ok ps.items =
@@ -63,10 +62,10 @@ only_in_text cell headings text (Err e) given exact ps c h stands = λ n.
     absurd cc
 
 pub faulty_in_text : (cell : ℤ) (headings : ℕ) (text : List ℕ) (r : Result Primitives PrimFault) → IsExact cell headings text r
-    → IfErr r (λ e. e ≢ NoMemory → HasFirstFault told (prims_format cell headings) text e)
+    → IfErr r (λ e. e ≢ NoMemory → HasFault cell headings text e)
 faulty_in_text cell headings text r exact = faulty_if_answered told (prims_format cell headings) text NoMemory items_of r exact
 
 pub only_faulty_in_text : (cell : ℤ) (headings : ℕ) (text : List ℕ) (r : Result Primitives PrimFault) → IsExact cell headings text r
-    → (e : PrimFault) → HasFirstFault told (prims_format cell headings) text e → Answers NoMemory (λ (x : Primitives). x) r (Err e)
+    → (e : PrimFault) → HasFault cell headings text e → Answers NoMemory (λ (x : Primitives). x) r (Err e)
 only_faulty_in_text cell headings text (Ok qs) exact e h = absurd (let clash = only_faulty_if_answered told (prims_format cell headings) text NoMemory items_of (Ok qs) exact e h in cc)
 only_faulty_in_text cell headings text (Err d) exact e h = λ n. let same = only_faulty_if_answered told (prims_format cell headings) text NoMemory items_of (Err d) exact e h n in cc

@@ -1,5 +1,5 @@
 -- What a format says, token by token.
-use Rattle.std.proofs.Common.{◌≡◌, ℕ, ◌≤◌, ℤ, pos, negsuc, Bool, true, false, not, ◌&&◌, cond, List, [], ◌∷◌, ◌++◌, Result, Ok, Err, refl, sym, ap, subst, ◌∙◌, arith}
+use Rattle.std.proofs.Common.{◌≡◌, ℕ, ◌≤◌, ℤ, pos, negsuc, Bool, true, false, ◌&&◌, List, [], ◌∷◌, ◌++◌, Result, Ok, Err, refl, ap, subst, arith}
 use Rattle.std.specs.Prelude.{if◌then◌else◌, int_le, bytes_eq, ◌≤ℤ◌, unsigned_abs}
 use Rattle.std.proofs.lemmas.Int.{ints}
 use Rattle.std.proofs.lemmas.Slice.Eq.{bytes_eq-Decides}
@@ -7,9 +7,9 @@ use Rattle.sbpl_fixed.specs.Tokens.{Piece}
 use Rattle.sbpl_fixed.specs.Numbers.{whole_of, nano_of}
 use Rattle.sbpl_fixed.specs.declared.fault.NumFault.{NumFault}
 use Rattle.sbpl_fixed.specs.declared.fault.NumFault.TheVariants.{Form, Size}
-use Rattle.sbpl_fixed.specs.Formats.{Item, Miss, out_of_range, no_word, Format, item, ended, wrong, done, fixed, whole, nano, within, behind, Says}
+use Rattle.sbpl_fixed.specs.Formats.{Miss, out_of_range, no_word, Format, item, ended, wrong, done, fixed, whole, nano, within, behind, Says}
 use Rattle.sbpl_cfg.specs.Environment.{IsWithin}
-use Rattle.sbpl_mprim.specs.Spelled.{Saying, a_word, a_whole, a_nano, a_heading, Means, AreMeant}
+use Rattle.sbpl_mprim.specs.Text.{Saying, a_word, a_whole, a_nano, Means, AreMeant}
 
 -- ---- tokens in front of others
 

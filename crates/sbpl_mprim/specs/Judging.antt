@@ -1,12 +1,12 @@
 -- Tests of one primitive: where its last pose lies, whether it moves, and whether its id is taken.
-use Rattle.std.specs.Prelude.{ℕ, ℤ, pos, Bool, true, ◌&&◌, ◌||◌, ◌==◌, List, [], ◌∷◌, unsigned_abs}
+use Rattle.std.specs.Prelude.{◌≡◌, ◌⊎◌, ℕ, ℤ, pos, Bool, true, ◌&&◌, ◌||◌, ◌==◌, List, [], ◌∷◌, Some, slice_get, unsigned_abs}
 use Rattle.std.specs.Int.{int_rem_euclid}
 use Rattle.std.specs.List.{list_all, list_any}
 use Rattle.std.specs.Ordering.{int_eq}
 use Rattle.sbpl_cfg.specs.declared.pose.Pose.{Pose}
 use Rattle.sbpl_cfg.specs.Place.{heading_of}
 use Rattle.sbpl_mprim.specs.declared.prim.Primitive.{Primitive}
-use Rattle.sbpl_mprim.specs.Primitives.{offset_cell}
+use Rattle.sbpl_mprim.specs.Primitives.{AreAtOnePoint, offset_cell}
 
 -- an end heading as a file writes it, taken modulo the number of headings
 abbrev pub heading_modulo : ℕ → ℤ → ℕ
@@ -35,3 +35,11 @@ costs_nothing prim = (prim.mult == 0) || ((prim.from == prim.to) && are_at_one_p
 -- one of these has this start heading and this id
 abbrev pub has_id : List Primitive → ℕ → ℕ → Bool
 has_id prims from id = list_any (λ p. (p.from == from) && (p.id == id)) prims
+
+-- a primitive of the list has this start heading and this id
+abbrev pub HasId : List Primitive → ℕ → ℕ → Type 0
+HasId prims from id = (i : ℕ) × (p : Primitive) × (slice_get prims i ≡ Some p) × (p.from ≡ from) × (p.id ≡ id)
+
+-- the cost is 0, whatever the robot: the multiplier is 0, or all poses are at one point and the headings are equal
+abbrev pub CostsNothing : Primitive → Type 0
+CostsNothing prim = (prim.mult ≡ 0) ⊎ ((prim.from ≡ prim.to) × AreAtOnePoint prim.poses)

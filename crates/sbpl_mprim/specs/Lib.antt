@@ -4,4 +4,4 @@ pub mod Judging
 pub mod Primitives
 pub mod Printed
 pub mod Reading
-pub mod Spelled
+pub mod Text

@@ -1,15 +1,17 @@
 //! Tests of one primitive: where its last pose lies, and whether it moves at all.
 
-ghost use Rattle.std.specs.Prelude.{◌≡◌, ◌<◌, ◌≤◌, pos, negsuc, ◌<ℤ◌, ◌≤ℤ◌};
+ghost use Rattle.std.specs.Prelude.{◌≡◌, ◌↔◌, ℕ, ℤ, ◌<◌, ◌≤◌, true, List, pos, negsuc};
 ghost use Rattle.std.specs.List.{list_all};
 ghost use Rattle.std.specs.Ordering.{int_eq};
 ghost use Rattle.sbpl_cfg.specs.Environment.{IsWithin};
 ghost use Rattle.sbpl_cfg.specs.Place.{heading_of};
-ghost use Rattle.sbpl_mprim.specs.Judging.{are_at_one_point, costs_nothing, heading_modulo, is_in_bin, is_in_cell, is_same_point};
+ghost use Rattle.sbpl_cfg.specs.declared.pose.Pose.{Pose as APose};
+ghost use Rattle.sbpl_mprim.specs.declared.prim.Primitive.{Primitive};
+ghost use Rattle.sbpl_mprim.specs.Judging.{CostsNothing, HasId, are_at_one_point, costs_nothing, has_id, heading_modulo, is_in_bin, is_in_cell, is_same_point};
 ghost use Rattle.sbpl_mprim.specs.Primitives.{offset_cell, IsOffsetInRange};
 
 use crate::prim::Prim;
-use sbpl_cfg::{Pose, heading_at};
+use sbpl_cfg::{Pose, cell_at, heading_at};
 
 /// An end heading as a file writes it, taken modulo the number of headings: -1 is the last one, and `headings` is 0.
 pub(crate) fn heading_modulo(headings: u32, t: i32) -> u32
@@ -28,7 +30,7 @@ fn offset_cell(cell: i64, x: i64) -> i64
     requires offset { IsWithin (negsuc 999999999999) (pos 1000000000000) x }
     ensures cell { result ≡ offset_cell cell x }
 {
-    (cell + 2 * x).div_euclid(2 * cell)
+    cell_at(2 * cell, cell + 2 * x)
 }
 
 /// An offset lies in a cell, counted from the source cell.
@@ -85,3 +87,12 @@ pub(crate) fn costs_nothing(prim: &Prim) -> bool
 {
     prim.mult == 0 || (prim.from == prim.to && are_at_one_point(prim.poses.as_slice()))
 }
+
+/// What the tests of a primitive say, in plain words: a pose lies in a cell where both its coordinates do; a primitive
+/// costs nothing where its multiplier is 0, or where all its poses are at one point and it doesn't turn; and an id is taken
+/// where a primitive with the same start heading has it.
+pub fn primitives_are_judged_in_plain_words()
+    ensures cell { (cell dx dy : ℤ) (p : APose) → (is_in_cell cell dx dy p ≡ true) ↔ ((offset_cell cell p.x ≡ dx) × (offset_cell cell p.y ≡ dy)) }
+    ensures cost { (prim : Primitive) → (costs_nothing prim ≡ true) ↔ CostsNothing prim }
+    ensures id { (prims : List Primitive) (from id : ℕ) → (has_id prims from id ≡ true) ↔ HasId prims from id }
+{}

@@ -11,10 +11,18 @@ mod prims;
 mod printing;
 mod read;
 mod reading;
+mod text;
 
 pub use fault::PrimFault;
+pub use judging::primitives_are_judged_in_plain_words;
 pub use poses::Poses;
 pub use prim::{Prim, Primitive};
 pub use prims::Prims;
 pub use printing::print_prims;
 pub use read::read_prims;
+pub use text::texts_are_primitives_or_faulty;
+
+#[cfg(test)]
+mod samples;
+#[cfg(test)]
+mod tests;

@@ -3,13 +3,12 @@
 ghost use Rattle.std.specs.Prelude.{◌≡◌, ◌≢◌, ◌<◌, ◌≤◌, pos, Ok, Err, IfOk, IfErr};
 ghost use Rattle.sbpl_cfg.specs.Environment.{IsWithin};
 ghost use Rattle.sbpl_fixed.specs.Formats.{Answers, reads_text};
-ghost use Rattle.sbpl_fixed.specs.Meaning.{HasFirstFault};
 ghost use Rattle.sbpl_mprim.specs.declared.fault.PrimFault.{PrimFault as AFault};
 ghost use Rattle.sbpl_mprim.specs.declared.fault.PrimFault.TheVariants.{NoMemory as Memory};
 ghost use Rattle.sbpl_mprim.specs.Faults.{told};
 ghost use Rattle.sbpl_mprim.specs.Primitives.{Primitives};
 ghost use Rattle.sbpl_mprim.specs.Reading.{prims_format};
-ghost use Rattle.sbpl_mprim.specs.Spelled.{IsTextOf};
+ghost use Rattle.sbpl_mprim.specs.Text.{HasFault, IsTextOf};
 
 use crate::fault::PrimFault;
 use crate::prim::Prim;
@@ -50,13 +49,13 @@ pub fn read_prims(alloc: Global, text: &[u8], cell: i64, headings: u32) -> Resul
     // They are for the cell size and the headings that were passed.
     ensures given { IfOk result (λ ps. (ps.cell ≡ cell) × (ps.headings ≡ headings)) }
     // The text stands for what is read, token by token.
-    ensures found { IfOk result (λ ps. IsTextOf ps text.now) }
+    ensures found { IfOk result (λ ps. IsTextOf text.now ps) }
     // What the text stands for is read, unless memory runs out.
-    ensures only { (ps : Primitives) → ps.cell ≡ cell → ps.headings ≡ headings → IsTextOf ps text.now → Answers Memory (λ x. x) result (Ok ps) }
+    ensures only { (ps : Primitives) → ps.cell ≡ cell → ps.headings ≡ headings → IsTextOf text.now ps → Answers Memory (λ x. x) result (Ok ps) }
     // The fault is the first one, where it stands.
-    ensures faulty { IfErr result (λ e. e ≢ Memory → HasFirstFault told (prims_format cell headings) text.now e) }
+    ensures faulty { IfErr result (λ e. e ≢ Memory → HasFault cell headings text.now e) }
     // A first fault is answered, unless memory runs out.
-    ensures only_faulty { (e : AFault) → HasFirstFault told (prims_format cell headings) text.now e → Answers Memory (λ x. x) result (Err e) }
+    ensures only_faulty { (e : AFault) → HasFault cell headings text.now e → Answers Memory (λ x. x) result (Err e) }
     // All at once, as the format reads.
     ensures exact { Answers Memory (λ ps. ps.items) result (reads_text told (prims_format cell headings) text.now) }
 {

@@ -23,7 +23,9 @@ pub returns-clause-none : goal.returns-clause-none
 returns-clause-none g c =
     let here = c.expansions.invariant in
     let rest = rw here.same_goal at c.in_default.ensures.next in
-    λ _ far. passing_shows_none here c.in_default.ensures.labels rest c.requires.eps_high (λ s inside. g.met.H.Guide.bounded c.args.guide.now _ _ s c.requires.guide inside) far
+    λ _ far.
+    passing_shows_none {q = query (g.G.Graph.network c.args.graph.now) (g.H.Guide.distance c.args.guide.now) c.args.eps c.args.self.now.goal}
+    here c.in_default.ensures.labels rest c.requires.eps_high (λ s inside. g.met.H.Guide.bounded c.args.guide.now _ _ s c.requires.guide inside) far
 
 pub returns-clause-settled : goal.returns-clause-settled
 returns-clause-settled g c = λ one s closed. (c.expansions.invariant.ordered one).settled s closed
@@ -32,7 +34,9 @@ pub returns-clause-tight : goal.returns-clause-tight
 returns-clause-tight g c =
     let here = c.expansions.invariant in
     let rest = rw here.same_goal at c.in_default.ensures.next in
-    λ _ one. passing_shows_bound here c.in_default.ensures.labels rest one (g.met.H.Guide.consistent c.args.guide.now _ _ c.requires.guide)
+    λ _ one.
+    passing_shows_bound {q = query (g.G.Graph.network c.args.graph.now) (g.H.Guide.distance c.args.guide.now) c.args.eps c.args.self.now.goal}
+    here c.in_default.ensures.labels rest one (g.met.H.Guide.consistent c.args.guide.now _ _ c.requires.guide)
 
 pub returns-clause-supported : goal.returns-clause-supported
 returns-clause-supported g c = passing_supported c.expansions.invariant c.in_default.ensures.labels

@@ -1,13 +1,18 @@
 -- Which texts stand for primitives, token by token and with no reading in it.
-use Rattle.std.specs.Prelude.{◌≡◌, ℕ, ℤ, pos, negsuc, List, [], ◌∷◌, length, codes, Ok}
+use Rattle.std.specs.Prelude.{◌≡◌, ◌≢◌, ◌≤◌, ℕ, ℤ, pos, negsuc, List, [], ◌∷◌, length, codes, Ok}
 use Rattle.std.specs.List.{flat_map}
 use Rattle.sbpl_fixed.specs.Numbers.{nano_of, whole_of}
+use Rattle.sbpl_fixed.specs.Meaning.{HasFirstFault}
 use Rattle.sbpl_fixed.specs.Tokens.{Piece, tokens}
 use Rattle.sbpl_cfg.specs.declared.pose.Pose.{Pose}
 use Rattle.sbpl_cfg.specs.Environment.{IsWithin}
+use Rattle.sbpl_mprim.specs.declared.fault.PrimFault.{PrimFault}
+use Rattle.sbpl_mprim.specs.declared.fault.PrimFault.TheVariants.{NoMemory}
 use Rattle.sbpl_mprim.specs.declared.prim.Primitive.{Primitive}
+use Rattle.sbpl_mprim.specs.Faults.{told}
 use Rattle.sbpl_mprim.specs.Judging.{heading_modulo}
 use Rattle.sbpl_mprim.specs.Primitives.{ArePrimitives, Primitives}
+use Rattle.sbpl_mprim.specs.Reading.{prims_format}
 
 -- what a token of a primitive file says: this word, this whole number, this number in billionths, or this end heading
 pub data Saying : Type 0 where
@@ -47,7 +52,24 @@ spelled ps =
     ∷ a_word (codes "numberofangles:") ∷ a_whole (pos ps.headings)
     ∷ a_word (codes "totalnumberofprimitives:") ∷ a_whole (pos (length ps.items)) ∷ flat_map spelled_prim ps.items
 
--- the text stands for the primitives: they are what a primitive file may give, and its tokens spell them
-pub record IsTextOf (ps : Primitives) (text : List ℕ) : Type 0 where
-  pub fits : ArePrimitives ps
+-- the text stands for the primitives: its tokens spell them, and they are what a primitive file may give
+pub record IsTextOf (text : List ℕ) (ps : Primitives) : Type 0 where
   pub tokens : AreMeant ps.headings (spelled ps) (tokens text)
+  pub fits : ArePrimitives ps
+
+-- the text stands for some primitives for the cell size and the headings
+abbrev pub IsText : ℤ → ℕ → List ℕ → Type 0
+IsText cell headings text = (ps : Primitives) × (ps.cell ≡ cell) × (ps.headings ≡ headings) × IsTextOf text ps
+
+-- Up to the fault's place the text is what the format calls for, and there it fails in the way that the fault names.
+abbrev pub HasFault : ℤ → ℕ → List ℕ → PrimFault → Type 0
+HasFault cell headings text f = HasFirstFault told (prims_format cell headings) text f
+
+abbrev pub IsFaulty : ℤ → ℕ → List ℕ → Type 0
+IsFaulty cell headings text = (f : PrimFault) × (f ≢ NoMemory) × HasFault cell headings text f
+
+-- a cell size and a number of headings that an environment may have
+pub record AreSizes (cell : ℤ) (headings : ℕ) : Type 0 where
+  pub cell_is : IsWithin (pos 1) (pos 1000000000000) cell
+  pub some : 1 ≤ headings
+  pub few : headings ≤ 64

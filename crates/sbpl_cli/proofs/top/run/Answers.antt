@@ -1,0 +1,55 @@
+use Rattle.std.proofs.Common.{arith}
+use Rattle.sbpl_cli.proofs.Laws.{texts_are_clear}
+use Rattle.sbpl_cli.proofs.Runs.{run_complete, run_cut, run_environment_faulty, run_environment_long, run_no_job, run_primitives_faulty, run_primitives_long, run_refused, run_reported, run_status, run_stopped, run_too_dear, run_words, run_write}
+use Rattle.sbpl_cli.proofs.top.run.Goals as goal
+
+pub returns-clause-statuses : goal.returns-clause-statuses
+returns-clause-statuses g c = run_status _ _ _ _ _ _ _ _ _ c.end_run.ensures.ends
+
+pub returns-clause-report : goal.returns-clause-report
+returns-clause-report g c = run_reported _ _ _ _ _ _ _ _ _ c.end_run.ensures.ends
+
+pub returns-clause-words : goal.returns-clause-words
+returns-clause-words g c = run_words _ _ _ _ _ _ _ _ _ c.end_run.ensures.ends
+
+pub returns-clause-environment : goal.returns-clause-environment
+returns-clause-environment g c = λ at. run_refused _ _ _ _ _ _ _ _ _ 3 c.end_run.ensures.ends at (λ h. omega arith) (λ h. omega arith) (λ h. omega arith) (λ h. omega arith)
+
+pub returns-clause-primitives : goal.returns-clause-primitives
+returns-clause-primitives g c = λ at. run_refused _ _ _ _ _ _ _ _ _ 4 c.end_run.ensures.ends at (λ h. omega arith) (λ h. omega arith) (λ h. omega arith) (λ h. omega arith)
+
+pub returns-clause-unread : goal.returns-clause-unread
+returns-clause-unread g c = λ at. run_refused _ _ _ _ _ _ _ _ _ 6 c.end_run.ensures.ends at (λ h. omega arith) (λ h. omega arith) (λ h. omega arith) (λ h. omega arith)
+
+pub returns-clause-length : goal.returns-clause-length
+returns-clause-length g c = λ at. run_refused _ _ _ _ _ _ _ _ _ 8 c.end_run.ensures.ends at (λ h. omega arith) (λ h. omega arith) (λ h. omega arith) (λ h. omega arith)
+
+pub returns-clause-write : goal.returns-clause-write
+returns-clause-write g c = run_write _ _ _ _ _ _ _ _ _ c.end_run.ensures.ends
+
+pub returns-clause-cut : goal.returns-clause-cut
+returns-clause-cut g c = run_cut _ _ _ _ _ _ _ _ _ c.end_run.ensures.ends
+
+pub returns-clause-memory : goal.returns-clause-memory
+returns-clause-memory g c = run_stopped _ _ _ _ _ _ _ _ _ c.end_run.ensures.ends
+
+pub returns-clause-no_job : goal.returns-clause-no_job
+returns-clause-no_job g c = run_no_job _ _ _ _ _ _ _ _ _ c.end_run.ensures.ends
+
+pub returns-clause-environment_faulty : goal.returns-clause-environment_faulty
+returns-clause-environment_faulty g c = run_environment_faulty _ _ _ _ _ _ _ _ _ (texts_are_clear c.texts_are_environments_or_faulty.ensures.one_value c.texts_are_environments_or_faulty.ensures.not_both c.texts_are_primitives_or_faulty.ensures.one_value c.texts_are_primitives_or_faulty.ensures.not_both) c.end_run.ensures.ends
+
+pub returns-clause-environment_long : goal.returns-clause-environment_long
+returns-clause-environment_long g c = run_environment_long _ _ _ _ _ _ _ _ _ c.end_run.ensures.ends
+
+pub returns-clause-primitives_long : goal.returns-clause-primitives_long
+returns-clause-primitives_long g c = run_primitives_long _ _ _ _ _ _ _ _ _ (texts_are_clear c.texts_are_environments_or_faulty.ensures.one_value c.texts_are_environments_or_faulty.ensures.not_both c.texts_are_primitives_or_faulty.ensures.one_value c.texts_are_primitives_or_faulty.ensures.not_both) c.end_run.ensures.ends
+
+pub returns-clause-primitives_faulty : goal.returns-clause-primitives_faulty
+returns-clause-primitives_faulty g c = run_primitives_faulty _ _ _ _ _ _ _ _ _ (texts_are_clear c.texts_are_environments_or_faulty.ensures.one_value c.texts_are_environments_or_faulty.ensures.not_both c.texts_are_primitives_or_faulty.ensures.one_value c.texts_are_primitives_or_faulty.ensures.not_both) c.end_run.ensures.ends
+
+pub returns-clause-too_dear : goal.returns-clause-too_dear
+returns-clause-too_dear g c = run_too_dear _ _ _ _ _ _ _ _ _ (texts_are_clear c.texts_are_environments_or_faulty.ensures.one_value c.texts_are_environments_or_faulty.ensures.not_both c.texts_are_primitives_or_faulty.ensures.one_value c.texts_are_primitives_or_faulty.ensures.not_both) c.end_run.ensures.ends
+
+pub returns-clause-complete : goal.returns-clause-complete
+returns-clause-complete g c = run_complete _ _ _ _ _ _ _ _ _ (texts_are_clear c.texts_are_environments_or_faulty.ensures.one_value c.texts_are_environments_or_faulty.ensures.not_both c.texts_are_primitives_or_faulty.ensures.one_value c.texts_are_primitives_or_faulty.ensures.not_both) c.end_run.ensures.ends

@@ -1,0 +1,57 @@
+-- The lines of a report.
+use Rattle.std.specs.Prelude.{ℕ, List, [], ◌∷◌, ◌++◌, length, flat_map, Option, Some, None, codes, decimal}
+use Rattle.sbpl_fixed.specs.Printed.{milli_text}
+use Rattle.sbpl_cfg.specs.declared.pose.Place.{Place}
+use Rattle.sbpl_cli.specs.declared.record.Found.{Found}
+use Rattle.sbpl_cli.specs.declared.record.Found.TheVariants as found
+use Rattle.sbpl_cli.specs.declared.record.PassRecord.{PassRecord}
+use Rattle.sbpl_cli.specs.declared.record.Step.{Step}
+use Rattle.sbpl_cli.specs.declared.record.PathRecord.{PathRecord}
+use Rattle.sbpl_cli.specs.declared.record.Outcome.{Outcome}
+use Rattle.sbpl_cli.specs.declared.record.Outcome.TheVariants as outcome
+use Rattle.sbpl_cli.specs.declared.record.PlanRecord.{PlanRecord}
+
+-- a line feed
+abbrev pub line_feed : List ℕ
+line_feed = 10 ∷ []
+
+-- what a pass found
+abbrev pub found_text : Found → List ℕ
+found_text (found.Path cost bound) = codes " best " ++ (decimal cost ++ (codes " bound " ++ milli_text bound))
+found_text found.None = codes " none"
+found_text found.Broken = codes " broken"
+
+-- the line of a pass
+unfoldable pub pass_text : PassRecord → List ℕ
+pass_text p = codes "pass " ++ (milli_text p.inflation ++ (codes " expanded " ++ (decimal p.expanded ++ (found_text p.found ++ line_feed))))
+
+-- a place, and the end of its line
+unfoldable pub place_text : Place → List ℕ
+place_text p = decimal p.x ++ (codes " " ++ (decimal p.y ++ (codes " " ++ (decimal p.t ++ line_feed))))
+
+-- the line of a step
+unfoldable pub step_text : Step → List ℕ
+step_text s = codes "step " ++ (decimal s.id ++ (codes " " ++ place_text s.place))
+
+-- the lines of a path
+unfoldable pub path_text : PathRecord → List ℕ
+path_text p = codes "path " ++ (decimal (length p.steps) ++ (codes " cost " ++ (decimal p.cost ++ (codes " bound " ++ (milli_text p.bound ++ (line_feed ++ (codes "pose " ++ (place_text p.start ++ flat_map step_text p.steps))))))))
+
+-- the lines of a result
+abbrev pub outcome_text : Outcome → List ℕ
+outcome_text (outcome.Path p) = path_text p
+outcome_text outcome.NoPath = codes "nopath\n"
+outcome_text outcome.Unknown = codes "unknown\n"
+
+-- the line of a plan that was spent
+abbrev pub spent_text : Option ℕ → List ℕ
+spent_text None = []
+spent_text (Some n) = codes "spent " ++ (decimal n ++ line_feed)
+
+-- the section of a plan
+unfoldable pub section_text : PlanRecord → List ℕ
+section_text r = codes "plan " ++ (decimal r.plan ++ (line_feed ++ (flat_map pass_text r.passes ++ (spent_text r.spent ++ outcome_text r.outcome))))
+
+-- the last line
+abbrev pub done_text : List ℕ
+done_text = codes "done\n"

@@ -1,0 +1,80 @@
+//! How a job ends.
+
+ghost use Rattle.std.specs.Prelude.{◌≡◌};
+ghost use Rattle.sbpl_cli.specs.Endings.{ending_status, refusal_status};
+
+use crate::record::PlanRecord;
+use sbpl_cfg::EnvFault;
+use sbpl_mprim::PrimFault;
+
+/// A file that a job reads.
+#[derive(Clone, Copy, Debug, PartialEq, Eq)]
+pub enum Input {
+    Environment,
+    Primitives,
+}
+
+/// Why a job is refused, once the words have named it.
+#[derive(Clone, Copy, Debug, PartialEq, Eq)]
+pub enum Refusal {
+    /// The environment file has a fault.
+    Environment(EnvFault),
+    /// The primitive file has a fault.
+    Primitives(PrimFault),
+    /// The cost of the primitive at this place of the file is above the limit.
+    TooDear(u32),
+    /// A file could not be read.
+    Read(Input),
+    /// A file holds more than 2^30 bytes.
+    Length(Input),
+}
+
+impl Refusal {
+    /// The program's status after this refusal.
+    pub fn status(&self) -> u8
+        ensures status { result ≡ refusal_status self.now }
+    {
+        match self {
+            Refusal::Environment(_) => 3,
+            Refusal::Primitives(_) | Refusal::TooDear(_) => 4,
+            Refusal::Read(_) => 6,
+            Refusal::Length(_) => 8,
+        }
+    }
+}
+
+/// Why a plan stopped before anything was written.
+#[derive(Clone, Copy, Debug, PartialEq, Eq)]
+pub enum Stop {
+    /// The job is refused.
+    Refused(Refusal),
+    /// Memory ran out.
+    NoMemory,
+}
+
+/// How a job ends.
+#[derive(Debug, Drop)]
+pub enum Ending {
+    /// All was planned and written.
+    Done(PlanRecord),
+    /// The job was refused, and the line that says so was written.
+    Refused(Refusal),
+    /// A write failed.
+    Write,
+    /// Memory ran out.
+    NoMemory,
+}
+
+impl Ending {
+    /// The program's status.
+    pub fn status(&self) -> u8
+        ensures status { result ≡ ending_status self.now }
+    {
+        match self {
+            Ending::Done(_) => 0,
+            Ending::Refused(refusal) => refusal.status(),
+            Ending::Write => 7,
+            Ending::NoMemory => 9,
+        }
+    }
+}

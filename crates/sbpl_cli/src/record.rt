@@ -1,0 +1,72 @@
+//! What a plan did: its passes and its result.
+
+use crate::parts::{Arcs, Passes, Steps};
+use sbpl_cfg::Place;
+
+/// What the walk along the back arcs gave after a pass.
+#[derive(Clone, Copy, Debug, PartialEq, Eq)]
+pub enum Found {
+    /// A path of this cost, with its bound in thousandths.
+    Path { cost: u64, bound: u128 },
+    /// The goal was not reached.
+    None,
+    /// The chain of back arcs has an underconsistent state.
+    Broken,
+}
+
+/// One pass of a plan.
+#[derive(Clone, Copy, Debug, PartialEq, Eq)]
+pub struct PassRecord {
+    /// The inflation, in thousandths.
+    pub inflation: u32,
+    /// How many states were expanded.
+    pub expanded: u64,
+    /// What the walk gave after the pass.
+    pub found: Found,
+}
+
+/// One step of a path: the primitive's id and the place where it ends.
+#[derive(Clone, Copy, Debug, PartialEq, Eq)]
+pub struct Step {
+    pub id: u32,
+    pub place: Place,
+}
+
+/// A path from the start to the goal.
+#[derive(Debug, Drop)]
+pub struct PathRecord {
+    /// The summed cost of its arcs.
+    pub cost: u64,
+    /// Its bound, in thousandths.
+    pub bound: u128,
+    /// The place of the start.
+    pub start: Place,
+    /// Its steps, from the start.
+    pub steps: Steps,
+    /// Its arc numbers, from the start.
+    pub arcs: Arcs,
+}
+
+/// The result of a plan.
+#[derive(Debug, Drop)]
+pub enum Outcome {
+    /// A path.
+    Path(PathRecord),
+    /// There is no path.
+    NoPath,
+    /// The budget was spent before either was known.
+    Unknown,
+}
+
+/// What a plan did.
+#[derive(Debug, Drop)]
+pub struct PlanRecord {
+    /// The plan's number: 0, and one more for each batch of changes.
+    pub plan: u32,
+    /// Its passes in order.
+    pub passes: Passes,
+    /// Where the last pass was spent, how many states the plan expanded.
+    pub spent: Option<u64>,
+    /// Its result.
+    pub outcome: Outcome,
+}

@@ -1,0 +1,261 @@
+//! The program on small files, over a desk in memory.
+
+use crate::run;
+use sbpl_desk::MemoryDesk;
+use std::alloc::Global;
+use std::process::Abort;
+use std::test::Fail;
+
+/// A corridor of three cells, from its first cell to its last.
+const E1: &str =
+    "discretization(cells): 3 1\nobsthresh: 100\ncost_inscribed_thresh: 90\ncost_possibly_circumscribed_thresh: 0\ncellsize(meters): 0.025\nnominalvel(mpersecs): 1.0\ntimetoturn45degsinplace(secs): 2.0\nstart(meters,rads): 0.0125 0.0125 0\nend(meters,rads): 0.0625 0.0125 0\nenvironment:\n0 0 0\n";
+
+/// One primitive, one cell along x.
+const F1: &str =
+    "resolution_m: 0.025\nnumberofangles: 16\ntotalnumberofprimitives: 1\nprimID: 0\nstartangle_c: 0\nendpose_c: 1 0 0\nadditionalactioncostmult: 1\nintermediateposes: 2\n0.0000 0.0000 0.0000\n0.0250 0.0000 0.0000\n";
+
+/// Four primitives: one and two cells along x, one along y, one back along y.
+const F2: &str =
+    "resolution_m: 0.025\nnumberofangles: 16\ntotalnumberofprimitives: 4\nprimID: 0\nstartangle_c: 0\nendpose_c: 1 0 0\nadditionalactioncostmult: 1\nintermediateposes: 2\n0 0 0\n0.025 0 0\nprimID: 1\nstartangle_c: 0\nendpose_c: 2 0 0\nadditionalactioncostmult: 1\nintermediateposes: 3\n0 0 0\n0.025 0 0\n0.05 0 0\nprimID: 2\nstartangle_c: 0\nendpose_c: 0 1 0\nadditionalactioncostmult: 1\nintermediateposes: 2\n0 0 0\n0 0.025 0\nprimID: 3\nstartangle_c: 0\nendpose_c: 0 -1 0\nadditionalactioncostmult: 1\nintermediateposes: 2\n0 0 0\n0 -0.025 0\n";
+
+/// What a file is made of: a text, in which one text is put in place of another.
+type Edited<'a> = (&'a str, &'a str, &'a str);
+
+/// Runs `plan e m` on a desk that holds both files, and compares the status and what is written.
+fn compare(
+    rt: &impl Abort,
+    alloc: Global,
+    env: Edited,
+    prims: Edited,
+    status: u8,
+    report: &str,
+) -> Result<(), Fail> {
+    let mut desk = MemoryDesk::new(alloc);
+    let env = env.0.replacen(alloc, env.1, env.2, 1)?;
+    let prims = prims.0.replacen(alloc, prims.1, prims.2, 1)?;
+    desk.hold("e", env.as_bytes())?;
+    desk.hold("m", prims.as_bytes())?;
+    let words = words_of(alloc, &["plan", "e", "m"])?;
+    assert_eq!(rt; run(alloc, words.as_slice(), &mut desk), status, "{report}");
+    assert_eq!(rt; desk.written("-"), report.as_bytes());
+    Ok(())
+}
+
+fn words_of(alloc: Global, words: &[&str]) -> Result<Vec<String>, Fail> {
+    let mut all = Vec::new(alloc);
+    for word in words {
+        all.push(String::from_str(alloc, word)?)?;
+    }
+    Ok(all)
+}
+
+const SAME: &str =
+    "plan 0\npass 1.000 expanded 0 best 0 bound 1.000\npath 0 cost 0 bound 1.000\npose 0 0 0\ndone\n";
+
+const NONE: &str = "plan 0\npass 1.000 expanded 1 none\nnopath\ndone\n";
+
+const CORRIDOR: &str =
+    "plan 0\npass 1.000 expanded 2 best 50 bound 1.000\npath 2 cost 50 bound 1.000\npose 0 0 0\nstep 0 1 0 0\nstep 0 2 0 0\ndone\n";
+
+const SEVEN: &str =
+    "plan 0\npass 1.000 expanded 2 best 400 bound 1.000\npath 2 cost 400 bound 1.000\npose 0 0 0\nstep 0 1 0 0\nstep 0 2 0 0\ndone\n";
+
+const EIGHTY_NINE: &str =
+    "plan 0\npass 1.000 expanded 2 best 4500 bound 1.000\npath 2 cost 4500 bound 1.000\npose 0 0 0\nstep 0 1 0 0\nstep 0 2 0 0\ndone\n";
+
+const AROUND: &str =
+    "plan 0\npass 1.000 expanded 5 best 100 bound 1.000\npath 3 cost 100 bound 1.000\npose 0 0 0\nstep 2 0 1 0\nstep 1 2 1 0\nstep 3 2 0 0\ndone\n";
+
+/// The corridor with one part of its environment changed.
+#[test]
+fn environments(rt: HostRuntime) -> Result<(), Fail> {
+    let rows = [
+        ("", "", 0, CORRIDOR),
+        ("0.0625 0.0125 0", "0.0125 0.0125 0", 0, SAME),
+        (
+            "0.0625 0.0125 0\nenvironment:\n0",
+            "0.0125 0.0125 0\nenvironment:\n255",
+            0,
+            SAME,
+        ),
+        ("\n0 0 0", "\n0 7 0", 0, SEVEN),
+        ("\n0 0 0", "\n0 89 0", 0, EIGHTY_NINE),
+        ("\n0 0 0", "\n0 90 0", 0, NONE),
+        ("\n0 0 0", "\n0 100 0", 0, NONE),
+        (
+            "0.0125 0.0125 0\nend(meters,rads): 0.0625",
+            "0.0625 0.0125 0\nend(meters,rads): 0.0125",
+            0,
+            NONE,
+        ),
+        ("\n0 0 0", "\n0 0", 3, "refused environment 4 Ended 278\n"),
+        (
+            "\n0 0 0",
+            "\n0 0 0 5",
+            3,
+            "refused environment 5 Trailing 280\n",
+        ),
+        (
+            "obsthresh",
+            "NumThetaDirs: 16\nobsthresh",
+            3,
+            "refused environment 1 Word 27\n",
+        ),
+        (
+            "obsthresh: 100",
+            "obsthresh: 256",
+            3,
+            "refused environment 3 Range 38\n",
+        ),
+        (
+            "0.0125 0.0125",
+            "0.0750 0.0125",
+            3,
+            "refused environment 7 StartOff 211\n",
+        ),
+        ("0.0625", "-0.0001", 3, "refused environment 8 EndOff 245\n"),
+        ("3 1", "524289 1", 3, "refused environment 6 TooLarge 23\n"),
+    ];
+    for (old, new, status, report) in rows {
+        compare(
+            &rt,
+            rt.alloc(),
+            (E1, old, new),
+            (F1, "", ""),
+            status,
+            report,
+        )?;
+    }
+    Ok(())
+}
+
+/// The corridor with one part of its primitives changed.
+#[test]
+fn primitives(rt: HostRuntime) -> Result<(), Fail> {
+    let rows = [
+        (
+            "0.0250 0.0000 0.0000",
+            "0.0375 0.0000 0.0000",
+            "refused primitives 8 EndCell 179\n",
+        ),
+        (
+            "0.0250 0.0000 0.0000",
+            "0.0250 0.0000 0.3927",
+            "refused primitives 9 EndHeading 193\n",
+        ),
+        ("mult: 1", "mult: 0", "refused primitives 12 ZeroCost 74\n"),
+        (
+            "mult: 1",
+            "mult: 16777215",
+            "refused primitives 15 TooDear 0\n",
+        ),
+    ];
+    for (old, new, report) in rows {
+        compare(&rt, rt.alloc(), (E1, "", ""), (F1, old, new), 4, report)?;
+    }
+    let wide =
+        "cellsize(meters): 0.05\nnominalvel(mpersecs): 1.0\ntimetoturn45degsinplace(secs): 2.0\nstart(meters,rads): 0.025 0.025 0\nend(meters,rads): 0.125 0.025 0\n";
+    let narrow =
+        "cellsize(meters): 0.025\nnominalvel(mpersecs): 1.0\ntimetoturn45degsinplace(secs): 2.0\nstart(meters,rads): 0.0125 0.0125 0\nend(meters,rads): 0.0625 0.0125 0\n";
+    compare(
+        &rt,
+        rt.alloc(),
+        (E1, narrow, wide),
+        (F1, "", ""),
+        4,
+        "refused primitives 6 Resolution 14\n",
+    )?;
+    compare(
+        &rt,
+        rt.alloc(),
+        (F1, "", ""),
+        (F1, "", ""),
+        3,
+        "refused environment 1 Word 0\n",
+    )?;
+    compare(
+        &rt,
+        rt.alloc(),
+        (E1, "", ""),
+        (E1, "", ""),
+        4,
+        "refused primitives 1 Word 0\n",
+    )?;
+    let two_rows =
+        "3 2\nobsthresh: 100\ncost_inscribed_thresh: 90\ncost_possibly_circumscribed_thresh: 0\ncellsize(meters): 0.025\nnominalvel(mpersecs): 1.0\ntimetoturn45degsinplace(secs): 2.0\nstart(meters,rads): 0.0125 0.0125 0\nend(meters,rads): 0.0625 0.0125 0\nenvironment:\n0 2 0\n0 0 0\n";
+    let one_row =
+        "3 1\nobsthresh: 100\ncost_inscribed_thresh: 90\ncost_possibly_circumscribed_thresh: 0\ncellsize(meters): 0.025\nnominalvel(mpersecs): 1.0\ntimetoturn45degsinplace(secs): 2.0\nstart(meters,rads): 0.0125 0.0125 0\nend(meters,rads): 0.0625 0.0125 0\nenvironment:\n0 0 0\n";
+    compare(
+        &rt,
+        rt.alloc(),
+        (E1, one_row, two_rows),
+        (F2, "", ""),
+        0,
+        AROUND,
+    )
+}
+
+/// Words that name no job.
+#[test]
+fn words(rt: HostRuntime) -> Result<(), Fail> {
+    let rows: [&[&str]; 7] = [
+        &[],
+        &["plan"],
+        &["plan", "e"],
+        &["plan", "e", "-"],
+        &["plan", "", "m"],
+        &["plan", "e", "m", "x"],
+        &["plane", "e", "m"],
+    ];
+    for row in rows {
+        let mut desk = MemoryDesk::new(rt.alloc());
+        let words = words_of(rt.alloc(), row)?;
+        assert_eq!(rt; run(rt.alloc(), words.as_slice(), &mut desk), 2, "{row:?}");
+        assert_eq!(rt; desk.written("-"), b"refused words\n".as_slice());
+    }
+    Ok(())
+}
+
+/// Each call of the desk fails in turn: two reads and two writes.
+#[test]
+fn failures(rt: HostRuntime) -> Result<(), Fail> {
+    let rows: [(u64, u8, &str); 5] = [
+        (0, 6, "refused read e\n"),
+        (1, 6, "refused read m\n"),
+        (2, 7, "plan 0\n"),
+        (
+            3,
+            7,
+            "plan 0\npass 1.000 expanded 2 best 50 bound 1.000\npath 2 cost 50 bound 1.000\npose 0 0 0\nstep 0 1 0 0\nstep 0 2 0 0\ndone\n",
+        ),
+        (4, 0, CORRIDOR),
+    ];
+    for (call, status, report) in rows {
+        let mut desk = MemoryDesk::new(rt.alloc());
+        desk.hold("e", E1.as_bytes())?;
+        desk.hold("m", F1.as_bytes())?;
+        desk.fail(call, 7)?;
+        let words = words_of(rt.alloc(), &["plan", "e", "m"])?;
+        assert_eq!(rt;
+            run(rt.alloc(), words.as_slice(), &mut desk),
+            status,
+            "call {call}"
+        );
+        assert_eq!(rt; desk.written("-"), report.as_bytes());
+    }
+    Ok(())
+}
+
+/// Files that are not there, or too long.
+#[test]
+fn files(rt: HostRuntime) -> Result<(), Fail> {
+    let words = words_of(rt.alloc(), &["plan", "e", "m"])?;
+    let mut desk = MemoryDesk::new(rt.alloc());
+    assert_eq!(rt; run(rt.alloc(), words.as_slice(), &mut desk), 6);
+    assert_eq!(rt; desk.written("-"), b"refused read e\n".as_slice());
+    let mut desk = MemoryDesk::new(rt.alloc());
+    desk.hold_filled("e", 1_073_741_825, 0)?;
+    assert_eq!(rt; run(rt.alloc(), words.as_slice(), &mut desk), 8);
+    assert_eq!(rt; desk.written("-"), b"refused length e\n".as_slice());
+    Ok(())
+}
