@@ -7,7 +7,9 @@ use Rattle.sbpl_mprim.specs.declared.fault.PrimFault.{PrimFault}
 use Rattle.sbpl_mprim.specs.declared.prim.Primitive.{Primitive}
 use Rattle.sbpl_mprim.specs.Primitives.{Primitives}
 use Rattle.sbpl_cost.specs.PrimitiveCost.{IsFirstTooDear, most_cost, primitive_cost}
-use Rattle.sbpl_cost.specs.World.{World}
+use Rattle.sbpl_cost.specs.Arc.{HasLatticeArcs}
+use Rattle.sbpl_cost.specs.Lattices.{network_of}
+use Rattle.sbpl_cost.specs.World.{IsWorld, World}
 use Rattle.sbpl_cli.specs.declared.ending.Input.{Input}
 use Rattle.sbpl_cli.specs.declared.ending.Input.TheVariants as input
 use Rattle.sbpl_cli.specs.declared.ending.Refusal.{Refusal}
@@ -61,10 +63,13 @@ pub record SaysWorld (held : Held) (job : PlanJob) (w : World) : Type 0 where
   pub map : w.map ≡ record { width = w.env.width; height = w.env.height; costs = cells }
   pub cheap : NoneTooDear w.env w.prims
 
--- the files of a job stand for a world, and this is the record of a plan in it
+-- The files of a job stand for a world, whose graph has just the arcs that the primitives make on the map, and this is the
+-- record of a plan in it.
 pub record IsPlanned (held : Held) (job : PlanJob) (plan : PlanRecord) : Type 0 where
   pub world : World
   pub says : SaysWorld held job world
+  pub is_world : IsWorld world
+  pub arcs : HasLatticeArcs (network_of world) world
   pub plan_of : IsPlanOf world plan
 
 -- the environment file has this first fault

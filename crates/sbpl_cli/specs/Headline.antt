@@ -65,9 +65,9 @@ IsNoneThere w start goal (outcome.Path path) = Unit {0}
 IsNoneThere w start goal outcome.NoPath = (arcs : List ℕ) (cost : ℕ) → IsFreePath (network_of w) start arcs goal cost → ⊥
 IsNoneThere w start goal outcome.Unknown = Unit {0}
 
--- the result is known, and its bound is at most the one asked
+-- the result is known, and its bound is at least one and at most the one asked
 abbrev pub IsAnswered : ℕ → Outcome → Type 0
-IsAnswered asked (outcome.Path path) = path.bound ≤ asked
+IsAnswered asked (outcome.Path path) = (1000 ≤ path.bound) × (path.bound ≤ asked)
 IsAnswered asked outcome.NoPath = Unit {0}
 IsAnswered asked outcome.Unknown = ⊥
 

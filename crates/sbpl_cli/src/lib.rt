@@ -14,6 +14,7 @@ mod report;
 mod solve;
 mod top;
 
+pub use ending::{Ending, Input, Refusal, Stop};
 pub use job::{Job, JobFault, PlanJob, read_job};
 pub use name::Name;
 pub use parts::{Arcs, Passes, Steps};

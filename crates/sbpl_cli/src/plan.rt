@@ -15,7 +15,7 @@ use crate::parts::{Arcs, Passes, Steps};
 use crate::record::{Found, Outcome, PassRecord, PathRecord, PlanRecord, Step};
 use crate::solve::{INFLATION, Solved, solve};
 use sbpl_cfg::place_at;
-use sbpl_cost::{Lattice, LatticeFault};
+use sbpl_cost::{Lattice, LatticeFault, lattice_has_its_arcs};
 use sbpl_desk::Desk;
 use sbpl_fixed::NoMemory;
 use sbpl_graph::Graph;
@@ -176,6 +176,7 @@ pub(crate) fn plan<D: Desk>(alloc: Global, job: &PlanJob, desk: &mut D) -> Resul
     ensures reads { NoneFalls (D.read_faults desk.old) (D.read_faults desk.new) }
     ensures writes { NoneFalls (D.write_faults desk.old) (D.write_faults desk.new) }
 {
+    lattice_has_its_arcs();
     let lattice = read_lattice(alloc, job, desk)?;
     match plan_on(alloc, &lattice) {
         Ok(planned) => Ok(planned),

@@ -18,6 +18,7 @@ use std::alloc::Global;
 /// Writes the last line of a report.
 fn print_last_line<D: Desk>(plan: PlanRecord, desk: &mut D) -> Ending
     ensures ends { IsLastLineEnd (D.written desk.old (codes "-")) (D.written desk.new (codes "-")) (D.write_faults desk.old (codes "-")) (D.write_faults desk.new (codes "-")) plan result }
+    ensures held { Stays (D.held desk.old) (D.held desk.new) }
     ensures others { (name : List ℕ) → name ≢ codes "-" → D.written desk.new name ≡ D.written desk.old name }
     ensures reads { NoneFalls (D.read_faults desk.old) (D.read_faults desk.new) }
     ensures writes { NoneFalls (D.write_faults desk.old) (D.write_faults desk.new) }
@@ -41,6 +42,7 @@ fn section_of(alloc: Global, plan: &PlanRecord) -> Result<Vec<u8>, NoMemory>
 /// Writes the section of a plan, and then the last line.
 fn print_section<D: Desk>(text: &[u8], plan: PlanRecord, desk: &mut D) -> Ending
     ensures ends { IsEndOf (D.written desk.old (codes "-")) (D.written desk.new (codes "-")) (D.write_faults desk.old (codes "-")) (D.write_faults desk.new (codes "-")) (text.now ++ done_text) (text.now ∷ done_text ∷ []) (Done plan) result }
+    ensures held { Stays (D.held desk.old) (D.held desk.new) }
     ensures others { (name : List ℕ) → name ≢ codes "-" → D.written desk.new name ≡ D.written desk.old name }
     ensures reads { NoneFalls (D.read_faults desk.old) (D.read_faults desk.new) }
     ensures writes { NoneFalls (D.write_faults desk.old) (D.write_faults desk.new) }
@@ -55,6 +57,7 @@ fn print_section<D: Desk>(text: &[u8], plan: PlanRecord, desk: &mut D) -> Ending
 /// Writes the report of a plan.
 pub(crate) fn print_record<D: Desk>(alloc: Global, plan: PlanRecord, desk: &mut D) -> Ending
     ensures ends { IsEndOf (D.written desk.old (codes "-")) (D.written desk.new (codes "-")) (D.write_faults desk.old (codes "-")) (D.write_faults desk.new (codes "-")) (section_text plan ++ done_text) (section_text plan ∷ done_text ∷ []) (Done plan) result }
+    ensures held { Stays (D.held desk.old) (D.held desk.new) }
     ensures others { (name : List ℕ) → name ≢ codes "-" → D.written desk.new name ≡ D.written desk.old name }
     ensures reads { NoneFalls (D.read_faults desk.old) (D.read_faults desk.new) }
     ensures writes { NoneFalls (D.write_faults desk.old) (D.write_faults desk.new) }
@@ -73,6 +76,7 @@ pub(crate) fn print_refusal<D: Desk>(
     desk: &mut D,
 ) -> Ending
     ensures ends { IsEndOf (D.written desk.old (codes "-")) (D.written desk.new (codes "-")) (D.write_faults desk.old (codes "-")) (D.write_faults desk.new (codes "-")) (refusal_text job.now refusal) (refusal_text job.now refusal ∷ []) (Refused refusal) result }
+    ensures held { Stays (D.held desk.old) (D.held desk.new) }
     ensures others { (name : List ℕ) → name ≢ codes "-" → D.written desk.new name ≡ D.written desk.old name }
     ensures reads { NoneFalls (D.read_faults desk.old) (D.read_faults desk.new) }
     ensures writes { NoneFalls (D.write_faults desk.old) (D.write_faults desk.new) }

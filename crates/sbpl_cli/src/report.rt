@@ -148,12 +148,12 @@ fn push_spent(out: &mut Vec<u8>, spent: Option<u64>) -> Result<(), NoMemory>
 
 /// Appends the section of a plan.
 #[tactic(auto, unfolding(crate::specs::Report::section_text))]
-pub(crate) fn push_section(out: &mut Vec<u8>, record: &PlanRecord) -> Result<(), NoMemory>
-    ensures appended { OnOk result (out.new.items ≡ out.old.items ++ section_text record.now) }
+pub(crate) fn push_section(out: &mut Vec<u8>, plan: &PlanRecord) -> Result<(), NoMemory>
+    ensures appended { OnOk result (out.new.items ≡ out.old.items ++ section_text plan.now) }
 {
-    push_field(out, b"plan ", u64::from(record.plan))?;
+    push_field(out, b"plan ", u64::from(plan.plan))?;
     push_bytes(out, b"\n")?;
-    push_passes(out, record.passes.as_slice())?;
-    push_spent(out, record.spent)?;
-    push_outcome(out, &record.outcome)
+    push_passes(out, plan.passes.as_slice())?;
+    push_spent(out, plan.spent)?;
+    push_outcome(out, &plan.outcome)
 }

@@ -4,7 +4,7 @@ ghost use Rattle.std.specs.Prelude.{◌≡◌, ◌≢◌, ◌⊎◌, ℕ, List, 
 ghost use Rattle.sbpl_cfg.specs.Environment.{Environment};
 ghost use Rattle.sbpl_cfg.specs.declared.fault.EnvFault.{EnvFault};
 ghost use Rattle.sbpl_cost.specs.PrimitiveCost.{IsFirstTooDear};
-ghost use Rattle.sbpl_desk.specs.Desk.{Appends, AppendsFront, Keeps, NoneFalls, Rose};
+ghost use Rattle.sbpl_desk.specs.Desk.{Appends, AppendsFront, Keeps, NoneFalls, Rose, Stays};
 ghost use Rattle.sbpl_mprim.specs.Primitives.{Primitives};
 ghost use Rattle.sbpl_mprim.specs.declared.fault.PrimFault.{PrimFault};
 ghost use Rattle.sbpl_cli.specs.Causes.{NoneTooDear};
@@ -26,6 +26,7 @@ use std::alloc::Global;
 /// Plans for a job and writes how that ends.
 fn end_plan<D: Desk>(alloc: Global, job: &PlanJob, desk: &mut D) -> Ending
     ensures ends { EndsJob (D.held desk.old) (D.read_faults desk.old) (D.read_faults desk.new) (D.written desk.old (codes "-")) (D.written desk.new (codes "-")) (D.write_faults desk.old (codes "-")) (D.write_faults desk.new (codes "-")) job.now result }
+    ensures held { Stays (D.held desk.old) (D.held desk.new) }
     ensures others { (name : List ℕ) → name ≢ codes "-" → D.written desk.new name ≡ D.written desk.old name }
     ensures reads { NoneFalls (D.read_faults desk.old) (D.read_faults desk.new) }
     ensures writes { NoneFalls (D.write_faults desk.old) (D.write_faults desk.new) }
@@ -40,6 +41,7 @@ fn end_plan<D: Desk>(alloc: Global, job: &PlanJob, desk: &mut D) -> Ending
 /// Writes that the words name no job, and answers the status.
 fn refuse_words<D: Desk>(desk: &mut D) -> u8
     ensures ends { EndsWords (D.written desk.old (codes "-")) (D.written desk.new (codes "-")) (D.write_faults desk.old (codes "-")) (D.write_faults desk.new (codes "-")) result }
+    ensures held { Stays (D.held desk.old) (D.held desk.new) }
     ensures others { (name : List ℕ) → name ≢ codes "-" → D.written desk.new name ≡ D.written desk.old name }
     ensures reads { NoneFalls (D.read_faults desk.old) (D.read_faults desk.new) }
     ensures writes { NoneFalls (D.write_faults desk.old) (D.write_faults desk.new) }
@@ -54,6 +56,7 @@ fn refuse_words<D: Desk>(desk: &mut D) -> u8
 /// Finds the job that the words name, plans, and writes how that ends. It answers the status.
 fn end_run<D: Desk>(alloc: Global, words: &[String], desk: &mut D) -> u8
     ensures ends { EndsRun (job_of (map string_bytes words.now)) (D.held desk.old) (D.read_faults desk.old) (D.read_faults desk.new) (D.written desk.old (codes "-")) (D.written desk.new (codes "-")) (D.write_faults desk.old (codes "-")) (D.write_faults desk.new (codes "-")) result }
+    ensures held { Stays (D.held desk.old) (D.held desk.new) }
     ensures others { (name : List ℕ) → name ≢ codes "-" → D.written desk.new name ≡ D.written desk.old name }
     ensures reads { NoneFalls (D.read_faults desk.old) (D.read_faults desk.new) }
     ensures writes { NoneFalls (D.write_faults desk.old) (D.write_faults desk.new) }
@@ -95,7 +98,8 @@ pub fn run<D: Desk>(alloc: Global, words: &[String], desk: &mut D) -> u8
     ensures too_dear { (job : PlanJob) (e : Environment) (ps : Primitives) (i : ℕ) → job_of (map string_bytes words.now) ≡ Some (Plan job) → TellsEnvironment (D.held desk.old) job e → TellsPrimitives (D.held desk.old) job e ps → IsFirstTooDear e ps.items i → IsOrFailed 4 result }
     // Good words and good files are planned and reported, unless the desk fails or memory runs out.
     ensures complete { (job : PlanJob) (e : Environment) (ps : Primitives) → job_of (map string_bytes words.now) ≡ Some (Plan job) → TellsEnvironment (D.held desk.old) job e → TellsPrimitives (D.held desk.old) job e ps → NoneTooDear e ps → IsOrFailed 0 result }
-    // Nothing is written under another name, and no count falls.
+    // Nothing that is held changes, nothing is written under another name, and no count falls.
+    ensures held { Stays (D.held desk.old) (D.held desk.new) }
     ensures others { (name : List ℕ) → name ≢ codes "-" → D.written desk.new name ≡ D.written desk.old name }
     ensures reads { NoneFalls (D.read_faults desk.old) (D.read_faults desk.new) }
     ensures writes { NoneFalls (D.write_faults desk.old) (D.write_faults desk.new) }

@@ -15,5 +15,6 @@ pub mod Offsets
 pub mod PlaceLaws
 pub mod RoundedUp
 pub mod Samples
+pub mod Tails
 pub mod Views
 pub mod Ways

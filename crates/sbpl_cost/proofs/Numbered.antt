@@ -61,3 +61,20 @@ places_from-push test i (y ∷ xs) x =
     let same : i + 1 + length xs ≡ i + suc (length xs) = omega arith in
     ap (λ places. cond (test y) (i ∷ places) places) (later ∙ ap (λ n. places_from test (i + 1) xs ++ cond (test x) (n ∷ []) []) same)
     ∙ sym (append_if (test y) i (places_from test (i + 1) xs) (cond (test x) ((i + suc (length xs)) ∷ []) []))
+
+skip_if : (b : Bool) (i m n : ℕ) (places : List ℕ) → slice_get places n ≡ Some m → slice_get (cond b (i ∷ places) places) (cond b 1 0 + n) ≡ Some m
+skip_if true i m n places h = let next : 1 + n ≡ suc n = omega arith in rw next h
+skip_if false i m n places h = let same : 0 + n ≡ n = omega arith in rw same h
+
+-- an element that passes has its number at the place that the count before it tells
+pub numbered_at : {X : Type 0} (test : X → Bool) (i : ℕ) (xs : List X) (at : ℕ) (x : X) → slice_get xs at ≡ Some x → test x ≡ true
+    → slice_get (places_from test i xs) (count_by test (take at xs)) ≡ Some (i + at)
+numbered_at test i [] at x there passes = absurd (none-some x there)
+numbered_at test i (y ∷ ys) zero x there passes =
+    let first = ap test (same_Some y x there) ∙ passes in
+    ap (λ b. slice_get (cond b (i ∷ places_from test (i + 1) ys) (places_from test (i + 1) ys)) 0) first ∙ ap (λ n. Some n) (sym (add-zero i))
+numbered_at test i (y ∷ ys) (suc at) x there passes =
+    let later = numbered_at test (i + 1) ys at x there passes in
+    let same : (i + 1) + at ≡ i + suc at = omega arith in
+    ap (λ n. slice_get (places_from test i (y ∷ ys)) n) (count_next test y (take at ys) (test y) refl)
+    ∙ skip_if (test y) i (i + 1 + at) (count_by test (take at ys)) (places_from test (i + 1) ys) later ∙ ap (λ n. Some n) same

@@ -2,6 +2,7 @@
 use Rattle.std.specs.Prelude.{ℕ, pos, ◌+◌, ◌*◌, ◌-ℤ◌, ◌&&◌, ◌==◌, Bool, false, List, [], ◌∷◌, length, take, map, count_by, slice_get, Option, Some, None, option_and_then, option_map, unwrap_or, nat_lt, max, if◌then◌else◌}
 use Rattle.std.specs.List.{list_all}
 use Rattle.sbpl_graph.specs.Network.{Network}
+use Rattle.sbpl_graph.specs.Laws.{HasExactTails, HasGaps}
 use Rattle.sbpl_mprim.specs.declared.prim.Primitive.{Primitive}
 use Rattle.sbpl_mprim.specs.Primitives.{offset_cell}
 use Rattle.sbpl_cost.specs.PrimitiveCost.{primitive_cost}
@@ -81,3 +82,11 @@ network_of w = record {
 -- the arcs of the lattice are those that it is to have
 abbrev pub LatticeHasItsArcs : Type 0
 LatticeHasItsArcs = (w : World) → IsWorld w → HasLatticeArcs (network_of w) w
+
+-- the tails of each state are exactly the arcs that lead to it, each once
+abbrev pub LatticeHasExactTails : Type 0
+LatticeHasExactTails = (w : World) → IsWorld w → HasExactTails (network_of w)
+
+-- the gaps are lower bounds
+abbrev pub LatticeHasGaps : Type 0
+LatticeHasGaps = (w : World) → IsWorld w → HasGaps (network_of w)

@@ -1,6 +1,6 @@
 //! The centre cells of primitives.
 
-ghost use Rattle.std.specs.Prelude.{◌≡◌, ℕ, ℤ, pos, negsuc, ◌<◌, ◌≤◌, length, slice_get, Some, IfOk, OnOk};
+ghost use Rattle.std.specs.Prelude.{◌≡◌, ℕ, pos, negsuc, ◌<◌, slice_get, Some, IfOk, OnOk};
 ghost use Rattle.sbpl_cfg.specs.declared.pose.Pose.{Pose};
 ghost use Rattle.sbpl_cfg.specs.Environment.{IsWithin};
 ghost use Rattle.sbpl_mprim.specs.Primitives.{offset_cell, IsOffsetInRange};

@@ -1,13 +1,12 @@
 //! The lattice: an environment, primitives and a map, as a graph.
 
-ghost use Rattle.std.specs.Prelude.{◌≡◌, ℕ, ◌<◌, ◌≤◌, ◌^◌, ◌↔◌, length, slice_get, Some, IsSome, IfSome, IfOk, IfErr, MatchOption};
+ghost use Rattle.std.specs.Prelude.{◌≡◌, ◌<◌, ◌≤◌, ◌↔◌, length, slice_get, Some, IsSome, IfSome, IsOk, IfOk, IfErr, OnOk, OnErr};
 ghost use Rattle.sbpl_mprim.specs.declared.prim.Primitive.{Primitive};
-ghost use Rattle.sbpl_map.specs.CellMap.{cost_at, IsOnMap};
-ghost use Rattle.sbpl_graph.specs.Laws.{IsSound};
+ghost use Rattle.sbpl_map.specs.CellMap.{cost_at, IsOnMap, ChangesCell};
 ghost use Rattle.sbpl_cost.specs.PrimitiveCost.{primitive_cost, most_cost};
-ghost use Rattle.sbpl_cost.specs.States.{IsPlace, place_of, state_number, state_in, state_count};
+ghost use Rattle.sbpl_cost.specs.States.{IsPlace, place_of, state_number};
 ghost use Rattle.sbpl_cost.specs.World.{World, IsWorld};
-ghost use Rattle.sbpl_cost.specs.Arc.{IsArcBy, IsFree, IsFreeAt};
+ghost use Rattle.sbpl_cost.specs.Arc.{IsArcBy};
 ghost use Rattle.sbpl_cost.specs.Lattices.{network_of, arc_place, leaving};
 ghost use Rattle.sbpl_cost.specs.Tables.{AreCheap, IsCause};
 
@@ -19,7 +18,7 @@ use crate::runs::Runs;
 use crate::tables::{centre_table, leaving_table, primitive_costs};
 use sbpl_cfg::{Env, Place};
 use sbpl_graph::Graph;
-use sbpl_map::Map;
+use sbpl_map::{Map, OffMap};
 use sbpl_mprim::Prims;
 use std::alloc::Global;
 use std::marker::Model;
@@ -130,6 +129,7 @@ impl Lattice {
         requires number { k < (network_of self.now).fan s }
         ensures value { arc_place self.now s k ≡ Some result }
         ensures primitive { (p : Primitive) × IsArcBy self.now s k result p }
+        ensures inside { result < length self.now.prims.items }
     {
         self.leaving_at(heading_of(&self.env, s), k)
     }
@@ -168,6 +168,21 @@ impl Lattice {
         ensures on_map { IsSome result ↔ IsOnMap self.now.map x y }
     {
         self.map.cost(x, y)
+    }
+
+    /// Writes cost `c` to cell `(x, y)` of the map and returns the old cost. `OffMap` comes exactly off the map, and then
+    /// nothing changes.
+    pub fn set(&mut self, x: i64, y: i64, c: u8) -> Result<u8, OffMap>
+        ensures on_map { IsOk result ↔ IsOnMap self.old.map x y }
+        ensures old { IfOk result (λ was. cost_at self.old.map x y ≡ Some was) }
+        ensures changes { OnOk result (ChangesCell self.old.map self.new.map x y c) }
+        ensures others { self.new ≡ record self.old { map = self.new.map } }
+        ensures refused { OnErr result (self.new ≡ self.old) }
+        ensures kept { IsWorld self.new }
+    {
+        let was = self.map.set(x, y, c);
+        let _width = self.map.width();
+        was
     }
 }
 
@@ -220,3 +235,6 @@ fn copy_of(env: &Env) -> Env
         headings: env.headings,
     }
 }
+
+#[cfg(test)]
+mod tests;

@@ -14,5 +14,5 @@ mod tables;
 
 pub use fault::LatticeFault;
 pub use lattice::Lattice;
-pub use laws::{lattice_has_its_arcs, point_sweeps_centres};
+pub use laws::{lattice_has_its_arcs, lattice_has_its_tails, point_sweeps_centres};
 pub use primitive_cost::{MOST_COST, cost_parts_are_least, prim_cost};

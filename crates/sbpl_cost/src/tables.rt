@@ -1,7 +1,6 @@
 //! What a lattice computes once, when it is made.
 
 ghost use Rattle.std.specs.Prelude.{◌≡◌, ◌<◌, map, IfOk, IfErr};
-ghost use Rattle.sbpl_mprim.specs.Primitives.{Primitives, ArePrimitives};
 ghost use Rattle.sbpl_cost.specs.PrimitiveCost.{primitive_cost};
 ghost use Rattle.sbpl_cost.specs.Lattices.{leaving};
 ghost use Rattle.sbpl_cost.specs.Tables.{AreLeaving, HaveCentres, AreCheap, IsCause};

@@ -1,6 +1,6 @@
 //! The costs of the cells, as they are at present.
 
-ghost use Rattle.std.specs.Prelude.{◌≡◌, ◌*◌, ◌<◌, ◌≤◌, ◌↔◌, length, IsSome, IsOk, IfOk, OnOk, OnErr, Some};
+ghost use Rattle.std.specs.Prelude.{◌≡◌, ◌*◌, ◌<◌, ◌↔◌, length, IsSome, IsOk, IfOk, OnOk, OnErr, Some};
 ghost use Rattle.sbpl_map.specs.CellMap.{cost_at, place_in, IsOnMap, IsCellMap, ChangesCell};
 
 use crate::off_map::OffMap;
@@ -73,6 +73,9 @@ impl Map {
         ensures old { IfOk result (λ was. cost_at self.old x y ≡ Some was) }
         ensures changes { OnOk result (ChangesCell self.old self.new x y c) }
         ensures refused { OnErr result (self.new ≡ self.old) }
+        ensures width { self.new.width ≡ self.old.width }
+        ensures height { self.new.height ≡ self.old.height }
+        ensures kept { IsCellMap self.new }
     {
         let Some(place) = self.place(x, y) else {
             return Err(OffMap);

@@ -1,0 +1,20 @@
+use Rattle.std.proofs.Common.{w64}
+use Rattle.std.proofs.lemmas.Int.{to_z-of_z}
+use Rattle.sbpl_cost.proofs.lattice.Lattice.set.Goals as goal
+
+pub returns-clause-on_map : goal.returns-clause-on_map
+returns-clause-on_map c =
+    let there = rw (to_z-of_z w64 c.args.x c.ranges.x, to_z-of_z w64 c.args.y c.ranges.y) at c.set-was.ensures.on_map in
+    rw (← c.self.view_is) there
+
+pub returns-clause-old : goal.returns-clause-old
+returns-clause-old c =
+    let fits_x = c.ranges.x in
+    let fits_y = c.ranges.y in
+    let there = simp to_z-of_z at c.set-was.ensures.old in
+    rw (← c.self.view_is) there
+
+pub returns-clause-changes : goal.returns-clause-changes
+returns-clause-changes c =
+    let there = rw (to_z-of_z w64 c.args.x c.ranges.x, to_z-of_z w64 c.args.y c.ranges.y) at c.set-was.ensures.changes in
+    rw (← c.self.view_is) there
