@@ -9,7 +9,7 @@ use Rattle.sbpl_graph.specs.Kept.{NoneUnder}
 use Rattle.sbpl_labels.specs.declared.pass_end.PassEnd.TheVariants.{Rest, Spent}
 use Rattle.sbpl_labels.specs.Counts.{Counts, IsSpent}
 use Rattle.sbpl_labels.specs.Marks.{Marks, AreLabels, states_of, g_of, v_of}
-use Rattle.sbpl_ara.specs.Order.{IsBelow}
+use Rattle.sbpl_open.specs.Order.{IsBelow}
 use Rattle.sbpl_ara.specs.Run.{Query, IsOver, IsNext, IsAtRest, key_at, goal_key_at}
 use Rattle.sbpl_ara.proofs.Ordering.{AreOrdered, key_over}
 use Rattle.sbpl_ara.proofs.Passing.{IsPassing, closed_by, none_under_of}

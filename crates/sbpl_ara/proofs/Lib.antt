@@ -1,7 +1,8 @@
 pub mod Marking
 pub mod Closing
 pub mod Opening
-pub mod Ranking
+pub mod Queueing
+pub mod Gathering
 pub mod Resting
 pub mod Changing
 pub mod Relaxing
@@ -10,3 +11,4 @@ pub mod Running
 pub mod Ordering
 pub mod Passing
 pub mod Finishing
+pub mod SampleTails

@@ -5,7 +5,7 @@ use Rattle.sbpl_graph.specs.Network.{Network, IsFreeArc}
 use Rattle.sbpl_graph.specs.Laws.{IsSound, IsConsistent}
 use Rattle.sbpl_graph.specs.Kept.{NoneUnder}
 use Rattle.sbpl_labels.specs.Marks.{Marks, states_of, g_of, v_of}
-use Rattle.sbpl_ara.specs.Order.{ComesBefore}
+use Rattle.sbpl_open.specs.Order.{ComesBefore}
 use Rattle.sbpl_ara.specs.Run.{Query, IsOpen, IsOver, IsNext, LowersHeads, key_at, closed_with}
 use Rattle.sbpl_ara.proofs.Closing.{lowers}
 use Rattle.sbpl_ara.proofs.Opening.{open_is_over}

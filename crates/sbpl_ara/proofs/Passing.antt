@@ -1,7 +1,7 @@
 -- A pass from its beginning on.
-use Rattle.std.proofs.Common.{◌≡◌, ◌≢◌, ℕ, ◌+◌, ◌<◌, ◌≤◌, Bool, true, false, [], ◌∷◌, ◌++◌, length, arith, ⊎_elim, refl, sym, ◌∙◌, ap, add-zero, nat_eq, length-append}
+use Rattle.std.proofs.Common.{◌≡◌, ◌≢◌, ℕ, ◌+◌, ◌<◌, ◌≤◌, Bool, true, false, [], ◌∷◌, ◌++◌, length, arith, ⊎_elim, refl, sym, ◌∙◌, ap, nat_eq, length-append}
 use Rattle.std.specs.List.{All, AllPairs}
-use Rattle.std.proofs.lemmas.List.Elements.{All-nil, All-push}
+use Rattle.std.proofs.lemmas.List.Elements.{All-push}
 use Rattle.std.proofs.lemmas.List.Quantifiers.{all_pairs_push}
 use Rattle.std.proofs.lemmas.Bool.{or_cases, eqb-true, true≢false}
 use Rattle.sbpl_graph.specs.declared.TheConstants.{FAR}
@@ -9,16 +9,16 @@ use Rattle.sbpl_graph.specs.Network.{Network}
 use Rattle.sbpl_graph.specs.Laws.{IsSound, IsConsistent}
 use Rattle.sbpl_graph.specs.Kept.{NoneUnder}
 use Rattle.sbpl_graph.proofs.Paths.{label_at_most}
-use Rattle.sbpl_graph.proofs.Fitting.{fit_more}
 use Rattle.sbpl_labels.specs.Counts.{Counts}
 use Rattle.sbpl_labels.specs.Marks.{Marks, AreLabels, states_of, g_of, v_of}
 use Rattle.sbpl_ara.specs.declared.step.Step.{Step}
 use Rattle.sbpl_ara.specs.Run.{Query, IsNext, IsRun, LowersHeads, none_closed, closed_with, closed_after}
+use Rattle.sbpl_ara.specs.Queue.{AreQueued}
 use Rattle.sbpl_ara.specs.Search.{Search, AreReady}
 use Rattle.sbpl_ara.proofs.Closing.{lowers, closed_after_push}
 use Rattle.sbpl_ara.proofs.Opening.{open_is_over, open_alike}
 use Rattle.sbpl_ara.proofs.Running.{run_push, not_closed_apart}
-use Rattle.sbpl_ara.proofs.Ordering.{AreOrdered, ordered_none, ordered_more}
+use Rattle.sbpl_ara.proofs.Ordering.{AreOrdered, ordered_more}
 
 -- the states that the steps of a search have closed
 abbrev pub closed_by : Search → ℕ → Bool
@@ -37,22 +37,14 @@ pub record IsPassing (q : Query) (old now : Search) (before counts : Counts) : T
   pub once : AllPairs (λ a b. a.state ≢ b.state) now.trace
   pub near : (s : ℕ) → closed_by now s ≡ true → v_of now.labels s < FAR
   pub ordered : q.eps ≡ 1000 → AreOrdered q.guide (closed_by now) now.labels
-
--- labels that are ready for a count are ready for every greater one
-pub ready_more : {n : Network} {m : Marks} {count : ℕ} (more : ℕ) → AreReady n m count → count ≤ more → AreReady n m more
-ready_more more ready above = record {
-  states = ready.states;
-  exact = ready.exact;
-  none_under = ready.none_under;
-  fits = fit_more more ready.fits above;
-}
+  pub queued : AreQueued q.eps q.guide (closed_by now) now.labels now.queue
 
 -- none of a search's labels is underconsistent
 pub none_under_of : {n : Network} {m : Marks} {count : ℕ} → AreReady n m count → NoneUnder (states_of m) (g_of m) (v_of m)
 none_under_of ready = record { at = λ s inside. ready.none_under.at s (omega (arith, ready.states)) }
 
 -- the counts rise by one with each step
-counts_more : (before counts counts' : Counts) (steps steps' : ℕ) → counts ≡ record before { plan = before.plan + steps; run = before.run + steps }
+pub counts_more : (before counts counts' : Counts) (steps steps' : ℕ) → counts ≡ record before { plan = before.plan + steps; run = before.run + steps }
     → counts' ≡ record counts { plan = counts.plan + 1; run = counts.run + 1 } → steps' ≡ steps + 1
     → counts' ≡ record before { plan = before.plan + steps'; run = before.run + steps' }
 counts_more before counts counts' steps steps' was spent more =
@@ -68,25 +60,6 @@ ordered_alike {closed = closed} {closed' = closed'} same ordered = record {
   behind = λ x u is open_u. ordered.behind x u (same x ∙ is) (open_alike closed' closed (λ y. sym (same y)) open_u);
 }
 
--- at its beginning no step was made
-pub passing_none : {q : Query} {old now : Search} {counts : Counts} → now.labels ≡ old.labels → now.goal ≡ old.goal → now.trace ≡ []
-    → AreReady q.network old.labels counts.run → IsPassing q old now counts counts
-passing_none {q} {old} {now} {counts} same goal empty ready =
-    let none : (s : ℕ) → closed_by now s ≡ false = λ s. rw empty refl in
-    record {
-      same_goal = goal;
-      same_start = ap (λ (m : Marks). m.start) same;
-      same_states = ap states_of same;
-      ready = rw same ready;
-      counted = rw empty (simp add-zero);
-      few = rw empty (omega arith);
-      run = rw (empty, same) refl;
-      lowered = rw empty (All-nil (λ (step : Step). step.raised ≡ false));
-      once = rw empty (λ i j d below inside. absurd (omega arith));
-      near = λ s is. absurd (true≢false (sym is ∙ none s));
-      ordered = λ one. ordered_none none;
-    }
-
 -- one step more
 module _ {q : Query} {old now now' : Search} {before counts counts' : Counts} (s : ℕ) where
   pub passing_more : IsSound q.network → IsConsistent q.network q.goal q.guide → AreLabels now.labels
@@ -95,8 +68,8 @@ module _ {q : Query} {old now now' : Search} {before counts counts' : Counts} (s
       → ((count : ℕ) → AreReady q.network now.labels count → AreReady q.network now'.labels (count + 1))
       → now'.goal ≡ now.goal → now'.trace ≡ now.trace ++ lowers s ∷ [] → length now'.trace ≤ states_of now.labels
       → counts' ≡ record counts { plan = counts.plan + 1; run = counts.run + 1 }
-      → IsPassing q old now' before counts'
-  passing_more sound consistent labels here next step ready goal traced few spent =
+      → AreQueued q.eps q.guide (closed_by now') now'.labels now'.queue → IsPassing q old now' before counts'
+  passing_more sound consistent labels here next step ready goal traced few spent queued =
       let ready' = ready counts.run here.ready in
       let none = none_under_of here.ready in
       let over = open_is_over none next.is_open in
@@ -129,4 +102,5 @@ module _ {q : Query} {old now now' : Search} {before counts counts' : Counts} (s
         ordered = λ one.
             ordered_alike (λ u. sym (closed' u))
             (ordered_more one sound consistent none (none_under_of ready') next step (here.ordered one));
+        queued = queued;
       }

@@ -11,7 +11,7 @@ use Rattle.sbpl_graph.proofs.Fitting.{fit_settled, fit_lowered, fit_small}
 use Rattle.sbpl_labels.specs.Marks.{Marks, ChangesRow, states_of, g_of, v_of, back_of}
 use Rattle.sbpl_ara.specs.Run.{IsFirstArc, IsOver}
 use Rattle.sbpl_ara.specs.Relaxed.{LowersHead, IsRelaxed}
-use Rattle.sbpl_ara.specs.Search.{AreReady}
+use Rattle.sbpl_ara.specs.Search.{AreUsable}
 use Rattle.sbpl_ara.proofs.Changing.{settles_state, lowers_state}
 
 -- g' is the lesser of g and the ways to t over the free arcs of s below number i; where that is lower, back' is the first that gives it
@@ -77,12 +77,12 @@ pub record IsExpanding (n : Network) (old m : Marks) (s i : ℕ) : Type 0 where
   pub start_g : g_of m old.start ≡ g_of old old.start
   pub start_back : back_of m old.start ≡ back_of old old.start
   pub kept : AreKept n old.start (g_of m) (v_of m) (back_of m) (pending_from s i)
-  pub none_under : NoneUnder n.states (g_of m) (v_of m)
+  pub none_under : NoneUnder n.states (g_of old) (v_of old) → NoneUnder n.states (g_of m) (v_of m)
   pub fits : (count : ℕ) → FitCount n.states (g_of old) (v_of old) count → FitCount n.states (g_of m) (v_of m) (count + 1)
 
 module _ {n : Network} {old : Marks} (s : ℕ) where
   -- s is settled
-  pub expanding_none : {m : Marks} {count : ℕ} → AreReady n old count → IsOver old s → v_of old s ≤ FAR
+  pub expanding_none : {m : Marks} {count : ℕ} → AreUsable n old count → IsOver old s → v_of old s ≤ FAR
       → ChangesRow old m s (record { g = g_of old s; v = g_of old s; back = back_of old s }) → IsExpanding n old m s 0
   expanding_none {m} ready over label change =
       let settles = settles_state s change in
@@ -100,7 +100,7 @@ module _ {n : Network} {old : Marks} (s : ℕ) where
         start_g = settles.same_g old.start;
         start_back = settles.same_back old.start;
         kept = kept_settled s (kept_from_exact none_pending ready.exact) over label settles;
-        none_under = none_under_settled s ready.none_under settles;
+        none_under = λ under. none_under_settled s under settles;
         fits = λ count fit. fit_settled s fit settles;
       }
 
@@ -168,7 +168,7 @@ module _ {n : Network} {old : Marks} (s : ℕ) where
             let head : u ≡ t = cc in
             let lowered : g_of m' u ≡ v_of m s + c = rw head lowers.lowered in
             omega (arith, lowers.same_v s));
-        none_under = none_under_lowered t s i (v_of m s + c) here.none_under by.lower lowers;
+        none_under = λ under. none_under_lowered t s i (v_of m s + c) (here.none_under under) by.lower lowers;
         fits = λ count fit_old. fit_lowered t s i c (here.fits count fit_old) by.free.source near_here small lowers;
       }
 
@@ -178,11 +178,10 @@ module _ {n : Network} {old : Marks} (s : ℕ) where
   expanding_more i None sound here near fit relaxed = rw relaxed.0 (expanding_same i here relaxed.1)
   expanding_more i (Some t) sound here near fit relaxed = expanding_lowered i t relaxed.0 sound here near fit relaxed.1
 
-  -- behind the last arc the labels are ready for one expansion more
-  pub ready_all : {m : Marks} {i count : ℕ} → IsExpanding n old m s i → n.fan s ≤ i → AreReady n old count → AreReady n m (count + 1)
-  ready_all {m} {i} {count} here over ready = record {
-    states = here.same_states ∙ ready.states;
+  -- behind the last arc the labels are usable for one expansion more
+  pub usable_all : {m : Marks} {i count : ℕ} → IsExpanding n old m s i → n.fan s ≤ i → AreUsable n old count → AreUsable n m (count + 1)
+  usable_all {m} {i} {count} here over usable = record {
+    states = here.same_states ∙ usable.states;
     exact = rw here.same_start (exact_from_kept (kept_done s i here.kept over));
-    none_under = here.none_under;
-    fits = here.fits count ready.fits;
+    fits = here.fits count usable.fits;
   }

@@ -1,54 +1,53 @@
 -- The least open state is next, or there is rest.
-use Rattle.std.proofs.Common.{◌≡◌, ◌≢◌, ℕ, ◌<◌, ◌↔◌, Bool, true, false, IsTrue, IfSome, refl, arith, ⊎_elim, sym}
+use Rattle.std.proofs.Common.{◌≡◌, ◌≢◌, ℕ, ◌↔◌, Bool, true, false, IsTrue, IfSome, Some, None, refl, arith, ⊎_elim, sym, ap, ◌∙◌}
 use Rattle.std.proofs.lemmas.Bool.{cases_eq, false≢true}
 use Rattle.std.specs.Bool.{then_some}
-use Rattle.sbpl_labels.specs.Marks.{Marks, states_of}
-use Rattle.sbpl_ara.specs.Order.{IsBelow, ComesBefore}
-use Rattle.sbpl_ara.specs.Run.{Query, IsOpen, IsNext, IsAtRest, key_at, goal_key_at}
-use Rattle.sbpl_ara.specs.Ranked.{IsFirstBelow, IsNextOrRest}
-use Rattle.sbpl_ara.proofs.Opening.{open_alike}
+use Rattle.sbpl_labels.specs.Marks.{Marks}
+use Rattle.sbpl_open.specs.Order.{IsBelow, ComesBefore}
+use Rattle.sbpl_ara.specs.Run.{Query, IsNext, IsAtRest, key_at, goal_key_at}
+use Rattle.sbpl_ara.specs.Queue.{IsQueued, AreQueued, IsFirstBelow}
+use Rattle.sbpl_open.specs.Frontier.{Frontier}
+use Rattle.sbpl_open.specs.Frontier as frontier
+use Rattle.std.proofs.lemmas.Option.{same_Some}
+use Rattle.sbpl_ara.proofs.Queueing.{some_queued}
 
 -- what comes before a key that is below a third is below the third too
 pub before_below : (a b c : ℕ × ℕ) (s t : ℕ) → ComesBefore a s b t → IsBelow b c → IsBelow a c
 before_below a b c s t before low = grind arith
 
-module _ {q : Query} {m : Marks} (closed closed' : ℕ → Bool) (same : (u : ℕ) → closed u ≡ closed' u) where
-  pub next_at : {key : ℕ × ℕ} {s : ℕ} → IsFirstBelow q.eps q.guide closed m (states_of m) key s → IsBelow key (goal_key_at q m)
-      → IsNext q closed' m s
-  next_at {key} {s} least low = record {
-    is_open = open_alike closed closed' same least.is_open;
-    below_goal = rw (← least.own_key) low;
-    first = λ u open_u apart.
-        let open_here = open_alike closed' closed (λ x. sym (same x)) open_u in
-        rw (← least.own_key) (least.first u open_here.inside open_here apart);
-  }
-
-  pub rest_at : {key : ℕ × ℕ} {s : ℕ} → IsFirstBelow q.eps q.guide closed m (states_of m) key s → (IsBelow key (goal_key_at q m) → ⊥)
-      → IsAtRest q closed' m
-  rest_at {key} {s} least not_low = record {
-    none_below = λ u open_u low.
-        let open_here = open_alike closed' closed (λ x. sym (same x)) open_u in
-        ⊎_elim
-        (λ (at : u ≡ s). let low_there : IsBelow (key_at q.eps q.guide m s) (goal_key_at q m) = rw (← at) low in not_low (rw least.own_key low_there))
-        (λ (apart : u ≢ s). not_low (before_below key (key_at q.eps q.guide m u) (goal_key_at q m) s u (least.first u open_here.inside open_here apart) low))
-        (cases_eq u s);
-  }
-
-  pub rest_none : ((u : ℕ) → u < states_of m → IsOpen closed m u → ⊥) → IsAtRest q closed' m
-  rest_none none = record {
-    none_below = λ u open_u low.
-        let open_here = open_alike closed' closed (λ x. sym (same x)) open_u in
-        none u open_here.inside open_here;
-  }
-
 -- by the test of the least key
-pub next_or_rest : (q : Query) {m : Marks} (closed closed' : ℕ → Bool) → ((u : ℕ) → closed u ≡ closed' u)
-    → {key : ℕ × ℕ} {s : ℕ} (low : Bool) → IsFirstBelow q.eps q.guide closed m (states_of m) key s
-    → (IsTrue low ↔ IsBelow key (goal_key_at q m)) → IsNextOrRest q closed' m (then_some low s)
-next_or_rest q closed closed' same true least tells = next_at closed closed' same least (tells.0 refl)
-next_or_rest q closed closed' same false least tells = rest_at closed closed' same least (λ low. false≢true (tells.1 low))
+pub first_below : (f : Frontier) (goal : ℕ × ℕ) (s : ℕ) (key : ℕ × ℕ) (low : Bool) → frontier.IsLeast f s key
+    → (IsTrue low ↔ IsBelow key goal) → IsFirstBelow f goal (then_some low s)
+first_below f goal s key true least tells = (key, least, tells.0 refl)
+first_below f goal s key false least tells = λ u other is below.
+    let not_low : IsBelow key goal → ⊥ = λ low. false≢true (tells.1 low) in
+    ⊎_elim
+    (λ (at : u ≡ s).
+    let same : Some key ≡ Some other = sym least.there ∙ ap (frontier.key_at f) (sym at) ∙ is in
+    not_low (rw (same_Some key other same) below))
+    (λ (apart : u ≢ s). not_low (before_below key other goal s u (least.first u other is apart) below))
+    (cases_eq u s)
 
--- what holds anyway holds where the test gives a state
-pub if_then_some : {P : Type 0} (low : Bool) (s : ℕ) → P → IfSome (then_some low s) (λ _. P)
-if_then_some true s holds = holds
-if_then_some false s holds = tt
+-- the least state of the queue is next, or there is rest
+pub next_from_queue : (q : Query) {closed : ℕ → Bool} {m : Marks} {f : Frontier} (s : ℕ) → AreQueued q.eps q.guide closed m f
+    → IsFirstBelow f (goal_key_at q m) (Some s) → IsNext q closed m s
+next_from_queue q {closed} {m} {f} s queued (key, least, below) =
+    let own : IsQueued q.eps q.guide closed m s (Some key) = rw least.there at (queued.each s) in
+    record {
+      is_open = own.0;
+      below_goal = rw (← own.1) below;
+      first = λ u open_u apart.
+          let there = some_queued q.eps q.guide closed m u (frontier.key_at f u) (queued.each u) open_u in
+          rw (← own.1) (least.first u (key_at q.eps q.guide m u) there apart);
+    }
+
+pub rest_from_queue : (q : Query) {closed : ℕ → Bool} {m : Marks} {f : Frontier} → AreQueued q.eps q.guide closed m f
+    → IsFirstBelow f (goal_key_at q m) None → IsAtRest q closed m
+rest_from_queue q {closed} {m} {f} queued none = record {
+  none_below = λ u open_u below. none u (key_at q.eps q.guide m u) (some_queued q.eps q.guide closed m u (frontier.key_at f u) (queued.each u) open_u) below;
+}
+
+-- what holds of the state holds where the test gives it
+pub if_then_some : (P : ℕ → Type 0) (low : Bool) (s : ℕ) → P s → IfSome (then_some low s) P
+if_then_some P true s holds = holds
+if_then_some P false s holds = tt

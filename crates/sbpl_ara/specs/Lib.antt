@@ -1,8 +1,7 @@
 pub mod Marked
 pub mod Order
-pub mod Recomputed
 pub mod Run
-pub mod Ranked
 pub mod Relaxed
+pub mod Queue
 pub mod Search
 pub mod Sample

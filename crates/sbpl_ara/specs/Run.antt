@@ -4,8 +4,9 @@ use Rattle.sbpl_graph.specs.declared.TheConstants.{FAR}
 use Rattle.sbpl_graph.specs.Network.{Network, IsFreeArc}
 use Rattle.sbpl_labels.specs.Marks.{Marks, states_of, g_of, v_of, back_of}
 use Rattle.sbpl_ara.specs.declared.step.Step.{Step}
-use Rattle.sbpl_ara.specs.Order.{IsBelow, ComesBefore, key_of, goal_key}
-use Rattle.sbpl_ara.specs.Recomputed.{IsRecomputed}
+use Rattle.sbpl_open.specs.Order.{IsBelow, ComesBefore}
+use Rattle.sbpl_ara.specs.Order.{key_of, goal_key}
+use Rattle.sbpl_labels.specs.Recomputed.{IsRecomputed}
 
 -- what stays the same over a pass: the graph, the guide, the inflation in thousandths, and the goal
 pub record Query : Type 0 where

@@ -1,5 +1,5 @@
 -- A graph of six states with a guide, for tests.
-use Rattle.std.specs.Prelude.{◌≡◌, ℕ, ◌+◌, ◌-◌, ◌*◌, ◌≤◌, ◌&&◌, min, max, nat_lt, if◌then◌else◌, Some, None, List, slice_index, slice_index_or}
+use Rattle.std.specs.Prelude.{◌≡◌, ℕ, ◌+◌, ◌-◌, ◌*◌, ◌/◌, ◌%◌, ◌≤◌, ◌&&◌, ◌==◌, min, max, nat_lt, if◌then◌else◌, Some, None, List, slice_index, slice_index_or}
 use Rattle.std.proofs.Common.{arith}
 use Rattle.std.proofs.lemmas.Bool.Decides.{nat_tests}
 use Rattle.sbpl_graph.specs.Network.{Network}
@@ -22,8 +22,8 @@ sample arcs heights = record {
   cost = λ s k.
       if nat_lt (arc_at arcs s k).0 6 && nat_lt 0 (arc_at arcs s k).1
       then Some (max (min (arc_at arcs s k).1 1000) (height heights s - height heights (arc_at arcs s k).0)) else None;
-  tail_fan = λ _. 0;
-  tail = λ _ _. None;
+  tail_fan = λ _. 12;
+  tail = λ t j. if (slice_index_or arcs j (6, 0)).0 == t then Some (j / 2, j % 2) else None;
   gap = λ _ _. 0;
 }
 

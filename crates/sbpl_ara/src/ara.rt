@@ -8,27 +8,30 @@ ghost use Rattle.sbpl_graph.specs.declared.TheConstants.{FAR};
 ghost use Rattle.sbpl_graph.specs.Kept.{NoneUnder};
 ghost use Rattle.sbpl_labels.specs.Counts.{IsSpent};
 ghost use Rattle.sbpl_labels.specs.Marks.{IsOpened, AreLabels, states_of, g_of, v_of};
-ghost use Rattle.sbpl_ara.specs.Ranked.{IsNextOrRest};
+ghost use Rattle.sbpl_open.specs.Frontier as frontier;
+ghost use Rattle.sbpl_ara.specs.Queue.{AreQueued, IsFirstBelow};
+ghost use Rattle.sbpl_ara.specs.Marked.{closed_at};
+ghost use Rattle.sbpl_ara.specs.Order.{goal_key};
 ghost use Rattle.sbpl_ara.specs.Run.{query, none_closed, closed_after, IsOpen, IsNext, IsAtRest, LowersHeads, IsRun};
-ghost use Rattle.sbpl_ara.specs.Search.{AreReady};
+ghost use Rattle.sbpl_ara.specs.Search.{AreReady, AreWaiting};
 
-use crate::expand::expand;
-use crate::least::{is_below, least_open};
-use crate::{Closed, Step, Steps};
+use crate::{Closed, Parts, Step, Steps, expand, gather, refill};
 use sbpl_fixed::NoMemory;
 use sbpl_graph::{Graph, Guide};
 use sbpl_labels::{Budget, Labels, PassEnd};
+use sbpl_open::{Key, Open};
 use std::alloc::Global;
 use std::marker::Model;
 
-/// A search by Anytime Repairing A*: the labels of all states, the goal, and the expansions of the
-/// last pass. All its memory is taken when it is opened.
+/// A search by Anytime Repairing A*: the labels of all states, the goal, the expansions of the last
+/// pass and the queue that it left. All its memory is taken when it is opened.
 #[derive(Drop)]
 pub struct Ara {
     labels: Labels,
     goal: u32,
     closed: Closed,
     steps: Steps,
+    queue: Open,
 }
 
 impl Model for Ara {
@@ -36,9 +39,9 @@ impl Model for Ara {
 
     ghost Value = { Search };
 
-    ghost view = { λ a. record { labels = a.labels; goal = a.goal; trace = a.steps.items } };
+    ghost view = { λ a. record { labels = a.labels; goal = a.goal; trace = a.steps.items; queue = a.queue } };
 
-    ghost invariant = { λ a. AreParts a.labels a.goal a.closed a.steps };
+    ghost invariant = { λ a. AreParts a.labels a.goal a.closed a.steps a.queue };
 }
 
 impl Ara {
@@ -57,11 +60,14 @@ impl Ara {
         let labels = Labels::open(alloc, states, start)?;
         let closed = Closed::open(alloc, states)?;
         let steps = Steps::with_room(alloc, 3 * states as usize)?;
+        let mut queue = Open::new(alloc, states)?;
+        queue.put(start, Key(0, 0));
         Ok(Ara {
             labels,
             goal,
             closed,
             steps,
+            queue,
         })
     }
 
@@ -76,7 +82,10 @@ impl Ara {
         ensures untraced { self.new.trace ≡ [] }
     {
         self.labels.reset();
-        self.begin();
+        self.closed.clear();
+        self.steps.clear();
+        self.queue.clear();
+        self.queue.put(self.labels.start(), Key(0, 0));
     }
 
     /// A pass: open states are expanded, the least key first, until no open key is below the goal's
@@ -141,13 +150,13 @@ impl Ara {
         ensures goal { self.new.goal ≡ self.old.goal }
     {
         let _states = graph.states();
-        self.begin();
-        'expansions: while let Some(s) = self.next(graph, guide, eps) {
+        self.begin(guide, eps);
+        'expansions: while let Some(s) = self.next() {
             if budget.spent() {
                 return PassEnd::Spent;
             }
             budget.spend();
-            self.take(graph, s);
+            self.take(graph, guide, eps, s);
         }
         PassEnd::Rest
     }
@@ -169,49 +178,103 @@ impl Ara {
         self.steps.as_slice()
     }
 
-    /// Begins a pass: no state is closed.
-    fn begin(&mut self)
+    /// The parts of the search, without memory. Each open state is in the queue, the steps have room
+    /// for three steps a state, and just those states are closed that the steps have closed.
+    pub fn into_parts(self) -> Parts
+        ensures labels { result.labels ≡ self.labels }
+        ensures valid { AreLabels result.labels }
+        ensures goal { result.goal ≡ self.goal }
+        ensures inside { result.goal < states_of result.labels }
+        ensures closed { (s : ℕ) → closed_at result.closed s ≡ closed_after none_closed result.steps.items s }
+        ensures closed_states { length result.closed ≡ states_of result.labels }
+        ensures steps { result.steps.items ≡ self.trace }
+        ensures steps_inside { All (λ step. step.state < states_of result.labels) result.steps.items }
+        ensures room { result.steps.room ≡ 3 * states_of result.labels }
+        ensures queue { result.queue ≡ self.queue }
+        ensures queue_states { frontier.states_of result.queue ≡ states_of result.labels }
+        ensures waiting { AreWaiting result.labels result.queue (closed_at result.closed) }
+    {
+        let Ara {
+            labels,
+            goal,
+            closed,
+            steps,
+            queue,
+        } = self;
+        let _start = labels.start();
+        Parts {
+            labels,
+            goal,
+            closed,
+            steps,
+            queue,
+        }
+    }
+
+    /// Begins a pass: no state is closed, and the queue holds the states whose g and v differ. They
+    /// are looked for only where the last pass may have left them: in its queue and its steps.
+    fn begin<H: Guide>(&mut self, guide: &H, eps: u32)
+        requires known { (s : ℕ) → s < states_of self.old.labels → H.knows guide.now s }
         ensures labels { self.new.labels ≡ self.old.labels }
         ensures goal { self.new.goal ≡ self.old.goal }
         ensures untraced { self.new.trace ≡ [] }
-        ensures goal_inside { self.old.goal < states_of self.old.labels }
+        ensures queued { AreQueued eps (H.distance guide.now) none_closed self.new.labels self.new.queue }
     {
+        gather(&self.queue, &mut self.steps);
+        self.queue.clear();
+        refill(
+            &mut self.queue,
+            self.steps.as_slice(),
+            &self.labels,
+            guide,
+            eps,
+        );
         self.closed.clear();
         self.steps.clear();
     }
 
-    /// The next open state, or none at rest.
-    fn next<G: Graph, H: Guide>(&self, graph: &G, guide: &H, eps: u32) -> Option<u32>
-        requires states { states_of self.now.labels ≡ (G.network graph.now).states }
-        requires none_under { NoneUnder (G.network graph.now).states
-            (g_of self.now.labels) (v_of self.now.labels) }
-        requires guide { H.guides guide.now (G.network graph.now) self.now.goal }
-        ensures next { IsNextOrRest
-            (query (G.network graph.now) (H.distance guide.now) eps self.now.goal)
-            (closed_after none_closed self.now.trace) self.now.labels result }
+    /// The least state of the queue, where its key is below the goal's.
+    fn next(&self) -> Option<u32>
+        ensures next { IsFirstBelow self.now.queue (goal_key (g_of self.now.labels self.now.goal))
+            result }
         ensures labels { AreLabels self.now.labels }
-        ensures few { IfSome result (λ _. length self.now.trace < states_of self.now.labels) }
+        ensures few { IfSome result (λ s. s < states_of self.now.labels
+            → closed_after none_closed self.now.trace s ≡ false
+            → length self.now.trace < states_of self.now.labels) }
     {
         let _start = self.labels.start();
-        let (key, s) = least_open(&self.labels, &self.closed, guide, eps, graph.states())?;
+        let (s, key) = self.queue.least()?;
         let g = self.labels.g(self.goal);
-        is_below(key, (1000 * u128::from(g), g)).then_some(s)
+        key.is_below(Key(1000 * u128::from(g), g)).then_some(s)
     }
 
     /// Expands the open state `s` and closes it.
-    fn take<G: Graph>(&mut self, graph: &G, s: u32)
+    fn take<G: Graph, H: Guide>(&mut self, graph: &G, guide: &H, eps: u32, s: u32)
         requires open { IsOpen (closed_after none_closed self.old.trace) self.old.labels s }
         requires ready { AreReady (G.network graph.now) self.old.labels (2 ^ 30 - 1) }
+        requires known { (u : ℕ) → u < states_of self.old.labels → H.knows guide.now u }
+        requires queued { AreQueued eps (H.distance guide.now)
+            (closed_after none_closed self.old.trace) self.old.labels self.old.queue }
         ensures lowered { LowersHeads (G.network graph.now) self.old.labels self.new.labels s }
         ensures ready { (count : ℕ) → AreReady (G.network graph.now) self.old.labels count
             → AreReady (G.network graph.now) self.new.labels (count + 1) }
+        ensures queued { AreQueued eps (H.distance guide.now)
+            (closed_after none_closed self.new.trace) self.new.labels self.new.queue }
         ensures goal { self.new.goal ≡ self.old.goal }
         ensures traced { self.new.trace
             ≡ self.old.trace ++ record { state = s; raised = false } ∷ [] }
         ensures few { length self.new.trace ≤ states_of self.old.labels }
     {
-        expand(&mut self.labels, graph, s);
         self.closed.insert(s);
+        expand(
+            &mut self.labels,
+            &mut self.queue,
+            &self.closed,
+            graph,
+            guide,
+            eps,
+            s,
+        );
         self.steps.push(Step {
             state: s,
             raised: false,

@@ -3,13 +3,17 @@
 
 mod ara;
 mod closed;
-mod expand;
-mod least;
+mod expansion;
+mod parts;
+mod queue;
 mod step;
 mod steps;
 
 pub use ara::Ara;
 pub use closed::Closed;
+pub use expansion::expand;
+pub use parts::Parts;
+pub use queue::{gather, place, refill};
 pub use step::Step;
 pub use steps::Steps;
 

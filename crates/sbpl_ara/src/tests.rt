@@ -52,6 +52,18 @@ impl Graph for Table {
             None
         }
     }
+
+    fn tail_fan(&self, _t: u32) -> u32 {
+        12
+    }
+
+    fn tail(&self, t: u32, j: u32) -> Option<(u32, u32)> {
+        (self.arcs[j as usize].0 == t).then_some((j / 2, j % 2))
+    }
+
+    fn gap(&self, _a: u32, _b: u32) -> u64 {
+        0
+    }
 }
 
 impl Guide for Table {
@@ -192,5 +204,10 @@ fn goal_out_of_reach(rt: HostRuntime) -> Result<(), Fail> {
     assert_eq!(rt; ara.pass(&graph, &graph, 1000, &mut budget), PassEnd::Rest);
     assert_eq!(rt; ara.labels().g(4), FAR);
     assert!(rt; ara.labels().shows_none(4));
+
+    let parts = ara.into_parts();
+    assert_eq!(rt; parts.steps.as_slice().len(), 5);
+    assert_eq!(rt; (parts.goal, parts.labels.g(4)), (4, FAR));
+    assert!(rt; parts.queue.least().is_none());
     Ok(())
 }

@@ -1,6 +1,8 @@
-pub mod Printing
+pub mod Parting
+pub mod Writings
 pub mod Laws
-pub mod Ends
 pub mod Converse
 pub mod PathSteps
 pub mod Runs
+pub mod Ends
+pub mod Makings

@@ -1,4 +1,4 @@
--- What the files of a job say, and why a job is refused.
+-- What the files that a lattice is made of say, and why a job on it is refused.
 use Rattle.std.specs.Prelude.{◌≡◌, ℕ, ◌^◌, ◌<◌, ◌≤◌, List, length, slice_get, Option, Some, IfSome}
 use Rattle.sbpl_desk.specs.Desk.{Rose}
 use Rattle.sbpl_cfg.specs.declared.fault.EnvFault.{EnvFault}
@@ -6,28 +6,25 @@ use Rattle.sbpl_cfg.specs.Environment.{Environment}
 use Rattle.sbpl_mprim.specs.declared.fault.PrimFault.{PrimFault}
 use Rattle.sbpl_mprim.specs.declared.prim.Primitive.{Primitive}
 use Rattle.sbpl_mprim.specs.Primitives.{Primitives}
+use Rattle.sbpl_sweep.specs.Swept.{AreSweepsOf}
+use Rattle.sbpl_sweep.specs.Widths.{IsFirstTooWide, NoneTooWide}
 use Rattle.sbpl_cost.specs.PrimitiveCost.{IsFirstTooDear, most_cost, primitive_cost}
 use Rattle.sbpl_cost.specs.Arc.{HasLatticeArcs}
 use Rattle.sbpl_cost.specs.Lattices.{network_of}
 use Rattle.sbpl_cost.specs.World.{IsWorld, World}
-use Rattle.sbpl_cli.specs.declared.ending.Input.{Input}
-use Rattle.sbpl_cli.specs.declared.ending.Input.TheVariants as input
-use Rattle.sbpl_cli.specs.declared.ending.Refusal.{Refusal}
-use Rattle.sbpl_cli.specs.declared.ending.Refusal.TheVariants as refusal
-use Rattle.sbpl_cli.specs.declared.ending.Stop.{Stop}
-use Rattle.sbpl_cli.specs.declared.ending.Stop.TheVariants as stop
+use Rattle.sbpl_cli.specs.declared.refusal.Input.{Input}
+use Rattle.sbpl_cli.specs.declared.refusal.Input.TheVariants as input
+use Rattle.sbpl_cli.specs.declared.refusal.Refusal.{Refusal}
+use Rattle.sbpl_cli.specs.declared.refusal.Refusal.TheVariants as refusal
+use Rattle.sbpl_cli.specs.declared.refusal.Stop.{Stop}
+use Rattle.sbpl_cli.specs.declared.refusal.Stop.TheVariants as stop
 use Rattle.sbpl_cli.specs.declared.job.PlanJob.{PlanJob}
+use Rattle.sbpl_cli.specs.declared.job.Sources.{Sources}
 use Rattle.sbpl_cli.specs.declared.record.PlanRecord.{PlanRecord}
 use Rattle.sbpl_cli.specs.Headline.{IsPlanOf}
+use Rattle.sbpl_cli.specs.Jobs.{ask_of}
+use Rattle.sbpl_cli.specs.Writing.{FaultCounts, Told}
 use Rattle.sbpl_cli.specs.Texts.{IsEnvironmentText, HasEnvironmentFault, IsPrimitiveText, HasPrimitiveFault}
-
--- what a desk holds under each name, where it tells
-abbrev pub Held : Type 0
-Held = List ℕ → Option (List ℕ)
-
--- how often each name failed
-abbrev pub FaultCounts : Type 0
-FaultCounts = List ℕ → ℕ
 
 -- these bytes were read of a file: the held ones, where the desk tells them, and at most 2 ^ 30
 pub record IsRead (held : Option (List ℕ)) (text : List ℕ) : Type 0 where
@@ -38,89 +35,102 @@ pub record IsRead (held : Option (List ℕ)) (text : List ℕ) : Type 0 where
 abbrev pub IsTooLong : Option (List ℕ) → Type 0
 IsTooLong held = IfSome held (λ bytes. 2 ^ 30 < length bytes)
 
--- the environment file of a job stands for an environment and the costs of its cells
-pub record SaysEnvironment (held : Held) (job : PlanJob) (e : Environment) (cells : List ℕ) : Type 0 where
+-- the environment file stands for an environment and the costs of its cells
+pub record SaysEnvironment (held : Told) (from : Sources) (e : Environment) (cells : List ℕ) : Type 0 where
   pub text : List ℕ
-  pub read : IsRead (held job.env) text
+  pub read : IsRead (held from.env) text
   pub stands : IsEnvironmentText text e cells
 
--- the primitive file of a job stands for primitives, for this environment
-pub record SaysPrimitives (held : Held) (job : PlanJob) (e : Environment) (ps : Primitives) : Type 0 where
+-- the primitive file stands for primitives, for this environment
+pub record SaysPrimitives (held : Told) (from : Sources) (e : Environment) (ps : Primitives) : Type 0 where
   pub text : List ℕ
-  pub read : IsRead (held job.prims) text
+  pub read : IsRead (held from.prims) text
   pub stands : IsPrimitiveText e text ps
 
 -- no primitive costs more than it may
 abbrev pub NoneTooDear : Environment → Primitives → Type 0
 NoneTooDear e ps = (i : ℕ) (p : Primitive) → slice_get ps.items i ≡ Some p → primitive_cost e p ≤ most_cost
 
--- the files of a job stand for a world, for a point robot
-pub record SaysWorld (held : Held) (job : PlanJob) (w : World) : Type 0 where
+-- the files stand for a world, for a robot of the radius that is given
+pub record SaysWorld (held : Told) (from : Sources) (w : World) : Type 0 where
   pub cells : List ℕ
-  pub environment : SaysEnvironment held job w.env cells
-  pub primitives : SaysPrimitives held job w.env w.prims
-  pub radius : w.radius ≡ 0
+  pub environment : SaysEnvironment held from w.env cells
+  pub primitives : SaysPrimitives held from w.env w.prims
+  pub sweeps : AreSweepsOf w.prims from.radius w.sweeps
+  pub narrow : NoneTooWide w.prims from.radius
   pub map : w.map ≡ record { width = w.env.width; height = w.env.height; costs = cells }
   pub cheap : NoneTooDear w.env w.prims
 
--- The files of a job stand for a world, whose graph has just the arcs that the primitives make on the map, and this is the
+-- The files stand for a world, whose graph has just the arcs that the primitives make on the map, and this is the
 -- record of a plan in it.
-pub record IsPlanned (held : Held) (job : PlanJob) (plan : PlanRecord) : Type 0 where
+pub record IsPlanned (held : Told) (job : PlanJob) (plan : PlanRecord) : Type 0 where
   pub world : World
-  pub says : SaysWorld held job world
+  pub says : SaysWorld held job.sources world
   pub is_world : IsWorld world
   pub arcs : HasLatticeArcs (network_of world) world
-  pub plan_of : IsPlanOf world plan
+  pub plan_of : IsPlanOf world job.search.budget (ask_of job.search) plan
 
 -- the environment file has this first fault
-pub record IsFaultyEnvironment (held : Held) (job : PlanJob) (f : EnvFault) : Type 0 where
+pub record IsFaultyEnvironment (held : Told) (from : Sources) (f : EnvFault) : Type 0 where
   pub text : List ℕ
-  pub read : IsRead (held job.env) text
+  pub read : IsRead (held from.env) text
   pub faulty : HasEnvironmentFault text f
 
 -- the primitive file has this first fault, for an environment
-pub record IsFaultyFor (held : Held) (job : PlanJob) (e : Environment) (f : PrimFault) : Type 0 where
+pub record IsFaultyFor (held : Told) (from : Sources) (e : Environment) (f : PrimFault) : Type 0 where
   pub text : List ℕ
-  pub read : IsRead (held job.prims) text
+  pub read : IsRead (held from.prims) text
   pub faulty : HasPrimitiveFault e text f
 
 -- the environment file stands for an environment, and the primitive file has this first fault for it
-pub record IsFaultyPrimitives (held : Held) (job : PlanJob) (f : PrimFault) : Type 0 where
+pub record IsFaultyPrimitives (held : Told) (from : Sources) (f : PrimFault) : Type 0 where
   pub env : Environment
   pub cells : List ℕ
-  pub environment : SaysEnvironment held job env cells
-  pub primitives : IsFaultyFor held job env f
+  pub environment : SaysEnvironment held from env cells
+  pub primitives : IsFaultyFor held from env f
 
--- the files stand for an environment and primitives, and the one at this place is the first that is too dear
-pub record IsTooDearJob (held : Held) (job : PlanJob) (place : ℕ) : Type 0 where
+-- the files stand for an environment and primitives, and the one at this place is the first that is too wide
+pub record IsTooWideJob (held : Told) (from : Sources) (place : ℕ) : Type 0 where
   pub env : Environment
   pub cells : List ℕ
   pub prims : Primitives
-  pub environment : SaysEnvironment held job env cells
-  pub primitives : SaysPrimitives held job env prims
+  pub environment : SaysEnvironment held from env cells
+  pub primitives : SaysPrimitives held from env prims
+  pub wide : IsFirstTooWide prims from.radius place
+
+-- The files stand for an environment and primitives, of which none is too wide, and the one at this place is the first that
+-- is too dear.
+pub record IsTooDearJob (held : Told) (from : Sources) (place : ℕ) : Type 0 where
+  pub env : Environment
+  pub cells : List ℕ
+  pub prims : Primitives
+  pub environment : SaysEnvironment held from env cells
+  pub primitives : SaysPrimitives held from env prims
+  pub narrow : NoneTooWide prims from.radius
   pub dear : IsFirstTooDear env prims.items place
 
 -- the environment file stands for an environment, and this holds of the primitive file
-pub record IsSecond (held : Held) (job : PlanJob) (P : Type 0) : Type 0 where
+pub record IsSecond (held : Told) (from : Sources) (P : Type 0) : Type 0 where
   pub env : Environment
   pub cells : List ℕ
-  pub environment : SaysEnvironment held job env cells
+  pub environment : SaysEnvironment held from env cells
   pub holds : P
 
--- why a job is refused: what its files hold, and which count of failed reads rose
-abbrev pub IsCause : Held → FaultCounts → FaultCounts → PlanJob → Refusal → Type 0
-IsCause held before after job (refusal.Environment f) = IsFaultyEnvironment held job f
-IsCause held before after job (refusal.Primitives f) = IsFaultyPrimitives held job f
-IsCause held before after job (refusal.TooDear place) = IsTooDearJob held job place
-IsCause held before after job (refusal.Read input.Environment) = Rose (before job.env) (after job.env)
-IsCause held before after job (refusal.Read input.Primitives) = IsSecond held job (Rose (before job.prims) (after job.prims))
-IsCause held before after job (refusal.Length input.Environment) = IsTooLong (held job.env)
-IsCause held before after job (refusal.Length input.Primitives) = IsSecond held job (IsTooLong (held job.prims))
+-- why a job is refused: what the files hold, and which count of failed reads rose
+abbrev pub IsCause : Told → FaultCounts → FaultCounts → Sources → Refusal → Type 0
+IsCause held before after from (refusal.Environment f) = IsFaultyEnvironment held from f
+IsCause held before after from (refusal.Primitives f) = IsFaultyPrimitives held from f
+IsCause held before after from (refusal.TooWide place) = IsTooWideJob held from place
+IsCause held before after from (refusal.TooDear place) = IsTooDearJob held from place
+IsCause held before after from (refusal.Read input.Environment) = Rose (before from.env) (after from.env)
+IsCause held before after from (refusal.Read input.Primitives) = IsSecond held from (Rose (before from.prims) (after from.prims))
+IsCause held before after from (refusal.Length input.Environment) = IsTooLong (held from.env)
+IsCause held before after from (refusal.Length input.Primitives) = IsSecond held from (IsTooLong (held from.prims))
 
 -- why a plan stopped before anything was written
-abbrev pub StopsFor : Held → FaultCounts → FaultCounts → PlanJob → Stop → Type 0
-StopsFor held before after job (stop.Refused r) = IsCause held before after job r
-StopsFor held before after job stop.NoMemory = Unit {0}
+abbrev pub StopsFor : Told → FaultCounts → FaultCounts → Sources → Stop → Type 0
+StopsFor held before after from (stop.Refused r) = IsCause held before after from r
+StopsFor held before after from stop.NoMemory = Unit {0}
 
 -- why one file was not read
 abbrev pub IsUnread : Option (List ℕ) → ℕ → ℕ → Input → Stop → Type 0
@@ -128,6 +138,7 @@ IsUnread held before after i (stop.Refused (refusal.Read j)) = (j ≡ i) × Rose
 IsUnread held before after i (stop.Refused (refusal.Length j)) = (j ≡ i) × IsTooLong held
 IsUnread held before after i (stop.Refused (refusal.Environment f)) = ⊥
 IsUnread held before after i (stop.Refused (refusal.Primitives f)) = ⊥
+IsUnread held before after i (stop.Refused (refusal.TooWide place)) = ⊥
 IsUnread held before after i (stop.Refused (refusal.TooDear place)) = ⊥
 IsUnread held before after i stop.NoMemory = Unit {0}
 
@@ -135,6 +146,7 @@ IsUnread held before after i stop.NoMemory = Unit {0}
 abbrev pub IsEnvironmentRefused : List ℕ → Stop → Type 0
 IsEnvironmentRefused text (stop.Refused (refusal.Environment f)) = HasEnvironmentFault text f
 IsEnvironmentRefused text (stop.Refused (refusal.Primitives f)) = ⊥
+IsEnvironmentRefused text (stop.Refused (refusal.TooWide place)) = ⊥
 IsEnvironmentRefused text (stop.Refused (refusal.TooDear place)) = ⊥
 IsEnvironmentRefused text (stop.Refused (refusal.Read i)) = ⊥
 IsEnvironmentRefused text (stop.Refused (refusal.Length i)) = ⊥
@@ -144,18 +156,30 @@ IsEnvironmentRefused text stop.NoMemory = Unit {0}
 abbrev pub IsPrimitivesRefused : Environment → List ℕ → Stop → Type 0
 IsPrimitivesRefused e text (stop.Refused (refusal.Environment f)) = ⊥
 IsPrimitivesRefused e text (stop.Refused (refusal.Primitives f)) = HasPrimitiveFault e text f
+IsPrimitivesRefused e text (stop.Refused (refusal.TooWide place)) = ⊥
 IsPrimitivesRefused e text (stop.Refused (refusal.TooDear place)) = ⊥
 IsPrimitivesRefused e text (stop.Refused (refusal.Read i)) = ⊥
 IsPrimitivesRefused e text (stop.Refused (refusal.Length i)) = ⊥
 IsPrimitivesRefused e text stop.NoMemory = Unit {0}
 
--- why the primitive file of a job, for an environment, was refused
-abbrev pub PrimitivesStopFor : Held → FaultCounts → FaultCounts → PlanJob → Environment → Stop → Type 0
-PrimitivesStopFor held before after job e (stop.Refused (refusal.Environment f)) = ⊥
-PrimitivesStopFor held before after job e (stop.Refused (refusal.Primitives f)) = IsFaultyFor held job e f
-PrimitivesStopFor held before after job e (stop.Refused (refusal.TooDear place)) = ⊥
-PrimitivesStopFor held before after job e (stop.Refused (refusal.Read input.Environment)) = ⊥
-PrimitivesStopFor held before after job e (stop.Refused (refusal.Read input.Primitives)) = Rose (before job.prims) (after job.prims)
-PrimitivesStopFor held before after job e (stop.Refused (refusal.Length input.Environment)) = ⊥
-PrimitivesStopFor held before after job e (stop.Refused (refusal.Length input.Primitives)) = IsTooLong (held job.prims)
-PrimitivesStopFor held before after job e stop.NoMemory = Unit {0}
+-- why the primitive file , for an environment, was refused
+abbrev pub PrimitivesStopFor : Told → FaultCounts → FaultCounts → Sources → Environment → Stop → Type 0
+PrimitivesStopFor held before after from e (stop.Refused (refusal.Environment f)) = ⊥
+PrimitivesStopFor held before after from e (stop.Refused (refusal.Primitives f)) = IsFaultyFor held from e f
+PrimitivesStopFor held before after from e (stop.Refused (refusal.TooWide place)) = ⊥
+PrimitivesStopFor held before after from e (stop.Refused (refusal.TooDear place)) = ⊥
+PrimitivesStopFor held before after from e (stop.Refused (refusal.Read input.Environment)) = ⊥
+PrimitivesStopFor held before after from e (stop.Refused (refusal.Read input.Primitives)) = Rose (before from.prims) (after from.prims)
+PrimitivesStopFor held before after from e (stop.Refused (refusal.Length input.Environment)) = ⊥
+PrimitivesStopFor held before after from e (stop.Refused (refusal.Length input.Primitives)) = IsTooLong (held from.prims)
+PrimitivesStopFor held before after from e stop.NoMemory = Unit {0}
+
+-- why the sweeps of primitives were not made
+abbrev pub IsWideStop : Primitives → ℕ → Stop → Type 0
+IsWideStop prims radius (stop.Refused (refusal.Environment f)) = ⊥
+IsWideStop prims radius (stop.Refused (refusal.Primitives f)) = ⊥
+IsWideStop prims radius (stop.Refused (refusal.TooWide place)) = IsFirstTooWide prims radius place
+IsWideStop prims radius (stop.Refused (refusal.TooDear place)) = ⊥
+IsWideStop prims radius (stop.Refused (refusal.Read i)) = ⊥
+IsWideStop prims radius (stop.Refused (refusal.Length i)) = ⊥
+IsWideStop prims radius stop.NoMemory = Unit {0}

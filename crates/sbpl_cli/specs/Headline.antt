@@ -1,5 +1,5 @@
 -- What a plan's record says of the world that it was planned in.
-use Rattle.std.specs.Prelude.{◌≡◌, ℕ, ◌*◌, ◌≤◌, List, [], ◌∷◌, Some, None}
+use Rattle.std.specs.Prelude.{◌≡◌, ℕ, ◌*◌, ◌^◌, ◌≤◌, ◌⊎◌, Bool, MatchBool, List, [], ◌∷◌, Some, None}
 use Rattle.sbpl_graph.specs.Network.{Network}
 use Rattle.sbpl_graph.specs.Path.{IsFreePath}
 use Rattle.sbpl_cfg.specs.declared.pose.Pose.{Pose}
@@ -9,13 +9,22 @@ use Rattle.sbpl_mprim.specs.declared.prim.Primitive.{Primitive}
 use Rattle.sbpl_cost.specs.World.{World}
 use Rattle.sbpl_cost.specs.States.{place_of, state_number}
 use Rattle.sbpl_cost.specs.Lattices.{network_of, arc_primitive}
-use Rattle.sbpl_cli.specs.declared.record.Found.{Found}
-use Rattle.sbpl_cli.specs.declared.record.Found.TheVariants as found
+use Rattle.sbpl_heur.specs.Bests.{IsBest}
+use Rattle.sbpl_labels.specs.Marks.{Marks, IsOpened}
+use Rattle.sbpl_plan.specs.declared.ask.Ask.{Ask}
+use Rattle.sbpl_plan.specs.declared.result.Outcome as search
+use Rattle.sbpl_plan.specs.declared.result.Outcome.TheVariants as result
+use Rattle.sbpl_plan.specs.Outcomes.{IsOutcome}
+use Rattle.sbpl_plan.specs.Passing.{ArePasses, Inquiry, expansions}
 use Rattle.sbpl_cli.specs.declared.record.Step.{Step}
 use Rattle.sbpl_cli.specs.declared.record.PathRecord.{PathRecord}
 use Rattle.sbpl_cli.specs.declared.record.Outcome.{Outcome}
 use Rattle.sbpl_cli.specs.declared.record.Outcome.TheVariants as outcome
 use Rattle.sbpl_cli.specs.declared.record.PlanRecord.{PlanRecord}
+
+-- what stays the same over a plan in a world, with a guide to its goal
+abbrev pub inquiry : World → (ℕ → ℕ) → ℕ → Ask → Inquiry
+inquiry w guide goal ask = record { network = network_of w; guide = guide; goal = goal; ask = ask }
 
 -- the state of a pose: that of its cell and heading
 pub record IsStateOf (e : Environment) (p : Pose) (s : ℕ) : Type 0 where
@@ -71,11 +80,17 @@ IsAnswered asked (outcome.Path path) = (1000 ≤ path.bound) × (path.bound ≤ 
 IsAnswered asked outcome.NoPath = Unit {0}
 IsAnswered asked outcome.Unknown = ⊥
 
--- what the last pass of a plan with this result found
-abbrev pub found_of : Outcome → Found
-found_of (outcome.Path path) = found.Path path.cost path.bound
-found_of outcome.NoPath = found.None
-found_of outcome.Unknown = found.None
+-- a result is told step by step
+abbrev pub TellsResult : search.Outcome → Outcome → Type 0
+TellsResult (result.Path arcs cost bound) (outcome.Path path) = (path.arcs ≡ arcs) × (path.cost ≡ cost) × (path.bound ≡ bound)
+TellsResult (result.Path arcs cost bound) outcome.NoPath = ⊥
+TellsResult (result.Path arcs cost bound) outcome.Unknown = ⊥
+TellsResult result.NoPath (outcome.Path path) = ⊥
+TellsResult result.NoPath outcome.NoPath = Unit {0}
+TellsResult result.NoPath outcome.Unknown = ⊥
+TellsResult result.Unknown (outcome.Path path) = ⊥
+TellsResult result.Unknown outcome.NoPath = ⊥
+TellsResult result.Unknown outcome.Unknown = Unit {0}
 
 -- what is promised of a plan between two states: 'asked' is the bound that was asked, in thousandths
 pub record KeepsPromises (w : World) (start goal asked : ℕ) (r : PlanRecord) : Type 0 where
@@ -84,18 +99,32 @@ pub record KeepsPromises (w : World) (start goal asked : ℕ) (r : PlanRecord) :
   pub none : IsNoneThere w start goal r.outcome
   pub unless_spent : r.spent ≡ None → IsAnswered asked r.outcome
 
--- the record of a plan of one pass, which was not spent
-pub record IsOnePass (r : PlanRecord) : Type 0 where
-  pub number : r.plan ≡ 0
-  pub expanded : ℕ
-  pub pass : r.passes ≡ record { inflation = 1000; expanded = expanded; found = found_of r.outcome } ∷ []
-  pub not_spent : r.spent ≡ None
+-- a plan that was spent is marked with its expansions, which are the budget, or else the run's are 2 ^ 30; one that was not is not marked
+abbrev pub IsMarked : (budget : ℕ) → Bool → PlanRecord → Type 0
+IsMarked budget spent r = MatchBool spent
+    ((r.spent ≡ Some (expansions r.passes)) × ((expansions r.passes ≡ budget) ⊎ (expansions r.passes ≡ 2 ^ 30)))
+    (r.spent ≡ None)
 
--- the record of a plan in a world, from the start of its environment to its end
-pub record IsPlanOf (w : World) (r : PlanRecord) : Type 0 where
+-- the record of a search from opened labels by the best heuristic: its passes in turn, and the result by the final labels
+pub record IsSearched (w : World) (start goal budget : ℕ) (ask : Ask) (r : PlanRecord) : Type 0 where
+  pub guide : ℕ → ℕ
+  pub is_guide : IsBest w goal guide
+  pub opened : Marks
+  pub is_opened : IsOpened opened (network_of w).states start
+  pub final : Marks
+  pub spent : Bool
+  pub passes : ArePasses (inquiry w guide goal ask) ask.first opened r.passes final spent
+  pub result : search.Outcome
+  pub is_result : IsOutcome (network_of w) guide goal final result
+  pub told : TellsResult result r.outcome
+  pub marked : IsMarked budget spent r
+
+-- the record of the first plan in a world, from the start of its environment to its end
+pub record IsPlanOf (w : World) (budget : ℕ) (ask : Ask) (r : PlanRecord) : Type 0 where
+  pub number : r.plan ≡ 0
   pub start : ℕ
   pub goal : ℕ
   pub start_is : IsStateOf w.env w.env.start start
   pub goal_is : IsStateOf w.env w.env.end goal
-  pub promises : KeepsPromises w start goal 1000 r
-  pub one_pass : IsOnePass r
+  pub promises : KeepsPromises w start goal ask.bound r
+  pub searched : IsSearched w start goal budget ask r

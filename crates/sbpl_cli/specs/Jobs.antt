@@ -1,31 +1,128 @@
 -- The job that a list of words names.
-use Rattle.std.specs.Prelude.{◌≡◌, ◌&&◌, ℕ, Bool, false, not, nat_eq, List, [], ◌∷◌, Option, Some, None, Result, Ok, Err, codes, if◌then◌else◌}
+use Rattle.std.specs.Prelude.{◌^◌, ◌≤◌, false, ◌/◌, ◌%◌, ◌&&◌, ℕ, ℤ, pos, negsuc, nat_eq, nat_le, List, [], ◌∷◌, Option, Some, None, option_map, option_and_then, Result, Ok, Err, codes, if◌then◌else◌}
 use Rattle.std.specs.Str.{bytes_eq}
+use Rattle.sbpl_fixed.specs.declared.fault.NumFault.{NumFault}
+use Rattle.sbpl_fixed.specs.Numbers.{nano_of, whole_of}
+use Rattle.sbpl_plan.specs.declared.ask.Ask.{Ask}
 use Rattle.sbpl_cli.specs.declared.job.Job.{Job}
-use Rattle.sbpl_cli.specs.declared.job.Job.TheVariants.{Plan}
-use Rattle.sbpl_cli.specs.declared.job.JobFault.{JobFault}
-use Rattle.sbpl_cli.specs.declared.job.JobFault.TheVariants.{Words, NoMemory}
+use Rattle.sbpl_cli.specs.declared.job.Job.TheVariants as job
+use Rattle.sbpl_cli.specs.declared.job.Planner.{Planner}
+use Rattle.sbpl_cli.specs.declared.job.Planner.TheVariants as planner
+use Rattle.sbpl_cli.specs.declared.job.SearchJob.{SearchJob}
+use Rattle.sbpl_cli.specs.declared.job.Sources.{Sources}
+use Rattle.sbpl_cli.specs.declared.words.Command.{Command}
+use Rattle.sbpl_cli.specs.declared.words.Command.TheVariants as command
+use Rattle.sbpl_cli.specs.declared.words.Given.{Given}
+use Rattle.sbpl_cli.specs.declared.words.Setting.TheVariants as setting
+use Rattle.sbpl_cli.specs.Words.{Parts, parts_of, value_of}
 
--- a word is plain: not empty, and it does not begin with a dash
-abbrev pub is_plain_word : List ℕ → Bool
-is_plain_word [] = false
-is_plain_word (b ∷ bs) = not (nat_eq b 45)
+-- the command of this name
+abbrev pub command_named : List ℕ → Option Command
+command_named word = if bytes_eq word (codes "plan") then Some command.Plan else (if bytes_eq word (codes "sweep") then Some command.Sweep else None)
 
--- three words name the job 'plan': that word, an environment file and a primitive file
-abbrev pub are_plan_words : List ℕ → List ℕ → List ℕ → Bool
-are_plan_words command env prims = bytes_eq command (codes "plan") && (is_plain_word env && is_plain_word prims)
+-- a number of nanometres, 0 to 10 ^ 12
+abbrev pub radius_in : Result ℤ NumFault → Option ℕ
+radius_in (Ok (pos n)) = if nat_le n (10 ^ 12) then Some n else None
+radius_in (Ok (negsuc n)) = None
+radius_in (Err fault) = None
+
+-- the radius that is set by decimal metres; 0 where none is set
+abbrev pub radius_by : Option (Option (List ℕ)) → Option ℕ
+radius_by None = None
+radius_by (Some None) = Some 0
+radius_by (Some (Some metres)) = radius_in (nano_of metres)
+
+-- an environment file and a primitive file are all the plain words, and there is a radius
+abbrev pub sources_by : List (List ℕ) → Option ℕ → Option Sources
+sources_by (env ∷ (prims ∷ [])) (Some radius) = Some (record { env = env; prims = prims; radius = radius })
+sources_by _ _ = None
+
+-- what the lattice of a command is made of
+abbrev pub sources_in : Parts → Option Sources
+sources_in p = sources_by p.plain (radius_by (value_of setting.Radius p.given))
+
+-- the thousandths that so many billionths are exactly, in their range
+abbrev pub milli_from : (low high nano : ℕ) → Option ℕ
+milli_from low high nano = if nat_eq (nano % 10 ^ 6) 0 && (nat_le low (nano / 10 ^ 6) && nat_le (nano / 10 ^ 6) high) then Some (nano / 10 ^ 6) else None
+
+abbrev pub milli_in : (low high : ℕ) → Result ℤ NumFault → Option ℕ
+milli_in low high (Ok (pos n)) = milli_from low high n
+milli_in low high (Ok (negsuc n)) = None
+milli_in low high (Err fault) = None
+
+-- the thousandths that are set by a decimal, or a default
+abbrev pub milli_by : (default low high : ℕ) → Option (Option (List ℕ)) → Option ℕ
+milli_by default low high None = None
+milli_by default low high (Some None) = Some default
+milli_by default low high (Some (Some text)) = milli_in low high (nano_of text)
+
+-- a number of expansions, 1 to 2 ^ 30
+abbrev pub budget_in : Result ℤ NumFault → Option ℕ
+budget_in (Ok (pos n)) = if nat_le 1 n && nat_le n (2 ^ 30) then Some n else None
+budget_in (Ok (negsuc n)) = None
+budget_in (Err fault) = None
+
+-- the budget that is set; 2 ^ 30 where none is set
+abbrev pub budget_by : Option (Option (List ℕ)) → Option ℕ
+budget_by None = None
+budget_by (Some None) = Some (2 ^ 30)
+budget_by (Some (Some text)) = budget_in (whole_of text)
+
+-- the planner of this name
+abbrev pub planner_named : List ℕ → Option Planner
+planner_named name = if bytes_eq name (codes "ara") then Some planner.Ara else None
+
+-- the planner that is set; ARA* where none is set
+abbrev pub planner_by : Option (Option (List ℕ)) → Option Planner
+planner_by None = None
+planner_by (Some None) = Some planner.Ara
+planner_by (Some (Some name)) = planner_named name
+
+-- how a path is to be searched, by settings
+abbrev pub search_in : List Given → Option SearchJob
+search_in given =
+    option_and_then (λ p. option_and_then (λ first. option_and_then (λ step. option_and_then (λ bound. option_and_then (λ budget.
+    Some (record { planner = p; first = first; step = step; bound = bound; budget = budget }))
+    (budget_by (value_of setting.Budget given)))
+    (milli_by 1000 1000 100000 (value_of setting.Bound given)))
+    (milli_by 500 1 99000 (value_of setting.Step given)))
+    (milli_by 1000 1000 100000 (value_of setting.First given)))
+    (planner_by (value_of setting.Planner given))
+
+-- the job of a command on these sources
+abbrev pub job_on : Command → Sources → List Given → Option Job
+job_on command.Plan sources given = option_map (λ search. job.Plan (record { sources = sources; search = search })) (search_in given)
+job_on command.Sweep sources given = Some (job.Sweep sources)
+
+-- the job of a command
+abbrev pub job_by : Command → Parts → Option Job
+job_by c p = option_and_then (λ sources. job_on c sources p.given) (sources_in p)
 
 -- the job that the words name
 abbrev pub job_of : List (List ℕ) → Option Job
 job_of [] = None
-job_of (command ∷ []) = None
-job_of (command ∷ (env ∷ [])) = None
-job_of (command ∷ (env ∷ (prims ∷ []))) =
-    if are_plan_words command env prims then Some (Plan (record { env = env; prims = prims })) else None
-job_of (command ∷ (env ∷ (prims ∷ (more ∷ others)))) = None
+job_of (word ∷ words) = option_and_then (λ c. option_and_then (job_by c) (parts_of c words)) (command_named word)
 
--- an answer is the job that the words name; or it says that they name none; or memory ran out
-abbrev pub NamesJob : Option Job → Result Job JobFault → Type 0
-NamesJob named (Ok job) = named ≡ Some job
-NamesJob named (Err Words) = named ≡ None
-NamesJob named (Err NoMemory) = Unit {0}
+-- what the lattice of a job is made of
+abbrev pub sources_of : Job → Sources
+sources_of (job.Plan plan) = plan.sources
+sources_of (job.Sweep sources) = sources
+
+-- inflations, the bound and the budget lie in their ranges
+pub record IsSearchJob (s : SearchJob) : Type 0 where
+  pub first_low : 1000 ≤ s.first
+  pub first_high : s.first ≤ 100000
+  pub step_low : 1 ≤ s.step
+  pub step_high : s.step ≤ 99000
+  pub bound_low : 1000 ≤ s.bound
+  pub budget_low : 1 ≤ s.budget
+  pub budget_high : s.budget ≤ 2 ^ 30
+
+-- the numbers of a job lie in their ranges
+abbrev pub IsJob : Job → Type 0
+IsJob (job.Plan plan) = (plan.sources.radius ≤ 10 ^ 12) × IsSearchJob plan.search
+IsJob (job.Sweep sources) = sources.radius ≤ 10 ^ 12
+
+-- what a plan is asked for
+abbrev pub ask_of : SearchJob → Ask
+ask_of s = record { first = s.first; step = s.step; bound = s.bound; traced = false }

@@ -1,7 +1,10 @@
+pub mod Words
+pub mod Taking
 pub mod Jobs
+pub mod Writing
 pub mod Report
-pub mod Endings
-pub mod Solved
+pub mod Listing
+pub mod Intents
 pub mod Texts
 pub mod Headline
 pub mod Causes

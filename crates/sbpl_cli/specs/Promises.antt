@@ -1,76 +1,83 @@
 -- What the program promises of its status and of what it writes.
-use Rattle.std.specs.Prelude.{◌≡◌, ℕ, ◌^◌, ◌<◌, ◌≤◌, ◌⊎◌, ◌++◌, List, length, Option, Some, None}
-use Rattle.sbpl_desk.specs.Desk.{Appends, AppendsFront, Keeps, Rose}
+use Rattle.std.specs.Prelude.{◌≡◌, ℕ, ◌^◌, ◌<◌, ◌≤◌, ◌⊎◌, List, [], ◌∷◌, length, Option, Some, None}
 use Rattle.sbpl_cfg.specs.declared.fault.EnvFault.{EnvFault}
 use Rattle.sbpl_cfg.specs.Environment.{Environment}
 use Rattle.sbpl_mprim.specs.declared.fault.PrimFault.{PrimFault}
 use Rattle.sbpl_mprim.specs.Primitives.{Primitives}
-use Rattle.sbpl_cli.specs.declared.ending.Ending.{Ending}
-use Rattle.sbpl_cli.specs.declared.ending.Ending.TheVariants as ending
-use Rattle.sbpl_cli.specs.declared.ending.Refusal.{Refusal}
+use Rattle.sbpl_cost.specs.World.{IsWorld, World}
 use Rattle.sbpl_cli.specs.declared.job.Job.{Job}
-use Rattle.sbpl_cli.specs.declared.job.Job.TheVariants.{Plan}
+use Rattle.sbpl_cli.specs.declared.job.Job.TheVariants as job
 use Rattle.sbpl_cli.specs.declared.job.PlanJob.{PlanJob}
+use Rattle.sbpl_cli.specs.declared.job.Sources.{Sources}
 use Rattle.sbpl_cli.specs.declared.record.PlanRecord.{PlanRecord}
-use Rattle.sbpl_cli.specs.Causes.{FaultCounts, Held, IsCause, IsPlanned}
-use Rattle.sbpl_cli.specs.Endings.{AppendsWhole, IsEndOf, ending_status, refusal_status, refusal_text, sections_of, text_of, words_text}
-use Rattle.sbpl_cli.specs.Report.{done_text, section_text}
+use Rattle.sbpl_cli.specs.declared.refusal.Refusal.{Refusal}
+use Rattle.sbpl_cli.specs.Causes.{IsCause, IsPlanned, SaysWorld}
+use Rattle.sbpl_cli.specs.Intents.{Intent, Refused, Planned, Listed, OutOfMemory, intent_status, listing_writes, plan_writes, refusal_status, refusal_writes, words_writes, writes_of}
+use Rattle.sbpl_cli.specs.Jobs.{sources_of}
 use Rattle.sbpl_cli.specs.Texts.{HasEnvironmentFault, HasPrimitiveFault, IsEnvironmentText, IsPrimitiveText}
+use Rattle.sbpl_cli.specs.Writing.{AreMade, EndsAs, FaultCounts, IsCutAt, IsStoppedAt, Told}
 
 -- the words name this job, of which P holds
-abbrev pub AtPlan : Option Job → (PlanJob → Type 0) → Type 0
-AtPlan named P = (job : PlanJob) × (named ≡ Some (Plan job)) × P job
+abbrev pub AtJob : Option Job → (Job → Type 0) → Type 0
+AtJob named P = (j : Job) × (named ≡ Some j) × P j
 
 -- the report of a plan of the job's files was written
-pub record IsReported (held : Held) (out out' : Option (List ℕ)) (job : PlanJob) : Type 0 where
+pub record IsReported (held before after : Told) (j : PlanJob) : Type 0 where
   pub plan : PlanRecord
-  pub planned : IsPlanned held job plan
-  pub report : Appends out out' (section_text plan ++ done_text)
+  pub planned : IsPlanned held j plan
+  pub report : AreMade before after (plan_writes plan)
+
+-- what each primitive of the files costs and sweeps was listed
+pub record IsListed (held before after : Told) (from : Sources) : Type 0 where
+  pub world : World
+  pub says : SaysWorld held from world
+  pub is_world : IsWorld world
+  pub lines : AreMade before after (listing_writes world)
+
+-- the job was done, and what came of it was written
+abbrev pub IsDone : Told → Told → Told → Job → Type 0
+IsDone held before after (job.Plan j) = IsReported held before after j
+IsDone held before after (job.Sweep from) = IsListed held before after from
 
 -- the job was refused with this status, for a cause, and the line of the refusal was written
-pub record IsRefused (held : Held) (reads reads' : FaultCounts) (out out' : Option (List ℕ)) (status : ℕ) (job : PlanJob) : Type 0 where
+pub record IsRefused (held : Told) (reads reads' : FaultCounts) (before after : Told) (status : ℕ) (j : Job) : Type 0 where
   pub refusal : Refusal
   pub has_status : refusal_status refusal ≡ status
-  pub cause : IsCause held reads reads' job refusal
-  pub line : Appends out out' (refusal_text job refusal)
+  pub cause : IsCause held reads reads' (sources_of j) refusal
+  pub line : AreMade before after (refusal_writes (sources_of j) refusal)
 
--- an ending that was to be written has this cause
-abbrev pub Intends : Held → FaultCounts → FaultCounts → PlanJob → Ending → Type 0
-Intends held reads reads' job (ending.Done r) = IsPlanned held job r
-Intends held reads reads' job (ending.Refused r) = IsCause held reads reads' job r
-Intends held reads reads' job ending.Write = ⊥
-Intends held reads reads' job ending.NoMemory = Unit {0}
+-- a job comes to this
+abbrev pub ComesTo : Told → FaultCounts → FaultCounts → Job → Intent → Type 0
+ComesTo held reads reads' j (Refused r) = IsCause held reads reads' (sources_of j) r
+ComesTo held reads reads' (job.Plan j) (Planned plan) = IsPlanned held j plan
+ComesTo held reads reads' (job.Sweep from) (Planned plan) = ⊥
+ComesTo held reads reads' (job.Plan j) (Listed w) = ⊥
+ComesTo held reads reads' (job.Sweep from) (Listed w) = SaysWorld held from w × IsWorld w
+ComesTo held reads reads' j OutOfMemory = Unit {0}
 
--- a front of what the job's files call for was written
-pub record IsCutShort (held : Held) (reads reads' : FaultCounts) (out out' : Option (List ℕ)) (job : PlanJob) : Type 0 where
-  pub intended : Ending
-  pub cause : Intends held reads reads' job intended
-  pub front : AppendsFront out out' (text_of job intended)
+-- a write of what the job comes to failed: those before it were made, and a front of it
+pub record IsCutShort (held : Told) (reads reads' : FaultCounts) (before after : Told) (faults faults' : FaultCounts) (j : Job) : Type 0 where
+  pub intent : Intent
+  pub comes : ComesTo held reads reads' j intent
+  pub cut : IsCutAt before after faults faults' (writes_of j intent)
 
--- whole sections of what the job's files call for were written
-pub record IsStopped (held : Held) (reads reads' : FaultCounts) (out out' : Option (List ℕ)) (job : PlanJob) : Type 0 where
-  pub intended : Ending
-  pub cause : Intends held reads reads' job intended
-  pub whole : AppendsWhole out out' (sections_of job intended)
+-- the first few writes of what the job comes to were made
+pub record IsStopped (held : Told) (reads reads' : FaultCounts) (before after : Told) (j : Job) : Type 0 where
+  pub intent : Intent
+  pub comes : ComesTo held reads reads' j intent
+  pub stopped : IsStoppedAt before after (writes_of j intent)
 
--- how a plan job ends
-pub record EndsJob (held : Held) (reads reads' : FaultCounts) (out out' : Option (List ℕ)) (faults faults' : ℕ) (job : PlanJob) (e : Ending) : Type 0 where
-  pub intended : Ending
-  pub cause : Intends held reads reads' job intended
-  pub ends : IsEndOf out out' faults faults' (text_of job intended) (sections_of job intended) intended e
-
--- how a run ends whose words name no job
-abbrev pub EndsWords : Option (List ℕ) → Option (List ℕ) → ℕ → ℕ → ℕ → Type 0
-EndsWords out out' faults faults' status = ((status ≡ 2) × Appends out out' words_text)
-    ⊎ (((status ≡ 7) × Rose faults faults' × AppendsFront out out' words_text)
-    ⊎ ((status ≡ 9) × Keeps out out'))
+-- how a job ends, by the program's status
+pub record EndsJob (held : Told) (reads reads' : FaultCounts) (before after : Told) (faults faults' : FaultCounts) (j : Job) (status : ℕ) : Type 0 where
+  pub intent : Intent
+  pub comes : ComesTo held reads reads' j intent
+  pub ends : EndsAs before after faults faults' (writes_of j intent) (intent_status intent) status
 
 -- how a run ends, whose words name a job or none
-abbrev pub EndsRun : Option Job → Held → FaultCounts → FaultCounts → Option (List ℕ) → Option (List ℕ) → ℕ → ℕ → ℕ → Type 0
-EndsRun named held reads reads' out out' faults faults' status =
-    ((job : PlanJob) × (e : Ending) × (named ≡ Some (Plan job)) × EndsJob held reads reads' out out' faults faults' job e × (status ≡ ending_status e))
-    ⊎ (((named ≡ None) × EndsWords out out' faults faults' status)
-    ⊎ ((status ≡ 9) × Keeps out out'))
+pub data EndsRun (named : Option Job) (held : Told) (reads reads' : FaultCounts) (before after : Told) (faults faults' : FaultCounts) (status : ℕ) : Type 0 where
+  by_job : (j : Job) → named ≡ Some j → EndsJob held reads reads' before after faults faults' j status → EndsRun named held reads reads' before after faults faults' status
+  by_words : named ≡ None → EndsAs before after faults faults' words_writes 2 status → EndsRun named held reads reads' before after faults faults' status
+  by_memory : status ≡ 9 → AreMade before after [] → EndsRun named held reads reads' before after faults faults' status
 
 -- the statuses of the program
 abbrev pub IsStatus : ℕ → Type 0
@@ -94,17 +101,17 @@ abbrev pub TellsTooMuch : Option (List ℕ) → Type 0
 TellsTooMuch held = (text : List ℕ) × (held ≡ Some text) × (2 ^ 30 < length text)
 
 -- the desk tells that the environment file has this first fault
-abbrev pub TellsEnvironmentFault : Held → PlanJob → EnvFault → Type 0
-TellsEnvironmentFault held job f = (text : List ℕ) × Tells (held job.env) text × HasEnvironmentFault text f
+abbrev pub TellsEnvironmentFault : Told → Sources → EnvFault → Type 0
+TellsEnvironmentFault held from f = (text : List ℕ) × Tells (held from.env) text × HasEnvironmentFault text f
 
 -- the desk tells that the environment file stands for this environment
-abbrev pub TellsEnvironment : Held → PlanJob → Environment → Type 0
-TellsEnvironment held job e = (text : List ℕ) × (cells : List ℕ) × Tells (held job.env) text × IsEnvironmentText text e cells
+abbrev pub TellsEnvironment : Told → Sources → Environment → Type 0
+TellsEnvironment held from e = (text : List ℕ) × (cells : List ℕ) × Tells (held from.env) text × IsEnvironmentText text e cells
 
 -- the desk tells that the primitive file has this first fault, for an environment
-abbrev pub TellsPrimitiveFault : Held → PlanJob → Environment → PrimFault → Type 0
-TellsPrimitiveFault held job e f = (text : List ℕ) × Tells (held job.prims) text × HasPrimitiveFault e text f
+abbrev pub TellsPrimitiveFault : Told → Sources → Environment → PrimFault → Type 0
+TellsPrimitiveFault held from e f = (text : List ℕ) × Tells (held from.prims) text × HasPrimitiveFault e text f
 
 -- the desk tells that the primitive file stands for these primitives, for an environment
-abbrev pub TellsPrimitives : Held → PlanJob → Environment → Primitives → Type 0
-TellsPrimitives held job e ps = (text : List ℕ) × Tells (held job.prims) text × IsPrimitiveText e text ps
+abbrev pub TellsPrimitives : Told → Sources → Environment → Primitives → Type 0
+TellsPrimitives held from e ps = (text : List ℕ) × Tells (held from.prims) text × IsPrimitiveText e text ps

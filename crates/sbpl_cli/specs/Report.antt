@@ -2,9 +2,9 @@
 use Rattle.std.specs.Prelude.{ℕ, List, [], ◌∷◌, ◌++◌, length, flat_map, Option, Some, None, codes, decimal}
 use Rattle.sbpl_fixed.specs.Printed.{milli_text}
 use Rattle.sbpl_cfg.specs.declared.pose.Place.{Place}
-use Rattle.sbpl_cli.specs.declared.record.Found.{Found}
-use Rattle.sbpl_cli.specs.declared.record.Found.TheVariants as found
-use Rattle.sbpl_cli.specs.declared.record.PassRecord.{PassRecord}
+use Rattle.sbpl_plan.specs.declared.found.Found.{Found}
+use Rattle.sbpl_plan.specs.declared.found.Found.TheVariants as found
+use Rattle.sbpl_plan.specs.declared.passes.Pass.{Pass}
 use Rattle.sbpl_cli.specs.declared.record.Step.{Step}
 use Rattle.sbpl_cli.specs.declared.record.PathRecord.{PathRecord}
 use Rattle.sbpl_cli.specs.declared.record.Outcome.{Outcome}
@@ -22,7 +22,7 @@ found_text found.None = codes " none"
 found_text found.Broken = codes " broken"
 
 -- the line of a pass
-unfoldable pub pass_text : PassRecord → List ℕ
+unfoldable pub pass_text : Pass → List ℕ
 pass_text p = codes "pass " ++ (milli_text p.inflation ++ (codes " expanded " ++ (decimal p.expanded ++ (found_text p.found ++ line_feed))))
 
 -- a place, and the end of its line

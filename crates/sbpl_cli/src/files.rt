@@ -1,19 +1,19 @@
-//! The files of a job, read and judged.
+//! The files that a lattice is made of, read and judged.
 
 ghost use Rattle.std.specs.Prelude.{IfOk, IfErr};
 ghost use Rattle.sbpl_desk.specs.Desk.{NoneFalls, Stays};
 ghost use Rattle.sbpl_cli.specs.Causes.{IsEnvironmentRefused, IsPrimitivesRefused, IsRead, IsUnread, PrimitivesStopFor, SaysEnvironment, SaysPrimitives, StopsFor};
 ghost use Rattle.sbpl_cli.specs.Texts.{IsEnvironmentText, IsPrimitiveText};
 
-use crate::ending::{Input, Refusal, Stop};
-use crate::job::PlanJob;
+use crate::job::Sources;
 use crate::name::Name;
+use crate::refusal::{Input, Refusal, Stop};
 use sbpl_cfg::{Env, EnvFault, Grid, read_env};
 use sbpl_desk::{Desk, ReadStop};
 use sbpl_mprim::{PrimFault, Prims, read_prims};
 use std::alloc::Global;
 
-/// The bytes of a file of the job.
+/// The bytes of a file.
 fn read_file<D: Desk>(
     alloc: Global,
     name: &Name,
@@ -48,20 +48,20 @@ fn judge_environment(alloc: Global, text: &[u8]) -> Result<(Env, Grid), Stop>
     }
 }
 
-/// The environment file of the job.
+/// The environment file.
 pub(crate) fn read_environment<D: Desk>(
     alloc: Global,
-    job: &PlanJob,
+    from: &Sources,
     desk: &mut D,
 ) -> Result<(Env, Grid), Stop>
-    ensures says { IfOk result (λ x. SaysEnvironment (D.held desk.old) job.now x.0 x.1) }
-    ensures stop { IfErr result (StopsFor (D.held desk.old) (D.read_faults desk.old) (D.read_faults desk.new) job.now) }
+    ensures says { IfOk result (λ x. SaysEnvironment (D.held desk.old) from.now x.0 x.1) }
+    ensures stop { IfErr result (StopsFor (D.held desk.old) (D.read_faults desk.old) (D.read_faults desk.new) from.now) }
     ensures held { Stays (D.held desk.old) (D.held desk.new) }
     ensures written { Stays (D.written desk.old) (D.written desk.new) }
     ensures reads { NoneFalls (D.read_faults desk.old) (D.read_faults desk.new) }
     ensures writes { NoneFalls (D.write_faults desk.old) (D.write_faults desk.new) }
 {
-    let text = read_file(alloc, &job.env, Input::Environment, desk)?;
+    let text = read_file(alloc, &from.env, Input::Environment, desk)?;
     judge_environment(alloc, text.as_slice())
 }
 
@@ -77,20 +77,20 @@ fn judge_primitives(alloc: Global, text: &[u8], env: &Env) -> Result<Prims, Stop
     }
 }
 
-/// The primitive file of the job, for this environment.
+/// The primitive file, for this environment.
 pub(crate) fn read_primitives<D: Desk>(
     alloc: Global,
-    job: &PlanJob,
+    from: &Sources,
     env: &Env,
     desk: &mut D,
 ) -> Result<Prims, Stop>
-    ensures says { IfOk result (SaysPrimitives (D.held desk.old) job.now env.now) }
-    ensures stop { IfErr result (PrimitivesStopFor (D.held desk.old) (D.read_faults desk.old) (D.read_faults desk.new) job.now env.now) }
+    ensures says { IfOk result (SaysPrimitives (D.held desk.old) from.now env.now) }
+    ensures stop { IfErr result (PrimitivesStopFor (D.held desk.old) (D.read_faults desk.old) (D.read_faults desk.new) from.now env.now) }
     ensures held { Stays (D.held desk.old) (D.held desk.new) }
     ensures written { Stays (D.written desk.old) (D.written desk.new) }
     ensures reads { NoneFalls (D.read_faults desk.old) (D.read_faults desk.new) }
     ensures writes { NoneFalls (D.write_faults desk.old) (D.write_faults desk.new) }
 {
-    let text = read_file(alloc, &job.prims, Input::Primitives, desk)?;
+    let text = read_file(alloc, &from.prims, Input::Primitives, desk)?;
     judge_primitives(alloc, text.as_slice(), env)
 }

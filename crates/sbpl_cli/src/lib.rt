@@ -1,25 +1,31 @@
 //! The program's top call: from the words to the written bytes.
 #![tactic(auto)]
 
-mod ending;
 mod files;
 mod job;
+mod lattice;
+mod list;
+mod listing;
 mod name;
 mod parts;
 mod plan;
-mod print;
 mod record;
 mod refusal;
+mod refusing;
 mod report;
-mod solve;
 mod top;
+mod words;
+mod writing;
 
-pub use ending::{Ending, Input, Refusal, Stop};
-pub use job::{Job, JobFault, PlanJob, read_job};
+pub use job::{Job, JobFault, PlanJob, Planner, SearchJob, Sources, read_job};
 pub use name::Name;
-pub use parts::{Arcs, Passes, Steps};
-pub use record::{Found, Outcome, PassRecord, PathRecord, PlanRecord, Step};
+pub use parts::Steps;
+pub use record::{Outcome, PathRecord, PlanRecord, Step};
+pub use refusal::{Input, Refusal};
 pub use top::run;
+pub use words::{Command, Given, Setting};
 
+#[cfg(test)]
+mod samples;
 #[cfg(test)]
 mod tests;

@@ -1,46 +1,32 @@
 //! One plan on a lattice.
 
-ghost use Rattle.std.specs.Prelude.{◌≡◌, ◌<◌, IfErr, IfOk, IsSome, Some};
+ghost use Rattle.std.specs.Prelude.{◌≡◌, ◌<◌, ◌≤◌, ◌^◌, ◌⊎◌, ℕ, IfErr, IfOk, IsSome, MatchBool, None, Some, true};
 ghost use Rattle.sbpl_desk.specs.Desk.{NoneFalls, Stays};
 ghost use Rattle.sbpl_cost.specs.Lattices.{network_of};
-ghost use Rattle.sbpl_cost.specs.World.{IsWorld};
-ghost use Rattle.sbpl_cli.specs.Causes.{IsPlanned, SaysWorld, StopsFor};
-ghost use Rattle.sbpl_cli.specs.Headline.{AreSteps, IsAnswered, IsNoneThere, IsOnePass, IsPathFrom, IsPlanOf, IsStep, IsWithinBound, Joins, JoinsStates, found_of};
-ghost use Rattle.sbpl_cli.specs.Solved.{IsBestPath, IsSolved};
+ghost use Rattle.sbpl_cli.specs.Causes.{IsPlanned, StopsFor};
+ghost use Rattle.sbpl_cli.specs.Headline.{AreSteps, IsAnswered, IsMarked, IsNoneThere, IsPathFrom, IsPlanOf, IsSearched, IsStep, IsWithinBound, KeepsPromises, Joins, JoinsStates, TellsResult};
+ghost use Rattle.sbpl_cli.specs.Jobs.{IsSearchJob, ask_of};
+ghost use Rattle.sbpl_labels.specs.Counts.{Counts, IsSpent};
+ghost use Rattle.sbpl_plan.specs.Outcomes.{IsTrueOutcome};
+ghost use Rattle.sbpl_plan.specs.Outcomes as Search;
+ghost use Rattle.sbpl_plan.specs.Passing.{expansions};
+ghost use Rattle.sbpl_plan.specs.declared.result.Outcome.TheVariants as Results;
 
-use crate::ending::{Refusal, Stop};
-use crate::files::{read_environment, read_primitives};
-use crate::job::PlanJob;
-use crate::parts::{Arcs, Passes, Steps};
-use crate::record::{Found, Outcome, PassRecord, PathRecord, PlanRecord, Step};
-use crate::solve::{INFLATION, Solved, solve};
+use crate::job::{PlanJob, SearchJob};
+use crate::lattice::read_lattice;
+use crate::parts::Steps;
+use crate::record::{Outcome, PathRecord, PlanRecord, Step};
+use crate::refusal::Stop;
+use sbpl_ara::Ara;
 use sbpl_cfg::place_at;
-use sbpl_cost::{Lattice, LatticeFault, lattice_has_its_arcs};
+use sbpl_cost::{Lattice, lattice_has_its_arcs};
 use sbpl_desk::Desk;
 use sbpl_fixed::NoMemory;
 use sbpl_graph::Graph;
-use sbpl_map::Map;
+use sbpl_heur::Best;
+use sbpl_labels::Budget;
+use sbpl_plan::{Arcs, Ask, Planned};
 use std::alloc::Global;
-
-/// The lattice of the job's files.
-fn read_lattice<D: Desk>(alloc: Global, job: &PlanJob, desk: &mut D) -> Result<Lattice, Stop>
-    ensures says { IfOk result (SaysWorld (D.held desk.old) job.now) }
-    ensures kept { IfOk result IsWorld }
-    ensures stop { IfErr result (StopsFor (D.held desk.old) (D.read_faults desk.old) (D.read_faults desk.new) job.now) }
-    ensures held { Stays (D.held desk.old) (D.held desk.new) }
-    ensures written { Stays (D.written desk.old) (D.written desk.new) }
-    ensures reads { NoneFalls (D.read_faults desk.old) (D.read_faults desk.new) }
-    ensures writes { NoneFalls (D.write_faults desk.old) (D.write_faults desk.new) }
-{
-    let (env, grid) = read_environment(alloc, job, desk)?;
-    let prims = read_primitives(alloc, job, &env, desk)?;
-    let map = Map::new(&env, grid);
-    match Lattice::new(alloc, &env, prims, map) {
-        Ok(lattice) => Ok(lattice),
-        Err(LatticeFault::TooDear(place)) => Err(Stop::Refused(Refusal::TooDear(place))),
-        Err(LatticeFault::NoMemory) => Err(Stop::NoMemory),
-    }
-}
 
 /// The state that an arc leads to, and the step that it is.
 fn step_of(lattice: &Lattice, from: u32, arc: u32) -> (u32, Step)
@@ -82,8 +68,9 @@ fn path_of(
     bound: u128,
 ) -> Result<PathRecord, NoMemory>
     requires state { start < (network_of lattice.now).states }
-    requires best { IsBestPath (network_of lattice.now) start goal arcs cost bound }
+    requires so { IsTrueOutcome (network_of lattice.now) start goal (Results.Path arcs cost bound) }
     ensures joins { IfOk result (JoinsStates lattice.now start goal) }
+    ensures arcs { IfOk result (λ p. p.arcs ≡ arcs) }
     ensures cost { IfOk result (λ p. p.cost ≡ cost) }
     ensures bound { IfOk result (λ p. p.bound ≡ bound) }
 {
@@ -97,88 +84,131 @@ fn path_of(
     })
 }
 
-/// The result of a plan, from what a search found.
+/// The result of a plan, told step by step.
 fn outcome_of(
     alloc: Global,
     lattice: &Lattice,
     start: u32,
     goal: u32,
-    solved: Solved,
+    found: sbpl_plan::Outcome,
 ) -> Result<Outcome, NoMemory>
     requires state { start < (network_of lattice.now).states }
-    requires solved { IsSolved (network_of lattice.now) start goal solved }
+    requires so { IsTrueOutcome (network_of lattice.now) start goal found }
+    ensures told { IfOk result (TellsResult found) }
     ensures joins { IfOk result (Joins lattice.now start goal) }
     ensures within_the_bound { IfOk result (IsWithinBound lattice.now start goal) }
     ensures none { IfOk result (IsNoneThere lattice.now start goal) }
-    ensures answered { IfOk result (IsAnswered 1000) }
+    ensures answered { IfOk result (λ o. (asked : ℕ) → Search.IsAnswered asked found → IsAnswered asked o) }
 {
-    match solved {
-        Solved::Path { arcs, cost, bound } => Ok(Outcome::Path(path_of(
+    match found {
+        sbpl_plan::Outcome::Path { arcs, cost, bound } => Ok(Outcome::Path(path_of(
             alloc, lattice, start, goal, arcs, cost, bound,
         )?)),
-        Solved::NoPath => Ok(Outcome::NoPath),
-        Solved::Unknown => Ok(Outcome::Unknown),
+        sbpl_plan::Outcome::NoPath => Ok(Outcome::NoPath),
+        sbpl_plan::Outcome::Unknown => Ok(Outcome::Unknown),
     }
 }
 
-/// What the last pass of a plan with this result found.
-fn found_in(outcome: &Outcome) -> Found
-    ensures found { result ≡ found_of outcome.now }
+/// What a search is asked for.
+fn ask_of(search: &SearchJob) -> Ask
+    ensures ask { result ≡ ask_of search.now }
 {
-    match outcome {
-        Outcome::Path(path) => Found::Path {
-            cost: path.cost,
-            bound: path.bound,
-        },
-        Outcome::NoPath | Outcome::Unknown => Found::None,
+    Ask {
+        first: search.first,
+        step: search.step,
+        bound: search.bound,
+        traced: false,
     }
 }
 
-/// The record of a plan of one pass.
-fn record_of(alloc: Global, expanded: u64, outcome: Outcome) -> Result<PlanRecord, NoMemory>
-    ensures one_pass { IfOk result IsOnePass }
-    ensures outcome { IfOk result (λ r. r.outcome ≡ outcome) }
+/// How many states were expanded, where the last pass was spent.
+fn mark_of(spent: bool, budget: &Budget) -> Option<u64>
+    ensures mark { MatchBool spent (result ≡ Some budget.now.plan) (result ≡ None) }
 {
-    let mut passes = Vec::new(alloc);
-    passes.push(PassRecord {
-        inflation: INFLATION,
-        expanded,
-        found: found_in(&outcome),
-    })?;
+    if spent { Some(budget.used()) } else { None }
+}
+
+/// The record of the first plan.
+fn record_of(
+    alloc: Global,
+    lattice: &Lattice,
+    start: u32,
+    goal: u32,
+    planned: Planned,
+    budget: &Budget,
+) -> Result<PlanRecord, NoMemory>
+    requires state { start < (network_of lattice.now).states }
+    requires so { IsTrueOutcome (network_of lattice.now) start goal planned.outcome }
+    requires counted { budget.now.plan ≡ expansions planned.passes }
+    requires spent { planned.spent ≡ true → (budget.now.plan ≡ budget.now.per_plan) ⊎ (budget.now.plan ≡ 2 ^ 30) }
+    ensures number { IfOk result (λ r. r.plan ≡ 0) }
+    ensures passes { IfOk result (λ r. r.passes ≡ planned.passes) }
+    ensures told { IfOk result (λ r. TellsResult planned.outcome r.outcome) }
+    ensures marked { IfOk result (IsMarked budget.now.per_plan planned.spent) }
+    ensures joins { IfOk result (λ r. Joins lattice.now start goal r.outcome) }
+    ensures within_the_bound { IfOk result (λ r. IsWithinBound lattice.now start goal r.outcome) }
+    ensures none { IfOk result (λ r. IsNoneThere lattice.now start goal r.outcome) }
+    ensures answered { IfOk result (λ r. (asked : ℕ) → Search.IsAnswered asked planned.outcome → IsAnswered asked r.outcome) }
+{
+    let outcome = outcome_of(alloc, lattice, start, goal, planned.outcome)?;
     Ok(PlanRecord {
         plan: 0,
-        passes: Passes::of(passes),
-        spent: None,
+        passes: planned.passes,
+        spent: mark_of(planned.spent, budget),
         outcome,
     })
 }
 
+/// Plans on a lattice from a start to a goal.
+fn plan_between(
+    alloc: Global,
+    lattice: &Lattice,
+    search: &SearchJob,
+    start: u32,
+    goal: u32,
+) -> Result<PlanRecord, NoMemory>
+    requires start { start < (network_of lattice.now).states }
+    requires goal { goal < (network_of lattice.now).states }
+    requires search { IsSearchJob search.now }
+    ensures number { IfOk result (λ r. r.plan ≡ 0) }
+    ensures promises { IfOk result (KeepsPromises lattice.now start goal search.now.bound) }
+    ensures searched { IfOk result (IsSearched lattice.now start goal search.now.budget (ask_of search.now)) }
+{
+    let ask = ask_of(search);
+    let guide = Best::build(alloc, lattice, goal)?;
+    let mut budget = Budget::new(search.budget);
+    let mut ara = Ara::open(alloc, lattice.states(), start, goal)?;
+    let planned = sbpl_plan::plan(alloc, lattice, &guide, &mut ara, goal, &ask, &mut budget)?;
+    record_of(alloc, lattice, start, goal, planned, &budget)
+}
+
 /// Plans on a lattice, from the start of its environment to its end.
-fn plan_on(alloc: Global, lattice: &Lattice) -> Result<PlanRecord, NoMemory>
-    ensures planned { IfOk result (IsPlanOf lattice.now) }
+fn plan_on(alloc: Global, lattice: &Lattice, search: &SearchJob) -> Result<PlanRecord, NoMemory>
+    requires search { IsSearchJob search.now }
+    ensures planned { IfOk result (IsPlanOf lattice.now search.now.budget (ask_of search.now)) }
 {
     let env = lattice.env();
     let start = place_at(env, &env.start).unwrap();
     let goal = place_at(env, &env.end).unwrap();
     let start = lattice.state_of(&start).unwrap();
     let goal = lattice.state_of(&goal).unwrap();
-    let (expanded, solved) = solve(alloc, lattice, start, goal)?;
-    let outcome = outcome_of(alloc, lattice, start, goal, solved)?;
-    record_of(alloc, expanded, outcome)
+    plan_between(alloc, lattice, search, start, goal)
 }
 
 /// Reads the job's files and plans.
 pub(crate) fn plan<D: Desk>(alloc: Global, job: &PlanJob, desk: &mut D) -> Result<PlanRecord, Stop>
+    requires range { job.now.sources.radius ≤ 10 ^ 12 }
+    requires search { IsSearchJob job.now.search }
     ensures planned { IfOk result (IsPlanned (D.held desk.old) job.now) }
-    ensures stop { IfErr result (StopsFor (D.held desk.old) (D.read_faults desk.old) (D.read_faults desk.new) job.now) }
+    ensures stop { IfErr result (StopsFor (D.held desk.old) (D.read_faults desk.old) (D.read_faults desk.new) job.now.sources) }
     ensures held { Stays (D.held desk.old) (D.held desk.new) }
     ensures written { Stays (D.written desk.old) (D.written desk.new) }
     ensures reads { NoneFalls (D.read_faults desk.old) (D.read_faults desk.new) }
     ensures writes { NoneFalls (D.write_faults desk.old) (D.write_faults desk.new) }
 {
     lattice_has_its_arcs();
-    let lattice = read_lattice(alloc, job, desk)?;
-    match plan_on(alloc, &lattice) {
+    let lattice = read_lattice(alloc, &job.sources, desk)?;
+    match plan_on(alloc, &lattice, &job.search) {
         Ok(planned) => Ok(planned),
         Err(NoMemory) => Err(Stop::NoMemory),
     }

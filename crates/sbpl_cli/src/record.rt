@@ -1,29 +1,8 @@
 //! What a plan did: its passes and its result.
 
-use crate::parts::{Arcs, Passes, Steps};
+use crate::parts::Steps;
 use sbpl_cfg::Place;
-
-/// What the walk along the back arcs gave after a pass.
-#[derive(Clone, Copy, Debug, PartialEq, Eq)]
-pub enum Found {
-    /// A path of this cost, with its bound in thousandths.
-    Path { cost: u64, bound: u128 },
-    /// The goal was not reached.
-    None,
-    /// The chain of back arcs has an underconsistent state.
-    Broken,
-}
-
-/// One pass of a plan.
-#[derive(Clone, Copy, Debug, PartialEq, Eq)]
-pub struct PassRecord {
-    /// The inflation, in thousandths.
-    pub inflation: u32,
-    /// How many states were expanded.
-    pub expanded: u64,
-    /// What the walk gave after the pass.
-    pub found: Found,
-}
+use sbpl_plan::{Arcs, Passes};
 
 /// One step of a path: the primitive's id and the place where it ends.
 #[derive(Clone, Copy, Debug, PartialEq, Eq)]

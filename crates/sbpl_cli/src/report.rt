@@ -1,13 +1,15 @@
 //! The lines of a report.
 
-ghost use Rattle.std.specs.Prelude.{◌≡◌, ◌++◌, OnOk, flat_map, decimal};
+ghost use Rattle.std.specs.Prelude.{◌≡◌, ◌++◌, IfOk, OnOk, flat_map, decimal};
 ghost use Rattle.sbpl_fixed.specs.Printed.{milli_text};
 ghost use Rattle.sbpl_cli.specs.Report.{found_text, pass_text, place_text, step_text, path_text, outcome_text, spent_text, section_text};
 
-use crate::record::{Found, Outcome, PassRecord, PathRecord, PlanRecord, Step};
+use crate::record::{Outcome, PathRecord, PlanRecord, Step};
 use itoa::Buffer;
 use sbpl_cfg::Place;
 use sbpl_fixed::{NoMemory, print_milli};
+use sbpl_plan::{Found, Pass};
+use std::alloc::Global;
 
 /// Appends bytes.
 pub(crate) fn push_bytes(out: &mut Vec<u8>, bytes: &[u8]) -> Result<(), NoMemory>
@@ -57,7 +59,7 @@ fn push_found(out: &mut Vec<u8>, found: Found) -> Result<(), NoMemory>
 
 /// Appends the line of a pass.
 #[tactic(auto, unfolding(crate::specs::Report::pass_text))]
-fn push_pass(out: &mut Vec<u8>, pass: &PassRecord) -> Result<(), NoMemory>
+fn push_pass(out: &mut Vec<u8>, pass: &Pass) -> Result<(), NoMemory>
     ensures appended { OnOk result (out.new.items ≡ out.old.items ++ pass_text pass.now) }
 {
     push_milli(out, b"pass ", u128::from(pass.inflation))?;
@@ -67,7 +69,7 @@ fn push_pass(out: &mut Vec<u8>, pass: &PassRecord) -> Result<(), NoMemory>
 }
 
 /// Appends the lines of passes.
-fn push_passes(out: &mut Vec<u8>, passes: &[PassRecord]) -> Result<(), NoMemory>
+fn push_passes(out: &mut Vec<u8>, passes: &[Pass]) -> Result<(), NoMemory>
     ensures appended { OnOk result (out.new.items ≡ out.old.items ++ flat_map pass_text passes.now) }
 {
     for pass in passes {
@@ -148,7 +150,7 @@ fn push_spent(out: &mut Vec<u8>, spent: Option<u64>) -> Result<(), NoMemory>
 
 /// Appends the section of a plan.
 #[tactic(auto, unfolding(crate::specs::Report::section_text))]
-pub(crate) fn push_section(out: &mut Vec<u8>, plan: &PlanRecord) -> Result<(), NoMemory>
+fn push_section(out: &mut Vec<u8>, plan: &PlanRecord) -> Result<(), NoMemory>
     ensures appended { OnOk result (out.new.items ≡ out.old.items ++ section_text plan.now) }
 {
     push_field(out, b"plan ", u64::from(plan.plan))?;
@@ -156,4 +158,13 @@ pub(crate) fn push_section(out: &mut Vec<u8>, plan: &PlanRecord) -> Result<(), N
     push_passes(out, plan.passes.as_slice())?;
     push_spent(out, plan.spent)?;
     push_outcome(out, &plan.outcome)
+}
+
+/// The section of a plan.
+pub(crate) fn section_of(alloc: Global, plan: &PlanRecord) -> Result<Vec<u8>, NoMemory>
+    ensures text { IfOk result (λ text. text.items ≡ section_text plan.now) }
+{
+    let mut text = Vec::new(alloc);
+    push_section(&mut text, plan)?;
+    Ok(text)
 }

@@ -1,6 +1,7 @@
 //! The program on small files, over a desk in memory.
 
 use crate::run;
+use crate::samples::p16;
 use sbpl_desk::MemoryDesk;
 use std::alloc::Global;
 use std::process::Abort;
@@ -30,12 +31,25 @@ fn compare(
     status: u8,
     report: &str,
 ) -> Result<(), Fail> {
+    compare_words(rt, alloc, &["plan", "e", "m"], env, prims, status, report)
+}
+
+/// Runs these words on a desk that holds both files, and compares the status and what is written.
+fn compare_words(
+    rt: &impl Abort,
+    alloc: Global,
+    words: &[&str],
+    env: Edited,
+    prims: Edited,
+    status: u8,
+    report: &str,
+) -> Result<(), Fail> {
     let mut desk = MemoryDesk::new(alloc);
     let env = env.0.replacen(alloc, env.1, env.2, 1)?;
     let prims = prims.0.replacen(alloc, prims.1, prims.2, 1)?;
     desk.hold("e", env.as_bytes())?;
     desk.hold("m", prims.as_bytes())?;
-    let words = words_of(alloc, &["plan", "e", "m"])?;
+    let words = words_of(alloc, words)?;
     assert_eq!(rt; run(alloc, words.as_slice(), &mut desk), status, "{report}");
     assert_eq!(rt; desk.written("-"), report.as_bytes());
     Ok(())
@@ -48,6 +62,32 @@ fn words_of(alloc: Global, words: &[&str]) -> Result<Vec<String>, Fail> {
     }
     Ok(all)
 }
+
+/// Three by two cells, of which the second costs 2, from the first cell to the last of its row.
+const E2: &str =
+    "discretization(cells): 3 2\nobsthresh: 100\ncost_inscribed_thresh: 90\ncost_possibly_circumscribed_thresh: 0\ncellsize(meters): 0.025\nnominalvel(mpersecs): 1.0\ntimetoturn45degsinplace(secs): 2.0\nstart(meters,rads): 0.0125 0.0125 0\nend(meters,rads): 0.0625 0.0125 0\nenvironment:\n0 2 0\n0 0 0\n";
+
+/// Five by three cells with one that costs as much as the threshold, beside the way from (1, 1) to (3, 1).
+const E3: &str =
+    "discretization(cells): 5 3\nobsthresh: 100\ncost_inscribed_thresh: 90\ncost_possibly_circumscribed_thresh: 0\ncellsize(meters): 0.025\nnominalvel(mpersecs): 1.0\ntimetoturn45degsinplace(secs): 2.0\nstart(meters,rads): 0.0375 0.0375 0\nend(meters,rads): 0.0875 0.0375 0\nenvironment:\n0 0 0 0 0\n0 0 0 0 0\n0 0 100 0 0\n";
+
+const FREE: &str =
+    "plan 0\npass 1.000 expanded 2 best 50 bound 1.000\npath 2 cost 50 bound 1.000\npose 1 1 0\nstep 0 2 1 0\nstep 0 3 1 0\ndone\n";
+
+const SHUT: &str = "plan 0\npass 1.000 expanded 1 none\nnopath\ndone\n";
+
+const COSTS: &str =
+    "prim 0 0 to 1 0 0 cost 25\ncentre 0 0\ncentre 1 0\nswept 0 0\nswept 1 0\ndone\n";
+
+const WIDE: &str =
+    "prim 0 0 to 1 0 0 cost 25\ncentre 0 0\ncentre 1 0\nswept 0 -1\nswept 1 -1\nswept -1 0\nswept 0 0\nswept 1 0\nswept 2 0\nswept 0 1\nswept 1 1\ndone\n";
+
+const DIAGONAL: &str =
+    "prim 2 0 to 1 1 2 cost 36\ncentre 0 0\ncentre 1 1\nswept 0 0\nswept 1 1\ndone\n";
+
+const TURN_BACK: &str = "prim 0 0 to 0 0 15 cost 1000\ncentre 0 0\nswept 0 0\ndone\n";
+
+const TURN_ON: &str = "prim 15 0 to 0 0 0 cost 1000\ncentre 0 0\nswept 0 0\ndone\n";
 
 const SAME: &str =
     "plan 0\npass 1.000 expanded 0 best 0 bound 1.000\npath 0 cost 0 bound 1.000\npose 0 0 0\ndone\n";
@@ -64,7 +104,7 @@ const EIGHTY_NINE: &str =
     "plan 0\npass 1.000 expanded 2 best 4500 bound 1.000\npath 2 cost 4500 bound 1.000\npose 0 0 0\nstep 0 1 0 0\nstep 0 2 0 0\ndone\n";
 
 const AROUND: &str =
-    "plan 0\npass 1.000 expanded 5 best 100 bound 1.000\npath 3 cost 100 bound 1.000\npose 0 0 0\nstep 2 0 1 0\nstep 1 2 1 0\nstep 3 2 0 0\ndone\n";
+    "plan 0\npass 1.000 expanded 4 best 100 bound 1.000\npath 3 cost 100 bound 1.000\npose 0 0 0\nstep 2 0 1 0\nstep 1 2 1 0\nstep 3 2 0 0\ndone\n";
 
 /// The corridor with one part of its environment changed.
 #[test]
@@ -181,39 +221,242 @@ fn primitives(rt: HostRuntime) -> Result<(), Fail> {
         4,
         "refused primitives 1 Word 0\n",
     )?;
-    let two_rows =
-        "3 2\nobsthresh: 100\ncost_inscribed_thresh: 90\ncost_possibly_circumscribed_thresh: 0\ncellsize(meters): 0.025\nnominalvel(mpersecs): 1.0\ntimetoturn45degsinplace(secs): 2.0\nstart(meters,rads): 0.0125 0.0125 0\nend(meters,rads): 0.0625 0.0125 0\nenvironment:\n0 2 0\n0 0 0\n";
-    let one_row =
-        "3 1\nobsthresh: 100\ncost_inscribed_thresh: 90\ncost_possibly_circumscribed_thresh: 0\ncellsize(meters): 0.025\nnominalvel(mpersecs): 1.0\ntimetoturn45degsinplace(secs): 2.0\nstart(meters,rads): 0.0125 0.0125 0\nend(meters,rads): 0.0625 0.0125 0\nenvironment:\n0 0 0\n";
+    compare(&rt, rt.alloc(), (E2, "", ""), (F2, "", ""), 0, AROUND)
+}
+
+const FALLING: &str =
+    "plan 0\npass 3.000 expanded 1 best 150 bound 1.500\npass 2.500 expanded 0 best 150 bound 1.500\npass 2.000 expanded 0 best 150 bound 1.500\npass 1.500 expanded 2 best 100 bound 1.000\npath 3 cost 100 bound 1.000\npose 0 0 0\nstep 2 0 1 0\nstep 1 2 1 0\nstep 3 2 0 0\ndone\n";
+
+const GOOD_ENOUGH: &str =
+    "plan 0\npass 3.000 expanded 1 best 150 bound 1.500\npath 1 cost 150 bound 1.500\npose 0 0 0\nstep 1 2 0 0\ndone\n";
+
+const AT_ONCE: &str =
+    "plan 0\npass 1.500 expanded 3 best 100 bound 1.000\npath 3 cost 100 bound 1.000\npose 0 0 0\nstep 2 0 1 0\nstep 1 2 1 0\nstep 3 2 0 0\ndone\n";
+
+const SPENT_PATH: &str =
+    "plan 0\npass 1.000 expanded 1 best 150 bound 1.500\nspent 1\npath 1 cost 150 bound 1.500\npose 0 0 0\nstep 1 2 0 0\ndone\n";
+
+const SPENT: &str = "plan 0\npass 1.000 expanded 1 none\nspent 1\nunknown\ndone\n";
+
+/// Passes of falling inflation, and budgets.
+#[test]
+fn passes(rt: HostRuntime) -> Result<(), Fail> {
+    let rows: [(&[&str], &str); 6] = [
+        (
+            &[
+                "plan", "e", "m", "--first", "3.000", "--step", "0.500", "--bound", "1.000",
+            ],
+            FALLING,
+        ),
+        (
+            &[
+                "plan",
+                "--planner=ara",
+                "--first=3",
+                "--bound=1.5",
+                "e",
+                "m",
+            ],
+            GOOD_ENOUGH,
+        ),
+        (
+            &["plan", "e", "m", "--first", "1.500", "--bound", "1.500"],
+            AT_ONCE,
+        ),
+        (&["plan", "e", "m", "--budget", "1"], SPENT_PATH),
+        (&["plan", "e", "m", "--bound", "1.0000000001"], AROUND),
+        (&["plan", "e", "m", "--budget=+4"], AROUND),
+    ];
+    for (words, report) in rows {
+        compare_words(
+            &rt,
+            rt.alloc(),
+            words,
+            (E2, "", ""),
+            (F2, "", ""),
+            0,
+            report,
+        )?;
+    }
+    compare_words(
+        &rt,
+        rt.alloc(),
+        &["plan", "e", "m", "--budget", "1"],
+        (E1, "", ""),
+        (F1, "", ""),
+        0,
+        SPENT,
+    )
+}
+
+const REALISTIC: &str =
+    "plan 0\npass 1.000 expanded 6 best 150 bound 1.000\npath 3 cost 150 bound 1.000\npose 4 4 0\nstep 0 5 4 0\nstep 0 6 4 0\nstep 4 10 4 0\ndone\n";
+
+/// Fifteen by fifteen empty cells, and a robot with sixteen headings.
+#[test]
+fn realistic(rt: HostRuntime) -> Result<(), Fail> {
+    let head =
+        "discretization(cells): 15 15\nobsthresh: 254\ncost_inscribed_thresh: 253\ncost_possibly_circumscribed_thresh: 128\ncellsize(meters): 0.025\nnominalvel(mpersecs): 1.0\ntimetoturn45degsinplace(secs): 2.0\nstart(meters,rads): 0.11 0.11 0\nend(meters,rads): 0.26 0.11 0\nenvironment:\n";
+    let mut env = String::from_str(rt.alloc(), head)?;
+    for _ in 0..15 {
+        env.push_str("0 0 0 0 0 0 0 0 0 0 0 0 0 0 0\n")?;
+    }
+    let prims = p16(rt.alloc())?;
     compare(
         &rt,
         rt.alloc(),
-        (E1, one_row, two_rows),
-        (F2, "", ""),
+        (env.as_str(), "", ""),
+        (prims.as_str(), "", ""),
         0,
-        AROUND,
+        REALISTIC,
     )
 }
 
 /// Words that name no job.
 #[test]
 fn words(rt: HostRuntime) -> Result<(), Fail> {
-    let rows: [&[&str]; 7] = [
+    let rows: [&[&str]; 26] = [
         &[],
         &["plan"],
         &["plan", "e"],
         &["plan", "e", "-"],
+        &["plan", "e", "--"],
         &["plan", "", "m"],
         &["plan", "e", "m", "x"],
         &["plane", "e", "m"],
+        &["plan", "e", "m", "--radius"],
+        &["plan", "e", "m", "--radius", "-1"],
+        &["plan", "e", "m", "--radius="],
+        &["plan", "e", "m", "--radius=-0.1"],
+        &["plan", "e", "m", "--radius", "1000.000000001"],
+        &["plan", "e", "m", "--radius", "1e1"],
+        &["plan", "e", "m", "--radius", "0", "--radius", "0"],
+        &["plan", "e", "m", "--radius", "0", "--radius=0"],
+        &["plan", "e", "m", "--changes", "c"],
+        &["plan", "e", "m", "--radius0"],
+        &["sweep", "e", "m", "--labels", "l"],
+        &["check", "e", "m", "l"],
+        &["plan", "e", "m", "--bound", "1.0005"],
+        &["plan", "e", "m", "--bound", "0.999"],
+        &["plan", "e", "m", "--first", "100.001"],
+        &["plan", "e", "m", "--step", "0"],
+        &["plan", "e", "m", "--budget", "1073741825"],
+        &["plan", "e", "m", "--planner", "ad"],
     ];
     for row in rows {
-        let mut desk = MemoryDesk::new(rt.alloc());
-        let words = words_of(rt.alloc(), row)?;
-        assert_eq!(rt; run(rt.alloc(), words.as_slice(), &mut desk), 2, "{row:?}");
-        assert_eq!(rt; desk.written("-"), b"refused words\n".as_slice());
+        compare_words(
+            &rt,
+            rt.alloc(),
+            row,
+            (E1, "", ""),
+            (F1, "", ""),
+            2,
+            "refused words\n",
+        )?;
     }
     Ok(())
+}
+
+/// Words in any order and in both forms.
+#[test]
+fn orders(rt: HostRuntime) -> Result<(), Fail> {
+    let rows: [&[&str]; 5] = [
+        &["plan", "--radius", "0", "e", "m"],
+        &["plan", "e", "--radius=0.000", "m"],
+        &["plan", "e", "m", "--radius", "+.0125"],
+        &["plan", "e", "m", "--radius=0"],
+        &["plan", "e", "m"],
+    ];
+    for row in rows {
+        compare_words(
+            &rt,
+            rt.alloc(),
+            row,
+            (E3, "0 0 100 0 0", "0 0 0 0 0"),
+            (F1, "", ""),
+            0,
+            FREE,
+        )?;
+    }
+    Ok(())
+}
+
+/// A disc that exactly touches a cell does not sweep it.
+#[test]
+fn discs(rt: HostRuntime) -> Result<(), Fail> {
+    let rows = [
+        ("100 0 0\n", "0.0125", FREE),
+        ("100 0 0\n", "0.012500001", SHUT),
+        ("99 0 0\n", "0.0125", FREE),
+        ("99 0 0\n", "0.012500001", FREE),
+    ];
+    for (cost, radius, report) in rows {
+        compare_words(
+            &rt,
+            rt.alloc(),
+            &["plan", "e", "m", "--radius", radius],
+            (E3, "100 0 0\n", cost),
+            (F1, "", ""),
+            0,
+            report,
+        )?;
+    }
+    Ok(())
+}
+
+/// What primitives cost and sweep.
+#[test]
+fn sweeps(rt: HostRuntime) -> Result<(), Fail> {
+    let motion =
+        "startangle_c: 0\nendpose_c: 1 0 0\nadditionalactioncostmult: 1\nintermediateposes: 2\n0.0000 0.0000 0.0000\n0.0250 0.0000 0.0000";
+    let rows = [
+        (motion, COSTS),
+        (
+            "startangle_c: 0\nendpose_c: 1 0 0\nadditionalactioncostmult: 1\nintermediateposes: 10\n0 0 0\n0.0028 0 0\n0.0056 0 0\n0.0083 0 0\n0.0111 0 0\n0.0139 0 0\n0.0167 0 0\n0.0194 0 0\n0.0222 0 0\n0.0250 0 0",
+            COSTS,
+        ),
+        (
+            "startangle_c: 2\nendpose_c: 1 1 2\nadditionalactioncostmult: 1\nintermediateposes: 2\n0 0 0.7854\n0.025 0.025 0.7854",
+            DIAGONAL,
+        ),
+        (
+            "startangle_c: 0\nendpose_c: 0 0 -1\nadditionalactioncostmult: 1\nintermediateposes: 2\n0 0 0\n0 0 -0.3927",
+            TURN_BACK,
+        ),
+        (
+            "startangle_c: 15\nendpose_c: 0 0 16\nadditionalactioncostmult: 1\nintermediateposes: 2\n0 0 5.8905\n0 0 6.2832",
+            TURN_ON,
+        ),
+    ];
+    for (new, report) in rows {
+        compare_words(
+            &rt,
+            rt.alloc(),
+            &["sweep", "e", "m"],
+            (E1, "", ""),
+            (F1, motion, new),
+            0,
+            report,
+        )?;
+    }
+    compare_words(
+        &rt,
+        rt.alloc(),
+        &["sweep", "--radius=0.012500001", "e", "m"],
+        (E1, "", ""),
+        (F1, "", ""),
+        0,
+        WIDE,
+    )?;
+    compare_words(
+        &rt,
+        rt.alloc(),
+        &["sweep", "e", "m", "--radius", "1000"],
+        (E1, "", ""),
+        (F1, "", ""),
+        4,
+        "refused primitives 14 TooWide 0\n",
+    )
 }
 
 /// Each call of the desk fails in turn: two reads and two writes.

@@ -1,106 +1,187 @@
 //! The top call.
 
-ghost use Rattle.std.specs.Prelude.{◌≡◌, ◌≢◌, ◌⊎◌, ℕ, List, None, Some, codes, map, string_bytes};
+ghost use Rattle.std.specs.Prelude.{◌≡◌, ◌≢◌, ◌⊎◌, ◌∷◌, ℕ, List, [], None, Some, map, string_bytes};
 ghost use Rattle.sbpl_cfg.specs.Environment.{Environment};
 ghost use Rattle.sbpl_cfg.specs.declared.fault.EnvFault.{EnvFault};
 ghost use Rattle.sbpl_cost.specs.PrimitiveCost.{IsFirstTooDear};
-ghost use Rattle.sbpl_desk.specs.Desk.{Appends, AppendsFront, Keeps, NoneFalls, Rose, Stays};
+ghost use Rattle.sbpl_desk.specs.Desk.{NoneFalls, Rose, Stays};
 ghost use Rattle.sbpl_mprim.specs.Primitives.{Primitives};
 ghost use Rattle.sbpl_mprim.specs.declared.fault.PrimFault.{PrimFault};
+ghost use Rattle.sbpl_sweep.specs.Widths.{IsFirstTooWide, NoneTooWide};
+ghost use Rattle.sbpl_cli.specs.declared.job.Job.{Job};
+ghost use Rattle.sbpl_cli.specs.declared.job.Job.TheVariants as Jobs;
 ghost use Rattle.sbpl_cli.specs.Causes.{NoneTooDear};
-ghost use Rattle.sbpl_cli.specs.Endings.{words_text};
-ghost use Rattle.sbpl_cli.specs.Jobs.{job_of};
-ghost use Rattle.sbpl_cli.specs.Promises.{AtPlan, EndsJob, EndsRun, EndsWords, IsCutShort, IsOrFailed, IsOrUnwritten, IsRefused, IsReported, IsStatus, IsStopped, TellsEnvironment, TellsEnvironmentFault, TellsPrimitiveFault, TellsPrimitives, TellsTooMuch};
-ghost use Rattle.sbpl_cli.specs.declared.job.Job.TheVariants.{Plan};
-ghost use Rattle.sbpl_cli.specs.declared.job.PlanJob.{PlanJob};
+ghost use Rattle.sbpl_cli.specs.Intents.{plan_writes, refusal_status, refusal_writes, words_writes};
+ghost use Rattle.sbpl_cli.specs.Jobs.{IsJob, job_of, sources_of};
+ghost use Rattle.sbpl_cli.specs.Promises.{AtJob, EndsJob, EndsRun, IsCutShort, IsDone, IsOrFailed, IsOrUnwritten, IsRefused, IsStatus, IsStopped, TellsEnvironment, TellsEnvironmentFault, TellsPrimitiveFault, TellsPrimitives, TellsTooMuch};
+ghost use Rattle.sbpl_cli.specs.Writing.{AreMade, EndsAs, EndsIn, IsCutAt, IsStoppedAt, output, to_output};
+ghost use Rattle.sbpl_cli.specs.Report.{section_text};
 
-use crate::ending::{Ending, Stop};
-use crate::job::{Job, JobFault, PlanJob, read_job};
+use crate::job::{Job, JobFault, PlanJob, Sources, read_job};
+use crate::lattice::read_lattice;
+use crate::list::write_listings;
 use crate::plan::plan;
-use crate::print::{print_record, print_refusal};
+use crate::record::PlanRecord;
+use crate::refusal::{Refusal, Stop};
+use crate::refusing::line_of;
+use crate::report::section_of;
+use crate::writing::{OUTPUT, status_after, write_last, write_text};
 use sbpl_cfg::texts_are_environments_or_faulty;
 use sbpl_desk::{Desk, WriteStop};
+use sbpl_fixed::NoMemory;
 use sbpl_mprim::texts_are_primitives_or_faulty;
 use std::alloc::Global;
 
-/// Plans for a job and writes how that ends.
-fn end_plan<D: Desk>(alloc: Global, job: &PlanJob, desk: &mut D) -> Ending
-    ensures ends { EndsJob (D.held desk.old) (D.read_faults desk.old) (D.read_faults desk.new) (D.written desk.old (codes "-")) (D.written desk.new (codes "-")) (D.write_faults desk.old (codes "-")) (D.write_faults desk.new (codes "-")) job.now result }
+/// Writes the line of a refusal, and answers the status.
+fn refuse<D: Desk>(alloc: Global, from: &Sources, refusal: Refusal, desk: &mut D) -> u8
+    ensures ends { EndsAs (D.written desk.old) (D.written desk.new) (D.write_faults desk.old) (D.write_faults desk.new) (refusal_writes from.now refusal) (refusal_status refusal) result }
     ensures held { Stays (D.held desk.old) (D.held desk.new) }
-    ensures others { (name : List ℕ) → name ≢ codes "-" → D.written desk.new name ≡ D.written desk.old name }
+    ensures others { (name : List ℕ) → name ≢ output → D.written desk.new name ≡ D.written desk.old name }
+    ensures reads { NoneFalls (D.read_faults desk.old) (D.read_faults desk.new) }
+    ensures writes { NoneFalls (D.write_faults desk.old) (D.write_faults desk.new) }
+{
+    match line_of(alloc, from, &refusal) {
+        Ok(line) => status_after(write_text(OUTPUT, line.as_slice(), desk), refusal.status()),
+        Err(NoMemory) => 9,
+    }
+}
+
+/// Writes the section of a plan.
+fn write_section<D: Desk>(alloc: Global, plan: &PlanRecord, desk: &mut D) -> Result<(), WriteStop>
+    ensures ends { EndsIn (D.written desk.old) (D.written desk.new) (D.write_faults desk.old) (D.write_faults desk.new) (to_output (section_text plan.now) ∷ []) result }
+    ensures held { Stays (D.held desk.old) (D.held desk.new) }
+    ensures others { (name : List ℕ) → name ≢ output → D.written desk.new name ≡ D.written desk.old name }
+    ensures reads { NoneFalls (D.read_faults desk.old) (D.read_faults desk.new) }
+    ensures writes { NoneFalls (D.write_faults desk.old) (D.write_faults desk.new) }
+{
+    match section_of(alloc, plan) {
+        Ok(text) => write_text(OUTPUT, text.as_slice(), desk),
+        Err(NoMemory) => Err(WriteStop::NoMemory),
+    }
+}
+
+/// Writes the report of a plan: its section, and the last line.
+fn write_report<D: Desk>(alloc: Global, plan: &PlanRecord, desk: &mut D) -> Result<(), WriteStop>
+    ensures ends { EndsIn (D.written desk.old) (D.written desk.new) (D.write_faults desk.old) (D.write_faults desk.new) (plan_writes plan.now) result }
+    ensures held { Stays (D.held desk.old) (D.held desk.new) }
+    ensures others { (name : List ℕ) → name ≢ output → D.written desk.new name ≡ D.written desk.old name }
+    ensures reads { NoneFalls (D.read_faults desk.old) (D.read_faults desk.new) }
+    ensures writes { NoneFalls (D.write_faults desk.old) (D.write_faults desk.new) }
+{
+    match write_section(alloc, plan, desk) {
+        Ok(()) => write_last(desk),
+        Err(stop) => Err(stop),
+    }
+}
+
+/// Plans for a job, writes what came of it, and answers the status.
+fn end_plan<D: Desk>(alloc: Global, job: &PlanJob, desk: &mut D) -> u8
+    requires range { IsJob (Jobs.Plan job.now) }
+    ensures ends { EndsJob (D.held desk.old) (D.read_faults desk.old) (D.read_faults desk.new) (D.written desk.old) (D.written desk.new) (D.write_faults desk.old) (D.write_faults desk.new) (Jobs.Plan job.now) result }
+    ensures held { Stays (D.held desk.old) (D.held desk.new) }
+    ensures others { (name : List ℕ) → name ≢ output → D.written desk.new name ≡ D.written desk.old name }
     ensures reads { NoneFalls (D.read_faults desk.old) (D.read_faults desk.new) }
     ensures writes { NoneFalls (D.write_faults desk.old) (D.write_faults desk.new) }
 {
     match plan(alloc, job, desk) {
-        Ok(planned) => print_record(alloc, planned, desk),
-        Err(Stop::Refused(refusal)) => print_refusal(alloc, job, refusal, desk),
-        Err(Stop::NoMemory) => Ending::NoMemory,
+        Ok(planned) => status_after(write_report(alloc, &planned, desk), 0),
+        Err(Stop::Refused(refusal)) => refuse(alloc, &job.sources, refusal, desk),
+        Err(Stop::NoMemory) => 9,
+    }
+}
+
+/// Lists what each primitive costs and sweeps, and answers the status.
+fn end_sweep<D: Desk>(alloc: Global, from: &Sources, desk: &mut D) -> u8
+    requires range { IsJob (Jobs.Sweep from.now) }
+    ensures ends { EndsJob (D.held desk.old) (D.read_faults desk.old) (D.read_faults desk.new) (D.written desk.old) (D.written desk.new) (D.write_faults desk.old) (D.write_faults desk.new) (Jobs.Sweep from.now) result }
+    ensures held { Stays (D.held desk.old) (D.held desk.new) }
+    ensures others { (name : List ℕ) → name ≢ output → D.written desk.new name ≡ D.written desk.old name }
+    ensures reads { NoneFalls (D.read_faults desk.old) (D.read_faults desk.new) }
+    ensures writes { NoneFalls (D.write_faults desk.old) (D.write_faults desk.new) }
+{
+    match read_lattice(alloc, from, desk) {
+        Ok(lattice) => status_after(write_listings(alloc, &lattice, desk), 0),
+        Err(Stop::Refused(refusal)) => refuse(alloc, from, refusal, desk),
+        Err(Stop::NoMemory) => 9,
+    }
+}
+
+/// Does a job, writes what came of it, and answers the status.
+fn end_job<D: Desk>(alloc: Global, job: &Job, desk: &mut D) -> u8
+    requires range { IsJob job.now }
+    ensures ends { EndsJob (D.held desk.old) (D.read_faults desk.old) (D.read_faults desk.new) (D.written desk.old) (D.written desk.new) (D.write_faults desk.old) (D.write_faults desk.new) job.now result }
+    ensures held { Stays (D.held desk.old) (D.held desk.new) }
+    ensures others { (name : List ℕ) → name ≢ output → D.written desk.new name ≡ D.written desk.old name }
+    ensures reads { NoneFalls (D.read_faults desk.old) (D.read_faults desk.new) }
+    ensures writes { NoneFalls (D.write_faults desk.old) (D.write_faults desk.new) }
+{
+    match job {
+        Job::Plan(plan) => end_plan(alloc, plan, desk),
+        Job::Sweep(from) => end_sweep(alloc, from, desk),
     }
 }
 
 /// Writes that the words name no job, and answers the status.
 fn refuse_words<D: Desk>(desk: &mut D) -> u8
-    ensures ends { EndsWords (D.written desk.old (codes "-")) (D.written desk.new (codes "-")) (D.write_faults desk.old (codes "-")) (D.write_faults desk.new (codes "-")) result }
+    ensures ends { EndsAs (D.written desk.old) (D.written desk.new) (D.write_faults desk.old) (D.write_faults desk.new) words_writes 2 result }
     ensures held { Stays (D.held desk.old) (D.held desk.new) }
-    ensures others { (name : List ℕ) → name ≢ codes "-" → D.written desk.new name ≡ D.written desk.old name }
+    ensures others { (name : List ℕ) → name ≢ output → D.written desk.new name ≡ D.written desk.old name }
     ensures reads { NoneFalls (D.read_faults desk.old) (D.read_faults desk.new) }
     ensures writes { NoneFalls (D.write_faults desk.old) (D.write_faults desk.new) }
 {
-    match desk.write("-", b"refused words\n") {
-        Ok(()) => 2,
-        Err(WriteStop::Failed) => 7,
-        Err(WriteStop::NoMemory) => 9,
-    }
+    status_after(write_text(OUTPUT, b"refused words\n", desk), 2)
 }
 
-/// Finds the job that the words name, plans, and writes how that ends. It answers the status.
+/// Finds the job that the words name, does it, writes what came of it, and answers the status.
 fn end_run<D: Desk>(alloc: Global, words: &[String], desk: &mut D) -> u8
-    ensures ends { EndsRun (job_of (map string_bytes words.now)) (D.held desk.old) (D.read_faults desk.old) (D.read_faults desk.new) (D.written desk.old (codes "-")) (D.written desk.new (codes "-")) (D.write_faults desk.old (codes "-")) (D.write_faults desk.new (codes "-")) result }
+    ensures ends { EndsRun (job_of (map string_bytes words.now)) (D.held desk.old) (D.read_faults desk.old) (D.read_faults desk.new) (D.written desk.old) (D.written desk.new) (D.write_faults desk.old) (D.write_faults desk.new) result }
     ensures held { Stays (D.held desk.old) (D.held desk.new) }
-    ensures others { (name : List ℕ) → name ≢ codes "-" → D.written desk.new name ≡ D.written desk.old name }
+    ensures others { (name : List ℕ) → name ≢ output → D.written desk.new name ≡ D.written desk.old name }
     ensures reads { NoneFalls (D.read_faults desk.old) (D.read_faults desk.new) }
     ensures writes { NoneFalls (D.write_faults desk.old) (D.write_faults desk.new) }
 {
     match read_job(alloc, words) {
-        Ok(Job::Plan(job)) => end_plan(alloc, &job, desk).status(),
+        Ok(job) => end_job(alloc, &job, desk),
         Err(JobFault::Words) => refuse_words(desk),
         Err(JobFault::NoMemory) => 9,
     }
 }
 
-/// Plans by the words after the program's name, writes what came of it to the standard output, which has the name `-`, and
-/// answers the status: 0 for a report, 2 for words that name no job, 3 and 4 for a fault of the environment file and of the
-/// primitive file, 6 for a file that could not be read, 7 for a write that failed, 8 for a file of more than 2^30 bytes, and
-/// 9 for want of memory.
+/// Does the job that the words after the program's name stand for, writes what came of it to the standard output, which has
+/// the name `-`, and answers the status: 0 where the job was done, 2 for words that name no job, 3 and 4 for a fault of the
+/// environment file and of the primitive file, 6 for a file that could not be read, 7 for a write that failed, 8 for a file
+/// of more than 2^30 bytes, and 9 for want of memory.
 pub fn run<D: Desk>(alloc: Global, words: &[String], desk: &mut D) -> u8
     ensures statuses { IsStatus result }
-    // 0: the report of a plan of the job's files was written, which keeps its promises.
-    ensures report { result ≡ 0 → AtPlan (job_of (map string_bytes words.now)) (IsReported (D.held desk.old) (D.written desk.old (codes "-")) (D.written desk.new (codes "-"))) }
+    // 0: the job was done. A plan of the job's files was made, which keeps its promises, and its report was written; or what
+    // each primitive costs and sweeps was listed.
+    ensures done { result ≡ 0 → AtJob (job_of (map string_bytes words.now)) (IsDone (D.held desk.old) (D.written desk.old) (D.written desk.new)) }
     // 2: the words name no job, and a line says so.
-    ensures words { result ≡ 2 → (job_of (map string_bytes words.now) ≡ None) × Appends (D.written desk.old (codes "-")) (D.written desk.new (codes "-")) words_text }
+    ensures words { result ≡ 2 → (job_of (map string_bytes words.now) ≡ None) × AreMade (D.written desk.old) (D.written desk.new) words_writes }
     // 3, 4, 6, 8: the job was refused for a cause, and a line says which.
-    ensures environment { result ≡ 3 → AtPlan (job_of (map string_bytes words.now)) (IsRefused (D.held desk.old) (D.read_faults desk.old) (D.read_faults desk.new) (D.written desk.old (codes "-")) (D.written desk.new (codes "-")) 3) }
-    ensures primitives { result ≡ 4 → AtPlan (job_of (map string_bytes words.now)) (IsRefused (D.held desk.old) (D.read_faults desk.old) (D.read_faults desk.new) (D.written desk.old (codes "-")) (D.written desk.new (codes "-")) 4) }
-    ensures unread { result ≡ 6 → AtPlan (job_of (map string_bytes words.now)) (IsRefused (D.held desk.old) (D.read_faults desk.old) (D.read_faults desk.new) (D.written desk.old (codes "-")) (D.written desk.new (codes "-")) 6) }
-    ensures length { result ≡ 8 → AtPlan (job_of (map string_bytes words.now)) (IsRefused (D.held desk.old) (D.read_faults desk.old) (D.read_faults desk.new) (D.written desk.old (codes "-")) (D.written desk.new (codes "-")) 8) }
-    // 7: a write failed, and a front of what was to be written stands there.
-    ensures write { result ≡ 7 → Rose (D.write_faults desk.old (codes "-")) (D.write_faults desk.new (codes "-")) }
-    ensures cut { result ≡ 7 → AtPlan (job_of (map string_bytes words.now)) (IsCutShort (D.held desk.old) (D.read_faults desk.old) (D.read_faults desk.new) (D.written desk.old (codes "-")) (D.written desk.new (codes "-"))) ⊎ ((job_of (map string_bytes words.now) ≡ None) × AppendsFront (D.written desk.old (codes "-")) (D.written desk.new (codes "-")) words_text) }
-    // 9: memory ran out, and whole sections of what was to be written stand there.
-    ensures memory { result ≡ 9 → AtPlan (job_of (map string_bytes words.now)) (IsStopped (D.held desk.old) (D.read_faults desk.old) (D.read_faults desk.new) (D.written desk.old (codes "-")) (D.written desk.new (codes "-"))) ⊎ Keeps (D.written desk.old (codes "-")) (D.written desk.new (codes "-")) }
+    ensures environment { result ≡ 3 → AtJob (job_of (map string_bytes words.now)) (IsRefused (D.held desk.old) (D.read_faults desk.old) (D.read_faults desk.new) (D.written desk.old) (D.written desk.new) 3) }
+    ensures primitives { result ≡ 4 → AtJob (job_of (map string_bytes words.now)) (IsRefused (D.held desk.old) (D.read_faults desk.old) (D.read_faults desk.new) (D.written desk.old) (D.written desk.new) 4) }
+    ensures unread { result ≡ 6 → AtJob (job_of (map string_bytes words.now)) (IsRefused (D.held desk.old) (D.read_faults desk.old) (D.read_faults desk.new) (D.written desk.old) (D.written desk.new) 6) }
+    ensures length { result ≡ 8 → AtJob (job_of (map string_bytes words.now)) (IsRefused (D.held desk.old) (D.read_faults desk.old) (D.read_faults desk.new) (D.written desk.old) (D.written desk.new) 8) }
+    // 7: a write failed, and the writes before it and a front of it stand there.
+    ensures write { result ≡ 7 → Rose (D.write_faults desk.old output) (D.write_faults desk.new output) }
+    ensures cut { result ≡ 7 → AtJob (job_of (map string_bytes words.now)) (IsCutShort (D.held desk.old) (D.read_faults desk.old) (D.read_faults desk.new) (D.written desk.old) (D.written desk.new) (D.write_faults desk.old) (D.write_faults desk.new)) ⊎ ((job_of (map string_bytes words.now) ≡ None) × IsCutAt (D.written desk.old) (D.written desk.new) (D.write_faults desk.old) (D.write_faults desk.new) words_writes) }
+    // 9: memory ran out, and the first few writes stand there.
+    ensures memory { result ≡ 9 → AtJob (job_of (map string_bytes words.now)) (IsStopped (D.held desk.old) (D.read_faults desk.old) (D.read_faults desk.new) (D.written desk.old) (D.written desk.new)) ⊎ (((job_of (map string_bytes words.now) ≡ None) × IsStoppedAt (D.written desk.old) (D.written desk.new) words_writes) ⊎ AreMade (D.written desk.old) (D.written desk.new) []) }
     // Words that name no job are refused, unless a write fails or memory runs out.
     ensures no_job { job_of (map string_bytes words.now) ≡ None → IsOrUnwritten 2 result }
     // A cause that the desk tells is answered, unless the desk fails or memory runs out.
-    ensures environment_faulty { (job : PlanJob) (f : EnvFault) → job_of (map string_bytes words.now) ≡ Some (Plan job) → TellsEnvironmentFault (D.held desk.old) job f → IsOrFailed 3 result }
-    ensures environment_long { (job : PlanJob) → job_of (map string_bytes words.now) ≡ Some (Plan job) → TellsTooMuch (D.held desk.old job.env) → IsOrFailed 8 result }
-    ensures primitives_long { (job : PlanJob) (e : Environment) → job_of (map string_bytes words.now) ≡ Some (Plan job) → TellsEnvironment (D.held desk.old) job e → TellsTooMuch (D.held desk.old job.prims) → IsOrFailed 8 result }
-    ensures primitives_faulty { (job : PlanJob) (e : Environment) (f : PrimFault) → job_of (map string_bytes words.now) ≡ Some (Plan job) → TellsEnvironment (D.held desk.old) job e → TellsPrimitiveFault (D.held desk.old) job e f → IsOrFailed 4 result }
-    ensures too_dear { (job : PlanJob) (e : Environment) (ps : Primitives) (i : ℕ) → job_of (map string_bytes words.now) ≡ Some (Plan job) → TellsEnvironment (D.held desk.old) job e → TellsPrimitives (D.held desk.old) job e ps → IsFirstTooDear e ps.items i → IsOrFailed 4 result }
-    // Good words and good files are planned and reported, unless the desk fails or memory runs out.
-    ensures complete { (job : PlanJob) (e : Environment) (ps : Primitives) → job_of (map string_bytes words.now) ≡ Some (Plan job) → TellsEnvironment (D.held desk.old) job e → TellsPrimitives (D.held desk.old) job e ps → NoneTooDear e ps → IsOrFailed 0 result }
+    ensures environment_faulty { (job : Job) (f : EnvFault) → job_of (map string_bytes words.now) ≡ Some job → TellsEnvironmentFault (D.held desk.old) (sources_of job) f → IsOrFailed 3 result }
+    ensures environment_long { (job : Job) → job_of (map string_bytes words.now) ≡ Some job → TellsTooMuch (D.held desk.old (sources_of job).env) → IsOrFailed 8 result }
+    ensures primitives_long { (job : Job) (e : Environment) → job_of (map string_bytes words.now) ≡ Some job → TellsEnvironment (D.held desk.old) (sources_of job) e → TellsTooMuch (D.held desk.old (sources_of job).prims) → IsOrFailed 8 result }
+    ensures primitives_faulty { (job : Job) (e : Environment) (f : PrimFault) → job_of (map string_bytes words.now) ≡ Some job → TellsEnvironment (D.held desk.old) (sources_of job) e → TellsPrimitiveFault (D.held desk.old) (sources_of job) e f → IsOrFailed 4 result }
+    ensures too_wide { (job : Job) (e : Environment) (ps : Primitives) (i : ℕ) → job_of (map string_bytes words.now) ≡ Some job → TellsEnvironment (D.held desk.old) (sources_of job) e → TellsPrimitives (D.held desk.old) (sources_of job) e ps → IsFirstTooWide ps (sources_of job).radius i → IsOrFailed 4 result }
+    ensures too_dear { (job : Job) (e : Environment) (ps : Primitives) (i : ℕ) → job_of (map string_bytes words.now) ≡ Some job → TellsEnvironment (D.held desk.old) (sources_of job) e → TellsPrimitives (D.held desk.old) (sources_of job) e ps → NoneTooWide ps (sources_of job).radius → IsFirstTooDear e ps.items i → IsOrFailed 4 result }
+    // Good words and good files are served, unless the desk fails or memory runs out.
+    ensures complete { (job : Job) (e : Environment) (ps : Primitives) → job_of (map string_bytes words.now) ≡ Some job → TellsEnvironment (D.held desk.old) (sources_of job) e → TellsPrimitives (D.held desk.old) (sources_of job) e ps → NoneTooWide ps (sources_of job).radius → NoneTooDear e ps → IsOrFailed 0 result }
     // Nothing that is held changes, nothing is written under another name, and no count falls.
     ensures held { Stays (D.held desk.old) (D.held desk.new) }
-    ensures others { (name : List ℕ) → name ≢ codes "-" → D.written desk.new name ≡ D.written desk.old name }
+    ensures others { (name : List ℕ) → name ≢ output → D.written desk.new name ≡ D.written desk.old name }
     ensures reads { NoneFalls (D.read_faults desk.old) (D.read_faults desk.new) }
     ensures writes { NoneFalls (D.write_faults desk.old) (D.write_faults desk.new) }
 {

@@ -1,11 +1,13 @@
 -- The table of the primitives' costs.
 use Rattle.std.proofs.Common.{◌≡◌, ◌<◌, ◌≤◌, ◌+◌, ◌++◌, ◌∷◌, [], ℕ, List, inl, inr, ap, sym, ◌∙◌, map, take, length, slice_get, get_or, Some, arith, refl, subst}
 use Rattle.std.proofs.lemmas.Bool.{cases_lt}
-use Rattle.std.proofs.lemmas.Option.{same_Some, slice_get_read}
+use Rattle.std.proofs.lemmas.List.{length-map}
+use Rattle.std.proofs.lemmas.Option.{same_Some, slice_get_read, slice_get-get_or}
 use Rattle.sbpl_cfg.specs.Environment.{Environment}
 use Rattle.sbpl_mprim.specs.declared.prim.Primitive.{Primitive}
 use Rattle.sbpl_cost.specs.PrimitiveCost.{primitive_cost, most_cost}
 use Rattle.sbpl_cost.proofs.Filling.{map_more}
+use Rattle.sbpl_cost.proofs.Freedom.{made_from}
 
 -- the costs of the first n primitives, none of which is too dear
 abbrev pub AreCosts : Environment → List Primitive → List ℕ → ℕ → Type 0
@@ -29,3 +31,11 @@ costs_more e prims costs new i cost p there old added is high low = (
 -- what is read from a list by another name
 pub read_there : {X : Type 0} (list items : List X) (i : ℕ) (x : X) → list ≡ items → i < length items → x ≡ get_or list i x → slice_get items i ≡ Some x
 read_there list items i x same h is = ap (λ l. slice_get l i) (sym same) ∙ slice_get_read list (length list) i x refl (omega (arith, h, ap length same)) is
+
+-- what stands in the table of costs is not too dear
+pub cheap_at : (e : Environment) (prims : List Primitive) (costs : List ℕ) (i : ℕ) → costs ≡ map (primitive_cost e) prims → ((k : ℕ) (p : Primitive) → slice_get prims k ≡ Some p → (1 ≤ primitive_cost e p) × (primitive_cost e p ≤ most_cost)) → i < length prims
+    → get_or costs i 0 ≤ most_cost
+cheap_at e prims costs i same cheap h =
+    let there = slice_get-get_or costs i 0 (omega (arith, h, ap length same, length-map prims (primitive_cost e))) in
+    let from = made_from (primitive_cost e) prims i (get_or costs i 0) (ap (λ l. slice_get l i) (sym same) ∙ there) in
+    subst (λ n. n ≤ most_cost) from.2 (cheap i from.0 from.1).1

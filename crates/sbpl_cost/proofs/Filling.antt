@@ -1,9 +1,9 @@
 -- Tables that are filled one entry after another.
-use Rattle.std.proofs.Common.{◌≡◌, ℕ, zero, suc, ◌+◌, ◌<◌, ◌≤◌, inl, inr, Bool, true, false, cond, List, [], ◌∷◌, ◌++◌, length, take, map, sum_by, slice_get, Some, refl, ap, ◌∙◌, arith, subst}
+use Rattle.std.proofs.Common.{◌≡◌, ℕ, zero, suc, ◌+◌, ◌<◌, ◌≤◌, inl, inr, Bool, true, false, cond, List, [], ◌∷◌, ◌++◌, length, take, map, sum_by, slice_get, Some, refl, ap, sym, ◌∙◌, arith, subst}
 use Rattle.std.proofs.lemmas.Bool.{cases_lt}
 use Rattle.std.proofs.lemmas.List.{take_more, map-append, length-take-le, append-nil, length_push}
 use Rattle.std.proofs.lemmas.List.Sums.{get_or-le-sum_by}
-use Rattle.std.proofs.lemmas.Option.{slice_get_within, get_or_from_slice_get}
+use Rattle.std.proofs.lemmas.Option.{slice_get_within, get_or_from_slice_get, same_Some}
 use Rattle.sbpl_cost.specs.Lattices.{places_from}
 use Rattle.sbpl_cost.proofs.Numbered.{places_from-push}
 
@@ -22,6 +22,22 @@ at_push (x ∷ xs) y (suc i) e = at_push xs y i (omega arith)
 -- the elements before the next one and that one
 pub take_next : {X : Type 0} (xs : List X) (i : ℕ) (x : X) → slice_get xs i ≡ Some x → take (i + 1) xs ≡ take i xs ++ x ∷ []
 take_next xs i x h = take_more xs i x (slice_get_within xs i x h) ∙ ap (λ z. take i xs ++ z ∷ []) (get_or_from_slice_get xs i x x h)
+
+-- an element of the first n + 1 is one of the first n or the next
+pub data IsAmong {X : Type 0} (xs : List X) (n : ℕ) (x : X) (i : ℕ) (y : X) : Type 0 where
+  earlier : slice_get (take n xs) i ≡ Some y → IsAmong xs n x i y
+  last : x ≡ y → IsAmong xs n x i y
+
+pub among : {X : Type 0} (xs : List X) (n : ℕ) (x : X) (i : ℕ) (y : X) → slice_get xs n ≡ Some x → slice_get (take (n + 1) xs) i ≡ Some y → IsAmong xs n x i y
+among xs n x i y next at =
+    let within = slice_get_within xs n x next in
+    let size : length (take n xs) ≡ n = length-take-le n xs (omega arith) in
+    let pushed = ap (λ l. slice_get l i) (sym (take_next xs n x next)) ∙ at in
+    let inside = slice_get_within (take n xs ++ x ∷ []) i y pushed in
+    elim (cases_lt i n) [
+      | inl less ↦ earlier (sym (before_push (take n xs) x i (omega arith)) ∙ pushed)
+      | inr more ↦ last (same_Some x y (sym (at_push (take n xs) x i (omega (arith, length_push (take n xs) x))) ∙ pushed))
+    ]
 
 -- one more element that passes, and one that doesn't
 pub places_more : {X : Type 0} (test : X → Bool) (xs : List X) (i : ℕ) (x : X) → slice_get xs i ≡ Some x

@@ -6,11 +6,13 @@ use Rattle.std.proofs.lemmas.Option.{cond_some, none-some, same_Some}
 use Rattle.sbpl_cfg.specs.declared.pose.Pose.{Pose}
 use Rattle.sbpl_mprim.specs.declared.prim.Primitive.{Primitive}
 use Rattle.sbpl_mprim.specs.Primitives.{offset_cell}
+use Rattle.sbpl_sweep.specs.declared.cell.Cell.{Cell}
+use Rattle.sbpl_sweep.specs.Sweep.{IsCentre, IsSwept}
+use Rattle.sbpl_sweep.specs.Centres.{AreSwept}
 use Rattle.sbpl_cost.specs.PrimitiveCost.{primitive_cost}
-use Rattle.sbpl_cost.specs.Sweep.{IsCentre, IsSwept}
-use Rattle.sbpl_cost.specs.World.{World, IsWorld}
+use Rattle.sbpl_cost.specs.World.{World}
 use Rattle.sbpl_cost.specs.Arc.{cost_from, IsBelow, IsFree, IsPaid, IsGreatestPaid, IsFreeAt}
-use Rattle.sbpl_cost.specs.Lattices.{is_below, greatest_of, centre_costs, paid_costs, is_free, cost_by}
+use Rattle.sbpl_cost.specs.Lattices.{is_below, greatest_of, centre_costs, paid_costs, swept_costs, ends_are_free, is_free, cost_by}
 use Rattle.sbpl_cost.proofs.Heads.{none_where_nothing}
 
 -- all elements of a list pass a test
@@ -63,7 +65,7 @@ pub greatest_is_one : (threshold : ℕ) (o : Option ℕ) (os : List (Option ℕ)
 greatest_is_one threshold None os all = absurd (let no : false ≡ true = all in cc)
 greatest_is_one threshold (Some c) os all = greatest_from threshold c os (and_parts (nat_lt c threshold) (list_all (is_below threshold) os) all).1
 
-module _ (w : World) (is_world : IsWorld w) (s : ℕ) (p : Primitive) where
+module _ (w : World) (s : ℕ) (p : Primitive) where
   -- the cost of the cell in which a pose lies
   pose_cost : Pose → Option ℕ
   pose_cost q = cost_from w s (offset_cell w.env.cell q.x) (offset_cell w.env.cell q.y)
@@ -97,71 +99,97 @@ module _ (w : World) (is_world : IsWorld w) (s : ℕ) (p : Primitive) where
       let from = centre_from i o at in
       is_below_true threshold o (subst (λ z. IsSomeAnd z (λ c. c < threshold)) from.3 (each from.0 from.1 from.2)))
 
-  pub centre_where_swept : (x y : ℤ) → IsSwept w.env.cell w.radius p.poses x y → IsCentre w.env.cell p.poses x y
-  centre_where_swept x y (inl centre) = centre
-  centre_where_swept x y (inr touched) = absurd (let none : 2 * w.radius * (2 * w.radius) ≡ 0 = ap (λ r. 2 * r * (2 * r)) is_world.radius in omega (arith, touched.near))
+  source_below : ends_are_free w s p ≡ true → is_below w.env.obsthresh (cost_from w s (pos 0) (pos 0)) ≡ true
+  source_below h = (and_parts (is_below w.env.obsthresh (cost_from w s (pos 0) (pos 0))) (is_below w.env.obsthresh (cost_from w s p.dx p.dy) && is_below w.env.inscribed (cost_from w s p.dx p.dy)) h).0
 
-  pub free : is_free w s p ≡ true → IsFree w s p
-  free h =
-      let parts = and_parts (list_all (is_below w.env.obsthresh) (paid_costs w s p)) (is_below w.env.inscribed (cost_from w s p.dx p.dy) && list_all (is_below w.env.inscribed) (centre_costs w s p)) h in
-      let source = and_parts (is_below w.env.obsthresh (cost_from w s (pos 0) (pos 0))) (list_all (is_below w.env.obsthresh) (cost_from w s p.dx p.dy ∷ centre_costs w s p)) parts.0 in
-      let target = and_parts (is_below w.env.obsthresh (cost_from w s p.dx p.dy)) (list_all (is_below w.env.obsthresh) (centre_costs w s p)) source.1 in
-      let inscribed = and_parts (is_below w.env.inscribed (cost_from w s p.dx p.dy)) (list_all (is_below w.env.inscribed) (centre_costs w s p)) parts.1 in
-      record {
-        source = below w.env.obsthresh (cost_from w s (pos 0) (pos 0)) source.0;
-        target = below w.env.obsthresh (cost_from w s p.dx p.dy) target.0;
-        target_inscribed = below w.env.inscribed (cost_from w s p.dx p.dy) inscribed.0;
-        centres = centres_below w.env.inscribed inscribed.1;
-        swept = λ x y swept. centres_below w.env.obsthresh target.1 x y (centre_where_swept x y swept);
-      }
+  target_below : ends_are_free w s p ≡ true → (is_below w.env.obsthresh (cost_from w s p.dx p.dy) && is_below w.env.inscribed (cost_from w s p.dx p.dy)) ≡ true
+  target_below h = (and_parts (is_below w.env.obsthresh (cost_from w s (pos 0) (pos 0))) (is_below w.env.obsthresh (cost_from w s p.dx p.dy) && is_below w.env.inscribed (cost_from w s p.dx p.dy)) h).1
 
-  pub is_free_true : IsFree w s p → is_free w s p ≡ true
-  is_free_true f =
-      let source = is_below_true w.env.obsthresh (cost_from w s (pos 0) (pos 0)) f.source in
-      let target = is_below_true w.env.obsthresh (cost_from w s p.dx p.dy) f.target in
-      let centres = all_centres_below w.env.obsthresh (λ x y c. f.swept x y (inl c)) in
-      let inscribed = is_below_true w.env.inscribed (cost_from w s p.dx p.dy) f.target_inscribed in
-      let all = all_centres_below w.env.inscribed f.centres in
-      and_from (list_all (is_below w.env.obsthresh) (paid_costs w s p)) (is_below w.env.inscribed (cost_from w s p.dx p.dy) && list_all (is_below w.env.inscribed) (centre_costs w s p))
-      (and_from _ (is_below w.env.obsthresh (cost_from w s p.dx p.dy) && list_all (is_below w.env.obsthresh) (centre_costs w s p)) source (and_from _ _ target centres))
-      (and_from _ _ inscribed all)
+  target_passes : ends_are_free w s p ≡ true → (is_below w.env.obsthresh (cost_from w s p.dx p.dy) ≡ true) × (is_below w.env.inscribed (cost_from w s p.dx p.dy) ≡ true)
+  target_passes h = and_parts (is_below w.env.obsthresh (cost_from w s p.dx p.dy)) (is_below w.env.inscribed (cost_from w s p.dx p.dy)) (target_below h)
 
-  pub greatest_paid : is_free w s p ≡ true → IsGreatestPaid w s p (greatest_of (paid_costs w s p))
-  greatest_paid h =
-      let parts = and_parts (list_all (is_below w.env.obsthresh) (paid_costs w s p)) (is_below w.env.inscribed (cost_from w s p.dx p.dy) && list_all (is_below w.env.inscribed) (centre_costs w s p)) h in
-      let one = greatest_is_one w.env.obsthresh (cost_from w s (pos 0) (pos 0)) (cost_from w s p.dx p.dy ∷ centre_costs w s p) parts.0 in
-      let cell = paid_from one.0 (Some (greatest_of (paid_costs w s p))) one.1 in
-      record {
-        dx = cell.0;
-        dy = cell.1;
-        paid = cell.2;
-        cost = cell.3;
-        none_above = λ x y c paid cost. let at = paid_at x y paid in at_most_greatest (paid_costs w s p) at.0 c (at.1 ∙ ap (λ o. Some o) cost);
-      }
+  module _ (cells : List Cell) (are : AreSwept w.env.cell w.sweeps.radius p.poses cells) where
+    -- a swept cell's cost is one of the list, and each cost of the list is a swept cell's
+    swept_below : list_all (is_below w.env.obsthresh) (swept_costs w s cells) ≡ true → (x y : ℤ) → IsSwept w.env.cell w.sweeps.radius p.poses x y → IsBelow w s x y w.env.obsthresh
+    swept_below all x y swept =
+        let there = are.all x y swept in
+        let at = made_at (λ (c : Cell). cost_from w s c.x c.y) cells there.0 (record { y = y; x = x }) there.1 in
+        below w.env.obsthresh (cost_from w s x y) (passes_at (is_below w.env.obsthresh) (swept_costs w s cells) there.0 (cost_from w s x y) all at)
 
-  pub one_greatest : (a b : ℕ) → IsGreatestPaid w s p a → IsGreatestPaid w s p b → a ≡ b
-  one_greatest a b first second =
-      let low = second.none_above first.dx first.dy a first.paid first.cost in
-      let high = first.none_above second.dx second.dy b second.paid second.cost in
-      omega arith
+    all_swept_below : ((x y : ℤ) → IsSwept w.env.cell w.sweeps.radius p.poses x y → IsBelow w s x y w.env.obsthresh) → list_all (is_below w.env.obsthresh) (swept_costs w s cells) ≡ true
+    all_swept_below each = all_pass (is_below w.env.obsthresh) (swept_costs w s cells) (λ i o at.
+        let from = made_from (λ (c : Cell). cost_from w s c.x c.y) cells i o at in
+        let swept = are.each i from.0 from.1 in
+        is_below_true w.env.obsthresh o (subst (λ z. IsSomeAnd z (λ c. c < w.env.obsthresh)) from.2 (each from.0.x from.0.y swept)))
 
-  -- the motion has its cost exactly where it is free
-  pub free_at : (c : ℕ) → cost_by w s p ≡ Some c → IsFreeAt w s p c
-  unfolding cost_by
-  free_at c h =
-      let parts = cond_some (is_free w s p) (primitive_cost w.env p * (greatest_of (paid_costs w s p) + 1)) c h in
-      record { free = free parts.0; greatest = greatest_of (paid_costs w s p); paid = greatest_paid parts.0; product = sym parts.1 }
+    -- the parts of the test
+    ends : is_free w s cells p ≡ true → ends_are_free w s p ≡ true
+    ends h = (and_parts (ends_are_free w s p) (list_all (is_below w.env.inscribed) (centre_costs w s p) && list_all (is_below w.env.obsthresh) (swept_costs w s cells)) h).0
 
-  pub cost_where_free : (c : ℕ) → IsFreeAt w s p c → cost_by w s p ≡ Some c
-  unfolding cost_by
-  cost_where_free c at =
-      let yes = is_free_true at.free in
-      let same = one_greatest (greatest_of (paid_costs w s p)) at.greatest (greatest_paid yes) at.paid in
-      cond-true (is_free w s p) _ _ yes ∙ ap (λ g. Some (primitive_cost w.env p * (g + 1))) same ∙ ap (λ x. Some x) (sym at.product)
+    lists : is_free w s cells p ≡ true → (list_all (is_below w.env.inscribed) (centre_costs w s p) ≡ true) × (list_all (is_below w.env.obsthresh) (swept_costs w s cells) ≡ true)
+    lists h = and_parts (list_all (is_below w.env.inscribed) (centre_costs w s p)) (list_all (is_below w.env.obsthresh) (swept_costs w s cells))
+        (and_parts (ends_are_free w s p) (list_all (is_below w.env.inscribed) (centre_costs w s p) && list_all (is_below w.env.obsthresh) (swept_costs w s cells)) h).1
 
-  pub not_free_where_none : cost_by w s p ≡ None → IsFree w s p → ⊥
-  unfolding cost_by
-  not_free_where_none h f = none-some _ (sym h ∙ cond-true (is_free w s p) _ _ (is_free_true f))
+    pub free : is_free w s cells p ≡ true → IsFree w s p
+    free h = record {
+      source = below w.env.obsthresh (cost_from w s (pos 0) (pos 0)) (source_below (ends h));
+      target = below w.env.obsthresh (cost_from w s p.dx p.dy) (target_passes (ends h)).0;
+      target_inscribed = below w.env.inscribed (cost_from w s p.dx p.dy) (target_passes (ends h)).1;
+      centres = centres_below w.env.inscribed (lists h).0;
+      swept = swept_below (lists h).1;
+    }
 
-  pub none_where_not_free : (IsFree w s p → ⊥) → cost_by w s p ≡ None
-  none_where_not_free blocked = none_where_nothing (cost_by w s p) (λ c h. blocked (free_at c h).free)
+    pub is_free_true : IsFree w s p → is_free w s cells p ≡ true
+    is_free_true f =
+        let source = is_below_true w.env.obsthresh (cost_from w s (pos 0) (pos 0)) f.source in
+        let target = is_below_true w.env.obsthresh (cost_from w s p.dx p.dy) f.target in
+        let inscribed = is_below_true w.env.inscribed (cost_from w s p.dx p.dy) f.target_inscribed in
+        let centres = all_centres_below w.env.inscribed f.centres in
+        and_from (ends_are_free w s p) (list_all (is_below w.env.inscribed) (centre_costs w s p) && list_all (is_below w.env.obsthresh) (swept_costs w s cells))
+        (and_from _ _ source (and_from _ _ target inscribed)) (and_from _ _ centres (all_swept_below f.swept))
+
+    -- all paid cells are on the map
+    paid_below : is_free w s cells p ≡ true → list_all (is_below w.env.obsthresh) (paid_costs w s p) ≡ true
+    paid_below h =
+        let centres = all_centres_below w.env.obsthresh (λ x y c. swept_below (lists h).1 x y (inl c)) in
+        and_from (is_below w.env.obsthresh (cost_from w s (pos 0) (pos 0))) (list_all (is_below w.env.obsthresh) (cost_from w s p.dx p.dy ∷ centre_costs w s p))
+        (source_below (ends h)) (and_from (is_below w.env.obsthresh (cost_from w s p.dx p.dy)) (list_all (is_below w.env.obsthresh) (centre_costs w s p)) (target_passes (ends h)).0 centres)
+
+    pub greatest_paid : is_free w s cells p ≡ true → IsGreatestPaid w s p (greatest_of (paid_costs w s p))
+    greatest_paid h =
+        let one = greatest_is_one w.env.obsthresh (cost_from w s (pos 0) (pos 0)) (cost_from w s p.dx p.dy ∷ centre_costs w s p) (paid_below h) in
+        let cell = paid_from one.0 (Some (greatest_of (paid_costs w s p))) one.1 in
+        record {
+          dx = cell.0;
+          dy = cell.1;
+          paid = cell.2;
+          cost = cell.3;
+          none_above = λ x y c paid cost. let at = paid_at x y paid in at_most_greatest (paid_costs w s p) at.0 c (at.1 ∙ ap (λ o. Some o) cost);
+        }
+
+    one_greatest : (a b : ℕ) → IsGreatestPaid w s p a → IsGreatestPaid w s p b → a ≡ b
+    one_greatest a b first second =
+        let low = second.none_above first.dx first.dy a first.paid first.cost in
+        let high = first.none_above second.dx second.dy b second.paid second.cost in
+        omega arith
+
+    -- the motion has its cost exactly where it is free
+    pub free_at : (c : ℕ) → cost_by w s cells p ≡ Some c → IsFreeAt w s p c
+    unfolding cost_by
+    free_at c h =
+        let parts = cond_some (is_free w s cells p) (primitive_cost w.env p * (greatest_of (paid_costs w s p) + 1)) c h in
+        record { free = free parts.0; greatest = greatest_of (paid_costs w s p); paid = greatest_paid parts.0; product = sym parts.1 }
+
+    pub cost_where_free : (c : ℕ) → IsFreeAt w s p c → cost_by w s cells p ≡ Some c
+    unfolding cost_by
+    cost_where_free c at =
+        let yes = is_free_true at.free in
+        let same = one_greatest (greatest_of (paid_costs w s p)) at.greatest (greatest_paid yes) at.paid in
+        cond-true (is_free w s cells p) _ _ yes ∙ ap (λ g. Some (primitive_cost w.env p * (g + 1))) same ∙ ap (λ x. Some x) (sym at.product)
+
+    pub not_free_where_none : cost_by w s cells p ≡ None → IsFree w s p → ⊥
+    unfolding cost_by
+    not_free_where_none h f = none-some _ (sym h ∙ cond-true (is_free w s cells p) _ _ (is_free_true f))
+
+    pub none_where_not_free : (IsFree w s p → ⊥) → cost_by w s cells p ≡ None
+    none_where_not_free blocked = none_where_nothing (cost_by w s cells p) (λ c h. blocked (free_at c h).free)

@@ -1,28 +1,12 @@
 -- The greatest of some cells' costs.
-use Rattle.std.proofs.Common.{◌≡◌, ℕ, ℤ, ◌+◌, ◌<◌, ◌+ℤ◌, inl, inr, List, [], ◌∷◌, ◌++◌, length, take, slice_get, Option, Some, None, IsSomeAnd, max, ap, sym, ◌∙◌, arith, subst}
+use Rattle.std.proofs.Common.{◌≡◌, ℕ, ℤ, ◌+◌, ◌<◌, ◌+ℤ◌, inl, inr, List, length, take, slice_get, Option, Some, None, IsSomeAnd, max, ap, sym, ◌∙◌, arith, subst}
 use Rattle.std.proofs.lemmas.Bool.{cases_lt}
-use Rattle.std.proofs.lemmas.List.{length-take-le, length_push}
+use Rattle.std.proofs.lemmas.List.{length-take-le}
 use Rattle.std.proofs.lemmas.Option.{slice_get_within, same_Some}
 use Rattle.sbpl_map.specs.CellMap.{CellMap, cost_at}
-use Rattle.sbpl_cost.specs.declared.cell.Cell.{Cell}
-use Rattle.sbpl_cost.specs.Judging.{IsCellBelow, IsGreatestBelow}
-use Rattle.sbpl_cost.proofs.Filling.{take_next, before_push, at_push}
-
--- an element of the first n + 1 is one of the first n or the next
-data IsAmong {X : Type 0} (xs : List X) (n : ℕ) (x : X) (i : ℕ) (y : X) : Type 0 where
-  earlier : slice_get (take n xs) i ≡ Some y → IsAmong xs n x i y
-  last : x ≡ y → IsAmong xs n x i y
-
-among : {X : Type 0} (xs : List X) (n : ℕ) (x : X) (i : ℕ) (y : X) → slice_get xs n ≡ Some x → slice_get (take (n + 1) xs) i ≡ Some y → IsAmong xs n x i y
-among xs n x i y next at =
-    let within = slice_get_within xs n x next in
-    let size : length (take n xs) ≡ n = length-take-le n xs (omega arith) in
-    let pushed = ap (λ l. slice_get l i) (sym (take_next xs n x next)) ∙ at in
-    let inside = slice_get_within (take n xs ++ x ∷ []) i y pushed in
-    elim (cases_lt i n) [
-      | inl less ↦ earlier (sym (before_push (take n xs) x i (omega arith)) ∙ pushed)
-      | inr more ↦ last (same_Some x y (sym (at_push (take n xs) x i (omega (arith, length_push (take n xs) x))) ∙ pushed))
-    ]
+use Rattle.sbpl_sweep.specs.declared.cell.Cell.{Cell}
+use Rattle.sbpl_cost.specs.Judging.{IsCellBelow, AreBelow, IsGreatestBelow}
+use Rattle.sbpl_cost.proofs.Filling.{earlier, last, among, take_next, before_push, at_push}
 
 some_below : (o : Option ℕ) (limit c : ℕ) → o ≡ Some c → c < limit → IsSomeAnd o (λ k. k < limit)
 some_below None limit c h below = absurd (let no : None ≡ Some c = h in cc)
@@ -67,3 +51,11 @@ module _ (m : CellMap) (cells : List Cell) (x y : ℤ) (limit least greatest n c
           ]
     ];
   }
+
+-- one more cell that is below the limit
+pub below_more : (m : CellMap) (cells : List Cell) (x y : ℤ) (limit n cost : ℕ) (next : Cell) → slice_get cells n ≡ Some next → cost_at m (x +ℤ next.x) (y +ℤ next.y) ≡ Some cost → cost < limit
+    → AreBelow m (take n cells) x y limit → AreBelow m (take (n + 1) cells) x y limit
+below_more m cells x y limit n cost next at is small old i c h = elim (among cells n next i c at h) [
+  | earlier e ↦ old i c e
+  | last same ↦ subst (λ (z : Cell). IsCellBelow m (x +ℤ z.x) (y +ℤ z.y) limit) same (some_below _ limit cost is small)
+]

@@ -1,6 +1,6 @@
 -- The lattice keeps the laws of a graph.
-use Rattle.std.proofs.Common.{◌≡◌, ℕ, ℤ, pos, negsuc, ◌+◌, ◌*◌, ◌^◌, ◌<◌, ◌≤◌, ◌==◌, ◌&&◌, List, slice_get, Option, Some, None, option_and_then, IsSome, IsSomeAnd, nat_lt, refl, arith}
-use Rattle.std.proofs.Math.Nat.{mul-le-mul}
+use Rattle.std.proofs.Common.{◌≡◌, ℕ, ℤ, pos, negsuc, ◌+◌, ◌*◌, ◌^◌, ◌<◌, ◌≤◌, ◌==◌, ◌&&◌, List, slice_get, Option, Some, None, option_and_then, IsSome, IsSomeAnd, nat_lt, refl, arith, ap, sym, subst, ◌∙◌}
+use Rattle.std.proofs.Math.Nat.{mul-le-mul, le-mul_of_pos_right}
 use Rattle.std.proofs.lemmas.Bool.{and_parts, ltb-true}
 use Rattle.std.proofs.lemmas.List.Sums.{count_by-le-length}
 use Rattle.std.proofs.lemmas.Nat.{mul-add-lt}
@@ -12,11 +12,15 @@ use Rattle.sbpl_map.specs.CellMap.{CellMap, IsCellMap, IsOnMap, place_in, cost_a
 use Rattle.sbpl_cost.specs.PrimitiveCost.{primitive_cost}
 use Rattle.sbpl_cost.specs.States.{IsPlace, place_of, state_number, state_count}
 use Rattle.sbpl_cost.specs.World.{World, IsWorld}
-use Rattle.sbpl_cost.specs.Arc.{cost_from, IsFreeAt}
+use Rattle.sbpl_mprim.specs.declared.prim.Primitive.{Primitive}
+use Rattle.sbpl_cost.specs.Arc.{cost_from, IsFreeAt, IsLeaving, EndsIn}
+use Rattle.sbpl_cost.specs.Gaps.{gap_of}
 use Rattle.sbpl_cost.specs.Lattices.{network_of}
 use Rattle.sbpl_cost.proofs.Numbered.{length-places_from}
 use Rattle.sbpl_cost.proofs.Heads.{on_map_at}
 use Rattle.sbpl_cost.proofs.Arcs.{found, arc_of}
+use Rattle.sbpl_cost.proofs.GapLaws.{gap_small, gap_to_itself, gap_along}
+use Rattle.sbpl_cost.proofs.PlaceLaws.{place_of_state, place_of_state_number}
 
 -- a place's state is one of the states
 pub state_number_below : (e : Environment) (p : Place) → IsPlace e p → state_number e p < state_count e
@@ -102,10 +106,34 @@ module _ (w : World) (is_world : IsWorld w) where
         some_where_not_none _ (λ none. arc.no_head.0 none (on_map_where_cost w.map _ _ cost.0 is_world.map cost.1).0);
   }
 
+  -- a free arc costs its primitive's cost or more
+  cost_of_free : (s c : ℕ) (p : Primitive) → IsFreeAt w s p c → primitive_cost w.env p ≤ c
+  cost_of_free s c p at =
+      let some : 1 ≤ at.greatest + 1 = omega arith in
+      let whole : primitive_cost w.env p ≤ primitive_cost w.env p * (at.greatest + 1) = le-mul_of_pos_right (primitive_cost w.env p) some in
+      omega (arith, whole, at.product)
+
+  -- along the motion of an arc the gap falls by the primitive's cost at most
+  gap_by_motion : (s k t b place : ℕ) (p : Primitive) → s < state_count w.env → b < state_count w.env → IsLeaving w.prims.items (place_of w.env s).t k place p → EndsIn w s p t
+      → gap_of w.env w.prims.items (place_of w.env s) (place_of w.env b) ≤ primitive_cost w.env p + gap_of w.env w.prims.items (place_of w.env t) (place_of w.env b)
+  gap_by_motion s k t b place p state goal by ends =
+      let there : place_of w.env t ≡ ends.place = ap (place_of w.env) ends.number ∙ place_of_state_number w.env is_world.env ends.place ends.on_map in
+      let at = place_of_state w.env is_world.env s state in
+      let to = place_of_state w.env is_world.env b goal in
+      let low = gap_along w.env w.prims.items (place_of w.env s) ends.place (place_of w.env b) place p by.stands at.t ends.on_map.t to.t by.heading ends.heading ends.column ends.row in
+      subst (λ q. gap_of w.env w.prims.items (place_of w.env s) (place_of w.env b) ≤ primitive_cost w.env p + gap_of w.env w.prims.items q (place_of w.env b)) (sym there) low
+
   pub gaps : HasGaps (network_of w)
   unfolding network_of
   gaps = record {
-    small = λ a b _ _. omega arith;
-    to_itself = λ a _. refl;
-    along = λ s k t c b _ _. omega arith;
+    small = λ a b at to.
+        gap_small w.env w.prims.items (place_of w.env a) (place_of w.env b) (λ i p stands. (is_world.costs i p stands).1) is_world.env.width.1 is_world.env.height.1 (omega (arith, is_world.headings, is_world.prims.headings.1))
+        (place_of_state w.env is_world.env a at) (place_of_state w.env is_world.env b to);
+    to_itself = λ a _. gap_to_itself w.env w.prims.items (place_of w.env a);
+    along = λ s k t c b arc goal.
+        let f = found w s k is_world arc.number in
+        let here = arc_of w is_world s k f.0 f.1 f.2 in
+        let low = gap_by_motion s k t b f.0 f.1 arc.source goal f.2.by ((here.head t).0 arc.head) in
+        let cost = cost_of_free s c f.1 ((here.cost c).0 arc.cost) in
+        omega (arith, low, cost);
   }

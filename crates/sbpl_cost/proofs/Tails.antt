@@ -53,7 +53,7 @@ left_of a x d h = omega (arith, ints, h)
 right_of : (a x d : ℤ) → x ≡ a +ℤ d → x -ℤ d ≡ a
 right_of a x d h = omega (arith, ints, h)
 
-few_entering : (prims : List Primitive) (t : ℕ) → length (entering prims t) ≤ length prims
+pub few_entering : (prims : List Primitive) (t : ℕ) → length (entering prims t) ≤ length prims
 few_entering prims t = omega (arith, length-places_from (λ p. p.to == t) 0 prims, count_by-le-length (λ p. p.to == t) prims)
 
 module _ (w : World) (is_world : IsWorld w) where

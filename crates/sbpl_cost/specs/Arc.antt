@@ -3,10 +3,10 @@ use Rattle.std.specs.Prelude.{◌≡◌, ℕ, ℤ, pos, ◌+◌, ◌*◌, ◌<�
 use Rattle.sbpl_graph.specs.Network.{Network}
 use Rattle.sbpl_cfg.specs.declared.pose.Place.{Place}
 use Rattle.sbpl_mprim.specs.declared.prim.Primitive.{Primitive}
+use Rattle.sbpl_sweep.specs.Sweep.{IsCentre, IsSwept}
 use Rattle.sbpl_map.specs.CellMap.{IsOnMap, cost_at}
 use Rattle.sbpl_cost.specs.PrimitiveCost.{primitive_cost}
 use Rattle.sbpl_cost.specs.States.{IsPlace, place_of, state_number, state_count}
-use Rattle.sbpl_cost.specs.Sweep.{IsCentre, IsSwept}
 use Rattle.sbpl_cost.specs.World.{World}
 
 -- the primitive at this place of the file is the k-th, from 0, that starts at heading t
@@ -50,7 +50,7 @@ pub record IsFree (w : World) (s : ℕ) (p : Primitive) : Type 0 where
   pub target : IsBelow w s p.dx p.dy w.env.obsthresh
   pub target_inscribed : IsBelow w s p.dx p.dy w.env.inscribed
   pub centres : (x y : ℤ) → IsCentre w.env.cell p.poses x y → IsBelow w s x y w.env.inscribed
-  pub swept : (x y : ℤ) → IsSwept w.env.cell w.radius p.poses x y → IsBelow w s x y w.env.obsthresh
+  pub swept : (x y : ℤ) → IsSwept w.env.cell w.sweeps.radius p.poses x y → IsBelow w s x y w.env.obsthresh
 
 -- a motion pays for its source cell, its end cell and its centre cells
 abbrev pub IsPaid : World → Primitive → ℤ → ℤ → Type 0

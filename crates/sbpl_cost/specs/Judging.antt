@@ -1,14 +1,13 @@
 -- Costs of cells below a limit.
-use Rattle.std.specs.Prelude.{◌≡◌, ℕ, ℤ, pos, negsuc, ◌<◌, ◌≤◌, ◌+ℤ◌, ◌⊎◌, List, slice_get, Some, IsSomeAnd, min, max}
+use Rattle.std.specs.Prelude.{◌≡◌, ℕ, ℤ, pos, negsuc, ◌<◌, ◌≤◌, ◌+ℤ◌, ◌⊎◌, List, slice_get, Some, IsSomeAnd, min}
 use Rattle.sbpl_cfg.specs.declared.pose.Place.{Place}
 use Rattle.sbpl_cfg.specs.Environment.{Environment, IsWithin}
-use Rattle.sbpl_mprim.specs.declared.prim.Primitive.{Primitive}
 use Rattle.sbpl_map.specs.CellMap.{CellMap, cost_at}
-use Rattle.sbpl_cost.specs.declared.cell.Cell.{Cell}
+use Rattle.sbpl_sweep.specs.declared.cell.Cell.{Cell}
 
--- an offset is that of a cell in which a pose can lie
+-- an offset is that of a cell that a motion can touch
 abbrev pub IsNear : Cell → Type 0
-IsNear c = IsWithin (negsuc 4000000000000) (pos 4000000000000) c.x × IsWithin (negsuc 4000000000000) (pos 4000000000000) c.y
+IsNear c = IsWithin (negsuc 10000000000000) (pos 10000000000000) c.x × IsWithin (negsuc 10000000000000) (pos 10000000000000) c.y
 
 -- cell (x, y) is on the map and costs less than a limit
 abbrev pub IsCellBelow : CellMap → ℤ → ℤ → ℕ → Type 0
@@ -28,18 +27,21 @@ pub record IsGreatestBelow (m : CellMap) (cells : List Cell) (x y : ℤ) (limit 
   pub none_above : (i cost : ℕ) (c : Cell) → slice_get cells i ≡ Some c → cost_at m (x +ℤ c.x) (y +ℤ c.y) ≡ Some cost → cost ≤ greatest
   pub reached : (greatest ≡ least) ⊎ ((i : ℕ) × (c : Cell) × (slice_get cells i ≡ Some c) × (cost_at m (x +ℤ c.x) (y +ℤ c.y) ≡ Some greatest))
 
--- the costs of a motion's source cell, end cell and centre cells are below their limits, and this is the greatest of them
-pub record IsGreatestPassed (e : Environment) (m : CellMap) (source : Place) (p : Primitive) (cells : List Cell) (greatest : ℕ) : Type 0 where
+-- all cells that lie this far from (x, y) are on the map and cost less than a limit
+abbrev pub AreBelow : CellMap → List Cell → ℤ → ℤ → ℕ → Type 0
+AreBelow m cells x y limit = (i : ℕ) (c : Cell) → slice_get cells i ≡ Some c → IsCellBelow m (x +ℤ c.x) (y +ℤ c.y) limit
+
+-- the source cell is low enough for the robot, the cells along a motion for its centre and those around them for the
+-- robot, and this is the greatest cost of the source cell and the cells along it
+pub record IsGreatestPassed (e : Environment) (m : CellMap) (source : Place) (along around : List Cell) (greatest : ℕ) : Type 0 where
   pub start : ℕ
-  pub end : ℕ
   pub start_is : cost_at m (pos source.x +ℤ pos 0) (pos source.y +ℤ pos 0) ≡ Some start
   pub start_below : start < e.obsthresh
-  pub end_is : cost_at m (pos source.x +ℤ p.dx) (pos source.y +ℤ p.dy) ≡ Some end
-  pub end_below : end < min e.obsthresh e.inscribed
-  pub rest : IsGreatestBelow m cells (pos source.x) (pos source.y) (min e.obsthresh e.inscribed) (max start end) greatest
+  pub rest : IsGreatestBelow m along (pos source.x) (pos source.y) (min e.obsthresh e.inscribed) start greatest
+  pub beside : AreBelow m around (pos source.x) (pos source.y) e.obsthresh
 
--- the source cell, the end cell or a centre cell of a motion is not below its limit
-pub data IsObstructed (e : Environment) (m : CellMap) (source : Place) (p : Primitive) (cells : List Cell) : Type 0 where
-  at_source : (IsCellBelow m (pos source.x +ℤ pos 0) (pos source.y +ℤ pos 0) e.obsthresh → ⊥) → IsObstructed e m source p cells
-  at_target : (IsCellBelow m (pos source.x +ℤ p.dx) (pos source.y +ℤ p.dy) (min e.obsthresh e.inscribed) → ⊥) → IsObstructed e m source p cells
-  at_centre : IsSomeBlocked m cells (pos source.x) (pos source.y) (min e.obsthresh e.inscribed) → IsObstructed e m source p cells
+-- the source cell, a cell along a motion or one around them is not low enough
+pub data IsObstructed (e : Environment) (m : CellMap) (source : Place) (along around : List Cell) : Type 0 where
+  at_source : (IsCellBelow m (pos source.x +ℤ pos 0) (pos source.y +ℤ pos 0) e.obsthresh → ⊥) → IsObstructed e m source along around
+  at_centre : IsSomeBlocked m along (pos source.x) (pos source.y) (min e.obsthresh e.inscribed) → IsObstructed e m source along around
+  beside_it : IsSomeBlocked m around (pos source.x) (pos source.y) e.obsthresh → IsObstructed e m source along around

@@ -1,12 +1,14 @@
 -- The lattice of a world, as a graph.
-use Rattle.std.specs.Prelude.{ℕ, pos, ◌+◌, ◌*◌, ◌-ℤ◌, ◌&&◌, ◌==◌, Bool, false, List, [], ◌∷◌, length, take, map, count_by, slice_get, Option, Some, None, option_and_then, option_map, unwrap_or, nat_lt, max, if◌then◌else◌}
+use Rattle.std.specs.Prelude.{ℕ, pos, ◌+◌, ◌*◌, ◌-ℤ◌, ◌&&◌, ◌==◌, Bool, false, List, [], ◌∷◌, length, take, map, count_by, slice_get, slice_index_or, Option, Some, None, option_and_then, option_map, unwrap_or, nat_lt, max, if◌then◌else◌}
 use Rattle.std.specs.List.{list_all}
 use Rattle.sbpl_graph.specs.Network.{Network}
 use Rattle.sbpl_graph.specs.Laws.{HasExactTails, HasGaps}
 use Rattle.sbpl_mprim.specs.declared.prim.Primitive.{Primitive}
 use Rattle.sbpl_mprim.specs.Primitives.{offset_cell}
+use Rattle.sbpl_sweep.specs.declared.cell.Cell.{Cell}
 use Rattle.sbpl_cost.specs.PrimitiveCost.{primitive_cost}
 use Rattle.sbpl_cost.specs.States.{place_of, state_in, state_count}
+use Rattle.sbpl_cost.specs.Gaps.{gap_of}
 use Rattle.sbpl_cost.specs.World.{World, IsWorld}
 use Rattle.sbpl_cost.specs.Arc.{column_from, row_from, cost_from, HasLatticeArcs}
 
@@ -53,13 +55,25 @@ centre_costs w s p = map (λ q. cost_from w s (offset_cell w.env.cell q.x) (offs
 abbrev pub paid_costs : World → ℕ → Primitive → List (Option ℕ)
 paid_costs w s p = cost_from w s (pos 0) (pos 0) ∷ cost_from w s p.dx p.dy ∷ centre_costs w s p
 
--- the motion by p from state s is free; with radius 0 the swept cells are the centre cells
-abbrev pub is_free : World → ℕ → Primitive → Bool
-is_free w s p = list_all (is_below w.env.obsthresh) (paid_costs w s p) && (is_below w.env.inscribed (cost_from w s p.dx p.dy) && list_all (is_below w.env.inscribed) (centre_costs w s p))
+-- the costs of the cells that lie as far from the source cell of s as these
+abbrev pub swept_costs : World → ℕ → List Cell → List (Option ℕ)
+swept_costs w s cells = map (λ c. cost_from w s c.x c.y) cells
 
--- the cost of the motion by p from state s, none where it is not free
-unfoldable pub cost_by : World → ℕ → Primitive → Option ℕ
-cost_by w s p = if is_free w s p then Some (primitive_cost w.env p * (greatest_of (paid_costs w s p) + 1)) else None
+-- the source cell and the end cell of the motion by p from state s are low enough
+abbrev pub ends_are_free : World → ℕ → Primitive → Bool
+ends_are_free w s p = is_below w.env.obsthresh (cost_from w s (pos 0) (pos 0)) && (is_below w.env.obsthresh (cost_from w s p.dx p.dy) && is_below w.env.inscribed (cost_from w s p.dx p.dy))
+
+-- the motion by p from state s, which sweeps these cells, is free
+abbrev pub is_free : World → ℕ → List Cell → Primitive → Bool
+is_free w s cells p = ends_are_free w s p && (list_all (is_below w.env.inscribed) (centre_costs w s p) && list_all (is_below w.env.obsthresh) (swept_costs w s cells))
+
+-- the cost of the motion by p from state s, which sweeps these cells, none where it is not free
+unfoldable pub cost_by : World → ℕ → List Cell → Primitive → Option ℕ
+cost_by w s cells p = if is_free w s cells p then Some (primitive_cost w.env p * (greatest_of (paid_costs w s p) + 1)) else None
+
+-- the cells that the primitive at a place of the file sweeps
+abbrev pub swept_at : World → ℕ → List Cell
+swept_at w place = slice_index_or w.sweeps.swept place []
 
 -- the state from which the primitive at a place of the file leads to state t, and the number of that arc
 unfoldable pub tail_by : World → ℕ → ℕ → Primitive → Option (ℕ × ℕ)
@@ -67,16 +81,16 @@ tail_by w t place p =
     option_map (λ s. (s, count_by (λ q. q.from == p.from) (take place w.prims.items)))
     (state_in w.env (pos (place_of w.env t).x -ℤ p.dx) (pos (place_of w.env t).y -ℤ p.dy) p.from)
 
--- the lattice: arcs in the order of the file, tails too, and no gap is known
+-- the lattice: arcs in the order of the file, tails too, and gaps by the primitives alone
 unfoldable pub network_of : World → Network
 network_of w = record {
   states = state_count w.env;
   fan = λ s. length (leaving w.prims.items (place_of w.env s).t);
   head = λ s k. option_and_then (head_by w s) (arc_primitive w s k);
-  cost = λ s k. option_and_then (cost_by w s) (arc_primitive w s k);
+  cost = λ s k. option_and_then (λ place. option_and_then (cost_by w s (swept_at w place)) (slice_get w.prims.items place)) (arc_place w s k);
   tail_fan = λ t. length (entering w.prims.items (place_of w.env t).t);
   tail = λ t j. option_and_then (λ i. option_and_then (tail_by w t i) (slice_get w.prims.items i)) (slice_get (entering w.prims.items (place_of w.env t).t) j);
-  gap = λ _ _. 0;
+  gap = λ a b. gap_of w.env w.prims.items (place_of w.env a) (place_of w.env b);
 }
 
 -- the arcs of the lattice are those that it is to have

@@ -1,10 +1,10 @@
 pub mod PrimitiveCost
 pub mod States
-pub mod Sweep
 pub mod World
 pub mod Arc
 pub mod Lattices
-pub mod Cut
-pub mod Centres
+pub mod Checked
 pub mod Tables
 pub mod Judging
+pub mod Gaps
+pub mod Rates

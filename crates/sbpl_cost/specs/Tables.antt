@@ -1,23 +1,29 @@
 -- What a lattice computes once, when it is made.
-use Rattle.std.specs.Prelude.{◌≡◌, ℕ, ◌<◌, ◌≤◌, List, map, slice_get, Some}
+use Rattle.std.specs.Prelude.{◌≡◌, ℕ, ◌<◌, ◌≤◌, ◌==◌, List, take, map, count_by, slice_get, Some}
 use Rattle.sbpl_cfg.specs.Environment.{Environment}
 use Rattle.sbpl_mprim.specs.declared.prim.Primitive.{Primitive}
 use Rattle.sbpl_mprim.specs.Primitives.{Primitives}
-use Rattle.sbpl_cost.specs.declared.cell.Cell.{Cell}
+use Rattle.sbpl_sweep.specs.declared.cell.Cell.{Cell}
+use Rattle.sbpl_cost.specs.declared.gaps.Gaps.{Gaps}
 use Rattle.sbpl_cost.specs.declared.fault.LatticeFault.{LatticeFault}
 use Rattle.sbpl_cost.specs.declared.fault.LatticeFault.TheVariants.{TooDear, NoMemory}
 use Rattle.sbpl_cost.specs.PrimitiveCost.{primitive_cost, most_cost, IsFirstTooDear}
-use Rattle.sbpl_cost.specs.Lattices.{leaving}
-use Rattle.sbpl_cost.specs.Centres.{AreCentres}
+use Rattle.sbpl_cost.specs.Lattices.{leaving, entering}
+use Rattle.sbpl_cost.specs.Checked.{HaveAlong, HaveAround}
+use Rattle.sbpl_cost.specs.Rates.{AreGaps}
 use Rattle.sbpl_cost.specs.World.{World, IsWorld}
 
 -- each heading has the places of the primitives that start at it
 abbrev pub AreLeaving : Primitives → List (List ℕ) → Type 0
 AreLeaving prims table = (t : ℕ) → t < prims.headings → slice_get table t ≡ Some (leaving prims.items t)
 
--- each primitive has its centre cells
-abbrev pub HaveCentres : Primitives → List (List Cell) → Type 0
-HaveCentres prims table = (i : ℕ) (p : Primitive) → slice_get prims.items i ≡ Some p → (cells : List Cell) × (slice_get table i ≡ Some cells) × AreCentres prims.cell p.poses cells
+-- each heading has the places of the primitives that end at it
+abbrev pub AreEntering : Primitives → List (List ℕ) → Type 0
+AreEntering prims table = (t : ℕ) → t < prims.headings → slice_get table t ≡ Some (entering prims.items t)
+
+-- each primitive has its number among those that start at its heading
+abbrev pub AreNumbers : List Primitive → List ℕ → Type 0
+AreNumbers prims numbers = (i : ℕ) (p : Primitive) → slice_get prims i ≡ Some p → slice_get numbers i ≡ Some (count_by (λ q. q.from == p.from) (take i prims))
 
 -- no primitive is too dear, and each costs something
 abbrev pub AreCheap : Environment → List Primitive → Type 0
@@ -29,8 +35,12 @@ IsCause e prims (TooDear i) = IsFirstTooDear e prims i
 IsCause e prims NoMemory = Unit {0}
 
 -- the tables of a lattice are those of its world
-pub record AreTables (w : World) (places : List (List ℕ)) (prices : List ℕ) (cells : List (List Cell)) : Type 0 where
+pub record AreTables (w : World) (starting ending : List (List ℕ)) (counted prices : List ℕ) (centres beside : List (List Cell)) (gaps : Gaps) : Type 0 where
   pub world : IsWorld w
-  pub leaving : AreLeaving w.prims places
+  pub leaving : AreLeaving w.prims starting
+  pub entering : AreEntering w.prims ending
+  pub numbers : AreNumbers w.prims.items counted
   pub costs : prices ≡ map (primitive_cost w.env) w.prims.items
-  pub centres : HaveCentres w.prims cells
+  pub along : HaveAlong w.prims centres
+  pub around : HaveAround w.prims w.sweeps.radius beside
+  pub fractions : AreGaps w.env w.prims.items gaps

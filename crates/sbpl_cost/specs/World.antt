@@ -1,19 +1,20 @@
 -- What a lattice is made of.
-use Rattle.std.specs.Prelude.{◌≡◌, ℕ, ◌≤◌, slice_get, Some}
+use Rattle.std.specs.Prelude.{◌≡◌, ℕ, ◌^◌, ◌≤◌, slice_get, Some}
 use Rattle.sbpl_cfg.specs.Environment.{Environment, IsEnvironment}
 use Rattle.sbpl_mprim.specs.declared.prim.Primitive.{Primitive}
 use Rattle.sbpl_mprim.specs.Primitives.{Primitives, ArePrimitives}
+use Rattle.sbpl_sweep.specs.Swept.{Swept, AreSweepsOf}
 use Rattle.sbpl_map.specs.CellMap.{CellMap, IsCellMap}
 use Rattle.sbpl_cost.specs.PrimitiveCost.{primitive_cost, most_cost}
 
--- an environment, primitives, the robot's radius in nanometres, and the present costs of the cells
+-- an environment, primitives, the cells that these sweep for the robot's radius, and the present costs of the cells
 pub record World : Type 0 where
   pub env : Environment
   pub prims : Primitives
-  pub radius : ℕ
+  pub sweeps : Swept
   pub map : CellMap
 
--- the parts belong together, and no primitive is too dear; the radius is 0
+-- the parts belong together, no primitive is too dear, and the radius is at most a kilometre
 pub record IsWorld (w : World) : Type 0 where
   pub env : IsEnvironment w.env
   pub prims : ArePrimitives w.prims
@@ -22,5 +23,6 @@ pub record IsWorld (w : World) : Type 0 where
   pub headings : w.prims.headings ≡ w.env.headings
   pub width : w.map.width ≡ w.env.width
   pub height : w.map.height ≡ w.env.height
-  pub radius : w.radius ≡ 0
+  pub sweeps : AreSweepsOf w.prims w.sweeps.radius w.sweeps
+  pub radius : w.sweeps.radius ≤ 10 ^ 12
   pub costs : (i : ℕ) (p : Primitive) → slice_get w.prims.items i ≡ Some p → (1 ≤ primitive_cost w.env p) × (primitive_cost w.env p ≤ most_cost)

@@ -1,14 +1,13 @@
 //! Costs of cells below a limit.
 
-ghost use Rattle.std.specs.Prelude.{◌≡◌, ℕ, pos, ◌<◌, ◌+ℤ◌, slice_get, Some, IfSome, IfNone};
+ghost use Rattle.std.specs.Prelude.{◌≡◌, ℕ, pos, ◌<◌, ◌+ℤ◌, slice_get, Some, IsTrue, false, IfSome, IfNone};
 ghost use Rattle.sbpl_map.specs.CellMap.{cost_at};
-ghost use Rattle.sbpl_cost.specs.declared.cell.Cell.{Cell};
-ghost use Rattle.sbpl_cost.specs.Judging.{IsNear, IsCellBelow, IsGreatestBelow, IsSomeBlocked, IsGreatestPassed, IsObstructed};
+ghost use Rattle.sbpl_sweep.specs.declared.cell.Cell.{Cell};
+ghost use Rattle.sbpl_cost.specs.Judging.{IsNear, IsCellBelow, IsGreatestBelow, IsSomeBlocked, AreBelow, IsGreatestPassed, IsObstructed};
 
-use crate::cell::Cell;
 use sbpl_cfg::{Env, Place};
 use sbpl_map::Map;
-use sbpl_mprim::Prim;
+use sbpl_sweep::Cell;
 
 /// The cost of cell `(x, y)`, where it is on the map and costs less than a limit.
 fn cost_below(map: &Map, x: i64, y: i64, limit: u8) -> Option<u8>
@@ -47,39 +46,47 @@ fn greatest_below(map: &Map, cells: &[Cell], x: u32, y: u32, limit: u8, least: u
     Some(greatest)
 }
 
+/// Whether the cells that lie this far from cell `(x, y)` are all on the map and cost less than a limit.
+fn are_below(map: &Map, cells: &[Cell], x: u32, y: u32, limit: u8) -> bool
+    requires cells { (i : ℕ) (c : Cell) → slice_get cells.now i ≡ Some c → IsNear c }
+    ensures below { IsTrue result → AreBelow map.now cells.now (pos x) (pos y) limit }
+    ensures blocked { result ≡ false → IsSomeBlocked map.now cells.now (pos x) (pos y) limit }
+{
+    for cell in cells {
+        let Some(_) = cost_near(map, *cell, x, y, limit) else {
+            return false;
+        };
+    }
+    true
+}
+
 /// The source cell of a motion.
 const HERE: Cell = Cell { y: 0, x: 0 };
 
-/// The end cell of a motion.
-fn end_cell(prim: &Prim) -> Cell
-    ensures cell { result ≡ record { y = prim.now.dy; x = prim.now.dx } }
-    ensures near { IsNear result }
-{
-    Cell {
-        y: i64::from(prim.dy),
-        x: i64::from(prim.dx),
-    }
-}
-
-/// The greatest cost of the source cell, the end cell and the centre cells of the motion by a primitive, where all of them
-/// are low enough for the robot's centre, and the source cell at least for the robot.
+/// The greatest cost of the source cell of a motion and the cells along it, where the source cell and the cells around
+/// the motion are low enough for the robot, and those along it for the robot and its centre.
 pub(crate) fn greatest_paid(
     env: &Env,
     map: &Map,
     source: Place,
-    prim: &Prim,
-    centres: &[Cell],
+    along: &[Cell],
+    around: &[Cell],
 ) -> Option<u8>
-    requires centres { (i : ℕ) (c : Cell) → slice_get centres.now i ≡ Some c → IsNear c }
-    ensures greatest { IfSome result (IsGreatestPassed env.now map.now source prim.now centres.now) }
-    ensures blocked { IfNone result (IsObstructed env.now map.now source prim.now centres.now) }
+    requires along { (i : ℕ) (c : Cell) → slice_get along.now i ≡ Some c → IsNear c }
+    requires around { (i : ℕ) (c : Cell) → slice_get around.now i ≡ Some c → IsNear c }
+    ensures greatest { IfSome result (IsGreatestPassed env.now map.now source along.now around.now) }
+    ensures blocked { IfNone result (IsObstructed env.now map.now source along.now around.now) }
 {
     let limit = env.obsthresh.min(env.inscribed);
     let Some(start) = cost_near(map, HERE, source.x, source.y, env.obsthresh) else {
         return None;
     };
-    let Some(end) = cost_near(map, end_cell(prim), source.x, source.y, limit) else {
+    let Some(greatest) = greatest_below(map, along, source.x, source.y, limit, start) else {
         return None;
     };
-    greatest_below(map, centres, source.x, source.y, limit, start.max(end))
+    if are_below(map, around, source.x, source.y, env.obsthresh) {
+        Some(greatest)
+    } else {
+        None
+    }
 }

@@ -1,25 +1,27 @@
 //! The lattice: an environment, primitives and a map, as a graph.
 
-ghost use Rattle.std.specs.Prelude.{◌≡◌, ◌<◌, ◌≤◌, ◌↔◌, length, slice_get, Some, IsSome, IfSome, IsOk, IfOk, IfErr, OnOk, OnErr};
+ghost use Rattle.std.specs.Prelude.{◌≡◌, ◌^◌, ◌<◌, ◌≤◌, ◌↔◌, length, slice_get, Some, IsSome, IfSome, IsOk, IfOk, IfErr, OnOk, OnErr};
 ghost use Rattle.sbpl_mprim.specs.declared.prim.Primitive.{Primitive};
+ghost use Rattle.sbpl_sweep.specs.Swept.{AreSweepsOf};
 ghost use Rattle.sbpl_map.specs.CellMap.{cost_at, IsOnMap, ChangesCell};
 ghost use Rattle.sbpl_cost.specs.PrimitiveCost.{primitive_cost, most_cost};
 ghost use Rattle.sbpl_cost.specs.States.{IsPlace, place_of, state_number};
 ghost use Rattle.sbpl_cost.specs.World.{World, IsWorld};
 ghost use Rattle.sbpl_cost.specs.Arc.{IsArcBy};
-ghost use Rattle.sbpl_cost.specs.Lattices.{network_of, arc_place, leaving};
+ghost use Rattle.sbpl_cost.specs.Lattices.{network_of, arc_place, leaving, entering};
 ghost use Rattle.sbpl_cost.specs.Tables.{AreCheap, IsCause};
 
-use crate::cell::Cell;
+use crate::checked::{along_table, around_table};
 use crate::fault::LatticeFault;
+use crate::gaps::Gaps;
 use crate::judging::greatest_paid;
-use crate::places::{end_state, heading_of, place_at, state_at, state_count};
-use crate::runs::Runs;
-use crate::tables::{centre_table, leaving_table, primitive_costs};
+use crate::places::{end_state, heading_of, place_at, start_state, state_at, state_count};
+use crate::tables::{entering_table, leaving_table, number_table, primitive_costs};
 use sbpl_cfg::{Env, Place};
 use sbpl_graph::Graph;
 use sbpl_map::{Map, OffMap};
 use sbpl_mprim::Prims;
+use sbpl_sweep::{Cell, Runs, Sweeps};
 use std::alloc::Global;
 use std::marker::Model;
 
@@ -29,13 +31,22 @@ use std::marker::Model;
 pub struct Lattice {
     env: Env,
     prims: Prims,
+    sweeps: Sweeps,
     map: Map,
     /// For each heading the places in the file of the primitives that start at it.
     leaving: Runs<u32>,
+    /// For each heading the places in the file of the primitives that end at it.
+    entering: Runs<u32>,
+    /// For each primitive its number among those that start at its heading.
+    numbers: Vec<u32>,
     /// For each primitive its cost by itself.
     costs: Vec<u32>,
     /// For each primitive its centre cells.
-    centres: Runs<Cell>,
+    along: Runs<Cell>,
+    /// For each primitive the cells that it sweeps, save its centre cells.
+    around: Runs<Cell>,
+    /// The least fractions of cost to cells.
+    gaps: Gaps,
 }
 
 impl Model for Lattice {
@@ -44,21 +55,28 @@ impl Model for Lattice {
 
     ghost Value = { World };
 
-    ghost view = { λ l. record { env = l.env; prims = l.prims; radius = 0; map = l.map } };
+    ghost view = { λ l. record { env = l.env; prims = l.prims; sweeps = l.sweeps; map = l.map } };
 
-    ghost invariant = { λ l. AreTables (record { env = l.env; prims = l.prims; radius = 0; map = l.map }) l.leaving l.costs.items l.centres };
+    ghost invariant = { λ l. AreTables (record { env = l.env; prims = l.prims; sweeps = l.sweeps; map = l.map }) l.leaving l.entering l.numbers.items l.costs.items l.along l.around l.gaps };
 }
 
 impl Lattice {
-    /// The lattice of an environment, its primitives and its map, for a robot of radius 0: they belong together by cell
-    /// size, headings and size. `TooDear` names the first primitive, by its place in the file, whose cost by itself is
+    /// The lattice of an environment, its primitives, the sweeps that were made of these, and its map: they belong
+    /// together by cell size, headings and size. `TooDear` names the first primitive, by its place in the file, whose cost by itself is
     /// above `MOST_COST`, and comes exactly where there is one.
-    pub fn new(alloc: Global, env: &Env, prims: Prims, map: Map) -> Result<Lattice, LatticeFault>
+    pub fn new(
+        alloc: Global,
+        env: &Env,
+        prims: Prims,
+        sweeps: Sweeps,
+        map: Map,
+    ) -> Result<Lattice, LatticeFault>
         requires cell { prims.cell ≡ env.now.cell }
         requires headings { prims.headings ≡ env.now.headings }
+        requires sweeps { AreSweepsOf prims sweeps.radius sweeps }
         requires width { map.width ≡ env.now.width }
         requires height { map.height ≡ env.now.height }
-        ensures world { IfOk result (λ l. l ≡ record { env = env.now; prims = prims; radius = 0; map = map }) }
+        ensures world { IfOk result (λ l. l ≡ record { env = env.now; prims = prims; sweeps = sweeps; map = map }) }
         ensures kept { IfOk result (λ l. IsWorld l) }
         ensures cheap { IfOk result (λ _. AreCheap env.now prims.items) }
         ensures cause { IfErr result (λ e. IsCause env.now prims.items e) }
@@ -66,14 +84,23 @@ impl Lattice {
         let _width = map.width();
         let costs = primitive_costs(alloc, env, &prims)?;
         let leaving = leaving_table(alloc, &prims)?;
-        let centres = centre_table(alloc, &prims)?;
+        let entering = entering_table(alloc, &prims)?;
+        let numbers = number_table(alloc, &prims)?;
+        let along = along_table(alloc, &prims, &sweeps)?;
+        let around = around_table(alloc, &prims, &sweeps)?;
+        let gaps = Gaps::new(env, &prims, costs.as_slice());
         Ok(Lattice {
             env: copy_of(env),
             prims,
+            sweeps,
             map,
             leaving,
+            entering,
+            numbers,
             costs,
-            centres,
+            along,
+            around,
+            gaps,
         })
     }
 
@@ -91,6 +118,14 @@ impl Lattice {
         ensures kept { IsWorld self.now }
     {
         &self.prims
+    }
+
+    /// The sweeps that the lattice was made of: the centre cells and the swept cells of each primitive.
+    pub fn sweeps(&self) -> &Sweeps
+        ensures sweeps { result.now ≡ self.now.sweeps }
+        ensures kept { IsWorld self.now }
+    {
+        &self.sweeps
     }
 
     /// The present map.
@@ -142,6 +177,16 @@ impl Lattice {
         ensures inside { result < length self.now.prims.items }
     {
         self.leaving.at(t as usize)[k as usize]
+    }
+
+    /// The place in the file of the `j`-th primitive, from 0, of those that end at heading `t`.
+    fn entering_at(&self, t: u32, j: u32) -> u32
+        requires heading { t < self.now.env.headings }
+        requires number { j < length (entering self.now.prims.items t) }
+        ensures place { slice_get (entering self.now.prims.items t) j ≡ Some result }
+        ensures inside { result < length self.now.prims.items }
+    {
+        self.entering.at(t as usize)[j as usize]
     }
 
     /// The id of the primitive at place `i` of the file.
@@ -207,13 +252,32 @@ impl Graph for Lattice {
 
     fn judge(&self, s: u32, k: u32) -> Option<u32> {
         let source = place_at(&self.env, s);
-        let i = self.leaving_at(source.t, k);
-        let centres = self.centres.at(i as usize);
-        let Some(greatest) = greatest_paid(&self.env, &self.map, source, self.prims.get(i), centres)
-        else {
+        let i = self.leaving_at(source.t, k) as usize;
+        let along = self.along.at(i);
+        let around = self.around.at(i);
+        let Some(greatest) = greatest_paid(&self.env, &self.map, source, along, around) else {
             return None;
         };
-        Some(self.costs[i as usize] * (u32::from(greatest) + 1))
+        Some(self.costs[i] * (u32::from(greatest) + 1))
+    }
+
+    fn tail_fan(&self, t: u32) -> u32 {
+        self.entering.at(heading_of(&self.env, t) as usize).len() as u32
+    }
+
+    fn tail(&self, t: u32, j: u32) -> Option<(u32, u32)> {
+        let target = place_at(&self.env, t);
+        let i = self.entering_at(target.t, j);
+        let Some(source) = start_state(&self.env, target, self.prims.get(i)) else {
+            return None;
+        };
+        Some((source, self.numbers[i as usize]))
+    }
+
+    fn gap(&self, a: u32, b: u32) -> u64 {
+        let from = place_at(&self.env, a);
+        let to = place_at(&self.env, b);
+        self.gaps.between(&self.env, &from, &to)
     }
 }
 
@@ -235,6 +299,3 @@ fn copy_of(env: &Env) -> Env
         headings: env.headings,
     }
 }
-
-#[cfg(test)]
-mod tests;

@@ -1,12 +1,7 @@
 //! What holds of every lattice.
 
-ghost use Rattle.sbpl_cost.specs.Sweep.{PointSweepsCentres};
+ghost use Rattle.sbpl_cost.specs.Gaps.{BoundsAreFloors, BoundsMayBeZero};
 ghost use Rattle.sbpl_cost.specs.Lattices.{LatticeHasItsArcs, LatticeHasExactTails, LatticeHasGaps};
-
-/// A robot of radius 0 sweeps its centre cells alone. It does nothing.
-pub fn point_sweeps_centres()
-    ensures law { PointSweepsCentres }
-{}
 
 /// The arcs of the lattice, as a graph, are the motions that start at a state's heading, in the order of the file:
 /// with their heads, their freedom and their costs. It does nothing.
@@ -19,4 +14,11 @@ pub fn lattice_has_its_arcs()
 pub fn lattice_has_its_tails()
     ensures tails { LatticeHasExactTails }
     ensures gaps { LatticeHasGaps }
+{}
+
+/// The bounds that gaps are made of: each is the floor of the least fraction of cost to cells, and 0 for a way that no
+/// primitive goes. It does nothing.
+pub fn gaps_are_floors()
+    ensures floors { BoundsAreFloors }
+    ensures zero { BoundsMayBeZero }
 {}

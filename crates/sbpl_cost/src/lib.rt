@@ -1,18 +1,19 @@
 //! Costs of primitives, and the lattice as a graph.
 #![tactic(auto)]
 
-mod cell;
-mod centres;
+mod checked;
 mod fault;
+mod gaps;
 mod judging;
 mod lattice;
 mod laws;
 mod places;
 mod primitive_cost;
-mod runs;
+mod rate;
 mod tables;
+mod way;
 
 pub use fault::LatticeFault;
 pub use lattice::Lattice;
-pub use laws::{lattice_has_its_arcs, lattice_has_its_tails, point_sweeps_centres};
+pub use laws::{gaps_are_floors, lattice_has_its_arcs, lattice_has_its_tails};
 pub use primitive_cost::{MOST_COST, cost_parts_are_least, prim_cost};

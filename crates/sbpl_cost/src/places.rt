@@ -1,6 +1,6 @@
 //! States and their places.
 
-ghost use Rattle.std.specs.Prelude.{◌≡◌, ◌<◌, ◌↔◌, pos, ◌+ℤ◌, IsSome, IfSome, IfNone};
+ghost use Rattle.std.specs.Prelude.{◌≡◌, ◌<◌, ◌↔◌, pos, ◌+ℤ◌, ◌-ℤ◌, IsSome, IfSome, IfNone};
 ghost use Rattle.sbpl_cost.specs.States.{IsPlace, IsOff, place_of, state_number, state_in, state_count};
 
 use sbpl_cfg::{Env, Place};
@@ -94,4 +94,14 @@ pub(crate) fn end_state(env: &Env, source: Place, prim: &Prim) -> Option<u32>
     let x = i64::from(source.x) + i64::from(prim.dx);
     let y = i64::from(source.y) + i64::from(prim.dy);
     state_in(env, x, y, prim.to)
+}
+
+/// The state from which the motion by a primitive ends at this place, or `None` where its cell is off the map.
+pub(crate) fn start_state(env: &Env, target: Place, prim: &Prim) -> Option<u32>
+    requires heading { prim.now.from < env.now.headings }
+    ensures value { result ≡ state_in env.now (pos target.x -ℤ prim.now.dx) (pos target.y -ℤ prim.now.dy) prim.now.from }
+{
+    let x = i64::from(target.x) - i64::from(prim.dx);
+    let y = i64::from(target.y) - i64::from(prim.dy);
+    state_in(env, x, y, prim.from)
 }

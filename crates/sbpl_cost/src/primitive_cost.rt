@@ -49,7 +49,7 @@ fn length_of_way(poses: &[Pose]) -> u64
 }
 
 /// By how many of `headings` bins two headings differ, the shorter way round.
-fn bins_turned(headings: u32, from: u32, to: u32) -> u32
+pub(crate) fn bins_turned(headings: u32, from: u32, to: u32) -> u32
     requires from { from < headings }
     requires to { to < headings }
     ensures { result ≡ heading_gap headings from to }

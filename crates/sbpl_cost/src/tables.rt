@@ -2,17 +2,15 @@
 
 ghost use Rattle.std.specs.Prelude.{◌≡◌, ◌<◌, map, IfOk, IfErr};
 ghost use Rattle.sbpl_cost.specs.PrimitiveCost.{primitive_cost};
-ghost use Rattle.sbpl_cost.specs.Lattices.{leaving};
-ghost use Rattle.sbpl_cost.specs.Tables.{AreLeaving, HaveCentres, AreCheap, IsCause};
+ghost use Rattle.sbpl_cost.specs.Lattices.{leaving, entering};
+ghost use Rattle.sbpl_cost.specs.Tables.{AreLeaving, AreEntering, AreNumbers, AreCheap, IsCause};
 
-use crate::cell::Cell;
-use crate::centres::centre_cells;
 use crate::fault::LatticeFault;
 use crate::primitive_cost::prim_cost;
-use crate::runs::Runs;
 use sbpl_cfg::Env;
 use sbpl_fixed::NoMemory;
 use sbpl_mprim::Prims;
+use sbpl_sweep::Runs;
 use std::alloc::Global;
 
 /// The places in the file of the primitives that start at heading `t`.
@@ -40,17 +38,44 @@ pub(crate) fn leaving_table(alloc: Global, prims: &Prims) -> Result<Runs<u32>, N
     Ok(table)
 }
 
-/// For each primitive its centre cells.
-pub(crate) fn centre_table(alloc: Global, prims: &Prims) -> Result<Runs<Cell>, NoMemory>
-    ensures table { IfOk result (λ r. HaveCentres prims.now r) }
+/// The places in the file of the primitives that end at heading `t`.
+fn places_entering(alloc: Global, prims: &Prims, t: u32) -> Result<Vec<u32>, NoMemory>
+    ensures places { IfOk result (λ v. v.items ≡ entering prims.now.items t) }
+{
+    let mut places = Vec::new(alloc);
+    for i in 0..prims.len() {
+        if prims.get(i).to == t {
+            places.push(i)?;
+        }
+    }
+    Ok(places)
+}
+
+/// For each heading the places in the file of the primitives that end at it.
+pub(crate) fn entering_table(alloc: Global, prims: &Prims) -> Result<Runs<u32>, NoMemory>
+    ensures table { IfOk result (λ r. AreEntering prims.now r) }
 {
     let mut table = Runs::new(alloc)?;
-    let cell = prims.cell();
-    for prim in prims.as_slice() {
-        let cells = centre_cells(alloc, cell, prim.poses.as_slice())?;
-        table.push(cells.as_slice())?;
+    for t in 0..prims.headings() {
+        let places = places_entering(alloc, prims, t)?;
+        table.push(places.as_slice())?;
     }
     Ok(table)
+}
+
+/// For each primitive its number among those that start at its heading.
+pub(crate) fn number_table(alloc: Global, prims: &Prims) -> Result<Vec<u32>, NoMemory>
+    ensures numbers { IfOk result (λ v. AreNumbers prims.now.items v.items) }
+{
+    let mut counts: Vec<u32> = vec![in alloc; 0; prims.headings() as usize]?;
+    let mut numbers = Vec::new(alloc);
+    for i in 0..prims.len() {
+        let heading = prims.get(i).from as usize;
+        let number = counts[heading];
+        numbers.push(number)?;
+        counts[heading] = number + 1;
+    }
+    Ok(numbers)
 }
 
 /// The cost of each primitive by itself. `TooDear` names the first whose cost is above `MOST_COST`, and comes exactly

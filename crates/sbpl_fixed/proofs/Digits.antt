@@ -47,7 +47,7 @@ capped_done cap value i ds total h le so_far =
     omega arith
 
 -- a number of k digits is below 10 ^ k
-digits_below : (n : ℕ) (ds : List ℕ) → all_digits ds ≡ true → number_after n ds < (n + 1) * 10 ^ length ds
+pub digits_below : (n : ℕ) (ds : List ℕ) → all_digits ds ≡ true → number_after n ds < (n + 1) * 10 ^ length ds
 unfolding number_after
 digits_below n [] e = omega arith
 digits_below n (d ∷ ds) e =
@@ -89,3 +89,6 @@ sized_nano_capped minus w d =
           rw (over, lt-leb ((10 ^ 9 + 1) * 10 ^ 9 + d) most near, lt-leb (w * 10 ^ 9 + d) most far) refl
       | inr le ↦ ap (λ (x : ℕ). sized minus (x * 10 ^ 9 + d)) (omega arith)
     ]
+
+pub three_below : (ds : List ℕ) → all_digits ds ≡ true → length ds ≡ 3 → number_of ds < 1000
+three_below ds e three = let lt = digits_below 0 ds e in let power : 10 ^ length ds ≡ 1000 = ap (λ (k : ℕ). 10 ^ k) three in omega arith

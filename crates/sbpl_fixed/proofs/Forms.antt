@@ -109,7 +109,7 @@ digits_front (d ∷ ds) rest e h =
     let no_point : eqb d 46 ≡ false = ne_eqb d 46 (λ q. omega (arith, q, digit.low)) in
     rw (no_point, one-add) (ap suc (digits_front ds rest both.1 h))
 
-parted : (whole point decimals : List ℕ) → all_digits whole ≡ true → IsPoint point decimals
+pub parted : (whole point decimals : List ℕ) → all_digits whole ≡ true → IsPoint point decimals
     → (whole_part (whole ++ (point ++ decimals)) ≡ whole) × (decimals_part (whole ++ (point ++ decimals)) ≡ decimals)
 parted whole point decimals e h =
     elim h [
@@ -135,7 +135,7 @@ decimals_have_values text minus whole decimals w =
     rw (w.parts, after.0, after.1, parts.0, parts.1, some, w.whole_digits, w.decimal_digits) refl
 
 -- what is between a whole part and its decimals
-point_parts : (body : List ℕ) → (point : List ℕ) × (body ≡ whole_part body ++ (point ++ decimals_part body)) × IsPoint point (decimals_part body)
+pub point_parts : (body : List ℕ) → (point : List ℕ) × (body ≡ whole_part body ++ (point ++ decimals_part body)) × IsPoint point (decimals_part body)
 point_parts [] = ([], refl, inr (refl, refl))
 point_parts (b ∷ bs) =
     elim (cases_Bool (eqb b 46)) [

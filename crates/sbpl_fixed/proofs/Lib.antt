@@ -9,3 +9,4 @@ pub mod Reading
 pub mod Meaning
 pub mod Spelling
 pub mod Items
+pub mod UnsignedText

@@ -19,12 +19,12 @@ use Rattle.sbpl_fixed.proofs.Tokens.{skip_filled, first_token}
 
 -- ---- the last digits
 
-number_push : (n : ℕ) (ds : List ℕ) (d : ℕ) → number_after n (ds ++ d ∷ []) ≡ number_after n ds * 10 + (d - 48)
+pub number_push : (n : ℕ) (ds : List ℕ) (d : ℕ) → number_after n (ds ++ d ∷ []) ≡ number_after n ds * 10 + (d - 48)
 unfolding number_after
 number_push n [] d = refl
 number_push n (e ∷ ds) d = number_push (n * 10 + (e - 48)) ds d
 
-last_number : (count n : ℕ) → n < 10 ^ count → number_of (last_digits count n) ≡ n
+pub last_number : (count n : ℕ) → n < 10 ^ count → number_of (last_digits count n) ≡ n
 unfolding last_digits number_after
 last_number zero n lt = omega arith
 last_number (suc count) n lt =
@@ -32,7 +32,7 @@ last_number (suc count) n lt =
     let more = last_number count (n / 10) shorter in
     number_push 0 (last_digits count (n / 10)) (48 + n % 10) ∙ omega (arith, more)
 
-last_are_digits : (count n : ℕ) → all_digits (last_digits count n) ≡ true
+pub last_are_digits : (count n : ℕ) → all_digits (last_digits count n) ≡ true
 unfolding last_digits
 last_are_digits zero n = refl
 last_are_digits (suc count) n =
@@ -40,7 +40,7 @@ last_are_digits (suc count) n =
     let high : leb (48 + n % 10) 57 ≡ true = le-leb (48 + n % 10) 57 (omega arith) in
     rw (list_all-append is_digit (last_digits count (n / 10)) ((48 + n % 10) ∷ []), last_are_digits count (n / 10), low, high) refl
 
-last_length : (count n : ℕ) → length (last_digits count n) ≡ count
+pub last_length : (count n : ℕ) → length (last_digits count n) ≡ count
 unfolding last_digits
 last_length zero n = refl
 last_length (suc count) n = let more = last_length count (n / 10) in omega (arith, length-append (last_digits count (n / 10)) ((48 + n % 10) ∷ []), more)
@@ -112,7 +112,7 @@ digit_filled b e =
     let other : (c : ℕ) → c < 48 → eqb b c ≡ false = λ c lt. ne_eqb b c (λ q. omega (arith, q, digit.low)) in
     rw (other 32 (omega arith), other 9 (omega arith), other 10 (omega arith), other 11 (omega arith), other 12 (omega arith), other 13 (omega arith)) refl
 
-digits_filled : (ds : List ℕ) → all_digits ds ≡ true → list_all is_filled ds ≡ true
+pub digits_filled : (ds : List ℕ) → all_digits ds ≡ true → list_all is_filled ds ≡ true
 digits_filled [] e = refl
 digits_filled (d ∷ ds) e =
     let both = and_parts (is_digit d) (all_digits ds) e in

@@ -8,7 +8,7 @@ use Rattle.std.proofs.Math.Seq.{drop-length}
 use Rattle.sbpl_fixed.specs.Tokens.{is_blank, is_filled, tokens_past, is_fresh, tokens_from, token_at}
 
 -- what is behind the front that passes does not begin with what passes
-past_front : (p : ℕ → Bool) (bs : List ℕ) → prefix_len p (drop (prefix_len p bs) bs) ≡ 0
+pub past_front : (p : ℕ → Bool) (bs : List ℕ) → prefix_len p (drop (prefix_len p bs) bs) ≡ 0
 past_front p [] = refl
 past_front p (b ∷ bs) =
     elim (cases_Bool (p b)) [
@@ -37,7 +37,7 @@ skip_blank place (b ∷ bs) =
     ]
 
 -- where no filled byte stands first it is the same what stands before
-fresh_or_not : (fresh : Bool) (place : ℕ) (bs : List ℕ) → prefix_len is_filled bs ≡ 0 → tokens_past fresh place bs ≡ tokens_past true place bs
+pub fresh_or_not : (fresh : Bool) (place : ℕ) (bs : List ℕ) → prefix_len is_filled bs ≡ 0 → tokens_past fresh place bs ≡ tokens_past true place bs
 fresh_or_not true place bs h = refl
 fresh_or_not false place bs h = skip_filled place bs ∙ rw (h, add-zero) refl
 

@@ -1,6 +1,6 @@
 -- Formats: which tokens stand in a text, one after another, and what they say.
 use Rattle.std.specs.Prelude.{◌≡◌, ◌≢◌, ℕ, zero, suc, ℤ, pos, if◌then◌else◌, ◌&&◌, int_le, bytes_eq, ◌⊎◌, List, [], ◌∷◌, length, Result, Ok, Err}
-use Rattle.sbpl_fixed.specs.Tokens.{Piece, tokens}
+use Rattle.sbpl_fixed.specs.Tokens.{Piece, tokens, tokens_from}
 use Rattle.sbpl_fixed.specs.Numbers.{whole_of, nano_of}
 use Rattle.sbpl_fixed.specs.declared.fault.NumFault.{NumFault}
 use Rattle.sbpl_fixed.specs.declared.fault.NumFault.TheVariants.{Form, Size}
@@ -70,6 +70,10 @@ pub record Left : Type 0 where
 -- all of a text
 abbrev pub start : List ℕ → Left
 start text = record { end = length text; tokens = tokens text }
+
+-- what is left of a text at an offset
+abbrev pub start_at : List ℕ → ℕ → Left
+start_at text at = record { end = length text; tokens = tokens_from text at }
 
 -- an item that was met: where, with which value, and what is left
 pub record Met : Type 0 where

@@ -2,6 +2,7 @@ pub mod Tokens
 pub mod Runs
 pub mod Numbers
 pub mod NumberForms
+pub mod Unsigned
 pub mod Printed
 pub mod ReadBack
 pub mod Formats

@@ -13,6 +13,7 @@ mod rounding;
 #[cfg(test)]
 mod tests;
 mod token;
+mod unsigned;
 
 pub use fault::{NumFault, TextFault};
 pub use formats::{items_in_plain_words, reading_is_what_is_said};
@@ -25,3 +26,4 @@ pub use printed::{
 pub use reader::Reader;
 pub use rounding::{ceil_div, ceil_root};
 pub use token::{Token, next_token, tokens_are_longest_runs};
+pub use unsigned::{read_digits, read_milli, unsigned_numbers_are_their_digits};

@@ -16,7 +16,7 @@ fn is_digit(byte: u8) -> bool
     byte >= b'0' && byte <= b'9'
 }
 
-fn all_digits(bytes: &[u8]) -> bool
+pub(crate) fn all_digits(bytes: &[u8]) -> bool
     ensures { result ≡ all_digits bytes.now }
 {
     bytes.iter().all(|b| is_digit(*b))
@@ -123,7 +123,7 @@ fn whole_len(body: &[u8]) -> usize
 }
 
 /// A text parted at its first point.
-fn parts(body: &[u8]) -> (&[u8], &[u8])
+pub(crate) fn parts(body: &[u8]) -> (&[u8], &[u8])
     ensures whole { result.0.now ≡ whole_part body.now }
     ensures decimals { result.1.now ≡ decimals_part body.now }
 {

@@ -1,7 +1,7 @@
 //! A text is read token by token, from left to right.
 
 ghost use Rattle.std.specs.Prelude.{◌≡◌, ◌≤◌, ℕ, pos, ◌≤ℤ◌, ◌∷◌, [], length, IfOk, MatchResult};
-ghost use Rattle.sbpl_fixed.specs.Formats.{fixed, whole, nano, next, over, start, Steps, Stops, Left, IsRanged, within};
+ghost use Rattle.sbpl_fixed.specs.Formats.{fixed, whole, nano, next, over, start, start_at, Steps, Stops, Left, IsRanged, within};
 ghost use Rattle.sbpl_fixed.specs.Tokens.{tokens_from};
 ghost use Rattle.sbpl_fixed.specs.declared.fault.TextFault.TheVariants.{Ended};
 
@@ -56,6 +56,14 @@ impl<'a> Reader<'a> {
         ensures { result ≡ start text.now }
     {
         Reader { text, at: 0 }
+    }
+
+    /// Starts at an offset of a text.
+    pub fn from(text: &'a [u8], at: usize) -> Reader<'a>
+        requires { at ≤ length text.now }
+        ensures { result ≡ start_at text.now at }
+    {
+        Reader { text, at }
     }
 
     /// The next token: its bytes and its place. `Ended` with the text's length where there is none.

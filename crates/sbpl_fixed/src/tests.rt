@@ -37,6 +37,34 @@ fn wholes_are_read(rt: HostRuntime) {
 }
 
 #[test]
+fn numbers_without_a_sign_are_read(rt: HostRuntime) {
+    for (text, want) in [
+        ("007", Ok(7)),
+        ("9223372036854775807", Ok(9_223_372_036_854_775_807)),
+        ("9223372036854775808", Err(NumFault::Size)),
+        (
+            "99999999999999999999999999999999999999999",
+            Err(NumFault::Size),
+        ),
+        ("", Err(NumFault::Form)),
+        ("+7", Err(NumFault::Form)),
+    ] {
+        assert_eq!(rt; read_digits(text.as_bytes(), 1 << 63), want, "at {text}");
+    }
+    for (text, want) in [
+        ("01.000", Ok(1000)),
+        ("1.499", Ok(1499)),
+        ("1.500", Err(NumFault::Size)),
+        (".500", Err(NumFault::Form)),
+        ("1.50", Err(NumFault::Form)),
+        ("1", Err(NumFault::Form)),
+        ("1.0.0", Err(NumFault::Form)),
+    ] {
+        assert_eq!(rt; read_milli(text.as_bytes(), 1500), want, "at {text}");
+    }
+}
+
+#[test]
 fn numbers_are_printed(rt: HostRuntime) -> Result<(), Fail> {
     let mut out = Vec::new(rt.alloc());
     print_nano(-500_000_000, &mut out)?;

@@ -21,7 +21,7 @@ pub record IsTail (n : Network) (t j s k : ℕ) : Type 0 where
 
 -- the tails of a state are exactly the arcs with that head, each once
 pub record HasExactTails (n : Network) : Type 0 where
-  pub few_tails : (t : ℕ) → t < n.states → n.tail_fan t < 2 ^ 32
+  pub few_tails : (t : ℕ) → t < n.states → n.tail_fan t ≤ 4096
   pub tails_are_arcs : (t j s k : ℕ) → IsTail n t j s k → IsArc n s k t
   pub arcs_are_tails : (t s k : ℕ) → IsArc n s k t → ∥ ((j : ℕ) × IsTail n t j s k) ∥₁
   pub tails_differ : (t i j s k : ℕ) → IsTail n t i s k → IsTail n t j s k → i ≡ j

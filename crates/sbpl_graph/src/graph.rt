@@ -2,18 +2,21 @@
 
 ghost use Rattle.std.specs.Prelude.{◌≡◌, ◌^◌, ◌<◌, ◌≤◌, IfSome, IsSome};
 ghost use Rattle.sbpl_graph.specs.Network.{Network};
-ghost use Rattle.sbpl_graph.specs.Laws.{IsSound};
+ghost use Rattle.sbpl_graph.specs.Laws.{IsSound, HasExactTails, HasGaps};
 
 /// A directed graph with costs. States are numbers below `states`, and the arcs of a state are
 /// numbers below its fan. An arc has a head, unless it leads off the map, and a cost where it is
-/// free. No call takes memory, and the calls answer alike as long as the graph is not changed.
+/// free. The tails of a state are the arcs that lead to it. No call takes memory, and the calls
+/// answer alike as long as the graph is not changed.
 pub trait Graph {
     ghost network: { Self → Network };
 
     /// The number of states, 1 to 2^23.
     fn states(&self) -> u32
         ensures value { result ≡ (network self.now).states }
-        ensures sound { IsSound (network self.now) };
+        ensures sound { IsSound (network self.now) }
+        ensures tails { HasExactTails (network self.now) }
+        ensures gaps { HasGaps (network self.now) };
 
     /// The number of arcs of `s`, at most 4096.
     fn fan(&self, s: u32) -> u32
@@ -37,4 +40,26 @@ pub trait Graph {
         ensures positive { IfSome result (λ c. 1 ≤ c) }
         ensures small { IfSome result (λ c. c < 2 ^ 32) }
         ensures headed { IfSome result (λ _. IsSome ((network self.now).head s k)) };
+
+    /// The number of tails of `t`, at most 4096: with `tail` they are exactly the arcs whose head is
+    /// `t`, each once.
+    fn tail_fan(&self, t: u32) -> u32
+        requires state { t < (network self.now).states }
+        ensures value { result ≡ (network self.now).tail_fan t }
+        ensures few { result ≤ 4096 };
+
+    /// Tail `j` of `t`, as its source and the arc's number there, or `None` exactly where its source
+    /// would lie off the map.
+    fn tail(&self, t: u32, j: u32) -> Option<(u32, u32)>
+        requires state { t < (network self.now).states }
+        requires number { j < (network self.now).tail_fan t }
+        ensures value { result ≡ (network self.now).tail t j }
+        ensures inside { IfSome result (λ a. (a.0 < (network self.now).states) × (a.1 < (network self.now).fan a.0)) };
+
+    /// A lower bound on the cost of each way from `a` to `b`, below 2^55.
+    fn gap(&self, a: u32, b: u32) -> u64
+        requires from { a < (network self.now).states }
+        requires to { b < (network self.now).states }
+        ensures value { result ≡ (network self.now).gap a b }
+        ensures small { result < 2 ^ 55 };
 }

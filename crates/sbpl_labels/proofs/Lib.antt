@@ -1,5 +1,7 @@
 pub mod Bounds
 pub mod Opened
 pub mod Changes
+pub mod Choosing
+pub mod ListedTails
 pub mod Lowest
 pub mod Walking

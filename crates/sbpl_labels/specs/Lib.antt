@@ -2,5 +2,7 @@ pub mod Counts
 pub mod Marks
 pub mod CutOff
 pub mod Chain
+pub mod Recomputed
 pub mod Walks
+pub mod Ways
 pub mod Listed

@@ -11,10 +11,13 @@ ghost use Rattle.sbpl_graph.specs.Network.{Network};
 ghost use Rattle.sbpl_graph.specs.Path.{IsFreePath};
 ghost use Rattle.sbpl_labels.specs.CutOff.{IsCutOff};
 ghost use Rattle.sbpl_labels.specs.Marks.{Marks, AreLabels, IsOpened, ChangesRow, states_of, g_of, v_of, back_of, no_row, far_row};
+ghost use Rattle.sbpl_labels.specs.Recomputed.{Recomputes};
 ghost use Rattle.sbpl_labels.specs.Walks.{WalkGives};
+ghost use Rattle.sbpl_graph.specs.declared.TheConstants.{FAR};
 
 use crate::row::Row;
 use crate::walk::Walk;
+use crate::ways::least_way;
 use sbpl_fixed::NoMemory;
 use sbpl_graph::{FAR, Graph, Guide};
 use std::alloc::Global;
@@ -155,6 +158,50 @@ impl Labels {
     {
         let row = &mut self.rows[s as usize];
         row.v = row.g;
+    }
+
+    /// Raises the underconsistent `s`: its v becomes infinite.
+    pub fn raise(&mut self, s: u32)
+        requires state { s < states_of self.old }
+        requires under { v_of self.old s < g_of self.old s }
+        ensures raised { ChangesRow self.old self.new s
+            (record { g = g_of self.old s; v = FAR; back = back_of self.old s }) }
+    {
+        self.rows[s as usize].v = FAR;
+    }
+
+    /// Recomputes `t`: its g becomes the least v + cost over the free arcs into it from states of
+    /// finite v, and its back arc the first tail that gives the least. Where there is none, g becomes
+    /// infinite and no back arc is left. The start stays as it is.
+    pub fn recompute<G: Graph>(&mut self, graph: &G, t: u32)
+        requires states { states_of self.old ≡ (G.network graph.now).states }
+        requires state { t < states_of self.old }
+        requires fits { FitCount (states_of self.old) (g_of self.old) (v_of self.old) (2 ^ 30) }
+        ensures recomputed { t ≢ self.old.start → Recomputes (G.network graph.now) self.old self.new t }
+        ensures start { t ≡ self.old.start → self.new ≡ self.old }
+        ensures fits { (count : ℕ) → FitCount (states_of self.old) (g_of self.old) (v_of self.old) count
+            → FitCount (states_of self.old) (g_of self.new) (v_of self.new) count }
+    {
+        if t == self.start {
+            return;
+        }
+        let _states = graph.states();
+        match least_way(self, graph, t) {
+            Some((arc, g)) => self.rewrite(t, g, Some(arc)),
+            None => self.rewrite(t, FAR, None),
+        }
+    }
+
+    /// Gives `t` this g and this back arc.
+    fn rewrite(&mut self, t: u32, g: u64, back: Option<(u32, u32)>)
+        requires state { t < states_of self.old }
+        requires not_start { t ≢ self.old.start }
+        requires label { IsLabel g }
+        ensures rewritten { ChangesRow self.old self.new t (record { g = g; v = v_of self.old t; back = back }) }
+    {
+        let row = &mut self.rows[t as usize];
+        row.g = g;
+        row.back = back;
     }
 
     /// The least of g at the goal and of g + h over all states whose g and v differ, with h by this

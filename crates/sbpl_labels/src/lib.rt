@@ -7,6 +7,7 @@ mod labels;
 mod pass_end;
 mod row;
 mod walk;
+mod ways;
 
 pub use bound::bound_of;
 pub use budget::Budget;

@@ -32,6 +32,19 @@ impl Graph for Listed {
     fn judge(&self, s: u32, _k: u32) -> Option<u32> {
         self.arcs[s as usize].map(|arc| arc.1)
     }
+
+    fn tail_fan(&self, _t: u32) -> u32 {
+        2
+    }
+
+    fn tail(&self, t: u32, j: u32) -> Option<(u32, u32)> {
+        let arc = self.arcs[j as usize]?;
+        (arc.0 == t).then_some((j, 0))
+    }
+
+    fn gap(&self, _a: u32, _b: u32) -> u64 {
+        0
+    }
 }
 
 #[test]
@@ -64,6 +77,34 @@ fn labels_of_two_states(rt: HostRuntime) -> Result<(), Fail> {
     assert!(rt; !labels.shows_none(1));
     labels.settle(0);
     assert!(rt; labels.shows_none(1));
+    Ok(())
+}
+
+#[test]
+fn recomputed_by_the_first_tail(rt: HostRuntime) -> Result<(), Fail> {
+    let tie = Listed {
+        arcs: [Some((1, 5)), Some((1, 1))],
+    };
+    let blocked = Listed {
+        arcs: [None, Some((1, 1))],
+    };
+    let mut labels = Labels::open(rt.alloc(), 2, 0)?;
+    labels.settle(0);
+    assert!(rt; labels.lower(1, 1, 0, 4));
+    labels.settle(1);
+    labels.recompute(&tie, 1);
+    assert_eq!(rt;
+        (labels.g(1), labels.v(1), labels.back(1)),
+        (5, 4, Some((0, 0)))
+    );
+    labels.raise(1);
+    labels.recompute(&blocked, 1);
+    labels.recompute(&blocked, 0);
+    assert_eq!(rt;
+        (labels.g(1), labels.v(1), labels.back(1)),
+        (FAR, FAR, None)
+    );
+    assert_eq!(rt; (labels.g(0), labels.v(0)), (0, 0));
     Ok(())
 }
 

@@ -1,13 +1,13 @@
-use Rattle.std.proofs.Common.{◌≡◌, ℕ, Option, Some, IfSome, Result, Ok, Err, IfOk, sym, ◌∙◌, ap, subst}
+use Rattle.std.proofs.Common.{◌≡◌, ℕ, Option, Some, IfSome, Result, Ok, Err, IfOk, ◌∙◌, ap, subst}
 use Rattle.sbpl_fixed.specs.declared.no_memory.NoMemory.{NoMemory}
 use Rattle.sbpl_cfg.specs.declared.pose.Pose.{Pose}
 use Rattle.sbpl_cfg.specs.declared.pose.Place.{Place}
 use Rattle.sbpl_cfg.specs.Environment.{Environment, IsPlaceOf}
 use Rattle.sbpl_cost.specs.World.{World}
 use Rattle.sbpl_cost.specs.States.{state_number}
-use Rattle.sbpl_cli.specs.declared.record.Outcome.{Outcome}
+use Rattle.sbpl_plan.specs.declared.ask.Ask.{Ask}
 use Rattle.sbpl_cli.specs.declared.record.PlanRecord.{PlanRecord}
-use Rattle.sbpl_cli.specs.Headline.{IsAnswered, IsNoneThere, IsOnePass, IsPlanOf, IsStateOf, IsWithinBound, Joins}
+use Rattle.sbpl_cli.specs.Headline.{IsPlanOf, IsSearched, IsStateOf, KeepsPromises}
 use Rattle.sbpl_cli.proofs.plan.plan_on.Goals as goal
 
 -- the state of a place of a pose is the state of the pose
@@ -18,30 +18,25 @@ state_is e d p q found place number s same like is has value at = record {
   number = let P : Option ℕ → Type 0 = λ o. IfSome o (λ n. n ≡ state_number d place) in subst P at value;
 }
 
--- a record of one pass with this outcome is the record of a plan
-planned_by : (w : World) (start goal : ℕ) (o : Outcome) (r : Result PlanRecord NoMemory) → IsStateOf w.env w.env.start start → IsStateOf w.env w.env.end goal → Joins w start goal o → IsWithinBound w start goal o → IsNoneThere w start goal o → IsAnswered 1000 o → IfOk r IsOnePass → IfOk r (λ p. p.outcome ≡ o) → IfOk r (IsPlanOf w)
-planned_by w start goal o (Ok p) from to joins within none answered one same = record {
+-- the record of a plan between the states of the two poses is the record of the plan
+planned_by : (w : World) (start goal budget : ℕ) (ask : Ask) (r : Result PlanRecord NoMemory) → IsStateOf w.env w.env.start start → IsStateOf w.env w.env.end goal → IfOk r (λ p. p.plan ≡ 0) → IfOk r (KeepsPromises w start goal ask.bound) → IfOk r (IsSearched w start goal budget ask) → IfOk r (IsPlanOf w budget ask)
+planned_by w start goal budget ask (Ok p) from to number promises searched = record {
+  number = number;
   start = start;
   goal = goal;
   start_is = from;
   goal_is = to;
-  promises = record {
-    joins = subst (λ x. Joins w start goal x) (sym same) joins;
-    within_the_bound = subst (λ x. IsWithinBound w start goal x) (sym same) within;
-    none = subst (λ x. IsNoneThere w start goal x) (sym same) none;
-    unless_spent = λ _. subst (λ x. IsAnswered 1000 x) (sym same) answered;
-  };
-  one_pass = one;
+  promises = promises;
+  searched = searched;
 }
-planned_by w start goal o (Err e) from to joins within none answered one same = tt
+planned_by w start goal budget ask (Err e) from to number promises searched = tt
 
 pub returns : goal.returns
 returns c =
     let env = c.env-env.ensures.env in
     record {
-      planned = planned_by c.args.lattice.now _ _ _ _
+      planned = planned_by c.args.lattice.now _ _ _ _ _
           (state_is _ _ _ _ _ _ _ _ env (ap (λ (e : Environment). e.start) c.env.view_is ∙ ap (λ (e : Environment). e.start) env) c.place_at.ensures.place c.unwrap-start.ensures c.state_of.ensures.value c.unwrap-start-2.ensures)
           (state_is _ _ _ _ _ _ _ _ env (ap (λ (e : Environment). e.end) c.env.view_is ∙ ap (λ (e : Environment). e.end) env) c.place_at-2.ensures.place c.unwrap-goal.ensures c.state_of-2.ensures.value c.unwrap-goal-2.ensures)
-          c.in_ok-outcome.ensures.joins c.in_ok-outcome.ensures.within_the_bound c.in_ok-outcome.ensures.none c.in_ok-outcome.ensures.answered
-          c.record_of.ensures.one_pass c.record_of.ensures.outcome;
+          c.plan_between.ensures.number c.plan_between.ensures.promises c.plan_between.ensures.searched;
     }

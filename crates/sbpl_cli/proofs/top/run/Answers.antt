@@ -1,13 +1,13 @@
 use Rattle.std.proofs.Common.{arith}
 use Rattle.sbpl_cli.proofs.Laws.{texts_are_clear}
-use Rattle.sbpl_cli.proofs.Runs.{run_complete, run_cut, run_environment_faulty, run_environment_long, run_no_job, run_primitives_faulty, run_primitives_long, run_refused, run_reported, run_status, run_stopped, run_too_dear, run_words, run_write}
+use Rattle.sbpl_cli.proofs.Runs.{run_complete, run_cut, run_done, run_environment_faulty, run_environment_long, run_no_job, run_primitives_faulty, run_primitives_long, run_refused, run_status, run_stopped, run_too_dear, run_too_wide, run_words, run_write}
 use Rattle.sbpl_cli.proofs.top.run.Goals as goal
 
 pub returns-clause-statuses : goal.returns-clause-statuses
 returns-clause-statuses g c = run_status _ _ _ _ _ _ _ _ _ c.end_run.ensures.ends
 
-pub returns-clause-report : goal.returns-clause-report
-returns-clause-report g c = run_reported _ _ _ _ _ _ _ _ _ c.end_run.ensures.ends
+pub returns-clause-done : goal.returns-clause-done
+returns-clause-done g c = run_done _ _ _ _ _ _ _ _ _ c.end_run.ensures.ends
 
 pub returns-clause-words : goal.returns-clause-words
 returns-clause-words g c = run_words _ _ _ _ _ _ _ _ _ c.end_run.ensures.ends
@@ -40,13 +40,16 @@ pub returns-clause-environment_faulty : goal.returns-clause-environment_faulty
 returns-clause-environment_faulty g c = run_environment_faulty _ _ _ _ _ _ _ _ _ (texts_are_clear c.texts_are_environments_or_faulty.ensures.one_value c.texts_are_environments_or_faulty.ensures.not_both c.texts_are_primitives_or_faulty.ensures.one_value c.texts_are_primitives_or_faulty.ensures.not_both) c.end_run.ensures.ends
 
 pub returns-clause-environment_long : goal.returns-clause-environment_long
-returns-clause-environment_long g c = run_environment_long _ _ _ _ _ _ _ _ _ c.end_run.ensures.ends
+returns-clause-environment_long g c = run_environment_long _ _ _ _ _ _ _ _ _ (texts_are_clear c.texts_are_environments_or_faulty.ensures.one_value c.texts_are_environments_or_faulty.ensures.not_both c.texts_are_primitives_or_faulty.ensures.one_value c.texts_are_primitives_or_faulty.ensures.not_both) c.end_run.ensures.ends
 
 pub returns-clause-primitives_long : goal.returns-clause-primitives_long
 returns-clause-primitives_long g c = run_primitives_long _ _ _ _ _ _ _ _ _ (texts_are_clear c.texts_are_environments_or_faulty.ensures.one_value c.texts_are_environments_or_faulty.ensures.not_both c.texts_are_primitives_or_faulty.ensures.one_value c.texts_are_primitives_or_faulty.ensures.not_both) c.end_run.ensures.ends
 
 pub returns-clause-primitives_faulty : goal.returns-clause-primitives_faulty
 returns-clause-primitives_faulty g c = run_primitives_faulty _ _ _ _ _ _ _ _ _ (texts_are_clear c.texts_are_environments_or_faulty.ensures.one_value c.texts_are_environments_or_faulty.ensures.not_both c.texts_are_primitives_or_faulty.ensures.one_value c.texts_are_primitives_or_faulty.ensures.not_both) c.end_run.ensures.ends
+
+pub returns-clause-too_wide : goal.returns-clause-too_wide
+returns-clause-too_wide g c = run_too_wide _ _ _ _ _ _ _ _ _ (texts_are_clear c.texts_are_environments_or_faulty.ensures.one_value c.texts_are_environments_or_faulty.ensures.not_both c.texts_are_primitives_or_faulty.ensures.one_value c.texts_are_primitives_or_faulty.ensures.not_both) c.end_run.ensures.ends
 
 pub returns-clause-too_dear : goal.returns-clause-too_dear
 returns-clause-too_dear g c = run_too_dear _ _ _ _ _ _ _ _ _ (texts_are_clear c.texts_are_environments_or_faulty.ensures.one_value c.texts_are_environments_or_faulty.ensures.not_both c.texts_are_primitives_or_faulty.ensures.one_value c.texts_are_primitives_or_faulty.ensures.not_both) c.end_run.ensures.ends

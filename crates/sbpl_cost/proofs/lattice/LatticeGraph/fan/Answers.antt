@@ -1,5 +1,5 @@
 use Rattle.std.proofs.Common.{arith, rules, ap, sym, ◌≤◌, ◌∙◌, length}
-use Rattle.std.proofs.lemmas.Option.{same_Some}
+use Rattle.std.proofs.lemmas.Option.{same_Some, slice_get_within}
 use Rattle.sbpl_cost.specs.Lattices.{leaving}
 use Rattle.sbpl_cost.proofs.Views.{fan_is, few_leaving}
 use Rattle.sbpl_cost.proofs.lattice.LatticeGraph.fan.Goals as goal
@@ -22,3 +22,6 @@ returns-clause-few c =
     let entry = c.self.invariant.leaving c.heading_of.result (omega (arith, c.heading_of.ensures.heading, c.self.invariant.world.headings)) in
     let same = same_Some c.at.result.now _ (sym c.at.ensures.list ∙ entry) in
     omega (arith, ap length same, few_leaving c.self.inside.prims.items c.heading_of.result, c.self.invariant.world.prims.count)
+
+pub at-requires : goal.at-requires
+at-requires c = record { number = slice_get_within c.self.inside.leaving c.heading_of.result _ (c.self.invariant.leaving c.heading_of.result (omega (arith, c.heading_of.ensures.heading, c.self.invariant.world.headings))) }

@@ -1,0 +1,12 @@
+pub mod Repairing
+pub mod Exactness
+pub mod Raising
+pub mod Ordering
+pub mod Counting
+pub mod Unbroken
+pub mod Queueing
+pub mod Noting
+pub mod Together
+pub mod Passing
+pub mod Finishing
+pub mod Touching

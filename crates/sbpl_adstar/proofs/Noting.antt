@@ -1,0 +1,93 @@
+-- States are noted in the queue one after the other.
+use Rattle.std.proofs.Common.{◌≡◌, ◌≢◌, ℕ, ◌+◌, ◌<◌, Bool, true, false, nat_eq, IsSome, List, [], ◌∷◌, ◌++◌, length, slice_index, arith, ⊎_elim, refl, sym, ◌∙◌, ap}
+use Rattle.std.specs.List.{Contains}
+use Rattle.std.proofs.lemmas.Bool.{cases_eq, or_cases, eqb-true, false≢true}
+use Rattle.std.proofs.lemmas.List.{get_or_default}
+use Rattle.sbpl_graph.specs.Network.{Network}
+use Rattle.sbpl_labels.specs.declared.row.Row.{Row}
+use Rattle.sbpl_labels.specs.Marks.{Marks, g_of, v_of}
+use Rattle.sbpl_open.specs.Frontier.{Frontier}
+use Rattle.sbpl_open.specs.Frontier as frontier
+use Rattle.sbpl_ara.specs.declared.step.Step.{Step}
+use Rattle.sbpl_ara.specs.Queue.{is_among}
+use Rattle.sbpl_ara.specs.Run.{IsOpen, IsOver, IsUnder}
+use Rattle.sbpl_ara.specs.Search.{AreWaiting}
+use Rattle.sbpl_ara.proofs.Queueing.{among_push, open_moved}
+use Rattle.sbpl_adstar.specs.Repaired.{AreRepaired}
+use Rattle.sbpl_adstar.proofs.Exactness.{contains_or_not}
+
+-- the first states of a list are noted, and none has left
+pub record AreNoted (m : Marks) (states : List ℕ) (old now : Frontier) (i : ℕ) : Type 0 where
+  pub size : frontier.states_of now ≡ frontier.states_of old
+  pub kept : (s : ℕ) → IsSome (frontier.key_at old s) → IsSome (frontier.key_at now s)
+  pub noted : (s j : ℕ) → j < i → slice_index states j ≡ s → g_of m s ≢ v_of m s → IsSome (frontier.key_at now s)
+
+pub noted_none : {m : Marks} {states : List ℕ} {old : Frontier} → AreNoted m states old old 0
+noted_none = record { size = refl; kept = λ s is. is; noted = λ s j below. absurd (omega arith) }
+
+pub noted_more : {m : Marks} {states : List ℕ} {old now now' : Frontier} (i : ℕ) → AreNoted m states old now i
+    → frontier.states_of now' ≡ frontier.states_of now → ((s : ℕ) → IsSome (frontier.key_at now s) → IsSome (frontier.key_at now' s))
+    → (g_of m (slice_index states i) ≢ v_of m (slice_index states i) → IsSome (frontier.key_at now' (slice_index states i)))
+    → AreNoted m states old now' (i + 1)
+noted_more {m} {states} {old} {now} {now'} i here size kept own = record {
+  size = size ∙ here.size;
+  kept = λ s is. kept s (here.kept s is);
+  noted = λ s j below at.
+      ⊎_elim
+      (λ (last : j ≡ i).
+      let same : slice_index states i ≡ s = sym (ap (slice_index states) last) ∙ at in
+      rw same at own)
+      (λ (before : j ≢ i). λ differ. kept s (here.noted s j (omega arith) at differ))
+      (cases_eq j i);
+}
+
+pub noted_all : {m : Marks} {states : List ℕ} {old now : Frontier} → AreNoted m states old now (length states)
+    → (s : ℕ) → Contains states s → g_of m s ≢ v_of m s → IsSome (frontier.key_at now s)
+noted_all {states = states} here s among = here.noted s among.0 among.1 (get_or_default states among.0 0 s among.1 ∙ among.2)
+
+-- the states of some steps are noted, and none has left
+pub record AreTakenNoted (m : Marks) (steps : List Step) (old now : Frontier) : Type 0 where
+  pub size : frontier.states_of now ≡ frontier.states_of old
+  pub kept : (s : ℕ) → IsSome (frontier.key_at old s) → IsSome (frontier.key_at now s)
+  pub noted : (s : ℕ) → is_among steps s ≡ true → g_of m s ≢ v_of m s → IsSome (frontier.key_at now s)
+
+pub taken_none : {m : Marks} {old : Frontier} → AreTakenNoted m [] old old
+taken_none = record { size = refl; kept = λ s is. is; noted = λ s (is : false ≡ true). absurd (false≢true is) }
+
+pub taken_more : {m : Marks} {old now now' : Frontier} (steps : List Step) (step : Step) → AreTakenNoted m steps old now
+    → frontier.states_of now' ≡ frontier.states_of now → ((s : ℕ) → IsSome (frontier.key_at now s) → IsSome (frontier.key_at now' s))
+    → (g_of m step.state ≢ v_of m step.state → IsSome (frontier.key_at now' step.state))
+    → AreTakenNoted m (steps ++ step ∷ []) old now'
+taken_more {m} {old} {now} {now'} steps step here size kept own = record {
+  size = size ∙ here.size;
+  kept = λ s is. kept s (here.kept s is);
+  noted = λ s is.
+      ⊎_elim
+      (λ (before : is_among steps s ≡ true). λ differ. kept s (here.noted s before differ))
+      (λ (last : nat_eq step.state s ≡ true).
+      let same : step.state ≡ s = eqb-true step.state s last in
+      rw same at own)
+      (or_cases _ _ (sym (among_push steps step s) ∙ is));
+}
+
+-- an open state is inconsistent
+pub open_apart : {closed : ℕ → Bool} {m : Marks} {s : ℕ} → IsOpen closed m s → g_of m s ≢ v_of m s
+open_apart {closed} {m} {s} it same =
+    ⊎_elim
+    (λ (under : IsUnder m s). omega arith)
+    (λ (over : IsOver m s × (closed s ≡ false)). omega (arith, over.0))
+    it.inconsistent
+
+-- no open state is lost where the touched ones are noted
+pub repaired_waiting : {n : Network} {touched : List ℕ} {old new : Marks} (queue queue' : Frontier) {closed : ℕ → Bool} → AreRepaired n touched old new
+    → AreWaiting old queue closed → ((s : ℕ) → IsSome (frontier.key_at queue s) → IsSome (frontier.key_at queue' s))
+    → ((s : ℕ) → Contains touched s → g_of new s ≢ v_of new s → IsSome (frontier.key_at queue' s)) → AreWaiting new queue' closed
+repaired_waiting {touched = touched} {old = old} {new = new} queue queue' {closed = closed} repaired waiting kept noted s it =
+    ⊎_elim
+    (λ among. noted s among (open_apart it))
+    (λ none.
+    let row = repaired.others s none in
+    let same_g : g_of old s ≡ g_of new s = sym (ap (λ (r : Row). r.g) row) in
+    let same_v : v_of old s ≡ v_of new s = sym (ap (λ (r : Row). r.v) row) in
+    kept s (waiting s (open_moved closed closed new old s (sym repaired.same_states) same_g same_v refl it)))
+    (contains_or_not touched s)

@@ -1,0 +1,40 @@
+-- Labels after a change of the graph.
+use Rattle.std.specs.Prelude.{◌≡◌, ◌≢◌, ℕ, ◌+◌, ◌<◌, ◌≤◌, Option, Some, None, List}
+use Rattle.std.specs.List.{Contains}
+use Rattle.sbpl_graph.specs.declared.TheConstants.{FAR}
+use Rattle.sbpl_graph.specs.Network.{Network, IsFreeArc}
+use Rattle.sbpl_graph.specs.Exact.{AreExact}
+use Rattle.sbpl_labels.specs.Marks.{Marks, states_of, g_of, v_of, back_of, row_at}
+use Rattle.sbpl_labels.specs.Recomputed.{IsRecomputed}
+
+-- arc k of state s is free, leads to t from a finite v, and gives t the label g
+pub record IsGiven (n : Network) (v : ℕ → ℕ) (t g s k c : ℕ) : Type 0 where
+  pub free : IsFreeArc n s k t c
+  pub near : v s < FAR
+  pub sum : g ≡ v s + c
+
+-- g is the least v + cost over the free arcs into t from states of finite v, and the back arc gives it
+pub record IsExactAt (n : Network) (v : ℕ → ℕ) (t g : ℕ) (back : Option (ℕ × ℕ)) : Type 0 where
+  pub least : (s k c : ℕ) → IsFreeArc n s k t c → v s < FAR → g ≤ v s + c
+  pub gives : (s k : ℕ) → back ≡ Some (s, k) → (c : ℕ) × IsGiven n v t g s k c
+  pub far_without_arc : back ≡ None → g ≡ FAR
+  pub no_arc_where_far : g ≡ FAR → back ≡ None
+
+-- each touched state but the start is recomputed, and all other labels stay
+pub record AreRepaired (n : Network) (touched : List ℕ) (old new : Marks) : Type 0 where
+  pub same_start : new.start ≡ old.start
+  pub same_states : states_of new ≡ states_of old
+  pub same_v : (t : ℕ) → v_of new t ≡ v_of old t
+  pub recomputed : (t : ℕ) → Contains touched t → t ≢ old.start → IsRecomputed n (v_of new) t (g_of new t) (back_of new t)
+  pub others : (t : ℕ) → (Contains touched t → ⊥) → row_at new t ≡ row_at old t
+  pub start_row : row_at new old.start ≡ row_at old old.start
+
+-- t has the same free arcs into it on both graphs, at the same costs
+pub record HasSameArcs (n n' : Network) (t : ℕ) : Type 0 where
+  pub kept : (s k c : ℕ) → IsFreeArc n s k t c → IsFreeArc n' s k t c
+  pub none_new : (s k c : ℕ) → IsFreeArc n' s k t c → IsFreeArc n s k t c
+
+-- where labels are exact on one graph, a state with the same free arcs into it on another is exact there
+abbrev pub ExactWhereSame : Type 0
+ExactWhereSame = (n n' : Network) (start : ℕ) (g v : ℕ → ℕ) (back : ℕ → Option (ℕ × ℕ)) → AreExact n start g v back
+    → (t : ℕ) → t < n.states → t ≢ start → HasSameArcs n n' t → IsExactAt n' v t (g t) (back t)

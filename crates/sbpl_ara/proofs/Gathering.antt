@@ -1,0 +1,91 @@
+-- The states that a pass begins with are found.
+use Rattle.std.proofs.Common.{◌≡◌, ◌≢◌, ℕ, ◌+◌, ◌<◌, ◌≤◌, ◌⊎◌, true, false, Bool, nat_eq, Some, None, IsSome, List, [], ◌∷◌, ◌++◌, length, slice_index, arith, ⊎_elim, inl, inr, refl, sym, ◌∙◌, ap, length-append}
+use Rattle.std.specs.List.{All}
+use Rattle.std.proofs.lemmas.Bool.{cases_eq, cases_lt, cases_Bool, or_left, or_right, eq-eqb, false≢true}
+use Rattle.std.proofs.lemmas.List.{get_or_past}
+use Rattle.std.proofs.lemmas.List.Elements.{All-push}
+use Rattle.sbpl_labels.specs.Marks.{Marks, IsOpened, states_of, g_of, v_of}
+use Rattle.sbpl_open.specs.Frontier.{Frontier, ChangesKey}
+use Rattle.sbpl_open.specs.Frontier as frontier
+use Rattle.sbpl_ara.specs.declared.step.Step.{Step}
+use Rattle.sbpl_ara.specs.Marked.{closed_at}
+use Rattle.sbpl_ara.specs.Run.{IsOpen, IsOver, IsUnder, none_closed, closed_after}
+use Rattle.sbpl_ara.specs.Queue.{is_among}
+use Rattle.sbpl_ara.specs.Search.{Room, AreWaiting}
+use Rattle.sbpl_ara.proofs.Closing.{lowers}
+use Rattle.sbpl_ara.proofs.Queueing.{among_push, among_closed}
+
+-- the steps hold the first states besides what they held
+pub record IsGathering (most : ℕ) (queued : List ℕ) (old now : Room) (i : ℕ) : Type 0 where
+  pub room : now.room ≡ old.room
+  pub longer : length now.items ≡ length old.items + i
+  pub inside : All (λ step. step.state < most) now.items
+  pub kept : (s : ℕ) → is_among old.items s ≡ true → is_among now.items s ≡ true
+  pub gathered : (j : ℕ) → j < i → is_among now.items (slice_index queued j) ≡ true
+
+-- a state of the queue has a number below theirs
+pub queued_inside : (f : Frontier) (s : ℕ) → IsSome (frontier.key_at f s) → s < frontier.states_of f
+queued_inside f s is =
+    ⊎_elim
+    (λ (inside : s < frontier.states_of f). inside)
+    (λ (past : frontier.states_of f ≤ s). absurd (false≢true (rw (get_or_past f.keys s None past) at is)))
+    (cases_lt s (frontier.states_of f))
+
+pub gathering_more : (most : ℕ) (queued : List ℕ) (old now now' : Room) (i : ℕ) → IsGathering most queued old now i
+    → slice_index queued i < most → now'.items ≡ now.items ++ lowers (slice_index queued i) ∷ [] → now'.room ≡ now.room
+    → IsGathering most queued old now' (i + 1)
+gathering_more most queued old now now' i here small pushed room =
+    let step = lowers (slice_index queued i) in
+    record {
+      room = room ∙ here.room;
+      longer = omega (arith, ap length pushed ∙ length-append now.items (step ∷ []), here.longer);
+      inside = rw pushed (All-push (λ (step : Step). step.state < most) now.items step here.inside small);
+      kept = λ s was.
+          rw pushed (among_push now.items step s ∙ or_left (is_among now.items s) (nat_eq (slice_index queued i) s) (here.kept s was));
+      gathered = λ j below.
+          let state = slice_index queued j in
+          ⊎_elim
+          (λ (before : j < i).
+          rw pushed (among_push now.items step state ∙ or_left (is_among now.items state) (nat_eq (slice_index queued i) state) (here.gathered j before)))
+          (λ (after : i ≤ j).
+          let at : j ≡ i = omega arith in
+          let same : nat_eq (slice_index queued i) state ≡ true = eq-eqb _ _ (sym (ap (slice_index queued) at)) in
+          rw pushed (among_push now.items step state ∙ or_right (is_among now.items state) (nat_eq (slice_index queued i) state) same))
+          (cases_lt j i);
+    }
+
+-- every state whose g and v differ is among the steps of the last pass and what its queue held
+pub all_gathered : {m : Marks} {closed : ℕ → Bool} (queue : Frontier) (steps items : List Step) → AreWaiting m queue closed
+    → ((s : ℕ) → closed s ≡ closed_after none_closed steps s) → ((s : ℕ) → is_among steps s ≡ true → is_among items s ≡ true)
+    → ((s : ℕ) → IsSome (frontier.key_at queue s) → is_among items s ≡ true) → (s : ℕ) → IsOpen none_closed m s → is_among items s ≡ true
+all_gathered {m} {closed} queue steps items waiting by_steps kept gathered s it =
+    ⊎_elim
+    (λ (is : closed s ≡ true).
+    ⊎_elim
+    (λ (none : false ≡ true). absurd (false≢true none))
+    (λ (among : is_among steps s ≡ true). kept s among)
+    (among_closed none_closed steps s (sym (by_steps s) ∙ is)))
+    (λ (fresh : closed s ≡ false).
+    gathered s
+    (waiting s
+    (record {
+      inside = it.inside;
+      inconsistent = ⊎_elim (λ (under : IsUnder m s). inl under) (λ (over : IsOver m s × (none_closed s ≡ false)). inr (over.0, fresh)) it.inconsistent;
+    })))
+    (cases_Bool (closed s))
+
+-- of opened labels the start alone is open
+pub opened_waiting : {m : Marks} {f f' : Frontier} (closed : ℕ → Bool) (count first s : ℕ) (key : ℕ × ℕ) → IsOpened m count first → s ≡ first
+    → ChangesKey f f' s (Some key) → AreWaiting m f' closed
+opened_waiting {m} {f} {f'} closed count first s key opened at change = λ u it.
+    ⊎_elim
+    (λ (own : u ≡ s). rw (own, change.at) refl)
+    (λ (apart : u ≢ s).
+    let inside : u < count = omega (arith, it.inside, opened.states) in
+    let far_g = opened.far_g u inside (λ e. apart (e ∙ sym at)) in
+    let far_v = opened.far_v u inside in
+    ⊎_elim
+    (λ (under : IsUnder m u). absurd (omega arith))
+    (λ (over : IsOver m u × (closed u ≡ false)). absurd (omega (arith, over.0)))
+    it.inconsistent)
+    (cases_eq u s)

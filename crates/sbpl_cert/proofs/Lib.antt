@@ -1,0 +1,11 @@
+pub mod Paths
+pub mod Order
+pub mod Kept
+pub mod Lines
+pub mod ItemLaws
+pub mod Leaves
+pub mod SectionLaws
+pub mod ReadLaws
+pub mod OwnFaults
+pub mod TextLaws
+pub mod WrittenText

@@ -1,0 +1,51 @@
+-- The lines of a section, part by part.
+use Rattle.std.proofs.Common.{◌≡◌, ℕ, List, [], ◌∷◌, ◌++◌, length, map, refl, sym, ap, ◌∙◌, append_assoc}
+use Rattle.std.specs.Prelude.{decimal, codes}
+use Rattle.std.specs.List.{flat_map}
+use Rattle.sbpl_fixed.specs.Printed.{milli_text}
+use Rattle.sbpl_cert.specs.declared.row.Row.{Row}
+use Rattle.sbpl_cert.specs.declared.outcome.Outcome.TheVariants as outcome
+use Rattle.sbpl_cert.specs.Printed.{line_text, label_text, outcome_line, row_text, section_text}
+use Rattle.sbpl_cert.specs.Sections.{Section}
+
+abbrev pub spaced : List ℕ → List ℕ
+spaced ks = flat_map (λ k. 32 ∷ decimal k) ks
+
+-- a word and numbers behind it
+numbers_line : (w ks : List ℕ) → line_text (w ∷ map decimal ks) ≡ w ++ (spaced ks ++ 10 ∷ [])
+unfolding line_text
+numbers_line w [] = refl
+numbers_line w (k ∷ ks) = ap (λ (x : List ℕ). w ++ 32 ∷ x) (numbers_line (decimal k) ks ∙ sym (append_assoc (decimal k) (spaced ks) (10 ∷ [])))
+
+pub path_line : (cost bound : ℕ) (arcs : List ℕ)
+    → line_text (outcome_line (outcome.Path cost bound) arcs)
+    ≡ codes "path " ++ (decimal cost ++ (32 ∷ (milli_text bound ++ (32 ∷ (decimal (length arcs) ++ (spaced arcs ++ 10 ∷ []))))))
+unfolding line_text
+path_line cost bound arcs = ap (λ (x : List ℕ). codes "path " ++ (decimal cost ++ (32 ∷ (milli_text bound ++ (32 ∷ x))))) (numbers_line (decimal (length arcs)) arcs)
+
+abbrev pub head_text : ℕ → ℕ → ℕ → List ℕ
+head_text plan states low = codes "labels 1 plan " ++ (decimal plan ++ (codes " states " ++ (decimal states ++ (codes " low " ++ (label_text low ++ 10 ∷ [])))))
+
+section_is : (s : Section)
+    → section_text s ≡ head_text s.plan (length s.labels) s.low ++ (line_text (outcome_line s.outcome s.arcs) ++ (flat_map row_text s.labels ++ codes "end\n"))
+unfolding section_text line_text
+section_is s = refl
+
+-- parts that were put one behind another
+four_parts : (old h o r e a b c d : List ℕ) → a ≡ old ++ h → b ≡ a ++ o → c ≡ b ++ r → d ≡ c ++ e → d ≡ old ++ (h ++ (o ++ (r ++ e)))
+four_parts old h o r e a b c d one two three four =
+    four ∙ rw (three, two, one) (simp append_assoc)
+
+pub six_parts : (old p n m k l q a b c d e f : List ℕ) → a ≡ old ++ p → b ≡ a ++ n → c ≡ b ++ m → d ≡ c ++ k → e ≡ d ++ l → f ≡ e ++ q
+    → f ≡ old ++ (p ++ (n ++ (m ++ (k ++ (l ++ q)))))
+six_parts old p n m k l q a b c d e f one two three four five six =
+    six ∙ rw (five, four, three, two, one) (simp append_assoc)
+
+pub section_grows : (s : Section) (rows : List Row) (arcs old a b c d : List ℕ) → rows ≡ s.labels → arcs ≡ s.arcs → a ≡ old ++ head_text s.plan (length rows) s.low
+    → b ≡ a ++ line_text (outcome_line s.outcome arcs) → c ≡ b ++ flat_map row_text rows → d ≡ c ++ codes "end\n" → d ≡ old ++ section_text s
+section_grows s rows arcs old a b c d labels_is arcs_is one two three four =
+    let head = rw labels_is at one in
+    let path = rw arcs_is at two in
+    let lines = rw labels_is at three in
+    four_parts old (head_text s.plan (length s.labels) s.low) (line_text (outcome_line s.outcome s.arcs)) (flat_map row_text s.labels) (codes "end\n") a b c d head path lines four
+    ∙ sym (ap (λ (x : List ℕ). old ++ x) (section_is s))

@@ -1,0 +1,146 @@
+-- What a reader of sections answers, in terms of what tokens stand for.
+use Rattle.std.proofs.Common.{◌≡◌, ℕ, ◌+◌, ◌^◌, ◌<◌, ◌≤◌, List, [], ◌∷◌, length, ℤ, Result, Ok, Err, refl, sym, ap, subst, ◌∙◌, arith}
+use Rattle.std.specs.Prelude.{◌≢◌, codes, IfOk, IfErr}
+use Rattle.sbpl_fixed.specs.declared.fault.TextFault.{TextFault}
+use Rattle.sbpl_fixed.specs.declared.fault.TextFault.TheVariants.{Ended}
+use Rattle.sbpl_fixed.specs.Formats.{Answers, Left, Met, Miss, fixed, met, next, next_of, reads, start_at, Says}
+use Rattle.sbpl_fixed.specs.Tokens.{Piece, tokens_from}
+use Rattle.sbpl_fixed.proofs.Meaning.{read_as_said, read_first_fault}
+use Rattle.sbpl_cert.specs.declared.fault.LabelFault.{LabelFault}
+use Rattle.sbpl_cert.specs.declared.fault.LabelFault.TheVariants.{NoMemory}
+use Rattle.sbpl_cert.specs.Faults.{told}
+use Rattle.sbpl_cert.specs.Format.{front_format, section_format}
+use Rattle.sbpl_cert.specs.Sections.{Section, IsSection}
+use Rattle.sbpl_cert.specs.Text.{AreTokensOf, EndsWith, HasFault, with_rest}
+use Rattle.sbpl_cert.proofs.Leaves.{said_leaves, behind_in_text}
+use Rattle.sbpl_cert.proofs.SectionLaws.{front_out, section_out, section_in, word_out}
+
+-- what was read before the last word keeps its ranges
+pub front_fits : (plan states : ℕ) (left rest : Left) (s : Section) → plan < 2 ^ 32 → states < 2 ^ 32 → reads told (front_format plan states) left ≡ Ok (s, rest) → IsSection s
+front_fits plan states left rest s p q e =
+    let said = (read_as_said told (front_format plan states) left rest s).0 e in
+    (front_out plan states s left.tokens rest.tokens p q said.0).2
+
+abbrev met_record : ℕ → ℤ → Left → Met
+met_record place value left = record { place = place; value = value; left = left }
+
+abbrev met_at : ℕ → ℤ → Left → Result Met TextFault
+met_at place value left = Ok (record { place = place; value = value; left = left })
+
+abbrev end_missed : ℕ → Result Met TextFault
+end_missed end = Err (Ended end)
+
+next_is : (t : Piece) (ts : List Piece) (place : ℕ) (word : List ℕ) (rest : List Piece) → t.place ≡ place → t.bytes ≡ word → ts ≡ rest → t ∷ ts ≡ record { place = place; bytes = word } ∷ rest
+next_is t ts place word rest here bytes left = rw (← here, ← bytes, left) refl
+
+-- a word that was met is the next token
+word_is_next : (word : List ℕ) (end : ℕ) (ts : List Piece) (place : ℕ) (v : ℤ) (rest : Left) → next_of (fixed word) end ts ≡ met_at place v rest
+    → (ts ≡ record { place = place; bytes = word } ∷ rest.tokens) × (rest.end ≡ end)
+word_is_next word end [] place v rest e = absurd (let missed : end_missed end ≡ met_at place v rest = e in cc)
+word_is_next word end (t ∷ ts) place v rest e =
+    let go : (r : Result ℤ Miss) → fixed word t.bytes ≡ r → met t.place (record { end = end; tokens = ts }) r ≡ met_at place v rest → (t ∷ ts ≡ record { place = place; bytes = word } ∷ rest.tokens) × (rest.end ≡ end) = elim [
+      | Ok x ↦ λ q h.
+          let found : met_at t.place x (record { end = end; tokens = ts }) ≡ met_at place v rest = h in
+          let mets : met_record t.place x (record { end = end; tokens = ts }) ≡ met_record place v rest = cc in
+          let here : t.place ≡ place = ap (λ (m : Met). m.place) mets in
+          let left : record { end = end; tokens = ts } ≡ rest = ap (λ (m : Met). m.left) mets in
+          let bytes = word_out word t.bytes x q in
+          (next_is t ts place word rest.tokens here bytes (ap (λ (l : Left). l.tokens) left), sym (ap (λ (l : Left). l.end) left))
+      | Err m ↦ λ q h. absurd cc
+    ] in
+    go (fixed word t.bytes) refl e
+
+pub section_ends : (plan states : ℕ) (left mid rest : Left) (s : Section) (place : ℕ) (v : ℤ) → reads told (front_format plan states) left ≡ Ok (s, mid)
+    → next (fixed (codes "end")) mid ≡ met_at place v rest → EndsWith left.tokens (record { place = place; bytes = codes "end" } ∷ rest.tokens) × (rest.end ≡ left.end)
+unfolding next
+section_ends plan states left mid rest s place v e f =
+    let said = (read_as_said told (front_format plan states) left mid s).0 e in
+    let leaves = said_leaves (front_format plan states) left.tokens s mid.tokens said.0 in
+    let last = word_is_next (codes "end") mid.end mid.tokens place v rest f in
+    (subst (λ (l : List Piece). EndsWith left.tokens l) last.0 leaves, last.1 ∙ said.1)
+
+-- ---- what the answers are
+
+abbrev Answer : Type 0
+Answer = Result (Section × ℕ) LabelFault
+
+abbrev AnswersExactly : ℕ → ℕ → List ℕ → ℕ → Answer → Type 0
+AnswersExactly plan states text at r = Answers {A = Section × Left} NoMemory (λ (x : Section × ℕ). (x.0, start_at text x.1)) r (reads told (section_format plan states) (start_at text at))
+
+pub found_at : (plan states : ℕ) (text : List ℕ) (at : ℕ) (r : Answer) → plan < 2 ^ 32 → states < 2 ^ 32 → AnswersExactly plan states text at r
+    → IfOk r (λ x. (x.0.plan ≡ plan) × (length x.0.labels ≡ states) × AreTokensOf (tokens_from text at) x.0 (tokens_from text x.1))
+found_at plan states text at (Ok x) p q exact =
+    section_out plan states x.0 (tokens_from text at) (tokens_from text x.1) p q ((read_as_said told (section_format plan states) (start_at text at) (start_at text x.1) x.0).0 exact).0
+found_at plan states text at (Err e) p q exact = tt
+
+abbrev section_read : Section → Left → Result (Section × Left) LabelFault
+section_read s left = Ok (s, left)
+
+abbrev with_left : Section → Left → Section × Left
+with_left s left = (s, left)
+
+same_read : (s u : Section) (l m : Left) → section_read s l ≡ section_read u m → (s ≡ u) × (l ≡ m)
+same_read s u l m e =
+    let pairs : with_left s l ≡ with_left u m = cc in
+    (ap (λ (p : Section × Left). p.0) pairs, ap (λ (p : Section × Left). p.1) pairs)
+
+abbrev rest_read : Section → List Piece → Result (Section × List Piece) LabelFault
+rest_read s rest = Ok (with_rest s rest)
+
+answered : (s u : Section) (rest more : List Piece) → s ≡ u → rest ≡ more → rest_read s rest ≡ rest_read u more
+answered s u rest more same rests = ap (λ (x : Section). rest_read x rest) same ∙ ap (rest_read u) rests
+
+abbrev fault_read : LabelFault → Result (Section × Left) LabelFault
+fault_read e = Err e
+
+reads_said : (plan states : ℕ) (text : List ℕ) (at : ℕ) (s : Section) (rest : List Piece) → s.plan ≡ plan → length s.labels ≡ states → AreTokensOf (tokens_from text at) s rest
+    → reads told (section_format plan states) (start_at text at) ≡ section_read s (record { end = length text; tokens = rest })
+reads_said plan states text at s rest p q w =
+    let said = section_in s (tokens_from text at) rest w in
+    let here : Says (section_format plan states) (tokens_from text at) s rest =
+    subst (λ (m : ℕ). Says (section_format plan m) (tokens_from text at) s rest) q (subst (λ (k : ℕ). Says (section_format k (length s.labels)) (tokens_from text at) s rest) p said) in
+    (read_as_said told (section_format plan states) (start_at text at) (record { end = length text; tokens = rest }) s).1 (here, refl)
+
+pub only_at : (plan states : ℕ) (text : List ℕ) (at : ℕ) (r : Answer) → AnswersExactly plan states text at r
+    → (s : Section) (rest : List Piece) → s.plan ≡ plan → length s.labels ≡ states → AreTokensOf (tokens_from text at) s rest
+    → Answers {A = Section × List Piece} NoMemory (λ (x : Section × ℕ). with_rest x.0 (tokens_from text x.1)) r (Ok (with_rest s rest))
+only_at plan states text at (Ok x) exact s rest p q w =
+    let both : section_read s (record { end = length text; tokens = rest }) ≡ section_read x.0 (start_at text x.1) = sym (reads_said plan states text at s rest p q w) ∙ exact in
+    let parts = same_read s x.0 (record { end = length text; tokens = rest }) (start_at text x.1) both in
+    let rests : rest ≡ tokens_from text x.1 = ap (λ (l : Left). l.tokens) parts.1 in
+    answered s x.0 rest (tokens_from text x.1) parts.0 rests
+only_at plan states text at (Err e) exact s rest p q w = λ n.
+    let clash : section_read s (record { end = length text; tokens = rest }) ≡ fault_read e = sym (reads_said plan states text at s rest p q w) ∙ exact n in
+    absurd cc
+
+pub faulty_at : (plan states : ℕ) (text : List ℕ) (at : ℕ) (r : Answer) → AnswersExactly plan states text at r
+    → IfErr r (λ e. e ≢ NoMemory → HasFault plan states (start_at text at) e)
+faulty_at plan states text at (Ok x) exact = tt
+faulty_at plan states text at (Err e) exact = λ n. (read_first_fault told (section_format plan states) (start_at text at) e).0 (exact n)
+
+abbrev section_fault : LabelFault → Result Section LabelFault
+section_fault e = Err e
+
+pub only_faulty_at : (plan states : ℕ) (text : List ℕ) (at : ℕ) (r : Answer) → AnswersExactly plan states text at r
+    → (e : LabelFault) → HasFault plan states (start_at text at) e → Answers {A = Section} NoMemory (λ (x : Section × ℕ). x.0) r (Err e)
+only_faulty_at plan states text at (Ok x) exact e h =
+    let clash : fault_read e ≡ section_read x.0 (start_at text x.1) = sym ((read_first_fault told (section_format plan states) (start_at text at) e).1 h) ∙ exact in
+    absurd cc
+only_faulty_at plan states text at (Err d) exact e h = λ n.
+    let same : fault_read e ≡ fault_read d = sym ((read_first_fault told (section_format plan states) (start_at text at) e).1 h) ∙ exact n in
+    let one : e ≡ d = cc in
+    ap section_fault one
+
+-- ---- behind the last word
+
+same_left : (a b : Left) → a.end ≡ b.end → a.tokens ≡ b.tokens → a ≡ b
+same_left a b e t = ap (λ (n : ℕ). record { end = n; tokens = a.tokens }) e ∙ ap (λ (l : List Piece). record { end = b.end; tokens = l }) t
+
+pub ends_behind : (text : List ℕ) (at place : ℕ) (rest : Left) → at ≤ length text → EndsWith (tokens_from text at) (record { place = place; bytes = codes "end" } ∷ rest.tokens) → rest.end ≡ length text
+    → (at < place + 3) × (place + 3 ≤ length text) × (rest ≡ start_at text (place + 3))
+ends_behind text at place rest inside h end =
+    let w = behind_in_text text at (record { place = place; bytes = codes "end" }) rest.tokens inside h in
+    (omega (arith, w.0), w.2, same_left rest (start_at text (place + 3)) end (sym w.3))
+
+pub read_to : (s : Section) {l m : Left} → l ≡ m → section_read s l ≡ section_read s m
+read_to s same = ap (section_read s) same

@@ -1,0 +1,9 @@
+use Rattle.std.proofs.Common.{◌≡◌, ◌-◌}
+use Rattle.sbpl_fixed.specs.Formats.{reads, turns}
+use Rattle.sbpl_cert.specs.Faults.{told}
+use Rattle.sbpl_cert.specs.Format.{arc_turn}
+use Rattle.sbpl_cert.proofs.reading.read_arcs.Given as goal
+
+-- what is left to read completes what was to be read
+abbrev pub invariant-loop : goal.invariant-loop
+invariant-loop l = reads told (turns (l.count - l.counter) arc_turn l.arcs.items) l.reader ≡ reads told (turns l.count arc_turn l.initial.arcs.items) l.initial.reader

@@ -1,0 +1,179 @@
+-- Flaws of a section on a graph, and which of them comes first. Infinity counts as 2^63 in each comparison.
+use Rattle.std.specs.Prelude.{◌≡◌, ◌≢◌, ℕ, ◌+◌, ◌<◌, ◌⊎◌, if◌then◌else◌, ◌==◌, Option, Some, None, List, length, take, slice_index, codes}
+use Rattle.sbpl_graph.specs.declared.TheConstants.{FAR}
+use Rattle.sbpl_graph.specs.Network.{Network, IsFreeArc}
+use Rattle.sbpl_graph.specs.Path.{IsFreePath}
+use Rattle.sbpl_graph.specs.Bound.{IsBound}
+use Rattle.sbpl_cert.specs.declared.outcome.Outcome.TheVariants as outcome
+use Rattle.sbpl_cert.specs.declared.row.Row.{Row}
+use Rattle.sbpl_cert.specs.declared.flaw.Flaw.{Flaw}
+use Rattle.sbpl_cert.specs.declared.flaw.Flaw.TheVariants as flaw
+use Rattle.sbpl_cert.specs.Sections.{Section, g_at, v_at, h_at}
+
+-- ---- what each flaw says
+
+-- the start's label is this, and not 0
+pub record IsStartOff (labels : List Row) (start has : ℕ) : Type 0 where
+  pub has_is : has ≡ g_at labels start
+  pub some : has ≢ 0
+
+-- over a free arc from a state of finite v, the head's label is above what the way over the arc costs
+pub record IsArcOff (n : Network) (labels : List Row) (state arc has most : ℕ) : Type 0 where
+  pub target : ℕ
+  pub cost : ℕ
+  pub free : IsFreeArc n state arc target cost
+  pub near : v_at labels state < FAR
+  pub has_is : has ≡ g_at labels target
+  pub most_is : most ≡ v_at labels state + cost
+  pub above : most < has
+
+-- the guide is this at the goal, and not 0
+pub record IsGoalGuideOff (labels : List Row) (goal has : ℕ) : Type 0 where
+  pub has_is : has ≡ h_at labels goal
+  pub some : has ≢ 0
+
+-- the guide falls along a free arc by more than the arc costs
+pub record IsGuideOff (n : Network) (labels : List Row) (state arc has most : ℕ) : Type 0 where
+  pub target : ℕ
+  pub cost : ℕ
+  pub free : IsFreeArc n state arc target cost
+  pub has_is : has ≡ h_at labels state
+  pub most_is : most ≡ cost + h_at labels target
+  pub above : most < has
+
+-- a limit of the low at a state: the goal's label, or g + h where g and v differ
+abbrev pub IsLimit : Network → ℕ → List Row → ℕ → ℕ → Type 0
+IsLimit n goal labels state most =
+    ((state ≡ goal) × (most ≡ g_at labels goal))
+    ⊎ ((state < n.states) × (v_at labels state ≢ g_at labels state) × (most ≡ g_at labels state + h_at labels state))
+
+-- the low is above a limit
+pub record IsLowOff (n : Network) (goal : ℕ) (s : Section) (state has most : ℕ) : Type 0 where
+  pub limit : IsLimit n goal s.labels state most
+  pub has_is : has ≡ s.low
+  pub above : most < has
+
+-- the arcs before this step are a free path, and the step's arc is none that is free
+pub record IsStepOff (n : Network) (start : ℕ) (s : Section) (step : ℕ) : Type 0 where
+  pub cost : ℕ
+  pub bound : ℕ
+  pub outcome : s.outcome ≡ outcome.Path cost bound
+  pub inside : step < length s.arcs
+  pub at : ℕ
+  pub paid : ℕ
+  pub before : IsFreePath n start (take step s.arcs) at paid
+  pub shut : (t c : ℕ) → IsFreeArc n at (slice_index s.arcs step) t c → ⊥
+
+-- the arcs are a free path of another cost
+pub record IsCostOff (n : Network) (start : ℕ) (s : Section) (has paid : ℕ) : Type 0 where
+  pub bound : ℕ
+  pub outcome : s.outcome ≡ outcome.Path has bound
+  pub end : ℕ
+  pub path : IsFreePath n start s.arcs end paid
+  pub differ : paid ≢ has
+
+-- the bound of a cost and a low, if there is one
+abbrev pub IsLeastBound : ℕ → ℕ → Option ℕ → Type 0
+IsLeastBound cost low (Some b) = IsBound cost low b
+IsLeastBound cost low None = (0 < cost) × (low ≡ 0)
+
+-- the bound is not that of the cost and the low
+pub record IsBoundOff (s : Section) (has : ℕ) (least : Option ℕ) : Type 0 where
+  pub cost : ℕ
+  pub outcome : s.outcome ≡ outcome.Path cost has
+  pub least_is : IsLeastBound cost s.low least
+  pub differ : least ≢ Some has
+
+-- the path ends at this state, which is not the goal
+pub record IsEndOff (n : Network) (start goal : ℕ) (s : Section) (state : ℕ) : Type 0 where
+  pub cost : ℕ
+  pub bound : ℕ
+  pub outcome : s.outcome ≡ outcome.Path cost bound
+  pub paid : ℕ
+  pub path : IsFreePath n start s.arcs state paid
+  pub other : state ≢ goal
+
+-- there is said to be no path, and this state of finite g is the goal or has an infinite v
+pub record IsOpen (n : Network) (goal : ℕ) (s : Section) (state : ℕ) : Type 0 where
+  pub outcome : s.outcome ≡ outcome.NoPath
+  pub inside : state < n.states
+  pub near : g_at s.labels state < FAR
+  pub unsettled : (state ≡ goal) ⊎ (v_at s.labels state ≡ FAR)
+
+-- the section has this flaw
+abbrev pub HasFlaw : Network → ℕ → ℕ → Section → Flaw → Type 0
+HasFlaw n start goal s (flaw.Start g) = IsStartOff s.labels start g
+HasFlaw n start goal s (flaw.Arc state arc has most) = IsArcOff n s.labels state arc has most
+HasFlaw n start goal s (flaw.GoalGuide has) = IsGoalGuideOff s.labels goal has
+HasFlaw n start goal s (flaw.Guide state arc has most) = IsGuideOff n s.labels state arc has most
+HasFlaw n start goal s (flaw.Low state has most) = IsLowOff n goal s state has most
+HasFlaw n start goal s (flaw.Path step) = IsStepOff n start s step
+HasFlaw n start goal s (flaw.Cost has paid) = IsCostOff n start s has paid
+HasFlaw n start goal s (flaw.Bound has least) = IsBoundOff s has least
+HasFlaw n start goal s (flaw.Goal state) = IsEndOff n start goal s state ⊎ IsOpen n goal s state
+
+-- ---- the order in which they are tested
+
+-- its number
+abbrev pub number_of : Flaw → ℕ
+number_of (flaw.Start _) = 1
+number_of (flaw.Arc _ _ _ _) = 2
+number_of (flaw.GoalGuide _) = 3
+number_of (flaw.Guide _ _ _ _) = 3
+number_of (flaw.Low _ _ _) = 4
+number_of (flaw.Path _) = 5
+number_of (flaw.Cost _ _) = 6
+number_of (flaw.Bound _ _) = 7
+number_of (flaw.Goal _) = 8
+
+-- its turn among those of its number: by the state, but a test of the goal alone comes first; or by the step
+abbrev pub turn_of : ℕ → Flaw → ℕ
+turn_of goal (flaw.Start _) = 0
+turn_of goal (flaw.Arc state _ _ _) = state
+turn_of goal (flaw.GoalGuide _) = 0
+turn_of goal (flaw.Guide state _ _ _) = state + 1
+turn_of goal (flaw.Low state _ _) = if state == goal then 0 else state + 1
+turn_of goal (flaw.Path step) = step
+turn_of goal (flaw.Cost _ _) = 0
+turn_of goal (flaw.Bound _ _) = 0
+turn_of goal (flaw.Goal state) = state
+
+-- its arc
+abbrev pub arc_of : Flaw → ℕ
+arc_of (flaw.Start _) = 0
+arc_of (flaw.Arc _ arc _ _) = arc
+arc_of (flaw.GoalGuide _) = 0
+arc_of (flaw.Guide _ arc _ _) = arc
+arc_of (flaw.Low _ _ _) = 0
+arc_of (flaw.Path _) = 0
+arc_of (flaw.Cost _ _) = 0
+arc_of (flaw.Bound _ _) = 0
+arc_of (flaw.Goal _) = 0
+
+-- one flaw is tested before another: by the number, then by the turn, then by the arc
+abbrev pub IsBefore : ℕ → Flaw → Flaw → Type 0
+IsBefore goal e f =
+    (number_of e < number_of f)
+    ⊎ ((number_of e ≡ number_of f) × ((turn_of goal e < turn_of goal f) ⊎ ((turn_of goal e ≡ turn_of goal f) × (arc_of e < arc_of f))))
+
+-- the section has this flaw, and none that is tested before it
+pub record IsFirstFlaw (n : Network) (start goal : ℕ) (s : Section) (f : Flaw) : Type 0 where
+  pub has : HasFlaw n start goal s f
+  pub first : (e : Flaw) → HasFlaw n start goal s e → IsBefore goal e f → ⊥
+
+abbrev pub HasNoFlaw : Network → ℕ → ℕ → Section → Type 0
+HasNoFlaw n start goal s = (f : Flaw) → HasFlaw n start goal s f → ⊥
+
+-- ---- what the program prints
+
+-- its name
+abbrev pub name_of : Flaw → List ℕ
+name_of (flaw.Start _) = codes "Start"
+name_of (flaw.Arc _ _ _ _) = codes "Arc"
+name_of (flaw.GoalGuide _) = codes "Guide"
+name_of (flaw.Guide _ _ _ _) = codes "Guide"
+name_of (flaw.Low _ _ _) = codes "Low"
+name_of (flaw.Path _) = codes "Path"
+name_of (flaw.Cost _ _) = codes "Cost"
+name_of (flaw.Bound _ _) = codes "Bound"
+name_of (flaw.Goal _) = codes "Goal"

@@ -1,0 +1,28 @@
+//! Label texts, and the checker that needs to trust nobody: whether labels show what a plan answered.
+#![tactic(auto)]
+
+mod arcs;
+mod checking;
+mod fault;
+mod flaw;
+mod label_set;
+mod outcome;
+mod reading;
+mod row;
+mod rows;
+#[cfg(test)]
+mod tests;
+mod text;
+mod writing;
+
+pub use arcs::Arcs;
+pub use checking::check;
+pub use fault::LabelFault;
+pub use flaw::Flaw;
+pub use label_set::LabelSet;
+pub use outcome::Outcome;
+pub use reading::read_labels;
+pub use row::Row;
+pub use rows::Rows;
+pub use text::texts_are_sections_or_faulty;
+pub use writing::write_labels;

@@ -1,0 +1,145 @@
+-- How the making of writes ends, by its parts.
+use Rattle.std.proofs.Common.{◌≡◌, ◌≢◌, ◌⊎◌, ◌≤◌, ℕ, List, [], ◌∷◌, ◌++◌, flat_map, Bool, true, false, if◌then◌else◌, Option, Some, None, Result, Ok, Err, refl, sym, ◌∙◌, ap, subst, append_assoc, append-nil, arith, inl, inr}
+use Rattle.std.proofs.lemmas.Slice.Eq.{bytes_eq-Decides}
+use Rattle.std.specs.Bool.{Decides}
+use Rattle.std.specs.Str.{bytes_eq}
+use Rattle.sbpl_desk.specs.Desk.{Appends, AppendsFront, Keeps, NoneFalls, Rose, Stays}
+use Rattle.sbpl_desk.specs.declared.desk.WriteStop.{WriteStop}
+use Rattle.sbpl_desk.specs.declared.desk.WriteStop.TheVariants.{Failed, NoMemory}
+use Rattle.sbpl_cli.specs.Writing.{AreMade, EndsAs, EndsIn, FaultCounts, IsCutAt, IsStoppedAt, Told, Write, status_after, text_under}
+
+-- told bytes that grow twice grow by both
+pub appends_both : (a b c : Option (List ℕ)) (x y : List ℕ) → Appends a b x → Appends b c y → Appends a c (x ++ y)
+appends_both None b c x y p q = tt
+appends_both (Some a) None c x y p q = absurd p
+appends_both (Some a) (Some b) None x y p q = absurd q
+appends_both (Some a) (Some b) (Some c) x y p q = q ∙ ap (λ l. l ++ y) p ∙ append_assoc a x y
+
+-- bytes that stay have grown by nothing
+pub grows_by_nothing : (a b : Option (List ℕ)) → b ≡ a → Appends a b []
+grows_by_nothing None b same = tt
+grows_by_nothing (Some a) b same = rw same (sym (append-nil a))
+
+pub rose_since : (f g h : ℕ) → f ≤ g → Rose g h → Rose f h
+rose_since f g h below (inl more) = inl (omega arith)
+rose_since f g h below (inr most) = inr most
+
+-- what two lists of writes append is what each appends
+pub text_of_both : (name : List ℕ) (ws vs : List Write) → text_under name (ws ++ vs) ≡ text_under name ws ++ text_under name vs
+text_of_both name [] vs = refl
+text_of_both name (w ∷ ws) vs = ap (λ l. (if bytes_eq w.name name then w.text else []) ++ l) (text_of_both name ws vs) ∙ sym (append_assoc (if bytes_eq w.name name then w.text else []) (text_under name ws) (text_under name vs))
+
+-- no writes
+pub none_made : (a b : Told) → Stays a b → AreMade a b []
+none_made a b same = record { grown = λ name. grows_by_nothing (a name) (b name) (same name) }
+
+-- writes, and others behind them
+pub made_both : (a b c : Told) (ws vs : List Write) → AreMade a b ws → AreMade b c vs → AreMade a c (ws ++ vs)
+made_both a b c ws vs p q = record { grown = λ name. rw (text_of_both name ws vs) (appends_both (a name) (b name) (c name) _ _ (p.grown name) (q.grown name)) }
+
+-- one write
+pub one_made : (a b : Told) (name text : List ℕ) → Appends (a name) (b name) text → ((other : List ℕ) → other ≢ name → b other ≡ a other) → AreMade a b (record { name = name; text = text } ∷ [])
+one_made a b name text grows stay = record { grown = λ other. under (bytes_eq name other) other (bytes_eq-Decides name other) }
+  where
+    under : (test : Bool) (other : List ℕ) → Decides test (name ≡ other) → Appends (a other) (b other) ((if test then text else []) ++ [])
+    under true other is = let same = is.0 refl in subst (λ n. Appends (a n) (b n) (text ++ [])) same (rw (append-nil text) grows)
+    under false other is = grows_by_nothing (a other) (b other) (stay other (λ same. absurd (let no : false ≡ true = is.1 (sym same) in cc)))
+
+-- a front of one write
+pub one_cut : (a b : Told) (f g : FaultCounts) (name text : List ℕ) → AppendsFront (a name) (b name) text → ((other : List ℕ) → other ≢ name → b other ≡ a other) → Rose (f name) (g name) → IsCutAt a b f g (record { name = name; text = text } ∷ [])
+one_cut a b f g name text grows stay rose = record {
+  first = [];
+  cut = record { name = name; text = text };
+  rest = [];
+  whole = refl;
+  front = grows.front;
+  back = grows.rest;
+  parted = grows.whole;
+  rose = rose;
+  made = one_made a b name grows.front grows.written stay;
+}
+
+-- no write, for want of memory
+pub none_stopped : (a b : Told) (ws : List Write) → Stays a b → IsStoppedAt a b ws
+none_stopped a b ws same = record { first = []; rest = ws; whole = refl; made = none_made a b same }
+
+-- a write that finds no memory writes nothing
+pub none_kept : (a b : Told) (name : List ℕ) → Keeps (a name) (b name) → ((other : List ℕ) → other ≢ name → b other ≡ a other) → AreMade a b []
+none_kept a b name kept stay = record { grown = λ other. under (bytes_eq name other) other (bytes_eq-Decides name other) }
+  where
+    keeps : (o p : Option (List ℕ)) → Keeps o p → Appends o p []
+    keeps None p kept = tt
+    keeps (Some x) None kept = absurd kept
+    keeps (Some x) (Some y) kept = kept ∙ sym (append-nil x)
+
+    under : (test : Bool) (other : List ℕ) → Decides test (name ≡ other) → Appends (a other) (b other) []
+    under true other is = let same = is.0 refl in subst (λ n. Appends (a n) (b n) []) same (keeps (a name) (b name) kept)
+    under false other is = grows_by_nothing (a other) (b other) (stay other (λ same. absurd (let no : false ≡ true = is.1 (sym same) in cc)))
+
+pub one_stopped : (a b : Told) (w : Write) → Keeps (a w.name) (b w.name) → ((other : List ℕ) → other ≢ w.name → b other ≡ a other) → IsStoppedAt a b (w ∷ [])
+one_stopped a b w kept stay = record { first = []; rest = w ∷ []; whole = refl; made = none_kept a b w.name kept stay }
+
+-- the writes end within the first of them
+pub cut_first : (a b : Told) (f g : FaultCounts) (ws vs : List Write) → IsCutAt a b f g ws → IsCutAt a b f g (ws ++ vs)
+cut_first a b f g ws vs p = record {
+  first = p.first;
+  cut = p.cut;
+  rest = p.rest ++ vs;
+  whole = ap (λ l. l ++ vs) p.whole ∙ append_assoc p.first (p.cut ∷ p.rest) vs;
+  front = p.front;
+  back = p.back;
+  parted = p.parted;
+  rose = p.rose;
+  made = p.made;
+}
+
+pub stopped_first : (a b : Told) (ws vs : List Write) → IsStoppedAt a b ws → IsStoppedAt a b (ws ++ vs)
+stopped_first a b ws vs p = record { first = p.first; rest = p.rest ++ vs; whole = ap (λ l. l ++ vs) p.whole ∙ append_assoc p.first p.rest vs; made = p.made }
+
+-- the writes end behind the first of them
+pub cut_behind : (a b c : Told) (f g h : FaultCounts) (ws vs : List Write) → AreMade a b ws → NoneFalls f g → IsCutAt b c g h vs → IsCutAt a c f h (ws ++ vs)
+cut_behind a b c f g h ws vs p low q = record {
+  first = ws ++ q.first;
+  cut = q.cut;
+  rest = q.rest;
+  whole = ap (λ l. ws ++ l) q.whole ∙ sym (append_assoc ws q.first (q.cut ∷ q.rest));
+  front = q.front;
+  back = q.back;
+  parted = q.parted;
+  rose = rose_since _ _ _ (low q.cut.name) q.rose;
+  made = rw (append_assoc ws q.first (record { name = q.cut.name; text = q.front } ∷ [])) (made_both a b c ws _ p q.made);
+}
+
+pub stopped_behind : (a b c : Told) (ws vs : List Write) → AreMade a b ws → IsStoppedAt b c vs → IsStoppedAt a c (ws ++ vs)
+stopped_behind a b c ws vs p q = record { first = ws ++ q.first; rest = q.rest; whole = ap (λ l. ws ++ l) q.whole ∙ sym (append_assoc ws q.first q.rest); made = made_both a b c ws q.first p q.made }
+
+-- the first writes ended so, and no others were tried
+pub ends_first : (S T : Type 0) (a b : Told) (f g : FaultCounts) (ws vs : List Write) (e : WriteStop) → EndsIn {T = S} a b f g ws (Err e) → EndsIn {T = T} a b f g (ws ++ vs) (Err e)
+ends_first S T a b f g ws vs Failed p = cut_first a b f g ws vs p
+ends_first S T a b f g ws vs NoMemory p = stopped_first a b ws vs p
+
+-- the first writes were made, and the others ended so
+pub ends_behind : (T : Type 0) (a b c : Told) (f g h : FaultCounts) (ws vs : List Write) (r : Result T WriteStop) → AreMade a b ws → NoneFalls f g → EndsIn b c g h vs r → EndsIn a c f h (ws ++ vs) r
+ends_behind T a b c f g h ws vs (Ok x) p low q = made_both a b c ws vs p q
+ends_behind T a b c f g h ws vs (Err Failed) p low q = cut_behind a b c f g h ws vs p low q
+ends_behind T a b c f g h ws vs (Err NoMemory) p low q = stopped_behind a b c ws vs p q
+
+-- want of memory behind these writes
+pub stopped_after : (a b : Told) (ws vs : List Write) → AreMade a b ws → IsStoppedAt a b (ws ++ vs)
+stopped_after a b ws vs p = record { first = ws; rest = vs; whole = refl; made = p }
+
+-- the status that answers how writing ended
+pub status_ends : (a b : Told) (f g : FaultCounts) (ws : List Write) (wanted status : ℕ) (r : Result (Unit {0}) WriteStop) → EndsIn {T = Unit {0}} a b f g ws r → status ≡ status_after wanted r → EndsAs a b f g ws wanted status
+status_ends a b f g ws wanted status (Ok x) p is = inl (is, p)
+status_ends a b f g ws wanted status (Err Failed) p is = inr (inl (is, p))
+status_ends a b f g ws wanted status (Err NoMemory) p is = inr (inr (is, p))
+
+-- want of memory before anything was written
+pub memory_ends : (a b : Told) (f g : FaultCounts) (ws : List Write) (wanted : ℕ) → Stays a b → EndsAs a b f g ws wanted 9
+memory_ends a b f g ws wanted same = inr (inr (refl, none_stopped a b ws same))
+
+-- nothing was written before
+pub ends_since : (a b c : Told) (f g h : FaultCounts) (ws : List Write) (wanted status : ℕ) → Stays a b → NoneFalls f g → EndsAs b c g h ws wanted status → EndsAs a c f h ws wanted status
+ends_since a b c f g h ws wanted status same low (inl (is, p)) = inl (is, made_both a b c [] ws (none_made a b same) p)
+ends_since a b c f g h ws wanted status same low (inr (inl (is, p))) = inr (inl (is, cut_behind a b c f g h [] ws (none_made a b same) low p))
+ends_since a b c f g h ws wanted status same low (inr (inr (is, p))) = inr (inr (is, stopped_behind a b c [] ws (none_made a b same) p))

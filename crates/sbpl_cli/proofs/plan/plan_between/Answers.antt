@@ -1,0 +1,61 @@
+use Rattle.std.proofs.Common.{◌≡◌, ℕ, Bool, true, false, None, refl, Result, Ok, Err, IfOk, sym, ◌∙◌, ap, subst}
+use Rattle.sbpl_labels.specs.Counts.{Counts}
+use Rattle.sbpl_fixed.specs.declared.no_memory.NoMemory.{NoMemory}
+use Rattle.sbpl_cost.specs.Lattices.{network_of}
+use Rattle.sbpl_cost.specs.World.{World}
+use Rattle.sbpl_heur.specs.Bests.{IsBest, distance_in}
+use Rattle.sbpl_labels.specs.Marks.{Marks, IsOpened}
+use Rattle.sbpl_plan.specs.declared.ask.Ask.{Ask}
+use Rattle.sbpl_plan.specs.declared.passes.Pass.{Pass}
+use Rattle.sbpl_plan.specs.declared.result.Planned.{Planned}
+use Rattle.sbpl_plan.specs.Outcomes as search
+use Rattle.sbpl_plan.specs.Outcomes.{IsOutcome}
+use Rattle.sbpl_plan.specs.Passing.{ArePasses}
+use Rattle.sbpl_cli.specs.declared.record.PlanRecord.{PlanRecord}
+use Rattle.sbpl_cli.specs.Headline.{IsAnswered, IsMarked, IsNoneThere, IsSearched, IsWithinBound, Joins, KeepsPromises, TellsResult, inquiry}
+use Rattle.sbpl_cli.specs.Jobs.{ask_of}
+use Rattle.sbpl_cli.proofs.plan.plan_between.Goals as goal
+
+searched_by : (w : World) (guide : ℕ → ℕ) (start goal budget marked : ℕ) (ask asked : Ask) (opened final : Marks) (planned : Planned) (r : Result PlanRecord NoMemory) → IsBest w goal guide → IsOpened opened (network_of w).states start → asked ≡ ask → ArePasses (inquiry w guide goal asked) asked.first opened planned.passes final planned.spent → IsOutcome (network_of w) guide goal final planned.outcome → marked ≡ budget → IfOk r (λ x. x.passes ≡ planned.passes) → IfOk r (λ x. TellsResult planned.outcome x.outcome) → IfOk r (IsMarked marked planned.spent) → IfOk r (IsSearched w start goal budget ask)
+searched_by w guide start goal budget marked ask asked opened final planned (Ok x) is_guide is_opened same passes outcome like copied told mark = record {
+  guide = guide;
+  is_guide = is_guide;
+  opened = opened;
+  is_opened = is_opened;
+  final = final;
+  spent = planned.spent;
+  passes = subst (λ ps. ArePasses (inquiry w guide goal ask) ask.first opened ps final planned.spent) (sym copied) (subst (λ (a : Ask). ArePasses (inquiry w guide goal a) a.first opened planned.passes final planned.spent) same passes);
+  result = planned.outcome;
+  is_result = outcome;
+  told = told;
+  marked = subst (λ (b : ℕ). IsMarked b planned.spent x) like mark;
+}
+searched_by w guide start goal budget marked ask asked opened final planned (Err e) is_guide is_opened same passes outcome like copied told mark = tt
+
+pub returns-clause-searched : goal.returns-clause-searched
+returns-clause-searched c =
+    let budget = ap (λ (k : Counts). k.per_plan) c.in_ok-planned.ensures.counted ∙ ap (λ (k : Counts). k.per_plan) c.new-budget.ensures.fresh in
+    searched_by c.args.lattice.now (distance_in c.in_ok-guide.guide) _ _ _ _ (ask_of c.args.search.now) c.ask_of-ask.result c.in_ok-ara.ara.labels c.plan.new.ara.labels c.in_ok-planned.planned _
+    c.in_ok-guide.ensures.best (subst (λ (n : ℕ). IsOpened c.in_ok-ara.ara.labels n c.args.start) c.states.ensures.value c.in_ok-ara.ensures.opened)
+    c.ask_of-ask.ensures.ask c.in_ok-planned.ensures.passes c.in_ok-planned.ensures.outcome budget
+    c.record_of.ensures.passes c.record_of.ensures.told c.record_of.ensures.marked
+
+-- a plan that is not marked as spent was not
+unmarked : (budget : ℕ) (spent : Bool) (x : PlanRecord) → IsMarked budget spent x → x.spent ≡ None → spent ≡ false
+unmarked budget true x mark is = let said = mark.0 in cc
+unmarked budget false x mark is = refl
+
+promises_by : (w : World) (start goal asked marked : ℕ) (planned : Planned) (r : Result PlanRecord NoMemory) → IfOk r (λ x. Joins w start goal x.outcome) → IfOk r (λ x. IsWithinBound w start goal x.outcome) → IfOk r (λ x. IsNoneThere w start goal x.outcome) → IfOk r (IsMarked marked planned.spent) → (planned.spent ≡ false → search.IsAnswered asked planned.outcome) → IfOk r (λ x. (a : ℕ) → search.IsAnswered a planned.outcome → IsAnswered a x.outcome) → IfOk r (KeepsPromises w start goal asked)
+promises_by w start goal asked marked planned (Ok x) joins within none mark known answered = record {
+  joins = joins;
+  within_the_bound = within;
+  none = none;
+  unless_spent = λ is. answered asked (known (unmarked marked planned.spent x mark is));
+}
+promises_by w start goal asked marked planned (Err e) joins within none mark known answered = tt
+
+pub returns-clause-promises : goal.returns-clause-promises
+returns-clause-promises c =
+    let bound = ap (λ (a : Ask). a.bound) c.ask_of-ask.ensures.ask in
+    promises_by _ _ _ _ _ c.in_ok-planned.planned _ c.record_of.ensures.joins c.record_of.ensures.within_the_bound c.record_of.ensures.none c.record_of.ensures.marked
+    (λ is. subst (λ (b : ℕ). search.IsAnswered b c.in_ok-planned.planned.outcome) bound (c.in_ok-planned.ensures.answered is)) c.record_of.ensures.answered

@@ -1,0 +1,93 @@
+-- What a job comes to: what is to be written, and the status.
+use Rattle.std.specs.Prelude.{◌≡◌, ℕ, List, [], ◌∷◌, ◌++◌, map, codes, decimal}
+use Rattle.sbpl_cfg.specs.Faults as environments
+use Rattle.sbpl_mprim.specs.Faults as primitives
+use Rattle.sbpl_cli.specs.declared.refusal.Input.{Input}
+use Rattle.sbpl_cli.specs.declared.refusal.Input.TheVariants as input
+use Rattle.sbpl_cli.specs.declared.refusal.Refusal.{Refusal}
+use Rattle.sbpl_cli.specs.declared.refusal.Refusal.TheVariants as refusal
+use Rattle.sbpl_cost.specs.World.{World}
+use Rattle.sbpl_cli.specs.declared.job.Job.{Job}
+use Rattle.sbpl_cli.specs.declared.job.Sources.{Sources}
+use Rattle.sbpl_cli.specs.declared.record.PlanRecord.{PlanRecord}
+use Rattle.sbpl_cli.specs.Jobs.{sources_of}
+use Rattle.sbpl_cli.specs.Listing.{listings}
+use Rattle.sbpl_cli.specs.Report.{line_feed, section_text, done_text}
+use Rattle.sbpl_cli.specs.Writing.{Write, to_output}
+
+-- the name of a file
+abbrev pub input_name : Sources → Input → List ℕ
+input_name from input.Environment = from.env
+input_name from input.Primitives = from.prims
+
+-- the statuses of refusals
+abbrev pub refusal_status : Refusal → ℕ
+refusal_status (refusal.Environment _) = 3
+refusal_status (refusal.Primitives _) = 4
+refusal_status (refusal.TooWide _) = 4
+refusal_status (refusal.TooDear _) = 4
+refusal_status (refusal.Read _) = 6
+refusal_status (refusal.Length _) = 8
+
+-- the line for words that name no job
+abbrev pub words_text : List ℕ
+words_text = codes "refused words\n"
+
+-- the line of a fault in a file: the file's kind, the fault's number and name, and its place
+unfoldable pub fault_text : List ℕ → ℕ → List ℕ → ℕ → List ℕ
+fault_text kind number name place = codes "refused " ++ (kind ++ (codes " " ++ (decimal number ++ (codes " " ++ (name ++ (codes " " ++ (decimal place ++ line_feed)))))))
+
+-- the line for a file that was not read
+unfoldable pub unread_text : List ℕ → List ℕ → List ℕ
+unread_text why name = codes "refused " ++ (why ++ (codes " " ++ (name ++ line_feed)))
+
+-- the line of a refusal
+abbrev pub refusal_text : Sources → Refusal → List ℕ
+refusal_text from (refusal.Environment f) = fault_text (codes "environment") (environments.number_of f) (environments.name_of f) (environments.place_of f)
+refusal_text from (refusal.Primitives f) = fault_text (codes "primitives") (primitives.number_of f) (primitives.name_of f) (primitives.place_of f)
+refusal_text from (refusal.TooWide i) = fault_text (codes "primitives") 14 (codes "TooWide") i
+refusal_text from (refusal.TooDear i) = fault_text (codes "primitives") 15 (codes "TooDear") i
+refusal_text from (refusal.Read i) = unread_text (codes "read") (input_name from i)
+refusal_text from (refusal.Length i) = unread_text (codes "length") (input_name from i)
+
+-- What a job comes to: it is refused; a plan was made; the sweeps of a world are listed; or memory runs out before anything
+-- is written.
+pub data Intent : Type 0 where
+  Refused : Refusal → Intent
+  Planned : PlanRecord → Intent
+  Listed : World → Intent
+  OutOfMemory : Intent
+
+-- the last write
+abbrev pub last_write : Write
+last_write = to_output done_text
+
+-- the writes of a plan: its section, and the last line
+abbrev pub plan_writes : PlanRecord → List Write
+plan_writes plan = to_output (section_text plan) ∷ last_write ∷ []
+
+-- the writes of a list of sweeps: one for each primitive, and the last line
+abbrev pub listing_writes : World → List Write
+listing_writes w = map to_output (listings w) ++ last_write ∷ []
+
+-- the writes of words that name no job
+abbrev pub words_writes : List Write
+words_writes = to_output words_text ∷ []
+
+-- the writes of a refusal
+abbrev pub refusal_writes : Sources → Refusal → List Write
+refusal_writes from r = to_output (refusal_text from r) ∷ []
+
+-- what is to be written
+abbrev pub writes_of : Job → Intent → List Write
+writes_of job (Refused r) = refusal_writes (sources_of job) r
+writes_of job (Planned plan) = plan_writes plan
+writes_of job (Listed w) = listing_writes w
+writes_of job OutOfMemory = []
+
+-- the status
+abbrev pub intent_status : Intent → ℕ
+intent_status (Refused r) = refusal_status r
+intent_status (Planned plan) = 0
+intent_status (Listed w) = 0
+intent_status OutOfMemory = 9

@@ -1,0 +1,73 @@
+-- Texts that are written under names, in turn, and how the writing of them ends.
+use Rattle.std.specs.Prelude.{◌≡◌, ◌⊎◌, ℕ, List, [], ◌∷◌, ◌++◌, flat_map, if◌then◌else◌, Option, Result, Ok, Err, codes}
+use Rattle.std.specs.Str.{bytes_eq}
+use Rattle.sbpl_desk.specs.Desk.{Appends, Rose}
+use Rattle.sbpl_desk.specs.declared.desk.WriteStop.{WriteStop}
+use Rattle.sbpl_desk.specs.declared.desk.WriteStop.TheVariants.{Failed, NoMemory}
+
+-- what a desk holds, or what is written, under each name, where it tells
+abbrev pub Told : Type 0
+Told = List ℕ → Option (List ℕ)
+
+-- how often each name failed
+abbrev pub FaultCounts : Type 0
+FaultCounts = List ℕ → ℕ
+
+-- one text that is written under a name
+pub record Write : Type 0 where
+  pub name : List ℕ
+  pub text : List ℕ
+
+-- the name of the standard output
+abbrev pub output : List ℕ
+output = codes "-"
+
+-- a text that is written to the standard output
+abbrev pub to_output : List ℕ → Write
+to_output text = record { name = output; text = text }
+
+-- what these writes append under a name
+abbrev pub text_under : List ℕ → List Write → List ℕ
+text_under name writes = flat_map (λ w. if bytes_eq w.name name then w.text else []) writes
+
+-- these writes were made: under each name, told bytes grew by their texts
+pub record AreMade (before after : Told) (writes : List Write) : Type 0 where
+  pub grown : (name : List ℕ) → Appends (before name) (after name) (text_under name writes)
+
+-- a write failed: those before it were made, and a front of its text stands written
+pub record IsCutAt (before after : Told) (faults faults' : FaultCounts) (writes : List Write) : Type 0 where
+  pub first : List Write
+  pub cut : Write
+  pub rest : List Write
+  pub whole : writes ≡ first ++ cut ∷ rest
+  pub front : List ℕ
+  pub back : List ℕ
+  pub parted : cut.text ≡ front ++ back
+  pub rose : Rose (faults cut.name) (faults' cut.name)
+  pub made : AreMade before after (first ++ record { name = cut.name; text = front } ∷ [])
+
+-- memory ran out: the first few writes were made
+pub record IsStoppedAt (before after : Told) (writes : List Write) : Type 0 where
+  pub first : List Write
+  pub rest : List Write
+  pub whole : writes ≡ first ++ rest
+  pub made : AreMade before after first
+
+-- how the making of these writes ends
+abbrev pub EndsIn : {T : Type 0} → Told → Told → FaultCounts → FaultCounts → List Write → Result T WriteStop → Type 0
+EndsIn before after faults faults' writes (Ok _) = AreMade before after writes
+EndsIn before after faults faults' writes (Err Failed) = IsCutAt before after faults faults' writes
+EndsIn before after faults faults' writes (Err NoMemory) = IsStoppedAt before after writes
+
+-- the status after the making of writes, where another one is wanted
+abbrev pub status_after : {T : Type 0} → ℕ → Result T WriteStop → ℕ
+status_after wanted (Ok _) = wanted
+status_after wanted (Err Failed) = 7
+status_after wanted (Err NoMemory) = 9
+
+-- how a run ends that is to make these writes and to answer a status
+abbrev pub EndsAs : Told → Told → FaultCounts → FaultCounts → List Write → ℕ → ℕ → Type 0
+EndsAs before after faults faults' writes wanted status =
+    ((status ≡ wanted) × AreMade before after writes)
+    ⊎ (((status ≡ 7) × IsCutAt before after faults faults' writes)
+    ⊎ ((status ≡ 9) × IsStoppedAt before after writes))

@@ -1,0 +1,58 @@
+//! The lattice that files stand for.
+
+ghost use Rattle.std.specs.Prelude.{◌≤◌, ◌^◌, IfErr, IfOk};
+ghost use Rattle.sbpl_desk.specs.Desk.{NoneFalls, Stays};
+ghost use Rattle.sbpl_cost.specs.World.{IsWorld};
+ghost use Rattle.sbpl_sweep.specs.Swept.{AreSweepsOf};
+ghost use Rattle.sbpl_sweep.specs.Widths.{NoneTooWide};
+ghost use Rattle.sbpl_cli.specs.Causes.{IsWideStop, SaysWorld, StopsFor};
+
+use crate::files::{read_environment, read_primitives};
+use crate::job::Sources;
+use crate::refusal::{Refusal, Stop};
+use sbpl_cost::{Lattice, LatticeFault};
+use sbpl_desk::Desk;
+use sbpl_map::Map;
+use sbpl_mprim::Prims;
+use sbpl_sweep::{SweepFault, Sweeps};
+use std::alloc::Global;
+
+/// The sweeps of primitives for a radius in nanometres.
+fn make_sweeps(alloc: Global, prims: &Prims, radius: u64) -> Result<Sweeps, Stop>
+    requires radius { radius ≤ 10 ^ 12 }
+    ensures made { IfOk result (AreSweepsOf prims.now radius) }
+    ensures narrow { IfOk result (λ _. NoneTooWide prims.now radius) }
+    ensures stop { IfErr result (IsWideStop prims.now radius) }
+{
+    match Sweeps::new(alloc, prims, radius, prims.cell()) {
+        Ok(sweeps) => Ok(sweeps),
+        Err(SweepFault::TooWide(place)) => Err(Stop::Refused(Refusal::TooWide(place))),
+        Err(SweepFault::NoMemory) => Err(Stop::NoMemory),
+    }
+}
+
+/// The lattice of the environment file and the primitive file, for a robot of the radius that is given.
+pub(crate) fn read_lattice<D: Desk>(
+    alloc: Global,
+    from: &Sources,
+    desk: &mut D,
+) -> Result<Lattice, Stop>
+    requires range { from.now.radius ≤ 10 ^ 12 }
+    ensures says { IfOk result (SaysWorld (D.held desk.old) from.now) }
+    ensures kept { IfOk result IsWorld }
+    ensures stop { IfErr result (StopsFor (D.held desk.old) (D.read_faults desk.old) (D.read_faults desk.new) from.now) }
+    ensures held { Stays (D.held desk.old) (D.held desk.new) }
+    ensures written { Stays (D.written desk.old) (D.written desk.new) }
+    ensures reads { NoneFalls (D.read_faults desk.old) (D.read_faults desk.new) }
+    ensures writes { NoneFalls (D.write_faults desk.old) (D.write_faults desk.new) }
+{
+    let (env, grid) = read_environment(alloc, from, desk)?;
+    let prims = read_primitives(alloc, from, &env, desk)?;
+    let sweeps = make_sweeps(alloc, &prims, from.radius)?;
+    let map = Map::new(&env, grid);
+    match Lattice::new(alloc, &env, prims, sweeps, map) {
+        Ok(lattice) => Ok(lattice),
+        Err(LatticeFault::TooDear(place)) => Err(Stop::Refused(Refusal::TooDear(place))),
+        Err(LatticeFault::NoMemory) => Err(Stop::NoMemory),
+    }
+}

@@ -1,0 +1,56 @@
+//! The listing of what each primitive costs and sweeps.
+
+ghost use Rattle.std.specs.Prelude.{◌≡◌, ◌≢◌, ◌<◌, ◌∷◌, [], ℕ, List, length};
+ghost use Rattle.sbpl_desk.specs.Desk.{NoneFalls, Stays};
+ghost use Rattle.sbpl_cost.specs.World.{IsWorld};
+ghost use Rattle.sbpl_cli.specs.Intents.{listing_writes};
+ghost use Rattle.sbpl_cli.specs.Listing.{listing_at};
+ghost use Rattle.sbpl_cli.specs.Writing.{EndsIn, output, to_output};
+
+use crate::listing::listing_at;
+use crate::writing::{OUTPUT, write_last, write_text};
+use sbpl_cost::Lattice;
+use sbpl_desk::{Desk, WriteStop};
+use sbpl_fixed::NoMemory;
+use std::alloc::Global;
+
+/// Writes the lines of the primitive at place `i` of the file.
+fn write_listing<D: Desk>(
+    alloc: Global,
+    lattice: &Lattice,
+    i: u32,
+    desk: &mut D,
+) -> Result<(), WriteStop>
+    requires place { i < length lattice.now.prims.items }
+    ensures ends { EndsIn (D.written desk.old) (D.written desk.new) (D.write_faults desk.old) (D.write_faults desk.new) (to_output (listing_at lattice.now i) ∷ []) result }
+    ensures held { Stays (D.held desk.old) (D.held desk.new) }
+    ensures others { (name : List ℕ) → name ≢ output → D.written desk.new name ≡ D.written desk.old name }
+    ensures reads { NoneFalls (D.read_faults desk.old) (D.read_faults desk.new) }
+    ensures writes { NoneFalls (D.write_faults desk.old) (D.write_faults desk.new) }
+{
+    match listing_at(alloc, lattice, i) {
+        Ok(text) => write_text(OUTPUT, text.as_slice(), desk),
+        Err(NoMemory) => Err(WriteStop::NoMemory),
+    }
+}
+
+/// Writes the lines of all primitives in the order of the file, and the last line.
+pub(crate) fn write_listings<D: Desk>(
+    alloc: Global,
+    lattice: &Lattice,
+    desk: &mut D,
+) -> Result<(), WriteStop>
+    ensures ends { EndsIn (D.written desk.old) (D.written desk.new) (D.write_faults desk.old) (D.write_faults desk.new) (listing_writes lattice.now) result }
+    ensures held { Stays (D.held desk.old) (D.held desk.new) }
+    ensures others { (name : List ℕ) → name ≢ output → D.written desk.new name ≡ D.written desk.old name }
+    ensures reads { NoneFalls (D.read_faults desk.old) (D.read_faults desk.new) }
+    ensures writes { NoneFalls (D.write_faults desk.old) (D.write_faults desk.new) }
+{
+    let count = lattice.prims().len();
+    for i in 0..count {
+        if let Err(stop) = write_listing(alloc, lattice, i, desk) {
+            return Err(stop);
+        }
+    }
+    write_last(desk)
+}

@@ -1,0 +1,88 @@
+//! The lines of refusals.
+
+ghost use Rattle.std.specs.Prelude.{◌≡◌, ◌++◌, OnOk, IfOk};
+ghost use Rattle.sbpl_cli.specs.Intents.{fault_text, input_name, refusal_text, unread_text};
+
+use crate::job::Sources;
+use crate::name::Name;
+use crate::refusal::{Input, Refusal};
+use crate::report::{push_bytes, push_field};
+use sbpl_fixed::NoMemory;
+use std::alloc::Global;
+
+/// Appends the line of a fault in a file.
+#[tactic(auto, unfolding(crate::specs::Intents::fault_text))]
+fn push_fault(
+    out: &mut Vec<u8>,
+    kind: &[u8],
+    number: u8,
+    name: &str,
+    place: u64,
+) -> Result<(), NoMemory>
+    ensures appended { OnOk result (out.new.items ≡ out.old.items ++ fault_text kind.now number name.now place) }
+{
+    push_bytes(out, b"refused ")?;
+    push_bytes(out, kind)?;
+    push_field(out, b" ", u64::from(number))?;
+    push_bytes(out, b" ")?;
+    push_bytes(out, name.as_bytes())?;
+    push_field(out, b" ", place)?;
+    push_bytes(out, b"\n")
+}
+
+/// Appends the line for a file that was not read.
+#[tactic(auto, unfolding(crate::specs::Intents::unread_text))]
+fn push_unread(out: &mut Vec<u8>, why: &[u8], name: &Name) -> Result<(), NoMemory>
+    ensures appended { OnOk result (out.new.items ≡ out.old.items ++ unread_text why.now name.now) }
+{
+    push_bytes(out, b"refused ")?;
+    push_bytes(out, why)?;
+    push_bytes(out, b" ")?;
+    push_bytes(out, name.as_str().as_bytes())?;
+    push_bytes(out, b"\n")
+}
+
+/// The name of a file.
+fn name_of<'a>(from: &'a Sources, input: Input) -> &'a Name
+    ensures name { result.now ≡ input_name from.now input }
+{
+    match input {
+        Input::Environment => &from.env,
+        Input::Primitives => &from.prims,
+    }
+}
+
+/// Appends the line of a refusal.
+fn push_refusal(out: &mut Vec<u8>, from: &Sources, refusal: &Refusal) -> Result<(), NoMemory>
+    ensures appended { OnOk result (out.new.items ≡ out.old.items ++ refusal_text from.now refusal.now) }
+{
+    match refusal {
+        Refusal::Environment(fault) => push_fault(
+            out,
+            b"environment",
+            fault.number(),
+            fault.name(),
+            fault.place() as u64,
+        ),
+        Refusal::Primitives(fault) => push_fault(
+            out,
+            b"primitives",
+            fault.number(),
+            fault.name(),
+            fault.place() as u64,
+        ),
+        Refusal::TooWide(prim) => push_fault(out, b"primitives", 14, "TooWide", u64::from(*prim)),
+        Refusal::TooDear(prim) => push_fault(out, b"primitives", 15, "TooDear", u64::from(*prim)),
+        Refusal::Read(input) => push_unread(out, b"read", name_of(from, *input)),
+        Refusal::Length(input) => push_unread(out, b"length", name_of(from, *input)),
+    }
+}
+
+/// The line of a refusal.
+pub(crate) fn line_of(alloc: Global, from: &Sources, refusal: &Refusal) -> Result<Vec<u8>, NoMemory>
+    ensures text { IfOk result (λ line. line.items ≡ refusal_text from.now refusal.now) }
+{
+    let mut line = Vec::new(alloc);
+    push_refusal(&mut line, from, refusal)?;
+    Ok(line)
+}

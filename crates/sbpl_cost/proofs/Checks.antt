@@ -1,0 +1,126 @@
+-- Lists of the cells that a judgement reads.
+use Rattle.std.proofs.Common.{◌≡◌, ℕ, zero, suc, ℤ, pos, ◌+◌, ◌-◌, ◌<◌, ◌&&◌, true, ◌++◌, ◌∷◌, [], inl, inr, ◌⊎◌, List, length, take, slice_get, Some, refl, ap, sym, ◌∙◌, arith, subst}
+use Rattle.std.specs.Ordering.{int_eq}
+use Rattle.std.proofs.lemmas.Bool.{cases_lt, and_parts}
+use Rattle.std.proofs.lemmas.Bool.Decides.{Decides-int_eq}
+use Rattle.std.proofs.lemmas.List.{length_push}
+use Rattle.std.proofs.lemmas.Option.{none-some, same_Some, slice_get_within, slice_get-get_or}
+use Rattle.std.proofs.Math.ListN.{get_or}
+use Rattle.sbpl_cfg.specs.declared.pose.Pose.{Pose}
+use Rattle.sbpl_mprim.specs.declared.prim.Primitive.{Primitive}
+use Rattle.sbpl_mprim.specs.Primitives.{IsPrimitive}
+use Rattle.sbpl_sweep.specs.declared.cell.Cell.{Cell}
+use Rattle.sbpl_sweep.specs.Sweep.{IsCentre}
+use Rattle.sbpl_sweep.specs.Centres.{AreCentres, AreSwept}
+use Rattle.sbpl_cost.specs.Checked.{IsListed, AddsOthers, AreAlong, AreAround}
+use Rattle.sbpl_cost.proofs.Filling.{before_push, at_push, take_next}
+
+-- one more cell at the end
+listed_push : (list : List Cell) (c x : Cell) → IsListed list x → IsListed (list ++ c ∷ []) x
+listed_push list c x (i, h) = (i, before_push list c i (slice_get_within list i x h) ∙ h)
+
+listed_last : (list : List Cell) (c : Cell) → IsListed (list ++ c ∷ []) c
+listed_last list c = (length list, at_push list c (length list) refl)
+
+from_push : (list : List Cell) (c x : Cell) → IsListed (list ++ c ∷ []) x → IsListed list x ⊎ (c ≡ x)
+from_push list c x (i, h) =
+    let inside = slice_get_within (list ++ c ∷ []) i x h in
+    elim (cases_lt i (length list)) [
+      | inl less ↦ inl (i, sym (before_push list c i less) ∙ h)
+      | inr more ↦ inr (same_Some c x (sym (at_push list c i (omega (arith, length_push list c))) ∙ h))
+    ]
+
+module _ (old cells known list : List Cell) (n : ℕ) (c : Cell) (at : slice_get cells n ≡ Some c) (so_far : AddsOthers old (take n cells) known list) where
+  earlier : (x : Cell) → IsListed (take n cells) x → IsListed (take (n + 1) cells) x
+  earlier x h = subst (λ l. IsListed l x) (sym (take_next cells n c at)) (listed_push (take n cells) c x h)
+
+  here : IsListed (take (n + 1) cells) c
+  here = subst (λ l. IsListed l c) (sym (take_next cells n c at)) (listed_last (take n cells) c)
+
+  before : (x : Cell) → IsListed (take (n + 1) cells) x → IsListed (take n cells) x ⊎ (c ≡ x)
+  before x h = from_push (take n cells) c x (subst (λ l. IsListed l x) (take_next cells n c at) h)
+
+  -- one more cell that was added
+  pub added_more : (new : List Cell) → new ≡ list ++ c ∷ [] → AddsOthers old (take (n + 1) cells) known new
+  added_more new is = record {
+    kept = λ x h. subst (λ l. IsListed l x) (sym is) (listed_push list c x (so_far.kept x h));
+    each = λ x h. elim (from_push list c x (subst (λ l. IsListed l x) is h)) [
+      | inl was ↦ elim (so_far.each x was) [ inl before ↦ inl before | inr among ↦ inr (earlier x among) ]
+      | inr same ↦ inr (subst (λ z. IsListed (take (n + 1) cells) z) same here)
+    ];
+    all = λ x h. elim (before x h) [
+      | inl was ↦ elim (so_far.all x was) [ inl in_list ↦ inl (subst (λ l. IsListed l x) (sym is) (listed_push list c x in_list)) | inr in_known ↦ inr in_known ]
+      | inr same ↦ inl (subst (λ l. IsListed l x) (sym is) (subst (λ z. IsListed (list ++ c ∷ []) z) same (listed_last list c)))
+    ];
+  }
+
+  -- one more cell that is known
+  pub skipped_more : IsListed known c → AddsOthers old (take (n + 1) cells) known list
+  skipped_more is = record {
+    kept = so_far.kept;
+    each = λ x h. elim (so_far.each x h) [ inl before ↦ inl before | inr among ↦ inr (earlier x among) ];
+    all = λ x h. elim (before x h) [ inl was ↦ so_far.all x was | inr same ↦ inr (subst (λ z. IsListed known z) same is) ];
+  }
+
+-- a cell that equals the known one at a place is known
+pub known_where_equal : (known : List Cell) (n : ℕ) (c : Cell) → n < length known → (int_eq (get_or known n (record { y = pos 0; x = pos 0 })).y c.y && int_eq (get_or known n (record { y = pos 0; x = pos 0 })).x c.x) ≡ true → IsListed known c
+known_where_equal known n c within h =
+    let k : Cell = get_or known n (record { y = pos 0; x = pos 0 }) in
+    let parts = and_parts (int_eq k.y c.y) (int_eq k.x c.x) h in
+    let row = (Decides-int_eq k.y c.y).0 parts.0 in
+    let column = (Decides-int_eq k.x c.x).0 parts.1 in
+    let by_row : ℤ → Cell = λ y. record { y = y; x = k.x } in
+    let by_column : ℤ → Cell = λ x. record { y = c.y; x = x } in
+    (n, slice_get-get_or known n (record { y = pos 0; x = pos 0 }) within ∙ ap (λ z. Some z) (ap by_row row ∙ ap by_column column))
+
+-- no cells yet
+pub added_none : (old known : List Cell) → AddsOthers old [] known old
+added_none old known = record { kept = λ x h. h; each = λ x h. inl h; all = λ x h. absurd (none-some x h.1) }
+
+-- the end cell is a centre cell, since the last pose lies there
+pub end_is_centre : (cell : ℤ) (headings : ℕ) (p : Primitive) → IsPrimitive cell headings p → IsCentre cell p.poses p.dx p.dy
+end_is_centre cell headings p good =
+    let last : ℕ = length p.poses - 1 in
+    let some = good.some_pose in
+    let default : Pose = record { x = pos 0; y = pos 0; theta = pos 0 } in
+    let there = slice_get-get_or p.poses last default (omega arith) in
+    let end = good.end (get_or p.poses last default) last (omega arith) there in
+    record { number = last; pose = get_or p.poses last default; stands = there; column = end.x; row = end.y }
+
+-- a list of one cell has that cell
+one_listed : (end c : Cell) → IsListed (end ∷ []) c → end ≡ c
+one_listed end c (zero, h) = same_Some end c h
+one_listed end c (suc i, h) = absurd (none-some c h)
+
+pub along_from : (cell : ℤ) (headings : ℕ) (p : Primitive) (end : Cell) (centres cells : List Cell) → IsPrimitive cell headings p → AreCentres cell p.poses centres
+    → end ≡ record { y = p.dy; x = p.dx } → AddsOthers (end ∷ []) centres (end ∷ []) cells → AreAlong cell p cells
+along_from cell headings p end centres cells good are is added =
+    let P : Cell → Type 0 = λ c. IsCentre cell p.poses c.x c.y in
+    let at_end : P end = subst P (sym is) (end_is_centre cell headings p good) in
+    record {
+      each = λ i c h. elim (added.each c (i, h)) [
+        | inl first ↦ subst P (one_listed end c first) at_end
+        | inr centre ↦ are.each centre.0 c centre.1
+      ];
+      all = λ x y centre.
+          let c : Cell = record { y = y; x = x } in
+          elim (added.all c (are.all x y centre)) [
+            | inl listed ↦ listed
+            | inr known ↦ added.kept c known
+          ];
+    }
+
+pub around_from : (cell : ℤ) (radius : ℕ) (p : Primitive) (centres swept cells : List Cell) → AreCentres cell p.poses centres → AreSwept cell radius p.poses swept
+    → AddsOthers [] swept centres cells → AreAround cell radius p cells
+around_from cell radius p centres swept cells are all added = record {
+  each = λ i c h. elim (added.each c (i, h)) [
+    | inl none ↦ absurd (none-some c none.1)
+    | inr among ↦ all.each among.0 c among.1
+  ];
+  all = λ x y touched.
+      let c : Cell = record { y = y; x = x } in
+      elim (added.all c (all.all x y touched)) [
+        | inl listed ↦ inr listed
+        | inr known ↦ inl (are.each known.0 c known.1)
+      ];
+}

@@ -1,0 +1,8 @@
+use Rattle.std.proofs.Common.{◌≡◌, slice_get, Some}
+use Rattle.sbpl_mprim.specs.declared.prim.Primitive.{Primitive}
+use Rattle.sbpl_cost.specs.Checked.{AreAround}
+use Rattle.sbpl_cost.proofs.Filling.{IsFilled}
+use Rattle.sbpl_cost.proofs.checked.around_table.Given as goal
+
+abbrev pub invariant-loop-i : goal.invariant-loop-i
+invariant-loop-i l = IsFilled (λ k cells. (p : Primitive) → slice_get l.prims.items k ≡ Some p → AreAround l.prims.cell l.sweeps.radius p cells) l.table l.i

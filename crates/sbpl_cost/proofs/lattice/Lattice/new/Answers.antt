@@ -1,0 +1,44 @@
+use Rattle.std.proofs.Common.{rules, ap, sym, subst, ◌∙◌, map}
+use Rattle.sbpl_cfg.specs.Environment.{Environment, IsEnvironment}
+use Rattle.sbpl_mprim.specs.Primitives.{ArePrimitives}
+use Rattle.sbpl_sweep.specs.Swept.{AreForFew}
+use Rattle.sbpl_cost.specs.PrimitiveCost.{primitive_cost}
+use Rattle.sbpl_cost.specs.Rates.{AreGaps}
+use Rattle.sbpl_cost.specs.Tables.{AreCheap}
+use Rattle.sbpl_cost.specs.World.{IsWorld}
+use Rattle.sbpl_cost.proofs.lattice.Lattice.new.Goals as goal
+
+-- the parts are those of a world
+world : (c : goal.After-copy_of) → IsWorld (record { env = c.copy_of.result; prims = c.args.prims; sweeps = c.args.sweeps; map = c.args.map })
+world c =
+    let env : IsEnvironment c.copy_of.result = search rules in
+    let prims : ArePrimitives c.args.prims = search rules in
+    let few : AreForFew c.args.sweeps = search rules in
+    let same = sym c.copy_of.ensures.same in
+    record {
+      env = env;
+      prims = prims;
+      map = c.width-width.ensures.kept;
+      cell = c.requires.cell ∙ ap (λ (e : Environment). e.cell) same;
+      headings = c.requires.headings ∙ ap (λ (e : Environment). e.headings) same;
+      width = c.requires.width ∙ ap (λ (e : Environment). e.width) same;
+      height = c.requires.height ∙ ap (λ (e : Environment). e.height) same;
+      sweeps = c.requires.sweeps;
+      radius = few.radius;
+      costs = subst (λ (e : Environment). AreCheap e c.args.prims.items) same c.in_ok-costs.ensures.cheap;
+    }
+
+pub invariant_of-result : goal.invariant_of-result
+invariant_of-result c = record {
+  world = world c;
+  leaving = c.in_ok-leaving.ensures.table;
+  entering = c.in_ok-entering.ensures.table;
+  numbers = c.in_ok-numbers.ensures.numbers;
+  costs = c.in_ok-costs.ensures.costs ∙ ap (λ (e : Environment). map (primitive_cost e) c.args.prims.items) (sym c.copy_of.ensures.same);
+  along = c.in_ok-along.ensures.table;
+  around = c.in_ok-around.ensures.table;
+  fractions = subst (λ (e : Environment). AreGaps e c.args.prims.items c.new-gaps.result) (sym c.copy_of.ensures.same) c.new-gaps.ensures.gaps;
+}
+
+pub returns-clause-kept : goal.returns-clause-kept
+returns-clause-kept c = world c

@@ -1,9 +1,0 @@
-use Rattle.std.proofs.Common.{◌≡◌, slice_get, Some}
-use Rattle.sbpl_mprim.specs.declared.prim.Primitive.{Primitive}
-use Rattle.sbpl_cost.specs.Centres.{AreCentres}
-use Rattle.sbpl_cost.proofs.Filling.{IsFilled}
-use Rattle.sbpl_cost.proofs.tables.centre_table.Given as goal
-
-abbrev pub invariant-loop-prim : goal.invariant-loop-prim
-invariant-loop-prim l =
-    IsFilled (λ k cells. (p : Primitive) → slice_get l.prims.items k ≡ Some p → AreCentres l.prims.cell p.poses cells) l.table l.prim-index

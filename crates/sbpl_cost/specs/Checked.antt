@@ -1,0 +1,34 @@
+-- The cells that a motion's judgement reads beside its source cell.
+use Rattle.std.specs.Prelude.{◌≡◌, ℕ, ℤ, ◌⊎◌, List, slice_get, Some}
+use Rattle.sbpl_mprim.specs.declared.prim.Primitive.{Primitive}
+use Rattle.sbpl_mprim.specs.Primitives.{Primitives}
+use Rattle.sbpl_sweep.specs.declared.cell.Cell.{Cell}
+use Rattle.sbpl_sweep.specs.Sweep.{IsCentre, IsSwept}
+
+-- a cell is in a list
+abbrev pub IsListed : List Cell → Cell → Type 0
+IsListed cells c = (i : ℕ) × (slice_get cells i ≡ Some c)
+
+-- cells that are not known were added to a list, and no others
+pub record AddsOthers (old cells known new : List Cell) : Type 0 where
+  pub kept : (c : Cell) → IsListed old c → IsListed new c
+  pub each : (c : Cell) → IsListed new c → IsListed old c ⊎ IsListed cells c
+  pub all : (c : Cell) → IsListed cells c → IsListed new c ⊎ IsListed known c
+
+-- the cells along a motion are its centre cells
+pub record AreAlong (cell : ℤ) (p : Primitive) (cells : List Cell) : Type 0 where
+  pub each : (i : ℕ) (c : Cell) → slice_get cells i ≡ Some c → IsCentre cell p.poses c.x c.y
+  pub all : (x y : ℤ) → IsCentre cell p.poses x y → (i : ℕ) × (slice_get cells i ≡ Some (record { y = y; x = x }))
+
+-- the cells around a motion are swept, and with its centre cells they are all that it sweeps
+pub record AreAround (cell : ℤ) (radius : ℕ) (p : Primitive) (cells : List Cell) : Type 0 where
+  pub each : (i : ℕ) (c : Cell) → slice_get cells i ≡ Some c → IsSwept cell radius p.poses c.x c.y
+  pub all : (x y : ℤ) → IsSwept cell radius p.poses x y → IsCentre cell p.poses x y ⊎ ((i : ℕ) × (slice_get cells i ≡ Some (record { y = y; x = x })))
+
+-- each primitive has the cells along it
+abbrev pub HaveAlong : Primitives → List (List Cell) → Type 0
+HaveAlong prims table = (i : ℕ) (p : Primitive) → slice_get prims.items i ≡ Some p → (cells : List Cell) × (slice_get table i ≡ Some cells) × AreAlong prims.cell p cells
+
+-- each primitive has the cells around it
+abbrev pub HaveAround : Primitives → ℕ → List (List Cell) → Type 0
+HaveAround prims radius table = (i : ℕ) (p : Primitive) → slice_get prims.items i ≡ Some p → (cells : List Cell) × (slice_get table i ≡ Some cells) × AreAround prims.cell radius p cells

@@ -1,0 +1,72 @@
+-- What going from one place to another costs at least, on every map.
+use Rattle.std.specs.Prelude.{◌≡◌, ℕ, ℤ, pos, negsuc, ◌+◌, ◌-◌, ◌*◌, ◌/◌, ◌≤◌, ◌==◌, min, max, List, [], ◌∷◌, slice_get, Option, Some, None, unwrap_or, if◌then◌else◌}
+use Rattle.sbpl_cfg.specs.declared.pose.Place.{Place}
+use Rattle.sbpl_cfg.specs.Environment.{Environment}
+use Rattle.sbpl_mprim.specs.declared.prim.Primitive.{Primitive}
+use Rattle.sbpl_cost.specs.declared.way.Way.{Way}
+use Rattle.sbpl_cost.specs.declared.way.Way.TheVariants.{Right, Left, Up, Down, Round}
+use Rattle.sbpl_cost.specs.PrimitiveCost.{primitive_cost, heading_gap}
+
+-- how many cells a number of cells goes forwards
+abbrev pub ahead : ℤ → ℕ
+ahead (pos n) = n
+ahead (negsuc n) = 0
+
+-- how many cells a number of cells goes backwards
+abbrev pub behind : ℤ → ℕ
+behind (pos n) = 0
+behind (negsuc n) = n + 1
+
+-- how many cells, or bins of a turn, a primitive goes in a way
+abbrev pub advance : ℕ → Way → Primitive → ℕ
+advance headings Right p = ahead p.dx
+advance headings Left p = behind p.dx
+advance headings Up p = ahead p.dy
+advance headings Down p = behind p.dy
+advance headings Round p = heading_gap headings p.from p.to
+
+-- the lesser of two numbers, either of which may be missing
+abbrev pub lesser : Option ℕ → Option ℕ → Option ℕ
+lesser None o = o
+lesser (Some a) None = Some a
+lesser (Some a) (Some b) = Some (min a b)
+
+-- what n cells cost at a cost for so many cells, rounded down; none where those are none
+abbrev pub floor_for : ℕ → ℕ → ℕ → Option ℕ
+floor_for cost cells n = if cells == 0 then None else Some (n * cost / cells)
+
+-- what n cells to go in a way cost by a primitive's fraction of cost to cells; none where it does not go that way
+abbrev pub floor_by : Environment → Way → ℕ → Primitive → Option ℕ
+floor_by e way n p = floor_for (primitive_cost e p) (advance e.headings way p) n
+
+-- the least of these over all primitives that go that way
+abbrev pub least_floor : Environment → Way → ℕ → List Primitive → Option ℕ
+least_floor e way n [] = None
+least_floor e way n (p ∷ ps) = lesser (floor_by e way n p) (least_floor e way n ps)
+
+-- what n cells to go in a way cost at least, 0 where no primitive goes that way
+unfoldable pub way_bound : Environment → List Primitive → Way → ℕ → ℕ
+way_bound e prims way n = unwrap_or (least_floor e way n prims) 0
+
+-- what going from one place to another costs at least: the greatest of the bounds of the five ways
+unfoldable pub gap_of : Environment → List Primitive → Place → Place → ℕ
+gap_of e prims a b =
+    max (max (way_bound e prims Right (b.x - a.x)) (way_bound e prims Left (a.x - b.x)))
+    (max (max (way_bound e prims Up (b.y - a.y)) (way_bound e prims Down (a.y - b.y))) (way_bound e prims Round (heading_gap e.headings a.t b.t)))
+
+-- this primitive's fraction of cost to cells is the least of all that go that way
+pub record HasLeastFraction (e : Environment) (prims : List Primitive) (way : Way) (place : ℕ) (p : Primitive) : Type 0 where
+  pub stands : slice_get prims place ≡ Some p
+  pub goes : 1 ≤ advance e.headings way p
+  pub least : (i : ℕ) (q : Primitive) → slice_get prims i ≡ Some q → 1 ≤ advance e.headings way q
+      → primitive_cost e p * advance e.headings way q ≤ primitive_cost e q * advance e.headings way p
+
+-- the bound of a way is the floor of the least fraction times the cells to go
+abbrev pub BoundsAreFloors : Type 0
+BoundsAreFloors = (e : Environment) (prims : List Primitive) (way : Way) (n place : ℕ) (p : Primitive) → HasLeastFraction e prims way place p
+    → way_bound e prims way n ≡ n * primitive_cost e p / advance e.headings way p
+
+-- the bound of a way that no primitive goes is 0
+abbrev pub BoundsMayBeZero : Type 0
+BoundsMayBeZero = (e : Environment) (prims : List Primitive) (way : Way) (n : ℕ) → ((i : ℕ) (p : Primitive) → slice_get prims i ≡ Some p → advance e.headings way p ≡ 0)
+    → way_bound e prims way n ≡ 0

@@ -1,0 +1,85 @@
+//! The cells that a motion's judgement reads beside its source cell.
+
+ghost use Rattle.std.specs.Prelude.{◌≡◌, ◌<◌, [], slice_get, Some, IfOk, OnOk};
+ghost use Rattle.sbpl_mprim.specs.Primitives.{IsPrimitive};
+ghost use Rattle.sbpl_sweep.specs.Centres.{AreCentres, AreSwept};
+ghost use Rattle.sbpl_sweep.specs.Swept.{AreSweepsOf};
+ghost use Rattle.sbpl_cost.specs.Checked.{AddsOthers, AreAlong, AreAround, HaveAlong, HaveAround};
+
+use sbpl_fixed::NoMemory;
+use sbpl_mprim::{Prim, Prims};
+use sbpl_sweep::{Cell, Runs, Sweeps};
+use std::alloc::Global;
+
+/// Adds those of some cells that are not known. The known cells are among the cells, and both are in the same order.
+fn push_others(list: &mut Vec<Cell>, cells: &[Cell], known: &[Cell]) -> Result<(), NoMemory>
+    ensures added { OnOk result (AddsOthers list.old.items cells.now known.now list.new.items) }
+{
+    let mut next = 0;
+    for cell in cells {
+        if next < known.len() && known[next] == *cell {
+            next += 1;
+        } else {
+            list.push(*cell)?;
+        }
+    }
+    Ok(())
+}
+
+/// The centre cells of a primitive, its end cell first.
+fn along_cells(alloc: Global, prim: &Prim, centres: &[Cell]) -> Result<Vec<Cell>, NoMemory>
+    ensures along { IfOk result (λ v. (size : _) (headings : _) → IsPrimitive size headings prim.now → AreCentres size prim.now.poses centres.now → AreAlong size prim.now v.items) }
+{
+    let end = [Cell {
+        y: i64::from(prim.dy),
+        x: i64::from(prim.dx),
+    }];
+    let mut cells = Vec::new(alloc);
+    cells.push(end[0])?;
+    push_others(&mut cells, centres, end.as_slice())?;
+    Ok(cells)
+}
+
+/// The cells that a motion sweeps, save its centre cells.
+fn around_cells(alloc: Global, centres: &[Cell], swept: &[Cell]) -> Result<Vec<Cell>, NoMemory>
+    ensures around { IfOk result (λ v. AddsOthers [] swept.now centres.now v.items) }
+{
+    let mut cells = Vec::new(alloc);
+    push_others(&mut cells, swept, centres)?;
+    Ok(cells)
+}
+
+/// For each primitive the cells along it: its centre cells.
+pub(crate) fn along_table(
+    alloc: Global,
+    prims: &Prims,
+    sweeps: &Sweeps,
+) -> Result<Runs<Cell>, NoMemory>
+    requires sweeps { AreSweepsOf prims.now sweeps.now.radius sweeps.now }
+    ensures table { IfOk result (λ r. HaveAlong prims.now r) }
+{
+    let mut table = Runs::new(alloc)?;
+    let _cell = prims.cell();
+    for i in 0..prims.len() {
+        let cells = along_cells(alloc, prims.get(i), sweeps.centre(i))?;
+        table.push(cells.as_slice())?;
+    }
+    Ok(table)
+}
+
+/// For each primitive the cells around it: those that it sweeps, save its centre cells.
+pub(crate) fn around_table(
+    alloc: Global,
+    prims: &Prims,
+    sweeps: &Sweeps,
+) -> Result<Runs<Cell>, NoMemory>
+    requires sweeps { AreSweepsOf prims.now sweeps.now.radius sweeps.now }
+    ensures table { IfOk result (λ r. HaveAround prims.now sweeps.now.radius r) }
+{
+    let mut table = Runs::new(alloc)?;
+    for i in 0..prims.len() {
+        let cells = around_cells(alloc, sweeps.centre(i), sweeps.swept(i))?;
+        table.push(cells.as_slice())?;
+    }
+    Ok(table)
+}

@@ -1,0 +1,11 @@
+pub mod Counts
+pub mod Searching
+pub mod Sources
+pub mod Steps
+pub mod Settled
+pub mod Hopping
+pub mod Walking
+pub mod Splitting
+pub mod Arriving
+pub mod Cutting
+pub mod Rebuilt

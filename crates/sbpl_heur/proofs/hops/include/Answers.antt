@@ -1,0 +1,9 @@
+use Rattle.std.proofs.Common.{◌≡◌, ap, sym, ◌∙◌, min, slice_set, subst}
+use Rattle.std.proofs.lemmas.Option.{get_or_from_slice_get}
+use Rattle.sbpl_heur.specs.declared.hop.Hop.{Hop}
+use Rattle.sbpl_heur.proofs.Hopping.{lowers_at}
+use Rattle.sbpl_heur.proofs.hops.include.Goals as goal
+
+pub returns-clause-includes : goal.returns-clause-includes
+returns-clause-includes c =
+    lowers_at c.args.hops.now.items c.as_slice.result.now c.args.hop c.in-Some.j c.index_mut-known.result.now c.min-known.result c.as_slice.ensures.value c.in-Some.ensures c.index_mut-known.ensures.value c.min-known.ensures

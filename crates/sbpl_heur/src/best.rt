@@ -1,0 +1,137 @@
+//! The best heuristic: the cell bound joined with the gap.
+
+ghost use Rattle.std.specs.Prelude.{◌≡◌, ◌*◌, ◌<◌, ◌≤◌, IfOk};
+ghost use Rattle.sbpl_cost.specs.World.{World};
+ghost use Rattle.sbpl_cost.specs.Lattices.{network_of};
+ghost use Rattle.sbpl_heur.specs.Bests.{IsBest, IsGuide, Fits, distance_in};
+
+use crate::cut::{cut, turn};
+use crate::found::Found;
+use crate::hop::Hop;
+use crate::hops::list_hops;
+use crate::search::search;
+use sbpl_cfg::Env;
+use sbpl_cost::{Lattice, lattice_has_its_arcs};
+use sbpl_fixed::NoMemory;
+use sbpl_graph::{Graph, Guide};
+use sbpl_open::Open;
+use std::alloc::Global;
+use std::marker::Model;
+
+/// The best heuristic for a goal on a lattice: at each state the greater of two lower bounds on the cost to the goal.
+/// One is the least weight of a walk of cells to the goal's cell on the present map, where a step costs the least
+/// primitive that moves so times one more than the greater of its two cells' costs; cells without a walk have the
+/// greatest bound that a cell with a walk has. The other is the lattice's gap to the goal. Only `build` takes memory.
+#[derive(Drop)]
+pub struct Best {
+    goal: u32,
+    /// The pairs by which primitives move, with room for one of each primitive.
+    hops: Vec<Hop>,
+    /// For each heading the gap to the goal by turning.
+    turns: Vec<u64>,
+    /// For each cell the greater of its bound and of its gap to the goal.
+    found: Found,
+}
+
+impl Model for Best {
+    ghost use Rattle.std.specs.Prelude.{vec_capacity};
+    ghost use Rattle.sbpl_heur.specs.Bests.{Table};
+
+    ghost Value = { Table };
+
+    ghost use Rattle.sbpl_open.specs.Frontier.{states_of};
+    ghost use Rattle.sbpl_heur.specs.Bests.{AreParts};
+
+    ghost view = { λ b. record { goal = b.goal; cells = b.found.distances.items; turns = b.turns.items; room = vec_capacity b.hops } };
+
+    ghost invariant = { λ b. AreParts (record { goal = b.goal; cells = b.found.distances.items; turns = b.turns.items; room = vec_capacity b.hops }) (states_of b.found.open) };
+}
+
+/// The number of headings.
+fn headings_of(env: &Env) -> u32
+    ensures value { result ≡ env.now.headings }
+    ensures some { 1 ≤ result }
+{
+    env.headings
+}
+
+/// The number of cells.
+fn cells_of(env: &Env) -> u32
+    ensures { result ≡ env.now.width * env.now.height }
+{
+    env.width * env.height
+}
+
+impl Best {
+    /// The best heuristic for a goal on the present map of a lattice.
+    pub fn build(alloc: Global, lattice: &Lattice, goal: u32) -> Result<Best, NoMemory>
+        requires goal { goal < (network_of lattice.now).states }
+        ensures best { IfOk result (λ b. IsBest lattice.now goal (distance_in b)) }
+        ensures guides { IfOk result (λ b. IsGuide (network_of lattice.now) goal b) }
+        ensures goal { IfOk result (λ b. b.goal ≡ goal) }
+        ensures fits { IfOk result (λ b. Fits lattice.now b) }
+    {
+        let env = lattice.env();
+        let cells = cells_of(env);
+        let hops = Vec::with_capacity(alloc, lattice.prims().len() as usize)?;
+        let turns = vec![in alloc; 0; headings_of(env) as usize]?;
+        let distances = vec![in alloc; 0; cells as usize]?;
+        let open = Open::new(alloc, cells)?;
+        let mut best = Best {
+            goal,
+            hops,
+            turns,
+            found: Found { distances, open },
+        };
+        best.rebuild(lattice);
+        Ok(best)
+    }
+
+    /// Makes the heuristic anew for the present map of a lattice, which has the size and the primitives that the
+    /// heuristic was built for. It takes no memory.
+    pub fn rebuild(&mut self, lattice: &Lattice)
+        requires fits { Fits lattice.now self.old }
+        ensures best { IsBest lattice.now self.old.goal (distance_in self.new) }
+        ensures guides { IsGuide (network_of lattice.now) self.old.goal self.new }
+        ensures goal { self.new.goal ≡ self.old.goal }
+        ensures fits { (w : World) → Fits w self.old → Fits w self.new }
+    {
+        lattice_has_its_arcs();
+        let _states = lattice.states();
+        let env = lattice.env();
+        let headings = headings_of(env);
+        list_hops(lattice, &mut self.hops);
+        self.found.reset();
+        search(
+            env,
+            lattice.map(),
+            self.hops.as_slice(),
+            self.goal / headings,
+            &mut self.found,
+        );
+        cut(lattice, headings, self.goal, &mut self.found.distances);
+        turn(lattice, headings, self.goal, &mut self.turns);
+    }
+}
+
+impl Guide for Best {
+    ghost use Rattle.sbpl_heur.specs.Bests.{distance_in, IsKnown, IsGuide, guide_is_bounded, guide_covers};
+
+    ghost distance = { distance_in };
+
+    ghost knows = { IsKnown };
+
+    ghost guides = { λ b n goal. IsGuide n goal b };
+
+    ghost consistent = { λ b n goal h. h.consistent };
+
+    ghost covered = { guide_covers };
+
+    ghost bounded = { guide_is_bounded };
+
+    fn to_goal(&self, s: u32) -> u64 {
+        let headings = self.turns.len() as u32;
+        let cell = self.found.distances[(s / headings) as usize];
+        cell.max(self.turns[(s % headings) as usize])
+    }
+}

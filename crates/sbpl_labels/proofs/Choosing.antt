@@ -1,0 +1,102 @@
+-- The least way to a state below one tail more.
+use Rattle.std.proofs.Common.{◌≡◌, ℕ, ◌+◌, ◌<◌, ◌≤◌, Option, Some, None, arith, ⊎_elim, refl, sym, ap, subst, ◌∙◌}
+use Rattle.std.proofs.lemmas.Bool.{cases_lt}
+use Rattle.std.proofs.lemmas.Option.{same_Some}
+use Rattle.sbpl_graph.specs.Network.{Network}
+use Rattle.sbpl_graph.proofs.Keeping.{same_arc}
+use Rattle.sbpl_labels.specs.declared.row.Row.{Row}
+use Rattle.sbpl_labels.specs.Marks.{Marks, ChangesRow, v_of}
+use Rattle.sbpl_labels.specs.Recomputed.{IsWay, IsRecomputed, Recomputes}
+use Rattle.sbpl_labels.specs.Ways.{IsWayAt, IsLesserOf, IsLeastWay, IsLeastBelow}
+
+module _ (n : Network) (v : ℕ → ℕ) (t : ℕ) where
+  -- a tail is at most one way
+  pub same_sum : {j s k c a l d : ℕ} → IsWay n v t j s k c → IsWay n v t j a l d → v a + d ≡ v s + c
+  same_sum {j} {s} {k} {c} {a} {l} {d} way other =
+      let arcs = same_arc a l s k (sym other.tail.tail ∙ way.tail.tail) in
+      let own : n.cost s k ≡ Some d = rw (← arcs.0, ← arcs.1) other.free.cost in
+      let cost : d ≡ c = same_Some d c (sym own ∙ way.free.cost) in
+      rw (arcs.0, cost) refl
+
+  module _ (i : ℕ) where
+    at_or_below : (P : ℕ → Type 0) → ((x : ℕ) → x < i → P x) → P i → (x : ℕ) → x < i + 1 → P x
+    at_or_below P below here x inside =
+        ⊎_elim (λ (before : x < i). below x before) (λ (after : i ≤ x). let at : x ≡ i = omega arith in rw at here) (cases_lt x i)
+
+    -- tail i is the first way
+    way_found : {g s k c : ℕ} → ((j a l d : ℕ) → j < i → IsWay n v t j a l d → ⊥) → IsWay n v t i s k c → g ≡ v s + c
+        → IsLeastWay n v t (i + 1) g i s k c
+    way_found {g} none way gives = record {
+      below = omega arith;
+      way = way;
+      gives = gives;
+      least = λ x a l d inside.
+          at_or_below (λ y. IsWay n v t y a l d → g ≤ v a + d) (λ y before other. absurd (none y a l d before other))
+          (λ other. omega (arith, same_sum way other)) x inside;
+      first = λ x a l d before other. absurd (none x a l d before other);
+    }
+
+    -- tail i gives less than the least way so far
+    way_lower : {g g' j s k c s' k' c' : ℕ} → IsLeastWay n v t i g j s k c → IsWay n v t i s' k' c' → g' ≡ v s' + c' → g' < g
+        → IsLeastWay n v t (i + 1) g' i s' k' c'
+    way_lower {g} {g'} best way gives low = record {
+      below = omega arith;
+      way = way;
+      gives = gives;
+      least = λ x a l d inside.
+          at_or_below (λ y. IsWay n v t y a l d → g' ≤ v a + d) (λ y before other. omega (arith, best.least y a l d before other))
+          (λ other. omega (arith, same_sum way other)) x inside;
+      first = λ x a l d before other. omega (arith, best.least x a l d before other);
+    }
+
+    -- tail i gives no less
+    way_kept : {g j s k c : ℕ} → IsLeastWay n v t i g j s k c → ((a l d : ℕ) → IsWay n v t i a l d → g ≤ v a + d)
+        → IsLeastWay n v t (i + 1) g j s k c
+    way_kept {g} best above = record {
+      below = omega (arith, best.below);
+      way = best.way;
+      gives = best.gives;
+      least = λ x a l d inside. at_or_below (λ y. IsWay n v t y a l d → g ≤ v a + d) (λ y. best.least y a l d) (above a l d) x inside;
+      first = best.first;
+    }
+
+    pub least_more : (best here first : Option ((ℕ × ℕ) × ℕ)) → IsLeastBelow n v t i best → IsWayAt n v t i here
+        → IsLesserOf best here first → IsLeastBelow n v t (i + 1) first
+    least_more None None first least at is =
+        rw is (λ j s k c inside. at_or_below (λ y. IsWay n v t y s k c → ⊥) (λ y. least y s k c) (at s k c) j inside)
+    least_more None (Some ((s, k), g)) first least at is = rw is (i, at.0, way_found least at.1 at.2)
+    least_more (Some ((s, k), g)) None first least at is =
+        rw is (least.0, least.1, way_kept least.2 (λ a l d way. absurd (at a l d way)))
+    least_more (Some ((s, k), g)) (Some ((s', k'), g')) first least at is =
+        ⊎_elim
+        (λ (lower : (g' < g) × (first ≡ Some ((s', k'), g'))). rw lower.1 (i, at.0, way_lower least.2 at.1 at.2 lower.0))
+        (λ (kept : (g ≤ g') × (first ≡ Some ((s, k), g))).
+        rw kept.1 (least.0, least.1, way_kept least.2 (λ a l d way. omega (arith, same_sum at.1 way, at.2, kept.0))))
+        is
+
+-- the least of all ways is what recomputing gives
+recomputed_least : {n : Network} {v : ℕ → ℕ} {t s k g : ℕ} → IsLeastBelow n v t (n.tail_fan t) (Some ((s, k), g))
+    → IsRecomputed n v t g (Some (s, k))
+recomputed_least least = (
+  least.0,
+  least.1,
+  record {
+    way = least.2.way;
+    gives = least.2.gives;
+    least = λ i a l d way. least.2.least i a l d way.tail.number way;
+    first = least.2.first;
+  },
+)
+
+pub recomputes_least : {n : Network} {old new : Marks} {t s k g : ℕ} → IsLeastBelow n (v_of old) t (n.tail_fan t) (Some ((s, k), g))
+    → ChangesRow old new t (record { g = g; v = v_of old t; back = Some (s, k) }) → Recomputes n old new t
+recomputes_least {n} {old} {new} {t} {s} {k} {g} least changed =
+    let is = recomputed_least least in
+    record {
+      same_start = changed.start;
+      same_states = changed.states;
+      recomputed =
+          subst (λ (r : Row). IsRecomputed n (v_of old) t r.g r.back) (sym changed.at) is;
+      same_v = ap (λ (r : Row). r.v) changed.at;
+      others = changed.others;
+    }

@@ -1,0 +1,122 @@
+//! The open states of a search.
+
+ghost use Rattle.std.specs.Prelude.{◌≡◌, ℕ, ◌^◌, ◌<◌, ◌≤◌, ◌↔◌, IsTrue, IsSome, IsNone, IfOk, IfSome, MatchOption, Some, None, length, slice_index};
+ghost use Rattle.sbpl_open.specs.Frontier.{Frontier, states_of, key_at, IsEmpty, ChangesKey, IsLeast};
+
+use crate::Key;
+use crate::ends::{empty, place_of, remove};
+use crate::keys::Keys;
+use crate::sift::sift;
+use sbpl_fixed::NoMemory;
+use std::alloc::Global;
+use std::marker::Model;
+
+/// The open states of a search, as a finite map from states to keys with its least: a binary heap of
+/// states with each state's place in it. All its memory is taken when it is made.
+#[derive(Drop)]
+pub struct Open {
+    heap: Vec<u32>,
+    places: Vec<u32>,
+    keys: Keys,
+}
+
+impl Model for Open {
+    ghost use Rattle.std.specs.Prelude.{vec_capacity};
+    ghost use Rattle.sbpl_open.specs.Frontier.{Frontier};
+    ghost use Rattle.sbpl_open.specs.Heap.{AreParts, keys_of};
+
+    ghost Value = { Frontier };
+
+    ghost view = { λ a. record { keys = keys_of a.places.items a.keys.firsts.items a.keys.seconds.items } };
+
+    ghost invariant = { λ a. AreParts a.heap.items a.places.items a.keys.firsts.items
+        a.keys.seconds.items (vec_capacity a.heap) };
+}
+
+impl Open {
+    /// Room for the keys of this many states, 1 to 2^23, none of which is open. The one error is
+    /// that memory ran out, and no other call takes memory.
+    pub fn new(alloc: Global, states: u32) -> Result<Open, NoMemory>
+        requires few { states ≤ 2 ^ 23 }
+        ensures states { IfOk result (λ f. states_of f ≡ states) }
+        ensures empty { IfOk result (λ f. IsEmpty f) }
+    {
+        let heap = Vec::with_capacity(alloc, states as usize)?;
+        let places = vec![in alloc; 0; states as usize]?;
+        let keys = Keys::zero(alloc, states)?;
+        Ok(Open { heap, places, keys })
+    }
+
+    /// Lets every state leave. It looks at the open states alone.
+    pub fn clear(&mut self)
+        ensures states { states_of self.new ≡ states_of self.old }
+        ensures empty { IsEmpty self.new }
+    {
+        empty(&mut self.heap, &mut self.places);
+    }
+
+    /// Gives `s` this key, whether or not it has one.
+    pub fn put(&mut self, s: u32, key: Key)
+        requires state { s < states_of self.old }
+        ensures changed { ChangesKey self.old self.new s (Some (key.0, key.1)) }
+    {
+        self.keys.set(s, key);
+        let at = place_of(&mut self.heap, &mut self.places, s);
+        sift(&mut self.heap, &mut self.places, &self.keys, at);
+    }
+
+    /// Lets `s` leave. Where it is not open nothing changes.
+    pub fn leave(&mut self, s: u32)
+        requires state { s < states_of self.old }
+        ensures changed { ChangesKey self.old self.new s None }
+        ensures unchanged { key_at self.old s ≡ None → self.new ≡ self.old }
+    {
+        if self.places[s as usize] > 0 {
+            remove(&mut self.heap, &mut self.places, &self.keys, s);
+        }
+    }
+
+    /// Whether `s` is open.
+    pub fn has(&self, s: u32) -> bool
+        requires state { s < states_of self.now }
+        ensures there { IsTrue result ↔ IsSome (key_at self.now s) }
+    {
+        self.places[s as usize] > 0
+    }
+
+    /// The open states, each once, in no order.
+    pub fn states(&self) -> &[u32]
+        ensures few { length result.now ≤ states_of self.now }
+        ensures listed { (i : ℕ) → i < length result.now
+            → IsSome (key_at self.now (slice_index result.now i)) }
+        ensures all { (s : ℕ) → IsSome (key_at self.now s)
+            → (i : ℕ) × (i < length result.now) × (slice_index result.now i ≡ s) }
+        ensures once { (i j : ℕ) → i < length result.now → j < length result.now
+            → slice_index result.now i ≡ slice_index result.now j → i ≡ j }
+    {
+        self.heap.as_slice()
+    }
+
+    /// The open state that comes before all others, and its key. There is none exactly where no
+    /// state is open.
+    pub fn least(&self) -> Option<(u32, Key)>
+        ensures least { MatchOption result (IsEmpty self.now)
+            (λ x. IsLeast self.now x.0 (x.1.0, x.1.1)) }
+    {
+        let s = *self.heap.first()?;
+        Some((s, self.keys.get(s)))
+    }
+
+    /// The open state that comes before all others, which leaves, and its key. There is none
+    /// exactly where no state is open.
+    pub fn take_least(&mut self) -> Option<(u32, Key)>
+        ensures least { MatchOption result (IsEmpty self.old)
+            (λ x. IsLeast self.old x.0 (x.1.0, x.1.1)) }
+        ensures taken { IfSome result (λ x. ChangesKey self.old self.new x.0 None) }
+        ensures unchanged { IsNone result → self.new ≡ self.old }
+    {
+        let least = self.least()?;
+        self.leave(least.0);
+        Some(least)
+    }
+}

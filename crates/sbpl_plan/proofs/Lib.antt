@@ -1,0 +1,4 @@
+pub mod Lows
+pub mod Turning
+pub mod Planning
+pub mod Results

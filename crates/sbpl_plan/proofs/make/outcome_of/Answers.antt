@@ -1,0 +1,19 @@
+use Rattle.std.proofs.Common.{◌≡◌, ◌⊎◌, Bool, true, false, inl, inr}
+use Rattle.sbpl_plan.specs.declared.found.Found.{Found}
+use Rattle.sbpl_plan.specs.declared.found.Found.TheVariants as found
+use Rattle.sbpl_plan.specs.declared.result.Outcome.TheVariants as outcome
+use Rattle.sbpl_plan.specs.Outcomes.{IsTold}
+use Rattle.sbpl_plan.proofs.Results.{cut_or_unknown}
+use Rattle.sbpl_plan.proofs.make.outcome_of.Goals as goal
+
+unknown_told : (f : Found) → (f ≡ found.None) ⊎ (f ≡ found.Broken) → IsTold f outcome.Unknown
+unknown_told (found.Path a b) (inl is) = cc
+unknown_told (found.Path a b) (inr is) = cc
+unknown_told found.None is = tt
+unknown_told found.Broken is = tt
+
+pub returns : goal.returns
+returns c = record {
+  outcome = λ n h looks. cut_or_unknown n h _ _ _ _ looks c.in-None.is (λ cut. let yes = c.if-shows_none.ensures.cut_off.1 cut in let no : ⊥ = cc yes in no);
+  told = unknown_told _ c.in-None.is;
+}

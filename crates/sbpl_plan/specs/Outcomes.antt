@@ -1,0 +1,43 @@
+-- The result of a plan, and what it promises.
+use Rattle.std.specs.Prelude.{◌≡◌, ℕ, ◌*◌, ◌≤◌, List}
+use Rattle.sbpl_graph.specs.Network.{Network}
+use Rattle.sbpl_graph.specs.Path.{IsFreePath}
+use Rattle.sbpl_labels.specs.CutOff.{IsCutOff}
+use Rattle.sbpl_labels.specs.Marks.{Marks, states_of, g_of, v_of}
+use Rattle.sbpl_plan.specs.declared.found.Found.{Found}
+use Rattle.sbpl_plan.specs.declared.found.Found.TheVariants as found
+use Rattle.sbpl_plan.specs.declared.result.Outcome.{Outcome}
+use Rattle.sbpl_plan.specs.declared.result.Outcome.TheVariants as outcome
+use Rattle.sbpl_plan.specs.Looking.{IsPathFound}
+
+-- the result by the final labels: the path of the walk; or that there is none, where the labels show it; or neither
+abbrev pub IsOutcome : Network → (ℕ → ℕ) → ℕ → Marks → Outcome → Type 0
+IsOutcome n h goal m (outcome.Path arcs cost bound) = IsPathFound n h goal m arcs cost bound
+IsOutcome n h goal m outcome.NoPath = IsCutOff (states_of m) goal (g_of m) (v_of m)
+IsOutcome n h goal m outcome.Unknown =
+    (IsCutOff (states_of m) goal (g_of m) (v_of m) → ⊥) × ((arcs : List ℕ) (cost bound : ℕ) → IsPathFound n h goal m arcs cost bound → ⊥)
+
+-- a path is free, joins start to goal, and costs at most its bound times every such path; where there is said to be none there is none
+abbrev pub IsTrueOutcome : Network → ℕ → ℕ → Outcome → Type 0
+IsTrueOutcome n start goal (outcome.Path arcs cost bound) =
+    IsFreePath n start arcs goal cost × (1000 ≤ bound) × ((others : List ℕ) (dear : ℕ) → IsFreePath n start others goal dear → 1000 * cost ≤ bound * dear)
+IsTrueOutcome n start goal outcome.NoPath = (arcs : List ℕ) (cost : ℕ) → IsFreePath n start arcs goal cost → ⊥
+IsTrueOutcome n start goal outcome.Unknown = Unit {0}
+
+-- the result is known, and a path's bound is at most the one asked
+abbrev pub IsAnswered : ℕ → Outcome → Type 0
+IsAnswered asked (outcome.Path arcs cost bound) = bound ≤ asked
+IsAnswered asked outcome.NoPath = Unit {0}
+IsAnswered asked outcome.Unknown = ⊥
+
+-- the result tells the path that the last pass found, or that it found none
+abbrev pub IsTold : Found → Outcome → Type 0
+IsTold (found.Path c b) (outcome.Path arcs cost bound) = (cost ≡ c) × (bound ≡ b)
+IsTold (found.Path c b) outcome.NoPath = ⊥
+IsTold (found.Path c b) outcome.Unknown = ⊥
+IsTold found.None (outcome.Path arcs cost bound) = ⊥
+IsTold found.None outcome.NoPath = Unit {0}
+IsTold found.None outcome.Unknown = Unit {0}
+IsTold found.Broken (outcome.Path arcs cost bound) = ⊥
+IsTold found.Broken outcome.NoPath = Unit {0}
+IsTold found.Broken outcome.Unknown = Unit {0}

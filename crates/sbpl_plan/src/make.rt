@@ -1,0 +1,166 @@
+//! A whole plan.
+
+ghost use Rattle.std.specs.Prelude.{◌≡◌, ℕ, ◌+◌, ◌*◌, ◌^◌, ◌≤◌, ◌<◌, ◌↔◌, IsTrue, ◌⊎◌, IfOk, length, true, false, vec_capacity};
+ghost use Rattle.sbpl_graph.specs.Certificate.{AreSupported};
+ghost use Rattle.sbpl_graph.specs.Network.{Network};
+ghost use Rattle.sbpl_ara.specs.Search.{AreReady};
+ghost use Rattle.sbpl_labels.specs.Counts.{IsSpent};
+ghost use Rattle.sbpl_labels.specs.CutOff.{IsCutOff};
+ghost use Rattle.sbpl_labels.specs.Marks.{states_of, g_of, v_of};
+ghost use Rattle.sbpl_plan.specs.Asked.{IsAsk, lowered, most_passes};
+ghost use Rattle.sbpl_plan.specs.Looking.{IsEnough, IsStartFresh, Looks};
+ghost use Rattle.sbpl_plan.specs.Made.{AreMade};
+ghost use Rattle.sbpl_plan.specs.Outcomes.{IsAnswered, IsOutcome, IsTold, IsTrueOutcome};
+ghost use Rattle.sbpl_plan.specs.Passing.{ArePasses, IsLast, expansions};
+
+use crate::ask::Ask;
+use crate::found::Found;
+use crate::passes::{Pass, Passes};
+use crate::result::{Arcs, Outcome, Planned};
+use crate::turn::turn;
+use sbpl_ara::Ara;
+use sbpl_fixed::NoMemory;
+use sbpl_graph::{Graph, Guide, bound_holds, none_holds};
+use sbpl_labels::{Budget, Labels};
+use std::alloc::Global;
+
+/// Whether a path with a bound that is good enough was found.
+fn is_enough(asked: u32, found: Found) -> bool
+    ensures enough { IsTrue result ↔ IsEnough asked found }
+{
+    match found {
+        Found::Path { cost: _, bound } => bound <= u128::from(asked),
+        Found::None | Found::Broken => false,
+    }
+}
+
+/// The inflation of the pass behind one of inflation `eps`.
+fn lowered(step: u32, eps: u32) -> u32
+    ensures lowered { result ≡ lowered step eps }
+{
+    eps.saturating_sub(step).max(1000)
+}
+
+/// Whether a plan ends after a pass of inflation `eps` that was spent or not and found this.
+fn is_last(ask: &Ask, eps: u32, labels: &Labels, goal: u32, spent: bool, found: Found) -> bool
+    requires goal { goal < states_of labels.now }
+    ensures last { IsTrue result ↔ (IsEnough ask.now.bound found ⊎ (IsCutOff (states_of labels.now) goal (g_of labels.now) (v_of labels.now) ⊎ ((spent ≡ true) ⊎ (eps ≡ 1000)))) }
+{
+    is_enough(ask.bound, found) || spent || eps == 1000 || labels.shows_none(goal)
+}
+
+/// What the passes of a plan came to.
+#[derive(Drop)]
+struct Made {
+    passes: Vec<Pass>,
+    spent: bool,
+    found: Found,
+}
+
+/// Makes the passes of a plan. `arcs` then holds the path that the last one found.
+fn make_passes<G: Graph, H: Guide>(
+    alloc: Global,
+    graph: &G,
+    guide: &H,
+    ara: &mut Ara,
+    goal: u32,
+    ask: &Ask,
+    budget: &mut Budget,
+    arcs: &mut Vec<u32>,
+) -> Result<Made, NoMemory>
+    requires goal { goal ≡ ara.old.goal }
+    requires guide { H.guides guide.now (G.network graph.now) goal }
+    requires asked { IsAsk ask.now }
+    requires ready { AreReady (G.network graph.now) ara.old.labels budget.old.run }
+    requires fresh { IsStartFresh ara.old.labels }
+    requires room { states_of ara.old.labels ≤ vec_capacity arcs.old }
+    ensures made { IfOk result (λ r. AreMade (record { network = G.network graph.now; guide = H.distance guide.now; goal = goal; ask = ask.now }) ara.old ara.new budget.old budget.new arcs.new.items r.passes.items r.spent r.found) }
+{
+    let mut passes = Vec::new(alloc);
+    let mut eps = ask.first;
+    loop {
+        arcs.clear();
+        let (pass, spent) = turn(alloc, graph, guide, ara, goal, ask, eps, budget, arcs)?;
+        let found = pass.found;
+        passes.push(pass)?;
+        if is_last(ask, eps, ara.labels(), goal, spent, found) {
+            return Ok(Made {
+                passes,
+                spent,
+                found,
+            });
+        }
+        eps = lowered(ask.step, eps);
+    }
+}
+
+/// The result by the final labels, where the last pass found this, with these arcs.
+fn outcome_of(labels: &Labels, goal: u32, found: Found, arcs: Vec<u32>) -> Outcome
+    requires goal { goal < states_of labels.now }
+    ensures outcome { (n : Network) (h : ℕ → ℕ) → Looks n h goal labels.now arcs.items found → IsOutcome n h goal labels.now result }
+    ensures told { IsTold found result }
+{
+    match found {
+        Found::Path { cost, bound } => Outcome::Path {
+            arcs: Arcs::of(arcs),
+            cost,
+            bound,
+        },
+        Found::None | Found::Broken => {
+            if labels.shows_none(goal) {
+                Outcome::NoPath
+            } else {
+                Outcome::Unknown
+            }
+        }
+    }
+}
+
+/// Makes a plan: passes with the inflation `ask.first`, then `ask.step` less each time and never below 1.000, until one
+/// finds a path whose bound is at most `ask.bound`, shows that there is no path, is spent, or has inflation 1.000 (ARA*,
+/// Likhachev, Gordon and Thrun 2003). The search is one to this goal, and the guide was built for this graph and goal.
+pub fn plan<G: Graph, H: Guide>(
+    alloc: Global,
+    graph: &G,
+    guide: &H,
+    ara: &mut Ara,
+    goal: u32,
+    ask: &Ask,
+    budget: &mut Budget,
+) -> Result<Planned, NoMemory>
+    requires goal { goal ≡ ara.old.goal }
+    requires guide { H.guides guide.now (G.network graph.now) goal }
+    requires asked { IsAsk ask.now }
+    requires ready { AreReady (G.network graph.now) ara.old.labels budget.old.run }
+    requires fresh { IsStartFresh ara.old.labels }
+    // The passes are those that the definitions determine, and so is the result.
+    ensures passes { IfOk result (λ r. ArePasses (record { network = G.network graph.now; guide = H.distance guide.now; goal = goal; ask = ask.now }) ask.now.first ara.old.labels r.passes ara.new.labels r.spent) }
+    ensures outcome { IfOk result (λ r. IsOutcome (G.network graph.now) (H.distance guide.now) goal ara.new.labels r.outcome) }
+    // The result is true, and known where the plan was not spent.
+    ensures so { IfOk result (λ r. IsTrueOutcome (G.network graph.now) ara.old.labels.start goal r.outcome) }
+    ensures answered { IfOk result (λ r. r.spent ≡ false → IsAnswered ask.now.bound r.outcome) }
+    // Each expansion is counted. A plan is spent only where its budget or the run's is, and not where it may expand as many
+    // states in each pass as there are.
+    ensures counted { IfOk result (λ r. budget.new ≡ record budget.old { plan = budget.old.plan + expansions r.passes; run = budget.old.run + expansions r.passes }) }
+    ensures spent { IfOk result (λ r. r.spent ≡ true → IsSpent budget.new) }
+    ensures few { IfOk result (λ r. length r.passes ≤ most_passes ask.now.step ask.now.first) }
+    ensures enough { IfOk result (λ r. r.spent ≡ true → budget.old.plan + most_passes ask.now.step ask.now.first * states_of ara.old.labels ≤ budget.old.per_plan → budget.new.run ≡ 2 ^ 30) }
+    // The labels may begin another plan.
+    ensures ready { IfOk result (λ _. AreReady (G.network graph.now) ara.new.labels budget.new.run) }
+    ensures supported { IfOk result (λ _. AreSupported (G.network graph.now) ara.new.labels.start (g_of ara.new.labels) (v_of ara.new.labels)) }
+    ensures fresh { IfOk result (λ _. IsStartFresh ara.new.labels) }
+    ensures start { IfOk result (λ _. ara.new.labels.start ≡ ara.old.labels.start) }
+    ensures states { IfOk result (λ _. states_of ara.new.labels ≡ states_of ara.old.labels) }
+    ensures same_goal { IfOk result (λ _. ara.new.goal ≡ ara.old.goal) }
+{
+    bound_holds();
+    none_holds();
+    let mut arcs = Vec::with_capacity(alloc, graph.states() as usize)?;
+    let made = make_passes(alloc, graph, guide, ara, goal, ask, budget, &mut arcs)?;
+    let outcome = outcome_of(ara.labels(), goal, made.found, arcs);
+    Ok(Planned {
+        passes: Passes::of(made.passes),
+        spent: made.spent,
+        outcome,
+    })
+}

@@ -1,0 +1,12 @@
+pub mod BandOrders
+pub mod CellOrders
+pub mod Cuts
+pub mod Counts
+pub mod DiscsTouched
+pub mod Distances
+pub mod Lists
+pub mod Listings
+pub mod PosesSwept
+pub mod RowsTouched
+pub mod Steps
+pub mod TablesSwept

@@ -1,0 +1,11 @@
+pub mod Bands
+pub mod Centres
+pub mod Cut
+pub mod Discs
+pub mod Gathered
+pub mod Reach
+pub mod Sweep
+pub mod Sweeping
+pub mod Swept
+pub mod Tables
+pub mod Widths

@@ -1,0 +1,26 @@
+//! The cells that motions touch: the centre cells of a primitive's poses, and the cells that a disc around them sweeps.
+#![tactic(auto)]
+
+mod band;
+mod cell;
+mod centres;
+mod disc;
+mod fault;
+mod gathering;
+mod laws;
+mod reach;
+mod rows;
+mod runs;
+mod stop;
+mod sweeping;
+mod sweeps;
+mod tables;
+
+pub use cell::Cell;
+pub use fault::SweepFault;
+pub use laws::point_sweeps_centres;
+pub use runs::Runs;
+pub use sweeps::Sweeps;
+
+#[cfg(test)]
+mod tests;

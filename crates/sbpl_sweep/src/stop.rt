@@ -1,0 +1,23 @@
+//! Why the cells of a motion are not listed.
+
+use sbpl_fixed::NoMemory;
+
+/// Why the cells of a motion are not listed.
+#[derive(Clone, Copy, Debug)]
+pub(crate) enum Stop {
+    /// They are more than a motion may sweep.
+    TooMany,
+    /// Memory ran out.
+    NoMemory,
+}
+
+impl From<NoMemory> for Stop {
+    ghost use Rattle.std.specs.Prelude.{◌≡◌};
+    ghost use Rattle.sbpl_sweep.specs.declared.stop.Stop.TheVariants as stop;
+
+    ghost from_gives = { λ _ e. e ≡ stop.NoMemory };
+
+    fn from(_error: NoMemory) -> Stop {
+        Stop::NoMemory
+    }
+}
