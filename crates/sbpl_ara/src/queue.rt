@@ -82,13 +82,7 @@ fn change(queue: &mut Open, s: u32, key: Option<Key>)
 }
 
 /// The key of `s`, where it is open.
-fn open_key<H: Guide>(
-    labels: &Labels,
-    closed: &Closed,
-    guide: &H,
-    eps: u32,
-    s: u32,
-) -> Option<Key>
+fn open_key<H: Guide>(labels: &Labels, closed: &Closed, guide: &H, eps: u32, s: u32) -> Option<Key>
     requires state { s < states_of labels.now }
     requires closed { length closed.now ≡ states_of labels.now }
     requires known { H.knows guide.now s }
