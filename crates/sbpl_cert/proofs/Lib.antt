@@ -9,3 +9,5 @@ pub mod ReadLaws
 pub mod OwnFaults
 pub mod TextLaws
 pub mod WrittenText
+pub mod MadeRows
+pub mod MadeShows

@@ -1,4 +1,5 @@
 pub mod Sections
+pub mod Made
 pub mod Printed
 pub mod Flaws
 pub mod Checking

@@ -2,7 +2,7 @@
 use Rattle.std.proofs.Common.{◌≡◌, ◌≢◌, ℕ, zero, suc, ◌+◌, ◌<◌, ◌≤◌, ◌++◌, min, cond, nat_lt, Option, Some, None, List, [], ◌∷◌, length, reverse, refl, sym, subst, ap, arith, ⊎_elim, ◌∙◌, add-one, length-append}
 use Rattle.std.proofs.lemmas.Bool.{cases_eq, cases_lt}
 use Rattle.std.proofs.lemmas.Bool.Decides.{nat_tests}
-use Rattle.std.proofs.lemmas.List.{reverse-append}
+use Rattle.std.proofs.lemmas.List.{length-reverse, reverse-append}
 use Rattle.sbpl_graph.specs.declared.TheConstants.{FAR}
 use Rattle.sbpl_graph.specs.Network.{Network, IsFreeArc}
 use Rattle.sbpl_graph.specs.Path.{IsFreePath}
@@ -69,6 +69,23 @@ above_more g x (suc s) i inside lower =
     (λ (other : i ≢ s).
     let rest = above_more g x s i (omega arith) lower in
     let one = one_falls x (g i) (g s) (omega arith) in
+    omega arith)
+    (cases_eq i s)
+
+-- a state whose g is not above x is not counted
+above_less : (g : ℕ → ℕ) (x states i : ℕ) → i < states → g i ≤ x → above g x states < states
+unfolding above
+above_less g x zero i inside low = absurd (omega arith)
+above_less g x (suc s) i inside low =
+    ⊎_elim
+    (λ (here : i ≡ s).
+    let same : g i ≡ g s = ap g here in
+    let none : one_above x (g s) ≡ 0 = none_where_not x (g s) (omega arith) in
+    let rest = above_most g x s in
+    omega arith)
+    (λ (other : i ≢ s).
+    let rest = above_less g x s i (omega arith) low in
+    let one = one_at_most x (g s) in
     omega arith)
     (cases_eq i s)
 
@@ -215,4 +232,8 @@ module _ {n : Network} {start : ℕ} {g v : ℕ → ℕ} {back : ℕ → Option 
         followed = subst (λ x. IsBackPath back x (reverse arcs) goal) at walking.followed;
         path = subst (λ x. IsFreePath n x (reverse arcs) goal cost) at walking.path;
         cheap = let paid = walking.paid in omega arith;
+        few =
+            let counted = walking.counted in
+            let less = above_less g (least_of g v here) n.states here walking.inside (omega arith) in
+            rw (length-reverse arcs) (omega arith);
       }

@@ -1,5 +1,5 @@
 -- The chain of back arcs from a goal.
-use Rattle.std.specs.Prelude.{◌≡◌, ℕ, zero, suc, ◌<◌, ◌≤◌, Option, Some, List, [], ◌∷◌, option_map, option_and_then}
+use Rattle.std.specs.Prelude.{◌≡◌, ℕ, zero, suc, ◌<◌, ◌≤◌, Option, Some, List, [], ◌∷◌, length, option_map, option_and_then}
 use Rattle.sbpl_graph.specs.declared.TheConstants.{FAR}
 use Rattle.sbpl_graph.specs.Network.{Network}
 use Rattle.sbpl_graph.specs.Path.{IsFreePath}
@@ -23,10 +23,11 @@ pub record IsFirstBreak (states : ℕ) (g v : ℕ → ℕ) (back : ℕ → Optio
   pub under : v s < g s
   pub before : (i u : ℕ) → i < place → chain_at back goal i ≡ Some u → g u ≤ v u
 
--- no state on the chain is underconsistent, and its arcs are a free path from the start that costs no more than the goal's label
+-- no state on the chain is underconsistent, and its arcs, fewer than there are states, are a free path from the start that costs no more than the goal's label
 pub record IsWalk (n : Network) (start : ℕ) (g v : ℕ → ℕ) (back : ℕ → Option (ℕ × ℕ)) (goal cost : ℕ) (arcs : List ℕ) : Type 0 where
   pub near : g goal < FAR
   pub unbroken : (i u : ℕ) → chain_at back goal i ≡ Some u → g u ≤ v u
   pub followed : IsBackPath back start arcs goal
   pub path : IsFreePath n start arcs goal cost
   pub cheap : cost ≤ g goal
+  pub few : length arcs < n.states
