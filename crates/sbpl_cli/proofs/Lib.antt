@@ -6,3 +6,4 @@ pub mod PathSteps
 pub mod Runs
 pub mod Ends
 pub mod Makings
+pub mod Showing

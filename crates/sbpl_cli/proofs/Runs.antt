@@ -11,14 +11,17 @@ use Rattle.sbpl_cost.specs.PrimitiveCost.{IsFirstTooDear}
 use Rattle.sbpl_cost.specs.World.{World}
 use Rattle.sbpl_cli.specs.declared.job.Job.{Job}
 use Rattle.sbpl_cli.specs.declared.job.Job.TheVariants as job
+use Rattle.sbpl_cli.specs.declared.job.Outputs.{Outputs}
+use Rattle.sbpl_cli.specs.declared.record.PlanRecord.{PlanRecord}
 use Rattle.sbpl_cli.specs.declared.refusal.Refusal.{Refusal}
 use Rattle.sbpl_cli.specs.declared.refusal.Refusal.TheVariants as refusal
 use Rattle.sbpl_cli.specs.Causes.{IsCause, NoneTooDear, SaysWorld}
-use Rattle.sbpl_cli.specs.Intents.{Intent, Refused, Planned, Listed, OutOfMemory, intent_status, last_write, refusal_status, words_writes, writes_of}
+use Rattle.sbpl_cli.specs.Intents.{Intent, Refused, Planned, Listed, OutOfMemory, intent_status, labels_text, labels_writes, last_write, plan_writes, refusal_status, trace_writes, words_writes, writes_of}
 use Rattle.sbpl_cli.specs.Jobs.{sources_of}
 use Rattle.sbpl_cli.specs.Listing.{listings}
-use Rattle.sbpl_cli.specs.Promises.{AtJob, ComesTo, EndsJob, EndsRun, by_job, by_words, by_memory, IsCutShort, IsDone, IsOrFailed, IsOrUnwritten, IsRefused, IsStatus, IsStopped, TellsEnvironment, TellsEnvironmentFault, TellsPrimitiveFault, TellsPrimitives, TellsTooMuch}
-use Rattle.sbpl_cli.specs.Writing.{AreMade, EndsAs, FaultCounts, IsCutAt, IsStoppedAt, Told, Write, output, to_output}
+use Rattle.sbpl_cli.specs.Promises.{AtJob, ComesTo, EndsJob, EndsRun, by_job, by_words, by_memory, IsCutShort, IsDone, IsOrFailed, IsOrUnwritten, IsRefused, IsStatus, IsStopped, MayBeWritten, SomeRose, TellsEnvironment, TellsEnvironmentFault, TellsPrimitiveFault, TellsPrimitives, TellsTooMuch}
+use Rattle.sbpl_cli.specs.Traces.{trace_text}
+use Rattle.sbpl_cli.specs.Writing.{AreMade, EndsAs, FaultCounts, IsCutAt, IsNamed, IsOutput, IsOutputOf, IsStoppedAt, Told, Write, output, to_named, to_output}
 use Rattle.sbpl_cli.proofs.Laws.{TextsAreClear}
 use Rattle.sbpl_cli.proofs.Converse.{by_intent, environment_faulty, environment_faulty_done, environment_long, environment_long_done, none_is_first, none_is_widest, primitives_faulty, primitives_faulty_done, primitives_good, primitives_long, primitives_long_done, too_dear_done, too_wide_done}
 
@@ -48,26 +51,50 @@ not_intent (Listed w) s is (inr two) = omega arith
 not_intent OutOfMemory s is (inl seven) = omega arith
 not_intent OutOfMemory s is (inr two) = omega arith
 
--- ---- writes go to the standard output
+-- ---- writes go under names that the job may write under
 
-listed_to_output : (texts : List (List ℕ)) (ws : List Write) → AllByRecursion (λ w. w.name ≡ output) ws → AllByRecursion (λ w. w.name ≡ output) (map to_output texts ++ ws)
-listed_to_output [] ws all = all
-listed_to_output (t ∷ ts) ws all = (refl, listed_to_output ts ws all)
+-- each of these writes is under such a name
+abbrev pub AreUnder : (List ℕ → Type 0) → List Write → Type 0
+AreUnder IsWritten ws = AllByRecursion (λ w. IsWritten w.name) ws
 
-to_output_all : (j : Job) (i : Intent) → AllByRecursion (λ w. w.name ≡ output) (writes_of j i)
-to_output_all j (Refused r) = (refl, tt)
-to_output_all j (Planned plan) = (refl, (refl, tt))
-to_output_all j (Listed w) = listed_to_output (listings w) (last_write ∷ []) (refl, tt)
-to_output_all j OutOfMemory = tt
+under_both : (IsWritten : List ℕ → Type 0) (ws vs : List Write) → AreUnder IsWritten ws → AreUnder IsWritten vs → AreUnder IsWritten (ws ++ vs)
+under_both IsWritten [] vs all more = more
+under_both IsWritten (w ∷ ws) vs all more = (all.0, under_both IsWritten ws vs all.1 more)
 
-one_of_all : (first : List Write) (w : Write) (rest : List Write) → AllByRecursion (λ v. v.name ≡ output) (first ++ w ∷ rest) → w.name ≡ output
-one_of_all [] w rest all = all.0
-one_of_all (v ∷ first) w rest all = one_of_all first w rest all.1
+listed_under : (texts : List (List ℕ)) → AreUnder IsOutput (map to_output texts)
+listed_under [] = tt
+listed_under (t ∷ ts) = (refl, listed_under ts)
 
-cut_rose : (before after : Told) (faults faults' : FaultCounts) (ws : List Write) → AllByRecursion (λ v. v.name ≡ output) ws → IsCutAt before after faults faults' ws → Rose (faults output) (faults' output)
-cut_rose before after faults faults' ws all cut =
-    let here = one_of_all cut.first cut.cut cut.rest (subst (λ (l : List Write). AllByRecursion (λ v. v.name ≡ output) l) cut.whole all) in
-    subst (λ (n : List ℕ). Rose (faults n) (faults' n)) here cut.rose
+named_under : (IsWritten : List ℕ → Type 0) (o : Option (List ℕ)) (text : List ℕ) → ((name : List ℕ) → IsNamed o name → IsWritten name) → AreUnder IsWritten (to_named o text)
+named_under IsWritten None text may = tt
+named_under IsWritten (Some name) text may = (may name refl, tt)
+
+plan_under : (o : Outputs) (plan : PlanRecord) → AreUnder (IsOutputOf o) (plan_writes o plan)
+plan_under o plan =
+    let labels = named_under (IsOutputOf o) o.labels (labels_text plan.labels) (λ name is. inr (inl is)) in
+    let trace = named_under (IsOutputOf o) o.trace (trace_text plan) (λ name is. inr (inr is)) in
+    (inl refl, under_both (IsOutputOf o) (labels_writes o plan ++ trace_writes o plan) (last_write ∷ []) (under_both (IsOutputOf o) (labels_writes o plan) (trace_writes o plan) labels trace) (inl refl, tt))
+
+plain_under : (j : Job) (name : List ℕ) → IsOutput name → MayBeWritten (Some j) name
+plain_under (job.Plan p) name is = inl is
+plain_under (job.Sweep from) name is = is
+
+-- what a job comes to is written so: a plan is made by the job `plan` alone
+writes_under : (held : Told) (reads reads' : FaultCounts) (j : Job) (i : Intent) → ComesTo held reads reads' j i → AreUnder (MayBeWritten (Some j)) (writes_of j i)
+writes_under held reads reads' j (Refused r) comes = (plain_under j output refl, tt)
+writes_under held reads reads' (job.Plan p) (Planned plan) comes = plan_under p.outputs plan
+writes_under held reads reads' (job.Sweep from) (Planned plan) comes = absurd comes
+writes_under held reads reads' (job.Plan p) (Listed w) comes = absurd comes
+writes_under held reads reads' (job.Sweep from) (Listed w) comes = under_both IsOutput (map to_output (listings w)) (last_write ∷ []) (listed_under (listings w)) (refl, tt)
+writes_under held reads reads' j OutOfMemory comes = tt
+
+one_of_all : (IsWritten : List ℕ → Type 0) (first : List Write) (w : Write) (rest : List Write) → AreUnder IsWritten (first ++ w ∷ rest) → IsWritten w.name
+one_of_all IsWritten [] w rest all = all.0
+one_of_all IsWritten (v ∷ first) w rest all = one_of_all IsWritten first w rest all.1
+
+cut_rose : (named : Option Job) (before after : Told) (faults faults' : FaultCounts) (ws : List Write) → AreUnder (MayBeWritten named) ws → IsCutAt before after faults faults' ws → SomeRose named faults faults'
+cut_rose named before after faults faults' ws all cut =
+    (cut.cut.name, one_of_all (MayBeWritten named) cut.first cut.cut cut.rest (subst (λ (l : List Write). AreUnder (MayBeWritten named) l) cut.whole all), cut.rose)
 
 -- ---- a job
 
@@ -187,10 +214,10 @@ module _ (held : Told) (reads reads' : FaultCounts) (before after : Told) (fault
     run_cut (by_words is (inr (inr (at, stopped)))) seven = absurd (omega arith)
     run_cut (by_memory at made) seven = absurd (omega arith)
 
-    pub run_write : EndsRun named held reads reads' before after faults faults' status → status ≡ 7 → Rose (faults output) (faults' output)
+    pub run_write : EndsRun named held reads reads' before after faults faults' status → status ≡ 7 → SomeRose named faults faults'
     run_write ends seven = elim (run_cut ends seven) [
-      | inl (j, is, cut) ↦ cut_rose before after faults faults' _ (to_output_all j cut.intent) cut.cut
-      | inr (is, cut) ↦ cut_rose before after faults faults' words_writes (refl, tt) cut
+      | inl (j, is, cut) ↦ subst (λ (o : Option Job). SomeRose o faults faults') (sym is) (cut_rose (Some j) before after faults faults' _ (writes_under held reads reads' j cut.intent cut.comes) cut.cut)
+      | inr (is, cut) ↦ subst (λ (o : Option Job). SomeRose o faults faults') (sym is) (cut_rose None before after faults faults' words_writes (refl, tt) cut)
     ]
 
     pub run_stopped : EndsRun named held reads reads' before after faults faults' status → status ≡ 9 → AtJob named (IsStopped held reads reads' before after) ⊎ (((named ≡ None) × IsStoppedAt before after words_writes) ⊎ AreMade before after [])

@@ -22,7 +22,6 @@ use Rattle.sbpl_cli.specs.declared.job.PlanJob.{PlanJob}
 use Rattle.sbpl_cli.specs.declared.job.Sources.{Sources}
 use Rattle.sbpl_cli.specs.declared.record.PlanRecord.{PlanRecord}
 use Rattle.sbpl_cli.specs.Headline.{IsPlanOf}
-use Rattle.sbpl_cli.specs.Jobs.{ask_of}
 use Rattle.sbpl_cli.specs.Writing.{FaultCounts, Told}
 use Rattle.sbpl_cli.specs.Texts.{IsEnvironmentText, HasEnvironmentFault, IsPrimitiveText, HasPrimitiveFault}
 
@@ -68,7 +67,7 @@ pub record IsPlanned (held : Told) (job : PlanJob) (plan : PlanRecord) : Type 0 
   pub says : SaysWorld held job.sources world
   pub is_world : IsWorld world
   pub arcs : HasLatticeArcs (network_of world) world
-  pub plan_of : IsPlanOf world job.search.budget (ask_of job.search) plan
+  pub plan_of : IsPlanOf world job plan
 
 -- the environment file has this first fault
 pub record IsFaultyEnvironment (held : Told) (from : Sources) (f : EnvFault) : Type 0 where

@@ -1,5 +1,6 @@
 -- What a plan's record says of the world that it was planned in.
 use Rattle.std.specs.Prelude.{◌≡◌, ℕ, ◌*◌, ◌^◌, ◌≤◌, ◌⊎◌, Bool, MatchBool, List, [], ◌∷◌, Some, None}
+use Rattle.std.specs.Option.{is_some}
 use Rattle.sbpl_graph.specs.Network.{Network}
 use Rattle.sbpl_graph.specs.Path.{IsFreePath}
 use Rattle.sbpl_cfg.specs.declared.pose.Pose.{Pose}
@@ -21,6 +22,9 @@ use Rattle.sbpl_cli.specs.declared.record.PathRecord.{PathRecord}
 use Rattle.sbpl_cli.specs.declared.record.Outcome.{Outcome}
 use Rattle.sbpl_cli.specs.declared.record.Outcome.TheVariants as outcome
 use Rattle.sbpl_cli.specs.declared.record.PlanRecord.{PlanRecord}
+use Rattle.sbpl_cli.specs.declared.job.PlanJob.{PlanJob}
+use Rattle.sbpl_cli.specs.Jobs.{ask_of}
+use Rattle.sbpl_cli.specs.Shown.{IsShown, IsThere}
 
 -- what stays the same over a plan in a world, with a guide to its goal
 abbrev pub inquiry : World → (ℕ → ℕ) → ℕ → Ask → Inquiry
@@ -105,26 +109,28 @@ IsMarked budget spent r = MatchBool spent
     ((r.spent ≡ Some (expansions r.passes)) × ((expansions r.passes ≡ budget) ⊎ (expansions r.passes ≡ 2 ^ 30)))
     (r.spent ≡ None)
 
--- the record of a search from opened labels by the best heuristic: its passes in turn, and the result by the final labels
-pub record IsSearched (w : World) (start goal budget : ℕ) (ask : Ask) (r : PlanRecord) : Type 0 where
+-- The record of a search from opened labels by the best heuristic: its passes in turn, the result by the final labels, and
+-- a section of these labels, where they are to be written.
+pub record IsSearched (w : World) (start goal : ℕ) (j : PlanJob) (r : PlanRecord) : Type 0 where
   pub guide : ℕ → ℕ
   pub is_guide : IsBest w goal guide
   pub opened : Marks
   pub is_opened : IsOpened opened (network_of w).states start
   pub final : Marks
   pub spent : Bool
-  pub passes : ArePasses (inquiry w guide goal ask) ask.first opened r.passes final spent
+  pub passes : ArePasses (inquiry w guide goal (ask_of j)) j.search.first opened r.passes final spent
   pub result : search.Outcome
   pub is_result : IsOutcome (network_of w) guide goal final result
   pub told : TellsResult result r.outcome
-  pub marked : IsMarked budget spent r
+  pub marked : IsMarked j.search.budget spent r
+  pub labels : IsThere (is_some j.outputs.labels) (IsShown (network_of w) guide start goal r.plan final result) r.labels
 
 -- the record of the first plan in a world, from the start of its environment to its end
-pub record IsPlanOf (w : World) (budget : ℕ) (ask : Ask) (r : PlanRecord) : Type 0 where
+pub record IsPlanOf (w : World) (j : PlanJob) (r : PlanRecord) : Type 0 where
   pub number : r.plan ≡ 0
   pub start : ℕ
   pub goal : ℕ
   pub start_is : IsStateOf w.env w.env.start start
   pub goal_is : IsStateOf w.env w.env.end goal
-  pub promises : KeepsPromises w start goal ask.bound r
-  pub searched : IsSearched w start goal budget ask r
+  pub promises : KeepsPromises w start goal j.search.bound r
+  pub searched : IsSearched w start goal j r

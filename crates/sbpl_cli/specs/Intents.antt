@@ -1,5 +1,5 @@
 -- What a job comes to: what is to be written, and the status.
-use Rattle.std.specs.Prelude.{◌≡◌, ℕ, List, [], ◌∷◌, ◌++◌, map, codes, decimal}
+use Rattle.std.specs.Prelude.{◌≡◌, ℕ, List, [], ◌∷◌, ◌++◌, map, Option, Some, None, codes, decimal}
 use Rattle.sbpl_cfg.specs.Faults as environments
 use Rattle.sbpl_mprim.specs.Faults as primitives
 use Rattle.sbpl_cli.specs.declared.refusal.Input.{Input}
@@ -7,13 +7,18 @@ use Rattle.sbpl_cli.specs.declared.refusal.Input.TheVariants as input
 use Rattle.sbpl_cli.specs.declared.refusal.Refusal.{Refusal}
 use Rattle.sbpl_cli.specs.declared.refusal.Refusal.TheVariants as refusal
 use Rattle.sbpl_cost.specs.World.{World}
+use Rattle.sbpl_cert.specs.Printed as labels
+use Rattle.sbpl_cert.specs.Sections.{Section}
 use Rattle.sbpl_cli.specs.declared.job.Job.{Job}
+use Rattle.sbpl_cli.specs.declared.job.Job.TheVariants as job
+use Rattle.sbpl_cli.specs.declared.job.Outputs.{Outputs}
 use Rattle.sbpl_cli.specs.declared.job.Sources.{Sources}
 use Rattle.sbpl_cli.specs.declared.record.PlanRecord.{PlanRecord}
 use Rattle.sbpl_cli.specs.Jobs.{sources_of}
 use Rattle.sbpl_cli.specs.Listing.{listings}
 use Rattle.sbpl_cli.specs.Report.{line_feed, section_text, done_text}
-use Rattle.sbpl_cli.specs.Writing.{Write, to_output}
+use Rattle.sbpl_cli.specs.Traces.{trace_text}
+use Rattle.sbpl_cli.specs.Writing.{Write, to_named, to_output}
 
 -- the name of a file
 abbrev pub input_name : Sources → Input → List ℕ
@@ -62,9 +67,26 @@ pub data Intent : Type 0 where
 abbrev pub last_write : Write
 last_write = to_output done_text
 
--- the writes of a plan: its section, and the last line
-abbrev pub plan_writes : PlanRecord → List Write
-plan_writes plan = to_output (section_text plan) ∷ last_write ∷ []
+-- the text of the labels of a plan
+abbrev pub labels_text : Option Section → List ℕ
+labels_text None = []
+labels_text (Some s) = labels.section_text s
+
+-- the write of a plan's labels, where they are written
+abbrev pub labels_writes : Outputs → PlanRecord → List Write
+labels_writes o plan = to_named o.labels (labels_text plan.labels)
+
+-- the write of a plan's trace, where it is written
+abbrev pub trace_writes : Outputs → PlanRecord → List Write
+trace_writes o plan = to_named o.trace (trace_text plan)
+
+-- the writes of a plan: its section of the report, its labels, its trace
+abbrev pub section_writes : Outputs → PlanRecord → List Write
+section_writes o plan = to_output (section_text plan) ∷ (labels_writes o plan ++ trace_writes o plan)
+
+-- the writes of a plan, and the last line
+abbrev pub plan_writes : Outputs → PlanRecord → List Write
+plan_writes o plan = section_writes o plan ++ last_write ∷ []
 
 -- the writes of a list of sweeps: one for each primitive, and the last line
 abbrev pub listing_writes : World → List Write
@@ -78,12 +100,17 @@ words_writes = to_output words_text ∷ []
 abbrev pub refusal_writes : Sources → Refusal → List Write
 refusal_writes from r = to_output (refusal_text from r) ∷ []
 
+-- where a job's plans are written beside the report
+abbrev pub outputs_of : Job → Outputs
+outputs_of (job.Plan j) = j.outputs
+outputs_of (job.Sweep from) = record { labels = None; trace = None }
+
 -- what is to be written
 abbrev pub writes_of : Job → Intent → List Write
-writes_of job (Refused r) = refusal_writes (sources_of job) r
-writes_of job (Planned plan) = plan_writes plan
-writes_of job (Listed w) = listing_writes w
-writes_of job OutOfMemory = []
+writes_of j (Refused r) = refusal_writes (sources_of j) r
+writes_of j (Planned plan) = plan_writes (outputs_of j) plan
+writes_of j (Listed w) = listing_writes w
+writes_of j OutOfMemory = []
 
 -- the status
 abbrev pub intent_status : Intent → ℕ

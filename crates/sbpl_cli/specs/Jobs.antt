@@ -1,11 +1,14 @@
 -- The job that a list of words names.
-use Rattle.std.specs.Prelude.{◌^◌, ◌≤◌, false, ◌/◌, ◌%◌, ◌&&◌, ℕ, ℤ, pos, negsuc, nat_eq, nat_le, List, [], ◌∷◌, Option, Some, None, option_map, option_and_then, Result, Ok, Err, codes, if◌then◌else◌}
+use Rattle.std.specs.Prelude.{◌^◌, ◌≤◌, false, ◌/◌, ◌%◌, ◌&&◌, ◌||◌, Bool, ℕ, ℤ, pos, negsuc, nat_eq, nat_le, List, [], ◌∷◌, Option, Some, None, option_map, option_and_then, Result, Ok, Err, codes, if◌then◌else◌}
+use Rattle.std.specs.Option.{is_some}
 use Rattle.std.specs.Str.{bytes_eq}
 use Rattle.sbpl_fixed.specs.declared.fault.NumFault.{NumFault}
 use Rattle.sbpl_fixed.specs.Numbers.{nano_of, whole_of}
 use Rattle.sbpl_plan.specs.declared.ask.Ask.{Ask}
 use Rattle.sbpl_cli.specs.declared.job.Job.{Job}
 use Rattle.sbpl_cli.specs.declared.job.Job.TheVariants as job
+use Rattle.sbpl_cli.specs.declared.job.Outputs.{Outputs}
+use Rattle.sbpl_cli.specs.declared.job.PlanJob.{PlanJob}
 use Rattle.sbpl_cli.specs.declared.job.Planner.{Planner}
 use Rattle.sbpl_cli.specs.declared.job.Planner.TheVariants as planner
 use Rattle.sbpl_cli.specs.declared.job.SearchJob.{SearchJob}
@@ -18,7 +21,9 @@ use Rattle.sbpl_cli.specs.Words.{Parts, parts_of, value_of}
 
 -- the command of this name
 abbrev pub command_named : List ℕ → Option Command
-command_named word = if bytes_eq word (codes "plan") then Some command.Plan else (if bytes_eq word (codes "sweep") then Some command.Sweep else None)
+command_named word =
+    if bytes_eq word (codes "plan") then Some command.Plan
+    else (if bytes_eq word (codes "sweep") then Some command.Sweep else None)
 
 -- a number of nanometres, 0 to 10 ^ 12
 abbrev pub radius_in : Result ℤ NumFault → Option ℕ
@@ -32,14 +37,12 @@ radius_by None = None
 radius_by (Some None) = Some 0
 radius_by (Some (Some metres)) = radius_in (nano_of metres)
 
--- an environment file and a primitive file are all the plain words, and there is a radius
-abbrev pub sources_by : List (List ℕ) → Option ℕ → Option Sources
-sources_by (env ∷ (prims ∷ [])) (Some radius) = Some (record { env = env; prims = prims; radius = radius })
-sources_by _ _ = None
+-- what the lattice of a command is made of, where there is a radius
+abbrev pub sources_by : (env prims : List ℕ) → Option ℕ → Option Sources
+sources_by env prims radius = option_map (λ r. record { env = env; prims = prims; radius = r }) radius
 
--- what the lattice of a command is made of
-abbrev pub sources_in : Parts → Option Sources
-sources_in p = sources_by p.plain (radius_by (value_of setting.Radius p.given))
+abbrev pub sources_in : (env prims : List ℕ) → List Given → Option Sources
+sources_in env prims given = sources_by env prims (radius_by (value_of setting.Radius given))
 
 -- the thousandths that so many billionths are exactly, in their range
 abbrev pub milli_from : (low high nano : ℕ) → Option ℕ
@@ -89,14 +92,49 @@ search_in given =
     (milli_by 1000 1000 100000 (value_of setting.First given)))
     (planner_by (value_of setting.Planner given))
 
--- the job of a command on these sources
-abbrev pub job_on : Command → Sources → List Given → Option Job
-job_on command.Plan sources given = option_map (λ search. job.Plan (record { sources = sources; search = search })) (search_in given)
-job_on command.Sweep sources given = Some (job.Sweep sources)
+-- a name is that of a file that is read
+abbrev pub is_input : Sources → List ℕ → Bool
+is_input from name = bytes_eq name from.env || bytes_eq name from.prims
 
--- the job of a command
+-- the name of an output, if one is set: it is no file that is read
+abbrev pub output_by : Sources → Option (Option (List ℕ)) → Option (Option (List ℕ))
+output_by from None = None
+output_by from (Some None) = Some None
+output_by from (Some (Some name)) = if is_input from name then None else Some (Some name)
+
+-- two outputs, which differ where both are set
+abbrev pub outputs_by : (labels trace : Option (List ℕ)) → Option Outputs
+outputs_by None trace = Some (record { labels = None; trace = trace })
+outputs_by (Some labels) None = Some (record { labels = Some labels; trace = None })
+outputs_by (Some labels) (Some trace) = if bytes_eq labels trace then None else Some (record { labels = Some labels; trace = Some trace })
+
+-- where a plan's labels and its trace are written
+abbrev pub outputs_in : Sources → List Given → Option Outputs
+outputs_in from given =
+    option_and_then (λ labels. option_and_then (outputs_by labels) (output_by from (value_of setting.Trace given)))
+    (output_by from (value_of setting.Labels given))
+
+-- the job `plan`
+abbrev pub plan_in : Sources → List Given → Option Job
+plan_in from given =
+    option_and_then (λ outputs. option_map (λ search. job.Plan (record { sources = from; search = search; outputs = outputs })) (search_in given))
+    (outputs_in from given)
+
+-- the job of a command on these sources, with the plain words that are left
+abbrev pub job_on : Command → Sources → List (List ℕ) → List Given → Option Job
+job_on command.Plan from [] given = plan_in from given
+job_on command.Plan from (word ∷ words) given = None
+job_on command.Sweep from [] given = Some (job.Sweep from)
+job_on command.Sweep from (word ∷ words) given = None
+
+-- the job of a command: the first two plain words are the environment file and the primitive file
+abbrev pub job_with : Command → List (List ℕ) → List Given → Option Job
+job_with c [] given = None
+job_with c (env ∷ []) given = None
+job_with c (env ∷ (prims ∷ words)) given = option_and_then (λ from. job_on c from words given) (sources_in env prims given)
+
 abbrev pub job_by : Command → Parts → Option Job
-job_by c p = option_and_then (λ sources. job_on c sources p.given) (sources_in p)
+job_by c p = job_with c p.plain p.given
 
 -- the job that the words name
 abbrev pub job_of : List (List ℕ) → Option Job
@@ -124,5 +162,5 @@ IsJob (job.Plan plan) = (plan.sources.radius ≤ 10 ^ 12) × IsSearchJob plan.se
 IsJob (job.Sweep sources) = sources.radius ≤ 10 ^ 12
 
 -- what a plan is asked for
-abbrev pub ask_of : SearchJob → Ask
-ask_of s = record { first = s.first; step = s.step; bound = s.bound; traced = false }
+abbrev pub ask_of : PlanJob → Ask
+ask_of j = record { first = j.search.first; step = j.search.step; bound = j.search.bound; traced = is_some j.outputs.trace }

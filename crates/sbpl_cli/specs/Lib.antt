@@ -3,9 +3,11 @@ pub mod Taking
 pub mod Jobs
 pub mod Writing
 pub mod Report
+pub mod Traces
 pub mod Listing
 pub mod Intents
 pub mod Texts
+pub mod Shown
 pub mod Headline
 pub mod Causes
 pub mod Promises

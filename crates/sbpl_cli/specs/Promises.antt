@@ -15,17 +15,18 @@ use Rattle.sbpl_cli.specs.Causes.{IsCause, IsPlanned, SaysWorld}
 use Rattle.sbpl_cli.specs.Intents.{Intent, Refused, Planned, Listed, OutOfMemory, intent_status, listing_writes, plan_writes, refusal_status, refusal_writes, words_writes, writes_of}
 use Rattle.sbpl_cli.specs.Jobs.{sources_of}
 use Rattle.sbpl_cli.specs.Texts.{HasEnvironmentFault, HasPrimitiveFault, IsEnvironmentText, IsPrimitiveText}
-use Rattle.sbpl_cli.specs.Writing.{AreMade, EndsAs, FaultCounts, IsCutAt, IsStoppedAt, Told}
+use Rattle.sbpl_desk.specs.Desk.{Rose}
+use Rattle.sbpl_cli.specs.Writing.{AreMade, EndsAs, FaultCounts, IsCutAt, IsOutput, IsOutputOf, IsStoppedAt, Told}
 
 -- the words name this job, of which P holds
 abbrev pub AtJob : Option Job → (Job → Type 0) → Type 0
 AtJob named P = (j : Job) × (named ≡ Some j) × P j
 
--- the report of a plan of the job's files was written
+-- the report of a plan of the job's files was written, and its labels and its trace where they are asked for
 pub record IsReported (held before after : Told) (j : PlanJob) : Type 0 where
   pub plan : PlanRecord
   pub planned : IsPlanned held j plan
-  pub report : AreMade before after (plan_writes plan)
+  pub report : AreMade before after (plan_writes j.outputs plan)
 
 -- what each primitive of the files costs and sweeps was listed
 pub record IsListed (held before after : Told) (from : Sources) : Type 0 where
@@ -78,6 +79,16 @@ pub data EndsRun (named : Option Job) (held : Told) (reads reads' : FaultCounts)
   by_job : (j : Job) → named ≡ Some j → EndsJob held reads reads' before after faults faults' j status → EndsRun named held reads reads' before after faults faults' status
   by_words : named ≡ None → EndsAs before after faults faults' words_writes 2 status → EndsRun named held reads reads' before after faults faults' status
   by_memory : status ≡ 9 → AreMade before after [] → EndsRun named held reads reads' before after faults faults' status
+
+-- the name is one that the job may write under
+abbrev pub MayBeWritten : Option Job → List ℕ → Type 0
+MayBeWritten None name = IsOutput name
+MayBeWritten (Some (job.Plan j)) name = IsOutputOf j.outputs name
+MayBeWritten (Some (job.Sweep from)) name = IsOutput name
+
+-- a write under a name that the job may write under failed in this call
+abbrev pub SomeRose : Option Job → FaultCounts → FaultCounts → Type 0
+SomeRose named faults faults' = (name : List ℕ) × MayBeWritten named name × Rose (faults name) (faults' name)
 
 -- the statuses of the program
 abbrev pub IsStatus : ℕ → Type 0

@@ -38,6 +38,8 @@ is_setting setting.First setting.First = true
 is_setting setting.Step setting.Step = true
 is_setting setting.Bound setting.Bound = true
 is_setting setting.Budget setting.Budget = true
+is_setting setting.Labels setting.Labels = true
+is_setting setting.Trace setting.Trace = true
 is_setting _ _ = false
 
 -- the setting of this name
@@ -48,7 +50,9 @@ setting_named word =
     else (if bytes_eq word (codes "--first") then Some setting.First
     else (if bytes_eq word (codes "--step") then Some setting.Step
     else (if bytes_eq word (codes "--bound") then Some setting.Bound
-    else (if bytes_eq word (codes "--budget") then Some setting.Budget else None)))))
+    else (if bytes_eq word (codes "--budget") then Some setting.Budget
+    else (if bytes_eq word (codes "--labels") then Some setting.Labels
+    else (if bytes_eq word (codes "--trace") then Some setting.Trace else None)))))))
 
 -- a command takes a setting
 abbrev pub takes : Command → Setting → Bool

@@ -1,9 +1,10 @@
 -- Texts that are written under names, in turn, and how the writing of them ends.
-use Rattle.std.specs.Prelude.{◌≡◌, ◌⊎◌, ℕ, List, [], ◌∷◌, ◌++◌, flat_map, if◌then◌else◌, Option, Result, Ok, Err, codes}
+use Rattle.std.specs.Prelude.{◌≡◌, ◌⊎◌, ℕ, List, [], ◌∷◌, ◌++◌, flat_map, if◌then◌else◌, Option, Some, None, Result, Ok, Err, codes}
 use Rattle.std.specs.Str.{bytes_eq}
 use Rattle.sbpl_desk.specs.Desk.{Appends, Rose}
 use Rattle.sbpl_desk.specs.declared.desk.WriteStop.{WriteStop}
 use Rattle.sbpl_desk.specs.declared.desk.WriteStop.TheVariants.{Failed, NoMemory}
+use Rattle.sbpl_cli.specs.declared.job.Outputs.{Outputs}
 
 -- what a desk holds, or what is written, under each name, where it tells
 abbrev pub Told : Type 0
@@ -29,6 +30,27 @@ to_output text = record { name = output; text = text }
 -- what these writes append under a name
 abbrev pub text_under : List ℕ → List Write → List ℕ
 text_under name writes = flat_map (λ w. if bytes_eq w.name name then w.text else []) writes
+
+-- a text that is written under a name, if there is one
+abbrev pub to_named : Option (List ℕ) → List ℕ → List Write
+to_named None text = []
+to_named (Some name) text = record { name = name; text = text } ∷ []
+
+-- what is written under other names stays
+abbrev pub StaysBut : (List ℕ → Type 0) → Told → Told → Type 0
+StaysBut IsWritten before after = (name : List ℕ) → (IsWritten name → ⊥) → after name ≡ before name
+
+-- the name is that of the standard output
+abbrev pub IsOutput : List ℕ → Type 0
+IsOutput name = name ≡ output
+
+-- this is the name, if there is one
+abbrev pub IsNamed : Option (List ℕ) → List ℕ → Type 0
+IsNamed o name = o ≡ Some name
+
+-- the name is that of the standard output, or of another output of a plan
+abbrev pub IsOutputOf : Outputs → List ℕ → Type 0
+IsOutputOf o name = IsOutput name ⊎ (IsNamed o.labels name ⊎ IsNamed o.trace name)
 
 -- these writes were made: under each name, told bytes grew by their texts
 pub record AreMade (before after : Told) (writes : List Write) : Type 0 where

@@ -1,11 +1,12 @@
 //! The job that the words name.
 
-ghost use Rattle.std.specs.Prelude.{◌≡◌, ◌≤◌, ◌^◌, IfOk, map, option_map, string_bytes};
+ghost use Rattle.std.specs.Prelude.{◌≡◌, ◌≤◌, ◌^◌, IfOk, Some, map, option_map, string_bytes};
+ghost use Rattle.std.specs.Str.{bytes_eq};
 ghost use Rattle.sbpl_fixed.specs.Numbers.{nano_of, whole_of};
 ghost use Rattle.sbpl_cli.specs.declared.job.Job.TheVariants as Jobs;
 ghost use Rattle.sbpl_cli.specs.declared.job.JobFault.TheVariants.{NoMemory};
 ghost use Rattle.sbpl_cli.specs.declared.words.Setting.TheVariants as Settings;
-ghost use Rattle.sbpl_cli.specs.Jobs.{IsJob, IsSearchJob, budget_by, budget_in, command_named, job_by, job_of, job_on, milli_by, milli_from, milli_in, planner_by, planner_named, radius_by, radius_in, search_in, sources_in};
+ghost use Rattle.sbpl_cli.specs.Jobs.{IsJob, IsSearchJob, budget_by, budget_in, command_named, is_input, job_by, job_of, job_on, milli_by, milli_from, milli_in, output_by, outputs_by, outputs_in, plan_in, planner_by, planner_named, radius_by, radius_in, search_in, sources_in};
 ghost use Rattle.sbpl_cli.specs.Words.{Names, value_of};
 
 use crate::name::Name;
@@ -46,6 +47,15 @@ pub struct SearchJob {
     pub budget: u64,
 }
 
+/// Where a plan is written beside its report. Both differ from the files that are read, and from each other.
+#[derive(Debug, Drop)]
+pub struct Outputs {
+    /// Where the labels of each plan are written, if they are.
+    pub labels: Option<Name>,
+    /// Where the expansions of each plan are written, if they are.
+    pub trace: Option<Name>,
+}
+
 /// The job `plan`: plan a path on the lattice.
 #[derive(Debug, Drop)]
 pub struct PlanJob {
@@ -53,6 +63,8 @@ pub struct PlanJob {
     pub sources: Sources,
     /// How the path is to be searched.
     pub search: SearchJob,
+    /// What is written beside the report.
+    pub outputs: Outputs,
 }
 
 /// A job of the program.
@@ -143,13 +155,10 @@ fn make_sources(alloc: Global, env: &Name, prims: &Name, radius: u64) -> Result<
 }
 
 /// What the lattice of a command is made of.
-fn sources_of(alloc: Global, line: &Line) -> Result<Sources, JobFault>
-    ensures sources { Names (sources_in line.now) result }
+fn sources_of(alloc: Global, env: &Name, prims: &Name, line: &Line) -> Result<Sources, JobFault>
+    ensures sources { Names (sources_in env.now prims.now line.now.given) result }
     ensures range { IfOk result (λ s. s.radius ≤ 10 ^ 12) }
 {
-    let [env, prims] = line.plain() else {
-        return Err(JobFault::Words);
-    };
     match radius_of(line) {
         Ok(radius) => Ok(make_sources(alloc, env, prims, radius)?),
         Err(fault) => Err(fault),
@@ -263,37 +272,111 @@ fn search_of(line: &Line) -> Result<SearchJob, JobFault>
     })
 }
 
-/// The job `plan` on these sources.
-fn plan_on(sources: Sources, line: &Line) -> Result<Job, JobFault>
-    requires range { sources.radius ≤ 10 ^ 12 }
-    ensures job { Names (option_map (λ search. Jobs.Plan (record { sources = sources; search = search })) (search_in line.now.given)) result }
-    ensures range { IfOk result IsJob }
+/// Whether two names are the same.
+fn is_same(a: &Name, b: &Name) -> bool
+    ensures same { result ≡ bytes_eq a.now b.now }
 {
-    match search_of(line) {
-        Ok(search) => Ok(Job::Plan(PlanJob { sources, search })),
+    a.as_str() == b.as_str()
+}
+
+/// Whether a name is that of a file that is read.
+fn is_input(from: &Sources, name: &Name) -> bool
+    ensures input { result ≡ is_input from.now name.now }
+{
+    is_same(name, &from.env) || is_same(name, &from.prims)
+}
+
+/// The output of this name, which is no file that is read.
+fn output_named(alloc: Global, from: &Sources, name: &Name) -> Result<Option<Name>, JobFault>
+    ensures output { Names (output_by from.now (Some (Some name.now))) result }
+{
+    if is_input(from, name) {
+        return Err(JobFault::Words);
+    }
+    Ok(Some(Name::of(alloc, name.as_str())?))
+}
+
+/// The output that a setting names, if it is given.
+fn output_of(
+    alloc: Global,
+    from: &Sources,
+    line: &Line,
+    setting: Setting,
+) -> Result<Option<Name>, JobFault>
+    ensures output { Names (output_by from.now (value_of setting line.now.given)) result }
+{
+    match line.value_of(setting) {
+        Ok(None) => Ok(None),
+        Ok(Some(name)) => output_named(alloc, from, name),
         Err(fault) => Err(fault),
     }
 }
 
-/// The job of a command on these sources.
-fn job_on(command: Command, sources: Sources, line: &Line) -> Result<Job, JobFault>
+/// Two outputs, which differ where both are set.
+fn both_outputs(labels: Option<Name>, trace: Option<Name>) -> Result<Outputs, JobFault>
+    ensures outputs { Names (outputs_by labels trace) result }
+{
+    if let (Some(first), Some(second)) = (&labels, &trace) {
+        if is_same(first, second) {
+            return Err(JobFault::Words);
+        }
+    }
+    Ok(Outputs { labels, trace })
+}
+
+/// Where a plan's labels and its trace are written.
+fn outputs_of(alloc: Global, from: &Sources, line: &Line) -> Result<Outputs, JobFault>
+    ensures outputs { Names (outputs_in from.now line.now.given) result }
+{
+    let labels = output_of(alloc, from, line, Setting::Labels)?;
+    let trace = output_of(alloc, from, line, Setting::Trace)?;
+    both_outputs(labels, trace)
+}
+
+/// The job `plan` on these sources.
+fn plan_of(alloc: Global, sources: Sources, line: &Line) -> Result<Job, JobFault>
     requires range { sources.radius ≤ 10 ^ 12 }
-    ensures job { Names (job_on command sources line.now.given) result }
+    ensures job { Names (plan_in sources line.now.given) result }
     ensures range { IfOk result IsJob }
 {
-    match command {
-        Command::Plan => plan_on(sources, line),
-        Command::Sweep => Ok(Job::Sweep(sources)),
+    let outputs = outputs_of(alloc, &sources, line)?;
+    let search = search_of(line)?;
+    Ok(Job::Plan(PlanJob {
+        sources,
+        search,
+        outputs,
+    }))
+}
+
+/// The job of a command on these sources, with the plain words that are left.
+fn job_on(
+    alloc: Global,
+    command: Command,
+    sources: Sources,
+    words: &[Name],
+    line: &Line,
+) -> Result<Job, JobFault>
+    requires range { sources.radius ≤ 10 ^ 12 }
+    ensures job { Names (job_on command sources words.now line.now.given) result }
+    ensures range { IfOk result IsJob }
+{
+    match (command, words) {
+        (Command::Plan, []) => plan_of(alloc, sources, line),
+        (Command::Sweep, []) => Ok(Job::Sweep(sources)),
+        _ => Err(JobFault::Words),
     }
 }
 
-/// The job of a command.
+/// The job of a command. The first two plain words are the environment file and the primitive file.
 fn job_by(alloc: Global, command: Command, line: &Line) -> Result<Job, JobFault>
     ensures job { Names (job_by command line.now) result }
     ensures range { IfOk result IsJob }
 {
-    match sources_of(alloc, line) {
-        Ok(sources) => job_on(command, sources, line),
+    let [env, prims, words @ ..] = line.plain() else {
+        return Err(JobFault::Words);
+    };
+    match sources_of(alloc, env, prims, line) {
+        Ok(sources) => job_on(alloc, command, sources, words, line),
         Err(fault) => Err(fault),
     }
 }

@@ -3,6 +3,7 @@
 
 mod files;
 mod job;
+mod labels;
 mod lattice;
 mod list;
 mod listing;
@@ -14,10 +15,11 @@ mod refusal;
 mod refusing;
 mod report;
 mod top;
+mod trace;
 mod words;
 mod writing;
 
-pub use job::{Job, JobFault, PlanJob, Planner, SearchJob, Sources, read_job};
+pub use job::{Job, JobFault, Outputs, PlanJob, Planner, SearchJob, Sources, read_job};
 pub use name::Name;
 pub use parts::Steps;
 pub use record::{Outcome, PathRecord, PlanRecord, Step};

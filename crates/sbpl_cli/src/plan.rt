@@ -12,12 +12,14 @@ ghost use Rattle.sbpl_plan.specs.Outcomes as Search;
 ghost use Rattle.sbpl_plan.specs.Passing.{expansions};
 ghost use Rattle.sbpl_plan.specs.declared.result.Outcome.TheVariants as Results;
 
-use crate::job::{PlanJob, SearchJob};
+use crate::job::PlanJob;
+use crate::labels::labels_of;
 use crate::lattice::read_lattice;
 use crate::parts::Steps;
 use crate::record::{Outcome, PathRecord, PlanRecord, Step};
 use crate::refusal::Stop;
 use sbpl_ara::Ara;
+use sbpl_cert::LabelSet;
 use sbpl_cfg::place_at;
 use sbpl_cost::{Lattice, lattice_has_its_arcs};
 use sbpl_desk::Desk;
@@ -110,14 +112,14 @@ fn outcome_of(
 }
 
 /// What a search is asked for.
-fn ask_of(search: &SearchJob) -> Ask
-    ensures ask { result ≡ ask_of search.now }
+fn ask_of(job: &PlanJob) -> Ask
+    ensures ask { result ≡ ask_of job.now }
 {
     Ask {
-        first: search.first,
-        step: search.step,
-        bound: search.bound,
-        traced: false,
+        first: job.search.first,
+        step: job.search.step,
+        bound: job.search.bound,
+        traced: job.outputs.trace.is_some(),
     }
 }
 
@@ -136,6 +138,7 @@ fn record_of(
     goal: u32,
     planned: Planned,
     budget: &Budget,
+    labels: Option<LabelSet>,
 ) -> Result<PlanRecord, NoMemory>
     requires state { start < (network_of lattice.now).states }
     requires so { IsTrueOutcome (network_of lattice.now) start goal planned.outcome }
@@ -144,6 +147,7 @@ fn record_of(
     ensures number { IfOk result (λ r. r.plan ≡ 0) }
     ensures passes { IfOk result (λ r. r.passes ≡ planned.passes) }
     ensures told { IfOk result (λ r. TellsResult planned.outcome r.outcome) }
+    ensures labels { IfOk result (λ r. r.labels ≡ labels) }
     ensures marked { IfOk result (IsMarked budget.now.per_plan planned.spent) }
     ensures joins { IfOk result (λ r. Joins lattice.now start goal r.outcome) }
     ensures within_the_bound { IfOk result (λ r. IsWithinBound lattice.now start goal r.outcome) }
@@ -156,6 +160,7 @@ fn record_of(
         passes: planned.passes,
         spent: mark_of(planned.spent, budget),
         outcome,
+        labels,
     })
 }
 
@@ -163,36 +168,46 @@ fn record_of(
 fn plan_between(
     alloc: Global,
     lattice: &Lattice,
-    search: &SearchJob,
+    job: &PlanJob,
     start: u32,
     goal: u32,
 ) -> Result<PlanRecord, NoMemory>
     requires start { start < (network_of lattice.now).states }
     requires goal { goal < (network_of lattice.now).states }
-    requires search { IsSearchJob search.now }
+    requires search { IsSearchJob job.now.search }
     ensures number { IfOk result (λ r. r.plan ≡ 0) }
-    ensures promises { IfOk result (KeepsPromises lattice.now start goal search.now.bound) }
-    ensures searched { IfOk result (IsSearched lattice.now start goal search.now.budget (ask_of search.now)) }
+    ensures promises { IfOk result (KeepsPromises lattice.now start goal job.now.search.bound) }
+    ensures searched { IfOk result (IsSearched lattice.now start goal job.now) }
 {
-    let ask = ask_of(search);
+    let ask = ask_of(job);
     let guide = Best::build(alloc, lattice, goal)?;
-    let mut budget = Budget::new(search.budget);
+    let mut budget = Budget::new(job.search.budget);
     let mut ara = Ara::open(alloc, lattice.states(), start, goal)?;
     let planned = sbpl_plan::plan(alloc, lattice, &guide, &mut ara, goal, &ask, &mut budget)?;
-    record_of(alloc, lattice, start, goal, planned, &budget)
+    let asked = job.outputs.labels.is_some();
+    let labels = labels_of(
+        alloc,
+        lattice,
+        &guide,
+        ara.labels(),
+        goal,
+        &planned.outcome,
+        asked,
+    )?;
+    record_of(alloc, lattice, start, goal, planned, &budget, labels)
 }
 
 /// Plans on a lattice, from the start of its environment to its end.
-fn plan_on(alloc: Global, lattice: &Lattice, search: &SearchJob) -> Result<PlanRecord, NoMemory>
-    requires search { IsSearchJob search.now }
-    ensures planned { IfOk result (IsPlanOf lattice.now search.now.budget (ask_of search.now)) }
+fn plan_on(alloc: Global, lattice: &Lattice, job: &PlanJob) -> Result<PlanRecord, NoMemory>
+    requires search { IsSearchJob job.now.search }
+    ensures planned { IfOk result (IsPlanOf lattice.now job.now) }
 {
     let env = lattice.env();
     let start = place_at(env, &env.start).unwrap();
     let goal = place_at(env, &env.end).unwrap();
     let start = lattice.state_of(&start).unwrap();
     let goal = lattice.state_of(&goal).unwrap();
-    plan_between(alloc, lattice, search, start, goal)
+    plan_between(alloc, lattice, job, start, goal)
 }
 
 /// Reads the job's files and plans.
@@ -208,7 +223,7 @@ pub(crate) fn plan<D: Desk>(alloc: Global, job: &PlanJob, desk: &mut D) -> Resul
 {
     lattice_has_its_arcs();
     let lattice = read_lattice(alloc, &job.sources, desk)?;
-    match plan_on(alloc, &lattice, &job.search) {
+    match plan_on(alloc, &lattice, job) {
         Ok(planned) => Ok(planned),
         Err(NoMemory) => Err(Stop::NoMemory),
     }

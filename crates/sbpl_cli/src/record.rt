@@ -1,6 +1,7 @@
 //! What a plan did: its passes and its result.
 
 use crate::parts::Steps;
+use sbpl_cert::LabelSet;
 use sbpl_cfg::Place;
 use sbpl_plan::{Arcs, Passes};
 
@@ -48,4 +49,6 @@ pub struct PlanRecord {
     pub spent: Option<u64>,
     /// Its result.
     pub outcome: Outcome,
+    /// The final labels, where they are to be written.
+    pub labels: Option<LabelSet>,
 }

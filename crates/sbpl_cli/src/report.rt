@@ -36,7 +36,7 @@ pub(crate) fn push_field(out: &mut Vec<u8>, word: &[u8], number: u64) -> Result<
 }
 
 /// Appends a word and a number of thousandths behind it.
-fn push_milli(out: &mut Vec<u8>, word: &[u8], number: u128) -> Result<(), NoMemory>
+pub(crate) fn push_milli(out: &mut Vec<u8>, word: &[u8], number: u128) -> Result<(), NoMemory>
     ensures appended { OnOk result (out.new.items ≡ out.old.items ++ (word.now ++ milli_text number)) }
 {
     push_bytes(out, word)?;

@@ -289,6 +289,78 @@ fn passes(rt: HostRuntime) -> Result<(), Fail> {
     )
 }
 
+/// Appends so many lines of states that no way is known to.
+fn push_far(text: &mut String, count: u32, line: &str) -> Result<(), Fail> {
+    for _ in 0..count {
+        text.push_str(line)?;
+    }
+    Ok(())
+}
+
+/// The labels of the corridor, where one row stands in place of that of state 16.
+fn corridor_labels(alloc: Global, row: &str) -> Result<String, Fail> {
+    let mut text = String::from_str(
+        alloc,
+        "labels 1 plan 0 states 48 low 50\npath 50 1.000 2 0 0\n0 0 50\n",
+    )?;
+    push_far(&mut text, 15, "- - 50\n")?;
+    text.push_str(row)?;
+    push_far(&mut text, 15, "- - 25\n")?;
+    text.push_str("50 - 0\n")?;
+    push_far(&mut text, 15, "- - 0\n")?;
+    text.push_str("end\n")?;
+    Ok(text)
+}
+
+/// A plan writes its labels and its expansions where it is told to.
+#[test]
+fn outputs(rt: HostRuntime) -> Result<(), Fail> {
+    let mut desk = MemoryDesk::new(rt.alloc());
+    desk.hold("e", E1.as_bytes())?;
+    desk.hold("m", F1.as_bytes())?;
+    let words = words_of(
+        rt.alloc(),
+        &["plan", "e", "--labels=l", "m", "--trace", "t"],
+    )?;
+    let labels = corridor_labels(rt.alloc(), "25 25 25\n")?;
+    assert_eq!(rt; run(rt.alloc(), words.as_slice(), &mut desk), 0);
+    assert_eq!(rt; desk.written("-"), CORRIDOR.as_bytes());
+    assert_eq!(rt; desk.written("l"), labels.as_bytes());
+    assert_eq!(rt;
+        desk.written("t"),
+        b"trace plan 0\npass 1.000\nlower 0\nlower 16\nend\n".as_slice()
+    );
+    Ok(())
+}
+
+/// The trace of a plan that was spent, and those of passes of falling inflation.
+#[test]
+fn traces(rt: HostRuntime) -> Result<(), Fail> {
+    let rows: [(&str, &str, &[&str], &str); 2] = [
+        (
+            E1,
+            F1,
+            &["plan", "e", "m", "--budget", "1", "--trace", "t"],
+            "trace plan 0\npass 1.000\nlower 0\nend\n",
+        ),
+        (
+            E2,
+            F2,
+            &["plan", "e", "m", "--trace", "t"],
+            "trace plan 0\npass 1.000\nlower 0\nlower 48\nlower 64\nlower 80\nend\n",
+        ),
+    ];
+    for (env, prims, words, trace) in rows {
+        let mut desk = MemoryDesk::new(rt.alloc());
+        desk.hold("e", env.as_bytes())?;
+        desk.hold("m", prims.as_bytes())?;
+        let words = words_of(rt.alloc(), words)?;
+        assert_eq!(rt; run(rt.alloc(), words.as_slice(), &mut desk), 0);
+        assert_eq!(rt; desk.written("t"), trace.as_bytes());
+    }
+    Ok(())
+}
+
 const REALISTIC: &str =
     "plan 0\npass 1.000 expanded 6 best 150 bound 1.000\npath 3 cost 150 bound 1.000\npose 4 4 0\nstep 0 5 4 0\nstep 0 6 4 0\nstep 4 10 4 0\ndone\n";
 
@@ -315,7 +387,7 @@ fn realistic(rt: HostRuntime) -> Result<(), Fail> {
 /// Words that name no job.
 #[test]
 fn words(rt: HostRuntime) -> Result<(), Fail> {
-    let rows: [&[&str]; 26] = [
+    let rows: [&[&str]; 30] = [
         &[],
         &["plan"],
         &["plan", "e"],
@@ -342,6 +414,10 @@ fn words(rt: HostRuntime) -> Result<(), Fail> {
         &["plan", "e", "m", "--step", "0"],
         &["plan", "e", "m", "--budget", "1073741825"],
         &["plan", "e", "m", "--planner", "ad"],
+        &["plan", "e", "m", "--labels", "e"],
+        &["plan", "e", "m", "--trace=m"],
+        &["plan", "e", "m", "--labels", "x", "--trace", "x"],
+        &["plan", "e", "m", "--labels", "x", "--labels", "y"],
     ];
     for row in rows {
         compare_words(

@@ -1,6 +1,6 @@
 //! The top call.
 
-ghost use Rattle.std.specs.Prelude.{◌≡◌, ◌≢◌, ◌⊎◌, ◌∷◌, ℕ, List, [], None, Some, map, string_bytes};
+ghost use Rattle.std.specs.Prelude.{◌≡◌, ◌≢◌, ◌⊎◌, ◌∷◌, ◌++◌, ℕ, List, [], None, Some, map, string_bytes};
 ghost use Rattle.sbpl_cfg.specs.Environment.{Environment};
 ghost use Rattle.sbpl_cfg.specs.declared.fault.EnvFault.{EnvFault};
 ghost use Rattle.sbpl_cost.specs.PrimitiveCost.{IsFirstTooDear};
@@ -11,20 +11,23 @@ ghost use Rattle.sbpl_sweep.specs.Widths.{IsFirstTooWide, NoneTooWide};
 ghost use Rattle.sbpl_cli.specs.declared.job.Job.{Job};
 ghost use Rattle.sbpl_cli.specs.declared.job.Job.TheVariants as Jobs;
 ghost use Rattle.sbpl_cli.specs.Causes.{NoneTooDear};
-ghost use Rattle.sbpl_cli.specs.Intents.{plan_writes, refusal_status, refusal_writes, words_writes};
+ghost use Rattle.sbpl_cli.specs.Intents.{labels_writes, plan_writes, refusal_status, refusal_writes, section_writes, trace_writes, words_writes};
 ghost use Rattle.sbpl_cli.specs.Jobs.{IsJob, job_of, sources_of};
-ghost use Rattle.sbpl_cli.specs.Promises.{AtJob, EndsJob, EndsRun, IsCutShort, IsDone, IsOrFailed, IsOrUnwritten, IsRefused, IsStatus, IsStopped, TellsEnvironment, TellsEnvironmentFault, TellsPrimitiveFault, TellsPrimitives, TellsTooMuch};
-ghost use Rattle.sbpl_cli.specs.Writing.{AreMade, EndsAs, EndsIn, IsCutAt, IsStoppedAt, output, to_output};
+ghost use Rattle.sbpl_cli.specs.Promises.{AtJob, EndsJob, EndsRun, IsCutShort, IsDone, IsOrFailed, IsOrUnwritten, IsRefused, IsStatus, IsStopped, MayBeWritten, SomeRose, TellsEnvironment, TellsEnvironmentFault, TellsPrimitiveFault, TellsPrimitives, TellsTooMuch};
+ghost use Rattle.sbpl_cli.specs.Writing.{AreMade, EndsAs, EndsIn, IsCutAt, IsNamed, IsOutputOf, IsStoppedAt, StaysBut, output, to_named, to_output};
 ghost use Rattle.sbpl_cli.specs.Report.{section_text};
 
-use crate::job::{Job, JobFault, PlanJob, Sources, read_job};
+use crate::job::{Job, JobFault, Outputs, PlanJob, Sources, read_job};
+use crate::labels;
 use crate::lattice::read_lattice;
 use crate::list::write_listings;
+use crate::name::Name;
 use crate::plan::plan;
 use crate::record::PlanRecord;
 use crate::refusal::{Refusal, Stop};
 use crate::refusing::line_of;
 use crate::report::section_of;
+use crate::trace::trace_of;
 use crate::writing::{OUTPUT, status_after, write_last, write_text};
 use sbpl_cfg::texts_are_environments_or_faulty;
 use sbpl_desk::{Desk, WriteStop};
@@ -60,15 +63,110 @@ fn write_section<D: Desk>(alloc: Global, plan: &PlanRecord, desk: &mut D) -> Res
     }
 }
 
-/// Writes the report of a plan: its section, and the last line.
-fn write_report<D: Desk>(alloc: Global, plan: &PlanRecord, desk: &mut D) -> Result<(), WriteStop>
-    ensures ends { EndsIn (D.written desk.old) (D.written desk.new) (D.write_faults desk.old) (D.write_faults desk.new) (plan_writes plan.now) result }
+/// Writes a text under a name, if there is one.
+fn write_named<D: Desk>(name: &Option<Name>, text: &[u8], desk: &mut D) -> Result<(), WriteStop>
+    ensures ends { EndsIn (D.written desk.old) (D.written desk.new) (D.write_faults desk.old) (D.write_faults desk.new) (to_named name.now text.now) result }
     ensures held { Stays (D.held desk.old) (D.held desk.new) }
-    ensures others { (name : List ℕ) → name ≢ output → D.written desk.new name ≡ D.written desk.old name }
+    ensures others { StaysBut (IsNamed name.now) (D.written desk.old) (D.written desk.new) }
+    ensures reads { NoneFalls (D.read_faults desk.old) (D.read_faults desk.new) }
+    ensures writes { NoneFalls (D.write_faults desk.old) (D.write_faults desk.new) }
+{
+    match name {
+        Some(name) => write_text(name.as_str(), text, desk),
+        None => Ok(()),
+    }
+}
+
+/// Writes the labels of a plan, where they are to be written.
+fn write_labels<D: Desk>(
+    alloc: Global,
+    outputs: &Outputs,
+    plan: &PlanRecord,
+    desk: &mut D,
+) -> Result<(), WriteStop>
+    ensures ends { EndsIn (D.written desk.old) (D.written desk.new) (D.write_faults desk.old) (D.write_faults desk.new) (labels_writes outputs.now plan.now) result }
+    ensures held { Stays (D.held desk.old) (D.held desk.new) }
+    ensures others { StaysBut (IsNamed outputs.now.labels) (D.written desk.old) (D.written desk.new) }
+    ensures reads { NoneFalls (D.read_faults desk.old) (D.read_faults desk.new) }
+    ensures writes { NoneFalls (D.write_faults desk.old) (D.write_faults desk.new) }
+{
+    match labels::text_of(alloc, &plan.labels) {
+        Ok(text) => write_named(&outputs.labels, text.as_slice(), desk),
+        Err(NoMemory) => Err(WriteStop::NoMemory),
+    }
+}
+
+/// Writes the trace of a plan, where it is to be written.
+fn write_trace<D: Desk>(
+    alloc: Global,
+    outputs: &Outputs,
+    plan: &PlanRecord,
+    desk: &mut D,
+) -> Result<(), WriteStop>
+    ensures ends { EndsIn (D.written desk.old) (D.written desk.new) (D.write_faults desk.old) (D.write_faults desk.new) (trace_writes outputs.now plan.now) result }
+    ensures held { Stays (D.held desk.old) (D.held desk.new) }
+    ensures others { StaysBut (IsNamed outputs.now.trace) (D.written desk.old) (D.written desk.new) }
+    ensures reads { NoneFalls (D.read_faults desk.old) (D.read_faults desk.new) }
+    ensures writes { NoneFalls (D.write_faults desk.old) (D.write_faults desk.new) }
+{
+    match trace_of(alloc, plan) {
+        Ok(text) => write_named(&outputs.trace, text.as_slice(), desk),
+        Err(NoMemory) => Err(WriteStop::NoMemory),
+    }
+}
+
+/// Writes what a plan writes beside the report: its labels and its trace.
+fn write_outputs<D: Desk>(
+    alloc: Global,
+    outputs: &Outputs,
+    plan: &PlanRecord,
+    desk: &mut D,
+) -> Result<(), WriteStop>
+    ensures ends { EndsIn (D.written desk.old) (D.written desk.new) (D.write_faults desk.old) (D.write_faults desk.new) (labels_writes outputs.now plan.now ++ trace_writes outputs.now plan.now) result }
+    ensures held { Stays (D.held desk.old) (D.held desk.new) }
+    ensures others { StaysBut (IsOutputOf outputs.now) (D.written desk.old) (D.written desk.new) }
+    ensures reads { NoneFalls (D.read_faults desk.old) (D.read_faults desk.new) }
+    ensures writes { NoneFalls (D.write_faults desk.old) (D.write_faults desk.new) }
+{
+    match write_labels(alloc, outputs, plan, desk) {
+        Ok(()) => write_trace(alloc, outputs, plan, desk),
+        Err(stop) => Err(stop),
+    }
+}
+
+/// Writes all of a plan: its section of the report, its labels and its trace.
+fn write_plan<D: Desk>(
+    alloc: Global,
+    outputs: &Outputs,
+    plan: &PlanRecord,
+    desk: &mut D,
+) -> Result<(), WriteStop>
+    ensures ends { EndsIn (D.written desk.old) (D.written desk.new) (D.write_faults desk.old) (D.write_faults desk.new) (section_writes outputs.now plan.now) result }
+    ensures held { Stays (D.held desk.old) (D.held desk.new) }
+    ensures others { StaysBut (IsOutputOf outputs.now) (D.written desk.old) (D.written desk.new) }
     ensures reads { NoneFalls (D.read_faults desk.old) (D.read_faults desk.new) }
     ensures writes { NoneFalls (D.write_faults desk.old) (D.write_faults desk.new) }
 {
     match write_section(alloc, plan, desk) {
+        Ok(()) => write_outputs(alloc, outputs, plan, desk),
+        Err(stop) => Err(stop),
+    }
+}
+
+/// Writes a plan, and the last line.
+fn write_report<D: Desk>(
+    alloc: Global,
+    outputs: &Outputs,
+    plan: &PlanRecord,
+    desk: &mut D,
+) -> Result<(), WriteStop>
+    ensures ends { EndsIn (D.written desk.old) (D.written desk.new) (D.write_faults desk.old) (D.write_faults desk.new) (plan_writes outputs.now plan.now) result }
+    ensures held { Stays (D.held desk.old) (D.held desk.new) }
+    ensures others { StaysBut (IsOutputOf outputs.now) (D.written desk.old) (D.written desk.new) }
+    ensures reads { NoneFalls (D.read_faults desk.old) (D.read_faults desk.new) }
+    ensures writes { NoneFalls (D.write_faults desk.old) (D.write_faults desk.new) }
+{
+    match write_plan(alloc, outputs, plan, desk) {
         Ok(()) => write_last(desk),
         Err(stop) => Err(stop),
     }
@@ -79,12 +177,12 @@ fn end_plan<D: Desk>(alloc: Global, job: &PlanJob, desk: &mut D) -> u8
     requires range { IsJob (Jobs.Plan job.now) }
     ensures ends { EndsJob (D.held desk.old) (D.read_faults desk.old) (D.read_faults desk.new) (D.written desk.old) (D.written desk.new) (D.write_faults desk.old) (D.write_faults desk.new) (Jobs.Plan job.now) result }
     ensures held { Stays (D.held desk.old) (D.held desk.new) }
-    ensures others { (name : List ℕ) → name ≢ output → D.written desk.new name ≡ D.written desk.old name }
+    ensures others { StaysBut (IsOutputOf job.now.outputs) (D.written desk.old) (D.written desk.new) }
     ensures reads { NoneFalls (D.read_faults desk.old) (D.read_faults desk.new) }
     ensures writes { NoneFalls (D.write_faults desk.old) (D.write_faults desk.new) }
 {
     match plan(alloc, job, desk) {
-        Ok(planned) => status_after(write_report(alloc, &planned, desk), 0),
+        Ok(planned) => status_after(write_report(alloc, &job.outputs, &planned, desk), 0),
         Err(Stop::Refused(refusal)) => refuse(alloc, &job.sources, refusal, desk),
         Err(Stop::NoMemory) => 9,
     }
@@ -111,7 +209,7 @@ fn end_job<D: Desk>(alloc: Global, job: &Job, desk: &mut D) -> u8
     requires range { IsJob job.now }
     ensures ends { EndsJob (D.held desk.old) (D.read_faults desk.old) (D.read_faults desk.new) (D.written desk.old) (D.written desk.new) (D.write_faults desk.old) (D.write_faults desk.new) job.now result }
     ensures held { Stays (D.held desk.old) (D.held desk.new) }
-    ensures others { (name : List ℕ) → name ≢ output → D.written desk.new name ≡ D.written desk.old name }
+    ensures others { StaysBut (MayBeWritten (Some job.now)) (D.written desk.old) (D.written desk.new) }
     ensures reads { NoneFalls (D.read_faults desk.old) (D.read_faults desk.new) }
     ensures writes { NoneFalls (D.write_faults desk.old) (D.write_faults desk.new) }
 {
@@ -136,7 +234,7 @@ fn refuse_words<D: Desk>(desk: &mut D) -> u8
 fn end_run<D: Desk>(alloc: Global, words: &[String], desk: &mut D) -> u8
     ensures ends { EndsRun (job_of (map string_bytes words.now)) (D.held desk.old) (D.read_faults desk.old) (D.read_faults desk.new) (D.written desk.old) (D.written desk.new) (D.write_faults desk.old) (D.write_faults desk.new) result }
     ensures held { Stays (D.held desk.old) (D.held desk.new) }
-    ensures others { (name : List ℕ) → name ≢ output → D.written desk.new name ≡ D.written desk.old name }
+    ensures others { StaysBut (MayBeWritten (job_of (map string_bytes words.now))) (D.written desk.old) (D.written desk.new) }
     ensures reads { NoneFalls (D.read_faults desk.old) (D.read_faults desk.new) }
     ensures writes { NoneFalls (D.write_faults desk.old) (D.write_faults desk.new) }
 {
@@ -153,8 +251,8 @@ fn end_run<D: Desk>(alloc: Global, words: &[String], desk: &mut D) -> u8
 /// of more than 2^30 bytes, and 9 for want of memory.
 pub fn run<D: Desk>(alloc: Global, words: &[String], desk: &mut D) -> u8
     ensures statuses { IsStatus result }
-    // 0: the job was done. A plan of the job's files was made, which keeps its promises, and its report was written; or what
-    // each primitive costs and sweeps was listed.
+    // 0: the job was done. A plan of the job's files was made, which keeps its promises, and its report, and its labels and
+    // its trace where they are asked for, were written; or what each primitive costs and sweeps was listed.
     ensures done { result ≡ 0 → AtJob (job_of (map string_bytes words.now)) (IsDone (D.held desk.old) (D.written desk.old) (D.written desk.new)) }
     // 2: the words name no job, and a line says so.
     ensures words { result ≡ 2 → (job_of (map string_bytes words.now) ≡ None) × AreMade (D.written desk.old) (D.written desk.new) words_writes }
@@ -164,7 +262,7 @@ pub fn run<D: Desk>(alloc: Global, words: &[String], desk: &mut D) -> u8
     ensures unread { result ≡ 6 → AtJob (job_of (map string_bytes words.now)) (IsRefused (D.held desk.old) (D.read_faults desk.old) (D.read_faults desk.new) (D.written desk.old) (D.written desk.new) 6) }
     ensures length { result ≡ 8 → AtJob (job_of (map string_bytes words.now)) (IsRefused (D.held desk.old) (D.read_faults desk.old) (D.read_faults desk.new) (D.written desk.old) (D.written desk.new) 8) }
     // 7: a write failed, and the writes before it and a front of it stand there.
-    ensures write { result ≡ 7 → Rose (D.write_faults desk.old output) (D.write_faults desk.new output) }
+    ensures write { result ≡ 7 → SomeRose (job_of (map string_bytes words.now)) (D.write_faults desk.old) (D.write_faults desk.new) }
     ensures cut { result ≡ 7 → AtJob (job_of (map string_bytes words.now)) (IsCutShort (D.held desk.old) (D.read_faults desk.old) (D.read_faults desk.new) (D.written desk.old) (D.written desk.new) (D.write_faults desk.old) (D.write_faults desk.new)) ⊎ ((job_of (map string_bytes words.now) ≡ None) × IsCutAt (D.written desk.old) (D.written desk.new) (D.write_faults desk.old) (D.write_faults desk.new) words_writes) }
     // 9: memory ran out, and the first few writes stand there.
     ensures memory { result ≡ 9 → AtJob (job_of (map string_bytes words.now)) (IsStopped (D.held desk.old) (D.read_faults desk.old) (D.read_faults desk.new) (D.written desk.old) (D.written desk.new)) ⊎ (((job_of (map string_bytes words.now) ≡ None) × IsStoppedAt (D.written desk.old) (D.written desk.new) words_writes) ⊎ AreMade (D.written desk.old) (D.written desk.new) []) }
@@ -179,9 +277,9 @@ pub fn run<D: Desk>(alloc: Global, words: &[String], desk: &mut D) -> u8
     ensures too_dear { (job : Job) (e : Environment) (ps : Primitives) (i : ℕ) → job_of (map string_bytes words.now) ≡ Some job → TellsEnvironment (D.held desk.old) (sources_of job) e → TellsPrimitives (D.held desk.old) (sources_of job) e ps → NoneTooWide ps (sources_of job).radius → IsFirstTooDear e ps.items i → IsOrFailed 4 result }
     // Good words and good files are served, unless the desk fails or memory runs out.
     ensures complete { (job : Job) (e : Environment) (ps : Primitives) → job_of (map string_bytes words.now) ≡ Some job → TellsEnvironment (D.held desk.old) (sources_of job) e → TellsPrimitives (D.held desk.old) (sources_of job) e ps → NoneTooWide ps (sources_of job).radius → NoneTooDear e ps → IsOrFailed 0 result }
-    // Nothing that is held changes, nothing is written under another name, and no count falls.
+    // Nothing that is held changes, nothing is written under other names than the job's, and no count falls.
     ensures held { Stays (D.held desk.old) (D.held desk.new) }
-    ensures others { (name : List ℕ) → name ≢ output → D.written desk.new name ≡ D.written desk.old name }
+    ensures others { StaysBut (MayBeWritten (job_of (map string_bytes words.now))) (D.written desk.old) (D.written desk.new) }
     ensures reads { NoneFalls (D.read_faults desk.old) (D.read_faults desk.new) }
     ensures writes { NoneFalls (D.write_faults desk.old) (D.write_faults desk.new) }
 {

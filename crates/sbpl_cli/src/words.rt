@@ -36,6 +36,10 @@ pub enum Setting {
     Bound,
     /// `--budget`: how many states a plan may expand.
     Budget,
+    /// `--labels`: where the labels of each plan are written.
+    Labels,
+    /// `--trace`: where the expansions of each plan are written.
+    Trace,
 }
 
 /// A setting and its value.
@@ -83,6 +87,8 @@ fn setting_named(word: &str) -> Option<Setting>
         "--step" => Some(Setting::Step),
         "--bound" => Some(Setting::Bound),
         "--budget" => Some(Setting::Budget),
+        "--labels" => Some(Setting::Labels),
+        "--trace" => Some(Setting::Trace),
         _ => None,
     }
 }
@@ -132,7 +138,9 @@ fn is_setting(a: Setting, b: Setting) -> bool
         | (Setting::First, Setting::First)
         | (Setting::Step, Setting::Step)
         | (Setting::Bound, Setting::Bound)
-        | (Setting::Budget, Setting::Budget) => true,
+        | (Setting::Budget, Setting::Budget)
+        | (Setting::Labels, Setting::Labels)
+        | (Setting::Trace, Setting::Trace) => true,
         _ => false,
     }
 }

@@ -1,5 +1,7 @@
-use Rattle.std.proofs.Common.{◌≡◌, ℕ, Bool, true, false, None, refl, Result, Ok, Err, IfOk, sym, ◌∙◌, ap, subst}
+use Rattle.std.proofs.Common.{◌≡◌, ℕ, Bool, true, false, Option, None, refl, Result, Ok, Err, IfOk, sym, ◌∙◌, ap, subst}
 use Rattle.sbpl_labels.specs.Counts.{Counts}
+use Rattle.std.specs.Option.{is_some}
+use Rattle.sbpl_cert.specs.Sections.{Section}
 use Rattle.sbpl_fixed.specs.declared.no_memory.NoMemory.{NoMemory}
 use Rattle.sbpl_cost.specs.Lattices.{network_of}
 use Rattle.sbpl_cost.specs.World.{World}
@@ -14,30 +16,41 @@ use Rattle.sbpl_plan.specs.Passing.{ArePasses}
 use Rattle.sbpl_cli.specs.declared.record.PlanRecord.{PlanRecord}
 use Rattle.sbpl_cli.specs.Headline.{IsAnswered, IsMarked, IsNoneThere, IsSearched, IsWithinBound, Joins, KeepsPromises, TellsResult, inquiry}
 use Rattle.sbpl_cli.specs.Jobs.{ask_of}
+use Rattle.sbpl_cli.specs.Shown.{IsShown, IsThere}
+use Rattle.sbpl_cli.specs.declared.job.PlanJob.{PlanJob}
 use Rattle.sbpl_cli.proofs.plan.plan_between.Goals as goal
 
-searched_by : (w : World) (guide : ℕ → ℕ) (start goal budget marked : ℕ) (ask asked : Ask) (opened final : Marks) (planned : Planned) (r : Result PlanRecord NoMemory) → IsBest w goal guide → IsOpened opened (network_of w).states start → asked ≡ ask → ArePasses (inquiry w guide goal asked) asked.first opened planned.passes final planned.spent → IsOutcome (network_of w) guide goal final planned.outcome → marked ≡ budget → IfOk r (λ x. x.passes ≡ planned.passes) → IfOk r (λ x. TellsResult planned.outcome x.outcome) → IfOk r (IsMarked marked planned.spent) → IfOk r (IsSearched w start goal budget ask)
-searched_by w guide start goal budget marked ask asked opened final planned (Ok x) is_guide is_opened same passes outcome like copied told mark = record {
+searched_by : (w : World) (guide : ℕ → ℕ) (start goal marked : ℕ) (j : PlanJob) (asked : Ask) (wanted : Bool) (opened final : Marks) (planned : Planned) (section : Option Section) (r : Result PlanRecord NoMemory) → IsBest w goal guide → IsOpened opened (network_of w).states start → asked ≡ ask_of j → ArePasses (inquiry w guide goal asked) asked.first opened planned.passes final planned.spent → IsOutcome (network_of w) guide goal final planned.outcome → marked ≡ j.search.budget
+    → wanted ≡ is_some j.outputs.labels → final.start ≡ start → IsThere wanted (IsShown (network_of w) guide final.start goal 0 final planned.outcome) section
+    → IfOk r (λ x. x.plan ≡ 0) → IfOk r (λ x. x.labels ≡ section) → IfOk r (λ x. x.passes ≡ planned.passes) → IfOk r (λ x. TellsResult planned.outcome x.outcome) → IfOk r (IsMarked marked planned.spent) → IfOk r (IsSearched w start goal j)
+searched_by w guide start goal marked j asked wanted opened final planned section (Ok x) is_guide is_opened same passes outcome like asks begins shown number kept copied told mark = record {
   guide = guide;
   is_guide = is_guide;
   opened = opened;
   is_opened = is_opened;
   final = final;
   spent = planned.spent;
-  passes = subst (λ ps. ArePasses (inquiry w guide goal ask) ask.first opened ps final planned.spent) (sym copied) (subst (λ (a : Ask). ArePasses (inquiry w guide goal a) a.first opened planned.passes final planned.spent) same passes);
+  passes = subst (λ ps. ArePasses (inquiry w guide goal (ask_of j)) (ask_of j).first opened ps final planned.spent) (sym copied) (subst (λ (a : Ask). ArePasses (inquiry w guide goal a) a.first opened planned.passes final planned.spent) same passes);
   result = planned.outcome;
   is_result = outcome;
   told = told;
   marked = subst (λ (b : ℕ). IsMarked b planned.spent x) like mark;
+  labels = rw kept (subst (λ (b : Bool). IsThere b (IsShown (network_of w) guide start goal x.plan final planned.outcome) section) asks
+      (subst (λ (k : ℕ). IsThere wanted (IsShown (network_of w) guide start goal k final planned.outcome) section) (sym number)
+      (subst (λ (s : ℕ). IsThere wanted (IsShown (network_of w) guide s goal 0 final planned.outcome) section) begins shown)));
 }
-searched_by w guide start goal budget marked ask asked opened final planned (Err e) is_guide is_opened same passes outcome like copied told mark = tt
+searched_by w guide start goal marked j asked wanted opened final planned section (Err e) is_guide is_opened same passes outcome like asks begins shown number kept copied told mark = tt
+
+pub labels_of-requires-clause-found : goal.labels_of-requires-clause-found
+labels_of-requires-clause-found c = rw c.labels.ensures.value c.in_ok-planned.ensures.outcome
 
 pub returns-clause-searched : goal.returns-clause-searched
 returns-clause-searched c =
     let budget = ap (λ (k : Counts). k.per_plan) c.in_ok-planned.ensures.counted ∙ ap (λ (k : Counts). k.per_plan) c.new-budget.ensures.fresh in
-    searched_by c.args.lattice.now (distance_in c.in_ok-guide.guide) _ _ _ _ (ask_of c.args.search.now) c.ask_of-ask.result c.in_ok-ara.ara.labels c.plan.new.ara.labels c.in_ok-planned.planned _
+    searched_by c.args.lattice.now (distance_in c.in_ok-guide.guide) _ _ _ c.args.job.now c.ask_of-ask.result _ c.in_ok-ara.ara.labels c.plan.new.ara.labels c.in_ok-planned.planned c.in_ok-labels.labels _
     c.in_ok-guide.ensures.best (subst (λ (n : ℕ). IsOpened c.in_ok-ara.ara.labels n c.args.start) c.states.ensures.value c.in_ok-ara.ensures.opened)
     c.ask_of-ask.ensures.ask c.in_ok-planned.ensures.passes c.in_ok-planned.ensures.outcome budget
+    c.is_some-asked.ensures (c.in_ok-planned.ensures.start ∙ c.in_ok-ara.ensures.opened.start) (subst (λ (m : Marks). IsThere c.is_some-asked.result (IsShown (network_of c.args.lattice.now) (distance_in c.in_ok-guide.guide) m.start c.args.goal 0 m c.in_ok-planned.planned.outcome) c.in_ok-labels.labels) c.labels.ensures.value c.in_ok-labels.ensures.shown) c.record_of.ensures.number c.record_of.ensures.labels
     c.record_of.ensures.passes c.record_of.ensures.told c.record_of.ensures.marked
 
 -- a plan that is not marked as spent was not

@@ -5,7 +5,7 @@ use Rattle.sbpl_cfg.specs.declared.pose.Place.{Place}
 use Rattle.sbpl_cfg.specs.Environment.{Environment, IsPlaceOf}
 use Rattle.sbpl_cost.specs.World.{World}
 use Rattle.sbpl_cost.specs.States.{state_number}
-use Rattle.sbpl_plan.specs.declared.ask.Ask.{Ask}
+use Rattle.sbpl_cli.specs.declared.job.PlanJob.{PlanJob}
 use Rattle.sbpl_cli.specs.declared.record.PlanRecord.{PlanRecord}
 use Rattle.sbpl_cli.specs.Headline.{IsPlanOf, IsSearched, IsStateOf, KeepsPromises}
 use Rattle.sbpl_cli.proofs.plan.plan_on.Goals as goal
@@ -19,8 +19,8 @@ state_is e d p q found place number s same like is has value at = record {
 }
 
 -- the record of a plan between the states of the two poses is the record of the plan
-planned_by : (w : World) (start goal budget : ℕ) (ask : Ask) (r : Result PlanRecord NoMemory) → IsStateOf w.env w.env.start start → IsStateOf w.env w.env.end goal → IfOk r (λ p. p.plan ≡ 0) → IfOk r (KeepsPromises w start goal ask.bound) → IfOk r (IsSearched w start goal budget ask) → IfOk r (IsPlanOf w budget ask)
-planned_by w start goal budget ask (Ok p) from to number promises searched = record {
+planned_by : (w : World) (start goal : ℕ) (j : PlanJob) (r : Result PlanRecord NoMemory) → IsStateOf w.env w.env.start start → IsStateOf w.env w.env.end goal → IfOk r (λ p. p.plan ≡ 0) → IfOk r (KeepsPromises w start goal j.search.bound) → IfOk r (IsSearched w start goal j) → IfOk r (IsPlanOf w j)
+planned_by w start goal j (Ok p) from to number promises searched = record {
   number = number;
   start = start;
   goal = goal;
@@ -29,13 +29,13 @@ planned_by w start goal budget ask (Ok p) from to number promises searched = rec
   promises = promises;
   searched = searched;
 }
-planned_by w start goal budget ask (Err e) from to number promises searched = tt
+planned_by w start goal j (Err e) from to number promises searched = tt
 
 pub returns : goal.returns
 returns c =
     let env = c.env-env.ensures.env in
     record {
-      planned = planned_by c.args.lattice.now _ _ _ _ _
+      planned = planned_by c.args.lattice.now _ _ c.args.job.now _
           (state_is _ _ _ _ _ _ _ _ env (ap (λ (e : Environment). e.start) c.env.view_is ∙ ap (λ (e : Environment). e.start) env) c.place_at.ensures.place c.unwrap-start.ensures c.state_of.ensures.value c.unwrap-start-2.ensures)
           (state_is _ _ _ _ _ _ _ _ env (ap (λ (e : Environment). e.end) c.env.view_is ∙ ap (λ (e : Environment). e.end) env) c.place_at-2.ensures.place c.unwrap-goal.ensures c.state_of-2.ensures.value c.unwrap-goal-2.ensures)
           c.plan_between.ensures.number c.plan_between.ensures.promises c.plan_between.ensures.searched;

@@ -1,3 +1,4 @@
+use Rattle.std.proofs.Common.{◌∙◌}
 use Rattle.sbpl_cli.specs.declared.job.Job.TheVariants as job
 use Rattle.sbpl_cli.specs.Intents.{Planned}
 use Rattle.sbpl_cli.proofs.Ends.{ended, memory_ended, refused}
@@ -16,3 +17,6 @@ returns-in-Err-Refused-clause-ends g c =
 
 pub returns-in-Err-NoMemory-clause-ends : goal.returns-in-Err-NoMemory-clause-ends
 returns-in-Err-NoMemory-clause-ends g c = memory_ended _ _ _ _ _ _ _ _ c.plan.ensures.written
+
+pub returns-in-Ok-clause-others : goal.returns-in-Ok-clause-others
+returns-in-Ok-clause-others g c = λ name other. c.write_report.ensures.others name other ∙ c.plan.ensures.written name

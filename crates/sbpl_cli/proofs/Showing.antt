@@ -1,0 +1,106 @@
+-- The section of a plan's labels lies in its ranges, and shows the plan's result.
+use Rattle.std.proofs.Common.{◌≡◌, ◌≢◌, ℕ, zero, suc, ◌+◌, ◌*◌, ◌^◌, ◌<◌, ◌≤◌, List, [], ◌∷◌, length, slice_index, Result, Ok, Err, IfOk, refl, sym, ◌∙◌, ap, subst, arith, ⊎_elim, inl, inr}
+use Rattle.std.proofs.Math.Nat.{mul-le-mul_right}
+use Rattle.std.proofs.lemmas.Bool.{cases_lt}
+use Rattle.sbpl_fixed.specs.declared.no_memory.NoMemory.{NoMemory}
+use Rattle.sbpl_graph.specs.declared.TheConstants.{FAR}
+use Rattle.sbpl_graph.specs.Bound.{IsBound, IsLow}
+use Rattle.sbpl_graph.specs.Certificate.{AreSupported, ShowNone}
+use Rattle.sbpl_graph.specs.Laws.{IsSound}
+use Rattle.sbpl_graph.specs.Network.{Network, IsFreeArc}
+use Rattle.sbpl_graph.specs.Path.{IsFreePath}
+use Rattle.sbpl_labels.specs.CutOff.{IsCutOff}
+use Rattle.sbpl_labels.specs.Marks.{Marks, states_of, g_of, v_of}
+use Rattle.sbpl_plan.specs.Looking.{IsPathFound}
+use Rattle.sbpl_plan.specs.Outcomes.{IsOutcome}
+use Rattle.sbpl_plan.specs.declared.result.Outcome as search
+use Rattle.sbpl_plan.specs.declared.result.Outcome.TheVariants as result
+use Rattle.sbpl_cert.specs.Made.{IsOfLabels}
+use Rattle.sbpl_cert.specs.Sections as sections
+use Rattle.sbpl_cert.specs.Sections.{AreArcs, HasArcs, Section, g_at, v_at}
+use Rattle.sbpl_cert.specs.Sound.{ShowsAll, ShowsBound, ShowsOutcome}
+use Rattle.sbpl_cert.specs.declared.outcome.Outcome as told
+use Rattle.sbpl_cert.specs.declared.outcome.Outcome.TheVariants as answer
+use Rattle.sbpl_cert.specs.declared.row.Row.{Row}
+use Rattle.sbpl_cli.specs.Shown.{IsShown, answer_of, arcs_of}
+
+-- each arc number of a free path is below the most arcs of a state
+small_arcs : (n : Network) (s t c : ℕ) (arcs : List ℕ) → IsSound n → IsFreePath n s arcs t c → (i : ℕ) → i < length arcs → slice_index arcs i < 4096
+small_arcs n s t c [] sound path i here = absurd (omega arith)
+small_arcs n s t c (k ∷ ks) sound (u, a, b, arc, rest, sum) zero here =
+    let most : n.fan s ≤ 4096 = sound.few_arcs s arc.source in let number : k < n.fan s = arc.number in omega arith
+small_arcs n s t c (k ∷ ks) sound (u, a, b, arc, rest, sum) (suc i) here = small_arcs n u t b ks sound rest i (omega arith)
+
+-- the bound of a cost that is not great is not great
+small_bound : (cost low b : ℕ) → cost < 2 ^ 62 → IsBound cost low b → b < 2 ^ 100
+small_bound zero low b small is =
+    let most : b ≤ 1000 = is.least 1000 (omega arith) (omega arith) in omega arith
+small_bound (suc c) zero b small is =
+    absurd (let reaches : 1000 * suc c ≤ b * 0 = is.reaches in omega arith)
+small_bound (suc c) (suc l) b small is =
+    let more : 1000 * suc c ≤ (1000 * suc c) * suc l = omega arith in
+    let most : b ≤ 1000 * suc c = is.least (1000 * suc c) (omega arith) more in
+    omega arith
+
+module _ (n : Network) (sound : IsSound n) (guide : ℕ → ℕ) (goal : ℕ) (m : Marks) (same : states_of m ≡ n.states) (inside : goal < n.states) (supported : AreSupported n m.start (g_of m) (v_of m)) where
+  small_cost : (arcs : List ℕ) (cost bound : ℕ) → IsPathFound n guide goal m arcs cost bound → cost < 2 ^ 62
+  small_cost arcs cost bound found =
+      let cheap : cost ≤ g_of m goal = found.walk.cheap in
+      let near : g_of m goal < FAR = found.walk.near in
+      ⊎_elim (λ (far : g_of m goal ≡ FAR). absurd (omega arith)) (λ (small : g_of m goal < 2 ^ 62). omega arith) (supported.labels goal inside).0
+
+  pub answer_fits : (found : search.Outcome) → IsOutcome n guide goal m found → sections.IsOutcome (answer_of found)
+  answer_fits (result.Path arcs cost bound) is =
+      let small : cost < 2 ^ 62 = small_cost arcs cost bound is in
+      (small, is.bound_is.at_least_one, small_bound cost is.low bound small is.bound_is)
+  answer_fits result.NoPath is = tt
+  answer_fits result.Unknown is = tt
+
+  pub arcs_fit : (found : search.Outcome) → IsOutcome n guide goal m found → HasArcs (answer_of found) (arcs_of found)
+  arcs_fit (result.Path arcs cost bound) is = record {
+    few = let few : length arcs < n.states = is.walk.few in let most : n.states ≤ 2 ^ 23 = sound.few_states in omega arith;
+    small = small_arcs n m.start goal cost arcs sound is.walk.path;
+  }
+  arcs_fit result.NoPath is = refl
+  arcs_fit result.Unknown is = refl
+
+  -- two lows of the same labels are the same
+  one_low : (low less : ℕ) → IsLow (states_of m) goal (g_of m) (v_of m) guide low → IsLow (states_of m) goal (g_of m) (v_of m) guide less → low ≡ less
+  one_low low less p q =
+      let a : low ≤ less = q.greatest low p.at_goal p.unsettled in
+      let b : less ≤ low = p.greatest less q.at_goal q.unsettled in
+      omega arith
+
+  shows_outcome : (found : search.Outcome) (s : Section) → IsOutcome n guide goal m found → IsOfLabels m guide goal s → ShowsBound n m.start goal s → s.arcs ≡ arcs_of found → ShowsOutcome n m.start goal s (answer_of found)
+  shows_outcome (result.Path arcs cost bound) s is made bounds copied =
+      let low : s.low ≡ is.low = one_low s.low is.low made.low is.low_is in
+      (subst (λ (l : List ℕ). IsFreePath n m.start l goal cost) (sym copied) is.walk.path, subst (λ (l : ℕ). IsBound cost l bound) (sym low) is.bound_is)
+  shows_outcome result.NoPath s is made bounds copied = record {
+    supported = bounds.supported;
+    goal_is_far = ap (λ (r : Row). r.g) (made.labels.rows goal (rw same inside)) ∙ is.goal_is_far;
+    closed = λ u state near.
+        let here : u < states_of m = rw same state in
+        let g : g_at s.labels u ≡ g_of m u = ap (λ (r : Row). r.g) (made.labels.rows u here) in
+        let v : v_at s.labels u ≡ v_of m u = ap (λ (r : Row). r.v) (made.labels.rows u here) in
+        let settled : v_of m u < FAR = is.closed u here (omega arith) in
+        omega arith;
+  }
+  shows_outcome result.Unknown s is made bounds copied = tt
+
+  shown_by : (plan : ℕ) (found : search.Outcome) (s : Section) → IsOutcome n guide goal m found → s.plan ≡ plan → s.outcome ≡ answer_of found → s.arcs ≡ arcs_of found → IsOfLabels m guide goal s → ShowsBound n m.start goal s → IsShown n guide m.start goal plan m found s
+  shown_by plan found s is number says copied made bounds = record {
+    number = number;
+    labels = made;
+    answer = says;
+    arcs = copied;
+    shows = record {
+      bound = bounds;
+      outcome = subst (λ (o : told.Outcome). ShowsOutcome n m.start goal s o) (sym says) (shows_outcome found s is made bounds copied);
+    };
+  }
+
+  pub is_shown : (plan : ℕ) (found : search.Outcome) (said : told.Outcome) (arcs : List ℕ) (r : Result Section NoMemory) → IsOutcome n guide goal m found → said ≡ answer_of found → arcs ≡ arcs_of found
+      → IfOk r (λ s. s.plan ≡ plan) → IfOk r (λ s. s.outcome ≡ said) → IfOk r (λ s. s.arcs ≡ arcs) → IfOk r (IsOfLabels m guide goal) → IfOk r (ShowsBound n m.start goal)
+      → IfOk r (IsShown n guide m.start goal plan m found)
+  is_shown plan found said arcs (Ok s) is same_answer same_arcs number says copied made bounds = shown_by plan found s is number (says ∙ same_answer) (copied ∙ same_arcs) made bounds
+  is_shown plan found said arcs (Err e) is same_answer same_arcs number says copied made bounds = tt

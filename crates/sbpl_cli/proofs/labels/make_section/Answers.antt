@@ -1,0 +1,37 @@
+use Rattle.std.proofs.Common.{◌≡◌, ℕ, List, Result, Ok, Err, IfOk, sym, ◌∙◌, subst}
+use Rattle.sbpl_fixed.specs.declared.no_memory.NoMemory.{NoMemory}
+use Rattle.sbpl_graph.specs.Certificate.{AreSupported}
+use Rattle.sbpl_graph.specs.Laws.{IsSound}
+use Rattle.sbpl_graph.specs.Network.{Network}
+use Rattle.sbpl_cost.specs.Lattices.{network_of}
+use Rattle.sbpl_heur.specs.Bests.{IsGuide, Table, distance_in}
+use Rattle.sbpl_labels.specs.Marks.{Marks, g_of, states_of, v_of}
+use Rattle.sbpl_cert.specs.Sections as sections
+use Rattle.sbpl_cert.specs.Sections.{HasArcs, Section}
+use Rattle.sbpl_cert.specs.Sound.{ShowsBound}
+use Rattle.sbpl_cert.specs.declared.outcome.Outcome as told
+use Rattle.sbpl_cli.specs.Shown.{answer_of, arcs_of}
+use Rattle.sbpl_cli.proofs.Showing.{answer_fits, arcs_fit, is_shown}
+use Rattle.sbpl_cli.proofs.labels.make_section.Goals as goal
+
+pub section_of-requires-clause-outcome : goal.section_of-requires-clause-outcome
+section_of-requires-clause-outcome c =
+    rw c.answer_of-answer.ensures.answer (answer_fits (network_of c.args.lattice.now) c.states-states.ensures.sound (distance_in c.args.guide.now) c.args.goal c.args.labels.now c.requires.states c.requires.goal c.requires.supported c.args.found.now c.requires.found)
+
+pub section_of-requires-clause-arcs : goal.section_of-requires-clause-arcs
+section_of-requires-clause-arcs c =
+    rw (c.answer_of-answer.ensures.answer, c.in_ok-arcs.ensures.arcs) (arcs_fit (network_of c.args.lattice.now) c.states-states.ensures.sound (distance_in c.args.guide.now) c.args.goal c.args.labels.now c.requires.states c.requires.goal c.requires.supported c.args.found.now c.requires.found)
+
+-- the section shows its bound on the lattice
+bounds_on : (n : Network) (m : Marks) (goal : ℕ) (table : Table) (r : Result Section NoMemory) → n.states ≡ states_of m → IsSound n → IsGuide n goal table → AreSupported n m.start (g_of m) (v_of m)
+    → IfOk r (λ s. (o : Network) → o.states ≡ states_of m → IsSound o → IsGuide o goal table → AreSupported o m.start (g_of m) (v_of m) → ShowsBound o m.start goal s)
+    → IfOk r (ShowsBound n m.start goal)
+bounds_on n m goal table (Ok s) same sound guides supported shows = shows n same sound guides supported
+bounds_on n m goal table (Err e) same sound guides supported shows = tt
+
+pub returns : goal.returns
+returns c = record {
+  shown = is_shown (network_of c.args.lattice.now) c.states-states.ensures.sound (distance_in c.args.guide.now) c.args.goal c.args.labels.now c.requires.states c.requires.goal c.requires.supported 0 c.args.found.now _ _ c.section_of.result c.requires.found
+      c.answer_of-answer.ensures.answer c.in_ok-arcs.ensures.arcs c.section_of.ensures.plan c.section_of.ensures.outcome c.section_of.ensures.arcs c.section_of.ensures.labels
+      (bounds_on _ _ _ c.args.guide.now _ (sym c.requires.states) c.states-states.ensures.sound c.requires.guides c.requires.supported c.section_of.ensures.shows);
+}

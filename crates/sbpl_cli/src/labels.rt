@@ -1,0 +1,103 @@
+//! The section of labels that a plan writes.
+
+ghost use Rattle.std.specs.Prelude.{◌≡◌, ◌<◌, IfOk};
+ghost use Rattle.sbpl_cost.specs.Lattices.{network_of};
+ghost use Rattle.sbpl_graph.specs.Certificate.{AreSupported};
+ghost use Rattle.sbpl_heur.specs.Bests.{IsGuide, distance_in};
+ghost use Rattle.sbpl_labels.specs.Marks.{g_of, states_of, v_of};
+ghost use Rattle.sbpl_plan.specs.Outcomes.{IsOutcome};
+ghost use Rattle.sbpl_cli.specs.Intents.{labels_text};
+ghost use Rattle.sbpl_cli.specs.Shown.{IsShown, IsThere, answer_of, arcs_of};
+
+use sbpl_cert::{Arcs, LabelSet, section_of, write_labels};
+use sbpl_cost::Lattice;
+use sbpl_fixed::NoMemory;
+use sbpl_graph::Graph;
+use sbpl_heur::Best;
+use sbpl_labels::Labels;
+use sbpl_plan::Outcome;
+use std::alloc::Global;
+
+/// What a section says of a result.
+fn answer_of(found: &Outcome) -> sbpl_cert::Outcome
+    ensures answer { result ≡ answer_of found.now }
+{
+    match found {
+        Outcome::Path { cost, bound, .. } => sbpl_cert::Outcome::Path {
+            cost: *cost,
+            bound: *bound,
+        },
+        Outcome::NoPath => sbpl_cert::Outcome::NoPath,
+        Outcome::Unknown => sbpl_cert::Outcome::Unknown,
+    }
+}
+
+/// The arcs of the path that a result is, or none.
+fn arcs_of(alloc: Global, found: &Outcome) -> Result<Arcs, NoMemory>
+    ensures arcs { IfOk result (λ a. a ≡ arcs_of found.now) }
+{
+    let mut copy = Vec::new(alloc);
+    if let Outcome::Path { arcs, .. } = found {
+        copy.extend_from_slice(arcs.as_slice())?;
+    }
+    Ok(Arcs::of(copy))
+}
+
+/// The section of the labels that the search of a plan left.
+fn make_section(
+    alloc: Global,
+    lattice: &Lattice,
+    guide: &Best,
+    labels: &Labels,
+    goal: u32,
+    found: &Outcome,
+) -> Result<LabelSet, NoMemory>
+    requires states { states_of labels.now ≡ (network_of lattice.now).states }
+    requires goal { goal < (network_of lattice.now).states }
+    requires guides { IsGuide (network_of lattice.now) goal guide.now }
+    requires found { IsOutcome (network_of lattice.now) (distance_in guide.now) goal labels.now found.now }
+    requires supported { AreSupported (network_of lattice.now) labels.now.start (g_of labels.now) (v_of labels.now) }
+    ensures shown { IfOk result (IsShown (network_of lattice.now) (distance_in guide.now) labels.now.start goal 0 labels.now found.now) }
+{
+    let states = lattice.states();
+    let arcs = arcs_of(alloc, found)?;
+    let answer = answer_of(found);
+    section_of(alloc, 0, states, goal, labels, guide, answer, arcs)
+}
+
+/// That section, where it is asked for.
+pub(crate) fn labels_of(
+    alloc: Global,
+    lattice: &Lattice,
+    guide: &Best,
+    labels: &Labels,
+    goal: u32,
+    found: &Outcome,
+    asked: bool,
+) -> Result<Option<LabelSet>, NoMemory>
+    requires states { states_of labels.now ≡ (network_of lattice.now).states }
+    requires goal { goal < (network_of lattice.now).states }
+    requires guides { IsGuide (network_of lattice.now) goal guide.now }
+    requires found { IsOutcome (network_of lattice.now) (distance_in guide.now) goal labels.now found.now }
+    requires supported { AreSupported (network_of lattice.now) labels.now.start (g_of labels.now) (v_of labels.now) }
+    ensures shown { IfOk result (IsThere asked (IsShown (network_of lattice.now) (distance_in guide.now) labels.now.start goal 0 labels.now found.now)) }
+{
+    if !asked {
+        return Ok(None);
+    }
+    match make_section(alloc, lattice, guide, labels, goal, found) {
+        Ok(section) => Ok(Some(section)),
+        Err(NoMemory) => Err(NoMemory),
+    }
+}
+
+/// The text of the labels of a plan.
+pub(crate) fn text_of(alloc: Global, labels: &Option<LabelSet>) -> Result<Vec<u8>, NoMemory>
+    ensures text { IfOk result (λ text. text.items ≡ labels_text labels.now) }
+{
+    let mut text = Vec::new(alloc);
+    if let Some(section) = labels {
+        write_labels(section, &mut text)?;
+    }
+    Ok(text)
+}
