@@ -1,14 +1,16 @@
 -- Arcs cost the same on two maps on which the cells that they read do.
-use Rattle.std.proofs.Common.{◌≡◌, ℕ, ℤ, pos, ◌<◌, inl, inr, Option, Some, None, IsSomeAnd, refl, sym, ◌∙◌, subst}
+use Rattle.std.proofs.Common.{◌≡◌, ℕ, ℤ, pos, ◌<◌, ◌≢◌, ◌⊎◌, inl, inr, Bool, true, false, Option, Some, None, IsSomeAnd, refl, sym, ◌∙◌, subst}
+use Rattle.std.specs.Ordering.{int_eq}
+use Rattle.std.proofs.lemmas.Bool.Decides.{Decides-int_eq}
 use Rattle.std.proofs.lemmas.Option.{none-some}
 use Rattle.sbpl_mprim.specs.declared.prim.Primitive.{Primitive}
 use Rattle.sbpl_sweep.specs.Reads.{IsRead}
 use Rattle.sbpl_sweep.specs.Reads.IsRead.{at_source, at_target, at_centre, at_swept}
-use Rattle.sbpl_map.specs.CellMap.{CellMap, cost_at}
+use Rattle.sbpl_map.specs.CellMap.{CellMap, IsCellMap, cost_at, ChangesCell}
 use Rattle.sbpl_cost.specs.World.{World, IsWorld}
 use Rattle.sbpl_cost.specs.Arc.{column_from, row_from, cost_from, IsBelow, IsFree, IsPaid, IsGreatestPaid, IsFreeAt}
 use Rattle.sbpl_cost.specs.Lattices.{arc_place, head_by, tail_by, network_of}
-use Rattle.sbpl_cost.specs.Reading.{ReadsCell, over_map, UnreadArcsCostTheSame, MapsChangeCostsAlone}
+use Rattle.sbpl_cost.specs.Reading.{ReadsCell, over_map, UnreadArcsCostTheSame, MapsChangeCostsAlone, MapsChangeNoReads, UnreadCostTheSame}
 use Rattle.sbpl_cost.proofs.Arcs.{IsFound, found_at, arc_of}
 use Rattle.sbpl_cost.proofs.ArcsRead.{found_by_arc}
 
@@ -80,3 +82,36 @@ unread_arcs_cost_the_same w m s k is_world is_other alike = cost_by_place w m s 
 pub maps_change_costs_alone : MapsChangeCostsAlone
 unfolding network_of head_by tail_by
 maps_change_costs_alone w m = record { states = refl; fan = refl; head = refl; tail_fan = refl; tail = refl; gap = refl }
+
+pub maps_change_no_reads : MapsChangeNoReads
+maps_change_no_reads w m s k x y = (
+  λ r. record { place = r.place; prim = r.prim; by = r.by; dx = r.dx; dy = r.dy; column = r.column; row = r.row; read = r.read },
+  λ r. record { place = r.place; prim = r.prim; by = r.by; dx = r.dx; dy = r.dy; column = r.column; row = r.row; read = r.read },
+)
+
+-- where two cells are not the same, their columns or their rows are not
+apart_by : (u x v y : ℤ) (b : Bool) → int_eq u x ≡ b → (u ≡ x → v ≡ y → ⊥) → (u ≢ x) ⊎ (v ≢ y)
+apart_by u x v y true same h = inr (h ((Decides-int_eq u x).0 same))
+apart_by u x v y false other h = inl (λ same. absurd (let no : false ≡ true = sym other ∙ (Decides-int_eq u x).1 same in cc))
+
+-- one cell changes
+pub unread_cost_the_same : (w : World) (m : CellMap) (x y : ℤ) (c : ℕ) → IsWorld w → IsWorld (over_map w m) → ChangesCell w.map m x y c → UnreadCostTheSame w (over_map w m) x y
+unread_cost_the_same w m x y c is_world is_other changes s k unread =
+    unread_arcs_cost_the_same w m s k is_world is_other (λ u v reads.
+    changes.others u v (apart_by u x v y (int_eq u x) refl (λ column row.
+    unread (subst (λ q. ReadsCell w s k x q) row (subst (λ q. ReadsCell w s k q v) column reads)))))
+
+-- the lattice over another map of the same size
+pub still_world : (w : World) (m : CellMap) → IsWorld w → IsCellMap m → m.width ≡ w.map.width → m.height ≡ w.map.height → IsWorld (over_map w m)
+still_world w m is_world is_map width height = record {
+  env = is_world.env;
+  prims = is_world.prims;
+  map = is_map;
+  cell = is_world.cell;
+  headings = is_world.headings;
+  width = width ∙ is_world.width;
+  height = height ∙ is_world.height;
+  sweeps = is_world.sweeps;
+  radius = is_world.radius;
+  costs = is_world.costs;
+}

@@ -1,5 +1,5 @@
 -- Which arcs of a lattice read a cell.
-use Rattle.std.specs.Prelude.{◌≡◌, ℕ, ℤ, pos, ◌+ℤ◌, ◌-ℤ◌, ◌<◌, ◌++◌, List, length, slice_get, Option, Some, option_and_then}
+use Rattle.std.specs.Prelude.{◌≡◌, ℕ, ℤ, pos, ◌+ℤ◌, ◌-ℤ◌, ◌<◌, ◌↔◌, ◌++◌, List, length, slice_get, Option, Some, option_and_then}
 use Rattle.sbpl_graph.specs.Network.{Network, IsArc}
 use Rattle.sbpl_cfg.specs.declared.pose.Place.{Place}
 use Rattle.sbpl_cfg.specs.Environment.{Environment}
@@ -75,3 +75,11 @@ pub record DifferInCostsAlone (n m : Network) : Type 0 where
 -- another map changes costs alone
 abbrev pub MapsChangeCostsAlone : Type 0
 MapsChangeCostsAlone = (w : World) (m : CellMap) → DifferInCostsAlone (network_of (over_map w m)) (network_of w)
+
+-- another map does not change which cells an arc reads
+abbrev pub MapsChangeNoReads : Type 0
+MapsChangeNoReads = (w : World) (m : CellMap) (s k : ℕ) (x y : ℤ) → ReadsCell (over_map w m) s k x y ↔ ReadsCell w s k x y
+
+-- each arc that does not read cell (x, y) costs the same in two worlds
+abbrev pub UnreadCostTheSame : World → World → ℤ → ℤ → Type 0
+UnreadCostTheSame old new x y = (s k : ℕ) → (ReadsCell old s k x y → ⊥) → (network_of new).cost s k ≡ (network_of old).cost s k

@@ -9,7 +9,7 @@ ghost use Rattle.sbpl_cost.specs.States.{IsPlace, place_of, state_number};
 ghost use Rattle.sbpl_cost.specs.World.{World, IsWorld};
 ghost use Rattle.sbpl_cost.specs.Arc.{IsArcBy};
 ghost use Rattle.sbpl_cost.specs.Lattices.{network_of, arc_place, leaving, entering};
-ghost use Rattle.sbpl_cost.specs.Reading.{AddsHeads};
+ghost use Rattle.sbpl_cost.specs.Reading.{AddsHeads, UnreadCostTheSame, DifferInCostsAlone};
 ghost use Rattle.sbpl_cost.specs.Tables.{AreCheap, IsCause};
 
 use crate::checked::{along_table, around_table};
@@ -228,8 +228,8 @@ impl Lattice {
         Ok(())
     }
 
-    /// Writes cost `c` to cell `(x, y)` of the map and returns the old cost. `OffMap` comes exactly off the map, and then
-    /// nothing changes.
+    /// Writes cost `c` to cell `(x, y)` of the map and returns the old cost. Arcs that do not read the cell cost what they did.
+    /// `OffMap` comes exactly off the map, and then nothing changes.
     pub fn set(&mut self, x: i64, y: i64, c: u8) -> Result<u8, OffMap>
         ensures on_map { IsOk result ↔ IsOnMap self.old.map x y }
         ensures old { IfOk result (λ was. cost_at self.old.map x y ≡ Some was) }
@@ -237,6 +237,8 @@ impl Lattice {
         ensures others { self.new ≡ record self.old { map = self.new.map } }
         ensures refused { OnErr result (self.new ≡ self.old) }
         ensures kept { IsWorld self.new }
+        ensures unread { OnOk result (UnreadCostTheSame self.old self.new x y) }
+        ensures rest { DifferInCostsAlone (network_of self.new) (network_of self.old) }
     {
         let was = self.map.set(x, y, c);
         let _width = self.map.width();

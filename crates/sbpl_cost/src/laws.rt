@@ -2,7 +2,7 @@
 
 ghost use Rattle.sbpl_cost.specs.Gaps.{BoundsAreFloors, BoundsMayBeZero};
 ghost use Rattle.sbpl_cost.specs.Lattices.{LatticeHasItsArcs, LatticeHasExactTails, LatticeHasGaps};
-ghost use Rattle.sbpl_cost.specs.Reading.{UnreadArcsCostTheSame, MapsChangeCostsAlone};
+ghost use Rattle.sbpl_cost.specs.Reading.{UnreadArcsCostTheSame, MapsChangeCostsAlone, MapsChangeNoReads};
 
 /// The arcs of the lattice, as a graph, are the motions that start at a state's heading, in the order of the file:
 /// with their heads, their freedom and their costs. It does nothing.
@@ -24,9 +24,10 @@ pub fn gaps_are_floors()
     ensures zero { BoundsMayBeZero }
 {}
 
-/// An arc costs the same on two maps on which all cells that it reads cost the same, and a map changes costs alone. It does
-/// nothing.
+/// An arc costs the same on two maps on which all cells that it reads cost the same. A map changes costs alone, and not which
+/// cells an arc reads. It does nothing.
 pub fn unread_arcs_cost_the_same()
     ensures costs { UnreadArcsCostTheSame }
     ensures rest { MapsChangeCostsAlone }
+    ensures reads { MapsChangeNoReads }
 {}

@@ -70,9 +70,11 @@ fn lattice(alloc: Global, environment: &str, primitives: &str) -> Result<Lattice
         .ok()
         .ok_or("sweeps")?;
     let map = Map::new(&env, grid);
-    Ok(Lattice::new(alloc, &env, prims, sweeps, map)
-        .ok()
-        .ok_or("lattice")?)
+    Ok(
+        Lattice::new(alloc, &env, prims, sweeps, map)
+            .ok()
+            .ok_or("lattice")?,
+    )
 }
 
 /// The heads of the arcs that read cell `(x, y)`, behind state 7.
