@@ -1,9 +1,12 @@
 //! Heads of arcs that read a cell, by hand.
 
+ghost use Rattle.std.specs.Prelude.{IfOk};
+ghost use Rattle.sbpl_sweep.specs.Swept.{AreSweepsOf};
+
 use crate::Lattice;
 use sbpl_cfg::read_env;
 use sbpl_map::Map;
-use sbpl_mprim::read_prims;
+use sbpl_mprim::{Prims, read_prims};
 use sbpl_sweep::Sweeps;
 use std::alloc::{AllocError, Global};
 use std::test::*;
@@ -58,23 +61,30 @@ intermediateposes: 2
 0.0000 -0.0250 0.0000
 ";
 
+/// The sweeps of primitives for a point.
+fn sweeps_of(alloc: Global, prims: &Prims) -> Result<Sweeps, Fail>
+    ensures sweeps { IfOk result (λ s. AreSweepsOf prims.now s.radius s) }
+{
+    let Ok(sweeps) = Sweeps::new(alloc, prims, 0, prims.cell()) else {
+        return Err(Fail::new("sweeps"));
+    };
+    Ok(sweeps)
+}
+
 /// The lattice of these texts for a point.
-fn lattice(alloc: Global, environment: &str, primitives: &str) -> Result<Lattice, Fail> {
-    let (env, grid) = read_env(alloc, environment.as_bytes())
-        .ok()
-        .ok_or("environment")?;
-    let prims = read_prims(alloc, primitives.as_bytes(), env.cell, env.headings)
-        .ok()
-        .ok_or("primitives")?;
-    let sweeps = Sweeps::new(alloc, &prims, 0, prims.cell())
-        .ok()
-        .ok_or("sweeps")?;
+fn lattice_of(alloc: Global, environment: &str, primitives: &str) -> Result<Lattice, Fail> {
+    let Ok((env, grid)) = read_env(alloc, environment.as_bytes()) else {
+        return Err(Fail::new("environment"));
+    };
+    let Ok(prims) = read_prims(alloc, primitives.as_bytes(), env.cell, env.headings) else {
+        return Err(Fail::new("primitives"));
+    };
+    let sweeps = sweeps_of(alloc, &prims)?;
     let map = Map::new(&env, grid);
-    Ok(
-        Lattice::new(alloc, &env, prims, sweeps, map)
-            .ok()
-            .ok_or("lattice")?,
-    )
+    let Ok(lattice) = Lattice::new(alloc, &env, prims, sweeps, map) else {
+        return Err(Fail::new("lattice"));
+    };
+    Ok(lattice)
 }
 
 /// The heads of the arcs that read cell `(x, y)`, behind state 7.
@@ -88,7 +98,7 @@ fn heads(alloc: Global, lattice: &Lattice, x: u32, y: u32) -> Result<Vec<u32>, A
 
 #[test]
 fn a_corner_is_read_by_four_arcs(rt: HostRuntime) -> Result<(), Fail> {
-    let lattice = lattice(rt.alloc(), ENVIRONMENT, PRIMITIVES)?;
+    let lattice = lattice_of(rt.alloc(), ENVIRONMENT, PRIMITIVES)?;
     let heads = heads(rt.alloc(), &lattice, 2, 1)?;
     assert_eq!(rt; heads.as_slice(), [7, 80, 80, 80, 32].as_slice());
     Ok(())
