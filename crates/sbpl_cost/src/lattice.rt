@@ -29,7 +29,8 @@ use std::alloc::Global;
 use std::marker::Model;
 
 /// SBPL's lattice over a map. A state is a cell with a heading; its arcs are the primitives that start at its heading,
-/// in the order of the file. The present map decides which arcs are free and what they cost. Only `new` takes memory.
+/// in the order of the file. The present map decides which arcs are free and what they cost. `new` takes memory, and
+/// `heads_reading` for the list that it adds to.
 #[derive(Drop)]
 pub struct Lattice {
     env: Env,
