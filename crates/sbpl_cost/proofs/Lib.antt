@@ -1,5 +1,6 @@
 pub mod ArcNumbers
 pub mod Arcs
+pub mod ArcsRead
 pub mod Checks
 pub mod CostTables
 pub mod Costs
@@ -21,4 +22,5 @@ pub mod Samples
 pub mod TailViews
 pub mod Tails
 pub mod Views
+pub mod UnreadCosts
 pub mod Ways

@@ -1,4 +1,5 @@
 pub mod PrimitiveCost
+pub mod Reading
 pub mod States
 pub mod World
 pub mod Arc

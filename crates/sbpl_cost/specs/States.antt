@@ -30,3 +30,9 @@ abbrev pub state_in : Environment → ℤ → ℤ → ℕ → Option ℕ
 state_in e (pos x) (pos y) t = if nat_lt x e.width && nat_lt y e.height then Some (state_number e (record { x = x; y = y; t = t })) else None
 state_in e (pos x) (negsuc y) t = None
 state_in e (negsuc x) y t = None
+
+-- the place with a heading in a cell of the plane, none where the cell is off the map
+abbrev pub place_on_map : Environment → ℤ → ℤ → ℕ → Option Place
+place_on_map e (pos x) (pos y) t = if nat_lt x e.width && nat_lt y e.height then Some (record { x = x; y = y; t = t }) else None
+place_on_map e (pos x) (negsuc y) t = None
+place_on_map e (negsuc x) y t = None

@@ -1,6 +1,6 @@
 //! The lattice: an environment, primitives and a map, as a graph.
 
-ghost use Rattle.std.specs.Prelude.{◌≡◌, ◌^◌, ◌<◌, ◌≤◌, ◌↔◌, length, slice_get, Some, IsSome, IfSome, IsOk, IfOk, IfErr, OnOk, OnErr};
+ghost use Rattle.std.specs.Prelude.{◌≡◌, pos, ◌^◌, ◌<◌, ◌≤◌, ◌↔◌, length, slice_get, Some, IsSome, IfSome, IsOk, IfOk, IfErr, OnOk, OnErr};
 ghost use Rattle.sbpl_mprim.specs.declared.prim.Primitive.{Primitive};
 ghost use Rattle.sbpl_sweep.specs.Swept.{AreSweepsOf};
 ghost use Rattle.sbpl_map.specs.CellMap.{cost_at, IsOnMap, ChangesCell};
@@ -9,6 +9,7 @@ ghost use Rattle.sbpl_cost.specs.States.{IsPlace, place_of, state_number};
 ghost use Rattle.sbpl_cost.specs.World.{World, IsWorld};
 ghost use Rattle.sbpl_cost.specs.Arc.{IsArcBy};
 ghost use Rattle.sbpl_cost.specs.Lattices.{network_of, arc_place, leaving, entering};
+ghost use Rattle.sbpl_cost.specs.Reading.{AddsHeads, UnreadCostTheSame, DifferInCostsAlone};
 ghost use Rattle.sbpl_cost.specs.Tables.{AreCheap, IsCause};
 
 use crate::checked::{along_table, around_table};
@@ -16,8 +17,10 @@ use crate::fault::LatticeFault;
 use crate::gaps::Gaps;
 use crate::judging::greatest_paid;
 use crate::places::{end_state, heading_of, place_at, start_state, state_at, state_count};
+use crate::reading::add_heads;
 use crate::tables::{entering_table, leaving_table, number_table, primitive_costs};
 use sbpl_cfg::{Env, Place};
+use sbpl_fixed::NoMemory;
 use sbpl_graph::Graph;
 use sbpl_map::{Map, OffMap};
 use sbpl_mprim::Prims;
@@ -26,7 +29,8 @@ use std::alloc::Global;
 use std::marker::Model;
 
 /// SBPL's lattice over a map. A state is a cell with a heading; its arcs are the primitives that start at its heading,
-/// in the order of the file. The present map decides which arcs are free and what they cost. Only `new` takes memory.
+/// in the order of the file. The present map decides which arcs are free and what they cost. `new` takes memory, and
+/// `heads_reading` for the list that it adds to.
 #[derive(Drop)]
 pub struct Lattice {
     env: Env,
@@ -215,8 +219,18 @@ impl Lattice {
         self.map.cost(x, y)
     }
 
-    /// Writes cost `c` to cell `(x, y)` of the map and returns the old cost. `OffMap` comes exactly off the map, and then
-    /// nothing changes.
+    /// Adds to a list the heads of all arcs with a head whose judgement reads cell `(x, y)`, which may be off the map. A
+    /// state can be added more than once. After `NoMemory` the list is unchanged.
+    pub fn heads_reading(&self, x: u32, y: u32, into: &mut Vec<u32>) -> Result<(), NoMemory>
+        ensures heads { OnOk result (AddsHeads self.now (pos x) (pos y) into.old.items into.new.items) }
+        ensures memory { OnErr result (into.new.items ≡ into.old.items) }
+    {
+        add_heads(&self.env, &self.prims, self.sweeps.reads(), x, y, into)?;
+        Ok(())
+    }
+
+    /// Writes cost `c` to cell `(x, y)` of the map and returns the old cost. Arcs that do not read the cell cost what they did.
+    /// `OffMap` comes exactly off the map, and then nothing changes.
     pub fn set(&mut self, x: i64, y: i64, c: u8) -> Result<u8, OffMap>
         ensures on_map { IsOk result ↔ IsOnMap self.old.map x y }
         ensures old { IfOk result (λ was. cost_at self.old.map x y ≡ Some was) }
@@ -224,6 +238,8 @@ impl Lattice {
         ensures others { self.new ≡ record self.old { map = self.new.map } }
         ensures refused { OnErr result (self.new ≡ self.old) }
         ensures kept { IsWorld self.new }
+        ensures unread { OnOk result (UnreadCostTheSame self.old self.new x y) }
+        ensures rest { DifferInCostsAlone (network_of self.new) (network_of self.old) }
     {
         let was = self.map.set(x, y, c);
         let _width = self.map.width();
@@ -299,3 +315,6 @@ fn copy_of(env: &Env) -> Env
         headings: env.headings,
     }
 }
+
+#[cfg(test)]
+mod tests;

@@ -2,6 +2,7 @@
 
 ghost use Rattle.sbpl_cost.specs.Gaps.{BoundsAreFloors, BoundsMayBeZero};
 ghost use Rattle.sbpl_cost.specs.Lattices.{LatticeHasItsArcs, LatticeHasExactTails, LatticeHasGaps};
+ghost use Rattle.sbpl_cost.specs.Reading.{UnreadArcsCostTheSame, MapsChangeCostsAlone, MapsChangeNoReads};
 
 /// The arcs of the lattice, as a graph, are the motions that start at a state's heading, in the order of the file:
 /// with their heads, their freedom and their costs. It does nothing.
@@ -21,4 +22,12 @@ pub fn lattice_has_its_tails()
 pub fn gaps_are_floors()
     ensures floors { BoundsAreFloors }
     ensures zero { BoundsMayBeZero }
+{}
+
+/// An arc costs the same on two maps on which all cells that it reads cost the same. A map changes costs alone, and not which
+/// cells an arc reads. It does nothing.
+pub fn unread_arcs_cost_the_same()
+    ensures costs { UnreadArcsCostTheSame }
+    ensures rest { MapsChangeCostsAlone }
+    ensures reads { MapsChangeNoReads }
 {}

@@ -10,10 +10,13 @@ mod laws;
 mod places;
 mod primitive_cost;
 mod rate;
+mod reading;
 mod tables;
 mod way;
 
 pub use fault::LatticeFault;
 pub use lattice::Lattice;
-pub use laws::{gaps_are_floors, lattice_has_its_arcs, lattice_has_its_tails};
+pub use laws::{
+    gaps_are_floors, lattice_has_its_arcs, lattice_has_its_tails, unread_arcs_cost_the_same,
+};
 pub use primitive_cost::{MOST_COST, cost_parts_are_least, prim_cost};

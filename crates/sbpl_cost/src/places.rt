@@ -1,7 +1,7 @@
 //! States and their places.
 
 ghost use Rattle.std.specs.Prelude.{◌≡◌, ◌<◌, ◌↔◌, pos, ◌+ℤ◌, ◌-ℤ◌, IsSome, IfSome, IfNone};
-ghost use Rattle.sbpl_cost.specs.States.{IsPlace, IsOff, place_of, state_number, state_in, state_count};
+ghost use Rattle.sbpl_cost.specs.States.{IsPlace, IsOff, place_of, state_number, state_in, state_count, place_on_map};
 
 use sbpl_cfg::{Env, Place};
 use sbpl_mprim::Prim;
@@ -84,6 +84,19 @@ fn state_in(env: &Env, x: i64, y: i64, t: u32) -> Option<u32>
     let column = on_axis(env.width, x)?;
     let row = on_axis(env.height, y)?;
     Some(number_of(env, column, row, t))
+}
+
+/// The place with heading `t` in a cell of the plane, or `None` where the cell is off the map.
+pub(crate) fn place_on_map(env: &Env, x: i64, y: i64, t: u32) -> Option<Place>
+    ensures value { result ≡ place_on_map env.now x y t }
+{
+    let column = on_axis(env.width, x)?;
+    let row = on_axis(env.height, y)?;
+    Some(Place {
+        x: column,
+        y: row,
+        t,
+    })
 }
 
 /// The state where the motion by a primitive from this place ends, or `None` where its cell is off the map.

@@ -7,6 +7,7 @@ pub mod Distances
 pub mod Lists
 pub mod Listings
 pub mod PosesSwept
+pub mod ReadsListed
 pub mod RowsTouched
 pub mod Steps
 pub mod TablesSwept

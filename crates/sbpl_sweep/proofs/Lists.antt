@@ -1,5 +1,5 @@
 -- Lists by their elements, and tables that are filled one entry after another.
-use Rattle.std.proofs.Common.{◌≡◌, ℕ, zero, suc, ◌+◌, ◌<◌, inl, inr, List, [], ◌∷◌, ◌++◌, length, take, map, slice_get, Some, refl, ap, ◌∙◌, arith, subst}
+use Rattle.std.proofs.Common.{◌≡◌, ℕ, zero, suc, ◌+◌, ◌-◌, ◌<◌, inl, inr, ◌⊎◌, List, [], ◌∷◌, ◌++◌, length, take, map, slice_get, Some, refl, ap, sym, ◌∙◌, arith, subst}
 use Rattle.std.proofs.lemmas.Bool.{cases_lt}
 use Rattle.std.proofs.lemmas.List.{take_more, length_push}
 use Rattle.std.proofs.lemmas.Option.{slice_get_within, get_or_from_slice_get, none-some, same_Some}
@@ -63,3 +63,22 @@ filled_more P table new n x filled added right = (
             (x, ap (λ l. slice_get l k) added ∙ at_push table x k (omega (arith, filled.0)), subst (λ m. P m x) last right)
       ],
 )
+
+-- elements of two lists, one behind the other
+pub in_front : {X : Type 0} (xs ys : List X) (i : ℕ) → i < length xs → slice_get (xs ++ ys) i ≡ slice_get xs i
+in_front [] ys i h = absurd (omega arith)
+in_front (x ∷ xs) ys zero h = refl
+in_front (x ∷ xs) ys (suc i) h = in_front xs ys i (omega arith)
+
+pub behind_front : {X : Type 0} (xs ys : List X) (i n : ℕ) → n ≡ length xs + i → slice_get (xs ++ ys) n ≡ slice_get ys i
+behind_front [] ys i n e = ap (slice_get ys) (let same : n ≡ i = omega arith in same)
+behind_front (x ∷ xs) ys i zero e = absurd (omega arith)
+behind_front (x ∷ xs) ys i (suc n) e = behind_front xs ys i n (omega arith)
+
+pub from_either : {X : Type 0} (xs ys : List X) (n : ℕ) (x : X) → slice_get (xs ++ ys) n ≡ Some x → (slice_get xs n ≡ Some x) ⊎ ((i : ℕ) × (n ≡ length xs + i) × (slice_get ys i ≡ Some x))
+from_either xs ys n x at = elim (cases_lt n (length xs)) [
+  | inl less ↦ inl (sym (in_front xs ys n less) ∙ at)
+  | inr more ↦
+      let split : n ≡ length xs + (n - length xs) = omega arith in
+      inr (n - length xs, split, sym (behind_front xs ys (n - length xs) n split) ∙ at)
+]

@@ -4,6 +4,8 @@ pub mod Cut
 pub mod Discs
 pub mod Gathered
 pub mod Reach
+pub mod ReadTables
+pub mod Reads
 pub mod Sweep
 pub mod Sweeping
 pub mod Swept

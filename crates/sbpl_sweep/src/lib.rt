@@ -9,6 +9,7 @@ mod fault;
 mod gathering;
 mod laws;
 mod reach;
+mod reads;
 mod rows;
 mod runs;
 mod stop;
@@ -19,6 +20,7 @@ mod tables;
 pub use cell::Cell;
 pub use fault::SweepFault;
 pub use laws::point_sweeps_centres;
+pub use reads::Read;
 pub use runs::Runs;
 pub use sweeps::Sweeps;
 

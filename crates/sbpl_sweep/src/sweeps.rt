@@ -1,24 +1,26 @@
-//! The centre cells and the swept cells of the primitives of a file.
+//! The centre cells and the swept cells of the primitives of a file, and the cells that judging them reads.
 
-ghost use Rattle.std.specs.Prelude.{◌≡◌, ◌<◌, ◌≤◌, ◌^◌, length, slice_get, Some, IfOk, IfErr};
+ghost use Rattle.std.specs.Prelude.{◌≡◌, ◌<◌, ◌≤◌, ◌+◌, ◌^◌, length, slice_get, Some, IfOk, IfErr};
 ghost use Rattle.sbpl_sweep.specs.Widths.{NoneTooWide, IsCause};
 
 use crate::cell::Cell;
 use crate::fault::SweepFault;
+use crate::reads::{Read, read_table};
 use crate::runs::Runs;
 use crate::tables::{centre_table, swept_table};
 use sbpl_mprim::Prims;
 use std::alloc::Global;
 use std::marker::Model;
 
-/// The centre cells and the swept cells of the primitives of a file, for one radius. Lists of cells have no repeats and
-/// are ordered by `y`, then by `x`.
+/// The centre cells and the swept cells of the primitives of a file, for one radius, and the cells that judging each
+/// primitive reads. Lists of cells have no repeats and are ordered by `y`, then by `x`.
 #[derive(Drop)]
 pub struct Sweeps {
     cell: i64,
     radius: u64,
     centres: Runs<Cell>,
     swept: Runs<Cell>,
+    reads: Vec<Read>,
 }
 
 impl Model for Sweeps {
@@ -31,6 +33,7 @@ impl Model for Sweeps {
       radius = s.radius;
       centres = s.centres;
       swept = s.swept;
+      reads = s.reads.items;
     } };
 
     ghost invariant = { λ s. AreForFew (record {
@@ -38,6 +41,7 @@ impl Model for Sweeps {
       radius = s.radius;
       centres = s.centres;
       swept = s.swept;
+      reads = s.reads.items;
     }) };
 }
 
@@ -55,13 +59,16 @@ impl Sweeps {
         ensures narrow { IfOk result (λ _. NoneTooWide prims.now radius) }
         ensures cause { IfErr result (λ e. IsCause prims.now radius e) }
     {
+        let _cell = prims.cell();
         let swept = swept_table(alloc, prims, radius)?;
         let centres = centre_table(alloc, prims)?;
+        let reads = read_table(alloc, &swept)?;
         Ok(Sweeps {
             cell,
             radius,
             centres,
             swept,
+            reads,
         })
     }
 
@@ -94,5 +101,15 @@ impl Sweeps {
         ensures cells { slice_get self.now.swept i ≡ Some result.now }
     {
         self.swept.at(i as usize)
+    }
+
+    /// Each pair of a primitive, by its place in the file, and a cell that judging it reads, as an offset from its source
+    /// cell: the source cell, the end cell, the centre cells and the swept cells. Each pair stands once; there are at most
+    /// 4,198,400.
+    pub fn reads(&self) -> &[Read]
+        ensures reads { result.now ≡ self.now.reads }
+        ensures few { length result.now ≤ 2 ^ 22 + 4096 }
+    {
+        self.reads.as_slice()
     }
 }

@@ -1,8 +1,8 @@
 //! The tables of the centre cells and the swept cells of all primitives.
 
-ghost use Rattle.std.specs.Prelude.{◌≡◌, ◌<◌, ◌≤◌, ◌^◌, length, IfOk, IfErr};
+ghost use Rattle.std.specs.Prelude.{◌≡◌, ◌<◌, ◌≤◌, ◌^◌, length, sum_by, IfOk, IfErr};
 ghost use Rattle.sbpl_sweep.specs.Tables.{HaveCentres, HaveSwept};
-ghost use Rattle.sbpl_sweep.specs.Widths.{NoneTooWide, IsCause};
+ghost use Rattle.sbpl_sweep.specs.Widths.{NoneTooWide, IsCause, cell_count, most_cells_together};
 ghost use Rattle.sbpl_sweep.specs.Sweeping.{AreFewSweptAt, IsOwnCause};
 
 use crate::cell::Cell;
@@ -56,6 +56,7 @@ pub(crate) fn swept_table(
     requires radius { radius ≤ 10 ^ 12 }
     ensures table { IfOk result (λ r. HaveSwept prims.now radius r) }
     ensures narrow { IfOk result (λ _. NoneTooWide prims.now radius) }
+    ensures few { IfOk result (λ r. sum_by cell_count r ≤ most_cells_together) }
     ensures cause { IfErr result (λ e. IsCause prims.now radius e) }
 {
     let mut table = Runs::new(alloc)?;

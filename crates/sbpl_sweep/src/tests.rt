@@ -81,6 +81,26 @@ fn a_disc_that_touches_a_cell_does_not_sweep_it(rt: HostRuntime) -> Result<(), F
     Ok(())
 }
 
+/// Reads by the first primitive at these columns and rows.
+fn reads_at(alloc: Global, places: &[(i64, i64)]) -> Result<Vec<Read>, AllocError> {
+    let mut reads = Vec::new(alloc);
+    for (x, y) in places {
+        reads.push(Read {
+            prim: 0,
+            cell: Cell { y: *y, x: *x },
+        })?;
+    }
+    Ok(reads)
+}
+
+#[test]
+fn a_point_reads_its_source_and_its_end(rt: HostRuntime) -> Result<(), Fail> {
+    let sweeps = sweeps_of(rt.alloc(), 1, 0)?.ok().ok_or("sweeps")?;
+    let reads = reads_at(rt.alloc(), &[(0, 0), (1, 0)])?;
+    assert_eq!(rt; sweeps.reads(), reads.as_slice());
+    Ok(())
+}
+
 #[test]
 fn too_wide_names_the_first_primitive(rt: HostRuntime) -> Result<(), Fail> {
     // One disc of so many cells, a row of too many, and 65 discs of 65,264 cells each.

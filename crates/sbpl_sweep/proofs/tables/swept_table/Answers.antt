@@ -26,3 +26,6 @@ returns-clause-table c = tabled_all c.args.prims.now c.args.radius c.loop-i.i c.
 
 pub returns-clause-narrow : goal.returns-clause-narrow
 returns-clause-narrow c = none_wide c.args.prims.now c.args.radius c.loop-i.i c.loop-i.table c.loop-i.total (omega (arith, c.loop-i-test.false, c.loop-i.auto.i-end, c.len-i-end.ensures.count)) c.loop-i.invariant
+
+pub returns-clause-few : goal.returns-clause-few
+returns-clause-few c = omega (arith, c.loop-i.invariant.total_is, c.loop-i.invariant.few)

@@ -1,5 +1,7 @@
 use Rattle.std.proofs.Common.{w64}
 use Rattle.std.proofs.lemmas.Int.{to_z-of_z}
+use Rattle.std.proofs.lemmas.Result.{on_ok_weaker}
+use Rattle.sbpl_cost.proofs.UnreadCosts.{unread_cost_the_same, still_world, maps_change_costs_alone}
 use Rattle.sbpl_cost.proofs.lattice.Lattice.set.Goals as goal
 
 pub returns-clause-on_map : goal.returns-clause-on_map
@@ -18,3 +20,13 @@ pub returns-clause-changes : goal.returns-clause-changes
 returns-clause-changes c =
     let there = rw (to_z-of_z w64 c.args.x c.ranges.x, to_z-of_z w64 c.args.y c.ranges.y) at c.set-was.ensures.changes in
     rw (← c.self.view_is) there
+
+pub returns-clause-unread : goal.returns-clause-unread
+returns-clause-unread c =
+    let there = rw (to_z-of_z w64 c.args.x c.ranges.x, to_z-of_z w64 c.args.y c.ranges.y) at c.set-was.ensures.changes in
+    let world = c.self.invariant.world in
+    let after = still_world _ c.set-was.new.self world c.width-width.ensures.kept c.set-was.ensures.width c.set-was.ensures.height in
+    rw (← c.self.view_is) (on_ok_weaker c.set-was.result (unread_cost_the_same _ c.set-was.new.self c.args.x c.args.y c.args.c world after) there)
+
+pub returns-clause-rest : goal.returns-clause-rest
+returns-clause-rest c = rw (← c.self.view_is) (maps_change_costs_alone _ c.set-was.new.self)

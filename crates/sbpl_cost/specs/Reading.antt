@@ -1,0 +1,85 @@
+-- Which arcs of a lattice read a cell.
+use Rattle.std.specs.Prelude.{◌≡◌, ℕ, ℤ, pos, ◌+ℤ◌, ◌-ℤ◌, ◌<◌, ◌↔◌, ◌++◌, List, length, slice_get, Option, Some, option_and_then}
+use Rattle.sbpl_graph.specs.Network.{Network, IsArc}
+use Rattle.sbpl_cfg.specs.declared.pose.Place.{Place}
+use Rattle.sbpl_cfg.specs.Environment.{Environment}
+use Rattle.sbpl_mprim.specs.declared.prim.Primitive.{Primitive}
+use Rattle.sbpl_sweep.specs.declared.reads.Read.{Read}
+use Rattle.sbpl_sweep.specs.Reads.{IsRead}
+use Rattle.sbpl_map.specs.CellMap.{CellMap, cost_at}
+use Rattle.sbpl_cost.specs.Judging.{IsNear}
+use Rattle.sbpl_cost.specs.States.{place_on_map, state_in}
+use Rattle.sbpl_cost.specs.World.{World, IsWorld}
+use Rattle.sbpl_cost.specs.Arc.{IsArcBy, column_from, row_from}
+use Rattle.sbpl_cost.specs.Lattices.{network_of}
+
+-- judging arc k of state s reads cell (x, y): it is the source cell, the end cell, a centre cell or a swept cell
+pub record ReadsCell (w : World) (s k : ℕ) (x y : ℤ) : Type 0 where
+  pub place : ℕ
+  pub prim : Primitive
+  pub by : IsArcBy w s k place prim
+  pub dx : ℤ
+  pub dy : ℤ
+  pub column : column_from w s dx ≡ x
+  pub row : row_from w s dy ≡ y
+  pub read : IsRead w.env.cell w.sweeps.radius prim dx dy
+
+-- some arc that leads to state t reads cell (x, y)
+pub record IsHeadReading (w : World) (x y : ℤ) (t : ℕ) : Type 0 where
+  pub source : ℕ
+  pub number : ℕ
+  pub arc : IsArc (network_of w) source number t
+  pub reads : ReadsCell w source number x y
+
+-- the heads of all arcs that read cell (x, y), and no other states, were added behind a list
+pub record AddsHeads (w : World) (x y : ℤ) (old new : List ℕ) : Type 0 where
+  pub added : List ℕ
+  pub kept : new ≡ old ++ added
+  pub sound : (i t : ℕ) → slice_get added i ≡ Some t → IsHeadReading w x y t
+  pub complete : (t : ℕ) → IsHeadReading w x y t → (i : ℕ) × (slice_get added i ≡ Some t)
+  pub states : (i t : ℕ) → slice_get added i ≡ Some t → t < (network_of w).states
+
+-- the state where the motion by p from a place ends, none off the map
+abbrev pub end_of : Environment → Primitive → Place → Option ℕ
+end_of e p source = state_in e (pos source.x +ℤ p.dx) (pos source.y +ℤ p.dy) p.to
+
+-- the head of the arc by p that reads cell (x, y) as this far from its source cell, none where there is no such arc
+abbrev pub head_by_offset : Environment → ℤ → ℤ → ℤ → ℤ → Primitive → Option ℕ
+head_by_offset e x y dx dy p = option_and_then (end_of e p) (place_on_map e (x -ℤ dx) (y -ℤ dy) p.from)
+
+-- the head of the arc that reads cell (x, y) by a read of the table
+unfoldable pub head_of_read : Environment → List Primitive → ℤ → ℤ → Read → Option ℕ
+head_of_read e prims x y r = option_and_then (head_by_offset e x y r.cell.x r.cell.y) (slice_get prims r.prim)
+
+-- each read names a primitive, and its cell is one that a motion can touch
+abbrev pub AreReadable : List Primitive → List Read → Type 0
+AreReadable prims reads = (i : ℕ) (r : Read) → slice_get reads i ≡ Some r → (r.prim < length prims) × IsNear r.cell
+
+-- the same lattice over another map
+abbrev pub over_map : World → CellMap → World
+over_map w m = record w { map = m }
+
+-- where all cells that an arc reads cost the same on another map, so does the arc
+abbrev pub UnreadArcsCostTheSame : Type 0
+UnreadArcsCostTheSame = (w : World) (m : CellMap) (s k : ℕ) → IsWorld w → IsWorld (over_map w m) → ((x y : ℤ) → ReadsCell w s k x y → cost_at m x y ≡ cost_at w.map x y) → (network_of (over_map w m)).cost s k ≡ (network_of w).cost s k
+
+-- two graphs differ in what their arcs cost, and in nothing else
+pub record DifferInCostsAlone (n m : Network) : Type 0 where
+  pub states : n.states ≡ m.states
+  pub fan : n.fan ≡ m.fan
+  pub head : n.head ≡ m.head
+  pub tail_fan : n.tail_fan ≡ m.tail_fan
+  pub tail : n.tail ≡ m.tail
+  pub gap : n.gap ≡ m.gap
+
+-- another map changes costs alone
+abbrev pub MapsChangeCostsAlone : Type 0
+MapsChangeCostsAlone = (w : World) (m : CellMap) → DifferInCostsAlone (network_of (over_map w m)) (network_of w)
+
+-- another map does not change which cells an arc reads
+abbrev pub MapsChangeNoReads : Type 0
+MapsChangeNoReads = (w : World) (m : CellMap) (s k : ℕ) (x y : ℤ) → ReadsCell (over_map w m) s k x y ↔ ReadsCell w s k x y
+
+-- each arc that does not read cell (x, y) costs the same in two worlds
+abbrev pub UnreadCostTheSame : World → World → ℤ → ℤ → Type 0
+UnreadCostTheSame old new x y = (s k : ℕ) → (ReadsCell old s k x y → ⊥) → (network_of new).cost s k ≡ (network_of old).cost s k

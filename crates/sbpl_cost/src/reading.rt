@@ -1,0 +1,90 @@
+//! Which arcs read a cell.
+
+ghost use Rattle.std.specs.Prelude.{◌≡◌, ℕ, pos, ◌<◌, ◌-ℤ◌, ◌++◌, [], length, take, slice_get, Some, OnOk, OnErr};
+ghost use Rattle.std.specs.List.{filter_map, cons_option};
+ghost use Rattle.sbpl_mprim.specs.Primitives.{ArePrimitives};
+ghost use Rattle.sbpl_cost.specs.Judging.{IsNear};
+ghost use Rattle.sbpl_cost.specs.States.{place_on_map};
+ghost use Rattle.sbpl_cost.specs.Reading.{head_of_read, AreReadable};
+
+use crate::places::{end_state, place_on_map};
+use sbpl_cfg::{Env, Place};
+use sbpl_fixed::NoMemory;
+use sbpl_mprim::Prims;
+use sbpl_sweep::{Cell, Read};
+
+/// The place with heading `t` in the cell from which cell `(x, y)` lies this far, or `None` where that is off the map.
+fn source_of(env: &Env, cell: Cell, x: u32, y: u32, t: u32) -> Option<Place>
+    requires near { IsNear cell }
+    ensures value { result ≡ place_on_map env.now (pos x -ℤ cell.x) (pos y -ℤ cell.y) t }
+{
+    place_on_map(env, i64::from(x) - cell.x, i64::from(y) - cell.y, t)
+}
+
+/// The head of the arc that reads cell `(x, y)` by this read, or `None` where its source or its end is off the map.
+fn head_of_read(env: &Env, prims: &Prims, read: &Read, x: u32, y: u32) -> Option<u32>
+    requires primitives { ArePrimitives prims.now }
+    requires headings { prims.now.headings ≡ env.now.headings }
+    requires place { read.now.prim < length prims.now.items }
+    requires near { IsNear read.now.cell }
+    ensures value { result ≡ head_of_read env.now prims.now.items (pos x) (pos y) read.now }
+{
+    let prim = prims.get(read.prim);
+    let source = source_of(env, read.cell, x, y, prim.from)?;
+    end_state(env, source, prim)
+}
+
+/// Adds a state where there is one. After `NoMemory` the states are unchanged.
+fn push_some(states: &mut Vec<u32>, state: Option<u32>) -> Result<(), NoMemory>
+    ensures added { OnOk result (states.new.items ≡ states.old.items ++ cons_option state []) }
+    ensures refused { OnErr result (states.new.items ≡ states.old.items) }
+{
+    if let Some(state) = state {
+        states.push(state)?;
+    }
+    Ok(())
+}
+
+/// Adds the heads of the arcs that read cell `(x, y)` by these reads. After `NoMemory` some of them are added.
+fn push_heads(
+    env: &Env,
+    prims: &Prims,
+    reads: &[Read],
+    x: u32,
+    y: u32,
+    into: &mut Vec<u32>,
+) -> Result<(), NoMemory>
+    requires primitives { ArePrimitives prims.now }
+    requires headings { prims.now.headings ≡ env.now.headings }
+    requires reads { AreReadable prims.now.items reads.now }
+    ensures added { OnOk result (into.new.items ≡ into.old.items ++ filter_map (head_of_read env.now prims.now.items (pos x) (pos y)) reads.now) }
+    ensures front { OnErr result (take (length into.old.items) into.new.items ≡ into.old.items) }
+{
+    for read in reads {
+        push_some(into, head_of_read(env, prims, read, x, y))?;
+    }
+    Ok(())
+}
+
+/// Adds the heads of the arcs that read cell `(x, y)` by these reads. After `NoMemory` nothing is added.
+pub(crate) fn add_heads(
+    env: &Env,
+    prims: &Prims,
+    reads: &[Read],
+    x: u32,
+    y: u32,
+    into: &mut Vec<u32>,
+) -> Result<(), NoMemory>
+    requires primitives { ArePrimitives prims.now }
+    requires headings { prims.now.headings ≡ env.now.headings }
+    requires reads { AreReadable prims.now.items reads.now }
+    ensures added { OnOk result (into.new.items ≡ into.old.items ++ filter_map (head_of_read env.now prims.now.items (pos x) (pos y)) reads.now) }
+    ensures refused { OnErr result (into.new.items ≡ into.old.items) }
+{
+    let count = into.len();
+    if let Err(error) = push_heads(env, prims, reads, x, y, into) {
+        into.truncate(count);
+        return Err(error);
+    }
+    Ok(())
+}
