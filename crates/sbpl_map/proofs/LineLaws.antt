@@ -149,12 +149,6 @@ in_range_given high field n g = rw (g.0, le-leb n high g.1) refl
 form_given : (high : ℕ) (field : List ℕ) (n : ℕ) → Gives high field n → lacks_form (whole_of field) ≡ false
 form_given high field n g = rw g.0 refl
 
-form_outside : (high : ℕ) (field : List ℕ) → IsOutside high field → lacks_form (whole_of field) ≡ false
-form_outside high field o = elim o [
-  | inl e ↦ rw e refl
-  | inr h ↦ rw h.1 refl
-]
-
 form_not_missing : (field : List ℕ) (r : Result ℤ NumFault) → whole_of field ≡ r → (IsNoNumber field → ⊥) → lacks_form r ≡ false
 form_not_missing field (Ok n) e h = refl
 form_not_missing field (Err Form) e h = absurd (h e)

@@ -1,9 +1,12 @@
 -- Writes in turn lead from the map after some batches to the map after one more.
-use Rattle.std.proofs.Common.{◌≡◌, ◌≢◌, ℕ, zero, suc, ℤ, pos, negsuc, ◌+◌, true, false, List, [], ◌∷◌, ◌++◌, slice_get, Option, Some, None, refl, sym, ap, ◌∙◌, inl, inr, arith, append-nil, append_assoc}
+use Rattle.std.proofs.Common.{◌≡◌, ◌≢◌, ℕ, zero, suc, ℤ, pos, negsuc, ◌+◌, ◌*◌, ◌<◌, ◌≤◌, ◌/◌, ◌%◌, nat_lt, length, true, false, List, [], ◌∷◌, ◌++◌, slice_get, Option, Some, None, refl, sym, ap, ◌∙◌, inl, inr, arith, append-nil, append_assoc}
 use Rattle.std.specs.Prelude.{◌==◌, ◌⊎◌}
-use Rattle.std.proofs.lemmas.Bool.{cases_Bool, and_parts, eqb-true, eq-eqb, and_cases, eqb-false, false≢true}
-use Rattle.std.proofs.lemmas.Option.{none-some, same_Some}
-use Rattle.sbpl_map.specs.CellMap.{CellMap, cost_at, ChangesCell}
+use Rattle.std.proofs.lemmas.Bool.{cases_Bool, and_from, and_parts, lt-ltb, eqb-true, and_cases, eqb-false, false≢true}
+use Rattle.std.proofs.lemmas.Option.{none-some, same_Some, slice_get-get_or}
+use Rattle.std.proofs.lemmas.Nat.{div-add-mod'}
+use Rattle.std.proofs.lemmas.Grind.{same_number_lists}
+use Rattle.std.proofs.Math.Nat.{mod-lt, div-lt_iff_lt-mul, mul_comm}
+use Rattle.sbpl_map.specs.CellMap.{CellMap, IsCellMap, cost_at, ChangesCell}
 use Rattle.sbpl_map.specs.MapAfter.{is_to, found_or, last_cost, first_writes, cost_after, IsMapAfter, AreWritten}
 use Rattle.sbpl_map.specs.declared.write.Write.{Write}
 
@@ -23,9 +26,6 @@ last_cost-append [] ys x y = none_behind (last_cost ys x y)
 last_cost-append (w ∷ xs) ys x y = rw (last_cost-append xs ys x y) (found_or_assoc (last_cost ys x y) (last_cost xs x y) _)
 
 -- ---- one write
-
-is_to_its_cell : (w : Write) → is_to w (pos w.x) (pos w.y) ≡ true
-is_to_its_cell w = rw (eq-eqb w.x w.x refl, eq-eqb w.y w.y refl) refl
 
 to_one_cell : (w : Write) (x y : ℤ) → is_to w x y ≡ true → (x ≡ pos w.x) × (y ≡ pos w.y)
 to_one_cell w (pos a) (pos b) h =
@@ -100,3 +100,33 @@ map_after_next first now new batches k batch h e w =
           ∙ ap (λ l. found_or (last_cost l x y) (cost_at first x y)) (sym (first_more batches k batch e))
           ∙ ap (λ n. cost_after first batches n x y) (sym next);
     }
+
+-- ---- one map
+
+-- each place of the list of costs is that of a cell
+cell_at_place : (m : CellMap) (i : ℕ) → 1 ≤ m.width → i < m.width * m.height → cost_at m (pos (i % m.width)) (pos (i / m.width)) ≡ slice_get m.costs i
+cell_at_place m i some h =
+    let right : i % m.width < m.width = mod-lt i (omega arith) in
+    let high : i / m.width < m.height = (div-lt_iff_lt-mul {x = i} {y = m.height} (omega arith)).1 (rw (mul_comm m.height m.width) h) in
+    let on = and_from (nat_lt (i % m.width) m.width) (nat_lt (i / m.width) m.height) (lt-ltb (i % m.width) m.width right) (lt-ltb (i / m.width) m.height high) in
+    rw on (ap (λ n. slice_get m.costs n) (div-add-mod' i m.width))
+
+same_costs : (a b : CellMap) → IsCellMap a → IsCellMap b → a.width ≡ b.width → a.height ≡ b.height → ((x y : ℤ) → cost_at a x y ≡ cost_at b x y) → a.costs ≡ b.costs
+same_costs a b ka kb w h same =
+    let size : length a.costs ≡ length b.costs = ka.cells ∙ ap (λ n. n * a.height) w ∙ ap (λ n. b.width * n) h ∙ sym kb.cells in
+    same_number_lists a.costs b.costs size (λ i below.
+    let in_a : i < a.width * a.height = rw (← ka.cells) below in
+    let in_b : i < b.width * b.height = rw (← kb.cells, ← size) below in
+    let of_a = cell_at_place a i ka.width.0 in_a in
+    let of_b = cell_at_place b i kb.width.0 in_b in
+    let there : slice_get a.costs i ≡ slice_get b.costs i = sym of_a ∙ same (pos (i % a.width)) (pos (i / a.width)) ∙ ap (λ n. cost_at b (pos (i % n)) (pos (i / n))) w ∙ of_b in
+    same_Some _ _ (sym (slice_get-get_or a.costs i 0 below) ∙ there ∙ slice_get-get_or b.costs i 0 (rw (← size) below)))
+
+same_map : (a b : CellMap) → a.width ≡ b.width → a.height ≡ b.height → a.costs ≡ b.costs → a ≡ b
+same_map a b w h c = rw (w, h, c) refl
+
+pub one_map : (first a b : CellMap) (batches : List (List Write)) (k : ℕ) → IsCellMap a → IsCellMap b → IsMapAfter first batches k a → IsMapAfter first batches k b → a ≡ b
+one_map first a b batches k ka kb ha hb =
+    let w = ha.width ∙ sym hb.width in
+    let h = ha.height ∙ sym hb.height in
+    same_map a b w h (same_costs a b ka kb w h (λ x y. ha.costs x y ∙ sym (hb.costs x y)))
