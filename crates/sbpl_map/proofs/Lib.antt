@@ -1,1 +1,7 @@
 pub mod Cells
+mod Cuts
+mod Lines
+mod Going
+mod LineLaws
+mod MapLaws
+mod TextLaws

@@ -1,8 +1,26 @@
-//! The map of cell costs.
+//! The map of cell costs, and the lists of changes to it.
 #![tactic(auto)]
 
+mod after;
+mod changes;
+mod fault;
+mod judging;
+mod line;
 mod map;
 mod off_map;
+mod read;
+mod said;
+mod text;
+mod write;
 
+pub use after::writes_lead_to_the_next_map;
+pub use changes::Changes;
+pub use fault::ChangeFault;
 pub use map::Map;
 pub use off_map::OffMap;
+pub use read::read_changes;
+pub use text::texts_are_changes_or_faulty;
+pub use write::Write;
+
+#[cfg(test)]
+mod tests;

@@ -1,0 +1,110 @@
+-- Lists that lie one after another in one table.
+use Rattle.std.proofs.Common.{◌≡◌, ℕ, zero, suc, ◌+◌, ◌-◌, ◌<◌, ◌≤◌, inl, inr, List, [], ◌∷◌, ◌++◌, length, take, drop, slice_get, slice_range, slice_index, Some, refl, ap, sym, ◌∙◌, arith, subst}
+use Rattle.std.proofs.lemmas.Bool.{cases_lt}
+use Rattle.std.proofs.lemmas.List.{length-append, length-drop, drop-append-le, take-append-le, drop_at, take_all, get_or_append_left, get_or_push, get_or_past, length_push}
+use Rattle.sbpl_map.specs.Cut.{cut_after, cut, IsCut}
+
+pub length-cut_after : {X : Type 0} (items : List X) (a : ℕ) (starts : List ℕ) → length (cut_after items a starts) ≡ length starts
+length-cut_after items a [] = refl
+length-cut_after items a (b ∷ starts) = ap suc (length-cut_after items b starts)
+
+-- there is one list fewer than starts
+pub length-cut : {X : Type 0} (items : List X) (starts : List ℕ) → 1 ≤ length starts → length (cut items starts) + 1 ≡ length starts
+length-cut items [] some = absurd (omega arith)
+length-cut items (a ∷ starts) some = omega (arith, length-cut_after items a starts)
+
+cut_after_at : {X : Type 0} (items : List X) (a : ℕ) (starts : List ℕ) (i : ℕ) → i < length starts
+    → slice_get (cut_after items a starts) i ≡ Some (slice_range items (slice_index (a ∷ starts) i) (slice_index starts i))
+cut_after_at items a [] i h = absurd (omega arith)
+cut_after_at items a (b ∷ starts) zero h = refl
+cut_after_at items a (b ∷ starts) (suc i) h = cut_after_at items b starts i (omega arith)
+
+-- a list lies between its start and the next
+pub cut_at : {X : Type 0} (items : List X) (starts : List ℕ) (i j : ℕ) → j ≡ suc i → j < length starts
+    → slice_get (cut items starts) i ≡ Some (slice_range items (slice_index starts i) (slice_index starts j))
+cut_at items [] i j e h = absurd (omega arith)
+cut_at items (a ∷ starts) i j e h =
+    let below : i < length starts = omega arith in
+    cut_after_at items a starts i below ∙ ap (λ n. Some (slice_range items (slice_index (a ∷ starts) i) (slice_index (a ∷ starts) n))) (sym e)
+
+-- what lies before the end stays where it is
+range_kept : {X : Type 0} (items more : List X) (a b : ℕ) → a ≤ length items → b ≤ length items → slice_range (items ++ more) a b ≡ slice_range items a b
+range_kept items more a b ha hb =
+    let inside : b - a ≤ length (drop a items) = omega (arith, length-drop a items) in
+    ap (take (b - a)) (drop-append-le a items more ha) ∙ take-append-le (b - a) (drop a items) more inside
+
+cut_after_push : {X : Type 0} (items more : List X) (a : ℕ) (starts : List ℕ) (e : ℕ) → ((i : ℕ) → slice_index (a ∷ starts) i ≤ length items)
+    → cut_after (items ++ more) a (starts ++ e ∷ []) ≡ cut_after items a starts ++ slice_range (items ++ more) (slice_index (a ∷ starts) (length starts)) e ∷ []
+cut_after_push items more a [] e h = refl
+cut_after_push items more a (b ∷ starts) e h =
+    let later = cut_after_push items more b starts e (λ i. h (suc i)) in
+    let same = range_kept items more a b (h 0) (h 1) in
+    ap (λ r. r ∷ cut_after (items ++ more) b (starts ++ e ∷ [])) same ∙ ap (λ l. slice_range items a b ∷ l) later
+
+-- what is added at the table's end is one more list
+pub cut_push : {X : Type 0} (items more : List X) (starts : List ℕ) (e : ℕ) → IsCut (length items) starts → e ≡ length (items ++ more)
+    → cut (items ++ more) (starts ++ e ∷ []) ≡ cut items starts ++ more ∷ []
+cut_push items more [] e kept end = absurd (omega (arith, kept.some))
+cut_push items more (a ∷ starts) e kept end =
+    let last : suc (length starts) - 1 ≡ length starts = omega arith in
+    let from = subst (λ n. slice_index (a ∷ starts) n ≡ length items) last kept.whole in
+    let enough : length more ≤ e - slice_index (a ∷ starts) (length starts) = omega (arith, length-append items more) in
+    let rest = drop_at items more (slice_index (a ∷ starts) (length starts)) (sym from) in
+    let whole = ap (take (e - slice_index (a ∷ starts) (length starts))) rest ∙ take_all (e - slice_index (a ∷ starts) (length starts)) more enough in
+    cut_after_push items more a starts e kept.inside ∙ ap (λ l. cut_after items a starts ++ l ∷ []) whole
+
+pub is_cut_push : {X : Type 0} (items more : List X) (starts : List ℕ) (e : ℕ) → IsCut (length items) starts → length starts < 4294967296 → e ≡ length (items ++ more) → IsCut e (starts ++ e ∷ [])
+is_cut_push items more starts e kept room end =
+    let longer = length-append items more in
+    let one_more = length_push starts e in
+    let old = λ (i : ℕ) (h : i < length starts). get_or_append_left starts (e ∷ []) 0 i h in
+    let new = λ (i : ℕ) (h : length starts ≡ i). get_or_push starts e 0 i h in
+    record {
+      some = omega (arith, one_more);
+      few = omega (arith, one_more, room);
+      rising = λ i h. elim (cases_lt (i + 1) (length starts)) [
+        | inl before ↦ omega (arith, old i (omega arith), old (i + 1) before, kept.rising i before)
+        | inr last ↦ omega (arith, old i (omega (arith, one_more, kept.some)), new (i + 1) (omega (arith, one_more)), kept.inside i)
+      ];
+      inside = λ i. elim (cases_lt i (length starts)) [
+        | inl before ↦ omega (arith, old i before, kept.inside i)
+        | inr after ↦ elim (cases_lt (length starts) i) [
+          | inl past ↦ omega (arith, get_or_past (starts ++ e ∷ []) i 0 (omega (arith, one_more)))
+          | inr last ↦ omega (arith, new i (omega arith))
+        ]
+      ];
+      whole = new (length (starts ++ e ∷ []) - 1) (omega (arith, one_more));
+    }
+
+-- where the list with a number lies
+pub record LiesAt {X : Type 0} (items : List X) (starts : List ℕ) (lists : List (List X)) (i : ℕ) : Type 0 where
+  pub next : i + 1 < length starts
+  pub rising : slice_index starts i ≤ slice_index starts (i + 1)
+  pub inside : slice_index starts (i + 1) ≤ length items
+  pub at : slice_get lists i ≡ Some (slice_range items (slice_index starts i) (slice_index starts (i + 1)))
+
+pub lies_at : {X : Type 0} (items : List X) (starts : List ℕ) (lists : List (List X)) (i : ℕ) → IsCut (length items) starts → cut items starts ≡ lists → i < length lists → LiesAt items starts lists i
+lies_at items starts lists i kept same h =
+    let count = length-cut items starts kept.some in
+    let next : i + 1 < length starts = omega (arith, count, ap length same) in
+    let succ : i + 1 ≡ suc i = omega arith in
+    record {
+      next = next;
+      rising = kept.rising i next;
+      inside = kept.inside (i + 1);
+      at = ap (λ l. slice_get l i) (sym same) ∙ cut_at items starts i (i + 1) succ next;
+    }
+
+-- the same, by way of a table and starts that are named
+pub pushed : {X : Type 0} (items more table : List X) (starts middle ends : List ℕ) (e : ℕ) (lists : List (List X)) → IsCut (length items) starts → cut items starts ≡ lists
+    → table ≡ items ++ more → middle ≡ starts → ends ≡ middle ++ e ∷ [] → e ≡ length table → cut table ends ≡ lists ++ more ∷ []
+pushed items more table starts middle ends e lists kept same in_table in_middle in_ends end =
+    let there = cut_push items more starts e kept (end ∙ ap length in_table) in
+    rw (in_table, in_ends, in_middle, ← same) there
+
+pub still_cut : {X : Type 0} (items more table : List X) (starts middle ends : List ℕ) (e : ℕ) (lists : List (List X)) → IsCut (length items) starts → cut items starts ≡ lists → length lists + 1 < 4294967296
+    → table ≡ items ++ more → middle ≡ starts → ends ≡ middle ++ e ∷ [] → e ≡ length table → IsCut (length table) ends
+still_cut items more table starts middle ends e lists kept same room in_table in_middle in_ends end =
+    let few : length starts < 4294967296 = omega (arith, room, ap length same, length-cut items starts kept.some) in
+    let there = is_cut_push items more starts e kept few (end ∙ ap length in_table) in
+    rw (in_ends, in_middle, ← end) there

@@ -1,0 +1,45 @@
+-- A line more is read.
+use Rattle.std.proofs.Common.{◌≡◌, ℕ, ◌+◌, ◌≤◌, List, [], ◌∷◌, length, Result, Ok, Err, sym, ap, arith}
+use Rattle.std.specs.Str.Lines.{lines}
+use Rattle.std.proofs.lemmas.List.{length_push}
+use Rattle.sbpl_fixed.specs.Formats.{Answers}
+use Rattle.sbpl_map.specs.CellMap.{CellMap}
+use Rattle.sbpl_map.specs.Fields.{fields}
+use Rattle.sbpl_map.specs.Reading.{judged, Drafted, drafted, closed, then_on, reads_on}
+use Rattle.sbpl_map.specs.declared.write.Write.{Write}
+use Rattle.sbpl_map.specs.declared.said.Said.{Said}
+use Rattle.sbpl_map.specs.declared.said.Said.TheVariants.{Nothing, Cell, Replan}
+use Rattle.sbpl_map.specs.declared.fault.ChangeFault.{ChangeFault}
+use Rattle.sbpl_map.specs.declared.fault.ChangeFault.TheVariants.{NoMemory}
+
+pub answered : (r read : Result (List (List Write)) ChangeFault) → r ≡ read → Answers NoMemory (λ c. c) r read
+answered (Ok x) read e = sym e
+answered (Err f) read e = λ _. sym e
+
+-- what all lines give, by what the first of those that are left gives
+first_read : (m : CellMap) (at : ℕ) (rest line behind : List ℕ) (d : Drafted) (all : Result (List (List Write)) ChangeFault)
+    → reads_on m at (lines rest) d ≡ all → lines rest ≡ line ∷ lines behind → then_on (judged m at (fields line)) (λ s. reads_on m (at + 1) (lines behind) (drafted d at s)) ≡ all
+unfolding reads_on
+first_read m at rest line behind d all h e = rw e at h
+
+pub goes_on : (m : CellMap) (at : ℕ) (rest line behind : List ℕ) (d new : Drafted) (s : Said) (all : Result (List (List Write)) ChangeFault)
+    → reads_on m at (lines rest) d ≡ all → lines rest ≡ line ∷ lines behind → judged m at (fields line) ≡ Ok s → new ≡ drafted d at s → reads_on m (at + 1) (lines behind) new ≡ all
+goes_on m at rest line behind d new s all h e j n =
+    let there = rw j at (first_read m at rest line behind d all h e) in
+    rw n there
+
+pub stops : (m : CellMap) (at : ℕ) (rest line behind : List ℕ) (d : Drafted) (f : ChangeFault) (all : Result (List (List Write)) ChangeFault)
+    → reads_on m at (lines rest) d ≡ all → lines rest ≡ line ∷ lines behind → judged m at (fields line) ≡ Err f → all ≡ Err f
+stops m at rest line behind d f all h e j = sym (rw j at (first_read m at rest line behind d all h e))
+
+pub ends : (m : CellMap) (at : ℕ) (rest : List ℕ) (d : Drafted) (all : Result (List (List Write)) ChangeFault)
+    → reads_on m at (lines rest) d ≡ all → length rest ≡ 0 → all ≡ closed d
+unfolding reads_on
+ends m at [] d all h none = sym h
+ends m at (b ∷ bs) d all h none = absurd (omega arith)
+
+-- a line ends one batch at most
+pub grows : (d new : Drafted) (at : ℕ) (s : Said) → new ≡ drafted d at s → length new.done ≤ length d.done + 1
+grows d new at Nothing e = omega (arith, ap (λ (x : Drafted). length x.done) e)
+grows d new at (Cell w) e = omega (arith, ap (λ (x : Drafted). length x.done) e)
+grows d new at Replan e = omega (arith, ap (λ (x : Drafted). length x.done) e, length_push d.done d.batch)

@@ -1,0 +1,14 @@
+use Rattle.std.proofs.Common.{ap, sym, ◌∙◌, Some}
+use Rattle.sbpl_map.proofs.Cuts.{lies_at}
+use Rattle.sbpl_map.proofs.changes.Changes.batch.Goals as goal
+
+pub part-requires : goal.part-requires
+part-requires c =
+    let there = lies_at c.self.inside.writes.items c.self.inside.starts.items c.args.self.now c.args.i c.self.invariant c.self.view_is c.requires.number in
+    rw (c.as_slice.ensures.value, c.as_slice-2.ensures.value) (record { next = there.next; rising = there.rising; inside = there.inside })
+
+pub returns : goal.returns
+returns c =
+    let there = lies_at c.self.inside.writes.items c.self.inside.starts.items c.args.self.now c.args.i c.self.invariant c.self.view_is c.requires.number in
+    let part = rw (c.as_slice.ensures.value, c.as_slice-2.ensures.value) at c.part.ensures.part in
+    record { writes = there.at ∙ ap (λ l. Some l) (sym part) }

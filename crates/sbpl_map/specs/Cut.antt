@@ -1,0 +1,20 @@
+-- Lists that lie one after another in one table.
+use Rattle.std.specs.Prelude.{◌≡◌, ℕ, ◌+◌, ◌-◌, ◌<◌, ◌≤◌, List, [], ◌∷◌, length, slice_range, slice_index}
+
+-- the lists from a start on
+abbrev pub cut_after : {X : Type 0} → List X → ℕ → List ℕ → List (List X)
+cut_after items a [] = []
+cut_after items a (b ∷ starts) = slice_range items a b ∷ cut_after items b starts
+
+-- the lists between each start and the next
+abbrev pub cut : {X : Type 0} → List X → List ℕ → List (List X)
+cut items [] = []
+cut items (a ∷ starts) = cut_after items a starts
+
+-- starts do not fall, the last one is the table's end, and there are fewer than 2 ^ 32 lists
+pub record IsCut (len : ℕ) (starts : List ℕ) : Type 0 where
+  pub some : 1 ≤ length starts
+  pub few : length starts ≤ 4294967296
+  pub rising : (i : ℕ) → i + 1 < length starts → slice_index starts i ≤ slice_index starts (i + 1)
+  pub inside : (i : ℕ) → slice_index starts i ≤ len
+  pub whole : slice_index starts (length starts - 1) ≡ len
