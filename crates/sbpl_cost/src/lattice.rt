@@ -299,3 +299,6 @@ fn copy_of(env: &Env) -> Env
         headings: env.headings,
     }
 }
+
+#[cfg(test)]
+mod tests;
