@@ -6,3 +6,6 @@ mod off_map;
 
 pub use map::Map;
 pub use off_map::OffMap;
+
+#[cfg(test)]
+mod tests;
