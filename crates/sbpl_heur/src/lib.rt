@@ -10,3 +10,6 @@ mod search;
 mod spot;
 
 pub use best::Best;
+
+#[cfg(test)]
+mod tests;

@@ -16,3 +16,6 @@ pub use make::plan;
 pub use passes::{Pass, Passes};
 pub use result::{Arcs, Outcome, Planned};
 pub use trace::Trace;
+
+#[cfg(test)]
+mod tests;

@@ -1,90 +1,232 @@
-//! Heads of arcs that read a cell, by hand.
+//! Lattices of small files, by hand.
 
-ghost use Rattle.std.specs.Prelude.{IfOk};
-ghost use Rattle.sbpl_sweep.specs.Swept.{AreSweepsOf};
+mod samples;
 
-use crate::Lattice;
-use sbpl_cfg::read_env;
-use sbpl_map::Map;
+use crate::{Lattice, LatticeFault};
+use samples::{AHEAD, CORRIDOR, DEAR, FOUR, HALL, PILLAR};
+use sbpl_cfg::{Env, Grid, Place, read_env};
+use sbpl_graph::Graph;
+use sbpl_map::{Map, OffMap};
 use sbpl_mprim::{Prims, read_prims};
 use sbpl_sweep::Sweeps;
 use std::alloc::{AllocError, Global};
-use std::test::*;
+use std::test::Fail;
 
-/// Two rows of three cells of 25 mm, 1 m/s, and 2 s for 45 degrees.
-const ENVIRONMENT: &str = "discretization(cells): 3 2
-obsthresh: 100
-cost_inscribed_thresh: 90
-cost_possibly_circumscribed_thresh: 0
-cellsize(meters): 0.025
-nominalvel(mpersecs): 1.0
-timetoturn45degsinplace(secs): 2.0
-start(meters,rads): 0.0125 0.0125 0
-end(meters,rads): 0.0625 0.0125 0
-environment:
-0 2 0
-0 0 0
-";
-
-/// Four primitives from heading 0: one cell ahead, two ahead, one to the left and one to the right.
-const PRIMITIVES: &str = "resolution_m: 0.025
-numberofangles: 16
-totalnumberofprimitives: 4
-primID: 0
-startangle_c: 0
-endpose_c: 1 0 0
-additionalactioncostmult: 1
-intermediateposes: 2
-0.0000 0.0000 0.0000
-0.0250 0.0000 0.0000
-primID: 1
-startangle_c: 0
-endpose_c: 2 0 0
-additionalactioncostmult: 1
-intermediateposes: 3
-0.0000 0.0000 0.0000
-0.0250 0.0000 0.0000
-0.0500 0.0000 0.0000
-primID: 2
-startangle_c: 0
-endpose_c: 0 1 0
-additionalactioncostmult: 1
-intermediateposes: 2
-0.0000 0.0000 0.0000
-0.0000 0.0250 0.0000
-primID: 3
-startangle_c: 0
-endpose_c: 0 -1 0
-additionalactioncostmult: 1
-intermediateposes: 2
-0.0000 0.0000 0.0000
-0.0000 -0.0250 0.0000
-";
-
-/// The sweeps of primitives for a point.
-fn sweeps_of(alloc: Global, prims: &Prims) -> Result<Sweeps, Fail>
-    ensures sweeps { IfOk result (λ s. AreSweepsOf prims.now s.radius s) }
-{
-    let Ok(sweeps) = Sweeps::new(alloc, prims, 0, prims.cell()) else {
-        return Err(Fail::new("sweeps"));
+/// The lattice of these parts for a radius in nanometres, or why there is none. `None` where they do not belong together.
+fn swept(
+    alloc: Global,
+    env: &Env,
+    grid: Grid,
+    prims: Prims,
+    radius: u64,
+) -> Option<Result<Lattice, LatticeFault>> {
+    if prims.cell() != env.cell || prims.headings() != env.headings || radius > 1_000_000_000_000 {
+        return None;
+    }
+    if grid.as_slice().len() != (env.width * env.height) as usize {
+        return None;
+    }
+    let Ok(sweeps) = Sweeps::new(alloc, &prims, radius, prims.cell()) else {
+        return None;
     };
-    Ok(sweeps)
+    let map = Map::new(env, grid);
+    Some(Lattice::new(alloc, env, prims, sweeps, map))
 }
 
-/// The lattice of these texts for a point.
-fn lattice_of(alloc: Global, environment: &str, primitives: &str) -> Result<Lattice, Fail> {
-    let Ok((env, grid)) = read_env(alloc, environment.as_bytes()) else {
-        return Err(Fail::new("environment"));
+/// The lattice of an environment and a text of primitives.
+fn with_prims(
+    alloc: Global,
+    env: &Env,
+    grid: Grid,
+    prims: &str,
+    radius: u64,
+) -> Option<Result<Lattice, LatticeFault>> {
+    match read_prims(alloc, prims.as_bytes(), env.cell, env.headings) {
+        Ok(prims) => swept(alloc, env, grid, prims, radius),
+        Err(_) => None,
+    }
+}
+
+/// The lattice of two texts.
+fn lattice_of(
+    alloc: Global,
+    env: &str,
+    prims: &str,
+    radius: u64,
+) -> Option<Result<Lattice, LatticeFault>> {
+    match read_env(alloc, env.as_bytes()) {
+        Ok((env, grid)) => with_prims(alloc, &env, grid, prims, radius),
+        Err(_) => None,
+    }
+}
+
+/// The lattice of two texts, which has to be there.
+fn made(alloc: Global, env: &str, prims: &str, radius: u64) -> Result<Lattice, Fail> {
+    match lattice_of(alloc, env, prims, radius) {
+        Some(Ok(lattice)) => Ok(lattice),
+        _ => Err(Fail::new("lattice")),
+    }
+}
+
+/// The head and the cost of arc `k` of state `s`.
+fn arc(lattice: &Lattice, s: u32, k: u32) -> Option<(Option<u32>, Option<u32>)> {
+    if s < lattice.states() && k < lattice.fan(s) {
+        Some((lattice.head(s, k), lattice.judge(s, k)))
+    } else {
+        None
+    }
+}
+
+/// Tail `j` of state `t`.
+fn tail(lattice: &Lattice, t: u32, j: u32) -> Option<Option<(u32, u32)>> {
+    if t < lattice.states() && j < lattice.tail_fan(t) {
+        Some(lattice.tail(t, j))
+    } else {
+        None
+    }
+}
+
+/// The lower bound on the cost of each way from one state to another.
+fn gap(lattice: &Lattice, from: u32, to: u32) -> Option<u64> {
+    if from < lattice.states() && to < lattice.states() {
+        Some(lattice.gap(from, to))
+    } else {
+        None
+    }
+}
+
+/// The number of the primitive of arc `k` of state `s`, its id and its cost by itself.
+fn primitive(lattice: &Lattice, s: u32, k: u32) -> Option<(u32, u32, u32)> {
+    if s < lattice.states() && k < lattice.fan(s) {
+        let place = lattice.prim_of(s, k);
+        Some((place, lattice.prim_id(place), lattice.cost_of(place)))
+    } else {
+        None
+    }
+}
+
+/// The place of state `s`, and the state there.
+fn there_and_back(lattice: &Lattice, s: u32) -> Option<(Place, Option<u32>)> {
+    if s < lattice.states() {
+        let place = lattice.place_of(s);
+        Some((place, lattice.state_of(&place)))
+    } else {
+        None
+    }
+}
+
+#[test]
+fn arcs_in_the_order_of_the_file(rt: HostRuntime) -> Result<(), Fail> {
+    let hall = made(rt.alloc(), HALL, FOUR, 0)?;
+    for (s, k, want) in [
+        (0, 0, Some((Some(16), Some(75)))),
+        (0, 1, Some((Some(32), Some(150)))),
+        (0, 2, Some((Some(48), Some(25)))),
+        (0, 3, Some((None, None))),
+        (0, 4, None),
+        (1, 0, None),
+    ] {
+        assert_eq!(rt; arc(&hall, s, k), want, "at arc {k} of {s}");
+    }
+    Ok(())
+}
+
+#[test]
+fn tails_are_the_arcs_that_lead_there(rt: HostRuntime) -> Result<(), Fail> {
+    let hall = made(rt.alloc(), HALL, FOUR, 0)?;
+    for (t, j, want) in [
+        (32, 0, Some(Some((16, 0)))),
+        (32, 1, Some(Some((0, 1)))),
+        (32, 2, Some(None)),
+        (32, 3, Some(Some((80, 3)))),
+        (32, 4, None),
+        (33, 0, None),
+    ] {
+        assert_eq!(rt; tail(&hall, t, j), want, "at tail {j} of {t}");
+    }
+    for (s, k) in [(16, 0), (0, 1), (80, 3)] {
+        assert_eq!(rt; arc(&hall, s, k).map(|arc| arc.0), Some(Some(32)));
+    }
+    Ok(())
+}
+
+#[test]
+fn gaps_by_the_primitives_alone(rt: HostRuntime) -> Result<(), Fail> {
+    let hall = made(rt.alloc(), HALL, FOUR, 0)?;
+    for (from, to, want) in [
+        (0, 32, Some(50)),
+        (48, 32, Some(50)),
+        (0, 48, Some(25)),
+        (32, 0, Some(0)),
+        (0, 5, Some(0)),
+        (0, 96, None),
+    ] {
+        assert_eq!(rt; gap(&hall, from, to), want, "from {from} to {to}");
+    }
+    Ok(())
+}
+
+#[test]
+fn states_and_places(rt: HostRuntime) -> Result<(), Fail> {
+    let hall = made(rt.alloc(), HALL, FOUR, 0)?;
+    let place = Place { x: 2, y: 1, t: 3 };
+    assert_eq!(rt; there_and_back(&hall, 83), Some((place, Some(83))));
+    for off in [
+        Place { x: 3, y: 1, t: 3 },
+        Place { x: 2, y: 2, t: 3 },
+        Place { x: 2, y: 1, t: 16 },
+    ] {
+        assert_eq!(rt; hall.state_of(&off), None);
+    }
+    Ok(())
+}
+
+#[test]
+fn primitives_of_arcs(rt: HostRuntime) -> Result<(), Fail> {
+    let hall = made(rt.alloc(), HALL, FOUR, 0)?;
+    assert_eq!(rt; primitive(&hall, 80, 1), Some((1, 1, 50)));
+    assert_eq!(rt; primitive(&hall, 81, 0), None);
+    Ok(())
+}
+
+#[test]
+fn a_dear_primitive_is_named(rt: HostRuntime) {
+    let dear = lattice_of(rt.alloc(), CORRIDOR, DEAR, 0);
+    assert!(rt; matches!(dear, Some(Err(LatticeFault::TooDear(0)))));
+}
+
+#[test]
+fn costs_are_written(rt: HostRuntime) -> Result<(), Fail> {
+    let mut corridor = made(rt.alloc(), CORRIDOR, AHEAD, 0)?;
+    assert_eq!(rt; arc(&corridor, 0, 0), Some((Some(16), Some(25))));
+    assert_eq!(rt; corridor.set(3, 0, 90), Err(OffMap));
+    assert_eq!(rt; corridor.set(1, 0, 90), Ok(0));
+    assert_eq!(rt; corridor.cell_cost(1, 0), Some(90));
+    assert_eq!(rt; arc(&corridor, 0, 0), Some((Some(16), None)));
+    Ok(())
+}
+
+/// The cost of the arc beside the pillar for a robot of this radius, where the pillar costs this.
+fn beside_pillar(alloc: Global, radius: u64, cost: u8) -> Option<(Option<u32>, Option<u32>)> {
+    let Some(Ok(mut room)) = lattice_of(alloc, PILLAR, AHEAD, radius) else {
+        return None;
     };
-    let Ok(prims) = read_prims(alloc, primitives.as_bytes(), env.cell, env.headings) else {
-        return Err(Fail::new("primitives"));
-    };
-    let sweeps = sweeps_of(alloc, &prims)?;
-    let map = Map::new(&env, grid);
-    let Ok(lattice) = Lattice::new(alloc, &env, prims, sweeps, map) else {
-        return Err(Fail::new("lattice"));
-    };
-    Ok(lattice)
+    match room.set(2, 2, cost) {
+        Ok(_) => arc(&room, 96, 0),
+        Err(_) => None,
+    }
+}
+
+#[test]
+fn a_disc_must_not_reach_an_obstacle(rt: HostRuntime) {
+    for (radius, cost, want) in [
+        (12_500_000, 100, Some(25)),
+        (12_500_001, 100, None),
+        (12_500_001, 99, Some(25)),
+    ] {
+        let found = beside_pillar(rt.alloc(), radius, cost);
+        assert_eq!(rt; found, Some((Some(112), want)), "at {radius}");
+    }
 }
 
 /// The heads of the arcs that read cell `(x, y)`, behind state 7.
@@ -98,8 +240,8 @@ fn heads(alloc: Global, lattice: &Lattice, x: u32, y: u32) -> Result<Vec<u32>, A
 
 #[test]
 fn a_corner_is_read_by_four_arcs(rt: HostRuntime) -> Result<(), Fail> {
-    let lattice = lattice_of(rt.alloc(), ENVIRONMENT, PRIMITIVES)?;
-    let heads = heads(rt.alloc(), &lattice, 2, 1)?;
+    let hall = made(rt.alloc(), HALL, FOUR, 0)?;
+    let heads = heads(rt.alloc(), &hall, 2, 1)?;
     assert_eq!(rt; heads.as_slice(), [7, 80, 80, 80, 32].as_slice());
     Ok(())
 }
