@@ -1,3 +1,4 @@
+pub mod AlikeWorlds
 pub mod ArcNumbers
 pub mod Arcs
 pub mod ArcsRead

@@ -15,7 +15,7 @@ use Rattle.sbpl_cost.proofs.Arcs.{IsFound, found_at, arc_of}
 use Rattle.sbpl_cost.proofs.ArcsRead.{found_by_arc}
 
 -- two answers are the same where each gives what the other gives
-same_answer : (a b : Option ℕ) → ((c : ℕ) → a ≡ Some c → b ≡ Some c) → ((c : ℕ) → b ≡ Some c → a ≡ Some c) → a ≡ b
+pub same_answer : (a b : Option ℕ) → ((c : ℕ) → a ≡ Some c → b ≡ Some c) → ((c : ℕ) → b ≡ Some c → a ≡ Some c) → a ≡ b
 same_answer None None there back = refl
 same_answer None (Some c) there back = absurd (none-some c (back c refl))
 same_answer (Some c) b there back = sym (there c refl)
@@ -65,7 +65,7 @@ other_cost w m s k place p is_world is_other f alike =
     (λ c h. (there.cost c).1 (still_free_at w w.map m s p same c ((here.cost c).0 h)))
 
 -- an arc that is in no table costs nothing on any map
-no_cost : (w : World) (s k : ℕ) → arc_place w s k ≡ None → (network_of w).cost s k ≡ None
+pub no_cost : (w : World) (s k : ℕ) → arc_place w s k ≡ None → (network_of w).cost s k ≡ None
 unfolding network_of
 no_cost w s k h = rw h refl
 

@@ -9,3 +9,4 @@ pub mod Tables
 pub mod Judging
 pub mod Gaps
 pub mod Rates
+pub mod Alike

@@ -1,5 +1,6 @@
 //! What holds of every lattice.
 
+ghost use Rattle.sbpl_cost.specs.Alike.{AlikeWorldsAreOneGraph};
 ghost use Rattle.sbpl_cost.specs.Gaps.{BoundsAreFloors, BoundsMayBeZero};
 ghost use Rattle.sbpl_cost.specs.Lattices.{LatticeHasItsArcs, LatticeHasExactTails, LatticeHasGaps};
 ghost use Rattle.sbpl_cost.specs.Reading.{UnreadArcsCostTheSame, MapsChangeCostsAlone, MapsChangeNoReads};
@@ -30,4 +31,10 @@ pub fn unread_arcs_cost_the_same()
     ensures costs { UnreadArcsCostTheSame }
     ensures rest { MapsChangeCostsAlone }
     ensures reads { MapsChangeNoReads }
+{}
+
+/// Two worlds with the same environment, the same primitives, the same map and the same radius (in nanometres) are one graph,
+/// even where their tables of sweeps differ. It does nothing.
+pub fn alike_worlds_are_one_graph()
+    ensures law { AlikeWorldsAreOneGraph }
 {}

@@ -17,6 +17,7 @@ mod way;
 pub use fault::LatticeFault;
 pub use lattice::Lattice;
 pub use laws::{
-    gaps_are_floors, lattice_has_its_arcs, lattice_has_its_tails, unread_arcs_cost_the_same,
+    alike_worlds_are_one_graph, gaps_are_floors, lattice_has_its_arcs, lattice_has_its_tails,
+    unread_arcs_cost_the_same,
 };
 pub use primitive_cost::{MOST_COST, cost_parts_are_least, prim_cost};
