@@ -1,4 +1,6 @@
--- What the text of changes is: its lines, one after another, and what each of them says.
+-- What the text of changes is: its lines, one after another, and what each of them says. Lines are those of std's `lines`:
+-- the text is cut at its line feeds, and one carriage return right before a line feed is dropped; behind the last line
+-- feed stands one more line, as it is, unless it is empty.
 use Rattle.std.specs.Prelude.{◌≡◌, ℕ, pos, ◌<◌, ◌≤◌, List, [], ◌∷◌, ◌++◌, map, codes, Ok}
 use Rattle.std.specs.List.{filter, flat_map, AllByRecursion}
 use Rattle.std.specs.Str.Lines.{lines}

@@ -97,9 +97,10 @@ fn changes(alloc: Global, text: &[u8], map: &Map) -> Result<Changes, ChangeFault
     draft.close()
 }
 
-/// Reads a change file for a map. Its lines end at line feeds, and one carriage return before a line feed is dropped.
-/// The fields of a line are parted by spaces and tabs. `cell X Y C` writes cost C to cell (X, Y), `replan` ends a batch, and
-/// a line without fields is skipped. A fault is that of the first faulty line; lines are numbered from 1, skipped ones too.
+/// Reads a change file of at most 2^30 bytes for a map. Its lines end at line feeds, and one carriage return before a line
+/// feed is dropped. The fields of a line are parted by spaces and tabs. `cell X Y C` writes cost C to cell (X, Y), `replan`
+/// ends a batch, and a line without fields is skipped. A fault is that of the first faulty line; lines are numbered from 1,
+/// skipped ones too.
 pub fn read_changes(alloc: Global, text: &[u8], map: &Map) -> Result<Changes, ChangeFault>
     requires short { length text.now ≤ 2 ^ 30 }
     // What is read is what the text stands for.

@@ -44,6 +44,7 @@ fn a_text_gives_its_first_fault(rt: HostRuntime) -> Result<(), Fail> {
         ("replan\x0b\n", 1, "Word", 1),
         ("cell 1\x0c0 5\n", 1, "Word", 1),
         ("cell 1 0 5.0\n", 2, "Number", 1),
+        ("cell 1 0 5\r", 2, "Number", 1),
         ("cell 9999999999999999999 - 5\n", 2, "Number", 1),
         ("cell 9999999999999999999 0 5\n", 3, "Range", 1),
         ("cell -1 0 5\n", 3, "Range", 1),
@@ -68,7 +69,7 @@ fn a_text_gives_its_first_fault(rt: HostRuntime) -> Result<(), Fail> {
 fn a_text_gives_its_batches(rt: HostRuntime) -> Result<(), Fail> {
     let map = row_of_three(rt.alloc())?;
     let text =
-        "\t cell +2\t000 007 \r\n\n  \t\ncell 0 0 255\nreplan\r\nreplan\ncell 1 -0 0\n replan";
+        "\t cell +02\t000 007 \r\n\n  \t\ncell 0 0 255\nreplan\r\nreplan\ncell 1 -0 0\n replan";
     let changes = read_changes(rt.alloc(), text.as_bytes(), &map)?;
     let first = [
         Write {
