@@ -7,31 +7,33 @@ use Rattle.sbpl_mprim.specs.Primitives.{Primitives}
 use Rattle.sbpl_sweep.specs.Widths.{IsFirstTooWide, NoneTooWide}
 use Rattle.sbpl_cost.specs.PrimitiveCost.{IsFirstTooDear, most_cost, primitive_cost}
 use Rattle.sbpl_cost.specs.World.{World}
+use Rattle.sbpl_desk.specs.Desk.{Rose}
+use Rattle.sbpl_cli.specs.declared.job.CheckJob.{CheckJob}
 use Rattle.sbpl_cli.specs.declared.job.Job.{Job}
 use Rattle.sbpl_cli.specs.declared.job.Job.TheVariants as job
 use Rattle.sbpl_cli.specs.declared.job.Sources.{Sources}
 use Rattle.sbpl_cli.specs.declared.refusal.Input.TheVariants as input
 use Rattle.sbpl_cli.specs.declared.refusal.Refusal.{Refusal}
 use Rattle.sbpl_cli.specs.declared.refusal.Refusal.TheVariants as refusal
-use Rattle.sbpl_cli.specs.Causes.{IsCause, IsFaultyFor, IsRead, IsTooLong, NoneTooDear, SaysEnvironment, SaysPrimitives, SaysWorld}
-use Rattle.sbpl_cli.specs.Intents.{Intent, Refused, Planned, Listed, OutOfMemory, intent_status, refusal_status}
+use Rattle.sbpl_cli.specs.Causes.{AtLabels, IsCause, IsFaultyFor, IsJobCause, IsLateCause, IsRead, IsTooLong, NoneTooDear, SaysEnvironment, SaysPrimitives, SaysWorld}
+use Rattle.sbpl_cli.specs.Intents.{Intent, Refused, Planned, Checked, Listed, OutOfMemory, intent_status, refusal_status}
 use Rattle.sbpl_cli.specs.Jobs.{sources_of}
-use Rattle.sbpl_cli.specs.Promises.{ComesTo, IsOrFailed, Tells, TellsEnvironment, TellsEnvironmentFault, TellsPrimitiveFault, TellsPrimitives, TellsTooMuch}
+use Rattle.sbpl_cli.specs.Promises.{ComesTo, IsNoCheck, IsOrFailed, Tells, TellsEnvironment, TellsEnvironmentFault, TellsPrimitiveFault, TellsPrimitives, TellsTooMuch}
 use Rattle.sbpl_cli.specs.Texts.{HasEnvironmentFault, HasPrimitiveFault, IsEnvironmentText, IsPrimitiveText}
 use Rattle.sbpl_cli.specs.Writing.{FaultCounts, Told}
 use Rattle.sbpl_cli.proofs.Laws.{TextsAreClear}
 
 -- ---- what was read is what the desk tells
 
-told_is : (held : Option (List ℕ)) (text t : List ℕ) → held ≡ Some text → IsRead held t → t ≡ text
+pub told_is : (held : Option (List ℕ)) (text t : List ℕ) → held ≡ Some text → IsRead held t → t ≡ text
 told_is held text t tells read = let P : Option (List ℕ) → Type 0 = λ h. IsRead h t in (subst P tells read).told
 
-too_long_not_short : (held : Option (List ℕ)) (text : List ℕ) → Tells held text → IsTooLong held → ⊥
+pub too_long_not_short : (held : Option (List ℕ)) (text : List ℕ) → Tells held text → IsTooLong held → ⊥
 too_long_not_short held text tells long =
     let more : 2 ^ 30 < length text = (let P : Option (List ℕ) → Type 0 = λ h. IsTooLong h in subst P tells.held_bytes long) in
     let few : length text ≤ 2 ^ 30 = tells.short in omega arith
 
-too_much_not_read : (held : Option (List ℕ)) (t : List ℕ) → TellsTooMuch held → IsRead held t → ⊥
+pub too_much_not_read : (held : Option (List ℕ)) (t : List ℕ) → TellsTooMuch held → IsRead held t → ⊥
 too_much_not_read held t (text, tells, long) read =
     let same : t ≡ text = told_is held text t tells read in
     let few : length t ≤ 2 ^ 30 = read.short in
@@ -50,8 +52,12 @@ not_said_long : (held : Told) (from : Sources) (e : Environment) (cells : List �
 not_said_long held from e cells much says = too_much_not_read _ says.text much says.read
 
 -- the environment that was read is the one that is told
-same_environment : TextsAreClear → (held : Told) (from : Sources) (e d : Environment) (cells : List ℕ) → TellsEnvironment held from e → SaysEnvironment held from d cells → d ≡ e
-same_environment clear held from e d cells (text, others, tells, stands) says = clear.environment text d e cells others (said_text held from d cells text tells says) stands
+pub same_environment : TextsAreClear → (held : Told) (from : Sources) (e d : Environment) (cells : List ℕ) → TellsEnvironment held from e → SaysEnvironment held from d cells → d ≡ e
+same_environment clear held from e d cells (text, others, tells, stands) says = (clear.environment text d e cells others (said_text held from d cells text tells says) stands).0
+
+-- an environment that is told is read with the same costs each time
+pub same_cells : TextsAreClear → (held : Told) (from : Sources) (e d f : Environment) (cells others : List ℕ) → TellsEnvironment held from e → SaysEnvironment held from d cells → SaysEnvironment held from f others → cells ≡ others
+same_cells clear held from e d f cells others (text, more, tells, stands) says said = (clear.environment text d f cells others (said_text held from d cells text tells says) (said_text held from f others text tells said)).1
 
 -- where an environment is told, no fault of it was read
 not_faulty : TextsAreClear → (held : Told) (from : Sources) (e : Environment) (f : EnvFault) (t : List ℕ) → TellsEnvironment held from e → IsRead (held from.env) t → HasEnvironmentFault t f → ⊥
@@ -80,7 +86,7 @@ primitives_not_faulty clear held from env d cells ps f told (text, tells, stands
     clear.primitive_fault text env ps f stands (subst (λ x. HasPrimitiveFault x text f) same here)
 
 -- the primitives that were read are those that are told
-same_primitives : TextsAreClear → (held : Told) (from : Sources) (env d : Environment) (cells : List ℕ) (ps qs : Primitives) → TellsEnvironment held from env → TellsPrimitives held from env ps → SaysEnvironment held from d cells → SaysPrimitives held from d qs → qs ≡ ps
+pub same_primitives : TextsAreClear → (held : Told) (from : Sources) (env d : Environment) (cells : List ℕ) (ps qs : Primitives) → TellsEnvironment held from env → TellsPrimitives held from env ps → SaysEnvironment held from d cells → SaysPrimitives held from d qs → qs ≡ ps
 same_primitives clear held from env d cells ps qs told (text, tells, stands) first second =
     let same : d ≡ env = same_environment clear held from env d cells told first in
     clear.primitives text env qs ps (subst (λ x. IsPrimitiveText x text qs) same (said_primitives held from d qs text tells second)) stands
@@ -97,21 +103,74 @@ none_is_widest ps radius i narrow wide = narrow i wide.here
 
 -- ---- the statuses
 
-failed_read : (wanted : ℕ) → IsOrFailed wanted 6
+pub failed_read : (wanted : ℕ) → IsOrFailed wanted 6
 failed_read wanted = inr (inl refl)
 
-no_memory : (wanted : ℕ) → IsOrFailed wanted 9
+pub no_memory : (wanted : ℕ) → IsOrFailed wanted 9
 no_memory wanted = inr (inr (inr refl))
 
--- What a job comes to has a status by what it is: that of a refusal with its cause, that of a job done on a world that the
+-- What a job comes to has a status by what it is: that of a refusal with its cause, that of what was done in a world that the
 -- files stand for, or that of want of memory.
-pub by_intent : (held : Told) (reads reads' : FaultCounts) (wanted : ℕ) (j : Job) (i : Intent) → ((r : Refusal) → IsCause held reads reads' (sources_of j) r → IsOrFailed wanted (refusal_status r)) → ((w : World) → SaysWorld held (sources_of j) w → IsOrFailed wanted 0) → ComesTo held reads reads' j i → IsOrFailed wanted (intent_status i)
+pub by_intent : (held : Told) (reads reads' : FaultCounts) (wanted : ℕ) (j : Job) (i : Intent) → ((r : Refusal) → IsJobCause held reads reads' j r → IsOrFailed wanted (refusal_status r)) → ((i : Intent) → ComesTo held reads reads' j i → (w : World) → SaysWorld held (sources_of j) w → IsOrFailed wanted (intent_status i)) → ComesTo held reads reads' j i → IsOrFailed wanted (intent_status i)
 by_intent held reads reads' wanted j (Refused r) refused done comes = refused r comes
-by_intent held reads reads' wanted (job.Plan p) (Planned plan) refused done comes = done comes.world comes.says
+by_intent held reads reads' wanted (job.Plan p) (Planned plan) refused done comes = done (Planned plan) comes comes.world comes.says
+by_intent held reads reads' wanted (job.Check c) (Planned plan) refused done comes = absurd comes
 by_intent held reads reads' wanted (job.Sweep from) (Planned plan) refused done comes = absurd comes
+by_intent held reads reads' wanted (job.Plan p) (Checked goal os end) refused done comes = absurd comes
+by_intent held reads reads' wanted (job.Check c) (Checked goal os end) refused done comes = done (Checked goal os end) comes comes.world comes.says
+by_intent held reads reads' wanted (job.Sweep from) (Checked goal os end) refused done comes = absurd comes
 by_intent held reads reads' wanted (job.Plan p) (Listed w) refused done comes = absurd comes
-by_intent held reads reads' wanted (job.Sweep from) (Listed w) refused done comes = done w comes.0
+by_intent held reads reads' wanted (job.Check c) (Listed w) refused done comes = absurd comes
+by_intent held reads reads' wanted (job.Sweep from) (Listed w) refused done comes = done (Listed w) comes w comes.0
 by_intent held reads reads' wanted j OutOfMemory refused done comes = no_memory wanted
+
+-- the file of labels was not read in a world that the files stand for
+at_labels_world : (held : Told) (j : Job) (P : List ℕ → Type 0) → AtLabels held j P → (w : World) × SaysWorld held (sources_of j) w
+at_labels_world held (job.Plan p) P at = absurd at
+at_labels_world held (job.Check c) P (w, says, at) = (w, says)
+at_labels_world held (job.Sweep from) P at = absurd at
+
+-- where no world is read, the file of labels was not tried
+pub late_none : (held : Told) (reads reads' : FaultCounts) (j : Job) (r : Refusal) → ((w : World) → SaysWorld held (sources_of j) w → ⊥) → IsLateCause held reads reads' j r → ⊥
+late_none held reads reads' j (refusal.Environment x) none late = late
+late_none held reads reads' j (refusal.Primitives x) none late = late
+late_none held reads reads' j (refusal.TooWide x) none late = late
+late_none held reads reads' j (refusal.TooDear x) none late = late
+late_none held reads reads' j (refusal.Read input.Environment) none late = late
+late_none held reads reads' j (refusal.Read input.Primitives) none late = late
+late_none held reads reads' j (refusal.Read input.Labels) none late = let found = at_labels_world held j (λ name. Rose (reads name) (reads' name)) late in none found.0 found.1
+late_none held reads reads' j (refusal.Length input.Environment) none late = late
+late_none held reads reads' j (refusal.Length input.Primitives) none late = late
+late_none held reads reads' j (refusal.Length input.Labels) none late = let found = at_labels_world held j (λ name. IsTooLong (held name)) late in none found.0 found.1
+
+-- a job that reads no file of labels is not refused for one
+late_no_check : (held : Told) (j : Job) (P : List ℕ → Type 0) → IsNoCheck j → AtLabels held j P → ⊥
+late_no_check held (job.Plan p) P plain at = at
+late_no_check held (job.Check c) P plain at = plain
+late_no_check held (job.Sweep from) P plain at = at
+
+pub no_late : (held : Told) (reads reads' : FaultCounts) (j : Job) (r : Refusal) → IsNoCheck j → IsLateCause held reads reads' j r → ⊥
+no_late held reads reads' j (refusal.Environment x) plain late = late
+no_late held reads reads' j (refusal.Primitives x) plain late = late
+no_late held reads reads' j (refusal.TooWide x) plain late = late
+no_late held reads reads' j (refusal.TooDear x) plain late = late
+no_late held reads reads' j (refusal.Read input.Environment) plain late = late
+no_late held reads reads' j (refusal.Read input.Primitives) plain late = late
+no_late held reads reads' j (refusal.Read input.Labels) plain late = late_no_check held j (λ name. Rose (reads name) (reads' name)) plain late
+no_late held reads reads' j (refusal.Length input.Environment) plain late = late
+no_late held reads reads' j (refusal.Length input.Primitives) plain late = late
+no_late held reads reads' j (refusal.Length input.Labels) plain late = late_no_check held j (λ name. IsTooLong (held name)) plain late
+
+-- the file of labels that a check reads was not read: it failed, or it is too long
+pub late_of_check : (held : Told) (reads reads' : FaultCounts) (c : CheckJob) (wanted : ℕ) (r : Refusal) → (IsTooLong (held c.labels) → IsOrFailed wanted 8) → IsLateCause held reads reads' (job.Check c) r → IsOrFailed wanted (refusal_status r)
+late_of_check held reads reads' c wanted (refusal.Environment x) long late = absurd late
+late_of_check held reads reads' c wanted (refusal.Primitives x) long late = absurd late
+late_of_check held reads reads' c wanted (refusal.TooWide x) long late = absurd late
+late_of_check held reads reads' c wanted (refusal.TooDear x) long late = absurd late
+late_of_check held reads reads' c wanted (refusal.Read x) long late = failed_read wanted
+late_of_check held reads reads' c wanted (refusal.Length input.Environment) long late = absurd late
+late_of_check held reads reads' c wanted (refusal.Length input.Primitives) long late = absurd late
+late_of_check held reads reads' c wanted (refusal.Length input.Labels) long (w, says, at) = long at
 
 module _ (clear : TextsAreClear) (held : Told) (reads reads' : FaultCounts) (from : Sources) where
   -- a faulty environment
@@ -123,9 +182,10 @@ module _ (clear : TextsAreClear) (held : Told) (reads reads' : FaultCounts) (fro
   environment_faulty f tells (refusal.Read x) p = failed_read 3
   environment_faulty f tells (refusal.Length input.Environment) p = absurd (too_long_not_short _ tells.0 tells.1 p)
   environment_faulty f tells (refusal.Length input.Primitives) p = absurd (not_said clear held from f _ _ tells p.environment)
+  environment_faulty f tells (refusal.Length input.Labels) p = absurd p
 
-  pub environment_faulty_done : (f : EnvFault) → TellsEnvironmentFault held from f → (w : World) → SaysWorld held from w → IsOrFailed 3 0
-  environment_faulty_done f tells w p = absurd (not_said clear held from f _ _ tells p.environment)
+  pub environment_faulty_none : (f : EnvFault) → TellsEnvironmentFault held from f → (w : World) → SaysWorld held from w → ⊥
+  environment_faulty_none f tells w p = not_said clear held from f _ _ tells p.environment
 
   -- an environment file that is too long
   pub environment_long : TellsTooMuch (held from.env) → (r : Refusal) → IsCause held reads reads' from r → IsOrFailed 8 (refusal_status r)
@@ -136,8 +196,8 @@ module _ (clear : TextsAreClear) (held : Told) (reads reads' : FaultCounts) (fro
   environment_long much (refusal.Read x) p = failed_read 8
   environment_long much (refusal.Length x) p = inl refl
 
-  pub environment_long_done : TellsTooMuch (held from.env) → (w : World) → SaysWorld held from w → IsOrFailed 8 0
-  environment_long_done much w p = absurd (not_said_long held from _ _ much p.environment)
+  pub environment_long_none : TellsTooMuch (held from.env) → (w : World) → SaysWorld held from w → ⊥
+  environment_long_none much w p = not_said_long held from _ _ much p.environment
 
   -- a primitive file that is too long
   pub primitives_long : (env : Environment) → TellsEnvironment held from env → TellsTooMuch (held from.prims) → (r : Refusal) → IsCause held reads reads' from r → IsOrFailed 8 (refusal_status r)
@@ -148,8 +208,8 @@ module _ (clear : TextsAreClear) (held : Told) (reads reads' : FaultCounts) (fro
   primitives_long env told much (refusal.Read x) p = failed_read 8
   primitives_long env told much (refusal.Length x) p = inl refl
 
-  pub primitives_long_done : (env : Environment) → TellsEnvironment held from env → TellsTooMuch (held from.prims) → (w : World) → SaysWorld held from w → IsOrFailed 8 0
-  primitives_long_done env told much w p = absurd (too_much_not_read _ p.primitives.text much p.primitives.read)
+  pub primitives_long_none : (env : Environment) → TellsEnvironment held from env → TellsTooMuch (held from.prims) → (w : World) → SaysWorld held from w → ⊥
+  primitives_long_none env told much w p = too_much_not_read _ p.primitives.text much p.primitives.read
 
   -- faulty primitives
   pub primitives_faulty : (env : Environment) (f : PrimFault) → TellsEnvironment held from env → TellsPrimitiveFault held from env f → (r : Refusal) → IsCause held reads reads' from r → IsOrFailed 4 (refusal_status r)
@@ -160,9 +220,10 @@ module _ (clear : TextsAreClear) (held : Told) (reads reads' : FaultCounts) (fro
   primitives_faulty env f told tells (refusal.Read x) p = failed_read 4
   primitives_faulty env f told tells (refusal.Length input.Environment) p = absurd (environment_not_long held from env told p)
   primitives_faulty env f told tells (refusal.Length input.Primitives) p = absurd (too_long_not_short _ tells.0 tells.1 p.holds)
+  primitives_faulty env f told tells (refusal.Length input.Labels) p = absurd p
 
-  pub primitives_faulty_done : (env : Environment) (f : PrimFault) → TellsEnvironment held from env → TellsPrimitiveFault held from env f → (w : World) → SaysWorld held from w → IsOrFailed 4 0
-  primitives_faulty_done env f told tells w p = absurd (faulty_not_said clear held from env _ _ _ f told tells p.environment p.primitives)
+  pub primitives_faulty_none : (env : Environment) (f : PrimFault) → TellsEnvironment held from env → TellsPrimitiveFault held from env f → (w : World) → SaysWorld held from w → ⊥
+  primitives_faulty_none env f told tells w p = faulty_not_said clear held from env _ _ _ f told tells p.environment p.primitives
 
   -- good primitives, of which none, or one, passes a limit
   pub primitives_good : (env : Environment) (ps : Primitives) → TellsEnvironment held from env → TellsPrimitives held from env ps → (wanted : ℕ) → ((i : ℕ) → IsFirstTooWide ps from.radius i → IsOrFailed wanted 4) → ((i : ℕ) → NoneTooWide ps from.radius → IsFirstTooDear env ps.items i → IsOrFailed wanted 4) → (r : Refusal) → IsCause held reads reads' from r → IsOrFailed wanted (refusal_status r)
@@ -177,16 +238,17 @@ module _ (clear : TextsAreClear) (held : Told) (reads reads' : FaultCounts) (fro
   primitives_good env ps told tells wanted wide dear (refusal.Read x) p = failed_read wanted
   primitives_good env ps told tells wanted wide dear (refusal.Length input.Environment) p = absurd (environment_not_long held from env told p)
   primitives_good env ps told tells wanted wide dear (refusal.Length input.Primitives) p = absurd (too_long_not_short _ tells.0 tells.1 p.holds)
+  primitives_good env ps told tells wanted wide dear (refusal.Length input.Labels) p = absurd p
 
   -- a primitive that is too wide
-  pub too_wide_done : (env : Environment) (ps : Primitives) (i : ℕ) → TellsEnvironment held from env → TellsPrimitives held from env ps → IsFirstTooWide ps from.radius i → (w : World) → SaysWorld held from w → IsOrFailed 4 0
-  too_wide_done env ps i told tells wide w p =
+  pub too_wide_none : (env : Environment) (ps : Primitives) (i : ℕ) → TellsEnvironment held from env → TellsPrimitives held from env ps → IsFirstTooWide ps from.radius i → (w : World) → SaysWorld held from w → ⊥
+  too_wide_none env ps i told tells wide w p =
       let same = same_primitives clear held from env _ _ ps _ told tells p.environment p.primitives in
-      absurd (none_is_widest ps from.radius i (subst (λ (qs : Primitives). NoneTooWide qs from.radius) same p.narrow) wide)
+      none_is_widest ps from.radius i (subst (λ (qs : Primitives). NoneTooWide qs from.radius) same p.narrow) wide
 
   -- a primitive that is too dear
-  pub too_dear_done : (env : Environment) (ps : Primitives) (i : ℕ) → TellsEnvironment held from env → TellsPrimitives held from env ps → IsFirstTooDear env ps.items i → (w : World) → SaysWorld held from w → IsOrFailed 4 0
-  too_dear_done env ps i told tells dear w p =
+  pub too_dear_none : (env : Environment) (ps : Primitives) (i : ℕ) → TellsEnvironment held from env → TellsPrimitives held from env ps → IsFirstTooDear env ps.items i → (w : World) → SaysWorld held from w → ⊥
+  too_dear_none env ps i told tells dear w p =
       let same = same_primitives clear held from env _ _ ps _ told tells p.environment p.primitives in
       let like = same_environment clear held from env _ _ told p.environment in
-      absurd (none_is_first env ps i (subst (λ (e : Environment). NoneTooDear e ps) like (subst (λ (qs : Primitives). NoneTooDear w.env qs) same p.cheap)) dear)
+      none_is_first env ps i (subst (λ (e : Environment). NoneTooDear e ps) like (subst (λ (qs : Primitives). NoneTooDear w.env qs) same p.cheap)) dear

@@ -7,3 +7,5 @@ pub mod Runs
 pub mod Ends
 pub mod Makings
 pub mod Showing
+pub mod Verifying
+pub mod OneEnding

@@ -1,5 +1,5 @@
 -- What the files that a lattice is made of say, and why a job on it is refused.
-use Rattle.std.specs.Prelude.{◌≡◌, ℕ, ◌^◌, ◌<◌, ◌≤◌, List, length, slice_get, Option, Some, IfSome}
+use Rattle.std.specs.Prelude.{◌≡◌, ℕ, ◌^◌, ◌<◌, ◌≤◌, ◌⊎◌, List, length, slice_get, Option, Some, IfSome}
 use Rattle.sbpl_desk.specs.Desk.{Rose}
 use Rattle.sbpl_cfg.specs.declared.fault.EnvFault.{EnvFault}
 use Rattle.sbpl_cfg.specs.Environment.{Environment}
@@ -18,7 +18,10 @@ use Rattle.sbpl_cli.specs.declared.refusal.Refusal.{Refusal}
 use Rattle.sbpl_cli.specs.declared.refusal.Refusal.TheVariants as refusal
 use Rattle.sbpl_cli.specs.declared.refusal.Stop.{Stop}
 use Rattle.sbpl_cli.specs.declared.refusal.Stop.TheVariants as stop
+use Rattle.sbpl_cli.specs.declared.job.Job.{Job}
+use Rattle.sbpl_cli.specs.declared.job.Job.TheVariants as job
 use Rattle.sbpl_cli.specs.declared.job.PlanJob.{PlanJob}
+use Rattle.sbpl_cli.specs.Jobs.{sources_of}
 use Rattle.sbpl_cli.specs.declared.job.Sources.{Sources}
 use Rattle.sbpl_cli.specs.declared.record.PlanRecord.{PlanRecord}
 use Rattle.sbpl_cli.specs.Headline.{IsPlanOf}
@@ -125,8 +128,38 @@ IsCause held before after from (refusal.Read input.Environment) = Rose (before f
 IsCause held before after from (refusal.Read input.Primitives) = IsSecond held from (Rose (before from.prims) (after from.prims))
 IsCause held before after from (refusal.Length input.Environment) = IsTooLong (held from.env)
 IsCause held before after from (refusal.Length input.Primitives) = IsSecond held from (IsTooLong (held from.prims))
+IsCause held before after from (refusal.Read input.Labels) = ⊥
+IsCause held before after from (refusal.Length input.Labels) = ⊥
 
--- why a plan stopped before anything was written
+-- the files stand for a world, and this holds of the file of labels that the job `check` reads
+abbrev pub AtLabels : Told → Job → (List ℕ → Type 0) → Type 0
+AtLabels held (job.Plan j) P = ⊥
+AtLabels held (job.Check j) P = (w : World) × SaysWorld held j.sources w × P j.labels
+AtLabels held (job.Sweep from) P = ⊥
+
+-- why a job is refused once its lattice was made: its file of labels was not read
+abbrev pub IsLateCause : Told → FaultCounts → FaultCounts → Job → Refusal → Type 0
+IsLateCause held before after j (refusal.Environment f) = ⊥
+IsLateCause held before after j (refusal.Primitives f) = ⊥
+IsLateCause held before after j (refusal.TooWide place) = ⊥
+IsLateCause held before after j (refusal.TooDear place) = ⊥
+IsLateCause held before after j (refusal.Read input.Environment) = ⊥
+IsLateCause held before after j (refusal.Read input.Primitives) = ⊥
+IsLateCause held before after j (refusal.Read input.Labels) = AtLabels held j (λ name. Rose (before name) (after name))
+IsLateCause held before after j (refusal.Length input.Environment) = ⊥
+IsLateCause held before after j (refusal.Length input.Primitives) = ⊥
+IsLateCause held before after j (refusal.Length input.Labels) = AtLabels held j (λ name. IsTooLong (held name))
+
+-- why a job is refused
+abbrev pub IsJobCause : Told → FaultCounts → FaultCounts → Job → Refusal → Type 0
+IsJobCause held before after j r = IsCause held before after (sources_of j) r ⊎ IsLateCause held before after j r
+
+-- why a job stopped before anything was written
+abbrev pub JobStopsFor : Told → FaultCounts → FaultCounts → Job → Stop → Type 0
+JobStopsFor held before after j (stop.Refused r) = IsJobCause held before after j r
+JobStopsFor held before after j stop.NoMemory = Unit {0}
+
+-- why no lattice was made
 abbrev pub StopsFor : Told → FaultCounts → FaultCounts → Sources → Stop → Type 0
 StopsFor held before after from (stop.Refused r) = IsCause held before after from r
 StopsFor held before after from stop.NoMemory = Unit {0}
@@ -169,7 +202,9 @@ PrimitivesStopFor held before after from e (stop.Refused (refusal.TooWide place)
 PrimitivesStopFor held before after from e (stop.Refused (refusal.TooDear place)) = ⊥
 PrimitivesStopFor held before after from e (stop.Refused (refusal.Read input.Environment)) = ⊥
 PrimitivesStopFor held before after from e (stop.Refused (refusal.Read input.Primitives)) = Rose (before from.prims) (after from.prims)
+PrimitivesStopFor held before after from e (stop.Refused (refusal.Read input.Labels)) = ⊥
 PrimitivesStopFor held before after from e (stop.Refused (refusal.Length input.Environment)) = ⊥
+PrimitivesStopFor held before after from e (stop.Refused (refusal.Length input.Labels)) = ⊥
 PrimitivesStopFor held before after from e (stop.Refused (refusal.Length input.Primitives)) = IsTooLong (held from.prims)
 PrimitivesStopFor held before after from e stop.NoMemory = Unit {0}
 

@@ -1,5 +1,5 @@
 -- What a job comes to: what is to be written, and the status.
-use Rattle.std.specs.Prelude.{◌≡◌, ℕ, List, [], ◌∷◌, ◌++◌, map, Option, Some, None, codes, decimal}
+use Rattle.std.specs.Prelude.{◌≡◌, ℕ, ◌+◌, List, [], ◌∷◌, ◌++◌, map, Option, Some, None, codes, decimal}
 use Rattle.sbpl_cfg.specs.Faults as environments
 use Rattle.sbpl_mprim.specs.Faults as primitives
 use Rattle.sbpl_cli.specs.declared.refusal.Input.{Input}
@@ -7,23 +7,35 @@ use Rattle.sbpl_cli.specs.declared.refusal.Input.TheVariants as input
 use Rattle.sbpl_cli.specs.declared.refusal.Refusal.{Refusal}
 use Rattle.sbpl_cli.specs.declared.refusal.Refusal.TheVariants as refusal
 use Rattle.sbpl_cost.specs.World.{World}
+use Rattle.sbpl_cert.specs.Faults as faults
 use Rattle.sbpl_cert.specs.Printed as labels
+use Rattle.sbpl_cert.specs.declared.fault.LabelFault.{LabelFault}
+use Rattle.sbpl_cert.specs.declared.outcome.Outcome.{Outcome}
 use Rattle.sbpl_cert.specs.Sections.{Section}
 use Rattle.sbpl_cli.specs.declared.job.Job.{Job}
 use Rattle.sbpl_cli.specs.declared.job.Job.TheVariants as job
+use Rattle.sbpl_cli.specs.declared.checking.SectionStop.{SectionStop}
+use Rattle.sbpl_cli.specs.declared.checking.SectionStop.TheVariants as stop
 use Rattle.sbpl_cli.specs.declared.job.Outputs.{Outputs}
-use Rattle.sbpl_cli.specs.declared.job.Sources.{Sources}
 use Rattle.sbpl_cli.specs.declared.record.PlanRecord.{PlanRecord}
 use Rattle.sbpl_cli.specs.Jobs.{sources_of}
 use Rattle.sbpl_cli.specs.Listing.{listings}
 use Rattle.sbpl_cli.specs.Report.{line_feed, section_text, done_text}
 use Rattle.sbpl_cli.specs.Traces.{trace_text}
+use Rattle.sbpl_cli.specs.Verdicts.{flaw_text, holds_text}
 use Rattle.sbpl_cli.specs.Writing.{Write, to_named, to_output}
 
--- the name of a file
-abbrev pub input_name : Sources → Input → List ℕ
-input_name from input.Environment = from.env
-input_name from input.Primitives = from.prims
+-- the name of the file of labels that a job reads; empty where it reads none
+abbrev pub labels_name : Job → List ℕ
+labels_name (job.Plan j) = []
+labels_name (job.Check j) = j.labels
+labels_name (job.Sweep from) = []
+
+-- the name of a file that a job reads
+abbrev pub input_name : Job → Input → List ℕ
+input_name j input.Environment = (sources_of j).env
+input_name j input.Primitives = (sources_of j).prims
+input_name j input.Labels = labels_name j
 
 -- the statuses of refusals
 abbrev pub refusal_status : Refusal → ℕ
@@ -47,19 +59,20 @@ unfoldable pub unread_text : List ℕ → List ℕ → List ℕ
 unread_text why name = codes "refused " ++ (why ++ (codes " " ++ (name ++ line_feed)))
 
 -- the line of a refusal
-abbrev pub refusal_text : Sources → Refusal → List ℕ
-refusal_text from (refusal.Environment f) = fault_text (codes "environment") (environments.number_of f) (environments.name_of f) (environments.place_of f)
-refusal_text from (refusal.Primitives f) = fault_text (codes "primitives") (primitives.number_of f) (primitives.name_of f) (primitives.place_of f)
-refusal_text from (refusal.TooWide i) = fault_text (codes "primitives") 14 (codes "TooWide") i
-refusal_text from (refusal.TooDear i) = fault_text (codes "primitives") 15 (codes "TooDear") i
-refusal_text from (refusal.Read i) = unread_text (codes "read") (input_name from i)
-refusal_text from (refusal.Length i) = unread_text (codes "length") (input_name from i)
+abbrev pub refusal_text : Job → Refusal → List ℕ
+refusal_text j (refusal.Environment f) = fault_text (codes "environment") (environments.number_of f) (environments.name_of f) (environments.place_of f)
+refusal_text j (refusal.Primitives f) = fault_text (codes "primitives") (primitives.number_of f) (primitives.name_of f) (primitives.place_of f)
+refusal_text j (refusal.TooWide i) = fault_text (codes "primitives") 14 (codes "TooWide") i
+refusal_text j (refusal.TooDear i) = fault_text (codes "primitives") 15 (codes "TooDear") i
+refusal_text j (refusal.Read i) = unread_text (codes "read") (input_name j i)
+refusal_text j (refusal.Length i) = unread_text (codes "length") (input_name j i)
 
--- What a job comes to: it is refused; a plan was made; the sweeps of a world are listed; or memory runs out before anything
--- is written.
+-- What a job comes to: it is refused; a plan was made; sections of labels for this goal were checked, of which those with
+-- these outcomes hold, and then it ended so; the sweeps of a world are listed; or memory runs out before anything is written.
 pub data Intent : Type 0 where
   Refused : Refusal → Intent
   Planned : PlanRecord → Intent
+  Checked : (goal : ℕ) → List Outcome → Option SectionStop → Intent
   Listed : World → Intent
   OutOfMemory : Intent
 
@@ -88,6 +101,33 @@ section_writes o plan = to_output (section_text plan) ∷ (labels_writes o plan 
 abbrev pub plan_writes : Outputs → PlanRecord → List Write
 plan_writes o plan = section_writes o plan ++ last_write ∷ []
 
+-- the line of a fault in a text of labels
+abbrev pub label_fault_text : LabelFault → List ℕ
+label_fault_text f = fault_text (codes "labels") (faults.number_of f) (faults.name_of f) (faults.place_of f)
+
+-- the write that says why the checking of sections ends, where memory does not run out
+abbrev pub stop_writes : (goal plan : ℕ) → SectionStop → List Write
+stop_writes goal plan (stop.Flaw f) = to_output (flaw_text goal plan f) ∷ []
+stop_writes goal plan (stop.Fault f) = to_output (label_fault_text f) ∷ []
+stop_writes goal plan stop.NoMemory = []
+
+-- its status
+abbrev pub stop_status : SectionStop → ℕ
+stop_status (stop.Flaw f) = 1
+stop_status (stop.Fault f) = 10
+stop_status stop.NoMemory = 9
+
+-- the writes of a check: a line for each section that holds, and then the last line, or why it ends
+abbrev pub checked_writes : (goal plan : ℕ) → List Outcome → Option SectionStop → List Write
+checked_writes goal plan [] None = last_write ∷ []
+checked_writes goal plan [] (Some s) = stop_writes goal plan s
+checked_writes goal plan (o ∷ os) end = to_output (holds_text plan o) ∷ checked_writes goal (plan + 1) os end
+
+-- the status of a check
+abbrev pub checked_status : Option SectionStop → ℕ
+checked_status None = 0
+checked_status (Some s) = stop_status s
+
 -- the writes of a list of sweeps: one for each primitive, and the last line
 abbrev pub listing_writes : World → List Write
 listing_writes w = map to_output (listings w) ++ last_write ∷ []
@@ -97,18 +137,20 @@ abbrev pub words_writes : List Write
 words_writes = to_output words_text ∷ []
 
 -- the writes of a refusal
-abbrev pub refusal_writes : Sources → Refusal → List Write
-refusal_writes from r = to_output (refusal_text from r) ∷ []
+abbrev pub refusal_writes : Job → Refusal → List Write
+refusal_writes j r = to_output (refusal_text j r) ∷ []
 
 -- where a job's plans are written beside the report
 abbrev pub outputs_of : Job → Outputs
 outputs_of (job.Plan j) = j.outputs
+outputs_of (job.Check j) = record { labels = None; trace = None }
 outputs_of (job.Sweep from) = record { labels = None; trace = None }
 
 -- what is to be written
 abbrev pub writes_of : Job → Intent → List Write
-writes_of j (Refused r) = refusal_writes (sources_of j) r
+writes_of j (Refused r) = refusal_writes j r
 writes_of j (Planned plan) = plan_writes (outputs_of j) plan
+writes_of j (Checked goal os end) = checked_writes goal 0 os end
 writes_of j (Listed w) = listing_writes w
 writes_of j OutOfMemory = []
 
@@ -116,5 +158,6 @@ writes_of j OutOfMemory = []
 abbrev pub intent_status : Intent → ℕ
 intent_status (Refused r) = refusal_status r
 intent_status (Planned plan) = 0
+intent_status (Checked goal os end) = checked_status end
 intent_status (Listed w) = 0
 intent_status OutOfMemory = 9

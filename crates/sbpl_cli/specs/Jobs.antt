@@ -23,7 +23,8 @@ use Rattle.sbpl_cli.specs.Words.{Parts, parts_of, value_of}
 abbrev pub command_named : List ℕ → Option Command
 command_named word =
     if bytes_eq word (codes "plan") then Some command.Plan
-    else (if bytes_eq word (codes "sweep") then Some command.Sweep else None)
+    else (if bytes_eq word (codes "check") then Some command.Check
+    else (if bytes_eq word (codes "sweep") then Some command.Sweep else None))
 
 -- a number of nanometres, 0 to 10 ^ 12
 abbrev pub radius_in : Result ℤ NumFault → Option ℕ
@@ -124,6 +125,9 @@ plan_in from given =
 abbrev pub job_on : Command → Sources → List (List ℕ) → List Given → Option Job
 job_on command.Plan from [] given = plan_in from given
 job_on command.Plan from (word ∷ words) given = None
+job_on command.Check from [] given = None
+job_on command.Check from (labels ∷ []) given = Some (job.Check (record { sources = from; labels = labels }))
+job_on command.Check from (labels ∷ (word ∷ words)) given = None
 job_on command.Sweep from [] given = Some (job.Sweep from)
 job_on command.Sweep from (word ∷ words) given = None
 
@@ -144,6 +148,7 @@ job_of (word ∷ words) = option_and_then (λ c. option_and_then (job_by c) (par
 -- what the lattice of a job is made of
 abbrev pub sources_of : Job → Sources
 sources_of (job.Plan plan) = plan.sources
+sources_of (job.Check check) = check.sources
 sources_of (job.Sweep sources) = sources
 
 -- inflations, the bound and the budget lie in their ranges
@@ -159,6 +164,7 @@ pub record IsSearchJob (s : SearchJob) : Type 0 where
 -- the numbers of a job lie in their ranges
 abbrev pub IsJob : Job → Type 0
 IsJob (job.Plan plan) = (plan.sources.radius ≤ 10 ^ 12) × IsSearchJob plan.search
+IsJob (job.Check check) = check.sources.radius ≤ 10 ^ 12
 IsJob (job.Sweep sources) = sources.radius ≤ 10 ^ 12
 
 -- what a plan is asked for

@@ -4,6 +4,8 @@ pub mod Jobs
 pub mod Writing
 pub mod Report
 pub mod Traces
+pub mod Verdicts
+pub mod Checked
 pub mod Listing
 pub mod Intents
 pub mod Texts

@@ -1,18 +1,30 @@
 -- What the program promises of its status and of what it writes.
-use Rattle.std.specs.Prelude.{◌≡◌, ℕ, ◌^◌, ◌<◌, ◌≤◌, ◌⊎◌, List, [], ◌∷◌, length, Option, Some, None}
+use Rattle.std.specs.Prelude.{◌≡◌, ℕ, ◌+◌, ◌^◌, ◌<◌, ◌≤◌, ◌⊎◌, List, [], ◌∷◌, length, Option, Some, None}
 use Rattle.sbpl_cfg.specs.declared.fault.EnvFault.{EnvFault}
 use Rattle.sbpl_cfg.specs.Environment.{Environment}
 use Rattle.sbpl_mprim.specs.declared.fault.PrimFault.{PrimFault}
 use Rattle.sbpl_mprim.specs.Primitives.{Primitives}
+use Rattle.sbpl_graph.specs.Network.{Network}
+use Rattle.sbpl_fixed.specs.Formats.{Left, start_at}
+use Rattle.sbpl_cost.specs.Arc.{HasLatticeArcs}
+use Rattle.sbpl_cost.specs.Lattices.{network_of}
 use Rattle.sbpl_cost.specs.World.{IsWorld, World}
+use Rattle.sbpl_cert.specs.declared.fault.LabelFault.{LabelFault}
+use Rattle.sbpl_cert.specs.declared.flaw.Flaw.{Flaw}
+use Rattle.sbpl_cert.specs.declared.outcome.Outcome.{Outcome}
+use Rattle.sbpl_cli.specs.declared.checking.SectionStop.{SectionStop}
+use Rattle.sbpl_cli.specs.declared.checking.SectionStop.TheVariants as section
+use Rattle.sbpl_cli.specs.declared.job.CheckJob.{CheckJob}
+use Rattle.sbpl_cli.specs.Checked.{AreChecked}
+use Rattle.sbpl_cli.specs.Headline.{IsStateOf}
 use Rattle.sbpl_cli.specs.declared.job.Job.{Job}
 use Rattle.sbpl_cli.specs.declared.job.Job.TheVariants as job
 use Rattle.sbpl_cli.specs.declared.job.PlanJob.{PlanJob}
 use Rattle.sbpl_cli.specs.declared.job.Sources.{Sources}
 use Rattle.sbpl_cli.specs.declared.record.PlanRecord.{PlanRecord}
 use Rattle.sbpl_cli.specs.declared.refusal.Refusal.{Refusal}
-use Rattle.sbpl_cli.specs.Causes.{IsCause, IsPlanned, SaysWorld}
-use Rattle.sbpl_cli.specs.Intents.{Intent, Refused, Planned, Listed, OutOfMemory, intent_status, listing_writes, plan_writes, refusal_status, refusal_writes, words_writes, writes_of}
+use Rattle.sbpl_cli.specs.Causes.{IsJobCause, IsPlanned, IsRead, SaysWorld}
+use Rattle.sbpl_cli.specs.Intents.{Intent, Refused, Planned, Checked, Listed, OutOfMemory, checked_status, checked_writes, intent_status, listing_writes, plan_writes, refusal_status, refusal_writes, words_writes, writes_of}
 use Rattle.sbpl_cli.specs.Jobs.{sources_of}
 use Rattle.sbpl_cli.specs.Texts.{HasEnvironmentFault, HasPrimitiveFault, IsEnvironmentText, IsPrimitiveText}
 use Rattle.sbpl_desk.specs.Desk.{Rose}
@@ -35,24 +47,66 @@ pub record IsListed (held before after : Told) (from : Sources) : Type 0 where
   pub is_world : IsWorld world
   pub lines : AreMade before after (listing_writes world)
 
+-- in a world the text of a file of labels, for this goal, is checked: sections with these outcomes hold, and it ends so
+pub record IsCheckedIn (w : World) (text : List ℕ) (goal : ℕ) (os : List Outcome) (end : Option SectionStop) : Type 0 where
+  pub start : ℕ
+  pub start_is : IsStateOf w.env w.env.start start
+  pub goal_is : IsStateOf w.env w.env.end goal
+  pub checked : AreChecked (network_of w ∷ []) start goal 0 (start_at text 0) os end
+
+-- the files stand for a world, whose graph has just the arcs that the primitives make on the map, and in it the file of labels is checked so
+pub record IsChecked (held : Told) (j : CheckJob) (goal : ℕ) (os : List Outcome) (end : Option SectionStop) : Type 0 where
+  pub world : World
+  pub says : SaysWorld held j.sources world
+  pub is_world : IsWorld world
+  pub arcs : HasLatticeArcs (network_of world) world
+  pub text : List ℕ
+  pub read : IsRead (held j.labels) text
+  pub in_world : IsCheckedIn world text goal os end
+
+-- sections of labels were checked, which ended so, and their lines were written
+pub record IsJudged (held before after : Told) (end : Option SectionStop) (j : CheckJob) : Type 0 where
+  pub goal : ℕ
+  pub outcomes : List Outcome
+  pub checked : IsChecked held j goal outcomes end
+  pub lines : AreMade before after (checked_writes goal 0 outcomes end)
+
+-- the job `check` found this flaw, and said so
+abbrev pub IsFlawFound : Told → Told → Told → Job → Type 0
+IsFlawFound held before after (job.Plan j) = ⊥
+IsFlawFound held before after (job.Check j) = (f : Flaw) × IsJudged held before after (Some (section.Flaw f)) j
+IsFlawFound held before after (job.Sweep from) = ⊥
+
+-- the job `check` found this fault in the text of the labels, and said so
+abbrev pub IsFaultFound : Told → Told → Told → Job → Type 0
+IsFaultFound held before after (job.Plan j) = ⊥
+IsFaultFound held before after (job.Check j) = (f : LabelFault) × IsJudged held before after (Some (section.Fault f)) j
+IsFaultFound held before after (job.Sweep from) = ⊥
+
 -- the job was done, and what came of it was written
 abbrev pub IsDone : Told → Told → Told → Job → Type 0
 IsDone held before after (job.Plan j) = IsReported held before after j
+IsDone held before after (job.Check j) = IsJudged held before after None j
 IsDone held before after (job.Sweep from) = IsListed held before after from
 
 -- the job was refused with this status, for a cause, and the line of the refusal was written
 pub record IsRefused (held : Told) (reads reads' : FaultCounts) (before after : Told) (status : ℕ) (j : Job) : Type 0 where
   pub refusal : Refusal
   pub has_status : refusal_status refusal ≡ status
-  pub cause : IsCause held reads reads' (sources_of j) refusal
-  pub line : AreMade before after (refusal_writes (sources_of j) refusal)
+  pub cause : IsJobCause held reads reads' j refusal
+  pub line : AreMade before after (refusal_writes j refusal)
 
 -- a job comes to this
 abbrev pub ComesTo : Told → FaultCounts → FaultCounts → Job → Intent → Type 0
-ComesTo held reads reads' j (Refused r) = IsCause held reads reads' (sources_of j) r
+ComesTo held reads reads' j (Refused r) = IsJobCause held reads reads' j r
 ComesTo held reads reads' (job.Plan j) (Planned plan) = IsPlanned held j plan
+ComesTo held reads reads' (job.Check j) (Planned plan) = ⊥
 ComesTo held reads reads' (job.Sweep from) (Planned plan) = ⊥
+ComesTo held reads reads' (job.Plan j) (Checked goal os end) = ⊥
+ComesTo held reads reads' (job.Check j) (Checked goal os end) = IsChecked held j goal os end
+ComesTo held reads reads' (job.Sweep from) (Checked goal os end) = ⊥
 ComesTo held reads reads' (job.Plan j) (Listed w) = ⊥
+ComesTo held reads reads' (job.Check j) (Listed w) = ⊥
 ComesTo held reads reads' (job.Sweep from) (Listed w) = SaysWorld held from w × IsWorld w
 ComesTo held reads reads' j OutOfMemory = Unit {0}
 
@@ -74,6 +128,19 @@ pub record EndsJob (held : Told) (reads reads' : FaultCounts) (before after : To
   pub comes : ComesTo held reads reads' j intent
   pub ends : EndsAs before after faults faults' (writes_of j intent) (intent_status intent) status
 
+-- how the checking of sections, for these graphs in turn, the first of this plan, ends by the program's status
+pub record EndsSections (ns : List Network) (start goal plan : ℕ) (left : Left) (before after : Told) (faults faults' : FaultCounts) (status : ℕ) : Type 0 where
+  pub outcomes : List Outcome
+  pub end : Option SectionStop
+  pub checked : AreChecked ns start goal plan left outcomes end
+  pub ends : EndsAs before after faults faults' (checked_writes goal plan outcomes end) (checked_status end) status
+
+-- how a run goes on behind the section of the last plan, which holds with this outcome
+pub record GoesOn (start goal plan : ℕ) (outcome : Outcome) (left : Left) (before after : Told) (faults faults' : FaultCounts) (status : ℕ) : Type 0 where
+  pub end : Option SectionStop
+  pub checked : AreChecked [] start goal (plan + 1) left [] end
+  pub ends : EndsAs before after faults faults' (checked_writes goal plan (outcome ∷ []) end) (checked_status end) status
+
 -- how a run ends, whose words name a job or none
 pub data EndsRun (named : Option Job) (held : Told) (reads reads' : FaultCounts) (before after : Told) (faults faults' : FaultCounts) (status : ℕ) : Type 0 where
   by_job : (j : Job) → named ≡ Some j → EndsJob held reads reads' before after faults faults' j status → EndsRun named held reads reads' before after faults faults' status
@@ -84,6 +151,7 @@ pub data EndsRun (named : Option Job) (held : Told) (reads reads' : FaultCounts)
 abbrev pub MayBeWritten : Option Job → List ℕ → Type 0
 MayBeWritten None name = IsOutput name
 MayBeWritten (Some (job.Plan j)) name = IsOutputOf j.outputs name
+MayBeWritten (Some (job.Check j)) name = IsOutput name
 MayBeWritten (Some (job.Sweep from)) name = IsOutput name
 
 -- a write under a name that the job may write under failed in this call
@@ -92,7 +160,7 @@ SomeRose named faults faults' = (name : List ℕ) × MayBeWritten named name × 
 
 -- the statuses of the program
 abbrev pub IsStatus : ℕ → Type 0
-IsStatus s = (s ≡ 0) ⊎ ((s ≡ 2) ⊎ ((s ≡ 3) ⊎ ((s ≡ 4) ⊎ ((s ≡ 6) ⊎ ((s ≡ 7) ⊎ ((s ≡ 8) ⊎ (s ≡ 9)))))))
+IsStatus s = (s ≡ 0) ⊎ ((s ≡ 1) ⊎ ((s ≡ 2) ⊎ ((s ≡ 3) ⊎ ((s ≡ 4) ⊎ ((s ≡ 6) ⊎ ((s ≡ 7) ⊎ ((s ≡ 8) ⊎ ((s ≡ 9) ⊎ (s ≡ 10)))))))))
 
 -- the status is this one, unless a read or a write failed or memory ran out
 abbrev pub IsOrFailed : ℕ → ℕ → Type 0
@@ -126,3 +194,16 @@ TellsPrimitiveFault held from e f = (text : List ℕ) × Tells (held from.prims)
 -- the desk tells that the primitive file stands for these primitives, for an environment
 abbrev pub TellsPrimitives : Told → Sources → Environment → Primitives → Type 0
 TellsPrimitives held from e ps = (text : List ℕ) × Tells (held from.prims) text × IsPrimitiveText e text ps
+
+-- the desk tells that the files stand for this world
+pub record TellsWorld (held : Told) (from : Sources) (w : World) : Type 0 where
+  pub environment : TellsEnvironment held from w.env
+  pub primitives : TellsPrimitives held from w.env w.prims
+  pub says : SaysWorld held from w
+  pub is_world : IsWorld w
+
+-- the job is another than `check`
+abbrev pub IsNoCheck : Job → Type 0
+IsNoCheck (job.Plan j) = Unit {0}
+IsNoCheck (job.Check j) = ⊥
+IsNoCheck (job.Sweep from) = Unit {0}

@@ -57,6 +57,7 @@ setting_named word =
 -- a command takes a setting
 abbrev pub takes : Command → Setting → Bool
 takes command.Plan s = true
+takes command.Check s = is_setting s setting.Radius
 takes command.Sweep s = is_setting s setting.Radius
 
 -- the setting of this name, where the command takes it

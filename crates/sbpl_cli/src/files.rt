@@ -14,7 +14,7 @@ use sbpl_mprim::{PrimFault, Prims, read_prims};
 use std::alloc::Global;
 
 /// The bytes of a file.
-fn read_file<D: Desk>(
+pub(crate) fn read_file<D: Desk>(
     alloc: Global,
     name: &Name,
     input: Input,

@@ -6,7 +6,7 @@ ghost use Rattle.sbpl_fixed.specs.Numbers.{nano_of, whole_of};
 ghost use Rattle.sbpl_cli.specs.declared.job.Job.TheVariants as Jobs;
 ghost use Rattle.sbpl_cli.specs.declared.job.JobFault.TheVariants.{NoMemory};
 ghost use Rattle.sbpl_cli.specs.declared.words.Setting.TheVariants as Settings;
-ghost use Rattle.sbpl_cli.specs.Jobs.{IsJob, IsSearchJob, budget_by, budget_in, command_named, is_input, job_by, job_of, job_on, milli_by, milli_from, milli_in, output_by, outputs_by, outputs_in, plan_in, planner_by, planner_named, radius_by, radius_in, search_in, sources_in};
+ghost use Rattle.sbpl_cli.specs.Jobs.{IsJob, IsSearchJob, budget_by, budget_in, command_named, is_input, job_by, job_of, job_on, milli_by, milli_from, milli_in, output_by, outputs_by, outputs_in, plan_in, planner_by, planner_named, radius_by, radius_in, search_in, sources_in, sources_of};
 ghost use Rattle.sbpl_cli.specs.Words.{Names, value_of};
 
 use crate::name::Name;
@@ -67,13 +67,37 @@ pub struct PlanJob {
     pub outputs: Outputs,
 }
 
+/// The job `check`: check the labels that a plan wrote.
+#[derive(Debug, Drop)]
+pub struct CheckJob {
+    /// What the lattice is made of.
+    pub sources: Sources,
+    /// The file of labels.
+    pub labels: Name,
+}
+
 /// A job of the program.
 #[derive(Debug, Drop)]
 pub enum Job {
     /// Plan a path.
     Plan(PlanJob),
+    /// Check the labels of a plan.
+    Check(CheckJob),
     /// List what each primitive costs and sweeps.
     Sweep(Sources),
+}
+
+impl Job {
+    /// What the lattice of the job is made of.
+    pub fn sources(&self) -> &Sources
+        ensures sources { result.now ≡ sources_of self.now }
+    {
+        match self {
+            Job::Plan(job) => &job.sources,
+            Job::Check(job) => &job.sources,
+            Job::Sweep(sources) => sources,
+        }
+    }
 }
 
 /// Why there is no job.
@@ -115,6 +139,7 @@ fn command_named(word: &str) -> Option<Command>
 {
     match word {
         "plan" => Some(Command::Plan),
+        "check" => Some(Command::Check),
         "sweep" => Some(Command::Sweep),
         _ => None,
     }
@@ -348,6 +373,18 @@ fn plan_of(alloc: Global, sources: Sources, line: &Line) -> Result<Job, JobFault
     }))
 }
 
+/// The job `check` of this file of labels.
+fn check_of(alloc: Global, sources: Sources, labels: &Name) -> Result<Job, JobFault>
+    requires range { sources.radius ≤ 10 ^ 12 }
+    ensures job { Names (Some (Jobs.Check (record { sources = sources; labels = labels.now }))) result }
+    ensures range { IfOk result IsJob }
+{
+    Ok(Job::Check(CheckJob {
+        sources,
+        labels: Name::of(alloc, labels.as_str())?,
+    }))
+}
+
 /// The job of a command on these sources, with the plain words that are left.
 fn job_on(
     alloc: Global,
@@ -362,6 +399,7 @@ fn job_on(
 {
     match (command, words) {
         (Command::Plan, []) => plan_of(alloc, sources, line),
+        (Command::Check, [labels]) => check_of(alloc, sources, labels),
         (Command::Sweep, []) => Ok(Job::Sweep(sources)),
         _ => Err(JobFault::Words),
     }

@@ -1,7 +1,10 @@
 //! The program's top call: from the words to the written bytes.
 #![tactic(auto)]
 
+mod check;
+mod checking;
 mod files;
+mod flaw;
 mod job;
 mod labels;
 mod lattice;
@@ -10,6 +13,7 @@ mod listing;
 mod name;
 mod parts;
 mod plan;
+mod poses;
 mod record;
 mod refusal;
 mod refusing;
@@ -19,7 +23,8 @@ mod trace;
 mod words;
 mod writing;
 
-pub use job::{Job, JobFault, Outputs, PlanJob, Planner, SearchJob, Sources, read_job};
+pub use checking::SectionStop;
+pub use job::{CheckJob, Job, JobFault, Outputs, PlanJob, Planner, SearchJob, Sources, read_job};
 pub use name::Name;
 pub use parts::Steps;
 pub use record::{Outcome, PathRecord, PlanRecord, Step};

@@ -16,11 +16,11 @@ use crate::job::PlanJob;
 use crate::labels::labels_of;
 use crate::lattice::read_lattice;
 use crate::parts::Steps;
+use crate::poses::ends_of;
 use crate::record::{Outcome, PathRecord, PlanRecord, Step};
 use crate::refusal::Stop;
 use sbpl_ara::Ara;
 use sbpl_cert::LabelSet;
-use sbpl_cfg::place_at;
 use sbpl_cost::{Lattice, lattice_has_its_arcs};
 use sbpl_desk::Desk;
 use sbpl_fixed::NoMemory;
@@ -202,11 +202,7 @@ fn plan_on(alloc: Global, lattice: &Lattice, job: &PlanJob) -> Result<PlanRecord
     requires search { IsSearchJob job.now.search }
     ensures planned { IfOk result (IsPlanOf lattice.now job.now) }
 {
-    let env = lattice.env();
-    let start = place_at(env, &env.start).unwrap();
-    let goal = place_at(env, &env.end).unwrap();
-    let start = lattice.state_of(&start).unwrap();
-    let goal = lattice.state_of(&goal).unwrap();
+    let (start, goal) = ends_of(lattice);
     plan_between(alloc, lattice, job, start, goal)
 }
 

@@ -11,6 +11,7 @@ use sbpl_mprim::PrimFault;
 pub enum Input {
     Environment,
     Primitives,
+    Labels,
 }
 
 /// Why a job is refused, once the words have named it.

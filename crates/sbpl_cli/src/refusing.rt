@@ -1,12 +1,12 @@
 //! The lines of refusals.
 
 ghost use Rattle.std.specs.Prelude.{◌≡◌, ◌++◌, OnOk, IfOk};
-ghost use Rattle.sbpl_cli.specs.Intents.{fault_text, input_name, refusal_text, unread_text};
+ghost use Rattle.sbpl_cli.specs.Intents.{fault_text, input_name, label_fault_text, labels_name, refusal_text, unread_text};
 
-use crate::job::Sources;
-use crate::name::Name;
+use crate::job::Job;
 use crate::refusal::{Input, Refusal};
 use crate::report::{push_bytes, push_field};
+use sbpl_cert::LabelFault;
 use sbpl_fixed::NoMemory;
 use std::alloc::Global;
 
@@ -32,29 +32,40 @@ fn push_fault(
 
 /// Appends the line for a file that was not read.
 #[tactic(auto, unfolding(crate::specs::Intents::unread_text))]
-fn push_unread(out: &mut Vec<u8>, why: &[u8], name: &Name) -> Result<(), NoMemory>
+fn push_unread(out: &mut Vec<u8>, why: &[u8], name: &str) -> Result<(), NoMemory>
     ensures appended { OnOk result (out.new.items ≡ out.old.items ++ unread_text why.now name.now) }
 {
     push_bytes(out, b"refused ")?;
     push_bytes(out, why)?;
     push_bytes(out, b" ")?;
-    push_bytes(out, name.as_str().as_bytes())?;
+    push_bytes(out, name.as_bytes())?;
     push_bytes(out, b"\n")
 }
 
-/// The name of a file.
-fn name_of<'a>(from: &'a Sources, input: Input) -> &'a Name
-    ensures name { result.now ≡ input_name from.now input }
+/// The name of the file of labels that a job reads; empty where it reads none.
+fn labels_name(job: &Job) -> &str
+    ensures name { result.now ≡ labels_name job.now }
+{
+    match job {
+        Job::Check(check) => check.labels.as_str(),
+        Job::Plan(_) | Job::Sweep(_) => "",
+    }
+}
+
+/// The name of a file that a job reads.
+fn name_of(job: &Job, input: Input) -> &str
+    ensures name { result.now ≡ input_name job.now input }
 {
     match input {
-        Input::Environment => &from.env,
-        Input::Primitives => &from.prims,
+        Input::Environment => job.sources().env.as_str(),
+        Input::Primitives => job.sources().prims.as_str(),
+        Input::Labels => labels_name(job),
     }
 }
 
 /// Appends the line of a refusal.
-fn push_refusal(out: &mut Vec<u8>, from: &Sources, refusal: &Refusal) -> Result<(), NoMemory>
-    ensures appended { OnOk result (out.new.items ≡ out.old.items ++ refusal_text from.now refusal.now) }
+fn push_refusal(out: &mut Vec<u8>, job: &Job, refusal: &Refusal) -> Result<(), NoMemory>
+    ensures appended { OnOk result (out.new.items ≡ out.old.items ++ refusal_text job.now refusal.now) }
 {
     match refusal {
         Refusal::Environment(fault) => push_fault(
@@ -73,16 +84,31 @@ fn push_refusal(out: &mut Vec<u8>, from: &Sources, refusal: &Refusal) -> Result<
         ),
         Refusal::TooWide(prim) => push_fault(out, b"primitives", 14, "TooWide", u64::from(*prim)),
         Refusal::TooDear(prim) => push_fault(out, b"primitives", 15, "TooDear", u64::from(*prim)),
-        Refusal::Read(input) => push_unread(out, b"read", name_of(from, *input)),
-        Refusal::Length(input) => push_unread(out, b"length", name_of(from, *input)),
+        Refusal::Read(input) => push_unread(out, b"read", name_of(job, *input)),
+        Refusal::Length(input) => push_unread(out, b"length", name_of(job, *input)),
     }
 }
 
 /// The line of a refusal.
-pub(crate) fn line_of(alloc: Global, from: &Sources, refusal: &Refusal) -> Result<Vec<u8>, NoMemory>
-    ensures text { IfOk result (λ line. line.items ≡ refusal_text from.now refusal.now) }
+pub(crate) fn line_of(alloc: Global, job: &Job, refusal: &Refusal) -> Result<Vec<u8>, NoMemory>
+    ensures text { IfOk result (λ line. line.items ≡ refusal_text job.now refusal.now) }
 {
     let mut line = Vec::new(alloc);
-    push_refusal(&mut line, from, refusal)?;
+    push_refusal(&mut line, job, refusal)?;
+    Ok(line)
+}
+
+/// The line of a fault in a text of labels.
+pub(crate) fn fault_line(alloc: Global, fault: &LabelFault) -> Result<Vec<u8>, NoMemory>
+    ensures text { IfOk result (λ line. line.items ≡ label_fault_text fault.now) }
+{
+    let mut line = Vec::new(alloc);
+    push_fault(
+        &mut line,
+        b"labels",
+        fault.number(),
+        fault.name(),
+        fault.place() as u64,
+    )?;
     Ok(line)
 }

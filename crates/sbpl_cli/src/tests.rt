@@ -407,7 +407,7 @@ fn words(rt: HostRuntime) -> Result<(), Fail> {
         &["plan", "e", "m", "--changes", "c"],
         &["plan", "e", "m", "--radius0"],
         &["sweep", "e", "m", "--labels", "l"],
-        &["check", "e", "m", "l"],
+        &["check", "e", "m"],
         &["plan", "e", "m", "--bound", "1.0005"],
         &["plan", "e", "m", "--bound", "0.999"],
         &["plan", "e", "m", "--first", "100.001"],

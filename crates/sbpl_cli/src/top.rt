@@ -1,6 +1,6 @@
 //! The top call.
 
-ghost use Rattle.std.specs.Prelude.{◌≡◌, ◌≢◌, ◌⊎◌, ◌∷◌, ◌++◌, ℕ, List, [], None, Some, map, string_bytes};
+ghost use Rattle.std.specs.Prelude.{◌≡◌, ◌≢◌, ◌⊎◌, ◌∷◌, ◌++◌, ℕ, List, [], None, Option, Some, IfErr, IfOk, OnErr, map, string_bytes};
 ghost use Rattle.sbpl_cfg.specs.Environment.{Environment};
 ghost use Rattle.sbpl_cfg.specs.declared.fault.EnvFault.{EnvFault};
 ghost use Rattle.sbpl_cost.specs.PrimitiveCost.{IsFirstTooDear};
@@ -8,15 +8,21 @@ ghost use Rattle.sbpl_desk.specs.Desk.{NoneFalls, Rose, Stays};
 ghost use Rattle.sbpl_mprim.specs.Primitives.{Primitives};
 ghost use Rattle.sbpl_mprim.specs.declared.fault.PrimFault.{PrimFault};
 ghost use Rattle.sbpl_sweep.specs.Widths.{IsFirstTooWide, NoneTooWide};
+ghost use Rattle.sbpl_cert.specs.declared.outcome.Outcome.{Outcome};
+ghost use Rattle.sbpl_cost.specs.World.{World};
+ghost use Rattle.sbpl_cli.specs.declared.checking.SectionStop.{SectionStop};
+ghost use Rattle.sbpl_cli.specs.declared.checking.SectionStop.TheVariants as Stops;
+ghost use Rattle.sbpl_cli.specs.declared.job.CheckJob.{CheckJob};
 ghost use Rattle.sbpl_cli.specs.declared.job.Job.{Job};
 ghost use Rattle.sbpl_cli.specs.declared.job.Job.TheVariants as Jobs;
-ghost use Rattle.sbpl_cli.specs.Causes.{NoneTooDear};
-ghost use Rattle.sbpl_cli.specs.Intents.{labels_writes, plan_writes, refusal_status, refusal_writes, section_writes, trace_writes, words_writes};
+ghost use Rattle.sbpl_cli.specs.Causes.{JobStopsFor, NoneTooDear};
+ghost use Rattle.sbpl_cli.specs.Intents.{checked_status, labels_writes, plan_writes, refusal_status, refusal_writes, section_writes, trace_writes, words_writes};
 ghost use Rattle.sbpl_cli.specs.Jobs.{IsJob, job_of, sources_of};
-ghost use Rattle.sbpl_cli.specs.Promises.{AtJob, EndsJob, EndsRun, IsCutShort, IsDone, IsOrFailed, IsOrUnwritten, IsRefused, IsStatus, IsStopped, MayBeWritten, SomeRose, TellsEnvironment, TellsEnvironmentFault, TellsPrimitiveFault, TellsPrimitives, TellsTooMuch};
-ghost use Rattle.sbpl_cli.specs.Writing.{AreMade, EndsAs, EndsIn, IsCutAt, IsNamed, IsOutputOf, IsStoppedAt, StaysBut, output, to_named, to_output};
+ghost use Rattle.sbpl_cli.specs.Promises.{AtJob, EndsJob, EndsRun, IsCutShort, IsCheckedIn, IsDone, IsFaultFound, IsFlawFound, IsNoCheck, IsOrFailed, IsOrUnwritten, IsRefused, IsStatus, IsStopped, MayBeWritten, SomeRose, Tells, TellsEnvironment, TellsEnvironmentFault, TellsPrimitiveFault, TellsPrimitives, TellsTooMuch, TellsWorld};
+ghost use Rattle.sbpl_cli.specs.Writing.{AreMade, EndsAs, EndsIn, IsCutAt, IsNamed, IsOutput, IsOutputOf, IsStoppedAt, StaysBut, output, to_named, to_output};
 ghost use Rattle.sbpl_cli.specs.Report.{section_text};
 
+use crate::check::check_labels;
 use crate::job::{Job, JobFault, Outputs, PlanJob, Sources, read_job};
 use crate::labels;
 use crate::lattice::read_lattice;
@@ -29,21 +35,23 @@ use crate::refusing::line_of;
 use crate::report::section_of;
 use crate::trace::trace_of;
 use crate::writing::{OUTPUT, status_after, write_last, write_text};
+use sbpl_cert::texts_are_sections_or_faulty;
 use sbpl_cfg::texts_are_environments_or_faulty;
+use sbpl_cost::alike_worlds_are_one_graph;
 use sbpl_desk::{Desk, WriteStop};
 use sbpl_fixed::NoMemory;
 use sbpl_mprim::texts_are_primitives_or_faulty;
 use std::alloc::Global;
 
 /// Writes the line of a refusal, and answers the status.
-fn refuse<D: Desk>(alloc: Global, from: &Sources, refusal: Refusal, desk: &mut D) -> u8
-    ensures ends { EndsAs (D.written desk.old) (D.written desk.new) (D.write_faults desk.old) (D.write_faults desk.new) (refusal_writes from.now refusal) (refusal_status refusal) result }
+fn refuse<D: Desk>(alloc: Global, job: &Job, refusal: Refusal, desk: &mut D) -> u8
+    ensures ends { EndsAs (D.written desk.old) (D.written desk.new) (D.write_faults desk.old) (D.write_faults desk.new) (refusal_writes job.now refusal) (refusal_status refusal) result }
     ensures held { Stays (D.held desk.old) (D.held desk.new) }
-    ensures others { (name : List ℕ) → name ≢ output → D.written desk.new name ≡ D.written desk.old name }
+    ensures others { StaysBut IsOutput (D.written desk.old) (D.written desk.new) }
     ensures reads { NoneFalls (D.read_faults desk.old) (D.read_faults desk.new) }
     ensures writes { NoneFalls (D.write_faults desk.old) (D.write_faults desk.new) }
 {
-    match line_of(alloc, from, &refusal) {
+    match line_of(alloc, job, &refusal) {
         Ok(line) => status_after(write_text(OUTPUT, line.as_slice(), desk), refusal.status()),
         Err(NoMemory) => 9,
     }
@@ -172,39 +180,59 @@ fn write_report<D: Desk>(
     }
 }
 
-/// Plans for a job, writes what came of it, and answers the status.
-fn end_plan<D: Desk>(alloc: Global, job: &PlanJob, desk: &mut D) -> u8
+/// Plans for a job, writes what came of it, and answers the status; or answers why nothing was written.
+fn end_plan<D: Desk>(alloc: Global, job: &PlanJob, desk: &mut D) -> Result<u8, Stop>
     requires range { IsJob (Jobs.Plan job.now) }
-    ensures ends { EndsJob (D.held desk.old) (D.read_faults desk.old) (D.read_faults desk.new) (D.written desk.old) (D.written desk.new) (D.write_faults desk.old) (D.write_faults desk.new) (Jobs.Plan job.now) result }
+    ensures ends { IfOk result (EndsJob (D.held desk.old) (D.read_faults desk.old) (D.read_faults desk.new) (D.written desk.old) (D.written desk.new) (D.write_faults desk.old) (D.write_faults desk.new) (Jobs.Plan job.now)) }
+    ensures stop { IfErr result (JobStopsFor (D.held desk.old) (D.read_faults desk.old) (D.read_faults desk.new) (Jobs.Plan job.now)) }
+    ensures unwritten { OnErr result (Stays (D.written desk.old) (D.written desk.new)) }
     ensures held { Stays (D.held desk.old) (D.held desk.new) }
     ensures others { StaysBut (IsOutputOf job.now.outputs) (D.written desk.old) (D.written desk.new) }
     ensures reads { NoneFalls (D.read_faults desk.old) (D.read_faults desk.new) }
     ensures writes { NoneFalls (D.write_faults desk.old) (D.write_faults desk.new) }
 {
     match plan(alloc, job, desk) {
-        Ok(planned) => status_after(write_report(alloc, &job.outputs, &planned, desk), 0),
-        Err(Stop::Refused(refusal)) => refuse(alloc, &job.sources, refusal, desk),
-        Err(Stop::NoMemory) => 9,
+        Ok(planned) => Ok(status_after(write_report(alloc, &job.outputs, &planned, desk), 0)),
+        Err(stop) => Err(stop),
     }
 }
 
-/// Lists what each primitive costs and sweeps, and answers the status.
-fn end_sweep<D: Desk>(alloc: Global, from: &Sources, desk: &mut D) -> u8
+/// Lists what each primitive costs and sweeps, and answers the status; or answers why nothing was written.
+fn end_sweep<D: Desk>(alloc: Global, from: &Sources, desk: &mut D) -> Result<u8, Stop>
     requires range { IsJob (Jobs.Sweep from.now) }
-    ensures ends { EndsJob (D.held desk.old) (D.read_faults desk.old) (D.read_faults desk.new) (D.written desk.old) (D.written desk.new) (D.write_faults desk.old) (D.write_faults desk.new) (Jobs.Sweep from.now) result }
+    ensures ends { IfOk result (EndsJob (D.held desk.old) (D.read_faults desk.old) (D.read_faults desk.new) (D.written desk.old) (D.written desk.new) (D.write_faults desk.old) (D.write_faults desk.new) (Jobs.Sweep from.now)) }
+    ensures stop { IfErr result (JobStopsFor (D.held desk.old) (D.read_faults desk.old) (D.read_faults desk.new) (Jobs.Sweep from.now)) }
+    ensures unwritten { OnErr result (Stays (D.written desk.old) (D.written desk.new)) }
     ensures held { Stays (D.held desk.old) (D.held desk.new) }
-    ensures others { (name : List ℕ) → name ≢ output → D.written desk.new name ≡ D.written desk.old name }
+    ensures others { StaysBut IsOutput (D.written desk.old) (D.written desk.new) }
     ensures reads { NoneFalls (D.read_faults desk.old) (D.read_faults desk.new) }
     ensures writes { NoneFalls (D.write_faults desk.old) (D.write_faults desk.new) }
 {
     match read_lattice(alloc, from, desk) {
-        Ok(lattice) => status_after(write_listings(alloc, &lattice, desk), 0),
-        Err(Stop::Refused(refusal)) => refuse(alloc, from, refusal, desk),
-        Err(Stop::NoMemory) => 9,
+        Ok(lattice) => Ok(status_after(write_listings(alloc, &lattice, desk), 0)),
+        Err(stop) => Err(stop),
     }
 }
 
-/// Does a job, writes what came of it, and answers the status.
+/// Does a job, writes what came of it, and answers the status; or answers why nothing was written.
+fn do_job<D: Desk>(alloc: Global, job: &Job, desk: &mut D) -> Result<u8, Stop>
+    requires range { IsJob job.now }
+    ensures ends { IfOk result (EndsJob (D.held desk.old) (D.read_faults desk.old) (D.read_faults desk.new) (D.written desk.old) (D.written desk.new) (D.write_faults desk.old) (D.write_faults desk.new) job.now) }
+    ensures stop { IfErr result (JobStopsFor (D.held desk.old) (D.read_faults desk.old) (D.read_faults desk.new) job.now) }
+    ensures unwritten { OnErr result (Stays (D.written desk.old) (D.written desk.new)) }
+    ensures held { Stays (D.held desk.old) (D.held desk.new) }
+    ensures others { StaysBut (MayBeWritten (Some job.now)) (D.written desk.old) (D.written desk.new) }
+    ensures reads { NoneFalls (D.read_faults desk.old) (D.read_faults desk.new) }
+    ensures writes { NoneFalls (D.write_faults desk.old) (D.write_faults desk.new) }
+{
+    match job {
+        Job::Plan(plan) => end_plan(alloc, plan, desk),
+        Job::Check(check) => check_labels(alloc, check, desk),
+        Job::Sweep(from) => end_sweep(alloc, from, desk),
+    }
+}
+
+/// Does a job or refuses it, writes what came of it, and answers the status.
 fn end_job<D: Desk>(alloc: Global, job: &Job, desk: &mut D) -> u8
     requires range { IsJob job.now }
     ensures ends { EndsJob (D.held desk.old) (D.read_faults desk.old) (D.read_faults desk.new) (D.written desk.old) (D.written desk.new) (D.write_faults desk.old) (D.write_faults desk.new) job.now result }
@@ -213,9 +241,10 @@ fn end_job<D: Desk>(alloc: Global, job: &Job, desk: &mut D) -> u8
     ensures reads { NoneFalls (D.read_faults desk.old) (D.read_faults desk.new) }
     ensures writes { NoneFalls (D.write_faults desk.old) (D.write_faults desk.new) }
 {
-    match job {
-        Job::Plan(plan) => end_plan(alloc, plan, desk),
-        Job::Sweep(from) => end_sweep(alloc, from, desk),
+    match do_job(alloc, job, desk) {
+        Ok(status) => status,
+        Err(Stop::Refused(refusal)) => refuse(alloc, job, refusal, desk),
+        Err(Stop::NoMemory) => 9,
     }
 }
 
@@ -246,14 +275,18 @@ fn end_run<D: Desk>(alloc: Global, words: &[String], desk: &mut D) -> u8
 }
 
 /// Does the job that the words after the program's name stand for, writes what came of it to the standard output, which has
-/// the name `-`, and answers the status: 0 where the job was done, 2 for words that name no job, 3 and 4 for a fault of the
+/// the name `-`, and answers the status: 0 where the job was done, 1 for labels with a flaw, 2 for words that name no job, 3 and 4 for a fault of the
 /// environment file and of the primitive file, 6 for a file that could not be read, 7 for a write that failed, 8 for a file
-/// of more than 2^30 bytes, and 9 for want of memory.
+/// of more than 2^30 bytes, 9 for want of memory, and 10 for a fault in the text of labels.
 pub fn run<D: Desk>(alloc: Global, words: &[String], desk: &mut D) -> u8
     ensures statuses { IsStatus result }
     // 0: the job was done. A plan of the job's files was made, which keeps its promises, and its report, and its labels and
     // its trace where they are asked for, were written; or what each primitive costs and sweeps was listed.
     ensures done { result ≡ 0 → AtJob (job_of (map string_bytes words.now)) (IsDone (D.held desk.old) (D.written desk.old) (D.written desk.new)) }
+    // 1: the job `check` found a first flaw in a section of the labels, behind sections that hold, and a line says so.
+    ensures flaw { result ≡ 1 → AtJob (job_of (map string_bytes words.now)) (IsFlawFound (D.held desk.old) (D.written desk.old) (D.written desk.new)) }
+    // 10: it found a first fault in the text of the labels, behind sections that hold, and a line says so.
+    ensures fault { result ≡ 10 → AtJob (job_of (map string_bytes words.now)) (IsFaultFound (D.held desk.old) (D.written desk.old) (D.written desk.new)) }
     // 2: the words name no job, and a line says so.
     ensures words { result ≡ 2 → (job_of (map string_bytes words.now) ≡ None) × AreMade (D.written desk.old) (D.written desk.new) words_writes }
     // 3, 4, 6, 8: the job was refused for a cause, and a line says which.
@@ -276,7 +309,10 @@ pub fn run<D: Desk>(alloc: Global, words: &[String], desk: &mut D) -> u8
     ensures too_wide { (job : Job) (e : Environment) (ps : Primitives) (i : ℕ) → job_of (map string_bytes words.now) ≡ Some job → TellsEnvironment (D.held desk.old) (sources_of job) e → TellsPrimitives (D.held desk.old) (sources_of job) e ps → IsFirstTooWide ps (sources_of job).radius i → IsOrFailed 4 result }
     ensures too_dear { (job : Job) (e : Environment) (ps : Primitives) (i : ℕ) → job_of (map string_bytes words.now) ≡ Some job → TellsEnvironment (D.held desk.old) (sources_of job) e → TellsPrimitives (D.held desk.old) (sources_of job) e ps → NoneTooWide ps (sources_of job).radius → IsFirstTooDear e ps.items i → IsOrFailed 4 result }
     // Good words and good files are served, unless the desk fails or memory runs out.
-    ensures complete { (job : Job) (e : Environment) (ps : Primitives) → job_of (map string_bytes words.now) ≡ Some job → TellsEnvironment (D.held desk.old) (sources_of job) e → TellsPrimitives (D.held desk.old) (sources_of job) e ps → NoneTooWide ps (sources_of job).radius → NoneTooDear e ps → IsOrFailed 0 result }
+    ensures complete { (job : Job) (e : Environment) (ps : Primitives) → job_of (map string_bytes words.now) ≡ Some job → TellsEnvironment (D.held desk.old) (sources_of job) e → TellsPrimitives (D.held desk.old) (sources_of job) e ps → NoneTooWide ps (sources_of job).radius → NoneTooDear e ps → IsNoCheck job → IsOrFailed 0 result }
+    // The job `check` ends as the labels do in the world that the files stand for, unless the desk fails or memory runs out.
+    ensures checked { (j : CheckJob) (w : World) (text : List ℕ) (goal : ℕ) (os : List Outcome) (end : Option SectionStop) → job_of (map string_bytes words.now) ≡ Some (Jobs.Check j) → TellsWorld (D.held desk.old) j.sources w → Tells (D.held desk.old j.labels) text → IsCheckedIn w text goal os end → end ≢ Some Stops.NoMemory → IsOrFailed (checked_status end) result }
+    ensures labels_long { (j : CheckJob) (w : World) → job_of (map string_bytes words.now) ≡ Some (Jobs.Check j) → TellsWorld (D.held desk.old) j.sources w → TellsTooMuch (D.held desk.old j.labels) → IsOrFailed 8 result }
     // Nothing that is held changes, nothing is written under other names than the job's, and no count falls.
     ensures held { Stays (D.held desk.old) (D.held desk.new) }
     ensures others { StaysBut (MayBeWritten (job_of (map string_bytes words.now))) (D.written desk.old) (D.written desk.new) }
@@ -285,5 +321,7 @@ pub fn run<D: Desk>(alloc: Global, words: &[String], desk: &mut D) -> u8
 {
     texts_are_environments_or_faulty();
     texts_are_primitives_or_faulty();
+    texts_are_sections_or_faulty();
+    alike_worlds_are_one_graph();
     end_run(alloc, words, desk)
 }

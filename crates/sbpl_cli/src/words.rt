@@ -17,6 +17,8 @@ use std::marker::Model;
 pub enum Command {
     /// Plan on the map of an environment file with the primitives of a primitive file.
     Plan,
+    /// Check the labels that a plan wrote.
+    Check,
     /// List the cells that each primitive sweeps.
     Sweep,
 }
@@ -99,7 +101,7 @@ fn takes(command: Command, setting: Setting) -> bool
 {
     match command {
         Command::Plan => true,
-        Command::Sweep => is_setting(setting, Setting::Radius),
+        Command::Check | Command::Sweep => is_setting(setting, Setting::Radius),
     }
 }
 

@@ -1,7 +1,7 @@
 use Rattle.std.proofs.Common.{◌∙◌}
 use Rattle.sbpl_cli.specs.declared.job.Job.TheVariants as job
 use Rattle.sbpl_cli.specs.Intents.{Planned}
-use Rattle.sbpl_cli.proofs.Ends.{ended, memory_ended, refused}
+use Rattle.sbpl_cli.proofs.Ends.{ended, job_stop}
 use Rattle.sbpl_cli.proofs.Writings.{status_ends}
 use Rattle.sbpl_cli.proofs.top.end_plan.Goals as goal
 
@@ -10,13 +10,8 @@ returns-in-Ok-clause-ends g c =
     ended _ _ _ _ _ _ _ (g.D.Desk.write_faults c.plan.new.desk) _ (job.Plan c.args.job.now) (Planned c.in-Ok.planned) _ c.in-Ok.ensures.planned c.plan.ensures.written c.plan.ensures.writes
     (status_ends _ _ _ _ _ _ _ _ c.write_report.ensures.ends c.status_after.ensures.status)
 
-pub returns-in-Err-Refused-clause-ends : goal.returns-in-Err-Refused-clause-ends
-returns-in-Err-Refused-clause-ends g c =
-    let seen = rw c.in-Err-Refused.field-0-is at c.in-Err-Refused.ensures in
-    refused _ _ (g.D.Desk.read_faults c.plan.new.desk) _ _ _ _ _ (g.D.Desk.write_faults c.plan.new.desk) _ (job.Plan c.args.job.now) c.in-Err-Refused.refusal _ seen.stop c.plan.ensures.reads c.refuse.ensures.reads c.plan.ensures.written c.plan.ensures.writes c.refuse.ensures.ends
-
-pub returns-in-Err-NoMemory-clause-ends : goal.returns-in-Err-NoMemory-clause-ends
-returns-in-Err-NoMemory-clause-ends g c = memory_ended _ _ _ _ _ _ _ _ c.plan.ensures.written
-
 pub returns-in-Ok-clause-others : goal.returns-in-Ok-clause-others
 returns-in-Ok-clause-others g c = λ name other. c.write_report.ensures.others name other ∙ c.plan.ensures.written name
+
+pub returns-in-Err-clause-stop : goal.returns-in-Err-clause-stop
+returns-in-Err-clause-stop g c = job_stop (g.D.Desk.held c.args.desk.now) (g.D.Desk.read_faults c.args.desk.now) (g.D.Desk.read_faults c.plan.new.desk) (job.Plan c.args.job.now) c.in-Err.stop c.in-Err.ensures.stop

@@ -1,6 +1,6 @@
 use Rattle.std.proofs.Common.{arith}
 use Rattle.sbpl_cli.proofs.Laws.{texts_are_clear}
-use Rattle.sbpl_cli.proofs.Runs.{run_complete, run_cut, run_done, run_environment_faulty, run_environment_long, run_no_job, run_primitives_faulty, run_primitives_long, run_refused, run_status, run_stopped, run_too_dear, run_too_wide, run_words, run_write}
+use Rattle.sbpl_cli.proofs.Runs.{run_complete, run_cut, run_done, run_environment_faulty, run_environment_long, run_no_job, run_primitives_faulty, run_primitives_long, run_refused, run_status, run_stopped, run_too_dear, run_too_wide, run_words, run_write, run_checked, run_faulted, run_flawed, run_labels_long}
 use Rattle.sbpl_cli.proofs.top.run.Goals as goal
 
 pub returns-clause-statuses : goal.returns-clause-statuses
@@ -9,20 +9,26 @@ returns-clause-statuses g c = run_status _ _ _ _ _ _ _ _ _ c.end_run.ensures.end
 pub returns-clause-done : goal.returns-clause-done
 returns-clause-done g c = run_done _ _ _ _ _ _ _ _ _ c.end_run.ensures.ends
 
+pub returns-clause-flaw : goal.returns-clause-flaw
+returns-clause-flaw g c = run_flawed _ _ _ _ _ _ _ _ _ c.end_run.ensures.ends
+
+pub returns-clause-fault : goal.returns-clause-fault
+returns-clause-fault g c = run_faulted _ _ _ _ _ _ _ _ _ c.end_run.ensures.ends
+
 pub returns-clause-words : goal.returns-clause-words
 returns-clause-words g c = run_words _ _ _ _ _ _ _ _ _ c.end_run.ensures.ends
 
 pub returns-clause-environment : goal.returns-clause-environment
-returns-clause-environment g c = λ at. run_refused _ _ _ _ _ _ _ _ _ 3 c.end_run.ensures.ends at (λ h. omega arith) (λ h. omega arith) (λ h. omega arith) (λ h. omega arith)
+returns-clause-environment g c = λ at. run_refused _ _ _ _ _ _ _ _ _ 3 c.end_run.ensures.ends at ((λ h. omega arith), (λ h. omega arith), (λ h. omega arith), (λ h. omega arith)) (λ h. omega arith) (λ h. omega arith)
 
 pub returns-clause-primitives : goal.returns-clause-primitives
-returns-clause-primitives g c = λ at. run_refused _ _ _ _ _ _ _ _ _ 4 c.end_run.ensures.ends at (λ h. omega arith) (λ h. omega arith) (λ h. omega arith) (λ h. omega arith)
+returns-clause-primitives g c = λ at. run_refused _ _ _ _ _ _ _ _ _ 4 c.end_run.ensures.ends at ((λ h. omega arith), (λ h. omega arith), (λ h. omega arith), (λ h. omega arith)) (λ h. omega arith) (λ h. omega arith)
 
 pub returns-clause-unread : goal.returns-clause-unread
-returns-clause-unread g c = λ at. run_refused _ _ _ _ _ _ _ _ _ 6 c.end_run.ensures.ends at (λ h. omega arith) (λ h. omega arith) (λ h. omega arith) (λ h. omega arith)
+returns-clause-unread g c = λ at. run_refused _ _ _ _ _ _ _ _ _ 6 c.end_run.ensures.ends at ((λ h. omega arith), (λ h. omega arith), (λ h. omega arith), (λ h. omega arith)) (λ h. omega arith) (λ h. omega arith)
 
 pub returns-clause-length : goal.returns-clause-length
-returns-clause-length g c = λ at. run_refused _ _ _ _ _ _ _ _ _ 8 c.end_run.ensures.ends at (λ h. omega arith) (λ h. omega arith) (λ h. omega arith) (λ h. omega arith)
+returns-clause-length g c = λ at. run_refused _ _ _ _ _ _ _ _ _ 8 c.end_run.ensures.ends at ((λ h. omega arith), (λ h. omega arith), (λ h. omega arith), (λ h. omega arith)) (λ h. omega arith) (λ h. omega arith)
 
 pub returns-clause-write : goal.returns-clause-write
 returns-clause-write g c = run_write _ _ _ _ _ _ _ _ _ c.end_run.ensures.ends
@@ -56,3 +62,9 @@ returns-clause-too_dear g c = run_too_dear _ _ _ _ _ _ _ _ _ (texts_are_clear c.
 
 pub returns-clause-complete : goal.returns-clause-complete
 returns-clause-complete g c = run_complete _ _ _ _ _ _ _ _ _ (texts_are_clear c.texts_are_environments_or_faulty.ensures.one_value c.texts_are_environments_or_faulty.ensures.not_both c.texts_are_primitives_or_faulty.ensures.one_value c.texts_are_primitives_or_faulty.ensures.not_both) c.end_run.ensures.ends
+
+pub returns-clause-checked : goal.returns-clause-checked
+returns-clause-checked g c = run_checked _ _ _ _ _ _ _ _ _ (texts_are_clear c.texts_are_environments_or_faulty.ensures.one_value c.texts_are_environments_or_faulty.ensures.not_both c.texts_are_primitives_or_faulty.ensures.one_value c.texts_are_primitives_or_faulty.ensures.not_both) (record { one = c.texts_are_sections_or_faulty.ensures.one_value; not_both = c.texts_are_sections_or_faulty.ensures.not_both }) c.alike_worlds_are_one_graph.ensures.law c.end_run.ensures.ends
+
+pub returns-clause-labels_long : goal.returns-clause-labels_long
+returns-clause-labels_long g c = run_labels_long _ _ _ _ _ _ _ _ _ (texts_are_clear c.texts_are_environments_or_faulty.ensures.one_value c.texts_are_environments_or_faulty.ensures.not_both c.texts_are_primitives_or_faulty.ensures.one_value c.texts_are_primitives_or_faulty.ensures.not_both) c.end_run.ensures.ends
