@@ -361,6 +361,145 @@ fn traces(rt: HostRuntime) -> Result<(), Fail> {
     Ok(())
 }
 
+/// Runs `check e m l` on the corridor and these labels, and compares the status and what is written.
+fn compare_check(
+    rt: &impl Abort,
+    alloc: Global,
+    labels: &str,
+    status: u8,
+    report: &str,
+) -> Result<(), Fail> {
+    let mut desk = MemoryDesk::new(alloc);
+    desk.hold("e", E1.as_bytes())?;
+    desk.hold("m", F1.as_bytes())?;
+    desk.hold("l", labels.as_bytes())?;
+    let words = words_of(alloc, &["check", "e", "m", "l"])?;
+    assert_eq!(rt; run(alloc, words.as_slice(), &mut desk), status, "{report}");
+    assert_eq!(rt; desk.written("-"), report.as_bytes());
+    Ok(())
+}
+
+/// The labels of the corridor with one part changed, of which a flaw is found, or none.
+#[test]
+fn altered_labels(rt: HostRuntime) -> Result<(), Fail> {
+    let rows = [
+        ("", "", 0, "plan 0 path holds\ndone\n"),
+        ("25 25 25", "26 25 25", 1, "flaw 2 Arc plan 0 0 0 26 25\n"),
+        ("\n0 0 50", "\n1 1 50", 1, "flaw 1 Start plan 0 1\n"),
+        ("25 25 25", "25 25 24", 1, "flaw 3 Guide plan 0 0 0 50 49\n"),
+        ("50 - 0", "50 - 1", 1, "flaw 3 Guide plan 0 32 - 1 0\n"),
+        ("low 50", "low 51", 1, "flaw 4 Low plan 0 32 51 50\n"),
+        ("low 50", "low 49", 1, "flaw 7 Bound plan 0 1.000 1.021\n"),
+        ("path 50", "path 51", 1, "flaw 6 Cost plan 0 51 50\n"),
+        ("2 0 0\n", "1 0\n", 1, "flaw 6 Cost plan 0 50 25\n"),
+        ("2 0 0\n", "3 0 0 0\n", 1, "flaw 5 Path plan 0 2\n"),
+        (
+            "path 50 1.000 2 0 0",
+            "path 0 1.000 0",
+            1,
+            "flaw 8 Goal plan 0 0\n",
+        ),
+        (
+            "path 50 1.000 2 0 0",
+            "unknown",
+            0,
+            "plan 0 unknown holds\ndone\n",
+        ),
+    ];
+    let labels = corridor_labels(rt.alloc(), "25 25 25\n")?;
+    for (old, new, status, report) in rows {
+        let altered = labels.replacen(rt.alloc(), old, new, 1)?;
+        compare_check(&rt, rt.alloc(), altered.as_str(), status, report)?;
+    }
+    Ok(())
+}
+
+/// The labels of the corridor with one part broken.
+#[test]
+fn broken_labels(rt: HostRuntime) -> Result<(), Fail> {
+    let rows = [
+        ("labels 1", "labels 2", "refused labels 1 Word 7\n"),
+        ("plan 0", "plan +0", "refused labels 2 Number 14\n"),
+        (
+            "path 50 1.000",
+            "path 50 .500",
+            "refused labels 2 Number 41\n",
+        ),
+        (
+            "path 50 1.000",
+            "path 50 0.500",
+            "refused labels 3 Range 41\n",
+        ),
+        ("end\n", "", "refused labels 4 Ended 376\n"),
+        (
+            "end\n",
+            "end\nend",
+            "plan 0 path holds\nrefused labels 5 Trailing 380\n",
+        ),
+        ("states 48", "states 47", "refused labels 6 Count 23\n"),
+        ("plan 0", "plan 1", "refused labels 6 Count 14\n"),
+    ];
+    let labels = corridor_labels(rt.alloc(), "25 25 25\n")?;
+    for (old, new, report) in rows {
+        let broken = labels.replacen(rt.alloc(), old, new, 1)?;
+        compare_check(&rt, rt.alloc(), broken.as_str(), 10, report)?;
+    }
+    compare_check(&rt, rt.alloc(), "", 10, "refused labels 4 Ended 0\n")
+}
+
+/// Plans with labels, checks them, and compares what the check writes.
+fn compare_checked(
+    rt: &impl Abort,
+    alloc: Global,
+    env: Edited,
+    prims: &str,
+    radius: &str,
+    report: &str,
+) -> Result<(), Fail> {
+    let mut desk = MemoryDesk::new(alloc);
+    let env = env.0.replacen(alloc, env.1, env.2, 1)?;
+    desk.hold("e", env.as_bytes())?;
+    desk.hold("m", prims.as_bytes())?;
+    let words = words_of(
+        alloc,
+        &["plan", "e", "m", "--radius", radius, "--labels", "l"],
+    )?;
+    assert_eq!(rt; run(alloc, words.as_slice(), &mut desk), 0);
+    let mut other = MemoryDesk::new(alloc);
+    other.hold("e", env.as_bytes())?;
+    other.hold("m", prims.as_bytes())?;
+    other.hold("l", desk.written("l"))?;
+    let words = words_of(alloc, &["check", "e", "m", "--radius", radius, "l"])?;
+    assert_eq!(rt; run(alloc, words.as_slice(), &mut other), 0);
+    assert_eq!(rt; other.written("-"), report.as_bytes());
+    Ok(())
+}
+
+const HOLDS: &str = "plan 0 path holds\ndone\n";
+
+const NONE_HOLDS: &str = "plan 0 nopath holds\ndone\n";
+
+/// The labels that a plan writes are accepted.
+#[test]
+fn written_labels(rt: HostRuntime) -> Result<(), Fail> {
+    let rows = [
+        (E1, "", "", F1, "0", HOLDS),
+        (E1, "0.0625 0.0125 0", "0.0125 0.0125 0", F1, "0", HOLDS),
+        (E1, "\n0 0 0", "\n0 7 0", F1, "0", HOLDS),
+        (E1, "\n0 0 0", "\n0 89 0", F1, "0", HOLDS),
+        (E1, "\n0 0 0", "\n0 90 0", F1, "0", NONE_HOLDS),
+        (E1, "\n0 0 0", "\n0 100 0", F1, "0", NONE_HOLDS),
+        (E2, "", "", F2, "0", HOLDS),
+        (E3, "", "", F1, "0.0125", HOLDS),
+        (E3, "", "", F1, "0.012500001", NONE_HOLDS),
+        (E3, "100 0 0\n", "99 0 0\n", F1, "0.012500001", HOLDS),
+    ];
+    for (env, old, new, prims, radius, report) in rows {
+        compare_checked(&rt, rt.alloc(), (env, old, new), prims, radius, report)?;
+    }
+    Ok(())
+}
+
 const REALISTIC: &str =
     "plan 0\npass 1.000 expanded 6 best 150 bound 1.000\npath 3 cost 150 bound 1.000\npose 4 4 0\nstep 0 5 4 0\nstep 0 6 4 0\nstep 4 10 4 0\ndone\n";
 
