@@ -1,5 +1,5 @@
 -- What a plan's record says of the world that it was planned in.
-use Rattle.std.specs.Prelude.{◌≡◌, ℕ, ◌*◌, ◌^◌, ◌≤◌, ◌⊎◌, Bool, MatchBool, List, [], ◌∷◌, Some, None}
+use Rattle.std.specs.Prelude.{◌≡◌, ℕ, ◌*◌, ◌^◌, ◌≤◌, ◌⊎◌, Bool, MatchBool, true, List, [], ◌∷◌, length, Some, None}
 use Rattle.std.specs.Option.{is_some}
 use Rattle.sbpl_graph.specs.Network.{Network}
 use Rattle.sbpl_graph.specs.Path.{IsFreePath}
@@ -15,6 +15,7 @@ use Rattle.sbpl_labels.specs.Marks.{Marks, IsOpened}
 use Rattle.sbpl_plan.specs.declared.ask.Ask.{Ask}
 use Rattle.sbpl_plan.specs.declared.result.Outcome as search
 use Rattle.sbpl_plan.specs.declared.result.Outcome.TheVariants as result
+use Rattle.sbpl_plan.specs.Asked.{most_passes}
 use Rattle.sbpl_plan.specs.Outcomes.{IsOutcome}
 use Rattle.sbpl_plan.specs.Passing.{ArePasses, Inquiry, expansions}
 use Rattle.sbpl_cli.specs.declared.record.Step.{Step}
@@ -109,8 +110,9 @@ IsMarked budget spent r = MatchBool spent
     ((r.spent ≡ Some (expansions r.passes)) × ((expansions r.passes ≡ budget) ⊎ (expansions r.passes ≡ 2 ^ 30)))
     (r.spent ≡ None)
 
--- The record of a search from opened labels by the best heuristic: its passes in turn, the result by the final labels, and
--- a section of these labels, where they are to be written.
+-- The record of a search from opened labels by the best heuristic: its passes in turn, as few as the step allows, the result
+-- by the final labels, and a section of these labels, where they are to be written. A budget for each state in each pass is
+-- not spent, unless the run's is.
 pub record IsSearched (w : World) (start goal : ℕ) (j : PlanJob) (r : PlanRecord) : Type 0 where
   pub guide : ℕ → ℕ
   pub is_guide : IsBest w goal guide
@@ -123,6 +125,8 @@ pub record IsSearched (w : World) (start goal : ℕ) (j : PlanJob) (r : PlanReco
   pub is_result : IsOutcome (network_of w) guide goal final result
   pub told : TellsResult result r.outcome
   pub marked : IsMarked j.search.budget spent r
+  pub few : length r.passes ≤ most_passes j.search.step j.search.first
+  pub ample : spent ≡ true → most_passes j.search.step j.search.first * (network_of w).states ≤ j.search.budget → expansions r.passes ≡ 2 ^ 30
   pub labels : IsThere (is_some j.outputs.labels) (IsShown (network_of w) guide start goal r.plan final result) r.labels
 
 -- the record of the first plan in a world, from the start of its environment to its end
