@@ -57,13 +57,13 @@ returns-clause-searched c =
     let step = ap (λ (a : Ask). a.step) c.ask_of-ask.ensures.ask in
     let few : length c.in_ok-planned.planned.passes ≤ most_passes c.args.job.now.search.step c.args.job.now.search.first = rw (sym first, sym step) c.in_ok-planned.ensures.few in
     let ample : c.in_ok-planned.planned.spent ≡ true → most_passes c.args.job.now.search.step c.args.job.now.search.first * (network_of c.args.lattice.now).states ≤ c.args.job.now.search.budget → expansions c.in_ok-planned.planned.passes ≡ 2 ^ 30 = (λ is much.
-        let fresh = c.new-budget.ensures.fresh in
-        let states = c.in_ok-ara.ensures.opened.states ∙ c.states.ensures.value in
-        let premise : c.new-budget.result.plan + most_passes c.ask_of-ask.result.step c.ask_of-ask.result.first * states_of c.in_ok-ara.ara.labels ≤ c.new-budget.result.per_plan = rw (ap (λ (k : Counts). k.plan) fresh, ap (λ (k : Counts). k.per_plan) fresh, step, first, states) (with_none _ _ much) in
-        let run : c.plan.new.budget.run ≡ 2 ^ 30 = c.in_ok-planned.ensures.enough is premise in
-        let counted : c.plan.new.budget.run ≡ c.new-budget.result.run + expansions c.in_ok-planned.planned.passes = ap (λ (k : Counts). k.run) c.in_ok-planned.ensures.counted in
-        let none : c.new-budget.result.run ≡ 0 = ap (λ (k : Counts). k.run) fresh in
-        omega arith) in
+    let fresh = c.new-budget.ensures.fresh in
+    let states = c.in_ok-ara.ensures.opened.states ∙ c.states.ensures.value in
+    let premise : c.new-budget.result.plan + most_passes c.ask_of-ask.result.step c.ask_of-ask.result.first * states_of c.in_ok-ara.ara.labels ≤ c.new-budget.result.per_plan = rw (ap (λ (k : Counts). k.plan) fresh, ap (λ (k : Counts). k.per_plan) fresh, step, first, states) (with_none _ _ much) in
+    let run : c.plan.new.budget.run ≡ 2 ^ 30 = c.in_ok-planned.ensures.enough is premise in
+    let counted : c.plan.new.budget.run ≡ c.new-budget.result.run + expansions c.in_ok-planned.planned.passes = ap (λ (k : Counts). k.run) c.in_ok-planned.ensures.counted in
+    let none : c.new-budget.result.run ≡ 0 = ap (λ (k : Counts). k.run) fresh in
+    omega arith) in
     searched_by c.args.lattice.now (distance_in c.in_ok-guide.guide) _ _ _ c.args.job.now c.ask_of-ask.result _ c.in_ok-ara.ara.labels c.plan.new.ara.labels c.in_ok-planned.planned c.in_ok-labels.labels _
     c.in_ok-guide.ensures.best (subst (λ (n : ℕ). IsOpened c.in_ok-ara.ara.labels n c.args.start) c.states.ensures.value c.in_ok-ara.ensures.opened)
     c.ask_of-ask.ensures.ask c.in_ok-planned.ensures.passes c.in_ok-planned.ensures.outcome budget
