@@ -1,13 +1,14 @@
 //! A batch of changes is written to the map of a lattice.
 
-ghost use Rattle.std.specs.Prelude.{◌≡◌, ◌↔◌, IsTrue, OnOk};
+ghost use Rattle.std.specs.Prelude.{◌≡◌, ◌↔◌, pos, IsTrue, OnOk};
+ghost use Rattle.sbpl_map.specs.CellMap.{IsOnMap, ChangesCell};
 ghost use Rattle.sbpl_map.specs.MapAfter.{AreWritten};
 ghost use Rattle.sbpl_cost.specs.World.{IsWorld};
 ghost use Rattle.sbpl_cost.specs.Lattices.{network_of};
 ghost use Rattle.sbpl_change.specs.Noted.{AreOnMap};
 ghost use Rattle.sbpl_change.specs.Touched.{AreTouched, AreStates, KeepArcsElsewhere};
 
-use crate::costs::present_costs;
+use crate::costs::{present_cost, present_costs};
 use crate::heads::add_changed_heads;
 use sbpl_cost::{Lattice, unread_arcs_cost_the_same};
 use sbpl_fixed::NoMemory;
@@ -18,9 +19,19 @@ use std::alloc::Global;
 pub fn are_on_map(lattice: &Lattice, batch: &[Write]) -> bool
     ensures { IsTrue result ↔ AreOnMap lattice.now.map batch.now }
 {
-    batch.iter().all(|write| lattice
-        .cell_cost(i64::from(write.x), i64::from(write.y))
-        .is_some())
+    batch
+        .iter()
+        .all(|write| present_cost(lattice, write.x, write.y).is_some())
+}
+
+/// Makes a write.
+fn make(lattice: &mut Lattice, write: &Write)
+    requires on_map { IsOnMap lattice.old.map (pos write.now.x) (pos write.now.y) }
+    ensures changes { ChangesCell lattice.old.map lattice.new.map (pos write.now.x) (pos write.now.y) write.now.cost }
+    ensures others { lattice.new ≡ record lattice.old { map = lattice.new.map } }
+{
+    // The cell is on the map, so this is not refused.
+    let _was = lattice.set(i64::from(write.x), i64::from(write.y), write.cost);
 }
 
 /// Makes the writes of a batch in turn.
@@ -32,9 +43,9 @@ fn write_all(lattice: &mut Lattice, batch: &[Write])
 {
     writes_lead_to_the_next_map();
     for write in batch {
-        // The cell is on the map, so this is not refused.
-        let _was = lattice.set(i64::from(write.x), i64::from(write.y), write.cost);
+        make(lattice, write);
     }
+    let _map = lattice.map();
 }
 
 /// Writes a batch to the map of a lattice, in turn, and puts into `touched` the states that a repair has to recompute: the

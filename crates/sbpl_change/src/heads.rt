@@ -3,7 +3,7 @@
 ghost use Rattle.std.specs.Prelude.{◌≡◌, [], OnOk};
 ghost use Rattle.sbpl_change.specs.Heads.{AddsHeadsOf, AreHeadsOf};
 
-use crate::costs::Costs;
+use crate::costs::{Costs, present_cost};
 use sbpl_cost::Lattice;
 use sbpl_fixed::NoMemory;
 
@@ -17,7 +17,7 @@ fn add_heads(
 ) -> Result<(), NoMemory>
     ensures added { OnOk result (AddsHeadsOf lattice.now x y was heads.old.items heads.new.items) }
 {
-    if lattice.cell_cost(i64::from(x), i64::from(y)) != Some(was) {
+    if present_cost(lattice, x, y) != Some(was) {
         lattice.heads_reading(x, y, heads)?;
     }
     Ok(())
