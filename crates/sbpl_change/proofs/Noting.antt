@@ -1,5 +1,5 @@
 -- Costs of cells that are noted.
-use Rattle.std.proofs.Common.{◌≡◌, ℕ, pos, ◌<◌, ◌≤◌, ◌+◌, inl, inr, Bool, true, false, cond, List, length, get_or, slice_get, Some, IsSome, refl, ap, sym, ◌∙◌, subst, arith}
+use Rattle.std.proofs.Common.{◌≡◌, ℕ, pos, ◌<◌, ◌+◌, inl, inr, Bool, true, false, cond, List, length, get_or, slice_get, Some, refl, sym, ◌∙◌, subst, arith}
 use Rattle.std.specs.BTreeMap.{BTreeMap, get, Updates, is_at}
 use Rattle.std.specs.Ordering.{nat_cmp}
 use Rattle.std.proofs.lemmas.Map.Lookups.{CmpEqualImpliesEq, exact_pairs, exact_unsigned}

@@ -1,5 +1,5 @@
 -- The states that a batch touches.
-use Rattle.std.proofs.Common.{◌≡◌, ◌≢◌, ℕ, ℤ, pos, ◌<◌, nat_eq, Bool, true, false, List, slice_get, Option, Some, None, IsSome, refl, ap, sym, ◌∙◌, subst}
+use Rattle.std.proofs.Common.{◌≡◌, ◌≢◌, ℕ, ℤ, pos, ◌<◌, nat_eq, Bool, true, false, List, Option, Some, None, IsSome, refl, ap, sym, ◌∙◌, subst}
 use Rattle.std.specs.List.{Contains}
 use Rattle.std.specs.BTreeMap.{BTreeMap, get}
 use Rattle.std.proofs.lemmas.Bool.Decides.{Decides-eqb}
@@ -10,11 +10,11 @@ use Rattle.sbpl_map.specs.MapAfter.{AreWritten}
 use Rattle.sbpl_map.specs.declared.write.Write.{Write}
 use Rattle.sbpl_cost.specs.World.{World, IsWorld}
 use Rattle.sbpl_cost.specs.Lattices.{network_of}
-use Rattle.sbpl_cost.specs.Reading.{ReadsCell, IsHeadReading, over_map, DifferInCostsAlone, UnreadArcsCostTheSame, MapsChangeCostsAlone, MapsChangeNoReads}
-use Rattle.sbpl_change.specs.Noted.{cell_cmp, AreNoted, IsNoted}
-use Rattle.sbpl_change.specs.Heads.{IsChangedHead, IsHeadOf, AreHeadsOf}
-use Rattle.sbpl_change.specs.Touched.{IsTouched, AreTouched, HasSameArcs, KeepArcsElsewhere}
-use Rattle.sbpl_change.proofs.Written.{IsWrittenTo, changed_is_written}
+use Rattle.sbpl_cost.specs.Reading.{IsHeadReading, over_map, DifferInCostsAlone, UnreadArcsCostTheSame, MapsChangeNoReads}
+use Rattle.sbpl_change.specs.Noted.{cell_cmp, AreNoted}
+use Rattle.sbpl_change.specs.Heads.{IsHeadOf, AreHeadsOf}
+use Rattle.sbpl_change.specs.Touched.{IsTouched, AreTouched, KeepArcsElsewhere}
+use Rattle.sbpl_change.proofs.Written.{changed_is_written}
 
 same_numbers_unless : (a b : ℕ) (r : Bool) → nat_eq a b ≡ r → ((Some a ≢ Some b) → ⊥) → Some a ≡ Some b
 same_numbers_unless a b true is h = ap (λ n. Some n) ((Decides-eqb a b).0 is)

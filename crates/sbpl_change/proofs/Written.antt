@@ -2,7 +2,7 @@
 use Rattle.std.proofs.Common.{◌≡◌, ◌≢◌, ℕ, zero, suc, ℤ, pos, Bool, true, false, ◌⊎◌, inl, inr, List, [], ◌∷◌, slice_get, Some, refl, ap, sym, ◌∙◌, subst, ◌<ℤ◌}
 use Rattle.std.specs.Ordering.{int_eq}
 use Rattle.std.proofs.lemmas.Bool.Decides.{Decides-int_eq}
-use Rattle.sbpl_map.specs.CellMap.{CellMap, cost_at, ChangesCell, IsOnMap}
+use Rattle.sbpl_map.specs.CellMap.{CellMap, cost_at, IsOnMap}
 use Rattle.sbpl_map.specs.MapAfter.{AreWritten}
 use Rattle.sbpl_map.specs.declared.write.Write.{Write}
 

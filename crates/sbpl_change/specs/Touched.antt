@@ -1,5 +1,5 @@
 -- The states that a change of the map touches.
-use Rattle.std.specs.Prelude.{◌≡◌, ◌≢◌, ℕ, ℤ, ◌<◌, ◌↔◌, List}
+use Rattle.std.specs.Prelude.{◌≢◌, ℕ, ℤ, ◌<◌, ◌↔◌, List}
 use Rattle.std.specs.List.{Contains}
 use Rattle.sbpl_graph.specs.Network.{Network, IsFreeArc}
 use Rattle.sbpl_map.specs.CellMap.{CellMap, cost_at}

@@ -1,8 +1,7 @@
-use Rattle.std.proofs.Common.{◌≡◌, ℕ, ◌+◌, take, sym, subst, ap, ◌∙◌, take_all}
+use Rattle.std.proofs.Common.{ap, ◌∙◌}
 use Rattle.std.proofs.lemmas.List.{take_more}
 use Rattle.std.proofs.lemmas.Option.{slice_get-get_or}
 use Rattle.sbpl_cost.specs.World.{World}
-use Rattle.sbpl_map.specs.MapAfter.{AreWritten}
 use Rattle.sbpl_map.specs.declared.write.Write.{Write}
 use Rattle.sbpl_change.proofs.Written.{still_on_map}
 use Rattle.sbpl_change.proofs.batch.write_all.Goals as goal

@@ -1,6 +1,5 @@
-use Rattle.std.proofs.Common.{◌≡◌, ℕ, ◌<◌, ◌+◌, slice_index_or, sym, subst, inl, inr, length, slice_get, Some, arith}
+use Rattle.std.proofs.Common.{◌<◌, length, arith}
 use Rattle.std.proofs.lemmas.Option.{slice_get-get_or, slice_get_within}
-use Rattle.sbpl_map.specs.declared.write.Write.{Write}
 use Rattle.sbpl_change.proofs.Noting.{noted_below}
 use Rattle.sbpl_change.proofs.costs.present_costs.Goals as goal
 
