@@ -1,0 +1,5 @@
+mod Lists
+mod Noting
+mod Adding
+mod Written
+mod Touching

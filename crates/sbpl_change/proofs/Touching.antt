@@ -1,0 +1,98 @@
+-- The states that a batch touches.
+use Rattle.std.proofs.Common.{◌≡◌, ◌≢◌, ℕ, ℤ, pos, ◌<◌, nat_eq, Bool, true, false, List, Option, Some, None, IsSome, refl, ap, sym, ◌∙◌, subst}
+use Rattle.std.specs.List.{Contains}
+use Rattle.std.specs.BTreeMap.{BTreeMap, get}
+use Rattle.std.proofs.lemmas.Bool.Decides.{Decides-eqb}
+use Rattle.std.proofs.lemmas.Option.{none-some, same_Some}
+use Rattle.sbpl_graph.specs.Network.{Network, IsArc, IsFreeArc}
+use Rattle.sbpl_map.specs.CellMap.{CellMap, cost_at}
+use Rattle.sbpl_map.specs.MapAfter.{AreWritten}
+use Rattle.sbpl_map.specs.declared.write.Write.{Write}
+use Rattle.sbpl_cost.specs.World.{World, IsWorld}
+use Rattle.sbpl_cost.specs.Lattices.{network_of}
+use Rattle.sbpl_cost.specs.Reading.{IsHeadReading, over_map, DifferInCostsAlone, UnreadArcsCostTheSame, MapsChangeNoReads}
+use Rattle.sbpl_change.specs.Noted.{cell_cmp, AreNoted}
+use Rattle.sbpl_change.specs.Heads.{IsHeadOf, AreHeadsOf}
+use Rattle.sbpl_change.specs.Touched.{IsTouched, AreTouched, KeepArcsElsewhere}
+use Rattle.sbpl_change.proofs.Written.{changed_is_written}
+
+same_numbers_unless : (a b : ℕ) (r : Bool) → nat_eq a b ≡ r → ((Some a ≢ Some b) → ⊥) → Some a ≡ Some b
+same_numbers_unless a b true is h = ap (λ n. Some n) ((Decides-eqb a b).0 is)
+same_numbers_unless a b false is h = absurd (h (λ same.
+    let no : false ≡ true = sym is ∙ (Decides-eqb a b).1 (same_Some a b same) in cc))
+
+-- two costs are the same where they cannot differ
+same_unless : (a b : Option ℕ) → ((a ≢ b) → ⊥) → a ≡ b
+same_unless None None h = refl
+same_unless None (Some b) h = absurd (h (λ same. none-some b same))
+same_unless (Some a) None h = absurd (h (λ same. none-some a (sym same)))
+same_unless (Some a) (Some b) h = same_numbers_unless a b (nat_eq a b) refl h
+
+-- an arc of one graph is an arc of another that differs in costs alone
+same_arc : (n m : Network) (s k t : ℕ) → DifferInCostsAlone n m → IsArc n s k t → IsArc m s k t
+same_arc n m s k t rest arc = record {
+  source = subst (λ states. s < states) rest.states arc.source;
+  number = subst (λ fan. k < fan s) rest.fan arc.number;
+  head = subst (λ head. head s k ≡ Some t) rest.head arc.head;
+}
+
+module _ (w : World) (m : CellMap) (rest : DifferInCostsAlone (network_of (over_map w m)) (network_of w)) (reads : MapsChangeNoReads) where
+  head_before : (x y : ℤ) (t : ℕ) → IsHeadReading (over_map w m) x y t → IsHeadReading w x y t
+  head_before x y t h = record { source = h.source; number = h.number; arc = same_arc (network_of (over_map w m)) (network_of w) h.source h.number t rest h.arc; reads = (reads w m h.source h.number x y).0 h.reads }
+
+  -- the other way round
+  rest_back : DifferInCostsAlone (network_of w) (network_of (over_map w m))
+  rest_back = record { states = sym rest.states; fan = sym rest.fan; head = sym rest.head; tail_fan = sym rest.tail_fan; tail = sym rest.tail; gap = sym rest.gap }
+
+  head_after : (x y : ℤ) (t : ℕ) → IsHeadReading w x y t → IsHeadReading (over_map w m) x y t
+  head_after x y t h = record { source = h.source; number = h.number; arc = same_arc (network_of w) (network_of (over_map w m)) h.source h.number t rest_back h.arc; reads = (reads w m h.source h.number x y).1 h.reads }
+
+  module _ (batch : List Write) (costs : BTreeMap (ℕ × ℕ) ℕ) (heads : List ℕ) (noted : AreNoted w.map batch costs) (written : AreWritten w.map batch m) (are : AreHeadsOf (over_map w m) costs heads) where
+    touched_by_head : (t : ℕ) → IsHeadOf (over_map w m) costs t → IsTouched w m t
+    touched_by_head t h = record {
+      x = pos h.x;
+      y = pos h.y;
+      changed = λ same. h.head.changed (same ∙ noted.sound h.x h.y h.cost h.noted);
+      reads = head_before (pos h.x) (pos h.y) t h.head.reads;
+    }
+
+    head_by_note : (x y t : ℕ) (o : Option ℕ) → get cell_cmp costs (x, y) ≡ o → IsSome o → cost_at m (pos x) (pos y) ≢ cost_at w.map (pos x) (pos y) → IsHeadReading w (pos x) (pos y) t → IsHeadOf (over_map w m) costs t
+    head_by_note x y t None is some changed head = absurd (cc)
+    head_by_note x y t (Some c) is some changed head = record {
+      x = x;
+      y = y;
+      cost = c;
+      noted = is;
+      head = record { changed = λ same. changed (same ∙ sym (noted.sound x y c is)); reads = head_after (pos x) (pos y) t head };
+    }
+
+    head_by_touched : (t : ℕ) → IsTouched w m t → IsHeadOf (over_map w m) costs t
+    head_by_touched t h =
+        let to = changed_is_written batch w.map m h.x h.y written h.changed in
+        let v = to.write in
+        let changed : cost_at m (pos v.x) (pos v.y) ≢ cost_at w.map (pos v.x) (pos v.y) = subst (λ y. cost_at m (pos v.x) y ≢ cost_at w.map (pos v.x) y) to.row (subst (λ x. cost_at m x h.y ≢ cost_at w.map x h.y) to.column h.changed) in
+        let head : IsHeadReading w (pos v.x) (pos v.y) t = subst (λ y. IsHeadReading w (pos v.x) y t) to.row (subst (λ x. IsHeadReading w x h.y t) to.column h.reads) in
+        head_by_note v.x v.y t (get cell_cmp costs (v.x, v.y)) refl (noted.complete to.place v to.stands) changed head
+
+    pub heads_are_touched : AreTouched w m heads
+    heads_are_touched t = (λ h. touched_by_head t (are.sound t h), λ h. are.complete t (head_by_touched t h))
+
+  module _ (touched : List ℕ) (costs_same : UnreadArcsCostTheSame) (is_world : IsWorld w) (is_other : IsWorld (over_map w m)) (are : AreTouched w m touched) where
+    same_cost : (s k t : ℕ) → IsArc (network_of w) s k t → (Contains touched t → ⊥) → (network_of (over_map w m)).cost s k ≡ (network_of w).cost s k
+    same_cost s k t arc none = costs_same w m s k is_world is_other (λ x y read.
+        same_unless (cost_at m x y) (cost_at w.map x y) (λ changed.
+        none ((are t).1 (record { x = x; y = y; changed = changed; reads = record { source = s; number = k; arc = arc; reads = read } }))))
+
+    free_after : (s k t c : ℕ) → (Contains touched t → ⊥) → IsFreeArc (network_of w) s k t c → IsFreeArc (network_of (over_map w m)) s k t c
+    free_after s k t c none free =
+        let arc : IsArc (network_of w) s k t = record { source = free.source; number = free.number; head = free.head } in
+        let there = same_arc (network_of w) (network_of (over_map w m)) s k t rest_back arc in
+        record { source = there.source; number = there.number; head = there.head; cost = same_cost s k t arc none ∙ free.cost }
+
+    free_before : (s k t c : ℕ) → (Contains touched t → ⊥) → IsFreeArc (network_of (over_map w m)) s k t c → IsFreeArc (network_of w) s k t c
+    free_before s k t c none free =
+        let arc = same_arc (network_of (over_map w m)) (network_of w) s k t rest (record { source = free.source; number = free.number; head = free.head }) in
+        record { source = arc.source; number = arc.number; head = arc.head; cost = sym (same_cost s k t arc none) ∙ free.cost }
+
+    pub arcs_kept_elsewhere : KeepArcsElsewhere (network_of w) (network_of (over_map w m)) touched
+    arcs_kept_elsewhere t none = record { kept = λ s k c free. free_after s k t c none free; none_new = λ s k c free. free_before s k t c none free }

@@ -1,0 +1,11 @@
+//! Batches of changes of a lattice's map, and the states that they touch.
+#![tactic(auto)]
+
+mod batch;
+mod costs;
+mod heads;
+
+pub use batch::{apply, are_on_map};
+
+#[cfg(test)]
+mod tests;
