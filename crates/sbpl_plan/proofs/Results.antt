@@ -1,25 +1,21 @@
 -- What the result of a plan shows.
-use Rattle.std.proofs.Common.{◌≡◌, ◌≢◌, ℕ, ◌+◌, ◌*◌, ◌<◌, ◌≤◌, ◌⊎◌, Bool, true, false, List, [], ◌∷◌, length, refl, sym, ◌∙◌, ap, subst, arith, inl, inr, ◌^◌}
+use Rattle.std.proofs.Common.{◌≡◌, ℕ, ◌+◌, ◌*◌, ◌<◌, ◌≤◌, ◌⊎◌, false, List, sym, ap, subst, arith, inl, inr, ◌^◌}
 use Rattle.std.proofs.Math.Nat.{mul-le-mul_left, mul-le-mul_right}
 use Rattle.sbpl_graph.specs.declared.TheConstants.{FAR}
 use Rattle.sbpl_graph.specs.Network.{Network}
 use Rattle.sbpl_graph.specs.Laws.{IsConsistent, IsSound}
 use Rattle.sbpl_graph.specs.Path.{IsFreePath}
-use Rattle.sbpl_graph.specs.Certificate.{AreSupported, BoundHolds, NoneHolds, ShowBound, ShowNone}
-use Rattle.sbpl_labels.specs.Chain.{chain_at}
+use Rattle.sbpl_graph.specs.Certificate.{AreSupported, BoundHolds, NoneHolds, ShowBound}
 use Rattle.sbpl_labels.specs.Counts.{Counts, IsSpent}
 use Rattle.sbpl_labels.specs.CutOff.{IsCutOff}
-use Rattle.sbpl_labels.specs.Marks.{Marks, states_of, g_of, v_of, back_of}
-use Rattle.sbpl_ara.specs.Search.{Search}
+use Rattle.sbpl_labels.specs.Marks.{Marks, states_of, g_of, v_of}
 use Rattle.sbpl_plan.specs.declared.found.Found.{Found}
 use Rattle.sbpl_plan.specs.declared.found.Found.TheVariants as found
 use Rattle.sbpl_plan.specs.declared.result.Outcome.{Outcome}
 use Rattle.sbpl_plan.specs.declared.result.Outcome.TheVariants as outcome
-use Rattle.sbpl_plan.specs.Asked.{most_passes}
 use Rattle.sbpl_plan.specs.Looking.{IsPathFound, Looks}
-use Rattle.sbpl_plan.specs.Made.{AreMade}
 use Rattle.sbpl_plan.specs.Outcomes.{IsAnswered, IsOutcome, IsTold, IsTrueOutcome}
-use Rattle.sbpl_plan.specs.Passing.{Inquiry, IsLast, expansions}
+use Rattle.sbpl_plan.specs.Passing.{Inquiry, IsLast}
 use Rattle.sbpl_plan.specs.Turns.{IsTight}
 
 -- labels that show none, or a break, have no path

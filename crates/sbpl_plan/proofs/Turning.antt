@@ -1,20 +1,19 @@
 -- What a pass leaves of the start, and shows at its end.
-use Rattle.std.proofs.Common.{◌≡◌, ◌≢◌, ℕ, ◌*◌, ◌+◌, ◌<◌, ◌≤◌, ◌⊎◌, Bool, true, false, MatchBool, if◌then◌else◌, length, List, [], ◌∷◌, Option, Some, None, refl, sym, ◌∙◌, ap, subst, arith, inl, inr}
+use Rattle.std.proofs.Common.{◌≡◌, ℕ, ◌*◌, ◌+◌, ◌<◌, ◌≤◌, ◌⊎◌, Bool, true, false, MatchBool, if◌then◌else◌, length, List, [], ◌∷◌, Some, refl, sym, ◌∙◌, subst, arith, inl, inr}
 use Rattle.std.proofs.lemmas.Bool.{cases_eq}
 use Rattle.sbpl_graph.specs.declared.TheConstants.{FAR}
 use Rattle.sbpl_graph.specs.Network.{Network}
-use Rattle.sbpl_graph.specs.Bound.{IsBound, IsLow}
 use Rattle.sbpl_graph.specs.Certificate.{AreSupported, ShowBound, ShowNone}
-use Rattle.sbpl_labels.specs.Chain.{IsFirstBreak, chain_at}
+use Rattle.sbpl_labels.specs.Chain.{chain_at}
 use Rattle.sbpl_labels.specs.CutOff.{IsCutOff}
 use Rattle.sbpl_labels.specs.Marks.{Marks, states_of, g_of, v_of, back_of}
 use Rattle.sbpl_ara.specs.declared.step.Step.{Step}
 use Rattle.sbpl_labels.specs.Counts.{Counts, IsSpent}
-use Rattle.sbpl_ara.specs.Run.{Query, IsAtRest, IsNext, IsRun, IsStep, LowersHeads, RaisesState, closed_after, closed_with, none_closed}
+use Rattle.sbpl_ara.specs.Run.{Query, IsAtRest, IsNext, IsRun, LowersHeads, RaisesState, closed_after, closed_with, none_closed}
 use Rattle.sbpl_ara.specs.Search.{Search}
 use Rattle.sbpl_plan.specs.declared.found.Found.{Found}
 use Rattle.sbpl_plan.specs.declared.found.Found.TheVariants as found
-use Rattle.sbpl_plan.specs.Looking.{IsPathFound, IsStartFresh, Looks}
+use Rattle.sbpl_plan.specs.Looking.{IsStartFresh, Looks}
 use Rattle.sbpl_plan.specs.declared.passes.Pass.{Pass}
 use Rattle.sbpl_plan.specs.Passing.{EndsPass, Inquiry, query_at}
 use Rattle.sbpl_plan.specs.Turns.{IsTight, IsTurn}

@@ -1,6 +1,5 @@
-use Rattle.std.proofs.Common.{◌≤◌, ◌-◌, vec_capacity}
+use Rattle.std.proofs.Common.{◌≤◌, vec_capacity}
 use Rattle.sbpl_labels.specs.Marks.{states_of}
-use Rattle.sbpl_plan.specs.Passing.{Inquiry}
 use Rattle.sbpl_plan.proofs.Planning.{AreGoingOn}
 use Rattle.sbpl_plan.proofs.make.make_passes.Given as goal
 

@@ -1,4 +1,4 @@
-use Rattle.std.proofs.Common.{◌≡◌, ℕ, Bool, false, sym, subst, arith}
+use Rattle.std.proofs.Common.{Bool, subst}
 use Rattle.sbpl_labels.specs.Marks.{Marks}
 use Rattle.sbpl_plan.specs.Outcomes.{IsOutcome}
 use Rattle.sbpl_plan.specs.Passing.{Inquiry, IsLast}

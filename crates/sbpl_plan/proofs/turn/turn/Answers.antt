@@ -1,6 +1,5 @@
-use Rattle.std.proofs.Common.{◌≡◌, ℕ, Bool, true, false, refl, sym, ◌∙◌, ap, subst, length, List, [], if◌then◌else◌}
+use Rattle.std.proofs.Common.{◌≡◌, ℕ, refl, sym, ◌∙◌, ap, subst, length, List, [], if◌then◌else◌}
 use Rattle.sbpl_ara.specs.declared.step.Step.{Step}
-use Rattle.sbpl_ara.specs.Search.{Search}
 use Rattle.sbpl_labels.specs.Marks.{Marks}
 use Rattle.sbpl_plan.specs.Looking.{IsStartFresh, Looks}
 use Rattle.sbpl_plan.specs.Turns.{IsTurn}
