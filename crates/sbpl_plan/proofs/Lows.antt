@@ -1,5 +1,5 @@
 -- The low of labels with a path is above 0, unless the path costs nothing.
-use Rattle.std.proofs.Common.{◌≡◌, ◌≢◌, ℕ, ◌+◌, ◌<◌, ◌≤◌, ◌⊎◌, List, [], ◌∷◌, length, get_or, Option, Some, None, refl, sym, ◌∙◌, ap, subst, arith, inl, inr}
+use Rattle.std.proofs.Common.{◌≡◌, ◌≢◌, ℕ, ◌+◌, ◌<◌, ◌≤◌, List, [], ◌∷◌, Option, Some, None, refl, sym, ◌∙◌, ap, subst, arith, inl, inr}
 use Rattle.std.proofs.lemmas.Bool.{cases_lt}
 use Rattle.std.proofs.lemmas.List.{get_or_past}
 use Rattle.sbpl_graph.specs.declared.TheConstants.{FAR}
@@ -7,7 +7,7 @@ use Rattle.sbpl_graph.specs.Network.{Network, IsFreeArc}
 use Rattle.sbpl_graph.specs.Laws.{IsSound}
 use Rattle.sbpl_graph.specs.Path.{IsFreePath}
 use Rattle.sbpl_graph.specs.Bound.{IsLow}
-use Rattle.sbpl_graph.specs.Exact.{AreExact, GivesLabel}
+use Rattle.sbpl_graph.specs.Exact.{AreExact}
 use Rattle.sbpl_labels.specs.Chain.{IsBackPath, IsWalk}
 use Rattle.sbpl_labels.specs.Marks.{Marks, states_of, g_of, v_of, back_of, no_row, row_at}
 use Rattle.sbpl_labels.specs.declared.row.Row.{Row}

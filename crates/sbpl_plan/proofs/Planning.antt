@@ -1,14 +1,13 @@
 -- How passes add up to a plan.
-use Rattle.std.proofs.Common.{◌≡◌, ◌≢◌, ℕ, ◌+◌, ◌-◌, ◌*◌, ◌/◌, ◌<◌, ◌≤◌, ◌⊎◌, max, Bool, true, false, List, [], ◌∷◌, ◌++◌, length, refl, sym, ◌∙◌, ap, subst, arith, inl, inr, append_assoc, length-append, add-zero}
+use Rattle.std.proofs.Common.{◌≡◌, ◌≢◌, ℕ, ◌+◌, ◌-◌, ◌*◌, ◌/◌, ◌<◌, ◌≤◌, max, Bool, true, false, List, [], ◌∷◌, ◌++◌, length, refl, sym, ◌∙◌, ap, subst, arith, inl, inr, append_assoc, length-append, add-zero}
 use Rattle.std.proofs.Math.Nat.{add-mul, div-eq_of_lt, div-eq-sub-div}
 use Rattle.std.proofs.lemmas.Bool.{cases_lt}
-use Rattle.sbpl_labels.specs.Counts.{Counts, IsSpent}
-use Rattle.sbpl_labels.specs.Marks.{Marks, states_of, g_of, v_of}
-use Rattle.sbpl_ara.specs.Search.{Search, AreReady}
-use Rattle.sbpl_plan.specs.declared.found.Found.{Found}
+use Rattle.sbpl_labels.specs.Counts.{Counts}
+use Rattle.sbpl_labels.specs.Marks.{Marks, states_of}
+use Rattle.sbpl_ara.specs.Search.{Search}
 use Rattle.sbpl_plan.specs.declared.passes.Pass.{Pass}
 use Rattle.sbpl_plan.specs.Asked.{IsAsk, lowered, most_passes}
-use Rattle.sbpl_plan.specs.Looking.{IsStartFresh, Looks}
+use Rattle.sbpl_plan.specs.Looking.{IsStartFresh}
 use Rattle.sbpl_plan.specs.Made.{AreMade}
 use Rattle.sbpl_plan.specs.Passing.{ArePasses, Inquiry, IsLast, expansions}
 use Rattle.sbpl_plan.specs.Turns.{IsTurn}
@@ -55,24 +54,24 @@ expansions_more : (ps : List Pass) (p : Pass) → expansions (ps ++ p ∷ []) �
 expansions_more ps p = let both = expansions_of_both ps (p ∷ []) in omega arith
 
 -- passes were made, none of them the last, and the next one has this inflation
-pub record AreGoingOn (q : Inquiry) (old now : Search) (before after : Counts) (passes : List Pass) (eps : ℕ) : Type 0 where
+pub record AreGoingOn (ready : Marks → ℕ → Type 0) (most : ℕ) (q : Inquiry) (old now : Search) (before after : Counts) (passes : List Pass) (eps : ℕ) : Type 0 where
   pub leads : (ps : List Pass) (new : Marks) (spent : Bool) → ArePasses q eps now.labels ps new spent → ArePasses q q.ask.first old.labels (passes ++ ps) new spent
   pub counted : after ≡ record before { plan = before.plan + expansions passes; run = before.run + expansions passes }
   pub many : length passes + most_passes q.ask.step eps ≤ most_passes q.ask.step q.ask.first
-  pub spread : expansions passes ≤ length passes * states_of old.labels
-  pub ready : AreReady q.network now.labels after.run
+  pub spread : expansions passes ≤ length passes * (most * states_of old.labels)
+  pub is_ready : ready now.labels after.run
   pub fresh : IsStartFresh now.labels
   pub start : now.labels.start ≡ old.labels.start
   pub states : states_of now.labels ≡ states_of old.labels
   pub same_goal : now.goal ≡ old.goal
 
-pub begins : (q : Inquiry) (old : Search) (before : Counts) → AreReady q.network old.labels before.run → IsStartFresh old.labels → AreGoingOn q old old before before [] q.ask.first
-begins q old before ready fresh = record {
+pub begins : (ready : Marks → ℕ → Type 0) (most : ℕ) (q : Inquiry) (old : Search) (before : Counts) → ready old.labels before.run → IsStartFresh old.labels → AreGoingOn ready most q old old before before [] q.ask.first
+begins ready most q old before is_ready fresh = record {
   leads = λ ps new spent made. made;
   counted = grows_by_none before;
   many = omega arith;
   spread = omega arith;
-  ready = ready;
+  is_ready = is_ready;
   fresh = fresh;
   start = refl;
   states = refl;
@@ -80,14 +79,14 @@ begins q old before ready fresh = record {
 }
 
 -- a pass behind them that is not the last
-pub goes_on : (q : Inquiry) (old now new : Search) (before mid after : Counts) (passes : List Pass) (eps : ℕ) (arcs : List ℕ) (spent : Bool) (p : Pass) → IsAsk q.ask → 1000 ≤ eps → AreGoingOn q old now before mid passes eps → IsTurn q eps now new mid after arcs spent p → (IsLast q eps new.labels spent p.found → ⊥) → AreGoingOn q old new before after (passes ++ p ∷ []) (lowered q.ask.step eps)
-goes_on q old now new before mid after passes eps arcs true p asked low so t not = absurd (not (inr (inr (inl refl))))
-goes_on q old now new before mid after passes eps arcs false p asked low so t not = record {
+pub goes_on : (ready : Marks → ℕ → Type 0) (most : ℕ) (q : Inquiry) (old now new : Search) (before mid after : Counts) (passes : List Pass) (eps : ℕ) (arcs : List ℕ) (spent : Bool) (p : Pass) → IsAsk q.ask → 1000 ≤ eps → AreGoingOn ready most q old now before mid passes eps → IsTurn ready most q eps now new mid after arcs spent p → (IsLast q eps new.labels spent p.found → ⊥) → AreGoingOn ready most q old new before after (passes ++ p ∷ []) (lowered q.ask.step eps)
+goes_on ready most q old now new before mid after passes eps arcs true p asked low so t not = absurd (not (inr (inr (inl refl))))
+goes_on ready most q old now new before mid after passes eps arcs false p asked low so t not = record {
   leads = λ ps m spent made. subst (λ (l : List Pass). ArePasses q q.ask.first old.labels l m spent) (sym (append_assoc passes (p ∷ []) ps)) (so.leads (p ∷ ps) m spent (inr (new.labels, t.pass, not, made)));
   counted = grows_twice before mid after _ _ _ (expansions_more passes p) so.counted t.counted;
   many = let more = more_passes q.ask.step eps asked.step_low low (λ one. not (inr (inr (inr one)))) in let sum = so.many in rw (length-append passes (p ∷ [])) (omega arith);
-  spread = one_more _ _ _ _ _ _ (expansions_more passes p) (length-append passes (p ∷ [])) so.spread (subst (λ k. p.expanded ≤ k) so.states t.few);
-  ready = t.ready;
+  spread = one_more _ _ _ _ _ _ (expansions_more passes p) (length-append passes (p ∷ [])) so.spread (subst (λ k. p.expanded ≤ most * k) so.states t.few);
+  is_ready = t.is_ready;
   fresh = t.fresh;
   start = t.start ∙ so.start;
   states = t.states ∙ so.states;
@@ -95,8 +94,8 @@ goes_on q old now new before mid after passes eps arcs false p asked low so t no
 }
 
 -- a pass behind them that is the last
-pub all_made : (q : Inquiry) (old now new : Search) (before mid after : Counts) (passes : List Pass) (eps : ℕ) (arcs : List ℕ) (spent : Bool) (p : Pass) → AreGoingOn q old now before mid passes eps → IsTurn q eps now new mid after arcs spent p → IsLast q eps new.labels spent p.found → AreMade q old new before after arcs (passes ++ p ∷ []) spent p.found
-all_made q old now new before mid after passes eps arcs spent p so t last = record {
+pub all_made : (ready : Marks → ℕ → Type 0) (most : ℕ) (q : Inquiry) (old now new : Search) (before mid after : Counts) (passes : List Pass) (eps : ℕ) (arcs : List ℕ) (spent : Bool) (p : Pass) → AreGoingOn ready most q old now before mid passes eps → IsTurn ready most q eps now new mid after arcs spent p → IsLast q eps new.labels spent p.found → AreMade ready most q old new before after arcs (passes ++ p ∷ []) spent p.found
+all_made ready most q old now new before mid after passes eps arcs spent p so t last = record {
   made = so.leads (p ∷ []) new.labels spent (inl (refl, t.pass, last));
   looks = t.looks;
   last_inflation = eps;
@@ -106,8 +105,8 @@ all_made q old now new before mid after passes eps arcs spent p so t last = reco
   is_spent = t.is_spent;
   counted = grows_twice before mid after _ _ _ (expansions_more passes p) so.counted t.counted;
   few = let sum = so.many in rw (length-append passes (p ∷ [])) (omega arith);
-  unfinished = λ is. one_less _ _ _ _ _ _ (expansions_more passes p) (length-append passes (p ∷ [])) so.spread (subst (λ k. p.expanded < k) so.states (t.unfinished is));
-  ready = t.ready;
+  unfinished = λ is. one_less _ _ _ _ _ _ (expansions_more passes p) (length-append passes (p ∷ [])) so.spread (subst (λ k. p.expanded < most * k) so.states (t.unfinished is));
+  is_ready = t.is_ready;
   supported = t.supported;
   fresh = t.fresh;
   start = t.start ∙ so.start;

@@ -1,25 +1,21 @@
 -- What the result of a plan shows.
-use Rattle.std.proofs.Common.{◌≡◌, ◌≢◌, ℕ, ◌+◌, ◌*◌, ◌<◌, ◌≤◌, ◌⊎◌, Bool, true, false, List, [], ◌∷◌, length, refl, sym, ◌∙◌, ap, subst, arith, inl, inr, ◌^◌}
+use Rattle.std.proofs.Common.{◌≡◌, ℕ, ◌+◌, ◌*◌, ◌<◌, ◌≤◌, ◌⊎◌, false, List, sym, ap, subst, arith, inl, inr, ◌^◌}
 use Rattle.std.proofs.Math.Nat.{mul-le-mul_left, mul-le-mul_right}
 use Rattle.sbpl_graph.specs.declared.TheConstants.{FAR}
 use Rattle.sbpl_graph.specs.Network.{Network}
 use Rattle.sbpl_graph.specs.Laws.{IsConsistent, IsSound}
 use Rattle.sbpl_graph.specs.Path.{IsFreePath}
-use Rattle.sbpl_graph.specs.Certificate.{AreSupported, BoundHolds, NoneHolds, ShowBound, ShowNone}
-use Rattle.sbpl_labels.specs.Chain.{chain_at}
+use Rattle.sbpl_graph.specs.Certificate.{AreSupported, BoundHolds, NoneHolds, ShowBound}
 use Rattle.sbpl_labels.specs.Counts.{Counts, IsSpent}
 use Rattle.sbpl_labels.specs.CutOff.{IsCutOff}
-use Rattle.sbpl_labels.specs.Marks.{Marks, states_of, g_of, v_of, back_of}
-use Rattle.sbpl_ara.specs.Search.{Search}
+use Rattle.sbpl_labels.specs.Marks.{Marks, states_of, g_of, v_of}
 use Rattle.sbpl_plan.specs.declared.found.Found.{Found}
 use Rattle.sbpl_plan.specs.declared.found.Found.TheVariants as found
 use Rattle.sbpl_plan.specs.declared.result.Outcome.{Outcome}
 use Rattle.sbpl_plan.specs.declared.result.Outcome.TheVariants as outcome
-use Rattle.sbpl_plan.specs.Asked.{most_passes}
 use Rattle.sbpl_plan.specs.Looking.{IsPathFound, Looks}
-use Rattle.sbpl_plan.specs.Made.{AreMade}
 use Rattle.sbpl_plan.specs.Outcomes.{IsAnswered, IsOutcome, IsTold, IsTrueOutcome}
-use Rattle.sbpl_plan.specs.Passing.{Inquiry, IsLast, expansions}
+use Rattle.sbpl_plan.specs.Passing.{Inquiry, IsLast}
 use Rattle.sbpl_plan.specs.Turns.{IsTight}
 
 -- labels that show none, or a break, have no path
@@ -65,7 +61,7 @@ outcome_is_true n h goal m start outcome.NoPath bounds nones sound consistent sa
 outcome_is_true n h goal m start outcome.Unknown bounds nones sound consistent same supported first unknown = tt
 
 -- where the last pass was not spent, the result is known
-pub outcome_is_known : (q : Inquiry) (eps : ℕ) (m : Marks) (others : List ℕ) (f : Found) (o : Outcome) → 1000 ≤ q.ask.bound → IsLast q eps m false f → (g_of m q.goal ≡ FAR → IsCutOff (states_of m) q.goal (g_of m) (v_of m)) → (eps ≡ 1000 → IsTight f) → Looks q.network q.guide q.goal m others f → IsTold f o → IsOutcome q.network q.guide q.goal m o → IsAnswered q.ask.bound o
+pub outcome_is_known : (q : Inquiry) (eps : ℕ) (m : Marks) (others : List ℕ) (f : Found) (o : Outcome) → 1000 ≤ q.ask.bound → IsLast q eps m false f → (eps ≡ 1000 → g_of m q.goal ≡ FAR → IsCutOff (states_of m) q.goal (g_of m) (v_of m)) → (eps ≡ 1000 → IsTight f) → Looks q.network q.guide q.goal m others f → IsTold f o → IsOutcome q.network q.guide q.goal m o → IsAnswered q.ask.bound o
 outcome_is_known q eps m others (found.Path c b) (outcome.Path arcs cost bound) low last none tight looks told is = elim last [
   | inl enough ↦ let same : bound ≡ b = told.1 in omega arith
   | inr (inl cut) ↦ absurd (let near : g_of m q.goal < FAR = looks.walk.near in let far : g_of m q.goal ≡ FAR = cut.goal_is_far in omega arith)
@@ -76,7 +72,12 @@ outcome_is_known q eps m others (found.Path c b) outcome.NoPath low last none ti
 outcome_is_known q eps m others (found.Path c b) outcome.Unknown low last none tight looks told is = absurd told
 outcome_is_known q eps m others found.None (outcome.Path arcs cost bound) low last none tight looks told is = absurd told
 outcome_is_known q eps m others found.None outcome.NoPath low last none tight looks told is = tt
-outcome_is_known q eps m others found.None outcome.Unknown low last none tight looks told is = is.0 (none looks.0)
+outcome_is_known q eps m others found.None outcome.Unknown low last none tight looks told is = elim last [
+  | inl enough ↦ enough
+  | inr (inl cut) ↦ is.0 cut
+  | inr (inr (inl spent)) ↦ absurd (cc)
+  | inr (inr (inr one)) ↦ is.0 (none one looks.0)
+]
 outcome_is_known q eps m others found.Broken (outcome.Path arcs cost bound) low last none tight looks told is = absurd told
 outcome_is_known q eps m others found.Broken outcome.NoPath low last none tight looks told is = tt
 outcome_is_known q eps m others found.Broken outcome.Unknown low last none tight looks told is = elim last [

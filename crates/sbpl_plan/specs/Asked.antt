@@ -1,5 +1,5 @@
 -- What a plan is asked for.
-use Rattle.std.specs.Prelude.{ℕ, ◌+◌, ◌-◌, ◌*◌, ◌/◌, ◌≤◌, max}
+use Rattle.std.specs.Prelude.{ℕ, ◌+◌, ◌-◌, ◌/◌, ◌≤◌, max}
 use Rattle.sbpl_plan.specs.declared.ask.Ask.{Ask}
 
 -- inflations and the bound lie in their ranges

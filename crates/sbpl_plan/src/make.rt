@@ -1,9 +1,8 @@
-//! A whole plan.
+//! The making of a plan.
 
 ghost use Rattle.std.specs.Prelude.{◌≡◌, ℕ, ◌+◌, ◌*◌, ◌^◌, ◌≤◌, ◌<◌, ◌↔◌, IsTrue, ◌⊎◌, IfOk, length, true, false, vec_capacity};
 ghost use Rattle.sbpl_graph.specs.Certificate.{AreSupported};
 ghost use Rattle.sbpl_graph.specs.Network.{Network};
-ghost use Rattle.sbpl_ara.specs.Search.{AreReady};
 ghost use Rattle.sbpl_labels.specs.Counts.{IsSpent};
 ghost use Rattle.sbpl_labels.specs.CutOff.{IsCutOff};
 ghost use Rattle.sbpl_labels.specs.Marks.{states_of, g_of, v_of};
@@ -13,12 +12,12 @@ ghost use Rattle.sbpl_plan.specs.Made.{AreMade};
 ghost use Rattle.sbpl_plan.specs.Outcomes.{IsAnswered, IsOutcome, IsTold, IsTrueOutcome};
 ghost use Rattle.sbpl_plan.specs.Passing.{ArePasses, IsLast, expansions};
 
+use crate::anytime::Anytime;
 use crate::ask::Ask;
 use crate::found::Found;
 use crate::passes::{Pass, Passes};
 use crate::result::{Arcs, Outcome, Planned};
 use crate::turn::turn;
-use sbpl_ara::Ara;
 use sbpl_fixed::NoMemory;
 use sbpl_graph::{Graph, Guide, bound_holds, none_holds};
 use sbpl_labels::{Budget, Labels};
@@ -58,32 +57,32 @@ struct Made {
 }
 
 /// Makes the passes of a plan. `arcs` then holds the path that the last one found.
-fn make_passes<G: Graph, H: Guide>(
+fn make_passes<G: Graph, H: Guide, S: Anytime>(
     alloc: Global,
     graph: &G,
     guide: &H,
-    ara: &mut Ara,
+    search: &mut S,
     goal: u32,
     ask: &Ask,
     budget: &mut Budget,
     arcs: &mut Vec<u32>,
 ) -> Result<Made, NoMemory>
-    requires goal { goal ≡ ara.old.goal }
+    requires goal { goal ≡ (S.state search.old).goal }
     requires guide { H.guides guide.now (G.network graph.now) goal }
     requires asked { IsAsk ask.now }
-    requires ready { AreReady (G.network graph.now) ara.old.labels budget.old.run }
-    requires fresh { IsStartFresh ara.old.labels }
-    requires room { states_of ara.old.labels ≤ vec_capacity arcs.old }
-    ensures made { IfOk result (λ r. AreMade (record { network = G.network graph.now; guide = H.distance guide.now; goal = goal; ask = ask.now }) ara.old ara.new budget.old budget.new arcs.new.items r.passes.items r.spent r.found) }
+    requires ready { S.ready (G.network graph.now) (S.state search.old).labels budget.old.run }
+    requires fresh { IsStartFresh (S.state search.old).labels }
+    requires room { states_of (S.state search.old).labels ≤ vec_capacity arcs.old }
+    ensures made { IfOk result (λ r. AreMade (S.ready (G.network graph.now)) S.most (record { network = G.network graph.now; guide = H.distance guide.now; goal = goal; ask = ask.now }) (S.state search.old) (S.state search.new) budget.old budget.new arcs.new.items r.passes.items r.spent r.found) }
 {
     let mut passes = Vec::new(alloc);
     let mut eps = ask.first;
     loop {
         arcs.clear();
-        let (pass, spent) = turn(alloc, graph, guide, ara, goal, ask, eps, budget, arcs)?;
+        let (pass, spent) = turn(alloc, graph, guide, search, goal, ask, eps, budget, arcs)?;
         let found = pass.found;
         passes.push(pass)?;
-        if is_last(ask, eps, ara.labels(), goal, spent, found) {
+        if is_last(ask, eps, search.labels(), goal, spent, found) {
             return Ok(Made {
                 passes,
                 spent,
@@ -116,48 +115,41 @@ fn outcome_of(labels: &Labels, goal: u32, found: Found, arcs: Vec<u32>) -> Outco
     }
 }
 
-/// Makes a plan: passes with the inflation `ask.first`, then `ask.step` less each time and never below 1.000, until one
-/// finds a path whose bound is at most `ask.bound`, shows that there is no path, is spent, or has inflation 1.000 (ARA*,
-/// Likhachev, Gordon and Thrun 2003). The search is one to this goal, and the guide was built for this graph and goal.
-pub fn plan<G: Graph, H: Guide>(
+/// Makes a plan by this search: its passes, and its result by the final labels.
+pub(crate) fn make_plan<G: Graph, H: Guide, S: Anytime>(
     alloc: Global,
     graph: &G,
     guide: &H,
-    ara: &mut Ara,
+    search: &mut S,
     goal: u32,
     ask: &Ask,
     budget: &mut Budget,
 ) -> Result<Planned, NoMemory>
-    requires goal { goal ≡ ara.old.goal }
+    requires goal { goal ≡ (S.state search.old).goal }
     requires guide { H.guides guide.now (G.network graph.now) goal }
     requires asked { IsAsk ask.now }
-    requires ready { AreReady (G.network graph.now) ara.old.labels budget.old.run }
-    requires fresh { IsStartFresh ara.old.labels }
-    // The passes are those that the definitions determine, and so is the result.
-    ensures passes { IfOk result (λ r. ArePasses (record { network = G.network graph.now; guide = H.distance guide.now; goal = goal; ask = ask.now }) ask.now.first ara.old.labels r.passes ara.new.labels r.spent) }
-    ensures outcome { IfOk result (λ r. IsOutcome (G.network graph.now) (H.distance guide.now) goal ara.new.labels r.outcome) }
-    // The result is true, and known where the plan was not spent.
-    ensures so { IfOk result (λ r. IsTrueOutcome (G.network graph.now) ara.old.labels.start goal r.outcome) }
+    requires ready { S.ready (G.network graph.now) (S.state search.old).labels budget.old.run }
+    requires fresh { IsStartFresh (S.state search.old).labels }
+    ensures passes { IfOk result (λ r. ArePasses (record { network = G.network graph.now; guide = H.distance guide.now; goal = goal; ask = ask.now }) ask.now.first (S.state search.old).labels r.passes (S.state search.new).labels r.spent) }
+    ensures outcome { IfOk result (λ r. IsOutcome (G.network graph.now) (H.distance guide.now) goal (S.state search.new).labels r.outcome) }
+    ensures so { IfOk result (λ r. IsTrueOutcome (G.network graph.now) (S.state search.old).labels.start goal r.outcome) }
     ensures answered { IfOk result (λ r. r.spent ≡ false → IsAnswered ask.now.bound r.outcome) }
-    // Each expansion is counted. A plan is spent only where its budget or the run's is, and not where it may expand as many
-    // states in each pass as there are.
     ensures counted { IfOk result (λ r. budget.new ≡ record budget.old { plan = budget.old.plan + expansions r.passes; run = budget.old.run + expansions r.passes }) }
     ensures spent { IfOk result (λ r. r.spent ≡ true → IsSpent budget.new) }
     ensures few { IfOk result (λ r. length r.passes ≤ most_passes ask.now.step ask.now.first) }
-    ensures enough { IfOk result (λ r. r.spent ≡ true → budget.old.plan + most_passes ask.now.step ask.now.first * states_of ara.old.labels ≤ budget.old.per_plan → budget.new.run ≡ 2 ^ 30) }
-    // The labels may begin another plan.
-    ensures ready { IfOk result (λ _. AreReady (G.network graph.now) ara.new.labels budget.new.run) }
-    ensures supported { IfOk result (λ _. AreSupported (G.network graph.now) ara.new.labels.start (g_of ara.new.labels) (v_of ara.new.labels)) }
-    ensures fresh { IfOk result (λ _. IsStartFresh ara.new.labels) }
-    ensures start { IfOk result (λ _. ara.new.labels.start ≡ ara.old.labels.start) }
-    ensures states { IfOk result (λ _. states_of ara.new.labels ≡ states_of ara.old.labels) }
-    ensures same_goal { IfOk result (λ _. ara.new.goal ≡ ara.old.goal) }
+    ensures enough { IfOk result (λ r. r.spent ≡ true → budget.old.plan + most_passes ask.now.step ask.now.first * (S.most * states_of (S.state search.old).labels) ≤ budget.old.per_plan → budget.new.run ≡ 2 ^ 30) }
+    ensures ready { IfOk result (λ _. S.ready (G.network graph.now) (S.state search.new).labels budget.new.run) }
+    ensures supported { IfOk result (λ _. AreSupported (G.network graph.now) (S.state search.new).labels.start (g_of (S.state search.new).labels) (v_of (S.state search.new).labels)) }
+    ensures fresh { IfOk result (λ _. IsStartFresh (S.state search.new).labels) }
+    ensures start { IfOk result (λ _. (S.state search.new).labels.start ≡ (S.state search.old).labels.start) }
+    ensures states { IfOk result (λ _. states_of (S.state search.new).labels ≡ states_of (S.state search.old).labels) }
+    ensures same_goal { IfOk result (λ _. (S.state search.new).goal ≡ (S.state search.old).goal) }
 {
     bound_holds();
     none_holds();
     let mut arcs = Vec::with_capacity(alloc, graph.states() as usize)?;
-    let made = make_passes(alloc, graph, guide, ara, goal, ask, budget, &mut arcs)?;
-    let outcome = outcome_of(ara.labels(), goal, made.found, arcs);
+    let made = make_passes(alloc, graph, guide, search, goal, ask, budget, &mut arcs)?;
+    let outcome = outcome_of(search.labels(), goal, made.found, arcs);
     Ok(Planned {
         passes: Passes::of(made.passes),
         spent: made.spent,

@@ -1,17 +1,17 @@
 //! One pass of a plan.
 
 ghost use Rattle.std.specs.Prelude.{◌≡◌, ◌≤◌, ◌<◌, ◌↔◌, [], IfOk, IsTrue, IsFalse, if◌then◌else◌, vec_capacity};
-ghost use Rattle.sbpl_ara.specs.Search.{AreReady};
 ghost use Rattle.sbpl_labels.specs.declared.pass_end.PassEnd.TheVariants as PassEnd;
 ghost use Rattle.sbpl_labels.specs.Marks.{states_of};
 ghost use Rattle.sbpl_plan.specs.Looking.{IsStartFresh};
 ghost use Rattle.sbpl_plan.specs.Turns.{IsTurn};
 
+use crate::anytime::Anytime;
 use crate::ask::Ask;
 use crate::look::look;
 use crate::passes::Pass;
 use crate::trace::Trace;
-use sbpl_ara::{Ara, Step};
+use sbpl_ara::Step;
 use sbpl_fixed::NoMemory;
 use sbpl_graph::{Graph, Guide};
 use sbpl_labels::{Budget, PassEnd};
@@ -40,31 +40,31 @@ fn is_spent(end: PassEnd) -> bool
 }
 
 /// Makes one pass of this inflation, and tells whether it was spent. `arcs` then holds the path that the pass found.
-pub(crate) fn turn<G: Graph, H: Guide>(
+pub(crate) fn turn<G: Graph, H: Guide, S: Anytime>(
     alloc: Global,
     graph: &G,
     guide: &H,
-    ara: &mut Ara,
+    search: &mut S,
     goal: u32,
     ask: &Ask,
     eps: u32,
     budget: &mut Budget,
     arcs: &mut Vec<u32>,
 ) -> Result<(Pass, bool), NoMemory>
-    requires goal { goal ≡ ara.old.goal }
+    requires goal { goal ≡ (S.state search.old).goal }
     requires guide { H.guides guide.now (G.network graph.now) goal }
     requires eps_low { 1000 ≤ eps }
     requires eps_high { eps ≤ 100000 }
-    requires ready { AreReady (G.network graph.now) ara.old.labels budget.old.run }
-    requires fresh { IsStartFresh ara.old.labels }
+    requires ready { S.ready (G.network graph.now) (S.state search.old).labels budget.old.run }
+    requires fresh { IsStartFresh (S.state search.old).labels }
     requires empty { arcs.old.items ≡ [] }
-    requires room { states_of ara.old.labels ≤ vec_capacity arcs.old }
-    ensures turn { IfOk result (λ r. IsTurn (record { network = G.network graph.now; guide = H.distance guide.now; goal = goal; ask = ask.now }) eps ara.old ara.new budget.old budget.new arcs.new.items r.1 r.0) }
+    requires room { states_of (S.state search.old).labels ≤ vec_capacity arcs.old }
+    ensures turn { IfOk result (λ r. IsTurn (S.ready (G.network graph.now)) S.most (record { network = G.network graph.now; guide = H.distance guide.now; goal = goal; ask = ask.now }) eps (S.state search.old) (S.state search.new) budget.old budget.new arcs.new.items r.1 r.0) }
     ensures room { vec_capacity arcs.new ≡ vec_capacity arcs.old }
 {
-    let end = ara.pass(graph, guide, eps, budget);
-    let found = look(graph, guide, ara.labels(), goal, arcs);
-    let steps = ara.trace();
+    let end = search.pass(graph, guide, eps, budget);
+    let found = look(graph, guide, search.labels(), goal, arcs);
+    let steps = search.trace();
     let expanded = steps.len() as u64;
     let trace = tell(alloc, steps, ask.traced)?;
     let pass = Pass {

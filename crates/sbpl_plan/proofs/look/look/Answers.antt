@@ -1,4 +1,4 @@
-use Rattle.std.proofs.Common.{◌≡◌, ℕ, ◌<◌, Option, Some, None, refl, arith}
+use Rattle.std.proofs.Common.{ℕ, Option, Some, None, refl, arith}
 use Rattle.std.specs.Option.{IsSome, IsNone}
 use Rattle.sbpl_plan.proofs.Lows.{low_some}
 use Rattle.sbpl_plan.proofs.look.look.Goals as goal

@@ -14,22 +14,22 @@ returns-then-is_last g c =
     let q : Inquiry = record { network = g.G.Graph.network c.args.graph.now; guide = g.H.Guide.distance c.args.guide.now; goal = c.args.goal; ask = c.args.ask.now } in
     let last = subst (λ (m : Marks). IsEnough c.args.ask.now.bound c.in_ok-pass.pass.found ⊎ (IsCutOff (states_of m) c.args.goal (g_of m) (v_of m) ⊎ ((c.in_ok-pass.spent ≡ true) ⊎ (c.loop-passes.eps ≡ 1000)))) c.labels.ensures.value (c.is_last.ensures.last.0 c.if-is_last.true) in
     record {
-      made = subst (λ (ps : List Pass). AreMade q c.args.ara.now c.turn.new.ara c.args.budget.now c.turn.new.budget c.turn.new.arcs.items ps c.in_ok-pass.spent c.in_ok-pass.pass.found) (sym c.in_ok-push.ensures.items)
-          (all_made q _ _ _ _ _ _ _ _ _ _ _ c.loop-passes.invariant.going_on c.in_ok-pass.ensures.turn last);
+      made = subst (λ (ps : List Pass). AreMade (g.S.Anytime.ready (g.G.Graph.network c.args.graph.now)) g.S.Anytime.most q (g.S.Anytime.state c.args.search.now) (g.S.Anytime.state c.turn.new.search) c.args.budget.now c.turn.new.budget c.turn.new.arcs.items ps c.in_ok-pass.spent c.in_ok-pass.pass.found) (sym c.in_ok-push.ensures.items)
+          (all_made _ _ q _ _ _ _ _ _ _ _ _ _ _ c.loop-passes.invariant.going_on c.in_ok-pass.ensures.turn last);
     }
 
 pub loop-passes-preserved : goal.loop-passes-preserved
 loop-passes-preserved g c =
     let q : Inquiry = record { network = g.G.Graph.network c.args.graph.now; guide = g.H.Guide.distance c.args.guide.now; goal = c.args.goal; ask = c.args.ask.now } in
-    let not = λ (last : IsLast q c.loop-passes.eps c.turn.new.ara.labels c.in_ok-pass.spent c.in_ok-pass.pass.found).
+    let not = λ (last : IsLast q c.loop-passes.eps (g.S.Anytime.state c.turn.new.search).labels c.in_ok-pass.spent c.in_ok-pass.pass.found).
     (let yes = c.is_last.ensures.last.1 (subst (λ (m : Marks). IsEnough c.args.ask.now.bound c.in_ok-pass.pass.found ⊎ (IsCutOff (states_of m) c.args.goal (g_of m) (v_of m) ⊎ ((c.in_ok-pass.spent ≡ true) ⊎ (c.loop-passes.eps ≡ 1000)))) (sym c.labels.ensures.value) last) in
     let no : ⊥ = cc (yes, c.if-is_last.false) in no) in
-    let on = goes_on q _ _ _ _ _ _ _ _ _ _ _ c.requires.asked c.loop-passes.invariant.low c.loop-passes.invariant.going_on c.in_ok-pass.ensures.turn not in
+    let on = goes_on _ _ q _ _ _ _ _ _ _ _ _ _ _ c.requires.asked c.loop-passes.invariant.low c.loop-passes.invariant.going_on c.in_ok-pass.ensures.turn not in
     let high = c.loop-passes.invariant.high in
     let is = c.lowered-eps.ensures.lowered in
     record {
-      going_on = subst (λ (e : ℕ). AreGoingOn q c.args.ara.now c.turn.new.ara c.args.budget.now c.turn.new.budget c.push.new.self.items e) (sym is)
-          (subst (λ (ps : List Pass). AreGoingOn q c.args.ara.now c.turn.new.ara c.args.budget.now c.turn.new.budget ps (lowered c.args.ask.now.step c.loop-passes.eps)) (sym c.in_ok-push.ensures.items) on);
+      going_on = subst (λ (e : ℕ). AreGoingOn (g.S.Anytime.ready (g.G.Graph.network c.args.graph.now)) g.S.Anytime.most q (g.S.Anytime.state c.args.search.now) (g.S.Anytime.state c.turn.new.search) c.args.budget.now c.turn.new.budget c.push.new.self.items e) (sym is)
+          (subst (λ (ps : List Pass). AreGoingOn (g.S.Anytime.ready (g.G.Graph.network c.args.graph.now)) g.S.Anytime.most q (g.S.Anytime.state c.args.search.now) (g.S.Anytime.state c.turn.new.search) c.args.budget.now c.turn.new.budget ps (lowered c.args.ask.now.step c.loop-passes.eps)) (sym c.in_ok-push.ensures.items) on);
       low = omega arith;
       high = omega arith;
       room = rw (c.turn.ensures.room) (let r = c.loop-passes.invariant.room in let k = c.clear.ensures.capacity in omega arith);

@@ -1,15 +1,14 @@
-use Rattle.std.proofs.Common.{◌≤◌, ◌-◌, vec_capacity}
+use Rattle.std.proofs.Common.{◌≤◌, vec_capacity}
 use Rattle.sbpl_labels.specs.Marks.{states_of}
-use Rattle.sbpl_plan.specs.Passing.{Inquiry}
 use Rattle.sbpl_plan.proofs.Planning.{AreGoingOn}
 use Rattle.sbpl_plan.proofs.make.make_passes.Given as goal
 
 abbrev pub invariant-loop-passes : goal.invariant-loop-passes
 invariant-loop-passes g l = record {
-  going_on : AreGoingOn (record { network = g.G.Graph.network l.graph; guide = g.H.Guide.distance l.guide; goal = l.goal; ask = l.ask }) l.fn.ara l.ara l.fn.budget l.budget l.passes.items l.eps;
+  going_on : AreGoingOn (g.S.Anytime.ready (g.G.Graph.network l.graph)) g.S.Anytime.most (record { network = g.G.Graph.network l.graph; guide = g.H.Guide.distance l.guide; goal = l.goal; ask = l.ask }) (g.S.Anytime.state l.fn.search) (g.S.Anytime.state l.search) l.fn.budget l.budget l.passes.items l.eps;
   low : 1000 ≤ l.eps;
   high : l.eps ≤ 100000;
-  room : states_of l.fn.ara.labels ≤ vec_capacity l.arcs;
+  room : states_of (g.S.Anytime.state l.fn.search).labels ≤ vec_capacity l.arcs;
 }
 
 abbrev pub decreases-loop-passes : goal.decreases-loop-passes
