@@ -1,0 +1,58 @@
+-- The rows of a grid, as they are written.
+use Rattle.std.proofs.Common.{◌≡◌, ℕ, zero, suc, sub-one, ◌+◌, ◌-◌, ◌<◌, ◌≤◌, List, [], ◌∷◌, ◌++◌, length, map, take, drop, get_or, append_assoc, append-nil, add-one, arith, refl, sym, ◌∙◌, ap}
+use Rattle.std.proofs.Math.Seq.{drop-cons}
+use Rattle.std.proofs.lemmas.List.{drop_all, get_or-take, length-drop, length-map}
+use Rattle.std.specs.Fmt.{decimal}
+use Rattle.sbpl_cfg.specs.Printed.{grid_lines, line_text, lines_text}
+
+-- a word that isn't the last
+pub line_text-more : (w : List ℕ) (ws : List (List ℕ)) → 0 < length ws → line_text (w ∷ ws) ≡ w ++ 32 ∷ line_text ws
+unfolding line_text
+line_text-more w [] h = absurd (omega arith)
+line_text-more w (v ∷ ws) h = refl
+
+-- the last
+pub line_text-last : (w : List ℕ) → line_text (w ∷ []) ≡ w ++ 10 ∷ []
+unfolding line_text
+line_text-last w = refl
+
+-- one more cost of a row, which isn't its last
+pub row_more : (out old next cells : List ℕ) (i x : ℕ) → i < length cells - 1 → x ≡ get_or (take (length cells - 1) cells) i 0
+    → next ≡ out ++ (decimal x ++ 32 ∷ []) → out ++ line_text (map decimal (drop i cells)) ≡ old
+    → next ++ line_text (map decimal (drop (i + 1) cells)) ≡ old
+row_more out old next cells i x below read wrote before =
+    let rest = drop (suc i) cells in
+    let front : drop i cells ≡ x ∷ rest = rw (read, get_or-take (length cells - 1) cells i 0 below) (drop-cons cells i 0 (omega arith)) in
+    let some : 0 < length (map decimal rest) = rw (length-map rest decimal, length-drop (suc i) cells) (omega arith) in
+    let all : out ++ ((decimal x ++ 32 ∷ []) ++ line_text (map decimal rest)) ≡ old =
+    rw (append_assoc (decimal x) (32 ∷ []) (line_text (map decimal rest)), ← line_text-more (decimal x) (map decimal rest) some) (rw front at before) in
+    rw (wrote, add-one i, append_assoc out (decimal x ++ 32 ∷ []) (line_text (map decimal rest))) all
+
+-- its last
+pub row_last : (out old next cells : List ℕ) (i x : ℕ) → i + 1 ≡ length cells → x ≡ get_or cells i 0
+    → next ≡ out ++ (decimal x ++ 10 ∷ []) → out ++ line_text (map decimal (drop i cells)) ≡ old → next ≡ old
+row_last out old next cells i x end read wrote before =
+    let front : drop i cells ≡ x ∷ [] = rw (read, drop-cons cells i 0 (omega arith), drop_all (suc i) cells (omega arith)) refl in
+    wrote ∙ ap (λ text. out ++ text) (sym (line_text-last (decimal x))) ∙ (rw front at before)
+
+grid_lines-more : (rows width : ℕ) (cells : List ℕ) → 0 < rows
+    → grid_lines rows width cells ≡ map decimal (take width cells) ∷ grid_lines (rows - 1) width (drop width cells)
+unfolding grid_lines
+grid_lines-more zero width cells h = absurd (omega arith)
+grid_lines-more (suc rows) width cells h = rw sub-one refl
+
+-- one more row of a grid
+pub grid_more : (old out next row below rest : List ℕ) (height width y : ℕ) → y < height → row ≡ take width rest → below ≡ drop width rest
+    → next ≡ out ++ line_text (map decimal row) → out ++ lines_text (grid_lines (height - y) width rest) ≡ old
+    → next ++ lines_text (grid_lines (height - (y + 1)) width below) ≡ old
+grid_more old out next row below rest height width y more at behind wrote before =
+    let step : grid_lines (height - y) width rest ≡ map decimal row ∷ grid_lines (height - (y + 1)) width below =
+    rw (at, behind, grid_lines-more (height - y) width rest (omega arith)) (ap (λ n. map decimal (take width rest) ∷ grid_lines n width (drop width rest)) (omega arith)) in
+    rw (wrote, append_assoc out (line_text (map decimal row)) (lines_text (grid_lines (height - (y + 1)) width below))) (rw step at before)
+
+-- no row is left
+pub grid_done : (old out rest : List ℕ) (height width y : ℕ) → height ≤ y → out ++ lines_text (grid_lines (height - y) width rest) ≡ old → out ≡ old
+unfolding grid_lines
+grid_done old out rest height width y done before =
+    let none : height - y ≡ 0 = omega arith in
+    sym (append-nil out) ∙ (rw none at before)

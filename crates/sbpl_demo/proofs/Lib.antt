@@ -1,0 +1,4 @@
+mod Grids
+mod Steps
+mod Texts
+mod Ways

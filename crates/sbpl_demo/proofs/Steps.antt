@@ -1,0 +1,85 @@
+-- One more draw, and what it adds.
+use Rattle.std.proofs.Common.{◌≡◌, ℕ, zero, suc, ◌+◌, ◌-◌, ◌*◌, ◌/◌, ◌%◌, ◌<◌, List, [], ◌∷◌, ◌++◌, append-nil, refl, sym, add-one, sub-one, arith}
+use Rattle.sbpl_fixed.specs.Printed.{last_digits}
+use Rattle.sbpl_cfg.specs.Printed.{line_text}
+use Rattle.sbpl_demo.specs.Generator.{draw, next_word, word_after}
+use Rattle.sbpl_demo.specs.Environment.{cost_of, costs_drawn}
+use Rattle.sbpl_demo.specs.Changes.{batch_text, batches_text, change_text, changes_text}
+use Rattle.sbpl_demo.specs.Primitives.{heading_text, headings_text, pose_words, poses_text}
+use Rattle.sbpl_demo.specs.declared.primitives.Motion.{Motion}
+
+pub word_none : (x : ℕ) → word_after 0 x ≡ x
+unfolding word_after
+word_none x = refl
+
+pub word_next : (n x : ℕ) → word_after (n + 1) x ≡ next_word (word_after n x)
+unfolding word_after
+word_next n x = rw (add-one n) refl
+
+pub words_join : (n m x : ℕ) → word_after n (word_after m x) ≡ word_after (m + n) x
+unfolding word_after
+words_join zero m x = let e : m + 0 ≡ m = omega arith in rw e refl
+words_join (suc n) m x =
+    let e : m + suc n ≡ suc (m + n) = omega arith in
+    rw (e, words_join n m x) refl
+
+pub word_change : (n x : ℕ) → word_after (3 * (n + 1)) x ≡ word_after 3 (word_after (3 * n) x)
+word_change n x = let e : 3 * (n + 1) ≡ 3 * n + 3 = omega arith in rw e (sym (words_join 3 (3 * n) x))
+
+pub word_batch : (n x : ℕ) → word_after (24 * (n + 1)) x ≡ word_after 24 (word_after (24 * n) x)
+word_batch n x = let e : 24 * (n + 1) ≡ 24 * n + 24 = omega arith in rw e (sym (words_join 24 (24 * n) x))
+
+pub word_three : (x : ℕ) → word_after 3 x ≡ next_word (next_word (next_word x))
+unfolding word_after
+word_three x = refl
+
+pub costs_none : (x : ℕ) → costs_drawn 0 x ≡ []
+unfolding costs_drawn
+costs_none x = refl
+
+pub costs_next : (n x : ℕ) → costs_drawn (n + 1) x ≡ costs_drawn n x ++ cost_of (draw n x) ∷ []
+unfolding costs_drawn
+costs_next n x = rw (add-one n) refl
+
+pub changes_none : (width height from : ℕ) → changes_text width height 0 from ≡ []
+unfolding changes_text
+changes_none width height from = refl
+
+pub changes_next : (width height n from : ℕ)
+    → changes_text width height (n + 1) from ≡ changes_text width height n from ++ change_text width height (word_after (3 * n) from)
+unfolding changes_text
+changes_next width height n from = rw (add-one n) refl
+
+pub batches_none : (width height from : ℕ) → batches_text width height 0 from ≡ []
+unfolding batches_text
+batches_none width height from = refl
+
+pub batches_next : (width height n from : ℕ)
+    → batches_text width height (n + 1) from ≡ batches_text width height n from ++ batch_text width height (word_after (24 * n) from)
+unfolding batches_text
+batches_next width height n from = rw (add-one n) refl
+
+pub poses_none : (m : Motion) → poses_text m 0 ≡ []
+unfolding poses_text
+poses_none m = refl
+
+pub poses_next : (m : Motion) (n : ℕ) → poses_text m (n + 1) ≡ poses_text m n ++ line_text (pose_words m n)
+unfolding poses_text
+poses_next m n = rw (add-one n) refl
+
+pub headings_none : headings_text 0 ≡ []
+unfolding headings_text
+headings_none = refl
+
+pub headings_next : (n : ℕ) → headings_text (n + 1) ≡ headings_text n ++ heading_text n
+unfolding headings_text
+headings_next n = rw (add-one n) refl
+
+pub digits_none : (a : List ℕ) (count n : ℕ) → count ≡ 0 → a ≡ a ++ last_digits count n
+unfolding last_digits
+digits_none a count n h = rw (h, append-nil a) refl
+
+pub digits_next : (count n : ℕ) → 0 < count → last_digits count n ≡ last_digits (count - 1) (n / 10) ++ (48 + n % 10) ∷ []
+unfolding last_digits
+digits_next zero n h = absurd (omega arith)
+digits_next (suc count) n h = rw sub-one refl

@@ -1,0 +1,4 @@
+pub mod Changes
+pub mod Environment
+pub mod Generator
+pub mod Primitives

@@ -1,0 +1,132 @@
+-- The primitives: five for each of sixteen headings, for cells of 25 millimetres.
+use Rattle.std.specs.Prelude.{◌≡◌, ℕ, zero, suc, ◌+◌, ◌*◌, ◌/◌, ◌<◌, ℤ, pos, negsuc, neg_ℤ, ◌+ℤ◌, ◌-ℤ◌, ◌*ℤ◌, ◌≤ℤ◌, List, [], ◌∷◌, ◌++◌, get_or, codes, decimal, if◌then◌else◌, nat_eq}
+use Rattle.std.specs.Fmt.{signed_decimal}
+use Rattle.sbpl_fixed.specs.Printed.{point_text}
+use Rattle.sbpl_cfg.specs.Printed.{line_text, lines_text}
+use Rattle.sbpl_demo.specs.declared.primitives.Motion.{Motion}
+use Rattle.sbpl_demo.specs.declared.primitives.Way.{Way}
+
+-- ten-thousandths with four decimals; a number that is 0 has no sign
+abbrev pub parts_text : ℤ → List ℕ
+parts_text (pos n) = point_text 4 n
+parts_text (negsuc n) = 45 ∷ point_text 4 (n + 1)
+
+-- ---- a primitive
+
+-- the whole number nearest to n / 9
+abbrev pub nearest_ninth : ℕ → ℕ
+nearest_ninth n = (2 * n + 9) / 18
+
+-- Pose j of ten on the straight way over `cells` cells, along an axis: it is at j ninths of the way, which is 250
+-- ten-thousandths of a metre for each cell.
+unfoldable pub along : ℤ → ℕ → ℤ
+along (pos n) j = pos (nearest_ninth (250 * (n * j)))
+along (negsuc n) j = neg_ℤ (pos (nearest_ninth (250 * ((n + 1) * j))))
+
+-- the angle of a heading, in ten-thousandths
+abbrev pub angle : ℤ → ℤ
+angle heading = pos 3927 *ℤ heading
+
+-- the last pose has the heading at the end
+abbrev pub heading_at : Motion → ℕ → ℤ
+heading_at m j = if nat_eq j 9 then m.to else pos m.from
+
+abbrev pub pose_words : Motion → ℕ → List (List ℕ)
+pose_words m j = parts_text (along m.way.x j) ∷ parts_text (along m.way.y j) ∷ parts_text (angle (heading_at m j)) ∷ []
+
+-- the first n poses
+unfoldable pub poses_text : Motion → ℕ → List ℕ
+poses_text m zero = []
+poses_text m (suc n) = poses_text m n ++ line_text (pose_words m n)
+
+abbrev pub field : List ℕ → ℕ → List (List ℕ)
+field name n = name ∷ decimal n ∷ []
+
+abbrev pub end_words : Motion → List (List ℕ)
+end_words m = codes "endpose_c:" ∷ signed_decimal m.way.x ∷ signed_decimal m.way.y ∷ signed_decimal m.to ∷ []
+
+-- the lines before the poses
+abbrev pub motion_head : Motion → List (List (List ℕ))
+motion_head m =
+    field (codes "primID:") m.id
+    ∷ field (codes "startangle_c:") m.from
+    ∷ end_words m
+    ∷ field (codes "additionalactioncostmult:") m.mult
+    ∷ field (codes "intermediateposes:") 10
+    ∷ []
+
+unfoldable pub motion_text : Motion → List ℕ
+motion_text m = lines_text (motion_head m) ++ poses_text m 10
+
+-- ---- the five primitives of a heading
+
+abbrev pub step : ℤ → ℤ → Way
+step x y = record { x = x; y = y }
+
+-- the steps along the headings, in cells
+abbrev pub ways : List Way
+ways =
+    step (pos 1) (pos 0) ∷ step (pos 2) (pos 1) ∷ step (pos 1) (pos 1) ∷ step (pos 1) (pos 2)
+    ∷ step (pos 0) (pos 1) ∷ step (negsuc 0) (pos 2) ∷ step (negsuc 0) (pos 1) ∷ step (negsuc 1) (pos 1)
+    ∷ step (negsuc 0) (pos 0) ∷ step (negsuc 1) (negsuc 0) ∷ step (negsuc 0) (negsuc 0) ∷ step (negsuc 0) (negsuc 1)
+    ∷ step (pos 0) (negsuc 0) ∷ step (pos 1) (negsuc 1) ∷ step (pos 1) (negsuc 0) ∷ step (pos 2) (negsuc 0)
+    ∷ []
+
+-- the step along a heading
+unfoldable pub way_along : ℕ → Way
+way_along heading = get_or ways heading (step (pos 0) (pos 0))
+
+abbrev pub forward : ℕ → Way → Motion
+forward from along = record { id = 0; «from» = from; way = along; to = pos from; mult = 1 }
+
+abbrev pub backward : ℕ → Way → Motion
+backward from along = record { id = 1; «from» = from; way = step (neg_ℤ along.x) (neg_ℤ along.y); to = pos from; mult = 5 }
+
+abbrev pub left : ℕ → Motion
+left from = record { id = 2; «from» = from; way = step (pos 0) (pos 0); to = pos from +ℤ pos 1; mult = 1 }
+
+abbrev pub right : ℕ → Motion
+right from = record { id = 3; «from» = from; way = step (pos 0) (pos 0); to = pos from -ℤ pos 1; mult = 1 }
+
+abbrev pub far : ℕ → Way → Motion
+far from along = record { id = 4; «from» = from; way = step (pos 4 *ℤ along.x) (pos 4 *ℤ along.y); to = pos from; mult = 1 }
+
+unfoldable pub heading_text : ℕ → List ℕ
+heading_text from =
+    motion_text (forward from (way_along from))
+    ++ (motion_text (backward from (way_along from))
+    ++ (motion_text (left from)
+    ++ (motion_text (right from)
+    ++ motion_text (far from (way_along from)))))
+
+-- ---- the file
+
+-- the first n headings
+unfoldable pub headings_text : ℕ → List ℕ
+headings_text zero = []
+headings_text (suc n) = headings_text n ++ heading_text n
+
+abbrev pub head_text : List ℕ
+head_text = lines_text (
+    (codes "resolution_m:" ∷ codes "0.025000" ∷ [])
+    ∷ field (codes "numberofangles:") 16
+    ∷ field (codes "totalnumberofprimitives:") 80
+    ∷ []
+    )
+
+abbrev pub primitives_text : List ℕ
+primitives_text = head_text ++ headings_text 16
+
+-- ---- the ranges
+
+-- a step goes by at most two cells along an axis
+pub record IsStep (w : Way) : Type 0 where
+  pub x : (negsuc 1 ≤ℤ w.x) × (w.x ≤ℤ pos 2)
+  pub y : (negsuc 1 ≤ℤ w.y) × (w.y ≤ℤ pos 2)
+
+-- a primitive goes by at most eight cells along an axis, and turns by at most one heading
+pub record IsMotion (m : Motion) : Type 0 where
+  pub x : (negsuc 7 ≤ℤ m.way.x) × (m.way.x ≤ℤ pos 8)
+  pub y : (negsuc 7 ≤ℤ m.way.y) × (m.way.y ≤ℤ pos 8)
+  pub «from» : m.from < 16
+  pub to : (negsuc 0 ≤ℤ m.to) × (m.to ≤ℤ pos 16)

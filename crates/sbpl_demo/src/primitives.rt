@@ -1,0 +1,285 @@
+//! The primitives.
+
+ghost use Rattle.std.specs.Prelude.{◌≡◌, ◌<◌, ◌≤◌, ◌++◌, pos, negsuc, ◌≤ℤ◌, OnOk, IfOk};
+ghost use Rattle.sbpl_cfg.specs.Printed.{line_text, lines_text};
+ghost use Rattle.sbpl_demo.specs.Primitives.{IsMotion, IsStep, along, angle, backward, end_words, far, field, forward, heading_at, heading_text, left, motion_head, motion_text, nearest_ninth, pose_words, poses_text, primitives_text, right, way_along};
+
+use crate::put::{put_count, put_parts, put_signed, put_word};
+use sbpl_fixed::NoMemory;
+use std::alloc::Global;
+
+/// The lines before the first primitive.
+const HEAD: &[u8] = b"resolution_m: 0.025000
+numberofangles: 16
+totalnumberofprimitives: 80
+";
+
+/// A step in cells.
+#[derive(Clone, Copy, Debug)]
+struct Way {
+    x: i32,
+    y: i32,
+}
+
+/// A primitive: its number, its heading, the cell and the heading that it goes to, and how dear it is.
+#[derive(Clone, Copy, Debug)]
+struct Motion {
+    id: u32,
+    from: u32,
+    way: Way,
+    to: i32,
+    mult: u32,
+}
+
+/// The step along each heading.
+const WAYS: [Way; 16] = [
+    Way { x: 1, y: 0 },
+    Way { x: 2, y: 1 },
+    Way { x: 1, y: 1 },
+    Way { x: 1, y: 2 },
+    Way { x: 0, y: 1 },
+    Way { x: -1, y: 2 },
+    Way { x: -1, y: 1 },
+    Way { x: -2, y: 1 },
+    Way { x: -1, y: 0 },
+    Way { x: -2, y: -1 },
+    Way { x: -1, y: -1 },
+    Way { x: -1, y: -2 },
+    Way { x: 0, y: -1 },
+    Way { x: 1, y: -2 },
+    Way { x: 1, y: -1 },
+    Way { x: 2, y: -1 },
+];
+
+/// A ninth of a number, to the nearest whole number. No number is halfway.
+fn nearest_ninth(n: u32) -> u32
+    requires { n ≤ 18000 }
+    ensures nearest { result ≡ nearest_ninth n }
+    ensures small { result ≤ 2000 }
+{
+    (2 * n + 9) / 18
+}
+
+/// The coordinate of pose `j` of ten on the straight way over `cells` cells, in ten-thousandths of a metre.
+fn along(cells: i32, j: u32) -> i32
+    requires low { negsuc 7 ≤ℤ cells }
+    requires high { cells ≤ℤ pos 8 }
+    requires pose { j < 10 }
+    ensures along { result ≡ along cells j }
+{
+    let size = nearest_ninth(250 * (cells.unsigned_abs() * j)) as i32;
+    if cells < 0 { -size } else { size }
+}
+
+/// The angle of a heading, in ten-thousandths.
+fn angle(heading: i32) -> i32
+    requires low { negsuc 0 ≤ℤ heading }
+    requires high { heading ≤ℤ pos 16 }
+    ensures angle { result ≡ angle heading }
+{
+    3927 * heading
+}
+
+/// The heading of pose `j` of ten: the last pose has the heading at the end.
+fn heading_at(motion: &Motion, j: u32) -> i32
+    requires { IsMotion motion.now }
+    ensures heading { result ≡ heading_at motion.now j }
+{
+    if j == 9 {
+        motion.to
+    } else {
+        motion.from as i32
+    }
+}
+
+/// Appends the line of pose `j` of ten.
+#[tactic(auto, using(std::proofs::lemmas::List::append_assoc), unfolding(sbpl_cfg::specs::Printed::line_text))]
+fn put_pose(out: &mut Vec<u8>, motion: &Motion, j: u32) -> Result<(), NoMemory>
+    requires motion { IsMotion motion.now }
+    requires pose { j < 10 }
+    ensures ok { OnOk result (out.new.items ≡ out.old.items ++ line_text (pose_words motion.now j)) }
+{
+    put_parts(out, along(motion.way.x, j), b' ')?;
+    put_parts(out, along(motion.way.y, j), b' ')?;
+    put_parts(out, angle(heading_at(motion, j)), b'\n')?;
+    Ok(())
+}
+
+/// Appends the lines of the ten poses.
+#[tactic(auto, using(crate::proofs::Steps::poses_none, crate::proofs::Steps::poses_next, std::proofs::lemmas::List::append_assoc))]
+fn put_poses(out: &mut Vec<u8>, motion: &Motion) -> Result<(), NoMemory>
+    requires motion { IsMotion motion.now }
+    ensures ok { OnOk result (out.new.items ≡ out.old.items ++ poses_text motion.now 10) }
+{
+    for j in 0..10 {
+        put_pose(out, motion, j)?;
+    }
+    Ok(())
+}
+
+/// Appends the line of a word and a number.
+#[tactic(auto, using(std::proofs::lemmas::List::append_assoc), unfolding(sbpl_cfg::specs::Printed::line_text))]
+fn put_field(out: &mut Vec<u8>, name: &[u8], n: u32) -> Result<(), NoMemory>
+    ensures ok { OnOk result (out.new.items ≡ out.old.items ++ line_text (field name.now n)) }
+{
+    put_word(out, name, b' ')?;
+    put_count(out, n, b'\n')?;
+    Ok(())
+}
+
+/// Appends the line of the end.
+#[tactic(auto, using(std::proofs::lemmas::List::append_assoc), unfolding(sbpl_cfg::specs::Printed::line_text))]
+fn put_end(out: &mut Vec<u8>, motion: &Motion) -> Result<(), NoMemory>
+    ensures ok { OnOk result (out.new.items ≡ out.old.items ++ line_text (end_words motion.now)) }
+{
+    put_word(out, b"endpose_c:", b' ')?;
+    put_signed(out, motion.way.x, b' ')?;
+    put_signed(out, motion.way.y, b' ')?;
+    put_signed(out, motion.to, b'\n')?;
+    Ok(())
+}
+
+/// Appends the lines of a primitive before its poses.
+fn put_head(out: &mut Vec<u8>, motion: &Motion) -> Result<(), NoMemory>
+    ensures ok { OnOk result (out.new.items ≡ out.old.items ++ lines_text (motion_head motion.now)) }
+{
+    put_field(out, b"primID:", motion.id)?;
+    put_field(out, b"startangle_c:", motion.from)?;
+    put_end(out, motion)?;
+    put_field(out, b"additionalactioncostmult:", motion.mult)?;
+    put_field(out, b"intermediateposes:", 10)?;
+    Ok(())
+}
+
+/// Appends a primitive.
+#[tactic(auto, using(std::proofs::lemmas::List::append_assoc), unfolding(crate::specs::Primitives::motion_text))]
+fn put_motion(out: &mut Vec<u8>, motion: &Motion) -> Result<(), NoMemory>
+    requires motion { IsMotion motion.now }
+    ensures ok { OnOk result (out.new.items ≡ out.old.items ++ motion_text motion.now) }
+{
+    put_head(out, motion)?;
+    put_poses(out, motion)?;
+    Ok(())
+}
+
+/// The step along a heading.
+#[tactic(auto, unfolding(crate::specs::Primitives::way_along))]
+fn way_along(heading: u32) -> Way
+    requires { heading < 16 }
+    ensures way { result ≡ way_along heading }
+    ensures small { IsStep result }
+{
+    WAYS[heading as usize]
+}
+
+/// A step forward.
+fn forward(from: u32, step: Way) -> Motion
+    requires heading { from < 16 }
+    requires step { IsStep step }
+    ensures motion { result ≡ forward from step }
+    ensures small { IsMotion result }
+{
+    Motion {
+        id: 0,
+        from,
+        way: step,
+        to: from as i32,
+        mult: 1,
+    }
+}
+
+/// A step back, which is dear.
+fn backward(from: u32, step: Way) -> Motion
+    requires heading { from < 16 }
+    requires step { IsStep step }
+    ensures motion { result ≡ backward from step }
+    ensures small { IsMotion result }
+{
+    Motion {
+        id: 1,
+        from,
+        way: Way {
+            x: -step.x,
+            y: -step.y,
+        },
+        to: from as i32,
+        mult: 5,
+    }
+}
+
+/// A turn by one heading to the left.
+fn left(from: u32) -> Motion
+    requires heading { from < 16 }
+    ensures motion { result ≡ left from }
+    ensures small { IsMotion result }
+{
+    Motion {
+        id: 2,
+        from,
+        way: Way { x: 0, y: 0 },
+        to: from as i32 + 1,
+        mult: 1,
+    }
+}
+
+/// A turn by one heading to the right.
+fn right(from: u32) -> Motion
+    requires heading { from < 16 }
+    ensures motion { result ≡ right from }
+    ensures small { IsMotion result }
+{
+    Motion {
+        id: 3,
+        from,
+        way: Way { x: 0, y: 0 },
+        to: from as i32 - 1,
+        mult: 1,
+    }
+}
+
+/// Four steps forward.
+fn far(from: u32, step: Way) -> Motion
+    requires heading { from < 16 }
+    requires step { IsStep step }
+    ensures motion { result ≡ far from step }
+    ensures small { IsMotion result }
+{
+    Motion {
+        id: 4,
+        from,
+        way: Way {
+            x: 4 * step.x,
+            y: 4 * step.y,
+        },
+        to: from as i32,
+        mult: 1,
+    }
+}
+
+/// Appends the five primitives of a heading.
+fn put_heading(out: &mut Vec<u8>, from: u32) -> Result<(), NoMemory>
+    requires heading { from < 16 }
+    ensures ok { OnOk result (out.new.items ≡ out.old.items ++ heading_text from) }
+{
+    let step = way_along(from);
+    put_motion(out, &forward(from, step))?;
+    put_motion(out, &backward(from, step))?;
+    put_motion(out, &left(from))?;
+    put_motion(out, &right(from))?;
+    put_motion(out, &far(from, step))?;
+    Ok(())
+}
+
+/// The text of the primitives: for each of sixteen headings a step forward, a dear step back, a turn to the left, a turn to
+/// the right, and four steps forward. They are for cells of 25 millimetres.
+#[tactic(auto, using(crate::proofs::Steps::headings_none, crate::proofs::Steps::headings_next, crate::proofs::Texts::primitives_head, std::proofs::lemmas::List::append_assoc))]
+pub(crate) fn primitives(alloc: Global) -> Result<Vec<u8>, NoMemory>
+    ensures text { IfOk result (λ text. text.items ≡ primitives_text) }
+{
+    let mut text = Vec::new(alloc);
+    text.extend_from_slice(HEAD)?;
+    for heading in 0..16 {
+        put_heading(&mut text, heading)?;
+    }
+    Ok(text)
+}
