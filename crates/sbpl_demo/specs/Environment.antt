@@ -1,6 +1,5 @@
 -- The environment that is drawn.
 use Rattle.std.specs.Prelude.{ℕ, zero, suc, ◌+◌, ◌-◌, ◌*◌, ◌%◌, ℤ, pos, List, [], ◌∷◌, ◌++◌, set, codes, decimal, if◌then◌else◌, nat_lt}
-use Rattle.sbpl_fixed.specs.Printed.{nano_text}
 use Rattle.sbpl_cfg.specs.declared.pose.Pose.{Pose}
 use Rattle.sbpl_cfg.specs.Environment.{Environment}
 use Rattle.sbpl_cfg.specs.Printed.{end_lines, pose_words, rate_lines, size_lines}

@@ -1,5 +1,5 @@
 -- The primitives: five for each of sixteen headings, for cells of 25 millimetres.
-use Rattle.std.specs.Prelude.{◌≡◌, ℕ, zero, suc, ◌+◌, ◌*◌, ◌/◌, ◌<◌, ℤ, pos, negsuc, neg_ℤ, ◌+ℤ◌, ◌-ℤ◌, ◌*ℤ◌, ◌≤ℤ◌, List, [], ◌∷◌, ◌++◌, get_or, codes, decimal, if◌then◌else◌, nat_eq}
+use Rattle.std.specs.Prelude.{ℕ, zero, suc, ◌+◌, ◌*◌, ◌/◌, ◌<◌, ℤ, pos, negsuc, neg_ℤ, ◌+ℤ◌, ◌-ℤ◌, ◌*ℤ◌, ◌≤ℤ◌, List, [], ◌∷◌, ◌++◌, get_or, codes, decimal, if◌then◌else◌, nat_eq}
 use Rattle.std.specs.Fmt.{signed_decimal}
 use Rattle.sbpl_fixed.specs.Printed.{point_text}
 use Rattle.sbpl_cfg.specs.Printed.{line_text, lines_text}
