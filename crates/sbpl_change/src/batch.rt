@@ -34,8 +34,8 @@ fn make(lattice: &mut Lattice, write: &Write)
     let _was = lattice.set(i64::from(write.x), i64::from(write.y), write.cost);
 }
 
-/// Makes the writes of a batch in turn.
-fn write_all(lattice: &mut Lattice, batch: &[Write])
+/// Writes a batch to the map of a lattice, in turn. All cells of the batch are on the map. It takes no memory.
+pub fn write_batch(lattice: &mut Lattice, batch: &[Write])
     requires on_map { AreOnMap lattice.old.map batch.now }
     ensures written { AreWritten lattice.old.map batch.now lattice.new.map }
     ensures others { lattice.new ≡ record lattice.old { map = lattice.new.map } }
@@ -71,6 +71,6 @@ pub fn apply(
     let _map = lattice.map();
     touched.clear();
     let costs = present_costs(alloc, lattice, batch)?;
-    write_all(lattice, batch);
+    write_batch(lattice, batch);
     add_changed_heads(lattice, &costs, touched)
 }

@@ -5,7 +5,7 @@ mod batch;
 mod costs;
 mod heads;
 
-pub use batch::{apply, are_on_map};
+pub use batch::{apply, are_on_map, write_batch};
 
 #[cfg(test)]
 mod tests;

@@ -4,7 +4,7 @@ use Rattle.std.proofs.lemmas.Option.{slice_get-get_or}
 use Rattle.sbpl_cost.specs.World.{World}
 use Rattle.sbpl_map.specs.declared.write.Write.{Write}
 use Rattle.sbpl_change.proofs.Written.{still_on_map}
-use Rattle.sbpl_change.proofs.batch.write_all.Goals as goal
+use Rattle.sbpl_change.proofs.batch.write_batch.Goals as goal
 
 pub make-requires : goal.make-requires
 make-requires c =

@@ -1,6 +1,6 @@
 use Rattle.std.proofs.Common.{◌≡◌, take}
 use Rattle.sbpl_map.specs.MapAfter.{AreWritten}
-use Rattle.sbpl_change.proofs.batch.write_all.Given as goal
+use Rattle.sbpl_change.proofs.batch.write_batch.Given as goal
 
 abbrev pub invariant-loop-write : goal.invariant-loop-write
 invariant-loop-write l = record {
