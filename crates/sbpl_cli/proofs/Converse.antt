@@ -8,16 +8,16 @@ use Rattle.sbpl_sweep.specs.Widths.{IsFirstTooWide, NoneTooWide}
 use Rattle.sbpl_cost.specs.PrimitiveCost.{IsFirstTooDear, most_cost, primitive_cost}
 use Rattle.sbpl_cost.specs.World.{World}
 use Rattle.sbpl_desk.specs.Desk.{Rose}
-use Rattle.sbpl_cli.specs.declared.job.CheckJob.{CheckJob}
-use Rattle.sbpl_cli.specs.declared.job.Job.{Job}
-use Rattle.sbpl_cli.specs.declared.job.Job.TheVariants as job
-use Rattle.sbpl_cli.specs.declared.job.Sources.{Sources}
+use Rattle.sbpl_job.specs.declared.job.CheckJob.{CheckJob}
+use Rattle.sbpl_job.specs.declared.job.Job.{Job}
+use Rattle.sbpl_job.specs.declared.job.Job.TheVariants as job
+use Rattle.sbpl_job.specs.declared.job.Sources.{Sources}
 use Rattle.sbpl_cli.specs.declared.refusal.Input.TheVariants as input
 use Rattle.sbpl_cli.specs.declared.refusal.Refusal.{Refusal}
 use Rattle.sbpl_cli.specs.declared.refusal.Refusal.TheVariants as refusal
 use Rattle.sbpl_cli.specs.Causes.{AtLabels, IsCause, IsFaultyFor, IsJobCause, IsLateCause, IsRead, IsTooLong, NoneTooDear, SaysEnvironment, SaysPrimitives, SaysWorld}
 use Rattle.sbpl_cli.specs.Intents.{Intent, Refused, Planned, Checked, Listed, OutOfMemory, intent_status, refusal_status}
-use Rattle.sbpl_cli.specs.Jobs.{sources_of}
+use Rattle.sbpl_job.specs.Jobs.{sources_of}
 use Rattle.sbpl_cli.specs.Promises.{ComesTo, IsNoCheck, IsOrFailed, Tells, TellsEnvironment, TellsEnvironmentFault, TellsPrimitiveFault, TellsPrimitives, TellsTooMuch}
 use Rattle.sbpl_cli.specs.Texts.{HasEnvironmentFault, HasPrimitiveFault, IsEnvironmentText, IsPrimitiveText}
 use Rattle.sbpl_cli.specs.Writing.{FaultCounts, Told}

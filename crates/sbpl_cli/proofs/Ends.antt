@@ -3,10 +3,10 @@ use Rattle.std.proofs.Common.{◌≡◌, ℕ, ◌≤◌, List, [], ◌∷◌, Op
 use Rattle.std.proofs.lemmas.Bool.{cases_lt}
 use Rattle.sbpl_desk.specs.Desk.{NoneFalls, Rose, Stays}
 use Rattle.sbpl_cost.specs.World.{IsWorld, World}
-use Rattle.sbpl_cli.specs.declared.job.Job.{Job}
-use Rattle.sbpl_cli.specs.declared.job.Job.TheVariants as job
-use Rattle.sbpl_cli.specs.declared.job.PlanJob.{PlanJob}
-use Rattle.sbpl_cli.specs.declared.job.Sources.{Sources}
+use Rattle.sbpl_job.specs.declared.job.Job.{Job}
+use Rattle.sbpl_job.specs.declared.job.Job.TheVariants as job
+use Rattle.sbpl_job.specs.declared.job.PlanJob.{PlanJob}
+use Rattle.sbpl_job.specs.declared.job.Sources.{Sources}
 use Rattle.sbpl_cli.specs.declared.record.PlanRecord.{PlanRecord}
 use Rattle.sbpl_cli.specs.declared.refusal.Input.TheVariants as input
 use Rattle.sbpl_cli.specs.declared.refusal.Refusal.{Refusal}
@@ -15,7 +15,7 @@ use Rattle.sbpl_cli.specs.declared.refusal.Stop.{Stop}
 use Rattle.sbpl_cli.specs.declared.refusal.Stop.TheVariants as stop
 use Rattle.sbpl_cli.specs.Causes.{AtLabels, IsCause, IsJobCause, IsLateCause, IsPlanned, JobStopsFor, SaysWorld, StopsFor}
 use Rattle.sbpl_cli.specs.Intents.{Intent, Refused, Planned, Listed, OutOfMemory, intent_status, listing_writes, plan_writes, refusal_status, refusal_writes, writes_of}
-use Rattle.sbpl_cli.specs.Jobs.{sources_of}
+use Rattle.sbpl_job.specs.Jobs.{sources_of}
 use Rattle.sbpl_cli.specs.Promises.{ComesTo, EndsJob, MayBeWritten}
 use Rattle.sbpl_cli.specs.Writing.{AreMade, EndsAs, FaultCounts, IsOutput, StaysBut, Told, Write}
 use Rattle.sbpl_cli.proofs.Writings.{ends_since, none_made}

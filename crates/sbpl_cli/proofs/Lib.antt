@@ -1,4 +1,3 @@
-pub mod Parting
 pub mod Writings
 pub mod Laws
 pub mod Converse

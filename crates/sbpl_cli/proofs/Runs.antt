@@ -16,21 +16,21 @@ use Rattle.sbpl_fixed.specs.Formats.{start_at}
 use Rattle.sbpl_cert.specs.declared.outcome.Outcome.{Outcome}
 use Rattle.sbpl_cli.specs.declared.checking.SectionStop.{SectionStop}
 use Rattle.sbpl_cli.specs.declared.checking.SectionStop.TheVariants as section
-use Rattle.sbpl_cli.specs.declared.job.CheckJob.{CheckJob}
-use Rattle.sbpl_cli.specs.declared.job.Sources.{Sources}
+use Rattle.sbpl_job.specs.declared.job.CheckJob.{CheckJob}
+use Rattle.sbpl_job.specs.declared.job.Sources.{Sources}
 use Rattle.sbpl_cli.specs.Checked.{AreChecked}
 use Rattle.sbpl_cli.specs.Headline.{IsStateOf}
 use Rattle.sbpl_cli.proofs.Ends.{plain_is}
 use Rattle.sbpl_cli.proofs.OneEnding.{SectionsAreClear, one_ending, one_state}
-use Rattle.sbpl_cli.specs.declared.job.Job.{Job}
-use Rattle.sbpl_cli.specs.declared.job.Job.TheVariants as job
-use Rattle.sbpl_cli.specs.declared.job.Outputs.{Outputs}
+use Rattle.sbpl_job.specs.declared.job.Job.{Job}
+use Rattle.sbpl_job.specs.declared.job.Job.TheVariants as job
+use Rattle.sbpl_job.specs.declared.job.Outputs.{Outputs}
 use Rattle.sbpl_cli.specs.declared.record.PlanRecord.{PlanRecord}
 use Rattle.sbpl_cli.specs.declared.refusal.Refusal.{Refusal}
 use Rattle.sbpl_cli.specs.declared.refusal.Refusal.TheVariants as refusal
 use Rattle.sbpl_cli.specs.Causes.{IsCause, IsJobCause, IsTooLong, NoneTooDear, SaysWorld}
 use Rattle.sbpl_cli.specs.Intents.{Intent, Refused, Planned, Checked, Listed, OutOfMemory, checked_status, checked_writes, intent_status, labels_text, labels_writes, last_write, plan_writes, refusal_status, stop_writes, trace_writes, words_writes, writes_of}
-use Rattle.sbpl_cli.specs.Jobs.{sources_of}
+use Rattle.sbpl_job.specs.Jobs.{sources_of}
 use Rattle.sbpl_cli.specs.Listing.{listings}
 use Rattle.sbpl_cli.specs.Promises.{AtJob, ComesTo, EndsJob, EndsRun, by_job, by_words, by_memory, IsCutShort, IsCheckedIn, IsDone, IsFaultFound, IsFlawFound, IsNoCheck, IsOrFailed, IsOrUnwritten, IsRefused, IsStatus, IsStopped, MayBeWritten, SomeRose, Tells, TellsEnvironment, TellsEnvironmentFault, TellsPrimitiveFault, TellsPrimitives, TellsTooMuch, TellsWorld}
 use Rattle.sbpl_cli.specs.Traces.{trace_text}

@@ -18,11 +18,11 @@ use Rattle.sbpl_cli.specs.declared.refusal.Refusal.{Refusal}
 use Rattle.sbpl_cli.specs.declared.refusal.Refusal.TheVariants as refusal
 use Rattle.sbpl_cli.specs.declared.refusal.Stop.{Stop}
 use Rattle.sbpl_cli.specs.declared.refusal.Stop.TheVariants as stop
-use Rattle.sbpl_cli.specs.declared.job.Job.{Job}
-use Rattle.sbpl_cli.specs.declared.job.Job.TheVariants as job
-use Rattle.sbpl_cli.specs.declared.job.PlanJob.{PlanJob}
-use Rattle.sbpl_cli.specs.Jobs.{sources_of}
-use Rattle.sbpl_cli.specs.declared.job.Sources.{Sources}
+use Rattle.sbpl_job.specs.declared.job.Job.{Job}
+use Rattle.sbpl_job.specs.declared.job.Job.TheVariants as job
+use Rattle.sbpl_job.specs.declared.job.PlanJob.{PlanJob}
+use Rattle.sbpl_job.specs.Jobs.{sources_of}
+use Rattle.sbpl_job.specs.declared.job.Sources.{Sources}
 use Rattle.sbpl_cli.specs.declared.record.PlanRecord.{PlanRecord}
 use Rattle.sbpl_cli.specs.Headline.{IsPlanOf}
 use Rattle.sbpl_cli.specs.Writing.{FaultCounts, Told}

@@ -23,8 +23,8 @@ use Rattle.sbpl_cli.specs.declared.record.PathRecord.{PathRecord}
 use Rattle.sbpl_cli.specs.declared.record.Outcome.{Outcome}
 use Rattle.sbpl_cli.specs.declared.record.Outcome.TheVariants as outcome
 use Rattle.sbpl_cli.specs.declared.record.PlanRecord.{PlanRecord}
-use Rattle.sbpl_cli.specs.declared.job.PlanJob.{PlanJob}
-use Rattle.sbpl_cli.specs.Jobs.{ask_of}
+use Rattle.sbpl_job.specs.declared.job.PlanJob.{PlanJob}
+use Rattle.sbpl_cli.specs.Asked.{ask_of}
 use Rattle.sbpl_cli.specs.Shown.{IsShown, IsThere}
 
 -- what stays the same over a plan in a world, with a guide to its goal

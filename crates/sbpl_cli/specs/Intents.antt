@@ -12,13 +12,13 @@ use Rattle.sbpl_cert.specs.Printed as labels
 use Rattle.sbpl_cert.specs.declared.fault.LabelFault.{LabelFault}
 use Rattle.sbpl_cert.specs.declared.outcome.Outcome.{Outcome}
 use Rattle.sbpl_cert.specs.Sections.{Section}
-use Rattle.sbpl_cli.specs.declared.job.Job.{Job}
-use Rattle.sbpl_cli.specs.declared.job.Job.TheVariants as job
+use Rattle.sbpl_job.specs.declared.job.Job.{Job}
+use Rattle.sbpl_job.specs.declared.job.Job.TheVariants as job
 use Rattle.sbpl_cli.specs.declared.checking.SectionStop.{SectionStop}
 use Rattle.sbpl_cli.specs.declared.checking.SectionStop.TheVariants as stop
-use Rattle.sbpl_cli.specs.declared.job.Outputs.{Outputs}
+use Rattle.sbpl_job.specs.declared.job.Outputs.{Outputs}
 use Rattle.sbpl_cli.specs.declared.record.PlanRecord.{PlanRecord}
-use Rattle.sbpl_cli.specs.Jobs.{sources_of}
+use Rattle.sbpl_job.specs.Jobs.{sources_of}
 use Rattle.sbpl_cli.specs.Listing.{listings}
 use Rattle.sbpl_cli.specs.Report.{line_feed, section_text, done_text}
 use Rattle.sbpl_cli.specs.Traces.{trace_text}

@@ -1,6 +1,4 @@
-pub mod Words
-pub mod Taking
-pub mod Jobs
+pub mod Asked
 pub mod Writing
 pub mod Report
 pub mod Traces

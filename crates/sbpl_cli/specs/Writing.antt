@@ -4,7 +4,7 @@ use Rattle.std.specs.Str.{bytes_eq}
 use Rattle.sbpl_desk.specs.Desk.{Appends, Rose}
 use Rattle.sbpl_desk.specs.declared.desk.WriteStop.{WriteStop}
 use Rattle.sbpl_desk.specs.declared.desk.WriteStop.TheVariants.{Failed, NoMemory}
-use Rattle.sbpl_cli.specs.declared.job.Outputs.{Outputs}
+use Rattle.sbpl_job.specs.declared.job.Outputs.{Outputs}
 
 -- what a desk holds, or what is written, under each name, where it tells
 abbrev pub Told : Type 0

@@ -5,7 +5,7 @@ ghost use Rattle.sbpl_fixed.specs.Formats.{start_at};
 ghost use Rattle.sbpl_desk.specs.Desk.{NoneFalls, Stays};
 ghost use Rattle.sbpl_cost.specs.Lattices.{network_of};
 ghost use Rattle.sbpl_cost.specs.World.{IsWorld};
-ghost use Rattle.sbpl_cli.specs.declared.job.Job.TheVariants as Jobs;
+ghost use Rattle.sbpl_job.specs.declared.job.Job.TheVariants as Jobs;
 ghost use Rattle.sbpl_cli.specs.Causes.{IsRead, JobStopsFor, SaysWorld};
 ghost use Rattle.sbpl_cli.specs.Intents.{stop_status, stop_writes};
 ghost use Rattle.sbpl_cli.specs.Promises.{EndsJob, EndsSections, GoesOn};
@@ -16,7 +16,6 @@ ghost use Rattle.sbpl_cli.specs.Writing.{EndsAs, EndsIn, IsOutput, StaysBut, to_
 use crate::checking::{SectionStop, check_section};
 use crate::files::read_file;
 use crate::flaw::{flaw_line, holds_line};
-use crate::job::CheckJob;
 use crate::lattice::read_lattice;
 use crate::poses::ends_of;
 use crate::refusal::{Input, Stop};
@@ -26,6 +25,7 @@ use sbpl_cert::{Flaw, LabelFault, Outcome};
 use sbpl_cost::{Lattice, lattice_has_its_arcs};
 use sbpl_desk::{Desk, WriteStop};
 use sbpl_fixed::{NoMemory, next_token};
+use sbpl_job::CheckJob;
 use std::alloc::Global;
 
 /// Writes the line of a flaw, and answers the status.

@@ -5,11 +5,10 @@ ghost use Rattle.sbpl_desk.specs.Desk.{NoneFalls, Stays};
 ghost use Rattle.sbpl_cli.specs.Causes.{IsEnvironmentRefused, IsPrimitivesRefused, IsRead, IsUnread, PrimitivesStopFor, SaysEnvironment, SaysPrimitives, StopsFor};
 ghost use Rattle.sbpl_cli.specs.Texts.{IsEnvironmentText, IsPrimitiveText};
 
-use crate::job::Sources;
-use crate::name::Name;
 use crate::refusal::{Input, Refusal, Stop};
 use sbpl_cfg::{Env, EnvFault, Grid, read_env};
 use sbpl_desk::{Desk, ReadStop};
+use sbpl_job::{Name, Sources};
 use sbpl_mprim::{PrimFault, Prims, read_prims};
 use std::alloc::Global;
 

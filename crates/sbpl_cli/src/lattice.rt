@@ -8,10 +8,10 @@ ghost use Rattle.sbpl_sweep.specs.Widths.{NoneTooWide};
 ghost use Rattle.sbpl_cli.specs.Causes.{IsWideStop, SaysWorld, StopsFor};
 
 use crate::files::{read_environment, read_primitives};
-use crate::job::Sources;
 use crate::refusal::{Refusal, Stop};
 use sbpl_cost::{Lattice, LatticeFault};
 use sbpl_desk::Desk;
+use sbpl_job::Sources;
 use sbpl_map::Map;
 use sbpl_mprim::Prims;
 use sbpl_sweep::{SweepFault, Sweeps};

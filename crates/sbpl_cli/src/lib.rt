@@ -5,12 +5,10 @@ mod check;
 mod checking;
 mod files;
 mod flaw;
-mod job;
 mod labels;
 mod lattice;
 mod list;
 mod listing;
-mod name;
 mod parts;
 mod plan;
 mod poses;
@@ -20,17 +18,17 @@ mod refusing;
 mod report;
 mod top;
 mod trace;
-mod words;
 mod writing;
 
 pub use checking::SectionStop;
-pub use job::{CheckJob, Job, JobFault, Outputs, PlanJob, Planner, SearchJob, Sources, read_job};
-pub use name::Name;
 pub use parts::Steps;
 pub use record::{Outcome, PathRecord, PlanRecord, Step};
 pub use refusal::{Input, Refusal};
+pub use sbpl_job::{
+    CheckJob, Command, Given, Job, JobFault, Name, Outputs, PlanJob, Planner, SearchJob, Setting,
+    Sources, read_job,
+};
 pub use top::run;
-pub use words::{Command, Given, Setting};
 
 #[cfg(test)]
 mod samples;

@@ -3,11 +3,11 @@
 ghost use Rattle.std.specs.Prelude.{◌≡◌, ◌++◌, OnOk, IfOk};
 ghost use Rattle.sbpl_cli.specs.Intents.{fault_text, input_name, label_fault_text, labels_name, refusal_text, unread_text};
 
-use crate::job::Job;
 use crate::refusal::{Input, Refusal};
 use crate::report::{push_bytes, push_field};
 use sbpl_cert::LabelFault;
 use sbpl_fixed::NoMemory;
+use sbpl_job::Job;
 use std::alloc::Global;
 
 /// Appends the line of a fault in a file.

@@ -1,7 +1,7 @@
 use Rattle.std.proofs.Common.{◌∙◌, ◌∷◌, [], List, ℕ, subst}
 use Rattle.sbpl_fixed.specs.Formats.{start_at}
 use Rattle.sbpl_cost.specs.Lattices.{network_of}
-use Rattle.sbpl_cli.specs.declared.job.Job.TheVariants as job
+use Rattle.sbpl_job.specs.declared.job.Job.TheVariants as job
 use Rattle.sbpl_cli.specs.Checked.{AreChecked}
 use Rattle.sbpl_cli.specs.Intents.{Checked}
 use Rattle.sbpl_cli.proofs.Ends.{ended}

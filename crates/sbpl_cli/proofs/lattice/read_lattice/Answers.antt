@@ -5,7 +5,7 @@ use Rattle.sbpl_mprim.specs.Primitives.{Primitives}
 use Rattle.sbpl_cost.specs.World.{World}
 use Rattle.sbpl_cli.specs.Causes.{IsRead, SaysPrimitives, SaysWorld}
 use Rattle.sbpl_cli.specs.Writing.{Told}
-use Rattle.sbpl_cli.specs.declared.job.Sources.{Sources}
+use Rattle.sbpl_job.specs.declared.job.Sources.{Sources}
 use Rattle.sbpl_cli.proofs.lattice.read_lattice.Goals as goal
 
 -- what was held later was held before

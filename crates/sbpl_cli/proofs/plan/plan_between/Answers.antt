@@ -16,9 +16,9 @@ use Rattle.sbpl_plan.specs.Asked.{most_passes}
 use Rattle.sbpl_plan.specs.Passing.{ArePasses, expansions}
 use Rattle.sbpl_cli.specs.declared.record.PlanRecord.{PlanRecord}
 use Rattle.sbpl_cli.specs.Headline.{IsAnswered, IsMarked, IsNoneThere, IsSearched, IsWithinBound, Joins, KeepsPromises, TellsResult, inquiry}
-use Rattle.sbpl_cli.specs.Jobs.{ask_of}
+use Rattle.sbpl_cli.specs.Asked.{ask_of}
 use Rattle.sbpl_cli.specs.Shown.{IsShown, IsThere}
-use Rattle.sbpl_cli.specs.declared.job.PlanJob.{PlanJob}
+use Rattle.sbpl_job.specs.declared.job.PlanJob.{PlanJob}
 use Rattle.sbpl_cli.proofs.plan.plan_between.Goals as goal
 
 with_none : (a b : ℕ) → a ≤ b → 0 + a ≤ b

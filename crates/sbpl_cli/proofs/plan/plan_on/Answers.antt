@@ -1,7 +1,7 @@
 use Rattle.std.proofs.Common.{◌≡◌, ℕ, Result, Ok, Err, IfOk}
 use Rattle.sbpl_fixed.specs.declared.no_memory.NoMemory.{NoMemory}
 use Rattle.sbpl_cost.specs.World.{World}
-use Rattle.sbpl_cli.specs.declared.job.PlanJob.{PlanJob}
+use Rattle.sbpl_job.specs.declared.job.PlanJob.{PlanJob}
 use Rattle.sbpl_cli.specs.declared.record.PlanRecord.{PlanRecord}
 use Rattle.sbpl_cli.specs.Headline.{IsPlanOf, IsSearched, IsStateOf, KeepsPromises}
 use Rattle.sbpl_cli.proofs.plan.plan_on.Goals as goal

@@ -1,5 +1,5 @@
 use Rattle.std.proofs.Common.{◌∙◌}
-use Rattle.sbpl_cli.specs.declared.job.Job.TheVariants as job
+use Rattle.sbpl_job.specs.declared.job.Job.TheVariants as job
 use Rattle.sbpl_cli.specs.Intents.{Planned}
 use Rattle.sbpl_cli.proofs.Ends.{ended, job_stop}
 use Rattle.sbpl_cli.proofs.Writings.{status_ends}

@@ -1,6 +1,6 @@
 use Rattle.std.proofs.Common.{◌≡◌, ℕ, List, Option, Some, None, sym, ap}
-use Rattle.sbpl_cli.proofs.Parting.{takes_joined, takes_no_form}
-use Rattle.sbpl_cli.proofs.words.Line.take_joined.Goals as goal
+use Rattle.sbpl_job.proofs.Parting.{takes_joined, takes_no_form}
+use Rattle.sbpl_job.proofs.words.Line.take_joined.Goals as goal
 
 pub returns : goal.returns
 returns c = record { taken = takes_joined _ _ _ c.args.word.now _ _ c.requires.not_plain c.requires.no_name (sym c.in-Some.ensures.joined) c.in_ok-push_given.ensures.added }

@@ -3,13 +3,13 @@ use Rattle.std.specs.Prelude.{◌≡◌, ℕ, Bool, true, false, not, nat_eq, Li
 use denote.Ref.{Bor}
 use Rattle.std.specs.Str.{bytes_eq}
 use Rattle.std.specs.List.{before_first, after_first}
-use Rattle.sbpl_cli.specs.declared.job.JobFault.{JobFault}
-use Rattle.sbpl_cli.specs.declared.job.JobFault.TheVariants.{Words, NoMemory}
-use Rattle.sbpl_cli.specs.declared.words.Command.{Command}
-use Rattle.sbpl_cli.specs.declared.words.Command.TheVariants as command
-use Rattle.sbpl_cli.specs.declared.words.Setting.{Setting}
-use Rattle.sbpl_cli.specs.declared.words.Setting.TheVariants as setting
-use Rattle.sbpl_cli.specs.declared.words.Given.{Given}
+use Rattle.sbpl_job.specs.declared.job.JobFault.{JobFault}
+use Rattle.sbpl_job.specs.declared.job.JobFault.TheVariants.{Words, NoMemory}
+use Rattle.sbpl_job.specs.declared.words.Command.{Command}
+use Rattle.sbpl_job.specs.declared.words.Command.TheVariants as command
+use Rattle.sbpl_job.specs.declared.words.Setting.{Setting}
+use Rattle.sbpl_job.specs.declared.words.Setting.TheVariants as setting
+use Rattle.sbpl_job.specs.declared.words.Given.{Given}
 
 -- plain words, and settings with their values, each in its order
 pub record Parts : Type 0 where

@@ -2,10 +2,10 @@
 
 ghost use Rattle.std.specs.Prelude.{◌≡◌, ℕ, List, None, Some, false, IfErr, OnOk, map, option_map, string_bytes};
 ghost use denote.Ref.{Bor};
-ghost use Rattle.sbpl_cli.specs.declared.job.JobFault.TheVariants.{NoMemory};
-ghost use Rattle.sbpl_cli.specs.declared.words.Setting.{Setting};
-ghost use Rattle.sbpl_cli.specs.Taking.{Takes, joined, plain_part};
-ghost use Rattle.sbpl_cli.specs.Words.{NamesParts, NamesValue, is_plain_word, is_setting, joined_setting, no_parts, parts_of, setting_named, setting_of, takes, value_of};
+ghost use Rattle.sbpl_job.specs.declared.job.JobFault.TheVariants.{NoMemory};
+ghost use Rattle.sbpl_job.specs.declared.words.Setting.{Setting};
+ghost use Rattle.sbpl_job.specs.Taking.{Takes, joined, plain_part};
+ghost use Rattle.sbpl_job.specs.Words.{NamesParts, NamesValue, is_plain_word, is_setting, joined_setting, no_parts, parts_of, setting_named, setting_of, takes, value_of};
 
 use crate::job::JobFault;
 use crate::name::Name;
@@ -61,7 +61,7 @@ pub struct Line {
 }
 
 impl Model for Line {
-    ghost use Rattle.sbpl_cli.specs.Words.{Parts};
+    ghost use Rattle.sbpl_job.specs.Words.{Parts};
 
     ghost Value = { Parts };
 

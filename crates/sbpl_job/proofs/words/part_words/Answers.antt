@@ -1,6 +1,6 @@
 use Rattle.std.proofs.Common.{map, drop, ◌+◌, string_bytes}
-use Rattle.sbpl_cli.proofs.Parting.{completes_one, names_fault, words_from}
-use Rattle.sbpl_cli.proofs.words.part_words.Goals as goal
+use Rattle.sbpl_job.proofs.Parting.{completes_one, names_fault, words_from}
+use Rattle.sbpl_job.proofs.words.part_words.Goals as goal
 
 pub returns-in-Err : goal.returns-in-Err
 returns-in-Err c = record {

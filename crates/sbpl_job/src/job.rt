@@ -3,11 +3,11 @@
 ghost use Rattle.std.specs.Prelude.{◌≡◌, ◌≤◌, ◌^◌, IfOk, Some, map, option_map, string_bytes};
 ghost use Rattle.std.specs.Str.{bytes_eq};
 ghost use Rattle.sbpl_fixed.specs.Numbers.{nano_of, whole_of};
-ghost use Rattle.sbpl_cli.specs.declared.job.Job.TheVariants as Jobs;
-ghost use Rattle.sbpl_cli.specs.declared.job.JobFault.TheVariants.{NoMemory};
-ghost use Rattle.sbpl_cli.specs.declared.words.Setting.TheVariants as Settings;
-ghost use Rattle.sbpl_cli.specs.Jobs.{IsJob, IsSearchJob, budget_by, budget_in, command_named, is_input, job_by, job_of, job_on, milli_by, milli_from, milli_in, output_by, outputs_by, outputs_in, plan_in, planner_by, planner_named, radius_by, radius_in, search_in, sources_in, sources_of};
-ghost use Rattle.sbpl_cli.specs.Words.{Names, value_of};
+ghost use Rattle.sbpl_job.specs.declared.job.Job.TheVariants as Jobs;
+ghost use Rattle.sbpl_job.specs.declared.job.JobFault.TheVariants.{NoMemory};
+ghost use Rattle.sbpl_job.specs.declared.words.Setting.TheVariants as Settings;
+ghost use Rattle.sbpl_job.specs.Jobs.{IsJob, IsSearchJob, budget_by, budget_in, command_named, is_input, job_by, job_of, job_on, milli_by, milli_from, milli_in, output_by, outputs_by, outputs_in, plan_in, planner_by, planner_named, radius_by, radius_in, search_in, sources_in, sources_of};
+ghost use Rattle.sbpl_job.specs.Words.{Names, value_of};
 
 use crate::name::Name;
 use crate::words::{Command, Line, Setting, part_words};

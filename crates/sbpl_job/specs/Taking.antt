@@ -1,10 +1,10 @@
 -- What the parting of words does at each word.
 use Rattle.std.specs.Prelude.{◌≡◌, ℕ, Bool, List, [], ◌∷◌, ◌++◌, Option, Some, None, Result, Ok, Err, option_map}
-use Rattle.sbpl_cli.specs.declared.job.JobFault.{JobFault}
-use Rattle.sbpl_cli.specs.declared.job.JobFault.TheVariants.{Words, NoMemory}
-use Rattle.sbpl_cli.specs.declared.words.Command.{Command}
-use Rattle.sbpl_cli.specs.declared.words.Setting.{Setting}
-use Rattle.sbpl_cli.specs.Words.{Parts, no_parts, with_plain, with_given, parts_after}
+use Rattle.sbpl_job.specs.declared.job.JobFault.{JobFault}
+use Rattle.sbpl_job.specs.declared.job.JobFault.TheVariants.{Words, NoMemory}
+use Rattle.sbpl_job.specs.declared.words.Command.{Command}
+use Rattle.sbpl_job.specs.declared.words.Setting.{Setting}
+use Rattle.sbpl_job.specs.Words.{Parts, no_parts, with_plain, with_given, parts_after}
 
 -- the parts of words that follow one another
 abbrev pub joined : Parts → Parts → Parts

@@ -1,10 +1,10 @@
 use denote.Ref.{Bor}
 use Rattle.std.proofs.Common.{rules, Option, ◌≡◌, ℕ, List, [], ◌∷◌, ◌+◌, drop, sym, ◌∙◌, ap, subst}
-use Rattle.sbpl_cli.specs.declared.words.Given.{Given}
-use Rattle.sbpl_cli.specs.Words.{Parts}
-use Rattle.sbpl_cli.proofs.Parting.{Finds, finds_all, finds_no_more, finds_one, finds_two, is_none, left_from, not_none, nothing_left}
-use Rattle.sbpl_cli.proofs.words.Line.value_of.Goals as goal
-use Rattle.sbpl_cli.proofs.words.Line.value_of.Goals.{then-is_setting+else-is_some, else-is_setting}
+use Rattle.sbpl_job.specs.declared.words.Given.{Given}
+use Rattle.sbpl_job.specs.Words.{Parts}
+use Rattle.sbpl_job.proofs.Parting.{Finds, finds_all, finds_no_more, finds_one, finds_two, is_none, left_from, not_none, nothing_left}
+use Rattle.sbpl_job.proofs.words.Line.value_of.Goals as goal
+use Rattle.sbpl_job.proofs.words.Line.value_of.Goals.{then-is_setting+else-is_some, else-is_setting}
 
 pub returns-then-is_some : goal.returns-then-is_some
 returns-then-is_some c =

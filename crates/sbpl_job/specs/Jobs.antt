@@ -1,23 +1,21 @@
 -- The job that a list of words names.
 use Rattle.std.specs.Prelude.{◌^◌, ◌≤◌, false, ◌/◌, ◌%◌, ◌&&◌, ◌||◌, Bool, ℕ, ℤ, pos, negsuc, nat_eq, nat_le, List, [], ◌∷◌, Option, Some, None, option_map, option_and_then, Result, Ok, Err, codes, if◌then◌else◌}
-use Rattle.std.specs.Option.{is_some}
 use Rattle.std.specs.Str.{bytes_eq}
 use Rattle.sbpl_fixed.specs.declared.fault.NumFault.{NumFault}
 use Rattle.sbpl_fixed.specs.Numbers.{nano_of, whole_of}
-use Rattle.sbpl_plan.specs.declared.ask.Ask.{Ask}
-use Rattle.sbpl_cli.specs.declared.job.Job.{Job}
-use Rattle.sbpl_cli.specs.declared.job.Job.TheVariants as job
-use Rattle.sbpl_cli.specs.declared.job.Outputs.{Outputs}
-use Rattle.sbpl_cli.specs.declared.job.PlanJob.{PlanJob}
-use Rattle.sbpl_cli.specs.declared.job.Planner.{Planner}
-use Rattle.sbpl_cli.specs.declared.job.Planner.TheVariants as planner
-use Rattle.sbpl_cli.specs.declared.job.SearchJob.{SearchJob}
-use Rattle.sbpl_cli.specs.declared.job.Sources.{Sources}
-use Rattle.sbpl_cli.specs.declared.words.Command.{Command}
-use Rattle.sbpl_cli.specs.declared.words.Command.TheVariants as command
-use Rattle.sbpl_cli.specs.declared.words.Given.{Given}
-use Rattle.sbpl_cli.specs.declared.words.Setting.TheVariants as setting
-use Rattle.sbpl_cli.specs.Words.{Parts, parts_of, value_of}
+use Rattle.sbpl_job.specs.declared.job.Job.{Job}
+use Rattle.sbpl_job.specs.declared.job.Job.TheVariants as job
+use Rattle.sbpl_job.specs.declared.job.Outputs.{Outputs}
+use Rattle.sbpl_job.specs.declared.job.PlanJob.{PlanJob}
+use Rattle.sbpl_job.specs.declared.job.Planner.{Planner}
+use Rattle.sbpl_job.specs.declared.job.Planner.TheVariants as planner
+use Rattle.sbpl_job.specs.declared.job.SearchJob.{SearchJob}
+use Rattle.sbpl_job.specs.declared.job.Sources.{Sources}
+use Rattle.sbpl_job.specs.declared.words.Command.{Command}
+use Rattle.sbpl_job.specs.declared.words.Command.TheVariants as command
+use Rattle.sbpl_job.specs.declared.words.Given.{Given}
+use Rattle.sbpl_job.specs.declared.words.Setting.TheVariants as setting
+use Rattle.sbpl_job.specs.Words.{Parts, parts_of, value_of}
 
 -- the command of this name
 abbrev pub command_named : List ℕ → Option Command
@@ -166,7 +164,3 @@ abbrev pub IsJob : Job → Type 0
 IsJob (job.Plan plan) = (plan.sources.radius ≤ 10 ^ 12) × IsSearchJob plan.search
 IsJob (job.Check check) = check.sources.radius ≤ 10 ^ 12
 IsJob (job.Sweep sources) = sources.radius ≤ 10 ^ 12
-
--- what a plan is asked for
-abbrev pub ask_of : PlanJob → Ask
-ask_of j = record { first = j.search.first; step = j.search.step; bound = j.search.bound; traced = is_some j.outputs.trace }
