@@ -1,5 +1,5 @@
 -- What the files that a lattice is made of say, and why a job on it is refused.
-use Rattle.std.specs.Prelude.{◌≡◌, ℕ, ◌^◌, ◌<◌, ◌≤◌, ◌⊎◌, List, length, slice_get, Option, Some, IfSome}
+use Rattle.std.specs.Prelude.{◌≡◌, ℕ, ◌^◌, ◌<◌, ◌≤◌, ◌⊎◌, Bool, List, [], length, slice_get, Option, Some, None, IfSome}
 use Rattle.sbpl_desk.specs.Desk.{Rose}
 use Rattle.sbpl_cfg.specs.declared.fault.EnvFault.{EnvFault}
 use Rattle.sbpl_cfg.specs.Environment.{Environment}
@@ -8,6 +8,11 @@ use Rattle.sbpl_mprim.specs.declared.prim.Primitive.{Primitive}
 use Rattle.sbpl_mprim.specs.Primitives.{Primitives}
 use Rattle.sbpl_sweep.specs.Swept.{AreSweepsOf}
 use Rattle.sbpl_sweep.specs.Widths.{IsFirstTooWide, NoneTooWide}
+use Rattle.sbpl_map.specs.CellMap.{CellMap}
+use Rattle.sbpl_map.specs.declared.fault.ChangeFault.{ChangeFault}
+use Rattle.sbpl_map.specs.declared.write.Write.{Write}
+use Rattle.sbpl_demo.specs.Primitives.{primitives_text}
+use Rattle.sbpl_cli.specs.Drawn.{changes_drawn, environment_drawn}
 use Rattle.sbpl_cost.specs.PrimitiveCost.{IsFirstTooDear, most_cost, primitive_cost}
 use Rattle.sbpl_cost.specs.Arc.{HasLatticeArcs}
 use Rattle.sbpl_cost.specs.Lattices.{network_of}
@@ -20,13 +25,17 @@ use Rattle.sbpl_cli.specs.declared.refusal.Stop.{Stop}
 use Rattle.sbpl_cli.specs.declared.refusal.Stop.TheVariants as stop
 use Rattle.sbpl_job.specs.declared.job.Job.{Job}
 use Rattle.sbpl_job.specs.declared.job.Job.TheVariants as job
+use Rattle.sbpl_job.specs.declared.job.CheckJob.{CheckJob}
+use Rattle.sbpl_job.specs.declared.job.DemoJob.{DemoJob}
+use Rattle.sbpl_job.specs.declared.job.Outputs.{Outputs}
 use Rattle.sbpl_job.specs.declared.job.PlanJob.{PlanJob}
-use Rattle.sbpl_job.specs.Jobs.{sources_of}
+use Rattle.sbpl_job.specs.declared.job.Planner.TheVariants as planner
+use Rattle.sbpl_job.specs.declared.job.SearchJob.{SearchJob}
 use Rattle.sbpl_job.specs.declared.job.Sources.{Sources}
 use Rattle.sbpl_cli.specs.declared.record.PlanRecord.{PlanRecord}
-use Rattle.sbpl_cli.specs.Headline.{IsPlanOf}
+use Rattle.sbpl_cli.specs.Headline.{ArePlans}
 use Rattle.sbpl_cli.specs.Writing.{FaultCounts, Told}
-use Rattle.sbpl_cli.specs.Texts.{IsEnvironmentText, HasEnvironmentFault, IsPrimitiveText, HasPrimitiveFault}
+use Rattle.sbpl_cli.specs.Texts.{IsEnvironmentText, HasEnvironmentFault, IsPrimitiveText, HasPrimitiveFault, IsChangeText, HasChangeFault}
 
 -- these bytes were read of a file: the held ones, where the desk tells them, and at most 2 ^ 30
 pub record IsRead (held : Option (List ℕ)) (text : List ℕ) : Type 0 where
@@ -63,14 +72,41 @@ pub record SaysWorld (held : Told) (from : Sources) (w : World) : Type 0 where
   pub map : w.map ≡ record { width = w.env.width; height = w.env.height; costs = cells }
   pub cheap : NoneTooDear w.env w.prims
 
--- The files stand for a world, whose graph has just the arcs that the primitives make on the map, and this is the
--- record of a plan in it.
-pub record IsPlanned (held : Told) (job : PlanJob) (plan : PlanRecord) : Type 0 where
+-- the change file stands for batches of changes, of this map; where there is none, there are no batches
+abbrev pub SaysBatches : Told → Option (List ℕ) → CellMap → List (List Write) → Type 0
+SaysBatches held None m batches = batches ≡ []
+SaysBatches held (Some name) m batches = (text : List ℕ) × IsRead (held name) text × IsChangeText m text batches
+
+-- The files stand for a world and batches of changes, and these are records of plans in it: all of them, or the first few.
+pub record ArePlanned (held : Told) (job : PlanJob) (records : List PlanRecord) (all : Bool) : Type 0 where
   pub world : World
+  pub batches : List (List Write)
   pub says : SaysWorld held job.sources world
-  pub is_world : IsWorld world
-  pub arcs : HasLatticeArcs (network_of world) world
-  pub plan_of : IsPlanOf world job plan
+  pub changes : SaysBatches held job.changes world.map batches
+  pub plans : ArePlans world batches job.search job.outputs records all
+
+-- a text of an environment and one of primitives stand for a world, for a robot of this radius
+pub record StandFor (env prims : List ℕ) (radius : ℕ) (w : World) : Type 0 where
+  pub cells : List ℕ
+  pub environment : IsEnvironmentText env w.env cells
+  pub primitives : IsPrimitiveText w.env prims w.prims
+  pub sweeps : AreSweepsOf w.prims radius w.sweeps
+  pub map : w.map ≡ record { width = w.env.width; height = w.env.height; costs = cells }
+
+-- how a demonstration is planned: by Anytime D*, with the inflations 3.000, 2.500 and so on to 1.000
+abbrev pub demo_search : SearchJob
+demo_search = record { planner = planner.AdStar; first = 3000; step = 500; bound = 1000; budget = 2 ^ 30 }
+
+-- what it writes beside its lines: nothing
+abbrev pub no_outputs : Outputs
+no_outputs = record { labels = None; trace = None }
+
+-- The three texts that are drawn from the seed stand for a world, for a point, and batches of changes, and these are records of
+-- plans in it: all of them, or the first few.
+pub record AreDemonstrated (job : DemoJob) (world : World) (batches : List (List Write)) (records : List PlanRecord) (all : Bool) : Type 0 where
+  pub stands : StandFor (environment_drawn job.width job.height job.seed) primitives_text 0 world
+  pub changes : IsChangeText world.map (changes_drawn job.width job.height job.seed) batches
+  pub plans : ArePlans world batches demo_search no_outputs records all
 
 -- the environment file has this first fault
 pub record IsFaultyEnvironment (held : Told) (from : Sources) (f : EnvFault) : Type 0 where
@@ -124,35 +160,73 @@ IsCause held before after from (refusal.Environment f) = IsFaultyEnvironment hel
 IsCause held before after from (refusal.Primitives f) = IsFaultyPrimitives held from f
 IsCause held before after from (refusal.TooWide place) = IsTooWideJob held from place
 IsCause held before after from (refusal.TooDear place) = IsTooDearJob held from place
+IsCause held before after from (refusal.Changes f) = ⊥
 IsCause held before after from (refusal.Read input.Environment) = Rose (before from.env) (after from.env)
 IsCause held before after from (refusal.Read input.Primitives) = IsSecond held from (Rose (before from.prims) (after from.prims))
 IsCause held before after from (refusal.Length input.Environment) = IsTooLong (held from.env)
 IsCause held before after from (refusal.Length input.Primitives) = IsSecond held from (IsTooLong (held from.prims))
+IsCause held before after from (refusal.Read input.Changes) = ⊥
+IsCause held before after from (refusal.Length input.Changes) = ⊥
 IsCause held before after from (refusal.Read input.Labels) = ⊥
 IsCause held before after from (refusal.Length input.Labels) = ⊥
 
--- the files stand for a world, and this holds of the file of labels that the job `check` reads
-abbrev pub AtLabels : Told → Job → (List ℕ → Type 0) → Type 0
-AtLabels held (job.Plan j) P = ⊥
-AtLabels held (job.Check j) P = (w : World) × SaysWorld held j.sources w × P j.labels
-AtLabels held (job.Sweep from) P = ⊥
+-- the text of the change file has this first fault, on a map
+pub record IsFaultyChanges (held : Told) (name : List ℕ) (m : CellMap) (f : ChangeFault) : Type 0 where
+  pub text : List ℕ
+  pub read : IsRead (held name) text
+  pub faulty : HasChangeFault m text f
 
--- why a job is refused once its lattice was made: its file of labels was not read
-abbrev pub IsLateCause : Told → FaultCounts → FaultCounts → Job → Refusal → Type 0
-IsLateCause held before after j (refusal.Environment f) = ⊥
-IsLateCause held before after j (refusal.Primitives f) = ⊥
-IsLateCause held before after j (refusal.TooWide place) = ⊥
-IsLateCause held before after j (refusal.TooDear place) = ⊥
-IsLateCause held before after j (refusal.Read input.Environment) = ⊥
-IsLateCause held before after j (refusal.Read input.Primitives) = ⊥
-IsLateCause held before after j (refusal.Read input.Labels) = AtLabels held j (λ name. Rose (before name) (after name))
-IsLateCause held before after j (refusal.Length input.Environment) = ⊥
-IsLateCause held before after j (refusal.Length input.Primitives) = ⊥
-IsLateCause held before after j (refusal.Length input.Labels) = AtLabels held j (λ name. IsTooLong (held name))
+-- there is such a name, and this holds of it
+abbrev pub AtName : Option (List ℕ) → (List ℕ → Type 0) → Type 0
+AtName None P = ⊥
+AtName (Some name) P = P name
 
--- why a job is refused
+-- the files stand for a world, and this holds of the change file and the map
+abbrev pub AtChanges : Told → Sources → Option (List ℕ) → (List ℕ → CellMap → Type 0) → Type 0
+AtChanges held from changes P = (w : World) × SaysWorld held from w × AtName changes (λ name. P name w.map)
+
+-- why a job is refused for its change file, once its lattice was made
+abbrev pub IsChangesCause : Told → FaultCounts → FaultCounts → Sources → Option (List ℕ) → Refusal → Type 0
+IsChangesCause held before after from changes (refusal.Environment f) = ⊥
+IsChangesCause held before after from changes (refusal.Primitives f) = ⊥
+IsChangesCause held before after from changes (refusal.TooWide place) = ⊥
+IsChangesCause held before after from changes (refusal.TooDear place) = ⊥
+IsChangesCause held before after from changes (refusal.Changes f) = AtChanges held from changes (λ name m. IsFaultyChanges held name m f)
+IsChangesCause held before after from changes (refusal.Read input.Environment) = ⊥
+IsChangesCause held before after from changes (refusal.Read input.Primitives) = ⊥
+IsChangesCause held before after from changes (refusal.Read input.Changes) = AtChanges held from changes (λ name m. Rose (before name) (after name))
+IsChangesCause held before after from changes (refusal.Read input.Labels) = ⊥
+IsChangesCause held before after from changes (refusal.Length input.Environment) = ⊥
+IsChangesCause held before after from changes (refusal.Length input.Primitives) = ⊥
+IsChangesCause held before after from changes (refusal.Length input.Changes) = AtChanges held from changes (λ name m. IsTooLong (held name))
+IsChangesCause held before after from changes (refusal.Length input.Labels) = ⊥
+
+-- the files stand for a world and batches of changes, and this holds of the file of labels that the job `check` reads
+abbrev pub AtLabels : Told → CheckJob → (List ℕ → Type 0) → Type 0
+AtLabels held j P = (w : World) × (batches : List (List Write)) × SaysWorld held j.sources w × SaysBatches held j.changes w.map batches × P j.labels
+
+-- why the job `check` is refused for its file of labels: it was not read
+abbrev pub IsLabelsCause : Told → FaultCounts → FaultCounts → CheckJob → Refusal → Type 0
+IsLabelsCause held before after j (refusal.Environment f) = ⊥
+IsLabelsCause held before after j (refusal.Primitives f) = ⊥
+IsLabelsCause held before after j (refusal.TooWide place) = ⊥
+IsLabelsCause held before after j (refusal.TooDear place) = ⊥
+IsLabelsCause held before after j (refusal.Changes f) = ⊥
+IsLabelsCause held before after j (refusal.Read input.Environment) = ⊥
+IsLabelsCause held before after j (refusal.Read input.Primitives) = ⊥
+IsLabelsCause held before after j (refusal.Read input.Changes) = ⊥
+IsLabelsCause held before after j (refusal.Read input.Labels) = AtLabels held j (λ name. Rose (before name) (after name))
+IsLabelsCause held before after j (refusal.Length input.Environment) = ⊥
+IsLabelsCause held before after j (refusal.Length input.Primitives) = ⊥
+IsLabelsCause held before after j (refusal.Length input.Changes) = ⊥
+IsLabelsCause held before after j (refusal.Length input.Labels) = AtLabels held j (λ name. IsTooLong (held name))
+
+-- why a job is refused: for the files of its lattice, for its change file, or for its file of labels
 abbrev pub IsJobCause : Told → FaultCounts → FaultCounts → Job → Refusal → Type 0
-IsJobCause held before after j r = IsCause held before after (sources_of j) r ⊎ IsLateCause held before after j r
+IsJobCause held before after (job.Plan j) r = IsCause held before after j.sources r ⊎ IsChangesCause held before after j.sources j.changes r
+IsJobCause held before after (job.Check j) r = IsCause held before after j.sources r ⊎ (IsChangesCause held before after j.sources j.changes r ⊎ IsLabelsCause held before after j r)
+IsJobCause held before after (job.Sweep from) r = IsCause held before after from r
+IsJobCause held before after (job.Demo d) r = ⊥
 
 -- why a job stopped before anything was written
 abbrev pub JobStopsFor : Told → FaultCounts → FaultCounts → Job → Stop → Type 0
@@ -164,6 +238,15 @@ abbrev pub StopsFor : Told → FaultCounts → FaultCounts → Sources → Stop 
 StopsFor held before after from (stop.Refused r) = IsCause held before after from r
 StopsFor held before after from stop.NoMemory = Unit {0}
 
+-- why the files of a lattice or the change file were refused
+abbrev pub IsEarlyCause : Told → FaultCounts → FaultCounts → Sources → Option (List ℕ) → Refusal → Type 0
+IsEarlyCause held before after from changes r = IsCause held before after from r ⊎ IsChangesCause held before after from changes r
+
+-- why no lattice with its changes was read
+abbrev pub EarlyStopsFor : Told → FaultCounts → FaultCounts → Sources → Option (List ℕ) → Stop → Type 0
+EarlyStopsFor held before after from changes (stop.Refused r) = IsEarlyCause held before after from changes r
+EarlyStopsFor held before after from changes stop.NoMemory = Unit {0}
+
 -- why one file was not read
 abbrev pub IsUnread : Option (List ℕ) → ℕ → ℕ → Input → Stop → Type 0
 IsUnread held before after i (stop.Refused (refusal.Read j)) = (j ≡ i) × Rose before after
@@ -172,6 +255,7 @@ IsUnread held before after i (stop.Refused (refusal.Environment f)) = ⊥
 IsUnread held before after i (stop.Refused (refusal.Primitives f)) = ⊥
 IsUnread held before after i (stop.Refused (refusal.TooWide place)) = ⊥
 IsUnread held before after i (stop.Refused (refusal.TooDear place)) = ⊥
+IsUnread held before after i (stop.Refused (refusal.Changes f)) = ⊥
 IsUnread held before after i stop.NoMemory = Unit {0}
 
 -- why the text of an environment file was refused
@@ -180,6 +264,7 @@ IsEnvironmentRefused text (stop.Refused (refusal.Environment f)) = HasEnvironmen
 IsEnvironmentRefused text (stop.Refused (refusal.Primitives f)) = ⊥
 IsEnvironmentRefused text (stop.Refused (refusal.TooWide place)) = ⊥
 IsEnvironmentRefused text (stop.Refused (refusal.TooDear place)) = ⊥
+IsEnvironmentRefused text (stop.Refused (refusal.Changes f)) = ⊥
 IsEnvironmentRefused text (stop.Refused (refusal.Read i)) = ⊥
 IsEnvironmentRefused text (stop.Refused (refusal.Length i)) = ⊥
 IsEnvironmentRefused text stop.NoMemory = Unit {0}
@@ -190,18 +275,22 @@ IsPrimitivesRefused e text (stop.Refused (refusal.Environment f)) = ⊥
 IsPrimitivesRefused e text (stop.Refused (refusal.Primitives f)) = HasPrimitiveFault e text f
 IsPrimitivesRefused e text (stop.Refused (refusal.TooWide place)) = ⊥
 IsPrimitivesRefused e text (stop.Refused (refusal.TooDear place)) = ⊥
+IsPrimitivesRefused e text (stop.Refused (refusal.Changes f)) = ⊥
 IsPrimitivesRefused e text (stop.Refused (refusal.Read i)) = ⊥
 IsPrimitivesRefused e text (stop.Refused (refusal.Length i)) = ⊥
 IsPrimitivesRefused e text stop.NoMemory = Unit {0}
 
--- why the primitive file , for an environment, was refused
+-- why the primitive file, for an environment, was refused
 abbrev pub PrimitivesStopFor : Told → FaultCounts → FaultCounts → Sources → Environment → Stop → Type 0
 PrimitivesStopFor held before after from e (stop.Refused (refusal.Environment f)) = ⊥
 PrimitivesStopFor held before after from e (stop.Refused (refusal.Primitives f)) = IsFaultyFor held from e f
 PrimitivesStopFor held before after from e (stop.Refused (refusal.TooWide place)) = ⊥
 PrimitivesStopFor held before after from e (stop.Refused (refusal.TooDear place)) = ⊥
+PrimitivesStopFor held before after from e (stop.Refused (refusal.Changes f)) = ⊥
 PrimitivesStopFor held before after from e (stop.Refused (refusal.Read input.Environment)) = ⊥
 PrimitivesStopFor held before after from e (stop.Refused (refusal.Read input.Primitives)) = Rose (before from.prims) (after from.prims)
+PrimitivesStopFor held before after from e (stop.Refused (refusal.Read input.Changes)) = ⊥
+PrimitivesStopFor held before after from e (stop.Refused (refusal.Length input.Changes)) = ⊥
 PrimitivesStopFor held before after from e (stop.Refused (refusal.Read input.Labels)) = ⊥
 PrimitivesStopFor held before after from e (stop.Refused (refusal.Length input.Environment)) = ⊥
 PrimitivesStopFor held before after from e (stop.Refused (refusal.Length input.Labels)) = ⊥
@@ -214,6 +303,35 @@ IsWideStop prims radius (stop.Refused (refusal.Environment f)) = ⊥
 IsWideStop prims radius (stop.Refused (refusal.Primitives f)) = ⊥
 IsWideStop prims radius (stop.Refused (refusal.TooWide place)) = IsFirstTooWide prims radius place
 IsWideStop prims radius (stop.Refused (refusal.TooDear place)) = ⊥
+IsWideStop prims radius (stop.Refused (refusal.Changes f)) = ⊥
 IsWideStop prims radius (stop.Refused (refusal.Read i)) = ⊥
 IsWideStop prims radius (stop.Refused (refusal.Length i)) = ⊥
 IsWideStop prims radius stop.NoMemory = Unit {0}
+
+-- why the text of a change file was refused, on a map
+abbrev pub IsChangesRefused : CellMap → List ℕ → Stop → Type 0
+IsChangesRefused m text (stop.Refused (refusal.Environment f)) = ⊥
+IsChangesRefused m text (stop.Refused (refusal.Primitives f)) = ⊥
+IsChangesRefused m text (stop.Refused (refusal.TooWide place)) = ⊥
+IsChangesRefused m text (stop.Refused (refusal.TooDear place)) = ⊥
+IsChangesRefused m text (stop.Refused (refusal.Changes f)) = HasChangeFault m text f
+IsChangesRefused m text (stop.Refused (refusal.Read i)) = ⊥
+IsChangesRefused m text (stop.Refused (refusal.Length i)) = ⊥
+IsChangesRefused m text stop.NoMemory = Unit {0}
+
+-- why no batches of changes of a map were read
+abbrev pub ChangesStopFor : Told → FaultCounts → FaultCounts → Option (List ℕ) → CellMap → Stop → Type 0
+ChangesStopFor held before after changes m (stop.Refused (refusal.Environment f)) = ⊥
+ChangesStopFor held before after changes m (stop.Refused (refusal.Primitives f)) = ⊥
+ChangesStopFor held before after changes m (stop.Refused (refusal.TooWide place)) = ⊥
+ChangesStopFor held before after changes m (stop.Refused (refusal.TooDear place)) = ⊥
+ChangesStopFor held before after changes m (stop.Refused (refusal.Changes f)) = AtName changes (λ name. IsFaultyChanges held name m f)
+ChangesStopFor held before after changes m (stop.Refused (refusal.Read input.Environment)) = ⊥
+ChangesStopFor held before after changes m (stop.Refused (refusal.Read input.Primitives)) = ⊥
+ChangesStopFor held before after changes m (stop.Refused (refusal.Read input.Changes)) = AtName changes (λ name. Rose (before name) (after name))
+ChangesStopFor held before after changes m (stop.Refused (refusal.Read input.Labels)) = ⊥
+ChangesStopFor held before after changes m (stop.Refused (refusal.Length input.Environment)) = ⊥
+ChangesStopFor held before after changes m (stop.Refused (refusal.Length input.Primitives)) = ⊥
+ChangesStopFor held before after changes m (stop.Refused (refusal.Length input.Changes)) = AtName changes (λ name. IsTooLong (held name))
+ChangesStopFor held before after changes m (stop.Refused (refusal.Length input.Labels)) = ⊥
+ChangesStopFor held before after changes m stop.NoMemory = Unit {0}

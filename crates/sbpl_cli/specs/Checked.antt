@@ -1,8 +1,9 @@
 -- How the sections of a label text are checked, one for each plan.
-use Rattle.std.specs.Prelude.{◌≡◌, ◌≢◌, ℕ, ◌+◌, List, [], ◌∷◌, length, Option, Some, None}
+use Rattle.std.specs.Prelude.{◌≡◌, ◌≢◌, ℕ, zero, suc, ◌+◌, List, [], ◌∷◌, length, Option, Some, None}
 use Rattle.sbpl_graph.specs.Network.{Network}
 use Rattle.sbpl_fixed.specs.Formats.{Left}
 use Rattle.sbpl_fixed.specs.Tokens.{Piece}
+use Rattle.sbpl_cert.specs.declared.fault.LabelFault.{LabelFault}
 use Rattle.sbpl_cert.specs.declared.fault.LabelFault.TheVariants as fault
 use Rattle.sbpl_cert.specs.declared.flaw.Flaw.{Flaw}
 use Rattle.sbpl_cert.specs.declared.outcome.Outcome.{Outcome}
@@ -10,11 +11,17 @@ use Rattle.sbpl_cert.specs.Flaws.{HasNoFlaw, IsFirstFlaw}
 use Rattle.sbpl_cert.specs.Sections.{Section}
 use Rattle.sbpl_cert.specs.Sound.{IsSo, ShowsAll}
 use Rattle.sbpl_cert.specs.Text.{AreTokensOf, HasFault, IsOf}
+use Rattle.sbpl_map.specs.CellMap.{CellMap}
+use Rattle.sbpl_map.specs.MapAfter.{IsMapAfter}
+use Rattle.sbpl_map.specs.declared.write.Write.{Write}
+use Rattle.sbpl_cost.specs.Lattices.{network_of}
+use Rattle.sbpl_cost.specs.States.{state_count}
+use Rattle.sbpl_cost.specs.World.{IsWorld, World}
 use Rattle.sbpl_cli.specs.declared.checking.SectionStop.{SectionStop}
 use Rattle.sbpl_cli.specs.declared.checking.SectionStop.TheVariants as stop
 
--- The tokens that are left begin with the section of a plan, which has no flaw on a graph and says this outcome, and then
--- others are left. So what it says is shown, and is so.
+-- the tokens that are left begin with the section of a plan, which has no flaw on a graph and says this outcome, and then
+-- others are left
 pub record IsHolding (n : Network) (start goal plan : ℕ) (left : Left) (outcome : Outcome) (rest : Left) : Type 0 where
   pub section : Section
   pub of : IsOf plan n.states section
@@ -22,8 +29,12 @@ pub record IsHolding (n : Network) (start goal plan : ℕ) (left : Left) (outcom
   pub same_end : rest.end ≡ left.end
   pub says : section.outcome ≡ outcome
   pub no_flaw : HasNoFlaw n start goal section
-  pub shows : ShowsAll n start goal section
-  pub so : IsSo n start goal section.arcs outcome
+
+-- and what it says is shown, and is so
+pub record IsShownHolding (n : Network) (start goal plan : ℕ) (left : Left) (outcome : Outcome) (rest : Left) : Type 0 where
+  pub holds : IsHolding n start goal plan left outcome rest
+  pub shows : ShowsAll n start goal holds.section
+  pub so : IsSo n start goal holds.section.arcs outcome
 
 -- the tokens that are left begin with the section of a plan, whose first flaw on a graph is this
 pub record IsFlawed (n : Network) (start goal plan : ℕ) (left : Left) (flaw : Flaw) : Type 0 where
@@ -46,17 +57,50 @@ IsSectionStop n start goal plan left (stop.Flaw f) = IsFlawed n start goal plan 
 IsSectionStop n start goal plan left (stop.Fault f) = (f ≢ fault.NoMemory) × HasFault plan n.states left f
 IsSectionStop n start goal plan left stop.NoMemory = Unit {0}
 
--- a token is left behind the last section, where none may be
-abbrev pub IsTrailing : List Piece → SectionStop → Type 0
-IsTrailing [] s = ⊥
-IsTrailing (t ∷ ts) s = s ≡ stop.Fault (fault.Trailing t.place)
+-- a token is left behind the last section, where none may be, and this is the fault
+abbrev pub IsTrailingAt : List Piece → LabelFault → Type 0
+IsTrailingAt [] f = ⊥
+IsTrailingAt (t ∷ ts) f = f ≡ fault.Trailing t.place
 
--- The tokens that are left stand for a section for each of these graphs in turn, the first of this plan: those with these
--- outcomes hold, and then it ends so. It ends well where all hold and no token is left.
-abbrev pub AreChecked : List Network → (start goal plan : ℕ) → Left → List Outcome → Option SectionStop → Type 0
-AreChecked [] start goal plan left [] None = left.tokens ≡ []
-AreChecked [] start goal plan left [] (Some s) = IsTrailing left.tokens s
-AreChecked [] start goal plan left (o ∷ os) end = ⊥
-AreChecked (n ∷ ns) start goal plan left [] None = ⊥
-AreChecked (n ∷ ns) start goal plan left [] (Some s) = IsSectionStop n start goal plan left s
-AreChecked (n ∷ ns) start goal plan left (o ∷ os) end = (rest : Left) × IsHolding n start goal plan left o rest × AreChecked ns start goal (plan + 1) rest os end
+-- why the checking ends behind the last section, but not well
+abbrev pub IsTrailing : List Piece → SectionStop → Type 0
+IsTrailing ts (stop.Flaw f) = ⊥
+IsTrailing ts (stop.Fault f) = IsTrailingAt ts f
+IsTrailing ts stop.NoMemory = Unit {0}
+
+-- the graph of a world on the map after the first k batches
+pub record IsGraphAfter (w : World) (batches : List (List Write)) (k : ℕ) (n : Network) : Type 0 where
+  pub map : CellMap
+  pub after : IsMapAfter w.map batches k map
+  pub is_world : IsWorld (record w { map = map })
+  pub network : n ≡ network_of (record w { map = map })
+
+-- what stays the same while the sections of a text are checked: the world and the batches, and the states of start and goal
+pub record Case : Type 0 where
+  pub world : World
+  pub batches : List (List Write)
+  pub start : ℕ
+  pub goal : ℕ
+
+-- what is said of a section that holds: its graph, its plan, the tokens from it on, its outcome, and the tokens behind it
+abbrev pub Holding : Type 1
+Holding = Network → (start goal plan : ℕ) → Left → Outcome → Left → Type 0
+
+-- the section of a plan does not hold on its graph, or memory ran out
+abbrev pub IsStoppedIn : Case → (plan : ℕ) → Left → SectionStop → Type 0
+IsStoppedIn c plan left (stop.Flaw f) = (n : Network) × IsGraphAfter c.world c.batches plan n × IsFlawed n c.start c.goal plan left f
+IsStoppedIn c plan left (stop.Fault f) = (f ≢ fault.NoMemory) × HasFault plan (state_count c.world.env) left f
+IsStoppedIn c plan left stop.NoMemory = Unit {0}
+
+-- The tokens that are left stand for so many sections more, the first that of a plan, each for the graph on the map after as
+-- many batches: those with these outcomes hold, and then it ends so. It ends well where all hold and no token is left. Want of
+-- memory says nothing of what was to come.
+abbrev pub AreChecked : Holding → Case → (plan more : ℕ) → Left → List Outcome → Option SectionStop → Type 0
+AreChecked Holds c plan zero left [] None = left.tokens ≡ []
+AreChecked Holds c plan zero left [] (Some s) = IsTrailing left.tokens s
+AreChecked Holds c plan zero left (o ∷ os) end = ⊥
+AreChecked Holds c plan (suc more) left [] None = ⊥
+AreChecked Holds c plan (suc more) left [] (Some s) = IsStoppedIn c plan left s
+AreChecked Holds c plan (suc more) left (o ∷ os) end =
+    (n : Network) × IsGraphAfter c.world c.batches plan n
+    × (rest : Left) × Holds n c.start c.goal plan left o rest × AreChecked Holds c (plan + 1) more rest os end

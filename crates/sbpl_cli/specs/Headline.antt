@@ -1,5 +1,5 @@
 -- What a plan's record says of the world that it was planned in.
-use Rattle.std.specs.Prelude.{◌≡◌, ℕ, ◌*◌, ◌^◌, ◌≤◌, ◌⊎◌, Bool, MatchBool, true, List, [], ◌∷◌, length, Some, None}
+use Rattle.std.specs.Prelude.{◌≡◌, ℕ, ◌+◌, ◌*◌, ◌^◌, ◌≤◌, ◌⊎◌, Bool, MatchBool, true, List, [], ◌∷◌, length, Option, Some, None}
 use Rattle.std.specs.Option.{is_some}
 use Rattle.sbpl_graph.specs.Network.{Network}
 use Rattle.sbpl_graph.specs.Path.{IsFreePath}
@@ -7,29 +7,31 @@ use Rattle.sbpl_cfg.specs.declared.pose.Pose.{Pose}
 use Rattle.sbpl_cfg.specs.declared.pose.Place.{Place}
 use Rattle.sbpl_cfg.specs.Environment.{Environment, IsPlaceOf}
 use Rattle.sbpl_mprim.specs.declared.prim.Primitive.{Primitive}
-use Rattle.sbpl_cost.specs.World.{World}
+use Rattle.sbpl_cost.specs.Arc.{HasLatticeArcs}
+use Rattle.sbpl_cost.specs.World.{IsWorld, World}
 use Rattle.sbpl_cost.specs.States.{place_of, state_number}
 use Rattle.sbpl_cost.specs.Lattices.{network_of, arc_primitive}
 use Rattle.sbpl_heur.specs.Bests.{IsBest}
 use Rattle.sbpl_labels.specs.Marks.{Marks, IsOpened}
-use Rattle.sbpl_plan.specs.declared.ask.Ask.{Ask}
 use Rattle.sbpl_plan.specs.declared.result.Outcome as search
 use Rattle.sbpl_plan.specs.declared.result.Outcome.TheVariants as result
 use Rattle.sbpl_plan.specs.Asked.{most_passes}
 use Rattle.sbpl_plan.specs.Outcomes.{IsOutcome}
-use Rattle.sbpl_plan.specs.Passing.{ArePasses, Inquiry, expansions}
+use Rattle.sbpl_plan.specs.Passing.{ArePasses, expansions}
+use Rattle.sbpl_map.specs.CellMap.{CellMap}
+use Rattle.sbpl_map.specs.MapAfter.{IsMapAfter}
+use Rattle.sbpl_map.specs.declared.write.Write.{Write}
+use Rattle.sbpl_replan.specs.Replanning.{BeginsWith, inquiry, most_times}
 use Rattle.sbpl_cli.specs.declared.record.Step.{Step}
 use Rattle.sbpl_cli.specs.declared.record.PathRecord.{PathRecord}
 use Rattle.sbpl_cli.specs.declared.record.Outcome.{Outcome}
 use Rattle.sbpl_cli.specs.declared.record.Outcome.TheVariants as outcome
 use Rattle.sbpl_cli.specs.declared.record.PlanRecord.{PlanRecord}
-use Rattle.sbpl_job.specs.declared.job.PlanJob.{PlanJob}
-use Rattle.sbpl_cli.specs.Asked.{ask_of}
+use Rattle.sbpl_job.specs.declared.job.Outputs.{Outputs}
+use Rattle.sbpl_job.specs.declared.job.Planner.{Planner}
+use Rattle.sbpl_job.specs.declared.job.SearchJob.{SearchJob}
+use Rattle.sbpl_cli.specs.Asked.{ask_of, repairs}
 use Rattle.sbpl_cli.specs.Shown.{IsShown, IsThere}
-
--- what stays the same over a plan in a world, with a guide to its goal
-abbrev pub inquiry : World → (ℕ → ℕ) → ℕ → Ask → Inquiry
-inquiry w guide goal ask = record { network = network_of w; guide = guide; goal = goal; ask = ask }
 
 -- the state of a pose: that of its cell and heading
 pub record IsStateOf (e : Environment) (p : Pose) (s : ℕ) : Type 0 where
@@ -104,37 +106,75 @@ pub record KeepsPromises (w : World) (start goal asked : ℕ) (r : PlanRecord) :
   pub none : IsNoneThere w start goal r.outcome
   pub unless_spent : r.spent ≡ None → IsAnswered asked r.outcome
 
+-- what the plans of a run leave to the next one: the map of the last of them, its final labels, and how many states all of
+-- them expanded
+pub record Behind : Type 0 where
+  pub map : CellMap
+  pub labels : Marks
+  pub expanded : ℕ
+
+-- how many states were expanded before a plan
+abbrev pub expanded_before : Option Behind → ℕ
+expanded_before None = 0
+expanded_before (Some b) = b.expanded
+
+-- the world on this map
+abbrev pub on_map : World → CellMap → World
+on_map w m = record w { map = m }
+
+-- the labels that a plan in a world begins with: opened ones; and behind another plan those that it left, where the planner repairs them
+abbrev pub Begins : Planner → World → (start : ℕ) → Option Behind → Marks → Type 0
+Begins p w start None m = IsOpened m (network_of w).states start
+Begins p w start (Some b) m = BeginsWith (repairs p) (on_map w b.map) w b.labels m
+
 -- a plan that was spent is marked with its expansions, which are the budget, or else the run's are 2 ^ 30; one that was not is not marked
-abbrev pub IsMarked : (budget : ℕ) → Bool → PlanRecord → Type 0
-IsMarked budget spent r = MatchBool spent
-    ((r.spent ≡ Some (expansions r.passes)) × ((expansions r.passes ≡ budget) ⊎ (expansions r.passes ≡ 2 ^ 30)))
+abbrev pub IsMarked : (budget before : ℕ) → Bool → PlanRecord → Type 0
+IsMarked budget before spent r = MatchBool spent
+    ((r.spent ≡ Some (expansions r.passes)) × ((expansions r.passes ≡ budget) ⊎ (before + expansions r.passes ≡ 2 ^ 30)))
     (r.spent ≡ None)
 
--- The record of a search from opened labels by the best heuristic: its passes in turn, as few as the step allows, the result
--- by the final labels, and a section of these labels, where they are to be written. A budget for each state in each pass is
--- not spent, unless the run's is.
-pub record IsSearched (w : World) (start goal : ℕ) (j : PlanJob) (r : PlanRecord) : Type 0 where
+-- The record of a search by the best heuristic, from opened or repaired labels: its passes in turn, as few as the step allows,
+-- the result by the final labels, and a section of these labels, where they are to be written. A budget for each state in
+-- each pass, three times where labels are repaired, is not spent, unless the run's is.
+pub record IsSearched (w : World) (how : SearchJob) (outputs : Outputs) (start goal : ℕ) (before : Option Behind) (behind : Behind) (r : PlanRecord) : Type 0 where
   pub guide : ℕ → ℕ
   pub is_guide : IsBest w goal guide
-  pub opened : Marks
-  pub is_opened : IsOpened opened (network_of w).states start
-  pub final : Marks
+  pub begun : Marks
+  pub begins : Begins how.planner w start before begun
   pub spent : Bool
-  pub passes : ArePasses (inquiry w guide goal (ask_of j)) j.search.first opened r.passes final spent
+  pub passes : ArePasses (inquiry w guide goal (ask_of how outputs)) how.first begun r.passes behind.labels spent
   pub result : search.Outcome
-  pub is_result : IsOutcome (network_of w) guide goal final result
+  pub is_result : IsOutcome (network_of w) guide goal behind.labels result
   pub told : TellsResult result r.outcome
-  pub marked : IsMarked j.search.budget spent r
-  pub few : length r.passes ≤ most_passes j.search.step j.search.first
-  pub ample : spent ≡ true → most_passes j.search.step j.search.first * (network_of w).states ≤ j.search.budget → expansions r.passes ≡ 2 ^ 30
-  pub labels : IsThere (is_some j.outputs.labels) (IsShown (network_of w) guide start goal r.plan final result) r.labels
+  pub counted : behind.expanded ≡ expanded_before before + expansions r.passes
+  pub marked : IsMarked how.budget (expanded_before before) spent r
+  pub few : length r.passes ≤ most_passes how.step how.first
+  pub ample : spent ≡ true → most_passes how.step how.first * (most_times (repairs how.planner) * (network_of w).states) ≤ how.budget → behind.expanded ≡ 2 ^ 30
+  pub labels : IsThere (is_some outputs.labels) (IsShown (network_of w) guide start goal r.plan behind.labels result) r.labels
 
--- the record of the first plan in a world, from the start of its environment to its end
-pub record IsPlanOf (w : World) (j : PlanJob) (r : PlanRecord) : Type 0 where
-  pub number : r.plan ≡ 0
+-- the record of plan k in a world, whose graph has just the arcs that the primitives make on its map
+pub record IsPlanOf (w : World) (how : SearchJob) (outputs : Outputs) (start goal k : ℕ) (before : Option Behind) (behind : Behind) (r : PlanRecord) : Type 0 where
+  pub number : r.plan ≡ k
+  pub is_world : IsWorld w
+  pub arcs : HasLatticeArcs (network_of w) w
+  pub promises : KeepsPromises w start goal how.bound r
+  pub searched : IsSearched w how outputs start goal before behind r
+
+-- The records of plans in turn, the first of which is plan k: each is made in the world on the map after the first so many
+-- batches, and goes on from the plan before it.
+abbrev pub AreRecords : World → List (List Write) → SearchJob → Outputs → (start goal k : ℕ) → Option Behind → List PlanRecord → Type 0
+AreRecords w batches how outputs start goal k before [] = Unit {0}
+AreRecords w batches how outputs start goal k before (r ∷ rs) =
+    (behind : Behind) × IsMapAfter w.map batches k behind.map
+    × IsPlanOf (on_map w behind.map) how outputs start goal k before behind r
+    × AreRecords w batches how outputs start goal (k + 1) (Some behind) rs
+
+-- These are records of plans in a world, from the start of its environment to its end: of plan 0 on the map as it is, and then
+-- of one plan after each batch of changes. They are all of them, or the first few.
+pub record ArePlans (w : World) (batches : List (List Write)) (how : SearchJob) (outputs : Outputs) (records : List PlanRecord) (all : Bool) : Type 0 where
   pub start : ℕ
   pub goal : ℕ
   pub start_is : IsStateOf w.env w.env.start start
   pub goal_is : IsStateOf w.env w.env.end goal
-  pub promises : KeepsPromises w start goal j.search.bound r
-  pub searched : IsSearched w start goal j r
+  pub each : AreRecords w batches how outputs start goal 0 None records
+  pub all_made : all ≡ true → length records ≡ length batches + 1

@@ -1,12 +1,17 @@
 -- What a job comes to: what is to be written, and the status.
-use Rattle.std.specs.Prelude.{◌≡◌, ℕ, ◌+◌, List, [], ◌∷◌, ◌++◌, map, Option, Some, None, codes, decimal}
+use Rattle.std.specs.Prelude.{◌≡◌, ℕ, ◌+◌, Bool, if◌then◌else◌, List, [], ◌∷◌, ◌++◌, flat_map, length, map, Option, Some, None, codes, decimal}
 use Rattle.sbpl_cfg.specs.Faults as environments
 use Rattle.sbpl_mprim.specs.Faults as primitives
 use Rattle.sbpl_cli.specs.declared.refusal.Input.{Input}
 use Rattle.sbpl_cli.specs.declared.refusal.Input.TheVariants as input
 use Rattle.sbpl_cli.specs.declared.refusal.Refusal.{Refusal}
 use Rattle.sbpl_cli.specs.declared.refusal.Refusal.TheVariants as refusal
+use Rattle.sbpl_map.specs.Faults as changes
+use Rattle.sbpl_cost.specs.Lattices.{network_of}
 use Rattle.sbpl_cost.specs.World.{World}
+use Rattle.sbpl_job.specs.declared.job.CheckJob.{CheckJob}
+use Rattle.sbpl_job.specs.declared.job.PlanJob.{PlanJob}
+use Rattle.sbpl_job.specs.declared.job.Sources.{Sources}
 use Rattle.sbpl_cert.specs.Faults as faults
 use Rattle.sbpl_cert.specs.Printed as labels
 use Rattle.sbpl_cert.specs.declared.fault.LabelFault.{LabelFault}
@@ -18,24 +23,41 @@ use Rattle.sbpl_cli.specs.declared.checking.SectionStop.{SectionStop}
 use Rattle.sbpl_cli.specs.declared.checking.SectionStop.TheVariants as stop
 use Rattle.sbpl_job.specs.declared.job.Outputs.{Outputs}
 use Rattle.sbpl_cli.specs.declared.record.PlanRecord.{PlanRecord}
-use Rattle.sbpl_job.specs.Jobs.{sources_of}
 use Rattle.sbpl_cli.specs.Listing.{listings}
-use Rattle.sbpl_cli.specs.Report.{line_feed, section_text, done_text}
+use Rattle.sbpl_cli.specs.Report.{line_feed, section_text, done_text, demo_text, plan_line}
 use Rattle.sbpl_cli.specs.Traces.{trace_text}
 use Rattle.sbpl_cli.specs.Verdicts.{flaw_text, holds_text}
 use Rattle.sbpl_cli.specs.Writing.{Write, to_named, to_output}
 
--- the name of the file of labels that a job reads; empty where it reads none
-abbrev pub labels_name : Job → List ℕ
-labels_name (job.Plan j) = []
-labels_name (job.Check j) = j.labels
-labels_name (job.Sweep from) = []
+-- the name, if there is one, and else nothing
+abbrev pub name_or_nothing : Option (List ℕ) → List ℕ
+name_or_nothing None = []
+name_or_nothing (Some name) = name
 
--- the name of a file that a job reads
+-- the name of a file that a job reads; empty where it reads none
+abbrev pub sources_name : Sources → Input → List ℕ
+sources_name from input.Environment = from.env
+sources_name from input.Primitives = from.prims
+sources_name from input.Changes = []
+sources_name from input.Labels = []
+
+abbrev pub plan_name : PlanJob → Input → List ℕ
+plan_name j input.Environment = j.sources.env
+plan_name j input.Primitives = j.sources.prims
+plan_name j input.Changes = name_or_nothing j.changes
+plan_name j input.Labels = []
+
+abbrev pub check_name : CheckJob → Input → List ℕ
+check_name j input.Environment = j.sources.env
+check_name j input.Primitives = j.sources.prims
+check_name j input.Changes = name_or_nothing j.changes
+check_name j input.Labels = j.labels
+
 abbrev pub input_name : Job → Input → List ℕ
-input_name j input.Environment = (sources_of j).env
-input_name j input.Primitives = (sources_of j).prims
-input_name j input.Labels = labels_name j
+input_name (job.Plan j) i = plan_name j i
+input_name (job.Check j) i = check_name j i
+input_name (job.Sweep from) i = sources_name from i
+input_name (job.Demo d) i = []
 
 -- the statuses of refusals
 abbrev pub refusal_status : Refusal → ℕ
@@ -43,6 +65,7 @@ refusal_status (refusal.Environment _) = 3
 refusal_status (refusal.Primitives _) = 4
 refusal_status (refusal.TooWide _) = 4
 refusal_status (refusal.TooDear _) = 4
+refusal_status (refusal.Changes _) = 5
 refusal_status (refusal.Read _) = 6
 refusal_status (refusal.Length _) = 8
 
@@ -64,16 +87,19 @@ refusal_text j (refusal.Environment f) = fault_text (codes "environment") (envir
 refusal_text j (refusal.Primitives f) = fault_text (codes "primitives") (primitives.number_of f) (primitives.name_of f) (primitives.place_of f)
 refusal_text j (refusal.TooWide i) = fault_text (codes "primitives") 14 (codes "TooWide") i
 refusal_text j (refusal.TooDear i) = fault_text (codes "primitives") 15 (codes "TooDear") i
+refusal_text j (refusal.Changes f) = fault_text (codes "changes") (changes.number_of f) (changes.name_of f) (changes.line_of f)
 refusal_text j (refusal.Read i) = unread_text (codes "read") (input_name j i)
 refusal_text j (refusal.Length i) = unread_text (codes "length") (input_name j i)
 
--- What a job comes to: it is refused; a plan was made; sections of labels for this goal were checked, of which those with
--- these outcomes hold, and then it ended so; the sweeps of a world are listed; or memory runs out before anything is written.
+-- What a job comes to: it is refused; plans were made, all or the first few; sections of labels for this goal were checked, of
+-- which those with these outcomes hold, and then it ended so; the sweeps of a world are listed; plans of a demonstration were made
+-- in a world with so many batches of changes, all or the first few; or memory runs out before anything is written.
 pub data Intent : Type 0 where
   Refused : Refusal → Intent
-  Planned : PlanRecord → Intent
+  Planned : List PlanRecord → (all : Bool) → Intent
   Checked : (goal : ℕ) → List Outcome → Option SectionStop → Intent
   Listed : World → Intent
+  Demonstrated : World → (batches : ℕ) → List PlanRecord → (all : Bool) → Intent
   OutOfMemory : Intent
 
 -- the last write
@@ -97,9 +123,27 @@ trace_writes o plan = to_named o.trace (trace_text plan)
 abbrev pub section_writes : Outputs → PlanRecord → List Write
 section_writes o plan = to_output (section_text plan) ∷ (labels_writes o plan ++ trace_writes o plan)
 
--- the writes of a plan, and the last line
-abbrev pub plan_writes : Outputs → PlanRecord → List Write
-plan_writes o plan = section_writes o plan ++ last_write ∷ []
+-- the last write, where all plans were made
+abbrev pub end_writes : (all : Bool) → List Write
+end_writes all = if all then last_write ∷ [] else []
+
+-- the writes of plans in turn, and the last line
+abbrev pub plans_writes : Outputs → List PlanRecord → (all : Bool) → List Write
+plans_writes o records all = flat_map (section_writes o) records ++ end_writes all
+
+-- their status: memory ran out where they are not all
+abbrev pub plans_status : (all : Bool) → ℕ
+plans_status all = if all then 0 else 9
+
+-- the writes of lines for plans in turn, and the last line
+abbrev pub lines_writes : List PlanRecord → (all : Bool) → List Write
+lines_writes records all = flat_map (λ r. to_output (plan_line r) ∷ []) records ++ end_writes all
+
+-- the writes of a demonstration: its first line, a line for each plan, and the last line
+abbrev pub demo_writes : World → (batches : ℕ) → List PlanRecord → (all : Bool) → List Write
+demo_writes w batches records all =
+    to_output (demo_text (network_of w).states (length w.prims.items) batches)
+    ∷ lines_writes records all
 
 -- the line of a fault in a text of labels
 abbrev pub label_fault_text : LabelFault → List ℕ
@@ -145,19 +189,22 @@ abbrev pub outputs_of : Job → Outputs
 outputs_of (job.Plan j) = j.outputs
 outputs_of (job.Check j) = record { labels = None; trace = None }
 outputs_of (job.Sweep from) = record { labels = None; trace = None }
+outputs_of (job.Demo d) = record { labels = None; trace = None }
 
 -- what is to be written
 abbrev pub writes_of : Job → Intent → List Write
 writes_of j (Refused r) = refusal_writes j r
-writes_of j (Planned plan) = plan_writes (outputs_of j) plan
+writes_of j (Planned records all) = plans_writes (outputs_of j) records all
 writes_of j (Checked goal os end) = checked_writes goal 0 os end
 writes_of j (Listed w) = listing_writes w
+writes_of j (Demonstrated w batches records all) = demo_writes w batches records all
 writes_of j OutOfMemory = []
 
 -- the status
 abbrev pub intent_status : Intent → ℕ
 intent_status (Refused r) = refusal_status r
-intent_status (Planned plan) = 0
+intent_status (Planned records all) = plans_status all
 intent_status (Checked goal os end) = checked_status end
 intent_status (Listed w) = 0
+intent_status (Demonstrated w batches records all) = plans_status all
 intent_status OutOfMemory = 9

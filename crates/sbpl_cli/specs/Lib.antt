@@ -1,4 +1,5 @@
 pub mod Asked
+pub mod Drawn
 pub mod Writing
 pub mod Report
 pub mod Traces
@@ -9,5 +10,6 @@ pub mod Intents
 pub mod Texts
 pub mod Shown
 pub mod Headline
+pub mod Planning
 pub mod Causes
 pub mod Promises

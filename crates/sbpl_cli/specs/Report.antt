@@ -4,6 +4,7 @@ use Rattle.sbpl_fixed.specs.Printed.{milli_text}
 use Rattle.sbpl_cfg.specs.declared.pose.Place.{Place}
 use Rattle.sbpl_plan.specs.declared.found.Found.{Found}
 use Rattle.sbpl_plan.specs.declared.found.Found.TheVariants as found
+use Rattle.sbpl_plan.specs.Passing.{expansions}
 use Rattle.sbpl_plan.specs.declared.passes.Pass.{Pass}
 use Rattle.sbpl_cli.specs.declared.record.Step.{Step}
 use Rattle.sbpl_cli.specs.declared.record.PathRecord.{PathRecord}
@@ -55,3 +56,19 @@ section_text r = codes "plan " ++ (decimal r.plan ++ (line_feed ++ (flat_map pas
 -- the last line
 abbrev pub done_text : List ℕ
 done_text = codes "done\n"
+
+-- ---- a demonstration
+
+-- the first line: how many states, primitives and batches of changes there are
+unfoldable pub demo_text : (states primitives batches : ℕ) → List ℕ
+demo_text states primitives batches = codes "demo states " ++ (decimal states ++ (codes " primitives " ++ (decimal primitives ++ (codes " batches " ++ (decimal batches ++ line_feed)))))
+
+-- a result in one line
+abbrev pub outcome_line : Outcome → List ℕ
+outcome_line (outcome.Path p) = codes "path " ++ (decimal (length p.steps) ++ (codes " cost " ++ (decimal p.cost ++ (codes " bound " ++ milli_text p.bound))))
+outcome_line outcome.NoPath = codes "nopath"
+outcome_line outcome.Unknown = codes "unknown"
+
+-- the line of a plan: its result, and how many states it expanded
+unfoldable pub plan_line : PlanRecord → List ℕ
+plan_line r = codes "plan " ++ (decimal r.plan ++ (codes " " ++ (outcome_line r.outcome ++ (codes " expanded " ++ (decimal (expansions r.passes) ++ line_feed)))))

@@ -3,6 +3,11 @@ use Rattle.std.specs.Prelude.{◌≡◌, ℕ, List}
 use Rattle.sbpl_cfg.specs.declared.fault.EnvFault.{EnvFault}
 use Rattle.sbpl_cfg.specs.Environment.{Environment}
 use Rattle.sbpl_cfg.specs.Text as environments
+use Rattle.sbpl_map.specs.CellMap.{CellMap}
+use Rattle.sbpl_map.specs.ChangeText as changes
+use Rattle.sbpl_map.specs.LineFaults as change_faults
+use Rattle.sbpl_map.specs.declared.fault.ChangeFault.{ChangeFault}
+use Rattle.sbpl_map.specs.declared.write.Write.{Write}
 use Rattle.sbpl_mprim.specs.declared.fault.PrimFault.{PrimFault}
 use Rattle.sbpl_mprim.specs.Primitives.{Primitives}
 use Rattle.sbpl_mprim.specs.Text as primitives
@@ -24,3 +29,11 @@ pub record IsPrimitiveText (e : Environment) (text : List ℕ) (ps : Primitives)
 -- the first fault of the text of a primitive file, for this environment
 abbrev pub HasPrimitiveFault : Environment → List ℕ → PrimFault → Type 0
 HasPrimitiveFault e text f = primitives.HasFault e.cell e.headings text f
+
+-- the text of a change file stands for batches of writes, on this map
+abbrev pub IsChangeText : CellMap → List ℕ → List (List Write) → Type 0
+IsChangeText m text batches = changes.IsTextOf m text batches
+
+-- the first fault of the text of a change file, on this map
+abbrev pub HasChangeFault : CellMap → List ℕ → ChangeFault → Type 0
+HasChangeFault m text f = change_faults.HasFault m text f

@@ -1,14 +1,17 @@
-//! The files that a lattice is made of, read and judged.
+//! The files that a lattice is made of and the change file, read and judged.
 
-ghost use Rattle.std.specs.Prelude.{IfOk, IfErr};
+ghost use Rattle.std.specs.Prelude.{◌≡◌, ◌≤◌, ◌^◌, [], length, IfOk, IfErr};
 ghost use Rattle.sbpl_desk.specs.Desk.{NoneFalls, Stays};
-ghost use Rattle.sbpl_cli.specs.Causes.{IsEnvironmentRefused, IsPrimitivesRefused, IsRead, IsUnread, PrimitivesStopFor, SaysEnvironment, SaysPrimitives, StopsFor};
-ghost use Rattle.sbpl_cli.specs.Texts.{IsEnvironmentText, IsPrimitiveText};
+ghost use Rattle.sbpl_cli.specs.Causes.{ChangesStopFor, IsChangesRefused, IsEnvironmentRefused, IsPrimitivesRefused, IsRead, IsUnread, PrimitivesStopFor, SaysBatches, SaysEnvironment, SaysPrimitives, StopsFor};
+ghost use Rattle.sbpl_cli.specs.Texts.{IsChangeText, IsEnvironmentText, IsPrimitiveText};
+ghost use Rattle.sbpl_map.specs.ChangeText.{AreOnMap};
 
 use crate::refusal::{Input, Refusal, Stop};
 use sbpl_cfg::{Env, EnvFault, Grid, read_env};
 use sbpl_desk::{Desk, ReadStop};
 use sbpl_job::{Name, Sources};
+use sbpl_fixed::NoMemory;
+use sbpl_map::{ChangeFault, Changes, Map, read_changes};
 use sbpl_mprim::{PrimFault, Prims, read_prims};
 use std::alloc::Global;
 
@@ -92,4 +95,53 @@ pub(crate) fn read_primitives<D: Desk>(
 {
     let text = read_file(alloc, &from.prims, Input::Primitives, desk)?;
     judge_primitives(alloc, text.as_slice(), env)
+}
+
+/// The batches of changes that a text stands for, of this map.
+fn judge_changes(alloc: Global, text: &[u8], map: &Map) -> Result<Changes, Stop>
+    requires short { length text.now ≤ 2 ^ 30 }
+    ensures stands { IfOk result (IsChangeText map.now text.now) }
+    ensures on_map { IfOk result (AreOnMap map.now) }
+    ensures stop { IfErr result (IsChangesRefused map.now text.now) }
+{
+    match read_changes(alloc, text, map) {
+        Ok(changes) => Ok(changes),
+        Err(ChangeFault::NoMemory) => Err(Stop::NoMemory),
+        Err(fault) => Err(Stop::Refused(Refusal::Changes(fault))),
+    }
+}
+
+/// No batches: those of an empty text, which has no fault.
+fn no_changes(alloc: Global, map: &Map) -> Result<Changes, NoMemory>
+    ensures none { IfOk result (λ c. c ≡ []) }
+{
+    match read_changes(alloc, &[], map) {
+        Ok(changes) => Ok(changes),
+        Err(_) => Err(NoMemory),
+    }
+}
+
+/// The batches of the change file, of this map; none where there is no such file.
+pub(crate) fn read_batches<D: Desk>(
+    alloc: Global,
+    changes: &Option<Name>,
+    map: &Map,
+    desk: &mut D,
+) -> Result<Changes, Stop>
+    ensures says { IfOk result (SaysBatches (D.held desk.old) changes.now map.now) }
+    ensures on_map { IfOk result (AreOnMap map.now) }
+    ensures stop { IfErr result (ChangesStopFor (D.held desk.old) (D.read_faults desk.old) (D.read_faults desk.new) changes.now map.now) }
+    ensures held { Stays (D.held desk.old) (D.held desk.new) }
+    ensures written { Stays (D.written desk.old) (D.written desk.new) }
+    ensures reads { NoneFalls (D.read_faults desk.old) (D.read_faults desk.new) }
+    ensures writes { NoneFalls (D.write_faults desk.old) (D.write_faults desk.new) }
+{
+    let Some(name) = changes else {
+        return match no_changes(alloc, map) {
+            Ok(changes) => Ok(changes),
+            Err(NoMemory) => Err(Stop::NoMemory),
+        };
+    };
+    let text = read_file(alloc, name, Input::Changes, desk)?;
+    judge_changes(alloc, text.as_slice(), map)
 }

@@ -43,13 +43,14 @@ fn arcs_of(alloc: Global, found: &Outcome) -> Result<Arcs, NoMemory>
     Ok(Arcs::of(copy))
 }
 
-/// The section of the labels that the search of a plan left.
+/// The section of the labels that the search of plan `plan` left.
 fn make_section(
     alloc: Global,
     lattice: &Lattice,
     guide: &Best,
     labels: &Labels,
     goal: u32,
+    plan: u32,
     found: &Outcome,
 ) -> Result<LabelSet, NoMemory>
     requires states { states_of labels.now ≡ (network_of lattice.now).states }
@@ -57,12 +58,12 @@ fn make_section(
     requires guides { IsGuide (network_of lattice.now) goal guide.now }
     requires found { IsOutcome (network_of lattice.now) (distance_in guide.now) goal labels.now found.now }
     requires supported { AreSupported (network_of lattice.now) labels.now.start (g_of labels.now) (v_of labels.now) }
-    ensures shown { IfOk result (IsShown (network_of lattice.now) (distance_in guide.now) labels.now.start goal 0 labels.now found.now) }
+    ensures shown { IfOk result (IsShown (network_of lattice.now) (distance_in guide.now) labels.now.start goal plan labels.now found.now) }
 {
     let states = lattice.states();
     let arcs = arcs_of(alloc, found)?;
     let answer = answer_of(found);
-    section_of(alloc, 0, states, goal, labels, guide, answer, arcs)
+    section_of(alloc, plan, states, goal, labels, guide, answer, arcs)
 }
 
 /// That section, where it is asked for.
@@ -72,6 +73,7 @@ pub(crate) fn labels_of(
     guide: &Best,
     labels: &Labels,
     goal: u32,
+    plan: u32,
     found: &Outcome,
     asked: bool,
 ) -> Result<Option<LabelSet>, NoMemory>
@@ -80,12 +82,12 @@ pub(crate) fn labels_of(
     requires guides { IsGuide (network_of lattice.now) goal guide.now }
     requires found { IsOutcome (network_of lattice.now) (distance_in guide.now) goal labels.now found.now }
     requires supported { AreSupported (network_of lattice.now) labels.now.start (g_of labels.now) (v_of labels.now) }
-    ensures shown { IfOk result (IsThere asked (IsShown (network_of lattice.now) (distance_in guide.now) labels.now.start goal 0 labels.now found.now)) }
+    ensures shown { IfOk result (IsThere asked (IsShown (network_of lattice.now) (distance_in guide.now) labels.now.start goal plan labels.now found.now)) }
 {
     if !asked {
         return Ok(None);
     }
-    match make_section(alloc, lattice, guide, labels, goal, found) {
+    match make_section(alloc, lattice, guide, labels, goal, plan, found) {
         Ok(section) => Ok(Some(section)),
         Err(NoMemory) => Err(NoMemory),
     }

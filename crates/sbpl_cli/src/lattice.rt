@@ -1,18 +1,19 @@
-//! The lattice that files stand for.
+//! The lattice that files stand for, and the batches of its changes.
 
 ghost use Rattle.std.specs.Prelude.{◌≤◌, ◌^◌, IfErr, IfOk};
 ghost use Rattle.sbpl_desk.specs.Desk.{NoneFalls, Stays};
 ghost use Rattle.sbpl_cost.specs.World.{IsWorld};
 ghost use Rattle.sbpl_sweep.specs.Swept.{AreSweepsOf};
 ghost use Rattle.sbpl_sweep.specs.Widths.{NoneTooWide};
-ghost use Rattle.sbpl_cli.specs.Causes.{IsWideStop, SaysWorld, StopsFor};
+ghost use Rattle.sbpl_cli.specs.Causes.{EarlyStopsFor, IsWideStop, SaysBatches, SaysWorld, StopsFor};
+ghost use Rattle.sbpl_map.specs.ChangeText.{AreOnMap};
 
-use crate::files::{read_environment, read_primitives};
+use crate::files::{read_batches, read_environment, read_primitives};
 use crate::refusal::{Refusal, Stop};
 use sbpl_cost::{Lattice, LatticeFault};
 use sbpl_desk::Desk;
-use sbpl_job::Sources;
-use sbpl_map::Map;
+use sbpl_job::{Name, Sources};
+use sbpl_map::{Changes, Map};
 use sbpl_mprim::Prims;
 use sbpl_sweep::{SweepFault, Sweeps};
 use std::alloc::Global;
@@ -54,5 +55,30 @@ pub(crate) fn read_lattice<D: Desk>(
         Ok(lattice) => Ok(lattice),
         Err(LatticeFault::TooDear(place)) => Err(Stop::Refused(Refusal::TooDear(place))),
         Err(LatticeFault::NoMemory) => Err(Stop::NoMemory),
+    }
+}
+
+/// The lattice of a job's files, and the batches of its change file.
+pub(crate) fn read_course<D: Desk>(
+    alloc: Global,
+    from: &Sources,
+    changes: &Option<Name>,
+    desk: &mut D,
+) -> Result<(Lattice, Changes), Stop>
+    requires range { from.now.radius ≤ 10 ^ 12 }
+    ensures says { IfOk result (λ x. SaysWorld (D.held desk.old) from.now x.0) }
+    ensures kept { IfOk result (λ x. IsWorld x.0) }
+    ensures batches { IfOk result (λ x. SaysBatches (D.held desk.old) changes.now x.0.map x.1) }
+    ensures on_map { IfOk result (λ x. AreOnMap x.0.map x.1) }
+    ensures stop { IfErr result (EarlyStopsFor (D.held desk.old) (D.read_faults desk.old) (D.read_faults desk.new) from.now changes.now) }
+    ensures held { Stays (D.held desk.old) (D.held desk.new) }
+    ensures written { Stays (D.written desk.old) (D.written desk.new) }
+    ensures reads { NoneFalls (D.read_faults desk.old) (D.read_faults desk.new) }
+    ensures writes { NoneFalls (D.write_faults desk.old) (D.write_faults desk.new) }
+{
+    let lattice = read_lattice(alloc, from, desk)?;
+    match read_batches(alloc, changes, lattice.map(), desk) {
+        Ok(batches) => Ok((lattice, batches)),
+        Err(stop) => Err(stop),
     }
 }

@@ -3,6 +3,7 @@
 
 mod check;
 mod checking;
+mod demo;
 mod files;
 mod flaw;
 mod labels;
@@ -11,11 +12,15 @@ mod list;
 mod listing;
 mod parts;
 mod plan;
+mod planning;
+mod plans;
 mod poses;
 mod record;
 mod refusal;
 mod refusing;
 mod report;
+mod sections;
+mod telling;
 mod top;
 mod trace;
 mod writing;

@@ -1,17 +1,24 @@
-//! The listing of what each primitive costs and sweeps.
+//! The job `sweep`: the listing of what each primitive costs and sweeps.
 
-ghost use Rattle.std.specs.Prelude.{◌≡◌, ◌≢◌, ◌<◌, ◌∷◌, [], ℕ, List, length};
+ghost use Rattle.std.specs.Prelude.{◌≡◌, ◌≢◌, ◌<◌, ◌∷◌, [], ℕ, List, length, IfErr, IfOk, OnErr};
 ghost use Rattle.sbpl_desk.specs.Desk.{NoneFalls, Stays};
 ghost use Rattle.sbpl_cost.specs.World.{IsWorld};
 ghost use Rattle.sbpl_cli.specs.Intents.{listing_writes};
 ghost use Rattle.sbpl_cli.specs.Listing.{listing_at};
-ghost use Rattle.sbpl_cli.specs.Writing.{EndsIn, output, to_output};
+ghost use Rattle.sbpl_cli.specs.Writing.{EndsIn, IsOutput, StaysBut, output, to_output};
+ghost use Rattle.sbpl_cli.specs.Causes.{JobStopsFor};
+ghost use Rattle.sbpl_cli.specs.Promises.{EndsJob};
+ghost use Rattle.sbpl_job.specs.Jobs.{IsJob};
+ghost use Rattle.sbpl_job.specs.declared.job.Job.TheVariants as Jobs;
 
 use crate::listing::listing_at;
-use crate::writing::{OUTPUT, write_last, write_text};
+use crate::lattice::read_lattice;
+use crate::refusal::Stop;
+use crate::writing::{OUTPUT, status_after, write_last, write_text};
 use sbpl_cost::Lattice;
 use sbpl_desk::{Desk, WriteStop};
 use sbpl_fixed::NoMemory;
+use sbpl_job::Sources;
 use std::alloc::Global;
 
 /// Writes the lines of the primitive at place `i` of the file.
@@ -53,4 +60,21 @@ pub(crate) fn write_listings<D: Desk>(
         }
     }
     write_last(desk)
+}
+
+/// Lists what each primitive costs and sweeps, and answers the status; or answers why nothing was written.
+pub(crate) fn end_sweep<D: Desk>(alloc: Global, from: &Sources, desk: &mut D) -> Result<u8, Stop>
+    requires range { IsJob (Jobs.Sweep from.now) }
+    ensures ends { IfOk result (EndsJob (D.held desk.old) (D.read_faults desk.old) (D.read_faults desk.new) (D.written desk.old) (D.written desk.new) (D.write_faults desk.old) (D.write_faults desk.new) (Jobs.Sweep from.now)) }
+    ensures stop { IfErr result (JobStopsFor (D.held desk.old) (D.read_faults desk.old) (D.read_faults desk.new) (Jobs.Sweep from.now)) }
+    ensures unwritten { OnErr result (Stays (D.written desk.old) (D.written desk.new)) }
+    ensures held { Stays (D.held desk.old) (D.held desk.new) }
+    ensures others { StaysBut IsOutput (D.written desk.old) (D.written desk.new) }
+    ensures reads { NoneFalls (D.read_faults desk.old) (D.read_faults desk.new) }
+    ensures writes { NoneFalls (D.write_faults desk.old) (D.write_faults desk.new) }
+{
+    match read_lattice(alloc, from, desk) {
+        Ok(lattice) => Ok(status_after(write_listings(alloc, &lattice, desk), 0)),
+        Err(stop) => Err(stop),
+    }
 }

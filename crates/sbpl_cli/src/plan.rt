@@ -1,34 +1,26 @@
 //! One plan on a lattice.
 
-ghost use Rattle.std.specs.Prelude.{◌≡◌, ◌<◌, ◌≤◌, ◌^◌, ◌⊎◌, ℕ, IfErr, IfOk, IsSome, MatchBool, None, Some, true};
-ghost use Rattle.sbpl_desk.specs.Desk.{NoneFalls, Stays};
+ghost use Rattle.std.specs.Prelude.{◌≡◌, ◌<◌, ℕ, IfOk, IsSome, MatchBool, None, Option, Some};
 ghost use Rattle.sbpl_cost.specs.Lattices.{network_of};
-ghost use Rattle.sbpl_cli.specs.Causes.{IsPlanned, StopsFor};
-ghost use Rattle.sbpl_cli.specs.Headline.{AreSteps, IsAnswered, IsMarked, IsNoneThere, IsPathFrom, IsPlanOf, IsSearched, IsStep, IsWithinBound, KeepsPromises, Joins, JoinsStates, TellsResult};
+ghost use Rattle.sbpl_cli.specs.Headline.{AreSteps, Begins, Behind, IsAnswered, IsNoneThere, IsPathFrom, IsSearched, IsStep, IsWithinBound, KeepsPromises, Joins, JoinsStates, TellsResult, expanded_before};
+ghost use Rattle.sbpl_cli.specs.Planning.{IsSetFor, behind_of};
 ghost use Rattle.sbpl_job.specs.Jobs.{IsSearchJob};
 ghost use Rattle.sbpl_cli.specs.Asked.{ask_of};
-ghost use Rattle.sbpl_labels.specs.Counts.{Counts, IsSpent};
 ghost use Rattle.sbpl_plan.specs.Outcomes.{IsTrueOutcome};
 ghost use Rattle.sbpl_plan.specs.Outcomes as Search;
-ghost use Rattle.sbpl_plan.specs.Passing.{expansions};
+ghost use Rattle.sbpl_replan.specs.Replanning.{IsReadyIn};
 ghost use Rattle.sbpl_plan.specs.declared.result.Outcome.TheVariants as Results;
 
 use crate::labels::labels_of;
-use crate::lattice::read_lattice;
 use crate::parts::Steps;
-use crate::poses::ends_of;
 use crate::record::{Outcome, PathRecord, PlanRecord, Step};
-use crate::refusal::Stop;
-use sbpl_ara::Ara;
 use sbpl_cert::LabelSet;
-use sbpl_cost::{Lattice, lattice_has_its_arcs};
-use sbpl_desk::Desk;
+use sbpl_cost::Lattice;
 use sbpl_fixed::NoMemory;
 use sbpl_graph::Graph;
-use sbpl_heur::Best;
-use sbpl_job::PlanJob;
-use sbpl_labels::Budget;
+use sbpl_job::{Outputs, SearchJob};
 use sbpl_plan::{Arcs, Ask, Planned};
+use sbpl_replan::Replanner;
 use std::alloc::Global;
 
 /// The state that an arc leads to, and the step that it is.
@@ -113,43 +105,42 @@ fn outcome_of(
 }
 
 /// What a search is asked for.
-fn ask_of(job: &PlanJob) -> Ask
-    ensures ask { result ≡ ask_of job.now }
+fn ask_of(how: &SearchJob, outputs: &Outputs) -> Ask
+    ensures ask { result ≡ ask_of how.now outputs.now }
 {
     Ask {
-        first: job.search.first,
-        step: job.search.step,
-        bound: job.search.bound,
-        traced: job.outputs.trace.is_some(),
+        first: how.first,
+        step: how.step,
+        bound: how.bound,
+        traced: outputs.trace.is_some(),
     }
 }
 
 /// How many states were expanded, where the last pass was spent.
-fn mark_of(spent: bool, budget: &Budget) -> Option<u64>
-    ensures mark { MatchBool spent (result ≡ Some budget.now.plan) (result ≡ None) }
+fn mark_of(spent: bool, expanded: u64) -> Option<u64>
+    ensures mark { MatchBool spent (result ≡ Some expanded) (result ≡ None) }
 {
-    if spent { Some(budget.used()) } else { None }
+    if spent { Some(expanded) } else { None }
 }
 
-/// The record of the first plan.
+/// The record of plan `plan`, which expanded so many states.
 fn record_of(
     alloc: Global,
     lattice: &Lattice,
     start: u32,
     goal: u32,
+    plan: u32,
     planned: Planned,
-    budget: &Budget,
+    expanded: u64,
     labels: Option<LabelSet>,
 ) -> Result<PlanRecord, NoMemory>
     requires state { start < (network_of lattice.now).states }
     requires so { IsTrueOutcome (network_of lattice.now) start goal planned.outcome }
-    requires counted { budget.now.plan ≡ expansions planned.passes }
-    requires spent { planned.spent ≡ true → (budget.now.plan ≡ budget.now.per_plan) ⊎ (budget.now.plan ≡ 2 ^ 30) }
-    ensures number { IfOk result (λ r. r.plan ≡ 0) }
+    ensures number { IfOk result (λ r. r.plan ≡ plan) }
     ensures passes { IfOk result (λ r. r.passes ≡ planned.passes) }
     ensures told { IfOk result (λ r. TellsResult planned.outcome r.outcome) }
     ensures labels { IfOk result (λ r. r.labels ≡ labels) }
-    ensures marked { IfOk result (IsMarked budget.now.per_plan planned.spent) }
+    ensures marked { IfOk result (λ r. MatchBool planned.spent (r.spent ≡ Some expanded) (r.spent ≡ None)) }
     ensures joins { IfOk result (λ r. Joins lattice.now start goal r.outcome) }
     ensures within_the_bound { IfOk result (λ r. IsWithinBound lattice.now start goal r.outcome) }
     ensures none { IfOk result (λ r. IsNoneThere lattice.now start goal r.outcome) }
@@ -157,71 +148,51 @@ fn record_of(
 {
     let outcome = outcome_of(alloc, lattice, start, goal, planned.outcome)?;
     Ok(PlanRecord {
-        plan: 0,
+        plan,
         passes: planned.passes,
-        spent: mark_of(planned.spent, budget),
+        spent: mark_of(planned.spent, expanded),
         outcome,
         labels,
     })
 }
 
-/// Plans on a lattice from a start to a goal.
-fn plan_between(
+/// Makes plan `plan` on the present map of a lattice, and its record.
+pub(crate) fn make_record(
     alloc: Global,
     lattice: &Lattice,
-    job: &PlanJob,
+    replanner: &mut Replanner,
+    how: &SearchJob,
+    outputs: &Outputs,
     start: u32,
     goal: u32,
+    plan: u32,
 ) -> Result<PlanRecord, NoMemory>
     requires start { start < (network_of lattice.now).states }
     requires goal { goal < (network_of lattice.now).states }
-    requires search { IsSearchJob job.now.search }
-    ensures number { IfOk result (λ r. r.plan ≡ 0) }
-    ensures promises { IfOk result (KeepsPromises lattice.now start goal job.now.search.bound) }
-    ensures searched { IfOk result (IsSearched lattice.now start goal job.now) }
+    requires search { IsSearchJob how.now }
+    requires ready { IsReadyIn lattice.now replanner.old }
+    requires set { IsSetFor how.now start goal replanner.old }
+    ensures number { IfOk result (λ r. r.plan ≡ plan) }
+    ensures promises { IfOk result (KeepsPromises lattice.now start goal how.now.bound) }
+    ensures searched { (before : Option Behind) → Begins how.now.planner lattice.now start before replanner.old.search.labels → expanded_before before ≡ replanner.old.counts.run
+        → IfOk result (IsSearched lattice.now how.now outputs.now start goal before (behind_of lattice.now replanner.new)) }
+    ensures ready { IfOk result (λ _. IsReadyIn lattice.now replanner.new) }
+    ensures set { IfOk result (λ _. IsSetFor how.now start goal replanner.new) }
 {
-    let ask = ask_of(job);
-    let guide = Best::build(alloc, lattice, goal)?;
-    let mut budget = Budget::new(job.search.budget);
-    let mut ara = Ara::open(alloc, lattice.states(), start, goal)?;
-    let planned = sbpl_plan::plan(alloc, lattice, &guide, &mut ara, goal, &ask, &mut budget)?;
-    let asked = job.outputs.labels.is_some();
+    let ask = ask_of(how, outputs);
+    let planned = replanner.plan(alloc, lattice, &ask)?;
     let labels = labels_of(
         alloc,
         lattice,
-        &guide,
-        ara.labels(),
+        replanner.guide(),
+        replanner.labels(),
         goal,
+        plan,
         &planned.outcome,
-        asked,
+        outputs.labels.is_some(),
     )?;
-    record_of(alloc, lattice, start, goal, planned, &budget, labels)
-}
-
-/// Plans on a lattice, from the start of its environment to its end.
-fn plan_on(alloc: Global, lattice: &Lattice, job: &PlanJob) -> Result<PlanRecord, NoMemory>
-    requires search { IsSearchJob job.now.search }
-    ensures planned { IfOk result (IsPlanOf lattice.now job.now) }
-{
-    let (start, goal) = ends_of(lattice);
-    plan_between(alloc, lattice, job, start, goal)
-}
-
-/// Reads the job's files and plans.
-pub(crate) fn plan<D: Desk>(alloc: Global, job: &PlanJob, desk: &mut D) -> Result<PlanRecord, Stop>
-    requires range { job.now.sources.radius ≤ 10 ^ 12 }
-    requires search { IsSearchJob job.now.search }
-    ensures planned { IfOk result (IsPlanned (D.held desk.old) job.now) }
-    ensures stop { IfErr result (StopsFor (D.held desk.old) (D.read_faults desk.old) (D.read_faults desk.new) job.now.sources) }
-    ensures held { Stays (D.held desk.old) (D.held desk.new) }
-    ensures written { Stays (D.written desk.old) (D.written desk.new) }
-    ensures reads { NoneFalls (D.read_faults desk.old) (D.read_faults desk.new) }
-    ensures writes { NoneFalls (D.write_faults desk.old) (D.write_faults desk.new) }
-{
-    lattice_has_its_arcs();
-    let lattice = read_lattice(alloc, &job.sources, desk)?;
-    match plan_on(alloc, &lattice, job) {
-        Ok(planned) => Ok(planned),
-        Err(NoMemory) => Err(Stop::NoMemory),
-    }
+    let expanded = replanner.expanded();
+    record_of(
+        alloc, lattice, start, goal, plan, planned, expanded, labels,
+    )
 }

@@ -4,6 +4,7 @@ ghost use Rattle.std.specs.Prelude.{◌≡◌};
 ghost use Rattle.sbpl_cli.specs.Intents.{refusal_status};
 
 use sbpl_cfg::EnvFault;
+use sbpl_map::ChangeFault;
 use sbpl_mprim::PrimFault;
 
 /// A file that a job reads.
@@ -11,6 +12,7 @@ use sbpl_mprim::PrimFault;
 pub enum Input {
     Environment,
     Primitives,
+    Changes,
     Labels,
 }
 
@@ -25,6 +27,8 @@ pub enum Refusal {
     TooWide(u32),
     /// The cost of the primitive at this place of the file is above the limit.
     TooDear(u32),
+    /// The change file has a fault.
+    Changes(ChangeFault),
     /// A file could not be read.
     Read(Input),
     /// A file holds more than 2^30 bytes.
@@ -39,6 +43,7 @@ impl Refusal {
         match self {
             Refusal::Environment(_) => 3,
             Refusal::Primitives(_) | Refusal::TooWide(_) | Refusal::TooDear(_) => 4,
+            Refusal::Changes(_) => 5,
             Refusal::Read(_) => 6,
             Refusal::Length(_) => 8,
         }

@@ -1,13 +1,13 @@
 //! The lines of refusals.
 
 ghost use Rattle.std.specs.Prelude.{◌≡◌, ◌++◌, OnOk, IfOk};
-ghost use Rattle.sbpl_cli.specs.Intents.{fault_text, input_name, label_fault_text, labels_name, refusal_text, unread_text};
+ghost use Rattle.sbpl_cli.specs.Intents.{check_name, fault_text, input_name, label_fault_text, name_or_nothing, plan_name, refusal_text, sources_name, unread_text};
 
 use crate::refusal::{Input, Refusal};
 use crate::report::{push_bytes, push_field};
 use sbpl_cert::LabelFault;
 use sbpl_fixed::NoMemory;
-use sbpl_job::Job;
+use sbpl_job::{CheckJob, Job, Name, PlanJob, Sources};
 use std::alloc::Global;
 
 /// Appends the line of a fault in a file.
@@ -42,24 +42,60 @@ fn push_unread(out: &mut Vec<u8>, why: &[u8], name: &str) -> Result<(), NoMemory
     push_bytes(out, b"\n")
 }
 
-/// The name of the file of labels that a job reads; empty where it reads none.
-fn labels_name(job: &Job) -> &str
-    ensures name { result.now ≡ labels_name job.now }
+/// The name, if there is one, and else nothing.
+fn name_or_nothing(name: &Option<Name>) -> &str
+    ensures name { result.now ≡ name_or_nothing name.now }
 {
-    match job {
-        Job::Check(check) => check.labels.as_str(),
-        Job::Plan(_) | Job::Sweep(_) => "",
+    match name {
+        Some(name) => name.as_str(),
+        None => "",
     }
 }
 
-/// The name of a file that a job reads.
+/// The name of a file that the job `sweep` reads; empty where it reads none.
+fn sources_name(from: &Sources, input: Input) -> &str
+    ensures name { result.now ≡ sources_name from.now input }
+{
+    match input {
+        Input::Environment => from.env.as_str(),
+        Input::Primitives => from.prims.as_str(),
+        Input::Changes | Input::Labels => "",
+    }
+}
+
+/// The name of a file that a job `plan` reads; empty where it reads none.
+fn plan_name(job: &PlanJob, input: Input) -> &str
+    ensures name { result.now ≡ plan_name job.now input }
+{
+    match input {
+        Input::Environment => job.sources.env.as_str(),
+        Input::Primitives => job.sources.prims.as_str(),
+        Input::Changes => name_or_nothing(&job.changes),
+        Input::Labels => "",
+    }
+}
+
+/// The name of a file that a job `check` reads; empty where it reads none.
+fn check_name(job: &CheckJob, input: Input) -> &str
+    ensures name { result.now ≡ check_name job.now input }
+{
+    match input {
+        Input::Environment => job.sources.env.as_str(),
+        Input::Primitives => job.sources.prims.as_str(),
+        Input::Changes => name_or_nothing(&job.changes),
+        Input::Labels => job.labels.as_str(),
+    }
+}
+
+/// The name of a file that a job reads; empty where it reads none.
 fn name_of(job: &Job, input: Input) -> &str
     ensures name { result.now ≡ input_name job.now input }
 {
-    match input {
-        Input::Environment => job.sources().env.as_str(),
-        Input::Primitives => job.sources().prims.as_str(),
-        Input::Labels => labels_name(job),
+    match job {
+        Job::Plan(job) => plan_name(job, input),
+        Job::Check(job) => check_name(job, input),
+        Job::Sweep(from) => sources_name(from, input),
+        Job::Demo(_) => "",
     }
 }
 
@@ -84,6 +120,13 @@ fn push_refusal(out: &mut Vec<u8>, job: &Job, refusal: &Refusal) -> Result<(), N
         ),
         Refusal::TooWide(prim) => push_fault(out, b"primitives", 14, "TooWide", u64::from(*prim)),
         Refusal::TooDear(prim) => push_fault(out, b"primitives", 15, "TooDear", u64::from(*prim)),
+        Refusal::Changes(fault) => push_fault(
+            out,
+            b"changes",
+            fault.number(),
+            fault.name(),
+            fault.line(),
+        ),
         Refusal::Read(input) => push_unread(out, b"read", name_of(job, *input)),
         Refusal::Length(input) => push_unread(out, b"length", name_of(job, *input)),
     }

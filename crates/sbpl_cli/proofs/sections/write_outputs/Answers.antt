@@ -1,7 +1,7 @@
 use Rattle.std.proofs.Common.{◌∙◌, inl, inr}
 use Rattle.sbpl_cli.specs.Intents.{labels_writes, trace_writes}
 use Rattle.sbpl_cli.proofs.Writings.{ends_behind, ends_first}
-use Rattle.sbpl_cli.proofs.top.write_outputs.Goals as goal
+use Rattle.sbpl_cli.proofs.sections.write_outputs.Goals as goal
 
 pub returns-in-Ok-clause-ends : goal.returns-in-Ok-clause-ends
 returns-in-Ok-clause-ends g c = ends_behind _ _ _ _ _ _ _ (labels_writes c.args.outputs.now c.args.plan.now) (trace_writes c.args.outputs.now c.args.plan.now) _ c.in-Ok.ensures.ends c.write_labels.ensures.writes c.write_trace.ensures.ends

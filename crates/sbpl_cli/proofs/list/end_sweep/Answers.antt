@@ -3,7 +3,7 @@ use Rattle.sbpl_job.specs.declared.job.Job.TheVariants as job
 use Rattle.sbpl_cli.specs.Intents.{Listed}
 use Rattle.sbpl_cli.proofs.Ends.{ended, job_stop}
 use Rattle.sbpl_cli.proofs.Writings.{status_ends}
-use Rattle.sbpl_cli.proofs.top.end_sweep.Goals as goal
+use Rattle.sbpl_cli.proofs.list.end_sweep.Goals as goal
 
 pub returns-in-Ok-clause-ends : goal.returns-in-Ok-clause-ends
 returns-in-Ok-clause-ends g c =

@@ -1,0 +1,121 @@
+//! The sections of a plan, written: of the report, of labels and of a trace.
+
+ghost use Rattle.std.specs.Prelude.{◌≢◌, ◌∷◌, ◌++◌, ℕ, List, []};
+ghost use Rattle.sbpl_desk.specs.Desk.{NoneFalls, Stays};
+ghost use Rattle.sbpl_cli.specs.Intents.{labels_writes, section_writes, trace_writes};
+ghost use Rattle.sbpl_cli.specs.Report.{section_text};
+ghost use Rattle.sbpl_cli.specs.Writing.{EndsIn, IsNamed, IsOutputOf, StaysBut, output, to_named, to_output};
+
+use crate::labels;
+use crate::record::PlanRecord;
+use crate::report::section_of;
+use crate::trace::trace_of;
+use crate::writing::{OUTPUT, write_text};
+use sbpl_desk::{Desk, WriteStop};
+use sbpl_fixed::NoMemory;
+use sbpl_job::{Name, Outputs};
+use std::alloc::Global;
+
+/// Writes the section of a plan.
+fn write_section<D: Desk>(alloc: Global, plan: &PlanRecord, desk: &mut D) -> Result<(), WriteStop>
+    ensures ends { EndsIn (D.written desk.old) (D.written desk.new) (D.write_faults desk.old) (D.write_faults desk.new) (to_output (section_text plan.now) ∷ []) result }
+    ensures held { Stays (D.held desk.old) (D.held desk.new) }
+    ensures others { (name : List ℕ) → name ≢ output → D.written desk.new name ≡ D.written desk.old name }
+    ensures reads { NoneFalls (D.read_faults desk.old) (D.read_faults desk.new) }
+    ensures writes { NoneFalls (D.write_faults desk.old) (D.write_faults desk.new) }
+{
+    match section_of(alloc, plan) {
+        Ok(text) => write_text(OUTPUT, text.as_slice(), desk),
+        Err(NoMemory) => Err(WriteStop::NoMemory),
+    }
+}
+
+/// Writes a text under a name, if there is one.
+fn write_named<D: Desk>(name: &Option<Name>, text: &[u8], desk: &mut D) -> Result<(), WriteStop>
+    ensures ends { EndsIn (D.written desk.old) (D.written desk.new) (D.write_faults desk.old) (D.write_faults desk.new) (to_named name.now text.now) result }
+    ensures held { Stays (D.held desk.old) (D.held desk.new) }
+    ensures others { StaysBut (IsNamed name.now) (D.written desk.old) (D.written desk.new) }
+    ensures reads { NoneFalls (D.read_faults desk.old) (D.read_faults desk.new) }
+    ensures writes { NoneFalls (D.write_faults desk.old) (D.write_faults desk.new) }
+{
+    match name {
+        Some(name) => write_text(name.as_str(), text, desk),
+        None => Ok(()),
+    }
+}
+
+/// Writes the labels of a plan, where they are to be written.
+fn write_labels<D: Desk>(
+    alloc: Global,
+    outputs: &Outputs,
+    plan: &PlanRecord,
+    desk: &mut D,
+) -> Result<(), WriteStop>
+    ensures ends { EndsIn (D.written desk.old) (D.written desk.new) (D.write_faults desk.old) (D.write_faults desk.new) (labels_writes outputs.now plan.now) result }
+    ensures held { Stays (D.held desk.old) (D.held desk.new) }
+    ensures others { StaysBut (IsNamed outputs.now.labels) (D.written desk.old) (D.written desk.new) }
+    ensures reads { NoneFalls (D.read_faults desk.old) (D.read_faults desk.new) }
+    ensures writes { NoneFalls (D.write_faults desk.old) (D.write_faults desk.new) }
+{
+    match labels::text_of(alloc, &plan.labels) {
+        Ok(text) => write_named(&outputs.labels, text.as_slice(), desk),
+        Err(NoMemory) => Err(WriteStop::NoMemory),
+    }
+}
+
+/// Writes the trace of a plan, where it is to be written.
+fn write_trace<D: Desk>(
+    alloc: Global,
+    outputs: &Outputs,
+    plan: &PlanRecord,
+    desk: &mut D,
+) -> Result<(), WriteStop>
+    ensures ends { EndsIn (D.written desk.old) (D.written desk.new) (D.write_faults desk.old) (D.write_faults desk.new) (trace_writes outputs.now plan.now) result }
+    ensures held { Stays (D.held desk.old) (D.held desk.new) }
+    ensures others { StaysBut (IsNamed outputs.now.trace) (D.written desk.old) (D.written desk.new) }
+    ensures reads { NoneFalls (D.read_faults desk.old) (D.read_faults desk.new) }
+    ensures writes { NoneFalls (D.write_faults desk.old) (D.write_faults desk.new) }
+{
+    match trace_of(alloc, plan) {
+        Ok(text) => write_named(&outputs.trace, text.as_slice(), desk),
+        Err(NoMemory) => Err(WriteStop::NoMemory),
+    }
+}
+
+/// Writes what a plan writes beside the report: its labels and its trace.
+fn write_outputs<D: Desk>(
+    alloc: Global,
+    outputs: &Outputs,
+    plan: &PlanRecord,
+    desk: &mut D,
+) -> Result<(), WriteStop>
+    ensures ends { EndsIn (D.written desk.old) (D.written desk.new) (D.write_faults desk.old) (D.write_faults desk.new) (labels_writes outputs.now plan.now ++ trace_writes outputs.now plan.now) result }
+    ensures held { Stays (D.held desk.old) (D.held desk.new) }
+    ensures others { StaysBut (IsOutputOf outputs.now) (D.written desk.old) (D.written desk.new) }
+    ensures reads { NoneFalls (D.read_faults desk.old) (D.read_faults desk.new) }
+    ensures writes { NoneFalls (D.write_faults desk.old) (D.write_faults desk.new) }
+{
+    match write_labels(alloc, outputs, plan, desk) {
+        Ok(()) => write_trace(alloc, outputs, plan, desk),
+        Err(stop) => Err(stop),
+    }
+}
+
+/// Writes all of a plan: its section of the report, its labels and its trace.
+pub(crate) fn write_plan<D: Desk>(
+    alloc: Global,
+    outputs: &Outputs,
+    plan: &PlanRecord,
+    desk: &mut D,
+) -> Result<(), WriteStop>
+    ensures ends { EndsIn (D.written desk.old) (D.written desk.new) (D.write_faults desk.old) (D.write_faults desk.new) (section_writes outputs.now plan.now) result }
+    ensures held { Stays (D.held desk.old) (D.held desk.new) }
+    ensures others { StaysBut (IsOutputOf outputs.now) (D.written desk.old) (D.written desk.new) }
+    ensures reads { NoneFalls (D.read_faults desk.old) (D.read_faults desk.new) }
+    ensures writes { NoneFalls (D.write_faults desk.old) (D.write_faults desk.new) }
+{
+    match write_section(alloc, plan, desk) {
+        Ok(()) => write_outputs(alloc, outputs, plan, desk),
+        Err(stop) => Err(stop),
+    }
+}

@@ -1,0 +1,85 @@
+//! How plans are told: in full, or each in a line.
+
+ghost use Rattle.std.specs.Prelude.{◌∷◌, [], List, ℕ};
+ghost use Rattle.sbpl_desk.specs.Desk.{NoneFalls, Stays};
+ghost use Rattle.sbpl_cli.specs.declared.record.PlanRecord.{PlanRecord};
+ghost use Rattle.sbpl_cli.specs.Intents.{section_writes};
+ghost use Rattle.sbpl_cli.specs.Report.{plan_line};
+ghost use Rattle.sbpl_cli.specs.Writing.{EndsIn, IsOutput, IsOutputOf, StaysBut, Write, to_output};
+
+use crate::record::PlanRecord;
+use crate::report::line_of;
+use crate::sections::write_plan;
+use crate::writing::{OUTPUT, write_text};
+use sbpl_desk::{Desk, WriteStop};
+use sbpl_fixed::NoMemory;
+use sbpl_job::Outputs;
+use std::alloc::Global;
+
+/// A way to tell plans.
+pub(crate) trait Telling {
+    /// What is written of a plan.
+    ghost written: { Self → PlanRecord → List Write };
+
+    /// The names under which it may be written.
+    ghost under: { Self → List ℕ → Type 0 };
+
+    /// The standard output is one of them.
+    ghost output: { (t : Self) (name : List ℕ) → IsOutput name → under t name };
+
+    /// Writes what is told of a plan.
+    fn tell<D: Desk>(
+        &self,
+        alloc: Global,
+        plan: &PlanRecord,
+        desk: &mut D,
+    ) -> Result<(), WriteStop>
+        ensures ends { EndsIn (D.written desk.old) (D.written desk.new) (D.write_faults desk.old) (D.write_faults desk.new) (written self.now plan.now) result }
+        ensures held { Stays (D.held desk.old) (D.held desk.new) }
+        ensures others { StaysBut (under self.now) (D.written desk.old) (D.written desk.new) }
+        ensures reads { NoneFalls (D.read_faults desk.old) (D.read_faults desk.new) }
+        ensures writes { NoneFalls (D.write_faults desk.old) (D.write_faults desk.new) };
+}
+
+/// In full: a section of the report, one of labels and one of a trace, where they are asked for.
+impl Telling for Outputs {
+    ghost use Rattle.std.specs.Prelude.{inl};
+
+    ghost written = { λ o plan. section_writes o plan };
+
+    ghost under = { λ o name. IsOutputOf o name };
+
+    ghost output = { λ o name is. inl is };
+
+    fn tell<D: Desk>(
+        &self,
+        alloc: Global,
+        plan: &PlanRecord,
+        desk: &mut D,
+    ) -> Result<(), WriteStop> {
+        write_plan(alloc, self, plan, desk)
+    }
+}
+
+/// Each plan in a line of the report.
+pub(crate) struct Lines;
+
+impl Telling for Lines {
+    ghost written = { λ _ plan. to_output (plan_line plan) ∷ [] };
+
+    ghost under = { λ _ name. IsOutput name };
+
+    ghost output = { λ _ name is. is };
+
+    fn tell<D: Desk>(
+        &self,
+        alloc: Global,
+        plan: &PlanRecord,
+        desk: &mut D,
+    ) -> Result<(), WriteStop> {
+        match line_of(alloc, plan) {
+            Ok(line) => write_text(OUTPUT, line.as_slice(), desk),
+            Err(NoMemory) => Err(WriteStop::NoMemory),
+        }
+    }
+}
