@@ -2,13 +2,13 @@
 use denote.Ref.{Bor}
 use Rattle.std.proofs.lemmas.List.{drop_all}
 use Rattle.std.specs.Option.{is_some}
-use Rattle.std.proofs.Common.{suc, ◌+◌, ◌<◌, ◌≤◌, length, drop, get_or, subst, add-one, drop-cons, Global, String, string_bytes, ◌≡◌, ◌≢◌, ℕ, map, filter, Bool, true, false, List, [], ◌∷◌, ◌++◌, Option, Some, None, Result, Ok, Err, refl, sym, ◌∙◌, ap, option_map, append_assoc, append-nil}
+use Rattle.std.proofs.Common.{suc, ◌+◌, ◌<◌, ◌≤◌, length, drop, get_or, subst, add-one, drop-cons, Global, String, string_bytes, ◌≡◌, ◌≢◌, ℕ, map, filter, true, false, List, [], ◌∷◌, ◌++◌, Option, Some, None, Ok, Err, refl, sym, ◌∙◌, ap, option_map, append_assoc, append-nil}
 use Rattle.sbpl_job.specs.declared.job.JobFault.{JobFault}
 use Rattle.sbpl_job.specs.declared.job.JobFault.TheVariants.{Words, NoMemory}
 use Rattle.sbpl_job.specs.declared.words.Command.{Command}
 use Rattle.sbpl_job.specs.declared.words.Setting.{Setting}
 use Rattle.sbpl_job.specs.declared.words.Given.{Given}
-use Rattle.sbpl_job.specs.Words.{Parts, NamesParts, is_setting, at_most_one, value_of, no_parts, with_plain, with_given, with_joined, parts_after, setting_of, joined_setting, is_plain_word}
+use Rattle.sbpl_job.specs.Words.{Parts, NamesParts, is_setting, at_most_one, value_of, no_parts, with_given, parts_after, setting_of, joined_setting, is_plain_word}
 use Rattle.sbpl_job.specs.Taking.{Takes, joined, plain_part}
 
 -- parts before no parts, and after none

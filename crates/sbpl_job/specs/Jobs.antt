@@ -1,12 +1,15 @@
 -- The job that a list of words names.
-use Rattle.std.specs.Prelude.{◌^◌, ◌≤◌, false, ◌/◌, ◌%◌, ◌&&◌, ◌||◌, Bool, ℕ, ℤ, pos, negsuc, nat_eq, nat_le, List, [], ◌∷◌, Option, Some, None, option_map, option_and_then, Result, Ok, Err, codes, if◌then◌else◌}
+use Rattle.std.specs.Prelude.{◌^◌, ◌<◌, ◌≤◌, false, ◌/◌, ◌%◌, ◌&&◌, ◌||◌, Bool, ℕ, ℤ, pos, negsuc, nat_eq, nat_le, List, [], ◌∷◌, length, Option, Some, None, option_map, option_and_then, Result, Ok, Err, codes, if◌then◌else◌}
+use Rattle.std.specs.Option.{option_map_or}
+use Rattle.std.specs.Result.{result_ok}
 use Rattle.std.specs.Str.{bytes_eq}
 use Rattle.sbpl_fixed.specs.declared.fault.NumFault.{NumFault}
 use Rattle.sbpl_fixed.specs.Numbers.{nano_of, whole_of}
+use Rattle.sbpl_fixed.specs.Unsigned.{digits_of}
+use Rattle.sbpl_job.specs.declared.job.DemoJob.{DemoJob}
 use Rattle.sbpl_job.specs.declared.job.Job.{Job}
 use Rattle.sbpl_job.specs.declared.job.Job.TheVariants as job
 use Rattle.sbpl_job.specs.declared.job.Outputs.{Outputs}
-use Rattle.sbpl_job.specs.declared.job.PlanJob.{PlanJob}
 use Rattle.sbpl_job.specs.declared.job.Planner.{Planner}
 use Rattle.sbpl_job.specs.declared.job.Planner.TheVariants as planner
 use Rattle.sbpl_job.specs.declared.job.SearchJob.{SearchJob}
@@ -22,7 +25,8 @@ abbrev pub command_named : List ℕ → Option Command
 command_named word =
     if bytes_eq word (codes "plan") then Some command.Plan
     else (if bytes_eq word (codes "check") then Some command.Check
-    else (if bytes_eq word (codes "sweep") then Some command.Sweep else None))
+    else (if bytes_eq word (codes "sweep") then Some command.Sweep
+    else (if bytes_eq word (codes "demo") then Some command.Demo else None)))
 
 -- a number of nanometres, 0 to 10 ^ 12
 abbrev pub radius_in : Result ℤ NumFault → Option ℕ
@@ -72,12 +76,14 @@ budget_by (Some (Some text)) = budget_in (whole_of text)
 
 -- the planner of this name
 abbrev pub planner_named : List ℕ → Option Planner
-planner_named name = if bytes_eq name (codes "ara") then Some planner.Ara else None
+planner_named name =
+    if bytes_eq name (codes "ara") then Some planner.Ara
+    else (if bytes_eq name (codes "ad") then Some planner.AdStar else None)
 
--- the planner that is set; ARA* where none is set
+-- the planner that is set; Anytime D* where none is set
 abbrev pub planner_by : Option (Option (List ℕ)) → Option Planner
 planner_by None = None
-planner_by (Some None) = Some planner.Ara
+planner_by (Some None) = Some planner.AdStar
 planner_by (Some (Some name)) = planner_named name
 
 -- how a path is to be searched, by settings
@@ -91,15 +97,15 @@ search_in given =
     (milli_by 1000 1000 100000 (value_of setting.First given)))
     (planner_by (value_of setting.Planner given))
 
--- a name is that of a file that is read
-abbrev pub is_input : Sources → List ℕ → Bool
-is_input from name = bytes_eq name from.env || bytes_eq name from.prims
+-- a name is that of a file that is read: the environment, the primitives, or the changes where there are some
+abbrev pub is_input : Sources → Option (List ℕ) → List ℕ → Bool
+is_input from changes name = bytes_eq name from.env || (bytes_eq name from.prims || option_map_or (bytes_eq name) changes false)
 
 -- the name of an output, if one is set: it is no file that is read
-abbrev pub output_by : Sources → Option (Option (List ℕ)) → Option (Option (List ℕ))
-output_by from None = None
-output_by from (Some None) = Some None
-output_by from (Some (Some name)) = if is_input from name then None else Some (Some name)
+abbrev pub output_by : Sources → Option (List ℕ) → Option (Option (List ℕ)) → Option (Option (List ℕ))
+output_by from changes None = None
+output_by from changes (Some None) = Some None
+output_by from changes (Some (Some name)) = if is_input from changes name then None else Some (Some name)
 
 -- two outputs, which differ where both are set
 abbrev pub outputs_by : (labels trace : Option (List ℕ)) → Option Outputs
@@ -108,32 +114,51 @@ outputs_by (Some labels) None = Some (record { labels = Some labels; trace = Non
 outputs_by (Some labels) (Some trace) = if bytes_eq labels trace then None else Some (record { labels = Some labels; trace = Some trace })
 
 -- where a plan's labels and its trace are written
-abbrev pub outputs_in : Sources → List Given → Option Outputs
-outputs_in from given =
-    option_and_then (λ labels. option_and_then (outputs_by labels) (output_by from (value_of setting.Trace given)))
-    (output_by from (value_of setting.Labels given))
+abbrev pub outputs_in : Sources → Option (List ℕ) → List Given → Option Outputs
+outputs_in from changes given =
+    option_and_then (λ labels. option_and_then (outputs_by labels) (output_by from changes (value_of setting.Trace given)))
+    (output_by from changes (value_of setting.Labels given))
 
--- the job `plan`
-abbrev pub plan_in : Sources → List Given → Option Job
-plan_in from given =
-    option_and_then (λ outputs. option_map (λ search. job.Plan (record { sources = from; search = search; outputs = outputs })) (search_in given))
-    (outputs_in from given)
+-- the job `plan` on these sources, with these changes
+abbrev pub plan_on : Sources → Option (List ℕ) → List Given → Option Job
+plan_on from changes given =
+    option_and_then (λ outputs. option_map (λ search. job.Plan (record { sources = from; changes = changes; search = search; outputs = outputs })) (search_in given))
+    (outputs_in from changes given)
 
--- the job of a command on these sources, with the plain words that are left
-abbrev pub job_on : Command → Sources → List (List ℕ) → List Given → Option Job
-job_on command.Plan from [] given = plan_in from given
-job_on command.Plan from (word ∷ words) given = None
-job_on command.Check from [] given = None
-job_on command.Check from (labels ∷ []) given = Some (job.Check (record { sources = from; labels = labels }))
-job_on command.Check from (labels ∷ (word ∷ words)) given = None
-job_on command.Sweep from [] given = Some (job.Sweep from)
-job_on command.Sweep from (word ∷ words) given = None
+abbrev pub plan_in : (env prims : List ℕ) → List Given → Option Job
+plan_in env prims given =
+    option_and_then (λ from. option_and_then (λ changes. plan_on from changes given) (value_of setting.Changes given))
+    (sources_in env prims given)
 
--- the job of a command: the first two plain words are the environment file and the primitive file
+-- the job `check`
+abbrev pub check_in : (env prims labels : List ℕ) → List Given → Option Job
+check_in env prims labels given =
+    option_and_then (λ from. option_map (λ changes. job.Check (record { sources = from; changes = changes; labels = labels })) (value_of setting.Changes given))
+    (sources_in env prims given)
+
+-- a seed: one to twenty digits, below 2 ^ 64
+abbrev pub seed_in : List ℕ → Option ℕ
+seed_in text = if nat_le (length text) 20 then result_ok (digits_of (2 ^ 64) text) else None
+
+-- a width or a height, 8 to 512
+abbrev pub extent_in : Result ℤ NumFault → Option ℕ
+extent_in (Ok (pos n)) = if nat_le 8 n && nat_le n 512 then Some n else None
+extent_in (Ok (negsuc n)) = None
+extent_in (Err fault) = None
+
+-- the job `demo`
+abbrev pub demo_in : (seed width height : List ℕ) → Option Job
+demo_in seed width height =
+    option_and_then (λ s. option_and_then (λ w. option_map (λ h. job.Demo (record { seed = s; width = w; height = h })) (extent_in (whole_of height))) (extent_in (whole_of width)))
+    (seed_in seed)
+
+-- the job of a command with these plain words and settings
 abbrev pub job_with : Command → List (List ℕ) → List Given → Option Job
-job_with c [] given = None
-job_with c (env ∷ []) given = None
-job_with c (env ∷ (prims ∷ words)) given = option_and_then (λ from. job_on c from words given) (sources_in env prims given)
+job_with command.Plan (env ∷ (prims ∷ [])) given = plan_in env prims given
+job_with command.Check (env ∷ (prims ∷ (labels ∷ []))) given = check_in env prims labels given
+job_with command.Sweep (env ∷ (prims ∷ [])) given = option_map job.Sweep (sources_in env prims given)
+job_with command.Demo (seed ∷ (width ∷ (height ∷ []))) given = demo_in seed width height
+job_with _ _ _ = None
 
 abbrev pub job_by : Command → Parts → Option Job
 job_by c p = job_with c p.plain p.given
@@ -143,12 +168,6 @@ abbrev pub job_of : List (List ℕ) → Option Job
 job_of [] = None
 job_of (word ∷ words) = option_and_then (λ c. option_and_then (job_by c) (parts_of c words)) (command_named word)
 
--- what the lattice of a job is made of
-abbrev pub sources_of : Job → Sources
-sources_of (job.Plan plan) = plan.sources
-sources_of (job.Check check) = check.sources
-sources_of (job.Sweep sources) = sources
-
 -- inflations, the bound and the budget lie in their ranges
 pub record IsSearchJob (s : SearchJob) : Type 0 where
   pub first_low : 1000 ≤ s.first
@@ -156,11 +175,21 @@ pub record IsSearchJob (s : SearchJob) : Type 0 where
   pub step_low : 1 ≤ s.step
   pub step_high : s.step ≤ 99000
   pub bound_low : 1000 ≤ s.bound
+  pub bound_high : s.bound ≤ 100000
   pub budget_low : 1 ≤ s.budget
   pub budget_high : s.budget ≤ 2 ^ 30
+
+-- the seed, the width and the height lie in their ranges
+pub record IsDemoJob (d : DemoJob) : Type 0 where
+  pub seed_high : d.seed < 2 ^ 64
+  pub width_low : 8 ≤ d.width
+  pub width_high : d.width ≤ 512
+  pub height_low : 8 ≤ d.height
+  pub height_high : d.height ≤ 512
 
 -- the numbers of a job lie in their ranges
 abbrev pub IsJob : Job → Type 0
 IsJob (job.Plan plan) = (plan.sources.radius ≤ 10 ^ 12) × IsSearchJob plan.search
 IsJob (job.Check check) = check.sources.radius ≤ 10 ^ 12
 IsJob (job.Sweep sources) = sources.radius ≤ 10 ^ 12
+IsJob (job.Demo demo) = IsDemoJob demo

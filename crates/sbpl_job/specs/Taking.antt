@@ -1,5 +1,5 @@
 -- What the parting of words does at each word.
-use Rattle.std.specs.Prelude.{◌≡◌, ℕ, Bool, List, [], ◌∷◌, ◌++◌, Option, Some, None, Result, Ok, Err, option_map}
+use Rattle.std.specs.Prelude.{◌≡◌, ℕ, List, ◌∷◌, ◌++◌, Option, Some, None, Result, Ok, Err, option_map}
 use Rattle.sbpl_job.specs.declared.job.JobFault.{JobFault}
 use Rattle.sbpl_job.specs.declared.job.JobFault.TheVariants.{Words, NoMemory}
 use Rattle.sbpl_job.specs.declared.words.Command.{Command}

@@ -1,5 +1,5 @@
 -- How the words behind a command's name part into plain words and settings with their values.
-use Rattle.std.specs.Prelude.{◌≡◌, ℕ, Bool, true, false, not, nat_eq, List, [], ◌∷◌, map, filter, Option, Some, None, option_map, option_and_then, Result, Ok, Err, codes, if◌then◌else◌}
+use Rattle.std.specs.Prelude.{◌≡◌, ℕ, Bool, true, false, not, nat_eq, ◌||◌, List, [], ◌∷◌, map, filter, Option, Some, None, option_map, option_and_then, Result, Ok, Err, codes, if◌then◌else◌}
 use denote.Ref.{Bor}
 use Rattle.std.specs.Str.{bytes_eq}
 use Rattle.std.specs.List.{before_first, after_first}
@@ -32,6 +32,7 @@ is_plain_word (b ∷ bs) = not (nat_eq b 45)
 
 -- two settings are the same
 abbrev pub is_setting : Setting → Setting → Bool
+is_setting setting.Changes setting.Changes = true
 is_setting setting.Radius setting.Radius = true
 is_setting setting.Planner setting.Planner = true
 is_setting setting.First setting.First = true
@@ -45,20 +46,22 @@ is_setting _ _ = false
 -- the setting of this name
 abbrev pub setting_named : List ℕ → Option Setting
 setting_named word =
-    if bytes_eq word (codes "--radius") then Some setting.Radius
+    if bytes_eq word (codes "--changes") then Some setting.Changes
+    else (if bytes_eq word (codes "--radius") then Some setting.Radius
     else (if bytes_eq word (codes "--planner") then Some setting.Planner
     else (if bytes_eq word (codes "--first") then Some setting.First
     else (if bytes_eq word (codes "--step") then Some setting.Step
     else (if bytes_eq word (codes "--bound") then Some setting.Bound
     else (if bytes_eq word (codes "--budget") then Some setting.Budget
     else (if bytes_eq word (codes "--labels") then Some setting.Labels
-    else (if bytes_eq word (codes "--trace") then Some setting.Trace else None)))))))
+    else (if bytes_eq word (codes "--trace") then Some setting.Trace else None))))))))
 
 -- a command takes a setting
 abbrev pub takes : Command → Setting → Bool
 takes command.Plan s = true
-takes command.Check s = is_setting s setting.Radius
+takes command.Check s = is_setting s setting.Changes || is_setting s setting.Radius
 takes command.Sweep s = is_setting s setting.Radius
+takes command.Demo s = false
 
 -- the setting of this name, where the command takes it
 abbrev pub setting_of : Command → List ℕ → Option Setting

@@ -1,12 +1,17 @@
 //! The job that the program's words name.
 #![tactic(auto)]
 
+mod demo;
+mod files;
 mod job;
 mod name;
+mod read;
+mod values;
 mod words;
 
-pub use job::{CheckJob, Job, JobFault, Outputs, PlanJob, Planner, SearchJob, Sources, read_job};
+pub use job::{CheckJob, DemoJob, Job, JobFault, Outputs, PlanJob, Planner, SearchJob, Sources};
 pub use name::Name;
+pub use read::read_job;
 pub use words::{Command, Given, Setting};
 
 #[cfg(test)]

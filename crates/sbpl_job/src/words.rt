@@ -21,11 +21,15 @@ pub enum Command {
     Check,
     /// List the cells that each primitive sweeps.
     Sweep,
+    /// Plan on an example that is drawn from a seed.
+    Demo,
 }
 
 /// Something that the words can set, by a value behind its name.
 #[derive(Clone, Copy, Debug, PartialEq, Eq)]
 pub enum Setting {
+    /// `--changes`: the file of changes that are made after the first plan.
+    Changes,
     /// `--radius`: the radius of the robot.
     Radius,
     /// `--planner`: how to search.
@@ -83,6 +87,7 @@ fn setting_named(word: &str) -> Option<Setting>
     ensures setting { result ≡ setting_named word.now }
 {
     match word {
+        "--changes" => Some(Setting::Changes),
         "--radius" => Some(Setting::Radius),
         "--planner" => Some(Setting::Planner),
         "--first" => Some(Setting::First),
@@ -101,7 +106,9 @@ fn takes(command: Command, setting: Setting) -> bool
 {
     match command {
         Command::Plan => true,
-        Command::Check | Command::Sweep => is_setting(setting, Setting::Radius),
+        Command::Check => matches!(setting, Setting::Changes | Setting::Radius),
+        Command::Sweep => matches!(setting, Setting::Radius),
+        Command::Demo => false,
     }
 }
 
@@ -135,7 +142,8 @@ fn is_setting(a: Setting, b: Setting) -> bool
     ensures same { result ≡ is_setting a b }
 {
     match (a, b) {
-        (Setting::Radius, Setting::Radius)
+        (Setting::Changes, Setting::Changes)
+        | (Setting::Radius, Setting::Radius)
         | (Setting::Planner, Setting::Planner)
         | (Setting::First, Setting::First)
         | (Setting::Step, Setting::Step)

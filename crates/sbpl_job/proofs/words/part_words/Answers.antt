@@ -1,4 +1,3 @@
-use Rattle.std.proofs.Common.{map, drop, ◌+◌, string_bytes}
 use Rattle.sbpl_job.proofs.Parting.{completes_one, names_fault, words_from}
 use Rattle.sbpl_job.proofs.words.part_words.Goals as goal
 

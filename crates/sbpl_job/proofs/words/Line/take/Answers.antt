@@ -1,5 +1,5 @@
 use Rattle.std.proofs.Common.{sym}
-use Rattle.sbpl_job.proofs.Parting.{takes_plain, takes_no_value}
+use Rattle.sbpl_job.proofs.Parting.{takes_plain}
 use Rattle.sbpl_job.proofs.words.Line.take.Goals as goal
 
 pub returns-then-is_plain : goal.returns-then-is_plain

@@ -1,4 +1,4 @@
-use Rattle.std.proofs.Common.{◌≡◌, ℕ, List, Option, Some, None, sym, ap}
+use Rattle.std.proofs.Common.{sym}
 use Rattle.sbpl_job.proofs.Parting.{takes_joined, takes_no_form}
 use Rattle.sbpl_job.proofs.words.Line.take_joined.Goals as goal
 

@@ -1,5 +1,5 @@
 use denote.Ref.{Bor}
-use Rattle.std.proofs.Common.{rules, Option, ◌≡◌, ℕ, List, [], ◌∷◌, ◌+◌, drop, sym, ◌∙◌, ap, subst}
+use Rattle.std.proofs.Common.{rules, Option, ℕ, List, ◌∷◌, ◌+◌, drop, sym, ◌∙◌, ap, subst}
 use Rattle.sbpl_job.specs.declared.words.Given.{Given}
 use Rattle.sbpl_job.specs.Words.{Parts}
 use Rattle.sbpl_job.proofs.Parting.{Finds, finds_all, finds_no_more, finds_one, finds_two, is_none, left_from, not_none, nothing_left}

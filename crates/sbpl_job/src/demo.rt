@@ -1,0 +1,50 @@
+//! The numbers of the job `demo`.
+
+ghost use Rattle.std.specs.Prelude.{◌≡◌, ◌<◌, ◌≤◌, ◌^◌, IfOk, nat_eq, slice_index_or};
+ghost use Rattle.sbpl_fixed.specs.Numbers.{whole_of};
+ghost use Rattle.sbpl_job.specs.Jobs.{extent_in, seed_in};
+ghost use Rattle.sbpl_job.specs.Words.{Names};
+
+use crate::job::JobFault;
+use crate::name::Name;
+use sbpl_fixed::read_whole;
+
+/// The most digits of a seed.
+const MOST_DIGITS: usize = 20;
+
+/// Whether a plus stands first.
+fn has_plus(text: &str) -> bool
+    ensures plus { result ≡ nat_eq (slice_index_or text.now 0 0) 43 }
+{
+    match text.as_bytes() {
+        [] => false,
+        [first, ..] => *first == b'+',
+    }
+}
+
+/// A seed: one to twenty digits, below 2^64.
+pub(crate) fn read_seed(text: &Name) -> Result<u64, JobFault>
+    ensures seed { Names (seed_in text.now) result }
+    ensures range { IfOk result (λ s. s < 2 ^ 64) }
+{
+    let digits = text.as_str();
+    // `parse` passes over a plus, which is no digit.
+    if digits.len() > MOST_DIGITS || has_plus(digits) {
+        return Err(JobFault::Words);
+    }
+    match digits.parse::<u64>() {
+        Ok(seed) => Ok(seed),
+        Err(_) => Err(JobFault::Words),
+    }
+}
+
+/// A width or a height, 8 to 512 cells.
+pub(crate) fn read_extent(text: &Name) -> Result<u32, JobFault>
+    ensures extent { Names (extent_in (whole_of text.now)) result }
+    ensures range { IfOk result (λ n. (8 ≤ n) × (n ≤ 512)) }
+{
+    match read_whole(text.as_str().as_bytes()) {
+        Ok(extent) if extent >= 8 && extent <= 512 => Ok(extent as u32),
+        _ => Err(JobFault::Words),
+    }
+}
