@@ -146,6 +146,7 @@ pub record IsSearched (w : World) (how : SearchJob) (outputs : Outputs) (start g
   pub result : search.Outcome
   pub is_result : IsOutcome (network_of w) guide goal behind.labels result
   pub told : TellsResult result r.outcome
+  pub expanded : r.expanded ≡ expansions r.passes
   pub counted : behind.expanded ≡ expanded_before before + expansions r.passes
   pub marked : IsMarked how.budget (expanded_before before) spent r
   pub few : length r.passes ≤ most_passes how.step how.first

@@ -1,5 +1,5 @@
--- How plans go on from one to the next while they are made and told.
-use Rattle.std.specs.Prelude.{◌≡◌, ℕ, ◌⊎◌, List, Option, Some, None, Result, Ok, Err}
+-- How plans go on from one to the next while they are made and told, or checked.
+use Rattle.std.specs.Prelude.{◌≡◌, ℕ, ◌⊎◌, List, [], ◌∷◌, Option, Some, None, Result, Ok, Err}
 use Rattle.sbpl_desk.specs.Desk.{Stays}
 use Rattle.sbpl_desk.specs.declared.desk.WriteStop.{WriteStop}
 use Rattle.sbpl_desk.specs.declared.desk.WriteStop.TheVariants.{NoMemory}
@@ -9,8 +9,13 @@ use Rattle.sbpl_job.specs.declared.job.SearchJob.{SearchJob}
 use Rattle.sbpl_replan.specs.Replanning.{Replanning}
 use Rattle.sbpl_cli.specs.declared.record.PlanRecord.{PlanRecord}
 use Rattle.sbpl_cli.specs.Asked.{repairs}
+use Rattle.sbpl_graph.specs.Network.{Network}
+use Rattle.sbpl_fixed.specs.Formats.{Left}
+use Rattle.sbpl_cert.specs.declared.outcome.Outcome.{Outcome}
+use Rattle.sbpl_cli.specs.Checked.{IsShownHolding}
+use Rattle.sbpl_cli.specs.Verdicts.{holds_text}
 use Rattle.sbpl_cli.specs.Headline.{Begins, Behind, IsPlanOf, expanded_before}
-use Rattle.sbpl_cli.specs.Writing.{AreMade, EndsIn, FaultCounts, Told, Write}
+use Rattle.sbpl_cli.specs.Writing.{AreMade, EndsIn, FaultCounts, Told, Write, to_output}
 
 -- the plans go from this start to this goal, by the planner and with the budget that are asked
 pub record IsSetFor (how : SearchJob) (start goal : ℕ) (r : Replanning) : Type 0 where
@@ -35,3 +40,9 @@ EndsPlan written_of w how outputs start goal k before behind told told' faults f
 EndsPlan written_of w how outputs start goal k before behind told told' faults faults' (Err e) =
     ((e ≡ NoMemory) × Stays told told')
     ⊎ ((r : PlanRecord) × IsPlanOf w how outputs start goal k before behind r × EndsIn {T = Unit {0}} told told' faults faults' (written_of r) (Err e))
+
+-- the section of a plan holds on a graph, and a line says so
+pub record HoldsAndTells (n : Network) (start goal plan : ℕ) (left rest : Left) (before after : Told) : Type 0 where
+  pub outcome : Outcome
+  pub holds : IsShownHolding n start goal plan left outcome rest
+  pub line : AreMade before after (to_output (holds_text plan outcome) ∷ [])

@@ -4,7 +4,6 @@ use Rattle.sbpl_fixed.specs.Printed.{milli_text}
 use Rattle.sbpl_cfg.specs.declared.pose.Place.{Place}
 use Rattle.sbpl_plan.specs.declared.found.Found.{Found}
 use Rattle.sbpl_plan.specs.declared.found.Found.TheVariants as found
-use Rattle.sbpl_plan.specs.Passing.{expansions}
 use Rattle.sbpl_plan.specs.declared.passes.Pass.{Pass}
 use Rattle.sbpl_cli.specs.declared.record.Step.{Step}
 use Rattle.sbpl_cli.specs.declared.record.PathRecord.{PathRecord}
@@ -71,4 +70,4 @@ outcome_line outcome.Unknown = codes "unknown"
 
 -- the line of a plan: its result, and how many states it expanded
 unfoldable pub plan_line : PlanRecord → List ℕ
-plan_line r = codes "plan " ++ (decimal r.plan ++ (codes " " ++ (outcome_line r.outcome ++ (codes " expanded " ++ (decimal (expansions r.passes) ++ line_feed)))))
+plan_line r = codes "plan " ++ (decimal r.plan ++ (codes " " ++ (outcome_line r.outcome ++ (codes " expanded " ++ (decimal r.expanded ++ line_feed)))))

@@ -1,14 +1,17 @@
 //! The job `check`.
 
-ghost use Rattle.std.specs.Prelude.{◌≡◌, ◌<◌, ◌≤◌, ◌^◌, ◌∷◌, [], length, IfErr, IfOk, OnErr};
+ghost use Rattle.std.specs.Prelude.{◌≡◌, ◌<◌, ◌≤◌, ◌^◌, ◌∷◌, [], ℕ, suc, length, IfErr, IfOk, OnErr};
 ghost use Rattle.sbpl_fixed.specs.Formats.{start_at};
 ghost use Rattle.sbpl_desk.specs.Desk.{NoneFalls, Stays};
 ghost use Rattle.sbpl_cost.specs.Lattices.{network_of};
 ghost use Rattle.sbpl_cost.specs.World.{IsWorld};
 ghost use Rattle.sbpl_job.specs.declared.job.Job.TheVariants as Jobs;
-ghost use Rattle.sbpl_cli.specs.Causes.{IsRead, JobStopsFor, SaysWorld};
+ghost use Rattle.sbpl_cli.specs.Causes.{IsRead, JobStopsFor, SaysBatches, SaysWorld};
+ghost use Rattle.sbpl_cli.specs.Checked.{Case, IsGraphAfter};
+ghost use Rattle.sbpl_cli.specs.Planning.{HoldsAndTells};
+ghost use Rattle.sbpl_map.specs.ChangeText.{AreOnMap};
 ghost use Rattle.sbpl_cli.specs.Intents.{stop_status, stop_writes};
-ghost use Rattle.sbpl_cli.specs.Promises.{EndsJob, EndsSections, GoesOn};
+ghost use Rattle.sbpl_cli.specs.Promises.{EndsJob, EndsSections};
 ghost use Rattle.sbpl_cli.specs.Verdicts.{flaw_text, holds_text};
 ghost use Rattle.sbpl_cli.specs.Intents.{label_fault_text};
 ghost use Rattle.sbpl_cli.specs.Writing.{EndsAs, EndsIn, IsOutput, StaysBut, to_output};
@@ -16,16 +19,18 @@ ghost use Rattle.sbpl_cli.specs.Writing.{EndsAs, EndsIn, IsOutput, StaysBut, to_
 use crate::checking::{SectionStop, check_section};
 use crate::files::read_file;
 use crate::flaw::{flaw_line, holds_line};
-use crate::lattice::read_lattice;
+use crate::lattice::read_course;
 use crate::poses::ends_of;
 use crate::refusal::{Input, Stop};
 use crate::refusing::fault_line;
 use crate::writing::{OUTPUT, status_after, write_last, write_text};
 use sbpl_cert::{Flaw, LabelFault, Outcome};
+use sbpl_change::write_batch;
 use sbpl_cost::{Lattice, lattice_has_its_arcs};
 use sbpl_desk::{Desk, WriteStop};
 use sbpl_fixed::{NoMemory, next_token};
 use sbpl_job::CheckJob;
+use sbpl_map::{Changes, writes_lead_to_the_next_map};
 use std::alloc::Global;
 
 /// Writes the line of a flaw, and answers the status.
@@ -74,15 +79,13 @@ fn tell_stop<D: Desk>(alloc: Global, goal: u32, plan: u32, stop: &SectionStop, d
 /// Ends the checking behind the last section, where no token may stand, and answers the status.
 fn end_sections<D: Desk>(
     alloc: Global,
-    start: u32,
-    goal: u32,
     plan: u32,
     text: &[u8],
     at: usize,
     desk: &mut D,
 ) -> u8
     requires at { at ≤ length text.now }
-    ensures ends { EndsSections [] start goal plan (start_at text.now at) (D.written desk.old) (D.written desk.new) (D.write_faults desk.old) (D.write_faults desk.new) result }
+    ensures ends { (c : Case) → EndsSections c plan 0 (start_at text.now at) (D.written desk.old) (D.written desk.new) (D.write_faults desk.old) (D.write_faults desk.new) result }
     ensures held { Stays (D.held desk.old) (D.held desk.new) }
     ensures others { StaysBut IsOutput (D.written desk.old) (D.written desk.new) }
     ensures reads { NoneFalls (D.read_faults desk.old) (D.read_faults desk.new) }
@@ -113,71 +116,100 @@ fn write_holds<D: Desk>(
     }
 }
 
-/// Writes that the first section holds, goes on behind it, and answers the status.
-fn go_on<D: Desk>(
-    alloc: Global,
-    start: u32,
-    goal: u32,
-    outcome: &Outcome,
-    text: &[u8],
-    behind: usize,
-    desk: &mut D,
-) -> u8
-    requires behind { behind ≤ length text.now }
-    ensures ends { GoesOn start goal 0 outcome.now (start_at text.now behind) (D.written desk.old) (D.written desk.new) (D.write_faults desk.old) (D.write_faults desk.new) result }
-    ensures held { Stays (D.held desk.old) (D.held desk.new) }
-    ensures others { StaysBut IsOutput (D.written desk.old) (D.written desk.new) }
-    ensures reads { NoneFalls (D.read_faults desk.old) (D.read_faults desk.new) }
-    ensures writes { NoneFalls (D.write_faults desk.old) (D.write_faults desk.new) }
-{
-    match write_holds(alloc, 0, outcome, desk) {
-        Ok(()) => end_sections(alloc, start, goal, 1, text, behind, desk),
-        Err(stop) => status_after(Err(stop), 0),
-    }
-}
-
-/// Checks the section of a text, writes what came of it, and answers the status.
-fn check_text<D: Desk>(
+/// Checks the section of a plan and writes that it holds, and answers the offset behind it; or writes why the checking ends, and
+/// answers the status.
+fn check_next<D: Desk>(
     alloc: Global,
     lattice: &Lattice,
     start: u32,
     goal: u32,
+    plan: u32,
     text: &[u8],
+    at: usize,
     desk: &mut D,
-) -> u8
+) -> Result<usize, u8>
     requires start { start < (network_of lattice.now).states }
     requires goal { goal < (network_of lattice.now).states }
-    ensures ends { EndsSections (network_of lattice.now ∷ []) start goal 0 (start_at text.now 0) (D.written desk.old) (D.written desk.new) (D.write_faults desk.old) (D.write_faults desk.new) result }
+    requires at { at ≤ length text.now }
+    ensures inside { IfOk result (λ behind. behind ≤ length text.now) }
+    ensures holds { IfOk result (λ behind. HoldsAndTells (network_of lattice.now) start goal plan (start_at text.now at) (start_at text.now behind) (D.written desk.old) (D.written desk.new)) }
+    ensures ends { (c : Case) (more : ℕ) → IsGraphAfter c.world c.batches plan (network_of lattice.now) → c.start ≡ start → c.goal ≡ goal
+        → IfErr result (EndsSections c plan (suc more) (start_at text.now at) (D.written desk.old) (D.written desk.new) (D.write_faults desk.old) (D.write_faults desk.new)) }
     ensures held { Stays (D.held desk.old) (D.held desk.new) }
     ensures others { StaysBut IsOutput (D.written desk.old) (D.written desk.new) }
     ensures reads { NoneFalls (D.read_faults desk.old) (D.read_faults desk.new) }
     ensures writes { NoneFalls (D.write_faults desk.old) (D.write_faults desk.new) }
 {
-    match check_section(alloc, lattice, start, goal, 0, text, 0) {
-        Ok((outcome, behind)) => go_on(alloc, start, goal, &outcome, text, behind, desk),
-        Err(stop) => tell_stop(alloc, goal, 0, &stop, desk),
+    match check_section(alloc, lattice, start, goal, plan, text, at) {
+        Ok((outcome, behind)) => match write_holds(alloc, plan, &outcome, desk) {
+            Ok(()) => Ok(behind),
+            Err(stop) => Err(status_after(Err(stop), 9)),
+        },
+        Err(stop) => Err(tell_stop(alloc, goal, plan, &stop, desk)),
     }
 }
 
-/// The lattice and the text of the labels.
+/// Checks the sections of a text, one for each map, while batches of changes are written to the map of a lattice; writes what
+/// came of it, and answers the status.
+fn check_text<D: Desk>(
+    alloc: Global,
+    lattice: &mut Lattice,
+    changes: &Changes,
+    start: u32,
+    goal: u32,
+    text: &[u8],
+    desk: &mut D,
+) -> u8
+    requires start { start < (network_of lattice.old).states }
+    requires goal { goal < (network_of lattice.old).states }
+    requires kept { IsWorld lattice.old }
+    requires on_map { AreOnMap lattice.old.map changes.now }
+    ensures ends { EndsSections (record { world = lattice.old; batches = changes.now; start = start; goal = goal }) 0 (suc (length changes.now)) (start_at text.now 0) (D.written desk.old) (D.written desk.new) (D.write_faults desk.old) (D.write_faults desk.new) result }
+    ensures held { Stays (D.held desk.old) (D.held desk.new) }
+    ensures others { StaysBut IsOutput (D.written desk.old) (D.written desk.new) }
+    ensures reads { NoneFalls (D.read_faults desk.old) (D.read_faults desk.new) }
+    ensures writes { NoneFalls (D.write_faults desk.old) (D.write_faults desk.new) }
+{
+    writes_lead_to_the_next_map();
+    let mut at = 0;
+    for k in 0..changes.batches() {
+        match check_next(alloc, lattice, start, goal, k, text, at, desk) {
+            Ok(behind) => at = behind,
+            Err(status) => return status,
+        }
+        write_batch(lattice, changes.batch(k));
+    }
+    let last = changes.batches();
+    match check_next(alloc, lattice, start, goal, last, text, at, desk) {
+        Ok(behind) => end_sections(alloc, last + 1, text, behind, desk),
+        Err(status) => status,
+    }
+}
+
+/// The lattice, the batches of changes, and the text of the labels.
 fn read_check<D: Desk>(
     alloc: Global,
     job: &CheckJob,
     desk: &mut D,
-) -> Result<(Lattice, Vec<u8>), Stop>
+) -> Result<(Lattice, Changes, Vec<u8>), Stop>
     requires range { job.now.sources.radius ≤ 10 ^ 12 }
     ensures says { IfOk result (λ x. SaysWorld (D.held desk.old) job.now.sources x.0) }
     ensures kept { IfOk result (λ x. IsWorld x.0) }
-    ensures text { IfOk result (λ x. IsRead (D.held desk.old job.now.labels) x.1.items) }
+    ensures batches { IfOk result (λ x. SaysBatches (D.held desk.old) job.now.changes x.0.map x.1) }
+    ensures on_map { IfOk result (λ x. AreOnMap x.0.map x.1) }
+    ensures text { IfOk result (λ x. IsRead (D.held desk.old job.now.labels) x.2.items) }
     ensures stop { IfErr result (JobStopsFor (D.held desk.old) (D.read_faults desk.old) (D.read_faults desk.new) (Jobs.Check job.now)) }
     ensures held { Stays (D.held desk.old) (D.held desk.new) }
     ensures written { Stays (D.written desk.old) (D.written desk.new) }
     ensures reads { NoneFalls (D.read_faults desk.old) (D.read_faults desk.new) }
     ensures writes { NoneFalls (D.write_faults desk.old) (D.write_faults desk.new) }
 {
-    let lattice = read_lattice(alloc, &job.sources, desk)?;
+    let (lattice, changes) = match read_course(alloc, &job.sources, &job.changes, desk) {
+        Ok(course) => course,
+        Err(stop) => return Err(stop),
+    };
     match read_file(alloc, &job.labels, Input::Labels, desk) {
-        Ok(text) => Ok((lattice, text)),
+        Ok(text) => Ok((lattice, changes, text)),
         Err(stop) => Err(stop),
     }
 }
@@ -194,7 +226,16 @@ pub(crate) fn check_labels<D: Desk>(alloc: Global, job: &CheckJob, desk: &mut D)
     ensures writes { NoneFalls (D.write_faults desk.old) (D.write_faults desk.new) }
 {
     lattice_has_its_arcs();
-    let (lattice, text) = read_check(alloc, job, desk)?;
+    let (mut lattice, changes, text) = read_check(alloc, job, desk)?;
     let (start, goal) = ends_of(&lattice);
-    Ok(check_text(alloc, &lattice, start, goal, text.as_slice(), desk))
+    let text = text.as_slice();
+    Ok(check_text(
+        alloc,
+        &mut lattice,
+        &changes,
+        start,
+        goal,
+        text,
+        desk,
+    ))
 }

@@ -5,7 +5,7 @@ ghost use Rattle.sbpl_fixed.specs.Formats.{start_at};
 ghost use Rattle.sbpl_fixed.specs.Tokens.{tokens_from};
 ghost use Rattle.sbpl_cost.specs.Lattices.{network_of};
 ghost use Rattle.sbpl_cert.specs.Text.{AreTokensOf, HasFault, IsOf};
-ghost use Rattle.sbpl_cli.specs.Checked.{IsHolding, IsReadStop, IsSectionStop};
+ghost use Rattle.sbpl_cli.specs.Checked.{IsReadStop, IsSectionStop, IsShownHolding};
 
 use sbpl_cert::{Flaw, LabelFault, LabelSet, Outcome, check, read_labels};
 use sbpl_cost::Lattice;
@@ -58,7 +58,7 @@ pub(crate) fn check_section(
     requires start { start < (network_of lattice.now).states }
     requires goal { goal < (network_of lattice.now).states }
     requires at { at ≤ length text.now }
-    ensures holds { IfOk result (λ x. IsHolding (network_of lattice.now) start goal plan (start_at text.now at) x.0 (start_at text.now x.1)) }
+    ensures holds { IfOk result (λ x. IsShownHolding (network_of lattice.now) start goal plan (start_at text.now at) x.0 (start_at text.now x.1)) }
     ensures inside { IfOk result (λ x. x.1 ≤ length text.now) }
     ensures stop { IfErr result (IsSectionStop (network_of lattice.now) start goal plan (start_at text.now at)) }
 {

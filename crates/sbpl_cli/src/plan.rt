@@ -138,6 +138,7 @@ fn record_of(
     requires so { IsTrueOutcome (network_of lattice.now) start goal planned.outcome }
     ensures number { IfOk result (λ r. r.plan ≡ plan) }
     ensures passes { IfOk result (λ r. r.passes ≡ planned.passes) }
+    ensures expanded { IfOk result (λ r. r.expanded ≡ expanded) }
     ensures told { IfOk result (λ r. TellsResult planned.outcome r.outcome) }
     ensures labels { IfOk result (λ r. r.labels ≡ labels) }
     ensures marked { IfOk result (λ r. MatchBool planned.spent (r.spent ≡ Some expanded) (r.spent ≡ None)) }
@@ -150,6 +151,7 @@ fn record_of(
     Ok(PlanRecord {
         plan,
         passes: planned.passes,
+        expanded,
         spent: mark_of(planned.spent, expanded),
         outcome,
         labels,

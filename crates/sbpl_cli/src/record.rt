@@ -45,6 +45,8 @@ pub struct PlanRecord {
     pub plan: u32,
     /// Its passes in order.
     pub passes: Passes,
+    /// How many states they expanded together.
+    pub expanded: u64,
     /// Where the last pass was spent, how many states the plan expanded.
     pub spent: Option<u64>,
     /// Its result.

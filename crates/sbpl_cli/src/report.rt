@@ -2,7 +2,7 @@
 
 ghost use Rattle.std.specs.Prelude.{◌≡◌, ◌++◌, IfOk, OnOk, flat_map, decimal};
 ghost use Rattle.sbpl_fixed.specs.Printed.{milli_text};
-ghost use Rattle.sbpl_cli.specs.Report.{found_text, pass_text, place_text, step_text, path_text, outcome_text, spent_text, section_text};
+ghost use Rattle.sbpl_cli.specs.Report.{demo_text, found_text, outcome_line, pass_text, place_text, plan_line, step_text, path_text, outcome_text, spent_text, section_text};
 
 use crate::record::{Outcome, PathRecord, PlanRecord, Step};
 use itoa::Buffer;
@@ -167,4 +167,58 @@ pub(crate) fn section_of(alloc: Global, plan: &PlanRecord) -> Result<Vec<u8>, No
     let mut text = Vec::new(alloc);
     push_section(&mut text, plan)?;
     Ok(text)
+}
+
+/// Appends the result of a plan in one line.
+fn push_outcome_line(out: &mut Vec<u8>, outcome: &Outcome) -> Result<(), NoMemory>
+    ensures appended { OnOk result (out.new.items ≡ out.old.items ++ outcome_line outcome.now) }
+{
+    match outcome {
+        Outcome::Path(path) => {
+            push_field(out, b"path ", path.steps.as_slice().len() as u64)?;
+            push_field(out, b" cost ", path.cost)?;
+            push_milli(out, b" bound ", path.bound)
+        }
+        Outcome::NoPath => push_bytes(out, b"nopath"),
+        Outcome::Unknown => push_bytes(out, b"unknown"),
+    }
+}
+
+/// Appends the line of a plan.
+#[tactic(auto, unfolding(crate::specs::Report::plan_line))]
+fn push_line(out: &mut Vec<u8>, plan: &PlanRecord) -> Result<(), NoMemory>
+    ensures appended { OnOk result (out.new.items ≡ out.old.items ++ plan_line plan.now) }
+{
+    push_field(out, b"plan ", u64::from(plan.plan))?;
+    push_bytes(out, b" ")?;
+    push_outcome_line(out, &plan.outcome)?;
+    push_field(out, b" expanded ", plan.expanded)?;
+    push_bytes(out, b"\n")
+}
+
+/// The line of a plan.
+pub(crate) fn line_of(alloc: Global, plan: &PlanRecord) -> Result<Vec<u8>, NoMemory>
+    ensures text { IfOk result (λ line. line.items ≡ plan_line plan.now) }
+{
+    let mut line = Vec::new(alloc);
+    push_line(&mut line, plan)?;
+    Ok(line)
+}
+
+/// The first line of a demonstration.
+#[tactic(auto, unfolding(crate::specs::Report::demo_text))]
+pub(crate) fn demo_line(
+    alloc: Global,
+    states: u32,
+    primitives: u32,
+    batches: u32,
+) -> Result<Vec<u8>, NoMemory>
+    ensures text { IfOk result (λ line. line.items ≡ demo_text states primitives batches) }
+{
+    let mut line = Vec::new(alloc);
+    push_field(&mut line, b"demo states ", u64::from(states))?;
+    push_field(&mut line, b" primitives ", u64::from(primitives))?;
+    push_field(&mut line, b" batches ", u64::from(batches))?;
+    push_bytes(&mut line, b"\n")?;
+    Ok(line)
 }
