@@ -1,4 +1,5 @@
-mod Grids
+mod Batches
+mod Environments
 mod Steps
 mod Texts
 mod Ways

@@ -1,10 +1,16 @@
 -- One more draw, and what it adds.
-use Rattle.std.proofs.Common.{◌≡◌, ℕ, zero, suc, ◌+◌, ◌-◌, ◌*◌, ◌/◌, ◌%◌, ◌<◌, List, [], ◌∷◌, ◌++◌, append-nil, refl, sym, add-one, sub-one, arith}
+use Rattle.std.proofs.Common.{◌≡◌, ℕ, zero, suc, ◌+◌, ◌-◌, ◌*◌, ◌/◌, ◌%◌, ◌<◌, List, [], ◌∷◌, ◌++◌, map, append_assoc, append-nil, ap, refl, sym, ◌∙◌, add-one, sub-one, arith}
+use Rattle.std.specs.List.{flat_map}
+use Rattle.std.proofs.lemmas.List.{map-append}
+use Rattle.std.proofs.lemmas.List.Concat.{flat_map-append}
 use Rattle.sbpl_fixed.specs.Printed.{last_digits}
-use Rattle.sbpl_cfg.specs.Printed.{line_text}
+use Rattle.sbpl_cfg.specs.Printed.{line_text, lines_text}
+use Rattle.sbpl_map.specs.ChangeText.{replan_line}
+use Rattle.sbpl_map.specs.Printed.{batch_lines, changes_text, write_line}
+use Rattle.sbpl_map.specs.declared.write.Write.{Write}
 use Rattle.sbpl_demo.specs.Generator.{draw, next_word, word_after}
 use Rattle.sbpl_demo.specs.Environment.{cost_of, costs_drawn}
-use Rattle.sbpl_demo.specs.Changes.{batch_text, batches_text, change_text, changes_text}
+use Rattle.sbpl_demo.specs.Changes.{batches, change, writes}
 use Rattle.sbpl_demo.specs.Primitives.{heading_text, headings_text, pose_words, poses_text}
 use Rattle.sbpl_demo.specs.declared.primitives.Motion.{Motion}
 
@@ -41,23 +47,44 @@ pub costs_next : (n x : ℕ) → costs_drawn (n + 1) x ≡ costs_drawn n x ++ co
 unfolding costs_drawn
 costs_next n x = rw (add-one n) refl
 
-pub changes_none : (width height from : ℕ) → changes_text width height 0 from ≡ []
-unfolding changes_text
-changes_none width height from = refl
+lines_join : (ls ms : List (List (List ℕ))) → lines_text (ls ++ ms) ≡ lines_text ls ++ lines_text ms
+lines_join [] ms = refl
+lines_join (l ∷ ls) ms = rw (lines_join ls ms) (simp append_assoc)
 
-pub changes_next : (width height n from : ℕ)
-    → changes_text width height (n + 1) from ≡ changes_text width height n from ++ change_text width height (word_after (3 * n) from)
-unfolding changes_text
-changes_next width height n from = rw (add-one n) refl
+-- the text of writes
+abbrev text_of : List Write → List ℕ
+text_of ws = lines_text (map write_line ws)
 
-pub batches_none : (width height from : ℕ) → batches_text width height 0 from ≡ []
-unfolding batches_text
+pub writes_none : (width height from : ℕ) → lines_text (map write_line (writes width height 0 from)) ≡ []
+unfolding writes
+writes_none width height from = refl
+
+pub writes_next : (width height n from : ℕ)
+    → lines_text (map write_line (writes width height (n + 1) from))
+    ≡ lines_text (map write_line (writes width height n from)) ++ lines_text (map write_line (change width height (word_after (3 * n) from)))
+unfolding writes
+writes_next width height n from =
+    let before = writes width height n from in
+    let more = change width height (word_after (3 * n) from) in
+    let next : writes width height (n + 1) from ≡ before ++ more = rw (add-one n) refl in
+    rw (next, map-append write_line before more) (lines_join (map write_line before) (map write_line more))
+
+-- a batch's writes, and its end
+pub batch_ends : (batch : List Write) → lines_text (batch_lines batch) ≡ lines_text (map write_line batch) ++ line_text replan_line
+batch_ends batch = lines_join (map write_line batch) (replan_line ∷ []) ∙ ap (λ (l : List ℕ). text_of batch ++ l) (append-nil (line_text replan_line))
+
+pub batches_none : (width height from : ℕ) → changes_text (batches width height 0 from) ≡ []
+unfolding batches
 batches_none width height from = refl
 
 pub batches_next : (width height n from : ℕ)
-    → batches_text width height (n + 1) from ≡ batches_text width height n from ++ batch_text width height (word_after (24 * n) from)
-unfolding batches_text
-batches_next width height n from = rw (add-one n) refl
+    → changes_text (batches width height (n + 1) from) ≡ changes_text (batches width height n from) ++ lines_text (batch_lines (writes width height 8 (word_after (24 * n) from)))
+unfolding batches
+batches_next width height n from =
+    let before = batches width height n from in
+    let batch = writes width height 8 (word_after (24 * n) from) in
+    let next : batches width height (n + 1) from ≡ before ++ batch ∷ [] = rw (add-one n) refl in
+    rw (next, flat_map-append batch_lines before (batch ∷ []), append-nil (batch_lines batch)) (lines_join (flat_map batch_lines before) (batch_lines batch))
 
 pub poses_none : (m : Motion) → poses_text m 0 ≡ []
 unfolding poses_text
