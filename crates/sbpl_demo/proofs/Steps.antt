@@ -11,7 +11,8 @@ use Rattle.sbpl_map.specs.declared.write.Write.{Write}
 use Rattle.sbpl_demo.specs.Generator.{draw, next_word, word_after}
 use Rattle.sbpl_demo.specs.Environment.{cost_of, costs_drawn}
 use Rattle.sbpl_demo.specs.Changes.{batches, change, writes}
-use Rattle.sbpl_demo.specs.Primitives.{heading_text, headings_text, pose_words, poses_text}
+use Rattle.sbpl_mprim.specs.Printed as prim
+use Rattle.sbpl_demo.specs.Primitives.{backward, far, forward, head_lines, left, motion_head, motion_lines, motions, motions_from, pose_lines, pose_words, primitives_text, right, way_along}
 use Rattle.sbpl_demo.specs.declared.primitives.Motion.{Motion}
 
 pub word_none : (x : ℕ) → word_after 0 x ≡ x
@@ -86,21 +87,45 @@ batches_next width height n from =
     let next : batches width height (n + 1) from ≡ before ++ batch ∷ [] = rw (add-one n) refl in
     rw (next, flat_map-append batch_lines before (batch ∷ []), append-nil (batch_lines batch)) (lines_join (flat_map batch_lines before) (batch_lines batch))
 
-pub poses_none : (m : Motion) → poses_text m 0 ≡ []
-unfolding poses_text
+-- ---- the lines of primitives
+
+pub poses_none : (m : Motion) → prim.lines_text (pose_lines m 0) ≡ []
+unfolding pose_lines
 poses_none m = refl
 
-pub poses_next : (m : Motion) (n : ℕ) → poses_text m (n + 1) ≡ poses_text m n ++ line_text (pose_words m n)
-unfolding poses_text
-poses_next m n = rw (add-one n) refl
+pub poses_next : (m : Motion) (n : ℕ) → prim.lines_text (pose_lines m (n + 1)) ≡ prim.lines_text (pose_lines m n) ++ prim.line_text (pose_words m n)
+unfolding pose_lines
+poses_next m n =
+    let next : pose_lines m (n + 1) ≡ pose_lines m n ++ pose_words m n ∷ [] = rw (add-one n) refl in
+    rw (next, flat_map-append prim.line_text (pose_lines m n) (pose_words m n ∷ []), append-nil (prim.line_text (pose_words m n))) refl
 
-pub headings_none : headings_text 0 ≡ []
-unfolding headings_text
-headings_none = refl
+pub motion_written : (m : Motion) → prim.lines_text (motion_lines m) ≡ prim.lines_text (motion_head m) ++ prim.lines_text (pose_lines m 10)
+unfolding motion_lines
+motion_written m = flat_map-append prim.line_text (motion_head m) (pose_lines m 10)
 
-pub headings_next : (n : ℕ) → headings_text (n + 1) ≡ headings_text n ++ heading_text n
-unfolding headings_text
-headings_next n = rw (add-one n) refl
+pub motions_none : prim.lines_text (flat_map motion_lines (motions 0)) ≡ []
+unfolding motions
+motions_none = refl
+
+pub motions_next : (n : ℕ)
+    → prim.lines_text (flat_map motion_lines (motions (n + 1))) ≡ prim.lines_text (flat_map motion_lines (motions n)) ++ prim.lines_text (flat_map motion_lines (motions_from n))
+unfolding motions
+motions_next n =
+    let next : motions (n + 1) ≡ motions n ++ motions_from n = rw (add-one n) refl in
+    rw (next, flat_map-append motion_lines (motions n) (motions_from n)) (flat_map-append prim.line_text (flat_map motion_lines (motions n)) (flat_map motion_lines (motions_from n)))
+
+-- the five primitives of a heading, one behind the other
+pub five_written : (from : ℕ) → prim.lines_text (flat_map motion_lines (motions_from from))
+    ≡ prim.lines_text (motion_lines (forward from (way_along from)))
+    ++ (prim.lines_text (motion_lines (backward from (way_along from)))
+    ++ (prim.lines_text (motion_lines (left from))
+    ++ (prim.lines_text (motion_lines (right from))
+    ++ prim.lines_text (motion_lines (far from (way_along from))))))
+unfolding motions_from
+five_written from = simp (flat_map-append, append-nil)
+
+pub file_written : primitives_text ≡ prim.lines_text head_lines ++ prim.lines_text (flat_map motion_lines (motions 16))
+file_written = flat_map-append prim.line_text head_lines (flat_map motion_lines (motions 16))
 
 pub digits_none : (a : List ℕ) (count n : ℕ) → count ≡ 0 → a ≡ a ++ last_digits count n
 unfolding last_digits

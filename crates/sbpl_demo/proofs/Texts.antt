@@ -2,8 +2,8 @@
 use Rattle.std.proofs.Common.{◌≡◌, ℕ, ◌+◌, ◌/◌, ◌%◌, ◌<◌, ◌≤◌, List, [], ◌∷◌, ◌++◌, append_assoc, append-nil, refl, arith}
 use Rattle.std.specs.Prelude.{codes, decimal}
 use Rattle.std.proofs.lemmas.Fmt.{decimal_digit, decimal_step}
-use Rattle.sbpl_cfg.specs.Printed.{line_text}
-use Rattle.sbpl_demo.specs.Primitives.{head_text}
+use Rattle.sbpl_mprim.specs.Printed.{line_text, lines_text}
+use Rattle.sbpl_demo.specs.Primitives.{head_lines}
 
 pub after_two : (a x y : List ℕ) {b c : List ℕ} → b ≡ a ++ x → c ≡ b ++ y → c ≡ a ++ (x ++ y)
 after_two a x y p q = rw (q, p) (append_assoc a x y)
@@ -41,6 +41,6 @@ two_digits n low high = rw (decimal_step n (omega arith) (omega arith), digit (n
 three_digits : (n : ℕ) → 100 ≤ n → n < 1000 → decimal n ≡ (48 + n / 10 / 10) ∷ (48 + n / 10 % 10) ∷ (48 + n % 10) ∷ []
 three_digits n low high = rw (decimal_step n (omega arith) (omega arith), two_digits (n / 10) (omega arith) (omega arith)) refl
 
-pub primitives_head : codes "resolution_m: 0.025000\nnumberofangles: 16\ntotalnumberofprimitives: 80\n" ≡ head_text
+pub primitives_head : codes "resolution_m: 0.025000\nnumberofangles: 16\ntotalnumberofprimitives: 80\n" ≡ lines_text head_lines
 unfolding line_text
 primitives_head = rw (two_digits 16 (omega arith) (omega arith), two_digits 80 (omega arith) (omega arith)) refl
