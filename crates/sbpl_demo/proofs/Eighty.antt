@@ -37,17 +37,17 @@ looks m =
     ∷ list_all is_near (poses m 10)
     ∷ []
 
-abbrev is_right : Motion → Bool
-is_right m = list_all (λ b. b) (looks m)
+abbrev is_sound : Motion → Bool
+is_sound m = list_all (λ b. b) (looks m)
 
 -- from this number on each has the next number
 abbrev are_numbered : ℕ → List Motion → Bool
 are_numbered n [] = true
 are_numbered n (m ∷ ms) = ((5 * m.from + m.id) == n) && are_numbered (n + 1) ms
 
-all_right : list_all is_right (motions 16) ≡ true
+all_sound : list_all is_sound (motions 16) ≡ true
 unfolding motions motions_from way_along along poses primitive heading_of
-all_right = refl
+all_sound = refl
 
 all_numbered : are_numbered 0 (motions 16) ≡ true
 unfolding motions motions_from way_along
@@ -69,7 +69,7 @@ pub record IsNear (p : Pose) : Type 0 where
   pub y : unsigned_abs p.y ≤ 200000000
   pub theta : unsigned_abs p.theta ≤ 10000000000
 
-pub record IsRight (m : Motion) : Type 0 where
+pub record IsSound (m : Motion) : Type 0 where
   pub id : m.id ≤ 4
   pub from : m.from < 16
   pub mult : (1 ≤ m.mult) × (m.mult ≤ 5)
@@ -98,8 +98,8 @@ all_near : (ps : List Pose) → list_all is_near ps ≡ true → AllByRecursion 
 all_near [] h = tt
 all_near (p ∷ ps) h = let both = and_parts (is_near p) (list_all is_near ps) h in (near p both.0, all_near ps both.1)
 
-right : (m : Motion) → is_right m ≡ true → IsRight m
-right m h =
+sound : (m : Motion) → is_sound m ≡ true → IsSound m
+sound m h =
     let seen = all_at (λ (b : Bool). b ≡ true) (looks m) (all_pass (λ b. b) (looks m) h) in
     record {
       id = at_most m.id 4 (seen 0 _ refl);
@@ -115,13 +115,13 @@ right m h =
       near = all_near (poses m 10) (seen 11 _ refl);
     }
 
-each_right : (ms : List Motion) → AllByRecursion (λ m. is_right m ≡ true) ms → AllByRecursion IsRight ms
-each_right [] h = tt
-each_right (m ∷ ms) h = (right m h.0, each_right ms h.1)
+each_sound : (ms : List Motion) → AllByRecursion (λ m. is_sound m ≡ true) ms → AllByRecursion IsSound ms
+each_sound [] h = tt
+each_sound (m ∷ ms) h = (sound m h.0, each_sound ms h.1)
 
 -- each of the eighty is as it must be
-pub are_right : AllByRecursion IsRight (motions 16)
-are_right = each_right (motions 16) (all_pass is_right (motions 16) all_right)
+pub are_sound : AllByRecursion IsSound (motions 16)
+are_sound = each_sound (motions 16) (all_pass is_sound (motions 16) all_sound)
 
 -- ---- the primitives of a file
 
@@ -152,7 +152,7 @@ in_range p h = record {
   theta = wider 10000000000 10000000001 999999999999999999 1000000000000000000 p.theta (omega arith) (omega arith) (within 10000000000 p.theta h.theta);
 }
 
-is_primitive : (m : Motion) → IsRight m → IsPrimitive (pos 25000000) 16 (primitive m)
+is_primitive : (m : Motion) → IsSound m → IsPrimitive (pos 25000000) 16 (primitive m)
 unfolding primitive
 is_primitive m h =
     let costs = costs_something (primitive m) h.moves in
@@ -203,7 +203,7 @@ are_primitives = record {
   count = omega (arith, eighty);
   each = λ i p at.
       let m = from_motion (motions 16) i p at in
-      subst (λ (q : Primitive). IsPrimitive (pos 25000000) 16 q) m.2 (is_primitive m.0 (all_at IsRight (motions 16) are_right i m.0 m.1));
+      subst (λ (q : Primitive). IsPrimitive (pos 25000000) 16 q) m.2 (is_primitive m.0 (all_at IsSound (motions 16) are_sound i m.0 m.1));
   poses = omega (arith, eight_hundred);
   ids = λ i j p q less at_p at_q same_from same_id. omega (arith, place_of i p at_p, place_of j q at_q, same_from, same_id);
 }

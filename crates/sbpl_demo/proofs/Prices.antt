@@ -14,7 +14,7 @@ use Rattle.sbpl_cost.specs.PrimitiveCost.{DistancesRoundUp, angular_time, distan
 use Rattle.sbpl_demo.specs.declared.primitives.Motion.{Motion}
 use Rattle.sbpl_demo.specs.Environment.{environment}
 use Rattle.sbpl_demo.specs.Primitives.{motions, poses, primitive, primitives}
-use Rattle.sbpl_demo.proofs.Eighty.{IsNear, IsRight, are_right, eight_hundred, from_motion, ten}
+use Rattle.sbpl_demo.proofs.Eighty.{IsNear, IsSound, are_sound, eight_hundred, from_motion, ten}
 
 -- ---- cells
 
@@ -77,7 +77,7 @@ module _ (law : DistancesRoundUp) where
       let short : time < 16002 = omega (arith, linear, angular) in
       omega (arith, mul-lt p.mult time 6 16002 (omega arith) short)
 
-  motion_cheap : (width height : ℕ) (m : Motion) → IsRight m → primitive_cost (environment width height) (primitive m) ≤ most_cost
+  motion_cheap : (width height : ℕ) (m : Motion) → IsSound m → primitive_cost (environment width height) (primitive m) ≤ most_cost
   unfolding primitive
   motion_cheap width height m h = costs_little width height (primitive m) (way_short (poses m 10) h.near (ten m)) h.mult.1
 
@@ -85,4 +85,4 @@ module _ (law : DistancesRoundUp) where
   are_cheap width height i p at =
       let m = from_motion (motions 16) i p at in
       subst (λ (q : Primitive). primitive_cost (environment width height) q ≤ most_cost) m.2
-      (motion_cheap width height m.0 (all_at IsRight (motions 16) are_right i m.0 m.1))
+      (motion_cheap width height m.0 (all_at IsSound (motions 16) are_sound i m.0 m.1))

@@ -13,7 +13,7 @@ use Rattle.sbpl_mprim.specs.Judging.{heading_modulo}
 use Rattle.sbpl_mprim.specs.Text.{AreShown, Saying, Shows, a_heading, a_nano, a_whole, a_word, spelled, spelled_pose, spelled_prim, words_of}
 use Rattle.sbpl_demo.specs.declared.primitives.Motion.{Motion}
 use Rattle.sbpl_demo.specs.Primitives.{along, angle, head_lines, heading_at, motion_lines, motions, nanos, parts_text, pose, pose_lines, pose_words, poses, primitive, primitives}
-use Rattle.sbpl_demo.proofs.Eighty.{IsNear, IsRight, are_right, eighty}
+use Rattle.sbpl_demo.proofs.Eighty.{IsNear, IsSound, are_sound, eighty}
 use Rattle.sbpl_demo.proofs.Words.{parts_are_read_back, parts_are_words}
 
 both_shown : (ss us : List Saying) (ws vs : List (List ℕ)) → AreShown 16 ss ws → AreShown 16 us vs → AreShown 16 (ss ++ us) (ws ++ vs)
@@ -67,7 +67,7 @@ poses_shown m (suc n) h =
 
 -- ---- a primitive
 
-motion_shown : (m : Motion) → IsRight m → AreShown 16 (spelled_prim (primitive m)) (words_of (motion_lines m))
+motion_shown : (m : Motion) → IsSound m → AreShown 16 (spelled_prim (primitive m)) (words_of (motion_lines m))
 unfolding AreShown primitive motion_lines poses
 motion_shown m h = (
   shows_word (codes "primID:") (omega arith) refl,
@@ -101,7 +101,7 @@ motion_shown m h = (
   ),
 )
 
-motions_shown : (ms : List Motion) → AllByRecursion IsRight ms → AreShown 16 (flat_map spelled_prim (map primitive ms)) (words_of (flat_map motion_lines ms))
+motions_shown : (ms : List Motion) → AllByRecursion IsSound ms → AreShown 16 (flat_map spelled_prim (map primitive ms)) (words_of (flat_map motion_lines ms))
 unfolding AreShown
 motions_shown [] h = tt
 motions_shown (m ∷ ms) h =
@@ -125,7 +125,7 @@ file_shown = (
         shows_count 16 (omega arith),
         (
           shows_word (codes "totalnumberofprimitives:") (omega arith) refl,
-          (rw eighty (shows_count 80 (omega arith)), motions_shown (motions 16) are_right),
+          (rw eighty (shows_count 80 (omega arith)), motions_shown (motions 16) are_sound),
         ),
       ),
     ),
