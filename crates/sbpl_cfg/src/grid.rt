@@ -17,8 +17,8 @@ impl Model for Grid {
 }
 
 impl Grid {
-    /// The grid of these costs.
-    pub(crate) fn of(cells: Vec<u8>) -> Grid
+    /// The grid of these costs, row by row from `y = 0`, with `x` along a row. It takes no memory.
+    pub fn of(cells: Vec<u8>) -> Grid
         ensures cells { result ≡ cells.items }
     {
         Grid { cells }

@@ -1,4 +1,9 @@
-mod Grids
+mod Batches
+mod Eighty
+mod Environments
+mod Prices
+mod Shown
 mod Steps
 mod Texts
 mod Ways
+mod Words

@@ -1,11 +1,18 @@
 -- One more draw, and what it adds.
-use Rattle.std.proofs.Common.{◌≡◌, ℕ, zero, suc, ◌+◌, ◌-◌, ◌*◌, ◌/◌, ◌%◌, ◌<◌, List, [], ◌∷◌, ◌++◌, append-nil, refl, sym, add-one, sub-one, arith}
+use Rattle.std.proofs.Common.{◌≡◌, ℕ, zero, suc, ◌+◌, ◌-◌, ◌*◌, ◌/◌, ◌%◌, ◌<◌, List, [], ◌∷◌, ◌++◌, map, append_assoc, append-nil, ap, refl, sym, ◌∙◌, add-one, sub-one, arith}
+use Rattle.std.specs.List.{flat_map}
+use Rattle.std.proofs.lemmas.List.{map-append}
+use Rattle.std.proofs.lemmas.List.Concat.{flat_map-append}
 use Rattle.sbpl_fixed.specs.Printed.{last_digits}
-use Rattle.sbpl_cfg.specs.Printed.{line_text}
+use Rattle.sbpl_cfg.specs.Printed.{line_text, lines_text}
+use Rattle.sbpl_map.specs.ChangeText.{replan_line}
+use Rattle.sbpl_map.specs.Printed.{batch_lines, changes_text, write_line}
+use Rattle.sbpl_map.specs.declared.write.Write.{Write}
 use Rattle.sbpl_demo.specs.Generator.{draw, next_word, word_after}
 use Rattle.sbpl_demo.specs.Environment.{cost_of, costs_drawn}
-use Rattle.sbpl_demo.specs.Changes.{batch_text, batches_text, change_text, changes_text}
-use Rattle.sbpl_demo.specs.Primitives.{heading_text, headings_text, pose_words, poses_text}
+use Rattle.sbpl_demo.specs.Changes.{batches, change, writes}
+use Rattle.sbpl_mprim.specs.Printed as prim
+use Rattle.sbpl_demo.specs.Primitives.{backward, far, forward, head_lines, left, motion_head, motion_lines, motions, motions_from, pose_lines, pose_words, primitives_text, right, way_along}
 use Rattle.sbpl_demo.specs.declared.primitives.Motion.{Motion}
 
 pub word_none : (x : ℕ) → word_after 0 x ≡ x
@@ -41,39 +48,84 @@ pub costs_next : (n x : ℕ) → costs_drawn (n + 1) x ≡ costs_drawn n x ++ co
 unfolding costs_drawn
 costs_next n x = rw (add-one n) refl
 
-pub changes_none : (width height from : ℕ) → changes_text width height 0 from ≡ []
-unfolding changes_text
-changes_none width height from = refl
+lines_join : (ls ms : List (List (List ℕ))) → lines_text (ls ++ ms) ≡ lines_text ls ++ lines_text ms
+lines_join [] ms = refl
+lines_join (l ∷ ls) ms = rw (lines_join ls ms) (simp append_assoc)
 
-pub changes_next : (width height n from : ℕ)
-    → changes_text width height (n + 1) from ≡ changes_text width height n from ++ change_text width height (word_after (3 * n) from)
-unfolding changes_text
-changes_next width height n from = rw (add-one n) refl
+-- the text of writes
+abbrev text_of : List Write → List ℕ
+text_of ws = lines_text (map write_line ws)
 
-pub batches_none : (width height from : ℕ) → batches_text width height 0 from ≡ []
-unfolding batches_text
+pub writes_none : (width height from : ℕ) → lines_text (map write_line (writes width height 0 from)) ≡ []
+unfolding writes
+writes_none width height from = refl
+
+pub writes_next : (width height n from : ℕ)
+    → lines_text (map write_line (writes width height (n + 1) from))
+    ≡ lines_text (map write_line (writes width height n from)) ++ lines_text (map write_line (change width height (word_after (3 * n) from)))
+unfolding writes
+writes_next width height n from =
+    let before = writes width height n from in
+    let more = change width height (word_after (3 * n) from) in
+    let next : writes width height (n + 1) from ≡ before ++ more = rw (add-one n) refl in
+    rw (next, map-append write_line before more) (lines_join (map write_line before) (map write_line more))
+
+-- a batch's writes, and its end
+pub batch_ends : (batch : List Write) → lines_text (batch_lines batch) ≡ lines_text (map write_line batch) ++ line_text replan_line
+batch_ends batch = lines_join (map write_line batch) (replan_line ∷ []) ∙ ap (λ (l : List ℕ). text_of batch ++ l) (append-nil (line_text replan_line))
+
+pub batches_none : (width height from : ℕ) → changes_text (batches width height 0 from) ≡ []
+unfolding batches
 batches_none width height from = refl
 
 pub batches_next : (width height n from : ℕ)
-    → batches_text width height (n + 1) from ≡ batches_text width height n from ++ batch_text width height (word_after (24 * n) from)
-unfolding batches_text
-batches_next width height n from = rw (add-one n) refl
+    → changes_text (batches width height (n + 1) from) ≡ changes_text (batches width height n from) ++ lines_text (batch_lines (writes width height 8 (word_after (24 * n) from)))
+unfolding batches
+batches_next width height n from =
+    let before = batches width height n from in
+    let batch = writes width height 8 (word_after (24 * n) from) in
+    let next : batches width height (n + 1) from ≡ before ++ batch ∷ [] = rw (add-one n) refl in
+    rw (next, flat_map-append batch_lines before (batch ∷ []), append-nil (batch_lines batch)) (lines_join (flat_map batch_lines before) (batch_lines batch))
 
-pub poses_none : (m : Motion) → poses_text m 0 ≡ []
-unfolding poses_text
+-- ---- the lines of primitives
+
+pub poses_none : (m : Motion) → prim.lines_text (pose_lines m 0) ≡ []
+unfolding pose_lines
 poses_none m = refl
 
-pub poses_next : (m : Motion) (n : ℕ) → poses_text m (n + 1) ≡ poses_text m n ++ line_text (pose_words m n)
-unfolding poses_text
-poses_next m n = rw (add-one n) refl
+pub poses_next : (m : Motion) (n : ℕ) → prim.lines_text (pose_lines m (n + 1)) ≡ prim.lines_text (pose_lines m n) ++ prim.line_text (pose_words m n)
+unfolding pose_lines
+poses_next m n =
+    let next : pose_lines m (n + 1) ≡ pose_lines m n ++ pose_words m n ∷ [] = rw (add-one n) refl in
+    rw (next, flat_map-append prim.line_text (pose_lines m n) (pose_words m n ∷ []), append-nil (prim.line_text (pose_words m n))) refl
 
-pub headings_none : headings_text 0 ≡ []
-unfolding headings_text
-headings_none = refl
+pub motion_written : (m : Motion) → prim.lines_text (motion_lines m) ≡ prim.lines_text (motion_head m) ++ prim.lines_text (pose_lines m 10)
+unfolding motion_lines
+motion_written m = flat_map-append prim.line_text (motion_head m) (pose_lines m 10)
 
-pub headings_next : (n : ℕ) → headings_text (n + 1) ≡ headings_text n ++ heading_text n
-unfolding headings_text
-headings_next n = rw (add-one n) refl
+pub motions_none : prim.lines_text (flat_map motion_lines (motions 0)) ≡ []
+unfolding motions
+motions_none = refl
+
+pub motions_next : (n : ℕ)
+    → prim.lines_text (flat_map motion_lines (motions (n + 1))) ≡ prim.lines_text (flat_map motion_lines (motions n)) ++ prim.lines_text (flat_map motion_lines (motions_from n))
+unfolding motions
+motions_next n =
+    let next : motions (n + 1) ≡ motions n ++ motions_from n = rw (add-one n) refl in
+    rw (next, flat_map-append motion_lines (motions n) (motions_from n)) (flat_map-append prim.line_text (flat_map motion_lines (motions n)) (flat_map motion_lines (motions_from n)))
+
+-- the five primitives of a heading, one behind the other
+pub five_written : (from : ℕ) → prim.lines_text (flat_map motion_lines (motions_from from))
+    ≡ prim.lines_text (motion_lines (forward from (way_along from)))
+    ++ (prim.lines_text (motion_lines (backward from (way_along from)))
+    ++ (prim.lines_text (motion_lines (left from))
+    ++ (prim.lines_text (motion_lines (right from))
+    ++ prim.lines_text (motion_lines (far from (way_along from))))))
+unfolding motions_from
+five_written from = simp (flat_map-append, append-nil)
+
+pub file_written : primitives_text ≡ prim.lines_text head_lines ++ prim.lines_text (flat_map motion_lines (motions 16))
+file_written = flat_map-append prim.line_text head_lines (flat_map motion_lines (motions 16))
 
 pub digits_none : (a : List ℕ) (count n : ℕ) → count ≡ 0 → a ≡ a ++ last_digits count n
 unfolding last_digits

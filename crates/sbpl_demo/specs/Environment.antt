@@ -1,8 +1,7 @@
 -- The environment that is drawn.
-use Rattle.std.specs.Prelude.{ℕ, zero, suc, ◌+◌, ◌-◌, ◌*◌, ◌%◌, ℤ, pos, List, [], ◌∷◌, ◌++◌, set, codes, decimal, if◌then◌else◌, nat_lt}
+use Rattle.std.specs.Prelude.{ℕ, zero, suc, ◌+◌, ◌-◌, ◌*◌, ◌%◌, ℤ, pos, List, [], ◌∷◌, ◌++◌, set, if◌then◌else◌, nat_lt}
 use Rattle.sbpl_cfg.specs.declared.pose.Pose.{Pose}
 use Rattle.sbpl_cfg.specs.Environment.{Environment}
-use Rattle.sbpl_cfg.specs.Printed.{end_lines, pose_words, rate_lines, size_lines}
 use Rattle.sbpl_demo.specs.Generator.{draw}
 
 -- the cost of a cell, of its draw: fifteen of a hundred are obstacles, and fifteen are dear
@@ -46,16 +45,3 @@ environment width height = record {
   end = center_pose (width - 2) (height - 2);
   headings = 16;
 }
-
--- the words of the first line
-abbrev pub size_words : ℕ → ℕ → List (List ℕ)
-size_words width height = codes "discretization(cells):" ∷ decimal width ∷ decimal height ∷ []
-
--- the words of the end's line
-abbrev pub end_words : ℕ → ℕ → List (List ℕ)
-end_words x y = pose_words (codes "end(meters,rads):") (center_pose x y)
-
--- the lines before the costs
-abbrev pub head_lines : ℕ → ℕ → List (List (List ℕ))
-head_lines width height =
-    size_lines (environment width height) ++ (rate_lines (environment width height) ++ end_lines (environment width height))

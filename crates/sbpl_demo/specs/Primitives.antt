@@ -1,8 +1,13 @@
 -- The primitives: five for each of sixteen headings, for cells of 25 millimetres.
-use Rattle.std.specs.Prelude.{ℕ, zero, suc, ◌+◌, ◌*◌, ◌/◌, ◌<◌, ℤ, pos, negsuc, neg_ℤ, ◌+ℤ◌, ◌-ℤ◌, ◌*ℤ◌, ◌≤ℤ◌, List, [], ◌∷◌, ◌++◌, get_or, codes, decimal, if◌then◌else◌, nat_eq}
+use Rattle.std.specs.Prelude.{ℕ, zero, suc, ◌+◌, ◌*◌, ◌/◌, ◌<◌, ℤ, pos, negsuc, neg_ℤ, ◌+ℤ◌, ◌-ℤ◌, ◌*ℤ◌, ◌≤ℤ◌, List, [], ◌∷◌, ◌++◌, get_or, map, codes, if◌then◌else◌, nat_eq}
 use Rattle.std.specs.Fmt.{signed_decimal}
+use Rattle.std.specs.List.{flat_map}
 use Rattle.sbpl_fixed.specs.Printed.{point_text}
-use Rattle.sbpl_cfg.specs.Printed.{line_text, lines_text}
+use Rattle.sbpl_cfg.specs.declared.pose.Pose.{Pose}
+use Rattle.sbpl_mprim.specs.declared.prim.Primitive.{Primitive}
+use Rattle.sbpl_mprim.specs.Judging.{heading_modulo}
+use Rattle.sbpl_mprim.specs.Primitives.{Primitives}
+use Rattle.sbpl_mprim.specs.Printed.{field, lines_text}
 use Rattle.sbpl_demo.specs.declared.primitives.Motion.{Motion}
 use Rattle.sbpl_demo.specs.declared.primitives.Way.{Way}
 
@@ -34,13 +39,10 @@ heading_at m j = if nat_eq j 9 then m.to else pos m.from
 abbrev pub pose_words : Motion → ℕ → List (List ℕ)
 pose_words m j = parts_text (along m.way.x j) ∷ parts_text (along m.way.y j) ∷ parts_text (angle (heading_at m j)) ∷ []
 
--- the first n poses
-unfoldable pub poses_text : Motion → ℕ → List ℕ
-poses_text m zero = []
-poses_text m (suc n) = poses_text m n ++ line_text (pose_words m n)
-
-abbrev pub field : List ℕ → ℕ → List (List ℕ)
-field name n = name ∷ decimal n ∷ []
+-- the lines of the first n poses
+unfoldable pub pose_lines : Motion → ℕ → List (List (List ℕ))
+pose_lines m zero = []
+pose_lines m (suc n) = pose_lines m n ++ pose_words m n ∷ []
 
 abbrev pub end_words : Motion → List (List ℕ)
 end_words m = codes "endpose_c:" ∷ signed_decimal m.way.x ∷ signed_decimal m.way.y ∷ signed_decimal m.to ∷ []
@@ -55,8 +57,9 @@ motion_head m =
     ∷ field (codes "intermediateposes:") 10
     ∷ []
 
-unfoldable pub motion_text : Motion → List ℕ
-motion_text m = lines_text (motion_head m) ++ poses_text m 10
+-- its lines, with ten poses
+unfoldable pub motion_lines : Motion → List (List (List ℕ))
+motion_lines m = motion_head m ++ pose_lines m 10
 
 -- ---- the five primitives of a heading
 
@@ -91,31 +94,60 @@ right from = record { id = 3; «from» = from; way = step (pos 0) (pos 0); to = 
 abbrev pub far : ℕ → Way → Motion
 far from along = record { id = 4; «from» = from; way = step (pos 4 *ℤ along.x) (pos 4 *ℤ along.y); to = pos from; mult = 1 }
 
-unfoldable pub heading_text : ℕ → List ℕ
-heading_text from =
-    motion_text (forward from (way_along from))
-    ++ (motion_text (backward from (way_along from))
-    ++ (motion_text (left from)
-    ++ (motion_text (right from)
-    ++ motion_text (far from (way_along from)))))
+unfoldable pub motions_from : ℕ → List Motion
+motions_from from =
+    forward from (way_along from)
+    ∷ backward from (way_along from)
+    ∷ left from
+    ∷ right from
+    ∷ far from (way_along from)
+    ∷ []
+
+-- those of the first n headings
+unfoldable pub motions : ℕ → List Motion
+motions zero = []
+motions (suc n) = motions n ++ motions_from n
 
 -- ---- the file
 
--- the first n headings
-unfoldable pub headings_text : ℕ → List ℕ
-headings_text zero = []
-headings_text (suc n) = headings_text n ++ heading_text n
-
-abbrev pub head_text : List ℕ
-head_text = lines_text (
+abbrev pub head_lines : List (List (List ℕ))
+head_lines =
     (codes "resolution_m:" ∷ codes "0.025000" ∷ [])
     ∷ field (codes "numberofangles:") 16
     ∷ field (codes "totalnumberofprimitives:") 80
     ∷ []
-    )
 
 abbrev pub primitives_text : List ℕ
-primitives_text = head_text ++ headings_text 16
+primitives_text = lines_text (head_lines ++ flat_map motion_lines (motions 16))
+
+-- ---- what it says
+
+-- ten-thousandths in billionths
+abbrev pub nanos : ℤ → ℤ
+nanos z = pos 100000 *ℤ z
+
+abbrev pub pose : Motion → ℕ → Pose
+pose m j = record { x = nanos (along m.way.x j); y = nanos (along m.way.y j); theta = nanos (angle (heading_at m j)) }
+
+-- the first n poses
+unfoldable pub poses : Motion → ℕ → List Pose
+poses m zero = []
+poses m (suc n) = poses m n ++ pose m n ∷ []
+
+unfoldable pub primitive : Motion → Primitive
+primitive m = record {
+  id = m.id;
+  «from» = m.from;
+  dx = m.way.x;
+  dy = m.way.y;
+  to = heading_modulo 16 m.to;
+  mult = m.mult;
+  poses = poses m 10;
+}
+
+-- all eighty
+abbrev pub primitives : Primitives
+primitives = record { cell = pos 25000000; headings = 16; items = map primitive (motions 16) }
 
 -- ---- the ranges
 

@@ -1,9 +1,11 @@
 //! The changes of the map.
 
-ghost use Rattle.std.specs.Prelude.{◌≡◌, ◌<◌, ◌≤◌, ◌++◌, OnOk, IfOk};
-ghost use Rattle.sbpl_cfg.specs.Printed.{line_text};
+ghost use Rattle.std.specs.Prelude.{◌≡◌, ◌<◌, ◌≤◌, ◌++◌, map, OnOk, IfOk};
+ghost use Rattle.sbpl_cfg.specs.Printed.{line_text, lines_text};
+ghost use Rattle.sbpl_map.specs.Printed.{batch_lines, changes_text, write_line};
+ghost use Rattle.sbpl_map.specs.declared.write.Write.{Write};
 ghost use Rattle.sbpl_demo.specs.Generator.{word_after};
-ghost use Rattle.sbpl_demo.specs.Changes.{batch_text, batches_text, cell_text, cell_words, change_cost, change_text, changes_text, is_end};
+ghost use Rattle.sbpl_demo.specs.Changes.{batches, cell_writes, change, change_cost, is_end, writes};
 
 use crate::draws::Draws;
 use crate::put::{put_count, put_word};
@@ -13,7 +15,7 @@ use std::alloc::Global;
 /// Appends the line that writes a cost to a cell.
 #[tactic(auto, using(std::proofs::lemmas::List::append_assoc), unfolding(sbpl_cfg::specs::Printed::line_text))]
 fn put_cell(out: &mut Vec<u8>, x: u32, y: u32, cost: u32) -> Result<(), NoMemory>
-    ensures ok { OnOk result (out.new.items ≡ out.old.items ++ line_text (cell_words x y cost)) }
+    ensures ok { OnOk result (out.new.items ≡ out.old.items ++ line_text (write_line (record { x = x; y = y; cost = cost }))) }
 {
     put_word(out, b"cell", b' ')?;
     put_count(out, x, b' ')?;
@@ -42,7 +44,7 @@ fn put_change(
 ) -> Result<(), NoMemory>
     requires width { 8 ≤ width }
     requires height { 8 ≤ height }
-    ensures ok { OnOk result (out.new.items ≡ out.old.items ++ cell_text width height x y cost) }
+    ensures ok { OnOk result (out.new.items ≡ out.old.items ++ lines_text (map write_line (cell_writes width height x y cost))) }
 {
     if is_end(width, height, x, y) {
         return Ok(());
@@ -59,7 +61,7 @@ fn change_cost(drawn: u64) -> u32
 }
 
 /// Draws a cell and its cost, and appends the line.
-#[tactic(auto, using(crate::proofs::Steps::word_three), unfolding(crate::specs::Changes::change_text, crate::specs::Generator::word_after))]
+#[tactic(auto, using(crate::proofs::Steps::word_three), unfolding(crate::specs::Changes::change, crate::specs::Generator::word_after))]
 fn draw_change(
     out: &mut Vec<u8>,
     draws: &mut Draws,
@@ -68,7 +70,7 @@ fn draw_change(
 ) -> Result<(), NoMemory>
     requires width { 8 ≤ width }
     requires height { 8 ≤ height }
-    ensures ok { OnOk result (out.new.items ≡ out.old.items ++ change_text width height draws.old.word) }
+    ensures ok { OnOk result (out.new.items ≡ out.old.items ++ lines_text (map write_line (change width height draws.old.word))) }
     ensures word { OnOk result (draws.new.word ≡ word_after 3 draws.old.word) }
 {
     let x = (draws.draw() % u64::from(width)) as u32;
@@ -79,11 +81,11 @@ fn draw_change(
 }
 
 /// Draws a batch of eight changes and appends its lines.
-#[tactic(auto, using(crate::proofs::Steps::changes_none, crate::proofs::Steps::changes_next, crate::proofs::Steps::word_none, crate::proofs::Steps::word_change, std::proofs::lemmas::List::append_assoc), unfolding(sbpl_cfg::specs::Printed::line_text))]
+#[tactic(auto, using(crate::proofs::Steps::writes_none, crate::proofs::Steps::writes_next, crate::proofs::Steps::batch_ends, crate::proofs::Steps::word_none, crate::proofs::Steps::word_change, std::proofs::lemmas::List::append_assoc), unfolding(sbpl_cfg::specs::Printed::line_text))]
 fn draw_batch(out: &mut Vec<u8>, draws: &mut Draws, width: u32, height: u32) -> Result<(), NoMemory>
     requires width { 8 ≤ width }
     requires height { 8 ≤ height }
-    ensures ok { OnOk result (out.new.items ≡ out.old.items ++ batch_text width height draws.old.word) }
+    ensures ok { OnOk result (out.new.items ≡ out.old.items ++ lines_text (batch_lines (writes width height 8 draws.old.word))) }
     ensures word { OnOk result (draws.new.word ≡ word_after 24 draws.old.word) }
 {
     for _ in 0..8u32 {
@@ -103,7 +105,7 @@ pub(crate) fn draw_changes(
 ) -> Result<Vec<u8>, NoMemory>
     requires width { 8 ≤ width }
     requires height { 8 ≤ height }
-    ensures text { IfOk result (λ text. text.items ≡ batches_text width height 3 draws.old.word) }
+    ensures text { IfOk result (λ text. text.items ≡ changes_text (batches width height 3 draws.old.word)) }
 {
     let mut text = Vec::new(alloc);
     for _ in 0..3u32 {

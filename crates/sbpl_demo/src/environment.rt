@@ -1,24 +1,14 @@
 //! The environment.
 
-ghost use Rattle.std.specs.Prelude.{◌≡◌, ◌*◌, ◌<◌, ◌≤◌, ◌++◌, length, map, pos, decimal, OnOk, IfOk, vec_len};
-ghost use Rattle.sbpl_cfg.specs.Printed.{environment_text, grid_lines, line_text, lines_text, pose_words};
+ghost use Rattle.std.specs.Prelude.{◌≡◌, ◌*◌, ◌<◌, ◌≤◌, OnOk, IfOk, vec_len};
+ghost use Rattle.sbpl_cfg.specs.Printed.{environment_text};
 ghost use Rattle.sbpl_demo.specs.Generator.{word_after};
-ghost use Rattle.sbpl_demo.specs.Environment.{center, cost_of, costs, costs_drawn, end_words, environment, head_lines, size_words};
+ghost use Rattle.sbpl_demo.specs.Environment.{center, center_pose, cost_of, costs, costs_drawn, environment};
 
 use crate::draws::Draws;
-use crate::put::{put_count, put_nano, put_word};
+use sbpl_cfg::{Env, Grid, Pose, print_env};
 use sbpl_fixed::NoMemory;
 use std::alloc::Global;
-
-/// What is the same for each map: the thresholds, the side of a cell, the speed, the time to turn and the start.
-const FIXED: &[u8] = b"obsthresh: 254
-cost_inscribed_thresh: 253
-cost_possibly_circumscribed_thresh: 128
-cellsize(meters): 0.025000000
-nominalvel(mpersecs): 1.000000000
-timetoturn45degsinplace(secs): 2.000000000
-start(meters,rads): 0.037500000 0.037500000 0.000000000
-";
 
 /// The cost that a draw gives a cell.
 #[tactic(auto, unfolding(crate::specs::Environment::cost_of))]
@@ -68,70 +58,39 @@ fn center(cell: u32) -> i64
     25_000_000 * i64::from(cell) + 12_500_000
 }
 
-/// Appends the line of the map's size.
-#[tactic(auto, using(std::proofs::lemmas::List::append_assoc), unfolding(sbpl_cfg::specs::Printed::line_text))]
-fn put_size(out: &mut Vec<u8>, width: u32, height: u32) -> Result<(), NoMemory>
-    ensures ok { OnOk result (out.new.items ≡ out.old.items ++ line_text (size_words width height)) }
-{
-    put_word(out, b"discretization(cells):", b' ')?;
-    put_count(out, width, b' ')?;
-    put_count(out, height, b'\n')?;
-    Ok(())
-}
-
-/// Appends the line of the end.
-#[tactic(auto, using(std::proofs::lemmas::List::append_assoc), unfolding(sbpl_cfg::specs::Printed::line_text))]
-fn put_end(out: &mut Vec<u8>, x: u32, y: u32) -> Result<(), NoMemory>
+/// The centre of a cell, with heading 0.
+fn center_pose(x: u32, y: u32) -> Pose
     requires x { x < 512 }
     requires y { y < 512 }
-    ensures ok { OnOk result (out.new.items ≡ out.old.items ++ line_text (end_words x y)) }
+    ensures pose { result ≡ center_pose x y }
 {
-    put_word(out, b"end(meters,rads):", b' ')?;
-    put_nano(out, center(x), b' ')?;
-    put_nano(out, center(y), b' ')?;
-    put_nano(out, 0, b'\n')?;
-    Ok(())
+    Pose {
+        x: center(x),
+        y: center(y),
+        theta: 0,
+    }
 }
 
-/// Appends the lines before the costs.
-fn put_head(out: &mut Vec<u8>, width: u32, height: u32) -> Result<(), NoMemory>
+/// The environment, whose start is the cell behind the first corner and whose end is the cell before the last.
+#[tactic(auto, using(crate::proofs::Environments::is_environment))]
+fn environment(width: u32, height: u32) -> Env
     requires width { (8 ≤ width) × (width ≤ 512) }
     requires height { (8 ≤ height) × (height ≤ 512) }
-    ensures ok { OnOk result (out.new.items ≡ out.old.items ++ lines_text (head_lines width height)) }
+    ensures environment { result ≡ environment width height }
 {
-    put_size(out, width, height)?;
-    out.extend_from_slice(FIXED)?;
-    put_end(out, width - 2, height - 2)?;
-    put_word(out, b"environment:", b'\n')?;
-    Ok(())
-}
-
-/// Appends the line of a row.
-fn put_row(out: &mut Vec<u8>, cells: &[u8]) -> Result<(), NoMemory>
-    requires { 0 < length cells.now }
-    ensures ok { OnOk result (out.new.items ≡ out.old.items ++ line_text (map decimal cells.now)) }
-{
-    let last = cells.len() - 1;
-    for cost in &cells[..last] {
-        put_count(out, u32::from(*cost), b' ')?;
+    Env {
+        width,
+        height,
+        obsthresh: 254,
+        inscribed: 253,
+        circumscribed: 128,
+        cell: 25_000_000,
+        speed: 1_000_000_000,
+        turn45: 2_000_000_000,
+        start: center_pose(1, 1),
+        end: center_pose(width - 2, height - 2),
+        headings: 16,
     }
-    put_count(out, u32::from(cells[last]), b'\n')?;
-    Ok(())
-}
-
-/// Appends the lines of the costs, row by row.
-fn put_grid(out: &mut Vec<u8>, width: u32, height: u32, cells: &[u8]) -> Result<(), NoMemory>
-    requires some { 0 < width }
-    requires size { length cells.now ≡ width * height }
-    ensures ok { OnOk result (out.new.items ≡ out.old.items ++ lines_text (grid_lines height width cells.now)) }
-{
-    let mut rest = cells;
-    for _y in 0..height {
-        let (row, below) = rest.split_at(width as usize);
-        put_row(out, row)?;
-        rest = below;
-    }
-    Ok(())
 }
 
 /// The text of an environment whose costs are drawn cell by cell, row by row.
@@ -146,9 +105,8 @@ pub(crate) fn draw_environment(
     ensures text { IfOk result (λ text. text.items ≡ environment_text (environment width height) (costs width height draws.old.word)) }
     ensures word { OnOk result (draws.new.word ≡ word_after (width * height) draws.old.word) }
 {
-    let cells = draw_grid(alloc, draws, width, height)?;
+    let grid = Grid::of(draw_grid(alloc, draws, width, height)?);
     let mut text = Vec::new(alloc);
-    put_head(&mut text, width, height)?;
-    put_grid(&mut text, width, height, &cells)?;
+    print_env(&environment(width, height), &grid, &mut text)?;
     Ok(text)
 }

@@ -1,8 +1,9 @@
 //! The primitives.
 
 ghost use Rattle.std.specs.Prelude.{◌≡◌, ◌<◌, ◌≤◌, ◌++◌, pos, negsuc, ◌≤ℤ◌, OnOk, IfOk};
-ghost use Rattle.sbpl_cfg.specs.Printed.{line_text, lines_text};
-ghost use Rattle.sbpl_demo.specs.Primitives.{IsMotion, IsStep, along, angle, backward, end_words, far, field, forward, heading_at, heading_text, left, motion_head, motion_text, nearest_ninth, pose_words, poses_text, primitives_text, right, way_along};
+ghost use Rattle.std.specs.List.{flat_map};
+ghost use Rattle.sbpl_mprim.specs.Printed.{field, line_text, lines_text};
+ghost use Rattle.sbpl_demo.specs.Primitives.{IsMotion, IsStep, along, angle, backward, end_words, far, forward, heading_at, left, motion_head, motion_lines, motions_from, nearest_ninth, pose_lines, pose_words, primitives_text, right, way_along};
 
 use crate::put::{put_count, put_parts, put_signed, put_word};
 use sbpl_fixed::NoMemory;
@@ -93,7 +94,7 @@ fn heading_at(motion: &Motion, j: u32) -> i32
 }
 
 /// Appends the line of pose `j` of ten.
-#[tactic(auto, using(std::proofs::lemmas::List::append_assoc), unfolding(sbpl_cfg::specs::Printed::line_text))]
+#[tactic(auto, using(std::proofs::lemmas::List::append_assoc), unfolding(sbpl_mprim::specs::Printed::line_text))]
 fn put_pose(out: &mut Vec<u8>, motion: &Motion, j: u32) -> Result<(), NoMemory>
     requires motion { IsMotion motion.now }
     requires pose { j < 10 }
@@ -109,7 +110,7 @@ fn put_pose(out: &mut Vec<u8>, motion: &Motion, j: u32) -> Result<(), NoMemory>
 #[tactic(auto, using(crate::proofs::Steps::poses_none, crate::proofs::Steps::poses_next, std::proofs::lemmas::List::append_assoc))]
 fn put_poses(out: &mut Vec<u8>, motion: &Motion) -> Result<(), NoMemory>
     requires motion { IsMotion motion.now }
-    ensures ok { OnOk result (out.new.items ≡ out.old.items ++ poses_text motion.now 10) }
+    ensures ok { OnOk result (out.new.items ≡ out.old.items ++ lines_text (pose_lines motion.now 10)) }
 {
     for j in 0..10 {
         put_pose(out, motion, j)?;
@@ -118,7 +119,7 @@ fn put_poses(out: &mut Vec<u8>, motion: &Motion) -> Result<(), NoMemory>
 }
 
 /// Appends the line of a word and a number.
-#[tactic(auto, using(std::proofs::lemmas::List::append_assoc), unfolding(sbpl_cfg::specs::Printed::line_text))]
+#[tactic(auto, using(std::proofs::lemmas::List::append_assoc), unfolding(sbpl_mprim::specs::Printed::line_text))]
 fn put_field(out: &mut Vec<u8>, name: &[u8], n: u32) -> Result<(), NoMemory>
     ensures ok { OnOk result (out.new.items ≡ out.old.items ++ line_text (field name.now n)) }
 {
@@ -128,7 +129,7 @@ fn put_field(out: &mut Vec<u8>, name: &[u8], n: u32) -> Result<(), NoMemory>
 }
 
 /// Appends the line of the end.
-#[tactic(auto, using(std::proofs::lemmas::List::append_assoc), unfolding(sbpl_cfg::specs::Printed::line_text))]
+#[tactic(auto, using(std::proofs::lemmas::List::append_assoc), unfolding(sbpl_mprim::specs::Printed::line_text))]
 fn put_end(out: &mut Vec<u8>, motion: &Motion) -> Result<(), NoMemory>
     ensures ok { OnOk result (out.new.items ≡ out.old.items ++ line_text (end_words motion.now)) }
 {
@@ -152,10 +153,10 @@ fn put_head(out: &mut Vec<u8>, motion: &Motion) -> Result<(), NoMemory>
 }
 
 /// Appends a primitive.
-#[tactic(auto, using(std::proofs::lemmas::List::append_assoc), unfolding(crate::specs::Primitives::motion_text))]
+#[tactic(auto, using(crate::proofs::Steps::motion_written, std::proofs::lemmas::List::append_assoc))]
 fn put_motion(out: &mut Vec<u8>, motion: &Motion) -> Result<(), NoMemory>
     requires motion { IsMotion motion.now }
-    ensures ok { OnOk result (out.new.items ≡ out.old.items ++ motion_text motion.now) }
+    ensures ok { OnOk result (out.new.items ≡ out.old.items ++ lines_text (motion_lines motion.now)) }
 {
     put_head(out, motion)?;
     put_poses(out, motion)?;
@@ -259,7 +260,7 @@ fn far(from: u32, step: Way) -> Motion
 /// Appends the five primitives of a heading.
 fn put_heading(out: &mut Vec<u8>, from: u32) -> Result<(), NoMemory>
     requires heading { from < 16 }
-    ensures ok { OnOk result (out.new.items ≡ out.old.items ++ heading_text from) }
+    ensures ok { OnOk result (out.new.items ≡ out.old.items ++ lines_text (flat_map motion_lines (motions_from from))) }
 {
     let step = way_along(from);
     put_motion(out, &forward(from, step))?;
@@ -272,7 +273,7 @@ fn put_heading(out: &mut Vec<u8>, from: u32) -> Result<(), NoMemory>
 
 /// The text of the primitives: for each of sixteen headings a step forward, a dear step back, a turn to the left, a turn to
 /// the right, and four steps forward. They are for cells of 25 millimetres.
-#[tactic(auto, using(crate::proofs::Steps::headings_none, crate::proofs::Steps::headings_next, crate::proofs::Texts::primitives_head, std::proofs::lemmas::List::append_assoc))]
+#[tactic(auto, using(crate::proofs::Steps::motions_none, crate::proofs::Steps::motions_next, crate::proofs::Texts::primitives_head, crate::proofs::Steps::file_written, std::proofs::lemmas::List::append_assoc))]
 pub(crate) fn primitives(alloc: Global) -> Result<Vec<u8>, NoMemory>
     ensures text { IfOk result (λ text. text.items ≡ primitives_text) }
 {

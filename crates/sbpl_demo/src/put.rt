@@ -1,12 +1,12 @@
 //! Words and numbers of a line, each with the byte behind it.
 
-ghost use Rattle.std.specs.Prelude.{◌≡◌, ◌+◌, ◌-◌, ◌<◌, [], ◌∷◌, ◌++◌, pos, neg_ℤ, ◌^◌, ◌≤ℤ◌, decimal, OnOk};
+ghost use Rattle.std.specs.Prelude.{◌≡◌, ◌+◌, ◌-◌, ◌<◌, [], ◌∷◌, ◌++◌, decimal, OnOk};
 ghost use Rattle.std.specs.Fmt.{signed_decimal};
-ghost use Rattle.sbpl_fixed.specs.Printed.{last_digits, nano_text, point_text};
+ghost use Rattle.sbpl_fixed.specs.Printed.{last_digits, point_text};
 ghost use Rattle.sbpl_demo.specs.Primitives.{parts_text};
 
 use itoa::Buffer;
-use sbpl_fixed::{NoMemory, print_nano};
+use sbpl_fixed::NoMemory;
 
 /// Appends a word, and a space or a line feed behind it.
 pub(crate) fn put_word(out: &mut Vec<u8>, word: &[u8], end: u8) -> Result<(), NoMemory>
@@ -32,17 +32,6 @@ pub(crate) fn put_signed(out: &mut Vec<u8>, n: i32, end: u8) -> Result<(), NoMem
 {
     let mut buffer = Buffer::new();
     put_word(out, buffer.format(n).as_bytes(), end)?;
-    Ok(())
-}
-
-/// Appends billionths.
-pub(crate) fn put_nano(out: &mut Vec<u8>, n: i64, end: u8) -> Result<(), NoMemory>
-    requires low { neg_ℤ (pos (10 ^ 18)) ≤ℤ n }
-    requires high { n ≤ℤ pos (10 ^ 18) }
-    ensures ok { OnOk result (out.new.items ≡ out.old.items ++ (nano_text n ++ end ∷ [])) }
-{
-    print_nano(n, out)?;
-    out.push(end)?;
     Ok(())
 }
 

@@ -4,4 +4,5 @@ mod Lines
 mod Going
 mod LineLaws
 mod MapLaws
+mod PrintedText
 mod TextLaws

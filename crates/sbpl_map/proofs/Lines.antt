@@ -33,7 +33,7 @@ onto_behind x b [] = refl
 onto_behind x b (part ∷ parts) = refl
 
 -- a text has one part more than line feeds, so one at least
-parts_behind : (x : List ℕ) (bs : List ℕ) → lines_of_parts (x ∷ slice_split (λ b. b == 10) bs) ≡ strip_carriage_return x ∷ lines_of_parts (slice_split (λ b. b == 10) bs)
+pub parts_behind : (x : List ℕ) (bs : List ℕ) → lines_of_parts (x ∷ slice_split (λ b. b == 10) bs) ≡ strip_carriage_return x ∷ lines_of_parts (slice_split (λ b. b == 10) bs)
 parts_behind x [] = refl
 parts_behind x (b ∷ bs) =
     elim (cases_Bool (b == 10)) [

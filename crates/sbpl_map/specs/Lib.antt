@@ -5,4 +5,5 @@ pub mod Faults
 pub mod Fields
 pub mod LineFaults
 pub mod MapAfter
+pub mod Printed
 pub mod Reading

@@ -1,5 +1,5 @@
 -- What is printed of primitives stands for them.
-use Rattle.std.proofs.Common.{◌≡◌, ℕ, suc, ◌+◌, ◌<◌, ◌≤◌, ℤ, pos, negsuc, true, List, [], ◌∷◌, ◌++◌, length, map, refl, subst, arith, append_assoc, append-nil}
+use Rattle.std.proofs.Common.{◌≡◌, ℕ, suc, ◌+◌, ◌<◌, ◌≤◌, ℤ, pos, negsuc, true, List, [], ◌∷◌, ◌++◌, length, map, refl, sym, ap, subst, arith, append_assoc, append-nil}
 use Rattle.std.specs.Prelude.{codes, decimal, unsigned_abs}
 use Rattle.std.specs.Fmt.{signed_decimal}
 use Rattle.std.specs.List.{flat_map, AllByRecursion}
@@ -10,14 +10,14 @@ use Rattle.sbpl_fixed.specs.Numbers.{most}
 use Rattle.sbpl_fixed.specs.Printed.{nano_text}
 use Rattle.sbpl_fixed.specs.ReadBack.{IsWord}
 use Rattle.sbpl_fixed.specs.Tokens.{is_blank, tokens, tokens_past}
-use Rattle.sbpl_fixed.proofs.ReadBack.{nanos_are_read_back, nanos_are_words, wholes_are_read_back, wholes_are_words, words_are_tokens}
+use Rattle.sbpl_fixed.proofs.ReadBack.{nanos_are_read_back, nanos_are_words, blanks_part_tokens, wholes_are_read_back, wholes_are_words, words_are_tokens}
 use Rattle.sbpl_cfg.specs.Environment.{IsWithin}
 use Rattle.sbpl_cfg.specs.declared.pose.Pose.{Pose}
 use Rattle.sbpl_mprim.specs.declared.prim.Primitive.{Primitive}
 use Rattle.sbpl_mprim.specs.Judging.{heading_modulo}
 use Rattle.sbpl_mprim.specs.Primitives.{ArePrimitives, IsOffsetInRange, IsPrimitive, Primitives}
 use Rattle.sbpl_mprim.specs.Printed.{end_line, field, line_text, lines_text, pose_line, prim_lines, prims_text}
-use Rattle.sbpl_mprim.specs.Text.{IsTextOf, Means, Saying, a_heading, a_nano, a_whole, a_word, spelled, spelled_pose, spelled_prim}
+use Rattle.sbpl_mprim.specs.Text.{AreShown, IsTextOf, Saying, Shows, words_of, a_heading, a_nano, a_whole, a_word, spelled, spelled_pose, spelled_prim}
 use Rattle.sbpl_mprim.proofs.Pieces.{printable}
 use Rattle.sbpl_mprim.proofs.Places.{at_all}
 use Rattle.sbpl_mprim.proofs.Spelling.{Spells, all_meant, spells_append, spells_none}
@@ -27,6 +27,9 @@ use Rattle.sbpl_mprim.proofs.Spelling.{Spells, all_meant, spells_append, spells_
 -- wherever these bytes begin a text behind a blank, their tokens are spelled so, and the rest of the text follows
 unfoldable pub Prints : ℕ → List Saying → List ℕ → Type 0
 Prints headings ss bytes = (place : ℕ) (rest : List ℕ) → (next : ℕ) × Spells headings ss (tokens_past true place (bytes ++ rest)) (tokens_past true next rest)
+
+abbrev no_line : List (List ℕ)
+no_line = []
 
 prints_none : (headings : ℕ) → Prints headings [] []
 unfolding Prints
@@ -39,24 +42,12 @@ prints_both headings ss us a b h k = λ place rest.
     let y = k x.0 rest in
     (y.0, rw append_assoc (spells_append headings ss us (tokens_past true place (a ++ (b ++ rest))) (tokens_past true x.0 (b ++ rest)) (tokens_past true y.0 rest) x.1 y.1))
 
--- a word that says something
-pub record Shows (headings : ℕ) (s : Saying) (word : List ℕ) : Type 0 where
-  pub is_word : IsWord word
-  pub means : Means headings s word
-
 prints_word : (headings : ℕ) (s : Saying) (word : List ℕ) (blank : ℕ) → is_blank blank ≡ true → Shows headings s word → Prints headings (s ∷ []) (word ++ blank ∷ [])
 unfolding Prints Spells
 prints_word headings s word blank e shows = λ place rest.
     (place + length word + 1, rw (append_assoc, words_are_tokens word blank rest place shows.is_word e) (shows.means, refl))
 
 -- ---- lines
-
--- each word shows what is said
-unfoldable pub AreShown : ℕ → List Saying → List (List ℕ) → Type 0
-AreShown headings [] [] = Unit {0}
-AreShown headings [] (w ∷ ws) = ⊥
-AreShown headings (s ∷ ss) [] = ⊥
-AreShown headings (s ∷ ss) (w ∷ ws) = Shows headings s w × AreShown headings ss ws
 
 prints_line : (headings : ℕ) (s : Saying) (ss : List Saying) (w : List ℕ) (ws : List (List ℕ)) → AreShown headings (s ∷ ss) (w ∷ ws) → Prints headings (s ∷ ss) (line_text (w ∷ ws))
 unfolding AreShown line_text
@@ -153,11 +144,57 @@ no_tokens : (place : ℕ) → tokens_past true place [] ≡ []
 unfolding tokens_past
 no_tokens place = refl
 
-pub text_is_printed : (ps : Primitives) → ArePrimitives ps → IsTextOf (prims_text ps) ps
+text_of_prints : (ps : Primitives) (text : List ℕ) → ArePrimitives ps → Prints ps.headings (spelled ps) text → IsTextOf text ps
 unfolding Prints
-text_is_printed ps h =
-    let k = prints_file ps h 0 [] in
-    let all : Spells ps.headings (spelled ps) (tokens (prims_text ps)) [] =
-    subst (λ (bytes : List ℕ). Spells ps.headings (spelled ps) (tokens_past true 0 bytes) []) (append-nil (prims_text ps))
-    (subst (λ l. Spells ps.headings (spelled ps) (tokens_past true 0 (prims_text ps ++ [])) l) (no_tokens k.0) k.1) in
-    record { tokens = all_meant ps.headings (spelled ps) (tokens (prims_text ps)) all; fits = h }
+text_of_prints ps text h prints =
+    let k = prints 0 [] in
+    let all : Spells ps.headings (spelled ps) (tokens text) [] =
+    subst (λ (bytes : List ℕ). Spells ps.headings (spelled ps) (tokens_past true 0 bytes) []) (append-nil text)
+    (subst (λ l. Spells ps.headings (spelled ps) (tokens_past true 0 (text ++ [])) l) (no_tokens k.0) k.1) in
+    record { tokens = all_meant ps.headings (spelled ps) (tokens text) all; fits = h }
+
+pub text_is_printed : (ps : Primitives) → ArePrimitives ps → IsTextOf (prims_text ps) ps
+text_is_printed ps h = text_of_prints ps (prims_text ps) h (prints_file ps h)
+
+-- ---- lines whose words are others than those that are printed
+
+prints_empty : (headings : ℕ) → Prints headings [] (line_text no_line)
+unfolding Prints line_text
+prints_empty headings = λ place rest. (place + 1, spells_none headings _ _ (sym (blanks_part_tokens 10 rest place refl)))
+
+prints_any : (headings : ℕ) (ss : List Saying) (line : List (List ℕ)) → AreShown headings ss line → Prints headings ss (line_text line)
+unfolding AreShown
+prints_any headings [] [] h = prints_empty headings
+prints_any headings [] (w ∷ ws) h = absurd h
+prints_any headings (s ∷ ss) [] h = absurd h
+prints_any headings (s ∷ ss) (w ∷ ws) h = prints_line headings s ss w ws h
+
+-- what a line shows, and what those behind it do
+record Parts (headings : ℕ) (ss : List Saying) (line more : List (List ℕ)) : Type 0 where
+  front : List Saying
+  behind : List Saying
+  whole : ss ≡ front ++ behind
+  first : AreShown headings front line
+  rest : AreShown headings behind more
+
+parted : (headings : ℕ) (ss : List Saying) (line more : List (List ℕ)) → AreShown headings ss (line ++ more) → Parts headings ss line more
+unfolding AreShown
+parted headings ss [] more h = record { front = []; behind = ss; whole = refl; first = tt; rest = h }
+parted headings [] (w ∷ ws) more h = absurd h
+parted headings (s ∷ ss) (w ∷ ws) more h =
+    let k = parted headings ss ws more h.1 in
+    record { front = s ∷ k.front; behind = k.behind; whole = ap (λ (us : List Saying). s ∷ us) k.whole; first = (h.0, k.first); rest = k.rest }
+
+none_shown : (headings : ℕ) (ss : List Saying) → AreShown headings ss [] → ss ≡ []
+unfolding AreShown
+none_shown headings [] h = refl
+none_shown headings (s ∷ ss) h = absurd h
+
+prints_lines : (headings : ℕ) (ss : List Saying) (lines : List (List (List ℕ))) → AreShown headings ss (words_of lines) → Prints headings ss (lines_text lines)
+prints_lines headings ss [] h = rw (none_shown headings ss h) (prints_none headings)
+prints_lines headings ss (l ∷ ls) h =
+    let k = parted headings ss l (words_of ls) h in
+    rw k.whole (prints_both headings k.front k.behind (line_text l) (lines_text ls) (prints_any headings k.front l k.first) (prints_lines headings k.behind ls k.rest))
+
+pub text_is_worded : (ps : Primitives) (lines : List (List (List ℕ))) → ArePrimitives ps → AreShown ps.headings (spelled ps) (words_of lines) → IsTextOf (lines_text lines) ps
+text_is_worded ps lines h shown = text_of_prints ps (lines_text lines) h (prints_lines ps.headings (spelled ps) lines shown)

@@ -3,6 +3,7 @@ use Rattle.std.specs.Prelude.{◌≡◌, ◌≢◌, ◌≤◌, ℕ, ℤ, pos, ne
 use Rattle.std.specs.List.{flat_map}
 use Rattle.sbpl_fixed.specs.Numbers.{nano_of, whole_of}
 use Rattle.sbpl_fixed.specs.Meaning.{HasFirstFault}
+use Rattle.sbpl_fixed.specs.ReadBack.{IsWord}
 use Rattle.sbpl_fixed.specs.Tokens.{Piece, tokens}
 use Rattle.sbpl_cfg.specs.declared.pose.Pose.{Pose}
 use Rattle.sbpl_cfg.specs.Environment.{IsWithin}
@@ -35,6 +36,18 @@ AreMeant headings [] (t ∷ ts) = ⊥
 AreMeant headings (s ∷ ss) [] = ⊥
 AreMeant headings (s ∷ ss) (t ∷ ts) = Means headings s t.bytes × AreMeant headings ss ts
 
+-- a word that says something
+pub record Shows (headings : ℕ) (s : Saying) (word : List ℕ) : Type 0 where
+  pub is_word : IsWord word
+  pub means : Means headings s word
+
+-- as many words as sayings, each of which says its own
+unfoldable pub AreShown : ℕ → List Saying → List (List ℕ) → Type 0
+AreShown headings [] [] = Unit {0}
+AreShown headings [] (w ∷ ws) = ⊥
+AreShown headings (s ∷ ss) [] = ⊥
+AreShown headings (s ∷ ss) (w ∷ ws) = Shows headings s w × AreShown headings ss ws
+
 abbrev pub spelled_pose : Pose → List Saying
 spelled_pose p = a_nano p.x ∷ a_nano p.y ∷ a_nano p.theta ∷ []
 
@@ -56,6 +69,10 @@ spelled ps =
 pub record IsTextOf (text : List ℕ) (ps : Primitives) : Type 0 where
   pub tokens : AreMeant ps.headings (spelled ps) (tokens text)
   pub fits : ArePrimitives ps
+
+-- the words of lines, one line behind the other
+abbrev pub words_of : List (List (List ℕ)) → List (List ℕ)
+words_of lines = flat_map (λ line. line) lines
 
 -- the text stands for some primitives for the cell size and the headings
 abbrev pub IsText : ℤ → ℕ → List ℕ → Type 0

@@ -35,7 +35,7 @@ before_by a b Greater p row column h = absurd (cc)
 before : (a b : Cell) → cell_cmp a b ≡ Less → IsBefore a b
 before a b h = before_by a b (int_cmp a.y b.y) (int_cmp a.x b.x) (int_ranked a.y b.y (int_cmp a.y b.y) refl) (int_ranked a.x b.x (int_cmp a.x b.x) refl) h
 
-same_cell : (a b : Cell) → cell_eq a b ≡ true → a ≡ b
+pub same_cell : (a b : Cell) → cell_eq a b ≡ true → a ≡ b
 same_cell a b h =
     let parts = and_parts (int_eq a.y b.y) (int_eq a.x b.x) h in
     let row = (Decides-int_eq a.y b.y).0 parts.0 in

@@ -6,6 +6,7 @@ pub mod DiscsTouched
 pub mod Distances
 pub mod Lists
 pub mod Listings
+pub mod Points
 pub mod PosesSwept
 pub mod ReadsListed
 pub mod RowsTouched

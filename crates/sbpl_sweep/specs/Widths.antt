@@ -1,8 +1,8 @@
 -- How many cells motions may sweep.
-use Rattle.std.specs.Prelude.{◌≡◌, ℕ, ℤ, ◌+◌, ◌<◌, ◌^◌, ◌⊎◌, List, length, take, slice_get, Some, sum_by}
+use Rattle.std.specs.Prelude.{◌≡◌, ℕ, ℤ, ◌+◌, ◌<◌, ◌≤◌, ◌^◌, ◌⊎◌, List, length, take, slice_get, Some, sum_by}
 use Rattle.sbpl_cfg.specs.declared.pose.Pose.{Pose}
 use Rattle.sbpl_mprim.specs.declared.prim.Primitive.{Primitive}
-use Rattle.sbpl_mprim.specs.Primitives.{Primitives}
+use Rattle.sbpl_mprim.specs.Primitives.{Primitives, pose_count}
 use Rattle.sbpl_sweep.specs.declared.cell.Cell.{Cell}
 use Rattle.sbpl_sweep.specs.declared.fault.SweepFault.{SweepFault}
 use Rattle.sbpl_sweep.specs.declared.fault.SweepFault.TheVariants.{TooWide, NoMemory}
@@ -56,3 +56,12 @@ NoneTooWide prims radius = (i : ℕ) → IsTooWide prims radius i → ⊥
 abbrev pub IsCause : Primitives → ℕ → SweepFault → Type 0
 IsCause prims radius (TooWide i) = IsFirstTooWide prims radius i
 IsCause prims radius NoMemory = Unit {0}
+
+-- a point sweeps at most as many cells as its motion has poses
+abbrev pub PointsSweepFewCells : Type 0
+PointsSweepFewCells = (cell : ℤ) (poses : List Pose) (cells : List Cell) → AreSomeSwept cell 0 poses cells → length cells ≤ length poses
+
+-- primitives with few poses are not too wide for a point
+abbrev pub FewPosesAreNarrow : Type 0
+FewPosesAreNarrow = (prims : Primitives) → ((i : ℕ) (p : Primitive) → slice_get prims.items i ≡ Some p → pose_count p ≤ most_cells)
+    → sum_by pose_count prims.items ≤ most_cells_together → NoneTooWide prims 0

@@ -19,7 +19,7 @@ mod tables;
 
 pub use cell::Cell;
 pub use fault::SweepFault;
-pub use laws::point_sweeps_centres;
+pub use laws::{few_poses_are_narrow, point_sweeps_centres};
 pub use reads::Read;
 pub use runs::Runs;
 pub use sweeps::Sweeps;

@@ -1,5 +1,5 @@
 use Rattle.sbpl_mprim.proofs.FileLaws.{file_found, file_said}
-use Rattle.sbpl_mprim.proofs.PrintedText.{text_is_printed}
+use Rattle.sbpl_mprim.proofs.PrintedText.{text_is_printed, text_is_worded}
 use Rattle.sbpl_mprim.proofs.TextLaws.{each_is_either, never_both, one_fault, one_value}
 use Rattle.sbpl_mprim.proofs.text.texts_are_primitives_or_faulty.Goals as goal
 
@@ -11,4 +11,5 @@ returns c = record {
   one_value = one_value;
   one_fault = one_fault;
   printed = text_is_printed;
+  worded = text_is_worded;
 }
