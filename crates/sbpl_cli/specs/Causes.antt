@@ -12,7 +12,7 @@ use Rattle.sbpl_map.specs.CellMap.{CellMap}
 use Rattle.sbpl_map.specs.declared.fault.ChangeFault.{ChangeFault}
 use Rattle.sbpl_map.specs.declared.write.Write.{Write}
 use Rattle.sbpl_demo.specs.Primitives.{primitives_text}
-use Rattle.sbpl_cli.specs.Drawn.{changes_drawn, environment_drawn}
+use Rattle.sbpl_cli.specs.Drawn.{environment_drawn, text_of_changes}
 use Rattle.sbpl_cost.specs.PrimitiveCost.{IsFirstTooDear, most_cost, primitive_cost}
 use Rattle.sbpl_cost.specs.Arc.{HasLatticeArcs}
 use Rattle.sbpl_cost.specs.Lattices.{network_of}
@@ -105,7 +105,7 @@ no_outputs = record { labels = None; trace = None }
 -- plans in it: all of them, or the first few.
 pub record AreDemonstrated (job : DemoJob) (world : World) (batches : List (List Write)) (records : List PlanRecord) (all : Bool) : Type 0 where
   pub stands : StandFor (environment_drawn job.width job.height job.seed) primitives_text 0 world
-  pub changes : IsChangeText world.map (changes_drawn job.width job.height job.seed) batches
+  pub changes : IsChangeText world.map (text_of_changes job.width job.height job.seed) batches
   pub plans : ArePlans world batches demo_search no_outputs records all
 
 -- the environment file has this first fault

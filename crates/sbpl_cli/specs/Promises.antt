@@ -27,7 +27,8 @@ use Rattle.sbpl_job.specs.declared.job.SearchJob.{SearchJob}
 use Rattle.sbpl_job.specs.declared.job.Sources.{Sources}
 use Rattle.sbpl_cli.specs.declared.record.PlanRecord.{PlanRecord}
 use Rattle.sbpl_cli.specs.declared.refusal.Refusal.{Refusal}
-use Rattle.sbpl_cli.specs.Causes.{AreDemonstrated, ArePlanned, IsJobCause, IsRead, SaysBatches, SaysWorld}
+use Rattle.sbpl_cli.specs.Causes.{AreDemonstrated, ArePlanned, IsJobCause, IsRead, NoneTooDear, SaysBatches, SaysWorld}
+use Rattle.sbpl_sweep.specs.Widths.{NoneTooWide}
 use Rattle.sbpl_cli.specs.Intents.{Intent, Refused, Planned, Checked, Listed, Demonstrated, OutOfMemory, checked_status, checked_writes, demo_writes, end_writes, intent_status, listing_writes, plans_status, plans_writes, refusal_status, refusal_writes, words_writes, writes_of}
 use Rattle.sbpl_cli.specs.Texts.{HasChangeFault, HasEnvironmentFault, HasPrimitiveFault, IsChangeText, IsEnvironmentText, IsPrimitiveText}
 use Rattle.sbpl_desk.specs.Desk.{Rose}
@@ -247,6 +248,16 @@ pub record TellsWorld (held : Told) (from : Sources) (w : World) : Type 0 where
   pub primitives : TellsPrimitives held from w.env w.prims
   pub says : SaysWorld held from w
   pub is_world : IsWorld w
+
+-- the desk tells that the files stand for an environment with this map and for primitives, of which none is too wide or too dear
+pub record AreGood (held : Told) (from : Sources) (m : CellMap) : Type 0 where
+  pub env : Environment
+  pub prims : Primitives
+  pub environment : TellsEnvironment held from env
+  pub primitives : TellsPrimitives held from env prims
+  pub narrow : NoneTooWide prims from.radius
+  pub cheap : NoneTooDear env prims
+  pub map : TellsMap held from m
 
 -- the files of the job's lattice, if it reads any
 abbrev pub sources_of : Job → Option Sources

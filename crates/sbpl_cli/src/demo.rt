@@ -1,7 +1,9 @@
 //! The job `demo`: plans on an example that is drawn from a seed.
 
-ghost use Rattle.std.specs.Prelude.{◌≡◌, ◌∷◌, [], length, IfErr, IfOk, OnErr};
+ghost use Rattle.std.specs.Prelude.{◌≡◌, ◌≤◌, ◌*◌, ◌^◌, ◌∷◌, [], length, IfOk};
 ghost use Rattle.sbpl_desk.specs.Desk.{NoneFalls, Stays};
+ghost use Rattle.sbpl_cfg.specs.Environment.{IsEnvironment};
+ghost use Rattle.sbpl_sweep.specs.Swept.{AreSweepsOf};
 ghost use Rattle.sbpl_cost.specs.Lattices.{network_of};
 ghost use Rattle.sbpl_cost.specs.World.{IsWorld};
 ghost use Rattle.sbpl_demo.specs.Primitives.{primitives_text};
@@ -9,10 +11,10 @@ ghost use Rattle.sbpl_job.specs.Jobs.{IsDemoJob};
 ghost use Rattle.sbpl_job.specs.declared.job.Job.TheVariants as Jobs;
 ghost use Rattle.sbpl_map.specs.ChangeText.{AreOnMap};
 ghost use Rattle.sbpl_cli.specs.Causes.{StandFor, demo_search, no_outputs};
-ghost use Rattle.sbpl_cli.specs.Drawn.{changes_drawn, environment_drawn};
+ghost use Rattle.sbpl_cli.specs.Drawn.{environment_drawn, text_of_changes};
 ghost use Rattle.sbpl_cli.specs.Promises.{EndsJob};
 ghost use Rattle.sbpl_cli.specs.Report.{demo_text};
-ghost use Rattle.sbpl_cli.specs.Texts.{IsChangeText};
+ghost use Rattle.sbpl_cli.specs.Texts.{IsChangeText, IsPrimitiveText};
 ghost use Rattle.sbpl_cli.specs.Writing.{EndsIn, IsOutput, StaysBut, to_output};
 
 use crate::plans::make_plans;
@@ -53,7 +55,19 @@ fn course_on(
     grid: Grid,
     prims: &[u8],
     changes: &[u8],
-) -> Result<(Lattice, Changes), NoMemory> {
+) -> Result<(Lattice, Changes), NoMemory>
+    requires kept { IsEnvironment env.now }
+    requires sixteen { env.now.headings ≡ 16 }
+    requires cells { length grid ≡ env.now.width * env.now.height }
+    requires short { length changes.now ≤ 2 ^ 30 }
+    ensures primitives { IfOk result (λ x. IsPrimitiveText env.now prims.now x.0.prims) }
+    ensures sweeps { IfOk result (λ x. AreSweepsOf x.0.prims 0 x.0.sweeps) }
+    ensures env { IfOk result (λ x. x.0.env ≡ env.now) }
+    ensures map { IfOk result (λ x. x.0.map ≡ record { width = env.now.width; height = env.now.height; costs = grid }) }
+    ensures changes { IfOk result (λ x. IsChangeText x.0.map changes.now x.1) }
+    ensures kept { IfOk result (λ x. IsWorld x.0) }
+    ensures on_map { IfOk result (λ x. AreOnMap x.0.map x.1) }
+{
     let Ok(prims) = read_prims(alloc, prims, env.cell, env.headings) else {
         return Err(NoMemory);
     };
@@ -73,7 +87,7 @@ fn course_on(
 fn draw(alloc: Global, job: &DemoJob) -> Result<(Lattice, Changes), NoMemory>
     requires range { IsDemoJob job.now }
     ensures stands { IfOk result (λ x. StandFor (environment_drawn job.now.width job.now.height job.now.seed) primitives_text 0 x.0) }
-    ensures changes { IfOk result (λ x. IsChangeText x.0.map (changes_drawn job.now.width job.now.height job.now.seed) x.1) }
+    ensures changes { IfOk result (λ x. IsChangeText x.0.map (text_of_changes job.now.width job.now.height job.now.seed) x.1) }
     ensures kept { IfOk result (λ x. IsWorld x.0) }
     ensures on_map { IfOk result (λ x. AreOnMap x.0.map x.1) }
 {

@@ -1,6 +1,6 @@
 //! The sections of a plan, written: of the report, of labels and of a trace.
 
-ghost use Rattle.std.specs.Prelude.{◌≢◌, ◌∷◌, ◌++◌, ℕ, List, []};
+ghost use Rattle.std.specs.Prelude.{◌≡◌, ◌≢◌, ◌∷◌, ◌++◌, ℕ, List, []};
 ghost use Rattle.sbpl_desk.specs.Desk.{NoneFalls, Stays};
 ghost use Rattle.sbpl_cli.specs.Intents.{labels_writes, section_writes, trace_writes};
 ghost use Rattle.sbpl_cli.specs.Report.{section_text};

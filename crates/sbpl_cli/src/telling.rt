@@ -43,7 +43,7 @@ pub(crate) trait Telling {
 
 /// In full: a section of the report, one of labels and one of a trace, where they are asked for.
 impl Telling for Outputs {
-    ghost use Rattle.std.specs.Prelude.{inl};
+    ghost use Rattle.std.proofs.Common.{inl};
 
     ghost written = { λ o plan. section_writes o plan };
 

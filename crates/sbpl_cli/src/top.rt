@@ -10,35 +10,37 @@ ghost use Rattle.sbpl_mprim.specs.declared.fault.PrimFault.{PrimFault};
 ghost use Rattle.sbpl_sweep.specs.Widths.{IsFirstTooWide, NoneTooWide};
 ghost use Rattle.sbpl_cert.specs.declared.outcome.Outcome.{Outcome};
 ghost use Rattle.sbpl_cost.specs.World.{World};
+ghost use Rattle.sbpl_map.specs.CellMap.{CellMap};
+ghost use Rattle.sbpl_map.specs.declared.fault.ChangeFault.{ChangeFault};
+ghost use Rattle.sbpl_map.specs.declared.write.Write.{Write};
 ghost use Rattle.sbpl_cli.specs.declared.checking.SectionStop.{SectionStop};
 ghost use Rattle.sbpl_cli.specs.declared.checking.SectionStop.TheVariants as Stops;
 ghost use Rattle.sbpl_job.specs.declared.job.CheckJob.{CheckJob};
+ghost use Rattle.sbpl_job.specs.declared.job.DemoJob.{DemoJob};
+ghost use Rattle.sbpl_job.specs.declared.job.Sources.{Sources};
 ghost use Rattle.sbpl_job.specs.declared.job.Job.{Job};
 ghost use Rattle.sbpl_job.specs.declared.job.Job.TheVariants as Jobs;
-ghost use Rattle.sbpl_cli.specs.Causes.{JobStopsFor, NoneTooDear};
-ghost use Rattle.sbpl_cli.specs.Intents.{checked_status, labels_writes, plan_writes, refusal_status, refusal_writes, section_writes, trace_writes, words_writes};
-ghost use Rattle.sbpl_job.specs.Jobs.{IsJob, job_of, sources_of};
-ghost use Rattle.sbpl_cli.specs.Promises.{AtJob, EndsJob, EndsRun, IsCutShort, IsCheckedIn, IsDone, IsFaultFound, IsFlawFound, IsNoCheck, IsOrFailed, IsOrUnwritten, IsRefused, IsStatus, IsStopped, MayBeWritten, SomeRose, Tells, TellsEnvironment, TellsEnvironmentFault, TellsPrimitiveFault, TellsPrimitives, TellsTooMuch, TellsWorld};
-ghost use Rattle.sbpl_cli.specs.Writing.{AreMade, EndsAs, EndsIn, IsCutAt, IsNamed, IsOutput, IsOutputOf, IsStoppedAt, StaysBut, output, to_named, to_output};
-ghost use Rattle.sbpl_cli.specs.Report.{section_text};
+ghost use Rattle.sbpl_cli.specs.Causes.{JobStopsFor};
+ghost use Rattle.sbpl_cli.specs.Checked.{IsHolding};
+ghost use Rattle.sbpl_cli.specs.Intents.{checked_status, refusal_status, refusal_writes, words_writes};
+ghost use Rattle.sbpl_job.specs.Jobs.{IsJob, job_of};
+ghost use Rattle.sbpl_cli.specs.Promises.{AreGood, AtJob, EndsJob, EndsRun, IsCutShort, IsCheckedIn, IsDone, IsFaultFound, IsFlawFound, IsNoCheck, IsOrFailed, IsOrUnwritten, IsRefused, IsStatus, IsStopped, MayBeWritten, SomeRose, Tells, TellsBatches, TellsChangeFault, TellsEnvironment, TellsEnvironmentFault, TellsPrimitiveFault, TellsPrimitives, TellsTooMuch, TellsWorld, changes_of, sources_of};
+ghost use Rattle.sbpl_cli.specs.Writing.{AreMade, EndsAs, IsCutAt, IsOutput, IsStoppedAt, StaysBut, output};
 
 use crate::check::check_labels;
-use crate::labels;
-use crate::lattice::read_lattice;
-use crate::list::write_listings;
-use crate::plan::plan;
-use crate::record::PlanRecord;
+use crate::demo::end_demo;
+use crate::list::end_sweep;
+use crate::planning::end_plan;
 use crate::refusal::{Refusal, Stop};
 use crate::refusing::line_of;
-use crate::report::section_of;
-use crate::trace::trace_of;
-use crate::writing::{OUTPUT, status_after, write_last, write_text};
+use crate::writing::{OUTPUT, status_after, write_text};
 use sbpl_cert::texts_are_sections_or_faulty;
 use sbpl_cfg::texts_are_environments_or_faulty;
 use sbpl_cost::alike_worlds_are_one_graph;
-use sbpl_desk::{Desk, WriteStop};
+use sbpl_desk::Desk;
 use sbpl_fixed::NoMemory;
-use sbpl_job::{Job, JobFault, Name, Outputs, PlanJob, Sources, read_job};
+use sbpl_job::{Job, JobFault, read_job};
+use sbpl_map::{texts_are_changes_or_faulty, writes_lead_to_the_next_map};
 use sbpl_mprim::texts_are_primitives_or_faulty;
 use std::alloc::Global;
 
@@ -118,13 +120,14 @@ fn end_run<D: Desk>(alloc: Global, words: &[String], desk: &mut D) -> u8
 }
 
 /// Does the job that the words after the program's name stand for, writes what came of it to the standard output, which has
-/// the name `-`, and answers the status: 0 where the job was done, 1 for labels with a flaw, 2 for words that name no job, 3 and 4 for a fault of the
-/// environment file and of the primitive file, 6 for a file that could not be read, 7 for a write that failed, 8 for a file
+/// the name `-`, and answers the status: 0 where the job was done, 1 for labels with a flaw, 2 for words that name no job, 3, 4 and 5 for a fault of the
+/// environment file, of the primitive file and of the change file, 6 for a file that could not be read, 7 for a write that failed, 8 for a file
 /// of more than 2^30 bytes, 9 for want of memory, and 10 for a fault in the text of labels.
 pub fn run<D: Desk>(alloc: Global, words: &[String], desk: &mut D) -> u8
     ensures statuses { IsStatus result }
-    // 0: the job was done. A plan of the job's files was made, which keeps its promises, and its report, and its labels and
-    // its trace where they are asked for, were written; or what each primitive costs and sweeps was listed.
+    // 0: the job was done. Plans of the job's files were made, one on the map as it is and one after each batch of changes, which
+    // keep their promises, and their report, and their labels and traces where they are asked for, were written; or the labels hold;
+    // or what each primitive costs and sweeps was listed; or plans on an example were made, and a line for each was written.
     ensures done { result ≡ 0 → AtJob (job_of (map string_bytes words.now)) (IsDone (D.held desk.old) (D.written desk.old) (D.written desk.new)) }
     // 1: the job `check` found a first flaw in a section of the labels, behind sections that hold, and a line says so.
     ensures flaw { result ≡ 1 → AtJob (job_of (map string_bytes words.now)) (IsFlawFound (D.held desk.old) (D.written desk.old) (D.written desk.new)) }
@@ -132,9 +135,10 @@ pub fn run<D: Desk>(alloc: Global, words: &[String], desk: &mut D) -> u8
     ensures fault { result ≡ 10 → AtJob (job_of (map string_bytes words.now)) (IsFaultFound (D.held desk.old) (D.written desk.old) (D.written desk.new)) }
     // 2: the words name no job, and a line says so.
     ensures words { result ≡ 2 → (job_of (map string_bytes words.now) ≡ None) × AreMade (D.written desk.old) (D.written desk.new) words_writes }
-    // 3, 4, 6, 8: the job was refused for a cause, and a line says which.
+    // 3, 4, 5, 6, 8: the job was refused for a cause, and a line says which.
     ensures environment { result ≡ 3 → AtJob (job_of (map string_bytes words.now)) (IsRefused (D.held desk.old) (D.read_faults desk.old) (D.read_faults desk.new) (D.written desk.old) (D.written desk.new) 3) }
     ensures primitives { result ≡ 4 → AtJob (job_of (map string_bytes words.now)) (IsRefused (D.held desk.old) (D.read_faults desk.old) (D.read_faults desk.new) (D.written desk.old) (D.written desk.new) 4) }
+    ensures changes { result ≡ 5 → AtJob (job_of (map string_bytes words.now)) (IsRefused (D.held desk.old) (D.read_faults desk.old) (D.read_faults desk.new) (D.written desk.old) (D.written desk.new) 5) }
     ensures unread { result ≡ 6 → AtJob (job_of (map string_bytes words.now)) (IsRefused (D.held desk.old) (D.read_faults desk.old) (D.read_faults desk.new) (D.written desk.old) (D.written desk.new) 6) }
     ensures length { result ≡ 8 → AtJob (job_of (map string_bytes words.now)) (IsRefused (D.held desk.old) (D.read_faults desk.old) (D.read_faults desk.new) (D.written desk.old) (D.written desk.new) 8) }
     // 7: a write failed, and the writes before it and a front of it stand there.
@@ -145,17 +149,20 @@ pub fn run<D: Desk>(alloc: Global, words: &[String], desk: &mut D) -> u8
     // Words that name no job are refused, unless a write fails or memory runs out.
     ensures no_job { job_of (map string_bytes words.now) ≡ None → IsOrUnwritten 2 result }
     // A cause that the desk tells is answered, unless the desk fails or memory runs out.
-    ensures environment_faulty { (job : Job) (f : EnvFault) → job_of (map string_bytes words.now) ≡ Some job → TellsEnvironmentFault (D.held desk.old) (sources_of job) f → IsOrFailed 3 result }
-    ensures environment_long { (job : Job) → job_of (map string_bytes words.now) ≡ Some job → TellsTooMuch (D.held desk.old (sources_of job).env) → IsOrFailed 8 result }
-    ensures primitives_long { (job : Job) (e : Environment) → job_of (map string_bytes words.now) ≡ Some job → TellsEnvironment (D.held desk.old) (sources_of job) e → TellsTooMuch (D.held desk.old (sources_of job).prims) → IsOrFailed 8 result }
-    ensures primitives_faulty { (job : Job) (e : Environment) (f : PrimFault) → job_of (map string_bytes words.now) ≡ Some job → TellsEnvironment (D.held desk.old) (sources_of job) e → TellsPrimitiveFault (D.held desk.old) (sources_of job) e f → IsOrFailed 4 result }
-    ensures too_wide { (job : Job) (e : Environment) (ps : Primitives) (i : ℕ) → job_of (map string_bytes words.now) ≡ Some job → TellsEnvironment (D.held desk.old) (sources_of job) e → TellsPrimitives (D.held desk.old) (sources_of job) e ps → IsFirstTooWide ps (sources_of job).radius i → IsOrFailed 4 result }
-    ensures too_dear { (job : Job) (e : Environment) (ps : Primitives) (i : ℕ) → job_of (map string_bytes words.now) ≡ Some job → TellsEnvironment (D.held desk.old) (sources_of job) e → TellsPrimitives (D.held desk.old) (sources_of job) e ps → NoneTooWide ps (sources_of job).radius → IsFirstTooDear e ps.items i → IsOrFailed 4 result }
+    ensures environment_faulty { (job : Job) (from : Sources) (f : EnvFault) → job_of (map string_bytes words.now) ≡ Some job → sources_of job ≡ Some from → TellsEnvironmentFault (D.held desk.old) from f → IsOrFailed 3 result }
+    ensures environment_long { (job : Job) (from : Sources) → job_of (map string_bytes words.now) ≡ Some job → sources_of job ≡ Some from → TellsTooMuch (D.held desk.old from.env) → IsOrFailed 8 result }
+    ensures primitives_long { (job : Job) (from : Sources) (e : Environment) → job_of (map string_bytes words.now) ≡ Some job → sources_of job ≡ Some from → TellsEnvironment (D.held desk.old) from e → TellsTooMuch (D.held desk.old from.prims) → IsOrFailed 8 result }
+    ensures primitives_faulty { (job : Job) (from : Sources) (e : Environment) (f : PrimFault) → job_of (map string_bytes words.now) ≡ Some job → sources_of job ≡ Some from → TellsEnvironment (D.held desk.old) from e → TellsPrimitiveFault (D.held desk.old) from e f → IsOrFailed 4 result }
+    ensures too_wide { (job : Job) (from : Sources) (e : Environment) (ps : Primitives) (i : ℕ) → job_of (map string_bytes words.now) ≡ Some job → sources_of job ≡ Some from → TellsEnvironment (D.held desk.old) from e → TellsPrimitives (D.held desk.old) from e ps → IsFirstTooWide ps from.radius i → IsOrFailed 4 result }
+    ensures too_dear { (job : Job) (from : Sources) (e : Environment) (ps : Primitives) (i : ℕ) → job_of (map string_bytes words.now) ≡ Some job → sources_of job ≡ Some from → TellsEnvironment (D.held desk.old) from e → TellsPrimitives (D.held desk.old) from e ps → NoneTooWide ps from.radius → IsFirstTooDear e ps.items i → IsOrFailed 4 result }
+    ensures changes_long { (job : Job) (from : Sources) (m : CellMap) (name : List ℕ) → job_of (map string_bytes words.now) ≡ Some job → sources_of job ≡ Some from → AreGood (D.held desk.old) from m → changes_of job ≡ Some name → TellsTooMuch (D.held desk.old name) → IsOrFailed 8 result }
+    ensures changes_faulty { (job : Job) (from : Sources) (m : CellMap) (f : ChangeFault) → job_of (map string_bytes words.now) ≡ Some job → sources_of job ≡ Some from → AreGood (D.held desk.old) from m → TellsChangeFault (D.held desk.old) (changes_of job) m f → IsOrFailed 5 result }
     // Good words and good files are served, unless the desk fails or memory runs out.
-    ensures complete { (job : Job) (e : Environment) (ps : Primitives) → job_of (map string_bytes words.now) ≡ Some job → TellsEnvironment (D.held desk.old) (sources_of job) e → TellsPrimitives (D.held desk.old) (sources_of job) e ps → NoneTooWide ps (sources_of job).radius → NoneTooDear e ps → IsNoCheck job → IsOrFailed 0 result }
+    ensures complete { (job : Job) (from : Sources) (m : CellMap) (batches : List (List Write)) → job_of (map string_bytes words.now) ≡ Some job → sources_of job ≡ Some from → AreGood (D.held desk.old) from m → TellsBatches (D.held desk.old) (changes_of job) m batches → IsNoCheck job → IsOrFailed 0 result }
+    ensures demonstrated { (d : DemoJob) → job_of (map string_bytes words.now) ≡ Some (Jobs.Demo d) → IsOrUnwritten 0 result }
     // The job `check` ends as the labels do in the world that the files stand for, unless the desk fails or memory runs out.
-    ensures checked { (j : CheckJob) (w : World) (text : List ℕ) (goal : ℕ) (os : List Outcome) (end : Option SectionStop) → job_of (map string_bytes words.now) ≡ Some (Jobs.Check j) → TellsWorld (D.held desk.old) j.sources w → Tells (D.held desk.old j.labels) text → IsCheckedIn w text goal os end → end ≢ Some Stops.NoMemory → IsOrFailed (checked_status end) result }
-    ensures labels_long { (j : CheckJob) (w : World) → job_of (map string_bytes words.now) ≡ Some (Jobs.Check j) → TellsWorld (D.held desk.old) j.sources w → TellsTooMuch (D.held desk.old j.labels) → IsOrFailed 8 result }
+    ensures checked { (j : CheckJob) (w : World) (batches : List (List Write)) (text : List ℕ) (goal : ℕ) (os : List Outcome) (end : Option SectionStop) → job_of (map string_bytes words.now) ≡ Some (Jobs.Check j) → TellsWorld (D.held desk.old) j.sources w → TellsBatches (D.held desk.old) j.changes w.map batches → Tells (D.held desk.old j.labels) text → IsCheckedIn IsHolding w batches text goal os end → end ≢ Some Stops.NoMemory → IsOrFailed (checked_status end) result }
+    ensures labels_long { (j : CheckJob) (w : World) (batches : List (List Write)) → job_of (map string_bytes words.now) ≡ Some (Jobs.Check j) → TellsWorld (D.held desk.old) j.sources w → TellsBatches (D.held desk.old) j.changes w.map batches → TellsTooMuch (D.held desk.old j.labels) → IsOrFailed 8 result }
     // Nothing that is held changes, nothing is written under other names than the job's, and no count falls.
     ensures held { Stays (D.held desk.old) (D.held desk.new) }
     ensures others { StaysBut (MayBeWritten (job_of (map string_bytes words.now))) (D.written desk.old) (D.written desk.new) }
@@ -164,7 +171,9 @@ pub fn run<D: Desk>(alloc: Global, words: &[String], desk: &mut D) -> u8
 {
     texts_are_environments_or_faulty();
     texts_are_primitives_or_faulty();
+    texts_are_changes_or_faulty();
     texts_are_sections_or_faulty();
+    writes_lead_to_the_next_map();
     alike_worlds_are_one_graph();
     end_run(alloc, words, desk)
 }
