@@ -8,3 +8,5 @@ pub mod Makings
 pub mod Showing
 pub mod Verifying
 pub mod OneEnding
+pub mod Going
+pub mod OnMaps

@@ -82,6 +82,54 @@ fn make_plan<D: Desk, T: Telling>(
 }
 
 /// Makes and tells the plans on a lattice, while its map changes batch by batch, writes the last line, and answers the status.
+fn go_through<D: Desk, T: Telling>(
+    alloc: Global,
+    lattice: &mut Lattice,
+    changes: &Changes,
+    replanner: &mut Replanner,
+    how: &SearchJob,
+    outputs: &Outputs,
+    start: u32,
+    goal: u32,
+    telling: &T,
+    desk: &mut D,
+) -> u8
+    requires start { start < (network_of lattice.old).states }
+    requires goal { goal < (network_of lattice.old).states }
+    requires search { IsSearchJob how.now }
+    requires kept { IsWorld lattice.old }
+    requires on_map { AreOnMap lattice.old.map changes.now }
+    requires ready { IsReadyIn lattice.old replanner.old }
+    requires set { IsSetFor how.now start goal replanner.old }
+    requires begun { GoesOnFrom lattice.old how.now start None replanner.old }
+    ensures ends { EndsPlans (T.written telling.now) lattice.old changes.now how.now outputs.now start goal 0 None (D.written desk.old) (D.written desk.new) (D.write_faults desk.old) (D.write_faults desk.new) result }
+    ensures held { Stays (D.held desk.old) (D.held desk.new) }
+    ensures others { StaysBut (T.under telling.now) (D.written desk.old) (D.written desk.new) }
+    ensures reads { NoneFalls (D.read_faults desk.old) (D.read_faults desk.new) }
+    ensures writes { NoneFalls (D.write_faults desk.old) (D.write_faults desk.new) }
+{
+    writes_lead_to_the_next_map();
+    for k in 0..changes.batches() {
+        if let Err(stop) = make_plan(
+            alloc, lattice, replanner, how, outputs, start, goal, k, telling, desk,
+        ) {
+            return status_after(Err(stop), 9);
+        }
+        if let Err(NoMemory) = replanner.change(alloc, lattice, changes.batch(k)) {
+            return 9;
+        }
+    }
+    let last = changes.batches();
+    match make_plan(
+        alloc, lattice, replanner, how, outputs, start, goal, last, telling, desk,
+    ) {
+        Ok(()) => status_after(write_last(desk), 0),
+        Err(stop) => status_after(Err(stop), 9),
+    }
+}
+
+/// Makes and tells the plans on a lattice from a start to a goal, while its map changes batch by batch, writes the last line, and
+/// answers the status.
 pub(crate) fn make_plans<D: Desk, T: Telling>(
     alloc: Global,
     lattice: &mut Lattice,
@@ -104,42 +152,19 @@ pub(crate) fn make_plans<D: Desk, T: Telling>(
     ensures reads { NoneFalls (D.read_faults desk.old) (D.read_faults desk.new) }
     ensures writes { NoneFalls (D.write_faults desk.old) (D.write_faults desk.new) }
 {
-    writes_lead_to_the_next_map();
-    let Ok(mut replanner) = begin(alloc, lattice, how, start, goal) else {
-        return 9;
-    };
-    for k in 0..changes.batches() {
-        if let Err(stop) = make_plan(
+    match begin(alloc, lattice, how, start, goal) {
+        Ok(mut replanner) => go_through(
             alloc,
             lattice,
+            changes,
             &mut replanner,
             how,
             outputs,
             start,
             goal,
-            k,
             telling,
             desk,
-        ) {
-            return status_after(Err(stop), 9);
-        }
-        if let Err(NoMemory) = replanner.change(alloc, lattice, changes.batch(k)) {
-            return 9;
-        }
-    }
-    match make_plan(
-        alloc,
-        lattice,
-        &mut replanner,
-        how,
-        outputs,
-        start,
-        goal,
-        changes.batches(),
-        telling,
-        desk,
-    ) {
-        Ok(()) => status_after(write_last(desk), 0),
-        Err(stop) => status_after(Err(stop), 9),
+        ),
+        Err(NoMemory) => 9,
     }
 }

@@ -31,7 +31,7 @@ bounds_on n m goal table (Err e) same sound guides supported shows = tt
 
 pub returns : goal.returns
 returns c = record {
-  shown = is_shown (network_of c.args.lattice.now) c.states-states.ensures.sound (distance_in c.args.guide.now) c.args.goal c.args.labels.now c.requires.states c.requires.goal c.requires.supported 0 c.args.found.now _ _ c.section_of.result c.requires.found
+  shown = is_shown (network_of c.args.lattice.now) c.states-states.ensures.sound (distance_in c.args.guide.now) c.args.goal c.args.labels.now c.requires.states c.requires.goal c.requires.supported c.args.plan c.args.found.now _ _ c.section_of.result c.requires.found
       c.answer_of-answer.ensures.answer c.in_ok-arcs.ensures.arcs c.section_of.ensures.plan c.section_of.ensures.outcome c.section_of.ensures.arcs c.section_of.ensures.labels
       (bounds_on _ _ _ c.args.guide.now _ (sym c.requires.states) c.states-states.ensures.sound c.requires.guides c.requires.supported c.section_of.ensures.shows);
 }

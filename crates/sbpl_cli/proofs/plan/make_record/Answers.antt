@@ -1,0 +1,115 @@
+use Rattle.std.proofs.Common.{◌≡◌, ℕ, ◌+◌, ◌*◌, ◌^◌, ◌≤◌, length, Bool, true, false, MatchBool, Option, None, Some, Result, Ok, Err, IfOk, refl, sym, ◌∙◌, ap, subst, ⊎_elim, inl, inr, ◌⊎◌}
+use Rattle.std.specs.Option.{is_some}
+use Rattle.sbpl_cert.specs.Sections.{Section}
+use Rattle.sbpl_fixed.specs.declared.no_memory.NoMemory.{NoMemory}
+use Rattle.sbpl_cost.specs.Lattices.{network_of}
+use Rattle.sbpl_cost.specs.World.{World}
+use Rattle.sbpl_heur.specs.Bests.{IsBest, Table, distance_in}
+use Rattle.sbpl_job.specs.declared.job.Outputs.{Outputs}
+use Rattle.sbpl_job.specs.declared.job.SearchJob.{SearchJob}
+use Rattle.sbpl_labels.specs.Counts.{Counts}
+use Rattle.sbpl_labels.specs.Marks.{Marks}
+use Rattle.sbpl_plan.specs.declared.ask.Ask.{Ask}
+use Rattle.sbpl_plan.specs.declared.passes.Pass.{Pass}
+use Rattle.sbpl_plan.specs.declared.result.Planned.{Planned}
+use Rattle.sbpl_plan.specs.Outcomes as search
+use Rattle.sbpl_plan.specs.Outcomes.{IsOutcome}
+use Rattle.sbpl_plan.specs.Asked.{most_passes}
+use Rattle.sbpl_plan.specs.Passing.{ArePasses, expansions}
+use Rattle.sbpl_replan.specs.Replanning.{Replanning, inquiry, most_times}
+use Rattle.sbpl_cli.specs.declared.record.PlanRecord.{PlanRecord}
+use Rattle.sbpl_cli.specs.Asked.{ask_of, repairs}
+use Rattle.sbpl_cli.specs.Headline.{Begins, Behind, IsAnswered, IsMarked, IsNoneThere, IsSearched, IsWithinBound, Joins, KeepsPromises, TellsResult, expanded_before}
+use Rattle.sbpl_cli.specs.Planning.{behind_of}
+use Rattle.sbpl_cli.specs.Shown.{IsShown, IsThere}
+use Rattle.sbpl_cli.proofs.plan.make_record.Goals as goal
+
+-- a plan that was spent used up the budget, or the run's
+spends : (budget used per_plan run before : ℕ) → per_plan ≡ budget → run ≡ before + used → (used ≡ per_plan) ⊎ (run ≡ 2 ^ 30) → (used ≡ budget) ⊎ (before + used ≡ 2 ^ 30)
+spends budget used per_plan run before same counted (inl all) = inl (all ∙ same)
+spends budget used per_plan run before same counted (inr all) = inr (sym counted ∙ all)
+
+marked_by : (spent : Bool) (budget before used expanded per_plan run : ℕ) (r : PlanRecord) → expanded ≡ used → expansions r.passes ≡ used → MatchBool spent (r.spent ≡ Some expanded) (r.spent ≡ None)
+    → per_plan ≡ budget → run ≡ before + used → (spent ≡ true → (used ≡ per_plan) ⊎ (run ≡ 2 ^ 30)) → IsMarked budget before spent r
+marked_by true budget before used expanded per_plan run r is passes mark same counted spends_all =
+    (mark ∙ ap (λ (n : ℕ). Some n) (is ∙ sym passes), rw passes (spends budget used per_plan run before same counted (spends_all refl)))
+marked_by false budget before used expanded per_plan run r is passes mark same counted spends_all = mark
+
+-- what is known of a plan, and of its record, is that it was searched
+module _ (w : World) (guide : Table) (start goal : ℕ) (how : SearchJob) (outputs : Outputs) (before : Option Behind) (begun final : Marks) (per_plan run used : ℕ) (planned : Planned) (section : Option Section) where
+  searched_by : (asked : Ask) (wanted : Bool) (plan : ℕ) (r : Result PlanRecord NoMemory) → IsBest w goal (distance_in guide) → Begins how.planner w start before begun
+      → asked ≡ ask_of how outputs → ArePasses (inquiry w (distance_in guide) goal asked) asked.first begun planned.passes final planned.spent
+      → IsOutcome (network_of w) (distance_in guide) goal final planned.outcome → per_plan ≡ how.budget → run ≡ expanded_before before + expansions planned.passes → used ≡ expansions planned.passes
+      → (planned.spent ≡ true → (expansions planned.passes ≡ per_plan) ⊎ (run ≡ 2 ^ 30))
+      → length planned.passes ≤ most_passes asked.step asked.first
+      → (planned.spent ≡ true → most_passes asked.step asked.first * (most_times (repairs how.planner) * (network_of w).states) ≤ how.budget → run ≡ 2 ^ 30)
+      → wanted ≡ is_some outputs.labels → final.start ≡ start → IsThere wanted (IsShown (network_of w) (distance_in guide) final.start goal plan final planned.outcome) section
+      → IfOk r (λ x. x.plan ≡ plan) → IfOk r (λ x. x.passes ≡ planned.passes) → IfOk r (λ x. x.expanded ≡ used) → IfOk r (λ x. TellsResult planned.outcome x.outcome) → IfOk r (λ x. x.labels ≡ section)
+      → IfOk r (λ x. MatchBool planned.spent (x.spent ≡ Some used) (x.spent ≡ None))
+      → IfOk r (IsSearched w how outputs start goal before (record { map = w.map; labels = final; expanded = run }))
+  searched_by asked wanted plan (Err e) is_guide begins same passes outcome budget counted used_is spent few enough asks begins_at shown number copied expanded told kept mark = tt
+  searched_by asked wanted plan (Ok x) is_guide begins same passes outcome budget counted used_is spent few enough asks begins_at shown number copied expanded told kept mark =
+      let step = ap (λ (a : Ask). a.step) same in
+      let first = ap (λ (a : Ask). a.first) same in
+      record {
+        guide = distance_in guide;
+        is_guide = is_guide;
+        begun = begun;
+        begins = begins;
+        spent = planned.spent;
+        passes = rw copied (subst (λ (a : Ask). ArePasses (inquiry w (distance_in guide) goal a) a.first begun planned.passes final planned.spent) same passes);
+        result = planned.outcome;
+        is_result = outcome;
+        told = told;
+        expanded = expanded ∙ used_is ∙ ap (λ ps. expansions ps) (sym copied);
+        counted = counted ∙ ap (λ ps. expanded_before before + expansions ps) (sym copied);
+        marked = marked_by planned.spent how.budget (expanded_before before) (expansions planned.passes) used per_plan run x used_is (ap (λ ps. expansions ps) copied) mark budget counted spent;
+        few = rw (copied, sym step, sym first) few;
+        ample = rw (sym step, sym first) enough;
+        labels = rw kept (subst (λ (b : Bool). IsThere b (IsShown (network_of w) (distance_in guide) start goal x.plan final planned.outcome) section) asks
+            (subst (λ (k : ℕ). IsThere wanted (IsShown (network_of w) (distance_in guide) start goal k final planned.outcome) section) (sym number)
+            (subst (λ (s : ℕ). IsThere wanted (IsShown (network_of w) (distance_in guide) s goal plan final planned.outcome) section) begins_at shown)));
+      }
+
+pub labels_of-requires-clause-found : goal.labels_of-requires-clause-found
+labels_of-requires-clause-found c = rw (c.guide.ensures.value, c.labels.ensures.value, c.plan.ensures.guide, sym c.requires.set.goal_is) c.in_ok-planned.ensures.outcome
+
+pub returns-clause-searched : goal.returns-clause-searched
+returns-clause-searched c = λ before begins counted.
+    let set = c.requires.set in
+    let guide : c.guide.result.now ≡ c.args.replanner.now.guide = c.guide.ensures.value ∙ c.plan.ensures.guide in
+    let run : c.plan.new.self.counts.run ≡ expanded_before before + expansions c.in_ok-planned.planned.passes =
+        ap (λ (k : Counts). k.run) c.in_ok-planned.ensures.counted ∙ ap (λ (n : ℕ). n + expansions c.in_ok-planned.planned.passes) (sym counted) in
+    let used = c.expanded-expanded.ensures.value ∙ ap (λ (k : Counts). k.plan) c.in_ok-planned.ensures.counted in
+    searched_by c.args.lattice.now c.args.replanner.now.guide c.args.start c.args.goal c.args.how.now c.args.outputs.now before c.args.replanner.now.search.labels c.plan.new.self.search.labels
+    c.args.replanner.now.counts.per_plan c.plan.new.self.counts.run c.expanded-expanded.result c.in_ok-planned.planned c.in_ok-labels.labels c.ask_of-ask.result c.is_some.result c.args.plan c.record_of.result
+    (subst (λ (g : ℕ). IsBest c.args.lattice.now g (distance_in c.args.replanner.now.guide)) set.goal_is c.requires.ready.best) begins c.ask_of-ask.ensures.ask
+    (subst (λ (g : ℕ). ArePasses (inquiry c.args.lattice.now (distance_in c.args.replanner.now.guide) g c.ask_of-ask.result) c.ask_of-ask.result.first c.args.replanner.now.search.labels c.in_ok-planned.planned.passes c.plan.new.self.search.labels c.in_ok-planned.planned.spent) set.goal_is c.in_ok-planned.ensures.passes)
+    (subst (λ (g : ℕ). IsOutcome (network_of c.args.lattice.now) (distance_in c.args.replanner.now.guide) g c.plan.new.self.search.labels c.in_ok-planned.planned.outcome) set.goal_is c.in_ok-planned.ensures.outcome)
+    set.budget_is run used c.in_ok-planned.ensures.spent c.in_ok-planned.ensures.few
+    (rw (sym set.repairs_is, sym set.budget_is) c.in_ok-planned.ensures.enough)
+    c.is_some.ensures (c.in_ok-planned.ensures.same.start ∙ set.start_is)
+    (subst (λ (m : Marks). IsThere c.is_some.result (IsShown (network_of c.args.lattice.now) (distance_in c.args.replanner.now.guide) m.start c.args.goal c.args.plan m c.in_ok-planned.planned.outcome) c.in_ok-labels.labels) c.labels.ensures.value
+    (subst (λ (t : Table). IsThere c.is_some.result (IsShown (network_of c.args.lattice.now) (distance_in t) c.labels.result.now.start c.args.goal c.args.plan c.labels.result.now c.in_ok-planned.planned.outcome) c.in_ok-labels.labels) guide c.in_ok-labels.ensures.shown))
+    c.record_of.ensures.number c.record_of.ensures.passes c.record_of.ensures.expanded c.record_of.ensures.told c.record_of.ensures.labels c.record_of.ensures.marked
+
+-- a plan that is not marked as spent was not
+unmarked : (spent : Bool) (expanded : ℕ) (x : PlanRecord) → MatchBool spent (x.spent ≡ Some expanded) (x.spent ≡ None) → x.spent ≡ None → spent ≡ false
+unmarked true expanded x mark is = cc
+unmarked false expanded x mark is = refl
+
+promises_by : (w : World) (start goal asked expanded : ℕ) (planned : Planned) (r : Result PlanRecord NoMemory) → IfOk r (λ x. Joins w start goal x.outcome) → IfOk r (λ x. IsWithinBound w start goal x.outcome) → IfOk r (λ x. IsNoneThere w start goal x.outcome)
+    → IfOk r (λ x. MatchBool planned.spent (x.spent ≡ Some expanded) (x.spent ≡ None)) → (planned.spent ≡ false → search.IsAnswered asked planned.outcome) → IfOk r (λ x. (a : ℕ) → search.IsAnswered a planned.outcome → IsAnswered a x.outcome) → IfOk r (KeepsPromises w start goal asked)
+promises_by w start goal asked expanded planned (Ok x) joins within none mark known answered = record {
+  joins = joins;
+  within_the_bound = within;
+  none = none;
+  unless_spent = λ is. answered asked (known (unmarked planned.spent expanded x mark is));
+}
+promises_by w start goal asked expanded planned (Err e) joins within none mark known answered = tt
+
+pub returns-clause-promises : goal.returns-clause-promises
+returns-clause-promises c =
+    let bound = ap (λ (a : Ask). a.bound) c.ask_of-ask.ensures.ask in
+    promises_by _ _ _ _ _ c.in_ok-planned.planned _ c.record_of.ensures.joins c.record_of.ensures.within_the_bound c.record_of.ensures.none c.record_of.ensures.marked
+    (λ is. subst (λ (b : ℕ). search.IsAnswered b c.in_ok-planned.planned.outcome) bound (c.in_ok-planned.ensures.answered is)) c.record_of.ensures.answered
