@@ -8,12 +8,6 @@ use Rattle.sbpl_demo.specs.Primitives.{head_lines}
 pub after_two : (a x y : List ℕ) {b c : List ℕ} → b ≡ a ++ x → c ≡ b ++ y → c ≡ a ++ (x ++ y)
 after_two a x y p q = rw (q, p) (append_assoc a x y)
 
-pub after_three : (a x y z : List ℕ) {b c d : List ℕ} → b ≡ a ++ x → c ≡ b ++ y → d ≡ c ++ z → d ≡ a ++ (x ++ (y ++ z))
-after_three a x y z p q r = rw (r, q, p) (simp append_assoc)
-
-pub after_four : (a w x y z : List ℕ) {b c d e : List ℕ} → b ≡ a ++ w → c ≡ b ++ x → d ≡ c ++ y → e ≡ d ++ z → e ≡ a ++ (w ++ (x ++ (y ++ (z ++ []))))
-after_four a w x y z o p q r = rw (r, q, p, o) (simp (append_assoc, append-nil))
-
 pub after_five : (a b c d e f : List ℕ) {p q r s t : List ℕ} → p ≡ a ++ b → q ≡ p ++ c → r ≡ q ++ d → s ≡ r ++ e → t ≡ s ++ f → t ≡ a ++ (b ++ (c ++ (d ++ (e ++ (f ++ [])))))
 after_five a b c d e f h i j k l = rw (l, k, j, i, h) (simp (append_assoc, append-nil))
 
@@ -31,15 +25,12 @@ pub line_four : (a u v w x : List ℕ) {b c d e : List ℕ} → b ≡ a ++ (u ++
 unfolding line_text
 line_four a u v w x p q r s = rw (s, r, q, p) (simp append_assoc)
 
--- numbers of one, two and three digits
+-- numbers of one digit and of two
 digit : (n : ℕ) → n < 10 → decimal n ≡ (48 + n) ∷ []
 digit n h = decimal_digit n h
 
 two_digits : (n : ℕ) → 10 ≤ n → n < 100 → decimal n ≡ (48 + n / 10) ∷ (48 + n % 10) ∷ []
 two_digits n low high = rw (decimal_step n (omega arith) (omega arith), digit (n / 10) (omega arith)) refl
-
-three_digits : (n : ℕ) → 100 ≤ n → n < 1000 → decimal n ≡ (48 + n / 10 / 10) ∷ (48 + n / 10 % 10) ∷ (48 + n % 10) ∷ []
-three_digits n low high = rw (decimal_step n (omega arith) (omega arith), two_digits (n / 10) (omega arith) (omega arith)) refl
 
 pub primitives_head : codes "resolution_m: 0.025000\nnumberofangles: 16\ntotalnumberofprimitives: 80\n" ≡ lines_text head_lines
 unfolding line_text

@@ -1,6 +1,7 @@
 use super::*;
 use crate::samples::p16;
 use sbpl_cfg::read_env;
+use sbpl_map::{Map, read_changes};
 use sbpl_mprim::read_prims;
 use std::test::*;
 
@@ -51,6 +52,9 @@ fn seven_gives_the_same_files_each_time(rt: HostRuntime) -> Result<(), Fail> {
         };
         assert_eq!(rt; *cost, drawn);
     }
+    let map = Map::new(&env, grid);
+    let changes = read_changes(rt.alloc(), demo.changes.as_slice(), &map)?;
+    assert_eq!(rt; changes.batches(), 3);
     let changes = demo.changes.into_vec();
     let lines = changes.iter().filter(|b| **b == b'\n').count();
     assert!(rt; 3 <= lines && lines <= 27);
