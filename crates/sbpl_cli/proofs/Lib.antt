@@ -10,3 +10,4 @@ pub mod Verifying
 pub mod OneEnding
 pub mod Going
 pub mod OnMaps
+pub mod Drawings

@@ -11,8 +11,9 @@ use Rattle.sbpl_sweep.specs.Widths.{IsFirstTooWide, NoneTooWide}
 use Rattle.sbpl_map.specs.CellMap.{CellMap}
 use Rattle.sbpl_map.specs.declared.fault.ChangeFault.{ChangeFault}
 use Rattle.sbpl_map.specs.declared.write.Write.{Write}
-use Rattle.sbpl_demo.specs.Primitives.{primitives_text}
-use Rattle.sbpl_cli.specs.Drawn.{environment_drawn, text_of_changes}
+use Rattle.sbpl_demo.specs.Changes.{changes_drawn}
+use Rattle.sbpl_demo.specs.Environment.{costs, environment}
+use Rattle.sbpl_demo.specs.Primitives.{primitives}
 use Rattle.sbpl_cost.specs.PrimitiveCost.{IsFirstTooDear, most_cost, primitive_cost}
 use Rattle.sbpl_cost.specs.Arc.{HasLatticeArcs}
 use Rattle.sbpl_cost.specs.Lattices.{network_of}
@@ -85,14 +86,6 @@ pub record ArePlanned (held : Told) (job : PlanJob) (records : List PlanRecord) 
   pub changes : SaysBatches held job.changes world.map batches
   pub plans : ArePlans world batches job.search job.outputs records all
 
--- a text of an environment and one of primitives stand for a world, for a robot of this radius
-pub record StandFor (env prims : List ℕ) (radius : ℕ) (w : World) : Type 0 where
-  pub cells : List ℕ
-  pub environment : IsEnvironmentText env w.env cells
-  pub primitives : IsPrimitiveText w.env prims w.prims
-  pub sweeps : AreSweepsOf w.prims radius w.sweeps
-  pub map : w.map ≡ record { width = w.env.width; height = w.env.height; costs = cells }
-
 -- how a demonstration is planned: by Anytime D*, with the inflations 3.000, 2.500 and so on to 1.000
 abbrev pub demo_search : SearchJob
 demo_search = record { planner = planner.AdStar; first = 3000; step = 500; bound = 1000; budget = 2 ^ 30 }
@@ -101,11 +94,17 @@ demo_search = record { planner = planner.AdStar; first = 3000; step = 500; bound
 abbrev pub no_outputs : Outputs
 no_outputs = record { labels = None; trace = None }
 
--- The three texts that are drawn from the seed stand for a world, for a point, and batches of changes, and these are records of
--- plans in it: all of them, or the first few.
+-- the world that is drawn from a seed, for a point
+pub record IsDrawn (job : DemoJob) (w : World) : Type 0 where
+  pub env : w.env ≡ environment job.width job.height
+  pub prims : w.prims ≡ primitives
+  pub sweeps : AreSweepsOf primitives 0 w.sweeps
+  pub map : w.map ≡ record { width = job.width; height = job.height; costs = costs job.width job.height job.seed }
+
+-- the world and the batches of changes are those that are drawn, and these are records of plans in it: all of them, or the first few
 pub record AreDemonstrated (job : DemoJob) (world : World) (batches : List (List Write)) (records : List PlanRecord) (all : Bool) : Type 0 where
-  pub stands : StandFor (environment_drawn job.width job.height job.seed) primitives_text 0 world
-  pub changes : IsChangeText world.map (text_of_changes job.width job.height job.seed) batches
+  pub drawn : IsDrawn job world
+  pub changes : batches ≡ changes_drawn job.width job.height job.seed
   pub plans : ArePlans world batches demo_search no_outputs records all
 
 -- the environment file has this first fault

@@ -1,5 +1,4 @@
 pub mod Asked
-pub mod Drawn
 pub mod Writing
 pub mod Report
 pub mod Traces

@@ -4,6 +4,7 @@
 mod check;
 mod checking;
 mod demo;
+mod drawn;
 mod files;
 mod flaw;
 mod labels;

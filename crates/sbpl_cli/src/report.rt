@@ -205,8 +205,23 @@ pub(crate) fn line_of(alloc: Global, plan: &PlanRecord) -> Result<Vec<u8>, NoMem
     Ok(line)
 }
 
-/// The first line of a demonstration.
+/// Appends the first line of a demonstration.
 #[tactic(auto, unfolding(crate::specs::Report::demo_text))]
+fn push_demo(
+    out: &mut Vec<u8>,
+    states: u64,
+    primitives: u64,
+    batches: u64,
+) -> Result<(), NoMemory>
+    ensures appended { OnOk result (out.new.items ≡ out.old.items ++ demo_text states primitives batches) }
+{
+    push_field(out, b"demo states ", states)?;
+    push_field(out, b" primitives ", primitives)?;
+    push_field(out, b" batches ", batches)?;
+    push_bytes(out, b"\n")
+}
+
+/// The first line of a demonstration.
 pub(crate) fn demo_line(
     alloc: Global,
     states: u32,
@@ -216,9 +231,11 @@ pub(crate) fn demo_line(
     ensures text { IfOk result (λ line. line.items ≡ demo_text states primitives batches) }
 {
     let mut line = Vec::new(alloc);
-    push_field(&mut line, b"demo states ", u64::from(states))?;
-    push_field(&mut line, b" primitives ", u64::from(primitives))?;
-    push_field(&mut line, b" batches ", u64::from(batches))?;
-    push_bytes(&mut line, b"\n")?;
+    push_demo(
+        &mut line,
+        u64::from(states),
+        u64::from(primitives),
+        u64::from(batches),
+    )?;
     Ok(line)
 }

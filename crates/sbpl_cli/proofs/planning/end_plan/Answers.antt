@@ -2,7 +2,7 @@ use Rattle.sbpl_job.specs.declared.job.Job.TheVariants as job
 use Rattle.sbpl_cli.specs.Intents.{Planned}
 use Rattle.sbpl_cli.proofs.Ends.{ended}
 use Rattle.sbpl_cli.proofs.Going.{stays_on}
-use Rattle.std.proofs.Common.{◌∙◌}
+use Rattle.std.proofs.Common.{◌∙◌, arith}
 use Rattle.sbpl_cli.proofs.planning.end_plan.Goals as goal
 
 pub returns-clause-ends : goal.returns-clause-ends
@@ -20,7 +20,7 @@ returns-clause-ends g c =
         start_is = c.ends_of-start.ensures.start;
         goal_is = c.ends_of-start.ensures.goal;
         each = e.each;
-        all_made = e.all_made;
+        all_made = λ is. let count = e.all_made is in omega arith;
       };
     })
     c.read_course.ensures.written c.read_course.ensures.writes e.ends
