@@ -1,14 +1,13 @@
 -- The states that a pass begins with are found.
-use Rattle.std.proofs.Common.{◌≡◌, ◌≢◌, ℕ, ◌+◌, ◌<◌, ◌≤◌, ◌⊎◌, true, false, Bool, nat_eq, Some, None, IsSome, List, [], ◌∷◌, ◌++◌, length, slice_index, arith, ⊎_elim, inl, inr, refl, sym, ◌∙◌, ap, length-append}
+use Rattle.std.proofs.Common.{◌≡◌, ◌≢◌, ℕ, ◌+◌, ◌<◌, ◌≤◌, true, false, Bool, nat_eq, Some, None, IsSome, List, [], ◌∷◌, ◌++◌, length, slice_index, arith, ⊎_elim, inl, inr, refl, sym, ◌∙◌, ap, length-append}
 use Rattle.std.specs.List.{All}
 use Rattle.std.proofs.lemmas.Bool.{cases_eq, cases_lt, cases_Bool, or_left, or_right, eq-eqb, false≢true}
 use Rattle.std.proofs.lemmas.List.{get_or_past}
 use Rattle.std.proofs.lemmas.List.Elements.{All-push}
-use Rattle.sbpl_labels.specs.Marks.{Marks, IsOpened, states_of, g_of, v_of}
+use Rattle.sbpl_labels.specs.Marks.{Marks, IsOpened}
 use Rattle.sbpl_open.specs.Frontier.{Frontier, ChangesKey}
 use Rattle.sbpl_open.specs.Frontier as frontier
 use Rattle.sbpl_ara.specs.declared.step.Step.{Step}
-use Rattle.sbpl_ara.specs.Marked.{closed_at}
 use Rattle.sbpl_ara.specs.Run.{IsOpen, IsOver, IsUnder, none_closed, closed_after}
 use Rattle.sbpl_ara.specs.Queue.{is_among}
 use Rattle.sbpl_ara.specs.Search.{Room, AreWaiting}

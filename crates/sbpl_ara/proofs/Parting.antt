@@ -1,12 +1,11 @@
 -- The parts of a search stay together.
-use Rattle.std.proofs.Common.{◌≡◌, ℕ, ◌+◌, ◌*◌, ◌<◌, ◌≤◌, Bool, true, false, List, [], ◌∷◌, ◌++◌, length, slice_set, arith, ⊎_elim, inl, sym, ◌∙◌, ap, length-append}
+use Rattle.std.proofs.Common.{◌≡◌, ℕ, ◌+◌, ◌*◌, ◌<◌, ◌≤◌, Bool, true, false, List, [], ◌∷◌, ◌++◌, length, slice_set, arith, sym, ◌∙◌, ap, length-append}
 use Rattle.std.proofs.lemmas.List.{length-set}
 use Rattle.sbpl_labels.specs.Marks.{Marks, states_of}
 use Rattle.sbpl_ara.specs.Marked.{closed_at}
 use Rattle.sbpl_ara.specs.Run.{none_closed}
 use Rattle.std.specs.List.{All}
 use Rattle.std.proofs.lemmas.List.Elements.{All-nil, All-push}
-use Rattle.std.proofs.lemmas.Bool.{false≢true}
 use Rattle.sbpl_open.specs.Frontier.{Frontier}
 use Rattle.sbpl_open.specs.Frontier as frontier
 use Rattle.sbpl_ara.specs.declared.step.Step.{Step}

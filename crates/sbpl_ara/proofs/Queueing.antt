@@ -1,11 +1,10 @@
 -- The queue goes on holding the open states.
-use Rattle.std.proofs.Common.{◌≡◌, ◌≢◌, ℕ, ◌+◌, ◌<◌, ◌≤◌, Bool, true, false, not, ◌||◌, ◌&&◌, ◌⊎◌, nat_eq, Option, Some, None, IsSome, MatchOption, List, [], ◌∷◌, ◌++◌, length, slice_index_or, arith, ⊎_elim, inl, inr, refl, sym, ◌∙◌, ap}
+use Rattle.std.proofs.Common.{◌≡◌, ◌≢◌, ℕ, ◌<◌, ◌≤◌, Bool, true, false, not, ◌||◌, ◌&&◌, ◌⊎◌, nat_eq, Option, Some, None, MatchOption, List, [], ◌∷◌, ◌++◌, arith, ⊎_elim, inl, inr, refl, sym, ◌∙◌, ap}
 use Rattle.std.proofs.lemmas.Bool.{cases_eq, cases_lt, cases_Bool, or_cases, or_left, or_right, and_parts, eq-eqb, ne_eqb, true≢false, false≢true}
 use Rattle.std.proofs.lemmas.List.{get_or_past}
 use Rattle.sbpl_graph.specs.Network.{Network}
-use Rattle.sbpl_graph.specs.Kept.{NoneUnder}
 use Rattle.sbpl_labels.specs.declared.row.Row.{Row}
-use Rattle.sbpl_labels.specs.Marks.{Marks, ChangesRow, states_of, g_of, v_of, back_of, row_at, no_row}
+use Rattle.sbpl_labels.specs.Marks.{Marks, states_of, g_of, v_of, row_at, no_row}
 use Rattle.sbpl_open.specs.Frontier.{Frontier, ChangesKey, IsEmpty}
 use Rattle.sbpl_open.specs.Frontier as frontier
 use Rattle.sbpl_ara.specs.declared.step.Step.{Step}
@@ -13,7 +12,6 @@ use Rattle.sbpl_ara.specs.Run.{IsOpen, IsOver, IsUnder, key_at, closed_with, clo
 use Rattle.sbpl_ara.specs.Queue.{IsQueued, AreQueued, AreQueuedBut, AreRefilled, IsUnplaced, is_among}
 use Rattle.sbpl_ara.specs.Search.{AreWaiting}
 use Rattle.sbpl_ara.specs.Relaxed.{LowersHead, IsRelaxed}
-use Rattle.sbpl_ara.proofs.Opening.{open_is_over}
 
 -- only states have labels above 0
 pub label_inside : (m : Marks) (s x : ℕ) → x < g_of m s → s < states_of m

@@ -45,10 +45,9 @@ impl Model for Ara {
 }
 
 impl Ara {
-    /// A search from `start` to `goal` on a graph of this many states, 1 to 2^23, before its first
+    /// A search from `start` to `goal` on a graph of this many states, before its first
     /// pass: its labels are opened and its trace is empty.
     pub fn open(alloc: Global, states: u32, start: u32, goal: u32) -> Result<Ara, NoMemory>
-        requires few { states ≤ 2 ^ 23 }
         requires start { start < states }
         requires goal { goal < states }
         ensures opened { IfOk result (λ a. IsOpened a.labels states start) }

@@ -1,10 +1,12 @@
 -- What a reader of sections answers, in terms of what tokens stand for.
-use Rattle.std.proofs.Common.{◌≡◌, ℕ, ◌+◌, ◌^◌, ◌<◌, ◌≤◌, List, [], ◌∷◌, length, ℤ, Result, Ok, Err, refl, sym, ap, subst, ◌∙◌, arith}
+use Rattle.std.proofs.Common.{◌≡◌, ℕ, ◌+◌, ◌^◌, ◌<◌, ◌≤◌, List, [], ◌∷◌, length, min, drop, ℤ, Result, Ok, Err, refl, sym, ap, subst, ◌∙◌, ⊎_elim, arith}
 use Rattle.std.specs.Prelude.{◌≢◌, codes, IfOk, IfErr}
+use Rattle.std.proofs.lemmas.Bool.{cases_lt}
+use Rattle.std.proofs.lemmas.List.{drop_all}
 use Rattle.sbpl_fixed.specs.declared.fault.TextFault.{TextFault}
 use Rattle.sbpl_fixed.specs.declared.fault.TextFault.TheVariants.{Ended}
 use Rattle.sbpl_fixed.specs.Formats.{Answers, Left, Met, Miss, fixed, met, next, next_of, reads, start_at, Says}
-use Rattle.sbpl_fixed.specs.Tokens.{Piece, tokens_from}
+use Rattle.sbpl_fixed.specs.Tokens.{Piece, is_fresh, tokens_from, tokens_past}
 use Rattle.sbpl_fixed.proofs.Meaning.{read_as_said, read_first_fault}
 use Rattle.sbpl_cert.specs.declared.fault.LabelFault.{LabelFault}
 use Rattle.sbpl_cert.specs.declared.fault.LabelFault.TheVariants.{NoMemory}
@@ -144,3 +146,19 @@ ends_behind text at place rest inside h end =
 
 pub read_to : (s : Section) {l m : Left} → l ≡ m → section_read s l ≡ section_read s m
 read_to s same = ap (section_read s) same
+
+-- no token begins behind the end of a text
+none_past : (text : List ℕ) (at : ℕ) → length text ≤ at → tokens_from text at ≡ []
+unfolding tokens_past
+none_past text at past = ap (tokens_past (is_fresh text at) at) (drop_all at text past)
+
+-- a reading from behind the end of a text is one from its end
+pub start_within : (text : List ℕ) (at from : ℕ) → from ≡ min at (length text) → start_at text from ≡ start_at text at
+start_within text at from is =
+    ⊎_elim
+    (λ (before : at < length text). let same : from ≡ at = omega arith in ap (start_at text) same)
+    (λ (past : length text ≤ at).
+    let none = none_past text at past in
+    let none' = none_past text from (omega arith) in
+    same_left (start_at text from) (start_at text at) refl (none' ∙ sym none))
+    (cases_lt at (length text))

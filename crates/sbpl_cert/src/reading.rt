@@ -285,8 +285,8 @@ fn read_exactly(
     Ok((set, place + LAST_LENGTH))
 }
 
-/// Reads the section that begins at an offset of a text, and answers the offset behind it. It must be of this plan and of
-/// so many states. Blanks of any kind part its tokens. Any other text has exactly one first fault in reading order, which
+/// Reads the section that begins at an offset of a text, and answers the offset behind it. Where the text ends before the
+/// offset it has no more tokens. The section must be of this plan and of so many states. Blanks of any kind part its tokens. Any other text has exactly one first fault in reading order, which
 /// is answered with its place. `Trailing` is never answered, since more sections may stand behind this one. `NoMemory`
 /// says nothing of the text.
 pub fn read_labels(
@@ -296,7 +296,6 @@ pub fn read_labels(
     plan: u32,
     states: u32,
 ) -> Result<(LabelSet, usize), LabelFault>
-    requires { at ≤ length text.now }
     // It is of the plan and of the number of states that were passed.
     ensures given { IfOk result (λ x. (x.0.plan ≡ plan) × (length x.0.labels ≡ states)) }
     // The offset that is answered lies behind `at` and in the text.
@@ -312,5 +311,5 @@ pub fn read_labels(
     // All at once, as the format reads.
     ensures exact { Answers Memory (λ x. (x.0, start_at text.now x.1)) result (reads told (section_format plan states) (start_at text.now at)) }
 {
-    read_exactly(alloc, text, at, plan, states)
+    read_exactly(alloc, text, at.min(text.len()), plan, states)
 }

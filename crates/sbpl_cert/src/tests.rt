@@ -8,6 +8,7 @@ use crate::{
 };
 use sbpl_graph::{FAR, Graph};
 use std::alloc::{AllocError, Global};
+use std::process::Abort;
 use std::test::Fail;
 
 /// One arc, or none, from each state, as its head and its cost.
@@ -84,11 +85,8 @@ fn lattice_text(alloc: Global) -> Result<String, AllocError> {
     Ok(text)
 }
 
-#[test]
-fn a_section_is_read_and_written(rt: HostRuntime) -> Result<(), Fail> {
-    let text = lattice_text(rt.alloc())?;
-    let (set, after) = read_labels(rt.alloc(), text.as_bytes(), 0, 0, 48)?;
-    assert_eq!(rt; after + 1, text.len());
+/// What the section of the lattice says.
+fn says_the_lattice(rt: &impl Abort, set: &LabelSet) {
     assert_eq!(rt; (set.plan, set.low), (0, 50));
     let path = Outcome::Path {
         cost: 50,
@@ -123,10 +121,27 @@ fn a_section_is_read_and_written(rt: HostRuntime) -> Result<(), Fail> {
             h: 25
         }
     );
-    let mut out = Vec::new(rt.alloc());
-    write_labels(&set, &mut out)?;
-    assert_eq!(rt; out.as_slice(), text.as_bytes());
+}
+
+/// Reads the section of a text, and writes it again.
+fn read_and_written(rt: &impl Abort, alloc: Global, text: &[u8]) -> Result<(), Fail> {
+    let (set, after) = read_labels(alloc, text, 0, 0, 48)?;
+    assert_eq!(rt; after + 1, text.len());
+    says_the_lattice(rt, &set);
+    let mut out = Vec::new(alloc);
+    assert!(rt; write_labels(&set, &mut out).is_ok());
+    drop(set);
+    assert_eq!(rt; out.as_slice(), text);
+    drop(out);
     Ok(())
+}
+
+#[test]
+fn a_section_is_read_and_written(rt: HostRuntime) -> Result<(), Fail> {
+    let text = lattice_text(rt.alloc())?;
+    let checked = read_and_written(&rt, rt.alloc(), text.as_bytes());
+    drop(text);
+    checked
 }
 
 /// A section of one state with the greatest bound, and one of no state behind it.
@@ -139,22 +154,32 @@ nopath
 end
 ";
 
-#[test]
-fn sections_stand_one_behind_another(rt: HostRuntime) -> Result<(), Fail> {
-    let text = TWO.as_bytes();
-    let (first, after) = read_labels(rt.alloc(), text, 0, 0, 1)?;
+/// Reads the first of the two, and answers where it ends.
+fn first_of_two(rt: &impl Abort, alloc: Global) -> Result<usize, Fail> {
+    let (first, after) = read_labels(alloc, TWO.as_bytes(), 0, 0, 1)?;
     assert_eq!(rt; (first.low, after), (FAR, 87));
     let path = Outcome::Path {
         cost: 3,
         bound: 1_267_650_600_228_229_401_496_703_205_375,
     };
     assert_eq!(rt; first.outcome, path);
-    assert_eq!(rt; first.arcs.into_vec().as_slice(), [4095].as_slice());
+    assert_eq!(rt; first.arcs.as_slice(), [4095].as_slice());
+    drop(first);
+    Ok(after)
+}
+
+#[test]
+fn sections_stand_one_behind_another(rt: HostRuntime) -> Result<(), Fail> {
+    let text = TWO.as_bytes();
+    let after = first_of_two(&rt, rt.alloc())?;
     let (second, after) = read_labels(rt.alloc(), text, after, 1, 0)?;
     assert_eq!(rt; (second.outcome, after + 1), (Outcome::NoPath, text.len()));
-    assert!(rt; second.labels.into_vec().is_empty());
-    let more = read_labels(rt.alloc(), text, after, 2, 0).err();
-    assert_eq!(rt; more, Some(LabelFault::Ended(text.len())));
+    assert!(rt; second.labels.as_slice().is_empty());
+    drop(second);
+    for at in [after, text.len(), usize::MAX] {
+        let more = read_labels(rt.alloc(), text, at, 2, 0).err();
+        assert_eq!(rt; more, Some(LabelFault::Ended(text.len())));
+    }
     Ok(())
 }
 
@@ -172,10 +197,14 @@ fn nothing(alloc: Global) -> LabelSet {
 #[test]
 fn sections_are_written_one_behind_another(rt: HostRuntime) -> Result<(), Fail> {
     let (first, _) = read_labels(rt.alloc(), TWO.as_bytes(), 0, 0, 1)?;
+    let second = nothing(rt.alloc());
     let mut out = Vec::new(rt.alloc());
-    write_labels(&first, &mut out)?;
-    write_labels(&nothing(rt.alloc()), &mut out)?;
+    assert!(rt; write_labels(&first, &mut out).is_ok());
+    assert!(rt; write_labels(&second, &mut out).is_ok());
+    drop(first);
+    drop(second);
     assert_eq!(rt; out.as_slice(), TWO.as_bytes());
+    drop(out);
     Ok(())
 }
 
@@ -233,9 +262,9 @@ fn altered_texts_are_refused(rt: HostRuntime) -> Result<(), Fail> {
     ];
     for (line, other, number, name, place) in rows {
         let text = with_line(rt.alloc(), line, other)?;
-        let fault = read_labels(rt.alloc(), text.as_bytes(), 0, 0, 3)
-            .err()
-            .ok_or(name)?;
+        let fault = read_labels(rt.alloc(), text.as_bytes(), 0, 0, 3).err();
+        drop(text);
+        let fault = fault.ok_or(name)?;
         assert_eq!(rt;
             (fault.number(), fault.name(), fault.place()),
             (number, name, place)
@@ -250,7 +279,9 @@ fn checked(alloc: Global, text: &str) -> Result<Option<Flaw>, Fail> {
         arcs: [Some((1, 25)), Some((2, 25)), None],
     };
     let (set, _) = read_labels(alloc, text.as_bytes(), 0, 0, 3)?;
-    Ok(check(&graph, 0, 2, &set).err())
+    let flaw = check(&graph, 0, 2, &set).err();
+    drop(set);
+    Ok(flaw)
 }
 
 #[test]
@@ -345,7 +376,9 @@ fn flaws_are_found(rt: HostRuntime) -> Result<(), Fail> {
     ];
     for (line, other, flaw) in rows {
         let text = with_line(rt.alloc(), line, other)?;
-        assert_eq!(rt; checked(rt.alloc(), text.as_str())?, flaw);
+        let found = checked(rt.alloc(), text.as_str());
+        drop(text);
+        assert_eq!(rt; found?, flaw);
     }
     Ok(())
 }

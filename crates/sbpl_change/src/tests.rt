@@ -42,20 +42,25 @@ fn lattice_of(alloc: Global, env: &str, prims: &str) -> Option<Lattice> {
     }
 }
 
-/// The states that a batch touches on the hall's lattice, in order, or `None` where it is not written.
-fn touched_by(alloc: Global, batch: &[Write]) -> Option<Vec<u32>> {
-    let Some(mut hall) = lattice_of(alloc, HALL, FOUR) else {
-        return None;
-    };
-    if !are_on_map(&hall, batch) {
+/// The states that a batch touches on a lattice, in order, or `None` where it is not written.
+fn touched_on(alloc: Global, lattice: &mut Lattice, batch: &[Write]) -> Option<Vec<u32>> {
+    if !are_on_map(lattice, batch) {
         return None;
     }
     let mut touched = Vec::new(alloc);
-    if apply(alloc, &mut hall, batch, &mut touched).is_err() {
+    if apply(alloc, lattice, batch, &mut touched).is_err() {
         return None;
     }
     touched.sort_unstable();
     Some(touched)
+}
+
+/// The states that a batch touches on the hall's lattice.
+fn touched_by(alloc: Global, batch: &[Write]) -> Option<Vec<u32>> {
+    let mut hall = lattice_of(alloc, HALL, FOUR)?;
+    let touched = touched_on(alloc, &mut hall, batch);
+    drop(hall);
+    touched
 }
 
 /// Cell `(x, y)` gets cost `cost`.

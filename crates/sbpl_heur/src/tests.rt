@@ -1,8 +1,8 @@
 //! The heuristic on a small map, by hand.
 
-ghost use Rattle.std.specs.Prelude.{◌<◌, IfSome};
+ghost use Rattle.std.specs.Prelude.{◌≡◌, ◌<◌, IfSome};
 ghost use Rattle.sbpl_cost.specs.Lattices.{network_of};
-ghost use Rattle.sbpl_heur.specs.Bests.{IsGuide};
+ghost use Rattle.sbpl_heur.specs.Bests.{Fits, IsGuide};
 
 use crate::Best;
 use sbpl_cfg::{Env, Grid, Place, read_env};
@@ -12,6 +12,7 @@ use sbpl_map::Map;
 use sbpl_mprim::{Prims, read_prims};
 use sbpl_sweep::Sweeps;
 use std::alloc::Global;
+use std::test::Fail;
 
 /// Three by two cells, of which the second costs 2.
 const ENVIRONMENT: &str = "discretization(cells): 3 2
@@ -116,33 +117,51 @@ fn values(lattice: &Lattice, best: &Best, goal: u32) -> Option<[u64; 6]>
     Some(values)
 }
 
-/// The values for the goal in cell `(2, 0)`.
-fn at_first(alloc: Global) -> Option<[u64; 6]> {
-    let lattice = made(alloc)?;
-    let goal = state(&lattice, 2, 0)?;
-    match Best::build(alloc, &lattice, goal) {
-        Ok(best) => values(&lattice, &best, goal),
-        Err(_) => None,
-    }
+/// The values for a goal.
+fn built(alloc: Global, lattice: &Lattice, goal: u32) -> Option<[u64; 6]>
+    requires goal { goal < (network_of lattice.now).states }
+{
+    let best = Best::build(alloc, lattice, goal).ok()?;
+    let found = values(lattice, &best, goal);
+    drop(best);
+    found
 }
 
-/// The values for the goal in cell `(2, 0)`, made anew once cell `(2, 1)` is an obstacle.
-fn with_an_obstacle(alloc: Global) -> Option<[u64; 6]> {
-    let mut lattice = made(alloc)?;
-    let goal = state(&lattice, 2, 0)?;
-    let Ok(mut best) = Best::build(alloc, &lattice, goal) else {
-        return None;
-    };
+/// The values once cell `(2, 1)` is an obstacle.
+fn blocked(lattice: &mut Lattice, best: &mut Best, goal: u32) -> Option<[u64; 6]>
+    requires fits { Fits lattice.old best.old }
+    requires goal { best.old.goal ≡ goal }
+{
     let Ok(_) = lattice.set(2, 1, 100) else {
         return None;
     };
-    best.rebuild(&lattice);
-    values(&lattice, &best, goal)
+    best.rebuild(lattice);
+    values(lattice, best, goal)
+}
+
+/// The values for a goal, made anew once cell `(2, 1)` is an obstacle.
+fn rebuilt(alloc: Global, lattice: &mut Lattice, goal: u32) -> Option<[u64; 6]>
+    requires goal { goal < (network_of lattice.old).states }
+{
+    let mut best = Best::build(alloc, lattice, goal).ok()?;
+    let found = blocked(lattice, &mut best, goal);
+    drop(best);
+    found
+}
+
+/// The values for the goal in cell `(2, 0)`, first as it is, and then once cell `(2, 1)` is an obstacle.
+fn both(alloc: Global, lattice: &mut Lattice) -> Option<([u64; 6], [u64; 6])> {
+    let goal = state(lattice, 2, 0)?;
+    let first = built(alloc, lattice, goal)?;
+    Some((first, rebuilt(alloc, lattice, goal)?))
 }
 
 #[test]
-fn follows_the_map(rt: HostRuntime) {
-    let alloc = rt.alloc();
-    assert_eq!(rt; at_first(alloc), Some([50, 75, 0, 75, 50, 25]));
-    assert_eq!(rt; with_an_obstacle(alloc), Some([50, 75, 0, 75, 150, 150]));
+fn follows_the_map(rt: HostRuntime) -> Result<(), Fail> {
+    let mut lattice = made(rt.alloc()).ok_or("lattice")?;
+    let found = both(rt.alloc(), &mut lattice);
+    drop(lattice);
+    let first = [50, 75, 0, 75, 50, 25];
+    assert_eq!(rt; found, Some((first, [50, 75, 0, 75, 150, 150])));
+    Ok(())
 }

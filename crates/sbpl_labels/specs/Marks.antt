@@ -36,7 +36,7 @@ back_of m s = (row_at m s).back
 -- what holds of all labels, on whatever graph
 pub record AreLabels (m : Marks) : Type 0 where
   pub start_inside : m.start < states_of m
-  pub few_states : states_of m ≤ 2 ^ 23
+  pub few_states : states_of m < 2 ^ 32
   pub labels : (s : ℕ) → s < states_of m → IsLabel (g_of m s) × IsLabel (v_of m s)
   pub from_start : g_of m m.start ≡ 0
   pub none_at_start : back_of m m.start ≡ None

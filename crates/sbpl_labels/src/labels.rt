@@ -57,11 +57,10 @@ impl Model for Labels {
 }
 
 impl Labels {
-    /// Opened labels of this many states, 1 to 2^23: g is 0 at the start, all other labels are
+    /// Opened labels of this many states: g is 0 at the start, all other labels are
     /// infinite, and there is no back arc. They are exact on every graph of this size. The one
     /// error is that memory ran out.
     pub fn open(alloc: Global, states: u32, start: u32) -> Result<Labels, NoMemory>
-        requires few { states ≤ 2 ^ 23 }
         requires start { start < states }
         ensures opened { IfOk result (λ m. IsOpened m states start) }
         ensures exact { IfOk result (λ m. (n : Network) → n.states ≡ states

@@ -1,6 +1,6 @@
 -- What a reader of primitives answers, in terms of what texts stand for.
 use Rattle.std.proofs.Common.{◌≡◌, ◌≢◌, ℕ, ◌≤◌, ℤ, pos, List, Result, Ok, Err, sym, ap, subst, ◌∙◌}
-use Rattle.std.specs.Prelude.{IfOk, IfErr}
+use Rattle.std.specs.Prelude.{IfOk, IfErr, OnOk}
 use Rattle.sbpl_cfg.specs.Environment.{IsWithin}
 use Rattle.sbpl_fixed.specs.Formats.{Answers, reads_text}
 use Rattle.sbpl_fixed.proofs.Meaning.{faulty_if_answered, only_faulty_if_answered, text_found, text_only}
@@ -10,7 +10,7 @@ use Rattle.sbpl_mprim.specs.declared.prim.Primitive.{Primitive}
 use Rattle.sbpl_mprim.specs.Faults.{told}
 use Rattle.sbpl_mprim.specs.Primitives.{ArePrimitives, Primitives}
 use Rattle.sbpl_mprim.specs.Reading.{prims_format}
-use Rattle.sbpl_mprim.specs.Text.{HasFault, IsTextOf}
+use Rattle.sbpl_mprim.specs.Text.{AreSizes, HasFault, IsTextOf}
 use Rattle.sbpl_mprim.proofs.FileLaws.{file_found, file_said}
 
 -- the items that were read may be a file's
@@ -31,12 +31,12 @@ IsExact cell headings text r = Answers NoMemory items_of r (reads_text told (pri
 same_parts : (cell : ℤ) (headings : ℕ) (ps : Primitives) → ps.cell ≡ cell → ps.headings ≡ headings → record { cell = cell; headings = headings; items = ps.items } ≡ ps
 same_parts cell headings ps c h = ap (λ (z : ℤ). record { cell = z; headings = headings; items = ps.items }) (sym c) ∙ ap (λ (n : ℕ). record ps { headings = n }) (sym h)
 
-pub found_in_text : (cell : ℤ) (headings : ℕ) (text : List ℕ) (r : Result Primitives PrimFault) → IsWithin (pos 1) (pos 1000000000000) cell → 1 ≤ headings → headings ≤ 64
+pub found_in_text : (cell : ℤ) (headings : ℕ) (text : List ℕ) (r : Result Primitives PrimFault) → OnOk r (AreSizes cell headings)
     → IsGiven cell headings r → IsExact cell headings text r → IfOk r (λ ps. IsTextOf text ps)
-found_in_text cell headings text (Ok ps) size some most given exact =
+found_in_text cell headings text (Ok ps) sizes given exact =
     subst (λ (qs : Primitives). IsTextOf text qs) (same_parts cell headings ps given.0 given.1)
-    (file_found cell headings text ps.items size some most (text_found told (prims_format cell headings) text ps.items exact))
-found_in_text cell headings text (Err e) size some most given exact = tt
+    (file_found cell headings text ps.items sizes.cell_is sizes.some sizes.few (text_found told (prims_format cell headings) text ps.items exact))
+found_in_text cell headings text (Err e) sizes given exact = tt
 
 abbrev one_read : Primitives → Result Primitives PrimFault
 one_read ps = Ok ps

@@ -7,6 +7,7 @@ ghost use Rattle.sbpl_mprim.specs.declared.fault.PrimFault.TheVariants.{NoMemory
 ghost use Rattle.sbpl_mprim.specs.Faults.{told};
 ghost use Rattle.sbpl_mprim.specs.Primitives.{IsOffsetInRange, pose_count};
 ghost use Rattle.sbpl_mprim.specs.Reading.{angles_format, count_format, end_format, front_format, head_format, judged, made, mult_format, path_format, pose_format, pose_turn, prim_format, prim_turn, prims_format, resolution_format, signed_format, start_format, total_format};
+ghost use Rattle.sbpl_mprim.specs.Text.{AreSizes};
 
 use crate::earlier::Earlier;
 use crate::fault::PrimFault;
@@ -258,6 +259,7 @@ fn read_next_prim(
 #[tactic(auto, unfolding(sbpl_fixed::specs::Formats::reads, crate::specs::Reading::resolution_format))]
 fn read_resolution(cell: i64, reader: &mut Reader) -> Result<i64, PrimFault>
     ensures read { Gives Memory (λ x. x) result reader.new (reads told (resolution_format cell) reader.old) }
+    ensures size { OnOk result (IsWithin (pos 1) (pos 1000000000000) cell) }
 {
     reader.word(b"resolution_m:")?;
     let resolution = reader.nano(1, 1_000_000_000_000)?;
@@ -271,6 +273,7 @@ fn read_resolution(cell: i64, reader: &mut Reader) -> Result<i64, PrimFault>
 #[tactic(auto, unfolding(sbpl_fixed::specs::Formats::reads, crate::specs::Reading::angles_format))]
 fn read_angles(headings: u32, reader: &mut Reader) -> Result<u32, PrimFault>
     ensures read { Gives Memory (λ x. x) result reader.new (reads told (angles_format headings) reader.old) }
+    ensures angles { OnOk result ((1 ≤ headings) × (headings ≤ 64)) }
 {
     reader.word(b"numberofangles:")?;
     let angles = reader.natural(1, 64)?;
@@ -294,6 +297,7 @@ fn read_total(reader: &mut Reader) -> Result<u32, PrimFault>
 #[tactic(auto, using(sbpl_fixed::proofs::Reading::reads_behind), unfolding(sbpl_fixed::specs::Formats::reads, crate::specs::Reading::head_format))]
 fn read_head(cell: i64, headings: u32, reader: &mut Reader) -> Result<u32, PrimFault>
     ensures read { Gives Memory (λ x. x) result reader.new (reads told (head_format cell headings) reader.old) }
+    ensures sizes { OnOk result (AreSizes cell headings) }
 {
     read_resolution(cell, reader)?;
     read_angles(headings, reader)?;
@@ -330,10 +334,8 @@ pub(crate) fn read_all(
     headings: u32,
     reader: &mut Reader,
 ) -> Result<Vec<Prim>, PrimFault>
-    requires cell { IsWithin (pos 1) (pos 1000000000000) cell }
-    requires some { 0 < headings }
-    requires few { headings ≤ 64 }
     ensures read { Gives Memory (λ x. x.items) result reader.new (reads told (prims_format cell headings) reader.old) }
+    ensures sizes { OnOk result (AreSizes cell headings) }
 {
     let total = read_head(cell, headings, reader)?;
     let prims = read_each(alloc, cell, headings, total, reader)?;

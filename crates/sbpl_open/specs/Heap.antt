@@ -81,7 +81,7 @@ pub record AreKeys (firsts seconds : List ℕ) : Type 0 where
 
 -- the parts of a heap: the tables agree with it, it is in order, and it has room for all states
 pub record AreParts (heap places firsts seconds : List ℕ) (room : ℕ) : Type 0 where
-  pub few : length places ≤ 2 ^ 23
+  pub few : length places < 2 ^ 32
   pub states : length firsts ≡ length places
   pub tables : AreKeys firsts seconds
   pub agreed : AreAgreed heap places

@@ -8,7 +8,7 @@ use crate::sift::{sift, swap};
 
 /// The place of `s`, which goes to the end of the heap where it is not there yet.
 pub(crate) fn place_of(heap: &mut Vec<u32>, places: &mut [u32], s: u32) -> usize
-    requires few { length places.old ≤ 2 ^ 23 }
+    requires few { length places.old < 2 ^ 32 }
     requires agreed { AreAgreed heap.old.items places.old }
     requires state { s < length places.old }
     requires room { length places.old ≤ vec_capacity heap.old }
@@ -28,7 +28,7 @@ pub(crate) fn place_of(heap: &mut Vec<u32>, places: &mut [u32], s: u32) -> usize
 
 /// Takes `s`, which is there, out of the heap. The last state closes the gap.
 pub(crate) fn remove(heap: &mut Vec<u32>, places: &mut [u32], keys: &Keys, s: u32)
-    requires few { length places.old ≤ 2 ^ 23 }
+    requires few { length places.old < 2 ^ 32 }
     requires states { length keys.now.firsts.items ≡ length places.old }
     requires tables { AreKeys keys.now.firsts.items keys.now.seconds.items }
     requires agreed { AreAgreed heap.old.items places.old }

@@ -34,10 +34,9 @@ impl Model for Open {
 }
 
 impl Open {
-    /// Room for the keys of this many states, 1 to 2^23, none of which is open. The one error is
+    /// Room for the keys of this many states, none of which is open. The one error is
     /// that memory ran out, and no other call takes memory.
     pub fn new(alloc: Global, states: u32) -> Result<Open, NoMemory>
-        requires few { states ≤ 2 ^ 23 }
         ensures states { IfOk result (λ f. states_of f ≡ states) }
         ensures empty { IfOk result (λ f. IsEmpty f) }
     {

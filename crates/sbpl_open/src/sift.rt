@@ -7,7 +7,7 @@ use crate::keys::Keys;
 
 /// Brings the heap in order, where it is in order but at one place.
 pub(crate) fn sift(heap: &mut [u32], places: &mut [u32], keys: &Keys, at: usize)
-    requires few { length places.old ≤ 2 ^ 23 }
+    requires few { length places.old < 2 ^ 32 }
     requires states { length keys.now.firsts.items ≡ length places.old }
     requires tables { AreKeys keys.now.firsts.items keys.now.seconds.items }
     requires agreed { AreAgreed heap.old places.old }
@@ -26,7 +26,7 @@ pub(crate) fn sift(heap: &mut [u32], places: &mut [u32], keys: &Keys, at: usize)
 /// Moves the state at this place up, as far as it comes before what is above it, and answers its
 /// place.
 fn raise(heap: &mut [u32], places: &mut [u32], keys: &Keys, mut at: usize) -> usize
-    requires few { length places.old ≤ 2 ^ 23 }
+    requires few { length places.old < 2 ^ 32 }
     requires states { length keys.now.firsts.items ≡ length places.old }
     requires tables { AreKeys keys.now.firsts.items keys.now.seconds.items }
     requires agreed { AreAgreed heap.old places.old }
@@ -54,7 +54,7 @@ fn raise(heap: &mut [u32], places: &mut [u32], keys: &Keys, mut at: usize) -> us
 
 /// Moves the state at this place down, as far as what is below comes before it.
 fn sink(heap: &mut [u32], places: &mut [u32], keys: &Keys, mut at: usize)
-    requires few { length places.old ≤ 2 ^ 23 }
+    requires few { length places.old < 2 ^ 32 }
     requires states { length keys.now.firsts.items ≡ length places.old }
     requires tables { AreKeys keys.now.firsts.items keys.now.seconds.items }
     requires agreed { AreAgreed heap.old places.old }
@@ -99,7 +99,7 @@ fn first_child(heap: &[u32], keys: &Keys, at: usize) -> Option<usize>
 
 /// Swaps the states at two places.
 pub(crate) fn swap(heap: &mut [u32], places: &mut [u32], a: usize, b: usize)
-    requires few { length places.old ≤ 2 ^ 23 }
+    requires few { length places.old < 2 ^ 32 }
     requires agreed { AreAgreed heap.old places.old }
     requires first { a < length heap.old }
     requires second { b < length heap.old }

@@ -13,6 +13,7 @@ use sbpl_ara::{Ara, Step};
 use sbpl_graph::{Graph, Zero};
 use sbpl_labels::Budget;
 use std::alloc::Global;
+use std::process::Abort;
 use std::test::Fail;
 
 /// One arc, or none, from each state, as its head and its cost.
@@ -140,7 +141,8 @@ fn one_arc_is_the_path(rt: HostRuntime) -> Result<(), Fail> {
         arcs: [Some((1, 5)), None, None],
     };
     let mut budget = Budget::new(10);
-    let (planned, _search) = planned(rt.alloc(), &graph, 1, &mut budget).ok_or("plan")?;
+    let (planned, search) = planned(rt.alloc(), &graph, 1, &mut budget).ok_or("plan")?;
+    drop(search);
     let found = Found::Path {
         cost: 5,
         bound: 1000,
@@ -152,6 +154,7 @@ fn one_arc_is_the_path(rt: HostRuntime) -> Result<(), Fail> {
     assert_eq!(rt; only_pass(&planned), Some((3000, found, steps.as_slice())));
     assert_eq!(rt; path(&planned.outcome), Some(([0].as_slice(), 5, 1000)));
     assert_eq!(rt; (planned.spent, budget.used()), (false, 1));
+    drop(planned);
     Ok(())
 }
 
@@ -161,7 +164,8 @@ fn no_arc_is_no_path(rt: HostRuntime) -> Result<(), Fail> {
         arcs: [None, None, None],
     };
     let mut budget = Budget::new(10);
-    let (planned, _search) = planned(rt.alloc(), &graph, 1, &mut budget).ok_or("plan")?;
+    let (planned, search) = planned(rt.alloc(), &graph, 1, &mut budget).ok_or("plan")?;
+    drop(search);
     assert!(rt; matches!(&planned.outcome, Outcome::NoPath));
     assert_eq!(rt;
         (planned.spent, planned.passes.into_vec().len()),
@@ -177,23 +181,32 @@ fn nothing_is_known_where_nothing_is_expanded(rt: HostRuntime) -> Result<(), Fai
     };
     let mut budget = Budget::new(1);
     budget.spend();
-    let (planned, _search) = planned(rt.alloc(), &graph, 1, &mut budget).ok_or("plan")?;
+    let (planned, search) = planned(rt.alloc(), &graph, 1, &mut budget).ok_or("plan")?;
+    drop(search);
     assert_eq!(rt;
         only_pass(&planned),
         Some((3000, Found::None, [].as_slice()))
     );
     assert!(rt; matches!(&planned.outcome, Outcome::Unknown));
     assert!(rt; planned.spent);
+    drop(planned);
     Ok(())
 }
 
-#[test]
-fn replanned_after_changes(rt: HostRuntime) -> Result<(), Fail> {
-    let mut budget = Budget::new(10);
-    let (first, mut search) = planned(rt.alloc(), &way(Some(5)), 2, &mut budget).ok_or("plan")?;
-    assert_eq!(rt; path(&first.outcome), Some(([0, 0].as_slice(), 6, 1000)));
-
-    let dear = replanned(rt.alloc(), &way(Some(7)), &mut search, &mut budget).ok_or("replan")?;
+/// Plans to state 2 once the way costs more, and once it is blocked.
+fn dear_and_blocked(
+    rt: &impl Abort,
+    alloc: Global,
+    search: &mut AdStar,
+    budget: &mut Budget,
+) -> Result<(), Fail>
+    requires states { states_of search.old.labels ≡ 3 }
+    requires start { search.old.labels.start ≡ 0 }
+    requires goal { search.old.goal ≡ 2 }
+    requires fits { FitCount 3 (g_of search.old.labels) (v_of search.old.labels) budget.old.run }
+    requires fresh { IsStartFresh search.old.labels }
+{
+    let dear = replanned(alloc, &way(Some(7)), search, budget).ok_or("replan")?;
     let found = Found::Path {
         cost: 8,
         bound: 1000,
@@ -202,23 +215,40 @@ fn replanned_after_changes(rt: HostRuntime) -> Result<(), Fail> {
     assert_eq!(rt; only_pass(&dear), Some((3000, found, steps.as_slice())));
     assert_eq!(rt; path(&dear.outcome), Some(([0, 0].as_slice(), 8, 1000)));
     assert_eq!(rt; (dear.spent, budget.used()), (false, 4));
+    drop(dear);
 
-    let blocked = replanned(rt.alloc(), &way(None), &mut search, &mut budget).ok_or("replan")?;
+    let blocked = replanned(alloc, &way(None), search, budget).ok_or("replan")?;
     assert!(rt; matches!(&blocked.outcome, Outcome::NoPath));
     assert_eq!(rt; (blocked.spent, budget.used()), (false, 5));
+    drop(blocked);
     Ok(())
+}
+
+#[test]
+fn replanned_after_changes(rt: HostRuntime) -> Result<(), Fail> {
+    let mut budget = Budget::new(10);
+    let (first, mut search) = planned(rt.alloc(), &way(Some(5)), 2, &mut budget).ok_or("plan")?;
+    assert_eq!(rt; path(&first.outcome), Some(([0, 0].as_slice(), 6, 1000)));
+    drop(first);
+    let checked = dear_and_blocked(&rt, rt.alloc(), &mut search, &mut budget);
+    drop(search);
+    checked
 }
 
 #[test]
 fn a_break_is_no_path_where_nothing_is_repaired(rt: HostRuntime) -> Result<(), Fail> {
     let mut budget = Budget::new(2);
-    let (_first, mut search) = planned(rt.alloc(), &way(Some(5)), 2, &mut budget).ok_or("plan")?;
-    let broken = replanned(rt.alloc(), &way(Some(7)), &mut search, &mut budget).ok_or("replan")?;
+    let (first, mut search) = planned(rt.alloc(), &way(Some(5)), 2, &mut budget).ok_or("plan")?;
+    drop(first);
+    let broken = replanned(rt.alloc(), &way(Some(7)), &mut search, &mut budget);
+    drop(search);
+    let broken = broken.ok_or("replan")?;
     assert_eq!(rt;
         only_pass(&broken),
         Some((3000, Found::Broken, [].as_slice()))
     );
     assert!(rt; matches!(&broken.outcome, Outcome::Unknown));
     assert!(rt; broken.spent);
+    drop(broken);
     Ok(())
 }

@@ -128,6 +128,7 @@ fn arcs_in_the_order_of_the_file(rt: HostRuntime) -> Result<(), Fail> {
     ] {
         assert_eq!(rt; arc(&hall, s, k), want, "at arc {k} of {s}");
     }
+    drop(hall);
     Ok(())
 }
 
@@ -147,6 +148,7 @@ fn tails_are_the_arcs_that_lead_there(rt: HostRuntime) -> Result<(), Fail> {
     for (s, k) in [(16, 0), (0, 1), (80, 3)] {
         assert_eq!(rt; arc(&hall, s, k).map(|arc| arc.0), Some(Some(32)));
     }
+    drop(hall);
     Ok(())
 }
 
@@ -163,6 +165,7 @@ fn gaps_by_the_primitives_alone(rt: HostRuntime) -> Result<(), Fail> {
     ] {
         assert_eq!(rt; gap(&hall, from, to), want, "from {from} to {to}");
     }
+    drop(hall);
     Ok(())
 }
 
@@ -178,6 +181,7 @@ fn states_and_places(rt: HostRuntime) -> Result<(), Fail> {
     ] {
         assert_eq!(rt; hall.state_of(&off), None);
     }
+    drop(hall);
     Ok(())
 }
 
@@ -186,6 +190,7 @@ fn primitives_of_arcs(rt: HostRuntime) -> Result<(), Fail> {
     let hall = made(rt.alloc(), HALL, FOUR, 0)?;
     assert_eq!(rt; primitive(&hall, 80, 1), Some((1, 1, 50)));
     assert_eq!(rt; primitive(&hall, 81, 0), None);
+    drop(hall);
     Ok(())
 }
 
@@ -203,18 +208,24 @@ fn costs_are_written(rt: HostRuntime) -> Result<(), Fail> {
     assert_eq!(rt; corridor.set(1, 0, 90), Ok(0));
     assert_eq!(rt; corridor.cell_cost(1, 0), Some(90));
     assert_eq!(rt; arc(&corridor, 0, 0), Some((Some(16), None)));
+    drop(corridor);
     Ok(())
 }
 
-/// The cost of the arc beside the pillar for a robot of this radius, where the pillar costs this.
-fn beside_pillar(alloc: Global, radius: u64, cost: u8) -> Option<(Option<u32>, Option<u32>)> {
-    let Some(Ok(mut room)) = lattice_of(alloc, PILLAR, AHEAD, radius) else {
-        return None;
-    };
+/// The arc beside the pillar, once the pillar costs this.
+fn beside(room: &mut Lattice, cost: u8) -> Option<(Option<u32>, Option<u32>)> {
     match room.set(2, 2, cost) {
-        Ok(_) => arc(&room, 96, 0),
+        Ok(_) => arc(room, 96, 0),
         Err(_) => None,
     }
+}
+
+/// The arc beside the pillar for a robot of this radius, where the pillar costs this.
+fn beside_pillar(alloc: Global, radius: u64, cost: u8) -> Option<(Option<u32>, Option<u32>)> {
+    let mut room = lattice_of(alloc, PILLAR, AHEAD, radius)?.ok()?;
+    let found = beside(&mut room, cost);
+    drop(room);
+    found
 }
 
 #[test]
@@ -241,7 +252,8 @@ fn heads(alloc: Global, lattice: &Lattice, x: u32, y: u32) -> Result<Vec<u32>, A
 #[test]
 fn a_corner_is_read_by_four_arcs(rt: HostRuntime) -> Result<(), Fail> {
     let hall = made(rt.alloc(), HALL, FOUR, 0)?;
-    let heads = heads(rt.alloc(), &hall, 2, 1)?;
-    assert_eq!(rt; heads.as_slice(), [7, 80, 80, 80, 32].as_slice());
+    let heads = heads(rt.alloc(), &hall, 2, 1);
+    drop(hall);
+    assert_eq!(rt; heads?.as_slice(), [7, 80, 80, 80, 32].as_slice());
     Ok(())
 }

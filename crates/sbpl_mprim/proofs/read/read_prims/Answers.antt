@@ -9,7 +9,8 @@ returns-clause-found c =
     let fits : FitsSigned w64 c.args.cell = c.ranges.cell in
     let exact = simp to_z-of_z at c.read_file.ensures.exact in
     let given = simp to_z-of_z at c.read_file.ensures.given in
-    found_in_text c.args.cell c.args.headings c.args.text.now c.read_file.result c.requires.cell c.requires.some c.requires.few given exact
+    let sizes = simp to_z-of_z at c.read_file.ensures.sizes in
+    found_in_text c.args.cell c.args.headings c.args.text.now c.read_file.result sizes given exact
 
 pub returns-clause-only : goal.returns-clause-only
 returns-clause-only c =

@@ -7,16 +7,16 @@ use Rattle.sbpl_fixed.specs.Formats.{reads}
 use Rattle.sbpl_mprim.specs.Reading.{head_format}
 use Rattle.sbpl_mprim.proofs.reading.read_head.Goals as goal
 
-pub returns-in_err-read_resolution : goal.returns-in_err-read_resolution
+pub returns-in_err-read_resolution-clause-read : goal.returns-in_err-read_resolution-clause-read
 unfolding reads head_format
-returns-in_err-read_resolution c =
+returns-in_err-read_resolution-clause-read c =
     let cell : FitsSigned w64 c.args.cell = c.ranges.cell in
     let h = simp to_z-of_z at c.in_err-read_resolution.ensures.read in
     search (rules, reads_behind)
 
-pub returns-in_err-read_angles : goal.returns-in_err-read_angles
+pub returns-in_err-read_angles-clause-read : goal.returns-in_err-read_angles-clause-read
 unfolding reads head_format
-returns-in_err-read_angles c =
+returns-in_err-read_angles-clause-read c =
     let cell : FitsSigned w64 c.args.cell = c.ranges.cell in
     let h = simp to_z-of_z at c.in_ok-read_resolution.ensures.read in
     search (rules, reads_behind)
