@@ -1,3 +1,4 @@
 pub mod Words
-pub mod Taking
+pub mod Lines
 pub mod Jobs
+pub mod Found

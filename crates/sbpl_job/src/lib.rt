@@ -4,6 +4,7 @@
 mod demo;
 mod files;
 mod job;
+mod line;
 mod name;
 mod read;
 mod values;
@@ -12,7 +13,7 @@ mod words;
 pub use job::{CheckJob, DemoJob, Job, JobFault, Outputs, PlanJob, Planner, SearchJob, Sources};
 pub use name::Name;
 pub use read::read_job;
-pub use words::{Command, Given, Setting};
+pub use words::{Command, Setting};
 
 #[cfg(test)]
 mod tests;
