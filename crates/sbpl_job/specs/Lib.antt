@@ -2,3 +2,4 @@ pub mod Words
 pub mod Lines
 pub mod Jobs
 pub mod Found
+pub mod Asked

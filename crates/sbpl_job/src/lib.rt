@@ -3,6 +3,7 @@
 
 mod demo;
 mod files;
+mod help;
 mod job;
 mod line;
 mod name;
@@ -10,6 +11,7 @@ mod read;
 mod values;
 mod words;
 
+pub use help::{Asked, read_asked, told, usage};
 pub use job::{CheckJob, DemoJob, Job, JobFault, Outputs, PlanJob, Planner, SearchJob, Sources};
 pub use name::Name;
 pub use read::read_job;

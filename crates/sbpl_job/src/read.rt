@@ -16,7 +16,7 @@ use clap::ArgMatches;
 use std::alloc::Global;
 
 /// The command of this name.
-fn command_named(word: &str) -> Option<Command>
+pub(crate) fn command_named(word: &str) -> Option<Command>
     ensures command { result ≡ command_named word.now }
 {
     match word {

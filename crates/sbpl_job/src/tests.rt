@@ -1,6 +1,8 @@
 //! Lists of words, and the jobs that they name.
 
-use crate::{Job, JobFault, Name, PlanJob, Planner, Sources, read_job};
+use crate::{
+    Asked, Command, Job, JobFault, Name, PlanJob, Planner, Sources, read_asked, read_job, told,
+};
 use std::alloc::Global;
 use std::test::Fail;
 
@@ -198,5 +200,48 @@ fn no_job(rt: HostRuntime) -> Result<(), Fail> {
     }
     let none = read_job(rt.alloc(), &[]);
     assert!(rt; matches!(&none, Err(JobFault::Words)));
+    Ok(())
+}
+
+/// Words that ask for help or for the version, and a part of the text that is told.
+#[test]
+fn helps(rt: HostRuntime) -> Result<(), Fail> {
+    let rows = [
+        ("--help", Some(Asked::Help), "demo SEED W H"),
+        ("-h", Some(Asked::Help), "10  the text of labels"),
+        ("-V", Some(Asked::Version), "temjoask 0.1.0\n"),
+        (
+            "plan --help",
+            Some(Asked::HelpOf(Command::Plan)),
+            "--budget <N>",
+        ),
+        (
+            "check --help",
+            Some(Asked::HelpOf(Command::Check)),
+            "<LABELS>",
+        ),
+        (
+            "sweep --help",
+            Some(Asked::HelpOf(Command::Sweep)),
+            "[default: 0]",
+        ),
+        (
+            "demo --help",
+            Some(Asked::HelpOf(Command::Demo)),
+            "<SEED> <W> <H>",
+        ),
+        ("plan -h", None, ""),
+        ("help plan", None, ""),
+        ("--help plan", None, ""),
+    ];
+    for (line, asked, part) in rows {
+        let words = words_of(rt.alloc(), line)?;
+        let answer = read_asked(words.as_slice());
+        assert_eq!(rt; answer, asked, "{line}");
+        if let Some(asked) = answer {
+            let text = told(rt.alloc(), asked)?;
+            assert!(rt; text.as_str().contains(part), "{line}");
+        }
+    }
     Ok(())
 }
