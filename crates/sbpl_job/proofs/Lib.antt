@@ -1,2 +1,5 @@
-pub mod Parting
 pub mod Seeds
+pub mod Spacing
+pub mod Finding
+pub mod Reading
+pub mod Naming

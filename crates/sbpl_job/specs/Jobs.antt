@@ -16,9 +16,13 @@ use Rattle.sbpl_job.specs.declared.job.SearchJob.{SearchJob}
 use Rattle.sbpl_job.specs.declared.job.Sources.{Sources}
 use Rattle.sbpl_job.specs.declared.words.Command.{Command}
 use Rattle.sbpl_job.specs.declared.words.Command.TheVariants as command
-use Rattle.sbpl_job.specs.declared.words.Given.{Given}
 use Rattle.sbpl_job.specs.declared.words.Setting.TheVariants as setting
+use Rattle.sbpl_job.specs.declared.words.Setting.{Setting}
 use Rattle.sbpl_job.specs.Words.{Parts, parts_of, value_of}
+
+-- the values that are given to settings
+abbrev pub Settings : Type 0
+Settings = Setting → Option (List ℕ)
 
 -- the command of this name
 abbrev pub command_named : List ℕ → Option Command
@@ -35,17 +39,16 @@ radius_in (Ok (negsuc n)) = None
 radius_in (Err fault) = None
 
 -- the radius that is set by decimal metres; 0 where none is set
-abbrev pub radius_by : Option (Option (List ℕ)) → Option ℕ
-radius_by None = None
-radius_by (Some None) = Some 0
-radius_by (Some (Some metres)) = radius_in (nano_of metres)
+abbrev pub radius_by : Option (List ℕ) → Option ℕ
+radius_by None = Some 0
+radius_by (Some metres) = radius_in (nano_of metres)
 
 -- what the lattice of a command is made of, where there is a radius
 abbrev pub sources_by : (env prims : List ℕ) → Option ℕ → Option Sources
 sources_by env prims radius = option_map (λ r. record { env = env; prims = prims; radius = r }) radius
 
-abbrev pub sources_in : (env prims : List ℕ) → List Given → Option Sources
-sources_in env prims given = sources_by env prims (radius_by (value_of setting.Radius given))
+abbrev pub sources_in : (env prims : List ℕ) → Settings → Option Sources
+sources_in env prims set = sources_by env prims (radius_by (set setting.Radius))
 
 -- the thousandths that so many billionths are exactly, in their range
 abbrev pub milli_from : (low high nano : ℕ) → Option ℕ
@@ -57,10 +60,9 @@ milli_in low high (Ok (negsuc n)) = None
 milli_in low high (Err fault) = None
 
 -- the thousandths that are set by a decimal, or a default
-abbrev pub milli_by : (default low high : ℕ) → Option (Option (List ℕ)) → Option ℕ
-milli_by default low high None = None
-milli_by default low high (Some None) = Some default
-milli_by default low high (Some (Some text)) = milli_in low high (nano_of text)
+abbrev pub milli_by : (default low high : ℕ) → Option (List ℕ) → Option ℕ
+milli_by default low high None = Some default
+milli_by default low high (Some text) = milli_in low high (nano_of text)
 
 -- a number of expansions, 1 to 2 ^ 30
 abbrev pub budget_in : Result ℤ NumFault → Option ℕ
@@ -69,10 +71,9 @@ budget_in (Ok (negsuc n)) = None
 budget_in (Err fault) = None
 
 -- the budget that is set; 2 ^ 30 where none is set
-abbrev pub budget_by : Option (Option (List ℕ)) → Option ℕ
-budget_by None = None
-budget_by (Some None) = Some (2 ^ 30)
-budget_by (Some (Some text)) = budget_in (whole_of text)
+abbrev pub budget_by : Option (List ℕ) → Option ℕ
+budget_by None = Some (2 ^ 30)
+budget_by (Some text) = budget_in (whole_of text)
 
 -- the planner of this name
 abbrev pub planner_named : List ℕ → Option Planner
@@ -81,31 +82,29 @@ planner_named name =
     else (if bytes_eq name (codes "ad") then Some planner.AdStar else None)
 
 -- the planner that is set; Anytime D* where none is set
-abbrev pub planner_by : Option (Option (List ℕ)) → Option Planner
-planner_by None = None
-planner_by (Some None) = Some planner.AdStar
-planner_by (Some (Some name)) = planner_named name
+abbrev pub planner_by : Option (List ℕ) → Option Planner
+planner_by None = Some planner.AdStar
+planner_by (Some name) = planner_named name
 
 -- how a path is to be searched, by settings
-abbrev pub search_in : List Given → Option SearchJob
-search_in given =
+abbrev pub search_in : Settings → Option SearchJob
+search_in set =
     option_and_then (λ p. option_and_then (λ first. option_and_then (λ step. option_and_then (λ bound. option_and_then (λ budget.
     Some (record { planner = p; first = first; step = step; bound = bound; budget = budget }))
-    (budget_by (value_of setting.Budget given)))
-    (milli_by 1000 1000 100000 (value_of setting.Bound given)))
-    (milli_by 500 1 99000 (value_of setting.Step given)))
-    (milli_by 1000 1000 100000 (value_of setting.First given)))
-    (planner_by (value_of setting.Planner given))
+    (budget_by (set setting.Budget)))
+    (milli_by 1000 1000 100000 (set setting.Bound)))
+    (milli_by 500 1 99000 (set setting.Step)))
+    (milli_by 1000 1000 100000 (set setting.First)))
+    (planner_by (set setting.Planner))
 
 -- a name is that of a file that is read: the environment, the primitives, or the changes where there are some
 abbrev pub is_input : Sources → Option (List ℕ) → List ℕ → Bool
 is_input from changes name = bytes_eq name from.env || (bytes_eq name from.prims || option_map_or (bytes_eq name) changes false)
 
 -- the name of an output, if one is set: it is no file that is read
-abbrev pub output_by : Sources → Option (List ℕ) → Option (Option (List ℕ)) → Option (Option (List ℕ))
-output_by from changes None = None
-output_by from changes (Some None) = Some None
-output_by from changes (Some (Some name)) = if is_input from changes name then None else Some (Some name)
+abbrev pub output_by : Sources → Option (List ℕ) → Option (List ℕ) → Option (Option (List ℕ))
+output_by from changes None = Some None
+output_by from changes (Some name) = if is_input from changes name then None else Some (Some name)
 
 -- two outputs, which differ where both are set
 abbrev pub outputs_by : (labels trace : Option (List ℕ)) → Option Outputs
@@ -114,27 +113,29 @@ outputs_by (Some labels) None = Some (record { labels = Some labels; trace = Non
 outputs_by (Some labels) (Some trace) = if bytes_eq labels trace then None else Some (record { labels = Some labels; trace = Some trace })
 
 -- where a plan's labels and its trace are written
-abbrev pub outputs_in : Sources → Option (List ℕ) → List Given → Option Outputs
-outputs_in from changes given =
-    option_and_then (λ labels. option_and_then (outputs_by labels) (output_by from changes (value_of setting.Trace given)))
-    (output_by from changes (value_of setting.Labels given))
+abbrev pub outputs_in : Sources → Option (List ℕ) → Settings → Option Outputs
+outputs_in from changes set =
+    option_and_then (λ labels. option_and_then (outputs_by labels) (output_by from changes (set setting.Trace)))
+    (output_by from changes (set setting.Labels))
 
 -- the job `plan` on these sources, with these changes
-abbrev pub plan_on : Sources → Option (List ℕ) → List Given → Option Job
-plan_on from changes given =
-    option_and_then (λ outputs. option_map (λ search. job.Plan (record { sources = from; changes = changes; search = search; outputs = outputs })) (search_in given))
-    (outputs_in from changes given)
+abbrev pub plan_on : Sources → Option (List ℕ) → Settings → Option Job
+plan_on from changes set =
+    option_and_then (λ outputs. option_map (λ search. job.Plan (record { sources = from; changes = changes; search = search; outputs = outputs })) (search_in set))
+    (outputs_in from changes set)
 
-abbrev pub plan_in : (env prims : List ℕ) → List Given → Option Job
-plan_in env prims given =
-    option_and_then (λ from. option_and_then (λ changes. plan_on from changes given) (value_of setting.Changes given))
-    (sources_in env prims given)
+abbrev pub plan_in : (env prims : List ℕ) → Settings → Option Job
+plan_in env prims set =
+    option_and_then (λ from. plan_on from (set setting.Changes) set) (sources_in env prims set)
 
 -- the job `check`
-abbrev pub check_in : (env prims labels : List ℕ) → List Given → Option Job
-check_in env prims labels given =
-    option_and_then (λ from. option_map (λ changes. job.Check (record { sources = from; changes = changes; labels = labels })) (value_of setting.Changes given))
-    (sources_in env prims given)
+abbrev pub check_in : (env prims labels : List ℕ) → Settings → Option Job
+check_in env prims labels set =
+    option_map (λ from. job.Check (record { sources = from; changes = set setting.Changes; labels = labels })) (sources_in env prims set)
+
+-- the job `sweep`
+abbrev pub sweep_in : (env prims : List ℕ) → Settings → Option Job
+sweep_in env prims set = option_map job.Sweep (sources_in env prims set)
 
 -- a seed: one to twenty digits, below 2 ^ 64
 abbrev pub seed_in : List ℕ → Option ℕ
@@ -153,15 +154,15 @@ demo_in seed width height =
     (seed_in seed)
 
 -- the job of a command with these plain words and settings
-abbrev pub job_with : Command → List (List ℕ) → List Given → Option Job
-job_with command.Plan (env ∷ (prims ∷ [])) given = plan_in env prims given
-job_with command.Check (env ∷ (prims ∷ (labels ∷ []))) given = check_in env prims labels given
-job_with command.Sweep (env ∷ (prims ∷ [])) given = option_map job.Sweep (sources_in env prims given)
-job_with command.Demo (seed ∷ (width ∷ (height ∷ []))) given = demo_in seed width height
+abbrev pub job_with : Command → List (List ℕ) → Settings → Option Job
+job_with command.Plan (env ∷ (prims ∷ [])) set = plan_in env prims set
+job_with command.Check (env ∷ (prims ∷ (labels ∷ []))) set = check_in env prims labels set
+job_with command.Sweep (env ∷ (prims ∷ [])) set = sweep_in env prims set
+job_with command.Demo (seed ∷ (width ∷ (height ∷ []))) set = demo_in seed width height
 job_with _ _ _ = None
 
 abbrev pub job_by : Command → Parts → Option Job
-job_by c p = job_with c p.plain p.given
+job_by c p = job_with c p.plain (λ s. value_of s p.given)
 
 -- the job that the words name
 abbrev pub job_of : List (List ℕ) → Option Job

@@ -1,3 +1,5 @@
 pub mod Words
-pub mod Taking
+pub mod Lines
 pub mod Jobs
+pub mod Found
+pub mod Asked

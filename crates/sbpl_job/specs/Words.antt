@@ -1,15 +1,30 @@
 -- How the words behind a command's name part into plain words and settings with their values.
-use Rattle.std.specs.Prelude.{◌≡◌, ℕ, Bool, true, false, not, nat_eq, ◌||◌, List, [], ◌∷◌, map, filter, Option, Some, None, option_map, option_and_then, Result, Ok, Err, codes, if◌then◌else◌}
-use denote.Ref.{Bor}
+use Rattle.std.specs.Prelude.{◌≡◌, ℕ, Bool, true, false, not, nat_eq, ◌&&◌, ◌||◌, List, [], ◌∷◌, ◌++◌, map, Option, Some, None, is_some, option_map, option_and_then, Result, Ok, Err, codes, if◌then◌else◌}
 use Rattle.std.specs.Str.{bytes_eq}
-use Rattle.std.specs.List.{before_first, after_first}
+use denote.Ref.{Bor}
+use Rattle.std.specs.List.{after_first, before_first, list_any}
+use Rattle.std.specs.Option.{option_map_or}
 use Rattle.sbpl_job.specs.declared.job.JobFault.{JobFault}
 use Rattle.sbpl_job.specs.declared.job.JobFault.TheVariants.{Words, NoMemory}
 use Rattle.sbpl_job.specs.declared.words.Command.{Command}
 use Rattle.sbpl_job.specs.declared.words.Command.TheVariants as command
 use Rattle.sbpl_job.specs.declared.words.Setting.{Setting}
 use Rattle.sbpl_job.specs.declared.words.Setting.TheVariants as setting
-use Rattle.sbpl_job.specs.declared.words.Given.{Given}
+
+-- the texts behind references
+abbrev pub text_of : Bor (List ℕ) → List ℕ
+text_of word = word.now
+
+abbrev pub texts : List (Bor (List ℕ)) → List (List ℕ)
+texts = map text_of
+
+abbrev pub both_texts : Bor (List ℕ) × Bor (List ℕ) → List ℕ × List ℕ
+both_texts words = (words.0.now, words.1.now)
+
+-- a setting and its value
+pub record Given : Type 0 where
+  pub setting : Setting
+  pub value : List ℕ
 
 -- plain words, and settings with their values, each in its order
 pub record Parts : Type 0 where
@@ -30,18 +45,21 @@ abbrev pub is_plain_word : List ℕ → Bool
 is_plain_word [] = false
 is_plain_word (b ∷ bs) = not (nat_eq b 45)
 
--- two settings are the same
+-- what a setting is called, without the dashes
+abbrev pub id_of : Setting → List ℕ
+id_of setting.Changes = codes "changes"
+id_of setting.Radius = codes "radius"
+id_of setting.Planner = codes "planner"
+id_of setting.First = codes "first"
+id_of setting.Step = codes "step"
+id_of setting.Bound = codes "bound"
+id_of setting.Budget = codes "budget"
+id_of setting.Labels = codes "labels"
+id_of setting.Trace = codes "trace"
+
+-- two settings are the same where their names are
 abbrev pub is_setting : Setting → Setting → Bool
-is_setting setting.Changes setting.Changes = true
-is_setting setting.Radius setting.Radius = true
-is_setting setting.Planner setting.Planner = true
-is_setting setting.First setting.First = true
-is_setting setting.Step setting.Step = true
-is_setting setting.Bound setting.Bound = true
-is_setting setting.Budget setting.Budget = true
-is_setting setting.Labels setting.Labels = true
-is_setting setting.Trace setting.Trace = true
-is_setting _ _ = false
+is_setting a b = bytes_eq (id_of a) (id_of b)
 
 -- the setting of this name
 abbrev pub setting_named : List ℕ → Option Setting
@@ -72,53 +90,62 @@ abbrev pub is_equals : ℕ → Bool
 is_equals b = nat_eq b 61
 
 -- a setting's name and its value in one word, parted by the first '='
-abbrev pub joined_setting : Command → List ℕ → Option (Setting × List ℕ)
-joined_setting c word = option_and_then (λ s. if is_plain_word (after_first is_equals word) then Some (s, after_first is_equals word) else None) (setting_of c (before_first is_equals word))
+abbrev pub is_joined : Command → List ℕ → Bool
+is_joined c word = is_some (setting_of c (before_first is_equals word)) && is_plain_word (after_first is_equals word)
 
--- what a setting's name makes of the words behind it, where there is one; and what else there is
-abbrev pub setting_or : Option Setting → (Setting → Option Parts) → Option Parts → Option Parts
-setting_or (Some s) awaited other = awaited s
-setting_or None awaited other = other
+abbrev pub joined_word : Command → List ℕ → Option (List ℕ × List ℕ)
+joined_word c word = if is_joined c word then Some (before_first is_equals word, after_first is_equals word) else None
 
--- a setting and its value before the parts of other words
-abbrev pub with_joined : Option (Setting × List ℕ) → Option Parts → Option Parts
-with_joined (Some (s, value)) rest = option_map (with_given s value) rest
-with_joined None rest = None
+-- words in the spaced form, in which the value of a setting is the word behind its name
+abbrev pub spaced_word : Command → List ℕ → List (List ℕ)
+spaced_word c word = option_map_or (λ parts. parts.0 ∷ (parts.1 ∷ [])) (joined_word c word) (word ∷ [])
 
--- How words part, where a setting may await its value: a plain word is that value, or stands by itself; a setting's name
--- awaits its value in the next word; a name and its value may stand in one word.
+abbrev pub spaced : Command → List (List ℕ) → List (List ℕ)
+spaced c [] = []
+spaced c (word ∷ words) = spaced_word c word ++ spaced c words
+
+-- a word of the spaced form: plain, or the name of a setting that the command takes
+abbrev pub is_known : Command → List ℕ → Bool
+is_known c word = is_plain_word word || is_some (setting_of c word)
+
+-- How spaced words part, where a setting may await its value: a plain word is that value, or stands by itself; a setting's
+-- name awaits its value in the next word.
 abbrev pub parts_after : Command → Option Setting → List (List ℕ) → Option Parts
 parts_after c None [] = Some no_parts
 parts_after c (Some s) [] = None
 parts_after c (Some s) (word ∷ words) = if is_plain_word word then option_map (with_given s word) (parts_after c None words) else None
 parts_after c None (word ∷ words) =
     if is_plain_word word then option_map (with_plain word) (parts_after c None words)
-    else setting_or (setting_of c word) (λ s. parts_after c (Some s) words) (with_joined (joined_setting c word) (parts_after c None words))
+    else option_and_then (λ s. parts_after c (Some s) words) (setting_of c word)
+
+-- a setting's name does not stand again behind it
+abbrev pub stands_once : Command → List ℕ → List (List ℕ) → Bool
+stands_once c word words = not (option_map_or (λ _. list_any (bytes_eq word) words) (setting_of c word) false)
+
+-- no setting stands twice
+abbrev pub once : Command → List (List ℕ) → Bool
+once c [] = true
+once c (word ∷ words) = stands_once c word words && once c words
+
+-- each word is plain, or the name of a setting that stands once
+abbrev pub are_fit : Command → List (List ℕ) → Bool
+are_fit c [] = true
+are_fit c (word ∷ words) = (is_known c word && stands_once c word words) && are_fit c words
+
+-- the parts of spaced words, in which no setting stands twice; and those of words
+abbrev pub parts_in : Command → List (List ℕ) → Option Parts
+parts_in c words = if once c words then parts_after c None words else None
 
 abbrev pub parts_of : Command → List (List ℕ) → Option Parts
-parts_of c words = parts_after c None words
+parts_of c words = parts_in c (spaced c words)
 
--- none or the one element of a list of at most one
-abbrev pub at_most_one : {X : Type 0} → List X → Option (Option X)
-at_most_one [] = Some None
-at_most_one (x ∷ []) = Some (Some x)
-at_most_one (x ∷ (y ∷ more)) = None
-
--- the value of a setting, if it is given; and no answer where it is given more than once
-abbrev pub value_of : Setting → List Given → Option (Option (List ℕ))
-value_of s given = at_most_one (map (λ g. g.value) (filter (λ g. is_setting g.setting s) given))
+-- the value of a setting, if it is given
+abbrev pub value_of : Setting → List Given → Option (List ℕ)
+value_of s [] = None
+value_of s (g ∷ gs) = if is_setting g.setting s then Some g.value else value_of s gs
 
 -- an answer is what the words name; or it says that they name nothing; or memory ran out
 abbrev pub Names : {X : Type 0} → Option X → Result X JobFault → Type 0
 Names named (Ok x) = named ≡ Some x
 Names named (Err Words) = named ≡ None
 Names named (Err NoMemory) = Unit {0}
-
-abbrev pub NamesParts : Option Parts → Result Parts JobFault → Type 0
-NamesParts named answer = Names named answer
-
--- an answer is the value of a setting, if it is given; or it says that it is given more than once
-abbrev pub NamesValue : Option (Option (List ℕ)) → Result (Option (Bor (List ℕ))) JobFault → Type 0
-NamesValue named (Ok found) = named ≡ Some (option_map (λ b. b.now) found)
-NamesValue named (Err Words) = named ≡ None
-NamesValue named (Err NoMemory) = ⊥

@@ -6,7 +6,6 @@ ghost use Rattle.sbpl_job.specs.Jobs.{extent_in, seed_in};
 ghost use Rattle.sbpl_job.specs.Words.{Names};
 
 use crate::job::JobFault;
-use crate::name::Name;
 use sbpl_fixed::read_whole;
 
 /// The most digits of a seed.
@@ -23,27 +22,26 @@ fn has_plus(text: &str) -> bool
 }
 
 /// A seed: one to twenty digits, below 2^64.
-pub(crate) fn read_seed(text: &Name) -> Result<u64, JobFault>
+pub(crate) fn read_seed(text: &str) -> Result<u64, JobFault>
     ensures seed { Names (seed_in text.now) result }
     ensures range { IfOk result (λ s. s < 2 ^ 64) }
 {
-    let digits = text.as_str();
     // `parse` passes over a plus, which is no digit.
-    if digits.len() > MOST_DIGITS || has_plus(digits) {
+    if text.len() > MOST_DIGITS || has_plus(text) {
         return Err(JobFault::Words);
     }
-    match digits.parse::<u64>() {
+    match text.parse::<u64>() {
         Ok(seed) => Ok(seed),
         Err(_) => Err(JobFault::Words),
     }
 }
 
 /// A width or a height, 8 to 512 cells.
-pub(crate) fn read_extent(text: &Name) -> Result<u32, JobFault>
+pub(crate) fn read_extent(text: &str) -> Result<u32, JobFault>
     ensures extent { Names (extent_in (whole_of text.now)) result }
     ensures range { IfOk result (λ n. (8 ≤ n) × (n ≤ 512)) }
 {
-    match read_whole(text.as_str().as_bytes()) {
+    match read_whole(text.as_bytes()) {
         Ok(extent) if extent >= 8 && extent <= 512 => Ok(extent as u32),
         _ => Err(JobFault::Words),
     }

@@ -1,24 +1,25 @@
 //! Names of files and outputs, which differ where they have to.
 
-ghost use Rattle.std.specs.Prelude.{◌≡◌, ◌≤◌, ◌^◌, ℕ, List, IfOk, Some, option_map};
+ghost use Rattle.std.specs.Prelude.{◌≡◌, ◌≤◌, ◌^◌, IfOk, Some, option_map};
 ghost use Rattle.std.specs.Str.{bytes_eq};
 ghost use Rattle.sbpl_job.specs.declared.words.Setting.TheVariants as Settings;
+ghost use Rattle.sbpl_job.specs.Found.{set_in};
 ghost use Rattle.sbpl_job.specs.Jobs.{is_input, output_by, outputs_by, outputs_in, sources_in};
-ghost use Rattle.sbpl_job.specs.Words.{Names, value_of};
+ghost use Rattle.sbpl_job.specs.Words.{Names, text_of};
 
 use crate::job::{JobFault, Outputs, Sources};
 use crate::name::Name;
 use crate::values::radius_of;
-use crate::words::{Line, Setting};
+use clap::ArgMatches;
 use std::alloc::{AllocError, Global};
 
 /// These names and this radius.
-fn make_sources(alloc: Global, env: &Name, prims: &Name, radius: u64) -> Result<Sources, AllocError>
+fn make_sources(alloc: Global, env: &str, prims: &str, radius: u64) -> Result<Sources, AllocError>
     ensures sources { IfOk result (λ s. s ≡ record { env = env.now; prims = prims.now; radius = radius }) }
 {
     Ok(Sources {
-        env: Name::of(alloc, env.as_str())?,
-        prims: Name::of(alloc, prims.as_str())?,
+        env: Name::of(alloc, env)?,
+        prims: Name::of(alloc, prims)?,
         radius,
     })
 }
@@ -26,39 +27,38 @@ fn make_sources(alloc: Global, env: &Name, prims: &Name, radius: u64) -> Result<
 /// What the lattice of a command is made of.
 pub(crate) fn sources_of(
     alloc: Global,
-    env: &Name,
-    prims: &Name,
-    line: &Line,
+    env: &str,
+    prims: &str,
+    matches: &ArgMatches,
 ) -> Result<Sources, JobFault>
-    ensures sources { Names (sources_in env.now prims.now line.now.given) result }
+    ensures sources { Names (sources_in env.now prims.now (set_in matches.now)) result }
     ensures range { IfOk result (λ s. s.radius ≤ 10 ^ 12) }
 {
-    match radius_of(line) {
+    match radius_of(matches) {
         Ok(radius) => Ok(make_sources(alloc, env, prims, radius)?),
         Err(fault) => Err(fault),
     }
 }
 
-/// The file of changes, where it is given.
-pub(crate) fn changes_of(alloc: Global, line: &Line) -> Result<Option<Name>, JobFault>
-    ensures changes { Names (value_of Settings.Changes line.now.given) result }
+/// The name that this word is, if there is one.
+pub(crate) fn name_of(alloc: Global, word: Option<&str>) -> Result<Option<Name>, AllocError>
+    ensures name { IfOk result (λ name. name ≡ option_map text_of word.entry) }
 {
-    match line.value_of(Setting::Changes) {
-        Ok(None) => Ok(None),
-        Ok(Some(name)) => Ok(Some(Name::of(alloc, name.as_str())?)),
-        Err(fault) => Err(fault),
+    match word {
+        None => Ok(None),
+        Some(word) => Ok(Some(Name::of(alloc, word)?)),
     }
 }
 
-/// Whether two names are the same.
-fn is_same(a: &Name, b: &Name) -> bool
-    ensures same { result ≡ bytes_eq a.now b.now }
+/// Whether a name is this word.
+fn is_same(word: &str, name: &Name) -> bool
+    ensures same { result ≡ bytes_eq word.now name.now }
 {
-    a.as_str() == b.as_str()
+    word == name.as_str()
 }
 
 /// Whether a name is that of a file that is read.
-fn is_input(from: &Sources, changes: &Option<Name>, name: &Name) -> bool
+fn is_input(from: &Sources, changes: &Option<Name>, name: &str) -> bool
     ensures input { result ≡ is_input from.now changes.now name.now }
 {
     if is_same(name, &from.env) || is_same(name, &from.prims) {
@@ -75,30 +75,28 @@ fn output_named(
     alloc: Global,
     from: &Sources,
     changes: &Option<Name>,
-    name: &Name,
+    name: &str,
 ) -> Result<Option<Name>, JobFault>
-    ensures output { Names (output_by from.now changes.now (Some (Some name.now))) result }
+    ensures output { Names (output_by from.now changes.now (Some name.now)) result }
 {
     if is_input(from, changes, name) {
         return Err(JobFault::Words);
     }
-    Ok(Some(Name::of(alloc, name.as_str())?))
+    Ok(Some(Name::of(alloc, name)?))
 }
 
-/// The output that a setting names, if it is given.
+/// The output that this word names, if there is one.
 fn output_of(
     alloc: Global,
     from: &Sources,
     changes: &Option<Name>,
-    line: &Line,
-    setting: Setting,
+    name: Option<&str>,
 ) -> Result<Option<Name>, JobFault>
-    ensures output { Names (output_by from.now changes.now (value_of setting line.now.given)) result }
+    ensures output { Names (output_by from.now changes.now (option_map text_of name.entry)) result }
 {
-    match line.value_of(setting) {
-        Ok(None) => Ok(None),
-        Ok(Some(name)) => output_named(alloc, from, changes, name),
-        Err(fault) => Err(fault),
+    match name {
+        None => Ok(None),
+        Some(name) => output_named(alloc, from, changes, name),
     }
 }
 
@@ -107,7 +105,7 @@ fn both_outputs(labels: Option<Name>, trace: Option<Name>) -> Result<Outputs, Jo
     ensures outputs { Names (outputs_by labels trace) result }
 {
     if let (Some(first), Some(second)) = (&labels, &trace) {
-        if is_same(first, second) {
+        if is_same(first.as_str(), second) {
             return Err(JobFault::Words);
         }
     }
@@ -119,11 +117,11 @@ pub(crate) fn outputs_of(
     alloc: Global,
     from: &Sources,
     changes: &Option<Name>,
-    line: &Line,
+    matches: &ArgMatches,
 ) -> Result<Outputs, JobFault>
-    ensures outputs { Names (outputs_in from.now changes.now line.now.given) result }
+    ensures outputs { Names (outputs_in from.now changes.now (set_in matches.now)) result }
 {
-    let labels = output_of(alloc, from, changes, line, Setting::Labels)?;
-    let trace = output_of(alloc, from, changes, line, Setting::Trace)?;
+    let labels = output_of(alloc, from, changes, matches.get_str("labels"))?;
+    let trace = output_of(alloc, from, changes, matches.get_str("trace"))?;
     both_outputs(labels, trace)
 }

@@ -3,16 +3,19 @@
 
 mod demo;
 mod files;
+mod help;
 mod job;
+mod line;
 mod name;
 mod read;
 mod values;
 mod words;
 
+pub use help::{Asked, read_asked, told, usage};
 pub use job::{CheckJob, DemoJob, Job, JobFault, Outputs, PlanJob, Planner, SearchJob, Sources};
 pub use name::Name;
 pub use read::read_job;
-pub use words::{Command, Given, Setting};
+pub use words::{Command, Setting};
 
 #[cfg(test)]
 mod tests;

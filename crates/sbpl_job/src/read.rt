@@ -1,21 +1,22 @@
 //! The job that the words name.
 
-ghost use Rattle.std.specs.Prelude.{◌≡◌, ◌≤◌, ◌^◌, IfOk, Some, map, string_bytes};
-ghost use Rattle.sbpl_job.specs.Jobs.{IsJob, check_in, command_named, demo_in, job_by, job_of, plan_in, plan_on};
-ghost use Rattle.sbpl_job.specs.Jobs.{sources_in};
-ghost use Rattle.sbpl_job.specs.declared.job.Job.TheVariants as Jobs;
-ghost use Rattle.sbpl_job.specs.Words.{Names};
+ghost use Rattle.std.specs.Prelude.{◌≡◌, ◌≤◌, ◌^◌, IfOk, map, option_and_then, string_bytes};
+ghost use Rattle.sbpl_job.specs.Found.{job_found, set_in};
+ghost use Rattle.sbpl_job.specs.Jobs.{IsJob, check_in, command_named, demo_in, job_by, job_of, plan_in, plan_on, sweep_in};
+ghost use Rattle.sbpl_job.specs.Words.{Names, parts_in, texts};
 
 use crate::demo::{read_extent, read_seed};
-use crate::files::{changes_of, outputs_of, sources_of};
+use crate::files::{name_of, outputs_of, sources_of};
 use crate::job::{CheckJob, DemoJob, Job, JobFault, PlanJob, Sources};
+use crate::line::find_parts;
 use crate::name::Name;
 use crate::values::search_of;
-use crate::words::{Command, Line, part_words};
+use crate::words::{Command, are_fit, spaced_words};
+use clap::ArgMatches;
 use std::alloc::Global;
 
 /// The command of this name.
-fn command_named(word: &str) -> Option<Command>
+pub(crate) fn command_named(word: &str) -> Option<Command>
     ensures command { result ≡ command_named word.now }
 {
     match word {
@@ -32,14 +33,14 @@ fn plan_on(
     alloc: Global,
     sources: Sources,
     changes: Option<Name>,
-    line: &Line,
+    matches: &ArgMatches,
 ) -> Result<Job, JobFault>
     requires range { sources.radius ≤ 10 ^ 12 }
-    ensures job { Names (plan_on sources changes line.now.given) result }
+    ensures job { Names (plan_on sources changes (set_in matches.now)) result }
     ensures range { IfOk result IsJob }
 {
-    let outputs = outputs_of(alloc, &sources, &changes, line)?;
-    let search = search_of(line)?;
+    let outputs = outputs_of(alloc, &sources, &changes, matches)?;
+    let search = search_of(matches)?;
     Ok(Job::Plan(PlanJob {
         sources,
         changes,
@@ -49,61 +50,139 @@ fn plan_on(
 }
 
 /// The job `plan` on these files.
-fn plan_of(alloc: Global, env: &Name, prims: &Name, line: &Line) -> Result<Job, JobFault>
-    ensures job { Names (plan_in env.now prims.now line.now.given) result }
+fn plan_of(alloc: Global, env: &str, prims: &str, matches: &ArgMatches) -> Result<Job, JobFault>
+    ensures job { Names (plan_in env.now prims.now (set_in matches.now)) result }
     ensures range { IfOk result IsJob }
 {
-    let sources = sources_of(alloc, env, prims, line)?;
-    let changes = changes_of(alloc, line)?;
-    plan_on(alloc, sources, changes, line)
+    let sources = sources_of(alloc, env, prims, matches)?;
+    let changes = name_of(alloc, matches.get_str("changes"))?;
+    plan_on(alloc, sources, changes, matches)
 }
 
 /// The job `check` of this file of labels.
 fn check_of(
     alloc: Global,
-    env: &Name,
-    prims: &Name,
-    labels: &Name,
-    line: &Line,
+    env: &str,
+    prims: &str,
+    labels: &str,
+    matches: &ArgMatches,
 ) -> Result<Job, JobFault>
-    ensures job { Names (check_in env.now prims.now labels.now line.now.given) result }
+    ensures job { Names (check_in env.now prims.now labels.now (set_in matches.now)) result }
     ensures range { IfOk result IsJob }
 {
-    let sources = sources_of(alloc, env, prims, line)?;
-    let changes = changes_of(alloc, line)?;
     Ok(Job::Check(CheckJob {
-        sources,
-        changes,
-        labels: Name::of(alloc, labels.as_str())?,
+        sources: sources_of(alloc, env, prims, matches)?,
+        changes: name_of(alloc, matches.get_str("changes"))?,
+        labels: Name::of(alloc, labels)?,
     }))
+}
+
+/// The job `sweep` on these files.
+fn sweep_of(alloc: Global, env: &str, prims: &str, matches: &ArgMatches) -> Result<Job, JobFault>
+    ensures job { Names (sweep_in env.now prims.now (set_in matches.now)) result }
+    ensures range { IfOk result IsJob }
+{
+    Ok(Job::Sweep(sources_of(alloc, env, prims, matches)?))
 }
 
 /// The job `demo` of this seed and this size.
-fn demo_of(seed: &Name, width: &Name, height: &Name) -> Result<Job, JobFault>
+fn demo_of(seed: &str, width: &str, height: &str) -> Result<Job, JobFault>
     ensures job { Names (demo_in seed.now width.now height.now) result }
     ensures range { IfOk result IsJob }
 {
-    let seed = read_seed(seed)?;
-    let width = read_extent(width)?;
-    let height = read_extent(height)?;
     Ok(Job::Demo(DemoJob {
-        seed,
-        width,
-        height,
+        seed: read_seed(seed)?,
+        width: read_extent(width)?,
+        height: read_extent(height)?,
     }))
 }
 
-/// The job of a command with its plain words and settings.
-fn job_by(alloc: Global, command: Command, line: &Line) -> Result<Job, JobFault>
-    ensures job { Names (job_by command line.now) result }
+/// The job `plan` of what was found.
+fn found_plan(alloc: Global, matches: &ArgMatches) -> Result<Job, JobFault>
+    ensures job { Names (job_found Command.Plan matches.now) result }
     ensures range { IfOk result IsJob }
 {
-    match (command, line.plain()) {
-        (Command::Plan, [env, prims]) => plan_of(alloc, env, prims, line),
-        (Command::Check, [env, prims, labels]) => check_of(alloc, env, prims, labels, line),
-        (Command::Sweep, [env, prims]) => Ok(Job::Sweep(sources_of(alloc, env, prims, line)?)),
-        (Command::Demo, [seed, width, height]) => demo_of(seed, width, height),
-        _ => Err(JobFault::Words),
+    let Some(env) = matches.get_str("ENV") else {
+        return Err(JobFault::Words);
+    };
+    let Some(prims) = matches.get_str("MPRIM") else {
+        return Err(JobFault::Words);
+    };
+    plan_of(alloc, env, prims, matches)
+}
+
+/// The job `check` of what was found.
+fn found_check(alloc: Global, matches: &ArgMatches) -> Result<Job, JobFault>
+    ensures job { Names (job_found Command.Check matches.now) result }
+    ensures range { IfOk result IsJob }
+{
+    let Some(env) = matches.get_str("ENV") else {
+        return Err(JobFault::Words);
+    };
+    let Some(prims) = matches.get_str("MPRIM") else {
+        return Err(JobFault::Words);
+    };
+    let Some(labels) = matches.get_str("LABELS") else {
+        return Err(JobFault::Words);
+    };
+    check_of(alloc, env, prims, labels, matches)
+}
+
+/// The job `sweep` of what was found.
+fn found_sweep(alloc: Global, matches: &ArgMatches) -> Result<Job, JobFault>
+    ensures job { Names (job_found Command.Sweep matches.now) result }
+    ensures range { IfOk result IsJob }
+{
+    let Some(env) = matches.get_str("ENV") else {
+        return Err(JobFault::Words);
+    };
+    let Some(prims) = matches.get_str("MPRIM") else {
+        return Err(JobFault::Words);
+    };
+    sweep_of(alloc, env, prims, matches)
+}
+
+/// The job `demo` of what was found.
+fn found_demo(matches: &ArgMatches) -> Result<Job, JobFault>
+    ensures job { Names (job_found Command.Demo matches.now) result }
+    ensures range { IfOk result IsJob }
+{
+    let Some(seed) = matches.get_str("SEED") else {
+        return Err(JobFault::Words);
+    };
+    let Some(width) = matches.get_str("W") else {
+        return Err(JobFault::Words);
+    };
+    let Some(height) = matches.get_str("H") else {
+        return Err(JobFault::Words);
+    };
+    demo_of(seed, width, height)
+}
+
+/// The job of what was found.
+fn job_found(alloc: Global, command: Command, matches: &ArgMatches) -> Result<Job, JobFault>
+    ensures job { Names (job_found command matches.now) result }
+    ensures range { IfOk result IsJob }
+{
+    match command {
+        Command::Plan => found_plan(alloc, matches),
+        Command::Check => found_check(alloc, matches),
+        Command::Sweep => found_sweep(alloc, matches),
+        Command::Demo => found_demo(matches),
+    }
+}
+
+/// The job of a command with words of the spaced form.
+fn job_in(alloc: Global, command: Command, words: &[&str]) -> Result<Job, JobFault>
+    ensures job { Names (option_and_then (job_by command) (parts_in command (texts words.now))) result }
+    ensures range { IfOk result IsJob }
+{
+    if !are_fit(command, words) {
+        return Err(JobFault::Words);
+    }
+    match find_parts(alloc, command, words) {
+        Ok(matches) => job_found(alloc, command, &matches),
+        Err(fault) => Err(fault),
     }
 }
 
@@ -122,8 +201,6 @@ pub fn read_job(alloc: Global, words: &[String]) -> Result<Job, JobFault>
     let Some(command) = command_named(word.as_str()) else {
         return Err(JobFault::Words);
     };
-    match part_words(alloc, command, rest) {
-        Ok(line) => job_by(alloc, command, &line),
-        Err(fault) => Err(fault),
-    }
+    let spaced = spaced_words(alloc, command, rest)?;
+    job_in(alloc, command, spaced.as_slice())
 }

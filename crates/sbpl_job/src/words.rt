@@ -1,16 +1,11 @@
-//! The words behind a command's name, parted into plain words and settings with their values.
+//! Words: commands, settings, and the spaced form, in which a setting's value is the word behind its name.
 
-ghost use Rattle.std.specs.Prelude.{◌≡◌, ℕ, List, None, Some, false, IfErr, OnOk, map, option_map, string_bytes};
-ghost use denote.Ref.{Bor};
-ghost use Rattle.sbpl_job.specs.declared.job.JobFault.TheVariants.{NoMemory};
-ghost use Rattle.sbpl_job.specs.declared.words.Setting.{Setting};
-ghost use Rattle.sbpl_job.specs.Taking.{Takes, joined, plain_part};
-ghost use Rattle.sbpl_job.specs.Words.{NamesParts, NamesValue, is_plain_word, is_setting, joined_setting, no_parts, parts_of, setting_named, setting_of, takes, value_of};
+ghost use Rattle.std.specs.Prelude.{◌≡◌, ◌&&◌, IfOk, map, option_map, string_bytes};
+ghost use Rattle.std.specs.List.{list_any};
+ghost use Rattle.std.specs.Str.{bytes_eq};
+ghost use Rattle.sbpl_job.specs.Words.{are_fit, both_texts, is_known, is_plain_word, joined_word, setting_named, setting_of, spaced, stands_once, takes, texts};
 
-use crate::job::JobFault;
-use crate::name::Name;
-use std::alloc::Global;
-use std::marker::Model;
+use std::alloc::{AllocError, Global};
 
 /// A command of the program.
 #[derive(Clone, Copy, Debug, PartialEq, Eq)]
@@ -46,30 +41,6 @@ pub enum Setting {
     Labels,
     /// `--trace`: where the expansions of each plan are written.
     Trace,
-}
-
-/// A setting and its value.
-#[derive(Debug, Drop)]
-pub struct Given {
-    /// What is set.
-    pub setting: Setting,
-    /// The value, a plain word.
-    pub value: Name,
-}
-
-/// The words behind a command's name, parted.
-#[derive(Debug, Drop)]
-pub struct Line {
-    plain: Vec<Name>,
-    given: Vec<Given>,
-}
-
-impl Model for Line {
-    ghost use Rattle.sbpl_job.specs.Words.{Parts};
-
-    ghost Value = { Parts };
-
-    ghost view = { λ line. record { plain = line.plain.items; given = line.given.items } };
 }
 
 /// Whether a word is plain: not empty, and it does not begin with `-`.
@@ -124,180 +95,70 @@ fn setting_of(command: Command, word: &str) -> Option<Setting>
     }
 }
 
-/// What a word sets that holds a setting's name and its value, parted by `=`, and that value.
-fn joined_setting(command: Command, word: &str) -> Option<(Setting, &str)>
-    ensures joined { option_map (λ (x : Setting × Bor (List ℕ)). (x.0, x.1.now)) result ≡ joined_setting command word.now }
+/// The name and the value of a word that holds both, parted by the first `=`.
+fn joined_parts(command: Command, word: &str) -> Option<(&str, &str)>
+    ensures joined { option_map both_texts result ≡ joined_word command word.now }
 {
     let (name, value) = word.split_once('=')?;
-    let setting = setting_of(command, name)?;
-    if is_plain(value) {
-        Some((setting, value))
+    if setting_of(command, name).is_some() && is_plain(value) {
+        Some((name, value))
     } else {
         None
     }
 }
 
-/// Whether two settings are the same.
-fn is_setting(a: Setting, b: Setting) -> bool
-    ensures same { result ≡ is_setting a b }
-{
-    match (a, b) {
-        (Setting::Changes, Setting::Changes)
-        | (Setting::Radius, Setting::Radius)
-        | (Setting::Planner, Setting::Planner)
-        | (Setting::First, Setting::First)
-        | (Setting::Step, Setting::Step)
-        | (Setting::Bound, Setting::Bound)
-        | (Setting::Budget, Setting::Budget)
-        | (Setting::Labels, Setting::Labels)
-        | (Setting::Trace, Setting::Trace) => true,
-        _ => false,
-    }
-}
-
-impl Line {
-    /// No words.
-    fn new(alloc: Global) -> Line
-        ensures none { result ≡ no_parts }
-    {
-        Line {
-            plain: Vec::new(alloc),
-            given: Vec::new(alloc),
-        }
-    }
-
-    /// The plain words in order.
-    pub(crate) fn plain(&self) -> &[Name]
-        ensures plain { result.now ≡ self.now.plain }
-    {
-        self.plain.as_slice()
-    }
-
-    /// The value of a setting, where it is given. `Words` where it is given more than once.
-    pub(crate) fn value_of(&self, setting: Setting) -> Result<Option<&Name>, JobFault>
-        ensures value { NamesValue (value_of setting self.now.given) result }
-    {
-        let mut found = None;
-        for given in self.given.iter() {
-            if is_setting(given.setting, setting) {
-                if found.is_some() {
-                    return Err(JobFault::Words);
-                }
-                found = Some(&given.value);
-            }
-        }
-        Ok(found)
-    }
-
-    /// Adds a plain word.
-    fn push_plain(&mut self, alloc: Global, word: &str) -> Result<(), JobFault>
-        ensures added { OnOk result (self.new ≡ joined self.old (plain_part None word.now)) }
-        ensures memory { IfErr result (λ e. e ≡ NoMemory) }
-    {
-        self.plain.push(Name::of(alloc, word)?)?;
-        Ok(())
-    }
-
-    /// Adds a setting and its value.
-    fn push_given(&mut self, alloc: Global, setting: Setting, value: &str) -> Result<(), JobFault>
-        ensures added { OnOk result (self.new ≡ joined self.old (plain_part (Some setting) value.now)) }
-        ensures memory { IfErr result (λ e. e ≡ NoMemory) }
-    {
-        let value = Name::of(alloc, value)?;
-        self.given.push(Given { setting, value })?;
-        Ok(())
-    }
-
-    /// Takes a plain word: the value of the setting that awaits one, or a word by itself.
-    fn take_plain(
-        &mut self,
-        alloc: Global,
-        awaiting: Option<Setting>,
-        word: &str,
-    ) -> Result<(), JobFault>
-        ensures taken { OnOk result (self.new ≡ joined self.old (plain_part awaiting word.now)) }
-        ensures memory { IfErr result (λ e. e ≡ NoMemory) }
-    {
-        match awaiting {
-            Some(setting) => self.push_given(alloc, setting, word),
-            None => self.push_plain(alloc, word),
-        }
-    }
-
-    /// Takes a word that holds a setting's name and its value, where it is neither plain nor a setting's name.
-    fn take_joined(
-        &mut self,
-        alloc: Global,
-        command: Command,
-        word: &str,
-    ) -> Result<Option<Setting>, JobFault>
-        requires not_plain { is_plain_word word.now ≡ false }
-        requires no_name { setting_of command word.now ≡ None }
-        ensures taken { Takes command self.old self.new None word.now result }
-    {
-        let Some((setting, value)) = joined_setting(command, word) else {
-            return Err(JobFault::Words);
-        };
-        self.push_given(alloc, setting, value)?;
-        Ok(None)
-    }
-
-    /// Takes a word that is not plain, where no setting awaits a value: it is the name of a setting, which then awaits its
-    /// value, or a name and its value.
-    fn take_setting(
-        &mut self,
-        alloc: Global,
-        command: Command,
-        word: &str,
-    ) -> Result<Option<Setting>, JobFault>
-        requires not_plain { is_plain_word word.now ≡ false }
-        ensures taken { Takes command self.old self.new None word.now result }
-    {
-        match setting_of(command, word) {
-            Some(setting) => Ok(Some(setting)),
-            None => self.take_joined(alloc, command, word),
-        }
-    }
-
-    /// Takes one word, where a setting may await its value, and answers which setting awaits one then.
-    fn take(
-        &mut self,
-        alloc: Global,
-        command: Command,
-        awaiting: Option<Setting>,
-        word: &str,
-    ) -> Result<Option<Setting>, JobFault>
-        ensures taken { Takes command self.old self.new awaiting word.now result }
-    {
-        if is_plain(word) {
-            self.take_plain(alloc, awaiting, word)?;
-            return Ok(None);
-        }
-        match awaiting {
-            Some(_) => Err(JobFault::Words),
-            None => self.take_setting(alloc, command, word),
-        }
-    }
-}
-
-/// Parts the words behind a command's name. `Words` exactly where they have another form.
-pub(crate) fn part_words(
+/// The words in the spaced form.
+pub(crate) fn spaced_words(
     alloc: Global,
     command: Command,
     words: &[String],
-) -> Result<Line, JobFault>
-    ensures parts { NamesParts (parts_of command (map string_bytes words.now)) result }
+) -> Result<Vec<&str>, AllocError>
+    ensures spaced { IfOk result (λ v. texts v.items ≡ spaced command (map string_bytes words.now)) }
 {
-    let mut line = Line::new(alloc);
-    let mut awaiting = None;
+    let mut spaced = Vec::new(alloc);
     for word in words {
-        awaiting = match line.take(alloc, command, awaiting, word.as_str()) {
-            Ok(then) => then,
-            Err(fault) => return Err(fault),
-        };
+        let word = word.as_str();
+        match joined_parts(command, word) {
+            Some((name, value)) => {
+                spaced.push(name)?;
+                spaced.push(value)?;
+            }
+            None => spaced.push(word)?,
+        }
     }
-    match awaiting {
-        Some(_) => Err(JobFault::Words),
-        None => Ok(line),
+    Ok(spaced)
+}
+
+/// Whether a word stands again among others.
+fn stands_in(word: &str, words: &[&str]) -> bool
+    ensures again { result ≡ list_any (bytes_eq word.now) (texts words.now) }
+{
+    for other in words {
+        if word == *other {
+            return true;
+        }
     }
+    false
+}
+
+/// Whether a word of the spaced form is plain, or names a setting of the command that no later word names.
+fn is_fit(command: Command, word: &str, later: &[&str]) -> bool
+    ensures fit { result ≡ (is_known command word.now && stands_once command word.now (texts later.now)) }
+{
+    match setting_of(command, word) {
+        Some(_) => !stands_in(word, later),
+        None => is_plain(word),
+    }
+}
+
+/// Whether each word of the spaced form is plain, or the name of a setting of the command that stands nowhere else.
+pub(crate) fn are_fit(command: Command, words: &[&str]) -> bool
+    ensures fit { result ≡ are_fit command (texts words.now) }
+{
+    for i in 0..words.len() {
+        if !is_fit(command, words[i], &words[i + 1..]) {
+            return false;
+        }
+    }
+    true
 }

@@ -1,0 +1,71 @@
+-- The command line of each command, as it is given to clap.
+use Rattle.std.specs.Prelude.{ℕ, zero, suc, ◌+◌, true, List, [], ◌∷◌, Option, Some, None, codes}
+use Rattle.clap.specs.Walk.{Rule, Text}
+use Rattle.clap.specs.Simple.{App, Shape, built, filled, filled_from, new_rule, new_shape, with_index}
+use Rattle.sbpl_job.specs.declared.words.Command.{Command}
+use Rattle.sbpl_job.specs.declared.words.Command.TheVariants as command
+use Rattle.sbpl_job.specs.declared.words.Setting.{Setting}
+use Rattle.sbpl_job.specs.Words.{id_of}
+
+-- what the plain words of a command are called
+abbrev pub plain_id : Command → ℕ → Option Text
+plain_id command.Plan zero = Some (codes "ENV")
+plain_id command.Plan (suc zero) = Some (codes "MPRIM")
+plain_id command.Plan (suc (suc k)) = None
+plain_id command.Check zero = Some (codes "ENV")
+plain_id command.Check (suc zero) = Some (codes "MPRIM")
+plain_id command.Check (suc (suc zero)) = Some (codes "LABELS")
+plain_id command.Check (suc (suc (suc k))) = None
+plain_id command.Sweep zero = Some (codes "ENV")
+plain_id command.Sweep (suc zero) = Some (codes "MPRIM")
+plain_id command.Sweep (suc (suc k)) = None
+plain_id command.Demo zero = Some (codes "SEED")
+plain_id command.Demo (suc zero) = Some (codes "W")
+plain_id command.Demo (suc (suc zero)) = Some (codes "H")
+plain_id command.Demo (suc (suc (suc k))) = None
+
+-- an argument that must stand, and an option with one value, which has a name
+abbrev pub plain_rule : Text → Rule
+plain_rule id = record (new_rule id) { required = true }
+
+abbrev pub option_rule : Text → Rule
+option_rule id = record (new_rule id) { long = Some id; value_names = 1 }
+
+-- the same as they are built
+abbrev pub plain_built : ℕ → Text → Rule
+plain_built k id = with_index (k + 1) (filled (plain_rule id))
+
+abbrev pub option_built : Setting → Rule
+option_built s = filled (option_rule (id_of s))
+
+-- the arguments of a command, in order
+abbrev pub arguments : Command → List Rule
+arguments command.Plan = plain_rule (codes "ENV") ∷ (plain_rule (codes "MPRIM") ∷ (option_rule (codes "changes") ∷ (option_rule (codes "radius") ∷ (option_rule (codes "planner")
+    ∷ (option_rule (codes "first") ∷ (option_rule (codes "step") ∷ (option_rule (codes "bound") ∷ (option_rule (codes "budget") ∷ (option_rule (codes "labels") ∷ (option_rule (codes "trace") ∷ []))))))))))
+arguments command.Check = plain_rule (codes "ENV") ∷ (plain_rule (codes "MPRIM") ∷ (plain_rule (codes "LABELS") ∷ (option_rule (codes "changes") ∷ (option_rule (codes "radius") ∷ []))))
+arguments command.Sweep = plain_rule (codes "ENV") ∷ (plain_rule (codes "MPRIM") ∷ (option_rule (codes "radius") ∷ []))
+arguments command.Demo = plain_rule (codes "SEED") ∷ (plain_rule (codes "W") ∷ (plain_rule (codes "H") ∷ []))
+
+abbrev pub word_of : Command → Text
+word_of command.Plan = codes "plan"
+word_of command.Check = codes "check"
+word_of command.Sweep = codes "sweep"
+word_of command.Demo = codes "demo"
+
+-- a line without arguments, which reads words alone, with no name of the program before them, and knows no help
+abbrev pub bare_shape : Text → Shape
+bare_shape word = record (new_shape word) { no_binary_name = true; disable_help_flag = true }
+
+abbrev pub bare : Text → App
+bare word = record { top = bare_shape word; subs = [] }
+
+-- the line of a command
+abbrev pub app : Command → App
+app c = record { top = record (bare_shape (word_of c)) { rules = arguments c }; subs = [] }
+
+-- the same as it is built
+abbrev pub shape : Command → Shape
+shape c = (built (app c)).top
+
+abbrev pub rules : Command → List Rule
+rules c = filled_from 1 (arguments c)

@@ -1,0 +1,129 @@
+//! Texts for people: help, the version, and a short usage.
+
+ghost use Rattle.std.specs.Prelude.{◌≡◌, map, string_bytes};
+ghost use Rattle.sbpl_job.specs.Asked.{asked_for, asked_of};
+
+use crate::line::line_of;
+use crate::read::command_named;
+use crate::words::Command;
+use std::alloc::{AllocError, Global};
+
+/// What words ask to be told in place of a job.
+#[derive(Clone, Copy, Debug, PartialEq, Eq)]
+pub enum Asked {
+    /// `--help` or `-h`: what the program does.
+    Help,
+    /// `COMMAND --help`: what a command does, and its words.
+    HelpOf(Command),
+    /// `--version` or `-V`: which version the program is.
+    Version,
+}
+
+/// The program and its version.
+const VERSION: &str = "temjoask 0.1.0\n";
+
+/// How the program is called.
+const USAGE: &str = "\
+usage: temjoask plan ENV MPRIM [--changes F] [--radius M] [--planner P] [--first E] [--step E] [--bound B] [--budget N] [--labels F] [--trace F]
+       temjoask check ENV MPRIM LABELS [--changes F] [--radius M]
+       temjoask sweep ENV MPRIM [--radius M]
+       temjoask demo SEED W H
+       temjoask [COMMAND] --help
+       temjoask --version
+";
+
+/// What the program does.
+const ABOUT: &str = "\
+Temjoask plans on SBPL's state lattice, with a proved bound on the cost of each path.
+
+";
+
+/// What the exit statuses say.
+const STATUSES: &str = "
+Statuses:
+  0   done
+  1   a section of labels has a flaw
+  2   the words name no job
+  3   the environment has a fault
+  4   the primitives have a fault
+  5   the changes have a fault
+  6   a file could not be read
+  7   an output could not be written
+  8   a file is longer than 2^30 bytes
+  9   out of memory
+  10  the text of labels has a fault
+";
+
+/// An example of a command.
+fn example_of(command: Command) -> &'static str {
+    match command {
+        Command::Plan =>
+            "\nExample: temjoask plan hall.cfg robot.mprim --radius 0.2 --first 3 --labels hall.labels\n",
+        Command::Check =>
+            "\nExample: temjoask check hall.cfg robot.mprim hall.labels --radius 0.2\n",
+        Command::Sweep => "\nExample: temjoask sweep hall.cfg robot.mprim --radius 0.2\n",
+        Command::Demo => "\nExample: temjoask demo 7 32 32\n",
+    }
+}
+
+/// What one word asks for, where it stands alone.
+fn asked_alone(word: &str) -> Option<Asked>
+    ensures asked { result ≡ asked_of word.now }
+{
+    match word {
+        "--help" | "-h" => Some(Asked::Help),
+        "--version" | "-V" => Some(Asked::Version),
+        _ => None,
+    }
+}
+
+/// What words ask to be told, if they do: `--help`, `-h`, `--version` or `-V` alone, or a command and `--help`. Such words
+/// name no job.
+pub fn read_asked(words: &[String]) -> Option<Asked>
+    ensures asked { result ≡ asked_for (map string_bytes words.now) }
+{
+    match words {
+        [word] => asked_alone(word.as_str()),
+        [word, help] => {
+            if help.as_str() != "--help" {
+                return None;
+            }
+            match command_named(word.as_str()) {
+                Some(command) => Some(Asked::HelpOf(command)),
+                None => None,
+            }
+        }
+        _ => None,
+    }
+}
+
+/// The help of a command: its words and settings, the statuses, and an example.
+fn help_of(alloc: Global, command: Command) -> Result<String, AllocError> {
+    let mut line = line_of(alloc, command)?;
+    let mut text = line.render_help()?;
+    text.push_str(STATUSES)?;
+    text.push_str(example_of(command))?;
+    Ok(text)
+}
+
+/// The help of the program.
+fn whole_help(alloc: Global) -> Result<String, AllocError> {
+    let mut text = String::from_str(alloc, ABOUT)?;
+    text.push_str(USAGE)?;
+    text.push_str(STATUSES)?;
+    Ok(text)
+}
+
+/// The text that is asked for.
+pub fn told(alloc: Global, asked: Asked) -> Result<String, AllocError> {
+    match asked {
+        Asked::Help => whole_help(alloc),
+        Asked::HelpOf(command) => help_of(alloc, command),
+        Asked::Version => String::from_str(alloc, VERSION),
+    }
+}
+
+/// How the program is called, for words that name no job.
+pub fn usage() -> &'static str {
+    USAGE
+}

@@ -1,0 +1,241 @@
+//! The command line of each command, as it is given to `clap`, and what `clap` finds in it.
+
+ghost use Rattle.std.specs.Prelude.{◌≡◌, ◌↔◌, true, codes, IfOk};
+ghost use Rattle.clap.specs.Simple.{app_of, with_rule};
+ghost use Rattle.clap.specs.Values.{kind_of};
+ghost use Rattle.clap.specs.Walk.{rule_of};
+ghost use Rattle.clap.specs.declared.error.kind.ErrorKind.TheVariants.{OutOfMemory};
+ghost use Rattle.sbpl_job.specs.Found.{FindsParts};
+ghost use Rattle.sbpl_job.specs.Lines.{app, bare, option_rule, plain_rule};
+ghost use Rattle.sbpl_job.specs.Words.{are_fit, texts};
+
+use crate::job::JobFault;
+use crate::words::Command;
+use clap::error::ErrorKind;
+use clap::{Arg, ArgMatches, Error};
+use std::alloc::{AllocError, Global};
+
+/// A line without arguments, which knows no name of a program and no help.
+fn bare<'a>(alloc: Global, word: &'a str) -> clap::Command<'a>
+    ensures app { app_of result ≡ bare word.now }
+{
+    clap::Command::new(alloc, word)
+        .no_binary_name(true)
+        .disable_help_flag(true)
+}
+
+/// The line with a plain word that must stand.
+fn with_plain<'a>(
+    alloc: Global,
+    line: clap::Command<'a>,
+    id: &'a str,
+    help: &'a str,
+) -> Result<clap::Command<'a>, AllocError>
+    ensures app { IfOk result (λ l. app_of l ≡ with_rule (app_of line.entry) (plain_rule id.now)) }
+{
+    line.arg(Arg::new(alloc, id).required(true).help(help))
+}
+
+/// The line with a setting, whose value has a name.
+fn with_option<'a>(
+    alloc: Global,
+    line: clap::Command<'a>,
+    id: &'a str,
+    value: &'a str,
+    help: &'a str,
+) -> Result<clap::Command<'a>, AllocError>
+    ensures app { IfOk result (λ l. app_of l ≡ with_rule (app_of line.entry) (option_rule id.now)) }
+{
+    line.arg(Arg::new(alloc, id).long(id).value_name(value).help(help))
+}
+
+/// The files that a lattice is made of.
+fn with_files<'a>(alloc: Global, line: clap::Command<'a>) -> Result<clap::Command<'a>, AllocError>
+    ensures app { IfOk result (λ l. app_of l ≡ with_rule (with_rule (app_of line.entry) (plain_rule (codes "ENV"))) (plain_rule (codes "MPRIM"))) }
+{
+    let line = with_plain(alloc, line, "ENV", "the environment file, SBPL's .cfg")?;
+    with_plain(alloc, line, "MPRIM", "the primitive file, SBPL's .mprim")
+}
+
+/// The setting of the radius.
+fn with_radius<'a>(alloc: Global, line: clap::Command<'a>) -> Result<clap::Command<'a>, AllocError>
+    ensures app { IfOk result (λ l. app_of l ≡ with_rule (app_of line.entry) (option_rule (codes "radius"))) }
+{
+    with_option(
+        alloc,
+        line,
+        "radius",
+        "M",
+        "the radius of the robot in metres, 0 to 1000 [default: 0]",
+    )
+}
+
+/// The setting of the change file.
+fn with_changes<'a>(alloc: Global, line: clap::Command<'a>) -> Result<clap::Command<'a>, AllocError>
+    ensures app { IfOk result (λ l. app_of l ≡ with_rule (app_of line.entry) (option_rule (codes "changes"))) }
+{
+    with_option(
+        alloc,
+        line,
+        "changes",
+        "F",
+        "the file of changes, made from plan to plan [default: no change]",
+    )
+}
+
+/// How to search: the planner, and the inflations.
+fn with_search<'a>(alloc: Global, line: clap::Command<'a>) -> Result<clap::Command<'a>, AllocError>
+    ensures app { IfOk result (λ l. app_of l ≡ with_rule (with_rule (with_rule (app_of line.entry) (option_rule (codes "planner"))) (option_rule (codes "first"))) (option_rule (codes "step"))) }
+{
+    let line = with_option(
+        alloc,
+        line,
+        "planner",
+        "P",
+        "how to search: ad or ara [default: ad]",
+    )?;
+    let line = with_option(
+        alloc,
+        line,
+        "first",
+        "E",
+        "the inflation of the first pass, 1 to 100 [default: 1.000]",
+    )?;
+    with_option(
+        alloc,
+        line,
+        "step",
+        "E",
+        "by how much the inflation falls from pass to pass, 0.001 to 99 [default: 0.500]",
+    )
+}
+
+/// When a plan ends: the bound and the budget.
+fn with_ends<'a>(alloc: Global, line: clap::Command<'a>) -> Result<clap::Command<'a>, AllocError>
+    ensures app { IfOk result (λ l. app_of l ≡ with_rule (with_rule (app_of line.entry) (option_rule (codes "bound"))) (option_rule (codes "budget"))) }
+{
+    let line = with_option(
+        alloc,
+        line,
+        "bound",
+        "B",
+        "the bound that is good enough, 1 to 100 [default: 1.000]",
+    )?;
+    with_option(
+        alloc,
+        line,
+        "budget",
+        "N",
+        "how many states each plan may expand, 1 to 2^30 [default: 2^30]",
+    )
+}
+
+/// What a plan writes beside its report.
+fn with_outputs<'a>(alloc: Global, line: clap::Command<'a>) -> Result<clap::Command<'a>, AllocError>
+    ensures app { IfOk result (λ l. app_of l ≡ with_rule (with_rule (app_of line.entry) (option_rule (codes "labels"))) (option_rule (codes "trace"))) }
+{
+    let line = with_option(
+        alloc,
+        line,
+        "labels",
+        "F",
+        "where the labels are written [default: nowhere]",
+    )?;
+    with_option(
+        alloc,
+        line,
+        "trace",
+        "F",
+        "where the expansions are written [default: nowhere]",
+    )
+}
+
+/// The line of the command `plan`.
+fn plan_line<'a>(alloc: Global) -> Result<clap::Command<'a>, AllocError>
+    ensures app { IfOk result (λ l. app_of l ≡ app Command.Plan) }
+{
+    let line = bare(alloc, "plan").about(
+        "Plans on SBPL's state lattice, and again after each batch of changes.",
+    );
+    let line = with_files(alloc, line)?;
+    let line = with_changes(alloc, line)?;
+    let line = with_radius(alloc, line)?;
+    let line = with_search(alloc, line)?;
+    let line = with_ends(alloc, line)?;
+    with_outputs(alloc, line)
+}
+
+/// The line of the command `check`.
+fn check_line<'a>(alloc: Global) -> Result<clap::Command<'a>, AllocError>
+    ensures app { IfOk result (λ l. app_of l ≡ app Command.Check) }
+{
+    let line = bare(alloc, "check").about("Checks the labels that a plan wrote.");
+    let line = with_files(alloc, line)?;
+    let line = with_plain(alloc, line, "LABELS", "the file of labels")?;
+    let line = with_changes(alloc, line)?;
+    with_radius(alloc, line)
+}
+
+/// The line of the command `sweep`.
+fn sweep_line<'a>(alloc: Global) -> Result<clap::Command<'a>, AllocError>
+    ensures app { IfOk result (λ l. app_of l ≡ app Command.Sweep) }
+{
+    let line = bare(alloc, "sweep").about(
+        "Lists what each primitive costs, and the cells that it sweeps.",
+    );
+    let line = with_files(alloc, line)?;
+    with_radius(alloc, line)
+}
+
+/// The line of the command `demo`.
+fn demo_line<'a>(alloc: Global) -> Result<clap::Command<'a>, AllocError>
+    ensures app { IfOk result (λ l. app_of l ≡ app Command.Demo) }
+{
+    let line = bare(alloc, "demo").about("Plans on an example that is drawn from a seed.");
+    let line = with_plain(
+        alloc,
+        line,
+        "SEED",
+        "what the example is drawn from, 0 to 2^64 - 1",
+    )?;
+    let line = with_plain(alloc, line, "W", "how many cells the map is wide, 8 to 512")?;
+    with_plain(alloc, line, "H", "how many cells the map is high, 8 to 512")
+}
+
+/// The line of a command.
+pub(crate) fn line_of<'a>(alloc: Global, command: Command) -> Result<clap::Command<'a>, AllocError>
+    ensures app { IfOk result (λ l. app_of l ≡ app command) }
+{
+    match command {
+        Command::Plan => plan_line(alloc),
+        Command::Check => check_line(alloc),
+        Command::Sweep => sweep_line(alloc),
+        Command::Demo => demo_line(alloc),
+    }
+}
+
+/// Why `clap` refuses the words: it has no memory, or they name no job.
+fn fault_of(error: &Error) -> JobFault
+    ensures memory { result ≡ JobFault.NoMemory ↔ kind_of error.now ≡ OutOfMemory }
+{
+    match error.kind() {
+        ErrorKind::OutOfMemory => JobFault::NoMemory,
+        _ => JobFault::Words,
+    }
+}
+
+/// What `clap` finds in words of the spaced form. `Words` only where they have no parts, or parts that name no job.
+pub(crate) fn find_parts<'a>(
+    alloc: Global,
+    command: Command,
+    words: &'a [&'a str],
+) -> Result<ArgMatches<'a>, JobFault>
+    requires fit { are_fit command (texts words.now) ≡ true }
+    ensures finds { FindsParts command (texts words.now) result }
+{
+    let line = line_of(alloc, command)?;
+    match line.try_get_matches_from(words) {
+        Ok(matches) => Ok(matches),
+        Err(error) => Err(fault_of(&error)),
+    }
+}
