@@ -5,3 +5,6 @@ mod replanner;
 mod search;
 
 pub use replanner::Replanner;
+
+#[cfg(test)]
+mod tests;
