@@ -523,40 +523,13 @@ fn realistic(rt: HostRuntime) -> Result<(), Fail> {
     )
 }
 
-/// Words that name no job.
+/// Words that name no job. Which words name one is tested beside their reader.
 #[test]
 fn words(rt: HostRuntime) -> Result<(), Fail> {
-    let rows: [&[&str]; 30] = [
+    let rows: [&[&str]; 3] = [
         &[],
-        &["plan"],
         &["plan", "e"],
-        &["plan", "e", "-"],
-        &["plan", "e", "--"],
-        &["plan", "", "m"],
-        &["plan", "e", "m", "x"],
-        &["plane", "e", "m"],
-        &["plan", "e", "m", "--radius"],
-        &["plan", "e", "m", "--radius", "-1"],
-        &["plan", "e", "m", "--radius="],
-        &["plan", "e", "m", "--radius=-0.1"],
-        &["plan", "e", "m", "--radius", "1000.000000001"],
-        &["plan", "e", "m", "--radius", "1e1"],
         &["plan", "e", "m", "--radius", "0", "--radius", "0"],
-        &["plan", "e", "m", "--radius", "0", "--radius=0"],
-        &["plan", "e", "m", "--changes", "c"],
-        &["plan", "e", "m", "--radius0"],
-        &["sweep", "e", "m", "--labels", "l"],
-        &["check", "e", "m"],
-        &["plan", "e", "m", "--bound", "1.0005"],
-        &["plan", "e", "m", "--bound", "0.999"],
-        &["plan", "e", "m", "--first", "100.001"],
-        &["plan", "e", "m", "--step", "0"],
-        &["plan", "e", "m", "--budget", "1073741825"],
-        &["plan", "e", "m", "--planner", "ad"],
-        &["plan", "e", "m", "--labels", "e"],
-        &["plan", "e", "m", "--trace=m"],
-        &["plan", "e", "m", "--labels", "x", "--trace", "x"],
-        &["plan", "e", "m", "--labels", "x", "--labels", "y"],
     ];
     for row in rows {
         compare_words(
@@ -715,5 +688,145 @@ fn files(rt: HostRuntime) -> Result<(), Fail> {
     desk.hold_filled("e", 1_073_741_825, 0)?;
     assert_eq!(rt; run(rt.alloc(), words.as_slice(), &mut desk), 8);
     assert_eq!(rt; desk.written("-"), b"refused length e\n".as_slice());
+    Ok(())
+}
+
+/// The map changes at (2, 1), and back.
+const THERE_AND_BACK: &str = "cell 2 1 100\nreplan\ncell 2 1 0\nreplan\n";
+
+const REPAIRED: &str =
+    "plan 0\npass 1.000 expanded 4 best 100 bound 1.000\npath 3 cost 100 bound 1.000\npose 0 0 0\nstep 2 0 1 0\nstep 1 2 1 0\nstep 3 2 0 0\nplan 1\npass 1.000 expanded 1 best 150 bound 1.000\npath 1 cost 150 bound 1.000\npose 0 0 0\nstep 1 2 0 0\nplan 2\npass 1.000 expanded 0 best 100 bound 1.000\npath 4 cost 100 bound 1.000\npose 0 0 0\nstep 2 0 1 0\nstep 0 1 1 0\nstep 0 2 1 0\nstep 3 2 0 0\ndone\n";
+
+const BEGUN_ANEW: &str =
+    "plan 0\npass 1.000 expanded 4 best 100 bound 1.000\npath 3 cost 100 bound 1.000\npose 0 0 0\nstep 2 0 1 0\nstep 1 2 1 0\nstep 3 2 0 0\nplan 1\npass 1.000 expanded 3 best 150 bound 1.000\npath 1 cost 150 bound 1.000\npose 0 0 0\nstep 1 2 0 0\nplan 2\npass 1.000 expanded 4 best 100 bound 1.000\npath 3 cost 100 bound 1.000\npose 0 0 0\nstep 2 0 1 0\nstep 1 2 1 0\nstep 3 2 0 0\ndone\n";
+
+const UNCHANGED: &str =
+    "plan 0\npass 1.000 expanded 4 best 100 bound 1.000\npath 3 cost 100 bound 1.000\npose 0 0 0\nstep 2 0 1 0\nstep 1 2 1 0\nstep 3 2 0 0\nplan 1\npass 1.000 expanded 0 best 100 bound 1.000\npath 3 cost 100 bound 1.000\npose 0 0 0\nstep 2 0 1 0\nstep 1 2 1 0\nstep 3 2 0 0\ndone\n";
+
+/// Holds an environment, primitives and changes.
+fn hold_three(desk: &mut MemoryDesk, env: &str, prims: &str, changes: &str) -> Result<(), Fail> {
+    desk.hold("e", env.as_bytes())?;
+    desk.hold("m", prims.as_bytes())?;
+    desk.hold("c", changes.as_bytes())?;
+    Ok(())
+}
+
+/// Plans while the map changes.
+#[test]
+fn changes(rt: HostRuntime) -> Result<(), Fail> {
+    let rows: [(&str, &str, &str, &str, u8, &str); 6] = [
+        (E2, F2, THERE_AND_BACK, "ad", 0, REPAIRED),
+        (E2, F2, THERE_AND_BACK, "ara", 0, BEGUN_ANEW),
+        (
+            E2,
+            F2,
+            "cell 2 1 100\ncell 2 1 0\ncell 0 0 0\nreplan\n",
+            "ad",
+            0,
+            UNCHANGED,
+        ),
+        (E1, F1, "", "ad", 0, CORRIDOR),
+        (
+            E1,
+            F1,
+            "cell 3 0 1\nreplan\n",
+            "ad",
+            5,
+            "refused changes 4 OffMap 1\n",
+        ),
+        (
+            E1,
+            F1,
+            "replan\ncell 1 0 5\n",
+            "ad",
+            5,
+            "refused changes 5 NoReplan 2\n",
+        ),
+    ];
+    for (env, prims, changes, planner, status, report) in rows {
+        let mut desk = MemoryDesk::new(rt.alloc());
+        hold_three(&mut desk, env, prims, changes)?;
+        let words = words_of(
+            rt.alloc(),
+            &["plan", "e", "m", "--changes", "c", "--planner", planner],
+        )?;
+        assert_eq!(rt; run(rt.alloc(), words.as_slice(), &mut desk), status);
+        assert_eq!(rt; desk.written("-"), report.as_bytes());
+    }
+    Ok(())
+}
+
+/// The trace of a repair, and its labels, each section of which holds on the map of its plan.
+#[test]
+fn repaired_outputs(rt: HostRuntime) -> Result<(), Fail> {
+    let mut desk = MemoryDesk::new(rt.alloc());
+    hold_three(&mut desk, E2, F2, THERE_AND_BACK)?;
+    let words = words_of(
+        rt.alloc(),
+        &["plan", "e", "m", "--changes=c", "--labels=l", "--trace=t"],
+    )?;
+    assert_eq!(rt; run(rt.alloc(), words.as_slice(), &mut desk), 0);
+    assert_eq!(rt;
+        desk.written("t"),
+        b"trace plan 0\npass 1.000\nlower 0\nlower 48\nlower 64\nlower 80\nend\ntrace plan 1\npass 1.000\nlower 16\nend\ntrace plan 2\npass 1.000\nend\n".as_slice()
+    );
+    let mut other = MemoryDesk::new(rt.alloc());
+    hold_three(&mut other, E2, F2, THERE_AND_BACK)?;
+    other.hold("l", desk.written("l"))?;
+    let words = words_of(rt.alloc(), &["check", "e", "m", "l", "--changes", "c"])?;
+    assert_eq!(rt; run(rt.alloc(), words.as_slice(), &mut other), 0);
+    assert_eq!(rt;
+        other.written("-"),
+        b"plan 0 path holds\nplan 1 path holds\nplan 2 path holds\ndone\n".as_slice()
+    );
+    Ok(())
+}
+
+/// A change file and a file of labels that are not there, or too long.
+#[test]
+fn later_files(rt: HostRuntime) -> Result<(), Fail> {
+    let rows: [(&[&str], &str, &str, &str); 2] = [
+        (
+            &["plan", "e", "m", "--changes", "x"],
+            "x",
+            "refused read x\n",
+            "refused length x\n",
+        ),
+        (
+            &["check", "e", "m", "l", "--changes", "c"],
+            "l",
+            "refused read l\n",
+            "refused length l\n",
+        ),
+    ];
+    for (row, name, unread, long) in rows {
+        let words = words_of(rt.alloc(), row)?;
+        let mut desk = MemoryDesk::new(rt.alloc());
+        hold_three(&mut desk, E1, F1, "")?;
+        assert_eq!(rt; run(rt.alloc(), words.as_slice(), &mut desk), 6);
+        assert_eq!(rt; desk.written("-"), unread.as_bytes());
+        let mut desk = MemoryDesk::new(rt.alloc());
+        hold_three(&mut desk, E1, F1, "")?;
+        desk.hold_filled(name, 1_073_741_825, 0)?;
+        assert_eq!(rt; run(rt.alloc(), words.as_slice(), &mut desk), 8);
+        assert_eq!(rt; desk.written("-"), long.as_bytes());
+    }
+    Ok(())
+}
+
+/// A demonstration: its first line, four plans, and the last line, the same each time.
+#[test]
+fn demonstration(rt: HostRuntime) -> Result<(), Fail> {
+    let words = words_of(rt.alloc(), &["demo", "7", "32", "32"])?;
+    let mut desk = MemoryDesk::new(rt.alloc());
+    assert_eq!(rt; run(rt.alloc(), words.as_slice(), &mut desk), 0);
+    let mut again = MemoryDesk::new(rt.alloc());
+    assert_eq!(rt; run(rt.alloc(), words.as_slice(), &mut again), 0);
+    let report = desk.written("-");
+    assert_eq!(rt; report, again.written("-"));
+    assert!(rt; report.starts_with(b"demo states 16384 primitives 80 batches 3\nplan 0 "));
+    assert!(rt; report.ends_with(b"\ndone\n"));
+    let lines = report.iter().filter(|byte| **byte == b'\n').count();
+    assert_eq!(rt; lines, 6);
     Ok(())
 }
