@@ -31,7 +31,7 @@ pub use parts::Steps;
 pub use record::{Outcome, PathRecord, PlanRecord, Step};
 pub use refusal::{Input, Refusal};
 pub use sbpl_job::{
-    CheckJob, Command, Given, Job, JobFault, Name, Outputs, PlanJob, Planner, SearchJob, Setting,
+    CheckJob, Command, DemoJob, Job, JobFault, Name, Outputs, PlanJob, Planner, SearchJob, Setting,
     Sources, read_job,
 };
 pub use top::run;
