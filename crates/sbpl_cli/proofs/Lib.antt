@@ -8,3 +8,4 @@ pub mod Makings
 pub mod Showing
 pub mod Verifying
 pub mod OneEnding
+pub mod OnMaps
