@@ -6,8 +6,8 @@ pub mod Runs
 pub mod Ends
 pub mod Makings
 pub mod Showing
+pub mod OnMaps
 pub mod Verifying
 pub mod OneEnding
 pub mod Going
-pub mod OnMaps
 pub mod Drawings

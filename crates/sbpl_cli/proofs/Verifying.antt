@@ -1,14 +1,19 @@
 -- How the checking of sections ends, from how its parts end.
-use Rattle.std.proofs.Common.{◌≡◌, ℕ, ◌+◌, ◌≤◌, List, [], ◌∷◌, ◌++◌, Option, Some, None, Result, Ok, Err, refl, sym, ◌∙◌, subst, arith, inl, inr}
+use Rattle.std.proofs.Common.{◌≡◌, ◌≢◌, ℕ, zero, suc, ◌+◌, ◌<◌, ◌≤◌, List, [], ◌∷◌, ◌++◌, length, Option, Some, None, Result, Ok, Err, refl, sym, ◌∙◌, ap, subst, arith, inl, inr}
 use Rattle.sbpl_graph.specs.Network.{Network}
-use Rattle.sbpl_fixed.specs.Formats.{Left}
+use Rattle.sbpl_fixed.specs.Formats.{Left, start_at}
 use Rattle.sbpl_fixed.specs.Tokens.{Piece}
 use Rattle.sbpl_desk.specs.Desk.{NoneFalls, Rose, Stays}
 use Rattle.sbpl_desk.specs.declared.desk.WriteStop.{WriteStop}
 use Rattle.sbpl_desk.specs.declared.desk.WriteStop.TheVariants.{Failed, NoMemory}
 use Rattle.sbpl_cert.specs.declared.fault.LabelFault.TheVariants as fault
 use Rattle.sbpl_cert.specs.declared.outcome.Outcome.{Outcome}
-use Rattle.sbpl_cost.specs.World.{World}
+use Rattle.sbpl_cert.specs.Text.{HasFault}
+use Rattle.sbpl_map.specs.MapAfter.{IsMapAfter}
+use Rattle.sbpl_map.specs.declared.write.Write as change
+use Rattle.sbpl_cost.specs.Lattices.{network_of}
+use Rattle.sbpl_cost.specs.States.{state_count}
+use Rattle.sbpl_cost.specs.World.{IsWorld, World}
 use Rattle.sbpl_cli.specs.declared.checking.SectionStop.{SectionStop}
 use Rattle.sbpl_cli.specs.declared.checking.SectionStop.TheVariants as section
 use Rattle.sbpl_job.specs.declared.job.CheckJob.{CheckJob}
@@ -18,13 +23,14 @@ use Rattle.sbpl_cli.specs.declared.refusal.Input.TheVariants as input
 use Rattle.sbpl_cli.specs.declared.refusal.Refusal.TheVariants as refusal
 use Rattle.sbpl_cli.specs.declared.refusal.Stop.{Stop}
 use Rattle.sbpl_cli.specs.declared.refusal.Stop.TheVariants as stop
-use Rattle.sbpl_cli.specs.Causes.{IsTooLong, IsUnread, JobStopsFor, SaysWorld}
-use Rattle.sbpl_cli.specs.Checked.{AreChecked, IsHolding, IsSectionStop, IsTrailing}
+use Rattle.sbpl_cli.specs.Causes.{EarlyStopsFor, IsTooLong, IsUnread, JobStopsFor, SaysBatches, SaysWorld}
+use Rattle.sbpl_cli.specs.Checked.{AreChecked, Case, IsGraphAfter, IsSectionStop, IsShownHolding, IsStoppedIn, IsTrailing}
 use Rattle.sbpl_cli.specs.Intents.{checked_status, checked_writes, label_fault_text, last_write, stop_status, stop_writes}
-use Rattle.sbpl_cli.specs.Promises.{EndsSections, GoesOn}
+use Rattle.sbpl_cli.specs.Planning.{HoldsAndTells}
+use Rattle.sbpl_cli.specs.Promises.{EndsSections}
 use Rattle.sbpl_cli.specs.Verdicts.{holds_text}
-use Rattle.sbpl_cli.specs.Writing.{AreMade, EndsAs, EndsIn, FaultCounts, Told, Write, status_after, to_output}
-use Rattle.sbpl_cli.proofs.Writings.{cut_behind, ends_first, made_both, rose_since, status_ends, stopped_behind}
+use Rattle.sbpl_cli.specs.Writing.{AreMade, EndsAs, EndsIn, FaultCounts, IsOutput, StaysBut, Told, Write, status_after, to_output}
+use Rattle.sbpl_cli.proofs.Writings.{cut_behind, made_both, rose_since, status_ends, stopped_behind}
 
 -- writes were made, and then a run ended so
 pub ends_as_behind : (a b c : Told) (f g h : FaultCounts) (ws vs : List Write) (wanted status : ℕ) → AreMade a b ws → NoneFalls f g → EndsAs b c g h vs wanted status → EndsAs a c f h (ws ++ vs) wanted status
@@ -32,18 +38,34 @@ ends_as_behind a b c f g h ws vs wanted status made low (inl (is, p)) = inl (is,
 ends_as_behind a b c f g h ws vs wanted status made low (inr (inl (is, p))) = inr (inl (is, cut_behind a b c f g h ws vs made low p))
 ends_as_behind a b c f g h ws vs wanted status made low (inr (inr (is, p))) = inr (inr (is, stopped_behind a b c ws vs made p))
 
--- the status after a write that was not made is the same, whatever was wanted
-stopped_anyway : (wanted other status : ℕ) (e : WriteStop) → status ≡ status_after {T = Unit {0}} other (Err e) → status ≡ status_after {T = Unit {0}} wanted (Err e)
-stopped_anyway wanted other status Failed is = is
-stopped_anyway wanted other status NoMemory is = is
+-- the graph on each map has the states of the environment
+states_after : (w : World) (batches : List (List change.Write)) (k : ℕ) (n : Network) → IsGraphAfter w batches k n → n.states ≡ state_count w.env
+unfolding network_of
+states_after w batches k n is = ap (λ (m : Network). m.states) is.network
 
-module _ (start goal plan : ℕ) (a b : Told) (f g : FaultCounts) (status : ℕ) where
+-- another map has as many states
+pub same_states : (w v : World) → v ≡ record w { map = v.map } → (network_of w).states ≡ (network_of v).states
+unfolding network_of
+same_states w v others = sym (ap (λ (u : World). (network_of u).states) others)
+
+-- a section does not hold on its graph
+stopped_in : (c : Case) (n : Network) (plan : ℕ) (left : Left) (s : SectionStop) → IsGraphAfter c.world c.batches plan n → IsSectionStop n c.start c.goal plan left s → IsStoppedIn c plan left s
+stopped_in c n plan left (section.Flaw f) after is = (n, after, is)
+stopped_in c n plan left (section.Fault f) after is = (is.0, subst (λ (states : ℕ). HasFault plan states left f) (states_after c.world c.batches plan n after) is.1)
+stopped_in c n plan left section.NoMemory after is = tt
+
+-- memory may run out anywhere
+out_of_memory : (c : Case) (plan more : ℕ) (left : Left) → AreChecked IsShownHolding c plan more left [] (Some section.NoMemory)
+out_of_memory c plan zero left = tt
+out_of_memory c plan (suc more) left = tt
+
+module _ (c : Case) (plan : ℕ) (a b : Told) (f g : FaultCounts) (status : ℕ) where
   -- no token is left behind the last section
-  pub none_left : (left : Left) → left.tokens ≡ [] → EndsAs a b f g (last_write ∷ []) 0 status → EndsSections [] start goal plan left a b f g status
+  pub none_left : (left : Left) → left.tokens ≡ [] → EndsAs a b f g (last_write ∷ []) 0 status → EndsSections c plan 0 left a b f g status
   none_left left none ends = record { outcomes = []; end = None; checked = none; ends = ends }
 
   -- a token is left behind the last section
-  pub some_left : (left : Left) (t : Piece) (ts : List Piece) → left.tokens ≡ t ∷ ts → EndsAs a b f g (to_output (label_fault_text (fault.Trailing t.place)) ∷ []) 10 status → EndsSections [] start goal plan left a b f g status
+  pub some_left : (left : Left) (t : Piece) (ts : List Piece) → left.tokens ≡ t ∷ ts → EndsAs a b f g (to_output (label_fault_text (fault.Trailing t.place)) ∷ []) 10 status → EndsSections c plan 0 left a b f g status
   some_left left t ts some ends = record {
     outcomes = [];
     end = Some (section.Fault (fault.Trailing t.place));
@@ -51,45 +73,94 @@ module _ (start goal plan : ℕ) (a b : Told) (f g : FaultCounts) (status : ℕ)
     ends = ends;
   }
 
+module _ (c : Case) (n : Network) (start goal plan more : ℕ) (after : IsGraphAfter c.world c.batches plan n) (start_is : c.start ≡ start) (goal_is : c.goal ≡ goal) where
   -- the next section does not hold
-  pub stops : (n : Network) (ns : List Network) (left : Left) (s : SectionStop) → IsSectionStop n start goal plan left s → EndsAs a b f g (stop_writes goal plan s) (stop_status s) status → EndsSections (n ∷ ns) start goal plan left a b f g status
-  stops n ns left s is ends = record { outcomes = []; end = Some s; checked = is; ends = ends }
+  pub stops : (a b : Told) (f g : FaultCounts) (status : ℕ) (left : Left) (s : SectionStop) → IsSectionStop n start goal plan left s → EndsAs a b f g (stop_writes goal plan s) (stop_status s) status → EndsSections c plan (suc more) left a b f g status
+  stops a b f g status left s is ends = record {
+    outcomes = [];
+    end = Some s;
+    checked = stopped_in c n plan left s after
+        (subst (λ (x : ℕ). IsSectionStop n x c.goal plan left s) (sym start_is) (subst (λ (y : ℕ). IsSectionStop n start y plan left s) (sym goal_is) is));
+    ends = subst (λ (y : ℕ). EndsAs a b f g (stop_writes y plan s) (stop_status s) status) (sym goal_is) ends;
+  }
 
-  -- the one section holds, and then it goes on
-  pub holds : (n : Network) (left rest : Left) (o : Outcome) → IsHolding n start goal plan left o rest → GoesOn start goal plan o rest a b f g status → EndsSections (n ∷ []) start goal plan left a b f g status
-  holds n left rest o is on = record { outcomes = o ∷ []; end = on.end; checked = (rest, is, on.checked); ends = on.ends }
+  -- it holds for the case too
+  holds_in : (left rest : Left) (o : Outcome) → IsShownHolding n start goal plan left o rest → IsShownHolding n c.start c.goal plan left o rest
+  holds_in left rest o is = subst (λ (x : ℕ). IsShownHolding n x c.goal plan left o rest) (sym start_is) (subst (λ (y : ℕ). IsShownHolding n start y plan left o rest) (sym goal_is) is)
 
--- behind the last section some end is reached
-some_end : (start goal plan : ℕ) (left : Left) (ts : List Piece) → left.tokens ≡ ts → (end : Option SectionStop) × AreChecked [] start goal plan left [] end
-some_end start goal plan left [] is = (None, is)
-some_end start goal plan left (t ∷ ts) is = (Some (section.Fault (fault.Trailing t.place)), subst (λ (l : List Piece). IsTrailing l (section.Fault (fault.Trailing t.place))) (sym is) refl)
+  -- it holds, and the line that says so was not written
+  pub goes_no_further : (a b : Told) (f g : FaultCounts) (status : ℕ) (left rest : Left) (o : Outcome) (e : WriteStop) → IsShownHolding n start goal plan left o rest → EndsIn {T = Unit {0}} a b f g (to_output (holds_text plan o) ∷ []) (Err e) → status ≡ status_after {T = Unit {0}} 9 (Err e)
+      → EndsSections c plan (suc more) left a b f g status
+  goes_no_further a b f g status left rest o e is ends status_is = record {
+    outcomes = o ∷ [];
+    end = Some section.NoMemory;
+    checked = (n, after, rest, holds_in left rest o is, out_of_memory c (plan + 1) more rest);
+    ends = status_ends a b f g (to_output (holds_text plan o) ∷ []) 9 status (Err e) ends status_is;
+  }
 
--- that the last section holds was written, and then the checking ended
-pub goes_on : (start goal plan : ℕ) (o : Outcome) (left : Left) (a b c : Told) (f g h : FaultCounts) (status : ℕ) → AreMade a b (to_output (holds_text plan o) ∷ []) → NoneFalls f g → EndsSections [] start goal (plan + 1) left b c g h status → GoesOn start goal plan o left a c f h status
-goes_on start goal plan o left a b c f g h status made low ends = by ends.outcomes ends.checked ends.ends
-  where
-    by : (os : List Outcome) → AreChecked [] start goal (plan + 1) left os ends.end → EndsAs b c g h (checked_writes goal (plan + 1) os ends.end) (checked_status ends.end) status → GoesOn start goal plan o left a c f h status
-    by [] checked e = record { end = ends.end; checked = checked; ends = ends_as_behind a b c f g h (to_output (holds_text plan o) ∷ []) (checked_writes goal (plan + 1) [] ends.end) (checked_status ends.end) status made low e }
-    by (p ∷ ps) checked e = absurd checked
+  -- it holds, the line that says so was written, and then the checking of the others ended so
+  pub goes_on : (a b d : Told) (f g h : FaultCounts) (status : ℕ) (left rest : Left) → HoldsAndTells n start goal plan left rest a b → NoneFalls f g → EndsSections c (plan + 1) more rest b d g h status → EndsSections c plan (suc more) left a d f h status
+  goes_on a b d f g h status left rest is low ends = record {
+    outcomes = is.outcome ∷ ends.outcomes;
+    end = ends.end;
+    checked = (n, after, rest, holds_in left rest is.outcome is.holds, ends.checked);
+    ends = ends_as_behind a b d f g h (to_output (holds_text plan is.outcome) ∷ []) (checked_writes c.goal (plan + 1) ends.outcomes ends.end) (checked_status ends.end) status is.line low ends.ends;
+  }
 
--- that was not written
-pub goes_no_further : (start goal plan : ℕ) (o : Outcome) (left : Left) (a b : Told) (f g : FaultCounts) (status : ℕ) (e : WriteStop) → EndsIn {T = Unit {0}} a b f g (to_output (holds_text plan o) ∷ []) (Err e) → status ≡ status_after {T = Unit {0}} 0 (Err e) → GoesOn start goal plan o left a b f g status
-goes_no_further start goal plan o left a b f g status e ends is =
-    let end = some_end start goal (plan + 1) left left.tokens refl in
-    record {
-      end = end.0;
-      checked = end.1;
-      ends = status_ends a b f g _ (checked_status end.0) status (Err e)
-          (ends_first (Unit {0}) (Unit {0}) a b f g (to_output (holds_text plan o) ∷ []) (checked_writes goal (plan + 1) [] end.0) e ends)
-          (stopped_anyway (checked_status end.0) 0 status e is);
-    }
+-- how far the checking of a text has come: the sections of the first k maps hold, and however it ends from there on it ends from
+-- the first section on
+pub record IsCheckedTo (first now : World) (batches : List (List change.Write)) (start goal : ℕ) (text : List ℕ) (k at : ℕ) (held held' written written' : Told) (reads reads' faults faults' : FaultCounts) : Type 0 where
+  pub leads : (more : ℕ) → k + more ≡ length batches → (after : Told) (faults'' : FaultCounts) (status : ℕ)
+      → EndsSections (record { world = first; batches = batches; start = start; goal = goal }) k (suc more) (start_at text at) written' after faults' faults'' status
+      → EndsSections (record { world = first; batches = batches; start = start; goal = goal }) 0 (suc (length batches)) (start_at text 0) written after faults faults'' status
+  pub far : k ≤ length batches
+  pub map_after : IsMapAfter first.map batches k now.map
+  pub other_parts : now ≡ record first { map = now.map }
+  pub kept : IsWorld now
+  pub inside : at ≤ length text
+  pub stays : Stays held held'
+  pub others : StaysBut IsOutput written written'
+  pub low_reads : NoneFalls reads reads'
+  pub low_writes : NoneFalls faults faults'
+
+-- the graph of the lattice as it is
+pub graph_after : (first now : World) (batches : List (List change.Write)) (k : ℕ) → IsMapAfter first.map batches k now.map → now ≡ record first { map = now.map } → IsWorld now → IsGraphAfter first batches k (network_of now)
+graph_after first now batches k after others kept = record {
+  map = now.map;
+  after = after;
+  is_world = subst (λ (w : World). IsWorld w) others kept;
+  network = ap (λ (w : World). network_of w) others;
+}
+
+-- at the first section
+pub none_checked : (w : World) (batches : List (List change.Write)) (start goal : ℕ) (text : List ℕ) (held written : Told) (reads faults : FaultCounts) → IsMapAfter w.map batches 0 w.map → IsWorld w → IsCheckedTo w w batches start goal text 0 0 held held written written reads reads faults faults
+none_checked w batches start goal text held written reads faults after kept = record {
+  leads = λ more is after faults'' status ends. subst (λ (m : ℕ). EndsSections (record { world = w; batches = batches; start = start; goal = goal }) 0 (suc m) (start_at text 0) written after faults faults'' status) (let same : more ≡ length batches = omega arith in same) ends;
+  far = omega arith;
+  map_after = after;
+  other_parts = refl;
+  kept = kept;
+  inside = omega arith;
+  stays = λ name. refl;
+  others = λ name other. refl;
+  low_reads = λ name. omega arith;
+  low_writes = λ name. omega arith;
+}
+
+-- the lattice or its change file was not read
+pub early_stop : (held : Told) (f g : FaultCounts) (c : CheckJob) (s : Stop) → EarlyStopsFor held f g c.sources c.changes s → JobStopsFor held f g (job.Check c) s
+early_stop held f g c (stop.Refused r) (inl cause) = inl cause
+early_stop held f g c (stop.Refused r) (inr cause) = inr (inl cause)
+early_stop held f g c stop.NoMemory cause = tt
 
 -- the file of labels was not read
-pub late_stop : (held held' : Told) (f g h : FaultCounts) (c : CheckJob) (w : World) (s : Stop) → SaysWorld held c.sources w → Stays held held' → NoneFalls f g → IsUnread (held' c.labels) (g c.labels) (h c.labels) input.Labels s → JobStopsFor held f h (job.Check c) s
-late_stop held held' f g h c w (stop.Refused (refusal.Read i)) says same low (is, rose) = subst (λ (j : Input). JobStopsFor held f h (job.Check c) (stop.Refused (refusal.Read j))) (sym is) (inr (w, says, rose_since _ _ _ (low c.labels) rose))
-late_stop held held' f g h c w (stop.Refused (refusal.Length i)) says same low (is, long) = subst (λ (j : Input). JobStopsFor held f h (job.Check c) (stop.Refused (refusal.Length j))) (sym is) (inr (w, says, subst (λ (o : Option (List ℕ)). IsTooLong o) (same c.labels) long))
-late_stop held held' f g h c w (stop.Refused (refusal.Environment x)) says same low none = absurd none
-late_stop held held' f g h c w (stop.Refused (refusal.Primitives x)) says same low none = absurd none
-late_stop held held' f g h c w (stop.Refused (refusal.TooWide x)) says same low none = absurd none
-late_stop held held' f g h c w (stop.Refused (refusal.TooDear x)) says same low none = absurd none
-late_stop held held' f g h c w stop.NoMemory says same low none = tt
+pub late_stop : (held held' : Told) (f g h : FaultCounts) (c : CheckJob) (w : World) (batches : List (List change.Write)) (s : Stop) → SaysWorld held c.sources w → SaysBatches held c.changes w.map batches → Stays held held' → NoneFalls f g → IsUnread (held' c.labels) (g c.labels) (h c.labels) input.Labels s
+    → JobStopsFor held f h (job.Check c) s
+late_stop held held' f g h c w batches (stop.Refused (refusal.Read i)) says changes same low (is, rose) = subst (λ (j : Input). JobStopsFor held f h (job.Check c) (stop.Refused (refusal.Read j))) (sym is) (inr (inr (w, batches, says, changes, rose_since _ _ _ (low c.labels) rose)))
+late_stop held held' f g h c w batches (stop.Refused (refusal.Length i)) says changes same low (is, long) = subst (λ (j : Input). JobStopsFor held f h (job.Check c) (stop.Refused (refusal.Length j))) (sym is) (inr (inr (w, batches, says, changes, subst (λ (o : Option (List ℕ)). IsTooLong o) (same c.labels) long)))
+late_stop held held' f g h c w batches (stop.Refused (refusal.Environment x)) says changes same low none = absurd none
+late_stop held held' f g h c w batches (stop.Refused (refusal.Primitives x)) says changes same low none = absurd none
+late_stop held held' f g h c w batches (stop.Refused (refusal.TooWide x)) says changes same low none = absurd none
+late_stop held held' f g h c w batches (stop.Refused (refusal.TooDear x)) says changes same low none = absurd none
+late_stop held held' f g h c w batches (stop.Refused (refusal.Changes x)) says changes same low none = absurd none
+late_stop held held' f g h c w batches stop.NoMemory says changes same low none = tt

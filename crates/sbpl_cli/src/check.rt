@@ -77,15 +77,9 @@ fn tell_stop<D: Desk>(alloc: Global, goal: u32, plan: u32, stop: &SectionStop, d
 }
 
 /// Ends the checking behind the last section, where no token may stand, and answers the status.
-fn end_sections<D: Desk>(
-    alloc: Global,
-    plan: u32,
-    text: &[u8],
-    at: usize,
-    desk: &mut D,
-) -> u8
+fn end_sections<D: Desk>(alloc: Global, text: &[u8], at: usize, desk: &mut D) -> u8
     requires at { at ≤ length text.now }
-    ensures ends { (c : Case) → EndsSections c plan 0 (start_at text.now at) (D.written desk.old) (D.written desk.new) (D.write_faults desk.old) (D.write_faults desk.new) result }
+    ensures ends { (c : Case) (plan : ℕ) → EndsSections c plan 0 (start_at text.now at) (D.written desk.old) (D.written desk.new) (D.write_faults desk.old) (D.write_faults desk.new) result }
     ensures held { Stays (D.held desk.old) (D.held desk.new) }
     ensures others { StaysBut IsOutput (D.written desk.old) (D.written desk.new) }
     ensures reads { NoneFalls (D.read_faults desk.old) (D.read_faults desk.new) }
@@ -181,7 +175,7 @@ fn check_text<D: Desk>(
     }
     let last = changes.batches();
     match check_next(alloc, lattice, start, goal, last, text, at, desk) {
-        Ok(behind) => end_sections(alloc, last + 1, text, behind, desk),
+        Ok(behind) => end_sections(alloc, text, behind, desk),
         Err(status) => status,
     }
 }
@@ -229,13 +223,5 @@ pub(crate) fn check_labels<D: Desk>(alloc: Global, job: &CheckJob, desk: &mut D)
     let (mut lattice, changes, text) = read_check(alloc, job, desk)?;
     let (start, goal) = ends_of(&lattice);
     let text = text.as_slice();
-    Ok(check_text(
-        alloc,
-        &mut lattice,
-        &changes,
-        start,
-        goal,
-        text,
-        desk,
-    ))
+    Ok(check_text(alloc, &mut lattice, &changes, start, goal, text, desk))
 }

@@ -18,7 +18,7 @@ pub returns-in-Err-clause-ends : goal.returns-in-Err-clause-ends
 returns-in-Err-clause-ends g c = stops _ _ _ _ _ _ _ _ _ _ c.make_plan.new.replanner _ _ _ _ _ _ c.loop-k.invariant.going _ c.in-Err.stop c.in-Err.ensures.ends c.status_after.ensures.status
 
 pub change-requires-clause-on_map : goal.change-requires-clause-on_map
-change-requires-clause-on_map g c = batch_on_map _ _ _ _ _ c.requires.on_map c.loop-k.invariant.going.after c.batch.ensures.writes
+change-requires-clause-on_map g c = batch_on_map _ _ _ _ _ c.requires.on_map c.batch.ensures.writes c.loop-k.invariant.going.after.width c.loop-k.invariant.going.after.height
 
 pub returns-in-Err-change-clause-ends : goal.returns-in-Err-change-clause-ends
 returns-in-Err-change-clause-ends g c = tells_no_more _ _ _ _ _ _ _ _ _ _ c.make_plan.new.replanner _ _ _ _ _ _ c.loop-k.invariant.going c.in_default.ensures.ends c.make_plan.ensures.writes
