@@ -1,6 +1,6 @@
 -- Floors of fractions, and the least of them.
-use Rattle.std.proofs.Common.{◌≡◌, ℕ, ◌+◌, ◌*◌, ◌/◌, ◌<◌, ◌≤◌, ◌==◌, ◌++◌, min, inl, inr, ◌⊎◌, Bool, true, false, List, [], ◌∷◌, slice_get, Option, Some, None, unwrap_or, refl, ap, sym, ◌∙◌, arith, subst, zero, suc}
-use Rattle.std.proofs.Math.Nat.{div-mul-le_self, div-le_self, le_of_mul-le-mul_right, mul-le-mul_left, mul-le-mul_right, add-mul-div_right, zero-div}
+use Rattle.std.proofs.Common.{◌≡◌, ℕ, ◌+◌, ◌*◌, ◌/◌, ◌≤◌, ◌++◌, min, inl, inr, ◌⊎◌, List, [], ◌∷◌, slice_get, Option, Some, None, unwrap_or, refl, ap, sym, ◌∙◌, arith, subst, zero, suc}
+use Rattle.std.proofs.Math.Nat.{div-mul-le_self, le_of_mul-le-mul_right, mul-le-mul_left, mul-le-mul_right, add-mul-div_right}
 use Rattle.std.proofs.lemmas.Bool.{cases_lt, cond-true, cond-false, eq-eqb, ne_eqb}
 use Rattle.std.proofs.lemmas.Nat.{le-div}
 use Rattle.std.proofs.lemmas.Option.{same_Some, none-some}

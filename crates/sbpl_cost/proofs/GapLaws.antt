@@ -1,8 +1,6 @@
 -- The gaps of the lattice are lower bounds.
-use Rattle.std.proofs.Common.{◌≡◌, ℕ, ℤ, pos, negsuc, ◌+◌, ◌-◌, ◌*◌, ◌/◌, ◌^◌, ◌<◌, ◌≤◌, ◌+ℤ◌, inl, inr, max, min, List, slice_get, Some, None, ap, sym, ◌∙◌, arith, subst, refl, unwrap_or}
-use Rattle.std.specs.Int.{abs_diff}
+use Rattle.std.proofs.Common.{◌≡◌, ℕ, ℤ, pos, negsuc, ◌+◌, ◌-◌, ◌*◌, ◌/◌, ◌^◌, ◌<◌, ◌≤◌, ◌+ℤ◌, inl, inr, List, slice_get, Some, ap, sym, ◌∙◌, arith, subst, unwrap_or}
 use Rattle.std.proofs.Math.Nat.{div-le_self, mul-le-mul}
-use Rattle.std.proofs.lemmas.Bool.{cases_lt}
 use Rattle.std.proofs.lemmas.Int.{ints}
 use Rattle.sbpl_cfg.specs.declared.pose.Place.{Place}
 use Rattle.sbpl_cfg.specs.Environment.{Environment}
@@ -11,7 +9,7 @@ use Rattle.sbpl_cost.specs.declared.way.Way.{Way}
 use Rattle.sbpl_cost.specs.declared.way.Way.TheVariants.{Right, Left, Up, Down, Round}
 use Rattle.sbpl_cost.specs.PrimitiveCost.{primitive_cost, most_cost, heading_gap}
 use Rattle.sbpl_cost.specs.States.{IsPlace}
-use Rattle.sbpl_cost.specs.Gaps.{ahead, behind, advance, way_bound, gap_of, HasLeastFraction, BoundsAreFloors, BoundsMayBeZero}
+use Rattle.sbpl_cost.specs.Gaps.{ahead, behind, advance, way_bound, gap_of, BoundsAreFloors, BoundsMayBeZero}
 use Rattle.sbpl_cost.proofs.Floors.{floor_le, floor_step, floor_of, rate_of, no_floor}
 
 -- nothing to go costs nothing

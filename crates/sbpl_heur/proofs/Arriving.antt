@@ -1,22 +1,20 @@
 -- The heuristic is consistent.
-use Rattle.std.proofs.Common.{◌≡◌, ℕ, ℤ, pos, negsuc, zero, suc, ◌+◌, ◌*◌, ◌/◌, ◌%◌, ◌<◌, ◌≤◌, ◌+ℤ◌, ◌&&◌, inl, inr, ◌⊎◌, max, List, [], ◌∷◌, slice_get, Option, Some, None, IsSomeAnd, option_and_then, nat_lt, refl, ap, sym, ◌∙◌, arith, subst}
+use Rattle.std.proofs.Common.{◌≡◌, ℕ, ℤ, pos, negsuc, ◌+◌, ◌*◌, ◌/◌, ◌%◌, ◌<◌, ◌≤◌, ◌+ℤ◌, ◌&&◌, inl, inr, ◌⊎◌, max, List, [], ◌∷◌, slice_get, Option, Some, None, IsSomeAnd, option_and_then, nat_lt, refl, ap, sym, ◌∙◌, arith, subst}
 use Rattle.std.proofs.Math.Nat.{mul-le-mul}
-use Rattle.std.proofs.lemmas.Bool.{cases_eq, and_parts, ltb-true}
+use Rattle.std.proofs.lemmas.Bool.{cases_eq}
 use Rattle.std.proofs.lemmas.Int.{ints}
-use Rattle.std.proofs.lemmas.Nat.{div-add-mod', div-mul-add, mod-mul-add, mul-add-lt, div_below}
+use Rattle.std.proofs.lemmas.Nat.{div-add-mod', div-mul-add, mod-mul-add}
 use Rattle.std.proofs.lemmas.Option.{slice_get_within, same_Some, none-some, cond_some}
-use Rattle.sbpl_graph.specs.Network.{Network, IsFreeArc}
+use Rattle.sbpl_graph.specs.Network.{IsFreeArc}
 use Rattle.sbpl_graph.specs.Laws.{IsConsistent, HasGaps}
-use Rattle.sbpl_cfg.specs.declared.pose.Place.{Place}
-use Rattle.sbpl_cfg.specs.Environment.{Environment}
 use Rattle.sbpl_mprim.specs.declared.prim.Primitive.{Primitive}
-use Rattle.sbpl_map.specs.CellMap.{CellMap, IsCellMap, place_in, cost_at}
+use Rattle.sbpl_map.specs.CellMap.{CellMap, place_in, cost_at}
 use Rattle.sbpl_cost.specs.PrimitiveCost.{primitive_cost}
-use Rattle.sbpl_cost.specs.States.{place_of, state_number, state_count}
+use Rattle.sbpl_cost.specs.States.{place_of, state_count}
 use Rattle.sbpl_cost.specs.World.{World, IsWorld}
-use Rattle.sbpl_cost.specs.Arc.{column_from, row_from, cost_from, EndsIn, IsFreeAt, HasLatticeArcs}
+use Rattle.sbpl_cost.specs.Arc.{column_from, cost_from, EndsIn, IsFreeAt, HasLatticeArcs}
 use Rattle.sbpl_cost.specs.Lattices.{network_of}
-use Rattle.sbpl_heur.specs.Walks.{IsLeastCost, Moves, LiesFrom, IsStep, IsCellArc, IsWalk, IsLeastWalk, IsFarthest, HasNoWalk, IsCellBound}
+use Rattle.sbpl_heur.specs.Walks.{IsLeastCost, Moves, LiesFrom, IsCellArc, IsCellBound}
 use Rattle.sbpl_heur.specs.declared.hop.Hop.{Hop}
 use Rattle.sbpl_heur.specs.Hops.{AreHops}
 use Rattle.sbpl_heur.specs.Bests.{cell_of, IsBest}

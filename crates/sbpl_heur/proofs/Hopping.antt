@@ -1,5 +1,5 @@
 -- The list of hops, one primitive after another.
-use Rattle.std.proofs.Common.{◌≡◌, ℕ, ℤ, zero, suc, ◌+◌, ◌<◌, ◌≤◌, ◌++◌, inl, inr, ◌⊎◌, min, List, [], ◌∷◌, length, length-set, set, get_or, slice_get, Option, Some, None, refl, ap, sym, ◌∙◌, arith, subst}
+use Rattle.std.proofs.Common.{◌≡◌, ℕ, ℤ, zero, suc, ◌+◌, ◌<◌, ◌≤◌, ◌++◌, inl, inr, ◌⊎◌, min, List, [], ◌∷◌, length, length-set, set, get_or, slice_get, Some, refl, ap, sym, ◌∙◌, arith, subst}
 use Rattle.std.proofs.lemmas.Bool.{cases_lt, cases_eq}
 use Rattle.std.proofs.lemmas.Option.{slice_get_within, same_Some, none-some, get_or_from_slice_get}
 use Rattle.sbpl_cfg.specs.Environment.{Environment}

@@ -1,19 +1,16 @@
 -- The search backwards from the goal keeps what it has found, and ends with the least weights.
-use Rattle.std.proofs.Common.{◌≡◌, ℕ, ℤ, pos, zero, suc, ◌+◌, ◌*◌, ◌/◌, ◌%◌, ◌<◌, ◌≤◌, ◌^◌, ◌+ℤ◌, ◌&&◌, inl, inr, ◌⊎◌, Bool, true, false, max, nat_lt, List, [], ◌∷◌, length, slice_get, Option, Some, None, refl, ap, sym, ◌∙◌, arith, subst}
+use Rattle.std.proofs.Common.{◌≡◌, ℕ, ◌+◌, ◌*◌, ◌<◌, ◌≤◌, ◌^◌, ◌&&◌, inl, inr, true, false, max, nat_lt, List, [], ◌∷◌, length, slice_get, Option, Some, None, refl, ap, sym, ◌∙◌, arith, subst}
 use Rattle.std.proofs.Math.Bool.{and-false}
 use Rattle.std.proofs.Math.Nat.{mul-le-mul, mul-le-mul_right}
-use Rattle.std.proofs.lemmas.Bool.{cases_lt, cases_eq, and_from, and_parts, lt-ltb, le-ltb, ltb-true, false≢true}
-use Rattle.std.proofs.lemmas.Int.{ints}
-use Rattle.std.proofs.lemmas.Nat.{div-add-mod'}
+use Rattle.std.proofs.lemmas.Bool.{cases_lt, cases_eq, and_from, lt-ltb, le-ltb}
 use Rattle.std.proofs.lemmas.Option.{slice_get_within, same_Some, none-some, get_or_from_slice_get}
 use Rattle.sbpl_graph.specs.declared.TheConstants.{FAR}
 use Rattle.sbpl_cfg.specs.Environment.{Environment}
 use Rattle.sbpl_map.specs.CellMap.{CellMap, IsCellMap}
-use Rattle.sbpl_cost.specs.PrimitiveCost.{most_cost}
 use Rattle.sbpl_heur.specs.declared.hop.Hop.{Hop}
-use Rattle.sbpl_heur.specs.Walks.{LiesFrom, IsStep}
+use Rattle.sbpl_heur.specs.Walks.{IsStep}
 use Rattle.sbpl_heur.specs.Spots.{IsOpenTo}
-use Rattle.sbpl_heur.specs.Searches.{IsHopArc, IsHopWalk, AreLight, is_closed, is_settled, count_below, settled_count, AreReached, AreFound, AreSettling, Lowers, Relaxes, lowers, keeps}
+use Rattle.sbpl_heur.specs.Searches.{IsHopArc, IsHopWalk, AreLight, is_closed, is_settled, settled_count, AreReached, AreFound, AreSettling, Lowers, Relaxes, lowers, keeps}
 use Rattle.sbpl_heur.proofs.Steps.{same_start, same_weight}
 use Rattle.sbpl_heur.proofs.Counts.{count_same, count_one_more, count_most, count_less}
 

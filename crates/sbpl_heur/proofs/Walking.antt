@@ -1,5 +1,5 @@
 -- Walks by hops are walks of cells.
-use Rattle.std.proofs.Common.{◌≡◌, ℕ, ℤ, ◌+◌, ◌*◌, ◌^◌, ◌<◌, ◌≤◌, inl, inr, ◌⊎◌, min, List, [], ◌∷◌, length, slice_get, Option, Some, None, refl, ap, sym, ◌∙◌, arith, subst}
+use Rattle.std.proofs.Common.{◌≡◌, ℕ, ◌*◌, ◌^◌, ◌<◌, ◌≤◌, inl, inr, min, List, [], ◌∷◌, slice_get, Option, Some, None, sym, ◌∙◌, arith, subst}
 use Rattle.std.proofs.lemmas.Bool.{cases_lt}
 use Rattle.sbpl_graph.specs.declared.TheConstants.{FAR}
 use Rattle.sbpl_cfg.specs.Environment.{Environment}
@@ -7,8 +7,8 @@ use Rattle.sbpl_mprim.specs.declared.prim.Primitive.{Primitive}
 use Rattle.sbpl_map.specs.CellMap.{CellMap, IsCellMap}
 use Rattle.sbpl_cost.specs.PrimitiveCost.{primitive_cost, most_cost}
 use Rattle.sbpl_heur.specs.declared.hop.Hop.{Hop}
-use Rattle.sbpl_heur.specs.Walks.{IsLeastCost, Moves, IsStep, IsCellArc, IsWalk, IsLeastWalk, IsFarthest, HasNoWalk, IsCellBound}
-use Rattle.sbpl_heur.specs.Hops.{IsHop, AreHops}
+use Rattle.sbpl_heur.specs.Walks.{IsStep, IsCellArc, IsWalk, IsLeastWalk, IsFarthest, HasNoWalk, IsCellBound}
+use Rattle.sbpl_heur.specs.Hops.{AreHops}
 use Rattle.sbpl_heur.specs.Searches.{IsHopArc, IsHopWalk, AreLight, AreFound}
 use Rattle.sbpl_heur.specs.Cuts.{IsFarthestReached}
 use Rattle.sbpl_heur.proofs.Searching.{reached}

@@ -1,5 +1,5 @@
 -- Cells of the map with their costs.
-use Rattle.std.specs.Prelude.{◌≡◌, ℕ, ℤ, pos, ◌*◌, ◌/◌, ◌%◌, ◌<◌, ◌+ℤ◌, slice_get, Option, Some, None}
+use Rattle.std.specs.Prelude.{◌≡◌, ℕ, ℤ, pos, ◌*◌, ◌/◌, ◌%◌, ◌<◌, slice_get, Option, Some, None}
 use Rattle.sbpl_cfg.specs.Environment.{Environment}
 use Rattle.sbpl_map.specs.CellMap.{CellMap}
 use Rattle.sbpl_heur.specs.declared.hop.Hop.{Hop}

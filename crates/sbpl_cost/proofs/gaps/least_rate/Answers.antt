@@ -1,5 +1,5 @@
-use Rattle.std.proofs.Common.{◌≤◌, ap, subst, sym, ◌∙◌, arith, length, get_or, refl, slice_get, Some, take}
-use Rattle.std.proofs.lemmas.List.{length-map, take_all}
+use Rattle.std.proofs.Common.{ap, ◌∙◌, length, refl}
+use Rattle.std.proofs.lemmas.List.{take_all}
 use Rattle.std.proofs.lemmas.Option.{slice_get_read}
 use Rattle.sbpl_cost.specs.Gaps.{least_floor}
 use Rattle.sbpl_cost.proofs.CostTables.{cheap_at}

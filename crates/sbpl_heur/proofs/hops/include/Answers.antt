@@ -1,6 +1,3 @@
-use Rattle.std.proofs.Common.{◌≡◌, ap, sym, ◌∙◌, min, slice_set, subst}
-use Rattle.std.proofs.lemmas.Option.{get_or_from_slice_get}
-use Rattle.sbpl_heur.specs.declared.hop.Hop.{Hop}
 use Rattle.sbpl_heur.proofs.Hopping.{lowers_at}
 use Rattle.sbpl_heur.proofs.hops.include.Goals as goal
 

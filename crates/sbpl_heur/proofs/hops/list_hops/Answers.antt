@@ -1,6 +1,6 @@
-use Rattle.std.proofs.Common.{◌≡◌, ◌≤◌, ◌+◌, arith, ap, sym, ◌∙◌, subst, length, vec_capacity, true, false}
+use Rattle.std.proofs.Common.{arith, ap, sym, ◌∙◌, length}
 use Rattle.std.proofs.lemmas.Bool.{false≢true}
-use Rattle.sbpl_heur.proofs.Hopping.{AreHopsOfFirst, moved, stayed, one_more, all_hops}
+use Rattle.sbpl_heur.proofs.Hopping.{moved, stayed, one_more, all_hops}
 use Rattle.sbpl_heur.proofs.hops.list_hops.Goals as goal
 use Rattle.sbpl_heur.proofs.hops.list_hops.Goals.{then-moves, else-moves}
 

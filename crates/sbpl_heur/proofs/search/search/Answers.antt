@@ -1,4 +1,4 @@
-use Rattle.std.proofs.Common.{◌≡◌, ap, arith, subst, sym, ◌∙◌, refl, slice_index}
+use Rattle.std.proofs.Common.{subst, sym, refl, slice_index}
 use Rattle.sbpl_open.specs.Frontier.{key_at}
 use Rattle.sbpl_heur.specs.Searches.{AreFound}
 use Rattle.sbpl_heur.proofs.Settled.{next_cell, fewer_left}

@@ -1,4 +1,4 @@
-use Rattle.std.proofs.Common.{◌≡◌, ◌+ℤ◌, pos, rules, arith, ap, ◌∙◌, w32, w64, FitsSigned, to_z, of_z}
+use Rattle.std.proofs.Common.{◌+ℤ◌, rules, arith, ap, ◌∙◌, w32, w64, FitsSigned}
 use Rattle.std.proofs.lemmas.Int.{to_z-of_z}
 use Rattle.sbpl_heur.proofs.Sources.{none_off_map, none_below}
 use Rattle.sbpl_heur.proofs.spot.source_of.Goals as goal

@@ -1,4 +1,4 @@
-use Rattle.std.proofs.Common.{vec_capacity, refl}
+use Rattle.std.proofs.Common.{vec_capacity}
 use Rattle.sbpl_open.specs.Frontier.{states_of}
 use Rattle.sbpl_heur.proofs.Rebuilt.{fresh_parts}
 use Rattle.sbpl_heur.proofs.best.Best.build.Goals as goal

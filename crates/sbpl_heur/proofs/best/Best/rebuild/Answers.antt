@@ -1,4 +1,4 @@
-use Rattle.std.proofs.Common.{◌≡◌, ap, sym, ◌∙◌, subst, refl, vec_capacity}
+use Rattle.std.proofs.Common.{ap, sym, ◌∙◌, subst, refl, vec_capacity}
 use Rattle.sbpl_heur.specs.Founds.{HasEntries}
 use Rattle.sbpl_heur.specs.Searches.{AreLight}
 use Rattle.sbpl_heur.proofs.Rebuilt.{IsRebuilt, world_light, found_in_world, goal_inside, rebuilt_best, rebuilt_guide, rebuilt_parts}
