@@ -19,7 +19,7 @@ use Rattle.sbpl_cli.specs.Intents.{end_writes, last_write, plans_status}
 use Rattle.sbpl_cli.specs.Planning.{EndsPlan, GoesOnFrom, IsSetFor, behind_of}
 use Rattle.sbpl_cli.specs.Promises.{EndsPlans}
 use Rattle.sbpl_cli.specs.Writing.{AreMade, EndsAs, EndsIn, FaultCounts, StaysBut, Told, Write, status_after}
-use Rattle.sbpl_cli.proofs.Writings.{cut_behind, made_both, none_made, status_ends, stopped_behind}
+use Rattle.sbpl_cli.proofs.Writings.{ends_as_behind, none_made, status_ends}
 
 -- ---- what stays of a desk
 
@@ -32,12 +32,6 @@ stays_but_on U a b c p q = λ name other. q name other ∙ p name other
 pub none_falls_on : (f g h : FaultCounts) → NoneFalls f g → NoneFalls g h → NoneFalls f h
 none_falls_on f g h p q = λ name. let a = p name in let b = q name in omega arith
 
--- writes were made, and then a run ended so
-pub ends_after : (a b c : Told) (f g h : FaultCounts) (ws vs : List Write) (wanted status : ℕ) → AreMade a b ws → NoneFalls f g → EndsAs b c g h vs wanted status → EndsAs a c f h (ws ++ vs) wanted status
-ends_after a b c f g h ws vs wanted status made low (inl (is, p)) = inl (is, made_both a b c ws vs made p)
-ends_after a b c f g h ws vs wanted status made low (inr (inl (is, p))) = inr (inl (is, cut_behind a b c f g h ws vs made low p))
-ends_after a b c f g h ws vs wanted status made low (inr (inr (is, p))) = inr (inr (is, stopped_behind a b c ws vs made p))
-
 -- ---- plans in turn
 
 module _ (written_of : PlanRecord → List Write) (w : World) (batches : List (List change.Write)) (how : SearchJob) (outputs : Outputs) (start goal : ℕ) where
@@ -49,7 +43,7 @@ module _ (written_of : PlanRecord → List Write) (w : World) (batches : List (L
     all = e.all;
     each = (behind, after, plan, e.each);
     all_made = λ is. let rest = e.all_made is in omega arith;
-    ends = rw (append_assoc (written_of r) (flat_map written_of e.records) (end_writes e.all)) (ends_after a b c f g h (written_of r) (flat_map written_of e.records ++ end_writes e.all) (plans_status e.all) status made low e.ends);
+    ends = rw (append_assoc (written_of r) (flat_map written_of e.records) (end_writes e.all)) (ends_as_behind a b c f g h (written_of r) (flat_map written_of e.records ++ end_writes e.all) (plans_status e.all) status made low e.ends);
   }
 
   -- memory ran out before plan k was made

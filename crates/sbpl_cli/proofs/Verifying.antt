@@ -30,13 +30,7 @@ use Rattle.sbpl_cli.specs.Planning.{HoldsAndTells}
 use Rattle.sbpl_cli.specs.Promises.{EndsSections}
 use Rattle.sbpl_cli.specs.Verdicts.{holds_text}
 use Rattle.sbpl_cli.specs.Writing.{AreMade, EndsAs, EndsIn, FaultCounts, IsOutput, StaysBut, Told, Write, status_after, to_output}
-use Rattle.sbpl_cli.proofs.Writings.{cut_behind, made_both, rose_since, status_ends, stopped_behind}
-
--- writes were made, and then a run ended so
-pub ends_as_behind : (a b c : Told) (f g h : FaultCounts) (ws vs : List Write) (wanted status : ℕ) → AreMade a b ws → NoneFalls f g → EndsAs b c g h vs wanted status → EndsAs a c f h (ws ++ vs) wanted status
-ends_as_behind a b c f g h ws vs wanted status made low (inl (is, p)) = inl (is, made_both a b c ws vs made p)
-ends_as_behind a b c f g h ws vs wanted status made low (inr (inl (is, p))) = inr (inl (is, cut_behind a b c f g h ws vs made low p))
-ends_as_behind a b c f g h ws vs wanted status made low (inr (inr (is, p))) = inr (inr (is, stopped_behind a b c ws vs made p))
+use Rattle.sbpl_cli.proofs.Writings.{ends_as_behind, cut_behind, made_both, rose_since, status_ends, stopped_behind}
 
 -- the graph on each map has the states of the environment
 states_after : (w : World) (batches : List (List change.Write)) (k : ℕ) (n : Network) → IsGraphAfter w batches k n → n.states ≡ state_count w.env

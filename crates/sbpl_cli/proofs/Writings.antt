@@ -143,3 +143,9 @@ pub ends_since : (a b c : Told) (f g h : FaultCounts) (ws : List Write) (wanted 
 ends_since a b c f g h ws wanted status same low (inl (is, p)) = inl (is, made_both a b c [] ws (none_made a b same) p)
 ends_since a b c f g h ws wanted status same low (inr (inl (is, p))) = inr (inl (is, cut_behind a b c f g h [] ws (none_made a b same) low p))
 ends_since a b c f g h ws wanted status same low (inr (inr (is, p))) = inr (inr (is, stopped_behind a b c [] ws (none_made a b same) p))
+
+-- writes were made, and then a run ended so
+pub ends_as_behind : (a b c : Told) (f g h : FaultCounts) (ws vs : List Write) (wanted status : ℕ) → AreMade a b ws → NoneFalls f g → EndsAs b c g h vs wanted status → EndsAs a c f h (ws ++ vs) wanted status
+ends_as_behind a b c f g h ws vs wanted status made low (inl (is, p)) = inl (is, made_both a b c ws vs made p)
+ends_as_behind a b c f g h ws vs wanted status made low (inr (inl (is, p))) = inr (inl (is, cut_behind a b c f g h ws vs made low p))
+ends_as_behind a b c f g h ws vs wanted status made low (inr (inr (is, p))) = inr (inr (is, stopped_behind a b c ws vs made p))

@@ -5,8 +5,8 @@ use Rattle.sbpl_cli.specs.Causes.{no_outputs}
 use Rattle.sbpl_cli.specs.Headline.{AreRecords}
 use Rattle.sbpl_job.specs.declared.job.SearchJob.{SearchJob}
 use Rattle.sbpl_cli.proofs.Ends.{ended}
-use Rattle.sbpl_cli.proofs.Going.{ends_after, none_falls_on, stays_but_on, stays_on}
-use Rattle.sbpl_cli.proofs.Writings.{status_ends}
+use Rattle.sbpl_cli.proofs.Going.{none_falls_on, stays_but_on, stays_on}
+use Rattle.sbpl_cli.proofs.Writings.{ends_as_behind, status_ends}
 use Rattle.sbpl_cli.proofs.demo.end_demo.Goals as goal
 
 pub returns-in-Err-clause-ends : goal.returns-in-Err-clause-ends
@@ -44,7 +44,7 @@ returns-clause-ends g c =
       };
     })
     (λ name. refl) (λ name. omega arith)
-    (ends_after _ _ _ _ _ _ (_ ∷ []) (lines_writes e.records e.all) _ _ c.in_default-write_first.ensures.ends c.write_first.ensures.writes e.ends)
+    (ends_as_behind _ _ _ _ _ _ (_ ∷ []) (lines_writes e.records e.all) _ _ c.in_default-write_first.ensures.ends c.write_first.ensures.writes e.ends)
 
 pub returns-clause-held : goal.returns-clause-held
 returns-clause-held g c = stays_on _ _ _ c.write_first.ensures.held c.make_plans.ensures.held
