@@ -1,36 +1,37 @@
 -- How a job ends, from how its reading, its planning and its writing end.
-use Rattle.std.proofs.Common.{◌≡◌, ℕ, ◌≤◌, List, [], ◌∷◌, Option, Some, ◌++◌, refl, sym, ◌∙◌, subst, arith, inl, inr}
+use Rattle.std.proofs.Common.{◌≡◌, ℕ, ◌≤◌, List, [], ◌∷◌, Option, Some, None, ◌++◌, refl, sym, ◌∙◌, subst, arith, inl, inr}
 use Rattle.std.proofs.lemmas.Bool.{cases_lt}
 use Rattle.sbpl_desk.specs.Desk.{NoneFalls, Rose, Stays}
-use Rattle.sbpl_cost.specs.World.{IsWorld, World}
+use Rattle.sbpl_cost.specs.World.{World}
+use Rattle.sbpl_job.specs.declared.job.CheckJob.{CheckJob}
 use Rattle.sbpl_job.specs.declared.job.Job.{Job}
 use Rattle.sbpl_job.specs.declared.job.Job.TheVariants as job
-use Rattle.sbpl_job.specs.declared.job.PlanJob.{PlanJob}
 use Rattle.sbpl_job.specs.declared.job.Sources.{Sources}
-use Rattle.sbpl_cli.specs.declared.record.PlanRecord.{PlanRecord}
+use Rattle.sbpl_map.specs.CellMap.{CellMap}
 use Rattle.sbpl_cli.specs.declared.refusal.Input.TheVariants as input
 use Rattle.sbpl_cli.specs.declared.refusal.Refusal.{Refusal}
 use Rattle.sbpl_cli.specs.declared.refusal.Refusal.TheVariants as refusal
 use Rattle.sbpl_cli.specs.declared.refusal.Stop.{Stop}
 use Rattle.sbpl_cli.specs.declared.refusal.Stop.TheVariants as stop
-use Rattle.sbpl_cli.specs.Causes.{AtLabels, IsCause, IsJobCause, IsLateCause, IsPlanned, JobStopsFor, SaysWorld, StopsFor}
-use Rattle.sbpl_cli.specs.Intents.{Intent, Refused, Planned, Listed, OutOfMemory, intent_status, listing_writes, plan_writes, refusal_status, refusal_writes, writes_of}
-use Rattle.sbpl_job.specs.Jobs.{sources_of}
+use Rattle.sbpl_cli.specs.Causes.{AtChanges, AtName, ChangesStopFor, EarlyStopsFor, IsCause, IsChangesCause, IsFaultyChanges, IsJobCause, IsLabelsCause, IsRead, IsTooLong, JobStopsFor, SaysWorld, StopsFor}
+use Rattle.sbpl_cli.specs.Intents.{Intent, Refused, OutOfMemory, intent_status, refusal_status, refusal_writes, writes_of}
 use Rattle.sbpl_cli.specs.Promises.{ComesTo, EndsJob, MayBeWritten}
-use Rattle.sbpl_cli.specs.Writing.{AreMade, EndsAs, FaultCounts, IsOutput, StaysBut, Told, Write}
-use Rattle.sbpl_cli.proofs.Writings.{ends_since, none_made}
+use Rattle.sbpl_cli.specs.Writing.{EndsAs, FaultCounts, IsOutput, StaysBut, Told}
+use Rattle.sbpl_cli.proofs.Writings.{ends_since, none_made, rose_since}
 
 -- what rose has risen later too
 rose_later : (f g h : ℕ) → f ≤ g → g ≤ h → Rose f g → Rose f h
 rose_later f g h low high (inl more) = inl (omega arith)
 rose_later f g h low high (inr most) = elim (cases_lt f h) [ inl less ↦ inl less | inr same ↦ inr (omega arith) ]
 
--- a cause stands while the counts of failed reads go on
+-- ---- a cause stands while the counts of failed reads go on
+
 cause_later : (held : Told) (f g h : FaultCounts) (from : Sources) (r : Refusal) → NoneFalls f g → NoneFalls g h → IsCause held f g from r → IsCause held f h from r
 cause_later held f g h from (refusal.Environment x) low high cause = cause
 cause_later held f g h from (refusal.Primitives x) low high cause = cause
 cause_later held f g h from (refusal.TooWide x) low high cause = cause
 cause_later held f g h from (refusal.TooDear x) low high cause = cause
+cause_later held f g h from (refusal.Changes x) low high cause = cause
 cause_later held f g h from (refusal.Read input.Environment) low high cause = rose_later _ _ _ (low from.env) (high from.env) cause
 cause_later held f g h from (refusal.Read input.Primitives) low high cause = record {
   env = cause.env;
@@ -38,31 +39,89 @@ cause_later held f g h from (refusal.Read input.Primitives) low high cause = rec
   environment = cause.environment;
   holds = rose_later _ _ _ (low from.prims) (high from.prims) cause.holds;
 }
+cause_later held f g h from (refusal.Read input.Changes) low high cause = cause
+cause_later held f g h from (refusal.Read input.Labels) low high cause = cause
 cause_later held f g h from (refusal.Length input.Environment) low high cause = cause
 cause_later held f g h from (refusal.Length input.Primitives) low high cause = cause
-cause_later held f g h from (refusal.Read input.Labels) low high cause = cause
+cause_later held f g h from (refusal.Length input.Changes) low high cause = cause
 cause_later held f g h from (refusal.Length input.Labels) low high cause = cause
 
-at_labels_later : (held : Told) (j : Job) (P Q : List ℕ → Type 0) → ((name : List ℕ) → P name → Q name) → AtLabels held j P → AtLabels held j Q
-at_labels_later held (job.Plan p) P Q on at = at
-at_labels_later held (job.Check c) P Q on (w, says, at) = (w, says, on c.labels at)
-at_labels_later held (job.Sweep from) P Q on at = at
+-- what holds at a name, if there is one
+at_name_on : (changes : Option (List ℕ)) (P Q : List ℕ → Type 0) → ((name : List ℕ) → P name → Q name) → AtName changes P → AtName changes Q
+at_name_on None P Q on at = at
+at_name_on (Some name) P Q on at = on name at
 
-late_cause_later : (held : Told) (f g h : FaultCounts) (j : Job) (r : Refusal) → NoneFalls f g → NoneFalls g h → IsLateCause held f g j r → IsLateCause held f h j r
-late_cause_later held f g h j (refusal.Environment x) low high cause = cause
-late_cause_later held f g h j (refusal.Primitives x) low high cause = cause
-late_cause_later held f g h j (refusal.TooWide x) low high cause = cause
-late_cause_later held f g h j (refusal.TooDear x) low high cause = cause
-late_cause_later held f g h j (refusal.Read input.Environment) low high cause = cause
-late_cause_later held f g h j (refusal.Read input.Primitives) low high cause = cause
-late_cause_later held f g h j (refusal.Read input.Labels) low high cause = at_labels_later held j (λ name. Rose (f name) (g name)) (λ name. Rose (f name) (h name)) (λ name rose. rose_later _ _ _ (low name) (high name) rose) cause
-late_cause_later held f g h j (refusal.Length input.Environment) low high cause = cause
-late_cause_later held f g h j (refusal.Length input.Primitives) low high cause = cause
-late_cause_later held f g h j (refusal.Length input.Labels) low high cause = cause
+changes_cause_later : (held : Told) (f g h : FaultCounts) (from : Sources) (changes : Option (List ℕ)) (r : Refusal) → NoneFalls f g → NoneFalls g h → IsChangesCause held f g from changes r → IsChangesCause held f h from changes r
+changes_cause_later held f g h from changes (refusal.Environment x) low high cause = cause
+changes_cause_later held f g h from changes (refusal.Primitives x) low high cause = cause
+changes_cause_later held f g h from changes (refusal.TooWide x) low high cause = cause
+changes_cause_later held f g h from changes (refusal.TooDear x) low high cause = cause
+changes_cause_later held f g h from changes (refusal.Changes x) low high cause = cause
+changes_cause_later held f g h from changes (refusal.Read input.Environment) low high cause = cause
+changes_cause_later held f g h from changes (refusal.Read input.Primitives) low high cause = cause
+changes_cause_later held f g h from changes (refusal.Read input.Changes) low high (w, says, at) =
+    (w, says, at_name_on changes (λ name. Rose (f name) (g name)) (λ name. Rose (f name) (h name)) (λ name rose. rose_later _ _ _ (low name) (high name) rose) at)
+changes_cause_later held f g h from changes (refusal.Read input.Labels) low high cause = cause
+changes_cause_later held f g h from changes (refusal.Length input.Environment) low high cause = cause
+changes_cause_later held f g h from changes (refusal.Length input.Primitives) low high cause = cause
+changes_cause_later held f g h from changes (refusal.Length input.Changes) low high cause = cause
+changes_cause_later held f g h from changes (refusal.Length input.Labels) low high cause = cause
+
+labels_cause_later : (held : Told) (f g h : FaultCounts) (c : CheckJob) (r : Refusal) → NoneFalls f g → NoneFalls g h → IsLabelsCause held f g c r → IsLabelsCause held f h c r
+labels_cause_later held f g h c (refusal.Environment x) low high cause = cause
+labels_cause_later held f g h c (refusal.Primitives x) low high cause = cause
+labels_cause_later held f g h c (refusal.TooWide x) low high cause = cause
+labels_cause_later held f g h c (refusal.TooDear x) low high cause = cause
+labels_cause_later held f g h c (refusal.Changes x) low high cause = cause
+labels_cause_later held f g h c (refusal.Read input.Environment) low high cause = cause
+labels_cause_later held f g h c (refusal.Read input.Primitives) low high cause = cause
+labels_cause_later held f g h c (refusal.Read input.Changes) low high cause = cause
+labels_cause_later held f g h c (refusal.Read input.Labels) low high (w, batches, says, changes, rose) = (w, batches, says, changes, rose_later _ _ _ (low c.labels) (high c.labels) rose)
+labels_cause_later held f g h c (refusal.Length input.Environment) low high cause = cause
+labels_cause_later held f g h c (refusal.Length input.Primitives) low high cause = cause
+labels_cause_later held f g h c (refusal.Length input.Changes) low high cause = cause
+labels_cause_later held f g h c (refusal.Length input.Labels) low high cause = cause
 
 job_cause_later : (held : Told) (f g h : FaultCounts) (j : Job) (r : Refusal) → NoneFalls f g → NoneFalls g h → IsJobCause held f g j r → IsJobCause held f h j r
-job_cause_later held f g h j r low high (inl cause) = inl (cause_later held f g h (sources_of j) r low high cause)
-job_cause_later held f g h j r low high (inr cause) = inr (late_cause_later held f g h j r low high cause)
+job_cause_later held f g h (job.Plan p) r low high (inl cause) = inl (cause_later held f g h p.sources r low high cause)
+job_cause_later held f g h (job.Plan p) r low high (inr cause) = inr (changes_cause_later held f g h p.sources p.changes r low high cause)
+job_cause_later held f g h (job.Check c) r low high (inl cause) = inl (cause_later held f g h c.sources r low high cause)
+job_cause_later held f g h (job.Check c) r low high (inr (inl cause)) = inr (inl (changes_cause_later held f g h c.sources c.changes r low high cause))
+job_cause_later held f g h (job.Check c) r low high (inr (inr cause)) = inr (inr (labels_cause_later held f g h c r low high cause))
+job_cause_later held f g h (job.Sweep from) r low high cause = cause_later held f g h from r low high cause
+job_cause_later held f g h (job.Demo d) r low high cause = cause
+
+-- ---- a stop is handed on
+
+-- a stop for the change file is one, where a world was read before
+pub course_stop : (held held' : Told) (f g h : FaultCounts) (from : Sources) (changes : Option (List ℕ)) (w : World) (s : Stop) → SaysWorld held from w → Stays held held' → NoneFalls f g → ChangesStopFor held' g h changes w.map s → EarlyStopsFor held f h from changes s
+course_stop held held' f g h from changes w stop.NoMemory says same low cause = tt
+course_stop held held' f g h from changes w (stop.Refused r) says same low cause = inr (by_refusal r cause)
+  where
+    by_refusal : (r : Refusal) → ChangesStopFor held' g h changes w.map (stop.Refused r) → IsChangesCause held f h from changes r
+    by_refusal (refusal.Environment x) cause = cause
+    by_refusal (refusal.Primitives x) cause = cause
+    by_refusal (refusal.TooWide x) cause = cause
+    by_refusal (refusal.TooDear x) cause = cause
+    by_refusal (refusal.Changes x) cause =
+        (w, says, at_name_on changes (λ name. IsFaultyChanges held' name w.map x) (λ name. IsFaultyChanges held name w.map x) (λ name faulty. record { text = faulty.text; read = subst (λ (o : Option (List ℕ)). IsRead o faulty.text) (same name) faulty.read; faulty = faulty.faulty }) cause)
+    by_refusal (refusal.Read input.Environment) cause = cause
+    by_refusal (refusal.Read input.Primitives) cause = cause
+    by_refusal (refusal.Read input.Changes) cause =
+        (w, says, at_name_on changes (λ name. Rose (g name) (h name)) (λ name. Rose (f name) (h name)) (λ name rose. rose_since _ _ _ (low name) rose) cause)
+    by_refusal (refusal.Read input.Labels) cause = cause
+    by_refusal (refusal.Length input.Environment) cause = cause
+    by_refusal (refusal.Length input.Primitives) cause = cause
+    by_refusal (refusal.Length input.Changes) cause =
+        (w, says, at_name_on changes (λ name. IsTooLong (held' name)) (λ name. IsTooLong (held name)) (λ name long. subst (λ (o : Option (List ℕ)). IsTooLong o) (same name) long) cause)
+    by_refusal (refusal.Length input.Labels) cause = cause
+
+-- a stop for the files of a lattice is one for the job `sweep`
+pub sweep_stop : (held : Told) (f g : FaultCounts) (from : Sources) (s : Stop) → StopsFor held f g from s → JobStopsFor held f g (job.Sweep from) s
+sweep_stop held f g from (stop.Refused r) cause = cause
+sweep_stop held f g from stop.NoMemory cause = tt
+
+-- ---- the end of a job
 
 -- the job came to this, and then its writes were made
 pub ended : (held : Told) (reads reads' : FaultCounts) (before mid after : Told) (f g h : FaultCounts) (j : Job) (i : Intent) (status : ℕ) → ComesTo held reads reads' j i → Stays before mid → NoneFalls f g → EndsAs mid after g h (writes_of j i) (intent_status i) status → EndsJob held reads reads' before after f h j status
@@ -73,11 +132,6 @@ pub refused : (held : Told) (reads mid_reads reads' : FaultCounts) (before mid a
 refused held reads mid_reads reads' before mid after f g h j r status cause low high same fewer ends =
     ended held reads reads' before mid after f g h j (Refused r) status (job_cause_later held reads mid_reads reads' j r low high cause) same fewer ends
 
--- a stop for the files of a lattice is one for the job
-pub job_stop : (held : Told) (f g : FaultCounts) (j : Job) (s : Stop) → StopsFor held f g (sources_of j) s → JobStopsFor held f g j s
-job_stop held f g j (stop.Refused r) cause = inl cause
-job_stop held f g j stop.NoMemory cause = tt
-
 -- memory ran out before anything was written
 pub memory_ended : (held : Told) (reads reads' : FaultCounts) (before after : Told) (f h : FaultCounts) (j : Job) → Stays before after → EndsJob held reads reads' before after f h j 9
 memory_ended held reads reads' before after f h j same = record { intent = OutOfMemory; comes = tt; ends = inl (refl, none_made before after same) }
@@ -87,6 +141,7 @@ pub plain_is : (j : Job) (name : List ℕ) → IsOutput name → MayBeWritten (S
 plain_is (job.Plan p) name is = inl is
 plain_is (job.Check c) name is = is
 plain_is (job.Sweep from) name is = is
+plain_is (job.Demo d) name is = is
 
 -- what stays while a job is done stays while a line is written too
 pub plain_stays : (j : Job) (before mid after : Told) → StaysBut (MayBeWritten (Some j)) before mid → StaysBut IsOutput mid after → StaysBut (MayBeWritten (Some j)) before after
