@@ -1,11 +1,10 @@
 -- How the checking of sections ends, from how its parts end.
-use Rattle.std.proofs.Common.{◌≡◌, ◌≢◌, ℕ, zero, suc, ◌+◌, ◌<◌, ◌≤◌, List, [], ◌∷◌, ◌++◌, length, Option, Some, None, Result, Ok, Err, refl, sym, ◌∙◌, ap, subst, arith, inl, inr}
+use Rattle.std.proofs.Common.{◌≡◌, ℕ, zero, suc, ◌+◌, ◌≤◌, List, [], ◌∷◌, ◌++◌, length, Some, None, Err, refl, sym, ap, subst, arith, inl, inr}
 use Rattle.sbpl_graph.specs.Network.{Network}
 use Rattle.sbpl_fixed.specs.Formats.{Left, start_at}
 use Rattle.sbpl_fixed.specs.Tokens.{Piece}
-use Rattle.sbpl_desk.specs.Desk.{NoneFalls, Rose, Stays}
+use Rattle.sbpl_desk.specs.Desk.{NoneFalls, Stays}
 use Rattle.sbpl_desk.specs.declared.desk.WriteStop.{WriteStop}
-use Rattle.sbpl_desk.specs.declared.desk.WriteStop.TheVariants.{Failed, NoMemory}
 use Rattle.sbpl_cert.specs.declared.fault.LabelFault.TheVariants as fault
 use Rattle.sbpl_cert.specs.declared.outcome.Outcome.{Outcome}
 use Rattle.sbpl_cert.specs.Text.{HasFault}
@@ -16,21 +15,13 @@ use Rattle.sbpl_cost.specs.States.{state_count}
 use Rattle.sbpl_cost.specs.World.{IsWorld, World}
 use Rattle.sbpl_cli.specs.declared.checking.SectionStop.{SectionStop}
 use Rattle.sbpl_cli.specs.declared.checking.SectionStop.TheVariants as section
-use Rattle.sbpl_job.specs.declared.job.CheckJob.{CheckJob}
-use Rattle.sbpl_job.specs.declared.job.Job.TheVariants as job
-use Rattle.sbpl_cli.specs.declared.refusal.Input.{Input}
-use Rattle.sbpl_cli.specs.declared.refusal.Input.TheVariants as input
-use Rattle.sbpl_cli.specs.declared.refusal.Refusal.TheVariants as refusal
-use Rattle.sbpl_cli.specs.declared.refusal.Stop.{Stop}
-use Rattle.sbpl_cli.specs.declared.refusal.Stop.TheVariants as stop
-use Rattle.sbpl_cli.specs.Causes.{EarlyStopsFor, IsTooLong, IsUnread, JobStopsFor, SaysBatches, SaysWorld}
 use Rattle.sbpl_cli.specs.Checked.{AreChecked, Case, IsGraphAfter, IsSectionStop, IsShownHolding, IsStoppedIn, IsTrailing}
 use Rattle.sbpl_cli.specs.Intents.{checked_status, checked_writes, label_fault_text, last_write, stop_status, stop_writes}
 use Rattle.sbpl_cli.specs.Planning.{HoldsAndTells}
 use Rattle.sbpl_cli.specs.Promises.{EndsSections}
 use Rattle.sbpl_cli.specs.Verdicts.{holds_text}
 use Rattle.sbpl_cli.specs.Writing.{AreMade, EndsAs, EndsIn, FaultCounts, IsOutput, StaysBut, Told, Write, status_after, to_output}
-use Rattle.sbpl_cli.proofs.Writings.{ends_as_behind, cut_behind, made_both, rose_since, status_ends, stopped_behind}
+use Rattle.sbpl_cli.proofs.Writings.{ends_as_behind, status_ends}
 
 -- the graph on each map has the states of the environment
 states_after : (w : World) (batches : List (List change.Write)) (k : ℕ) (n : Network) → IsGraphAfter w batches k n → n.states ≡ state_count w.env
@@ -140,21 +131,3 @@ none_checked w batches start goal text held written reads faults after kept = re
   low_reads = λ name. omega arith;
   low_writes = λ name. omega arith;
 }
-
--- the lattice or its change file was not read
-pub early_stop : (held : Told) (f g : FaultCounts) (c : CheckJob) (s : Stop) → EarlyStopsFor held f g c.sources c.changes s → JobStopsFor held f g (job.Check c) s
-early_stop held f g c (stop.Refused r) (inl cause) = inl cause
-early_stop held f g c (stop.Refused r) (inr cause) = inr (inl cause)
-early_stop held f g c stop.NoMemory cause = tt
-
--- the file of labels was not read
-pub late_stop : (held held' : Told) (f g h : FaultCounts) (c : CheckJob) (w : World) (batches : List (List change.Write)) (s : Stop) → SaysWorld held c.sources w → SaysBatches held c.changes w.map batches → Stays held held' → NoneFalls f g → IsUnread (held' c.labels) (g c.labels) (h c.labels) input.Labels s
-    → JobStopsFor held f h (job.Check c) s
-late_stop held held' f g h c w batches (stop.Refused (refusal.Read i)) says changes same low (is, rose) = subst (λ (j : Input). JobStopsFor held f h (job.Check c) (stop.Refused (refusal.Read j))) (sym is) (inr (inr (w, batches, says, changes, rose_since _ _ _ (low c.labels) rose)))
-late_stop held held' f g h c w batches (stop.Refused (refusal.Length i)) says changes same low (is, long) = subst (λ (j : Input). JobStopsFor held f h (job.Check c) (stop.Refused (refusal.Length j))) (sym is) (inr (inr (w, batches, says, changes, subst (λ (o : Option (List ℕ)). IsTooLong o) (same c.labels) long)))
-late_stop held held' f g h c w batches (stop.Refused (refusal.Environment x)) says changes same low none = absurd none
-late_stop held held' f g h c w batches (stop.Refused (refusal.Primitives x)) says changes same low none = absurd none
-late_stop held held' f g h c w batches (stop.Refused (refusal.TooWide x)) says changes same low none = absurd none
-late_stop held held' f g h c w batches (stop.Refused (refusal.TooDear x)) says changes same low none = absurd none
-late_stop held held' f g h c w batches (stop.Refused (refusal.Changes x)) says changes same low none = absurd none
-late_stop held held' f g h c w batches stop.NoMemory says changes same low none = tt

@@ -1,5 +1,5 @@
 -- How the sections of a label text are checked, one for each plan.
-use Rattle.std.specs.Prelude.{◌≡◌, ◌≢◌, ℕ, zero, suc, ◌+◌, List, [], ◌∷◌, length, Option, Some, None}
+use Rattle.std.specs.Prelude.{◌≡◌, ◌≢◌, ℕ, zero, suc, ◌+◌, List, [], ◌∷◌, Option, Some, None}
 use Rattle.sbpl_graph.specs.Network.{Network}
 use Rattle.sbpl_fixed.specs.Formats.{Left}
 use Rattle.sbpl_fixed.specs.Tokens.{Piece}

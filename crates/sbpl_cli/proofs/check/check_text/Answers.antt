@@ -1,4 +1,4 @@
-use Rattle.std.proofs.Common.{◌≡◌, ◌+◌, ◌-◌, ◌<◌, ℕ, suc, length, Some, slice_get, refl, sym, ◌∙◌, ap, subst, arith}
+use Rattle.std.proofs.Common.{◌≡◌, ◌+◌, ◌-◌, ◌<◌, ℕ, suc, length, refl, sym, ◌∙◌, ap, subst, arith}
 use Rattle.sbpl_fixed.specs.Formats.{start_at}
 use Rattle.sbpl_cost.specs.Lattices.{network_of}
 use Rattle.sbpl_cost.specs.World.{World}
