@@ -1,5 +1,5 @@
 -- Which status follows from what a desk tells of the files.
-use Rattle.std.proofs.Common.{◌≡◌, ◌≢◌, ℕ, ◌^◌, ◌<◌, ◌≤◌, ◌⊎◌, List, Option, Some, length, sym, refl, subst, arith, inl, inr}
+use Rattle.std.proofs.Common.{◌≡◌, ℕ, ◌^◌, ◌<◌, ◌≤◌, ◌⊎◌, List, [], Option, Some, None, length, sym, ◌∙◌, ap, refl, subst, arith, inl, inr}
 use Rattle.sbpl_cfg.specs.declared.fault.EnvFault.{EnvFault}
 use Rattle.sbpl_cfg.specs.Environment.{Environment}
 use Rattle.sbpl_mprim.specs.declared.fault.PrimFault.{PrimFault}
@@ -7,7 +7,9 @@ use Rattle.sbpl_mprim.specs.Primitives.{Primitives}
 use Rattle.sbpl_sweep.specs.Widths.{IsFirstTooWide, NoneTooWide}
 use Rattle.sbpl_cost.specs.PrimitiveCost.{IsFirstTooDear, most_cost, primitive_cost}
 use Rattle.sbpl_cost.specs.World.{World}
-use Rattle.sbpl_desk.specs.Desk.{Rose}
+use Rattle.sbpl_map.specs.CellMap.{CellMap}
+use Rattle.sbpl_map.specs.declared.fault.ChangeFault.{ChangeFault}
+use Rattle.sbpl_map.specs.declared.write.Write.{Write}
 use Rattle.sbpl_job.specs.declared.job.CheckJob.{CheckJob}
 use Rattle.sbpl_job.specs.declared.job.Job.{Job}
 use Rattle.sbpl_job.specs.declared.job.Job.TheVariants as job
@@ -15,11 +17,10 @@ use Rattle.sbpl_job.specs.declared.job.Sources.{Sources}
 use Rattle.sbpl_cli.specs.declared.refusal.Input.TheVariants as input
 use Rattle.sbpl_cli.specs.declared.refusal.Refusal.{Refusal}
 use Rattle.sbpl_cli.specs.declared.refusal.Refusal.TheVariants as refusal
-use Rattle.sbpl_cli.specs.Causes.{AtLabels, IsCause, IsFaultyFor, IsJobCause, IsLateCause, IsRead, IsTooLong, NoneTooDear, SaysEnvironment, SaysPrimitives, SaysWorld}
-use Rattle.sbpl_cli.specs.Intents.{Intent, Refused, Planned, Checked, Listed, OutOfMemory, intent_status, refusal_status}
-use Rattle.sbpl_job.specs.Jobs.{sources_of}
-use Rattle.sbpl_cli.specs.Promises.{ComesTo, IsNoCheck, IsOrFailed, Tells, TellsEnvironment, TellsEnvironmentFault, TellsPrimitiveFault, TellsPrimitives, TellsTooMuch}
-use Rattle.sbpl_cli.specs.Texts.{HasEnvironmentFault, HasPrimitiveFault, IsEnvironmentText, IsPrimitiveText}
+use Rattle.sbpl_cli.specs.Causes.{AtName, IsCause, IsChangesCause, IsEarlyCause, IsFaultyChanges, IsFaultyFor, IsJobCause, IsLabelsCause, IsRead, IsTooLong, NoneTooDear, SaysBatches, SaysEnvironment, SaysPrimitives, SaysWorld}
+use Rattle.sbpl_cli.specs.Intents.{Intent, Refused, Planned, Checked, Listed, Demonstrated, OutOfMemory, intent_status, refusal_status}
+use Rattle.sbpl_cli.specs.Promises.{AreGood, ComesTo, IsNoCheck, IsOrFailed, Tells, TellsBatches, TellsChangeFault, TellsEnvironment, TellsEnvironmentFault, TellsMap, TellsPrimitiveFault, TellsPrimitives, TellsTooMuch, TellsWorld, changes_of, sources_of}
+use Rattle.sbpl_cli.specs.Texts.{HasChangeFault, HasEnvironmentFault, HasPrimitiveFault, IsChangeText, IsEnvironmentText, IsPrimitiveText}
 use Rattle.sbpl_cli.specs.Writing.{FaultCounts, Told}
 use Rattle.sbpl_cli.proofs.Laws.{TextsAreClear}
 
@@ -55,9 +56,11 @@ not_said_long held from e cells much says = too_much_not_read _ says.text much s
 pub same_environment : TextsAreClear → (held : Told) (from : Sources) (e d : Environment) (cells : List ℕ) → TellsEnvironment held from e → SaysEnvironment held from d cells → d ≡ e
 same_environment clear held from e d cells (text, others, tells, stands) says = (clear.environment text d e cells others (said_text held from d cells text tells says) stands).0
 
--- an environment that is told is read with the same costs each time
-pub same_cells : TextsAreClear → (held : Told) (from : Sources) (e d f : Environment) (cells others : List ℕ) → TellsEnvironment held from e → SaysEnvironment held from d cells → SaysEnvironment held from f others → cells ≡ others
-same_cells clear held from e d f cells others (text, more, tells, stands) says said = (clear.environment text d f cells others (said_text held from d cells text tells says) (said_text held from f others text tells said)).1
+-- the map of a world that was read is the one that is told
+pub same_map : TextsAreClear → (held : Told) (from : Sources) (m : CellMap) (w : World) → TellsMap held from m → SaysWorld held from w → w.map ≡ m
+same_map clear held from m w (text, e, cells, tells, stands, is) says =
+    let both = clear.environment text w.env e says.cells cells (said_text held from w.env says.cells text tells says.environment) stands in
+    says.map ∙ ap (λ (d : Environment). record { width = d.width; height = d.height; costs = says.cells }) both.0 ∙ ap (λ (l : List ℕ). record { width = e.width; height = e.height; costs = l }) both.1 ∙ sym is
 
 -- where an environment is told, no fault of it was read
 not_faulty : TextsAreClear → (held : Told) (from : Sources) (e : Environment) (f : EnvFault) (t : List ℕ) → TellsEnvironment held from e → IsRead (held from.env) t → HasEnvironmentFault t f → ⊥
@@ -91,6 +94,20 @@ same_primitives clear held from env d cells ps qs told (text, tells, stands) fir
     let same : d ≡ env = same_environment clear held from env d cells told first in
     clear.primitives text env qs ps (subst (λ x. IsPrimitiveText x text qs) same (said_primitives held from d qs text tells second)) stands
 
+-- where batches are told, no fault of the changes was read
+batches_not_faulty : TextsAreClear → (held : Told) (name : List ℕ) (m : CellMap) (batches : List (List Write)) (f : ChangeFault) → TellsBatches held (Some name) m batches → IsFaultyChanges held name m f → ⊥
+batches_not_faulty clear held name m batches f (text, tells, stands) faulty =
+    clear.change_fault m text batches f stands (subst (λ t. HasChangeFault m t f) (told_is _ text faulty.text tells.held_bytes faulty.read) faulty.faulty)
+
+batches_not_long : (held : Told) (name : List ℕ) (m : CellMap) (batches : List (List Write)) → TellsBatches held (Some name) m batches → IsTooLong (held name) → ⊥
+batches_not_long held name m batches (text, tells, stands) long = too_long_not_short _ text tells long
+
+-- the batches that were read are those that are told
+pub same_batches : TextsAreClear → (held : Told) (changes : Option (List ℕ)) (m : CellMap) (batches others : List (List Write)) → TellsBatches held changes m batches → SaysBatches held changes m others → others ≡ batches
+same_batches clear held None m batches others told says = says ∙ sym told
+same_batches clear held (Some name) m batches others (text, tells, stands) (t, read, also) =
+    clear.changes m text others batches (subst (λ u. IsChangeText m u others) (told_is _ text t tells.held_bytes read) also) stands
+
 -- where no primitive is too dear, the first one that is has no place
 pub none_is_first : (e : Environment) (ps : Primitives) (i : ℕ) → NoneTooDear e ps → IsFirstTooDear e ps.items i → ⊥
 none_is_first e ps i cheap dear =
@@ -109,68 +126,103 @@ failed_read wanted = inr (inl refl)
 pub no_memory : (wanted : ℕ) → IsOrFailed wanted 9
 no_memory wanted = inr (inr (inr refl))
 
--- What a job comes to has a status by what it is: that of a refusal with its cause, that of what was done in a world that the
--- files stand for, or that of want of memory.
-pub by_intent : (held : Told) (reads reads' : FaultCounts) (wanted : ℕ) (j : Job) (i : Intent) → ((r : Refusal) → IsJobCause held reads reads' j r → IsOrFailed wanted (refusal_status r)) → ((i : Intent) → ComesTo held reads reads' j i → (w : World) → SaysWorld held (sources_of j) w → IsOrFailed wanted (intent_status i)) → ComesTo held reads reads' j i → IsOrFailed wanted (intent_status i)
-by_intent held reads reads' wanted j (Refused r) refused done comes = refused r comes
-by_intent held reads reads' wanted (job.Plan p) (Planned plan) refused done comes = done (Planned plan) comes comes.world comes.says
-by_intent held reads reads' wanted (job.Check c) (Planned plan) refused done comes = absurd comes
-by_intent held reads reads' wanted (job.Sweep from) (Planned plan) refused done comes = absurd comes
-by_intent held reads reads' wanted (job.Plan p) (Checked goal os end) refused done comes = absurd comes
-by_intent held reads reads' wanted (job.Check c) (Checked goal os end) refused done comes = done (Checked goal os end) comes comes.world comes.says
-by_intent held reads reads' wanted (job.Sweep from) (Checked goal os end) refused done comes = absurd comes
-by_intent held reads reads' wanted (job.Plan p) (Listed w) refused done comes = absurd comes
-by_intent held reads reads' wanted (job.Check c) (Listed w) refused done comes = absurd comes
-by_intent held reads reads' wanted (job.Sweep from) (Listed w) refused done comes = done (Listed w) comes w comes.0
-by_intent held reads reads' wanted j OutOfMemory refused done comes = no_memory wanted
+-- ---- what was read where a job came so far
 
--- the file of labels was not read in a world that the files stand for
-at_labels_world : (held : Told) (j : Job) (P : List ℕ → Type 0) → AtLabels held j P → (w : World) × SaysWorld held (sources_of j) w
-at_labels_world held (job.Plan p) P at = absurd at
-at_labels_world held (job.Check c) P (w, says, at) = (w, says)
-at_labels_world held (job.Sweep from) P at = absurd at
+-- the files stand for a world and batches of changes
+pub record SaysCourse (held : Told) (from : Sources) (changes : Option (List ℕ)) : Type 0 where
+  pub world : World
+  pub batches : List (List Write)
+  pub says : SaysWorld held from world
+  pub course : SaysBatches held changes world.map batches
 
--- where no world is read, the file of labels was not tried
-pub late_none : (held : Told) (reads reads' : FaultCounts) (j : Job) (r : Refusal) → ((w : World) → SaysWorld held (sources_of j) w → ⊥) → IsLateCause held reads reads' j r → ⊥
-late_none held reads reads' j (refusal.Environment x) none late = late
-late_none held reads reads' j (refusal.Primitives x) none late = late
-late_none held reads reads' j (refusal.TooWide x) none late = late
-late_none held reads reads' j (refusal.TooDear x) none late = late
-late_none held reads reads' j (refusal.Read input.Environment) none late = late
-late_none held reads reads' j (refusal.Read input.Primitives) none late = late
-late_none held reads reads' j (refusal.Read input.Labels) none late = let found = at_labels_world held j (λ name. Rose (reads name) (reads' name)) late in none found.0 found.1
-late_none held reads reads' j (refusal.Length input.Environment) none late = late
-late_none held reads reads' j (refusal.Length input.Primitives) none late = late
-late_none held reads reads' j (refusal.Length input.Labels) none late = let found = at_labels_world held j (λ name. IsTooLong (held name)) late in none found.0 found.1
+same_sources : (s t : Sources) → ◌≡◌ {A = Option Sources} (Some s) (Some t) → s ≡ t
+same_sources s t is = cc
 
--- a job that reads no file of labels is not refused for one
-late_no_check : (held : Told) (j : Job) (P : List ℕ → Type 0) → IsNoCheck j → AtLabels held j P → ⊥
-late_no_check held (job.Plan p) P plain at = at
-late_no_check held (job.Check c) P plain at = plain
-late_no_check held (job.Sweep from) P plain at = at
+course_from : (held : Told) (s t : Sources) (changes : Option (List ℕ)) → ◌≡◌ {A = Option Sources} (Some s) (Some t) → SaysCourse held s changes → SaysCourse held t changes
+course_from held s t changes is c = subst (λ (u : Sources). SaysCourse held u changes) (same_sources s t is) c
 
-pub no_late : (held : Told) (reads reads' : FaultCounts) (j : Job) (r : Refusal) → IsNoCheck j → IsLateCause held reads reads' j r → ⊥
-no_late held reads reads' j (refusal.Environment x) plain late = late
-no_late held reads reads' j (refusal.Primitives x) plain late = late
-no_late held reads reads' j (refusal.TooWide x) plain late = late
-no_late held reads reads' j (refusal.TooDear x) plain late = late
-no_late held reads reads' j (refusal.Read input.Environment) plain late = late
-no_late held reads reads' j (refusal.Read input.Primitives) plain late = late
-no_late held reads reads' j (refusal.Read input.Labels) plain late = late_no_check held j (λ name. Rose (reads name) (reads' name)) plain late
-no_late held reads reads' j (refusal.Length input.Environment) plain late = late
-no_late held reads reads' j (refusal.Length input.Primitives) plain late = late
-no_late held reads reads' j (refusal.Length input.Labels) plain late = late_no_check held j (λ name. IsTooLong (held name)) plain late
+-- the file of labels is tried behind the others
+labels_course : (held : Told) (reads reads' : FaultCounts) (c : CheckJob) (r : Refusal) → IsLabelsCause held reads reads' c r → SaysCourse held c.sources c.changes
+labels_course held reads reads' c (refusal.Environment x) cause = absurd cause
+labels_course held reads reads' c (refusal.Primitives x) cause = absurd cause
+labels_course held reads reads' c (refusal.TooWide x) cause = absurd cause
+labels_course held reads reads' c (refusal.TooDear x) cause = absurd cause
+labels_course held reads reads' c (refusal.Changes x) cause = absurd cause
+labels_course held reads reads' c (refusal.Read input.Environment) cause = absurd cause
+labels_course held reads reads' c (refusal.Read input.Primitives) cause = absurd cause
+labels_course held reads reads' c (refusal.Read input.Changes) cause = absurd cause
+labels_course held reads reads' c (refusal.Read input.Labels) (w, batches, says, changes, at) = record { world = w; batches = batches; says = says; course = changes }
+labels_course held reads reads' c (refusal.Length input.Environment) cause = absurd cause
+labels_course held reads reads' c (refusal.Length input.Primitives) cause = absurd cause
+labels_course held reads reads' c (refusal.Length input.Changes) cause = absurd cause
+labels_course held reads reads' c (refusal.Length input.Labels) (w, batches, says, changes, at) = record { world = w; batches = batches; says = says; course = changes }
 
--- the file of labels that a check reads was not read: it failed, or it is too long
-pub late_of_check : (held : Told) (reads reads' : FaultCounts) (c : CheckJob) (wanted : ℕ) (r : Refusal) → (IsTooLong (held c.labels) → IsOrFailed wanted 8) → IsLateCause held reads reads' (job.Check c) r → IsOrFailed wanted (refusal_status r)
-late_of_check held reads reads' c wanted (refusal.Environment x) long late = absurd late
-late_of_check held reads reads' c wanted (refusal.Primitives x) long late = absurd late
-late_of_check held reads reads' c wanted (refusal.TooWide x) long late = absurd late
-late_of_check held reads reads' c wanted (refusal.TooDear x) long late = absurd late
-late_of_check held reads reads' c wanted (refusal.Read x) long late = failed_read wanted
-late_of_check held reads reads' c wanted (refusal.Length input.Environment) long late = absurd late
-late_of_check held reads reads' c wanted (refusal.Length input.Primitives) long late = absurd late
-late_of_check held reads reads' c wanted (refusal.Length input.Labels) long (w, says, at) = long at
+-- a file of labels was not read: the reading failed, or it is too long
+pub labels_refused : (held : Told) (reads reads' : FaultCounts) (c : CheckJob) (wanted : ℕ) (r : Refusal) → (IsTooLong (held c.labels) → IsOrFailed wanted 8) → IsLabelsCause held reads reads' c r → IsOrFailed wanted (refusal_status r)
+labels_refused held reads reads' c wanted (refusal.Environment x) long cause = absurd cause
+labels_refused held reads reads' c wanted (refusal.Primitives x) long cause = absurd cause
+labels_refused held reads reads' c wanted (refusal.TooWide x) long cause = absurd cause
+labels_refused held reads reads' c wanted (refusal.TooDear x) long cause = absurd cause
+labels_refused held reads reads' c wanted (refusal.Changes x) long cause = absurd cause
+labels_refused held reads reads' c wanted (refusal.Read x) long cause = failed_read wanted
+labels_refused held reads reads' c wanted (refusal.Length input.Environment) long cause = absurd cause
+labels_refused held reads reads' c wanted (refusal.Length input.Primitives) long cause = absurd cause
+labels_refused held reads reads' c wanted (refusal.Length input.Changes) long cause = absurd cause
+labels_refused held reads reads' c wanted (refusal.Length input.Labels) long (w, batches, says, changes, at) = long at
+
+-- the change file is tried where the others stand for a world
+pub changes_world : (held : Told) (reads reads' : FaultCounts) (from : Sources) (changes : Option (List ℕ)) (r : Refusal) → IsChangesCause held reads reads' from changes r → (w : World) × SaysWorld held from w
+changes_world held reads reads' from changes (refusal.Environment x) cause = absurd cause
+changes_world held reads reads' from changes (refusal.Primitives x) cause = absurd cause
+changes_world held reads reads' from changes (refusal.TooWide x) cause = absurd cause
+changes_world held reads reads' from changes (refusal.TooDear x) cause = absurd cause
+changes_world held reads reads' from changes (refusal.Changes x) (w, says, at) = (w, says)
+changes_world held reads reads' from changes (refusal.Read input.Environment) cause = absurd cause
+changes_world held reads reads' from changes (refusal.Read input.Primitives) cause = absurd cause
+changes_world held reads reads' from changes (refusal.Read input.Changes) (w, says, at) = (w, says)
+changes_world held reads reads' from changes (refusal.Read input.Labels) cause = absurd cause
+changes_world held reads reads' from changes (refusal.Length input.Environment) cause = absurd cause
+changes_world held reads reads' from changes (refusal.Length input.Primitives) cause = absurd cause
+changes_world held reads reads' from changes (refusal.Length input.Changes) (w, says, at) = (w, says)
+changes_world held reads reads' from changes (refusal.Length input.Labels) cause = absurd cause
+
+-- a job is refused for the files of its lattice or its change file; or it is `check`, and they were read
+pub cause_of : (held : Told) (reads reads' : FaultCounts) (j : Job) (from : Sources) (r : Refusal) → sources_of j ≡ Some from → IsJobCause held reads reads' j r → IsEarlyCause held reads reads' from (changes_of j) r ⊎ (SaysCourse held from (changes_of j) × (IsNoCheck j → ⊥))
+cause_of held reads reads' (job.Plan p) from r is cause = inl (subst (λ (s : Sources). IsEarlyCause held reads reads' s p.changes r) (same_sources p.sources from is) cause)
+cause_of held reads reads' (job.Check c) from r is (inl cause) = inl (subst (λ (s : Sources). IsEarlyCause held reads reads' s c.changes r) (same_sources c.sources from is) (inl cause))
+cause_of held reads reads' (job.Check c) from r is (inr (inl cause)) = inl (subst (λ (s : Sources). IsEarlyCause held reads reads' s c.changes r) (same_sources c.sources from is) (inr cause))
+cause_of held reads reads' (job.Check c) from r is (inr (inr cause)) = inr (course_from held c.sources from c.changes is (labels_course held reads reads' c r cause), λ none. none)
+cause_of held reads reads' (job.Sweep s) from r is cause = inl (inl (subst (λ (t : Sources). IsCause held reads reads' t r) (same_sources s from is) cause))
+cause_of held reads reads' (job.Demo d) from r is cause = absurd cause
+
+-- A job whose files stand for no world and batches of changes comes to nothing but a refusal or want of memory.
+pub by_intent : (held : Told) (reads reads' : FaultCounts) (wanted : ℕ) (j : Job) (from : Sources) (i : Intent) → sources_of j ≡ Some from → ((r : Refusal) → IsJobCause held reads reads' j r → IsOrFailed wanted (refusal_status r)) → (SaysCourse held from (changes_of j) → ⊥) → ComesTo held reads reads' j i → IsOrFailed wanted (intent_status i)
+by_intent held reads reads' wanted j from (Refused r) is refused none comes = refused r comes
+by_intent held reads reads' wanted (job.Plan p) from (Planned records all) is refused none comes = absurd (none (course_from held p.sources from p.changes is (record { world = comes.world; batches = comes.batches; says = comes.says; course = comes.changes })))
+by_intent held reads reads' wanted (job.Check c) from (Planned records all) is refused none comes = absurd comes
+by_intent held reads reads' wanted (job.Sweep s) from (Planned records all) is refused none comes = absurd comes
+by_intent held reads reads' wanted (job.Demo d) from (Planned records all) is refused none comes = absurd comes
+by_intent held reads reads' wanted (job.Plan p) from (Checked goal os end) is refused none comes = absurd comes
+by_intent held reads reads' wanted (job.Check c) from (Checked goal os end) is refused none comes = absurd (none (course_from held c.sources from c.changes is (record { world = comes.world; batches = comes.batches; says = comes.says; course = comes.changes })))
+by_intent held reads reads' wanted (job.Sweep s) from (Checked goal os end) is refused none comes = absurd comes
+by_intent held reads reads' wanted (job.Demo d) from (Checked goal os end) is refused none comes = absurd comes
+by_intent held reads reads' wanted (job.Plan p) from (Listed w) is refused none comes = absurd comes
+by_intent held reads reads' wanted (job.Check c) from (Listed w) is refused none comes = absurd comes
+by_intent held reads reads' wanted (job.Sweep s) from (Listed w) is refused none comes = absurd (none (course_from held s from None is (record { world = w; batches = []; says = comes.0; course = refl })))
+by_intent held reads reads' wanted (job.Demo d) from (Listed w) is refused none comes = absurd comes
+by_intent held reads reads' wanted (job.Plan p) from (Demonstrated w count records all) is refused none comes = absurd comes
+by_intent held reads reads' wanted (job.Check c) from (Demonstrated w count records all) is refused none comes = absurd comes
+by_intent held reads reads' wanted (job.Sweep s) from (Demonstrated w count records all) is refused none comes = absurd comes
+by_intent held reads reads' wanted (job.Demo d) from (Demonstrated w count records all) is refused none comes = cc
+by_intent held reads reads' wanted j from OutOfMemory is refused none comes = no_memory wanted
+
+same_name : (a b : List ℕ) → ◌≡◌ {A = Option (List ℕ)} (Some a) (Some b) → a ≡ b
+same_name a b is = cc
+
+-- a name that there is
+named : (changes : Option (List ℕ)) (P : List ℕ → Type 0) → AtName changes P → (name : List ℕ) × (changes ≡ Some name) × P name
+named None P at = absurd at
+named (Some name) P at = (name, refl, at)
 
 module _ (clear : TextsAreClear) (held : Told) (reads reads' : FaultCounts) (from : Sources) where
   -- a faulty environment
@@ -179,9 +231,11 @@ module _ (clear : TextsAreClear) (held : Told) (reads reads' : FaultCounts) (fro
   environment_faulty f tells (refusal.Primitives x) p = absurd (not_said clear held from f _ _ tells p.environment)
   environment_faulty f tells (refusal.TooWide x) p = absurd (not_said clear held from f _ _ tells p.environment)
   environment_faulty f tells (refusal.TooDear x) p = absurd (not_said clear held from f _ _ tells p.environment)
+  environment_faulty f tells (refusal.Changes x) p = absurd p
   environment_faulty f tells (refusal.Read x) p = failed_read 3
   environment_faulty f tells (refusal.Length input.Environment) p = absurd (too_long_not_short _ tells.0 tells.1 p)
   environment_faulty f tells (refusal.Length input.Primitives) p = absurd (not_said clear held from f _ _ tells p.environment)
+  environment_faulty f tells (refusal.Length input.Changes) p = absurd p
   environment_faulty f tells (refusal.Length input.Labels) p = absurd p
 
   pub environment_faulty_none : (f : EnvFault) → TellsEnvironmentFault held from f → (w : World) → SaysWorld held from w → ⊥
@@ -193,6 +247,7 @@ module _ (clear : TextsAreClear) (held : Told) (reads reads' : FaultCounts) (fro
   environment_long much (refusal.Primitives x) p = absurd (not_said_long held from _ _ much p.environment)
   environment_long much (refusal.TooWide x) p = absurd (not_said_long held from _ _ much p.environment)
   environment_long much (refusal.TooDear x) p = absurd (not_said_long held from _ _ much p.environment)
+  environment_long much (refusal.Changes x) p = absurd p
   environment_long much (refusal.Read x) p = failed_read 8
   environment_long much (refusal.Length x) p = inl refl
 
@@ -205,6 +260,7 @@ module _ (clear : TextsAreClear) (held : Told) (reads reads' : FaultCounts) (fro
   primitives_long env told much (refusal.Primitives x) p = absurd (too_much_not_read _ p.primitives.text much p.primitives.read)
   primitives_long env told much (refusal.TooWide x) p = absurd (too_much_not_read _ p.primitives.text much p.primitives.read)
   primitives_long env told much (refusal.TooDear x) p = absurd (too_much_not_read _ p.primitives.text much p.primitives.read)
+  primitives_long env told much (refusal.Changes x) p = absurd p
   primitives_long env told much (refusal.Read x) p = failed_read 8
   primitives_long env told much (refusal.Length x) p = inl refl
 
@@ -217,9 +273,11 @@ module _ (clear : TextsAreClear) (held : Told) (reads reads' : FaultCounts) (fro
   primitives_faulty env f told tells (refusal.Primitives x) p = inl refl
   primitives_faulty env f told tells (refusal.TooWide x) p = inl refl
   primitives_faulty env f told tells (refusal.TooDear x) p = inl refl
+  primitives_faulty env f told tells (refusal.Changes x) p = absurd p
   primitives_faulty env f told tells (refusal.Read x) p = failed_read 4
   primitives_faulty env f told tells (refusal.Length input.Environment) p = absurd (environment_not_long held from env told p)
   primitives_faulty env f told tells (refusal.Length input.Primitives) p = absurd (too_long_not_short _ tells.0 tells.1 p.holds)
+  primitives_faulty env f told tells (refusal.Length input.Changes) p = absurd p
   primitives_faulty env f told tells (refusal.Length input.Labels) p = absurd p
 
   pub primitives_faulty_none : (env : Environment) (f : PrimFault) → TellsEnvironment held from env → TellsPrimitiveFault held from env f → (w : World) → SaysWorld held from w → ⊥
@@ -235,9 +293,11 @@ module _ (clear : TextsAreClear) (held : Told) (reads reads' : FaultCounts) (fro
       let same = same_primitives clear held from env _ _ ps _ told tells p.environment p.primitives in
       dear x (subst (λ (qs : Primitives). NoneTooWide qs from.radius) same p.narrow)
       (subst (λ (e : Environment). IsFirstTooDear e ps.items x) (same_environment clear held from env _ _ told p.environment) (subst (λ (qs : Primitives). IsFirstTooDear p.env qs.items x) same p.dear))
+  primitives_good env ps told tells wanted wide dear (refusal.Changes x) p = absurd p
   primitives_good env ps told tells wanted wide dear (refusal.Read x) p = failed_read wanted
   primitives_good env ps told tells wanted wide dear (refusal.Length input.Environment) p = absurd (environment_not_long held from env told p)
   primitives_good env ps told tells wanted wide dear (refusal.Length input.Primitives) p = absurd (too_long_not_short _ tells.0 tells.1 p.holds)
+  primitives_good env ps told tells wanted wide dear (refusal.Length input.Changes) p = absurd p
   primitives_good env ps told tells wanted wide dear (refusal.Length input.Labels) p = absurd p
 
   -- a primitive that is too wide
@@ -252,3 +312,70 @@ module _ (clear : TextsAreClear) (held : Told) (reads reads' : FaultCounts) (fro
       let same = same_primitives clear held from env _ _ ps _ told tells p.environment p.primitives in
       let like = same_environment clear held from env _ _ told p.environment in
       none_is_first env ps i (subst (λ (e : Environment). NoneTooDear e ps) like (subst (λ (qs : Primitives). NoneTooDear w.env qs) same p.cheap)) dear
+
+  -- good files of a lattice are refused for the change file alone
+  pub good_refused : (m : CellMap) (changes : Option (List ℕ)) (wanted : ℕ) → AreGood held from m → ((name : List ℕ) (f : ChangeFault) → changes ≡ Some name → IsFaultyChanges held name m f → IsOrFailed wanted 5) → ((name : List ℕ) → changes ≡ Some name → IsTooLong (held name) → IsOrFailed wanted 8) → (r : Refusal) → IsEarlyCause held reads reads' from changes r → IsOrFailed wanted (refusal_status r)
+  good_refused m changes wanted good faulty long r (inl cause) =
+      primitives_good good.env good.prims good.environment good.primitives wanted (λ k h. absurd (none_is_widest good.prims from.radius k good.narrow h)) (λ k n h. absurd (none_is_first good.env good.prims k good.cheap h)) r cause
+  good_refused m changes wanted good faulty long r (inr cause) = by_changes r cause
+    where
+      by_changes : (r : Refusal) → IsChangesCause held reads reads' from changes r → IsOrFailed wanted (refusal_status r)
+      by_changes (refusal.Environment x) p = absurd p
+      by_changes (refusal.Primitives x) p = absurd p
+      by_changes (refusal.TooWide x) p = absurd p
+      by_changes (refusal.TooDear x) p = absurd p
+      by_changes (refusal.Changes x) (w, says, at) =
+          let found = named changes (λ name. IsFaultyChanges held name w.map x) at in
+          faulty found.0 x found.1 (subst (λ (n : CellMap). IsFaultyChanges held found.0 n x) (same_map clear held from m w good.map says) found.2)
+      by_changes (refusal.Read x) p = failed_read wanted
+      by_changes (refusal.Length input.Environment) p = absurd p
+      by_changes (refusal.Length input.Primitives) p = absurd p
+      by_changes (refusal.Length input.Changes) (w, says, at) = let found = named changes (λ name. IsTooLong (held name)) at in long found.0 found.1 found.2
+      by_changes (refusal.Length input.Labels) p = absurd p
+
+  -- and not even for that, where it stands for batches: then a failed reading alone is left
+  pub all_good : (m : CellMap) (changes : Option (List ℕ)) (batches : List (List Write)) (wanted : ℕ) → AreGood held from m → TellsBatches held changes m batches → (r : Refusal) → IsEarlyCause held reads reads' from changes r → IsOrFailed wanted (refusal_status r)
+  all_good m changes batches wanted good told =
+      good_refused m changes wanted good
+      (λ name f is faulty. absurd (batches_not_faulty clear held name m batches f (subst (λ (o : Option (List ℕ)). TellsBatches held o m batches) is told) faulty))
+      (λ name is long. absurd (batches_not_long held name m batches (subst (λ (o : Option (List ℕ)). TellsBatches held o m batches) is told) long))
+
+  -- a change file that is too long
+  pub changes_long : (m : CellMap) (changes : Option (List ℕ)) (name : List ℕ) → AreGood held from m → changes ≡ Some name → TellsTooMuch (held name) → (r : Refusal) → IsEarlyCause held reads reads' from changes r → IsOrFailed 8 (refusal_status r)
+  changes_long m changes name good is much =
+      good_refused m changes 8 good
+      (λ other f also faulty. absurd (too_much_not_read (held name) faulty.text much (subst (λ (n : List ℕ). IsRead (held n) faulty.text) (same_name other name (sym also ∙ is)) faulty.read)))
+      (λ other also long. inl refl)
+
+  pub changes_long_none : (changes : Option (List ℕ)) (name : List ℕ) → changes ≡ Some name → TellsTooMuch (held name) → SaysCourse held from changes → ⊥
+  changes_long_none changes name is much c =
+      let said = subst (λ (o : Option (List ℕ)). SaysBatches held o c.world.map c.batches) is c.course in
+      too_much_not_read (held name) said.0 much said.1
+
+  -- a faulty change file
+  pub changes_faulty : (m : CellMap) (changes : Option (List ℕ)) (f : ChangeFault) → AreGood held from m → TellsChangeFault held changes m f → (r : Refusal) → IsEarlyCause held reads reads' from changes r → IsOrFailed 5 (refusal_status r)
+  changes_faulty m changes f good (name, text, is, tells, faulty) =
+      good_refused m changes 5 good
+      (λ other g also p. inl refl)
+      (λ other also long. absurd (too_long_not_short (held name) text tells (subst (λ (n : List ℕ). IsTooLong (held n)) (same_name other name (sym also ∙ is)) long)))
+
+  pub changes_faulty_none : (m : CellMap) (changes : Option (List ℕ)) (f : ChangeFault) → AreGood held from m → TellsChangeFault held changes m f → SaysCourse held from changes → ⊥
+  changes_faulty_none m changes f good (name, text, is, tells, faulty) c =
+      let said = subst (λ (o : Option (List ℕ)). SaysBatches held o c.world.map c.batches) is c.course in
+      let here : IsChangeText c.world.map text c.batches = subst (λ (t : List ℕ). IsChangeText c.world.map t c.batches) (told_is (held name) text said.0 tells.held_bytes said.1) said.2 in
+      clear.change_fault m text c.batches f (subst (λ (n : CellMap). IsChangeText n text c.batches) (same_map clear held from m c.world good.map c.says) here) faulty
+
+  -- files that stand for a world are good ones
+  pub world_good : (w : World) → TellsWorld held from w → AreGood held from w.map
+  world_good w tells = record {
+    env = w.env;
+    prims = w.prims;
+    environment = tells.environment;
+    primitives = tells.primitives;
+    narrow = tells.says.narrow;
+    cheap = tells.says.cheap;
+    map = by_text tells.environment;
+  }
+    where
+      by_text : TellsEnvironment held from w.env → TellsMap held from w.map
+      by_text (text, cells, told, stands) = (text, w.env, tells.says.cells, told, said_text held from w.env tells.says.cells text told tells.says.environment, tells.says.map)

@@ -1,5 +1,5 @@
 -- How a job ends, from how its reading, its planning and its writing end.
-use Rattle.std.proofs.Common.{◌≡◌, ℕ, ◌≤◌, List, [], ◌∷◌, Option, Some, None, ◌++◌, refl, sym, ◌∙◌, subst, arith, inl, inr}
+use Rattle.std.proofs.Common.{ℕ, ◌≤◌, List, Option, Some, None, refl, ◌∙◌, subst, arith, inl, inr}
 use Rattle.std.proofs.lemmas.Bool.{cases_lt}
 use Rattle.sbpl_desk.specs.Desk.{NoneFalls, Rose, Stays}
 use Rattle.sbpl_cost.specs.World.{World}
@@ -7,13 +7,12 @@ use Rattle.sbpl_job.specs.declared.job.CheckJob.{CheckJob}
 use Rattle.sbpl_job.specs.declared.job.Job.{Job}
 use Rattle.sbpl_job.specs.declared.job.Job.TheVariants as job
 use Rattle.sbpl_job.specs.declared.job.Sources.{Sources}
-use Rattle.sbpl_map.specs.CellMap.{CellMap}
 use Rattle.sbpl_cli.specs.declared.refusal.Input.TheVariants as input
 use Rattle.sbpl_cli.specs.declared.refusal.Refusal.{Refusal}
 use Rattle.sbpl_cli.specs.declared.refusal.Refusal.TheVariants as refusal
 use Rattle.sbpl_cli.specs.declared.refusal.Stop.{Stop}
 use Rattle.sbpl_cli.specs.declared.refusal.Stop.TheVariants as stop
-use Rattle.sbpl_cli.specs.Causes.{AtChanges, AtName, ChangesStopFor, EarlyStopsFor, IsCause, IsChangesCause, IsFaultyChanges, IsJobCause, IsLabelsCause, IsRead, IsTooLong, JobStopsFor, SaysWorld, StopsFor}
+use Rattle.sbpl_cli.specs.Causes.{AtName, ChangesStopFor, EarlyStopsFor, IsCause, IsChangesCause, IsFaultyChanges, IsJobCause, IsLabelsCause, IsRead, IsTooLong, JobStopsFor, SaysWorld, StopsFor}
 use Rattle.sbpl_cli.specs.Intents.{Intent, Refused, OutOfMemory, intent_status, refusal_status, refusal_writes, writes_of}
 use Rattle.sbpl_cli.specs.Promises.{ComesTo, EndsJob, MayBeWritten}
 use Rattle.sbpl_cli.specs.Writing.{EndsAs, FaultCounts, IsOutput, StaysBut, Told}

@@ -1,23 +1,28 @@
 -- The checking of one text ends in one way.
-use Rattle.std.proofs.Common.{◌≡◌, ◌≢◌, ℕ, pos, ◌+◌, ◌⊎◌, List, [], ◌∷◌, length, Option, Some, None, refl, sym, ◌∙◌, ap, subst, arith, inl, inr}
+use Rattle.std.proofs.Common.{◌≡◌, ◌≢◌, ℕ, zero, suc, pos, ◌+◌, List, [], ◌∷◌, Option, Some, None, refl, sym, ◌∙◌, ap, subst, inl, inr}
 use Rattle.sbpl_graph.specs.Network.{Network}
-use Rattle.sbpl_fixed.specs.Formats.{Left, start_at}
+use Rattle.sbpl_fixed.specs.Formats.{Left}
 use Rattle.sbpl_fixed.specs.Tokens.{Piece}
 use Rattle.sbpl_cfg.specs.declared.pose.Pose.{Pose}
 use Rattle.sbpl_cfg.specs.declared.pose.Place.{Place}
 use Rattle.sbpl_cfg.specs.Environment.{Environment, IsPlaceOf}
 use Rattle.sbpl_cert.specs.declared.fault.LabelFault.{LabelFault}
-use Rattle.sbpl_cert.specs.declared.fault.LabelFault.TheVariants as fault
+use Rattle.sbpl_cert.specs.declared.flaw.Flaw.{Flaw}
 use Rattle.sbpl_cert.specs.declared.outcome.Outcome.{Outcome}
-use Rattle.sbpl_cert.specs.Flaws.{HasNoFlaw, IsFirstFlaw}
+use Rattle.sbpl_cert.specs.Flaws.{HasNoFlaw}
 use Rattle.sbpl_cert.specs.Sections.{Section}
 use Rattle.sbpl_cert.specs.Text.{AreTokens, AreTokensOf, HasFault, IsOf}
-use Rattle.sbpl_cost.specs.States.{state_number}
+use Rattle.sbpl_cost.specs.Lattices.{network_of}
+use Rattle.sbpl_cost.specs.States.{state_count, state_number}
+use Rattle.sbpl_cost.specs.World.{World}
+use Rattle.sbpl_map.specs.CellMap.{CellMap, IsCellMap}
+use Rattle.sbpl_map.specs.MapAfter.{IsMapAfter}
+use Rattle.sbpl_map.specs.declared.write.Write.{Write}
 use Rattle.sbpl_cli.specs.declared.checking.SectionStop.{SectionStop}
 use Rattle.sbpl_cli.specs.declared.checking.SectionStop.TheVariants as section
-use Rattle.sbpl_cli.specs.Checked.{AreChecked, IsFlawed, IsHolding, IsSectionStop, IsTrailing}
+use Rattle.sbpl_cli.specs.Checked.{AreChecked, Case, IsFlawed, IsGraphAfter, IsHolding, IsShownHolding, IsStoppedIn, IsTrailingAt}
 use Rattle.sbpl_cli.specs.Headline.{IsStateOf}
-use Rattle.sbpl_cli.specs.Intents.{checked_status, stop_status}
+use Rattle.sbpl_cli.specs.Intents.{checked_status}
 use Rattle.sbpl_cli.specs.Promises.{IsOrFailed}
 
 -- one section stands in tokens, and no fault beside it
@@ -41,6 +46,22 @@ one_state e p s t a b = a.number ∙ ap (λ (q : Place). state_number e q) (one_
         let y : q.y ≡ r.y = (let both : pos q.y ≡ pos r.y = i.y ∙ sym j.y in cc) in
         place_by q.x q.y q.t r.x r.y r.t x y (i.t ∙ sym j.t)
 
+-- there is one map after as many batches
+abbrev pub OneMap : Type 0
+OneMap = (first now other : CellMap) (batches : List (List Write)) (k : ℕ) → IsCellMap now → IsCellMap other → IsMapAfter first batches k now → IsMapAfter first batches k other → now ≡ other
+
+-- and one graph
+one_graph : OneMap → (w : World) (batches : List (List Write)) (k : ℕ) (n o : Network) → IsGraphAfter w batches k n → IsGraphAfter w batches k o → n ≡ o
+one_graph one w batches k n o a b = a.network ∙ ap (λ (m : CellMap). network_of (record w { map = m })) (one w.map a.map b.map batches k a.is_world.map b.is_world.map a.after b.after) ∙ sym b.network
+
+-- it has the states of the environment
+state_count_is : (w : World) → (network_of w).states ≡ state_count w.env
+unfolding network_of
+state_count_is w = refl
+
+states_after : (w : World) (batches : List (List Write)) (k : ℕ) (n : Network) → IsGraphAfter w batches k n → n.states ≡ state_count w.env
+states_after w batches k n a = ap (λ (x : Network). x.states) a.network ∙ state_count_is (record w { map = a.map })
+
 -- two ways to end have the same status, unless memory ran out in the second
 abbrev pub EndAlike : Option SectionStop → Option SectionStop → Type 0
 EndAlike a b = IsOrFailed (checked_status a) (checked_status b)
@@ -48,55 +69,81 @@ EndAlike a b = IsOrFailed (checked_status a) (checked_status b)
 no_memory_left : (a : Option SectionStop) → EndAlike a (Some section.NoMemory)
 no_memory_left a = inr (inr (inr refl))
 
-module _ (clear : SectionsAreClear) (start goal : ℕ) where
-  -- a section that holds has no first flaw
-  holds_not_flawed : (n : Network) (plan : ℕ) (left : Left) (s u : Section) (rest more : List Piece) (f : _) → AreTokensOf left.tokens s rest → HasNoFlaw n start goal s → AreTokensOf left.tokens u more → IsFirstFlaw n start goal u f → ⊥
-  holds_not_flawed n plan left s u rest more f a none b first =
-      let same : s ≡ u = (clear.one left.tokens rest more s u a b).0 in
-      (subst (λ (x : Section). HasNoFlaw n start goal x) same none) f first.has
+module _ (clear : SectionsAreClear) (one : OneMap) (c : Case) where
+  -- what is checked at a plan is read of as many states as its graph has
+  readable : (n : Network) (plan : ℕ) (left : Left) (s : Section) (rest : List Piece) → IsGraphAfter c.world c.batches plan n → IsOf plan n.states s → AreTokensOf left.tokens s rest → AreTokens plan (state_count c.world.env) left.tokens
+  readable n plan left s rest after of tokens = (s, rest, subst (λ (count : ℕ). IsOf plan count s) (states_after c.world c.batches plan n after) of, tokens)
 
-  stops_alike : (n : Network) (plan : ℕ) (left : Left) (a b : SectionStop) → a ≢ section.NoMemory → IsSectionStop n start goal plan left a → IsSectionStop n start goal plan left b → EndAlike (Some a) (Some b)
-  stops_alike n plan left (section.Flaw f) (section.Flaw g) some p q = inl refl
-  stops_alike n plan left (section.Flaw f) (section.Fault g) some p q = absurd (clear.not_both plan n.states left g (p.section, p.rest, p.of, p.tokens) q.1)
-  stops_alike n plan left (section.Fault f) (section.Flaw g) some p q = absurd (clear.not_both plan n.states left f (q.section, q.rest, q.of, q.tokens) p.1)
-  stops_alike n plan left (section.Fault f) (section.Fault g) some p q = inl refl
-  stops_alike n plan left section.NoMemory b some p q = absurd (some refl)
-  stops_alike n plan left a section.NoMemory some p q = no_memory_left (Some a)
+  -- a section that holds has no first flaw
+  holds_not_flawed : (n : Network) (plan : ℕ) (left rest : Left) (o : Outcome) (f : Flaw) → IsHolding n c.start c.goal plan left o rest → IsFlawed n c.start c.goal plan left f → ⊥
+  holds_not_flawed n plan left rest o f is flawed =
+      let same : is.section ≡ flawed.section = (clear.one left.tokens rest.tokens flawed.rest is.section flawed.section is.tokens flawed.tokens).0 in
+      (subst (λ (x : Section). HasNoFlaw n c.start c.goal x) same is.no_flaw) f flawed.first.has
+
+  stops_alike : (plan : ℕ) (left : Left) (a b : SectionStop) → a ≢ section.NoMemory → IsStoppedIn c plan left a → IsStoppedIn c plan left b → EndAlike (Some a) (Some b)
+  stops_alike plan left (section.Flaw f) (section.Flaw g) some p q = inl refl
+  stops_alike plan left (section.Flaw f) (section.Fault g) some (n, after, flawed) q = absurd (clear.not_both plan _ left g (readable n plan left flawed.section flawed.rest after flawed.of flawed.tokens) q.1)
+  stops_alike plan left (section.Fault f) (section.Flaw g) some p (n, after, flawed) = absurd (clear.not_both plan _ left f (readable n plan left flawed.section flawed.rest after flawed.of flawed.tokens) p.1)
+  stops_alike plan left (section.Fault f) (section.Fault g) some p q = inl refl
+  stops_alike plan left section.NoMemory b some p q = absurd (some refl)
+  stops_alike plan left a section.NoMemory some p q = no_memory_left (Some a)
 
   -- where a section holds nothing stops there
-  holds_not_stopped : (n : Network) (plan : ℕ) (left rest : Left) (o : Outcome) (s : SectionStop) → s ≢ section.NoMemory → IsHolding n start goal plan left o rest → IsSectionStop n start goal plan left s → ⊥
-  holds_not_stopped n plan left rest o (section.Flaw f) some is stops = holds_not_flawed n plan left is.section stops.section rest.tokens stops.rest f is.tokens is.no_flaw stops.tokens stops.first
-  holds_not_stopped n plan left rest o (section.Fault f) some is stops = clear.not_both plan n.states left f (is.section, rest.tokens, is.of, is.tokens) stops.1
-  holds_not_stopped n plan left rest o section.NoMemory some is stops = some refl
+  holds_not_stopped : (n : Network) (plan : ℕ) (left rest : Left) (o : Outcome) (s : SectionStop) → s ≢ section.NoMemory → IsGraphAfter c.world c.batches plan n → IsHolding n c.start c.goal plan left o rest → IsStoppedIn c plan left s → ⊥
+  holds_not_stopped n plan left rest o (section.Flaw f) some after is (m, later, flawed) =
+      let same = one_graph one c.world c.batches plan m n later after in
+      holds_not_flawed n plan left rest o f is (subst (λ (x : Network). IsFlawed x c.start c.goal plan left f) same flawed)
+  holds_not_stopped n plan left rest o (section.Fault f) some after is stops = clear.not_both plan _ left f (readable n plan left is.section rest.tokens after is.of is.tokens) stops.1
+  holds_not_stopped n plan left rest o section.NoMemory some after is stops = some refl
 
-  trailing_alike : (ts : List Piece) (a b : SectionStop) → IsTrailing ts a → IsTrailing ts b → EndAlike (Some a) (Some b)
-  trailing_alike [] a b p q = absurd p
-  trailing_alike (t ∷ ts) a b p q = subst (λ (s : SectionStop). EndAlike (Some s) (Some b)) (sym p) (subst (λ (s : SectionStop). EndAlike (Some (section.Fault (fault.Trailing t.place))) (Some s)) (sym q) (inl refl))
+  trailing_none : (ts : List Piece) (f : LabelFault) → ts ≡ [] → IsTrailingAt ts f → ⊥
+  trailing_none [] f none p = p
+  trailing_none (t ∷ ts) f none p = cc
 
-  trailing_none : (ts : List Piece) (a : SectionStop) → ts ≡ [] → IsTrailing ts a → ⊥
-  trailing_none [] a none p = p
-  trailing_none (t ∷ ts) a none p = cc
+  -- behind the last section
+  behind_alike : (plan : ℕ) (left : Left) (a b : Option SectionStop) → a ≢ Some section.NoMemory → AreChecked IsHolding c plan zero left [] a → AreChecked IsHolding c plan zero left [] b → EndAlike a b
+  behind_alike plan left None None some p q = inl refl
+  behind_alike plan left None (Some (section.Flaw g)) some p q = absurd q
+  behind_alike plan left None (Some (section.Fault g)) some p q = absurd (trailing_none left.tokens g p q)
+  behind_alike plan left (Some (section.Flaw f)) b some p q = absurd p
+  behind_alike plan left (Some (section.Fault f)) None some p q = absurd (trailing_none left.tokens f q p)
+  behind_alike plan left (Some (section.Fault f)) (Some (section.Flaw g)) some p q = absurd q
+  behind_alike plan left (Some (section.Fault f)) (Some (section.Fault g)) some p q = inl refl
+  behind_alike plan left (Some section.NoMemory) b some p q = absurd (some refl)
+  behind_alike plan left a (Some section.NoMemory) some p q = no_memory_left a
 
   same_left : (a b : Left) → a.tokens ≡ b.tokens → a.end ≡ b.end → a ≡ b
   same_left a b tokens end = left_by a.end b.end a.tokens b.tokens end tokens
 
-  pub one_ending : (ns : List Network) (plan : ℕ) (left : Left) (os ps : List Outcome) (a b : Option SectionStop) → a ≢ Some section.NoMemory → AreChecked ns start goal plan left os a → AreChecked ns start goal plan left ps b → EndAlike a b
-  one_ending [] plan left [] [] None None some p q = inl refl
-  one_ending [] plan left [] [] None (Some t) some p q = absurd (trailing_none left.tokens t p q)
-  one_ending [] plan left [] [] (Some s) None some p q = absurd (trailing_none left.tokens s q p)
-  one_ending [] plan left [] [] (Some s) (Some t) some p q = trailing_alike left.tokens s t p q
-  one_ending [] plan left (o ∷ os) ps a b some p q = absurd p
-  one_ending [] plan left [] (o ∷ ps) None b some p q = absurd q
-  one_ending [] plan left [] (o ∷ ps) (Some s) b some p q = absurd q
-  one_ending (n ∷ ns) plan left [] ps None b some p q = absurd p
-  one_ending (n ∷ ns) plan left [] [] (Some s) None some p q = absurd q
-  one_ending (n ∷ ns) plan left [] [] (Some s) (Some t) some p q = stops_alike n plan left s t (λ is. some (ap (λ (x : SectionStop). Some x) is)) p q
-  one_ending (n ∷ ns) plan left [] (o ∷ ps) (Some s) b some p (rest, is, q) = absurd (holds_not_stopped n plan left rest o s (λ no. some (ap (λ (x : SectionStop). Some x) no)) is p)
-  one_ending (n ∷ ns) plan left (o ∷ os) [] a None some p q = absurd q
-  one_ending (n ∷ ns) plan left (o ∷ os) [] a (Some section.NoMemory) some p q = no_memory_left a
-  one_ending (n ∷ ns) plan left (o ∷ os) [] a (Some (section.Flaw f)) some (rest, is, p) q = absurd (holds_not_stopped n plan left rest o (section.Flaw f) (λ no. cc) is q)
-  one_ending (n ∷ ns) plan left (o ∷ os) [] a (Some (section.Fault f)) some (rest, is, p) q = absurd (holds_not_stopped n plan left rest o (section.Fault f) (λ no. cc) is q)
-  one_ending (n ∷ ns) plan left (o ∷ os) (o' ∷ ps) a b some (rest, is, p) (more, also, q) =
-      let tokens : rest.tokens ≡ more.tokens = (clear.one left.tokens rest.tokens more.tokens is.section also.section is.tokens also.tokens).1 in
-      let same : more ≡ rest = same_left more rest (sym tokens) (also.same_end ∙ sym is.same_end) in
-      one_ending ns (plan + 1) rest os ps a b some p (subst (λ (l : Left). AreChecked ns start goal (plan + 1) l ps b) same q)
+  pub one_ending : (more plan : ℕ) (left : Left) (os ps : List Outcome) (a b : Option SectionStop) → a ≢ Some section.NoMemory → AreChecked IsHolding c plan more left os a → AreChecked IsHolding c plan more left ps b → EndAlike a b
+  one_ending zero plan left [] [] a b some p q = behind_alike plan left a b some p q
+  one_ending zero plan left (o ∷ os) ps a b some p q = absurd p
+  one_ending zero plan left [] (o ∷ ps) a b some p q = absurd q
+  one_ending (suc more) plan left [] ps None b some p q = absurd p
+  one_ending (suc more) plan left [] [] (Some s) None some p q = absurd q
+  one_ending (suc more) plan left [] [] (Some s) (Some t) some p q = stops_alike plan left s t (λ is. some (ap (λ (x : SectionStop). Some x) is)) p q
+  one_ending (suc more) plan left [] (o ∷ ps) (Some s) b some p (n, after, rest, is, q) = absurd (holds_not_stopped n plan left rest o s (λ no. some (ap (λ (x : SectionStop). Some x) no)) after is p)
+  one_ending (suc more) plan left (o ∷ os) [] a None some p q = absurd q
+  one_ending (suc more) plan left (o ∷ os) [] a (Some section.NoMemory) some p q = no_memory_left a
+  one_ending (suc more) plan left (o ∷ os) [] a (Some (section.Flaw f)) some (n, after, rest, is, p) q = absurd (holds_not_stopped n plan left rest o (section.Flaw f) (λ no. cc) after is q)
+  one_ending (suc more) plan left (o ∷ os) [] a (Some (section.Fault f)) some (n, after, rest, is, p) q = absurd (holds_not_stopped n plan left rest o (section.Fault f) (λ no. cc) after is q)
+  one_ending (suc more) plan left (o ∷ os) (o' ∷ ps) a b some (n, after, rest, is, p) (m, later, behind, also, q) =
+      let tokens : rest.tokens ≡ behind.tokens = (clear.one left.tokens rest.tokens behind.tokens is.section also.section is.tokens also.tokens).1 in
+      let same : behind ≡ rest = same_left behind rest (sym tokens) (also.same_end ∙ sym is.same_end) in
+      one_ending more (plan + 1) rest os ps a b some p (subst (λ (l : Left). AreChecked IsHolding c (plan + 1) more l ps b) same q)
+
+-- ---- one case and another
+
+module _ (v w : World) (batches : List (List Write)) (start goal : ℕ) (graph : (k : ℕ) (n : Network) → IsGraphAfter v batches k n → IsGraphAfter w batches k n) (env : v.env ≡ w.env) where
+  -- what is checked in a world, and shown, is checked in another one that has the same graphs
+  pub checked_on : (more plan : ℕ) (left : Left) (os : List Outcome) (end : Option SectionStop)
+      → AreChecked IsShownHolding (record { world = v; batches = batches; start = start; goal = goal }) plan more left os end
+      → AreChecked IsHolding (record { world = w; batches = batches; start = start; goal = goal }) plan more left os end
+  checked_on zero plan left [] None p = p
+  checked_on zero plan left [] (Some s) p = p
+  checked_on zero plan left (o ∷ os) end p = absurd p
+  checked_on (suc more) plan left [] None p = absurd p
+  checked_on (suc more) plan left [] (Some (section.Flaw f)) (n, after, flawed) = (n, graph plan n after, flawed)
+  checked_on (suc more) plan left [] (Some (section.Fault f)) (some, fault) = (some, subst (λ (e : Environment). HasFault plan (state_count e) left f) env fault)
+  checked_on (suc more) plan left [] (Some section.NoMemory) p = tt
+  checked_on (suc more) plan left (o ∷ os) end (n, after, rest, is, p) = (n, graph plan n after, rest, is.holds, checked_on more (plan + 1) rest os end p)

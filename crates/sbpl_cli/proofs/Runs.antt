@@ -1,7 +1,6 @@
 -- What holds of a run by how it ends.
-use Rattle.std.proofs.Common.{◌≡◌, ◌≢◌, ℕ, ◌+◌, ◌⊎◌, ◌≤◌, append-nil, List, [], ◌∷◌, ◌++◌, map, Option, Some, None, sym, ◌∙◌, refl, subst, ap, arith, inl, inr}
+use Rattle.std.proofs.Common.{◌≡◌, ◌≢◌, ℕ, suc, ◌+◌, ◌⊎◌, ◌<◌, ◌≤◌, append_assoc, append-nil, Bool, true, false, List, [], ◌∷◌, ◌++◌, flat_map, length, map, Option, Some, None, sym, ◌∙◌, refl, subst, ap, arith, inl, inr}
 use Rattle.std.specs.List.{AllByRecursion}
-use Rattle.sbpl_desk.specs.Desk.{NoneFalls, Rose}
 use Rattle.sbpl_cfg.specs.declared.fault.EnvFault.{EnvFault}
 use Rattle.sbpl_cfg.specs.Environment.{Environment}
 use Rattle.sbpl_mprim.specs.declared.fault.PrimFault.{PrimFault}
@@ -9,49 +8,60 @@ use Rattle.sbpl_mprim.specs.Primitives.{Primitives}
 use Rattle.sbpl_sweep.specs.Widths.{IsFirstTooWide, NoneTooWide}
 use Rattle.sbpl_cost.specs.PrimitiveCost.{IsFirstTooDear}
 use Rattle.sbpl_cost.specs.Alike.{AlikeWorldsAreOneGraph}
-use Rattle.sbpl_cost.specs.Lattices.{network_of}
 use Rattle.sbpl_cost.specs.World.{IsWorld, World}
 use Rattle.sbpl_graph.specs.Network.{Network}
 use Rattle.sbpl_fixed.specs.Formats.{start_at}
+use Rattle.sbpl_map.specs.CellMap.{CellMap}
+use Rattle.sbpl_map.specs.MapAfter.{IsMapAfter}
+use Rattle.sbpl_map.specs.declared.fault.ChangeFault.{ChangeFault}
+use Rattle.sbpl_map.specs.declared.write.Write as change
 use Rattle.sbpl_cert.specs.declared.outcome.Outcome.{Outcome}
 use Rattle.sbpl_cli.specs.declared.checking.SectionStop.{SectionStop}
 use Rattle.sbpl_cli.specs.declared.checking.SectionStop.TheVariants as section
 use Rattle.sbpl_job.specs.declared.job.CheckJob.{CheckJob}
-use Rattle.sbpl_job.specs.declared.job.Sources.{Sources}
-use Rattle.sbpl_cli.specs.Checked.{AreChecked}
-use Rattle.sbpl_cli.specs.Headline.{IsStateOf}
-use Rattle.sbpl_cli.proofs.Ends.{plain_is}
-use Rattle.sbpl_cli.proofs.OneEnding.{SectionsAreClear, one_ending, one_state}
+use Rattle.sbpl_job.specs.declared.job.DemoJob.{DemoJob}
 use Rattle.sbpl_job.specs.declared.job.Job.{Job}
 use Rattle.sbpl_job.specs.declared.job.Job.TheVariants as job
 use Rattle.sbpl_job.specs.declared.job.Outputs.{Outputs}
+use Rattle.sbpl_job.specs.declared.job.Sources.{Sources}
+use Rattle.sbpl_cli.specs.Checked.{AreChecked, IsGraphAfter, IsHolding, IsShownHolding}
+use Rattle.sbpl_cli.specs.Headline.{IsStateOf}
 use Rattle.sbpl_cli.specs.declared.record.PlanRecord.{PlanRecord}
 use Rattle.sbpl_cli.specs.declared.refusal.Refusal.{Refusal}
 use Rattle.sbpl_cli.specs.declared.refusal.Refusal.TheVariants as refusal
-use Rattle.sbpl_cli.specs.Causes.{IsCause, IsJobCause, IsTooLong, NoneTooDear, SaysWorld}
-use Rattle.sbpl_cli.specs.Intents.{Intent, Refused, Planned, Checked, Listed, OutOfMemory, checked_status, checked_writes, intent_status, labels_text, labels_writes, last_write, plan_writes, refusal_status, stop_writes, trace_writes, words_writes, writes_of}
-use Rattle.sbpl_job.specs.Jobs.{sources_of}
+use Rattle.sbpl_cli.specs.Causes.{IsCause, IsEarlyCause, IsJobCause, IsTooLong, SaysBatches, SaysWorld}
+use Rattle.sbpl_cli.specs.Intents.{Intent, Refused, Planned, Checked, Listed, Demonstrated, OutOfMemory, checked_status, checked_writes, demo_writes, end_writes, intent_status, labels_text, labels_writes, last_write, lines_writes, plans_status, plans_writes, refusal_status, section_writes, stop_writes, trace_writes, words_writes, writes_of}
 use Rattle.sbpl_cli.specs.Listing.{listings}
-use Rattle.sbpl_cli.specs.Promises.{AtJob, ComesTo, EndsJob, EndsRun, by_job, by_words, by_memory, IsCutShort, IsCheckedIn, IsDone, IsFaultFound, IsFlawFound, IsNoCheck, IsOrFailed, IsOrUnwritten, IsRefused, IsStatus, IsStopped, MayBeWritten, SomeRose, Tells, TellsEnvironment, TellsEnvironmentFault, TellsPrimitiveFault, TellsPrimitives, TellsTooMuch, TellsWorld}
+use Rattle.sbpl_cli.specs.Promises.{AreGood, AtJob, ComesTo, EndsJob, EndsRun, by_job, by_words, by_memory, IsCutShort, IsCheckedIn, IsDone, IsFaultFound, IsFlawFound, IsNoCheck, IsOrFailed, IsOrUnwritten, IsRefused, IsStatus, IsStopped, MayBeWritten, SomeRose, Tells, TellsBatches, TellsChangeFault, TellsEnvironment, TellsEnvironmentFault, TellsPrimitiveFault, TellsPrimitives, TellsTooMuch, TellsWorld, changes_of, sources_of}
 use Rattle.sbpl_cli.specs.Traces.{trace_text}
 use Rattle.sbpl_cli.specs.Writing.{AreMade, EndsAs, FaultCounts, IsCutAt, IsNamed, IsOutput, IsOutputOf, IsStoppedAt, Told, Write, output, to_named, to_output}
+use Rattle.sbpl_cli.proofs.Ends.{plain_is}
 use Rattle.sbpl_cli.proofs.Laws.{TextsAreClear}
-use Rattle.sbpl_cli.proofs.Converse.{by_intent, late_none, late_of_check, no_late, no_memory, same_cells, same_environment, same_primitives, told_is, too_long_not_short, too_much_not_read, environment_faulty, environment_faulty_none, environment_long, environment_long_none, none_is_first, none_is_widest, primitives_faulty, primitives_faulty_none, primitives_good, primitives_long, primitives_long_none, too_dear_none, too_wide_none}
+use Rattle.sbpl_cli.proofs.OneEnding.{OneMap, SectionsAreClear, checked_on, one_ending, one_state}
+use Rattle.sbpl_cli.proofs.Converse.{SaysCourse, all_good, by_intent, cause_of, changes_faulty, changes_faulty_none, changes_long, changes_long_none, changes_world, environment_faulty, environment_faulty_none, environment_long, environment_long_none, labels_refused, no_memory, primitives_faulty, primitives_faulty_none, primitives_good, primitives_long, primitives_long_none, same_batches, same_environment, same_map, same_primitives, told_is, too_dear_none, too_long_not_short, too_much_not_read, too_wide_none, world_good}
 
--- a refusal's status is one of four
-abbrev pub IsRefusalStatus : ℕ → Type 0
-IsRefusalStatus s = (s ≡ 3) ⊎ ((s ≡ 4) ⊎ ((s ≡ 6) ⊎ (s ≡ 8)))
+-- a refusal's status is 3, 4, 5, 6 or 8
+refusal_is : (r : Refusal) → (3 ≤ refusal_status r) × (refusal_status r ≤ 8) × (refusal_status r ≢ 7)
+refusal_is (refusal.Environment x) = (omega arith, omega arith, λ h. omega arith)
+refusal_is (refusal.Primitives x) = (omega arith, omega arith, λ h. omega arith)
+refusal_is (refusal.TooWide x) = (omega arith, omega arith, λ h. omega arith)
+refusal_is (refusal.TooDear x) = (omega arith, omega arith, λ h. omega arith)
+refusal_is (refusal.Changes x) = (omega arith, omega arith, λ h. omega arith)
+refusal_is (refusal.Read x) = (omega arith, omega arith, λ h. omega arith)
+refusal_is (refusal.Length x) = (omega arith, omega arith, λ h. omega arith)
 
-refusal_is : (r : Refusal) → IsRefusalStatus (refusal_status r)
-refusal_is (refusal.Environment x) = inl refl
-refusal_is (refusal.Primitives x) = inr (inl refl)
-refusal_is (refusal.TooWide x) = inr (inl refl)
-refusal_is (refusal.TooDear x) = inr (inl refl)
-refusal_is (refusal.Read x) = inr (inr (inl refl))
-refusal_is (refusal.Length x) = inr (inr (inr refl))
+not_refusal : (r : Refusal) (s : ℕ) → s ≡ refusal_status r → (s < 3) ⊎ ((s ≡ 7) ⊎ (8 < s)) → ⊥
+not_refusal r s is (inl low) = let most = (refusal_is r).0 in omega arith
+not_refusal r s is (inr (inl seven)) = (refusal_is r).2 (sym is ∙ seven)
+not_refusal r s is (inr (inr high)) = let most = (refusal_is r).1 in omega arith
 
-not_refusal : (r : Refusal) (s : ℕ) → s ≡ refusal_status r → s ≢ 3 → s ≢ 4 → s ≢ 6 → s ≢ 8 → ⊥
-not_refusal r s is a b c d = elim (refusal_is r) [ inl three ↦ a (is ∙ three) | inr (inl four) ↦ b (is ∙ four) | inr (inr (inl six)) ↦ c (is ∙ six) | inr (inr (inr eight)) ↦ d (is ∙ eight) ]
+-- plans have the status 0 or 9
+plans_are : (all : Bool) → (plans_status all ≡ 0) ⊎ (plans_status all ≡ 9)
+plans_are true = inl refl
+plans_are false = inr refl
+
+not_plans : (all : Bool) (s : ℕ) → s ≡ plans_status all → s ≢ 0 → s ≢ 9 → ⊥
+not_plans all s is a b = elim (plans_are all) [ inl zero ↦ a (is ∙ zero) | inr nine ↦ b (is ∙ nine) ]
 
 is_two : (s : ℕ) → s ≡ 2 → IsStatus s
 is_two s is = inr (inr (inl is))
@@ -62,27 +72,30 @@ is_three s is = inr (inr (inr (inl is)))
 is_four : (s : ℕ) → s ≡ 4 → IsStatus s
 is_four s is = inr (inr (inr (inr (inl is))))
 
+is_five : (s : ℕ) → s ≡ 5 → IsStatus s
+is_five s is = inr (inr (inr (inr (inr (inl is)))))
+
 is_six : (s : ℕ) → s ≡ 6 → IsStatus s
-is_six s is = inr (inr (inr (inr (inr (inl is)))))
+is_six s is = inr (inr (inr (inr (inr (inr (inl is))))))
 
 is_seven : (s : ℕ) → s ≡ 7 → IsStatus s
-is_seven s is = inr (inr (inr (inr (inr (inr (inl is))))))
+is_seven s is = inr (inr (inr (inr (inr (inr (inr (inl is)))))))
 
 is_eight : (s : ℕ) → s ≡ 8 → IsStatus s
-is_eight s is = inr (inr (inr (inr (inr (inr (inr (inl is)))))))
+is_eight s is = inr (inr (inr (inr (inr (inr (inr (inr (inl is))))))))
 
 is_nine : (s : ℕ) → s ≡ 9 → IsStatus s
-is_nine s is = inr (inr (inr (inr (inr (inr (inr (inr (inl is))))))))
+is_nine s is = inr (inr (inr (inr (inr (inr (inr (inr (inr (inl is)))))))))
 
 is_ten : (s : ℕ) → s ≡ 10 → IsStatus s
-is_ten s is = inr (inr (inr (inr (inr (inr (inr (inr (inr is))))))))
+is_ten s is = inr (inr (inr (inr (inr (inr (inr (inr (inr (inr is)))))))))
 
 -- no job comes to the status of a failed write, or to that of words that name no job
 not_intent : (i : Intent) (s : ℕ) → s ≡ intent_status i → (s ≡ 7) ⊎ (s ≡ 2) → ⊥
-not_intent (Refused r) s is (inl seven) = not_refusal r s is (λ h. omega arith) (λ h. omega arith) (λ h. omega arith) (λ h. omega arith)
-not_intent (Refused r) s is (inr two) = not_refusal r s is (λ h. omega arith) (λ h. omega arith) (λ h. omega arith) (λ h. omega arith)
-not_intent (Planned plan) s is (inl seven) = omega arith
-not_intent (Planned plan) s is (inr two) = omega arith
+not_intent (Refused r) s is (inl seven) = not_refusal r s is (inr (inl seven))
+not_intent (Refused r) s is (inr two) = not_refusal r s is (inl (omega arith))
+not_intent (Planned records all) s is (inl seven) = not_plans all s is (λ h. omega arith) (λ h. omega arith)
+not_intent (Planned records all) s is (inr two) = not_plans all s is (λ h. omega arith) (λ h. omega arith)
 not_intent (Checked goal os None) s is (inl seven) = omega arith
 not_intent (Checked goal os None) s is (inr two) = omega arith
 not_intent (Checked goal os (Some (section.Flaw x))) s is (inl seven) = omega arith
@@ -93,6 +106,8 @@ not_intent (Checked goal os (Some section.NoMemory)) s is (inl seven) = omega ar
 not_intent (Checked goal os (Some section.NoMemory)) s is (inr two) = omega arith
 not_intent (Listed w) s is (inl seven) = omega arith
 not_intent (Listed w) s is (inr two) = omega arith
+not_intent (Demonstrated w count records all) s is (inl seven) = not_plans all s is (λ h. omega arith) (λ h. omega arith)
+not_intent (Demonstrated w count records all) s is (inr two) = not_plans all s is (λ h. omega arith) (λ h. omega arith)
 not_intent OutOfMemory s is (inl seven) = omega arith
 not_intent OutOfMemory s is (inr two) = omega arith
 
@@ -114,11 +129,26 @@ named_under : (IsWritten : List ℕ → Type 0) (o : Option (List ℕ)) (text : 
 named_under IsWritten None text may = tt
 named_under IsWritten (Some name) text may = (may name refl, tt)
 
-plan_under : (o : Outputs) (plan : PlanRecord) → AreUnder (IsOutputOf o) (plan_writes o plan)
-plan_under o plan =
-    let labels = named_under (IsOutputOf o) o.labels (labels_text plan.labels) (λ name is. inr (inl is)) in
-    let trace = named_under (IsOutputOf o) o.trace (trace_text plan) (λ name is. inr (inr is)) in
-    (inl refl, under_both (IsOutputOf o) (labels_writes o plan ++ trace_writes o plan) (last_write ∷ []) (under_both (IsOutputOf o) (labels_writes o plan) (trace_writes o plan) labels trace) (inl refl, tt))
+-- the last write, where there is one
+end_under : (IsWritten : List ℕ → Type 0) (all : Bool) → ((name : List ℕ) → IsOutput name → IsWritten name) → AreUnder IsWritten (end_writes all)
+end_under IsWritten true may = (may output refl, tt)
+end_under IsWritten false may = tt
+
+section_under : (o : Outputs) (r : PlanRecord) → AreUnder (IsOutputOf o) (section_writes o r)
+section_under o r =
+    let labels = named_under (IsOutputOf o) o.labels (labels_text r.labels) (λ name is. inr (inl is)) in
+    let trace = named_under (IsOutputOf o) o.trace (trace_text r) (λ name is. inr (inr is)) in
+    (inl refl, under_both (IsOutputOf o) (labels_writes o r) (trace_writes o r) labels trace)
+
+plans_under : (o : Outputs) (records : List PlanRecord) (all : Bool) → AreUnder (IsOutputOf o) (plans_writes o records all)
+plans_under o [] all = end_under (IsOutputOf o) all (λ name is. inl is)
+plans_under o (r ∷ rs) all =
+    subst (λ (ws : List Write). AreUnder (IsOutputOf o) ws) (sym (append_assoc (section_writes o r) (flat_map (section_writes o) rs) (end_writes all)))
+    (under_both (IsOutputOf o) (section_writes o r) (plans_writes o rs all) (section_under o r) (plans_under o rs all))
+
+lines_under : (records : List PlanRecord) (all : Bool) → AreUnder IsOutput (lines_writes records all)
+lines_under [] all = end_under IsOutput all (λ name is. is)
+lines_under (r ∷ rs) all = (refl, lines_under rs all)
 
 stop_under : (goal plan : ℕ) (e : SectionStop) → AreUnder IsOutput (stop_writes goal plan e)
 stop_under goal plan (section.Flaw x) = (refl, tt)
@@ -130,18 +160,25 @@ checked_under goal plan [] None = (refl, tt)
 checked_under goal plan [] (Some e) = stop_under goal plan e
 checked_under goal plan (o ∷ os) end = (refl, checked_under goal (plan + 1) os end)
 
--- what a job comes to is written so: a plan is made by the job `plan` alone
+-- what a job comes to is written so: plans are made by the job `plan` alone
 writes_under : (held : Told) (reads reads' : FaultCounts) (j : Job) (i : Intent) → ComesTo held reads reads' j i → AreUnder (MayBeWritten (Some j)) (writes_of j i)
 writes_under held reads reads' j (Refused r) comes = (plain_is j output refl, tt)
-writes_under held reads reads' (job.Plan p) (Planned plan) comes = plan_under p.outputs plan
-writes_under held reads reads' (job.Check c) (Planned plan) comes = absurd comes
-writes_under held reads reads' (job.Sweep from) (Planned plan) comes = absurd comes
+writes_under held reads reads' (job.Plan p) (Planned records all) comes = plans_under p.outputs records all
+writes_under held reads reads' (job.Check c) (Planned records all) comes = absurd comes
+writes_under held reads reads' (job.Sweep from) (Planned records all) comes = absurd comes
+writes_under held reads reads' (job.Demo d) (Planned records all) comes = absurd comes
 writes_under held reads reads' (job.Plan p) (Checked goal os end) comes = absurd comes
 writes_under held reads reads' (job.Check c) (Checked goal os end) comes = checked_under goal 0 os end
 writes_under held reads reads' (job.Sweep from) (Checked goal os end) comes = absurd comes
-writes_under held reads reads' (job.Check c) (Listed w) comes = absurd comes
+writes_under held reads reads' (job.Demo d) (Checked goal os end) comes = absurd comes
 writes_under held reads reads' (job.Plan p) (Listed w) comes = absurd comes
+writes_under held reads reads' (job.Check c) (Listed w) comes = absurd comes
 writes_under held reads reads' (job.Sweep from) (Listed w) comes = under_both IsOutput (map to_output (listings w)) (last_write ∷ []) (listed_under (listings w)) (refl, tt)
+writes_under held reads reads' (job.Demo d) (Listed w) comes = absurd comes
+writes_under held reads reads' (job.Plan p) (Demonstrated w count records all) comes = absurd comes
+writes_under held reads reads' (job.Check c) (Demonstrated w count records all) comes = absurd comes
+writes_under held reads reads' (job.Sweep from) (Demonstrated w count records all) comes = absurd comes
+writes_under held reads reads' (job.Demo d) (Demonstrated w count records all) comes = (refl, lines_under records all)
 writes_under held reads reads' j OutOfMemory comes = tt
 
 one_of_all : (IsWritten : List ℕ → Type 0) (first : List Write) (w : Write) (rest : List Write) → AreUnder IsWritten (first ++ w ∷ rest) → IsWritten w.name
@@ -156,19 +193,29 @@ cut_rose named before after faults faults' ws all cut =
 
 module _ (held : Told) (reads reads' : FaultCounts) (before after : Told) (faults faults' : FaultCounts) where
   done_by : (j : Job) (i : Intent) → ComesTo held reads reads' j i → 0 ≡ intent_status i → AreMade before after (writes_of j i) → IsDone held before after j
-  done_by (job.Plan p) (Planned plan) comes zero made = record { plan = plan; planned = comes; report = made }
-  done_by (job.Check c) (Planned plan) comes zero made = absurd comes
-  done_by (job.Sweep from) (Planned plan) comes zero made = absurd comes
+  done_by (job.Plan p) (Planned records true) comes zero made = record { records = records; planned = comes; report = made }
+  done_by (job.Check c) (Planned records true) comes zero made = absurd comes
+  done_by (job.Sweep from) (Planned records true) comes zero made = absurd comes
+  done_by (job.Demo d) (Planned records true) comes zero made = absurd comes
+  done_by j (Planned records false) comes zero made = absurd (omega arith)
   done_by (job.Plan p) (Checked goal os end) comes zero made = absurd comes
   done_by (job.Check c) (Checked goal os None) comes zero made = record { goal = goal; outcomes = os; checked = comes; lines = made }
   done_by (job.Check c) (Checked goal os (Some (section.Flaw x))) comes zero made = absurd (omega arith)
   done_by (job.Check c) (Checked goal os (Some (section.Fault x))) comes zero made = absurd (omega arith)
   done_by (job.Check c) (Checked goal os (Some section.NoMemory)) comes zero made = absurd (omega arith)
   done_by (job.Sweep from) (Checked goal os end) comes zero made = absurd comes
-  done_by (job.Check c) (Listed w) comes zero made = absurd comes
+  done_by (job.Demo d) (Checked goal os end) comes zero made = absurd comes
   done_by (job.Plan p) (Listed w) comes zero made = absurd comes
+  done_by (job.Check c) (Listed w) comes zero made = absurd comes
   done_by (job.Sweep from) (Listed w) comes zero made = record { world = w; says = comes.0; is_world = comes.1; lines = made }
-  done_by j (Refused r) comes zero made = absurd (not_refusal r 0 zero (λ h. omega arith) (λ h. omega arith) (λ h. omega arith) (λ h. omega arith))
+  done_by (job.Demo d) (Listed w) comes zero made = absurd comes
+  done_by (job.Plan p) (Demonstrated w count records true) comes zero made = absurd comes
+  done_by (job.Check c) (Demonstrated w count records true) comes zero made = absurd comes
+  done_by (job.Sweep from) (Demonstrated w count records true) comes zero made = absurd comes
+  done_by (job.Demo d) (Demonstrated w count records true) (batches, is, planned) zero made =
+      record { world = w; batches = batches; records = records; planned = planned; lines = subst (λ (n : ℕ). AreMade before after (demo_writes w n records true)) is made }
+  done_by j (Demonstrated w count records false) comes zero made = absurd (omega arith)
+  done_by j (Refused r) comes zero made = absurd (not_refusal r 0 zero (inl (omega arith)))
   done_by j OutOfMemory comes zero made = absurd (omega arith)
 
   job_done : (j : Job) (status : ℕ) → EndsJob held reads reads' before after faults faults' j status → status ≡ 0 → IsDone held before after j
@@ -178,38 +225,41 @@ module _ (held : Told) (reads reads' : FaultCounts) (before after : Told) (fault
     | inr (inr (is, stopped)) ↦ absurd (omega arith)
   ]
 
-  -- a status that is not that of a check, of a job done or of want of memory
+  -- a status that may be that of a refusal, and is not that of a failed write
   abbrev pub IsRefusing : ℕ → Type 0
-  IsRefusing s = (s ≢ 0) × (s ≢ 1) × (s ≢ 9) × (s ≢ 10)
+  IsRefusing s = (3 ≤ s) × (s ≤ 8) × (s ≢ 7)
 
-  refused_by : (j : Job) (i : Intent) (status : ℕ) → ComesTo held reads reads' j i → intent_status i ≡ status → IsRefusing status → AreMade before after (writes_of j i) → IsRefused held reads reads' before after status j
-  refused_by j (Refused r) status comes is (zero, one, nine, ten) made = record { refusal = r; has_status = is; cause = comes; line = made }
-  refused_by j (Planned plan) status comes is (zero, one, nine, ten) made = absurd (zero (sym is))
-  refused_by j (Checked goal os None) status comes is (zero, one, nine, ten) made = absurd (zero (sym is))
-  refused_by j (Checked goal os (Some (section.Flaw x))) status comes is (zero, one, nine, ten) made = absurd (one (sym is))
-  refused_by j (Checked goal os (Some (section.Fault x))) status comes is (zero, one, nine, ten) made = absurd (ten (sym is))
-  refused_by j (Checked goal os (Some section.NoMemory)) status comes is (zero, one, nine, ten) made = absurd (nine (sym is))
-  refused_by j (Listed w) status comes is (zero, one, nine, ten) made = absurd (zero (sym is))
-  refused_by j OutOfMemory status comes is (zero, one, nine, ten) made = absurd (nine (sym is))
+  refused_by : (j : Job) (i : Intent) (status : ℕ) → ComesTo held reads reads' j i → intent_status i ≡ status → 3 ≤ status → status ≤ 8 → AreMade before after (writes_of j i) → IsRefused held reads reads' before after status j
+  refused_by j (Refused r) status comes is low high made = record { refusal = r; has_status = is; cause = comes; line = made }
+  refused_by j (Planned records all) status comes is low high made = absurd (not_plans all status (sym is) (λ h. omega arith) (λ h. omega arith))
+  refused_by j (Checked goal os None) status comes is low high made = absurd (omega arith)
+  refused_by j (Checked goal os (Some (section.Flaw x))) status comes is low high made = absurd (omega arith)
+  refused_by j (Checked goal os (Some (section.Fault x))) status comes is low high made = absurd (omega arith)
+  refused_by j (Checked goal os (Some section.NoMemory)) status comes is low high made = absurd (omega arith)
+  refused_by j (Listed w) status comes is low high made = absurd (omega arith)
+  refused_by j (Demonstrated w count records all) status comes is low high made = absurd (not_plans all status (sym is) (λ h. omega arith) (λ h. omega arith))
+  refused_by j OutOfMemory status comes is low high made = absurd (omega arith)
 
-  job_refused : (j : Job) (status wanted : ℕ) → EndsJob held reads reads' before after faults faults' j status → status ≡ wanted → IsRefusing wanted → wanted ≢ 7 → IsRefused held reads reads' before after wanted j
-  job_refused j status wanted e at other seven = elim e.ends [
-    | inl (is, made) ↦ refused_by j e.intent wanted e.comes (sym is ∙ at) other made
+  job_refused : (j : Job) (status wanted : ℕ) → EndsJob held reads reads' before after faults faults' j status → status ≡ wanted → IsRefusing wanted → IsRefused held reads reads' before after wanted j
+  job_refused j status wanted e at (low, high, seven) = elim e.ends [
+    | inl (is, made) ↦ refused_by j e.intent wanted e.comes (sym is ∙ at) low high made
     | inr (inl (is, cut)) ↦ absurd (seven (sym at ∙ is))
-    | inr (inr (is, stopped)) ↦ absurd (other.2 (sym at ∙ is))
+    | inr (inr (is, stopped)) ↦ absurd (omega arith)
   ]
 
   -- the job found a flaw
   flawed_by : (j : Job) (i : Intent) → ComesTo held reads reads' j i → 1 ≡ intent_status i → AreMade before after (writes_of j i) → IsFlawFound held before after j
-  flawed_by j (Refused r) comes one made = absurd (not_refusal r 1 one (λ h. omega arith) (λ h. omega arith) (λ h. omega arith) (λ h. omega arith))
-  flawed_by j (Planned plan) comes one made = absurd (omega arith)
+  flawed_by j (Refused r) comes one made = absurd (not_refusal r 1 one (inl (omega arith)))
+  flawed_by j (Planned records all) comes one made = absurd (not_plans all 1 one (λ h. omega arith) (λ h. omega arith))
   flawed_by (job.Plan p) (Checked goal os end) comes one made = absurd comes
   flawed_by (job.Check c) (Checked goal os None) comes one made = absurd (omega arith)
   flawed_by (job.Check c) (Checked goal os (Some (section.Flaw x))) comes one made = (x, record { goal = goal; outcomes = os; checked = comes; lines = made })
   flawed_by (job.Check c) (Checked goal os (Some (section.Fault x))) comes one made = absurd (omega arith)
   flawed_by (job.Check c) (Checked goal os (Some section.NoMemory)) comes one made = absurd (omega arith)
   flawed_by (job.Sweep from) (Checked goal os end) comes one made = absurd comes
+  flawed_by (job.Demo d) (Checked goal os end) comes one made = absurd comes
   flawed_by j (Listed w) comes one made = absurd (omega arith)
+  flawed_by j (Demonstrated w count records all) comes one made = absurd (not_plans all 1 one (λ h. omega arith) (λ h. omega arith))
   flawed_by j OutOfMemory comes one made = absurd (omega arith)
 
   job_flawed : (j : Job) (status : ℕ) → EndsJob held reads reads' before after faults faults' j status → status ≡ 1 → IsFlawFound held before after j
@@ -221,15 +271,17 @@ module _ (held : Told) (reads reads' : FaultCounts) (before after : Told) (fault
 
   -- the job found a fault in the text of labels
   faulted_by : (j : Job) (i : Intent) → ComesTo held reads reads' j i → 10 ≡ intent_status i → AreMade before after (writes_of j i) → IsFaultFound held before after j
-  faulted_by j (Refused r) comes ten made = absurd (not_refusal r 10 ten (λ h. omega arith) (λ h. omega arith) (λ h. omega arith) (λ h. omega arith))
-  faulted_by j (Planned plan) comes ten made = absurd (omega arith)
+  faulted_by j (Refused r) comes ten made = absurd (not_refusal r 10 ten (inr (inr (omega arith))))
+  faulted_by j (Planned records all) comes ten made = absurd (not_plans all 10 ten (λ h. omega arith) (λ h. omega arith))
   faulted_by (job.Plan p) (Checked goal os end) comes ten made = absurd comes
   faulted_by (job.Check c) (Checked goal os None) comes ten made = absurd (omega arith)
   faulted_by (job.Check c) (Checked goal os (Some (section.Flaw x))) comes ten made = absurd (omega arith)
   faulted_by (job.Check c) (Checked goal os (Some (section.Fault x))) comes ten made = (x, record { goal = goal; outcomes = os; checked = comes; lines = made })
   faulted_by (job.Check c) (Checked goal os (Some section.NoMemory)) comes ten made = absurd (omega arith)
   faulted_by (job.Sweep from) (Checked goal os end) comes ten made = absurd comes
+  faulted_by (job.Demo d) (Checked goal os end) comes ten made = absurd comes
   faulted_by j (Listed w) comes ten made = absurd (omega arith)
+  faulted_by j (Demonstrated w count records all) comes ten made = absurd (not_plans all 10 ten (λ h. omega arith) (λ h. omega arith))
   faulted_by j OutOfMemory comes ten made = absurd (omega arith)
 
   job_faulted : (j : Job) (status : ℕ) → EndsJob held reads reads' before after faults faults' j status → status ≡ 10 → IsFaultFound held before after j
@@ -246,19 +298,13 @@ module _ (held : Told) (reads reads' : FaultCounts) (before after : Told) (fault
     | inr (inr (is, stopped)) ↦ absurd (omega arith)
   ]
 
-  stopped_by : (j : Job) (i : Intent) → 9 ≡ intent_status i → AreMade before after (writes_of j i) → IsStoppedAt before after (writes_of j i)
-  stopped_by j (Refused r) nine made = absurd (not_refusal r 9 nine (λ h. omega arith) (λ h. omega arith) (λ h. omega arith) (λ h. omega arith))
-  stopped_by j (Planned plan) nine made = absurd (omega arith)
-  stopped_by j (Checked goal os None) nine made = absurd (omega arith)
-  stopped_by j (Checked goal os (Some (section.Flaw x))) nine made = absurd (omega arith)
-  stopped_by j (Checked goal os (Some (section.Fault x))) nine made = absurd (omega arith)
-  stopped_by j (Checked goal os (Some section.NoMemory)) nine made = record { first = checked_writes goal 0 os (Some section.NoMemory); rest = []; whole = sym (append-nil (checked_writes goal 0 os (Some section.NoMemory))); made = made }
-  stopped_by j (Listed w) nine made = absurd (omega arith)
-  stopped_by j OutOfMemory nine made = record { first = []; rest = []; whole = refl; made = made }
+  -- all writes are the first few too
+  all_made : (ws : List Write) → AreMade before after ws → IsStoppedAt before after ws
+  all_made ws made = record { first = ws; rest = []; whole = sym (append-nil ws); made = made }
 
   job_stopped : (j : Job) (status : ℕ) → EndsJob held reads reads' before after faults faults' j status → status ≡ 9 → IsStopped held reads reads' before after j
   job_stopped j status e nine = elim e.ends [
-    | inl (is, made) ↦ record { intent = e.intent; comes = e.comes; stopped = stopped_by j e.intent (sym nine ∙ is) made }
+    | inl (is, made) ↦ record { intent = e.intent; comes = e.comes; stopped = all_made (writes_of j e.intent) made }
     | inr (inl (is, cut)) ↦ absurd (omega arith)
     | inr (inr (is, stopped)) ↦ record { intent = e.intent; comes = e.comes; stopped = stopped }
   ]
@@ -278,14 +324,25 @@ module _ (held : Told) (reads reads' : FaultCounts) (before after : Told) (fault
     | inr (inr (is, stopped)) ↦ inr (inr (inr is))
   ]
 
+  plans_is_status : (all : Bool) → IsStatus (plans_status all)
+  plans_is_status true = inl refl
+  plans_is_status false = is_nine 9 refl
+
   intent_is_status : (i : Intent) → IsStatus (intent_status i)
-  intent_is_status (Refused r) = elim (refusal_is r) as (λ _. IsStatus (refusal_status r)) [ inl three ↦ is_three _ three | inr (inl four) ↦ is_four _ four | inr (inr (inl six)) ↦ is_six _ six | inr (inr (inr eight)) ↦ is_eight _ eight ]
-  intent_is_status (Planned plan) = inl refl
+  intent_is_status (Refused (refusal.Environment x)) = is_three 3 refl
+  intent_is_status (Refused (refusal.Primitives x)) = is_four 4 refl
+  intent_is_status (Refused (refusal.TooWide x)) = is_four 4 refl
+  intent_is_status (Refused (refusal.TooDear x)) = is_four 4 refl
+  intent_is_status (Refused (refusal.Changes x)) = is_five 5 refl
+  intent_is_status (Refused (refusal.Read x)) = is_six 6 refl
+  intent_is_status (Refused (refusal.Length x)) = is_eight 8 refl
+  intent_is_status (Planned records all) = plans_is_status all
   intent_is_status (Checked goal os None) = inl refl
   intent_is_status (Checked goal os (Some (section.Flaw x))) = inr (inl refl)
   intent_is_status (Checked goal os (Some (section.Fault x))) = is_ten 10 refl
   intent_is_status (Checked goal os (Some section.NoMemory)) = is_nine 9 refl
   intent_is_status (Listed w) = inl refl
+  intent_is_status (Demonstrated w count records all) = plans_is_status all
   intent_is_status OutOfMemory = is_nine 9 refl
 
   -- ---- a run
@@ -322,10 +379,10 @@ module _ (held : Told) (reads reads' : FaultCounts) (before after : Told) (fault
     run_words (by_words is (inr (inr (at, stopped)))) two = absurd (omega arith)
     run_words (by_memory at made) two = absurd (omega arith)
 
-    pub run_refused : (wanted : ℕ) → EndsRun named held reads reads' before after faults faults' status → status ≡ wanted → IsRefusing wanted → wanted ≢ 2 → wanted ≢ 7 → AtJob named (IsRefused held reads reads' before after wanted)
-    run_refused wanted (by_job j is e) at other b c = (j, is, job_refused j status wanted e at other c)
-    run_refused wanted (by_words is ends) at other b c = absurd (not_by_words ends (λ h. b (sym at ∙ h)) (λ h. c (sym at ∙ h)) (λ h. other.2 (sym at ∙ h)))
-    run_refused wanted (by_memory nine made) at other b c = absurd (other.2 (sym at ∙ nine))
+    pub run_refused : (wanted : ℕ) → EndsRun named held reads reads' before after faults faults' status → status ≡ wanted → IsRefusing wanted → AtJob named (IsRefused held reads reads' before after wanted)
+    run_refused wanted (by_job j is e) at other = (j, is, job_refused j status wanted e at other)
+    run_refused wanted (by_words is ends) at (low, high, seven) = absurd (not_by_words ends (λ h. omega arith) (λ h. seven (sym at ∙ h)) (λ h. omega arith))
+    run_refused wanted (by_memory nine made) at (low, high, seven) = absurd (omega arith)
 
     pub run_flawed : EndsRun named held reads reads' before after faults faults' status → status ≡ 1 → AtJob named (IsFlawFound held before after)
     run_flawed (by_job j is e) one = (j, is, job_flawed j status e one)
@@ -363,112 +420,179 @@ module _ (held : Told) (reads reads' : FaultCounts) (before after : Told) (fault
     run_no_job (by_memory at made) none = inr (inr at)
 
     -- where the words name a job, what holds of each way that it can come holds of the run
-    by_each : (j : Job) (wanted : ℕ) → EndsRun named held reads reads' before after faults faults' status → named ≡ Some j → ((r : Refusal) → IsJobCause held reads reads' j r → IsOrFailed wanted (refusal_status r)) → ((i : Intent) → ComesTo held reads reads' j i → (w : World) → SaysWorld held (sources_of j) w → IsOrFailed wanted (intent_status i)) → IsOrFailed wanted status
-    by_each j wanted (by_job other is e) names refused done =
+    by_each : (j : Job) (wanted : ℕ) → EndsRun named held reads reads' before after faults faults' status → named ≡ Some j → ((i : Intent) → ComesTo held reads reads' j i → IsOrFailed wanted (intent_status i)) → IsOrFailed wanted status
+    by_each j wanted (by_job other is e) names each =
         let same : other ≡ j = cc in
-        job_status j status wanted (subst (λ k. EndsJob held reads reads' before after faults faults' k status) same e) (λ i comes. by_intent held reads reads' wanted j i refused done comes)
-    by_each j wanted (by_words is ends) names refused done = absurd (cc)
-    by_each j wanted (by_memory at made) names refused done = inr (inr (inr at))
+        job_status j status wanted (subst (λ k. EndsJob held reads reads' before after faults faults' k status) same e) each
+    by_each j wanted (by_words is ends) names each = absurd (cc)
+    by_each j wanted (by_memory at made) names each = inr (inr (inr at))
 
-    -- a job is not refused for its labels, where no world is read
-    early : (j : Job) (wanted : ℕ) → ((w : World) → SaysWorld held (sources_of j) w → ⊥) → ((r : Refusal) → IsCause held reads reads' (sources_of j) r → IsOrFailed wanted (refusal_status r)) → (r : Refusal) → IsJobCause held reads reads' j r → IsOrFailed wanted (refusal_status r)
-    early j wanted none refused r (inl cause) = refused r cause
-    early j wanted none refused r (inr late) = absurd (late_none held reads reads' j r none late)
+    -- where the files stand for no world and batches, a job is refused for one of them, or memory runs out
+    by_early : (j : Job) (from : Sources) (wanted : ℕ) → EndsRun named held reads reads' before after faults faults' status → named ≡ Some j → sources_of j ≡ Some from → ((r : Refusal) → IsEarlyCause held reads reads' from (changes_of j) r → IsOrFailed wanted (refusal_status r)) → (SaysCourse held from (changes_of j) → ⊥) → IsOrFailed wanted status
+    by_early j from wanted ends names is refused none = by_each j wanted ends names (λ i comes. by_intent held reads reads' wanted j from i is by_cause none comes)
+      where
+        by_cause : (r : Refusal) → IsJobCause held reads reads' j r → IsOrFailed wanted (refusal_status r)
+        by_cause r cause = elim (cause_of held reads reads' j from r is cause) [ inl early ↦ refused r early | inr (course, checks) ↦ absurd (none course) ]
 
-    by_none : (j : Job) (wanted : ℕ) → EndsRun named held reads reads' before after faults faults' status → named ≡ Some j → ((r : Refusal) → IsCause held reads reads' (sources_of j) r → IsOrFailed wanted (refusal_status r)) → ((w : World) → SaysWorld held (sources_of j) w → ⊥) → IsOrFailed wanted status
-    by_none j wanted ends names refused none = by_each j wanted ends names (early j wanted none refused) (λ i comes w says. absurd (none w says))
+    -- and where they stand for no world, for a file of the lattice
+    by_none : (j : Job) (from : Sources) (wanted : ℕ) → EndsRun named held reads reads' before after faults faults' status → named ≡ Some j → sources_of j ≡ Some from → ((r : Refusal) → IsCause held reads reads' from r → IsOrFailed wanted (refusal_status r)) → ((w : World) → SaysWorld held from w → ⊥) → IsOrFailed wanted status
+    by_none j from wanted ends names is refused none = by_early j from wanted ends names is by_cause (λ c. none c.world c.says)
+      where
+        by_cause : (r : Refusal) → IsEarlyCause held reads reads' from (changes_of j) r → IsOrFailed wanted (refusal_status r)
+        by_cause r (inl cause) = refused r cause
+        by_cause r (inr cause) = let found = changes_world held reads reads' from (changes_of j) r cause in absurd (none found.0 found.1)
 
-    pub run_environment_faulty : TextsAreClear → EndsRun named held reads reads' before after faults faults' status → (j : Job) (f : EnvFault) → named ≡ Some j → TellsEnvironmentFault held (sources_of j) f → IsOrFailed 3 status
-    run_environment_faulty clear ends j f names tells = by_none j 3 ends names (environment_faulty clear held reads reads' (sources_of j) f tells) (environment_faulty_none clear held reads reads' (sources_of j) f tells)
+    pub run_environment_faulty : TextsAreClear → EndsRun named held reads reads' before after faults faults' status → (j : Job) (from : Sources) (f : EnvFault) → named ≡ Some j → sources_of j ≡ Some from → TellsEnvironmentFault held from f → IsOrFailed 3 status
+    run_environment_faulty clear ends j from f names is tells = by_none j from 3 ends names is (environment_faulty clear held reads reads' from f tells) (environment_faulty_none clear held reads reads' from f tells)
 
-    pub run_environment_long : TextsAreClear → EndsRun named held reads reads' before after faults faults' status → (j : Job) → named ≡ Some j → TellsTooMuch (held (sources_of j).env) → IsOrFailed 8 status
-    run_environment_long clear ends j names much = by_none j 8 ends names (environment_long clear held reads reads' (sources_of j) much) (environment_long_none clear held reads reads' (sources_of j) much)
+    pub run_environment_long : TextsAreClear → EndsRun named held reads reads' before after faults faults' status → (j : Job) (from : Sources) → named ≡ Some j → sources_of j ≡ Some from → TellsTooMuch (held from.env) → IsOrFailed 8 status
+    run_environment_long clear ends j from names is much = by_none j from 8 ends names is (environment_long clear held reads reads' from much) (environment_long_none clear held reads reads' from much)
 
-    pub run_primitives_long : TextsAreClear → EndsRun named held reads reads' before after faults faults' status → (j : Job) (env : Environment) → named ≡ Some j → TellsEnvironment held (sources_of j) env → TellsTooMuch (held (sources_of j).prims) → IsOrFailed 8 status
-    run_primitives_long clear ends j env names told much = by_none j 8 ends names (primitives_long clear held reads reads' (sources_of j) env told much) (primitives_long_none clear held reads reads' (sources_of j) env told much)
+    pub run_primitives_long : TextsAreClear → EndsRun named held reads reads' before after faults faults' status → (j : Job) (from : Sources) (env : Environment) → named ≡ Some j → sources_of j ≡ Some from → TellsEnvironment held from env → TellsTooMuch (held from.prims) → IsOrFailed 8 status
+    run_primitives_long clear ends j from env names is told much = by_none j from 8 ends names is (primitives_long clear held reads reads' from env told much) (primitives_long_none clear held reads reads' from env told much)
 
-    pub run_primitives_faulty : TextsAreClear → EndsRun named held reads reads' before after faults faults' status → (j : Job) (env : Environment) (f : PrimFault) → named ≡ Some j → TellsEnvironment held (sources_of j) env → TellsPrimitiveFault held (sources_of j) env f → IsOrFailed 4 status
-    run_primitives_faulty clear ends j env f names told tells = by_none j 4 ends names (primitives_faulty clear held reads reads' (sources_of j) env f told tells) (primitives_faulty_none clear held reads reads' (sources_of j) env f told tells)
+    pub run_primitives_faulty : TextsAreClear → EndsRun named held reads reads' before after faults faults' status → (j : Job) (from : Sources) (env : Environment) (f : PrimFault) → named ≡ Some j → sources_of j ≡ Some from → TellsEnvironment held from env → TellsPrimitiveFault held from env f → IsOrFailed 4 status
+    run_primitives_faulty clear ends j from env f names is told tells = by_none j from 4 ends names is (primitives_faulty clear held reads reads' from env f told tells) (primitives_faulty_none clear held reads reads' from env f told tells)
 
-    pub run_too_wide : TextsAreClear → EndsRun named held reads reads' before after faults faults' status → (j : Job) (env : Environment) (ps : Primitives) (i : ℕ) → named ≡ Some j → TellsEnvironment held (sources_of j) env → TellsPrimitives held (sources_of j) env ps → IsFirstTooWide ps (sources_of j).radius i → IsOrFailed 4 status
-    run_too_wide clear ends j env ps i names told tells wide = by_none j 4 ends names
-        (primitives_good clear held reads reads' (sources_of j) env ps told tells 4 (λ k h. inl refl) (λ k n h. inl refl))
-        (too_wide_none clear held reads reads' (sources_of j) env ps i told tells wide)
+    pub run_too_wide : TextsAreClear → EndsRun named held reads reads' before after faults faults' status → (j : Job) (from : Sources) (env : Environment) (ps : Primitives) (i : ℕ) → named ≡ Some j → sources_of j ≡ Some from → TellsEnvironment held from env → TellsPrimitives held from env ps → IsFirstTooWide ps from.radius i → IsOrFailed 4 status
+    run_too_wide clear ends j from env ps i names is told tells wide = by_none j from 4 ends names is
+        (primitives_good clear held reads reads' from env ps told tells 4 (λ k h. inl refl) (λ k n h. inl refl))
+        (too_wide_none clear held reads reads' from env ps i told tells wide)
 
-    pub run_too_dear : TextsAreClear → EndsRun named held reads reads' before after faults faults' status → (j : Job) (env : Environment) (ps : Primitives) (i : ℕ) → named ≡ Some j → TellsEnvironment held (sources_of j) env → TellsPrimitives held (sources_of j) env ps → NoneTooWide ps (sources_of j).radius → IsFirstTooDear env ps.items i → IsOrFailed 4 status
-    run_too_dear clear ends j env ps i names told tells narrow dear = by_none j 4 ends names
-        (primitives_good clear held reads reads' (sources_of j) env ps told tells 4 (λ k h. inl refl) (λ k n h. inl refl))
-        (too_dear_none clear held reads reads' (sources_of j) env ps i told tells dear)
+    pub run_too_dear : TextsAreClear → EndsRun named held reads reads' before after faults faults' status → (j : Job) (from : Sources) (env : Environment) (ps : Primitives) (i : ℕ) → named ≡ Some j → sources_of j ≡ Some from → TellsEnvironment held from env → TellsPrimitives held from env ps → NoneTooWide ps from.radius → IsFirstTooDear env ps.items i → IsOrFailed 4 status
+    run_too_dear clear ends j from env ps i names is told tells narrow dear = by_none j from 4 ends names is
+        (primitives_good clear held reads reads' from env ps told tells 4 (λ k h. inl refl) (λ k n h. inl refl))
+        (too_dear_none clear held reads reads' from env ps i told tells dear)
+
+    pub run_changes_long : TextsAreClear → EndsRun named held reads reads' before after faults faults' status → (j : Job) (from : Sources) (m : CellMap) (name : List ℕ) → named ≡ Some j → sources_of j ≡ Some from → AreGood held from m → changes_of j ≡ Some name → TellsTooMuch (held name) → IsOrFailed 8 status
+    run_changes_long clear ends j from m name names is good file much = by_early j from 8 ends names is
+        (changes_long clear held reads reads' from m (changes_of j) name good file much)
+        (changes_long_none clear held reads reads' from (changes_of j) name file much)
+
+    pub run_changes_faulty : TextsAreClear → EndsRun named held reads reads' before after faults faults' status → (j : Job) (from : Sources) (m : CellMap) (f : ChangeFault) → named ≡ Some j → sources_of j ≡ Some from → AreGood held from m → TellsChangeFault held (changes_of j) m f → IsOrFailed 5 status
+    run_changes_faulty clear ends j from m f names is good tells = by_early j from 5 ends names is
+        (changes_faulty clear held reads reads' from m (changes_of j) f good tells)
+        (changes_faulty_none clear held reads reads' from m (changes_of j) f good tells)
+
+    -- plans are made, all of them or until memory runs out
+    planned_status : (all : Bool) → IsOrFailed 0 (plans_status all)
+    planned_status true = inl refl
+    planned_status false = no_memory 0
 
     -- a job that reads no labels and is done has the status 0
     served : (j : Job) (i : Intent) → IsNoCheck j → ((r : Refusal) → IsJobCause held reads reads' j r → IsOrFailed 0 (refusal_status r)) → ComesTo held reads reads' j i → IsOrFailed 0 (intent_status i)
     served j (Refused r) plain refused comes = refused r comes
-    served j (Planned plan) plain refused comes = inl refl
+    served j (Planned records all) plain refused comes = planned_status all
     served (job.Plan p) (Checked goal os end) plain refused comes = absurd comes
     served (job.Check c) (Checked goal os end) plain refused comes = absurd plain
     served (job.Sweep from) (Checked goal os end) plain refused comes = absurd comes
+    served (job.Demo d) (Checked goal os end) plain refused comes = absurd comes
     served j (Listed w) plain refused comes = inl refl
+    served j (Demonstrated w count records all) plain refused comes = planned_status all
     served j OutOfMemory plain refused comes = no_memory 0
 
-    not_late : (j : Job) (wanted : ℕ) → IsNoCheck j → ((r : Refusal) → IsCause held reads reads' (sources_of j) r → IsOrFailed wanted (refusal_status r)) → (r : Refusal) → IsJobCause held reads reads' j r → IsOrFailed wanted (refusal_status r)
-    not_late j wanted plain refused r (inl cause) = refused r cause
-    not_late j wanted plain refused r (inr late) = absurd (no_late held reads reads' j r plain late)
+    pub run_complete : TextsAreClear → EndsRun named held reads reads' before after faults faults' status → (j : Job) (from : Sources) (m : CellMap) (batches : List (List change.Write)) → named ≡ Some j → sources_of j ≡ Some from → AreGood held from m → TellsBatches held (changes_of j) m batches → IsNoCheck j → IsOrFailed 0 status
+    run_complete clear ends j from m batches names is good told plain = by_each j 0 ends names (λ i comes. served j i plain by_cause comes)
+      where
+        by_cause : (r : Refusal) → IsJobCause held reads reads' j r → IsOrFailed 0 (refusal_status r)
+        by_cause r cause = elim (cause_of held reads reads' j from r is cause) [ inl early ↦ all_good clear held reads reads' from m (changes_of j) batches 0 good told r early | inr (course, checks) ↦ absurd (checks plain) ]
 
-    pub run_complete : TextsAreClear → EndsRun named held reads reads' before after faults faults' status → (j : Job) (env : Environment) (ps : Primitives) → named ≡ Some j → TellsEnvironment held (sources_of j) env → TellsPrimitives held (sources_of j) env ps → NoneTooWide ps (sources_of j).radius → NoneTooDear env ps → IsNoCheck j → IsOrFailed 0 status
-    run_complete clear ends j env ps names told tells narrow cheap plain =
-        let refused = not_late j 0 plain (primitives_good clear held reads reads' (sources_of j) env ps told tells 0 (λ k h. absurd (none_is_widest ps (sources_of j).radius k narrow h)) (λ k n h. absurd (none_is_first env ps k cheap h))) in
-        by_each j 0 ends names refused (λ i comes w says. served j i plain refused comes)
+    -- a demonstration is refused for nothing
+    demonstrated : (d : DemoJob) (i : Intent) → ComesTo held reads reads' (job.Demo d) i → (intent_status i ≡ 0) ⊎ (intent_status i ≡ 9)
+    demonstrated d (Refused r) comes = absurd comes
+    demonstrated d (Planned records all) comes = absurd comes
+    demonstrated d (Checked goal os end) comes = absurd comes
+    demonstrated d (Listed w) comes = absurd comes
+    demonstrated d (Demonstrated w count records all) comes = plans_are all
+    demonstrated d OutOfMemory comes = inr refl
 
-    -- no cause but the labels' own, where the files stand for a world
-    check_refused : TextsAreClear → (c : CheckJob) (w : World) (wanted : ℕ) → TellsWorld held c.sources w → (IsTooLong (held c.labels) → IsOrFailed wanted 8) → (r : Refusal) → IsJobCause held reads reads' (job.Check c) r → IsOrFailed wanted (refusal_status r)
-    check_refused clear c w wanted tells long r (inl cause) =
-        primitives_good clear held reads reads' c.sources w.env w.prims tells.environment tells.primitives wanted (λ k h. absurd (none_is_widest w.prims c.sources.radius k tells.says.narrow h)) (λ k n h. absurd (none_is_first w.env w.prims k tells.says.cheap h)) r cause
-    check_refused clear c w wanted tells long r (inr late) = late_of_check held reads reads' c wanted r long late
+    pub run_demonstrated : EndsRun named held reads reads' before after faults faults' status → (d : DemoJob) → named ≡ Some (job.Demo d) → IsOrUnwritten 0 status
+    run_demonstrated (by_job other is e) d names =
+        let same : other ≡ job.Demo d = cc in
+        by_ends (subst (λ (k : Job). EndsJob held reads reads' before after faults faults' k status) same e)
+      where
+        by_ends : EndsJob held reads reads' before after faults faults' (job.Demo d) status → IsOrUnwritten 0 status
+        by_ends ended = elim ended.ends [
+          | inl (at, made) ↦ elim (demonstrated d ended.intent ended.comes) [ inl zero ↦ inl (at ∙ zero) | inr nine ↦ inr (inr (at ∙ nine)) ]
+          | inr (inl (at, cut)) ↦ inr (inl at)
+          | inr (inr (at, stopped)) ↦ inr (inr at)
+        ]
+    run_demonstrated (by_words is ends) d names = absurd (cc)
+    run_demonstrated (by_memory at made) d names = inr (inr at)
 
-    -- the world that was read has the graph of the one that is told
-    one_graph : TextsAreClear → AlikeWorldsAreOneGraph → (from : Sources) (w v : World) → TellsWorld held from w → SaysWorld held from v → IsWorld v → network_of v ≡ network_of w
-    one_graph clear alike from w v tells says is_world =
-        let env = same_environment clear held from w.env v.env says.cells tells.environment says.environment in
-        let prims = same_primitives clear held from w.env v.env says.cells w.prims v.prims tells.environment tells.primitives says.environment says.primitives in
-        let cells = same_cells clear held from w.env v.env w.env says.cells tells.says.cells tells.environment says.environment tells.says.environment in
-        let map : v.map ≡ w.map = says.map ∙ ap (λ (e : Environment). record { width = e.width; height = e.height; costs = says.cells }) env ∙ ap (λ (l : List ℕ). record { width = w.env.width; height = w.env.height; costs = l }) cells ∙ sym tells.says.map in
-        alike w v tells.is_world is_world env prims map (says.sweeps.radius_is ∙ sym tells.says.sweeps.radius_is)
+    -- where the files stand for a world and batches, a check is refused for its file of labels alone
+    check_refused : TextsAreClear → (c : CheckJob) (w : World) (batches : List (List change.Write)) (wanted : ℕ) → TellsWorld held c.sources w → TellsBatches held c.changes w.map batches → (IsTooLong (held c.labels) → IsOrFailed wanted 8) → (r : Refusal) → IsJobCause held reads reads' (job.Check c) r → IsOrFailed wanted (refusal_status r)
+    check_refused clear c w batches wanted tells told long r (inl cause) = all_good clear held reads reads' c.sources w.map c.changes batches wanted (world_good clear held reads reads' c.sources w tells) told r (inl cause)
+    check_refused clear c w batches wanted tells told long r (inr (inl cause)) = all_good clear held reads reads' c.sources w.map c.changes batches wanted (world_good clear held reads reads' c.sources w tells) told r (inr cause)
+    check_refused clear c w batches wanted tells told long r (inr (inr cause)) = labels_refused held reads reads' c wanted r long cause
+
+    -- the world that was read has the graphs of the one that is told
+    same_graph : AlikeWorldsAreOneGraph → (v w : World) → IsWorld w → v.env ≡ w.env → v.prims ≡ w.prims → v.map ≡ w.map → v.sweeps.radius ≡ w.sweeps.radius → (batches : List (List change.Write)) (k : ℕ) (n : Network) → IsGraphAfter v batches k n → IsGraphAfter w batches k n
+    same_graph alike v w is_world env prims map radius batches k n a =
+        let there : IsWorld (record w { map = a.map }) = record {
+          env = is_world.env;
+          prims = is_world.prims;
+          map = a.is_world.map;
+          cell = is_world.cell;
+          headings = is_world.headings;
+          width = a.is_world.width ∙ ap (λ (e : Environment). e.width) env;
+          height = a.is_world.height ∙ ap (λ (e : Environment). e.height) env;
+          sweeps = is_world.sweeps;
+          radius = is_world.radius;
+          costs = is_world.costs;
+        } in
+        record {
+          map = a.map;
+          after = subst (λ (m : CellMap). IsMapAfter m batches k a.map) map a.after;
+          is_world = there;
+          network = a.network ∙ alike (record w { map = a.map }) (record v { map = a.map }) there a.is_world env prims refl radius;
+        }
 
     -- how a check ends
-    checked_alike : TextsAreClear → SectionsAreClear → AlikeWorldsAreOneGraph → (c : CheckJob) (w : World) (text : List ℕ) (goal : ℕ) (os : List Outcome) (end : Option SectionStop) → end ≢ Some section.NoMemory → TellsWorld held c.sources w → Tells (held c.labels) text → IsCheckedIn w text goal os end
+    checked_alike : TextsAreClear → SectionsAreClear → OneMap → AlikeWorldsAreOneGraph → (c : CheckJob) (w : World) (batches : List (List change.Write)) (text : List ℕ) (goal : ℕ) (os : List Outcome) (end : Option SectionStop) → end ≢ Some section.NoMemory → TellsWorld held c.sources w → TellsBatches held c.changes w.map batches → Tells (held c.labels) text → IsCheckedIn IsHolding w batches text goal os end
         → ((r : Refusal) → IsJobCause held reads reads' (job.Check c) r → IsOrFailed (checked_status end) (refusal_status r)) → (i : Intent) → ComesTo held reads reads' (job.Check c) i → IsOrFailed (checked_status end) (intent_status i)
-    checked_alike clear sections alike c w text goal os end some tells held_text is refused (Refused r) comes = refused r comes
-    checked_alike clear sections alike c w text goal os end some tells held_text is refused (Planned plan) comes = absurd comes
-    checked_alike clear sections alike c w text goal os end some tells held_text is refused (Listed v) comes = absurd comes
-    checked_alike clear sections alike c w text goal os end some tells held_text is refused OutOfMemory comes = no_memory (checked_status end)
-    checked_alike clear sections alike c w text goal os end some tells held_text is refused (Checked goal' os' end') comes =
+    checked_alike clear sections one alike c w batches text goal os end some tells told held_text is refused (Refused r) comes = refused r comes
+    checked_alike clear sections one alike c w batches text goal os end some tells told held_text is refused (Planned records all) comes = absurd comes
+    checked_alike clear sections one alike c w batches text goal os end some tells told held_text is refused (Listed v) comes = absurd comes
+    checked_alike clear sections one alike c w batches text goal os end some tells told held_text is refused (Demonstrated v count records all) comes = absurd comes
+    checked_alike clear sections one alike c w batches text goal os end some tells told held_text is refused OutOfMemory comes = no_memory (checked_status end)
+    checked_alike clear sections one alike c w batches text goal os end some tells told held_text is refused (Checked goal' os' end') comes =
         let v = comes.world in
-        let graph = one_graph clear alike c.sources w v tells comes.says comes.is_world in
+        let good = world_good clear held reads reads' c.sources w tells in
         let env = same_environment clear held c.sources w.env v.env comes.says.cells tells.environment comes.says.environment in
+        let prims = same_primitives clear held c.sources w.env v.env comes.says.cells w.prims v.prims tells.environment tells.primitives comes.says.environment comes.says.primitives in
+        let map = same_map clear held c.sources w.map v good.map comes.says in
+        let radius = comes.says.sweeps.radius_is ∙ sym tells.says.sweeps.radius_is in
+        let course : comes.batches ≡ batches = same_batches clear held c.changes w.map batches comes.batches told (subst (λ (m : CellMap). SaysBatches held c.changes m comes.batches) map comes.changes) in
         let same_text : comes.text ≡ text = told_is (held c.labels) text comes.text held_text.held_bytes comes.read in
         let from : comes.in_world.start ≡ is.start = one_state w.env w.env.start comes.in_world.start is.start (subst (λ (e : Environment). IsStateOf e e.start comes.in_world.start) env comes.in_world.start_is) is.start_is in
         let to : goal' ≡ goal = one_state w.env w.env.end goal' goal (subst (λ (e : Environment). IsStateOf e e.end goal') env comes.in_world.goal_is) is.goal_is in
-        let there : AreChecked (network_of w ∷ []) is.start goal 0 (start_at text 0) os' end' =
-        subst (λ (t : List ℕ). AreChecked (network_of w ∷ []) is.start goal 0 (start_at t 0) os' end') same_text
-        (subst (λ (g : ℕ). AreChecked (network_of w ∷ []) is.start g 0 (start_at comes.text 0) os' end') to
-        (subst (λ (s : ℕ). AreChecked (network_of w ∷ []) s goal' 0 (start_at comes.text 0) os' end') from
-        (subst (λ (n : Network). AreChecked (n ∷ []) comes.in_world.start goal' 0 (start_at comes.text 0) os' end') graph comes.in_world.checked))) in
-        one_ending sections is.start goal (network_of w ∷ []) 0 (start_at text 0) os os' end end' some is.checked there
+        let there = same_check v batches comes.batches comes.in_world.start is.start goal' goal comes.text text os' end' course from to same_text comes.in_world.checked in
+        one_ending sections one (record { world = w; batches = batches; start = is.start; goal = goal }) (suc (length batches)) 0 (start_at text 0) os os' end end' some is.checked
+        (checked_on v w batches is.start goal (same_graph alike v w tells.is_world env prims map radius batches) env (suc (length batches)) 0 (start_at text 0) os' end' there)
+      where
+        same_check : (v : World) (bs cs : List (List change.Write)) (s s' g g' : ℕ) (t t' : List ℕ) (os : List Outcome) (end : Option SectionStop) → cs ≡ bs → s ≡ s' → g ≡ g' → t ≡ t'
+            → AreChecked IsShownHolding (record { world = v; batches = cs; start = s; goal = g }) 0 (suc (length cs)) (start_at t 0) os end
+            → AreChecked IsShownHolding (record { world = v; batches = bs; start = s'; goal = g' }) 0 (suc (length bs)) (start_at t' 0) os end
+        same_check v bs cs s s' g g' t t' os end course from to text checked =
+            subst (λ (l : List (List change.Write)). AreChecked IsShownHolding (record { world = v; batches = l; start = s'; goal = g' }) 0 (suc (length l)) (start_at t' 0) os end) course
+            (subst (λ (x : ℕ). AreChecked IsShownHolding (record { world = v; batches = cs; start = x; goal = g' }) 0 (suc (length cs)) (start_at t' 0) os end) from
+            (subst (λ (x : ℕ). AreChecked IsShownHolding (record { world = v; batches = cs; start = s; goal = x }) 0 (suc (length cs)) (start_at t' 0) os end) to
+            (subst (λ (x : List ℕ). AreChecked IsShownHolding (record { world = v; batches = cs; start = s; goal = g }) 0 (suc (length cs)) (start_at x 0) os end) text checked)))
 
-    pub run_checked : TextsAreClear → SectionsAreClear → AlikeWorldsAreOneGraph → EndsRun named held reads reads' before after faults faults' status → (c : CheckJob) (w : World) (text : List ℕ) (goal : ℕ) (os : List Outcome) (end : Option SectionStop) → named ≡ Some (job.Check c) → TellsWorld held c.sources w → Tells (held c.labels) text → IsCheckedIn w text goal os end → end ≢ Some section.NoMemory → IsOrFailed (checked_status end) status
-    run_checked clear sections alike ends c w text goal os end names tells held_text is some =
-        let refused = check_refused clear c w (checked_status end) tells (λ long. absurd (too_long_not_short (held c.labels) text held_text long)) in
-        by_each (job.Check c) (checked_status end) ends names refused (λ i comes v says. checked_alike clear sections alike c w text goal os end some tells held_text is refused i comes)
+    pub run_checked : TextsAreClear → SectionsAreClear → OneMap → AlikeWorldsAreOneGraph → EndsRun named held reads reads' before after faults faults' status → (c : CheckJob) (w : World) (batches : List (List change.Write)) (text : List ℕ) (goal : ℕ) (os : List Outcome) (end : Option SectionStop) → named ≡ Some (job.Check c) → TellsWorld held c.sources w → TellsBatches held c.changes w.map batches → Tells (held c.labels) text → IsCheckedIn IsHolding w batches text goal os end → end ≢ Some section.NoMemory → IsOrFailed (checked_status end) status
+    run_checked clear sections one alike ends c w batches text goal os end names tells told held_text is some =
+        let refused = check_refused clear c w batches (checked_status end) tells told (λ long. absurd (too_long_not_short (held c.labels) text held_text long)) in
+        by_each (job.Check c) (checked_status end) ends names (checked_alike clear sections one alike c w batches text goal os end some tells told held_text is refused)
 
     -- a file of labels that is too long
-    pub run_labels_long : TextsAreClear → EndsRun named held reads reads' before after faults faults' status → (c : CheckJob) (w : World) → named ≡ Some (job.Check c) → TellsWorld held c.sources w → TellsTooMuch (held c.labels) → IsOrFailed 8 status
-    run_labels_long clear ends c w names tells much =
-        let refused = check_refused clear c w 8 tells (λ long. inl refl) in
-        by_each (job.Check c) 8 ends names refused (λ i comes v says. long_by c i much refused comes)
+    pub run_labels_long : TextsAreClear → EndsRun named held reads reads' before after faults faults' status → (c : CheckJob) (w : World) (batches : List (List change.Write)) → named ≡ Some (job.Check c) → TellsWorld held c.sources w → TellsBatches held c.changes w.map batches → TellsTooMuch (held c.labels) → IsOrFailed 8 status
+    run_labels_long clear ends c w batches names tells told much = by_each (job.Check c) 8 ends names long_by
       where
-        long_by : (c : CheckJob) (i : Intent) → TellsTooMuch (held c.labels) → ((r : Refusal) → IsJobCause held reads reads' (job.Check c) r → IsOrFailed 8 (refusal_status r)) → ComesTo held reads reads' (job.Check c) i → IsOrFailed 8 (intent_status i)
-        long_by c (Refused r) much refused comes = refused r comes
-        long_by c (Planned plan) much refused comes = absurd comes
-        long_by c (Checked goal os end) much refused comes = absurd (too_much_not_read (held c.labels) comes.text much comes.read)
-        long_by c (Listed v) much refused comes = absurd comes
-        long_by c OutOfMemory much refused comes = no_memory 8
+        long_by : (i : Intent) → ComesTo held reads reads' (job.Check c) i → IsOrFailed 8 (intent_status i)
+        long_by (Refused r) comes = check_refused clear c w batches 8 tells told (λ long. inl refl) r comes
+        long_by (Planned records all) comes = absurd comes
+        long_by (Checked goal os end) comes = absurd (too_much_not_read (held c.labels) comes.text much comes.read)
+        long_by (Listed v) comes = absurd comes
+        long_by (Demonstrated v count records all) comes = absurd comes
+        long_by OutOfMemory comes = no_memory 8

@@ -11,8 +11,8 @@ ghost use Rattle.sbpl_cli.specs.Promises.{EndsJob};
 ghost use Rattle.sbpl_job.specs.Jobs.{IsJob};
 ghost use Rattle.sbpl_job.specs.declared.job.Job.TheVariants as Jobs;
 
-use crate::listing::listing_at;
 use crate::lattice::read_lattice;
+use crate::listing::listing_at;
 use crate::refusal::Stop;
 use crate::writing::{OUTPUT, status_after, write_last, write_text};
 use sbpl_cost::Lattice;

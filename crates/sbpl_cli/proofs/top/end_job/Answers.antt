@@ -1,4 +1,3 @@
-use Rattle.std.proofs.Common.{◌∙◌}
 use Rattle.sbpl_cli.proofs.Ends.{memory_ended, refused, plain_stays}
 use Rattle.sbpl_cli.proofs.top.end_job.Goals as goal
 
