@@ -1,9 +1,8 @@
 -- How the making of plans goes on from one to the next.
-use Rattle.std.proofs.Common.{◌≡◌, ◌≢◌, ℕ, ◌+◌, ◌<◌, ◌≤◌, ◌⊎◌, Bool, true, false, List, [], ◌∷◌, ◌++◌, flat_map, length, slice_get, Option, Some, None, Result, Ok, Err, refl, sym, ◌∙◌, ap, subst, append_assoc, append-nil, arith, inl, inr}
+use Rattle.std.proofs.Common.{◌≡◌, ℕ, ◌+◌, Bool, true, false, List, [], ◌∷◌, ◌++◌, flat_map, length, slice_get, Option, Some, None, Result, Ok, Err, refl, sym, ◌∙◌, ap, subst, append_assoc, append-nil, arith, inl, inr}
 use Rattle.sbpl_desk.specs.Desk.{NoneFalls, Stays}
 use Rattle.sbpl_desk.specs.declared.desk.WriteStop.{WriteStop}
-use Rattle.sbpl_desk.specs.declared.desk.WriteStop.TheVariants.{Failed, NoMemory}
-use Rattle.sbpl_cost.specs.Lattices.{network_of}
+use Rattle.sbpl_desk.specs.declared.desk.WriteStop.TheVariants.{NoMemory}
 use Rattle.sbpl_cost.specs.World.{IsWorld, World}
 use Rattle.sbpl_job.specs.declared.job.Outputs.{Outputs}
 use Rattle.sbpl_job.specs.declared.job.SearchJob.{SearchJob}
@@ -14,7 +13,7 @@ use Rattle.sbpl_map.specs.declared.write.Write as change
 use Rattle.sbpl_replan.specs.Replanning.{BeginsWith, IsReadyIn, Replanning, StaysTheSame}
 use Rattle.sbpl_cli.specs.declared.record.PlanRecord.{PlanRecord}
 use Rattle.sbpl_cli.specs.Asked.{repairs}
-use Rattle.sbpl_cli.specs.Headline.{AreRecords, Begins, Behind, IsPlanOf, expanded_before, on_map}
+use Rattle.sbpl_cli.specs.Headline.{Behind, IsPlanOf, on_map}
 use Rattle.sbpl_cli.specs.Intents.{end_writes, last_write, plans_status}
 use Rattle.sbpl_cli.specs.Planning.{EndsPlan, GoesOnFrom, IsSetFor, behind_of}
 use Rattle.sbpl_cli.specs.Promises.{EndsPlans}

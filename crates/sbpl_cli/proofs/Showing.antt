@@ -1,15 +1,12 @@
 -- The section of a plan's labels lies in its ranges, and shows the plan's result.
-use Rattle.std.proofs.Common.{◌≡◌, ◌≢◌, ℕ, zero, suc, ◌+◌, ◌*◌, ◌^◌, ◌<◌, ◌≤◌, List, [], ◌∷◌, length, slice_index, Result, Ok, Err, IfOk, refl, sym, ◌∙◌, ap, subst, arith, ⊎_elim, inl, inr}
-use Rattle.std.proofs.Math.Nat.{mul-le-mul_right}
-use Rattle.std.proofs.lemmas.Bool.{cases_lt}
+use Rattle.std.proofs.Common.{◌≡◌, ℕ, zero, suc, ◌*◌, ◌^◌, ◌<◌, ◌≤◌, List, [], ◌∷◌, length, slice_index, Result, Ok, Err, IfOk, refl, sym, ◌∙◌, ap, subst, arith, ⊎_elim}
 use Rattle.sbpl_fixed.specs.declared.no_memory.NoMemory.{NoMemory}
 use Rattle.sbpl_graph.specs.declared.TheConstants.{FAR}
 use Rattle.sbpl_graph.specs.Bound.{IsBound, IsLow}
-use Rattle.sbpl_graph.specs.Certificate.{AreSupported, ShowNone}
+use Rattle.sbpl_graph.specs.Certificate.{AreSupported}
 use Rattle.sbpl_graph.specs.Laws.{IsSound}
-use Rattle.sbpl_graph.specs.Network.{Network, IsFreeArc}
+use Rattle.sbpl_graph.specs.Network.{Network}
 use Rattle.sbpl_graph.specs.Path.{IsFreePath}
-use Rattle.sbpl_labels.specs.CutOff.{IsCutOff}
 use Rattle.sbpl_labels.specs.Marks.{Marks, states_of, g_of, v_of}
 use Rattle.sbpl_plan.specs.Looking.{IsPathFound}
 use Rattle.sbpl_plan.specs.Outcomes.{IsOutcome}
@@ -18,9 +15,8 @@ use Rattle.sbpl_plan.specs.declared.result.Outcome.TheVariants as result
 use Rattle.sbpl_cert.specs.Made.{IsOfLabels}
 use Rattle.sbpl_cert.specs.Sections as sections
 use Rattle.sbpl_cert.specs.Sections.{AreArcs, HasArcs, Section, g_at, v_at}
-use Rattle.sbpl_cert.specs.Sound.{ShowsAll, ShowsBound, ShowsOutcome}
+use Rattle.sbpl_cert.specs.Sound.{ShowsBound, ShowsOutcome}
 use Rattle.sbpl_cert.specs.declared.outcome.Outcome as told
-use Rattle.sbpl_cert.specs.declared.outcome.Outcome.TheVariants as answer
 use Rattle.sbpl_cert.specs.declared.row.Row.{Row}
 use Rattle.sbpl_cli.specs.Shown.{IsShown, answer_of, arcs_of}
 

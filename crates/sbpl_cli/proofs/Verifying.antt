@@ -1,5 +1,5 @@
 -- How the checking of sections ends, from how its parts end.
-use Rattle.std.proofs.Common.{◌≡◌, ℕ, zero, suc, ◌+◌, ◌≤◌, List, [], ◌∷◌, ◌++◌, length, Some, None, Err, refl, sym, ap, subst, arith, inl, inr}
+use Rattle.std.proofs.Common.{◌≡◌, ℕ, zero, suc, ◌+◌, ◌≤◌, List, [], ◌∷◌, length, Some, None, Err, refl, sym, ap, subst, arith}
 use Rattle.sbpl_graph.specs.Network.{Network}
 use Rattle.sbpl_fixed.specs.Formats.{Left, start_at}
 use Rattle.sbpl_fixed.specs.Tokens.{Piece}
@@ -20,7 +20,7 @@ use Rattle.sbpl_cli.specs.Intents.{checked_status, checked_writes, label_fault_t
 use Rattle.sbpl_cli.specs.Planning.{HoldsAndTells}
 use Rattle.sbpl_cli.specs.Promises.{EndsSections}
 use Rattle.sbpl_cli.specs.Verdicts.{holds_text}
-use Rattle.sbpl_cli.specs.Writing.{AreMade, EndsAs, EndsIn, FaultCounts, IsOutput, StaysBut, Told, Write, status_after, to_output}
+use Rattle.sbpl_cli.specs.Writing.{EndsAs, EndsIn, FaultCounts, IsOutput, StaysBut, Told, status_after, to_output}
 use Rattle.sbpl_cli.proofs.Writings.{ends_as_behind, status_ends}
 
 -- the graph on each map has the states of the environment

@@ -1,5 +1,5 @@
 -- The lines that list what a primitive costs and which cells it sweeps.
-use Rattle.std.specs.Prelude.{ℕ, ℤ, List, [], ◌++◌, length, map, flat_map, slice_get, Option, Some, None, codes, decimal}
+use Rattle.std.specs.Prelude.{ℕ, List, [], ◌++◌, length, map, flat_map, slice_get, Option, Some, codes, decimal}
 use Rattle.std.specs.Fmt.{signed_decimal}
 use Rattle.std.specs.List.{range_with_len}
 use Rattle.sbpl_mprim.specs.declared.prim.Primitive.{Primitive}

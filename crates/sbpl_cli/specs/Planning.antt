@@ -1,5 +1,5 @@
 -- How plans go on from one to the next while they are made and told, or checked.
-use Rattle.std.specs.Prelude.{◌≡◌, ℕ, ◌⊎◌, List, [], ◌∷◌, Option, Some, None, Result, Ok, Err}
+use Rattle.std.specs.Prelude.{◌≡◌, ℕ, ◌⊎◌, List, [], ◌∷◌, Option, Result, Ok, Err}
 use Rattle.sbpl_desk.specs.Desk.{Stays}
 use Rattle.sbpl_desk.specs.declared.desk.WriteStop.{WriteStop}
 use Rattle.sbpl_desk.specs.declared.desk.WriteStop.TheVariants.{NoMemory}

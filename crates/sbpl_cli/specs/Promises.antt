@@ -1,11 +1,11 @@
 -- What the program promises of its status and of what it writes.
-use Rattle.std.specs.Prelude.{◌≡◌, ℕ, zero, suc, ◌+◌, ◌^◌, ◌<◌, ◌≤◌, ◌⊎◌, Bool, true, List, [], ◌∷◌, ◌++◌, flat_map, length, Option, Some, None}
+use Rattle.std.specs.Prelude.{◌≡◌, ℕ, suc, ◌+◌, ◌^◌, ◌<◌, ◌≤◌, ◌⊎◌, Bool, true, List, [], ◌++◌, flat_map, length, Option, Some, None}
 use Rattle.sbpl_cfg.specs.declared.fault.EnvFault.{EnvFault}
 use Rattle.sbpl_cfg.specs.Environment.{Environment}
 use Rattle.sbpl_mprim.specs.declared.fault.PrimFault.{PrimFault}
 use Rattle.sbpl_mprim.specs.Primitives.{Primitives}
 use Rattle.sbpl_fixed.specs.Formats.{Left, start_at}
-use Rattle.sbpl_cost.specs.Lattices.{LatticeHasItsArcs, network_of}
+use Rattle.sbpl_cost.specs.Lattices.{LatticeHasItsArcs}
 use Rattle.sbpl_map.specs.CellMap.{CellMap}
 use Rattle.sbpl_map.specs.declared.fault.ChangeFault.{ChangeFault}
 use Rattle.sbpl_map.specs.declared.write.Write as change

@@ -194,7 +194,5 @@ pub(crate) fn make_record(
         outputs.labels.is_some(),
     )?;
     let expanded = replanner.expanded();
-    record_of(
-        alloc, lattice, start, goal, plan, planned, expanded, labels,
-    )
+    record_of(alloc, lattice, start, goal, plan, planned, expanded, labels)
 }

@@ -73,9 +73,7 @@ fn make_plan<D: Desk, T: Telling>(
     ensures writes { NoneFalls (D.write_faults desk.old) (D.write_faults desk.new) }
 {
     lattice_has_its_arcs();
-    match make_record(
-        alloc, lattice, replanner, how, outputs, start, goal, plan,
-    ) {
+    match make_record(alloc, lattice, replanner, how, outputs, start, goal, plan) {
         Ok(record) => telling.tell(alloc, &record, desk),
         Err(NoMemory) => Err(WriteStop::NoMemory),
     }

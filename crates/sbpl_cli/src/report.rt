@@ -207,12 +207,7 @@ pub(crate) fn line_of(alloc: Global, plan: &PlanRecord) -> Result<Vec<u8>, NoMem
 
 /// Appends the first line of a demonstration.
 #[tactic(auto, unfolding(crate::specs::Report::demo_text))]
-fn push_demo(
-    out: &mut Vec<u8>,
-    states: u64,
-    primitives: u64,
-    batches: u64,
-) -> Result<(), NoMemory>
+fn push_demo(out: &mut Vec<u8>, states: u64, primitives: u64, batches: u64) -> Result<(), NoMemory>
     ensures appended { OnOk result (out.new.items ≡ out.old.items ++ demo_text states primitives batches) }
 {
     push_field(out, b"demo states ", states)?;

@@ -28,12 +28,7 @@ pub(crate) trait Telling {
     ghost output: { (t : Self) (name : List ℕ) → IsOutput name → under t name };
 
     /// Writes what is told of a plan.
-    fn tell<D: Desk>(
-        &self,
-        alloc: Global,
-        plan: &PlanRecord,
-        desk: &mut D,
-    ) -> Result<(), WriteStop>
+    fn tell<D: Desk>(&self, alloc: Global, plan: &PlanRecord, desk: &mut D) -> Result<(), WriteStop>
         ensures ends { EndsIn (D.written desk.old) (D.written desk.new) (D.write_faults desk.old) (D.write_faults desk.new) (written self.now plan.now) result }
         ensures held { Stays (D.held desk.old) (D.held desk.new) }
         ensures others { StaysBut (under self.now) (D.written desk.old) (D.written desk.new) }

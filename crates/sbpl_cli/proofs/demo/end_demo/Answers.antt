@@ -1,4 +1,4 @@
-use Rattle.std.proofs.Common.{◌≡◌, [], ◌∷◌, None, Err, length, refl, subst, false, arith}
+use Rattle.std.proofs.Common.{[], ◌∷◌, None, Err, length, refl, subst, false, arith}
 use Rattle.sbpl_job.specs.declared.job.Job.TheVariants as job
 use Rattle.sbpl_cli.specs.Intents.{Demonstrated, lines_writes}
 use Rattle.sbpl_cli.specs.Causes.{no_outputs}
@@ -11,38 +11,44 @@ use Rattle.sbpl_cli.proofs.demo.end_demo.Goals as goal
 
 pub returns-in-Err-clause-ends : goal.returns-in-Err-clause-ends
 returns-in-Err-clause-ends g c =
-    ended _ _ _ _ _ _ (g.D.Desk.write_faults c.args.desk.now) (g.D.Desk.write_faults c.args.desk.now) _ (job.Demo c.args.job.now) (Demonstrated c.in-Ok.lattice (length c.in-Ok.changes) [] false) _
-    (c.in-Ok.changes, refl, record {
-      drawn = c.in-Ok.ensures.drawn;
-      changes = c.in-Ok.ensures.changes;
-      plans = record {
-        start = c.ends_of-start.result.0;
-        goal = c.ends_of-start.result.1;
-        start_is = c.ends_of-start.ensures.start;
-        goal_is = c.ends_of-start.ensures.goal;
-        each = tt;
-        all_made = λ is. absurd (cc);
-      };
-    })
+    ended _ _ _ _ _ _ (g.D.Desk.write_faults c.args.desk.now) (g.D.Desk.write_faults c.args.desk.now) _ (job.Demo c.args.job.now) (Demonstrated c.in-Ok.lattice (length c.in-Ok.changes) [] false) _ (
+      c.in-Ok.changes,
+      refl,
+      record {
+        drawn = c.in-Ok.ensures.drawn;
+        changes = c.in-Ok.ensures.changes;
+        plans = record {
+          start = c.ends_of-start.result.0;
+          goal = c.ends_of-start.result.1;
+          start_is = c.ends_of-start.ensures.start;
+          goal_is = c.ends_of-start.ensures.goal;
+          each = tt;
+          all_made = λ is. absurd (cc);
+        };
+      },
+    )
     (λ name. refl) (λ name. omega arith)
     (status_ends _ _ _ _ _ 9 _ (Err c.in-Err.stop) c.in-Err.ensures.ends c.status_after.ensures.status)
 
 pub returns-clause-ends : goal.returns-clause-ends
 returns-clause-ends g c =
     let e = c.make_plans.ensures.ends in
-    ended _ _ _ _ _ _ (g.D.Desk.write_faults c.args.desk.now) (g.D.Desk.write_faults c.args.desk.now) _ (job.Demo c.args.job.now) (Demonstrated c.in-Ok.lattice (length c.in-Ok.changes) e.records e.all) _
-    (c.in-Ok.changes, refl, record {
-      drawn = c.in-Ok.ensures.drawn;
-      changes = c.in-Ok.ensures.changes;
-      plans = record {
-        start = c.ends_of-start.result.0;
-        goal = c.ends_of-start.result.1;
-        start_is = c.ends_of-start.ensures.start;
-        goal_is = c.ends_of-start.ensures.goal;
-        each = subst (λ (how : SearchJob). AreRecords c.in-Ok.lattice c.in-Ok.changes how no_outputs c.ends_of-start.result.0 c.ends_of-start.result.1 0 None e.records) c.demo_search.ensures.search e.each;
-        all_made = λ is. let count = e.all_made is in omega arith;
-      };
-    })
+    ended _ _ _ _ _ _ (g.D.Desk.write_faults c.args.desk.now) (g.D.Desk.write_faults c.args.desk.now) _ (job.Demo c.args.job.now) (Demonstrated c.in-Ok.lattice (length c.in-Ok.changes) e.records e.all) _ (
+      c.in-Ok.changes,
+      refl,
+      record {
+        drawn = c.in-Ok.ensures.drawn;
+        changes = c.in-Ok.ensures.changes;
+        plans = record {
+          start = c.ends_of-start.result.0;
+          goal = c.ends_of-start.result.1;
+          start_is = c.ends_of-start.ensures.start;
+          goal_is = c.ends_of-start.ensures.goal;
+          each = subst (λ (how : SearchJob). AreRecords c.in-Ok.lattice c.in-Ok.changes how no_outputs c.ends_of-start.result.0 c.ends_of-start.result.1 0 None e.records) c.demo_search.ensures.search e.each;
+          all_made = λ is. let count = e.all_made is in omega arith;
+        };
+      },
+    )
     (λ name. refl) (λ name. omega arith)
     (ends_as_behind _ _ _ _ _ _ (_ ∷ []) (lines_writes e.records e.all) _ _ c.in_default-write_first.ensures.ends c.write_first.ensures.writes e.ends)
 

@@ -1,4 +1,4 @@
-use Rattle.std.proofs.Common.{◌≡◌, ℕ, List, ap, rules}
+use Rattle.std.proofs.Common.{ℕ, List, ap, rules}
 use Rattle.sbpl_cfg.specs.Environment.{Environment}
 use Rattle.sbpl_demo.specs.Environment.{costs, environment}
 use Rattle.sbpl_cli.proofs.Drawings.{same_ok}

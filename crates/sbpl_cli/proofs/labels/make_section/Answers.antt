@@ -1,4 +1,4 @@
-use Rattle.std.proofs.Common.{◌≡◌, ℕ, List, Result, Ok, Err, IfOk, sym, ◌∙◌, subst}
+use Rattle.std.proofs.Common.{◌≡◌, ℕ, Result, Ok, Err, IfOk, sym}
 use Rattle.sbpl_fixed.specs.declared.no_memory.NoMemory.{NoMemory}
 use Rattle.sbpl_graph.specs.Certificate.{AreSupported}
 use Rattle.sbpl_graph.specs.Laws.{IsSound}
@@ -6,11 +6,8 @@ use Rattle.sbpl_graph.specs.Network.{Network}
 use Rattle.sbpl_cost.specs.Lattices.{network_of}
 use Rattle.sbpl_heur.specs.Bests.{IsGuide, Table, distance_in}
 use Rattle.sbpl_labels.specs.Marks.{Marks, g_of, states_of, v_of}
-use Rattle.sbpl_cert.specs.Sections as sections
-use Rattle.sbpl_cert.specs.Sections.{HasArcs, Section}
+use Rattle.sbpl_cert.specs.Sections.{Section}
 use Rattle.sbpl_cert.specs.Sound.{ShowsBound}
-use Rattle.sbpl_cert.specs.declared.outcome.Outcome as told
-use Rattle.sbpl_cli.specs.Shown.{answer_of, arcs_of}
 use Rattle.sbpl_cli.proofs.Showing.{answer_fits, arcs_fit, is_shown}
 use Rattle.sbpl_cli.proofs.labels.make_section.Goals as goal
 

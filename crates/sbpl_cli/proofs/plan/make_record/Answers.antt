@@ -1,4 +1,4 @@
-use Rattle.std.proofs.Common.{◌≡◌, ℕ, ◌+◌, ◌*◌, ◌^◌, ◌≤◌, length, Bool, true, false, MatchBool, Option, None, Some, Result, Ok, Err, IfOk, refl, sym, ◌∙◌, ap, subst, ⊎_elim, inl, inr, ◌⊎◌}
+use Rattle.std.proofs.Common.{◌≡◌, ℕ, ◌+◌, ◌*◌, ◌^◌, ◌≤◌, length, Bool, true, false, MatchBool, Option, None, Some, Result, Ok, Err, IfOk, refl, sym, ◌∙◌, ap, subst, inl, inr, ◌⊎◌}
 use Rattle.std.specs.Option.{is_some}
 use Rattle.sbpl_cert.specs.Sections.{Section}
 use Rattle.sbpl_fixed.specs.declared.no_memory.NoMemory.{NoMemory}
@@ -10,17 +10,15 @@ use Rattle.sbpl_job.specs.declared.job.SearchJob.{SearchJob}
 use Rattle.sbpl_labels.specs.Counts.{Counts}
 use Rattle.sbpl_labels.specs.Marks.{Marks}
 use Rattle.sbpl_plan.specs.declared.ask.Ask.{Ask}
-use Rattle.sbpl_plan.specs.declared.passes.Pass.{Pass}
 use Rattle.sbpl_plan.specs.declared.result.Planned.{Planned}
 use Rattle.sbpl_plan.specs.Outcomes as search
 use Rattle.sbpl_plan.specs.Outcomes.{IsOutcome}
 use Rattle.sbpl_plan.specs.Asked.{most_passes}
 use Rattle.sbpl_plan.specs.Passing.{ArePasses, expansions}
-use Rattle.sbpl_replan.specs.Replanning.{Replanning, inquiry, most_times}
+use Rattle.sbpl_replan.specs.Replanning.{inquiry, most_times}
 use Rattle.sbpl_cli.specs.declared.record.PlanRecord.{PlanRecord}
 use Rattle.sbpl_cli.specs.Asked.{ask_of, repairs}
 use Rattle.sbpl_cli.specs.Headline.{Begins, Behind, IsAnswered, IsMarked, IsNoneThere, IsSearched, IsWithinBound, Joins, KeepsPromises, TellsResult, expanded_before}
-use Rattle.sbpl_cli.specs.Planning.{behind_of}
 use Rattle.sbpl_cli.specs.Shown.{IsShown, IsThere}
 use Rattle.sbpl_cli.proofs.plan.make_record.Goals as goal
 
@@ -79,7 +77,7 @@ returns-clause-searched c = λ before begins counted.
     let set = c.requires.set in
     let guide : c.guide.result.now ≡ c.args.replanner.now.guide = c.guide.ensures.value ∙ c.plan.ensures.guide in
     let run : c.plan.new.self.counts.run ≡ expanded_before before + expansions c.in_ok-planned.planned.passes =
-        ap (λ (k : Counts). k.run) c.in_ok-planned.ensures.counted ∙ ap (λ (n : ℕ). n + expansions c.in_ok-planned.planned.passes) (sym counted) in
+    ap (λ (k : Counts). k.run) c.in_ok-planned.ensures.counted ∙ ap (λ (n : ℕ). n + expansions c.in_ok-planned.planned.passes) (sym counted) in
     let used = c.expanded-expanded.ensures.value ∙ ap (λ (k : Counts). k.plan) c.in_ok-planned.ensures.counted in
     searched_by c.args.lattice.now c.args.replanner.now.guide c.args.start c.args.goal c.args.how.now c.args.outputs.now before c.args.replanner.now.search.labels c.plan.new.self.search.labels
     c.args.replanner.now.counts.per_plan c.plan.new.self.counts.run c.expanded-expanded.result c.in_ok-planned.planned c.in_ok-labels.labels c.ask_of-ask.result c.is_some.result c.args.plan c.record_of.result

@@ -1,5 +1,4 @@
-use Rattle.std.proofs.Common.{◌≡◌, ◌+◌, refl, sym, ◌∙◌, arith}
-use Rattle.sbpl_cli.specs.Planning.{GoesOnFrom}
+use Rattle.std.proofs.Common.{refl, arith}
 use Rattle.sbpl_cli.proofs.Going.{at_last, changes, none_falls_on, sets_out, stays_but_on, stays_on, stops, tells_last, tells_no_more}
 use Rattle.sbpl_cli.proofs.OnMaps.{batch_on_map}
 use Rattle.sbpl_cli.proofs.Writings.{status_ends}
