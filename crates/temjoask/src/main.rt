@@ -1,61 +1,9 @@
 //! Temjoask: plans on SBPL's state lattice, with a proved bound on the cost of the path.
 #![tactic(auto)]
 
-use sbpl_cli::run;
-use sbpl_desk::RealDesk;
-use sbpl_job::{Asked, read_asked, told, usage};
+use sbpl_main::start;
 use std::process::ExitCode;
-use std::{env, io};
-
-/// The status for words that name no job.
-const NO_JOB: u8 = 2;
-
-/// The status for a write that failed.
-const NOT_WRITTEN: u8 = 7;
-
-/// The status for want of memory.
-const NO_MEMORY: u8 = 9;
-
-/// The words after the program's name.
-fn words_of(rt: &HostRuntime) -> io::Result<Vec<String>> {
-    let mut words = Vec::new(rt.alloc());
-    for word in env::args(rt)?.skip(1) {
-        words.push(word)?;
-    }
-    Ok(words)
-}
-
-/// Prints the text that is asked for, and answers the status.
-fn tell(rt: &HostRuntime, asked: Asked) -> u8 {
-    let Ok(text) = told(rt.alloc(), asked) else {
-        return NO_MEMORY;
-    };
-    match rt.print(text.as_str()) {
-        Ok(()) => 0,
-        Err(_) => NOT_WRITTEN,
-    }
-}
-
-/// Does the job of the words, and answers the status. Words that name no job are told how the program is called.
-fn work(rt: HostRuntime, words: &[String]) -> u8 {
-    let mut desk = RealDesk::new(rt);
-    let status = run(rt.alloc(), words, &mut desk);
-    if status == NO_JOB {
-        // The status says it all where even this cannot be written.
-        let _ = rt.eprint(usage());
-    }
-    status
-}
 
 fn main(rt: HostRuntime) -> ExitCode {
-    let status = match words_of(&rt) {
-        Ok(words) => match read_asked(words.as_slice()) {
-            Some(asked) => tell(&rt, asked),
-            None => work(rt, words.as_slice()),
-        },
-        Err(error) if error.kind() == io::ErrorKind::OutOfMemory => NO_MEMORY,
-        // A word that isn't text names no job, like no word at all.
-        Err(_) => work(rt, &[]),
-    };
-    ExitCode::from(status)
+    ExitCode::from(start(rt))
 }

@@ -1,0 +1,9 @@
+//! A run of the program that asks for its version. It is here to be tested.
+#![tactic(auto)]
+
+use sbpl_main::start;
+use std::process::ExitCode;
+
+fn main(rt: HostRuntime) -> ExitCode {
+    ExitCode::from(start(rt))
+}
