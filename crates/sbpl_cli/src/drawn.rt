@@ -26,13 +26,6 @@ use sbpl_mprim::{PrimFault, Prims, read_prims};
 use sbpl_sweep::{SweepFault, Sweeps};
 use std::alloc::Global;
 
-/// Stands where a text that is drawn would have a fault, which it never has.
-fn never() -> NoMemory
-    requires never { ⊥ }
-{
-    NoMemory
-}
-
 /// The environment and the costs that are drawn.
 fn env_of(alloc: Global, text: &[u8], job: &DemoJob) -> Result<(Env, Grid), NoMemory>
     requires said { IsEnvironmentText text.now (environment job.now.width job.now.height) (costs job.now.width job.now.height job.now.seed) }
@@ -42,7 +35,8 @@ fn env_of(alloc: Global, text: &[u8], job: &DemoJob) -> Result<(Env, Grid), NoMe
     match read_env(alloc, text) {
         Ok(drawn) => Ok(drawn),
         Err(EnvFault::NoMemory) => Err(NoMemory),
-        Err(_) => Err(never()),
+        // What is drawn has no fault.
+        Err(_) => unreachable!(),
     }
 }
 
@@ -54,7 +48,8 @@ fn prims_of(alloc: Global, text: &[u8]) -> Result<Prims, NoMemory>
     match read_prims(alloc, text, 25_000_000, 16) {
         Ok(prims) => Ok(prims),
         Err(PrimFault::NoMemory) => Err(NoMemory),
-        Err(_) => Err(never()),
+        // What is drawn has no fault.
+        Err(_) => unreachable!(),
     }
 }
 
@@ -68,7 +63,8 @@ fn changes_of(alloc: Global, text: &[u8], map: &Map, job: &DemoJob) -> Result<Ch
     match read_changes(alloc, text, map) {
         Ok(changes) => Ok(changes),
         Err(ChangeFault::NoMemory) => Err(NoMemory),
-        Err(_) => Err(never()),
+        // What is drawn has no fault.
+        Err(_) => unreachable!(),
     }
 }
 
@@ -81,7 +77,8 @@ fn sweeps_of(alloc: Global, prims: &Prims) -> Result<Sweeps, NoMemory>
     match Sweeps::new(alloc, prims, 0, 25_000_000) {
         Ok(sweeps) => Ok(sweeps),
         Err(SweepFault::NoMemory) => Err(NoMemory),
-        Err(_) => Err(never()),
+        // What is drawn has no fault.
+        Err(_) => unreachable!(),
     }
 }
 
@@ -106,7 +103,8 @@ fn lattice_of(
     match Lattice::new(alloc, env, prims, sweeps, map) {
         Ok(lattice) => Ok(lattice),
         Err(LatticeFault::NoMemory) => Err(NoMemory),
-        Err(_) => Err(never()),
+        // What is drawn has no fault.
+        Err(_) => unreachable!(),
     }
 }
 

@@ -4,8 +4,8 @@ use Rattle.sbpl_demo.specs.Environment.{costs, environment}
 use Rattle.sbpl_cli.proofs.Drawings.{same_ok}
 use Rattle.sbpl_cli.proofs.drawn.env_of.Goals as goal
 
-pub never-requires : goal.never-requires
-never-requires c =
+pub unreachable-requires : goal.unreachable-requires
+unreachable-requires c =
     let x : Environment × List ℕ = (environment c.args.job.now.width c.args.job.now.height, costs c.args.job.now.width c.args.job.now.height c.args.job.now.seed) in
     let told = c.in-Err.ensures.only x c.requires.said in
     search rules

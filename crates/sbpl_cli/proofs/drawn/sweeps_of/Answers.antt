@@ -3,7 +3,7 @@ use Rattle.sbpl_demo.specs.Primitives.{primitives}
 use Rattle.sbpl_cli.proofs.Drawings.{only_memory}
 use Rattle.sbpl_cli.proofs.drawn.sweeps_of.Goals as goal
 
-pub never-requires : goal.never-requires
-never-requires c =
+pub unreachable-requires : goal.unreachable-requires
+unreachable-requires c =
     let is = only_memory c.args.prims.now primitives c.in-Err.field-0 c.requires.narrow c.requires.prims c.in-Err.ensures.cause in
     search rules
