@@ -1,6 +1,6 @@
 //! Plans one after another.
 
-ghost use Rattle.std.specs.Prelude.{◌≡◌, ◌+◌, ◌*◌, ◌^◌, ◌≤◌, ◌<◌, ◌⊎◌, IfOk, OnOk, length, true, false};
+ghost use Rattle.std.specs.Prelude.{◌≡◌, ◌+◌, ◌*◌, ◌^◌, ◌≤◌, ◌<◌, ◌⊎◌, IfOk, OnErr, OnOk, length, true, false};
 ghost use Rattle.sbpl_graph.specs.Certificate.{AreSupported};
 ghost use Rattle.sbpl_labels.specs.Marks.{AreLabels, IsOpened, states_of, g_of, v_of};
 ghost use Rattle.sbpl_plan.specs.Asked.{IsAsk, most_passes};
@@ -141,7 +141,7 @@ impl Replanner {
     }
 
     /// Writes a batch to the map of the lattice, and makes the heuristic and the labels ready for a plan on it. All cells of
-    /// the batch are on the map. After `NoMemory` the map can be the old or the new one, and nothing is said of the labels.
+    /// the batch are on the map. After `NoMemory` the map is the old or the new one, and nothing is said of the labels.
     pub fn change(
         &mut self,
         alloc: Global,
@@ -151,6 +151,7 @@ impl Replanner {
         requires ready { IsReadyIn lattice.old self.old }
         requires on_map { AreOnMap lattice.old.map batch.now }
         ensures written { OnOk result (AreWritten lattice.old.map batch.now lattice.new.map) }
+        ensures refused { OnErr result ((lattice.new.map ≡ lattice.old.map) ⊎ AreWritten lattice.old.map batch.now lattice.new.map) }
         ensures others { lattice.new ≡ record lattice.old { map = lattice.new.map } }
         ensures kept { IsWorld lattice.new }
         // Each v stays, where labels are repaired, and each g is exact on the new map; else the labels are opened anew.

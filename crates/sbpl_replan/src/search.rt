@@ -1,6 +1,6 @@
 //! The search of a plan: by ARA*, which begins anew after a change, or by Anytime D*, which repairs its labels.
 
-ghost use Rattle.std.specs.Prelude.{◌≡◌, ◌+◌, ◌*◌, ◌^◌, ◌≤◌, ◌<◌, ℕ, IfOk, OnOk, length, true, false};
+ghost use Rattle.std.specs.Prelude.{◌≡◌, ◌+◌, ◌*◌, ◌^◌, ◌≤◌, ◌<◌, ◌⊎◌, ℕ, IfOk, OnErr, OnOk, length, true, false};
 ghost use Rattle.sbpl_graph.specs.Certificate.{AreSupported};
 ghost use Rattle.sbpl_labels.specs.Counts.{AreCounts, IsSpent};
 ghost use Rattle.sbpl_labels.specs.Marks.{AreLabels, IsOpened, states_of, g_of, v_of};
@@ -99,6 +99,7 @@ impl Search {
         requires begin { MayBegin (repairs_of self.old) (network_of lattice.old) (state_of self.old).labels (2 ^ 30) }
         requires fresh { IsStartFresh (state_of self.old).labels }
         ensures written { OnOk result (AreWritten lattice.old.map batch.now lattice.new.map) }
+        ensures refused { OnErr result ((lattice.new.map ≡ lattice.old.map) ⊎ AreWritten lattice.old.map batch.now lattice.new.map) }
         ensures others { lattice.new ≡ record lattice.old { map = lattice.new.map } }
         ensures kept { IsWorld lattice.new }
         ensures begun { OnOk result (BeginsWith (repairs_of self.old) lattice.old lattice.new (state_of self.old).labels (state_of self.new).labels) }
@@ -130,6 +131,7 @@ fn repair(
     requires on_map { AreOnMap lattice.old.map batch.now }
     requires begin { AreUsable (network_of lattice.old) search.old.labels (2 ^ 30) }
     ensures written { OnOk result (AreWritten lattice.old.map batch.now lattice.new.map) }
+    ensures refused { OnErr result ((lattice.new.map ≡ lattice.old.map) ⊎ AreWritten lattice.old.map batch.now lattice.new.map) }
     ensures others { lattice.new ≡ record lattice.old { map = lattice.new.map } }
     ensures kept { IsWorld lattice.new }
     ensures begun { OnOk result (AreRepairedFor lattice.old lattice.new search.old.labels search.new.labels) }
