@@ -117,10 +117,12 @@ impl Replanner {
         // The result is true, and known where the plan was not spent.
         ensures so { IfOk result (λ r. IsTrueOutcome (network_of lattice.now) self.old.search.labels.start self.old.goal r.outcome) }
         ensures answered { IfOk result (λ r. r.spent ≡ false → IsAnswered ask.now.bound r.outcome) }
-        // Each expansion is counted. A plan is spent only where its budget or the run's is, and not where it may expand all
+        // Each expansion is counted, and none is made beyond the budget or the run's 2^30. A plan is spent only where its budget or the run's is, and not where it may expand all
         // states in each pass, three times where labels are repaired.
         ensures counted { IfOk result (λ r. self.new.counts ≡ record self.old.counts { plan = expansions r.passes; run = self.old.counts.run + expansions r.passes }) }
         ensures spent { IfOk result (λ r. r.spent ≡ true → (expansions r.passes ≡ self.old.counts.per_plan) ⊎ (self.new.counts.run ≡ 2 ^ 30)) }
+        ensures within { IfOk result (λ r. expansions r.passes ≤ self.old.counts.per_plan) }
+        ensures run { IfOk result (λ _. self.new.counts.run ≤ 2 ^ 30) }
         ensures few { IfOk result (λ r. length r.passes ≤ most_passes ask.now.step ask.now.first) }
         ensures enough { IfOk result (λ r. r.spent ≡ true → most_passes ask.now.step ask.now.first * (most_times self.old.repairs * (network_of lattice.now).states) ≤ self.old.counts.per_plan → self.new.counts.run ≡ 2 ^ 30) }
         // The labels support what they show, and the map may change.

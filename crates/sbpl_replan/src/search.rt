@@ -71,6 +71,7 @@ impl Search {
         ensures answered { IfOk result (λ r. r.spent ≡ false → IsAnswered ask.now.bound r.outcome) }
         ensures counted { IfOk result (λ r. budget.new ≡ record budget.old { plan = budget.old.plan + expansions r.passes; run = budget.old.run + expansions r.passes }) }
         ensures spent { IfOk result (λ r. r.spent ≡ true → IsSpent budget.new) }
+        ensures within { IfOk result (λ _. AreCounts budget.new) }
         ensures few { IfOk result (λ r. length r.passes ≤ most_passes ask.now.step ask.now.first) }
         ensures enough { IfOk result (λ r. r.spent ≡ true → budget.old.plan + most_passes ask.now.step ask.now.first * (most_times (repairs_of self.old) * states_of (state_of self.old).labels) ≤ budget.old.per_plan → budget.new.run ≡ 2 ^ 30) }
         ensures begin { IfOk result (λ _. MayBegin (repairs_of self.old) (network_of lattice.now) (state_of self.new).labels budget.new.run) }
