@@ -1,4 +1,4 @@
-//! The search.
+//! The search of Anytime D*: labels that are repaired where arcs change, and passes that lower and raise.
 
 ghost use Rattle.std.specs.Prelude.{◌≡◌, ◌≢◌, ℕ, ◌+◌, ◌-◌, ◌*◌, ◌^◌, ◌<◌, ◌≤◌, ◌↔◌, [], Some, length, Bool, true, false, IsTrue};
 ghost use Rattle.std.specs.List.{All, Contains};

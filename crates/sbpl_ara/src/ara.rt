@@ -1,4 +1,4 @@
-//! The search.
+//! The search of ARA*: labels, open states and the passes on them.
 
 ghost use Rattle.std.specs.Prelude.{◌≡◌, ◌≢◌, ℕ, ◌+◌, ◌-◌, ◌*◌, ◌^◌, ◌<◌, ◌≤◌, ◌↔◌, [], ◌∷◌, ◌++◌, length, IfOk, IfSome, IsTrue, false};
 ghost use Rattle.std.specs.List.{All, AllPairs};
