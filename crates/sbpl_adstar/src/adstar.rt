@@ -1,7 +1,8 @@
-//! The search.
+//! The search of Anytime D*: labels that are repaired where arcs change, and passes that lower and raise.
 
 ghost use Rattle.std.specs.Prelude.{◌≡◌, ◌≢◌, ℕ, ◌+◌, ◌-◌, ◌*◌, ◌^◌, ◌<◌, ◌≤◌, ◌↔◌, [], Some, length, Bool, true, false, IsTrue};
 ghost use Rattle.std.specs.List.{All, Contains};
+ghost use Rattle.sbpl_graph.specs.Bound.{IsLow};
 ghost use Rattle.sbpl_graph.specs.Certificate.{AreSupported, ShowBound, ShowNone};
 ghost use Rattle.sbpl_graph.specs.declared.TheConstants.{FAR};
 ghost use Rattle.sbpl_graph.specs.Exact.{AreExact};
@@ -20,7 +21,7 @@ ghost use Rattle.sbpl_adstar.specs.Times.{times};
 use crate::note::{note_taken, note_touched};
 use crate::raise::raise;
 use crate::repair::recompute_all;
-use sbpl_ara::{Ara, Closed, Parts, Step, Steps, expand, gather, refill};
+use sbpl_ara::{Ara, Closed, Parts, Step, Steps, expand, gather, low_among, refill};
 use sbpl_graph::{Graph, Guide};
 use sbpl_labels::{Budget, Labels, PassEnd};
 use sbpl_open::{Key, Open};
@@ -189,6 +190,22 @@ impl AdStar {
     {
         let _start = self.labels.start();
         &self.labels
+    }
+
+    /// The low of the labels: the least of g of the goal and of g + h over all states whose g and v differ, with h by this
+    /// guide. It looks only where such states may be: in the queue and among the expansions of the last pass.
+    pub fn low<H: Guide>(&self, guide: &H) -> u64
+        requires known { (s : ℕ) → s < states_of self.now.labels → H.knows guide.now s }
+        ensures least { IsLow (states_of self.now.labels) self.now.goal (g_of self.now.labels)
+            (v_of self.now.labels) (H.distance guide.now) result }
+    {
+        low_among(
+            &self.queue,
+            self.steps.as_slice(),
+            &self.labels,
+            guide,
+            self.goal,
+        )
     }
 
     /// The expansions of the last pass in order.

@@ -3,6 +3,7 @@ pub mod Closing
 pub mod Opening
 pub mod Queueing
 pub mod Gathering
+pub mod Lowering
 pub mod Resting
 pub mod Changing
 pub mod Relaxing

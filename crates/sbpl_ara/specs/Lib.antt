@@ -3,5 +3,6 @@ pub mod Order
 pub mod Run
 pub mod Relaxed
 pub mod Queue
+pub mod Low
 pub mod Search
 pub mod Sample

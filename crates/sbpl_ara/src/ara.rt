@@ -1,9 +1,10 @@
-//! The search.
+//! The search of ARA*: labels, open states and the passes on them.
 
 ghost use Rattle.std.specs.Prelude.{◌≡◌, ◌≢◌, ℕ, ◌+◌, ◌-◌, ◌*◌, ◌^◌, ◌<◌, ◌≤◌, ◌↔◌, [], ◌∷◌, ◌++◌, length, IfOk, IfSome, IsTrue, false};
 ghost use Rattle.std.specs.List.{All, AllPairs};
 ghost use Rattle.sbpl_graph.specs.Network.{Network};
 ghost use Rattle.sbpl_graph.specs.Certificate.{AreSupported, ShowBound, ShowNone};
+ghost use Rattle.sbpl_graph.specs.Bound.{IsLow};
 ghost use Rattle.sbpl_graph.specs.declared.TheConstants.{FAR};
 ghost use Rattle.sbpl_graph.specs.Kept.{NoneUnder};
 ghost use Rattle.sbpl_labels.specs.Counts.{IsSpent};
@@ -15,7 +16,7 @@ ghost use Rattle.sbpl_ara.specs.Order.{goal_key};
 ghost use Rattle.sbpl_ara.specs.Run.{query, none_closed, closed_after, IsOpen, IsNext, IsAtRest, LowersHeads, IsRun};
 ghost use Rattle.sbpl_ara.specs.Search.{AreReady, AreWaiting};
 
-use crate::{Closed, Parts, Step, Steps, expand, gather, refill};
+use crate::{Closed, Parts, Step, Steps, expand, gather, low_among, refill};
 use sbpl_fixed::NoMemory;
 use sbpl_graph::{Graph, Guide};
 use sbpl_labels::{Budget, Labels, PassEnd};
@@ -168,6 +169,22 @@ impl Ara {
     {
         let _start = self.labels.start();
         &self.labels
+    }
+
+    /// The low of the labels: the least of g of the goal and of g + h over all states whose g and v differ, with h by this
+    /// guide. It looks only where such states may be: in the queue and among the expansions of the last pass.
+    pub fn low<H: Guide>(&self, guide: &H) -> u64
+        requires known { (s : ℕ) → s < states_of self.now.labels → H.knows guide.now s }
+        ensures least { IsLow (states_of self.now.labels) self.now.goal (g_of self.now.labels)
+            (v_of self.now.labels) (H.distance guide.now) result }
+    {
+        low_among(
+            &self.queue,
+            self.steps.as_slice(),
+            &self.labels,
+            guide,
+            self.goal,
+        )
     }
 
     /// The expansions of the last pass in order, or none before the first one and after a reset.

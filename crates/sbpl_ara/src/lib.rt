@@ -4,6 +4,7 @@
 mod ara;
 mod closed;
 mod expansion;
+mod low;
 mod parts;
 mod queue;
 mod step;
@@ -12,6 +13,7 @@ mod steps;
 pub use ara::Ara;
 pub use closed::Closed;
 pub use expansion::expand;
+pub use low::low_among;
 pub use parts::Parts;
 pub use queue::{gather, place, refill};
 pub use step::Step;

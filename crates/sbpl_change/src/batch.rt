@@ -1,6 +1,6 @@
 //! A batch of changes is written to the map of a lattice.
 
-ghost use Rattle.std.specs.Prelude.{◌≡◌, ◌↔◌, pos, IsTrue, OnOk};
+ghost use Rattle.std.specs.Prelude.{◌≡◌, ◌↔◌, ◌⊎◌, pos, IsTrue, OnOk, OnErr};
 ghost use Rattle.sbpl_map.specs.CellMap.{IsOnMap, ChangesCell};
 ghost use Rattle.sbpl_map.specs.MapAfter.{AreWritten};
 ghost use Rattle.sbpl_cost.specs.World.{IsWorld};
@@ -50,9 +50,8 @@ pub fn write_batch(lattice: &mut Lattice, batch: &[Write])
 
 /// Writes a batch to the map of a lattice, in turn, and puts into `touched` the states that a repair has to recompute: the
 /// heads of all arcs that read a cell which costs something else after the batch than before it. A state can be there more
-/// than once, and what was in `touched` before is dropped. All cells of the batch are on the map. The work goes with the
-/// length of the batch and with the number of arcs that read the changed cells, and not with the size of the map. After
-/// `NoMemory` the map can be the old or the new one, and nothing is said of `touched`.
+/// than once, and what was in `touched` before is dropped. All cells of the batch are on the map. After
+/// `NoMemory` the map is the old or the new one, and nothing is said of `touched`.
 pub fn apply(
     alloc: Global,
     lattice: &mut Lattice,
@@ -66,6 +65,7 @@ pub fn apply(
     ensures touched { OnOk result (AreTouched lattice.old lattice.new.map touched.new.items) }
     ensures same_arcs { OnOk result (KeepArcsElsewhere (network_of lattice.old) (network_of lattice.new) touched.new.items) }
     ensures states { OnOk result (AreStates (network_of lattice.new) touched.new.items) }
+    ensures refused { OnErr result ((lattice.new.map ≡ lattice.old.map) ⊎ AreWritten lattice.old.map batch.now lattice.new.map) }
 {
     unread_arcs_cost_the_same();
     let _map = lattice.map();

@@ -134,8 +134,8 @@ IsMarked budget before spent r = MatchBool spent
     (r.spent ≡ None)
 
 -- The record of a search by the best heuristic, from opened or repaired labels: its passes in turn, as few as the step allows,
--- the result by the final labels, and a section of these labels, where they are to be written. A budget for each state in
--- each pass, three times where labels are repaired, is not spent, unless the run's is.
+-- the result by the final labels, and a section of these labels, where they are to be written. A plan expands no more than its
+-- budget, and the run no more than 2 ^ 30. A budget for each state in each pass, three times where labels are repaired, is not spent, unless the run's is.
 pub record IsSearched (w : World) (how : SearchJob) (outputs : Outputs) (start goal : ℕ) (before : Option Behind) (behind : Behind) (r : PlanRecord) : Type 0 where
   pub guide : ℕ → ℕ
   pub is_guide : IsBest w goal guide
@@ -148,6 +148,8 @@ pub record IsSearched (w : World) (how : SearchJob) (outputs : Outputs) (start g
   pub told : TellsResult result r.outcome
   pub expanded : r.expanded ≡ expansions r.passes
   pub counted : behind.expanded ≡ expanded_before before + expansions r.passes
+  pub within_budget : r.expanded ≤ how.budget
+  pub within_run : behind.expanded ≤ 2 ^ 30
   pub marked : IsMarked how.budget (expanded_before before) spent r
   pub few : length r.passes ≤ most_passes how.step how.first
   pub ample : spent ≡ true → most_passes how.step how.first * (most_times (repairs how.planner) * (network_of w).states) ≤ how.budget → behind.expanded ≡ 2 ^ 30

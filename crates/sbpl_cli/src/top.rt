@@ -1,4 +1,4 @@
-//! The top call.
+//! The one public call: does the job that words name, at a desk.
 
 ghost use Rattle.std.specs.Prelude.{◌≡◌, ◌≢◌, ◌⊎◌, ◌∷◌, ◌++◌, ℕ, List, [], None, Option, Some, IfErr, IfOk, OnErr, map, string_bytes};
 ghost use Rattle.sbpl_cfg.specs.Environment.{Environment};

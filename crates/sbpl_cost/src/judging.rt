@@ -1,4 +1,4 @@
-//! Costs of cells below a limit.
+//! Whether a motion is free on a map, and the greatest cost that it pays.
 
 ghost use Rattle.std.specs.Prelude.{◌≡◌, ℕ, pos, ◌<◌, ◌+ℤ◌, slice_get, Some, IsTrue, false, IfSome, IfNone};
 ghost use Rattle.sbpl_map.specs.CellMap.{cost_at};

@@ -1,4 +1,4 @@
-//! The changes of the map.
+//! The batches of changes that are drawn.
 
 ghost use Rattle.std.specs.Prelude.{◌≡◌, ◌<◌, ◌≤◌, ◌++◌, map, OnOk, IfOk};
 ghost use Rattle.sbpl_cfg.specs.Printed.{line_text, lines_text};

@@ -1,4 +1,4 @@
-//! The environment.
+//! The environment that is drawn, and the costs of its cells.
 
 ghost use Rattle.std.specs.Prelude.{◌≡◌, ◌*◌, ◌<◌, ◌≤◌, OnOk, IfOk, vec_len};
 ghost use Rattle.sbpl_cfg.specs.Printed.{environment_text};

@@ -1,4 +1,4 @@
-//! The primitives.
+//! The eighty primitives, the same for every seed.
 
 ghost use Rattle.std.specs.Prelude.{◌≡◌, ◌<◌, ◌≤◌, ◌++◌, pos, negsuc, ◌≤ℤ◌, OnOk, IfOk};
 ghost use Rattle.std.specs.List.{flat_map};

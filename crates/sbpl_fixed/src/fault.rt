@@ -1,4 +1,4 @@
-//! Why a text is no number.
+//! Why a text is no number, and the faults of a text of tokens.
 
 use thiserror::Error;
 
@@ -8,7 +8,8 @@ pub enum NumFault {
     /// The text has not the form that is asked for.
     #[error("not a number of the form asked for")]
     Form,
-    /// It has, and the absolute value is above `10^18`.
+    /// It has, and the value is too great: above `10^18` in absolute value, or for a number without a sign not below the
+    /// limit that was given.
     #[error("a number too large")]
     Size,
 }

@@ -12,8 +12,7 @@ use crate::token::{Token, next_token};
 use std::marker::Model;
 
 /// A text that is read token by token. Contracts see it as what is left of the text: the text's length, and the tokens
-/// that were not read. After a fault of `token`, `word`, `whole`, `natural`, `nano` or `end` the fault's token, if there
-/// is one, counts as read.
+/// that were not read. After a fault nothing is said of what is left.
 #[derive(Drop)]
 pub struct Reader<'a> {
     text: &'a [u8],

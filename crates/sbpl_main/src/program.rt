@@ -1,4 +1,8 @@
-//! What the program does with its words.
+//! The program from its start: its words, the texts that it prints itself, and its exit status.
+
+ghost use Rattle.std.specs.Prelude.{◌≡◌, ◌⊎◌, None, map, string_bytes};
+ghost use Rattle.sbpl_cli.specs.Promises.{IsOrUnwritten, IsStatus};
+ghost use Rattle.sbpl_job.specs.Jobs.{job_of};
 
 use sbpl_cli::run;
 use sbpl_desk::RealDesk;
@@ -24,7 +28,9 @@ fn words_of(rt: &HostRuntime) -> io::Result<Vec<String>> {
 }
 
 /// Prints the text that is asked for, and answers the status.
-fn tell(rt: &HostRuntime, asked: Asked) -> u8 {
+fn tell(rt: &HostRuntime, asked: Asked) -> u8
+    ensures told { IsOrUnwritten 0 result }
+{
     let Ok(text) = told(rt.alloc(), asked) else {
         return NO_MEMORY;
     };
@@ -35,7 +41,11 @@ fn tell(rt: &HostRuntime, asked: Asked) -> u8 {
 }
 
 /// Does the job of the words, and answers the status. Words that name no job are told how the program is called.
-fn work(rt: HostRuntime, words: &[String]) -> u8 {
+fn work(rt: HostRuntime, words: &[String]) -> u8
+    ensures status { IsStatus result }
+    ensures words { result ≡ 2 → job_of (map string_bytes words.now) ≡ None }
+    ensures no_job { job_of (map string_bytes words.now) ≡ None → IsOrUnwritten 2 result }
+{
     let mut desk = RealDesk::new(rt);
     let status = run(rt.alloc(), words, &mut desk);
     if status == NO_JOB {
@@ -46,7 +56,11 @@ fn work(rt: HostRuntime, words: &[String]) -> u8 {
 }
 
 /// Does what the program's words ask for, and answers the status: tells help or the version, or does the job that they name.
-pub fn start(rt: HostRuntime) -> u8 {
+///
+/// The status is one of those that the help lists.
+pub fn start(rt: HostRuntime) -> u8
+    ensures status { IsStatus result }
+{
     match words_of(&rt) {
         Ok(words) => match read_asked(words.as_slice()) {
             Some(asked) => tell(&rt, asked),

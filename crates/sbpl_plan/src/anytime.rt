@@ -2,6 +2,7 @@
 
 ghost use Rattle.std.specs.Prelude.{◌≡◌, ℕ, ◌+◌, ◌*◌, ◌<◌, ◌≤◌, ◌↔◌, Some, length};
 ghost use Rattle.sbpl_graph.specs.Network.{Network};
+ghost use Rattle.sbpl_graph.specs.Bound.{IsLow};
 ghost use Rattle.sbpl_graph.specs.Certificate.{AreSupported, ShowBound, ShowNone};
 ghost use Rattle.sbpl_graph.specs.declared.TheConstants.{FAR};
 ghost use Rattle.sbpl_labels.specs.Chain.{chain_at};
@@ -83,6 +84,12 @@ pub(crate) trait Anytime {
         ensures labels { AreLabels (state self.now).labels }
         ensures goal { (state self.now).goal < states_of (state self.now).labels };
 
+    /// The low of the labels. It looks only where the last pass may have left states whose g and v differ.
+    fn low<H: Guide>(&self, guide: &H) -> u64
+        requires known { (s : ℕ) → s < states_of (state self.now).labels → H.knows guide.now s }
+        ensures least { IsLow (states_of (state self.now).labels) (state self.now).goal
+            (g_of (state self.now).labels) (v_of (state self.now).labels) (H.distance guide.now) result };
+
     /// The expansions of the last pass in order.
     fn trace(&self) -> &[Step]
         ensures value { result.now ≡ (state self.now).trace };
@@ -113,6 +120,10 @@ impl Anytime for Ara {
         Ara::labels(self)
     }
 
+    fn low<H: Guide>(&self, guide: &H) -> u64 {
+        Ara::low(self, guide)
+    }
+
     fn trace(&self) -> &[Step] {
         Ara::trace(self)
     }
@@ -139,6 +150,10 @@ impl Anytime for AdStar {
 
     fn labels(&self) -> &Labels {
         AdStar::labels(self)
+    }
+
+    fn low<H: Guide>(&self, guide: &H) -> u64 {
+        AdStar::low(self, guide)
     }
 
     fn trace(&self) -> &[Step] {

@@ -7,7 +7,7 @@ pub struct Ask {
     pub first: u32,
     /// By how much the inflation falls from pass to pass, 1 to 99000. It never falls below 1000.
     pub step: u32,
-    /// The bound that is good enough, 1000 to 100000.
+    /// The bound that is good enough, at least 1000.
     pub bound: u32,
     /// Whether the expansions are to be told.
     pub traced: bool,

@@ -3,7 +3,7 @@
 ghost use Rattle.std.specs.Prelude.{◌≡◌, ℕ, ◌+◌, ◌*◌, ◌^◌, ◌≤◌, ◌<◌, ◌↔◌, IsTrue, ◌⊎◌, IfOk, length, true, false, vec_capacity};
 ghost use Rattle.sbpl_graph.specs.Certificate.{AreSupported};
 ghost use Rattle.sbpl_graph.specs.Network.{Network};
-ghost use Rattle.sbpl_labels.specs.Counts.{IsSpent};
+ghost use Rattle.sbpl_labels.specs.Counts.{AreCounts, IsSpent};
 ghost use Rattle.sbpl_labels.specs.CutOff.{IsCutOff};
 ghost use Rattle.sbpl_labels.specs.Marks.{states_of, g_of, v_of};
 ghost use Rattle.sbpl_plan.specs.Asked.{IsAsk, lowered, most_passes};
@@ -136,6 +136,7 @@ pub(crate) fn make_plan<G: Graph, H: Guide, S: Anytime>(
     ensures answered { IfOk result (λ r. r.spent ≡ false → IsAnswered ask.now.bound r.outcome) }
     ensures counted { IfOk result (λ r. budget.new ≡ record budget.old { plan = budget.old.plan + expansions r.passes; run = budget.old.run + expansions r.passes }) }
     ensures spent { IfOk result (λ r. r.spent ≡ true → IsSpent budget.new) }
+    ensures within { IfOk result (λ _. AreCounts budget.new) }
     ensures few { IfOk result (λ r. length r.passes ≤ most_passes ask.now.step ask.now.first) }
     ensures enough { IfOk result (λ r. r.spent ≡ true → budget.old.plan + most_passes ask.now.step ask.now.first * (S.most * states_of (S.state search.old).labels) ≤ budget.old.per_plan → budget.new.run ≡ 2 ^ 30) }
     ensures ready { IfOk result (λ _. S.ready (G.network graph.now) (S.state search.new).labels budget.new.run) }
@@ -150,6 +151,7 @@ pub(crate) fn make_plan<G: Graph, H: Guide, S: Anytime>(
     let mut arcs = Vec::with_capacity(alloc, graph.states() as usize)?;
     let made = make_passes(alloc, graph, guide, search, goal, ask, budget, &mut arcs)?;
     let outcome = outcome_of(search.labels(), goal, made.found, arcs);
+    let _used = budget.used();
     Ok(Planned {
         passes: Passes::of(made.passes),
         spent: made.spent,

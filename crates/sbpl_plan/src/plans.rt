@@ -3,7 +3,7 @@
 ghost use Rattle.std.specs.Prelude.{◌≡◌, ◌+◌, ◌*◌, ◌^◌, ◌≤◌, IfOk, length, true, false};
 ghost use Rattle.sbpl_graph.specs.Certificate.{AreSupported};
 ghost use Rattle.sbpl_ara.specs.Search.{AreReady, AreUsable};
-ghost use Rattle.sbpl_labels.specs.Counts.{IsSpent};
+ghost use Rattle.sbpl_labels.specs.Counts.{AreCounts, IsSpent};
 ghost use Rattle.sbpl_labels.specs.Marks.{states_of, g_of, v_of};
 ghost use Rattle.sbpl_plan.specs.Asked.{IsAsk, most_passes};
 ghost use Rattle.sbpl_plan.specs.Looking.{IsStartFresh};
@@ -43,10 +43,11 @@ pub fn plan<G: Graph, H: Guide>(
     // The result is true, and known where the plan was not spent.
     ensures so { IfOk result (λ r. IsTrueOutcome (G.network graph.now) ara.old.labels.start goal r.outcome) }
     ensures answered { IfOk result (λ r. r.spent ≡ false → IsAnswered ask.now.bound r.outcome) }
-    // Each expansion is counted. A plan is spent only where its budget or the run's is, and not where it may expand as many
+    // Each expansion is counted, and none is made beyond the budget. A plan is spent only where its budget or the run's is, and not where it may expand as many
     // states in each pass as there are.
     ensures counted { IfOk result (λ r. budget.new ≡ record budget.old { plan = budget.old.plan + expansions r.passes; run = budget.old.run + expansions r.passes }) }
     ensures spent { IfOk result (λ r. r.spent ≡ true → IsSpent budget.new) }
+    ensures within { IfOk result (λ _. AreCounts budget.new) }
     ensures few { IfOk result (λ r. length r.passes ≤ most_passes ask.now.step ask.now.first) }
     ensures enough { IfOk result (λ r. r.spent ≡ true → budget.old.plan + most_passes ask.now.step ask.now.first * states_of ara.old.labels ≤ budget.old.per_plan → budget.new.run ≡ 2 ^ 30) }
     // The labels may begin another plan.
@@ -83,10 +84,11 @@ pub fn replan<G: Graph, H: Guide>(
     // The result is true, and known where the plan was not spent.
     ensures so { IfOk result (λ r. IsTrueOutcome (G.network graph.now) search.old.labels.start goal r.outcome) }
     ensures answered { IfOk result (λ r. r.spent ≡ false → IsAnswered ask.now.bound r.outcome) }
-    // Each expansion is counted. A plan is spent only where its budget or the run's is, and not where it may expand three
+    // Each expansion is counted, and none is made beyond the budget. A plan is spent only where its budget or the run's is, and not where it may expand three
     // times as many states in each pass as there are.
     ensures counted { IfOk result (λ r. budget.new ≡ record budget.old { plan = budget.old.plan + expansions r.passes; run = budget.old.run + expansions r.passes }) }
     ensures spent { IfOk result (λ r. r.spent ≡ true → IsSpent budget.new) }
+    ensures within { IfOk result (λ _. AreCounts budget.new) }
     ensures few { IfOk result (λ r. length r.passes ≤ most_passes ask.now.step ask.now.first) }
     ensures enough { IfOk result (λ r. r.spent ≡ true → budget.old.plan + most_passes ask.now.step ask.now.first * (3 * states_of search.old.labels) ≤ budget.old.per_plan → budget.new.run ≡ 2 ^ 30) }
     // The labels may be repaired again, or begin another plan.

@@ -63,7 +63,7 @@ pub(crate) fn turn<G: Graph, H: Guide, S: Anytime>(
     ensures room { vec_capacity arcs.new ≡ vec_capacity arcs.old }
 {
     let end = search.pass(graph, guide, eps, budget);
-    let found = look(graph, guide, search.labels(), goal, arcs);
+    let found = look(graph, guide, search, goal, arcs);
     let steps = search.trace();
     let expanded = steps.len() as u64;
     let trace = tell(alloc, steps, ask.traced)?;

@@ -1,6 +1,6 @@
 //! Plans one after another.
 
-ghost use Rattle.std.specs.Prelude.{◌≡◌, ◌+◌, ◌*◌, ◌^◌, ◌≤◌, ◌<◌, ◌⊎◌, IfOk, OnOk, length, true, false};
+ghost use Rattle.std.specs.Prelude.{◌≡◌, ◌+◌, ◌*◌, ◌^◌, ◌≤◌, ◌<◌, ◌⊎◌, IfOk, OnErr, OnOk, length, true, false};
 ghost use Rattle.sbpl_graph.specs.Certificate.{AreSupported};
 ghost use Rattle.sbpl_labels.specs.Marks.{AreLabels, IsOpened, states_of, g_of, v_of};
 ghost use Rattle.sbpl_plan.specs.Asked.{IsAsk, most_passes};
@@ -117,10 +117,12 @@ impl Replanner {
         // The result is true, and known where the plan was not spent.
         ensures so { IfOk result (λ r. IsTrueOutcome (network_of lattice.now) self.old.search.labels.start self.old.goal r.outcome) }
         ensures answered { IfOk result (λ r. r.spent ≡ false → IsAnswered ask.now.bound r.outcome) }
-        // Each expansion is counted. A plan is spent only where its budget or the run's is, and not where it may expand all
+        // Each expansion is counted, and none is made beyond the budget or the run's 2^30. A plan is spent only where its budget or the run's is, and not where it may expand all
         // states in each pass, three times where labels are repaired.
         ensures counted { IfOk result (λ r. self.new.counts ≡ record self.old.counts { plan = expansions r.passes; run = self.old.counts.run + expansions r.passes }) }
         ensures spent { IfOk result (λ r. r.spent ≡ true → (expansions r.passes ≡ self.old.counts.per_plan) ⊎ (self.new.counts.run ≡ 2 ^ 30)) }
+        ensures within { IfOk result (λ r. expansions r.passes ≤ self.old.counts.per_plan) }
+        ensures run { IfOk result (λ _. self.new.counts.run ≤ 2 ^ 30) }
         ensures few { IfOk result (λ r. length r.passes ≤ most_passes ask.now.step ask.now.first) }
         ensures enough { IfOk result (λ r. r.spent ≡ true → most_passes ask.now.step ask.now.first * (most_times self.old.repairs * (network_of lattice.now).states) ≤ self.old.counts.per_plan → self.new.counts.run ≡ 2 ^ 30) }
         // The labels support what they show, and the map may change.
@@ -141,7 +143,7 @@ impl Replanner {
     }
 
     /// Writes a batch to the map of the lattice, and makes the heuristic and the labels ready for a plan on it. All cells of
-    /// the batch are on the map. After `NoMemory` the map can be the old or the new one, and nothing is said of the labels.
+    /// the batch are on the map. After `NoMemory` the map is the old or the new one, and nothing is said of the labels.
     pub fn change(
         &mut self,
         alloc: Global,
@@ -151,6 +153,7 @@ impl Replanner {
         requires ready { IsReadyIn lattice.old self.old }
         requires on_map { AreOnMap lattice.old.map batch.now }
         ensures written { OnOk result (AreWritten lattice.old.map batch.now lattice.new.map) }
+        ensures refused { OnErr result ((lattice.new.map ≡ lattice.old.map) ⊎ AreWritten lattice.old.map batch.now lattice.new.map) }
         ensures others { lattice.new ≡ record lattice.old { map = lattice.new.map } }
         ensures kept { IsWorld lattice.new }
         // Each v stays, where labels are repaired, and each g is exact on the new map; else the labels are opened anew.

@@ -1,6 +1,6 @@
 //! The search of a plan: by ARA*, which begins anew after a change, or by Anytime D*, which repairs its labels.
 
-ghost use Rattle.std.specs.Prelude.{◌≡◌, ◌+◌, ◌*◌, ◌^◌, ◌≤◌, ◌<◌, ℕ, IfOk, OnOk, length, true, false};
+ghost use Rattle.std.specs.Prelude.{◌≡◌, ◌+◌, ◌*◌, ◌^◌, ◌≤◌, ◌<◌, ◌⊎◌, ℕ, IfOk, OnErr, OnOk, length, true, false};
 ghost use Rattle.sbpl_graph.specs.Certificate.{AreSupported};
 ghost use Rattle.sbpl_labels.specs.Counts.{AreCounts, IsSpent};
 ghost use Rattle.sbpl_labels.specs.Marks.{AreLabels, IsOpened, states_of, g_of, v_of};
@@ -71,6 +71,7 @@ impl Search {
         ensures answered { IfOk result (λ r. r.spent ≡ false → IsAnswered ask.now.bound r.outcome) }
         ensures counted { IfOk result (λ r. budget.new ≡ record budget.old { plan = budget.old.plan + expansions r.passes; run = budget.old.run + expansions r.passes }) }
         ensures spent { IfOk result (λ r. r.spent ≡ true → IsSpent budget.new) }
+        ensures within { IfOk result (λ _. AreCounts budget.new) }
         ensures few { IfOk result (λ r. length r.passes ≤ most_passes ask.now.step ask.now.first) }
         ensures enough { IfOk result (λ r. r.spent ≡ true → budget.old.plan + most_passes ask.now.step ask.now.first * (most_times (repairs_of self.old) * states_of (state_of self.old).labels) ≤ budget.old.per_plan → budget.new.run ≡ 2 ^ 30) }
         ensures begin { IfOk result (λ _. MayBegin (repairs_of self.old) (network_of lattice.now) (state_of self.new).labels budget.new.run) }
@@ -99,6 +100,7 @@ impl Search {
         requires begin { MayBegin (repairs_of self.old) (network_of lattice.old) (state_of self.old).labels (2 ^ 30) }
         requires fresh { IsStartFresh (state_of self.old).labels }
         ensures written { OnOk result (AreWritten lattice.old.map batch.now lattice.new.map) }
+        ensures refused { OnErr result ((lattice.new.map ≡ lattice.old.map) ⊎ AreWritten lattice.old.map batch.now lattice.new.map) }
         ensures others { lattice.new ≡ record lattice.old { map = lattice.new.map } }
         ensures kept { IsWorld lattice.new }
         ensures begun { OnOk result (BeginsWith (repairs_of self.old) lattice.old lattice.new (state_of self.old).labels (state_of self.new).labels) }
@@ -130,6 +132,7 @@ fn repair(
     requires on_map { AreOnMap lattice.old.map batch.now }
     requires begin { AreUsable (network_of lattice.old) search.old.labels (2 ^ 30) }
     ensures written { OnOk result (AreWritten lattice.old.map batch.now lattice.new.map) }
+    ensures refused { OnErr result ((lattice.new.map ≡ lattice.old.map) ⊎ AreWritten lattice.old.map batch.now lattice.new.map) }
     ensures others { lattice.new ≡ record lattice.old { map = lattice.new.map } }
     ensures kept { IsWorld lattice.new }
     ensures begun { OnOk result (AreRepairedFor lattice.old lattice.new search.old.labels search.new.labels) }

@@ -1,4 +1,4 @@
-use Rattle.std.proofs.Common.{◌≡◌, ℕ, ◌+◌, ◌*◌, ◌^◌, ◌≤◌, length, Bool, true, false, MatchBool, Option, None, Some, Result, Ok, Err, IfOk, refl, sym, ◌∙◌, ap, subst, inl, inr, ◌⊎◌}
+use Rattle.std.proofs.Common.{arith, ◌≡◌, ℕ, ◌+◌, ◌*◌, ◌^◌, ◌≤◌, length, Bool, true, false, MatchBool, Option, None, Some, Result, Ok, Err, IfOk, refl, sym, ◌∙◌, ap, subst, inl, inr, ◌⊎◌}
 use Rattle.std.specs.Option.{is_some}
 use Rattle.sbpl_cert.specs.Sections.{Section}
 use Rattle.sbpl_fixed.specs.declared.no_memory.NoMemory.{NoMemory}
@@ -39,14 +39,15 @@ module _ (w : World) (guide : Table) (start goal : ℕ) (how : SearchJob) (outpu
       → asked ≡ ask_of how outputs → ArePasses (inquiry w (distance_in guide) goal asked) asked.first begun planned.passes final planned.spent
       → IsOutcome (network_of w) (distance_in guide) goal final planned.outcome → per_plan ≡ how.budget → run ≡ expanded_before before + expansions planned.passes → used ≡ expansions planned.passes
       → (planned.spent ≡ true → (expansions planned.passes ≡ per_plan) ⊎ (run ≡ 2 ^ 30))
+      → expansions planned.passes ≤ per_plan → run ≤ 2 ^ 30
       → length planned.passes ≤ most_passes asked.step asked.first
       → (planned.spent ≡ true → most_passes asked.step asked.first * (most_times (repairs how.planner) * (network_of w).states) ≤ how.budget → run ≡ 2 ^ 30)
       → wanted ≡ is_some outputs.labels → final.start ≡ start → IsThere wanted (IsShown (network_of w) (distance_in guide) final.start goal plan final planned.outcome) section
       → IfOk r (λ x. x.plan ≡ plan) → IfOk r (λ x. x.passes ≡ planned.passes) → IfOk r (λ x. x.expanded ≡ used) → IfOk r (λ x. TellsResult planned.outcome x.outcome) → IfOk r (λ x. x.labels ≡ section)
       → IfOk r (λ x. MatchBool planned.spent (x.spent ≡ Some used) (x.spent ≡ None))
       → IfOk r (IsSearched w how outputs start goal before (record { map = w.map; labels = final; expanded = run }))
-  searched_by asked wanted plan (Err e) is_guide begins same passes outcome budget counted used_is spent few enough asks begins_at shown number copied expanded told kept mark = tt
-  searched_by asked wanted plan (Ok x) is_guide begins same passes outcome budget counted used_is spent few enough asks begins_at shown number copied expanded told kept mark =
+  searched_by asked wanted plan (Err e) is_guide begins same passes outcome budget counted used_is spent within within_run few enough asks begins_at shown number copied expanded told kept mark = tt
+  searched_by asked wanted plan (Ok x) is_guide begins same passes outcome budget counted used_is spent within within_run few enough asks begins_at shown number copied expanded told kept mark =
       let step = ap (λ (a : Ask). a.step) same in
       let first = ap (λ (a : Ask). a.first) same in
       record {
@@ -61,6 +62,8 @@ module _ (w : World) (guide : Table) (start goal : ℕ) (how : SearchJob) (outpu
         told = told;
         expanded = expanded ∙ used_is ∙ ap (λ ps. expansions ps) (sym copied);
         counted = counted ∙ ap (λ ps. expanded_before before + expansions ps) (sym copied);
+        within_budget = omega (arith, expanded, used_is, budget, within);
+        within_run = within_run;
         marked = marked_by planned.spent how.budget (expanded_before before) (expansions planned.passes) used per_plan run x used_is (ap (λ ps. expansions ps) copied) mark budget counted spent;
         few = rw (copied, sym step, sym first) few;
         ample = rw (sym step, sym first) enough;
@@ -84,7 +87,7 @@ returns-clause-searched c = λ before begins counted.
     (subst (λ (g : ℕ). IsBest c.args.lattice.now g (distance_in c.args.replanner.now.guide)) set.goal_is c.requires.ready.best) begins c.ask_of-ask.ensures.ask
     (subst (λ (g : ℕ). ArePasses (inquiry c.args.lattice.now (distance_in c.args.replanner.now.guide) g c.ask_of-ask.result) c.ask_of-ask.result.first c.args.replanner.now.search.labels c.in_ok-planned.planned.passes c.plan.new.self.search.labels c.in_ok-planned.planned.spent) set.goal_is c.in_ok-planned.ensures.passes)
     (subst (λ (g : ℕ). IsOutcome (network_of c.args.lattice.now) (distance_in c.args.replanner.now.guide) g c.plan.new.self.search.labels c.in_ok-planned.planned.outcome) set.goal_is c.in_ok-planned.ensures.outcome)
-    set.budget_is run used c.in_ok-planned.ensures.spent c.in_ok-planned.ensures.few
+    set.budget_is run used c.in_ok-planned.ensures.spent c.in_ok-planned.ensures.within c.in_ok-planned.ensures.run c.in_ok-planned.ensures.few
     (rw (sym set.repairs_is, sym set.budget_is) c.in_ok-planned.ensures.enough)
     c.is_some.ensures (c.in_ok-planned.ensures.same.start ∙ set.start_is)
     (subst (λ (m : Marks). IsThere c.is_some.result (IsShown (network_of c.args.lattice.now) (distance_in c.args.replanner.now.guide) m.start c.args.goal c.args.plan m c.in_ok-planned.planned.outcome) c.in_ok-labels.labels) c.labels.ensures.value

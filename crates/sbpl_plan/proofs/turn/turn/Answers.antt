@@ -1,13 +1,12 @@
 use Rattle.std.proofs.Common.{◌≡◌, ℕ, refl, sym, ◌∙◌, ap, subst, length, List, [], if◌then◌else◌}
 use Rattle.sbpl_ara.specs.declared.step.Step.{Step}
-use Rattle.sbpl_labels.specs.Marks.{Marks}
-use Rattle.sbpl_plan.specs.Looking.{IsStartFresh, Looks}
+use Rattle.sbpl_plan.specs.Looking.{Looks}
 use Rattle.sbpl_plan.specs.Turns.{IsTurn}
 use Rattle.sbpl_plan.proofs.Turning.{run_start, turn_of}
 use Rattle.sbpl_plan.proofs.turn.turn.Goals as goal
 
 pub look-found-requires-clause-fresh : goal.look-found-requires-clause-fresh
-look-found-requires-clause-fresh g c = subst (λ (m : Marks). IsStartFresh m) (sym c.labels.ensures.value) (run_start _ _ _ _ _ c.pass-end.ensures.run (record { zero = (g.met.S.Anytime.usable _ _ _ c.requires.ready).exact.from_start; fresh = c.requires.fresh })).fresh
+look-found-requires-clause-fresh g c = (run_start _ _ _ _ _ c.pass-end.ensures.run (record { zero = (g.met.S.Anytime.usable _ _ _ c.requires.ready).exact.from_start; fresh = c.requires.fresh })).fresh
 
 pub returns-clause-turn : goal.returns-clause-turn
 returns-clause-turn g c =
@@ -27,4 +26,4 @@ returns-clause-turn g c =
     c.pass-end.ensures.start c.pass-end.ensures.states refl (ap (λ (l : List Step). length l) trace)
     (c.in_ok-trace.ensures.told ∙ ap (λ (l : List Step). if c.args.ask.now.traced then l else []) trace)
     (subst (λ (x : ℕ). Looks (g.G.Graph.network c.args.graph.now) (g.H.Guide.distance c.args.guide.now) x (g.S.Anytime.state c.pass-end.new.self).labels c.look-found.new.into.items c.look-found.result) c.requires.goal
-    (subst (λ (m : Marks). Looks (g.G.Graph.network c.args.graph.now) (g.H.Guide.distance c.args.guide.now) c.args.goal m c.look-found.new.into.items c.look-found.result) c.labels.ensures.value c.look-found.ensures.looks)))
+    c.look-found.ensures.looks))
