@@ -5,6 +5,8 @@ use Rattle.std.proofs.lemmas.Bool.{cases_eq, cases_lt, cases_Bool, or_left, or_r
 use Rattle.std.proofs.lemmas.List.{get_or_past}
 use Rattle.std.proofs.lemmas.List.Elements.{All-push}
 use Rattle.sbpl_labels.specs.Marks.{Marks, IsOpened}
+use Rattle.sbpl_open.specs.declared.entry.Entry.{Entry}
+use Rattle.sbpl_open.specs.Entries.{state_at}
 use Rattle.sbpl_open.specs.Frontier.{Frontier, ChangesKey}
 use Rattle.sbpl_open.specs.Frontier as frontier
 use Rattle.sbpl_ara.specs.declared.step.Step.{Step}
@@ -14,13 +16,13 @@ use Rattle.sbpl_ara.specs.Search.{Room, AreWaiting}
 use Rattle.sbpl_ara.proofs.Closing.{lowers}
 use Rattle.sbpl_ara.proofs.Queueing.{among_push, among_closed}
 
--- the steps hold the first states besides what they held
-pub record IsGathering (most : ℕ) (queued : List ℕ) (old now : Room) (i : ℕ) : Type 0 where
+-- the steps hold the states of the first entries besides what they held
+pub record IsGathering (most : ℕ) (queued : List Entry) (old now : Room) (i : ℕ) : Type 0 where
   pub room : now.room ≡ old.room
   pub longer : length now.items ≡ length old.items + i
   pub inside : All (λ step. step.state < most) now.items
   pub kept : (s : ℕ) → is_among old.items s ≡ true → is_among now.items s ≡ true
-  pub gathered : (j : ℕ) → j < i → is_among now.items (slice_index queued j) ≡ true
+  pub gathered : (j : ℕ) → j < i → is_among now.items (state_at queued j) ≡ true
 
 -- a state of the queue has a number below theirs
 pub queued_inside : (f : Frontier) (s : ℕ) → IsSome (frontier.key_at f s) → s < frontier.states_of f
@@ -30,26 +32,26 @@ queued_inside f s is =
     (λ (past : frontier.states_of f ≤ s). absurd (false≢true (rw (get_or_past f.keys s None past) at is)))
     (cases_lt s (frontier.states_of f))
 
-pub gathering_more : (most : ℕ) (queued : List ℕ) (old now now' : Room) (i : ℕ) → IsGathering most queued old now i
-    → slice_index queued i < most → now'.items ≡ now.items ++ lowers (slice_index queued i) ∷ [] → now'.room ≡ now.room
+pub gathering_more : (most : ℕ) (queued : List Entry) (old now now' : Room) (i : ℕ) → IsGathering most queued old now i
+    → state_at queued i < most → now'.items ≡ now.items ++ lowers (state_at queued i) ∷ [] → now'.room ≡ now.room
     → IsGathering most queued old now' (i + 1)
 gathering_more most queued old now now' i here small pushed room =
-    let step = lowers (slice_index queued i) in
+    let step = lowers (state_at queued i) in
     record {
       room = room ∙ here.room;
       longer = omega (arith, ap length pushed ∙ length-append now.items (step ∷ []), here.longer);
       inside = rw pushed (All-push (λ (step : Step). step.state < most) now.items step here.inside small);
       kept = λ s was.
-          rw pushed (among_push now.items step s ∙ or_left (is_among now.items s) (nat_eq (slice_index queued i) s) (here.kept s was));
+          rw pushed (among_push now.items step s ∙ or_left (is_among now.items s) (nat_eq (state_at queued i) s) (here.kept s was));
       gathered = λ j below.
-          let state = slice_index queued j in
+          let state = state_at queued j in
           ⊎_elim
           (λ (before : j < i).
-          rw pushed (among_push now.items step state ∙ or_left (is_among now.items state) (nat_eq (slice_index queued i) state) (here.gathered j before)))
+          rw pushed (among_push now.items step state ∙ or_left (is_among now.items state) (nat_eq (state_at queued i) state) (here.gathered j before)))
           (λ (after : i ≤ j).
           let at : j ≡ i = omega arith in
-          let same : nat_eq (slice_index queued i) state ≡ true = eq-eqb _ _ (sym (ap (slice_index queued) at)) in
-          rw pushed (among_push now.items step state ∙ or_right (is_among now.items state) (nat_eq (slice_index queued i) state) same))
+          let same : nat_eq (state_at queued i) state ≡ true = eq-eqb _ _ (sym (ap (state_at queued) at)) in
+          rw pushed (among_push now.items step state ∙ or_right (is_among now.items state) (nat_eq (state_at queued i) state) same))
           (cases_lt j i);
     }
 

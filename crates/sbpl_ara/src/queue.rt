@@ -24,10 +24,10 @@ pub fn gather(queue: &Open, steps: &mut Steps)
         → is_among steps.new.items s ≡ true }
     ensures room { steps.new.room ≡ steps.old.room }
 {
-    let states = queue.states();
-    for s in states {
+    let entries = queue.entries();
+    for entry in entries {
         steps.push(Step {
-            state: *s,
+            state: entry.state,
             raised: false,
         });
     }

@@ -2,6 +2,8 @@
 use Rattle.std.proofs.Common.{◌≡◌, ◌≢◌, ℕ, zero, suc, ◌+◌, ◌<◌, ◌≤◌, ◌&&◌, nat_lt, nat_le, if◌then◌else◌, List, length, slice_index, arith, ⊎_elim}
 use Rattle.std.proofs.lemmas.Bool.{cases_eq}
 use Rattle.std.proofs.lemmas.Bool.Decides.{nat_tests}
+use Rattle.sbpl_open.specs.declared.entry.Entry.{Entry}
+use Rattle.sbpl_open.specs.Entries.{state_at}
 use Rattle.sbpl_open.specs.Heap.{AreAgreed}
 
 -- 1 where an entry of the table is one of the first j places, else 0
@@ -62,22 +64,22 @@ count_next places (suc n) j s inside at =
     omega (arith, hit_more (slice_index places n) j, count_next places n j s (omega arith) at))
     (cases_eq s n)
 
-count_all : {heap places : List ℕ} → AreAgreed heap places → (j : ℕ) → j ≤ length heap → j ≤ count places (length places) j
+count_all : {heap : List Entry} {places : List ℕ} → AreAgreed heap places → (j : ℕ) → j ≤ length heap → j ≤ count places (length places) j
 count_all agreed zero below = omega arith
 count_all {heap} {places} agreed (suc j) below =
     let inside : j < length heap = omega arith in
     let rest = count_all agreed j (omega arith) in
-    let more = count_next places (length places) j (slice_index heap j) (agreed.inside j inside) (agreed.placed j inside) in
+    let more = count_next places (length places) j (state_at heap j) (agreed.inside j inside) (agreed.placed j inside) in
     let same : suc j ≡ j + 1 = omega arith in
     rw same (omega arith)
 
 -- no more states are in the heap than there are
-pub states_at_most : {heap places : List ℕ} → AreAgreed heap places → length heap ≤ length places
+pub states_at_most : {heap : List Entry} {places : List ℕ} → AreAgreed heap places → length heap ≤ length places
 states_at_most {heap} {places} agreed =
     omega (arith, count_all agreed (length heap) (omega arith), count_at_most places (length places) (length heap))
 
 -- fewer, where one is not there
-pub states_fewer : {heap places : List ℕ} (s : ℕ) → AreAgreed heap places → s < length places → slice_index places s ≡ 0
+pub states_fewer : {heap : List Entry} {places : List ℕ} (s : ℕ) → AreAgreed heap places → s < length places → slice_index places s ≡ 0
     → length heap < length places
 states_fewer {heap} {places} s agreed inside absent =
     omega (arith, count_all agreed (length heap) (omega arith), count_absent places (length places) (length heap) s inside absent)

@@ -1,12 +1,16 @@
 -- The heap as a finite map.
-use Rattle.std.proofs.Common.{◌≡◌, ◌≢◌, ℕ, zero, suc, ◌-◌, ◌<◌, ◌≤◌, ◌↔◌, Bool, true, false, IsTrue, IsSome, if◌then◌else◌, Option, Some, None, List, [], ◌∷◌, length, slice_get, slice_index, slice_index_or, arith, ⊎_elim, refl, sym, ap, ◌∙◌}
-use Rattle.std.proofs.lemmas.Bool.{cases_lt, ltb-true, lt-ltb}
-use Rattle.std.proofs.lemmas.Option.{cond_some}
+use Rattle.std.proofs.Common.{◌≡◌, ◌≢◌, ℕ, zero, suc, ◌+◌, ◌-◌, ◌^◌, ◌<◌, ◌≤◌, ◌↔◌, Bool, true, false, IsTrue, IsSome, if◌then◌else◌, Option, Some, None, List, [], ◌∷◌, length, slice_get, slice_index, slice_index_or, arith, ⊎_elim, refl, sym, ap, ◌∙◌, subst}
+use Rattle.std.proofs.lemmas.Bool.{cases_eq, cases_lt, ltb-true, lt-ltb}
+use Rattle.std.proofs.lemmas.Option.{cond_some, none-some, same_Some}
 use Rattle.std.proofs.lemmas.List.{get_or_past}
+use Rattle.sbpl_open.specs.Order.{ComesBefore}
 use Rattle.sbpl_open.specs.Frontier.{Frontier, states_of, key_at, IsEmpty, ChangesKey, IsLeast}
-use Rattle.sbpl_open.specs.Heap.{listed, is_there, keys_of, rank, AreParts}
+use Rattle.sbpl_open.specs.declared.entry.Entry.{Entry}
+use Rattle.sbpl_open.specs.Entries.{entry_at, key_of, state_at}
+use Rattle.sbpl_open.specs.Heap.{AreParts, KeyChanges, is_there, key_where, keys_of, listed}
 use Rattle.sbpl_open.proofs.Ordering.{before_from_rank, first_least}
 use Rattle.sbpl_open.proofs.Agreeing.{place_at, state_of}
+use Rattle.sbpl_open.proofs.Keeping.{key_missing, key_present}
 
 length_listed : {A : Type 0} (f : ℕ → A) (n : ℕ) → length (listed f n) ≡ n
 unfolding listed
@@ -19,51 +23,48 @@ listed_at f d zero i inside = absurd (omega arith)
 listed_at f d (suc n) zero inside = refl
 listed_at f d (suc n) (suc i) inside = listed_at (λ j. f (suc j)) d n i (omega arith)
 
--- the key that stands for a state
-abbrev pub key_where : (places firsts seconds : List ℕ) → ℕ → Option (ℕ × ℕ)
-key_where places firsts seconds s = if is_there places s then Some (slice_index firsts s, slice_index seconds s) else None
-
 -- what is there has a key, and nothing else
 pub some_there : (there : Bool) (key : ℕ × ℕ) → IsTrue there ↔ IsSome (if there then Some key else None)
 some_there true key = (λ _. refl, λ _. refl)
 some_there false key = (λ is. is, λ is. is)
 
-module _ (places firsts seconds : List ℕ) where
-  pub states_are : length (keys_of places firsts seconds) ≡ length places
-  states_are = length_listed (key_where places firsts seconds) (length places)
+module _ (heap : List Entry) (places : List ℕ) where
+  pub states_are : length (keys_of heap places) ≡ length places
+  states_are = length_listed (key_where heap places) (length places)
 
-  pub key_is : (s : ℕ) → slice_index_or (keys_of places firsts seconds) s None ≡ key_where places firsts seconds s
+  pub key_is : (s : ℕ) → slice_index_or (keys_of heap places) s None ≡ key_where heap places s
   key_is s =
       ⊎_elim
-      (λ (inside : s < length places). listed_at (key_where places firsts seconds) None (length places) s inside)
+      (λ (inside : s < length places). listed_at (key_where heap places) None (length places) s inside)
       (λ (past : length places ≤ s).
       let none : slice_index places s ≡ 0 = get_or_past places s 0 past in
-      get_or_past (keys_of places firsts seconds) s None (omega (arith, states_are)) ∙ rw none refl)
+      get_or_past (keys_of heap places) s None (omega (arith, states_are)) ∙ rw none refl)
       (cases_lt s (length places))
 
-  module _ {m : Frontier} (view : record { keys = keys_of places firsts seconds } ≡ m) where
+  module _ {m : Frontier} (view : record { keys = keys_of heap places } ≡ m) where
     pub states_view : states_of m ≡ length places
     states_view = ap states_of (sym view) ∙ states_are
 
-    pub key_view : (s : ℕ) → key_at m s ≡ key_where places firsts seconds s
+    pub key_view : (s : ℕ) → key_at m s ≡ key_where heap places s
     key_view s = ap (λ f. key_at f s) (sym view) ∙ key_is s
 
-    pub key_there : (s : ℕ) → 0 < slice_index places s → key_at m s ≡ Some (slice_index firsts s, slice_index seconds s)
-    key_there s there = key_view s ∙ rw (lt-ltb 0 (slice_index places s) there) refl
+    pub key_listed : (s i : ℕ) → slice_index places s ≡ i + 1 → key_at m s ≡ Some (key_of (entry_at heap i))
+    key_listed s i at = key_view s ∙ key_present heap places s i at
 
     pub key_absent : (s : ℕ) → slice_index places s ≡ 0 → key_at m s ≡ None
-    key_absent s absent = key_view s ∙ rw absent refl
+    key_absent s absent = key_view s ∙ key_missing heap places s absent
 
     pub there_key : (s : ℕ) → IsSome (key_at m s) → 0 < slice_index places s
-    there_key s is = ltb-true 0 (slice_index places s) ((some_there (is_there places s) (slice_index firsts s, slice_index seconds s)).1 (rw key_view at is))
+    there_key s is =
+        ltb-true 0 (slice_index places s) ((some_there (is_there places s) (key_of (entry_at heap (slice_index places s - 1)))).1 (rw key_view at is))
 
     pub empty_view : ((s : ℕ) → slice_index places s ≡ 0) → IsEmpty m
     empty_view absent = record { none = λ s. key_absent s (absent s) }
 
-  pub states_fresh : (s : ℕ) → length places ≡ s → states_of (record { keys = keys_of places firsts seconds }) ≡ s
+  pub states_fresh : (s : ℕ) → length places ≡ s → states_of (record { keys = keys_of heap places }) ≡ s
   states_fresh s states = states_are ∙ states
 
-  pub empty_fresh : ((s : ℕ) → s < length places → slice_index places s ≡ 0) → IsEmpty (record { keys = keys_of places firsts seconds })
+  pub empty_fresh : ((s : ℕ) → s < length places → slice_index places s ≡ 0) → IsEmpty (record { keys = keys_of heap places })
   empty_fresh absent =
       empty_view refl
       (λ s.
@@ -72,45 +73,68 @@ module _ (places firsts seconds : List ℕ) where
       (λ (past : length places ≤ s). get_or_past places s 0 past)
       (cases_lt s (length places)))
 
--- what has changed of the tables has changed of the map
-pub changes_view : (places firsts seconds places' firsts' seconds' : List ℕ) (s : ℕ) (key : Option (ℕ × ℕ)) {m : Frontier}
-    → record { keys = keys_of places firsts seconds } ≡ m → length places' ≡ length places
-    → ((u : ℕ) → u ≢ s → is_there places' u ≡ is_there places u) → ((u : ℕ) → u ≢ s → slice_index firsts' u ≡ slice_index firsts u)
-    → ((u : ℕ) → u ≢ s → slice_index seconds' u ≡ slice_index seconds u) → key_where places' firsts' seconds' s ≡ key
-    → ChangesKey m (record { keys = keys_of places' firsts' seconds' }) s key
-changes_view places firsts seconds places' firsts' seconds' s key view states there same_first same_second own = record {
-  states = states_are places' firsts' seconds' ∙ states ∙ sym (states_view places firsts seconds view);
-  at = key_is places' firsts' seconds' s ∙ own;
-  others = λ u apart.
-      let old = key_view places firsts seconds view u in
-      let new = key_is places' firsts' seconds' u in
-      new ∙ rw (there u apart, same_first u apart, same_second u apart) (sym old);
+-- what has changed of the heap has changed of the map
+pub changes_view : (heap : List Entry) (places : List ℕ) (heap' : List Entry) (places' : List ℕ) (s : ℕ) (key : Option (ℕ × ℕ)) {m : Frontier}
+    → record { keys = keys_of heap places } ≡ m → length places' ≡ length places → KeyChanges heap places heap' places' s key
+    → ChangesKey m (record { keys = keys_of heap' places' }) s key
+changes_view heap places heap' places' s key view states change = record {
+  states = states_are heap' places' ∙ states ∙ sym (states_view heap places view);
+  at = key_is heap' places' s ∙ change.at;
+  others = λ u apart. key_is heap' places' u ∙ change.others u apart ∙ sym (key_view heap places view u);
 }
 
+-- the second parts of keys go on fitting their type, as a state gets a key or leaves
+pub small_put : {heap heap' : List Entry} {places places' : List ℕ} {s first second : ℕ}
+    → ((u : ℕ) (key : ℕ × ℕ) → key_where heap places u ≡ Some key → key.1 < 2 ^ 64)
+    → KeyChanges heap places heap' places' s (Some (first, second)) → second < 2 ^ 64
+    → (u : ℕ) (key : ℕ × ℕ) → key_where heap' places' u ≡ Some key → key.1 < 2 ^ 64
+small_put {heap' = heap'} {places' = places'} {s = s} {first = first} {second = second} small change fits u key is =
+    ⊎_elim
+    (λ (own : u ≡ s).
+    let same : (first, second) ≡ key = same_Some (first, second) key (sym change.at ∙ sym (ap (key_where heap' places') own) ∙ is) in
+    rw (← ap (λ (k : ℕ × ℕ). k.1) same) fits)
+    (λ (apart : u ≢ s). small u key (sym (change.others u apart) ∙ is))
+    (cases_eq u s)
+
+pub small_left : {heap heap' : List Entry} {places places' : List ℕ} {s : ℕ}
+    → ((u : ℕ) (key : ℕ × ℕ) → key_where heap places u ≡ Some key → key.1 < 2 ^ 64)
+    → KeyChanges heap places heap' places' s None
+    → (u : ℕ) (key : ℕ × ℕ) → key_where heap' places' u ≡ Some key → key.1 < 2 ^ 64
+small_left {heap' = heap'} {places' = places'} {s = s} small change u key is =
+    ⊎_elim
+    (λ (own : u ≡ s). absurd (none-some key (sym change.at ∙ sym (ap (key_where heap' places') own) ∙ is)))
+    (λ (apart : u ≢ s). small u key (sym (change.others u apart) ∙ is))
+    (cases_eq u s)
+
 -- what is at the first place is the least
-pub least_view : (heap places firsts seconds : List ℕ) (room s : ℕ) {m : Frontier}
-    → record { keys = keys_of places firsts seconds } ≡ m → AreParts heap places firsts seconds room → 0 < length heap
-    → slice_index heap 0 ≡ s → IsLeast m s (slice_index firsts s, slice_index seconds s)
-least_view heap places firsts seconds room s {m} view parts some at =
-    let known : s < length places = omega (arith, parts.agreed.inside 0 some) in
-    let placed : slice_index places s ≡ 1 = ap (slice_index places) (sym at) ∙ parts.agreed.placed 0 some in
+pub least_view : (heap : List Entry) (places : List ℕ) (room : ℕ) (entry : Entry) {m : Frontier} → record { keys = keys_of heap places } ≡ m
+    → AreParts heap places room → 0 < length heap → entry_at heap 0 ≡ entry → IsLeast m entry.state (key_of entry)
+least_view heap places room entry {m} view parts some at =
+    let state = ap (λ (e : Entry). e.state) at in
+    let known : entry.state < length places = omega (arith, parts.agreed.inside 0 some, state) in
+    let placed : slice_index places entry.state ≡ 0 + 1 = ap (slice_index places) (sym state) ∙ parts.agreed.placed 0 some in
     record {
-      inside = omega (arith, states_view places firsts seconds view);
-      there = key_view places firsts seconds view s ∙ rw placed refl;
+      inside = omega (arith, states_view heap places view);
+      there = key_listed heap places view entry.state 0 placed ∙ ap (λ (e : Entry). Some (key_of e)) at;
       first = λ u other is apart.
-          let found = cond_some (is_there places u) (slice_index firsts u, slice_index seconds u) other (sym (key_view places firsts seconds view u) ∙ is) in
+          let place = slice_index places u - 1 in
+          let found = cond_some (is_there places u) (key_of (entry_at heap place)) other (sym (key_view heap places view u) ∙ is) in
           let there : 0 < slice_index places u = ltb-true 0 (slice_index places u) found.0 in
-          let place = place_at u parts.agreed there in
-          let low = first_least parts.ordered (slice_index places u - 1) place.0 in
-          let small = parts.tables.small in
+          let own = place_at u parts.agreed there in
+          let low = first_least parts.ordered place own.0 in
           let few = parts.few in
           let known_u = state_of u parts.agreed there in
-          let ranks : rank (slice_index firsts s) (slice_index seconds s) s ≤ rank (slice_index firsts u) (slice_index seconds u) u =
-          rw (place.1, at) at low in
-          rw (← found.1) (before_from_rank _ _ _ _ s u (small s) (small u) (omega arith) (omega arith) ranks (λ e. apart (sym e)));
+          let at_place : slice_index places u ≡ place + 1 = omega arith in
+          let small_first = parts.small entry.state (key_of (entry_at heap 0)) (key_present heap places entry.state 0 placed) in
+          let small_other = parts.small u (key_of (entry_at heap place)) (key_present heap places u place at_place) in
+          let state_u = own.1 in
+          let before = before_from_rank (entry_at heap 0) (entry_at heap place) small_first small_other (omega arith) (omega arith) low (λ e. apart (sym own.1 ∙ sym e ∙ state)) in
+          subst (λ (k : ℕ × ℕ). ComesBefore (key_of entry) entry.state k u) found.1
+          (subst (λ (x : ℕ). ComesBefore (key_of entry) entry.state (key_of (entry_at heap place)) x) own.1
+          (subst (λ (e : Entry). ComesBefore (key_of e) e.state (key_of (entry_at heap place)) (state_at heap place)) at before));
     }
 
 -- a list without a first element is empty
-pub length_none : (xs : List ℕ) → None ≡ slice_get xs 0 → length xs ≡ 0
+pub length_none : {A : Type 0} (xs : List A) → None ≡ slice_get xs 0 → length xs ≡ 0
 length_none [] none = refl
 length_none (x ∷ xs) none = cc

@@ -1,17 +1,19 @@
--- A binary heap of states with each state's place in it.
-use Rattle.std.specs.Prelude.{◌≡◌, ◌≢◌, ℕ, zero, suc, ◌+◌, ◌-◌, ◌*◌, ◌/◌, ◌^◌, ◌<◌, ◌≤◌, ◌⊎◌, Bool, true, false, nat_lt, if◌then◌else◌, Option, Some, None, List, [], ◌∷◌, length, slice_index, MatchOption}
+-- A heap of open states with their keys, and each state's place in it.
+use Rattle.std.specs.Prelude.{◌≡◌, ◌≢◌, ℕ, zero, suc, ◌+◌, ◌-◌, ◌*◌, ◌/◌, ◌^◌, ◌<◌, ◌≤◌, Bool, true, false, nat_lt, if◌then◌else◌, Option, Some, None, List, [], ◌∷◌, length, slice_index, slice_set, MatchOption}
+use Rattle.sbpl_open.specs.declared.entry.Entry.{Entry}
+use Rattle.sbpl_open.specs.Entries.{entry_at, key_of, state_at}
 
--- a number by which states are in order: by their keys' first part, by its second, and by the state's own number
-abbrev pub rank : (first second s : ℕ) → ℕ
-rank first second s = (first * 2 ^ 64 + second) * 2 ^ 32 + s
+-- a number by which entries are in order: by their keys' first part, by its second, and by the state's own number
+abbrev pub rank : Entry → ℕ
+rank entry = (entry.first * 2 ^ 64 + entry.second) * 2 ^ 32 + entry.state
 
--- the rank of the state at place i of the heap
-abbrev pub rank_at : (firsts seconds heap : List ℕ) → ℕ → ℕ
-rank_at firsts seconds heap i = rank (slice_index firsts (slice_index heap i)) (slice_index seconds (slice_index heap i)) (slice_index heap i)
+-- the rank of the entry at place i of the heap
+abbrev pub rank_at : List Entry → ℕ → ℕ
+rank_at heap i = rank (entry_at heap i)
 
 -- the place above a place, which is not the first
 abbrev pub parent : ℕ → ℕ
-parent i = (i - 1) / 2
+parent i = (i - 1) / 4
 
 -- in order: nothing comes before what is above it
 pub record IsHeap (len : ℕ) (r : ℕ → ℕ) : Type 0 where
@@ -26,66 +28,63 @@ pub record IsHeapBut (len : ℕ) (r : ℕ → ℕ) (hole : ℕ) : Type 0 where
 abbrev pub IsBehind : (ℕ → ℕ) → ℕ → Type 0
 IsBehind r hole = 0 < hole → r (parent hole) ≤ r hole
 
--- c is below the place, and nothing else below it comes before what is at c
-pub record IsFirstChild (len : ℕ) (r : ℕ → ℕ) (hole c : ℕ) : Type 0 where
+-- c is below the place, and nothing else below it and before end comes before what is at c
+pub record IsFirstChild (end : ℕ) (r : ℕ → ℕ) (hole c : ℕ) : Type 0 where
   pub some : 0 < c
-  pub inside : c < len
+  pub inside : c < end
   pub below : parent c ≡ hole
-  pub first : (i : ℕ) → 0 < i → i < len → parent i ≡ hole → r c ≤ r i
+  pub first : (i : ℕ) → 0 < i → i < end → parent i ≡ hole → r c ≤ r i
 
 -- the first of what is below a place, or none where there is nothing
 abbrev pub IsChild : ℕ → (ℕ → ℕ) → ℕ → Option ℕ → Type 0
 IsChild len r hole child =
     MatchOption child ((i : ℕ) → 0 < i → parent i ≡ hole → len ≤ i) (λ c. IsFirstChild len r hole c)
 
--- two places have changed what they hold
-pub record IsSwapped (old new : ℕ → ℕ) (a b : ℕ) : Type 0 where
-  pub at_first : new a ≡ old b
-  pub at_second : new b ≡ old a
-  pub others : (i : ℕ) → i ≢ a → i ≢ b → new i ≡ old i
+-- the table of places agrees with the heap: a state's number there is 0 where it is not in the heap, and else one more
+-- than its place
+pub record AreAgreed (heap : List Entry) (places : List ℕ) : Type 0 where
+  pub inside : (i : ℕ) → i < length heap → state_at heap i < length places
+  pub placed : (i : ℕ) → i < length heap → slice_index places (state_at heap i) ≡ i + 1
+  pub found : (s i : ℕ) → slice_index places s ≡ i + 1 → (i < length heap) × (state_at heap i ≡ s)
 
--- s is at this place of the heap, which is the last where the heap has grown, and all others stay
-pub record IsGrown (old new : List ℕ) (s at : ℕ) : Type 0 where
-  pub inside : at < length new
-  pub own : slice_index new at ≡ s
-  pub longer : (length new ≡ length old) ⊎ ((at ≡ length old) × (length new ≡ length old + 1))
-  pub others : (i : ℕ) → i < length old → slice_index new i ≡ slice_index old i
-
--- a state's entry in the table of places is 0 where it is not in the heap, and else one more than its place
 abbrev pub is_there : List ℕ → ℕ → Bool
 is_there places s = nat_lt 0 (slice_index places s)
 
-abbrev pub SameThere : List ℕ → List ℕ → Type 0
-SameThere old new = (s : ℕ) → is_there new s ≡ is_there old s
+-- the key of a state that is in the heap
+abbrev pub key_where : List Entry → List ℕ → ℕ → Option (ℕ × ℕ)
+key_where heap places s =
+    if is_there places s then Some (key_of (entry_at heap (slice_index places s - 1))) else None
 
--- s is there, and all others as before
-pub record JoinsThere (old new : List ℕ) (s : ℕ) : Type 0 where
-  pub there : is_there new s ≡ true
-  pub others : (u : ℕ) → u ≢ s → is_there new u ≡ is_there old u
+-- the same states are there with the same keys
+abbrev pub SameKeys : (heap : List Entry) (places : List ℕ) (heap' : List Entry) (places' : List ℕ) → Type 0
+SameKeys heap places heap' places' = (s : ℕ) → key_where heap' places' s ≡ key_where heap places s
 
--- s is no longer there, and all others as before
-pub record LeavesThere (old new : List ℕ) (s : ℕ) : Type 0 where
-  pub gone : is_there new s ≡ false
-  pub others : (u : ℕ) → u ≢ s → is_there new u ≡ is_there old u
+-- the key of s becomes this one, or s leaves, and all others stay
+pub record KeyChanges (heap : List Entry) (places : List ℕ) (heap' : List Entry) (places' : List ℕ) (s : ℕ) (key : Option (ℕ × ℕ)) : Type 0 where
+  pub at : key_where heap' places' s ≡ key
+  pub others : (u : ℕ) → u ≢ s → key_where heap' places' u ≡ key_where heap places u
 
--- the table of places agrees with the heap
-pub record AreAgreed (heap places : List ℕ) : Type 0 where
-  pub inside : (i : ℕ) → i < length heap → slice_index heap i < length places
-  pub placed : (i : ℕ) → i < length heap → slice_index places (slice_index heap i) ≡ i + 1
-  pub found : (s i : ℕ) → slice_index places s ≡ i + 1 → (i < length heap) × (slice_index heap i ≡ s)
+-- the heap with this entry at a place, and the table with that place for its state
+abbrev pub filled : List Entry → ℕ → Entry → List Entry
+filled heap at entry = slice_set heap at entry
 
--- the tables of the keys' parts have one length, and the second parts fit their type
-pub record AreKeys (firsts seconds : List ℕ) : Type 0 where
-  pub same : length seconds ≡ length firsts
-  pub small : (s : ℕ) → slice_index seconds s < 2 ^ 64
+abbrev pub placed_at : List ℕ → ℕ → Entry → List ℕ
+placed_at places at entry = slice_set places entry.state (at + 1)
 
--- the parts of a heap: the tables agree with it, it is in order, and it has room for all states
-pub record AreParts (heap places firsts seconds : List ℕ) (room : ℕ) : Type 0 where
+-- a place of the heap stands open for an entry: with it there, the table agrees, and the heap is in order but at that
+-- place
+pub record HasHole (heap : List Entry) (places : List ℕ) (hole : ℕ) (entry : Entry) : Type 0 where
+  pub inside : hole < length heap
+  pub agreed : AreAgreed (filled heap hole entry) (placed_at places hole entry)
+  pub ordered : IsHeapBut (length heap) (rank_at (filled heap hole entry)) hole
+
+-- the parts of a heap: the table agrees with it, it is in order, the keys' second parts fit their type, and it has room
+-- for all states
+pub record AreParts (heap : List Entry) (places : List ℕ) (room : ℕ) : Type 0 where
   pub few : length places < 2 ^ 32
-  pub states : length firsts ≡ length places
-  pub tables : AreKeys firsts seconds
   pub agreed : AreAgreed heap places
-  pub ordered : IsHeap (length heap) (rank_at firsts seconds heap)
+  pub ordered : IsHeap (length heap) (rank_at heap)
+  pub small : (s : ℕ) (key : ℕ × ℕ) → key_where heap places s ≡ Some key → key.1 < 2 ^ 64
   pub enough_room : length places ≤ room
 
 -- f 0, f 1 and so on, n of them
@@ -94,6 +93,5 @@ listed f zero = []
 listed f (suc n) = f 0 ∷ listed (λ i. f (suc i)) n
 
 -- the key of each state that is in the heap
-abbrev pub keys_of : (places firsts seconds : List ℕ) → List (Option (ℕ × ℕ))
-keys_of places firsts seconds =
-    listed (λ s. if is_there places s then Some (slice_index firsts s, slice_index seconds s) else None) (length places)
+abbrev pub keys_of : List Entry → List ℕ → List (Option (ℕ × ℕ))
+keys_of heap places = listed (key_where heap places) (length places)

@@ -1,3 +1,4 @@
 pub mod Order
 pub mod Frontier
+pub mod Entries
 pub mod Heap

@@ -1,64 +1,62 @@
-//! States that come into the heap and leave it.
+//! Entries that come into the heap and leave it.
 
-ghost use Rattle.std.specs.Prelude.{◌≡◌, ℕ, [], ◌^◌, ◌<◌, ◌≤◌, length, slice_index, vec_capacity};
-ghost use Rattle.sbpl_open.specs.Heap.{AreAgreed, AreKeys, IsGrown, IsHeap, JoinsThere, LeavesThere, rank_at};
+ghost use Rattle.std.specs.Prelude.{◌≡◌, ℕ, [], ◌^◌, ◌<◌, ◌≤◌, Some, None, length, slice_index, vec_capacity};
+ghost use Rattle.sbpl_open.specs.Entries.{key_of};
+ghost use Rattle.sbpl_open.specs.Heap.{AreAgreed, HasHole, IsHeap, KeyChanges, filled, placed_at, rank_at};
 
-use crate::keys::Keys;
-use crate::sift::{sift, swap};
+use crate::Entry;
+use crate::sift::sift;
 
-/// The place of `s`, which goes to the end of the heap where it is not there yet.
-pub(crate) fn place_of(heap: &mut Vec<u32>, places: &mut [u32], s: u32) -> usize
-    requires few { length places.old < 2 ^ 32 }
-    requires agreed { AreAgreed heap.old.items places.old }
-    requires state { s < length places.old }
-    requires room { length places.old ≤ vec_capacity heap.old }
-    ensures agreed { AreAgreed heap.new.items places.new }
-    ensures grown { IsGrown heap.old.items heap.new.items s result }
-    ensures there { JoinsThere places.old places.new s }
+/// The place that stands open for an entry: that of its state, or one more at the end where the
+/// state is not there yet.
+pub(crate) fn hole_for(heap: &mut Vec<Entry>, places: &[u32], entry: Entry) -> usize
+    requires few { length places.now < 2 ^ 32 }
+    requires agreed { AreAgreed heap.old.items places.now }
+    requires ordered { IsHeap (length heap.old.items) (rank_at heap.old.items) }
+    requires state { entry.state < length places.now }
+    requires room { length places.now ≤ vec_capacity heap.old }
+    ensures hole { HasHole heap.new.items places.now result entry }
+    ensures keys { KeyChanges heap.old.items places.now (filled heap.new.items result entry)
+        (placed_at places.now result entry) entry.state (Some (key_of entry)) }
     ensures room { vec_capacity heap.new ≡ vec_capacity heap.old }
 {
-    let place = places[s as usize];
+    let place = places[entry.state as usize];
     if place > 0 {
         return place as usize - 1;
     }
-    heap.push_reserved(s);
-    places[s as usize] = heap.len() as u32;
+    heap.push_reserved(entry);
     heap.len() - 1
 }
 
-/// Takes `s`, which is there, out of the heap. The last state closes the gap.
-pub(crate) fn remove(heap: &mut Vec<u32>, places: &mut [u32], keys: &Keys, s: u32)
+/// Takes `s`, which is there, out of the heap. The last entry closes the gap.
+pub(crate) fn remove(heap: &mut Vec<Entry>, places: &mut [u32], s: u32)
     requires few { length places.old < 2 ^ 32 }
-    requires states { length keys.now.firsts.items ≡ length places.old }
-    requires tables { AreKeys keys.now.firsts.items keys.now.seconds.items }
     requires agreed { AreAgreed heap.old.items places.old }
-    requires ordered { IsHeap (length heap.old.items)
-        (rank_at keys.now.firsts.items keys.now.seconds.items heap.old.items) }
+    requires ordered { IsHeap (length heap.old.items) (rank_at heap.old.items) }
     requires there { 0 < slice_index places.old s }
     ensures agreed { AreAgreed heap.new.items places.new }
-    ensures left { LeavesThere places.old places.new s }
-    ensures ordered { IsHeap (length heap.new.items)
-        (rank_at keys.now.firsts.items keys.now.seconds.items heap.new.items) }
+    ensures keys { KeyChanges heap.old.items places.old heap.new.items places.new s None }
+    ensures ordered { IsHeap (length heap.new.items) (rank_at heap.new.items) }
     ensures room { vec_capacity heap.new ≡ vec_capacity heap.old }
 {
-    let at = places[s as usize] as usize - 1;
+    let gap = places[s as usize] as usize - 1;
     let last = heap.len() - 1;
-    swap(heap, places, at, last);
+    let moved = heap[last];
     heap.truncate(last);
     places[s as usize] = 0;
-    if at < last {
-        sift(heap, places, keys, at);
+    if gap < last {
+        sift(heap, places, gap, moved);
     }
 }
 
-/// Takes all states out of the heap.
-pub(crate) fn empty(heap: &mut Vec<u32>, places: &mut [u32])
+/// Takes all entries out of the heap.
+pub(crate) fn empty(heap: &mut Vec<Entry>, places: &mut [u32])
     requires agreed { AreAgreed heap.old.items places.old }
     ensures heap { heap.new.items ≡ [] }
     ensures places { (s : ℕ) → slice_index places.new s ≡ 0 }
     ensures room { vec_capacity heap.new ≡ vec_capacity heap.old }
 {
-    while let Some(s) = heap.pop() {
-        places[s as usize] = 0;
+    while let Some(entry) = heap.pop() {
+        places[entry.state as usize] = 0;
     }
 }

@@ -2,11 +2,12 @@
 #![tactic(auto)]
 
 mod ends;
+mod entry;
 mod key;
-mod keys;
 mod open;
 mod sift;
 
+pub use entry::Entry;
 pub use key::Key;
 pub use open::Open;
 

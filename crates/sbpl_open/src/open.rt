@@ -1,23 +1,23 @@
 //! The open states of a search.
 
-ghost use Rattle.std.specs.Prelude.{◌≡◌, ℕ, ◌^◌, ◌<◌, ◌≤◌, ◌↔◌, IsTrue, IsSome, IsNone, IfOk, IfSome, MatchOption, Some, None, length, slice_index};
+ghost use Rattle.std.specs.Prelude.{◌≡◌, ℕ, ◌^◌, ◌<◌, ◌≤◌, ◌↔◌, IsTrue, IsSome, IsNone, IfOk, IfSome, MatchOption, Some, None, length};
 ghost use Rattle.sbpl_open.specs.Frontier.{Frontier, states_of, key_at, IsEmpty, ChangesKey, IsLeast};
+ghost use Rattle.sbpl_open.specs.Entries.{entry_at, key_of, state_at};
 
-use crate::Key;
-use crate::ends::{empty, place_of, remove};
-use crate::keys::Keys;
+use crate::ends::{empty, hole_for, remove};
 use crate::sift::sift;
+use crate::{Entry, Key};
 use sbpl_fixed::NoMemory;
 use std::alloc::Global;
 use std::marker::Model;
 
-/// The open states of a search, as a finite map from states to keys with its least: a binary heap of
-/// states with each state's place in it. All its memory is taken when it is made.
+/// The open states of a search, as a finite map from states to keys with its least: a heap of four
+/// branches of states with their keys, and each state's place in it. All its memory is taken when it
+/// is made.
 #[derive(Drop)]
 pub struct Open {
-    heap: Vec<u32>,
+    heap: Vec<Entry>,
     places: Vec<u32>,
-    keys: Keys,
 }
 
 impl Model for Open {
@@ -27,10 +27,9 @@ impl Model for Open {
 
     ghost Value = { Frontier };
 
-    ghost view = { λ a. record { keys = keys_of a.places.items a.keys.firsts.items a.keys.seconds.items } };
+    ghost view = { λ a. record { keys = keys_of a.heap.items a.places.items } };
 
-    ghost invariant = { λ a. AreParts a.heap.items a.places.items a.keys.firsts.items
-        a.keys.seconds.items (vec_capacity a.heap) };
+    ghost invariant = { λ a. AreParts a.heap.items a.places.items (vec_capacity a.heap) };
 }
 
 impl Open {
@@ -42,8 +41,7 @@ impl Open {
     {
         let heap = Vec::with_capacity(alloc, states as usize)?;
         let places = vec![in alloc; 0; states as usize]?;
-        let keys = Keys::zero(alloc, states)?;
-        Ok(Open { heap, places, keys })
+        Ok(Open { heap, places })
     }
 
     /// Lets every state leave. It looks at the open states alone.
@@ -59,9 +57,13 @@ impl Open {
         requires state { s < states_of self.old }
         ensures changed { ChangesKey self.old self.new s (Some (key.0, key.1)) }
     {
-        self.keys.set(s, key);
-        let at = place_of(&mut self.heap, &mut self.places, s);
-        sift(&mut self.heap, &mut self.places, &self.keys, at);
+        let entry = Entry {
+            first: key.0,
+            second: key.1,
+            state: s,
+        };
+        let hole = hole_for(&mut self.heap, &self.places, entry);
+        sift(&mut self.heap, &mut self.places, hole, entry);
     }
 
     /// Lets `s` leave. Where it is not open nothing changes.
@@ -71,7 +73,7 @@ impl Open {
         ensures unchanged { key_at self.old s ≡ None → self.new ≡ self.old }
     {
         if self.places[s as usize] > 0 {
-            remove(&mut self.heap, &mut self.places, &self.keys, s);
+            remove(&mut self.heap, &mut self.places, s);
         }
     }
 
@@ -83,15 +85,15 @@ impl Open {
         self.places[s as usize] > 0
     }
 
-    /// The open states, each once, in no order.
-    pub fn states(&self) -> &[u32]
+    /// The open states with their keys, each once, in no order.
+    pub fn entries(&self) -> &[Entry]
         ensures few { length result.now ≤ states_of self.now }
         ensures listed { (i : ℕ) → i < length result.now
-            → IsSome (key_at self.now (slice_index result.now i)) }
+            → key_at self.now (state_at result.now i) ≡ Some (key_of (entry_at result.now i)) }
         ensures all { (s : ℕ) → IsSome (key_at self.now s)
-            → (i : ℕ) × (i < length result.now) × (slice_index result.now i ≡ s) }
+            → (i : ℕ) × (i < length result.now) × (state_at result.now i ≡ s) }
         ensures once { (i j : ℕ) → i < length result.now → j < length result.now
-            → slice_index result.now i ≡ slice_index result.now j → i ≡ j }
+            → state_at result.now i ≡ state_at result.now j → i ≡ j }
     {
         self.heap.as_slice()
     }
@@ -102,8 +104,8 @@ impl Open {
         ensures least { MatchOption result (IsEmpty self.now)
             (λ x. IsLeast self.now x.0 (x.1.0, x.1.1)) }
     {
-        let s = *self.heap.first()?;
-        Some((s, self.keys.get(s)))
+        let entry = *self.heap.first()?;
+        Some((entry.state, entry.key()))
     }
 
     /// The open state that comes before all others, which leaves, and its key. There is none

@@ -1,116 +1,93 @@
-//! Moves of states up and down the heap.
+//! Moves of entries up and down the heap. An entry on its way is held aside, and its place in the
+//! heap stands open for it: a hole, which moves.
 
-ghost use Rattle.std.specs.Prelude.{◌≡◌, ℕ, ◌^◌, ◌<◌, ◌≤◌, length, slice_index};
-ghost use Rattle.sbpl_open.specs.Heap.{AreAgreed, AreKeys, IsHeap, IsHeapBut, IsBehind, IsChild, IsSwapped, SameThere, rank_at};
+ghost use Rattle.std.specs.Prelude.{◌≡◌, ℕ, ◌+◌, ◌^◌, ◌<◌, length, slice_set};
+ghost use Rattle.sbpl_open.specs.Heap.{AreAgreed, HasHole, IsBehind, IsChild, IsHeap, SameKeys, filled, placed_at, rank_at};
 
-use crate::keys::Keys;
+use crate::Entry;
 
-/// Brings the heap in order, where it is in order but at one place.
-pub(crate) fn sift(heap: &mut [u32], places: &mut [u32], keys: &Keys, at: usize)
+/// Puts the entry into the heap, which is in order but at the hole.
+pub(crate) fn sift(heap: &mut [Entry], places: &mut [u32], hole: usize, entry: Entry)
     requires few { length places.old < 2 ^ 32 }
-    requires states { length keys.now.firsts.items ≡ length places.old }
-    requires tables { AreKeys keys.now.firsts.items keys.now.seconds.items }
-    requires agreed { AreAgreed heap.old places.old }
-    requires at { at < length heap.old }
-    requires ordered { IsHeapBut (length heap.old)
-        (rank_at keys.now.firsts.items keys.now.seconds.items heap.old) at }
+    requires hole { HasHole heap.old places.old hole entry }
     ensures agreed { AreAgreed heap.new places.new }
-    ensures there { SameThere places.old places.new }
-    ensures ordered { IsHeap (length heap.old)
-        (rank_at keys.now.firsts.items keys.now.seconds.items heap.new) }
+    ensures keys { SameKeys (filled heap.old hole entry) (placed_at places.old hole entry) heap.new
+        places.new }
+    ensures ordered { IsHeap (length heap.old) (rank_at heap.new) }
 {
-    let at = raise(heap, places, keys, at);
-    sink(heap, places, keys, at);
+    let hole = raise(heap, places, hole, entry);
+    let hole = sink(heap, places, hole, entry);
+    fill(heap, places, hole, entry);
 }
 
-/// Moves the state at this place up, as far as it comes before what is above it, and answers its
-/// place.
-fn raise(heap: &mut [u32], places: &mut [u32], keys: &Keys, mut at: usize) -> usize
+/// Moves the hole up, as far as the entry comes before what is above it, and answers its place.
+fn raise(heap: &mut [Entry], places: &mut [u32], mut hole: usize, entry: Entry) -> usize
     requires few { length places.old < 2 ^ 32 }
-    requires states { length keys.now.firsts.items ≡ length places.old }
-    requires tables { AreKeys keys.now.firsts.items keys.now.seconds.items }
-    requires agreed { AreAgreed heap.old places.old }
-    requires at { at < length heap.old }
-    requires ordered { IsHeapBut (length heap.old)
-        (rank_at keys.now.firsts.items keys.now.seconds.items heap.old) at }
-    ensures agreed { AreAgreed heap.new places.new }
-    ensures there { SameThere places.old places.new }
-    ensures inside { result < length heap.old }
-    ensures ordered { IsHeapBut (length heap.old)
-        (rank_at keys.now.firsts.items keys.now.seconds.items heap.new) result }
-    ensures behind { IsBehind (rank_at keys.now.firsts.items keys.now.seconds.items heap.new)
-        result }
+    requires hole { HasHole heap.old places.old hole entry }
+    ensures hole { HasHole heap.new places.new result entry }
+    ensures keys { SameKeys (filled heap.old hole entry) (placed_at places.old hole entry)
+        (filled heap.new result entry) (placed_at places.new result entry) }
+    ensures behind { IsBehind (rank_at (filled heap.new result entry)) result }
 {
-    while at > 0 {
-        let above = (at - 1) / 2;
-        if !keys.come_before(heap[at], heap[above]) {
+    while hole > 0 {
+        let above = (hole - 1) / 4;
+        let other = heap[above];
+        if !entry.comes_before(other) {
             break;
         }
-        swap(heap, places, at, above);
-        at = above;
+        fill(heap, places, hole, other);
+        hole = above;
     }
-    at
+    hole
 }
 
-/// Moves the state at this place down, as far as what is below comes before it.
-fn sink(heap: &mut [u32], places: &mut [u32], keys: &Keys, mut at: usize)
+/// Moves the hole down, as far as what is below comes before the entry, and answers its place.
+fn sink(heap: &mut [Entry], places: &mut [u32], mut hole: usize, entry: Entry) -> usize
     requires few { length places.old < 2 ^ 32 }
-    requires states { length keys.now.firsts.items ≡ length places.old }
-    requires tables { AreKeys keys.now.firsts.items keys.now.seconds.items }
-    requires agreed { AreAgreed heap.old places.old }
-    requires at { at < length heap.old }
-    requires ordered { IsHeapBut (length heap.old)
-        (rank_at keys.now.firsts.items keys.now.seconds.items heap.old) at }
-    requires behind { IsBehind (rank_at keys.now.firsts.items keys.now.seconds.items heap.old) at }
-    ensures agreed { AreAgreed heap.new places.new }
-    ensures there { SameThere places.old places.new }
-    ensures ordered { IsHeap (length heap.old)
-        (rank_at keys.now.firsts.items keys.now.seconds.items heap.new) }
+    requires hole { HasHole heap.old places.old hole entry }
+    requires behind { IsBehind (rank_at (filled heap.old hole entry)) hole }
+    ensures hole { HasHole heap.new places.new result entry }
+    ensures keys { SameKeys (filled heap.old hole entry) (placed_at places.old hole entry)
+        (filled heap.new result entry) (placed_at places.new result entry) }
+    ensures ordered { IsHeap (length heap.old) (rank_at (filled heap.new result entry)) }
 {
-    while let Some(below) = first_child(heap, keys, at) {
-        if !keys.come_before(heap[below], heap[at]) {
+    while let Some(below) = first_child(heap, hole) {
+        let other = heap[below];
+        if !other.comes_before(entry) {
             break;
         }
-        swap(heap, places, at, below);
-        at = below;
+        fill(heap, places, hole, other);
+        hole = below;
     }
+    hole
 }
 
-/// The one of the two places below a place whose state comes first.
-fn first_child(heap: &[u32], keys: &Keys, at: usize) -> Option<usize>
-    requires at { at < length heap.now }
-    requires tables { AreKeys keys.now.firsts.items keys.now.seconds.items }
-    requires states { (i : ℕ) → i < length heap.now
-        → slice_index heap.now i < length keys.now.firsts.items }
-    ensures child { IsChild (length heap.now)
-        (rank_at keys.now.firsts.items keys.now.seconds.items heap.now) at result }
+/// The one of the places below a place whose entry comes first.
+fn first_child(heap: &[Entry], place: usize) -> Option<usize>
+    requires { place < length heap.now }
+    ensures child { IsChild (length heap.now) (rank_at heap.now) place result }
 {
-    let left = 2 * at + 1;
-    if left >= heap.len() {
+    let first = 4 * place + 1;
+    if first >= heap.len() {
         return None;
     }
-    let right = left + 1;
-    if right < heap.len() && keys.come_before(heap[right], heap[left]) {
-        Some(right)
-    } else {
-        Some(left)
+    let mut best = first;
+    for child in first + 1..heap.len().min(first + 4) {
+        if heap[child].comes_before(heap[best]) {
+            best = child;
+        }
     }
+    Some(best)
 }
 
-/// Swaps the states at two places.
-pub(crate) fn swap(heap: &mut [u32], places: &mut [u32], a: usize, b: usize)
-    requires few { length places.old < 2 ^ 32 }
-    requires agreed { AreAgreed heap.old places.old }
-    requires first { a < length heap.old }
-    requires second { b < length heap.old }
-    ensures agreed { AreAgreed heap.new places.new }
-    ensures there { SameThere places.old places.new }
-    ensures swapped { IsSwapped (slice_index heap.old) (slice_index heap.new) a b }
+/// Writes an entry to a place of the heap.
+fn fill(heap: &mut [Entry], places: &mut [u32], place: usize, entry: Entry)
+    requires place { place < length heap.old }
+    requires few { place + 1 < 2 ^ 32 }
+    requires state { entry.state < length places.old }
+    ensures heap { heap.new ≡ slice_set heap.old place entry }
+    ensures places { places.new ≡ slice_set places.old entry.state (place + 1) }
 {
-    let s = heap[a];
-    let u = heap[b];
-    heap[a] = u;
-    heap[b] = s;
-    places[u as usize] = a as u32 + 1;
-    places[s as usize] = b as u32 + 1;
+    heap[place] = entry;
+    places[entry.state as usize] = place as u32 + 1;
 }

@@ -1,7 +1,9 @@
-use Rattle.std.proofs.Common.{◌≡◌, ◌∙◌, ◌-◌, take, slice_index, arith, ap}
-use Rattle.std.proofs.lemmas.List.{with_items_is}
+use Rattle.std.proofs.Common.{◌≡◌, ◌+◌, ◌∙◌, ◌-◌, ◌≤◌, length, take, slice_index, arith}
+use Rattle.std.proofs.lemmas.List.{get_or_read, with_items_is}
+use Rattle.sbpl_open.specs.Entries.{entry_at, no_entry}
 use Rattle.sbpl_open.proofs.Agreeing.{place_at}
-use Rattle.sbpl_open.proofs.Sifting.{removed_agreed, removed_but, removed_last}
+use Rattle.sbpl_open.proofs.Ending.{agreed_leaving, hole_closing, keys_closing, keys_leaving}
+use Rattle.sbpl_open.proofs.Keeping.{changes_then}
 use Rattle.sbpl_open.proofs.ends.remove.Goals as goal
 
 pub overflow_sub-last : goal.overflow_sub-last
@@ -9,52 +11,46 @@ overflow_sub-last c =
     let place = place_at c.args.s c.requires.agreed c.requires.there in
     omega (arith, c.len-last.ensures, place.0)
 
-pub swap-requires-clause-first : goal.swap-requires-clause-first
-swap-requires-clause-first c =
+pub index-moved-requires : goal.index-moved-requires
+index-moved-requires c =
     let place = place_at c.args.s c.requires.agreed c.requires.there in
-    rw c.deref_mut.ensures.value place.0
+    omega (arith, c.len-last.ensures, place.0)
 
-pub swap-requires-clause-second : goal.swap-requires-clause-second
-swap-requires-clause-second c =
-    let place = place_at c.args.s c.requires.agreed c.requires.there in
-    omega (arith, c.len-last.ensures, c.deref_mut.ensures.len, place.0)
-
-pub sift-requires-clause-agreed : goal.sift-requires-clause-agreed
-sift-requires-clause-agreed c =
+pub sift-requires-clause-hole : goal.sift-requires-clause-hole
+sift-requires-clause-hole c =
     let heap = c.args.heap.now.items in
+    let last = c.len-last.result - 1 in
     let place = place_at c.args.s c.requires.agreed c.requires.there in
-    let swapped = rw c.deref_mut.ensures.value at c.swap.ensures.swapped in
-    let cut : c.deref_mut-then-at-last.result.now ≡ take (c.len-last.result - 1) c.swap.new.heap =
-    c.deref_mut-then-at-last.ensures.value ∙ c.truncate.ensures.items ∙ ap (take (c.len-last.result - 1)) (with_items_is c.args.heap.now c.swap.new.heap (omega arith)) in
-    removed_agreed heap c.swap.new.heap c.deref_mut-then-at-last.result.now c.args.s (slice_index c.args.places.now c.args.s - 1) (c.len-last.result - 1)
-    swapped place.1 place.0 (omega arith) (omega arith) cut c.swap.ensures.agreed
+    let len : length heap ≡ last + 1 = omega (arith, c.len-last.ensures, place.0) in
+    let moved : c.index-moved.result.now ≡ entry_at heap last = get_or_read heap last c.index-moved.result.now (omega arith) c.index-moved.ensures no_entry in
+    rw (c.deref_mut.ensures.value ∙ c.truncate.ensures.items, moved)
+    (hole_closing heap c.args.places.now c.args.s (slice_index c.args.places.now c.args.s - 1) last c.requires.agreed c.requires.ordered len place.1 c.if-gap-last.true)
 
-pub sift-requires-clause-ordered : goal.sift-requires-clause-ordered
-sift-requires-clause-ordered c =
+pub returns-then-gap-last-clause-keys : goal.returns-then-gap-last-clause-keys
+returns-then-gap-last-clause-keys c =
     let heap = c.args.heap.now.items in
+    let last = c.len-last.result - 1 in
     let place = place_at c.args.s c.requires.agreed c.requires.there in
-    let swapped = rw c.deref_mut.ensures.value at c.swap.ensures.swapped in
-    let cut : c.deref_mut-then-at-last.result.now ≡ take (c.len-last.result - 1) c.swap.new.heap =
-    c.deref_mut-then-at-last.ensures.value ∙ c.truncate.ensures.items ∙ ap (take (c.len-last.result - 1)) (with_items_is c.args.heap.now c.swap.new.heap (omega arith)) in
-    removed_but heap c.swap.new.heap c.deref_mut-then-at-last.result.now c.args.s (slice_index c.args.places.now c.args.s - 1) (c.len-last.result - 1)
-    swapped place.1 place.0 (omega arith) (omega arith) cut _ _ c.if-at-last.true c.requires.ordered
+    let len : length heap ≡ last + 1 = omega (arith, c.len-last.ensures, place.0) in
+    let moved : c.index-moved.result.now ≡ entry_at heap last = get_or_read heap last c.index-moved.result.now (omega arith) c.index-moved.ensures no_entry in
+    let kept = rw (c.deref_mut.ensures.value ∙ c.truncate.ensures.items, moved) at c.sift.ensures.keys in
+    rw (with_items_is c.truncate.new.self c.sift.new.heap (omega arith))
+    (changes_then (keys_closing heap c.args.places.now c.args.s (slice_index c.args.places.now c.args.s - 1) last c.requires.agreed c.requires.ordered len place.1 c.if-gap-last.true) kept)
 
-pub returns-else-at-last-clause-agreed : goal.returns-else-at-last-clause-agreed
-returns-else-at-last-clause-agreed c =
+pub returns-else-gap-last-clause-agreed : goal.returns-else-gap-last-clause-agreed
+returns-else-gap-last-clause-agreed c =
     let heap = c.args.heap.now.items in
+    let last = c.len-last.result - 1 in
     let place = place_at c.args.s c.requires.agreed c.requires.there in
-    let swapped = rw c.deref_mut.ensures.value at c.swap.ensures.swapped in
-    let cut : c.truncate.new.self.items ≡ take (c.len-last.result - 1) c.swap.new.heap =
-    c.truncate.ensures.items ∙ ap (take (c.len-last.result - 1)) (with_items_is c.args.heap.now c.swap.new.heap (omega arith)) in
-    removed_agreed heap c.swap.new.heap c.truncate.new.self.items c.args.s (slice_index c.args.places.now c.args.s - 1) (c.len-last.result - 1)
-    swapped place.1 place.0 (omega arith) (omega arith) cut c.swap.ensures.agreed
+    let len : length heap ≡ last + 1 = omega (arith, c.len-last.ensures, place.0) in
+    rw c.truncate.ensures.items
+    (agreed_leaving heap c.args.places.now c.args.s (slice_index c.args.places.now c.args.s - 1) last c.requires.agreed c.requires.ordered len place.1 c.if-gap-last.false place.0)
 
-pub returns-else-at-last-clause-ordered : goal.returns-else-at-last-clause-ordered
-returns-else-at-last-clause-ordered c =
+pub returns-else-gap-last-clause-keys : goal.returns-else-gap-last-clause-keys
+returns-else-gap-last-clause-keys c =
     let heap = c.args.heap.now.items in
+    let last = c.len-last.result - 1 in
     let place = place_at c.args.s c.requires.agreed c.requires.there in
-    let swapped = rw c.deref_mut.ensures.value at c.swap.ensures.swapped in
-    let cut : c.truncate.new.self.items ≡ take (c.len-last.result - 1) c.swap.new.heap =
-    c.truncate.ensures.items ∙ ap (take (c.len-last.result - 1)) (with_items_is c.args.heap.now c.swap.new.heap (omega arith)) in
-    removed_last heap c.swap.new.heap c.truncate.new.self.items c.args.s (slice_index c.args.places.now c.args.s - 1) (c.len-last.result - 1)
-    swapped place.1 place.0 (omega arith) (omega arith) cut _ _ c.if-at-last.false c.requires.ordered
+    let len : length heap ≡ last + 1 = omega (arith, c.len-last.ensures, place.0) in
+    rw c.truncate.ensures.items
+    (keys_leaving heap c.args.places.now c.args.s (slice_index c.args.places.now c.args.s - 1) last c.requires.agreed c.requires.ordered len place.1 c.if-gap-last.false place.0)

@@ -1,11 +1,11 @@
 use Rattle.std.proofs.Common.{◌-◌, length}
-use Rattle.sbpl_open.specs.Heap.{IsBehind, rank_at}
-use Rattle.sbpl_open.proofs.Sifting.{IsSifting}
+use Rattle.sbpl_open.specs.Heap.{IsBehind, filled, rank_at}
+use Rattle.sbpl_open.proofs.Sifting.{IsMoving}
 use Rattle.sbpl_open.proofs.sift.sink.Given as goal
 
 abbrev pub invariant-loop-below : goal.invariant-loop-below
 invariant-loop-below l =
-    IsSifting (length l.fn.heap) l.fn.places l.heap l.places l.keys.firsts.items l.keys.seconds.items l.at × IsBehind (rank_at l.keys.firsts.items l.keys.seconds.items l.heap) l.at
+    IsMoving l.fn.heap l.fn.places l.fn.hole l.heap l.places l.hole l.entry × IsBehind (rank_at (filled l.heap l.hole l.entry)) l.hole
 
 abbrev pub decreases-loop-below : goal.decreases-loop-below
-decreases-loop-below l = length l.heap - l.at
+decreases-loop-below l = length l.heap - l.hole

@@ -6,16 +6,13 @@ use Rattle.sbpl_open.proofs.open.Open.clear.Goals as goal
 
 pub returns-clause-states : goal.returns-clause-states
 returns-clause-states c =
+    let h = c.self.inside.heap.items in
     let p = c.self.inside.places.items in
-    let f = c.self.inside.keys.firsts.items in
-    let s = c.self.inside.keys.seconds.items in
     let same = with_items_is c.self.inside.places c.empty.new.places (omega arith) in
-    let states : length c.empty.new.places ≡ states_of c.args.self.now = omega (arith, states_view p f s c.self.view_is) in
-    states_are _ f s ∙ ap length same ∙ states
+    let states : length c.empty.new.places ≡ states_of c.args.self.now = omega (arith, states_view h p c.self.view_is) in
+    states_are _ _ ∙ ap length same ∙ states
 
 pub returns-clause-empty : goal.returns-clause-empty
 returns-clause-empty c =
-    let f = c.self.inside.keys.firsts.items in
-    let s = c.self.inside.keys.seconds.items in
     let same = with_items_is c.self.inside.places c.empty.new.places (omega arith) in
-    empty_fresh _ f s (λ u inside. ap (λ (xs : List ℕ). slice_index xs u) same ∙ c.empty.ensures.places u)
+    empty_fresh _ _ (λ u inside. ap (λ (xs : List ℕ). slice_index xs u) same ∙ c.empty.ensures.places u)

@@ -1,48 +1,36 @@
-use Rattle.std.proofs.Common.{◌≡◌, ◌∙◌, List, ℕ, slice_index, length, arith, ap, refl}
-use Rattle.std.proofs.lemmas.List.{with_items_is, get_or-set_same, get_or-set_other}
-use Rattle.std.specs.Vec.{with_items}
-use Rattle.sbpl_open.specs.Heap.{is_there}
-use Rattle.sbpl_open.proofs.Sifting.{heap_grown}
-use Rattle.sbpl_open.proofs.Viewing.{states_view, changes_view}
+use Rattle.std.proofs.Common.{◌≡◌, ◌∙◌, length, arith, ap}
+use Rattle.std.proofs.lemmas.List.{with_items_is}
+use Rattle.sbpl_open.proofs.Keeping.{changes_then}
+use Rattle.sbpl_open.proofs.Viewing.{states_view, changes_view, small_put}
 use Rattle.sbpl_open.proofs.open.Open.put.Goals as goal
 
-pub set-requires-clause-state : goal.set-requires-clause-state
-set-requires-clause-state c =
-    omega (arith, states_view c.self.inside.places.items c.self.inside.keys.firsts.items c.self.inside.keys.seconds.items c.self.view_is)
+pub hole_for-hole-requires-clause-state : goal.hole_for-hole-requires-clause-state
+hole_for-hole-requires-clause-state c =
+    omega (arith, ap length c.deref.ensures.value, states_view c.self.inside.heap.items c.self.inside.places.items c.self.view_is)
 
-pub place_of-at-requires-clause-state : goal.place_of-at-requires-clause-state
-place_of-at-requires-clause-state c =
-    omega (arith, c.deref_mut.ensures.len, states_view c.self.inside.places.items c.self.inside.keys.firsts.items c.self.inside.keys.seconds.items c.self.view_is)
-
-pub sift-requires-clause-ordered : goal.sift-requires-clause-ordered
-sift-requires-clause-ordered c =
-    let f = c.self.inside.keys.firsts.items in
-    let s = c.self.inside.keys.seconds.items in
-    rw c.deref_mut-2.ensures.value
-    (heap_grown f c.set.new.self.firsts.items s c.set.new.self.seconds.items c.place_of-at.ensures.agreed c.place_of-at.ensures.grown
-    (λ u apart. ap (λ (xs : List ℕ). slice_index xs u) c.set.ensures.firsts ∙ get_or-set_other f c.args.s u c.args.key.0 0 apart)
-    (λ u apart. ap (λ (xs : List ℕ). slice_index xs u) c.set.ensures.seconds ∙ get_or-set_other s c.args.s u c.args.key.1 0 apart) c.self.invariant.ordered)
+pub invariant_of-self : goal.invariant_of-self
+invariant_of-self c =
+    let heap = with_items_is c.hole_for-hole.new.heap c.sift.new.heap (omega arith) in
+    let places = with_items_is c.self.inside.places c.sift.new.places (omega arith) in
+    let len : length c.deref_mut.result.now ≡ length c.sift.new.heap = omega arith in
+    let put = rw c.deref.ensures.value at c.hole_for-hole.ensures.keys in
+    let kept = rw (c.deref_mut.ensures.value, c.deref_mut-2.ensures.value) at c.sift.ensures.keys in
+    rw (heap, places)
+    (record {
+      few = omega (arith, c.self.invariant.few);
+      agreed = c.sift.ensures.agreed;
+      ordered = rw len at c.sift.ensures.ordered;
+      small = small_put c.self.invariant.small (changes_then put kept) (omega arith);
+      enough_room = omega (arith, c.hole_for-hole.ensures.room, c.self.invariant.enough_room);
+    })
 
 pub returns : goal.returns
 returns c =
+    let h = c.self.inside.heap.items in
     let p = c.self.inside.places.items in
-    let f = c.self.inside.keys.firsts.items in
-    let s = c.self.inside.keys.seconds.items in
-    let states = states_view p f s c.self.view_is in
-    let joins = rw c.deref_mut.ensures.value at c.place_of-at.ensures.there in
-    let first = with_items_is c.self.inside.places c.place_of-at.new.places (omega arith) in
-    let second = with_items_is (with_items c.self.inside.places c.place_of-at.new.places) c.sift.new.places (omega arith) in
-    let len : length c.sift.new.places ≡ length p = omega arith in
-    let there : (u : ℕ) → is_there (with_items (with_items c.self.inside.places c.place_of-at.new.places) c.sift.new.places).items u ≡ is_there c.place_of-at.new.places u =
-    λ u.
-    ap (λ (xs : List ℕ). is_there xs u) second ∙ c.sift.ensures.there u ∙ ap (λ (xs : List ℕ). is_there xs u) (c.deref_mut-3.ensures.value ∙ first) in
-    let own_first = ap (λ (xs : List ℕ). slice_index xs c.args.s) c.set.ensures.firsts ∙ get_or-set_same f c.args.s c.args.key.0 0 (omega (arith, c.self.invariant.states)) in
-    let own_second = ap (λ (xs : List ℕ). slice_index xs c.args.s) c.set.ensures.seconds ∙ get_or-set_same s c.args.s c.args.key.1 0 (omega (arith, c.self.invariant.states, c.self.invariant.tables.same)) in
-    record {
-      changed =
-          changes_view p f s _ c.set.new.self.firsts.items c.set.new.self.seconds.items c.args.s _ c.self.view_is (ap length second ∙ len)
-          (λ u apart. there u ∙ joins.others u apart)
-          (λ u apart. ap (λ (xs : List ℕ). slice_index xs u) c.set.ensures.firsts ∙ get_or-set_other f c.args.s u c.args.key.0 0 apart)
-          (λ u apart. ap (λ (xs : List ℕ). slice_index xs u) c.set.ensures.seconds ∙ get_or-set_other s c.args.s u c.args.key.1 0 apart)
-          (rw (there c.args.s ∙ joins.there, own_first, own_second) refl);
-    }
+    let heap = with_items_is c.hole_for-hole.new.heap c.sift.new.heap (omega arith) in
+    let places = with_items_is c.self.inside.places c.sift.new.places (omega arith) in
+    let states : length c.sift.new.places ≡ length p = omega arith in
+    let put = rw c.deref.ensures.value at c.hole_for-hole.ensures.keys in
+    let kept = rw (c.deref_mut.ensures.value, c.deref_mut-2.ensures.value) at c.sift.ensures.keys in
+    record { changed = changes_view h p _ _ c.args.s _ c.self.view_is (ap length places ∙ states) (rw (heap, places) (changes_then put kept)) }
