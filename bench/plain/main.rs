@@ -384,21 +384,14 @@ impl Lattice {
 
 // ---- The heuristic ----
 
-/// The least cost for each cell, or each bin, of some kind of motion.
+/// The cost for each unit, a cell or a bin, of the cheapest motion of some kind.
 #[derive(Clone, Copy)]
 struct Rate {
     cost: u64,
     units: u64,
 }
 
-impl Rate {
-    /// The least of the rates, if there is one.
-    fn least(rates: impl Iterator<Item = Rate>) -> Option<Rate> {
-        rates.min_by(|a, b| (a.cost * b.units).cmp(&(b.cost * a.units)))
-    }
-}
-
-/// What so many units cost at least. No motion bounds nothing.
+/// What so many units cost at least. Without a motion of the kind nothing is known.
 fn bound_over(units: u64, rate: Option<Rate>) -> u64 {
     rate.map_or(0, |rate| units * rate.cost / rate.units)
 }
@@ -410,11 +403,13 @@ struct Guide {
 }
 
 impl Guide {
+    /// The bounds on the present map.
     fn new(lattice: &Lattice, goal: Pos) -> Guide {
         let rate = |units: &dyn Fn(usize, &Arc) -> i64| {
             let arcs = lattice.arcs.iter().enumerate().flat_map(|(from, arcs)| arcs.iter().map(move |arc| (from, arc)));
             let rates = arcs.map(|(from, arc)| (arc.cost, units(from, arc))).filter(|&(_, units)| units > 0);
-            Rate::least(rates.map(|(cost, units)| Rate { cost, units: units as u64 }))
+            let rates = rates.map(|(cost, units)| Rate { cost, units: units as u64 });
+            rates.min_by(|a, b| (a.cost * b.units).cmp(&(b.cost * a.units)))
         };
         let ways_x = [rate(&|_, arc| arc.dx.into()), rate(&|_, arc| (-arc.dx).into())];
         let ways_y = [rate(&|_, arc| arc.dy.into()), rate(&|_, arc| (-arc.dy).into())];
@@ -543,18 +538,17 @@ impl Search {
             self.open.pop();
             if self.key(guide, inflation, key.state) == Some(key) {
                 expanded += 1;
-                self.expand(lattice, guide, inflation, key.state);
+                if self.label(key.state).g < self.label(key.state).v {
+                    self.settle(lattice, guide, inflation, key.state);
+                } else {
+                    self.raise(lattice, guide, inflation, key.state);
+                }
             }
         }
-        self.gather();
-        expanded
-    }
-
-    /// Lists the states that the pass leaves unsettled.
-    fn gather(&mut self) {
         let mut left = std::mem::take(&mut self.inconsistent);
         left.extend(self.open.iter().map(|Reverse(key)| key.state));
         self.list_unsettled(left);
+        expanded
     }
 
     /// Adds those of the states that are unsettled to the list.
@@ -591,16 +585,8 @@ impl Search {
         }
     }
 
-    fn expand(&mut self, lattice: &Lattice, guide: &Guide, inflation: u64, state: u32) {
-        if self.label(state).g < self.label(state).v {
-            self.lower_heads(lattice, guide, inflation, state);
-        } else {
-            self.raise(lattice, guide, inflation, state);
-        }
-    }
-
-    /// Settles an overconsistent state and lowers its heads.
-    fn lower_heads(&mut self, lattice: &Lattice, guide: &Guide, inflation: u64, state: u32) {
+    /// Expands an overconsistent state: its heads are lowered by what it costs now.
+    fn settle(&mut self, lattice: &Lattice, guide: &Guide, inflation: u64, state: u32) {
         let label = &mut self.labels[state as usize];
         label.v = label.g;
         label.closed = self.pass;
@@ -617,7 +603,7 @@ impl Search {
         }
     }
 
-    /// Takes back what an underconsistent state gave its heads.
+    /// Expands an underconsistent state: what its heads had from it is taken back.
     fn raise(&mut self, lattice: &Lattice, guide: &Guide, inflation: u64, state: u32) {
         self.labels[state as usize].v = FAR;
         let pos = lattice.pos(state);
