@@ -1,0 +1,990 @@
+//! A plain yardstick for the proved planner.
+//!
+//! The planner of this repository is written in Rattle and proved. This program does the same work in plain Rust: no
+//! contracts, no proofs, no code in common, only the standard library. It was written from the definition of the
+//! planner's behaviour alone, and it serves two ends.
+//!
+//! - *Speed.* Its expansions a second say what the same search costs in ordinary Rust on the same machine.
+//! - *Bytes.* What it prints must be what the proved program prints, byte for byte, on every seed, size and file.
+//!
+//! It knows two commands, with the robot as a point (radius 0) and without a budget:
+//!
+//! ```text
+//! plain demo SEED W H
+//! plain plan ENV MPRIM [--changes F] [--planner ad|ara] [--first E] [--step E] [--bound B]
+//! ```
+//!
+//! It trusts its input: words and files that the proved program refuses make it panic, or are read as they come.
+//!
+//! All numbers are whole: lengths are nanometres, angles nanoradians, times nanoseconds, speeds nanometres a second,
+//! inflations and bounds thousandths. Labels stand in one flat array, a record for each state. OPEN is the standard
+//! `BinaryHeap` with lazy deletion: a state is pushed again where its key changes, and an entry that is no longer its
+//! state's key is dropped when it is met.
+//!
+//! Build: `rustc -O -C target-cpu=x86-64 --edition 2021 bench/plain/main.rs -o plain`
+
+use std::cmp::{Ordering, Reverse};
+use std::collections::{BTreeMap, BinaryHeap};
+use std::fmt::Write as _;
+
+/// Stands for infinity among labels.
+const FAR: u64 = 1 << 63;
+/// A full turn in nanoradians.
+const TAU: i128 = 6_283_185_307;
+/// The headings of the lattice.
+const HEADINGS: usize = 16;
+/// The inflation and the bound of one.
+const ONE: u64 = 1000;
+/// The greatest inflation.
+const HUNDRED: u64 = 100 * ONE;
+
+fn main() {
+    let words: Vec<String> = std::env::args().skip(1).collect();
+    let words: Vec<&str> = words.iter().map(String::as_str).collect();
+    match words[..] {
+        ["demo", seed, width, height] => demo(number(seed), number(width), number(height)),
+        ["plan", env, primitives, ref options @ ..] => plan(env, primitives, options),
+        _ => panic!("usage: plain demo SEED W H, or plain plan ENV MPRIM [OPTIONS]"),
+    }
+}
+
+/// Draws a problem from the seed, plans on it, and prints a line for each plan.
+fn demo(seed: u64, width: i32, height: i32) {
+    let problem = draw_problem(seed, width, height);
+    let states = problem.env.costs.len() * HEADINGS;
+    println!("demo states {states} primitives {} batches {}", problem.primitives.len(), problem.batches.len());
+    let settings = Settings { repair: true, first: 3 * ONE, step: ONE / 2, bound: ONE };
+    problem.solve(&settings, |number, plan| print!("{}", plan.line(number)));
+    println!("done");
+}
+
+/// Reads a problem from files, plans on it, and prints a section for each plan.
+fn plan(env: &str, primitives: &str, options: &[&str]) {
+    let read = |name: &str| std::fs::read_to_string(name).unwrap_or_else(|fault| panic!("{name}: {fault}"));
+    let mut settings = Settings { repair: true, first: ONE, step: ONE / 2, bound: ONE };
+    let mut batches = Vec::new();
+    for option in options.chunks(2) {
+        let thousandths = || (nano(option[1]) / 1_000_000) as u64;
+        match option[0] {
+            "--changes" => batches = read_changes(&read(option[1])),
+            "--planner" => settings.repair = option[1] == "ad",
+            "--first" => settings.first = thousandths(),
+            "--step" => settings.step = thousandths(),
+            "--bound" => settings.bound = thousandths(),
+            other => panic!("unknown option {other}"),
+        }
+    }
+    let env = read_env(Tokens::of(&read(env)));
+    let primitives = read_primitives(Tokens::of(&read(primitives)));
+    Problem { env, primitives, batches }.solve(&settings, |number, plan| print!("{}", plan.section(number)));
+    println!("done");
+}
+
+// ---- What is planned on ----
+
+/// A point, in nanometres.
+#[derive(Clone, Copy)]
+struct Point {
+    x: i64,
+    y: i64,
+}
+
+/// A cell and a heading.
+#[derive(Clone, Copy)]
+struct Pos {
+    x: i32,
+    y: i32,
+    heading: usize,
+}
+
+/// The map, its thresholds and scales, and where the robot is and is to go. Row `y` of the costs begins at `y * width`.
+struct Env {
+    width: i32,
+    height: i32,
+    obstacle: u8,
+    inscribed: u8,
+    cell: i64,
+    speed: i64,
+    turn45: i64,
+    start: Pos,
+    goal: Pos,
+    costs: Vec<u8>,
+}
+
+/// A motion from a heading to a heading and to the cell `(dx, dy)` away. Its way leads through points that are given from
+/// the centre of the source's cell. The angles on the way have no effect on a plan and are left out.
+struct Primitive {
+    id: u32,
+    from: usize,
+    dx: i32,
+    dy: i32,
+    to: usize,
+    multiplier: u64,
+    way: Vec<Point>,
+}
+
+/// A new cost for a cell.
+#[derive(Clone, Copy)]
+struct Write {
+    x: i32,
+    y: i32,
+    cost: u8,
+}
+
+/// All that a run plans on: the first map, the primitives, and batches of writes with a plan after each.
+struct Problem {
+    env: Env,
+    primitives: Vec<Primitive>,
+    batches: Vec<Vec<Write>>,
+}
+
+/// How to plan: by repair (Anytime D*) or anew on each map (ARA*), from which inflation by which steps to which bound.
+struct Settings {
+    repair: bool,
+    first: u64,
+    step: u64,
+    bound: u64,
+}
+
+impl Problem {
+    /// Makes the plan on the first map and one after each batch, and shows each with its number.
+    fn solve(&self, settings: &Settings, show: impl Fn(usize, &Plan)) {
+        let mut planner = Planner::new(&self.env, &self.primitives);
+        show(0, &planner.plan(settings));
+        for (number, batch) in self.batches.iter().enumerate() {
+            planner.change(batch, settings.repair);
+            show(number + 1, &planner.plan(settings));
+        }
+    }
+}
+
+/// The heading whose bin is nearest to the angle.
+fn heading_of(angle: i64) -> usize {
+    let n = HEADINGS as i128;
+    ((2 * n * i128::from(angle).rem_euclid(TAU) + TAU) / (2 * TAU) % n) as usize
+}
+
+/// The least number of bins between two headings, either way around.
+fn turns_between(a: usize, b: usize) -> u64 {
+    let apart = a.abs_diff(b);
+    apart.min(HEADINGS - apart) as u64
+}
+
+impl Primitive {
+    /// The milliseconds of the way or of the turn, whichever are more, times the multiplier.
+    fn cost(&self, env: &Env) -> u64 {
+        let length: u128 = self.way.windows(2).map(|pair| distance(&pair[0], &pair[1])).sum();
+        let turn = 8000 * u128::from(turns_between(self.from, self.to)) * env.turn45 as u128;
+        let driving = (1000 * length).div_ceil(env.speed as u128);
+        let turning = turn.div_ceil(HEADINGS as u128 * 1_000_000_000);
+        self.multiplier * driving.max(turning) as u64
+    }
+
+    /// The cells of the way, from the source's cell. Lengths are doubled, so that half a cell is a whole number.
+    fn centres(&self, cell: i64) -> impl Iterator<Item = (i64, i64)> + '_ {
+        let over = move |length: i64| (cell + 2 * length).div_euclid(2 * cell);
+        self.way.iter().map(move |point| (over(point.x), over(point.y)))
+    }
+}
+
+/// The distance of two points, rounded up to whole nanometres.
+fn distance(a: &Point, b: &Point) -> u128 {
+    let (x, y) = (u128::from(a.x.abs_diff(b.x)), u128::from(a.y.abs_diff(b.y)));
+    let square = x * x + y * y;
+    let root = square.isqrt();
+    root + u128::from(root * root < square)
+}
+
+// ---- The lattice ----
+
+/// The present map in a frame of cells that are never free. The frame is as wide as any arc reaches, so that a cell that
+/// an arc reads is found by adding an offset to a place, and needs no look at the map's edges.
+struct Map {
+    width: i32,
+    height: i32,
+    frame_x: i32,
+    frame_y: i32,
+    costs: Vec<u8>,
+}
+
+/// The cost of the frame's cells. No threshold is above it.
+const FRAME: u8 = u8::MAX;
+
+impl Map {
+    fn new(env: &Env, frame_x: i32, frame_y: i32) -> Map {
+        let cells = (env.width + 2 * frame_x) as usize * (env.height + 2 * frame_y) as usize;
+        let mut map = Map { width: env.width, height: env.height, frame_x, frame_y, costs: vec![FRAME; cells] };
+        for (y, row) in env.costs.chunks_exact(env.width as usize).enumerate() {
+            let from = map.place(0, y as i32);
+            map.costs[from..from + row.len()].copy_from_slice(row);
+        }
+        map
+    }
+
+    /// How far apart two cells of a column are.
+    fn stride(&self) -> isize {
+        (self.width + 2 * self.frame_x) as isize
+    }
+
+    /// Where the cell `(x, y)` stands among the costs.
+    fn place(&self, x: i32, y: i32) -> usize {
+        (self.offset(x, y) + self.offset(self.frame_x, self.frame_y)) as usize
+    }
+
+    /// How far the cell `(dx, dy)` away stands.
+    fn offset(&self, dx: i32, dy: i32) -> isize {
+        dy as isize * self.stride() + dx as isize
+    }
+
+    /// The cell that stands at a place, unless it is one of the frame.
+    fn cell(&self, place: usize) -> Option<(i32, i32)> {
+        let x = (place as isize % self.stride()) as i32 - self.frame_x;
+        let y = (place as isize / self.stride()) as i32 - self.frame_y;
+        self.has(x, y).then_some((x, y))
+    }
+
+    /// Whether the cell is on the map.
+    fn has(&self, x: i32, y: i32) -> bool {
+        (0..self.width).contains(&x) && (0..self.height).contains(&y)
+    }
+}
+
+/// A primitive on the lattice. It is an arc of every state that has its start heading.
+struct Arc {
+    id: u32,
+    dx: i32,
+    dy: i32,
+    to: usize,
+    /// Its cost where all cells cost nothing.
+    cost: u64,
+    /// How far away the end cell and the centre cells stand, each once.
+    reads: Box<[isize]>,
+}
+
+/// An arc seen from its head.
+struct Tail {
+    from: usize,
+    arc: usize,
+}
+
+/// The graph of the planner: states are cells with headings, arcs are primitives over free cells.
+struct Lattice {
+    map: Map,
+    /// Sources cost less than this.
+    obstacle: u8,
+    /// End cells and centre cells cost less than this.
+    blocked: u8,
+    arcs: [Vec<Arc>; HEADINGS],
+    tails: [Vec<Tail>; HEADINGS],
+}
+
+impl Lattice {
+    fn new(env: &Env, primitives: &[Primitive]) -> Lattice {
+        // An offset that is wider than the map leads off it from everywhere. Cut to the map's width, it still does.
+        let cut_x = |dx: i64| dx.clamp(-i64::from(env.width), i64::from(env.width)) as i32;
+        let cut_y = |dy: i64| dy.clamp(-i64::from(env.height), i64::from(env.height)) as i32;
+        let reads = |primitive: &Primitive| -> Vec<(i32, i32)> {
+            let end = (i64::from(primitive.dx), i64::from(primitive.dy));
+            primitive.centres(env.cell).chain([end]).map(|(dx, dy)| (cut_x(dx), cut_y(dy))).collect()
+        };
+        let reads: Vec<_> = primitives.iter().map(reads).collect();
+        let frame_x = reads.iter().flatten().map(|read| read.0.abs()).max().unwrap_or(0);
+        let frame_y = reads.iter().flatten().map(|read| read.1.abs()).max().unwrap_or(0);
+        let map = Map::new(env, frame_x, frame_y);
+
+        let mut arcs: [Vec<Arc>; HEADINGS] = Default::default();
+        let mut tails: [Vec<Tail>; HEADINGS] = Default::default();
+        for (primitive, reads) in primitives.iter().zip(reads) {
+            let &Primitive { id, from, dx, dy, to, .. } = primitive;
+            let mut reads: Vec<isize> = reads.iter().map(|&(dx, dy)| map.offset(dx, dy)).collect();
+            reads.sort_unstable();
+            reads.dedup();
+            let cost = primitive.cost(env);
+            tails[to].push(Tail { from, arc: arcs[from].len() });
+            arcs[from].push(Arc { id, dx, dy, to, cost, reads: reads.into() });
+        }
+        Lattice { map, obstacle: env.obstacle, blocked: env.obstacle.min(env.inscribed), arcs, tails }
+    }
+
+    fn states(&self) -> usize {
+        (self.map.width * self.map.height) as usize * HEADINGS
+    }
+
+    fn state(&self, pos: Pos) -> u32 {
+        (pos.y * self.map.width + pos.x) as u32 * HEADINGS as u32 + pos.heading as u32
+    }
+
+    fn pos(&self, state: u32) -> Pos {
+        let (cell, heading) = (state / HEADINGS as u32, state as usize % HEADINGS);
+        let width = self.map.width as u32;
+        Pos { x: (cell % width) as i32, y: (cell / width) as i32, heading }
+    }
+
+    /// The state to which the arc leads, unless it leads off the map.
+    fn head(&self, source: Pos, arc: &Arc) -> Option<u32> {
+        let (x, y) = (source.x + arc.dx, source.y + arc.dy);
+        self.map.has(x, y).then(|| self.state(Pos { x, y, heading: arc.to }))
+    }
+
+    /// The arc's cost on the present map, where it is free.
+    fn judge(&self, source: Pos, arc: &Arc) -> Option<u64> {
+        let place = self.map.place(source.x, source.y);
+        let mut worst = self.map.costs[place];
+        if worst >= self.obstacle {
+            return None;
+        }
+        for &read in &arc.reads {
+            let cost = self.map.costs[place.wrapping_add_signed(read)];
+            if cost >= self.blocked {
+                return None;
+            }
+            worst = worst.max(cost);
+        }
+        Some(arc.cost * (1 + u64::from(worst)))
+    }
+
+    /// The sources of the arcs that lead to a state, with the arcs and their numbers, in the primitives' order.
+    fn tails(&self, head: Pos) -> impl Iterator<Item = (Pos, usize, &Arc)> {
+        self.tails[head.heading].iter().filter_map(move |tail| {
+            let arc = &self.arcs[tail.from][tail.arc];
+            let (x, y) = (head.x - arc.dx, head.y - arc.dy);
+            self.map.has(x, y).then_some((Pos { x, y, heading: tail.from }, tail.arc, arc))
+        })
+    }
+
+    /// Writes the costs, and answers the heads of all arcs that read a cell whose cost is now another.
+    fn change(&mut self, batch: &[Write]) -> Vec<u32> {
+        let mut before = BTreeMap::new();
+        for write in batch {
+            let place = self.map.place(write.x, write.y);
+            let old = std::mem::replace(&mut self.map.costs[place], write.cost);
+            before.entry(place).or_insert(old);
+        }
+        let changed = before.into_iter().filter(|&(place, old)| self.map.costs[place] != old);
+        let mut heads: Vec<u32> = changed.flat_map(|(place, _)| self.heads_reading(place)).collect();
+        heads.sort_unstable();
+        heads.dedup();
+        heads
+    }
+
+    /// The heads of the arcs that read the cell at a place, some of them more than once.
+    fn heads_reading(&self, place: usize) -> Vec<u32> {
+        let mut heads = Vec::new();
+        for (heading, arcs) in self.arcs.iter().enumerate() {
+            for arc in arcs {
+                for read in arc.reads.iter().chain(&[0]) {
+                    let source = self.map.cell(place.wrapping_add_signed(-read));
+                    heads.extend(source.and_then(|(x, y)| self.head(Pos { x, y, heading }, arc)));
+                }
+            }
+        }
+        heads
+    }
+}
+
+// ---- The heuristic ----
+
+/// The cost for each unit, a cell or a bin, of the cheapest motion of some kind.
+#[derive(Clone, Copy)]
+struct Rate {
+    cost: u64,
+    units: u64,
+}
+
+/// What so many units cost at least. Without a motion of the kind nothing is known.
+fn bound_over(units: u64, rate: Option<Rate>) -> u64 {
+    rate.map_or(0, |rate| units * rate.cost / rate.units)
+}
+
+/// Lower bounds on the way to the goal: the greater of that of a state's cell and that of its heading.
+struct Guide {
+    cells: Vec<u64>,
+    headings: [u64; HEADINGS],
+}
+
+impl Guide {
+    /// The bounds on the present map.
+    fn new(lattice: &Lattice, goal: Pos) -> Guide {
+        let rate = |units: &dyn Fn(usize, &Arc) -> i64| {
+            let arcs = lattice.arcs.iter().enumerate().flat_map(|(from, arcs)| arcs.iter().map(move |arc| (from, arc)));
+            let rates = arcs.map(|(from, arc)| (arc.cost, units(from, arc))).filter(|&(_, units)| units > 0);
+            let rates = rates.map(|(cost, units)| Rate { cost, units: units as u64 });
+            rates.min_by(|a, b| (a.cost * b.units).cmp(&(b.cost * a.units)))
+        };
+        let ways_x = [rate(&|_, arc| arc.dx.into()), rate(&|_, arc| (-arc.dx).into())];
+        let ways_y = [rate(&|_, arc| arc.dy.into()), rate(&|_, arc| (-arc.dy).into())];
+        let turns = rate(&|from, arc| turns_between(from, arc.to) as i64);
+        let along = |ways: [Option<Rate>; 2], from: i32, to: i32| {
+            bound_over(from.abs_diff(to).into(), ways[usize::from(to < from)])
+        };
+
+        let mut cells = cell_bounds(lattice, goal);
+        for (cell, bound) in cells.iter_mut().enumerate() {
+            let pos = lattice.pos((cell * HEADINGS) as u32);
+            *bound = (*bound).max(along(ways_x, pos.x, goal.x)).max(along(ways_y, pos.y, goal.y));
+        }
+        let headings = std::array::from_fn(|heading| bound_over(turns_between(heading, goal.heading), turns));
+        Guide { cells, headings }
+    }
+
+    fn to_goal(&self, state: u32) -> u64 {
+        self.cells[state as usize / HEADINGS].max(self.headings[state as usize % HEADINGS])
+    }
+}
+
+/// The least cost of a walk from each cell to the goal's, over cells alone: by Dijkstra's algorithm, backwards. A cell
+/// without a walk gets the greatest cost of the others.
+fn cell_bounds(lattice: &Lattice, goal: Pos) -> Vec<u64> {
+    let map = &lattice.map;
+    let mut steps = BTreeMap::new();
+    for arc in lattice.arcs.iter().flatten().filter(|arc| (arc.dx, arc.dy) != (0, 0)) {
+        // A step that is wider than the map is none of this map's.
+        if arc.dx.abs() < map.width && arc.dy.abs() < map.height {
+            let least = steps.entry(map.offset(arc.dx, arc.dy)).or_insert(arc.cost);
+            *least = arc.cost.min(*least);
+        }
+    }
+
+    let mut bounds = vec![FAR; map.costs.len()];
+    let mut open = BinaryHeap::new();
+    bounds[map.place(goal.x, goal.y)] = 0;
+    open.push(Reverse((0, map.place(goal.x, goal.y))));
+    while let Some(Reverse((bound, end))) = open.pop() {
+        if bound > bounds[end] || map.costs[end] >= lattice.blocked {
+            continue;
+        }
+        for (step, least) in &steps {
+            let source = end.wrapping_add_signed(-step);
+            if map.costs[source] >= lattice.obstacle {
+                continue;
+            }
+            let sum = bound + least * (1 + u64::from(map.costs[source].max(map.costs[end])));
+            if sum < bounds[source] {
+                bounds[source] = sum;
+                open.push(Reverse((sum, source)));
+            }
+        }
+    }
+
+    let farthest = bounds.iter().copied().filter(|&bound| bound < FAR).max().unwrap_or(0);
+    let rows = (0..map.height).flat_map(|y| &bounds[map.place(0, y)..][..map.width as usize]);
+    rows.map(|&bound| if bound < FAR { bound } else { farthest }).collect()
+}
+
+// ---- The search ----
+
+/// The arc by which a state was reached.
+#[derive(Clone, Copy, PartialEq)]
+struct Back {
+    source: u32,
+    arc: u32,
+}
+
+/// What the search knows of a state: the cost `g` by the arcs into it, the cost `v` that its heads were given, the arc
+/// that gives `g`, and the last pass that closed it.
+#[derive(Clone, Copy)]
+struct Label {
+    g: u64,
+    v: u64,
+    back: Option<Back>,
+    closed: u32,
+}
+
+/// The order of OPEN.
+#[derive(Clone, Copy, PartialEq, Eq, PartialOrd, Ord)]
+struct Key {
+    first: u64,
+    second: u64,
+    state: u32,
+}
+
+/// The labels of all states, and what is open.
+struct Search {
+    labels: Vec<Label>,
+    start: u32,
+    goal: u32,
+    open: BinaryHeap<Reverse<Key>>,
+    /// States that were lowered after this pass closed them.
+    inconsistent: Vec<u32>,
+    /// Between passes: all states whose `g` and `v` differ.
+    unsettled: Vec<u32>,
+    pass: u32,
+}
+
+impl Search {
+    fn new(states: usize, start: u32, goal: u32) -> Search {
+        let mut labels = vec![Label { g: FAR, v: FAR, back: None, closed: 0 }; states];
+        labels[start as usize].g = 0;
+        let (open, inconsistent, unsettled) = (BinaryHeap::new(), Vec::new(), vec![start]);
+        Search { labels, start, goal, open, inconsistent, unsettled, pass: 0 }
+    }
+
+    fn label(&self, state: u32) -> &Label {
+        &self.labels[state as usize]
+    }
+
+    /// Expands states until no open key is below the goal's, and answers how many.
+    fn pass(&mut self, lattice: &Lattice, guide: &Guide, inflation: u64) -> u64 {
+        self.pass += 1;
+        self.open.clear();
+        for state in std::mem::take(&mut self.unsettled) {
+            self.place(guide, inflation, state);
+        }
+        let mut expanded = 0;
+        while let Some(&Reverse(key)) = self.open.peek() {
+            if (key.first, key.second) >= self.goal_key() {
+                break;
+            }
+            self.open.pop();
+            if self.key(guide, inflation, key.state) == Some(key) {
+                expanded += 1;
+                if self.label(key.state).g < self.label(key.state).v {
+                    self.settle(lattice, guide, inflation, key.state);
+                } else {
+                    self.raise(lattice, guide, inflation, key.state);
+                }
+            }
+        }
+        let mut left = std::mem::take(&mut self.inconsistent);
+        left.extend(self.open.iter().map(|Reverse(key)| key.state));
+        self.list_unsettled(left);
+        expanded
+    }
+
+    /// Adds those of the states that are unsettled to the list.
+    fn list_unsettled(&mut self, states: Vec<u32>) {
+        self.unsettled.extend(states);
+        self.unsettled.sort_unstable();
+        self.unsettled.dedup();
+        let labels = &self.labels;
+        self.unsettled.retain(|&state| labels[state as usize].g != labels[state as usize].v);
+    }
+
+    fn goal_key(&self) -> (u64, u64) {
+        let g = self.label(self.goal).g;
+        (g.saturating_mul(ONE), g)
+    }
+
+    /// The state's key, where it belongs into OPEN: where it is underconsistent, or overconsistent and not closed.
+    fn key(&self, guide: &Guide, inflation: u64, state: u32) -> Option<Key> {
+        let &Label { g, v, closed, .. } = self.label(state);
+        match g.cmp(&v) {
+            Ordering::Less if closed == self.pass => None,
+            Ordering::Less => Some(Key { first: ONE * g + inflation * guide.to_goal(state), second: g, state }),
+            Ordering::Greater => Some(Key { first: ONE * (v + guide.to_goal(state)), second: v, state }),
+            Ordering::Equal => None,
+        }
+    }
+
+    /// Puts the state into OPEN where it belongs there. Entries with older keys of it are thereby out of date.
+    fn place(&mut self, guide: &Guide, inflation: u64, state: u32) {
+        match self.key(guide, inflation, state) {
+            Some(key) => self.open.push(Reverse(key)),
+            None if self.label(state).g < self.label(state).v => self.inconsistent.push(state),
+            None => {}
+        }
+    }
+
+    /// Expands an overconsistent state: its heads are lowered by what it costs now.
+    fn settle(&mut self, lattice: &Lattice, guide: &Guide, inflation: u64, state: u32) {
+        let label = &mut self.labels[state as usize];
+        label.v = label.g;
+        label.closed = self.pass;
+        let (v, pos) = (label.v, lattice.pos(state));
+        for (number, arc) in lattice.arcs[pos.heading].iter().enumerate() {
+            let Some(head) = lattice.head(pos, arc) else { continue };
+            let Some(cost) = lattice.judge(pos, arc) else { continue };
+            let label = &mut self.labels[head as usize];
+            if v + cost < label.g && head != self.start {
+                label.g = v + cost;
+                label.back = Some(Back { source: state, arc: number as u32 });
+                self.place(guide, inflation, head);
+            }
+        }
+    }
+
+    /// Expands an underconsistent state: what its heads had from it is taken back.
+    fn raise(&mut self, lattice: &Lattice, guide: &Guide, inflation: u64, state: u32) {
+        self.labels[state as usize].v = FAR;
+        let pos = lattice.pos(state);
+        for (number, arc) in lattice.arcs[pos.heading].iter().enumerate() {
+            let Some(head) = lattice.head(pos, arc) else { continue };
+            if self.label(head).back == Some(Back { source: state, arc: number as u32 }) {
+                self.recompute(lattice, head);
+                self.place(guide, inflation, head);
+            }
+        }
+        self.place(guide, inflation, state);
+    }
+
+    /// Finds the state's `g` and the arc that gives it anew.
+    fn recompute(&mut self, lattice: &Lattice, state: u32) {
+        if state == self.start {
+            return;
+        }
+        let (mut g, mut back) = (FAR, None);
+        for (pos, number, arc) in lattice.tails(lattice.pos(state)) {
+            let source = lattice.state(pos);
+            let v = self.label(source).v;
+            let cost = if v < FAR { lattice.judge(pos, arc) } else { None };
+            if let Some(sum) = cost.map(|cost| v + cost).filter(|&sum| sum < g) {
+                (g, back) = (sum, Some(Back { source, arc: number as u32 }));
+            }
+        }
+        let label = &mut self.labels[state as usize];
+        (label.g, label.back) = (g, back);
+    }
+
+    /// Takes in that the map changed: each of the states may have other arcs into it.
+    fn change(&mut self, lattice: &Lattice, touched: Vec<u32>) {
+        for &state in &touched {
+            self.recompute(lattice, state);
+        }
+        self.list_unsettled(touched);
+    }
+
+    /// A lower bound on the cost of every path.
+    fn low(&self, guide: &Guide) -> u64 {
+        let sums = self.unsettled.iter().map(|&state| self.label(state).g.saturating_add(guide.to_goal(state)));
+        sums.fold(self.label(self.goal).g, u64::min)
+    }
+
+    /// Whether the labels show that there is no path: nothing that was reached is left to expand.
+    fn shows_none(&self) -> bool {
+        let left = |&state: &u32| self.label(state).g < FAR && self.label(state).v == FAR;
+        self.label(self.goal).g == FAR && !self.unsettled.iter().any(left)
+    }
+
+    /// Follows the back arcs from the goal to the start.
+    fn walk(&self, lattice: &Lattice, guide: &Guide) -> Walk {
+        if self.label(self.goal).g == FAR {
+            return Walk::None;
+        }
+        let (mut steps, mut cost, mut at) = (Vec::new(), 0, self.goal);
+        loop {
+            let label = self.label(at);
+            if label.v < label.g {
+                return Walk::Broken;
+            }
+            let Some(back) = label.back else { break };
+            let pos = lattice.pos(back.source);
+            let arc = &lattice.arcs[pos.heading][back.arc as usize];
+            cost += lattice.judge(pos, arc).expect("a back arc is free");
+            steps.push(Step { id: arc.id, end: lattice.pos(at) });
+            at = back.source;
+        }
+        steps.reverse();
+        Walk::Path(Path { start: lattice.pos(at), steps, cost, bound: bound_of(cost, self.low(guide)) })
+    }
+}
+
+/// The least bound, in thousandths, that a path of this cost keeps where no path costs less than `low`.
+fn bound_of(cost: u64, low: u64) -> u64 {
+    match cost {
+        0 => ONE,
+        _ => (u128::from(ONE) * u128::from(cost)).div_ceil(u128::from(low)).max(u128::from(ONE)) as u64,
+    }
+}
+
+// ---- Plans ----
+
+/// A step of a path: the primitive's id and where it ends.
+struct Step {
+    id: u32,
+    end: Pos,
+}
+
+/// A path with its cost and its bound.
+struct Path {
+    start: Pos,
+    steps: Vec<Step>,
+    cost: u64,
+    bound: u64,
+}
+
+/// What following the back arcs gives: a path, a chain with an underconsistent state, or nothing.
+enum Walk {
+    Path(Path),
+    Broken,
+    None,
+}
+
+/// A pass: its inflation, the states that it expanded, and the walk after it.
+struct Pass {
+    inflation: u64,
+    expanded: u64,
+    walk: Walk,
+}
+
+/// A plan: its passes, and whether the labels show that there is no path.
+struct Plan {
+    passes: Vec<Pass>,
+    no_path: bool,
+}
+
+/// Plans on a map that changes.
+struct Planner {
+    lattice: Lattice,
+    search: Search,
+}
+
+impl Planner {
+    fn new(env: &Env, primitives: &[Primitive]) -> Planner {
+        let lattice = Lattice::new(env, primitives);
+        let dearest = lattice.arcs.iter().flatten().map(|arc| 256 * arc.cost).max().unwrap_or(0);
+        let longest = u128::from(dearest) * lattice.states() as u128;
+        assert!(longest * u128::from(HUNDRED) < u128::from(FAR), "primitives too dear for keys of 64 bits");
+        let search = Search::new(lattice.states(), lattice.state(env.start), lattice.state(env.goal));
+        Planner { lattice, search }
+    }
+
+    /// Changes the map. The search is repaired, or begun anew.
+    fn change(&mut self, batch: &[Write], repair: bool) {
+        let touched = self.lattice.change(batch);
+        if repair {
+            self.search.change(&self.lattice, touched);
+        } else {
+            self.search = Search::new(self.lattice.states(), self.search.start, self.search.goal);
+        }
+    }
+
+    /// Makes passes of falling inflation until the path is good enough or none can be better.
+    fn plan(&mut self, settings: &Settings) -> Plan {
+        let guide = Guide::new(&self.lattice, self.lattice.pos(self.search.goal));
+        let mut passes = Vec::new();
+        let mut inflation = settings.first;
+        loop {
+            let expanded = self.search.pass(&self.lattice, &guide, inflation);
+            let walk = self.search.walk(&self.lattice, &guide);
+            let good = matches!(&walk, Walk::Path(path) if path.bound <= settings.bound);
+            passes.push(Pass { inflation, expanded, walk });
+            let no_path = self.search.shows_none();
+            if good || no_path || inflation == ONE {
+                return Plan { passes, no_path };
+            }
+            inflation = inflation.saturating_sub(settings.step).max(ONE);
+        }
+    }
+}
+
+impl Plan {
+    /// The result after the last pass, without the path's steps.
+    fn result(&self) -> String {
+        match &self.passes[self.passes.len() - 1].walk {
+            Walk::Path(Path { steps, cost, bound, .. }) => {
+                format!("path {} cost {cost} bound {}", steps.len(), thousandths(*bound))
+            }
+            _ if self.no_path => "nopath".into(),
+            _ => "unknown".into(),
+        }
+    }
+
+    /// One line for the whole plan.
+    fn line(&self, number: usize) -> String {
+        let expanded: u64 = self.passes.iter().map(|pass| pass.expanded).sum();
+        format!("plan {number} {} expanded {expanded}\n", self.result())
+    }
+
+    /// A line for each pass, the result, and a line for each step of the path.
+    fn section(&self, number: usize) -> String {
+        let mut out = format!("plan {number}\n");
+        for Pass { inflation, expanded, walk } in &self.passes {
+            let after = match walk {
+                Walk::Path(path) => format!("best {} bound {}", path.cost, thousandths(path.bound)),
+                Walk::Broken => "broken".into(),
+                Walk::None => "none".into(),
+            };
+            writeln!(out, "pass {} expanded {expanded} {after}", thousandths(*inflation)).unwrap();
+        }
+        writeln!(out, "{}", self.result()).unwrap();
+        if let Walk::Path(Path { start, steps, .. }) = &self.passes[self.passes.len() - 1].walk {
+            writeln!(out, "pose {} {} {}", start.x, start.y, start.heading).unwrap();
+            for Step { id, end } in steps {
+                writeln!(out, "step {id} {} {} {}", end.x, end.y, end.heading).unwrap();
+            }
+        }
+        out
+    }
+}
+
+/// A number of thousandths with three decimals.
+fn thousandths(value: u64) -> String {
+    format!("{}.{:03}", value / ONE, value % ONE)
+}
+
+// ---- Drawn problems ----
+
+/// The generator of drawn problems.
+struct Draws(u64);
+
+impl Draws {
+    fn draw(&mut self) -> u64 {
+        self.0 = self.0.wrapping_mul(6_364_136_223_846_793_005).wrapping_add(1_442_695_040_888_963_407);
+        self.0 >> 33
+    }
+}
+
+/// A map of so many cells with obstacles and dear cells, eighty primitives, and three batches of up to eight writes.
+fn draw_problem(seed: u64, width: i32, height: i32) -> Problem {
+    let mut draws = Draws(seed);
+    let ends = [(1, 1), (width - 2, height - 2)];
+    let mut costs: Vec<u8> = Vec::new();
+    for _ in 0..width * height {
+        costs.push(match draws.draw() % 100 {
+            0..15 => 254,
+            15..30 => 20,
+            _ => 0,
+        });
+    }
+    for (x, y) in ends {
+        costs[(y * width + x) as usize] = 0;
+    }
+    let mut batches = Vec::new();
+    for _ in 0..3 {
+        let mut batch = Vec::new();
+        for _ in 0..8 {
+            let x = (draws.draw() % width as u64) as i32;
+            let y = (draws.draw() % height as u64) as i32;
+            let cost = if draws.draw() % 2 == 1 { 254 } else { 0 };
+            if !ends.contains(&(x, y)) {
+                batch.push(Write { x, y, cost });
+            }
+        }
+        batches.push(batch);
+    }
+    let [start, goal] = ends.map(|(x, y)| Pos { x, y, heading: 0 });
+    let (cell, speed, turn45) = (25_000_000, 1_000_000_000, 2_000_000_000);
+    let env = Env { width, height, obstacle: 254, inscribed: 253, cell, speed, turn45, start, goal, costs };
+    Problem { env, primitives: sixteen_headings(), batches }
+}
+
+/// For each heading of drawn problems the least way along it, in cells.
+#[rustfmt::skip]
+const DIRECTIONS: [(i32, i32); HEADINGS] = [
+    (1, 0), (2, 1), (1, 1), (1, 2), (0, 1), (-1, 2), (-1, 1), (-2, 1),
+    (-1, 0), (-2, -1), (-1, -1), (-1, -2), (0, -1), (1, -2), (1, -1), (2, -1),
+];
+
+/// The primitives of drawn problems: for each heading a short way ahead, one back, both turns, and a long way ahead.
+fn sixteen_headings() -> Vec<Primitive> {
+    let mut primitives = Vec::new();
+    for (from, &(ux, uy)) in DIRECTIONS.iter().enumerate() {
+        let (left, right) = ((from + 1) % HEADINGS, (from + HEADINGS - 1) % HEADINGS);
+        let mut add = |id, (dx, dy), to, multiplier| {
+            // A ninth part of the way at a time, rounded to tenths of millimetres.
+            let along = |cells: i32, part: i64| (500 * i64::from(cells) * part + 9).div_euclid(18) * 100_000;
+            let way = (0..10).map(|part| Point { x: along(dx, part), y: along(dy, part) }).collect();
+            primitives.push(Primitive { id, from, dx, dy, to, multiplier, way });
+        };
+        add(0, (ux, uy), from, 1);
+        add(1, (-ux, -uy), from, 5);
+        add(2, (0, 0), left, 1);
+        add(3, (0, 0), right, 1);
+        add(4, (4 * ux, 4 * uy), from, 1);
+    }
+    primitives
+}
+
+// ---- Files ----
+
+/// The whole number that a text is.
+fn number<T: std::str::FromStr<Err: std::fmt::Debug>>(text: &str) -> T {
+    text.parse().unwrap_or_else(|fault| panic!("{text}: {fault:?}"))
+}
+
+/// The thousand millionths of a decimal. Digits after the ninth decimal are dropped.
+fn nano(text: &str) -> i64 {
+    let digits = text.trim_start_matches(['+', '-']);
+    let (whole, decimals) = digits.split_once('.').unwrap_or((digits, ""));
+    let value: i64 = number(&format!("0{whole}{decimals:0<9.9}"));
+    value * if text.starts_with('-') { -1 } else { 1 }
+}
+
+/// The tokens of a file, which stand between blanks.
+struct Tokens<'a>(Box<dyn Iterator<Item = &'a str> + 'a>);
+
+impl<'a> Tokens<'a> {
+    fn of(text: &'a str) -> Tokens<'a> {
+        let blank = |c: char| c.is_ascii_whitespace() || c == '\x0b';
+        Tokens(Box::new(text.split(blank).filter(|token| !token.is_empty())))
+    }
+
+    fn next(&mut self) -> &'a str {
+        self.0.next().expect("one more token")
+    }
+
+    /// Reads the fixed word that must stand here.
+    fn word(&mut self, word: &str) -> &mut Self {
+        assert_eq!(self.next(), word);
+        self
+    }
+
+    fn whole<T: TryFrom<i64, Error: std::fmt::Debug>>(&mut self) -> T {
+        T::try_from(number(self.next())).expect("a number in range")
+    }
+
+    fn nano(&mut self) -> i64 {
+        nano(self.next())
+    }
+
+    /// Reads a point and an angle.
+    fn pose(&mut self) -> (Point, i64) {
+        (Point { x: self.nano(), y: self.nano() }, self.nano())
+    }
+
+    /// Reads a pose as the cell and the heading that it is in.
+    fn pos(&mut self, cell: i64) -> Pos {
+        let (Point { x, y }, theta) = self.pose();
+        Pos { x: x.div_euclid(cell) as i32, y: y.div_euclid(cell) as i32, heading: heading_of(theta) }
+    }
+}
+
+fn read_env(mut tokens: Tokens) -> Env {
+    let width: i32 = tokens.word("discretization(cells):").whole();
+    let height: i32 = tokens.whole();
+    let obstacle = tokens.word("obsthresh:").whole();
+    let inscribed = tokens.word("cost_inscribed_thresh:").whole();
+    tokens.word("cost_possibly_circumscribed_thresh:").next();
+    let cell = tokens.word("cellsize(meters):").nano();
+    let speed = tokens.word("nominalvel(mpersecs):").nano();
+    let turn45 = tokens.word("timetoturn45degsinplace(secs):").nano();
+    let start = tokens.word("start(meters,rads):").pos(cell);
+    let goal = tokens.word("end(meters,rads):").pos(cell);
+    tokens.word("environment:");
+    let costs = (0..width * height).map(|_| tokens.whole()).collect();
+    Env { width, height, obstacle, inscribed, cell, speed, turn45, start, goal, costs }
+}
+
+fn read_primitives(mut tokens: Tokens) -> Vec<Primitive> {
+    tokens.word("resolution_m:").nano();
+    let headings: usize = tokens.word("numberofangles:").whole();
+    assert_eq!(headings, HEADINGS);
+    let count: usize = tokens.word("totalnumberofprimitives:").whole();
+    (0..count).map(|_| read_primitive(&mut tokens)).collect()
+}
+
+fn read_primitive(tokens: &mut Tokens) -> Primitive {
+    let id = tokens.word("primID:").whole();
+    let from = tokens.word("startangle_c:").whole();
+    let (dx, dy) = (tokens.word("endpose_c:").whole(), tokens.whole());
+    let to = tokens.whole::<i64>().rem_euclid(HEADINGS as i64) as usize;
+    let multiplier = tokens.word("additionalactioncostmult:").whole();
+    let count: usize = tokens.word("intermediateposes:").whole();
+    let way = (0..count).map(|_| tokens.pose().0).collect();
+    Primitive { id, from, dx, dy, to, multiplier, way }
+}
+
+/// Reads batches of writes, each ended by a line `replan`.
+fn read_changes(text: &str) -> Vec<Vec<Write>> {
+    let mut batches = Vec::new();
+    let mut batch = Vec::new();
+    for line in text.lines() {
+        match line.split([' ', '\t']).filter(|field| !field.is_empty()).collect::<Vec<_>>()[..] {
+            ["cell", x, y, cost] => batch.push(Write { x: number(x), y: number(y), cost: number(cost) }),
+            ["replan"] => batches.push(std::mem::take(&mut batch)),
+            [] => {}
+            _ => panic!("no line of changes: {line}"),
+        }
+    }
+    batches
+}
