@@ -1,0 +1,3 @@
+pub mod ListedTails
+pub mod SampleTails
+pub mod Touching

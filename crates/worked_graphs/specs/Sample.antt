@@ -1,0 +1,45 @@
+-- A graph of six states with a guide.
+use Rattle.std.specs.Prelude.{◌≡◌, ℕ, ◌+◌, ◌-◌, ◌*◌, ◌/◌, ◌%◌, ◌≤◌, ◌&&◌, ◌==◌, min, max, nat_lt, if◌then◌else◌, Some, None, List, slice_index, slice_index_or}
+use Rattle.std.proofs.Common.{arith}
+use Rattle.std.proofs.lemmas.Bool.Decides.{nat_tests}
+use Rattle.sbpl_graph.specs.Network.{Network}
+use Rattle.sbpl_graph.specs.Laws.{IsConsistent}
+
+-- how far a state is from the goal at least
+abbrev pub height : List ℕ → ℕ → ℕ
+height heights s = min (slice_index heights s) 1000
+
+-- arc k of s, as its head and its cost, with no head past the end
+abbrev pub arc_at : List (ℕ × ℕ) → ℕ → ℕ → ℕ × ℕ
+arc_at arcs s k = slice_index_or arcs (2 * s + k) (6, 0)
+
+-- two arcs a state; one with a head of 6 or more leads off the map, one of cost 0 is not free, and none costs less than the height falls
+abbrev pub sample : List (ℕ × ℕ) → List ℕ → Network
+sample arcs heights = record {
+  states = 6;
+  fan = λ _. 2;
+  head = λ s k. if nat_lt (arc_at arcs s k).0 6 then Some (arc_at arcs s k).0 else None;
+  cost = λ s k.
+      if nat_lt (arc_at arcs s k).0 6 && nat_lt 0 (arc_at arcs s k).1
+      then Some (max (min (arc_at arcs s k).1 1000) (height heights s - height heights (arc_at arcs s k).0)) else None;
+  tail_fan = λ _. 12;
+  tail = λ t j. if (slice_index_or arcs j (6, 0)).0 == t then Some (j / 2, j % 2) else None;
+  gap = λ _ _. 0;
+}
+
+-- the fall of the height along an arc is at most the arc's cost
+along_sample : (head cost from : ℕ) (height_of : ℕ → ℕ) (t c : ℕ) → (if nat_lt head 6 then Some head else None) ≡ Some t
+    → (if nat_lt head 6 && nat_lt 0 cost then Some (max (min cost 1000) (from - height_of head)) else None) ≡ Some c
+    → from ≤ c + height_of t
+along_sample head cost from height_of t c is_head is_cost = grind (arith, nat_tests)
+
+-- the heights are a guide to a goal of height 0
+pub sample_is_consistent : (arcs : List (ℕ × ℕ)) (heights : List ℕ) (n : Network) (goal : ℕ) → n ≡ sample arcs heights
+    → height heights goal ≡ 0 → IsConsistent n goal (height heights)
+sample_is_consistent arcs heights n goal same low =
+    let heights_are : IsConsistent (sample arcs heights) goal (height heights) = record {
+      at_goal = low;
+      along = λ s k t c arc.
+          along_sample (arc_at arcs s k).0 (arc_at arcs s k).1 (height heights s) (height heights) t c arc.head arc.cost;
+    } in
+    rw same heights_are

@@ -1,0 +1,75 @@
+//! Repairs on a way of three states.
+
+ghost use Rattle.std.specs.Prelude.{◌≡◌};
+ghost use Rattle.sbpl_graph.specs.Fit.{FitCount};
+ghost use Rattle.sbpl_labels.specs.Marks.{states_of, g_of, v_of};
+
+use crate::listed::Listed;
+use sbpl_adstar::AdStar;
+use sbpl_ara::Ara;
+use sbpl_graph::{FAR, Zero};
+use sbpl_labels::{Budget, PassEnd};
+use std::test::Fail;
+
+/// A way over state 1 that costs 6.
+fn cheap() -> Listed {
+    Listed {
+        arcs: [Some((1, 5)), Some((2, 1)), None],
+    }
+}
+
+/// The same way at cost 8.
+fn dear() -> Listed {
+    Listed {
+        arcs: [Some((1, 7)), Some((2, 1)), None],
+    }
+}
+
+/// Its first arc is blocked.
+fn blocked() -> Listed {
+    Listed {
+        arcs: [None, Some((2, 1)), None],
+    }
+}
+
+/// Repairs the labels for this graph, and makes a pass of inflation one.
+fn repair(search: &mut AdStar, graph: &Listed, budget: &mut Budget) -> PassEnd
+    requires states { states_of search.old.labels ≡ 3 }
+    requires start { search.old.labels.start ≡ 0 }
+    requires fits { FitCount 3 (g_of search.old.labels) (v_of search.old.labels) budget.old.run }
+    ensures states { states_of search.new.labels ≡ 3 }
+    ensures start { search.new.labels.start ≡ 0 }
+    ensures fits { FitCount 3 (g_of search.new.labels) (v_of search.new.labels) budget.new.run }
+{
+    let _used = budget.used();
+    search.change(graph, [1, 2, 1].as_slice());
+    search.pass(graph, &Zero, 1000, budget)
+}
+
+/// Whether the last pass took just these states, raised or not.
+fn took(search: &AdStar, steps: &[(u32, bool)]) -> bool {
+    search.trace().len() == steps.len()
+        && steps
+            .iter()
+            .zip(search.trace())
+            .all(|(want, step)| *want == (step.state, step.raised))
+}
+
+#[test]
+fn repaired_after_changes(rt: HostRuntime) -> Result<(), Fail> {
+    let mut budget = Budget::new(10);
+    let mut search = AdStar::from(Ara::open(rt.alloc(), 3, 0, 2)?);
+    assert_eq!(rt; repair(&mut search, &cheap(), &mut budget), PassEnd::Rest);
+    assert!(rt; took(&search, [(0, false), (1, false)].as_slice()));
+    assert_eq!(rt; search.labels().g(2), 6);
+
+    assert_eq!(rt; repair(&mut search, &dear(), &mut budget), PassEnd::Rest);
+    assert!(rt; took(&search, [(1, true), (1, false)].as_slice()));
+    assert_eq!(rt; search.labels().g(2), 8);
+
+    assert_eq!(rt; repair(&mut search, &blocked(), &mut budget), PassEnd::Rest);
+    assert!(rt; took(&search, [(1, true)].as_slice()));
+    assert_eq!(rt; search.labels().g(2), FAR);
+    assert!(rt; search.labels().shows_none(2));
+    Ok(())
+}

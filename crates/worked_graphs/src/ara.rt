@@ -1,0 +1,213 @@
+//! Passes on a graph of six states.
+
+ghost use Rattle.std.specs.Prelude.{◌≡◌, ◌<◌};
+ghost use Rattle.worked_graphs.specs.Sample.{height, sample};
+
+use sbpl_ara::Ara;
+use sbpl_graph::{FAR, Graph, Guide};
+use sbpl_labels::{Budget, PassEnd};
+use std::alloc::{AllocError, Global};
+use std::test::Fail;
+
+/// Two arcs from each state, as head and cost, and how far each state is from the goal at least.
+#[derive(Drop)]
+struct Table {
+    arcs: [(u32, u32); 12],
+    heights: [u32; 6],
+}
+
+impl Table {
+    fn height(&self, s: u32) -> u32
+        requires state { s < 6 }
+        ensures value { result ≡ height self.now.heights s }
+    {
+        self.heights[s as usize].min(1000)
+    }
+}
+
+impl Graph for Table {
+    ghost network = { λ table. sample table.arcs table.heights };
+
+    fn states(&self) -> u32 {
+        6
+    }
+
+    fn fan(&self, _s: u32) -> u32 {
+        2
+    }
+
+    fn head(&self, s: u32, k: u32) -> Option<u32> {
+        let head = self.arcs[(2 * s + k) as usize].0;
+        (head < 6).then_some(head)
+    }
+
+    fn judge(&self, s: u32, k: u32) -> Option<u32> {
+        let (head, cost) = self.arcs[(2 * s + k) as usize];
+        if head < 6 && cost > 0 {
+            Some(
+                cost.min(1000)
+                    .max(self.height(s).saturating_sub(self.height(head))),
+            )
+        } else {
+            None
+        }
+    }
+
+    fn tail_fan(&self, _t: u32) -> u32 {
+        12
+    }
+
+    fn tail(&self, t: u32, j: u32) -> Option<(u32, u32)> {
+        (self.arcs[j as usize].0 == t).then_some((j / 2, j % 2))
+    }
+
+    fn gap(&self, _a: u32, _b: u32) -> u64 {
+        0
+    }
+}
+
+impl Guide for Table {
+    ghost use Rattle.std.specs.Prelude.{◌≡◌, ◌<◌};
+    ghost use Rattle.std.proofs.Common.{arith};
+    ghost use Rattle.std.proofs.lemmas.Bool.Decides.{nat_tests};
+    ghost use Rattle.worked_graphs.specs.Sample.{height, sample, sample_is_consistent};
+
+    ghost distance = { λ table s. height table.heights s };
+
+    ghost knows = { λ _ s. s < 6 };
+
+    ghost guides = { λ table n goal. (n ≡ sample table.arcs table.heights) × (height table.heights goal ≡ 0) };
+
+    ghost consistent = { λ table n goal fit. sample_is_consistent table.arcs table.heights n goal fit.0 fit.1 };
+
+    ghost covered = { λ table n goal s fit inside. Prim.grind (arith, fit.0) };
+
+    ghost bounded = { λ table n goal s fit inside. Prim.omega arith };
+
+    fn to_goal(&self, s: u32) -> u64 {
+        u64::from(self.height(s))
+    }
+}
+
+/// A way over states 1 and 3 that costs 7, and one over 2 and 4 that costs 10 but looks better.
+fn detour() -> Table
+    ensures goal { height result.heights 5 ≡ 0 }
+{
+    Table {
+        arcs: [
+            (1, 1),
+            (2, 4),
+            (3, 1),
+            (6, 1),
+            (4, 3),
+            (0, 1),
+            (5, 5),
+            (5, 5),
+            (5, 3),
+            (5, 0),
+            (4, 1),
+            (4, 1),
+        ],
+        heights: [4, 4, 2, 4, 1, 0],
+    }
+}
+
+/// Two ways to state 3 that cost the same. No arc leads to state 4.
+fn tie() -> Table
+    ensures goal { height result.heights 5 ≡ 0 }
+    ensures cut_off { height result.heights 4 ≡ 0 }
+{
+    Table {
+        arcs: [
+            (2, 2),
+            (1, 2),
+            (3, 1),
+            (5, 0),
+            (3, 1),
+            (6, 3),
+            (5, 1),
+            (5, 1),
+            (6, 1),
+            (6, 1),
+            (6, 1),
+            (0, 1),
+        ],
+        heights: [0, 0, 0, 0, 0, 0],
+    }
+}
+
+/// The states of the last pass in order.
+fn expanded(alloc: Global, ara: &Ara) -> Result<Vec<u32>, AllocError> {
+    ara.trace().iter().map(|step| step.state).collect(alloc)
+}
+
+#[test]
+fn falling_inflation(rt: HostRuntime) -> Result<(), Fail> {
+    let graph = detour();
+    let mut budget = Budget::new(10);
+    let mut ara = Ara::open(rt.alloc(), 6, 0, 5)?;
+    assert_eq!(rt; ara.pass(&graph, &graph, 3000, &mut budget), PassEnd::Rest);
+    assert_eq!(rt;
+        expanded(rt.alloc(), &ara)?.as_slice(),
+        [0, 2, 4].as_slice()
+    );
+    assert_eq!(rt;
+        (ara.labels().g(5), ara.labels().back(5)),
+        (10, Some((4, 0)))
+    );
+
+    assert_eq!(rt; ara.pass(&graph, &graph, 1000, &mut budget), PassEnd::Rest);
+    assert_eq!(rt; expanded(rt.alloc(), &ara)?.as_slice(), [1, 3].as_slice());
+    assert_eq!(rt;
+        (ara.labels().g(5), ara.labels().back(5)),
+        (7, Some((3, 0)))
+    );
+    assert_eq!(rt; budget.used(), 5);
+
+    assert_eq!(rt; ara.pass(&graph, &graph, 1000, &mut budget), PassEnd::Rest);
+    assert!(rt; ara.trace().is_empty());
+    Ok(())
+}
+
+#[test]
+fn equal_keys_and_a_spent_budget(rt: HostRuntime) -> Result<(), Fail> {
+    let graph = tie();
+    let mut budget = Budget::new(2);
+    let mut ara = Ara::open(rt.alloc(), 6, 0, 5)?;
+    assert_eq!(rt; ara.pass(&graph, &graph, 1000, &mut budget), PassEnd::Spent);
+    assert_eq!(rt; expanded(rt.alloc(), &ara)?.as_slice(), [0, 1].as_slice());
+    assert_eq!(rt; ara.pass(&graph, &graph, 1000, &mut budget), PassEnd::Spent);
+    assert!(rt; ara.trace().is_empty());
+
+    budget.next_plan();
+    assert_eq!(rt; ara.pass(&graph, &graph, 1000, &mut budget), PassEnd::Rest);
+    assert_eq!(rt; expanded(rt.alloc(), &ara)?.as_slice(), [2, 3].as_slice());
+    assert_eq!(rt;
+        (ara.labels().g(5), ara.labels().back(3)),
+        (4, Some((1, 0)))
+    );
+
+    ara.reset();
+    assert!(rt; ara.trace().is_empty());
+    assert_eq!(rt;
+        (ara.labels().g(0), ara.labels().g(5), ara.labels().v(0)),
+        (0, FAR, FAR)
+    );
+    Ok(())
+}
+
+#[test]
+fn goal_out_of_reach(rt: HostRuntime) -> Result<(), Fail> {
+    let graph = tie();
+    let mut budget = Budget::new(10);
+    let mut ara = Ara::open(rt.alloc(), 6, 0, 4)?;
+    assert_eq!(rt; ara.pass(&graph, &graph, 1000, &mut budget), PassEnd::Rest);
+    assert_eq!(rt; ara.labels().g(4), FAR);
+    assert!(rt; ara.labels().shows_none(4));
+
+    let parts = ara.into_parts();
+    assert_eq!(rt; parts.steps.as_slice().len(), 5);
+    assert_eq!(rt; (parts.goal, parts.labels.g(4)), (4, FAR));
+    assert!(rt; parts.queue.least().is_none());
+    Ok(())
+}

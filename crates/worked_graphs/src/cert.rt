@@ -1,0 +1,378 @@
+//! Texts and graphs of three states, and the text of a whole corridor.
+
+use crate::listed::Listed;
+use sbpl_cert::{
+    Arcs, Flaw, LabelFault, LabelSet, Outcome, Row, Rows, check, read_labels, write_labels,
+};
+use sbpl_graph::FAR;
+use std::alloc::{AllocError, Global};
+use std::process::Abort;
+use std::test::Fail;
+
+/// The labels of a corridor of three states: two arcs of cost 25, one behind the other.
+const CORRIDOR: &str =
+    "labels 1 plan 0 states 3 low 50\npath 50 1.000 2 0 0\n0 0 50\n25 25 25\n50 - 0\nend\n";
+
+/// The text with another line, counted from 0.
+fn with_line(alloc: Global, line: usize, other: &str) -> Result<String, AllocError> {
+    let mut text = String::new(alloc);
+    for (i, old) in CORRIDOR.lines().enumerate() {
+        text.push_str(if i == line { other } else { old })?;
+        text.push_str("\n")?;
+    }
+    Ok(text)
+}
+
+/// The labels of a lattice of three cells in a row with sixteen headings, where the one primitive goes a cell along.
+fn lattice_text(alloc: Global) -> Result<String, AllocError> {
+    let mut text = String::from_str(
+        alloc,
+        "labels 1 plan 0 states 48 low 50\npath 50 1.000 2 0 0\n0 0 50\n",
+    )?;
+    for s in 1..48 {
+        let line = match s {
+            16 => "25 25 25\n",
+            32 => "50 - 0\n",
+            1..=15 => "- - 50\n",
+            17..=31 => "- - 25\n",
+            _ => "- - 0\n",
+        };
+        text.push_str(line)?;
+    }
+    text.push_str("end\n")?;
+    Ok(text)
+}
+
+/// What the section of the lattice says.
+fn says_the_lattice(rt: &impl Abort, set: &LabelSet) {
+    assert_eq!(rt; (set.plan, set.low), (0, 50));
+    let path = Outcome::Path {
+        cost: 50,
+        bound: 1000,
+    };
+    assert_eq!(rt; set.outcome, path);
+    assert_eq!(rt; set.arcs.as_slice(), [0, 0].as_slice());
+    let rows = set.labels.as_slice();
+    assert!(rt; rows.len() == 48);
+    assert_eq!(rt; rows[0], Row { g: 0, v: 0, h: 50 });
+    assert_eq!(rt;
+        rows[16],
+        Row {
+            g: 25,
+            v: 25,
+            h: 25
+        }
+    );
+    assert_eq!(rt;
+        rows[32],
+        Row {
+            g: 50,
+            v: FAR,
+            h: 0
+        }
+    );
+    assert_eq!(rt;
+        rows[31],
+        Row {
+            g: FAR,
+            v: FAR,
+            h: 25
+        }
+    );
+}
+
+/// Reads the section of a text, and writes it again.
+fn read_and_written(rt: &impl Abort, alloc: Global, text: &[u8]) -> Result<(), Fail> {
+    let (set, after) = read_labels(alloc, text, 0, 0, 48)?;
+    assert_eq!(rt; after + 1, text.len());
+    says_the_lattice(rt, &set);
+    let mut out = Vec::new(alloc);
+    assert!(rt; write_labels(&set, &mut out).is_ok());
+    drop(set);
+    assert_eq!(rt; out.as_slice(), text);
+    drop(out);
+    Ok(())
+}
+
+#[test]
+fn a_section_is_read_and_written(rt: HostRuntime) -> Result<(), Fail> {
+    let text = lattice_text(rt.alloc())?;
+    let checked = read_and_written(&rt, rt.alloc(), text.as_bytes());
+    drop(text);
+    checked
+}
+
+/// A section of one state with the greatest bound, and one of no state behind it.
+const TWO: &str = "labels 1 plan 0 states 1 low -
+path 3 1267650600228229401496703205.375 1 4095
+0 - 7
+end
+labels 1 plan 1 states 0 low 0
+nopath
+end
+";
+
+/// Reads the first of the two, and answers where it ends.
+fn first_of_two(rt: &impl Abort, alloc: Global) -> Result<usize, Fail> {
+    let (first, after) = read_labels(alloc, TWO.as_bytes(), 0, 0, 1)?;
+    assert_eq!(rt; (first.low, after), (FAR, 87));
+    let path = Outcome::Path {
+        cost: 3,
+        bound: 1_267_650_600_228_229_401_496_703_205_375,
+    };
+    assert_eq!(rt; first.outcome, path);
+    assert_eq!(rt; first.arcs.as_slice(), [4095].as_slice());
+    drop(first);
+    Ok(after)
+}
+
+#[test]
+fn sections_stand_one_behind_another(rt: HostRuntime) -> Result<(), Fail> {
+    let text = TWO.as_bytes();
+    let after = first_of_two(&rt, rt.alloc())?;
+    let (second, after) = read_labels(rt.alloc(), text, after, 1, 0)?;
+    assert_eq!(rt; (second.outcome, after + 1), (Outcome::NoPath, text.len()));
+    assert!(rt; second.labels.as_slice().is_empty());
+    drop(second);
+    for at in [after, text.len(), usize::MAX] {
+        let more = read_labels(rt.alloc(), text, at, 2, 0).err();
+        assert_eq!(rt; more, Some(LabelFault::Ended(text.len())));
+    }
+    Ok(())
+}
+
+/// A section of no state.
+fn nothing(alloc: Global) -> LabelSet {
+    LabelSet {
+        plan: 1,
+        low: 0,
+        outcome: Outcome::NoPath,
+        arcs: Arcs::of(Vec::new(alloc)),
+        labels: Rows::of(Vec::new(alloc)),
+    }
+}
+
+#[test]
+fn sections_are_written_one_behind_another(rt: HostRuntime) -> Result<(), Fail> {
+    let (first, _) = read_labels(rt.alloc(), TWO.as_bytes(), 0, 0, 1)?;
+    let second = nothing(rt.alloc());
+    let mut out = Vec::new(rt.alloc());
+    assert!(rt; write_labels(&first, &mut out).is_ok());
+    assert!(rt; write_labels(&second, &mut out).is_ok());
+    drop(first);
+    drop(second);
+    assert_eq!(rt; out.as_slice(), TWO.as_bytes());
+    drop(out);
+    Ok(())
+}
+
+#[test]
+fn altered_texts_are_refused(rt: HostRuntime) -> Result<(), Fail> {
+    let rows = [
+        (0, "label 1 plan 0 states 3 low 50", 1, "Word", 0),
+        (0, "labels 01 plan 0 states 3 low 50", 1, "Word", 7),
+        (0, "labels 2 plan 0 states 3 low 50", 1, "Word", 7),
+        (1, "paths 50 1.000 2 0 0", 1, "Word", 32),
+        (4, "50 - 0\n50 - 0", 1, "Word", 75),
+        (0, "labels 1 plan +0 states 3 low 50", 2, "Number", 14),
+        (0, "labels 1 plan 0 states 3 low -1", 2, "Number", 29),
+        (1, "path - 1.000 2 0 0", 2, "Number", 37),
+        (1, "path 50 .500 2 0 0", 2, "Number", 40),
+        (1, "path 50 1.00 2 0 0", 2, "Number", 40),
+        (1, "path 50 1.0000 2 0 0", 2, "Number", 40),
+        (2, "0 -- 50", 2, "Number", 54),
+        (4, "50 - -", 2, "Number", 73),
+        (
+            0,
+            "labels 1 plan 0 states 3 low 9223372036854775808",
+            3,
+            "Range",
+            29,
+        ),
+        (1, "path 4611686018427387904 1.000 2 0 0", 3, "Range", 37),
+        (1, "path 50 0.500 2 0 0", 3, "Range", 40),
+        (
+            1,
+            "path 50 1267650600228229401496703205.376 2 0 0",
+            3,
+            "Range",
+            40,
+        ),
+        (1, "path 50 1.000 8388608 0 0", 3, "Range", 46),
+        (1, "path 50 1.000 2 4096 0", 3, "Range", 48),
+        (2, "4611686018427387904 0 50", 3, "Range", 52),
+        (2, "0 0 36028797018963968", 3, "Range", 56),
+        (5, "", 4, "Ended", 76),
+        (0, "labels 1 plan 1 states 3 low 50", 6, "Count", 14),
+        (0, "labels 1 plan 0 states 2 low 50", 6, "Count", 23),
+        // At one number the form comes first, then the range, then the count, and all before the next token.
+        (0, "labels 1 plan 1.0 states x low 50", 2, "Number", 14),
+        (
+            0,
+            "labels 1 plan 4294967296 states x low 50",
+            3,
+            "Range",
+            14,
+        ),
+        (0, "labels 1 plan 1 states x low 50", 6, "Count", 14),
+        (0, "labels 1 plan 0 states 4294967296 low x", 3, "Range", 23),
+        (0, "labels 1 plan 0 states 4 low x", 6, "Count", 23),
+    ];
+    for (line, other, number, name, place) in rows {
+        let text = with_line(rt.alloc(), line, other)?;
+        let fault = read_labels(rt.alloc(), text.as_bytes(), 0, 0, 3).err();
+        drop(text);
+        let fault = fault.ok_or(name)?;
+        assert_eq!(rt;
+            (fault.number(), fault.name(), fault.place()),
+            (number, name, place)
+        );
+    }
+    Ok(())
+}
+
+/// What the check of a text says, on a corridor of two arcs of cost 25.
+fn checked(alloc: Global, text: &str) -> Result<Option<Flaw>, Fail> {
+    let graph = Listed {
+        arcs: [Some((1, 25)), Some((2, 25)), None],
+    };
+    let (set, _) = read_labels(alloc, text.as_bytes(), 0, 0, 3)?;
+    let flaw = check(&graph, 0, 2, &set).err();
+    drop(set);
+    Ok(flaw)
+}
+
+#[test]
+fn leading_zeros_and_other_blanks_are_allowed(rt: HostRuntime) -> Result<(), Fail> {
+    let text =
+        "labels\t1 plan 000 states 03\r\nlow 050 path 050 01.000 02 00 0 0 00 50 025 25 25 50 - 0 end";
+    assert_eq!(rt; checked(rt.alloc(), text)?, None);
+    Ok(())
+}
+
+#[test]
+fn flaws_are_found(rt: HostRuntime) -> Result<(), Fail> {
+    let none = None;
+    let rows = [
+        (0, "labels 1 plan 0 states 3 low 50", none),
+        (2, "1 0 50", Some(Flaw::Start { g: 1 })),
+        (
+            3,
+            "26 25 25",
+            Some(Flaw::Arc {
+                state: 0,
+                arc: 0,
+                has: 26,
+                most: 25,
+            }),
+        ),
+        (4, "50 - 1", Some(Flaw::GoalGuide { has: 1 })),
+        (
+            2,
+            "0 0 51",
+            Some(Flaw::Guide {
+                state: 0,
+                arc: 0,
+                has: 51,
+                most: 50,
+            }),
+        ),
+        (
+            0,
+            "labels 1 plan 0 states 3 low -",
+            Some(Flaw::Low {
+                state: 2,
+                has: FAR,
+                most: 50,
+            }),
+        ),
+        // A state whose g and v differ limits the low, and one whose labels are equal does not.
+        (
+            2,
+            "0 - 49",
+            Some(Flaw::Low {
+                state: 0,
+                has: 50,
+                most: 49,
+            }),
+        ),
+        (2, "0 0 49", none),
+        (1, "path 50 1.000 2 1 0", Some(Flaw::Path { step: 0 })),
+        (1, "path 50 1.000 3 0 0 0", Some(Flaw::Path { step: 2 })),
+        (
+            1,
+            "path 51 1.000 2 0 0",
+            Some(Flaw::Cost { has: 51, sum: 50 }),
+        ),
+        (
+            1,
+            "path 50 1.001 2 0 0",
+            Some(Flaw::Bound {
+                has: 1001,
+                least: Some(1000),
+            }),
+        ),
+        (
+            0,
+            "labels 1 plan 0 states 3 low 40",
+            Some(Flaw::Bound {
+                has: 1000,
+                least: Some(1250),
+            }),
+        ),
+        (
+            0,
+            "labels 1 plan 0 states 3 low 0",
+            Some(Flaw::Bound {
+                has: 1000,
+                least: None,
+            }),
+        ),
+        (1, "path 25 1.000 1 0", Some(Flaw::Goal { state: 1 })),
+        (1, "nopath", Some(Flaw::Goal { state: 2 })),
+        (1, "unknown", none),
+    ];
+    for (line, other, flaw) in rows {
+        let text = with_line(rt.alloc(), line, other)?;
+        let found = checked(rt.alloc(), text.as_str());
+        drop(text);
+        assert_eq!(rt; found?, flaw);
+    }
+    Ok(())
+}
+
+#[test]
+fn the_first_flaw_is_answered(rt: HostRuntime) -> Result<(), Fail> {
+    // The labels along arcs before the guide, the goal's guide before that of each arc, and the cost before the bound.
+    let arc_before_guide = "labels 1 plan 0 states 3 low 50 unknown 0 0 60 30 25 60 60 25 1 end";
+    let flaw = checked(rt.alloc(), arc_before_guide)?.ok_or("a flaw")?;
+    assert_eq!(rt; (flaw.number(), flaw.name()), (2, "Arc"));
+    let goal_before_arc = "labels 1 plan 0 states 3 low 50 unknown 0 0 60 25 25 60 50 - 1 end";
+    let flaw = checked(rt.alloc(), goal_before_arc)?;
+    assert_eq!(rt; flaw, Some(Flaw::GoalGuide { has: 1 }));
+    let cost_before_bound =
+        "labels 1 plan 0 states 3 low 50 path 25 1.001 2 0 0 0 0 50 25 25 25 50 - 0 end";
+    let flaw = checked(rt.alloc(), cost_before_bound)?;
+    assert_eq!(rt; flaw, Some(Flaw::Cost { has: 25, sum: 50 }));
+    Ok(())
+}
+
+#[test]
+fn no_path_is_shown(rt: HostRuntime) -> Result<(), Fail> {
+    let graph = Listed {
+        arcs: [Some((1, 25)), None, None],
+    };
+    let rows = [
+        ("0 0 50 25 25 25", None),
+        ("0 0 50 25 - 25", Some(Flaw::Goal { state: 1 })),
+        ("0 - 50 - - 25", Some(Flaw::Goal { state: 0 })),
+    ];
+    for (labels, flaw) in rows {
+        let text = format!(in rt.alloc();
+            "labels 1 plan 0 states 3 low 0 nopath {labels} - - 0 end"
+        )?;
+        let (set, _) = read_labels(rt.alloc(), text.as_bytes(), 0, 0, 3)?;
+        assert_eq!(rt; check(&graph, 0, 2, &set).err(), flaw);
+    }
+    Ok(())
+}

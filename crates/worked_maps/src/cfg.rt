@@ -1,0 +1,179 @@
+//! Environment files, read and printed.
+
+use crate::samples::{E1, E2, E3};
+use sbpl_cfg::{EnvFault, Place, Pose, cell_at, heading_at, place_at, print_env, read_env};
+use std::alloc::{AllocError, Global};
+use std::test::Fail;
+
+/// The sample file E1 with another text for its line `at`, counted from 0.
+fn with_line(alloc: Global, at: usize, text: &str) -> Result<String, AllocError> {
+    let mut all = String::new(alloc);
+    for (i, line) in E1.lines().enumerate() {
+        all.push_str(if i == at { text } else { line })?;
+        all.push_str("\n")?;
+    }
+    Ok(all)
+}
+
+#[test]
+fn faults_have_numbers_names_and_places(rt: HostRuntime) -> Result<(), Fail> {
+    let rows = [
+        (10, "0 0", 4, "Ended", 278),
+        (10, "0 0 0 5", 5, "Trailing", 280),
+        (
+            0,
+            "discretization(cells): 3 1\nNumThetaDirs: 16",
+            1,
+            "Word",
+            27,
+        ),
+        (0, "discretization(cells): 524289 1", 6, "TooLarge", 23),
+        (0, "discretization(cells): 1 524289", 6, "TooLarge", 23),
+        (0, "discretization(cells): 8388609 1", 3, "Range", 23),
+        (0, "discretization(cells): 524288 1", 4, "Ended", 285),
+        (1, "obsthresh: 256", 3, "Range", 38),
+        (1, "obsthresh: 1e2", 2, "Number", 38),
+        (3, "cost_possibly_circumscribed_thresh: -2", 3, "Range", 104),
+        (7, "start(meters,rads): 0.0750 0.0125 0", 7, "StartOff", 211),
+        (7, "start(meters,rads): 0.0125 0.025 0", 7, "StartOff", 211),
+        (8, "end(meters,rads): -0.0001 0.0125 0", 8, "EndOff", 245),
+        (8, "end(meters,rads): -0.0001 0.0125 x", 2, "Number", 260),
+    ];
+    for (line, text, number, name, place) in rows {
+        let file = with_line(rt.alloc(), line, text)?;
+        let fault = read_env(rt.alloc(), file.as_bytes()).err().ok_or(text)?;
+        assert_eq!(rt;
+            (fault.number(), fault.name(), fault.place()),
+            (number, name, place),
+            "{text}"
+        );
+    }
+    Ok(())
+}
+
+#[test]
+fn a_front_of_a_file_is_faulty_where_it_ends(rt: HostRuntime) {
+    // From and to of the fixed words and of the number that is out of range until its last digit.
+    let words = [
+        (0, 22),
+        (27, 37),
+        (42, 64),
+        (68, 103),
+        (106, 123),
+        (130, 151),
+        (156, 186),
+        (191, 210),
+        (227, 244),
+        (261, 273),
+    ];
+    let cell = (124, 128);
+    for n in 0..E1.len() {
+        let mut fault = EnvFault::Ended(n);
+        for (from, to) in words {
+            if from < n && n < to {
+                fault = EnvFault::Word(from);
+            }
+        }
+        if cell.0 < n && n < cell.1 {
+            fault = EnvFault::Range(cell.0);
+        }
+        let read = read_env(rt.alloc(), &E1.as_bytes()[..n]);
+        assert_eq!(rt; read.err(), if n < 279 { Some(fault) } else { None }, "{n}");
+    }
+}
+
+#[test]
+fn what_is_printed_is_read_back(rt: HostRuntime) -> Result<(), Fail> {
+    for text in [E1, E2, E3] {
+        let (env, grid) = read_env(rt.alloc(), text.as_bytes())?;
+        let mut out = Vec::new(rt.alloc());
+        print_env(&env, &grid, &mut out)?;
+        let (again, costs) = read_env(rt.alloc(), &out)?;
+        assert_eq!(rt; again, env);
+        assert_eq!(rt; costs.as_slice(), grid.as_slice());
+    }
+    Ok(())
+}
+
+#[test]
+fn a_file_says_its_numbers(rt: HostRuntime) -> Result<(), Fail> {
+    let (env, grid) = read_env(rt.alloc(), E3.as_bytes())?;
+    assert_eq!(rt; (env.width, env.height, env.headings), (5, 3, 16));
+    assert_eq!(rt;
+        (env.obsthresh, env.inscribed, env.circumscribed),
+        (100, 90, 0)
+    );
+    assert_eq!(rt;
+        (env.cell, env.speed, env.turn45),
+        (25_000_000, 1_000_000_000, 2_000_000_000)
+    );
+    assert_eq!(rt;
+        place_at(&env, &env.start),
+        Some(Place { x: 1, y: 1, t: 0 })
+    );
+    assert_eq!(rt; place_at(&env, &env.end), Some(Place { x: 3, y: 1, t: 0 }));
+    assert_eq!(rt;
+        place_at(
+            &env,
+            &Pose {
+                x: -1,
+                y: 0,
+                theta: 0
+            }
+        ),
+        None
+    );
+    assert_eq!(rt;
+        grid.into_vec().as_slice(),
+        [0, 0, 0, 0, 0, 0, 0, 0, 0, 0, 0, 0, 100, 0, 0].as_slice()
+    );
+    Ok(())
+}
+
+#[test]
+fn a_file_is_printed_with_nine_decimals(rt: HostRuntime) -> Result<(), Fail> {
+    let file = with_line(rt.alloc(), 8, "end(meters,rads): 0.0625 0.0125 -.5")?;
+    let (env, grid) = read_env(rt.alloc(), file.as_bytes())?;
+    let mut out = Vec::new(rt.alloc());
+    print_env(&env, &grid, &mut out)?;
+    let want = "discretization(cells): 3 1
+obsthresh: 100
+cost_inscribed_thresh: 90
+cost_possibly_circumscribed_thresh: 0
+cellsize(meters): 0.025000000
+nominalvel(mpersecs): 1.000000000
+timetoturn45degsinplace(secs): 2.000000000
+start(meters,rads): 0.012500000 0.012500000 0.000000000
+end(meters,rads): 0.062500000 0.012500000 -0.500000000
+environment:
+0 0 0
+";
+    assert_eq!(rt; out.as_slice(), want.as_bytes());
+    Ok(())
+}
+
+#[test]
+fn headings_are_nearest_bins(rt: HostRuntime) {
+    // Half a bin of a sixteenth of a turn lies between 196349540 and 196349541 nanoradians.
+    let rows = [
+        (392_700_000, 1),
+        (-392_700_000, 15),
+        (6_283_200_000, 0),
+        (196_349_541, 1),
+        (196_349_540, 0),
+        (-196_349_541, 15),
+    ];
+    for (angle, heading) in rows {
+        assert_eq!(rt; heading_at(16, angle), heading, "{angle}");
+    }
+    // Cells are floors, also below zero.
+    assert_eq!(rt;
+        (
+            cell_at(25, -1),
+            cell_at(25, -25),
+            cell_at(25, -26),
+            cell_at(25, 24)
+        ),
+        (-1, -1, -2, 0)
+    );
+}

@@ -1,0 +1,36 @@
+//! Worked examples of the crates that read files, plan on maps and make the program, as tests and nothing else. They stand
+//! here, in one crate, since a crate with tests is proved twice.
+#![tactic(auto)]
+
+#[cfg(test)]
+mod cfg;
+#[cfg(test)]
+mod change;
+#[cfg(test)]
+mod cli;
+#[cfg(test)]
+mod cost;
+#[cfg(test)]
+mod demo;
+#[cfg(test)]
+mod desk;
+#[cfg(test)]
+mod fixed;
+#[cfg(test)]
+mod heur;
+#[cfg(test)]
+mod job;
+#[cfg(test)]
+mod lattice;
+#[cfg(test)]
+mod lattices;
+#[cfg(test)]
+mod map;
+#[cfg(test)]
+mod mprim;
+#[cfg(test)]
+mod replan;
+#[cfg(test)]
+mod samples;
+#[cfg(test)]
+mod sweep;

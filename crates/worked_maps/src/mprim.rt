@@ -1,0 +1,301 @@
+//! Motion primitive files, read and printed.
+
+use crate::samples::{F1, F2, p16};
+use sbpl_cfg::Pose;
+use sbpl_mprim::{Poses, PrimFault, print_prims, read_prims};
+use std::alloc::{AllocError, Global};
+use std::test::Fail;
+
+/// The cell size of the sample files, in nanometres.
+const CELL: i64 = 25_000_000;
+
+/// The sample file F1 with other texts for two of its lines, counted from 0, and more at its end.
+fn changed(
+    alloc: Global,
+    first: (usize, &str),
+    second: (usize, &str),
+    more: &str,
+) -> Result<String, AllocError> {
+    let mut all = String::new(alloc);
+    for (i, line) in F1.lines().enumerate() {
+        let line = if i == first.0 { first.1 } else { line };
+        all.push_str(if i == second.0 { second.1 } else { line })?;
+        all.push_str("\n")?;
+    }
+    all.push_str(more)?;
+    Ok(all)
+}
+
+#[test]
+fn faults_have_numbers_names_and_places(rt: HostRuntime) -> Result<(), Fail> {
+    let same = (10, "");
+    let rows = [
+        ((3, "primid: 0"), same, 1, "Word", 66),
+        ((0, "resolution_m: 2.5e-2"), same, 2, "Number", 14),
+        ((4, "startangle_c: 0.0"), same, 2, "Number", 90),
+        ((4, "startangle_c: 16"), same, 3, "Range", 90),
+        ((5, "endpose_c: 1 0 32768"), same, 3, "Range", 107),
+        ((7, "intermediateposes: 200001"), same, 3, "Range", 156),
+        ((9, "0.0250 0.0000 1000000000.1"), same, 3, "Range", 193),
+        ((9, "0.0250 0.0000"), same, 4, "Ended", 193),
+        ((2, "totalnumberofprimitives: 2"), same, 4, "Ended", 200),
+        ((2, "totalnumberofprimitives: 0"), same, 5, "Trailing", 66),
+        ((9, "0.0250 0.0000 0.0000 0"), same, 5, "Trailing", 200),
+        ((0, "resolution_m: 0.050"), same, 6, "Resolution", 14),
+        ((1, "numberofangles: 17"), same, 7, "Angles", 36),
+        ((9, "0.0375 0.0000 0.0000"), same, 8, "EndCell", 179),
+        ((9, "0.0250 0.0000 0.3927"), same, 9, "EndHeading", 193),
+        ((5, "endpose_c: 1 0 1"), same, 9, "EndHeading", 193),
+        ((7, "intermediateposes: 0"), same, 10, "NoPose", 156),
+        ((6, "additionalactioncostmult: 0"), same, 12, "ZeroCost", 74),
+        ((8, "0.0250 0.0000 0.0000"), same, 12, "ZeroCost", 74),
+        // One fault before another: a number's form, its range, and then what it means.
+        ((0, "resolution_m: 0"), same, 3, "Range", 14),
+        ((1, "numberofangles: 65"), same, 3, "Range", 36),
+        (
+            (0, "resolution_m: 0.050"),
+            (1, "numberofangles: x"),
+            6,
+            "Resolution",
+            14,
+        ),
+        (
+            (1, "numberofangles: 17"),
+            (2, "totalnumberofprimitives: x"),
+            7,
+            "Angles",
+            36,
+        ),
+        ((7, "intermediateposes: 0"), (8, "x"), 10, "NoPose", 156),
+        // The end cell, the end heading, and then the cost.
+        ((9, "0.0375 0.0000 0.3927"), same, 8, "EndCell", 179),
+        (
+            (9, "0.0375 0.0000 0.0000"),
+            (6, "additionalactioncostmult: 0"),
+            8,
+            "EndCell",
+            179,
+        ),
+        (
+            (9, "0.0250 0.0000 0.3927"),
+            (6, "additionalactioncostmult: 0"),
+            9,
+            "EndHeading",
+            193,
+        ),
+        (
+            (9, "0.0000 0.0000 0.0000"),
+            (5, "endpose_c: 0 0 -0"),
+            12,
+            "ZeroCost",
+            74,
+        ),
+        (
+            (9, "0.0000 0.0000 6.2832"),
+            (5, "endpose_c: 0 0 16"),
+            12,
+            "ZeroCost",
+            74,
+        ),
+    ];
+    for (first, second, number, name, place) in rows {
+        let file = changed(rt.alloc(), first, second, "")?;
+        let fault = read_prims(rt.alloc(), file.as_bytes(), CELL, 16)
+            .err()
+            .ok_or(name)?;
+        assert_eq!(rt;
+            (fault.number(), fault.name(), fault.place()),
+            (number, name, place)
+        );
+    }
+    Ok(())
+}
+
+#[test]
+fn a_second_primitive_is_judged_by_the_first(rt: HostRuntime) -> Result<(), Fail> {
+    let two = (2, "totalnumberofprimitives: 2");
+    let rows = [
+        ("primID: 0\nstartangle_c: 0\nx", PrimFault::SameId(208)),
+        ("primID: 0\nstartangle_c: 16\n", PrimFault::Range(224)),
+        ("primID: 0\nstartangle_c: 1\nx", PrimFault::Word(226)),
+        ("primID: 1\nstartangle_c: 0\nx", PrimFault::Word(226)),
+        (
+            "primID: 1\nstartangle_c: 0\nendpose_c: 1 0 0\nadditionalactioncostmult: 1\nintermediateposes: 199999\n",
+            PrimFault::TooLarge(290),
+        ),
+        (
+            "primID: 1\nstartangle_c: 0\nendpose_c: 1 0 0\nadditionalactioncostmult: 1\nintermediateposes: 199998\n",
+            PrimFault::Ended(297),
+        ),
+    ];
+    for (more, fault) in rows {
+        let file = changed(rt.alloc(), two, two, more)?;
+        assert_eq!(rt;
+            read_prims(rt.alloc(), file.as_bytes(), CELL, 16).err(),
+            Some(fault)
+        );
+    }
+    // For other cells and other headings.
+    let text = F1.as_bytes();
+    assert_eq!(rt;
+        read_prims(rt.alloc(), text, 50_000_000, 16).err(),
+        Some(PrimFault::Resolution(14))
+    );
+    assert_eq!(rt;
+        read_prims(rt.alloc(), text, CELL, 8).err(),
+        Some(PrimFault::Angles(36))
+    );
+    Ok(())
+}
+
+#[test]
+fn a_pose_may_lie_anywhere_in_the_end_cell(rt: HostRuntime) -> Result<(), Fail> {
+    let near = changed(
+        rt.alloc(),
+        (9, "0.0374 -.0125 6.2832"),
+        (5, "endpose_c: 1 0 -32"),
+        "",
+    )?;
+    let prims = read_prims(rt.alloc(), near.as_bytes(), CELL, 16)?;
+    assert!(rt; prims.len() == 1);
+    let prim = prims.get(0);
+    assert_eq!(rt;
+        (prim.id, prim.from, prim.dx, prim.dy, prim.to, prim.mult),
+        (0, 0, 1, 0, 0, 1)
+    );
+    let last = Pose {
+        x: 37_400_000,
+        y: -12_500_000,
+        theta: 6_283_200_000,
+    };
+    assert_eq!(rt;
+        prim.poses.as_slice(),
+        [
+            Pose {
+                x: 0,
+                y: 0,
+                theta: 0
+            },
+            last
+        ]
+        .as_slice()
+    );
+    Ok(())
+}
+
+#[test]
+fn what_is_printed_is_read_back(rt: HostRuntime) -> Result<(), Fail> {
+    let p16 = p16(rt.alloc())?;
+    for (text, count) in [(F1, 1), (F2, 4), (p16.as_str(), 80)] {
+        let prims = read_prims(rt.alloc(), text.as_bytes(), CELL, 16)?;
+        assert_eq!(rt;
+            (prims.len(), prims.cell(), prims.headings()),
+            (count, CELL, 16)
+        );
+        let mut out = Vec::new(rt.alloc());
+        print_prims(&prims, &mut out)?;
+        let again = read_prims(rt.alloc(), &out, CELL, 16)?;
+        assert_eq!(rt; again.len(), count);
+        for (p, q) in again.as_slice().iter().zip(prims.as_slice()) {
+            assert_eq!(rt;
+                (p.id, p.from, p.dx, p.dy, p.to, p.mult),
+                (q.id, q.from, q.dx, q.dy, q.to, q.mult)
+            );
+            assert_eq!(rt; p.poses.as_slice(), q.poses.as_slice());
+        }
+    }
+    Ok(())
+}
+
+#[test]
+fn a_file_says_its_numbers(rt: HostRuntime) -> Result<(), Fail> {
+    let text = p16(rt.alloc())?;
+    let prims = read_prims(rt.alloc(), text.as_bytes(), CELL, 16)?;
+    // The place, what it says, and its poses 1 and 9.
+    let rows = [
+        (0, (0, 0, 1, 0, 0, 1), (2_800_000, 0, 0), (25_000_000, 0, 0)),
+        (3, (3, 0, 0, 0, 15, 1), (0, 0, 0), (0, 0, -392_700_000)),
+        (
+            6,
+            (1, 1, -2, -1, 1, 5),
+            (-5_600_000, -2_800_000, 392_700_000),
+            (-50_000_000, -25_000_000, 392_700_000),
+        ),
+        (
+            77,
+            (2, 15, 0, 0, 0, 1),
+            (0, 0, 5_890_500_000),
+            (0, 0, 6_283_200_000),
+        ),
+        (
+            79,
+            (4, 15, 8, -4, 15, 1),
+            (22_200_000, -11_100_000, 5_890_500_000),
+            (200_000_000, -100_000_000, 5_890_500_000),
+        ),
+    ];
+    for (i, says, second, last) in rows {
+        let prim = prims.as_slice().get(i).ok_or("a primitive is missing")?;
+        assert_eq!(rt;
+            (prim.id, prim.from, prim.dx, prim.dy, prim.to, prim.mult),
+            says
+        );
+        let poses = prim.poses.as_slice();
+        assert!(rt; poses.len() == 10);
+        assert_eq!(rt; (poses[1].x, poses[1].y, poses[1].theta), second);
+        assert_eq!(rt; (poses[9].x, poses[9].y, poses[9].theta), last);
+    }
+    Ok(())
+}
+
+#[test]
+fn a_file_is_printed_with_nine_decimals(rt: HostRuntime) -> Result<(), Fail> {
+    let file = changed(
+        rt.alloc(),
+        (9, "0.0250 -.000000001 6.2832"),
+        (5, "endpose_c: +1 0 -16"),
+        "",
+    )?;
+    let prims = read_prims(rt.alloc(), file.as_bytes(), CELL, 16)?;
+    let mut out = Vec::new(rt.alloc());
+    print_prims(&prims, &mut out)?;
+    let want = "resolution_m: 0.025000000
+numberofangles: 16
+totalnumberofprimitives: 1
+primID: 0
+startangle_c: 0
+endpose_c: 1 0 0
+additionalactioncostmult: 1
+intermediateposes: 2
+0.000000000 0.000000000 0.000000000
+0.025000000 -0.000000001 6.283200000
+";
+    assert_eq!(rt; out.as_slice(), want.as_bytes());
+    Ok(())
+}
+
+#[test]
+fn poses_keep_their_order(rt: HostRuntime) -> Result<(), Fail> {
+    let mut items = Vec::new(rt.alloc());
+    items.push(Pose {
+        x: 1,
+        y: 2,
+        theta: 3,
+    })?;
+    items.push(Pose {
+        x: 4,
+        y: 5,
+        theta: 6,
+    })?;
+    let poses = Poses::of(items);
+    assert_eq!(rt; poses.as_slice().len(), 2);
+    assert_eq!(rt;
+        poses.into_vec().as_slice()[1],
+        Pose {
+            x: 4,
+            y: 5,
+            theta: 6
+        }
+    );
+    Ok(())
+}

@@ -1,0 +1,342 @@
+//! Plans on small maps that change: a worked example, and random batches.
+
+ghost use Rattle.std.specs.Prelude.{◌<◌, IfSome, IsTrue, OnOk};
+ghost use Rattle.sbpl_replan.specs.Replanning.{IsReadyIn};
+
+use crate::lattices::made;
+use crate::samples::{E2, F2, car, field};
+use sbpl_cfg::{Place, place_at};
+use sbpl_change::are_on_map;
+use sbpl_cost::Lattice;
+use sbpl_graph::{Graph, Guide};
+use sbpl_map::Write;
+use sbpl_plan::{Ask, Outcome, Planned};
+use sbpl_replan::Replanner;
+use std::alloc::Global;
+use std::process::Abort;
+use std::test::Fail;
+
+/// Plans from the start of the environment to its end, from repaired labels or from labels that are opened anew.
+fn plans_on(alloc: Global, lattice: &Lattice, repairs: bool) -> Option<Replanner>
+    ensures ready { IfSome result (IsReadyIn lattice.now) }
+{
+    let env = lattice.env();
+    let start = lattice.state_of(&place_at(env, &env.start)?)?;
+    let goal = lattice.state_of(&place_at(env, &env.end)?)?;
+    if repairs {
+        Replanner::repairing(alloc, lattice, start, goal, 1_000_000).ok()
+    } else {
+        Replanner::anew(alloc, lattice, start, goal, 1_000_000).ok()
+    }
+}
+
+/// What is asked of a plan in one pass.
+const AT_ONCE: Ask = Ask {
+    first: 1000,
+    step: 500,
+    bound: 1000,
+    traced: true,
+};
+
+/// What is asked of a plan whose inflation falls.
+const FALLING: Ask = Ask {
+    first: 3000,
+    step: 500,
+    bound: 1000,
+    traced: false,
+};
+
+/// Makes the plans ready for the map after these writes.
+fn change(
+    alloc: Global,
+    lattice: &mut Lattice,
+    plans: &mut Replanner,
+    batch: &[Write],
+) -> Result<(), Fail>
+    requires ready { IsReadyIn lattice.old plans.old }
+    ensures ready { OnOk result (IsReadyIn lattice.new plans.new) }
+{
+    if !are_on_map(lattice, batch) {
+        return Err(Fail::new("off the map"));
+    }
+    plans.change(alloc, lattice, batch)?;
+    Ok(())
+}
+
+/// The arc numbers of a path, with its cost and its bound.
+fn path(outcome: &Outcome) -> Option<(&[u32], u64, u128)> {
+    match outcome {
+        Outcome::Path { arcs, cost, bound } => Some((arcs.as_slice(), *cost, *bound)),
+        Outcome::NoPath | Outcome::Unknown => None,
+    }
+}
+
+/// Whether a plan has one pass, which lowered just these states.
+fn lowered(planned: &Planned, states: &[u32]) -> bool {
+    match planned.passes.as_slice() {
+        [pass] => {
+            pass.trace.as_slice().len() == states.len()
+                && states
+                    .iter()
+                    .zip(pass.trace.as_slice())
+                    .all(|(want, step)| *want == step.state && !step.raised)
+        }
+        _ => false,
+    }
+}
+
+/// The heuristic at heading 0 of each of the six cells of the hall, row by row.
+fn guided(lattice: &Lattice, plans: &Replanner) -> Option<[u64; 6]>
+    requires ready { IsReadyIn lattice.now plans.now }
+{
+    let mut values = [0; 6];
+    for cell in 0..6 {
+        let (x, y) = (cell % 3, cell / 3);
+        let s = lattice.state_of(&Place { x, y, t: 0 })?;
+        values[cell as usize] = plans.guide().to_goal(s);
+    }
+    Some(values)
+}
+
+/// The g of a state.
+fn reached(lattice: &Lattice, plans: &Replanner, s: u32) -> Option<u64>
+    requires ready { IsReadyIn lattice.now plans.now }
+{
+    if s < lattice.states() {
+        Some(plans.labels().g(s))
+    } else {
+        None
+    }
+}
+
+/// Cell `(x, y)` gets cost `cost`.
+fn write(x: u32, y: u32, cost: u8) -> Write {
+    Write { x, y, cost }
+}
+
+/// How many states a plan of the hall expands, the arc numbers of its path, and its cost, which is also the g of the goal.
+type Row<'a> = (u64, &'a [u32], u64);
+
+/// Makes the next plan of the hall in one pass, and compares it.
+fn plan_is(
+    rt: &impl Abort,
+    alloc: Global,
+    lattice: &Lattice,
+    plans: &mut Replanner,
+    row: Row,
+) -> Result<(), Fail>
+    requires ready { IsReadyIn lattice.now plans.old }
+    ensures ready { OnOk result (IsReadyIn lattice.now plans.new) }
+{
+    let plan = plans.plan(alloc, lattice, &AT_ONCE)?;
+    assert_eq!(rt; path(&plan.outcome), Some((row.1, row.2, 1000)));
+    assert!(rt; !plan.spent);
+    drop(plan);
+    assert_eq!(rt; plans.expanded(), row.0);
+    assert_eq!(rt; reached(lattice, plans, 32), Some(row.2));
+    Ok(())
+}
+
+/// Makes three plans of the hall, before a cell is blocked, before it is freed, and behind that.
+fn plans_are(
+    rt: &impl Abort,
+    alloc: Global,
+    lattice: &mut Lattice,
+    plans: &mut Replanner,
+    rows: [Row; 3],
+) -> Result<(), Fail>
+    requires ready { IsReadyIn lattice.old plans.old }
+{
+    plan_is(rt, alloc, lattice, plans, rows[0])?;
+    change(alloc, lattice, plans, [write(2, 1, 100)].as_slice())?;
+    plan_is(rt, alloc, lattice, plans, rows[1])?;
+    change(alloc, lattice, plans, [write(2, 1, 0)].as_slice())?;
+    plan_is(rt, alloc, lattice, plans, rows[2])
+}
+
+/// The same plans on a lattice that is the hall's.
+fn hall_plans_are(
+    rt: &impl Abort,
+    alloc: Global,
+    lattice: &mut Lattice,
+    repairs: bool,
+    rows: [Row; 3],
+) -> Result<(), Fail> {
+    let mut plans = plans_on(alloc, lattice, repairs).ok_or("begun")?;
+    let compared = plans_are(rt, alloc, lattice, &mut plans, rows);
+    drop(plans);
+    compared
+}
+
+#[test]
+fn hall_repaired_or_begun_anew(rt: HostRuntime) -> Result<(), Fail> {
+    let long = [2, 1, 3].as_slice();
+    let short = [1].as_slice();
+    let other = [2, 0, 0, 3].as_slice();
+    for (repairs, rows) in [
+        (true, [(4, long, 100), (1, short, 150), (0, other, 100)]),
+        (false, [(4, long, 100), (3, short, 150), (4, long, 100)]),
+    ] {
+        let mut hall = made(rt.alloc(), E2, F2, 0)?;
+        let compared = hall_plans_are(&rt, rt.alloc(), &mut hall, repairs, rows);
+        drop(hall);
+        compared?;
+    }
+    Ok(())
+}
+
+/// Makes the next plan in one pass, and compares the states that it lowered and its path with its cost.
+fn plan_lowers(
+    rt: &impl Abort,
+    alloc: Global,
+    lattice: &Lattice,
+    plans: &mut Replanner,
+    states: &[u32],
+    want: (&[u32], u64, u128),
+) -> Result<(), Fail>
+    requires ready { IsReadyIn lattice.now plans.old }
+    ensures ready { OnOk result (IsReadyIn lattice.now plans.new) }
+{
+    let plan = plans.plan(alloc, lattice, &AT_ONCE)?;
+    assert!(rt; lowered(&plan, states));
+    assert_eq!(rt; path(&plan.outcome), Some(want));
+    drop(plan);
+    Ok(())
+}
+
+/// Plans of the hall that are repaired: what is changed back lowers nothing, and a blocked cell lowers one state.
+fn repairs_lower(
+    rt: &impl Abort,
+    alloc: Global,
+    lattice: &mut Lattice,
+    plans: &mut Replanner,
+) -> Result<(), Fail>
+    requires ready { IsReadyIn lattice.old plans.old }
+{
+    let long = ([2, 1, 3].as_slice(), 100, 1000);
+    let short = ([1].as_slice(), 150, 1000);
+    plan_lowers(rt, alloc, lattice, plans, [0, 48, 64, 80].as_slice(), long)?;
+    assert_eq!(rt; guided(lattice, plans), Some([50, 75, 0, 75, 50, 25]));
+
+    let back = [write(2, 1, 100), write(2, 1, 0), write(0, 0, 0)];
+    change(alloc, lattice, plans, back.as_slice())?;
+    plan_lowers(rt, alloc, lattice, plans, [].as_slice(), long)?;
+
+    change(alloc, lattice, plans, [write(2, 1, 100)].as_slice())?;
+    plan_lowers(rt, alloc, lattice, plans, [16].as_slice(), short)?;
+    assert_eq!(rt; guided(lattice, plans), Some([50, 75, 0, 75, 150, 150]));
+    assert!(rt; !are_on_map(lattice, [write(3, 0, 1)].as_slice()));
+    Ok(())
+}
+
+/// The same plans on a lattice that is the hall's.
+fn hall_repairs_lower(rt: &impl Abort, alloc: Global, lattice: &mut Lattice) -> Result<(), Fail> {
+    let mut plans = plans_on(alloc, lattice, true).ok_or("begun")?;
+    let compared = repairs_lower(rt, alloc, lattice, &mut plans);
+    drop(plans);
+    compared
+}
+
+#[test]
+fn hall_lowers_what_a_change_reaches(rt: HostRuntime) -> Result<(), Fail> {
+    let mut hall = made(rt.alloc(), E2, F2, 0)?;
+    let compared = hall_repairs_lower(&rt, rt.alloc(), &mut hall);
+    drop(hall);
+    compared
+}
+
+/// A number below `limit`, drawn from a word that each draw replaces.
+fn draw(word: &mut u64, limit: u32) -> u32
+    requires some { 0 < limit }
+    ensures below { result < limit }
+{
+    *word = word
+        .wrapping_mul(6_364_136_223_846_793_005)
+        .wrapping_add(1_442_695_040_888_963_407);
+    ((*word >> 33) % u64::from(limit)) as u32
+}
+
+/// Writes to the field: a third of them make an obstacle, and a third make a cell dear.
+fn drawn(word: &mut u64) -> [Write; 60] {
+    let mut batch = [write(0, 0, 0); 60];
+    for place in &mut batch {
+        let cost = [0, 20, 254][draw(word, 3) as usize];
+        *place = write(draw(word, 32), draw(word, 32), cost);
+    }
+    batch
+}
+
+/// What a plan makes known: the cost of its path, or that there is none.
+fn known(outcome: &Outcome) -> Result<Option<u64>, Fail> {
+    match outcome {
+        Outcome::Path { cost, .. } => Ok(Some(*cost)),
+        Outcome::NoPath => Ok(None),
+        Outcome::Unknown => Err(Fail::new("unknown")),
+    }
+}
+
+/// What the next plan makes known after these writes.
+fn known_after(
+    alloc: Global,
+    lattice: &mut Lattice,
+    plans: &mut Replanner,
+    batch: &[Write],
+) -> Result<Option<u64>, Fail>
+    requires ready { IsReadyIn lattice.old plans.old }
+    ensures ready { OnOk result (IsReadyIn lattice.new plans.new) }
+{
+    change(alloc, lattice, plans, batch)?;
+    let planned = plans.plan(alloc, lattice, &FALLING)?;
+    let cost = known(&planned.outcome);
+    drop(planned);
+    cost
+}
+
+/// What the plans make known after each of thirty drawn batches.
+fn thirty_known(
+    alloc: Global,
+    lattice: &mut Lattice,
+    plans: &mut Replanner,
+) -> Result<[Option<u64>; 30], Fail>
+    requires ready { IsReadyIn lattice.old plans.old }
+{
+    let mut word = 24;
+    let mut costs = [None; 30];
+    for batch in 0..30 {
+        let writes = drawn(&mut word);
+        costs[batch] = known_after(alloc, lattice, plans, writes.as_slice())?;
+    }
+    Ok(costs)
+}
+
+/// The same on a lattice, with plans of one kind.
+fn thirty_on(
+    alloc: Global,
+    lattice: &mut Lattice,
+    repairs: bool,
+) -> Result<[Option<u64>; 30], Fail> {
+    let mut plans = plans_on(alloc, lattice, repairs).ok_or("begun")?;
+    let costs = thirty_known(alloc, lattice, &mut plans);
+    drop(plans);
+    costs
+}
+
+/// The same on a field that is free at first.
+fn thirty_on_a_field(alloc: Global, repairs: bool) -> Result<[Option<u64>; 30], Fail> {
+    let env = field(alloc)?;
+    let prims = car(alloc)?;
+    let mut lattice = made(alloc, env.as_str(), prims.as_str(), 0)?;
+    let costs = thirty_on(alloc, &mut lattice, repairs);
+    drop(lattice);
+    costs
+}
+
+#[test]
+fn repaired_as_begun_anew_after_thirty_batches(rt: HostRuntime) -> Result<(), Fail> {
+    let repaired = thirty_on_a_field(rt.alloc(), true)?;
+    let anew = thirty_on_a_field(rt.alloc(), false)?;
+    assert_eq!(rt; repaired, anew);
+    assert!(rt; anew.iter().any(|cost| cost.is_some()));
+    assert!(rt; anew.iter().any(|cost| cost.is_none()));
+    Ok(())
+}
