@@ -65,11 +65,11 @@ before_next at k s (i, below, is) =
     (cases_eq i k)
 
 -- the state of a step of a list
-abbrev pub state_at : List Step → ℕ → ℕ
-state_at steps i = (slice_index_or steps i (record { state = 0; raised = false })).state
+abbrev pub step_state : List Step → ℕ → ℕ
+step_state steps i = (slice_index_or steps i (record { state = 0; raised = false })).state
 
 -- a state among those of the steps stands at a place
-pub among_before : (steps : List Step) (s : ℕ) → is_among steps s ≡ true → IsBefore (state_at steps) (length steps) s
+pub among_before : (steps : List Step) (s : ℕ) → is_among steps s ≡ true → IsBefore (step_state steps) (length steps) s
 among_before [] s none = absurd (false≢true none)
 among_before (step ∷ rest) s is =
     ⊎_elim

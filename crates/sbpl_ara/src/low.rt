@@ -38,10 +38,10 @@ fn low_of_queue<H: Guide>(queue: &Open, labels: &Labels, guide: &H, goal: u32) -
     requires states { frontier.states_of queue.now ≡ states_of labels.now }
     ensures low { IsLowOf labels.now goal (H.distance guide.now) (IsInQueue queue.now) result }
 {
-    let states = queue.states();
+    let entries = queue.entries();
     let mut low = labels.g(goal);
-    for s in states {
-        low = low_with(labels, guide, *s, low);
+    for entry in entries {
+        low = low_with(labels, guide, entry.state, low);
     }
     low
 }

@@ -4,12 +4,12 @@ use Rattle.sbpl_labels.specs.Marks.{states_of}
 use Rattle.sbpl_ara.specs.declared.step.Step.{Step}
 use Rattle.sbpl_ara.specs.Low.{IsInQueue}
 use Rattle.sbpl_ara.specs.Queue.{is_among}
-use Rattle.sbpl_ara.proofs.Lowering.{IsBefore, state_at, low_more, low_same, low_of_all, before_next, among_before}
+use Rattle.sbpl_ara.proofs.Lowering.{IsBefore, step_state, low_more, low_same, low_of_all, before_next, among_before}
 use Rattle.sbpl_ara.proofs.low.low_among.Goals as goal
 
 pub loop-step-preserved : goal.loop-step-preserved
 loop-step-preserved g c =
-    let at = state_at c.args.steps.now in
+    let at = step_state c.args.steps.now in
     let k = c.loop-step.step-index in
     let inside = All-get_or (λ (step : Step). step.state < states_of c.args.labels.now) c.args.steps.now k (record { state = 0; raised = false }) c.loop-step-test.true c.requires.inside in
     low_same
