@@ -1,5 +1,5 @@
 -- The states that a pass begins with are found.
-use Rattle.std.proofs.Common.{◌≡◌, ◌≢◌, ℕ, ◌+◌, ◌<◌, ◌≤◌, true, false, Bool, nat_eq, Some, None, IsSome, List, [], ◌∷◌, ◌++◌, length, slice_index, arith, ⊎_elim, inl, inr, refl, sym, ◌∙◌, ap, length-append}
+use Rattle.std.proofs.Common.{◌≡◌, ◌≢◌, ℕ, ◌+◌, ◌<◌, ◌≤◌, true, false, Bool, nat_eq, Some, None, IsSome, List, [], ◌∷◌, ◌++◌, length, arith, ⊎_elim, inl, inr, refl, sym, ◌∙◌, ap, length-append}
 use Rattle.std.specs.List.{All}
 use Rattle.std.proofs.lemmas.Bool.{cases_eq, cases_lt, cases_Bool, or_left, or_right, eq-eqb, false≢true}
 use Rattle.std.proofs.lemmas.List.{get_or_past}
