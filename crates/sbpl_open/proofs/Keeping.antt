@@ -1,10 +1,9 @@
 -- Keys stay with their states.
-use Rattle.std.proofs.Common.{◌≡◌, ◌≢◌, ℕ, ◌+◌, ◌-◌, ◌<◌, ◌≤◌, Option, Some, None, List, length, slice_index, slice_set, arith, ⊎_elim, refl, sym, ◌∙◌, ap}
+use Rattle.std.proofs.Common.{◌≡◌, ◌≢◌, ℕ, ◌+◌, ◌-◌, ◌<◌, Option, Some, None, List, length, slice_index, arith, ⊎_elim, refl, sym, ◌∙◌, ap}
 use Rattle.std.proofs.lemmas.Bool.{cases_eq, lt-ltb}
-use Rattle.std.proofs.lemmas.List.{get_or-set_same, get_or-set_other}
 use Rattle.sbpl_open.specs.declared.entry.Entry.{Entry}
-use Rattle.sbpl_open.specs.Entries.{key_of, no_entry, entry_at, state_at}
-use Rattle.sbpl_open.specs.Heap.{AreAgreed, KeyChanges, SameKeys, filled, placed_at, key_where}
+use Rattle.sbpl_open.specs.Entries.{key_of, entry_at, state_at}
+use Rattle.sbpl_open.specs.Heap.{AreAgreed, KeyChanges, SameKeys, key_where}
 use Rattle.sbpl_open.proofs.Agreeing.{IsPlaced, IsSwapped}
 
 pub key_present : (heap : List Entry) (places : List ℕ) (s i : ℕ) → slice_index places s ≡ i + 1

@@ -1,14 +1,13 @@
 -- A hole on its way up or down the heap.
-use Rattle.std.proofs.Common.{◌≡◌, ◌≢◌, ℕ, ◌+◌, ◌<◌, ◌≤◌, List, length, slice_index, slice_set, arith, ⊎_elim, refl, sym, ap, ◌∙◌, length-set}
-use Rattle.std.proofs.lemmas.Bool.{cases_eq}
+use Rattle.std.proofs.Common.{◌≡◌, ◌≢◌, ℕ, ◌+◌, ◌<◌, ◌≤◌, List, length, slice_index, slice_set, arith, sym, ap, ◌∙◌, length-set}
 use Rattle.std.proofs.lemmas.List.{get_or-set_same, get_or-set_other}
 use Rattle.sbpl_open.specs.declared.entry.Entry.{Entry}
 use Rattle.sbpl_open.specs.Entries.{entry_at, no_entry, state_at}
-use Rattle.sbpl_open.specs.Heap.{AreAgreed, HasHole, IsBehind, IsFirstChild, IsHeap, IsHeapBut, SameKeys, filled, parent, placed_at, rank, rank_at}
+use Rattle.sbpl_open.specs.Heap.{AreAgreed, HasHole, IsBehind, IsFirstChild, IsHeapBut, SameKeys, filled, parent, placed_at, rank, rank_at}
 use Rattle.sbpl_open.proofs.Agreeing.{IsPlaced, IsSwapped, agreed_swapped}
 use Rattle.sbpl_open.proofs.Counting.{states_at_most}
 use Rattle.sbpl_open.proofs.Keeping.{keys_swapped}
-use Rattle.sbpl_open.proofs.Ordering.{heap_up, heap_down, behind_down, heap_closed}
+use Rattle.sbpl_open.proofs.Ordering.{heap_up, heap_down, behind_down}
 
 -- a hole that has moved from where it began: the same keys, as many entries and as many states
 pub record IsMoving (heap' : List Entry) (places' : List ℕ) (hole' : ℕ) (heap : List Entry) (places : List ℕ) (hole : ℕ) (entry : Entry) : Type 0 where

@@ -1,4 +1,4 @@
-use Rattle.std.proofs.Common.{◌≡◌, ◌+◌, ◌∙◌, ◌-◌, ◌≤◌, length, take, slice_index, arith}
+use Rattle.std.proofs.Common.{◌≡◌, ◌+◌, ◌∙◌, ◌-◌, length, slice_index, arith}
 use Rattle.std.proofs.lemmas.List.{get_or_read, with_items_is}
 use Rattle.sbpl_open.specs.Entries.{entry_at, no_entry}
 use Rattle.sbpl_open.proofs.Agreeing.{place_at}

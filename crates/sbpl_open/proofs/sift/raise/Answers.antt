@@ -1,4 +1,4 @@
-use Rattle.std.proofs.Common.{◌<◌, ◌≤◌, length, arith}
+use Rattle.std.proofs.Common.{◌≤◌, arith}
 use Rattle.sbpl_open.specs.Entries.{entry_at}
 use Rattle.sbpl_open.specs.Heap.{parent, rank}
 use Rattle.sbpl_open.proofs.Sifting.{hole_fits, moves_up, next_known}

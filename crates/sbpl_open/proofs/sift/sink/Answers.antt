@@ -21,6 +21,7 @@ loop-below-preserved c =
     let moving = c.loop-below.invariant.0 in
     let child = c.in-Some.ensures.child in
     let lower : rank (entry_at c.loop-below.heap c.in-Some.below) ≤ rank c.args.entry = omega arith in
-    rw (c.fill.ensures.heap, c.fill.ensures.places)
-    (moves_down c.loop-below.heap c.loop-below.places c.loop-below.hole c.in-Some.below c.args.entry moving child lower,
-    moves_behind c.loop-below.heap c.loop-below.places c.loop-below.hole c.in-Some.below c.args.entry moving child lower)
+    rw (c.fill.ensures.heap, c.fill.ensures.places) (
+      moves_down c.loop-below.heap c.loop-below.places c.loop-below.hole c.in-Some.below c.args.entry moving child lower,
+      moves_behind c.loop-below.heap c.loop-below.places c.loop-below.hole c.in-Some.below c.args.entry moving child lower,
+    )
