@@ -11,4 +11,3 @@ pub mod Running
 pub mod Ordering
 pub mod Passing
 pub mod Finishing
-pub mod SampleTails

@@ -4,4 +4,3 @@ pub mod Run
 pub mod Relaxed
 pub mod Queue
 pub mod Search
-pub mod Sample

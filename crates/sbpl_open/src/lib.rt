@@ -9,6 +9,3 @@ mod sift;
 
 pub use key::Key;
 pub use open::Open;
-
-#[cfg(test)]
-mod tests;
