@@ -9,4 +9,3 @@ pub mod Noting
 pub mod Together
 pub mod Passing
 pub mod Finishing
-pub mod Touching

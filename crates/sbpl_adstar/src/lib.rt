@@ -9,6 +9,3 @@ mod repair;
 
 pub use adstar::AdStar;
 pub use facts::exact_where_same;
-
-#[cfg(test)]
-mod tests;

@@ -12,4 +12,3 @@ pub mod Running
 pub mod Ordering
 pub mod Passing
 pub mod Finishing
-pub mod SampleTails

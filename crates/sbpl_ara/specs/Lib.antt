@@ -5,4 +5,3 @@ pub mod Relaxed
 pub mod Queue
 pub mod Low
 pub mod Search
-pub mod Sample

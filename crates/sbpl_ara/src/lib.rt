@@ -18,6 +18,3 @@ pub use parts::Parts;
 pub use queue::{gather, place, refill};
 pub use step::Step;
 pub use steps::Steps;
-
-#[cfg(test)]
-mod tests;

@@ -11,8 +11,6 @@ mod outcome;
 mod reading;
 mod row;
 mod rows;
-#[cfg(test)]
-mod tests;
 mod text;
 mod writing;
 

@@ -19,8 +19,3 @@ pub use pose::{Place, Pose};
 pub use print::print_env;
 pub use read::read_env;
 pub use text::texts_are_environments_or_faulty;
-
-#[cfg(test)]
-mod samples;
-#[cfg(test)]
-mod tests;

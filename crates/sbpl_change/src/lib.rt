@@ -6,6 +6,3 @@ mod costs;
 mod heads;
 
 pub use batch::{apply, are_on_map, write_batch};
-
-#[cfg(test)]
-mod tests;

@@ -35,8 +35,3 @@ pub use sbpl_job::{
     Sources, read_job,
 };
 pub use top::run;
-
-#[cfg(test)]
-mod samples;
-#[cfg(test)]
-mod tests;

@@ -19,7 +19,6 @@ pub mod Numbered
 pub mod Offsets
 pub mod PlaceLaws
 pub mod RoundedUp
-pub mod Samples
 pub mod TailViews
 pub mod Tails
 pub mod Views

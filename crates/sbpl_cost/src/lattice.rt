@@ -315,6 +315,3 @@ fn copy_of(env: &Env) -> Env
         headings: env.headings,
     }
 }
-
-#[cfg(test)]
-mod tests;

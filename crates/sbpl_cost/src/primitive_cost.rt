@@ -114,6 +114,3 @@ pub fn cost_parts_are_least()
     ensures ceilings { CeilingsRoundUp }
     ensures gaps { GapsAreShortest }
 {}
-
-#[cfg(test)]
-mod tests;

@@ -11,8 +11,3 @@ mod put;
 
 pub use bytes::Bytes;
 pub use files::{Demo, generate};
-
-#[cfg(test)]
-mod samples;
-#[cfg(test)]
-mod tests;

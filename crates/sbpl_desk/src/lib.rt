@@ -8,6 +8,3 @@ mod real;
 pub use desk::{Desk, ReadStop, WriteStop};
 pub use memory::MemoryDesk;
 pub use real::RealDesk;
-
-#[cfg(test)]
-mod tests;

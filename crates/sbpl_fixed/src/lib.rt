@@ -10,8 +10,6 @@ mod placed;
 mod printed;
 mod reader;
 mod rounding;
-#[cfg(test)]
-mod tests;
 mod token;
 mod unsigned;
 

@@ -13,6 +13,3 @@ pub use zero::Zero;
 
 /// The label that stands for infinity. Every finite label is below `2^62`.
 pub const FAR: u64 = 1 << 63;
-
-#[cfg(test)]
-mod tests;

@@ -10,6 +10,3 @@ mod search;
 mod spot;
 
 pub use best::Best;
-
-#[cfg(test)]
-mod tests;

@@ -16,6 +16,3 @@ pub use job::{CheckJob, DemoJob, Job, JobFault, Outputs, PlanJob, Planner, Searc
 pub use name::Name;
 pub use read::read_job;
 pub use words::{Command, Setting};
-
-#[cfg(test)]
-mod tests;

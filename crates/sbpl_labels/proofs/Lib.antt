@@ -2,6 +2,5 @@ pub mod Bounds
 pub mod Opened
 pub mod Changes
 pub mod Choosing
-pub mod ListedTails
 pub mod Lowest
 pub mod Walking

@@ -5,4 +5,3 @@ pub mod Chain
 pub mod Recomputed
 pub mod Walks
 pub mod Ways
-pub mod Listed

@@ -14,6 +14,3 @@ pub use budget::Budget;
 pub use labels::Labels;
 pub use pass_end::PassEnd;
 pub use walk::Walk;
-
-#[cfg(test)]
-mod tests;

@@ -21,6 +21,3 @@ pub use off_map::OffMap;
 pub use read::read_changes;
 pub use text::texts_are_changes_or_faulty;
 pub use write::Write;
-
-#[cfg(test)]
-mod tests;

@@ -21,8 +21,3 @@ pub use prims::Prims;
 pub use printing::print_prims;
 pub use read::read_prims;
 pub use text::texts_are_primitives_or_faulty;
-
-#[cfg(test)]
-mod samples;
-#[cfg(test)]
-mod tests;

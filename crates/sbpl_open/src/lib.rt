@@ -10,6 +10,3 @@ mod sift;
 pub use entry::Entry;
 pub use key::Key;
 pub use open::Open;
-
-#[cfg(test)]
-mod tests;

@@ -18,6 +18,3 @@ pub use passes::{Pass, Passes};
 pub use plans::{plan, replan};
 pub use result::{Arcs, Outcome, Planned};
 pub use trace::Trace;
-
-#[cfg(test)]
-mod tests;

@@ -5,6 +5,3 @@ mod replanner;
 mod search;
 
 pub use replanner::Replanner;
-
-#[cfg(test)]
-mod tests;

@@ -23,6 +23,3 @@ pub use laws::{few_poses_are_narrow, point_sweeps_centres};
 pub use reads::Read;
 pub use runs::Runs;
 pub use sweeps::Sweeps;
-
-#[cfg(test)]
-mod tests;

@@ -1,6 +1,6 @@
 //! Plans on small maps that change: a worked example, and random batches.
 
-ghost use Rattle.std.specs.Prelude.{◌<◌, IfSome, IsTrue, OnOk};
+ghost use Rattle.std.specs.Prelude.{◌<◌, IfSome, OnOk};
 ghost use Rattle.sbpl_replan.specs.Replanning.{IsReadyIn};
 
 use crate::lattices::made;

@@ -1,5 +1,0 @@
-use Rattle.sbpl_ara.proofs.SampleTails.{exact_tails}
-use Rattle.sbpl_ara.proofs.tests.TableGraph.states.Goals as goal
-
-pub returns-clause-tails : goal.returns-clause-tails
-returns-clause-tails c = exact_tails c.args.self.now.arcs c.args.self.now.heights

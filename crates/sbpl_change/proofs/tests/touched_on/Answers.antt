@@ -1,4 +1,0 @@
-use Rattle.sbpl_change.proofs.tests.touched_on.Goals as goal
-
-pub apply-requires : goal.apply-requires
-apply-requires c = record { on_map = c.are_on_map.ensures.0 c.if-not-are_on_map.false }
