@@ -1,6 +1,6 @@
 use Rattle.std.proofs.Common.{◌∙◌}
-use Rattle.sbpl_open.proofs.tests.as_a_list_does.Goals.{then-call-eq149, else-call-eq149}
-use Rattle.sbpl_open.proofs.tests.as_a_list_does.Goals as goal
+use Rattle.worked_graphs.proofs.open.as_a_list_does.Goals.{then-call-eq149, else-call-eq149}
+use Rattle.worked_graphs.proofs.open.as_a_list_does.Goals as goal
 
 pub loop-call-preserved : goal.loop-call-preserved
 loop-call-preserved g c =
