@@ -149,25 +149,3 @@ module _ {len : ℕ} {r r' : ℕ → ℕ} (hole c : ℕ) (but : IsHeapBut len r 
   behind_down lower down some =
       let over : r' (parent c) ≡ r' hole = ap r' child.below in
       omega arith
-
--- nothing below the hole comes before what is there
-pub heap_closed : {len : ℕ} {r : ℕ → ℕ} (hole : ℕ) → IsHeapBut len r hole → IsBehind r hole
-    → ((i : ℕ) → 0 < i → i < len → parent i ≡ hole → r hole ≤ r i) → IsHeap len r
-heap_closed {len} {r} hole but behind first = record {
-  upward = λ i some within.
-      ⊎_elim
-      (λ (at : i ≡ hole).
-      let here = behind (omega arith) in
-      let own : r i ≡ r hole = ap r at in
-      let above : r (parent i) ≡ r (parent hole) = ap (λ x. r (parent x)) at in
-      omega arith)
-      (λ (apart : i ≢ hole).
-      ⊎_elim
-      (λ (under : parent i ≡ hole).
-      let here = first i some within under in
-      let above : r (parent i) ≡ r hole = ap r under in
-      omega arith)
-      (λ (elsewhere : parent i ≢ hole). but.upward i some within apart elsewhere)
-      (cases_eq (parent i) hole))
-      (cases_eq i hole);
-}
