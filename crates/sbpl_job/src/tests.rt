@@ -2,6 +2,7 @@
 
 use crate::{
     Asked, Command, Job, JobFault, Name, PlanJob, Planner, Sources, read_asked, read_job, told,
+    words_part_into_forms,
 };
 use std::alloc::Global;
 use std::test::Fail;
@@ -244,4 +245,9 @@ fn helps(rt: HostRuntime) -> Result<(), Fail> {
         }
     }
     Ok(())
+}
+
+#[test]
+fn laws_are_called() {
+    words_part_into_forms();
 }
