@@ -70,6 +70,21 @@ none_beside e x y t off = none_where_nothing (state_in e x y t) (λ r h. let at 
 pub none_above : (e : Environment) (x y : ℤ) (t : ℕ) → IsOff e.height y → state_in e x y t ≡ None
 none_above e x y t off = none_where_nothing (state_in e x y t) (λ r h. let at = state_in_some e x y t r h in off at.row at.y_is at.high)
 
+-- there is no state exactly where the cell is off the map
+module _ (w : World) (is_world : IsWorld w) (x y : ℤ) (t : ℕ) where
+  pub off_where_no_state : state_in w.env x y t ≡ None → IsOnMap w.map x y → ⊥
+  off_where_no_state h on_map =
+      let a = natural_part x on_map.left in
+      let b = natural_part y on_map.low in
+      let right : a.0 < w.env.width = subst (λ n. a.0 < n) is_world.width (natural_below _ _ _ a.1 on_map.right) in
+      let high : b.0 < w.env.height = subst (λ n. b.0 < n) is_world.height (natural_below _ _ _ b.1 on_map.high) in
+      none-some _ (sym h ∙ state_in_at w.env x y t a.0 b.0 a.1 b.1 right high)
+
+  pub no_state_where_off : (IsOnMap w.map x y → ⊥) → state_in w.env x y t ≡ None
+  no_state_where_off off = none_where_nothing (state_in w.env x y t) (λ r h.
+      let at = state_in_some w.env x y t r h in
+      off (on_map_at w.map _ _ at.column at.row at.x_is at.y_is (subst (λ n. at.column < n) (sym is_world.width) at.right) (subst (λ n. at.row < n) (sym is_world.height) at.high)))
+
 module _ (w : World) (is_world : IsWorld w) (s : ℕ) (p : Primitive) (is_primitive : IsPrimitive w.prims.cell w.prims.headings p) where
   pub ends_in : (t : ℕ) → head_by w s p ≡ Some t → EndsIn w s p t
   unfolding head_by
@@ -92,15 +107,8 @@ module _ (w : World) (is_world : IsWorld w) (s : ℕ) (p : Primitive) (is_primit
 
   pub off_map_where_none : head_by w s p ≡ None → IsOnMap w.map (column_from w s p.dx) (row_from w s p.dy) → ⊥
   unfolding head_by
-  off_map_where_none h on_map =
-      let a = natural_part (column_from w s p.dx) on_map.left in
-      let b = natural_part (row_from w s p.dy) on_map.low in
-      let right : a.0 < w.env.width = subst (λ n. a.0 < n) is_world.width (natural_below _ _ _ a.1 on_map.right) in
-      let high : b.0 < w.env.height = subst (λ n. b.0 < n) is_world.height (natural_below _ _ _ b.1 on_map.high) in
-      none-some _ (sym h ∙ state_in_at w.env (column_from w s p.dx) (row_from w s p.dy) p.to a.0 b.0 a.1 b.1 right high)
+  off_map_where_none h on_map = off_where_no_state w is_world (column_from w s p.dx) (row_from w s p.dy) p.to h on_map
 
   pub none_where_off_map : (IsOnMap w.map (column_from w s p.dx) (row_from w s p.dy) → ⊥) → head_by w s p ≡ None
   unfolding head_by
-  none_where_off_map off = none_where_nothing (head_by w s p) (λ t h.
-      let at = state_in_some w.env (column_from w s p.dx) (row_from w s p.dy) p.to t h in
-      off (on_map_at w.map _ _ at.column at.row at.x_is at.y_is (subst (λ n. at.column < n) (sym is_world.width) at.right) (subst (λ n. at.row < n) (sym is_world.height) at.high)))
+  none_where_off_map off = no_state_where_off w is_world (column_from w s p.dx) (row_from w s p.dy) p.to off

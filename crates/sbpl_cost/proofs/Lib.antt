@@ -24,3 +24,4 @@ pub mod Tails
 pub mod Views
 pub mod UnreadCosts
 pub mod Ways
+pub mod OrderedTails

@@ -36,7 +36,7 @@ pub record IsTailBy (w : World) (t j s k : ℕ) : Type 0 where
   pub number : k ≡ count_by (λ q. q.from == prim.from) (take place w.prims.items)
 
 -- the parts of a pair that is there
-pair_made : (o : Option ℕ) (n s k : ℕ) → ◌≡◌ {A = Option (ℕ × ℕ)} (option_map (λ r. (r, n)) o) (Some (s, k)) → (o ≡ Some s) × (n ≡ k)
+pub pair_made : (o : Option ℕ) (n s k : ℕ) → ◌≡◌ {A = Option (ℕ × ℕ)} (option_map (λ r. (r, n)) o) (Some (s, k)) → (o ≡ Some s) × (n ≡ k)
 pair_made None n s k h = absurd (none-some (s, k) h)
 pair_made (Some r) n s k h =
     let pair = same_Some {A = ℕ × ℕ} (r, n) (s, k) h in
@@ -47,10 +47,10 @@ made_of : {A B : Type 0} (f : A → Option B) (o : Option A) (y : B) → option_
 made_of f None y h = absurd (none-some y h)
 made_of f (Some x) y h = (x, refl, h)
 
-left_of : (a x d : ℤ) → x -ℤ d ≡ a → x ≡ a +ℤ d
+pub left_of : (a x d : ℤ) → x -ℤ d ≡ a → x ≡ a +ℤ d
 left_of a x d h = omega (arith, ints, h)
 
-right_of : (a x d : ℤ) → x ≡ a +ℤ d → x -ℤ d ≡ a
+pub right_of : (a x d : ℤ) → x ≡ a +ℤ d → x -ℤ d ≡ a
 right_of a x d h = omega (arith, ints, h)
 
 pub few_entering : (prims : List Primitive) (t : ℕ) → length (entering prims t) ≤ length prims

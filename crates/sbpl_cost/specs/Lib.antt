@@ -10,3 +10,4 @@ pub mod Judging
 pub mod Gaps
 pub mod Rates
 pub mod Alike
+pub mod TailOrder

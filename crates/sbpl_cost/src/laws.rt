@@ -4,6 +4,7 @@ ghost use Rattle.sbpl_cost.specs.Alike.{AlikeWorldsAreOneGraph};
 ghost use Rattle.sbpl_cost.specs.Gaps.{BoundsAreFloors, BoundsMayBeZero};
 ghost use Rattle.sbpl_cost.specs.Lattices.{LatticeHasItsArcs, LatticeHasExactTails, LatticeHasGaps};
 ghost use Rattle.sbpl_cost.specs.Reading.{UnreadArcsCostTheSame, MapsChangeCostsAlone, MapsChangeNoReads};
+ghost use Rattle.sbpl_cost.specs.TailOrder.{LatticeTailsAreInOrder};
 
 /// The arcs of the lattice, as a graph, are the motions that start at a state's heading, in the order of the file:
 /// with their heads, their freedom and their costs. It does nothing.
@@ -16,6 +17,12 @@ pub fn lattice_has_its_arcs()
 pub fn lattice_has_its_tails()
     ensures tails { LatticeHasExactTails }
     ensures gaps { LatticeHasGaps }
+{}
+
+/// The tails of each state of the lattice stand in the order of the file: tail j is the arc by the j-th primitive that ends
+/// at the state's heading, or none where that would come from off the map. It does nothing.
+pub fn lattice_tails_are_in_order()
+    ensures law { LatticeTailsAreInOrder }
 {}
 
 /// The bounds that gaps are made of: each is the floor of the least fraction of cost to cells, and 0 for a way that no

@@ -18,6 +18,6 @@ pub use fault::LatticeFault;
 pub use lattice::Lattice;
 pub use laws::{
     alike_worlds_are_one_graph, gaps_are_floors, lattice_has_its_arcs, lattice_has_its_tails,
-    unread_arcs_cost_the_same,
+    lattice_tails_are_in_order, unread_arcs_cost_the_same,
 };
 pub use primitive_cost::{MOST_COST, cost_parts_are_least, prim_cost};

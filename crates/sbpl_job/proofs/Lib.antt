@@ -3,3 +3,4 @@ pub mod Spacing
 pub mod Finding
 pub mod Reading
 pub mod Naming
+pub mod PartedForms

@@ -3,3 +3,4 @@ pub mod Lines
 pub mod Jobs
 pub mod Found
 pub mod Asked
+pub mod Forms

@@ -15,4 +15,4 @@ pub use help::{Asked, read_asked, told, usage};
 pub use job::{CheckJob, DemoJob, Job, JobFault, Outputs, PlanJob, Planner, SearchJob, Sources};
 pub use name::Name;
 pub use read::read_job;
-pub use words::{Command, Setting};
+pub use words::{Command, Setting, words_part_into_forms};

@@ -3,6 +3,7 @@
 ghost use Rattle.std.specs.Prelude.{◌≡◌, ◌&&◌, IfOk, map, option_map, string_bytes};
 ghost use Rattle.std.specs.List.{list_any};
 ghost use Rattle.std.specs.Str.{bytes_eq};
+ghost use Rattle.sbpl_job.specs.Forms.{NoPartsWithoutForms, PartsAreOfForms};
 ghost use Rattle.sbpl_job.specs.Words.{are_fit, both_texts, is_known, is_plain_word, joined_word, setting_named, setting_of, spaced, stands_once, takes, texts};
 
 use std::alloc::{AllocError, Global};
@@ -162,3 +163,10 @@ pub(crate) fn are_fit(command: Command, words: &[&str]) -> bool
     }
     true
 }
+
+/// Words have parts exactly where they are, in turn, plain words and settings that the command takes, each with its plain
+/// value in the next word or behind `=`, and no setting is given twice; and these are the parts. It does nothing.
+pub fn words_part_into_forms()
+    ensures parts { PartsAreOfForms }
+    ensures none { NoPartsWithoutForms }
+{}
