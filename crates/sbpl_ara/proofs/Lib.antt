@@ -9,6 +9,10 @@ pub mod Changing
 pub mod Relaxing
 pub mod Parting
 pub mod Running
+pub mod Agreeing
+pub mod Stepping
+pub mod Leading
+pub mod Guiding
 pub mod Ordering
 pub mod Passing
 pub mod Finishing

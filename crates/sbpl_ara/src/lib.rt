@@ -4,6 +4,7 @@
 mod ara;
 mod closed;
 mod expansion;
+mod facts;
 mod low;
 mod parts;
 mod queue;
@@ -13,6 +14,7 @@ mod steps;
 pub use ara::Ara;
 pub use closed::Closed;
 pub use expansion::expand;
+pub use facts::run_is_determined;
 pub use low::low_among;
 pub use parts::Parts;
 pub use queue::{gather, place, refill};

@@ -11,3 +11,7 @@ pub mod Verifying
 pub mod OneEnding
 pub mod Going
 pub mod Drawings
+pub mod SameGuide
+pub mod SameBegun
+pub mod SameRecords
+pub mod SamePlanned

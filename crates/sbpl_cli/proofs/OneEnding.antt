@@ -55,7 +55,7 @@ one_graph : OneMap → (w : World) (batches : List (List Write)) (k : ℕ) (n o 
 one_graph one w batches k n o a b = a.network ∙ ap (λ (m : CellMap). network_of (record w { map = m })) (one w.map a.map b.map batches k a.is_world.map b.is_world.map a.after b.after) ∙ sym b.network
 
 -- it has the states of the environment
-state_count_is : (w : World) → (network_of w).states ≡ state_count w.env
+pub state_count_is : (w : World) → (network_of w).states ≡ state_count w.env
 unfolding network_of
 state_count_is w = refl
 

@@ -11,4 +11,5 @@ pub mod Shown
 pub mod Headline
 pub mod Planning
 pub mod Causes
+pub mod Determined
 pub mod Promises

@@ -5,6 +5,7 @@ mod check;
 mod checking;
 mod demo;
 mod drawn;
+mod facts;
 mod files;
 mod flaw;
 mod labels;
@@ -27,6 +28,7 @@ mod trace;
 mod writing;
 
 pub use checking::SectionStop;
+pub use facts::records_are_determined;
 pub use parts::Steps;
 pub use record::{Outcome, PathRecord, PlanRecord, Step};
 pub use refusal::{Input, Refusal};

@@ -1,6 +1,6 @@
 //! The one public call: does the job that words name, at a desk.
 
-ghost use Rattle.std.specs.Prelude.{◌≡◌, ◌≢◌, ◌⊎◌, ◌∷◌, ◌++◌, ℕ, List, [], None, Option, Some, IfErr, IfOk, OnErr, map, string_bytes};
+ghost use Rattle.std.specs.Prelude.{◌≡◌, ◌≢◌, ◌⊎◌, ◌∷◌, ◌++◌, ℕ, List, [], None, Option, Some, IfErr, IfOk, OnErr, map, string_bytes, true};
 ghost use Rattle.sbpl_cfg.specs.Environment.{Environment};
 ghost use Rattle.sbpl_cfg.specs.declared.fault.EnvFault.{EnvFault};
 ghost use Rattle.sbpl_cost.specs.PrimitiveCost.{IsFirstTooDear};
@@ -20,15 +20,19 @@ ghost use Rattle.sbpl_job.specs.declared.job.DemoJob.{DemoJob};
 ghost use Rattle.sbpl_job.specs.declared.job.Sources.{Sources};
 ghost use Rattle.sbpl_job.specs.declared.job.Job.{Job};
 ghost use Rattle.sbpl_job.specs.declared.job.Job.TheVariants as Jobs;
-ghost use Rattle.sbpl_cli.specs.Causes.{JobStopsFor};
+ghost use Rattle.sbpl_job.specs.declared.job.PlanJob.{PlanJob};
+ghost use Rattle.sbpl_cli.specs.declared.record.PlanRecord.{PlanRecord};
+ghost use Rattle.sbpl_cli.specs.Causes.{ArePlanned, JobStopsFor};
+ghost use Rattle.sbpl_cli.specs.Determined.{AreHeld};
 ghost use Rattle.sbpl_cli.specs.Checked.{IsHolding};
-ghost use Rattle.sbpl_cli.specs.Intents.{checked_status, refusal_status, refusal_writes, words_writes};
+ghost use Rattle.sbpl_cli.specs.Intents.{checked_status, plans_writes, refusal_status, refusal_writes, words_writes};
 ghost use Rattle.sbpl_job.specs.Jobs.{IsJob, job_of};
 ghost use Rattle.sbpl_cli.specs.Promises.{AreGood, AtJob, EndsJob, EndsRun, IsCutShort, IsCheckedIn, IsDone, IsFaultFound, IsFlawFound, IsNoCheck, IsOrFailed, IsOrUnwritten, IsRefused, IsStatus, IsStopped, MayBeWritten, SomeRose, Tells, TellsBatches, TellsChangeFault, TellsEnvironment, TellsEnvironmentFault, TellsPrimitiveFault, TellsPrimitives, TellsTooMuch, TellsWorld, changes_of, sources_of};
 ghost use Rattle.sbpl_cli.specs.Writing.{AreMade, EndsAs, IsCutAt, IsOutput, IsStoppedAt, StaysBut, output};
 
 use crate::check::check_labels;
 use crate::demo::end_demo;
+use crate::facts::records_are_determined;
 use crate::list::end_sweep;
 use crate::planning::end_plan;
 use crate::refusal::{Refusal, Stop};
@@ -163,6 +167,9 @@ pub fn run<D: Desk>(alloc: Global, words: &[String], desk: &mut D) -> u8
     // The job `check` ends as the labels do in the world that the files stand for, unless the desk fails or memory runs out.
     ensures checked { (j : CheckJob) (w : World) (batches : List (List Write)) (text : List ℕ) (goal : ℕ) (os : List Outcome) (end : Option SectionStop) → job_of (map string_bytes words.now) ≡ Some (Jobs.Check j) → TellsWorld (D.held desk.old) j.sources w → TellsBatches (D.held desk.old) j.changes w.map batches → Tells (D.held desk.old j.labels) text → IsCheckedIn IsHolding w batches text goal os end → end ≢ Some Stops.NoMemory → IsOrFailed (checked_status end) result }
     ensures labels_long { (j : CheckJob) (w : World) (batches : List (List Write)) → job_of (map string_bytes words.now) ≡ Some (Jobs.Check j) → TellsWorld (D.held desk.old) j.sources w → TellsBatches (D.held desk.old) j.changes w.map batches → TellsTooMuch (D.held desk.old j.labels) → IsOrFailed 8 result }
+    // What is written of plans is determined by the words and the files: any records of all plans of the job's files are those
+    // whose report was written, with their labels and traces where they are asked for.
+    ensures determined { (j : PlanJob) (records : List PlanRecord) → result ≡ 0 → job_of (map string_bytes words.now) ≡ Some (Jobs.Plan j) → AreHeld (D.held desk.old) j → ArePlanned (D.held desk.old) j records true → AreMade (D.written desk.old) (D.written desk.new) (plans_writes j.outputs records true) }
     // Nothing that is held changes, nothing is written under other names than the job's, and no count falls.
     ensures held { Stays (D.held desk.old) (D.held desk.new) }
     ensures others { StaysBut (MayBeWritten (job_of (map string_bytes words.now))) (D.written desk.old) (D.written desk.new) }
@@ -175,5 +182,6 @@ pub fn run<D: Desk>(alloc: Global, words: &[String], desk: &mut D) -> u8
     texts_are_sections_or_faulty();
     writes_lead_to_the_next_map();
     alike_worlds_are_one_graph();
+    records_are_determined();
     end_run(alloc, words, desk)
 }

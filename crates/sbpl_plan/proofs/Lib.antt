@@ -2,3 +2,5 @@ pub mod Lows
 pub mod Turning
 pub mod Planning
 pub mod Results
+pub mod Retracing
+pub mod Repeating

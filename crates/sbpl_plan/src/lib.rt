@@ -3,6 +3,7 @@
 
 mod anytime;
 mod ask;
+mod facts;
 mod found;
 mod look;
 mod make;
@@ -13,6 +14,7 @@ mod trace;
 mod turn;
 
 pub use ask::Ask;
+pub use facts::plan_is_determined;
 pub use found::Found;
 pub use passes::{Pass, Passes};
 pub use plans::{plan, replan};

@@ -1,6 +1,7 @@
 use Rattle.std.proofs.Common.{arith}
 use Rattle.sbpl_cli.proofs.Laws.{texts_are_clear}
 use Rattle.sbpl_cli.proofs.Runs.{run_changes_faulty, run_changes_long, run_checked, run_complete, run_cut, run_demonstrated, run_done, run_environment_faulty, run_environment_long, run_faulted, run_flawed, run_labels_long, run_no_job, run_primitives_faulty, run_primitives_long, run_refused, run_status, run_stopped, run_too_dear, run_too_wide, run_words, run_write}
+use Rattle.sbpl_cli.proofs.SamePlanned.{run_determined}
 use Rattle.sbpl_cli.proofs.top.run.Goals as goal
 
 pub returns-clause-statuses : goal.returns-clause-statuses
@@ -80,3 +81,8 @@ returns-clause-checked g c = run_checked _ _ _ _ _ _ _ _ _ (texts_are_clear c.te
 
 pub returns-clause-labels_long : goal.returns-clause-labels_long
 returns-clause-labels_long g c = run_labels_long _ _ _ _ _ _ _ _ _ (texts_are_clear c.texts_are_environments_or_faulty.ensures.one_value c.texts_are_environments_or_faulty.ensures.not_both c.texts_are_primitives_or_faulty.ensures.one_value c.texts_are_primitives_or_faulty.ensures.not_both c.texts_are_changes_or_faulty.ensures.one_value c.texts_are_changes_or_faulty.ensures.not_both) c.end_run.ensures.ends
+
+pub returns-clause-determined : goal.returns-clause-determined
+returns-clause-determined g c = λ j records done is told planned.
+    run_determined (texts_are_clear c.texts_are_environments_or_faulty.ensures.one_value c.texts_are_environments_or_faulty.ensures.not_both c.texts_are_primitives_or_faulty.ensures.one_value c.texts_are_primitives_or_faulty.ensures.not_both c.texts_are_changes_or_faulty.ensures.one_value c.texts_are_changes_or_faulty.ensures.not_both)
+    _ c.records_are_determined.ensures.law _ _ _ (run_done _ _ _ _ _ _ _ _ _ c.end_run.ensures.ends done) j records is told planned

@@ -1,0 +1,73 @@
+-- What is written of the plans of a job is one.
+use Rattle.std.proofs.Common.{◌≡◌, ℕ, true, Option, Some, None, List, IsSome, IfSome, sym, subst, ◌∙◌}
+use Rattle.std.proofs.lemmas.Bool.{false≢true}
+use Rattle.std.proofs.lemmas.Option.{same_Some}
+use Rattle.sbpl_cfg.specs.Environment.{Environment}
+use Rattle.sbpl_map.specs.CellMap.{CellMap}
+use Rattle.sbpl_map.specs.declared.write.Write.{Write}
+use Rattle.sbpl_cost.specs.World.{World}
+use Rattle.sbpl_job.specs.declared.job.Job.{Job}
+use Rattle.sbpl_job.specs.declared.job.Job.TheVariants as job
+use Rattle.sbpl_job.specs.declared.job.PlanJob.{PlanJob}
+use Rattle.sbpl_job.specs.declared.job.Sources.{Sources}
+use Rattle.sbpl_cli.specs.declared.record.PlanRecord.{PlanRecord}
+use Rattle.sbpl_cli.specs.Causes.{ArePlanned, IsRead, SaysBatches, SaysWorld}
+use Rattle.sbpl_cli.specs.Determined.{AreAlikeWorlds, AreHeld, RecordsAreOne}
+use Rattle.sbpl_cli.specs.Headline.{ArePlans}
+use Rattle.sbpl_cli.specs.Intents.{plans_writes}
+use Rattle.sbpl_cli.specs.Promises.{AtJob, IsDone}
+use Rattle.sbpl_cli.specs.Texts.{IsChangeText, IsEnvironmentText, IsPrimitiveText}
+use Rattle.sbpl_cli.specs.Writing.{AreMade, Told}
+use Rattle.sbpl_cli.proofs.Laws.{TextsAreClear}
+
+-- what is read of a file that the desk tells is one
+read_once : (held : Option (List ℕ)) (t u : List ℕ) → IsSome held → IsRead held t → IsRead held u → t ≡ u
+read_once None t u told x y = absurd (false≢true told)
+read_once (Some text) t u told x y = x.told ∙ sym y.told
+
+module _ (clear : TextsAreClear) (held : Told) where
+  -- the files stand for one world but for how cells stand in the tables of sweeps
+  one_world : (from : Sources) (w v : World) → IsSome (held from.env) → IsSome (held from.prims) → SaysWorld held from w → SaysWorld held from v → AreAlikeWorlds w v
+  one_world from w v told_env told_prims x y =
+      let text : y.environment.text ≡ x.environment.text = read_once (held from.env) y.environment.text x.environment.text told_env y.environment.read x.environment.read in
+      let stands : IsEnvironmentText x.environment.text v.env y.cells = subst (λ (t : List ℕ). IsEnvironmentText t v.env y.cells) text y.environment.stands in
+      let envs = clear.environment x.environment.text v.env w.env y.cells x.cells stands x.environment.stands in
+      let file : y.primitives.text ≡ x.primitives.text = read_once (held from.prims) y.primitives.text x.primitives.text told_prims y.primitives.read x.primitives.read in
+      let said : IsPrimitiveText v.env x.primitives.text v.prims = subst (λ (t : List ℕ). IsPrimitiveText v.env t v.prims) file y.primitives.stands in
+      let own : IsPrimitiveText w.env x.primitives.text v.prims = subst (λ (e : Environment). IsPrimitiveText e x.primitives.text v.prims) envs.0 said in
+      let env = envs.0 in
+      let cells = envs.1 in
+      let maps : ◌≡◌ {A = CellMap} (record { width = v.env.width; height = v.env.height; costs = y.cells }) (record { width = w.env.width; height = w.env.height; costs = x.cells }) =
+      λ i. record { width = (env i).width; height = (env i).height; costs = cells i }
+      in
+      record {
+        env = env;
+        prims = clear.primitives x.primitives.text w.env v.prims w.prims own x.primitives.stands;
+        map = y.map ∙ maps ∙ sym x.map;
+        radius = y.sweeps.radius_is ∙ sym x.sweeps.radius_is;
+      }
+
+  -- and for one list of batches of changes
+  one_course : (changes : Option (List ℕ)) (m : CellMap) (batches others : List (List Write)) → IfSome changes (λ name. IsSome (held name))
+      → SaysBatches held changes m batches → SaysBatches held changes m others → batches ≡ others
+  one_course None m batches others told x y = x ∙ sym y
+  one_course (Some name) m batches others told x y =
+      let text : y.0 ≡ x.0 = read_once (held name) y.0 x.0 told y.1 x.1 in
+      let own : IsChangeText m x.0 others = subst (λ (t : List ℕ). IsChangeText m t others) text y.2 in
+      clear.changes m x.0 batches others x.2 own
+
+  one_planned : RecordsAreOne → (j : PlanJob) (rs us : List PlanRecord) → AreHeld held j → ArePlanned held j rs true → ArePlanned held j us true → rs ≡ us
+  one_planned one j rs us told x y =
+      let alike = one_world j.sources x.world y.world told.env told.prims x.says y.says in
+      let course : SaysBatches held j.changes x.world.map y.batches = subst (λ (m : CellMap). SaysBatches held j.changes m y.batches) alike.map y.changes in
+      let batches : x.batches ≡ y.batches = one_course j.changes x.world.map x.batches y.batches told.changes x.changes course in
+      let plans : ArePlans y.world x.batches j.search j.outputs us true = subst (λ (bs : List (List Write)). ArePlans y.world bs j.search j.outputs us true) (sym batches) y.plans in
+      one x.world y.world x.batches j.search j.outputs rs us alike x.plans plans
+
+  -- so where the plans of a job were made, what was written is that of any records of all of its plans
+  pub run_determined : RecordsAreOne → (before after : Told) (named : Option Job) → AtJob named (IsDone held before after) → (j : PlanJob) (records : List PlanRecord)
+      → named ≡ Some (job.Plan j) → AreHeld held j → ArePlanned held j records true → AreMade before after (plans_writes j.outputs records true)
+  run_determined one before after named done j records is told planned =
+      let same : done.0 ≡ job.Plan j = same_Some done.0 (job.Plan j) (sym done.1 ∙ is) in
+      let reported : IsDone held before after (job.Plan j) = subst (λ (k : Job). IsDone held before after k) same done.2 in
+      subst (λ (rs : List PlanRecord). AreMade before after (plans_writes j.outputs rs true)) (one_planned one j reported.records records told reported.planned planned) reported.report

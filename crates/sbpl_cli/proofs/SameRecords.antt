@@ -1,0 +1,244 @@
+-- The record of a plan is one, and so are the records of plans in turn.
+use Rattle.std.proofs.Common.{◌≡◌, ℕ, ◌+◌, ◌^◌, ◌<◌, ◌≤◌, ◌⊎◌, Bool, true, false, Option, Some, None, List, [], ◌∷◌, length, inl, inr, refl, sym, ap, subst, ◌∙◌, arith}
+use Rattle.std.proofs.lemmas.Bool.{MatchBool-at_true}
+use Rattle.std.proofs.lemmas.List.{ext_get_or}
+use Rattle.std.proofs.lemmas.Option.{same_Some}
+use Rattle.std.specs.Option.{is_some}
+use Rattle.sbpl_graph.specs.Bound.{IsLow}
+use Rattle.sbpl_graph.specs.Network.{Network}
+use Rattle.sbpl_cfg.specs.Environment.{Environment}
+use Rattle.sbpl_mprim.specs.Primitives.{Primitives}
+use Rattle.sbpl_mprim.specs.declared.prim.Primitive.{Primitive}
+use Rattle.sbpl_sweep.specs.Swept.{Swept}
+use Rattle.sbpl_map.specs.CellMap.{CellMap}
+use Rattle.sbpl_map.specs.declared.write.Write.{Write}
+use Rattle.sbpl_cost.specs.Alike.{AlikeWorldsAreOneGraph}
+use Rattle.sbpl_cost.specs.Lattices.{network_of}
+use Rattle.sbpl_cost.specs.States.{place_of, state_count}
+use Rattle.sbpl_cost.specs.World.{World}
+use Rattle.sbpl_cert.specs.Sections.{Section, row_at}
+use Rattle.sbpl_cert.specs.Sections as section
+use Rattle.sbpl_cert.specs.declared.row.Row.{Row}
+use Rattle.sbpl_labels.specs.Marks.{Marks, states_of, g_of, v_of, back_of}
+use Rattle.sbpl_ara.specs.Run.{none_closed}
+use Rattle.sbpl_ara.proofs.Guiding.{StaysPlaced, run_placed}
+use Rattle.sbpl_plan.specs.declared.ask.Ask.{Ask}
+use Rattle.sbpl_plan.specs.declared.passes.Pass.{Pass}
+use Rattle.sbpl_plan.specs.declared.result.Outcome as search
+use Rattle.sbpl_plan.specs.declared.result.Outcome.TheVariants as result
+use Rattle.sbpl_plan.specs.Asked.{lowered}
+use Rattle.sbpl_plan.specs.Determined.{AreAlikeGuides, AreWithin, OutcomesAreOne, PassesAreOne}
+use Rattle.sbpl_plan.specs.Outcomes.{IsOutcome}
+use Rattle.sbpl_plan.specs.Passing.{ArePasses, Inquiry, expansions, query_at}
+use Rattle.sbpl_job.specs.declared.job.Outputs.{Outputs}
+use Rattle.sbpl_job.specs.declared.job.SearchJob.{SearchJob}
+use Rattle.sbpl_cli.specs.declared.record.Step.{Step}
+use Rattle.sbpl_cli.specs.declared.record.Outcome.{Outcome}
+use Rattle.sbpl_cli.specs.declared.record.Outcome.TheVariants as outcome
+use Rattle.sbpl_cli.specs.declared.record.PlanRecord.{PlanRecord}
+use Rattle.sbpl_cli.specs.Asked.{ask_of}
+use Rattle.sbpl_cli.specs.Headline.{ArePlans, AreRecords, AreSteps, Behind, IsMarked, IsPlanOf, IsSearched, Joins, TellsResult, expanded_before}
+use Rattle.sbpl_cli.specs.Determined.{RecordsAreOne}
+use Rattle.sbpl_cli.specs.Shown.{IsShown, IsThere}
+use Rattle.sbpl_cli.proofs.OneEnding.{OneMap, one_state}
+use Rattle.sbpl_cli.proofs.SameBegun.{AreCarried, one_begun}
+use Rattle.sbpl_cli.proofs.SameGuide.{made, one_best}
+
+-- ---- what is told
+
+-- the steps of the same arcs are one
+one_steps : (e : Environment) (ps : Primitives) (sweeps others : Swept) (m : CellMap) → network_of (made e ps sweeps m) ≡ network_of (made e ps others m)
+    → (s u : ℕ) → s ≡ u → (arcs : List ℕ) (xs ys : List Step) → AreSteps (made e ps sweeps m) s arcs xs → AreSteps (made e ps others m) u arcs ys → xs ≡ ys
+one_steps e ps sweeps others m same s u at [] [] [] left right = refl
+one_steps e ps sweeps others m same s u at [] [] (y ∷ ys) left right = absurd right
+one_steps e ps sweeps others m same s u at [] (x ∷ xs) ys left right = absurd left
+one_steps e ps sweeps others m same s u at (k ∷ ks) [] ys left right = absurd left
+one_steps e ps sweeps others m same s u at (k ∷ ks) (x ∷ xs) [] left right = absurd right
+one_steps e ps sweeps others m same s u at (k ∷ ks) (x ∷ xs) (y ∷ ys) left right =
+    let own : AreSteps (made e ps others m) s (k ∷ ks) (y ∷ ys) = rw at right in
+    let head : (network_of (made e ps sweeps m)).head s k ≡ Some own.0 = ap (λ (n : Network). n.head s k) same ∙ own.1 in
+    let target : left.0 ≡ own.0 = same_Some left.0 own.0 (sym left.1 ∙ head) in
+    let motion : left.2.primitive ≡ own.2.primitive = same_Some left.2.primitive own.2.primitive (sym left.2.by ∙ own.2.by) in
+    let id : x.id ≡ y.id = left.2.id ∙ ap (λ (p : Primitive). p.id) motion ∙ sym own.2.id in
+    let place : x.place ≡ y.place = left.2.place ∙ ap (λ (t : ℕ). place_of e t) target ∙ sym own.2.place in
+    let rest = one_steps e ps sweeps others m same left.0 own.0 target ks xs ys left.3 own.3 in
+    λ i. record { id = id i; place = place i } ∷ rest i
+
+-- the outcome that tells a result is one
+one_told : (e : Environment) (ps : Primitives) (sweeps others : Swept) (m : CellMap) → network_of (made e ps sweeps m) ≡ network_of (made e ps others m)
+    → (start goal : ℕ) (r : search.Outcome) (o p : Outcome) → TellsResult r o → TellsResult r p
+    → Joins (made e ps sweeps m) start goal o → Joins (made e ps others m) start goal p → o ≡ p
+one_told e ps sweeps others m same start goal (result.Path arcs cost bound) (outcome.Path x) (outcome.Path y) told also joins joins' =
+    let way : x.arcs ≡ y.arcs = told.0 ∙ sym also.0 in
+    let price : x.cost ≡ y.cost = told.1 ∙ sym also.1 in
+    let limit : x.bound ≡ y.bound = told.2 ∙ sym also.2 in
+    let from : x.start ≡ y.start = joins.from ∙ sym joins'.from in
+    let own : AreSteps (made e ps others m) start x.arcs y.steps = rw way joins'.steps in
+    let steps = one_steps e ps sweeps others m same start start refl x.arcs x.steps y.steps joins.steps own in
+    λ i. outcome.Path (record { cost = price i; bound = limit i; start = from i; steps = steps i; arcs = way i })
+one_told e ps sweeps others m same start goal (result.Path arcs cost bound) (outcome.Path x) outcome.NoPath told also joins joins' = absurd also
+one_told e ps sweeps others m same start goal (result.Path arcs cost bound) (outcome.Path x) outcome.Unknown told also joins joins' = absurd also
+one_told e ps sweeps others m same start goal (result.Path arcs cost bound) outcome.NoPath p told also joins joins' = absurd told
+one_told e ps sweeps others m same start goal (result.Path arcs cost bound) outcome.Unknown p told also joins joins' = absurd told
+one_told e ps sweeps others m same start goal result.NoPath (outcome.Path x) p told also joins joins' = absurd told
+one_told e ps sweeps others m same start goal result.NoPath outcome.NoPath (outcome.Path y) told also joins joins' = absurd also
+one_told e ps sweeps others m same start goal result.NoPath outcome.NoPath outcome.NoPath told also joins joins' = refl
+one_told e ps sweeps others m same start goal result.NoPath outcome.NoPath outcome.Unknown told also joins joins' = absurd also
+one_told e ps sweeps others m same start goal result.NoPath outcome.Unknown p told also joins joins' = absurd told
+one_told e ps sweeps others m same start goal result.Unknown (outcome.Path x) p told also joins joins' = absurd told
+one_told e ps sweeps others m same start goal result.Unknown outcome.NoPath p told also joins joins' = absurd told
+one_told e ps sweeps others m same start goal result.Unknown outcome.Unknown (outcome.Path y) told also joins joins' = absurd also
+one_told e ps sweeps others m same start goal result.Unknown outcome.Unknown outcome.NoPath told also joins joins' = absurd also
+one_told e ps sweeps others m same start goal result.Unknown outcome.Unknown outcome.Unknown told also joins joins' = refl
+
+-- ---- the section of final labels
+
+one_row : (a b : Row) (g v h h' : ℕ) → h ≡ h' → a ≡ record { g = g; v = v; h = h } → b ≡ record { g = g; v = v; h = h' } → a ≡ b
+one_row a b g v h h' alike x y = let own : b ≡ record { g = g; v = v; h = h } = rw alike y in x ∙ sym own
+
+one_low : {states goal : ℕ} {g v h h' : ℕ → ℕ} {low low' : ℕ} → AreAlikeGuides states h h' → IsLow states goal g v h low → IsLow states goal g v h' low' → low ≡ low'
+one_low {states} {goal} {g} {v} {h} {h'} {low} {low'} alike a b =
+    let up : low ≤ low' = b.greatest low a.at_goal (λ s inside differ. omega (arith, alike s inside, a.unsettled s inside differ)) in
+    let down : low' ≤ low = a.greatest low' b.at_goal (λ s inside differ. omega (arith, alike s inside, b.unsettled s inside differ)) in
+    omega arith
+
+one_section : {n n' : Network} {h h' : ℕ → ℕ} {start goal plan : ℕ} {m : Marks} {found : search.Outcome} → AreAlikeGuides (states_of m) h h' → (s u : Section)
+    → IsShown n h start goal plan m found s → IsShown n' h' start goal plan m found u → s ≡ u
+one_section {n} {n'} {h} {h'} {start} {goal} {plan} {m} {found} alike s u x y =
+    let number : s.plan ≡ u.plan = x.number ∙ sym y.number in
+    let low : s.low ≡ u.low = one_low alike x.labels.low y.labels.low in
+    let answer : s.outcome ≡ u.outcome = x.answer ∙ sym y.answer in
+    let arcs : s.arcs ≡ u.arcs = x.arcs ∙ sym y.arcs in
+    let labels : s.labels ≡ u.labels =
+    ext_get_or section.no_row s.labels u.labels (x.labels.labels.states ∙ sym y.labels.labels.states)
+    (λ k within.
+    let inside : k < states_of m = subst (λ (count : ℕ). k < count) x.labels.labels.states within in
+    one_row (row_at s.labels k) (row_at u.labels k) (g_of m k) (v_of m k) (h k) (h' k) (alike k inside) (x.labels.labels.rows k inside) (y.labels.labels.rows k inside))
+    in
+    λ i. record { plan = number i; low = low i; outcome = answer i; arcs = arcs i; labels = labels i }
+
+one_there : {X : Type 0} (asked : Bool) (P Q : X → Type 0) (o p : Option X) → ((x y : X) → P x → Q y → x ≡ y) → IsThere asked P o → IsThere asked Q p → o ≡ p
+one_there true P Q None p one a b = absurd a
+one_there true P Q (Some x) None one a b = absurd b
+one_there true P Q (Some x) (Some y) one a b = ap (λ z. Some z) (one x y a b)
+one_there false P Q (Some x) p one a b = absurd a
+one_there false P Q None (Some y) one a b = absurd b
+one_there false P Q None None one a b = refl
+
+-- what marks a plan as spent is one
+one_mark : (budget before : ℕ) (spent : Bool) (r u : PlanRecord) → expansions r.passes ≡ expansions u.passes → IsMarked budget before spent r → IsMarked budget before spent u → r.spent ≡ u.spent
+one_mark budget before true r u same a b = a.0 ∙ ap (λ (count : ℕ). Some count) same ∙ sym b.0
+one_mark budget before false r u same a b = a ∙ sym b
+
+-- ---- a plan
+
+-- passes keep the start and the states
+passes_placed : (q : Inquiry) (ps : List Pass) (eps : ℕ) (old new : Marks) (spent : Bool) → ArePasses q eps old ps new spent → StaysPlaced old new
+passes_placed q [] eps old new spent made = absurd made
+passes_placed q (p ∷ ps) eps old new spent (inl made) = run_placed (query_at q eps) none_closed made.1.steps old new made.1.run
+passes_placed q (p ∷ ps) eps old new spent (inr made) =
+    let first = run_placed (query_at q eps) none_closed made.1.steps old made.0 made.1.run in
+    let rest = passes_placed q ps (lowered q.ask.step eps) made.0 new spent made.3 in
+    record { start = rest.start ∙ first.start; states = rest.states ∙ first.states; no_arc = λ none. rest.no_arc (first.no_arc none) }
+
+-- what a plan expanded is within its budget and what the run had left
+within_room : {w : World} {how : SearchJob} {outputs : Outputs} {start goal : ℕ} {before : Option Behind} {behind : Behind} {r : PlanRecord}
+    → (x : IsSearched w how outputs start goal before behind r) → AreWithin how.budget (expanded_before before) r.passes x.spent
+within_room {w} {how} {outputs} {start} {goal} {before} {behind} {r} x = record {
+  of_plan = omega (arith, x.within_budget, x.expanded);
+  of_run = omega (arith, x.within_run, x.counted);
+  used_up = λ is. (MatchBool-at_true ((r.spent ≡ Some (expansions r.passes)) × ((expansions r.passes ≡ how.budget) ⊎ (expanded_before before + expansions r.passes ≡ 2 ^ 30))) (r.spent ≡ None) is x.marked).1;
+}
+
+-- two plans have one record, leave the same, and what they leave is carried on
+pub record AreOneRecord (e : Environment) (behind other : Behind) (r u : PlanRecord) : Type 0 where
+  pub record_is : r ≡ u
+  pub labels : behind.labels ≡ other.labels
+  pub expanded : behind.expanded ≡ other.expanded
+  pub states : states_of behind.labels ≡ state_count e
+  pub no_arc : back_of behind.labels behind.labels.start ≡ None
+
+module _ (one_plan : PassesAreOne) (one_result : OutcomesAreOne) (e : Environment) (ps : Primitives) (sweeps others : Swept)
+    (radius : sweeps.radius ≡ others.radius) where
+  one_record : (m : CellMap) (how : SearchJob) (outputs : Outputs) (start goal : ℕ) (before : Option Behind) (behind other : Behind) (r u : PlanRecord)
+      → network_of (made e ps sweeps m) ≡ network_of (made e ps others m) → AreCarried e ps sweeps others radius before → r.plan ≡ u.plan
+      → Joins (made e ps sweeps m) start goal r.outcome → Joins (made e ps others m) start goal u.outcome
+      → IsSearched (made e ps sweeps m) how outputs start goal before behind r → IsSearched (made e ps others m) how outputs start goal before other u
+      → AreOneRecord e behind other r u
+  one_record m how outputs start goal before behind other r u same carried number joins joins' x y =
+      let n : Network = network_of (made e ps sweeps m) in
+      let ask : Ask = ask_of how outputs in
+      let q : Inquiry = record { network = n; guide = x.guide; goal = goal; ask = ask } in
+      let begun = one_begun e ps sweeps others radius how.planner m start before x.begun y.begun same carried x.begins y.begins in
+      let guides : (s : ℕ) → s < state_count e → x.guide s ≡ y.guide s = one_best e ps sweeps others m goal x.guide y.guide same x.is_guide y.is_guide in
+      let alike : AreAlikeGuides (states_of x.begun) x.guide y.guide = λ s inside. guides s (subst (λ (count : ℕ). s < count) begun.states inside) in
+      let passes : ArePasses (record { network = n; guide = y.guide; goal = goal; ask = ask }) how.first x.begun u.passes other.labels y.spent = rw (same, begun.same) y.passes in
+      let one = one_plan q y.guide how.budget (expanded_before before) how.first x.begun behind.labels other.labels r.passes u.passes x.spent y.spent begun.no_arc alike x.passes passes (within_room x) (within_room y) in
+      let placed = passes_placed q r.passes how.first x.begun behind.labels x.spent x.passes in
+      let no_arc : back_of behind.labels behind.labels.start ≡ None = placed.no_arc begun.no_arc in
+      let states : states_of behind.labels ≡ state_count e = placed.states ∙ begun.states in
+      let at_end : AreAlikeGuides (states_of behind.labels) x.guide y.guide = λ s inside. guides s (subst (λ (count : ℕ). s < count) states inside) in
+      let is_result : IsOutcome n y.guide goal behind.labels y.result = rw (same, one.labels) y.is_result in
+      let results : x.result ≡ y.result = one_result n x.guide y.guide goal behind.labels x.result y.result no_arc at_end x.is_result is_result in
+      let told : TellsResult x.result u.outcome = rw results y.told in
+      let outcomes : r.outcome ≡ u.outcome = one_told e ps sweeps others m same start goal x.result r.outcome u.outcome x.told told joins joins' in
+      let counts : expansions r.passes ≡ expansions u.passes = ap expansions one.passes in
+      let expanded : r.expanded ≡ u.expanded = x.expanded ∙ counts ∙ sym y.expanded in
+      let marked : IsMarked how.budget (expanded_before before) x.spent u = rw one.both y.marked in
+      let spent : r.spent ≡ u.spent = one_mark how.budget (expanded_before before) x.spent r u counts x.marked marked in
+      let shown : IsThere (is_some outputs.labels) (IsShown (network_of (made e ps others m)) y.guide start goal r.plan behind.labels x.result) u.labels = rw (number, one.labels, results) y.labels in
+      let labels : r.labels ≡ u.labels =
+      one_there (is_some outputs.labels) (IsShown n x.guide start goal r.plan behind.labels x.result) (IsShown (network_of (made e ps others m)) y.guide start goal r.plan behind.labels x.result) r.labels u.labels
+      (λ s t. one_section at_end s t) x.labels shown
+      in
+      record {
+        record_is = λ i. record { plan = number i; passes = one.passes i; expanded = expanded i; spent = spent i; outcome = outcomes i; labels = labels i };
+        labels = one.labels;
+        expanded = x.counted ∙ ap (λ (count : ℕ). expanded_before before + count) counts ∙ sym y.counted;
+        states = states;
+        no_arc = no_arc;
+      }
+
+  -- ---- plans in turn
+
+  module _ (one_map : OneMap) (one_graph : AlikeWorldsAreOneGraph) (first : CellMap) (batches : List (List Write)) (how : SearchJob) (outputs : Outputs) (start goal : ℕ) where
+    pub one_records : (rs us : List PlanRecord) (k : ℕ) (before : Option Behind) → AreCarried e ps sweeps others radius before → length rs ≡ length us
+        → AreRecords (made e ps sweeps first) batches how outputs start goal k before rs → AreRecords (made e ps others first) batches how outputs start goal k before us
+        → rs ≡ us
+    one_records [] [] k before carried as_many left right = refl
+    one_records [] (u ∷ us) k before carried as_many left right = absurd (omega arith)
+    one_records (r ∷ rs) [] k before carried as_many left right = absurd (omega arith)
+    one_records (r ∷ rs) (u ∷ us) k before carried as_many left right =
+        let behind : Behind = left.0 in
+        let other : Behind = right.0 in
+        let maps : behind.map ≡ other.map = one_map first behind.map other.map batches k left.2.is_world.map right.2.is_world.map left.1 right.1 in
+        let plan : IsPlanOf (made e ps others behind.map) how outputs start goal k before other u = rw maps right.2 in
+        let same : network_of (made e ps sweeps behind.map) ≡ network_of (made e ps others behind.map) =
+        one_graph (made e ps others behind.map) (made e ps sweeps behind.map) plan.is_world left.2.is_world refl refl refl radius
+        in
+        let one = one_record behind.map how outputs start goal before behind other r u same carried (left.2.number ∙ sym plan.number) left.2.promises.joins plan.promises.joins left.2.searched plan.searched in
+        let both : behind ≡ other = λ i. record { map = maps i; labels = one.labels i; expanded = one.expanded i } in
+        let later : AreCarried e ps sweeps others radius (Some behind) = record { states = one.states; no_arc = one.no_arc; graph = same } in
+        let further : AreRecords (made e ps others first) batches how outputs start goal (k + 1) (Some behind) us = rw both right.3 in
+        let rest = one_records rs us (k + 1) (Some behind) later (omega arith) left.3 further in
+        λ i. one.record_is i ∷ rest i
+
+-- ---- all plans
+
+one_list : PassesAreOne → OutcomesAreOne → OneMap → AlikeWorldsAreOneGraph → (e : Environment) (ps : Primitives) (sweeps others : Swept) (m : CellMap) → sweeps.radius ≡ others.radius
+    → (batches : List (List Write)) (how : SearchJob) (outputs : Outputs) (rs us : List PlanRecord) → ArePlans (made e ps sweeps m) batches how outputs rs true → ArePlans (made e ps others m) batches how outputs us true → rs ≡ us
+one_list one_plan one_result one_map one_graph e ps sweeps others m radius batches how outputs rs us left right =
+    let starts : left.start ≡ right.start = one_state e e.start left.start right.start left.start_is right.start_is in
+    let goals : left.goal ≡ right.goal = one_state e e.end left.goal right.goal left.goal_is right.goal_is in
+    let each : AreRecords (made e ps others m) batches how outputs left.start left.goal 0 None us = rw (starts, goals) right.each in
+    let none : AreCarried e ps sweeps others radius None = tt in
+    one_records one_plan one_result e ps sweeps others radius one_map one_graph m batches how outputs left.start left.goal rs us 0 None none (left.all_made refl ∙ sym (right.all_made refl)) left.each each
+
+pub records_are_one : PassesAreOne → OutcomesAreOne → OneMap → AlikeWorldsAreOneGraph → RecordsAreOne
+records_are_one one_plan one_result one_map one_graph w v batches how outputs rs us alike left right =
+    let env = alike.env in
+    let prims = alike.prims in
+    let map = alike.map in
+    let is : v ≡ made w.env w.prims v.sweeps w.map = λ i. record { env = env i; prims = prims i; sweeps = v.sweeps; map = map i } in
+    let own : ArePlans (made w.env w.prims v.sweeps w.map) batches how outputs us true = subst (λ (x : World). ArePlans x batches how outputs us true) is right in
+    one_list one_plan one_result one_map one_graph w.env w.prims w.sweeps v.sweeps w.map (sym alike.radius) batches how outputs rs us left own

@@ -1,0 +1,6 @@
+use Rattle.sbpl_plan.proofs.Retracing.{outcomes_are_one}
+use Rattle.sbpl_plan.proofs.Repeating.{passes_are_one}
+use Rattle.sbpl_plan.proofs.facts.plan_is_determined.Goals as goal
+
+pub returns : goal.returns
+returns c = record { passes = passes_are_one; outcome = outcomes_are_one }
