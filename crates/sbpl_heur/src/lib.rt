@@ -2,12 +2,11 @@
 #![tactic(auto)]
 
 mod best;
+mod cells;
 mod cut;
-mod found;
 mod hop;
 mod hops;
-mod search;
-mod spot;
+mod walks;
 
 pub use best::Best;
 
