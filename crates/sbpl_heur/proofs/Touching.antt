@@ -75,6 +75,7 @@ module _ (b new : Board) (is : IsBoard b) (is_new : IsBoard new) (cell : ℕ) (e
           absurd (absent (are.heads k t (omega (arith, arc.number, ap length hops)) (subst (λ x. board_head b x k ≡ Some t) same head)))
       | inr beside ↦ free_of_arc b is s k t c (same_arc b.env b.hops new.costs b.costs t s k c (sym (others t target_apart)) (sym (others s beside)) (to_old new.costs t s k c (arc_of_free new is_new s k t c arc)))
     ]
+
     pub same_arcs : HasSameArcs (board_network b) (board_network new) t
     same_arcs = record { kept = kept; none_new = none_new }
 
@@ -115,7 +116,6 @@ same_touched b cell n touched head are = record {
 
 pub all_touched : (b : Board) (cell : ℕ) (touched : List ℕ) → AreTouchedBelow b cell (length b.hops) touched → AreTouched b cell touched
 all_touched b cell touched are = record { inside = are.inside; itself = are.itself; heads = are.heads }
-
 
 -- labels that fit a count fit a greater one
 pub fits_more : (states : ℕ) (g v : ℕ → ℕ) (few many : ℕ) → few ≤ many → FitCount states g v few → FitCount states g v many

@@ -117,7 +117,8 @@ impl Best {
         let env = lattice.env();
         let headings = headings_of(env);
         list_hops(lattice, &mut self.hops);
-        self.walks.follow(env, lattice.map().costs(), self.hops.as_slice());
+        self.walks
+            .follow(env, lattice.map().costs(), self.hops.as_slice());
         weigh(&self.walks, &mut self.cells);
         cut(lattice, headings, self.goal, &mut self.cells);
         turn(lattice, headings, self.goal, &mut self.turns);

@@ -182,9 +182,7 @@ impl Walks {
     {
         let states = self.cells.states();
         make_room(&mut self.search, &mut self.budget, states);
-        let _end = self
-            .search
-            .pass(&self.cells, &Zero, 1000, &mut self.budget);
+        let _end = self.search.pass(&self.cells, &Zero, 1000, &mut self.budget);
         let _labels = self.search.labels();
     }
 }
