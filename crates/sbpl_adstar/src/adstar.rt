@@ -3,17 +3,18 @@
 ghost use Rattle.std.specs.Prelude.{◌≡◌, ◌≢◌, ℕ, ◌+◌, ◌-◌, ◌*◌, ◌^◌, ◌<◌, ◌≤◌, ◌↔◌, [], Some, length, Bool, true, false, IsTrue};
 ghost use Rattle.std.specs.List.{All, Contains};
 ghost use Rattle.sbpl_graph.specs.Bound.{IsLow};
+ghost use Rattle.sbpl_graph.specs.Network.{Network};
 ghost use Rattle.sbpl_graph.specs.Certificate.{AreSupported, ShowBound, ShowNone};
 ghost use Rattle.sbpl_graph.specs.declared.TheConstants.{FAR};
 ghost use Rattle.sbpl_graph.specs.Exact.{AreExact};
 ghost use Rattle.sbpl_graph.specs.Fit.{FitCount};
 ghost use Rattle.sbpl_labels.specs.Chain.{chain_at};
 ghost use Rattle.sbpl_labels.specs.Counts.{IsSpent};
-ghost use Rattle.sbpl_labels.specs.Marks.{AreLabels, states_of, g_of, v_of, back_of};
+ghost use Rattle.sbpl_labels.specs.Marks.{AreLabels, IsOpened, states_of, g_of, v_of, back_of};
 ghost use Rattle.sbpl_ara.specs.Queue.{AreQueued, IsFirstBelow};
 ghost use Rattle.sbpl_ara.specs.Order.{goal_key};
 ghost use Rattle.sbpl_ara.specs.Run.{query, none_closed, closed_after, IsOpen, IsOver, IsUnder, IsNext, IsAtRest, IsRun};
-ghost use Rattle.sbpl_ara.specs.Search.{AreUsable};
+ghost use Rattle.sbpl_ara.specs.Search.{AreReady, AreUsable};
 ghost use Rattle.sbpl_adstar.specs.Repaired.{IsExactAt, AreRepaired};
 ghost use Rattle.sbpl_adstar.specs.Taken.{IsTaken};
 ghost use Rattle.sbpl_adstar.specs.Times.{times};
@@ -71,6 +72,23 @@ impl AdStar {
             steps,
             queue,
         }
+    }
+
+    /// Opens the labels again and empties the trace. The start, the goal and the number of states
+    /// stay.
+    pub fn reset(&mut self)
+        ensures opened { IsOpened self.new.labels (states_of self.old.labels)
+            self.old.labels.start }
+        ensures ready { (n : Network) (count : ℕ) → n.states ≡ states_of self.old.labels
+            → AreReady n self.new.labels count }
+        ensures goal { self.new.goal ≡ self.old.goal }
+        ensures untraced { self.new.trace ≡ [] }
+    {
+        self.labels.reset();
+        self.closed.clear();
+        self.steps.clear();
+        self.queue.clear();
+        self.queue.put(self.labels.start(), Key(0, 0));
     }
 
     /// Repairs the labels after a change of the graph: each touched state is recomputed on the graph

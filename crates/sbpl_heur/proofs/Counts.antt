@@ -1,31 +1,45 @@
 -- Counting numbers that pass a test.
-use Rattle.std.proofs.Common.{◌≡◌, ℕ, zero, suc, ◌+◌, ◌<◌, ◌≤◌, Bool, true, false, cond, inl, inr, refl, ap, sym, ◌∙◌, arith, nat_eq}
-use Rattle.std.proofs.lemmas.Bool.{cases_eq, eq-eqb, ne_eqb, cond-true, cond-false}
-use Rattle.sbpl_heur.specs.Searches.{one_if, count_below}
+use Rattle.std.proofs.Common.{◌≡◌, ℕ, zero, suc, ◌+◌, ◌<◌, ◌≤◌, Bool, true, false, inl, inr, nat_lt, ap, arith}
+use Rattle.std.proofs.lemmas.Bool.{cases_eq, cases_lt, lt-ltb, le-ltb}
 
--- tests that agree below n count alike
-pub count_same : (f g : ℕ → Bool) (n : ℕ) → ((a : ℕ) → a < n → f a ≡ g a) → count_below f n ≡ count_below g n
-unfolding count_below
-count_same f g zero same = refl
-count_same f g (suc n) same =
-    let one = same n (omega arith) in
-    let rest = count_same f g n (λ a h. same a (omega arith)) in
-    ap (λ b. one_if b + count_below f n) one ∙ ap (λ c. one_if (g n) + c) rest
+abbrev pub one_if : Bool → ℕ
+one_if true = 1
+one_if false = 0
 
--- one more number passes
-pub count_one_more : (f g : ℕ → Bool) (n q : ℕ) → q < n → f q ≡ false → g q ≡ true → ((a : ℕ) → (a ≡ q → ⊥) → f a ≡ g a) → count_below g n ≡ count_below f n + 1
+-- how many numbers below n have a label below x
+unfoldable pub count_below : (ℕ → ℕ) → ℕ → ℕ → ℕ
+count_below g x zero = 0
+count_below g x (suc n) = one_if (nat_lt (g n) x) + count_below g x n
+
+-- no fewer are below a greater bound
+one_grows : (a x y : ℕ) → x ≤ y → one_if (nat_lt a x) ≤ one_if (nat_lt a y)
+one_grows a x y low = elim (cases_lt a x) [
+  | inl less ↦
+      let first : one_if (nat_lt a x) ≡ 1 = ap one_if (lt-ltb a x less) in
+      let second : one_if (nat_lt a y) ≡ 1 = ap one_if (lt-ltb a y (omega arith)) in
+      omega arith
+  | inr more ↦ let first : one_if (nat_lt a x) ≡ 0 = ap one_if (le-ltb a x more) in omega arith
+]
+
+pub count_grows : (g : ℕ → ℕ) (x y n : ℕ) → x ≤ y → count_below g x n ≤ count_below g y n
 unfolding count_below
-count_one_more f g zero q inside out into same = absurd (omega arith)
-count_one_more f g (suc n) q inside out into same = elim (cases_eq n q) [
+count_grows g x y zero low = omega arith
+count_grows g x y (suc n) low = let rest = count_grows g x y n low in omega (arith, one_grows (g n) x y low)
+
+-- and more where a label lies between
+pub count_more : (g : ℕ → ℕ) (x y n q : ℕ) → q < n → x ≤ g q → g q < y → count_below g x n + 1 ≤ count_below g y n
+unfolding count_below
+count_more g x y zero q inside low high = absurd (omega arith)
+count_more g x y (suc n) q inside low high = elim (cases_eq n q) [
   | inl at ↦
-      let rest : count_below g n ≡ count_below f n = count_same g f n (λ a h. sym (same a (λ e. omega arith))) in
-      let here : one_if (g n) ≡ 1 = ap one_if (ap g at ∙ into) in
-      let there : one_if (f n) ≡ 0 = ap one_if (ap f at ∙ out) in
+      let same : g n ≡ g q = ap g at in
+      let rest = count_grows g x y n (omega arith) in
+      let first : one_if (nat_lt (g n) x) ≡ 0 = ap one_if (le-ltb (g n) x (omega arith)) in
+      let second : one_if (nat_lt (g n) y) ≡ 1 = ap one_if (lt-ltb (g n) y (omega arith)) in
       omega arith
   | inr beside ↦
-      let rest : count_below g n ≡ count_below f n + 1 = count_one_more f g n q (omega arith) out into same in
-      let here : one_if (g n) ≡ one_if (f n) = ap one_if (sym (same n beside)) in
-      omega arith
+      let rest = count_more g x y n q (omega arith) low high in
+      omega (arith, one_grows (g n) x y (omega arith))
 ]
 
 one_most : (b : Bool) → one_if b ≤ 1
@@ -33,15 +47,7 @@ one_most true = omega arith
 one_most false = omega arith
 
 -- no more than all
-pub count_most : (f : ℕ → Bool) (n : ℕ) → count_below f n ≤ n
+pub count_most : (g : ℕ → ℕ) (x n : ℕ) → count_below g x n ≤ n
 unfolding count_below
-count_most f zero = omega arith
-count_most f (suc n) = let rest = count_most f n in omega (arith, one_most (f n))
-
--- fewer than all where one does not pass
-pub count_less : (f : ℕ → Bool) (n q : ℕ) → q < n → f q ≡ false → count_below f n < n
-count_less f n q inside out =
-    let g : ℕ → Bool = λ a. cond (nat_eq a q) true (f a) in
-    let at : g q ≡ true = cond-true _ _ _ (eq-eqb q q refl) in
-    let more = count_one_more f g n q inside out at (λ a beside. sym (cond-false (nat_eq a q) true (f a) (ne_eqb a q beside))) in
-    omega (arith, more, count_most g n)
+count_most g x zero = omega arith
+count_most g x (suc n) = let rest = count_most g x n in omega (arith, one_most (nat_lt (g n) x))

@@ -10,12 +10,12 @@ use Rattle.sbpl_heur.specs.Walks.{Moves}
 use Rattle.sbpl_heur.specs.Hops.{AreHops, IsHopOf, SamePair, HasNoPair, HasPairAt, Includes, lowers, adds}
 
 -- an element of a list in which one was written, and of one to which one was added
-at_set : {X : Type 0} (xs : List X) (j : ℕ) (x y : X) → slice_get xs j ≡ Some x → slice_get (set xs j y) j ≡ Some y
+pub at_set : {X : Type 0} (xs : List X) (j : ℕ) (x y : X) → slice_get xs j ≡ Some x → slice_get (set xs j y) j ≡ Some y
 at_set [] j x y h = absurd (none-some x h)
 at_set (z ∷ xs) zero x y h = refl
 at_set (z ∷ xs) (suc j) x y h = at_set xs j x y h
 
-beside_set : {X : Type 0} (xs : List X) (j k : ℕ) (y : X) → (k ≡ j → ⊥) → slice_get (set xs j y) k ≡ slice_get xs k
+pub beside_set : {X : Type 0} (xs : List X) (j k : ℕ) (y : X) → (k ≡ j → ⊥) → slice_get (set xs j y) k ≡ slice_get xs k
 beside_set [] j k y h = refl
 beside_set (z ∷ xs) zero zero y h = absurd (h refl)
 beside_set (z ∷ xs) zero (suc k) y h = refl

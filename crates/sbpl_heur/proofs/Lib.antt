@@ -1,8 +1,10 @@
 pub mod Counts
-pub mod Searching
-pub mod Sources
-pub mod Steps
-pub mod Settled
+pub mod Environments
+pub mod Locating
+pub mod Boarding
+pub mod Settling
+pub mod Touching
+pub mod Following
 pub mod Hopping
 pub mod Walking
 pub mod Splitting

@@ -1,22 +1,23 @@
 -- Walks by hops are walks of cells.
-use Rattle.std.proofs.Common.{◌≡◌, ℕ, ◌*◌, ◌^◌, ◌<◌, ◌≤◌, inl, inr, min, List, [], ◌∷◌, slice_get, Option, Some, None, sym, ◌∙◌, arith, subst}
+use Rattle.std.proofs.Common.{◌≡◌, ℕ, ◌*◌, ◌^◌, ◌<◌, ◌≤◌, inl, inr, min, List, [], ◌∷◌, slice_get, Some, sym, ◌∙◌, arith, subst}
 use Rattle.std.proofs.lemmas.Bool.{cases_lt}
 use Rattle.sbpl_graph.specs.declared.TheConstants.{FAR}
 use Rattle.sbpl_cfg.specs.Environment.{Environment}
 use Rattle.sbpl_mprim.specs.declared.prim.Primitive.{Primitive}
-use Rattle.sbpl_map.specs.CellMap.{CellMap, IsCellMap}
+use Rattle.sbpl_map.specs.CellMap.{CellMap}
 use Rattle.sbpl_cost.specs.PrimitiveCost.{primitive_cost, most_cost}
 use Rattle.sbpl_heur.specs.declared.hop.Hop.{Hop}
 use Rattle.sbpl_heur.specs.Walks.{IsStep, IsCellArc, IsWalk, IsLeastWalk, IsFarthest, HasNoWalk, IsCellBound}
 use Rattle.sbpl_heur.specs.Hops.{AreHops}
-use Rattle.sbpl_heur.specs.Searches.{IsHopArc, IsHopWalk, AreLight, AreFound}
+use Rattle.sbpl_heur.specs.Boards.{AreLight}
+use Rattle.sbpl_heur.specs.Weights.{IsHopArc, IsHopWalk, AreLeast}
 use Rattle.sbpl_heur.specs.Cuts.{IsFarthestReached}
-use Rattle.sbpl_heur.proofs.Searching.{reached}
 
-pub light_hops : (e : Environment) (prims : List Primitive) (hops : List Hop) → ((i : ℕ) (p : Primitive) → slice_get prims i ≡ Some p → primitive_cost e p ≤ most_cost) → AreHops e prims hops → AreLight hops
+pub light_hops : (e : Environment) (prims : List Primitive) (hops : List Hop) → ((i : ℕ) (p : Primitive) → slice_get prims i ≡ Some p → (1 ≤ primitive_cost e p) × (primitive_cost e p ≤ most_cost)) → AreHops e prims hops → AreLight hops
 light_hops e prims hops cheap are j h at =
     let least = (are.each j h at).least in
-    omega (arith, cheap least.place least.owner least.stands, least.own)
+    let cost = cheap least.place least.owner least.stands in
+    (omega (arith, cost.0, least.own), omega (arith, cost.1, least.own))
 
 module _ (e : Environment) (prims : List Primitive) (m : CellMap) (hops : List Hop) (are : AreHops e prims hops) where
   arc_of_hop : (a b j weight : ℕ) → IsHopArc e m hops a b j weight → IsCellArc e prims m a b weight
@@ -52,14 +53,14 @@ module _ (e : Environment) (prims : List Primitive) (m : CellMap) (hops : List H
       let hop = hop_of_arc a b first arc in
       (hop.0, first, rest, hop.1, from_walk cells goal b rest walk, sum)
 
-  module _ (goal : ℕ) (d : ℕ → ℕ) (key : ℕ → Option (ℕ × ℕ)) (good : IsCellMap m) (light : AreLight hops) (found : AreFound e m hops goal d key) (closed : (a : ℕ) → key a ≡ None) where
+  module _ (goal : ℕ) (d : ℕ → ℕ) (found : AreLeast e m hops goal d) where
     -- a walk shows that the cell is reached, and weighs no less than its distance
     at_most : (a : ℕ) → a < m.width * m.height → (cells : List ℕ) (weight : ℕ) → IsWalk e prims m a cells goal weight → (d a < 2 ^ 55) × (d a ≤ weight)
-    at_most a inside cells weight walk = reached e m hops goal good light d key found closed cells a weight inside (from_walk cells goal a weight walk)
+    at_most a inside cells weight walk = found.least a cells weight inside (from_walk cells goal a weight walk)
 
     pub least_walk : (a : ℕ) → a < m.width * m.height → d a < FAR → IsLeastWalk e prims m goal a (d a)
     least_walk a inside near =
-        let some = found.reached.attained a inside near in
+        let some = found.attained a inside near in
         record {
           cells = some.0;
           walk = to_walk some.0 goal a (d a) some.1;
@@ -75,14 +76,14 @@ module _ (e : Environment) (prims : List Primitive) (m : CellMap) (hops : List H
         let greatest : (a other : ℕ) → a < m.width * m.height → IsLeastWalk e prims m goal a other → other ≤ far = λ a other inside low.
         let most = at_most a inside low.cells other low.walk in
         let near : d a < FAR = omega (arith, most.0) in
-        let some = found.reached.attained a inside near in
+        let some = found.attained a inside near in
         let back = low.least some.0 (d a) (to_walk some.0 goal a (d a) some.1) in
         omega (arith, back, is.none_above a inside near) in
         elim is.attained [
           | inl none ↦ record {
             cell = goal;
-            inside = found.reached.goal_inside;
-            attained = subst (λ x. IsLeastWalk e prims m goal goal x) (found.reached.at_goal ∙ sym none) (least_walk goal found.reached.goal_inside (omega (arith, found.reached.at_goal)));
+            inside = found.goal_inside;
+            attained = subst (λ x. IsLeastWalk e prims m goal goal x) (found.at_goal ∙ sym none) (least_walk goal found.goal_inside (omega (arith, found.at_goal)));
             greatest = greatest;
           }
           | inr (a, inside, same, near) ↦ record {
@@ -110,7 +111,7 @@ module _ (e : Environment) (prims : List Primitive) (m : CellMap) (hops : List H
         let small : far < 2 ^ 55 = elim is.attained [
           | inl none ↦ omega arith
           | inr (b, within, same, near) ↦
-              let some = found.reached.attained b within (omega (arith, same, near)) in
+              let some = found.attained b within (omega (arith, same, near)) in
               omega (arith, same, (at_most b within some.0 (d b) (to_walk some.0 goal b (d b) some.1)).0)
         ] in
         omega arith

@@ -8,6 +8,8 @@ use Rattle.sbpl_cost.specs.States.{state_count}
 use Rattle.sbpl_cost.specs.World.{World}
 use Rattle.sbpl_cost.specs.Lattices.{network_of}
 use Rattle.sbpl_heur.specs.Walks.{IsCellBound}
+use Rattle.sbpl_heur.specs.Boards.{cell_count}
+use Rattle.sbpl_heur.specs.Followed.{Walking}
 
 -- the number of the cell of a state
 abbrev pub cell_of : Environment → ℕ → ℕ
@@ -54,10 +56,12 @@ pub record IsGuide (n : Network) (goal : ℕ) (b : Table) : Type 0 where
   pub states : n.states ≡ length b.cells * length b.turns
   pub consistent : IsConsistent n goal (distance_in b)
 
--- the parts of a heuristic: its table, and an open list of the same size
-pub record AreParts (b : Table) (open_states : ℕ) : Type 0 where
+-- the parts of a heuristic: its table, and the walks of cells to the goal's cell
+pub record AreParts (b : Table) (walks : Walking) : Type 0 where
   pub table : IsTable b
-  pub states : open_states ≡ length b.cells
+  pub cells : cell_count walks.board ≡ length b.cells
+  pub start : walks.labels.start ≡ b.goal / length b.turns
+  pub hops : walks.board.room ≡ b.room
 
 pub guide_covers : (b : Table) (n : Network) (goal s : ℕ) → IsGuide n goal b → s < n.states → IsKnown b s
 guide_covers b n goal s guide state = subst (λ count. s < count) guide.states state

@@ -1,7 +1,7 @@
 pub mod Walks
 pub mod Hops
-pub mod Spots
-pub mod Searches
-pub mod Founds
+pub mod Boards
+pub mod Weights
+pub mod Followed
 pub mod Cuts
 pub mod Bests

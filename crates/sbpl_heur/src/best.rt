@@ -1,20 +1,20 @@
 //! The best heuristic: the cell bound joined with the gap.
 
-ghost use Rattle.std.specs.Prelude.{◌≡◌, ◌*◌, ◌<◌, ◌≤◌, IfOk};
+ghost use Rattle.std.specs.Prelude.{◌≡◌, ℕ, ◌*◌, ◌^◌, ◌<◌, ◌≤◌, IfOk, length, slice_index};
 ghost use Rattle.sbpl_cost.specs.World.{World};
 ghost use Rattle.sbpl_cost.specs.Lattices.{network_of};
+ghost use Rattle.sbpl_labels.specs.Marks.{g_of};
+ghost use Rattle.sbpl_heur.specs.Boards.{cell_count};
 ghost use Rattle.sbpl_heur.specs.Bests.{IsBest, IsGuide, Fits, distance_in};
 
 use crate::cut::{cut, turn};
-use crate::found::Found;
 use crate::hop::Hop;
 use crate::hops::list_hops;
-use crate::search::search;
+use crate::walks::Walks;
 use sbpl_cfg::Env;
 use sbpl_cost::{Lattice, lattice_has_its_arcs};
 use sbpl_fixed::NoMemory;
 use sbpl_graph::{Graph, Guide};
-use sbpl_open::Open;
 use std::alloc::Global;
 use std::marker::Model;
 
@@ -27,10 +27,12 @@ pub struct Best {
     goal: u32,
     /// The pairs by which primitives move, with room for one of each primitive.
     hops: Vec<Hop>,
+    /// The least weights of walks of cells to the goal's cell.
+    walks: Walks,
+    /// For each cell the greater of its bound and of its gap to the goal.
+    cells: Vec<u64>,
     /// For each heading the gap to the goal by turning.
     turns: Vec<u64>,
-    /// For each cell the greater of its bound and of its gap to the goal.
-    found: Found,
 }
 
 impl Model for Best {
@@ -39,12 +41,11 @@ impl Model for Best {
 
     ghost Value = { Table };
 
-    ghost use Rattle.sbpl_open.specs.Frontier.{states_of};
     ghost use Rattle.sbpl_heur.specs.Bests.{AreParts};
 
-    ghost view = { λ b. record { goal = b.goal; cells = b.found.distances.items; turns = b.turns.items; room = vec_capacity b.hops } };
+    ghost view = { λ b. record { goal = b.goal; cells = b.cells.items; turns = b.turns.items; room = vec_capacity b.hops } };
 
-    ghost invariant = { λ b. AreParts (record { goal = b.goal; cells = b.found.distances.items; turns = b.turns.items; room = vec_capacity b.hops }) (states_of b.found.open) };
+    ghost invariant = { λ b. AreParts (record { goal = b.goal; cells = b.cells.items; turns = b.turns.items; room = vec_capacity b.hops }) b.walks };
 }
 
 /// The number of headings.
@@ -62,6 +63,18 @@ fn cells_of(env: &Env) -> u32
     env.width * env.height
 }
 
+/// Writes for each cell the least weight of a walk from it.
+fn weigh(walks: &Walks, distances: &mut Vec<u64>)
+    requires size { length distances.old.items ≡ cell_count walks.now.board }
+    requires few { length distances.old.items ≤ 2 ^ 23 }
+    ensures size { length distances.new.items ≡ length distances.old.items }
+    ensures weights { (a : ℕ) → a < length distances.old.items → slice_index distances.new.items a ≡ g_of walks.now.labels a }
+{
+    for cell in 0..distances.len() as u32 {
+        distances[cell as usize] = walks.weight(cell);
+    }
+}
+
 impl Best {
     /// The best heuristic for a goal on the present map of a lattice.
     pub fn build(alloc: Global, lattice: &Lattice, goal: u32) -> Result<Best, NoMemory>
@@ -72,16 +85,19 @@ impl Best {
         ensures fits { IfOk result (λ b. Fits lattice.now b) }
     {
         let env = lattice.env();
-        let cells = cells_of(env);
-        let hops = Vec::with_capacity(alloc, lattice.prims().len() as usize)?;
-        let turns = vec![in alloc; 0; headings_of(env) as usize]?;
-        let distances = vec![in alloc; 0; cells as usize]?;
-        let open = Open::new(alloc, cells)?;
+        let headings = headings_of(env);
+        let room = lattice.prims().len();
+        let hops = Vec::with_capacity(alloc, room as usize)?;
+        let costs = lattice.map().costs();
+        let walks = Walks::new(alloc, env, costs, goal / headings, room)?;
+        let cells = vec![in alloc; 0; cells_of(env) as usize]?;
+        let turns = vec![in alloc; 0; headings as usize]?;
         let mut best = Best {
             goal,
             hops,
+            walks,
+            cells,
             turns,
-            found: Found { distances, open },
         };
         best.rebuild(lattice);
         Ok(best)
@@ -101,15 +117,10 @@ impl Best {
         let env = lattice.env();
         let headings = headings_of(env);
         list_hops(lattice, &mut self.hops);
-        self.found.reset();
-        search(
-            env,
-            lattice.map(),
-            self.hops.as_slice(),
-            self.goal / headings,
-            &mut self.found,
-        );
-        cut(lattice, headings, self.goal, &mut self.found.distances);
+        self.walks
+            .follow(env, lattice.map().costs(), self.hops.as_slice());
+        weigh(&self.walks, &mut self.cells);
+        cut(lattice, headings, self.goal, &mut self.cells);
         turn(lattice, headings, self.goal, &mut self.turns);
     }
 }
@@ -131,7 +142,7 @@ impl Guide for Best {
 
     fn to_goal(&self, s: u32) -> u64 {
         let headings = self.turns.len() as u32;
-        let cell = self.found.distances[(s / headings) as usize];
+        let cell = self.cells[(s / headings) as usize];
         cell.max(self.turns[(s % headings) as usize])
     }
 }

@@ -57,6 +57,7 @@ fn hop_of(lattice: &Lattice, i: u32) -> Hop
 pub(crate) fn list_hops(lattice: &Lattice, hops: &mut Vec<Hop>)
     requires room { length lattice.now.prims.items ≤ vec_capacity hops.old }
     ensures hops { AreHops lattice.now.env lattice.now.prims.items hops.new.items }
+    ensures few { length hops.new.items ≤ length lattice.now.prims.items }
     ensures room { vec_capacity hops.new ≡ vec_capacity hops.old }
 {
     hops.clear();

@@ -2,11 +2,10 @@
 #![tactic(auto)]
 
 mod best;
+mod cells;
 mod cut;
-mod found;
 mod hop;
 mod hops;
-mod search;
-mod spot;
+mod walks;
 
 pub use best::Best;

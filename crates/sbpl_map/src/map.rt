@@ -57,6 +57,14 @@ impl Map {
         self.height
     }
 
+    /// The costs of all cells, row by row.
+    pub fn costs(&self) -> &[u8]
+        ensures value { result.now ≡ self.now.costs }
+        ensures kept { IsCellMap self.now }
+    {
+        self.costs.as_slice()
+    }
+
     /// The cost of cell `(x, y)`, or `None` exactly off the map.
     pub fn cost(&self, x: i64, y: i64) -> Option<u8>
         ensures value { result ≡ cost_at self.now x y }
