@@ -15,3 +15,4 @@ pub mod SameGuide
 pub mod SameBegun
 pub mod SameRecords
 pub mod SamePlanned
+pub mod SameLines

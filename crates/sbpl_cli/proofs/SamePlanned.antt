@@ -27,7 +27,7 @@ read_once (Some text) t u told x y = x.told ∙ sym y.told
 
 module _ (clear : TextsAreClear) (held : Told) where
   -- the files stand for one world but for how cells stand in the tables of sweeps
-  one_world : (from : Sources) (w v : World) → IsSome (held from.env) → IsSome (held from.prims) → SaysWorld held from w → SaysWorld held from v → AreAlikeWorlds w v
+  pub one_world : (from : Sources) (w v : World) → IsSome (held from.env) → IsSome (held from.prims) → SaysWorld held from w → SaysWorld held from v → AreAlikeWorlds w v
   one_world from w v told_env told_prims x y =
       let text : y.environment.text ≡ x.environment.text = read_once (held from.env) y.environment.text x.environment.text told_env y.environment.read x.environment.read in
       let stands : IsEnvironmentText x.environment.text v.env y.cells = subst (λ (t : List ℕ). IsEnvironmentText t v.env y.cells) text y.environment.stands in
