@@ -16,3 +16,4 @@ pub mod SameBegun
 pub mod SameRecords
 pub mod SamePlanned
 pub mod SameLines
+pub mod SameChecked

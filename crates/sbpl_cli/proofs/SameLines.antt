@@ -1,5 +1,5 @@
 -- What is written of a demonstration and of a list of sweeps is one.
-use Rattle.std.proofs.Common.{◌≡◌, ℕ, zero, suc, ◌+◌, ◌⊎◌, true, Option, Some, None, List, [], ◌∷◌, length, map, slice_get, IsSome, ℤ, ◌++◌, inl, inr, refl, sym, ap, subst, ◌∙◌, arith}
+use Rattle.std.proofs.Common.{◌≡◌, ℕ, zero, suc, ◌+◌, ◌⊎◌, true, Option, Some, None, List, [], ◌∷◌, length, map, slice_get, ℤ, ◌++◌, inl, inr, refl, sym, ap, subst, ◌∙◌, arith}
 use Rattle.std.proofs.lemmas.Int.{ints}
 use Rattle.std.proofs.lemmas.Option.{none-some, same_Some}
 use Rattle.std.specs.List.{range_with_len}
@@ -21,7 +21,7 @@ use Rattle.sbpl_job.specs.declared.job.Job.TheVariants as job
 use Rattle.sbpl_job.specs.declared.job.Sources.{Sources}
 use Rattle.sbpl_cli.specs.declared.record.PlanRecord.{PlanRecord}
 use Rattle.sbpl_cli.specs.Causes.{AreDemonstrated, SaysWorld, demo_search, no_outputs}
-use Rattle.sbpl_cli.specs.Determined.{AreAlikeWorlds, RecordsAreOne}
+use Rattle.sbpl_cli.specs.Determined.{AreAlikeWorlds, AreHeld, RecordsAreOne}
 use Rattle.sbpl_cli.specs.Headline.{ArePlans}
 use Rattle.sbpl_cli.specs.Intents.{demo_writes, last_write, lines_writes, listing_writes}
 use Rattle.sbpl_cli.specs.Listing.{listing_at, listing_by}
@@ -150,12 +150,12 @@ module _ (e : Environment) (ps : Primitives) (m : CellMap) (radius : ℕ) (sweep
 
 -- where sweeps were listed, what was written is that of any world that the files stand for
 pub listing_determined : TextsAreClear → (held before after : Told) (named : Option Job) → AtJob named (IsDone held before after) → (from : Sources) (w : World)
-    → named ≡ Some (job.Sweep from) → IsSome (held from.env) → IsSome (held from.prims) → SaysWorld held from w → AreMade before after (listing_writes w)
-listing_determined clear held before after named done from w is told_env told_prims says =
+    → named ≡ Some (job.Sweep from) → AreHeld held from None → SaysWorld held from w → AreMade before after (listing_writes w)
+listing_determined clear held before after named done from w is told says =
     let same : done.0 ≡ job.Sweep from = same_Some done.0 (job.Sweep from) (sym done.1 ∙ is) in
     let listed : IsListed held before after from = subst (λ (k : Job). IsDone held before after k) same done.2 in
     let v : World = listed.world in
-    let alike = one_world clear held from w v told_env told_prims says listed.says in
+    let alike = one_world clear held from w v told.env told.prims says listed.says in
     let env = alike.env in
     let prims = alike.prims in
     let maps = alike.map in

@@ -21,7 +21,7 @@ use Rattle.sbpl_cli.specs.Writing.{AreMade, Told}
 use Rattle.sbpl_cli.proofs.Laws.{TextsAreClear}
 
 -- what is read of a file that the desk tells is one
-read_once : (held : Option (List ℕ)) (t u : List ℕ) → IsSome held → IsRead held t → IsRead held u → t ≡ u
+pub read_once : (held : Option (List ℕ)) (t u : List ℕ) → IsSome held → IsRead held t → IsRead held u → t ≡ u
 read_once None t u told x y = absurd (false≢true told)
 read_once (Some text) t u told x y = x.told ∙ sym y.told
 
@@ -48,7 +48,7 @@ module _ (clear : TextsAreClear) (held : Told) where
       }
 
   -- and for one list of batches of changes
-  one_course : (changes : Option (List ℕ)) (m : CellMap) (batches others : List (List Write)) → IfSome changes (λ name. IsSome (held name))
+  pub one_course : (changes : Option (List ℕ)) (m : CellMap) (batches others : List (List Write)) → IfSome changes (λ name. IsSome (held name))
       → SaysBatches held changes m batches → SaysBatches held changes m others → batches ≡ others
   one_course None m batches others told x y = x ∙ sym y
   one_course (Some name) m batches others told x y =
@@ -56,17 +56,17 @@ module _ (clear : TextsAreClear) (held : Told) where
       let own : IsChangeText m x.0 others = subst (λ (t : List ℕ). IsChangeText m t others) text y.2 in
       clear.changes m x.0 batches others x.2 own
 
-  one_planned : RecordsAreOne → (j : PlanJob) (rs us : List PlanRecord) → AreHeld held j → ArePlanned held j rs true → ArePlanned held j us true → rs ≡ us
+  one_planned : RecordsAreOne → (j : PlanJob) (rs us : List PlanRecord) → AreHeld held j.sources j.changes → ArePlanned held j rs true → ArePlanned held j us true → rs ≡ us
   one_planned one j rs us told x y =
       let alike = one_world j.sources x.world y.world told.env told.prims x.says y.says in
       let course : SaysBatches held j.changes x.world.map y.batches = subst (λ (m : CellMap). SaysBatches held j.changes m y.batches) alike.map y.changes in
-      let batches : x.batches ≡ y.batches = one_course j.changes x.world.map x.batches y.batches told.changes x.changes course in
+      let batches : x.batches ≡ y.batches = one_course j.changes x.world.map x.batches y.batches told.changes_told x.changes course in
       let plans : ArePlans y.world x.batches j.search j.outputs us true = subst (λ (bs : List (List Write)). ArePlans y.world bs j.search j.outputs us true) (sym batches) y.plans in
       one x.world y.world x.batches j.search j.outputs rs us alike x.plans plans
 
   -- so where the plans of a job were made, what was written is that of any records of all of its plans
   pub run_determined : RecordsAreOne → (before after : Told) (named : Option Job) → AtJob named (IsDone held before after) → (j : PlanJob) (records : List PlanRecord)
-      → named ≡ Some (job.Plan j) → AreHeld held j → ArePlanned held j records true → AreMade before after (plans_writes j.outputs records true)
+      → named ≡ Some (job.Plan j) → AreHeld held j.sources j.changes → ArePlanned held j records true → AreMade before after (plans_writes j.outputs records true)
   run_determined one before after named done j records is told planned =
       let same : done.0 ≡ job.Plan j = same_Some done.0 (job.Plan j) (sym done.1 ∙ is) in
       let reported : IsDone held before after (job.Plan j) = subst (λ (k : Job). IsDone held before after k) same done.2 in

@@ -25,9 +25,9 @@ ghost use Rattle.sbpl_cli.specs.declared.record.PlanRecord.{PlanRecord};
 ghost use Rattle.sbpl_cli.specs.Causes.{AreDemonstrated, ArePlanned, JobStopsFor, SaysWorld};
 ghost use Rattle.sbpl_cli.specs.Determined.{AreHeld};
 ghost use Rattle.sbpl_cli.specs.Checked.{IsHolding};
-ghost use Rattle.sbpl_cli.specs.Intents.{checked_status, demo_writes, listing_writes, plans_writes, refusal_status, refusal_writes, words_writes};
+ghost use Rattle.sbpl_cli.specs.Intents.{checked_status, checked_writes, demo_writes, listing_writes, plans_writes, refusal_status, refusal_writes, words_writes};
 ghost use Rattle.sbpl_job.specs.Jobs.{IsJob, job_of};
-ghost use Rattle.sbpl_cli.specs.Promises.{AreGood, AtJob, EndsJob, EndsRun, IsCutShort, IsCheckedIn, IsDone, IsFaultFound, IsFlawFound, IsNoCheck, IsOrFailed, IsOrUnwritten, IsRefused, IsStatus, IsStopped, MayBeWritten, SomeRose, Tells, TellsBatches, TellsChangeFault, TellsEnvironment, TellsEnvironmentFault, TellsPrimitiveFault, TellsPrimitives, TellsTooMuch, TellsWorld, changes_of, sources_of};
+ghost use Rattle.sbpl_cli.specs.Promises.{AreGood, AtJob, EndsJob, EndsRun, IsChecked, IsCutShort, IsCheckedIn, IsDone, IsFaultFound, IsFlawFound, IsNoCheck, IsOrFailed, IsOrUnwritten, IsRefused, IsStatus, IsStopped, MayBeWritten, SomeRose, Tells, TellsBatches, TellsChangeFault, TellsEnvironment, TellsEnvironmentFault, TellsPrimitiveFault, TellsPrimitives, TellsTooMuch, TellsWorld, changes_of, sources_of};
 ghost use Rattle.sbpl_cli.specs.Writing.{AreMade, EndsAs, IsCutAt, IsOutput, IsStoppedAt, StaysBut, output};
 
 use crate::check::check_labels;
@@ -169,10 +169,11 @@ pub fn run<D: Desk>(alloc: Global, words: &[String], desk: &mut D) -> u8
     ensures labels_long { (j : CheckJob) (w : World) (batches : List (List Write)) → job_of (map string_bytes words.now) ≡ Some (Jobs.Check j) → TellsWorld (D.held desk.old) j.sources w → TellsBatches (D.held desk.old) j.changes w.map batches → TellsTooMuch (D.held desk.old j.labels) → IsOrFailed 8 result }
     // What is written of plans is determined by the words and the files: any records of all plans of the job's files are those
     // whose report was written, with their labels and traces where they are asked for.
-    ensures determined { (j : PlanJob) (records : List PlanRecord) → result ≡ 0 → job_of (map string_bytes words.now) ≡ Some (Jobs.Plan j) → AreHeld (D.held desk.old) j → ArePlanned (D.held desk.old) j records true → AreMade (D.written desk.old) (D.written desk.new) (plans_writes j.outputs records true) }
-    // So is what is written of a demonstration, and of a list of sweeps.
+    ensures determined { (j : PlanJob) (records : List PlanRecord) → result ≡ 0 → job_of (map string_bytes words.now) ≡ Some (Jobs.Plan j) → AreHeld (D.held desk.old) j.sources j.changes → ArePlanned (D.held desk.old) j records true → AreMade (D.written desk.old) (D.written desk.new) (plans_writes j.outputs records true) }
+    // So is what is written of labels that hold, of a list of sweeps, and of a demonstration.
+    ensures check_determined { (j : CheckJob) (goal : ℕ) (os : List Outcome) → result ≡ 0 → job_of (map string_bytes words.now) ≡ Some (Jobs.Check j) → AreHeld (D.held desk.old) j.sources j.changes → IsSome (D.held desk.old j.labels) → IsChecked (D.held desk.old) j goal os None → AreMade (D.written desk.old) (D.written desk.new) (checked_writes goal 0 os None) }
+    ensures listing_determined { (from : Sources) (w : World) → result ≡ 0 → job_of (map string_bytes words.now) ≡ Some (Jobs.Sweep from) → AreHeld (D.held desk.old) from None → SaysWorld (D.held desk.old) from w → AreMade (D.written desk.old) (D.written desk.new) (listing_writes w) }
     ensures demonstration_determined { (d : DemoJob) (w : World) (batches : List (List Write)) (records : List PlanRecord) → result ≡ 0 → job_of (map string_bytes words.now) ≡ Some (Jobs.Demo d) → AreDemonstrated d w batches records true → AreMade (D.written desk.old) (D.written desk.new) (demo_writes w (length batches) records true) }
-    ensures listing_determined { (from : Sources) (w : World) → result ≡ 0 → job_of (map string_bytes words.now) ≡ Some (Jobs.Sweep from) → IsSome (D.held desk.old from.env) → IsSome (D.held desk.old from.prims) → SaysWorld (D.held desk.old) from w → AreMade (D.written desk.old) (D.written desk.new) (listing_writes w) }
     // Nothing that is held changes, nothing is written under other names than the job's, and no count falls.
     ensures held { Stays (D.held desk.old) (D.held desk.new) }
     ensures others { StaysBut (MayBeWritten (job_of (map string_bytes words.now))) (D.written desk.old) (D.written desk.new) }

@@ -1,6 +1,7 @@
 use Rattle.std.proofs.Common.{arith}
 use Rattle.sbpl_cli.proofs.Laws.{texts_are_clear}
 use Rattle.sbpl_cli.proofs.Runs.{run_changes_faulty, run_changes_long, run_checked, run_complete, run_cut, run_demonstrated, run_done, run_environment_faulty, run_environment_long, run_faulted, run_flawed, run_labels_long, run_no_job, run_primitives_faulty, run_primitives_long, run_refused, run_status, run_stopped, run_too_dear, run_too_wide, run_words, run_write}
+use Rattle.sbpl_cli.proofs.SameChecked.{check_determined}
 use Rattle.sbpl_cli.proofs.SameLines.{demonstration_determined, listing_determined}
 use Rattle.sbpl_cli.proofs.SamePlanned.{run_determined}
 use Rattle.sbpl_cli.proofs.top.run.Goals as goal
@@ -93,6 +94,12 @@ returns-clause-demonstration_determined g c = λ d w batches records done is dem
     demonstration_determined c.records_are_determined.ensures.law _ _ _ _ (run_done _ _ _ _ _ _ _ _ _ c.end_run.ensures.ends done) d w batches records is demonstrated
 
 pub returns-clause-listing_determined : goal.returns-clause-listing_determined
-returns-clause-listing_determined g c = λ from w done is told_env told_prims says.
+returns-clause-listing_determined g c = λ from w done is told says.
     listing_determined (texts_are_clear c.texts_are_environments_or_faulty.ensures.one_value c.texts_are_environments_or_faulty.ensures.not_both c.texts_are_primitives_or_faulty.ensures.one_value c.texts_are_primitives_or_faulty.ensures.not_both c.texts_are_changes_or_faulty.ensures.one_value c.texts_are_changes_or_faulty.ensures.not_both)
-    _ _ _ _ (run_done _ _ _ _ _ _ _ _ _ c.end_run.ensures.ends done) from w is told_env told_prims says
+    _ _ _ _ (run_done _ _ _ _ _ _ _ _ _ c.end_run.ensures.ends done) from w is told says
+
+pub returns-clause-check_determined : goal.returns-clause-check_determined
+returns-clause-check_determined g c = λ j goal os done is told told_labels checked.
+    check_determined (texts_are_clear c.texts_are_environments_or_faulty.ensures.one_value c.texts_are_environments_or_faulty.ensures.not_both c.texts_are_primitives_or_faulty.ensures.one_value c.texts_are_primitives_or_faulty.ensures.not_both c.texts_are_changes_or_faulty.ensures.one_value c.texts_are_changes_or_faulty.ensures.not_both)
+    (record { one = c.texts_are_sections_or_faulty.ensures.one_value; not_both = c.texts_are_sections_or_faulty.ensures.not_both })
+    _ _ _ _ (run_done _ _ _ _ _ _ _ _ _ c.end_run.ensures.ends done) j goal os is told told_labels checked
