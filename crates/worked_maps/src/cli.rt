@@ -463,6 +463,39 @@ fn broken_labels(rt: HostRuntime) -> Result<(), Fail> {
     compare_check(&rt, rt.alloc(), "", 10, "refused labels 4 Ended 0\n")
 }
 
+/// The labels that a plan for a robot of this radius writes.
+fn labels_for(
+    rt: &impl Abort,
+    alloc: Global,
+    env: &str,
+    prims: &str,
+    radius: &str,
+) -> Result<Vec<u8>, Fail> {
+    let words = ["plan", "e", "m", "--radius", radius, "--labels", "l"];
+    labels_of(rt, alloc, &[("e", env), ("m", prims)], &words)
+}
+
+/// Checks these labels for a robot of this radius, and compares what the check writes.
+fn compare_for(
+    rt: &impl Abort,
+    alloc: Global,
+    env: &str,
+    prims: &str,
+    labels: &[u8],
+    radius: &str,
+    report: &str,
+) -> Result<(), Fail> {
+    let words = ["check", "e", "m", "--radius", radius, "l"];
+    compare_held(
+        rt,
+        alloc,
+        &[("e", env), ("m", prims)],
+        labels,
+        &words,
+        report,
+    )
+}
+
 /// Plans with labels, checks them, and compares what the check writes.
 fn compare_checked(
     rt: &impl Abort,
@@ -473,23 +506,29 @@ fn compare_checked(
     report: &str,
 ) -> Result<(), Fail> {
     let env = env.0.replacen(alloc, env.1, env.2, 1)?;
-    let files = [("e", env.as_str()), ("m", prims)];
-    let words = ["plan", "e", "m", "--radius", radius, "--labels", "l"];
-    let check = ["check", "e", "m", "--radius", radius, "l"];
-    compare_both(rt, alloc, &files, (&words, &check), report)
+    let labels = labels_for(rt, alloc, env.as_str(), prims, radius)?;
+    compare_for(
+        rt,
+        alloc,
+        env.as_str(),
+        prims,
+        labels.as_slice(),
+        radius,
+        report,
+    )
 }
 
-/// Plans on these files with labels under the name `l`, then checks these, and compares what the check writes.
-fn compare_both(
+/// Checks these labels on these files, and compares what the check writes.
+fn compare_held(
     rt: &impl Abort,
     alloc: Global,
     files: &[(&str, &str)],
-    words: (&[&str], &[&str]),
+    labels: &[u8],
+    words: &[&str],
     report: &str,
 ) -> Result<(), Fail> {
-    let labels = labels_of(rt, alloc, files, words.0)?;
     let mut desk = desk_of(alloc, files)?;
-    let compared = compare_labels(rt, alloc, &mut desk, labels.as_slice(), words.1, report);
+    let compared = compare_labels(rt, alloc, &mut desk, labels, words, report);
     drop(desk);
     compared
 }
@@ -834,7 +873,15 @@ fn repaired_outputs(rt: HostRuntime) -> Result<(), Fail> {
     let words = ["plan", "e", "m", "--changes=c", "--labels=l", "--trace=t"];
     let check = ["check", "e", "m", "l", "--changes", "c"];
     compare_trace(&rt, rt.alloc(), &files, &words, REPAIRED_TRACE)?;
-    compare_both(&rt, rt.alloc(), &files, (&words, &check), THREE_HOLD)
+    let labels = labels_of(&rt, rt.alloc(), &files, &words)?;
+    compare_held(
+        &rt,
+        rt.alloc(),
+        &files,
+        labels.as_slice(),
+        &check,
+        THREE_HOLD,
+    )
 }
 
 /// A change file and a file of labels that are not there, or too long.
