@@ -4,6 +4,7 @@
 mod arcs;
 mod checking;
 mod fault;
+mod first;
 mod flaw;
 mod label_set;
 mod making;
@@ -17,6 +18,7 @@ mod writing;
 pub use arcs::Arcs;
 pub use checking::check;
 pub use fault::LabelFault;
+pub use first::first_flaws_are_one;
 pub use flaw::Flaw;
 pub use label_set::LabelSet;
 pub use making::section_of;

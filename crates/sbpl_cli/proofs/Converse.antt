@@ -22,7 +22,7 @@ use Rattle.sbpl_cli.specs.Intents.{Intent, Refused, Planned, Checked, Listed, De
 use Rattle.sbpl_cli.specs.Promises.{AreGood, ComesTo, IsNoCheck, IsOrFailed, Tells, TellsBatches, TellsChangeFault, TellsEnvironment, TellsEnvironmentFault, TellsMap, TellsPrimitiveFault, TellsPrimitives, TellsTooMuch, TellsWorld, changes_of, sources_of}
 use Rattle.sbpl_cli.specs.Texts.{HasChangeFault, HasEnvironmentFault, HasPrimitiveFault, IsChangeText, IsEnvironmentText, IsPrimitiveText}
 use Rattle.sbpl_cli.specs.Writing.{FaultCounts, Told}
-use Rattle.sbpl_cli.proofs.Laws.{TextsAreClear}
+use Rattle.sbpl_cli.specs.Clear.{TextsAreClear}
 
 -- ---- what was read is what the desk tells
 

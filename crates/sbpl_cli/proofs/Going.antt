@@ -1,5 +1,6 @@
 -- How the making of plans goes on from one to the next.
-use Rattle.std.proofs.Common.{◌≡◌, ℕ, ◌+◌, Bool, true, false, List, [], ◌∷◌, ◌++◌, flat_map, length, slice_get, Option, Some, None, Result, Ok, Err, refl, sym, ◌∙◌, ap, subst, append_assoc, append-nil, arith, inl, inr}
+use Rattle.std.proofs.Common.{◌≡◌, ℕ, ◌+◌, ◌≤◌, Bool, true, false, List, [], ◌∷◌, ◌++◌, flat_map, length, slice_get, Option, Some, None, Result, Ok, Err, refl, sym, ◌∙◌, ap, subst, append_assoc, append-nil, arith, inl, inr}
+use Rattle.std.proofs.lemmas.Option.{slice_get_within}
 use Rattle.sbpl_desk.specs.Desk.{NoneFalls, Stays}
 use Rattle.sbpl_desk.specs.declared.desk.WriteStop.{WriteStop}
 use Rattle.sbpl_desk.specs.declared.desk.WriteStop.TheVariants.{NoMemory}
@@ -41,25 +42,34 @@ module _ (written_of : PlanRecord → List Write) (w : World) (batches : List (L
     records = r ∷ e.records;
     all = e.all;
     each = (behind, after, plan, e.each);
+    few = let rest = e.few in omega arith;
     all_made = λ is. let rest = e.all_made is in omega arith;
     ends = rw (append_assoc (written_of r) (flat_map written_of e.records) (end_writes e.all)) (ends_as_behind a b c f g h (written_of r) (flat_map written_of e.records ++ end_writes e.all) (plans_status e.all) status made low e.ends);
   }
 
   -- memory ran out before plan k was made
-  pub no_more : (k : ℕ) (before : Option Behind) (a b : Told) (f g : FaultCounts) → Stays a b → EndsPlans written_of w batches how outputs start goal k before a b f g 9
-  no_more k before a b f g same = record { records = []; all = false; each = tt; all_made = λ is. absurd (cc); ends = inl (refl, none_made a b same) }
+  pub no_more : (k : ℕ) (before : Option Behind) (a b : Told) (f g : FaultCounts) → k ≤ length batches + 1 → Stays a b → EndsPlans written_of w batches how outputs start goal k before a b f g 9
+  no_more k before a b f g inside same = record {
+    records = [];
+    all = false;
+    each = tt;
+    few = omega arith;
+    all_made = λ is. absurd (cc);
+    ends = inl (refl, none_made a b same);
+  }
 
   -- plan k was the last, and so was the last line
   all_told : (k : ℕ) (before : Option Behind) (a b : Told) (f g : FaultCounts) (status : ℕ) → k ≡ length batches + 1 → EndsAs a b f g (last_write ∷ []) 0 status → EndsPlans written_of w batches how outputs start goal k before a b f g status
-  all_told k before a b f g status last ends = record { records = []; all = true; each = tt; all_made = λ is. omega arith; ends = ends }
+  all_told k before a b f g status last ends = record { records = []; all = true; each = tt; few = omega arith; all_made = λ is. omega arith; ends = ends }
 
   -- plan k was made, but was not told
-  untold : (k : ℕ) (before : Option Behind) (behind : Behind) (r : PlanRecord) (a b : Told) (f g : FaultCounts) (status : ℕ) (e : WriteStop) → IsMapAfter w.map batches k behind.map → IsPlanOf (on_map w behind.map) how outputs start goal k before behind r
+  untold : (k : ℕ) (before : Option Behind) (behind : Behind) (r : PlanRecord) (a b : Told) (f g : FaultCounts) (status : ℕ) (e : WriteStop) → k ≤ length batches → IsMapAfter w.map batches k behind.map → IsPlanOf (on_map w behind.map) how outputs start goal k before behind r
       → EndsIn {T = Unit {0}} a b f g (written_of r) (Err e) → status ≡ status_after {T = Unit {0}} 9 (Err e) → EndsPlans written_of w batches how outputs start goal k before a b f g status
-  untold k before behind r a b f g status e after plan ends is = record {
+  untold k before behind r a b f g status e inside after plan ends is = record {
     records = r ∷ [];
     all = false;
     each = (behind, after, plan, tt);
+    few = omega arith;
     all_made = λ no_way. absurd (cc);
     ends = subst (λ (l : List Write). EndsAs a b f g l 9 status) (sym (append-nil (written_of r ++ []) ∙ append-nil (written_of r))) (status_ends a b f g (written_of r) 9 status (Err e) ends is);
   }
@@ -67,6 +77,7 @@ module _ (written_of : PlanRecord → List Write) (w : World) (batches : List (L
   -- the plans up to plan k were made and told, on the map after so many batches
   pub record IsGoing (now : World) (k : ℕ) (r : Replanning) (a b : Told) (f g : FaultCounts) : Type 0 where
     pub same : now ≡ on_map w now.map
+    pub inside : k ≤ length batches
     pub after : IsMapAfter w.map batches k now.map
     pub kept : IsWorld now
     pub ready : IsReadyIn now r
@@ -78,6 +89,7 @@ module _ (written_of : PlanRecord → List Write) (w : World) (batches : List (L
   pub sets_out : (r : Replanning) (a : Told) (f : FaultCounts) → IsMapAfter w.map batches 0 w.map → IsWorld w → IsReadyIn w r → IsSetFor how start goal r → GoesOnFrom w how start None r → IsGoing w 0 r a a f f
   sets_out r a f first kept ready set begun = record {
     same = refl;
+    inside = omega arith;
     after = first;
     kept = kept;
     ready = ready;
@@ -101,8 +113,8 @@ module _ (written_of : PlanRecord → List Write) (w : World) (batches : List (L
     -- the next plan was not told
     pub stops : (status : ℕ) (e : WriteStop) → Told_ (Err e) → status ≡ status_after {T = Unit {0}} 9 (Err e) → EndsPlans written_of w batches how outputs start goal 0 None a c f h status
     stops status e made is = going.ends c h status (elim (made going.before going.goes_on) [
-      | inl (out, same) ↦ subst (λ (n : ℕ). EndsPlans written_of w batches how outputs start goal k going.before b c g h n) (sym (is ∙ nine out)) (no_more k going.before b c g h same)
-      | inr (p, plan, ends) ↦ untold k going.before (behind_of now s) p b c g h status e going.after (on_that going.before p plan) ends is
+      | inl (out, same) ↦ subst (λ (n : ℕ). EndsPlans written_of w batches how outputs start goal k going.before b c g h n) (sym (is ∙ nine out)) (no_more k going.before b c g h (let room = going.inside in omega arith) same)
+      | inr (p, plan, ends) ↦ untold k going.before (behind_of now s) p b c g h status e going.inside going.after (on_that going.before p plan) ends is
     ])
       where
         nine : e ≡ NoMemory → status_after {T = Unit {0}} 9 (Err e) ≡ 9
@@ -120,7 +132,7 @@ module _ (written_of : PlanRecord → List Write) (w : World) (batches : List (L
 
     -- it was told, and memory ran out while the map was changed
     pub tells_no_more : Told_ (Ok tt) → NoneFalls g h → EndsPlans written_of w batches how outputs start goal 0 None a c f h 9
-    tells_no_more made low = tells c h 9 made low (no_more (k + 1) (Some (behind_of now s)) c c h h (λ name. refl))
+    tells_no_more made low = tells c h 9 made low (no_more (k + 1) (Some (behind_of now s)) c c h h (let room = going.inside in omega arith) (λ name. refl))
 
     -- it was told, and then the map was changed
     pub changes : (next : World) (t : Replanning) (batch : List change.Write)
@@ -129,6 +141,7 @@ module _ (written_of : PlanRecord → List Write) (w : World) (batches : List (L
         → BeginsWith s.repairs now next s.search.labels t.search.labels → IsReadyIn next t → StaysTheSame s t → t.counts ≡ s.counts → IsGoing next (k + 1) t a c f h
     changes next t batch law made low set at written others kept begins ready stays counts = record {
       same = others ∙ ap (λ (v : World). record v { map = next.map }) going.same;
+      inside = let room = slice_get_within batches k batch at in omega arith;
       after = law w.map now.map next.map batches k batch going.after at written;
       kept = kept;
       ready = ready;

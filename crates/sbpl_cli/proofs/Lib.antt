@@ -17,3 +17,6 @@ pub mod SameRecords
 pub mod SamePlanned
 pub mod SameLines
 pub mod SameChecked
+pub mod Fronts
+pub mod OneRefusal
+pub mod Wholes

@@ -12,9 +12,11 @@ use Rattle.sbpl_cert.specs.declared.outcome.Outcome.{Outcome}
 use Rattle.sbpl_cert.specs.Flaws.{HasNoFlaw}
 use Rattle.sbpl_cert.specs.Sections.{Section}
 use Rattle.sbpl_cert.specs.Text.{AreTokens, AreTokensOf, HasFault, IsOf}
+use Rattle.sbpl_cli.specs.Clear.{SectionsAreClear}
 use Rattle.sbpl_cost.specs.Lattices.{network_of}
 use Rattle.sbpl_cost.specs.States.{state_count, state_number}
-use Rattle.sbpl_cost.specs.World.{World}
+use Rattle.sbpl_cost.specs.Alike.{AlikeWorldsAreOneGraph}
+use Rattle.sbpl_cost.specs.World.{IsWorld, World}
 use Rattle.sbpl_map.specs.CellMap.{CellMap, IsCellMap}
 use Rattle.sbpl_map.specs.MapAfter.{IsMapAfter}
 use Rattle.sbpl_map.specs.declared.write.Write.{Write}
@@ -24,11 +26,6 @@ use Rattle.sbpl_cli.specs.Checked.{AreChecked, Case, IsFlawed, IsGraphAfter, IsH
 use Rattle.sbpl_cli.specs.Headline.{IsStateOf}
 use Rattle.sbpl_cli.specs.Intents.{checked_status}
 use Rattle.sbpl_cli.specs.Promises.{IsOrFailed}
-
--- one section stands in tokens, and no fault beside it
-pub record SectionsAreClear : Type 0 where
-  pub one : (ts rest more : List Piece) (s u : Section) → AreTokensOf ts s rest → AreTokensOf ts u more → (s ≡ u) × (rest ≡ more)
-  pub not_both : (plan states : ℕ) (left : Left) (f : LabelFault) → AreTokens plan states left.tokens → HasFault plan states left f → ⊥
 
 place_by : (x y t u v w : ℕ) → x ≡ u → y ≡ v → t ≡ w → ◌≡◌ {A = Place} (record { x = x; y = y; t = t }) (record { x = u; y = v; t = w })
 place_by x y t u v w a b c = cc
@@ -51,7 +48,7 @@ abbrev pub OneMap : Type 0
 OneMap = (first now other : CellMap) (batches : List (List Write)) (k : ℕ) → IsCellMap now → IsCellMap other → IsMapAfter first batches k now → IsMapAfter first batches k other → now ≡ other
 
 -- and one graph
-one_graph : OneMap → (w : World) (batches : List (List Write)) (k : ℕ) (n o : Network) → IsGraphAfter w batches k n → IsGraphAfter w batches k o → n ≡ o
+pub one_graph : OneMap → (w : World) (batches : List (List Write)) (k : ℕ) (n o : Network) → IsGraphAfter w batches k n → IsGraphAfter w batches k o → n ≡ o
 one_graph one w batches k n o a b = a.network ∙ ap (λ (m : CellMap). network_of (record w { map = m })) (one w.map a.map b.map batches k a.is_world.map b.is_world.map a.after b.after) ∙ sym b.network
 
 -- it has the states of the environment
@@ -71,7 +68,7 @@ no_memory_left a = inr (inr (inr refl))
 
 module _ (clear : SectionsAreClear) (one : OneMap) (c : Case) where
   -- what is checked at a plan is read of as many states as its graph has
-  readable : (n : Network) (plan : ℕ) (left : Left) (s : Section) (rest : List Piece) → IsGraphAfter c.world c.batches plan n → IsOf plan n.states s → AreTokensOf left.tokens s rest → AreTokens plan (state_count c.world.env) left.tokens
+  pub readable : (n : Network) (plan : ℕ) (left : Left) (s : Section) (rest : List Piece) → IsGraphAfter c.world c.batches plan n → IsOf plan n.states s → AreTokensOf left.tokens s rest → AreTokens plan (state_count c.world.env) left.tokens
   readable n plan left s rest after of tokens = (s, rest, subst (λ (count : ℕ). IsOf plan count s) (states_after c.world c.batches plan n after) of, tokens)
 
   -- a section that holds has no first flaw
@@ -89,14 +86,14 @@ module _ (clear : SectionsAreClear) (one : OneMap) (c : Case) where
   stops_alike plan left a section.NoMemory some p q = no_memory_left (Some a)
 
   -- where a section holds nothing stops there
-  holds_not_stopped : (n : Network) (plan : ℕ) (left rest : Left) (o : Outcome) (s : SectionStop) → s ≢ section.NoMemory → IsGraphAfter c.world c.batches plan n → IsHolding n c.start c.goal plan left o rest → IsStoppedIn c plan left s → ⊥
+  pub holds_not_stopped : (n : Network) (plan : ℕ) (left rest : Left) (o : Outcome) (s : SectionStop) → s ≢ section.NoMemory → IsGraphAfter c.world c.batches plan n → IsHolding n c.start c.goal plan left o rest → IsStoppedIn c plan left s → ⊥
   holds_not_stopped n plan left rest o (section.Flaw f) some after is (m, later, flawed) =
       let same = one_graph one c.world c.batches plan m n later after in
       holds_not_flawed n plan left rest o f is (subst (λ (x : Network). IsFlawed x c.start c.goal plan left f) same flawed)
   holds_not_stopped n plan left rest o (section.Fault f) some after is stops = clear.not_both plan _ left f (readable n plan left is.section rest.tokens after is.of is.tokens) stops.1
   holds_not_stopped n plan left rest o section.NoMemory some after is stops = some refl
 
-  trailing_none : (ts : List Piece) (f : LabelFault) → ts ≡ [] → IsTrailingAt ts f → ⊥
+  pub trailing_none : (ts : List Piece) (f : LabelFault) → ts ≡ [] → IsTrailingAt ts f → ⊥
   trailing_none [] f none p = p
   trailing_none (t ∷ ts) f none p = cc
 
@@ -112,7 +109,7 @@ module _ (clear : SectionsAreClear) (one : OneMap) (c : Case) where
   behind_alike plan left (Some section.NoMemory) b some p q = absurd (some refl)
   behind_alike plan left a (Some section.NoMemory) some p q = no_memory_left a
 
-  same_left : (a b : Left) → a.tokens ≡ b.tokens → a.end ≡ b.end → a ≡ b
+  pub same_left : (a b : Left) → a.tokens ≡ b.tokens → a.end ≡ b.end → a ≡ b
   same_left a b tokens end = left_by a.end b.end a.tokens b.tokens end tokens
 
   pub one_ending : (more plan : ℕ) (left : Left) (os ps : List Outcome) (a b : Option SectionStop) → a ≢ Some section.NoMemory → AreChecked IsHolding c plan more left os a → AreChecked IsHolding c plan more left ps b → EndAlike a b
@@ -131,6 +128,30 @@ module _ (clear : SectionsAreClear) (one : OneMap) (c : Case) where
       let tokens : rest.tokens ≡ behind.tokens = (clear.one left.tokens rest.tokens behind.tokens is.section also.section is.tokens also.tokens).1 in
       let same : behind ≡ rest = same_left behind rest (sym tokens) (also.same_end ∙ sym is.same_end) in
       one_ending more (plan + 1) rest os ps a b some p (subst (λ (l : Left). AreChecked IsHolding c (plan + 1) more l ps b) same q)
+
+-- ---- alike worlds
+
+-- they have the same graphs after as many batches
+pub same_graph : AlikeWorldsAreOneGraph → (v w : World) → IsWorld w → v.env ≡ w.env → v.prims ≡ w.prims → v.map ≡ w.map → v.sweeps.radius ≡ w.sweeps.radius → (batches : List (List Write)) (k : ℕ) (n : Network) → IsGraphAfter v batches k n → IsGraphAfter w batches k n
+same_graph alike v w is_world env prims map radius batches k n a =
+    let there : IsWorld (record w { map = a.map }) = record {
+      env = is_world.env;
+      prims = is_world.prims;
+      map = a.is_world.map;
+      cell = is_world.cell;
+      headings = is_world.headings;
+      width = a.is_world.width ∙ ap (λ (e : Environment). e.width) env;
+      height = a.is_world.height ∙ ap (λ (e : Environment). e.height) env;
+      sweeps = is_world.sweeps;
+      radius = is_world.radius;
+      costs = is_world.costs;
+    } in
+    record {
+      map = a.map;
+      after = subst (λ (m : CellMap). IsMapAfter m batches k a.map) map a.after;
+      is_world = there;
+      network = a.network ∙ alike (record w { map = a.map }) (record v { map = a.map }) there a.is_world env prims refl radius;
+    }
 
 -- ---- one case and another
 

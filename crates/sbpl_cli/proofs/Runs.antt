@@ -36,8 +36,9 @@ use Rattle.sbpl_cli.specs.Promises.{AreGood, AtJob, ComesTo, EndsJob, EndsRun, b
 use Rattle.sbpl_cli.specs.Traces.{trace_text}
 use Rattle.sbpl_cli.specs.Writing.{AreMade, EndsAs, FaultCounts, IsCutAt, IsNamed, IsOutput, IsOutputOf, IsStoppedAt, Told, Write, output, to_named, to_output}
 use Rattle.sbpl_cli.proofs.Ends.{plain_is}
-use Rattle.sbpl_cli.proofs.Laws.{TextsAreClear}
-use Rattle.sbpl_cli.proofs.OneEnding.{OneMap, SectionsAreClear, checked_on, one_ending, one_state}
+use Rattle.sbpl_cli.specs.Clear.{TextsAreClear}
+use Rattle.sbpl_cli.specs.Clear.{SectionsAreClear}
+use Rattle.sbpl_cli.proofs.OneEnding.{OneMap, checked_on, one_ending, one_state, same_graph}
 use Rattle.sbpl_cli.proofs.Converse.{SaysCourse, all_good, by_intent, cause_of, changes_faulty, changes_faulty_none, changes_long, changes_long_none, changes_world, environment_faulty, environment_faulty_none, environment_long, environment_long_none, labels_refused, no_memory, primitives_faulty, primitives_faulty_none, primitives_good, primitives_long, primitives_long_none, same_batches, same_environment, same_map, same_primitives, told_is, too_dear_none, too_long_not_short, too_much_not_read, too_wide_none, world_good}
 
 -- a refusal's status is 3, 4, 5, 6 or 8
@@ -525,28 +526,6 @@ module _ (held : Told) (reads reads' : FaultCounts) (before after : Told) (fault
     check_refused clear c w batches wanted tells told long r (inl cause) = all_good clear held reads reads' c.sources w.map c.changes batches wanted (world_good clear held reads reads' c.sources w tells) told r (inl cause)
     check_refused clear c w batches wanted tells told long r (inr (inl cause)) = all_good clear held reads reads' c.sources w.map c.changes batches wanted (world_good clear held reads reads' c.sources w tells) told r (inr cause)
     check_refused clear c w batches wanted tells told long r (inr (inr cause)) = labels_refused held reads reads' c wanted r long cause
-
-    -- the world that was read has the graphs of the one that is told
-    same_graph : AlikeWorldsAreOneGraph → (v w : World) → IsWorld w → v.env ≡ w.env → v.prims ≡ w.prims → v.map ≡ w.map → v.sweeps.radius ≡ w.sweeps.radius → (batches : List (List change.Write)) (k : ℕ) (n : Network) → IsGraphAfter v batches k n → IsGraphAfter w batches k n
-    same_graph alike v w is_world env prims map radius batches k n a =
-        let there : IsWorld (record w { map = a.map }) = record {
-          env = is_world.env;
-          prims = is_world.prims;
-          map = a.is_world.map;
-          cell = is_world.cell;
-          headings = is_world.headings;
-          width = a.is_world.width ∙ ap (λ (e : Environment). e.width) env;
-          height = a.is_world.height ∙ ap (λ (e : Environment). e.height) env;
-          sweeps = is_world.sweeps;
-          radius = is_world.radius;
-          costs = is_world.costs;
-        } in
-        record {
-          map = a.map;
-          after = subst (λ (m : CellMap). IsMapAfter m batches k a.map) map a.after;
-          is_world = there;
-          network = a.network ∙ alike (record w { map = a.map }) (record v { map = a.map }) there a.is_world env prims refl radius;
-        }
 
     -- how a check ends
     checked_alike : TextsAreClear → SectionsAreClear → OneMap → AlikeWorldsAreOneGraph → (c : CheckJob) (w : World) (batches : List (List change.Write)) (text : List ℕ) (goal : ℕ) (os : List Outcome) (end : Option SectionStop) → end ≢ Some section.NoMemory → TellsWorld held c.sources w → TellsBatches held c.changes w.map batches → Tells (held c.labels) text → IsCheckedIn IsHolding w batches text goal os end

@@ -1,66 +1,148 @@
--- What is written of labels that hold is one.
-use Rattle.std.proofs.Common.{◌≡◌, ℕ, zero, suc, ◌+◌, Option, Some, None, List, [], ◌∷◌, length, IsSome, refl, sym, ap, subst, ◌∙◌}
-use Rattle.std.proofs.lemmas.Option.{same_Some}
-use Rattle.sbpl_cfg.specs.Environment.{Environment}
+-- The checking of one text is one, as far as memory lasts.
+use Rattle.std.proofs.Common.{◌≡◌, ◌≢◌, ℕ, zero, suc, ◌+◌, ◌⊎◌, ◌++◌, Option, Some, None, List, [], ◌∷◌, length, IsSome, IfSome, refl, sym, ap, subst, ◌∙◌, inl, inr}
+use Rattle.sbpl_graph.specs.Network.{Network}
 use Rattle.sbpl_fixed.specs.Formats.{Left, start_at}
+use Rattle.sbpl_fixed.specs.Tokens.{Piece}
+use Rattle.sbpl_cfg.specs.Environment.{Environment}
+use Rattle.sbpl_cert.specs.declared.fault.LabelFault.{LabelFault}
+use Rattle.sbpl_cert.specs.declared.flaw.Flaw.{Flaw}
 use Rattle.sbpl_cert.specs.declared.outcome.Outcome.{Outcome}
+use Rattle.sbpl_cert.specs.Flaws.{IsFirstFlaw}
 use Rattle.sbpl_cert.specs.Sections.{Section}
+use Rattle.sbpl_cost.specs.Alike.{AlikeWorldsAreOneGraph}
+use Rattle.sbpl_cost.specs.States.{state_count}
+use Rattle.sbpl_cost.specs.World.{World}
 use Rattle.sbpl_map.specs.CellMap.{CellMap}
 use Rattle.sbpl_map.specs.declared.write.Write.{Write}
 use Rattle.sbpl_job.specs.declared.job.CheckJob.{CheckJob}
-use Rattle.sbpl_job.specs.declared.job.Job.{Job}
-use Rattle.sbpl_job.specs.declared.job.Job.TheVariants as job
+use Rattle.sbpl_cli.specs.declared.checking.SectionStop.{SectionStop}
+use Rattle.sbpl_cli.specs.declared.checking.SectionStop.TheVariants as section
 use Rattle.sbpl_cli.specs.Causes.{SaysBatches}
-use Rattle.sbpl_cli.specs.Checked.{AreChecked, Case, IsShownHolding}
-use Rattle.sbpl_cli.specs.Determined.{AreHeld}
+use Rattle.sbpl_cli.specs.Checked.{AreChecked, Case, IsFlawed, IsGraphAfter, IsHolding, IsShownHolding, IsStoppedIn, IsTrailingAt}
+use Rattle.sbpl_cli.specs.Clear.{SectionsAreClear, TextsAreClear}
 use Rattle.sbpl_cli.specs.Headline.{IsStateOf}
 use Rattle.sbpl_cli.specs.Intents.{checked_writes}
-use Rattle.sbpl_cli.specs.Promises.{AtJob, IsChecked, IsDone, IsJudged}
-use Rattle.sbpl_cli.specs.Writing.{AreMade, Told}
-use Rattle.sbpl_cli.proofs.Laws.{TextsAreClear}
-use Rattle.sbpl_cli.proofs.OneEnding.{SectionsAreClear, one_state}
+use Rattle.sbpl_cli.specs.Promises.{IsChecked}
+use Rattle.sbpl_cli.specs.Verdicts.{holds_text}
+use Rattle.sbpl_cli.specs.Writing.{Told}
+use Rattle.sbpl_cli.specs.Writing as writing
+use Rattle.sbpl_cli.proofs.OneEnding.{OneMap, checked_on, holds_not_stopped, one_graph, one_state, readable, same_graph, same_left, trailing_none}
 use Rattle.sbpl_cli.proofs.SamePlanned.{one_course, one_world, read_once}
 
--- sections that hold have one list of outcomes
-all_hold : SectionsAreClear → (c d : Case) (more plan : ℕ) (left : Left) (os ps : List Outcome) → AreChecked IsShownHolding c plan more left os None → AreChecked IsShownHolding d plan more left ps None → os ≡ ps
-all_hold clear c d zero plan left [] [] x y = refl
-all_hold clear c d zero plan left [] (p ∷ ps) x y = absurd y
-all_hold clear c d zero plan left (o ∷ os) ps x y = absurd x
-all_hold clear c d (suc more) plan left [] ps x y = absurd x
-all_hold clear c d (suc more) plan left (o ∷ os) [] x y = absurd y
-all_hold clear c d (suc more) plan left (o ∷ os) (p ∷ ps) (n, after, rest, is, x) (m, later, behind, also, y) =
-    let both = clear.one left.tokens rest.tokens behind.tokens is.holds.section also.holds.section is.holds.tokens also.holds.tokens in
-    let outcome : o ≡ p = sym is.holds.says ∙ ap (λ (s : Section). s.outcome) both.0 ∙ also.holds.says in
-    let ends : rest.end ≡ behind.end = is.holds.same_end ∙ sym also.holds.same_end in
-    let tokens = both.1 in
-    let same : rest ≡ behind = λ i. record { end = ends i; tokens = tokens i } in
-    let own : AreChecked IsShownHolding d (plan + 1) more rest ps None = subst (λ (l : Left). AreChecked IsShownHolding d (plan + 1) more l ps None) (sym same) y in
-    let further = all_hold clear c d more (plan + 1) rest os ps x own in
-    λ i. outcome i ∷ further i
+-- the first checking goes as far as the second: both are one, or memory ran out in it behind the first few sections that hold
+abbrev pub GoesAsFar : List Outcome → List Outcome → Option SectionStop → Option SectionStop → Type 0
+GoesAsFar os ps a b = ((os ≡ ps) × (a ≡ b)) ⊎ ((a ≡ Some section.NoMemory) × ((rest : List Outcome) × (ps ≡ os ++ rest)))
 
-module _ (clear : TextsAreClear) (sections : SectionsAreClear) (held : Told) where
-  one_check : (j : CheckJob) (goal other : ℕ) (os ps : List Outcome) → AreHeld held j.sources j.changes → IsSome (held j.labels) → IsChecked held j goal os None → IsChecked held j other ps None
-      → (goal ≡ other) × (os ≡ ps)
-  one_check j goal other os ps told told_labels x y =
-      let alike = one_world clear held j.sources x.world y.world told.env told.prims x.says y.says in
-      let course : SaysBatches held j.changes x.world.map y.batches = subst (λ (m : CellMap). SaysBatches held j.changes m y.batches) alike.map y.changes in
-      let batches : y.batches ≡ x.batches = sym (one_course clear held j.changes x.world.map x.batches y.batches told.changes_told x.changes course) in
+trailing_one : (ts : List Piece) (f g : LabelFault) → IsTrailingAt ts f → IsTrailingAt ts g → f ≡ g
+trailing_one [] f g p q = absurd p
+trailing_one (t ∷ ts) f g p q = p ∙ sym q
+
+module _ (clear : SectionsAreClear) (one : OneMap) (c : Case) where
+  one_flaw : (n m : Network) (plan : ℕ) (left : Left) (f g : Flaw) → n ≡ m → IsFlawed n c.start c.goal plan left f → IsFlawed m c.start c.goal plan left g → f ≡ g
+  one_flaw n m plan left f g same x y =
+      let sections : x.section ≡ y.section = (clear.one left.tokens x.rest y.rest x.section y.section x.tokens y.tokens).0 in
+      let there : IsFirstFlaw m c.start c.goal x.section f = subst (λ (o : Network). IsFirstFlaw o c.start c.goal x.section f) same x.first in
+      let own : IsFirstFlaw m c.start c.goal y.section f = subst (λ (s : Section). IsFirstFlaw m c.start c.goal s f) sections there in
+      clear.one_flaw m c.start c.goal y.section f g own y.first
+
+  -- where a section does not hold
+  stops_as_far : (plan : ℕ) (left : Left) (s t : SectionStop) → t ≢ section.NoMemory → IsStoppedIn c plan left s → IsStoppedIn c plan left t → GoesAsFar [] [] (Some s) (Some t)
+  stops_as_far plan left (section.Flaw f) (section.Flaw g) some (n, after, x) (m, later, y) =
+      let same = one_flaw n m plan left f g (one_graph one c.world c.batches plan n m after later) x y in
+      inl (refl, ap (λ (e : Flaw). Some (section.Flaw e)) same)
+  stops_as_far plan left (section.Flaw f) (section.Fault g) some (n, after, x) q =
+      absurd (clear.not_both plan _ left g (readable clear one c n plan left x.section x.rest after x.of x.tokens) q.1)
+  stops_as_far plan left (section.Fault f) (section.Flaw g) some p (n, after, y) =
+      absurd (clear.not_both plan _ left f (readable clear one c n plan left y.section y.rest after y.of y.tokens) p.1)
+  stops_as_far plan left (section.Fault f) (section.Fault g) some p q =
+      inl (refl, ap (λ (e : LabelFault). Some (section.Fault e)) (clear.one_fault plan (state_count c.world.env) left f g p.1 q.1))
+  stops_as_far plan left section.NoMemory t some p q = inr (refl, ([], refl))
+  stops_as_far plan left (section.Flaw f) section.NoMemory some p q = absurd (some refl)
+  stops_as_far plan left (section.Fault f) section.NoMemory some p q = absurd (some refl)
+
+  -- behind the last section
+  ends_as_far : (plan : ℕ) (left : Left) (a b : Option SectionStop) → b ≢ Some section.NoMemory → AreChecked IsHolding c plan zero left [] a → AreChecked IsHolding c plan zero left [] b → GoesAsFar [] [] a b
+  ends_as_far plan left None None some p q = inl (refl, refl)
+  ends_as_far plan left None (Some (section.Flaw g)) some p q = absurd q
+  ends_as_far plan left None (Some (section.Fault g)) some p q = absurd (trailing_none clear one c left.tokens g p q)
+  ends_as_far plan left (Some (section.Flaw f)) b some p q = absurd p
+  ends_as_far plan left (Some (section.Fault f)) None some p q = absurd (trailing_none clear one c left.tokens f q p)
+  ends_as_far plan left (Some (section.Fault f)) (Some (section.Flaw g)) some p q = absurd q
+  ends_as_far plan left (Some (section.Fault f)) (Some (section.Fault g)) some p q = inl (refl, ap (λ (e : LabelFault). Some (section.Fault e)) (trailing_one left.tokens f g p q))
+  ends_as_far plan left (Some section.NoMemory) b some p q = inr (refl, ([], refl))
+  ends_as_far plan left None (Some section.NoMemory) some p q = absurd (some refl)
+  ends_as_far plan left (Some (section.Fault f)) (Some section.NoMemory) some p q = absurd (some refl)
+
+  one_more : (o o' : Outcome) (os ps : List Outcome) (a b : Option SectionStop) → o ≡ o' → GoesAsFar os ps a b → GoesAsFar (o ∷ os) (o' ∷ ps) a b
+  one_more o o' os ps a b same (inl (outcomes, ends)) = inl (λ i. same i ∷ outcomes i, ends)
+  one_more o o' os ps a b same (inr (out, (rest, parted))) = inr (out, (rest, λ i. (sym same) i ∷ parted i))
+
+  -- the checking of so many sections
+  pub goes_as_far : (more plan : ℕ) (left : Left) (os ps : List Outcome) (a b : Option SectionStop) → b ≢ Some section.NoMemory → AreChecked IsHolding c plan more left os a → AreChecked IsHolding c plan more left ps b → GoesAsFar os ps a b
+  goes_as_far zero plan left [] [] a b some p q = ends_as_far plan left a b some p q
+  goes_as_far zero plan left (o ∷ os) ps a b some p q = absurd p
+  goes_as_far zero plan left [] (o ∷ ps) a b some p q = absurd q
+  goes_as_far (suc more) plan left [] ps None b some p q = absurd p
+  goes_as_far (suc more) plan left [] [] (Some s) None some p q = absurd q
+  goes_as_far (suc more) plan left [] [] (Some s) (Some t) some p q = stops_as_far plan left s t (λ is. some (ap (λ (x : SectionStop). Some x) is)) p q
+  goes_as_far (suc more) plan left [] (o ∷ ps) (Some section.NoMemory) b some p q = inr (refl, (o ∷ ps, refl))
+  goes_as_far (suc more) plan left [] (o ∷ ps) (Some (section.Flaw f)) b some p (n, after, rest, is, q) = absurd (holds_not_stopped clear one c n plan left rest o (section.Flaw f) (λ no. cc) after is p)
+  goes_as_far (suc more) plan left [] (o ∷ ps) (Some (section.Fault f)) b some p (n, after, rest, is, q) = absurd (holds_not_stopped clear one c n plan left rest o (section.Fault f) (λ no. cc) after is p)
+  goes_as_far (suc more) plan left (o ∷ os) [] a None some p q = absurd q
+  goes_as_far (suc more) plan left (o ∷ os) [] a (Some t) some (n, after, rest, is, p) q = absurd (holds_not_stopped clear one c n plan left rest o t (λ no. some (ap (λ (x : SectionStop). Some x) no)) after is q)
+  goes_as_far (suc more) plan left (o ∷ os) (o' ∷ ps) a b some (n, after, rest, is, p) (m, later, behind, also, q) =
+      let both = clear.one left.tokens rest.tokens behind.tokens is.section also.section is.tokens also.tokens in
+      let outcome : o ≡ o' = sym is.says ∙ ap (λ (s : Section). s.outcome) both.0 ∙ also.says in
+      let same : behind ≡ rest = same_left clear one c behind rest (sym both.1) (also.same_end ∙ sym is.same_end) in
+      one_more o o' os ps a b outcome (goes_as_far more (plan + 1) rest os ps a b some p (subst (λ (l : Left). AreChecked IsHolding c (plan + 1) more l ps b) same q))
+
+-- ---- the writes
+
+-- of a checking that ran out of memory they are the first few
+few_checked : (goal plan : ℕ) (os rest : List Outcome) (b : Option SectionStop) → (later : List writing.Write) × (checked_writes goal plan (os ++ rest) b ≡ checked_writes goal plan os (Some section.NoMemory) ++ later)
+few_checked goal plan [] rest b = (checked_writes goal plan rest b, refl)
+few_checked goal plan (o ∷ os) rest b =
+    let further = few_checked goal (plan + 1) os rest b in
+    (further.0, ap (λ (ws : List writing.Write). writing.to_output (holds_text plan o) ∷ ws) further.1)
+
+-- what is written of one checking, and of another that goes as far
+abbrev pub WritesAsFar : (goal plan : ℕ) → List Outcome → List Outcome → Option SectionStop → Option SectionStop → Type 0
+WritesAsFar goal plan os ps a b =
+    ((checked_writes goal plan os a ≡ checked_writes goal plan ps b) × (a ≡ b))
+    ⊎ ((a ≡ Some section.NoMemory) × ((later : List writing.Write) × (checked_writes goal plan ps b ≡ checked_writes goal plan os a ++ later)))
+
+writes_as_far : (goal plan : ℕ) (os ps : List Outcome) (a b : Option SectionStop) → GoesAsFar os ps a b → WritesAsFar goal plan os ps a b
+writes_as_far goal plan os ps a b (inl (outcomes, ends)) = inl (λ i. checked_writes goal plan (outcomes i) (ends i), ends)
+writes_as_far goal plan os ps a b (inr (out, (rest, parted))) =
+    let few = few_checked goal plan os rest b in
+    let own : checked_writes goal plan os (Some section.NoMemory) ≡ checked_writes goal plan os a = ap (λ (e : Option SectionStop). checked_writes goal plan os e) (sym out) in
+    inr (out, (few.0, ap (λ (l : List Outcome). checked_writes goal plan l b) parted ∙ few.1 ∙ ap (λ (ws : List writing.Write). ws ++ few.0) own))
+
+-- ---- the labels of a job
+
+module _ (clear : TextsAreClear) (sections : SectionsAreClear) (one : OneMap) (graphs : AlikeWorldsAreOneGraph) (held : Told) where
+  same_case : (v : World) (bs cs : List (List Write)) (s s' g g' : ℕ) (t t' : List ℕ) (os : List Outcome) (end : Option SectionStop) → cs ≡ bs → s ≡ s' → g ≡ g' → t ≡ t'
+      → AreChecked IsShownHolding (record { world = v; batches = cs; start = s; goal = g }) 0 (suc (length cs)) (start_at t 0) os end
+      → AreChecked IsShownHolding (record { world = v; batches = bs; start = s'; goal = g' }) 0 (suc (length bs)) (start_at t' 0) os end
+  same_case v bs cs s s' g g' t t' os end course from to text checked =
+      subst (λ (l : List (List Write)). AreChecked IsShownHolding (record { world = v; batches = l; start = s'; goal = g' }) 0 (suc (length l)) (start_at t' 0) os end) course
+      (subst (λ (x : ℕ). AreChecked IsShownHolding (record { world = v; batches = cs; start = x; goal = g' }) 0 (suc (length cs)) (start_at t' 0) os end) from
+      (subst (λ (x : ℕ). AreChecked IsShownHolding (record { world = v; batches = cs; start = s; goal = x }) 0 (suc (length cs)) (start_at t' 0) os end) to
+      (subst (λ (x : List ℕ). AreChecked IsShownHolding (record { world = v; batches = cs; start = s; goal = g }) 0 (suc (length cs)) (start_at x 0) os end) text checked)))
+
+  pub check_as_far : (j : CheckJob) (goal other : ℕ) (os ps : List Outcome) (a b : Option SectionStop) → IsSome (held j.sources.env) → IsSome (held j.sources.prims) → IfSome j.changes (λ name. IsSome (held name)) → IsSome (held j.labels)
+      → b ≢ Some section.NoMemory → IsChecked held j goal os a → IsChecked held j other ps b → (goal ≡ other) × WritesAsFar goal 0 os ps a b
+  check_as_far j goal other os ps a b told_env told_prims told_changes told_labels some x y =
+      let w = x.world in
+      let v = y.world in
+      let alike = one_world clear held j.sources w v told_env told_prims x.says y.says in
+      let course : SaysBatches held j.changes w.map y.batches = subst (λ (m : CellMap). SaysBatches held j.changes m y.batches) alike.map y.changes in
+      let batches : y.batches ≡ x.batches = sym (one_course clear held j.changes w.map x.batches y.batches told_changes x.changes course) in
       let text : y.text ≡ x.text = read_once (held j.labels) y.text x.text told_labels y.read x.read in
-      let goal_is : IsStateOf x.world.env x.world.env.end other = subst (λ (e : Environment). IsStateOf e e.end other) alike.env y.in_world.goal_is in
-      let d : Case = record { world = y.world; batches = y.batches; start = y.in_world.start; goal = other } in
-      let own : AreChecked IsShownHolding d 0 (suc (length x.batches)) (start_at y.text 0) ps None =
-      subst (λ (bs : List (List Write)). AreChecked IsShownHolding d 0 (suc (length bs)) (start_at y.text 0) ps None) batches y.in_world.checked
-      in
-      let there : AreChecked IsShownHolding d 0 (suc (length x.batches)) (start_at x.text 0) ps None = subst (λ (t : List ℕ). AreChecked IsShownHolding d 0 (suc (length x.batches)) (start_at t 0) ps None) text own in (
-        one_state x.world.env x.world.env.end goal other x.in_world.goal_is goal_is,
-        all_hold sections (record { world = x.world; batches = x.batches; start = x.in_world.start; goal = goal }) d (suc (length x.batches)) 0 (start_at x.text 0) os ps x.in_world.checked there,
-      )
-
-  -- where all sections hold, what was written is that of any outcomes that the labels have
-  pub check_determined : (before after : Told) (named : Option Job) → AtJob named (IsDone held before after) → (j : CheckJob) (goal : ℕ) (os : List Outcome) → named ≡ Some (job.Check j)
-      → AreHeld held j.sources j.changes → IsSome (held j.labels) → IsChecked held j goal os None → AreMade before after (checked_writes goal 0 os None)
-  check_determined before after named done j goal os is told told_labels checked =
-      let same : done.0 ≡ job.Check j = same_Some done.0 (job.Check j) (sym done.1 ∙ is) in
-      let judged : IsJudged held before after None j = subst (λ (k : Job). IsDone held before after k) same done.2 in
-      let one = one_check j judged.goal goal judged.outcomes os told told_labels judged.checked checked in
-      rw (← one.0, ← one.1) judged.lines
+      let from : y.in_world.start ≡ x.in_world.start = one_state w.env w.env.start y.in_world.start x.in_world.start (subst (λ (e : Environment). IsStateOf e e.start y.in_world.start) alike.env y.in_world.start_is) x.in_world.start_is in
+      let to : other ≡ goal = one_state w.env w.env.end other goal (subst (λ (e : Environment). IsStateOf e e.end other) alike.env y.in_world.goal_is) x.in_world.goal_is in
+      let there = same_case v x.batches y.batches y.in_world.start x.in_world.start other goal y.text x.text ps b batches from to text y.in_world.checked in
+      let c : Case = record { world = w; batches = x.batches; start = x.in_world.start; goal = goal } in
+      let q = checked_on v w x.batches x.in_world.start goal (same_graph graphs v w x.is_world alike.env alike.prims alike.map alike.radius x.batches) alike.env (suc (length x.batches)) 0 (start_at x.text 0) ps b there in
+      let p = checked_on w w x.batches x.in_world.start goal (λ k n after. after) refl (suc (length x.batches)) 0 (start_at x.text 0) os a x.in_world.checked in
+      (sym to, writes_as_far goal 0 os ps a b (goes_as_far sections one c (suc (length x.batches)) 0 (start_at x.text 0) os ps a b some p q))

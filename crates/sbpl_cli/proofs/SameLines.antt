@@ -1,5 +1,5 @@
 -- What is written of a demonstration and of a list of sweeps is one.
-use Rattle.std.proofs.Common.{◌≡◌, ℕ, zero, suc, ◌+◌, ◌⊎◌, true, Option, Some, None, List, [], ◌∷◌, length, map, slice_get, ℤ, ◌++◌, inl, inr, refl, sym, ap, subst, ◌∙◌, arith}
+use Rattle.std.proofs.Common.{◌≡◌, ℕ, zero, suc, ◌+◌, ◌⊎◌, Bool, true, IsSome, Option, Some, None, List, [], ◌∷◌, length, map, slice_get, ℤ, ◌++◌, inl, inr, refl, sym, ap, subst, ◌∙◌, arith}
 use Rattle.std.proofs.lemmas.Int.{ints}
 use Rattle.std.proofs.lemmas.Option.{none-some, same_Some}
 use Rattle.std.specs.List.{range_with_len}
@@ -16,51 +16,54 @@ use Rattle.sbpl_cost.specs.States.{state_count}
 use Rattle.sbpl_cost.specs.World.{World}
 use Rattle.sbpl_cfg.specs.Environment.{Environment}
 use Rattle.sbpl_job.specs.declared.job.DemoJob.{DemoJob}
-use Rattle.sbpl_job.specs.declared.job.Job.{Job}
-use Rattle.sbpl_job.specs.declared.job.Job.TheVariants as job
 use Rattle.sbpl_job.specs.declared.job.Sources.{Sources}
 use Rattle.sbpl_cli.specs.declared.record.PlanRecord.{PlanRecord}
-use Rattle.sbpl_cli.specs.Causes.{AreDemonstrated, SaysWorld, demo_search, no_outputs}
-use Rattle.sbpl_cli.specs.Determined.{AreAlikeWorlds, AreHeld, RecordsAreOne}
+use Rattle.sbpl_cli.specs.Causes.{AreDemonstrated, IsDrawn, SaysWorld, demo_search, no_outputs}
+use Rattle.sbpl_cli.specs.Determined.{AreAlikeWorlds, FewAreFirst, RecordsAreOne}
 use Rattle.sbpl_cli.specs.Headline.{ArePlans}
-use Rattle.sbpl_cli.specs.Intents.{demo_writes, last_write, lines_writes, listing_writes}
+use Rattle.sbpl_cli.specs.Intents.{last_write, listing_writes}
 use Rattle.sbpl_cli.specs.Listing.{listing_at, listing_by}
-use Rattle.sbpl_cli.specs.Promises.{AtJob, IsDemonstrated, IsDone, IsListed}
 use Rattle.sbpl_cli.specs.Report.{demo_text}
-use Rattle.sbpl_cli.specs.Writing.{AreMade, Told, Write, to_output}
-use Rattle.sbpl_cli.proofs.Laws.{TextsAreClear}
+use Rattle.sbpl_cli.specs.Writing.{Told, to_output}
+use Rattle.sbpl_cli.specs.Clear.{TextsAreClear}
 use Rattle.sbpl_cli.proofs.OneEnding.{state_count_is}
 use Rattle.sbpl_cli.proofs.SameGuide.{made}
 use Rattle.sbpl_cli.proofs.SamePlanned.{one_world}
 
 -- ---- a demonstration
 
-module _ (one : RecordsAreOne) (before after : Told) where
-  one_demonstration : (d : DemoJob) (w : World) (batches : List (List change.Write)) (records : List PlanRecord) → IsDemonstrated before after d → AreDemonstrated d w batches records true
-      → AreMade before after (demo_writes w (length batches) records true)
-  one_demonstration d w batches records x y =
-      let alike : AreAlikeWorlds x.world w = record {
-        env = y.drawn.env ∙ sym x.planned.drawn.env;
-        prims = y.drawn.prims ∙ sym x.planned.drawn.prims;
-        map = y.drawn.map ∙ sym x.planned.drawn.map;
-        radius = y.drawn.sweeps.radius_is ∙ sym x.planned.drawn.sweeps.radius_is;
-      } in
-      let course : x.batches ≡ batches = x.planned.changes ∙ sym y.changes in
-      let plans : ArePlans x.world batches demo_search no_outputs x.records true = subst (λ (bs : List (List change.Write)). ArePlans x.world bs demo_search no_outputs x.records true) course x.planned.plans in
-      let rs : x.records ≡ records = one x.world w batches demo_search no_outputs x.records records alike plans y.plans in
-      let states : (network_of x.world).states ≡ (network_of w).states = state_count_is x.world ∙ ap (λ (e : Environment). state_count e) (sym alike.env) ∙ sym (state_count_is w) in
-      let prims : x.world.prims ≡ w.prims = sym alike.prims in
-      let writes : demo_writes x.world (length x.batches) x.records true ≡ demo_writes w (length batches) records true =
-      λ i. to_output (demo_text (states i) (length (prims i).items) (length (course i))) ∷ lines_writes (rs i) true
-      in
-      subst (λ (ws : List Write). AreMade before after ws) writes x.lines
+same_drawn : (d : DemoJob) (w v : World) → IsDrawn d w → IsDrawn d v → AreAlikeWorlds w v
+same_drawn d w v x y = record {
+  env = y.env ∙ sym x.env;
+  prims = y.prims ∙ sym x.prims;
+  map = y.map ∙ sym x.map;
+  radius = y.sweeps.radius_is ∙ sym x.sweeps.radius_is;
+}
 
-  -- where a demonstration was done, what was written is that of any records of all of its plans
-  pub demonstration_determined : (held : Told) (named : Option Job) → AtJob named (IsDone held before after) → (d : DemoJob) (w : World) (batches : List (List change.Write)) (records : List PlanRecord)
-      → named ≡ Some (job.Demo d) → AreDemonstrated d w batches records true → AreMade before after (demo_writes w (length batches) records true)
-  demonstration_determined held named done d w batches records is demonstrated =
-      let same : done.0 ≡ job.Demo d = same_Some done.0 (job.Demo d) (sym done.1 ∙ is) in
-      one_demonstration d w batches records (subst (λ (k : Job). IsDone held before after k) same done.2) demonstrated
+-- the world and the batches are those that are drawn: records of its plans are the first few of any records of all of them
+pub few_demonstrated : FewAreFirst → (d : DemoJob) (w v : World) (bs cs : List (List change.Write)) (rs us : List PlanRecord) (all : Bool) → AreDemonstrated d w bs rs all → AreDemonstrated d v cs us true
+    → (rest : List PlanRecord) × (us ≡ rs ++ rest)
+few_demonstrated first d w v bs cs rs us all x y =
+    let course : bs ≡ cs = x.changes ∙ sym y.changes in
+    let plans : ArePlans w cs demo_search no_outputs rs all = subst (λ (l : List (List change.Write)). ArePlans w l demo_search no_outputs rs all) course x.plans in
+    first w v cs demo_search no_outputs rs us all (same_drawn d w v x.drawn y.drawn) plans y.plans
+
+pub one_demonstrated : RecordsAreOne → (d : DemoJob) (w v : World) (bs cs : List (List change.Write)) (rs us : List PlanRecord) → AreDemonstrated d w bs rs true → AreDemonstrated d v cs us true → rs ≡ us
+one_demonstrated one d w v bs cs rs us x y =
+    let course : bs ≡ cs = x.changes ∙ sym y.changes in
+    let plans : ArePlans w cs demo_search no_outputs rs true = subst (λ (l : List (List change.Write)). ArePlans w l demo_search no_outputs rs true) course x.plans in
+    one w v cs demo_search no_outputs rs us (same_drawn d w v x.drawn y.drawn) plans y.plans
+
+-- so is its first line
+pub one_first_line : (d : DemoJob) (w v : World) (count count' : ℕ) (bs cs : List (List change.Write)) (rs us : List PlanRecord) (all all' : Bool) → count ≡ length bs → count' ≡ length cs
+    → AreDemonstrated d w bs rs all → AreDemonstrated d v cs us all'
+    → demo_text (network_of w).states (length w.prims.items) count ≡ demo_text (network_of v).states (length v.prims.items) count'
+one_first_line d w v count count' bs cs rs us all all' is also x y =
+    let alike = same_drawn d w v x.drawn y.drawn in
+    let states : (network_of w).states ≡ (network_of v).states = state_count_is w ∙ ap (λ (e : Environment). state_count e) (sym alike.env) ∙ sym (state_count_is v) in
+    let prims : w.prims ≡ v.prims = sym alike.prims in
+    let counts : count ≡ count' = is ∙ ap (λ (l : List (List change.Write)). length l) (x.changes ∙ sym y.changes) ∙ sym also in
+    λ i. demo_text (states i) (length (prims i).items) (counts i)
 
 -- ---- lists of cells in order
 
@@ -148,18 +151,13 @@ module _ (e : Environment) (ps : Primitives) (m : CellMap) (radius : ℕ) (sweep
   one_list_of_sweeps : listing_writes (made e ps sweeps m) ≡ listing_writes (made e ps others m)
   one_list_of_sweeps = λ k. map to_output (map (λ i. one_listing i (slice_get ps.items i) refl k) (range_with_len 0 (length ps.items))) ++ last_write ∷ []
 
--- where sweeps were listed, what was written is that of any world that the files stand for
-pub listing_determined : TextsAreClear → (held before after : Told) (named : Option Job) → AtJob named (IsDone held before after) → (from : Sources) (w : World)
-    → named ≡ Some (job.Sweep from) → AreHeld held from None → SaysWorld held from w → AreMade before after (listing_writes w)
-listing_determined clear held before after named done from w is told says =
-    let same : done.0 ≡ job.Sweep from = same_Some done.0 (job.Sweep from) (sym done.1 ∙ is) in
-    let listed : IsListed held before after from = subst (λ (k : Job). IsDone held before after k) same done.2 in
-    let v : World = listed.world in
-    let alike = one_world clear held from w v told.env told.prims says listed.says in
+-- what is listed of any worlds that the files stand for is one
+pub one_listed : TextsAreClear → (held : Told) (from : Sources) (w v : World) → IsSome (held from.env) → IsSome (held from.prims) → SaysWorld held from w → SaysWorld held from v → listing_writes v ≡ listing_writes w
+one_listed clear held from w v told_env told_prims says also =
+    let alike = one_world clear held from w v told_env told_prims says also in
     let env = alike.env in
     let prims = alike.prims in
     let maps = alike.map in
     let made_of : v ≡ made w.env w.prims v.sweeps w.map = λ i. record { env = env i; prims = prims i; sweeps = v.sweeps; map = maps i } in
-    let sweeps : AreSweepsOf w.prims from.radius v.sweeps = subst (λ (ps : Primitives). AreSweepsOf ps from.radius v.sweeps) prims listed.says.sweeps in
-    let writes : listing_writes v ≡ listing_writes w = ap listing_writes made_of ∙ one_list_of_sweeps w.env w.prims w.map from.radius v.sweeps w.sweeps sweeps says.sweeps in
-    subst (λ (ws : List Write). AreMade before after ws) writes listed.lines
+    let sweeps : AreSweepsOf w.prims from.radius v.sweeps = subst (λ (ps : Primitives). AreSweepsOf ps from.radius v.sweeps) prims also.sweeps in
+    ap listing_writes made_of ∙ one_list_of_sweeps w.env w.prims w.map from.radius v.sweeps w.sweeps sweeps says.sweeps

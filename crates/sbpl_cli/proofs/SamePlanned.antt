@@ -1,24 +1,19 @@
--- What is written of the plans of a job is one.
-use Rattle.std.proofs.Common.{◌≡◌, ℕ, true, Option, Some, None, List, IsSome, IfSome, sym, subst, ◌∙◌}
+-- The files of a job stand for one world and one list of batches, and its plans have one list of records.
+use Rattle.std.proofs.Common.{◌≡◌, ℕ, Bool, true, Option, Some, None, List, ◌++◌, IsSome, IfSome, sym, subst, ◌∙◌}
 use Rattle.std.proofs.lemmas.Bool.{false≢true}
-use Rattle.std.proofs.lemmas.Option.{same_Some}
 use Rattle.sbpl_cfg.specs.Environment.{Environment}
 use Rattle.sbpl_map.specs.CellMap.{CellMap}
 use Rattle.sbpl_map.specs.declared.write.Write.{Write}
 use Rattle.sbpl_cost.specs.World.{World}
-use Rattle.sbpl_job.specs.declared.job.Job.{Job}
-use Rattle.sbpl_job.specs.declared.job.Job.TheVariants as job
 use Rattle.sbpl_job.specs.declared.job.PlanJob.{PlanJob}
 use Rattle.sbpl_job.specs.declared.job.Sources.{Sources}
 use Rattle.sbpl_cli.specs.declared.record.PlanRecord.{PlanRecord}
 use Rattle.sbpl_cli.specs.Causes.{ArePlanned, IsRead, SaysBatches, SaysWorld}
-use Rattle.sbpl_cli.specs.Determined.{AreAlikeWorlds, AreHeld, RecordsAreOne}
+use Rattle.sbpl_cli.specs.Determined.{AreAlikeWorlds, FewAreFirst, RecordsAreOne}
 use Rattle.sbpl_cli.specs.Headline.{ArePlans}
-use Rattle.sbpl_cli.specs.Intents.{plans_writes}
-use Rattle.sbpl_cli.specs.Promises.{AtJob, IsDone}
 use Rattle.sbpl_cli.specs.Texts.{IsChangeText, IsEnvironmentText, IsPrimitiveText}
-use Rattle.sbpl_cli.specs.Writing.{AreMade, Told}
-use Rattle.sbpl_cli.proofs.Laws.{TextsAreClear}
+use Rattle.sbpl_cli.specs.Writing.{Told}
+use Rattle.sbpl_cli.specs.Clear.{TextsAreClear}
 
 -- what is read of a file that the desk tells is one
 pub read_once : (held : Option (List ℕ)) (t u : List ℕ) → IsSome held → IsRead held t → IsRead held u → t ≡ u
@@ -56,18 +51,21 @@ module _ (clear : TextsAreClear) (held : Told) where
       let own : IsChangeText m x.0 others = subst (λ (t : List ℕ). IsChangeText m t others) text y.2 in
       clear.changes m x.0 batches others x.2 own
 
-  one_planned : RecordsAreOne → (j : PlanJob) (rs us : List PlanRecord) → AreHeld held j.sources j.changes → ArePlanned held j rs true → ArePlanned held j us true → rs ≡ us
-  one_planned one j rs us told x y =
-      let alike = one_world j.sources x.world y.world told.env told.prims x.says y.says in
+  -- records of plans of a job are the first few of any records of all of its plans
+  pub few_planned : FewAreFirst → (j : PlanJob) (rs us : List PlanRecord) (all : Bool) → IsSome (held j.sources.env) → IsSome (held j.sources.prims) → IfSome j.changes (λ name. IsSome (held name))
+      → ArePlanned held j rs all → ArePlanned held j us true → (rest : List PlanRecord) × (us ≡ rs ++ rest)
+  few_planned first j rs us all told_env told_prims told_changes x y =
+      let alike = one_world j.sources x.world y.world told_env told_prims x.says y.says in
       let course : SaysBatches held j.changes x.world.map y.batches = subst (λ (m : CellMap). SaysBatches held j.changes m y.batches) alike.map y.changes in
-      let batches : x.batches ≡ y.batches = one_course j.changes x.world.map x.batches y.batches told.changes_told x.changes course in
+      let batches : x.batches ≡ y.batches = one_course j.changes x.world.map x.batches y.batches told_changes x.changes course in
+      let plans : ArePlans y.world x.batches j.search j.outputs us true = subst (λ (bs : List (List Write)). ArePlans y.world bs j.search j.outputs us true) (sym batches) y.plans in
+      first x.world y.world x.batches j.search j.outputs rs us all alike x.plans plans
+
+  pub one_planned : RecordsAreOne → (j : PlanJob) (rs us : List PlanRecord) → IsSome (held j.sources.env) → IsSome (held j.sources.prims) → IfSome j.changes (λ name. IsSome (held name))
+      → ArePlanned held j rs true → ArePlanned held j us true → rs ≡ us
+  one_planned one j rs us told_env told_prims told_changes x y =
+      let alike = one_world j.sources x.world y.world told_env told_prims x.says y.says in
+      let course : SaysBatches held j.changes x.world.map y.batches = subst (λ (m : CellMap). SaysBatches held j.changes m y.batches) alike.map y.changes in
+      let batches : x.batches ≡ y.batches = one_course j.changes x.world.map x.batches y.batches told_changes x.changes course in
       let plans : ArePlans y.world x.batches j.search j.outputs us true = subst (λ (bs : List (List Write)). ArePlans y.world bs j.search j.outputs us true) (sym batches) y.plans in
       one x.world y.world x.batches j.search j.outputs rs us alike x.plans plans
-
-  -- so where the plans of a job were made, what was written is that of any records of all of its plans
-  pub run_determined : RecordsAreOne → (before after : Told) (named : Option Job) → AtJob named (IsDone held before after) → (j : PlanJob) (records : List PlanRecord)
-      → named ≡ Some (job.Plan j) → AreHeld held j.sources j.changes → ArePlanned held j records true → AreMade before after (plans_writes j.outputs records true)
-  run_determined one before after named done j records is told planned =
-      let same : done.0 ≡ job.Plan j = same_Some done.0 (job.Plan j) (sym done.1 ∙ is) in
-      let reported : IsDone held before after (job.Plan j) = subst (λ (k : Job). IsDone held before after k) same done.2 in
-      subst (λ (rs : List PlanRecord). AreMade before after (plans_writes j.outputs rs true)) (one_planned one j reported.records records told reported.planned planned) reported.report

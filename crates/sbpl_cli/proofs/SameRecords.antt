@@ -1,7 +1,7 @@
 -- The record of a plan is one, and so are the records of plans in turn.
-use Rattle.std.proofs.Common.{◌≡◌, ℕ, ◌+◌, ◌^◌, ◌<◌, ◌≤◌, ◌⊎◌, Bool, true, false, Option, Some, None, List, [], ◌∷◌, length, inl, inr, refl, sym, ap, subst, ◌∙◌, arith}
+use Rattle.std.proofs.Common.{◌≡◌, ℕ, ◌+◌, ◌^◌, ◌<◌, ◌≤◌, ◌⊎◌, Bool, true, false, Option, Some, None, List, [], ◌∷◌, ◌++◌, append-nil, length, inl, inr, refl, sym, ap, subst, ◌∙◌, arith}
 use Rattle.std.proofs.lemmas.Bool.{MatchBool-at_true}
-use Rattle.std.proofs.lemmas.List.{ext_get_or}
+use Rattle.std.proofs.lemmas.List.{ext_get_or, length-append, nil_from_length}
 use Rattle.std.proofs.lemmas.Option.{same_Some}
 use Rattle.std.specs.Option.{is_some}
 use Rattle.sbpl_graph.specs.Bound.{IsLow}
@@ -38,7 +38,7 @@ use Rattle.sbpl_cli.specs.declared.record.Outcome.TheVariants as outcome
 use Rattle.sbpl_cli.specs.declared.record.PlanRecord.{PlanRecord}
 use Rattle.sbpl_cli.specs.Asked.{ask_of}
 use Rattle.sbpl_cli.specs.Headline.{ArePlans, AreRecords, AreSteps, Behind, IsMarked, IsPlanOf, IsSearched, Joins, TellsResult, expanded_before}
-use Rattle.sbpl_cli.specs.Determined.{RecordsAreOne}
+use Rattle.sbpl_cli.specs.Determined.{FewAreFirst, RecordsAreOne}
 use Rattle.sbpl_cli.specs.Shown.{IsShown, IsThere}
 use Rattle.sbpl_cli.proofs.OneEnding.{OneMap, one_state}
 use Rattle.sbpl_cli.proofs.SameBegun.{AreCarried, one_begun}
@@ -202,13 +202,13 @@ module _ (one_plan : PassesAreOne) (one_result : OutcomesAreOne) (e : Environmen
   -- ---- plans in turn
 
   module _ (one_map : OneMap) (one_graph : AlikeWorldsAreOneGraph) (first : CellMap) (batches : List (List Write)) (how : SearchJob) (outputs : Outputs) (start goal : ℕ) where
-    pub one_records : (rs us : List PlanRecord) (k : ℕ) (before : Option Behind) → AreCarried e ps sweeps others radius before → length rs ≡ length us
+    -- records of plans from one on are the first of any others from it on that are no fewer
+    pub one_records : (rs us : List PlanRecord) (k : ℕ) (before : Option Behind) → AreCarried e ps sweeps others radius before → length rs ≤ length us
         → AreRecords (made e ps sweeps first) batches how outputs start goal k before rs → AreRecords (made e ps others first) batches how outputs start goal k before us
-        → rs ≡ us
-    one_records [] [] k before carried as_many left right = refl
-    one_records [] (u ∷ us) k before carried as_many left right = absurd (omega arith)
-    one_records (r ∷ rs) [] k before carried as_many left right = absurd (omega arith)
-    one_records (r ∷ rs) (u ∷ us) k before carried as_many left right =
+        → (rest : List PlanRecord) × (us ≡ rs ++ rest)
+    one_records [] us k before carried no_fewer left right = (us, refl)
+    one_records (r ∷ rs) [] k before carried no_fewer left right = absurd (omega arith)
+    one_records (r ∷ rs) (u ∷ us) k before carried no_fewer left right =
         let behind : Behind = left.0 in
         let other : Behind = right.0 in
         let maps : behind.map ≡ other.map = one_map first behind.map other.map batches k left.2.is_world.map right.2.is_world.map left.1 right.1 in
@@ -220,25 +220,42 @@ module _ (one_plan : PassesAreOne) (one_result : OutcomesAreOne) (e : Environmen
         let both : behind ≡ other = λ i. record { map = maps i; labels = one.labels i; expanded = one.expanded i } in
         let later : AreCarried e ps sweeps others radius (Some behind) = record { states = one.states; no_arc = one.no_arc; graph = same } in
         let further : AreRecords (made e ps others first) batches how outputs start goal (k + 1) (Some behind) us = rw both right.3 in
-        let rest = one_records rs us (k + 1) (Some behind) later (omega arith) left.3 further in
-        λ i. one.record_is i ∷ rest i
+        let behind_them = one_records rs us (k + 1) (Some behind) later (omega arith) left.3 further in
+        let same_record : u ≡ r = sym one.record_is in
+        let same_rest : us ≡ rs ++ behind_them.0 = behind_them.1 in
+        (behind_them.0, λ i. same_record i ∷ same_rest i)
 
 -- ---- all plans
 
-one_list : PassesAreOne → OutcomesAreOne → OneMap → AlikeWorldsAreOneGraph → (e : Environment) (ps : Primitives) (sweeps others : Swept) (m : CellMap) → sweeps.radius ≡ others.radius
-    → (batches : List (List Write)) (how : SearchJob) (outputs : Outputs) (rs us : List PlanRecord) → ArePlans (made e ps sweeps m) batches how outputs rs true → ArePlans (made e ps others m) batches how outputs us true → rs ≡ us
-one_list one_plan one_result one_map one_graph e ps sweeps others m radius batches how outputs rs us left right =
+-- lists of one length, of which the one is the front of the other
+whole_front : (rs us rest : List PlanRecord) → us ≡ rs ++ rest → length us ≡ length rs → rs ≡ us
+whole_front rs us rest parted as_many =
+    let both : length us ≡ length rs + length rest = ap (λ (l : List PlanRecord). length l) parted ∙ length-append rs rest in
+    let none : rest ≡ [] = nil_from_length rest (omega arith) in
+    sym (parted ∙ ap (λ (l : List PlanRecord). rs ++ l) none ∙ append-nil rs)
+
+first_list : PassesAreOne → OutcomesAreOne → OneMap → AlikeWorldsAreOneGraph → (e : Environment) (ps : Primitives) (sweeps others : Swept) (m : CellMap) → sweeps.radius ≡ others.radius
+    → (batches : List (List Write)) (how : SearchJob) (outputs : Outputs) (rs us : List PlanRecord) (all : Bool) → ArePlans (made e ps sweeps m) batches how outputs rs all → ArePlans (made e ps others m) batches how outputs us true
+    → (rest : List PlanRecord) × (us ≡ rs ++ rest)
+first_list one_plan one_result one_map one_graph e ps sweeps others m radius batches how outputs rs us all left right =
     let starts : left.start ≡ right.start = one_state e e.start left.start right.start left.start_is right.start_is in
     let goals : left.goal ≡ right.goal = one_state e e.end left.goal right.goal left.goal_is right.goal_is in
     let each : AreRecords (made e ps others m) batches how outputs left.start left.goal 0 None us = rw (starts, goals) right.each in
     let none : AreCarried e ps sweeps others radius None = tt in
-    one_records one_plan one_result e ps sweeps others radius one_map one_graph m batches how outputs left.start left.goal rs us 0 None none (left.all_made refl ∙ sym (right.all_made refl)) left.each each
+    let few = left.few in
+    let many = right.all_made refl in
+    one_records one_plan one_result e ps sweeps others radius one_map one_graph m batches how outputs left.start left.goal rs us 0 None none (omega arith) left.each each
 
-pub records_are_one : PassesAreOne → OutcomesAreOne → OneMap → AlikeWorldsAreOneGraph → RecordsAreOne
-records_are_one one_plan one_result one_map one_graph w v batches how outputs rs us alike left right =
+pub few_are_first : PassesAreOne → OutcomesAreOne → OneMap → AlikeWorldsAreOneGraph → FewAreFirst
+few_are_first one_plan one_result one_map one_graph w v batches how outputs rs us all alike left right =
     let env = alike.env in
     let prims = alike.prims in
     let map = alike.map in
     let is : v ≡ made w.env w.prims v.sweeps w.map = λ i. record { env = env i; prims = prims i; sweeps = v.sweeps; map = map i } in
     let own : ArePlans (made w.env w.prims v.sweeps w.map) batches how outputs us true = subst (λ (x : World). ArePlans x batches how outputs us true) is right in
-    one_list one_plan one_result one_map one_graph w.env w.prims w.sweeps v.sweeps w.map (sym alike.radius) batches how outputs rs us left own
+    first_list one_plan one_result one_map one_graph w.env w.prims w.sweeps v.sweeps w.map (sym alike.radius) batches how outputs rs us all left own
+
+pub records_are_one : FewAreFirst → RecordsAreOne
+records_are_one first w v batches how outputs rs us alike left right =
+    let parted = first w v batches how outputs rs us true alike left right in
+    whole_front rs us parted.0 parted.1 (right.all_made refl ∙ sym (left.all_made refl))

@@ -180,4 +180,5 @@ pub record ArePlans (w : World) (batches : List (List Write)) (how : SearchJob) 
   pub start_is : IsStateOf w.env w.env.start start
   pub goal_is : IsStateOf w.env w.env.end goal
   pub each : AreRecords w batches how outputs start goal 0 None records
+  pub few : length records ≤ length batches + 1
   pub all_made : all ≡ true → length records ≡ length batches + 1

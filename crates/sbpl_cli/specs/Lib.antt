@@ -7,9 +7,10 @@ pub mod Checked
 pub mod Listing
 pub mod Intents
 pub mod Texts
+pub mod Clear
 pub mod Shown
 pub mod Headline
 pub mod Planning
 pub mod Causes
-pub mod Determined
 pub mod Promises
+pub mod Determined

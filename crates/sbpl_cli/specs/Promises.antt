@@ -171,6 +171,7 @@ pub record EndsPlans (written_of : PlanRecord → List Write) (w : World) (batch
   pub records : List PlanRecord
   pub all : Bool
   pub each : AreRecords w batches how outputs start goal k left records
+  pub few : k + length records ≤ length batches + 1
   pub all_made : all ≡ true → k + length records ≡ length batches + 1
   pub ends : EndsAs before after faults faults' (flat_map written_of records ++ end_writes all) (plans_status all) status
 

@@ -1,16 +1,35 @@
-//! What the definitions leave open of the records of plans, which is nothing.
+//! What the definitions leave open of the readings of files and of the records of plans, which is nothing.
 
-ghost use Rattle.sbpl_cli.specs.Determined.{RecordsAreOne};
+ghost use Rattle.sbpl_cli.specs.Clear.{SectionsAreClear, TextsAreClear};
+ghost use Rattle.sbpl_cli.specs.Determined.{FewAreFirst, RecordsAreOne};
 
+use sbpl_cert::{first_flaws_are_one, texts_are_sections_or_faulty};
+use sbpl_cfg::texts_are_environments_or_faulty;
 use sbpl_cost::alike_worlds_are_one_graph;
-use sbpl_map::writes_lead_to_the_next_map;
+use sbpl_map::{texts_are_changes_or_faulty, writes_lead_to_the_next_map};
+use sbpl_mprim::texts_are_primitives_or_faulty;
 use sbpl_plan::plan_is_determined;
+
+/// No text of a file has two readings: it stands for one value or has one first fault, and never both; and
+/// a section of labels has one first flaw. It does nothing.
+pub fn texts_are_clear()
+    ensures files { TextsAreClear }
+    ensures sections { SectionsAreClear }
+{
+    texts_are_environments_or_faulty();
+    texts_are_primitives_or_faulty();
+    texts_are_changes_or_faulty();
+    texts_are_sections_or_faulty();
+    first_flaws_are_one();
+}
 
 /// The records of all plans are determined by the environment, the primitives, the map, the radius and the
 /// batches of changes, and by what is asked: each pass with its expansions, each result with its path, cost
-/// and bound, what was spent, and the final labels. It does nothing.
+/// and bound, what was spent, and the final labels. Records of the first few plans are the first of them. It
+/// does nothing.
 pub fn records_are_determined()
     ensures law { RecordsAreOne }
+    ensures few { FewAreFirst }
 {
     plan_is_determined();
     writes_lead_to_the_next_map();

@@ -28,7 +28,7 @@ mod trace;
 mod writing;
 
 pub use checking::SectionStop;
-pub use facts::records_are_determined;
+pub use facts::{records_are_determined, texts_are_clear};
 pub use parts::Steps;
 pub use record::{Outcome, PathRecord, PlanRecord, Step};
 pub use refusal::{Input, Refusal};

@@ -1,6 +1,6 @@
 //! The one public call: does the job that words name, at a desk.
 
-ghost use Rattle.std.specs.Prelude.{◌≡◌, ◌≢◌, ◌⊎◌, ◌∷◌, ◌++◌, ℕ, List, [], None, Option, Some, IfErr, IfOk, IsSome, OnErr, length, map, string_bytes, true};
+ghost use Rattle.std.specs.Prelude.{◌≡◌, ◌≢◌, ◌⊎◌, ◌∷◌, ◌++◌, ℕ, List, [], None, Option, Some, IfErr, IfOk, OnErr, map, string_bytes, true};
 ghost use Rattle.sbpl_cfg.specs.Environment.{Environment};
 ghost use Rattle.sbpl_cfg.specs.declared.fault.EnvFault.{EnvFault};
 ghost use Rattle.sbpl_cost.specs.PrimitiveCost.{IsFirstTooDear};
@@ -20,32 +20,27 @@ ghost use Rattle.sbpl_job.specs.declared.job.DemoJob.{DemoJob};
 ghost use Rattle.sbpl_job.specs.declared.job.Sources.{Sources};
 ghost use Rattle.sbpl_job.specs.declared.job.Job.{Job};
 ghost use Rattle.sbpl_job.specs.declared.job.Job.TheVariants as Jobs;
-ghost use Rattle.sbpl_job.specs.declared.job.PlanJob.{PlanJob};
-ghost use Rattle.sbpl_cli.specs.declared.record.PlanRecord.{PlanRecord};
-ghost use Rattle.sbpl_cli.specs.Causes.{AreDemonstrated, ArePlanned, JobStopsFor, SaysWorld};
-ghost use Rattle.sbpl_cli.specs.Determined.{AreHeld};
+ghost use Rattle.sbpl_cli.specs.Causes.{JobStopsFor};
+ghost use Rattle.sbpl_cli.specs.Determined.{AreFronts, AreTold, CallsFor, IsNoFailure, NoneRose};
 ghost use Rattle.sbpl_cli.specs.Checked.{IsHolding};
-ghost use Rattle.sbpl_cli.specs.Intents.{checked_status, checked_writes, demo_writes, listing_writes, plans_writes, refusal_status, refusal_writes, words_writes};
+ghost use Rattle.sbpl_cli.specs.Intents.{Intent, checked_status, intent_status, refusal_status, refusal_writes, words_writes, writes_of};
 ghost use Rattle.sbpl_job.specs.Jobs.{IsJob, job_of};
-ghost use Rattle.sbpl_cli.specs.Promises.{AreGood, AtJob, EndsJob, EndsRun, IsChecked, IsCutShort, IsCheckedIn, IsDone, IsFaultFound, IsFlawFound, IsNoCheck, IsOrFailed, IsOrUnwritten, IsRefused, IsStatus, IsStopped, MayBeWritten, SomeRose, Tells, TellsBatches, TellsChangeFault, TellsEnvironment, TellsEnvironmentFault, TellsPrimitiveFault, TellsPrimitives, TellsTooMuch, TellsWorld, changes_of, sources_of};
+ghost use Rattle.sbpl_cli.specs.Promises.{AreGood, AtJob, EndsJob, EndsRun, IsCutShort, IsCheckedIn, IsDone, IsFaultFound, IsFlawFound, IsNoCheck, IsOrFailed, IsOrUnwritten, IsRefused, IsStatus, IsStopped, MayBeWritten, SomeRose, Tells, TellsBatches, TellsChangeFault, TellsEnvironment, TellsEnvironmentFault, TellsPrimitiveFault, TellsPrimitives, TellsTooMuch, TellsWorld, changes_of, sources_of};
 ghost use Rattle.sbpl_cli.specs.Writing.{AreMade, EndsAs, IsCutAt, IsOutput, IsStoppedAt, StaysBut, output};
 
 use crate::check::check_labels;
 use crate::demo::end_demo;
-use crate::facts::records_are_determined;
+use crate::facts::{records_are_determined, texts_are_clear};
 use crate::list::end_sweep;
 use crate::planning::end_plan;
 use crate::refusal::{Refusal, Stop};
 use crate::refusing::line_of;
 use crate::writing::{OUTPUT, status_after, write_text};
-use sbpl_cert::texts_are_sections_or_faulty;
-use sbpl_cfg::texts_are_environments_or_faulty;
 use sbpl_cost::alike_worlds_are_one_graph;
 use sbpl_desk::Desk;
 use sbpl_fixed::NoMemory;
 use sbpl_job::{Job, JobFault, read_job};
-use sbpl_map::{texts_are_changes_or_faulty, writes_lead_to_the_next_map};
-use sbpl_mprim::texts_are_primitives_or_faulty;
+use sbpl_map::writes_lead_to_the_next_map;
 use std::alloc::Global;
 
 /// Writes the line of a refusal, and answers the status.
@@ -167,23 +162,18 @@ pub fn run<D: Desk>(alloc: Global, words: &[String], desk: &mut D) -> u8
     // The job `check` ends as the labels do in the world that the files stand for, unless the desk fails or memory runs out.
     ensures checked { (j : CheckJob) (w : World) (batches : List (List Write)) (text : List ℕ) (goal : ℕ) (os : List Outcome) (end : Option SectionStop) → job_of (map string_bytes words.now) ≡ Some (Jobs.Check j) → TellsWorld (D.held desk.old) j.sources w → TellsBatches (D.held desk.old) j.changes w.map batches → Tells (D.held desk.old j.labels) text → IsCheckedIn IsHolding w batches text goal os end → end ≢ Some Stops.NoMemory → IsOrFailed (checked_status end) result }
     ensures labels_long { (j : CheckJob) (w : World) (batches : List (List Write)) → job_of (map string_bytes words.now) ≡ Some (Jobs.Check j) → TellsWorld (D.held desk.old) j.sources w → TellsBatches (D.held desk.old) j.changes w.map batches → TellsTooMuch (D.held desk.old j.labels) → IsOrFailed 8 result }
-    // What is written of plans is determined by the words and the files: any records of all plans of the job's files are those
-    // whose report was written, with their labels and traces where they are asked for.
-    ensures determined { (j : PlanJob) (records : List PlanRecord) → result ≡ 0 → job_of (map string_bytes words.now) ≡ Some (Jobs.Plan j) → AreHeld (D.held desk.old) j.sources j.changes → ArePlanned (D.held desk.old) j records true → AreMade (D.written desk.old) (D.written desk.new) (plans_writes j.outputs records true) }
-    // So is what is written of labels that hold, of a list of sweeps, and of a demonstration.
-    ensures check_determined { (j : CheckJob) (goal : ℕ) (os : List Outcome) → result ≡ 0 → job_of (map string_bytes words.now) ≡ Some (Jobs.Check j) → AreHeld (D.held desk.old) j.sources j.changes → IsSome (D.held desk.old j.labels) → IsChecked (D.held desk.old) j goal os None → AreMade (D.written desk.old) (D.written desk.new) (checked_writes goal 0 os None) }
-    ensures listing_determined { (from : Sources) (w : World) → result ≡ 0 → job_of (map string_bytes words.now) ≡ Some (Jobs.Sweep from) → AreHeld (D.held desk.old) from None → SaysWorld (D.held desk.old) from w → AreMade (D.written desk.old) (D.written desk.new) (listing_writes w) }
-    ensures demonstration_determined { (d : DemoJob) (w : World) (batches : List (List Write)) (records : List PlanRecord) → result ≡ 0 → job_of (map string_bytes words.now) ≡ Some (Jobs.Demo d) → AreDemonstrated d w batches records true → AreMade (D.written desk.old) (D.written desk.new) (demo_writes w (length batches) records true) }
+    // What is written is determined by the words and the files: whatever these call for is written whole, with its status, unless a
+    // read or a write failed or memory ran out.
+    ensures determined { (job : Job) (whole : Intent) → job_of (map string_bytes words.now) ≡ Some job → AreTold (D.held desk.old) job → CallsFor (D.held desk.old) job whole → IsNoFailure result → (result ≡ intent_status whole) × AreMade (D.written desk.old) (D.written desk.new) (writes_of job whole) }
+    // And where no read failed, what was written under each name is a front of that.
+    ensures front { (job : Job) (whole : Intent) → job_of (map string_bytes words.now) ≡ Some job → AreTold (D.held desk.old) job → NoneRose job (D.read_faults desk.old) (D.read_faults desk.new) → CallsFor (D.held desk.old) job whole → AreFronts (D.written desk.old) (D.written desk.new) (writes_of job whole) }
     // Nothing that is held changes, nothing is written under other names than the job's, and no count falls.
     ensures held { Stays (D.held desk.old) (D.held desk.new) }
     ensures others { StaysBut (MayBeWritten (job_of (map string_bytes words.now))) (D.written desk.old) (D.written desk.new) }
     ensures reads { NoneFalls (D.read_faults desk.old) (D.read_faults desk.new) }
     ensures writes { NoneFalls (D.write_faults desk.old) (D.write_faults desk.new) }
 {
-    texts_are_environments_or_faulty();
-    texts_are_primitives_or_faulty();
-    texts_are_changes_or_faulty();
-    texts_are_sections_or_faulty();
+    texts_are_clear();
     writes_lead_to_the_next_map();
     alike_worlds_are_one_graph();
     records_are_determined();

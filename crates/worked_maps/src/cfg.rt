@@ -1,6 +1,6 @@
 //! Environment files, read and printed.
 
-use crate::samples::{E1, E2, E3};
+use sample_files::{E1, E2, E3};
 use sbpl_cfg::{EnvFault, Place, Pose, cell_at, heading_at, place_at, print_env, read_env};
 use std::alloc::{AllocError, Global};
 use std::test::Fail;

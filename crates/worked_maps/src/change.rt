@@ -1,7 +1,7 @@
 //! A batch on a small lattice, by hand.
 
 use crate::lattices::judged;
-use crate::samples::{E2, F2};
+use sample_files::{E2, F2};
 use sbpl_change::{apply, are_on_map};
 use sbpl_cost::Lattice;
 use sbpl_map::Write;

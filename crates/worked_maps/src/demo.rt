@@ -1,6 +1,6 @@
 //! Files drawn from a seed.
 
-use crate::samples::p16;
+use sample_files::p16;
 use sbpl_cfg::read_env;
 use sbpl_demo::generate;
 use sbpl_map::{Map, read_changes};

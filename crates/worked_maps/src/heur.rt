@@ -5,7 +5,7 @@ ghost use Rattle.sbpl_cost.specs.Lattices.{network_of};
 ghost use Rattle.sbpl_heur.specs.Bests.{Fits, IsGuide};
 
 use crate::lattices::made;
-use crate::samples::{E2, F2};
+use sample_files::{E2, F2};
 use sbpl_cfg::Place;
 use sbpl_cost::Lattice;
 use sbpl_graph::Guide;

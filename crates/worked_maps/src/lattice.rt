@@ -1,7 +1,7 @@
 //! Lattices of small files, by hand.
 
 use crate::lattices::{judged, made};
-use crate::samples::{E1, E2, E3, F1, F2};
+use sample_files::{E1, E2, E3, F1, F2};
 use sbpl_cfg::Place;
 use sbpl_cost::{Lattice, LatticeFault};
 use sbpl_graph::Graph;

@@ -1,13 +1,11 @@
-//! Worked examples of the crates that read files, plan on maps and make the program, as tests and nothing else. They stand
-//! here, in one crate, since a crate with tests is proved twice.
+//! Worked examples of the crates that read files and plan on maps, as tests and nothing else. They stand here, in one crate,
+//! since a crate with tests is proved twice.
 #![tactic(auto)]
 
 #[cfg(test)]
 mod cfg;
 #[cfg(test)]
 mod change;
-#[cfg(test)]
-mod cli;
 #[cfg(test)]
 mod cost;
 #[cfg(test)]
@@ -30,7 +28,5 @@ mod map;
 mod mprim;
 #[cfg(test)]
 mod replan;
-#[cfg(test)]
-mod samples;
 #[cfg(test)]
 mod sweep;

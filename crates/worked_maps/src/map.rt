@@ -1,6 +1,6 @@
 //! Maps, and the texts of changes to them.
 
-use crate::samples::E1;
+use sample_files::E1;
 use sbpl_cfg::read_env;
 use sbpl_map::{Map, OffMap, Write, read_changes};
 use std::alloc::Global;

@@ -1,6 +1,6 @@
 //! Motion primitive files, read and printed.
 
-use crate::samples::{F1, F2, p16};
+use sample_files::{F1, F2, p16};
 use sbpl_cfg::Pose;
 use sbpl_mprim::{Poses, PrimFault, print_prims, read_prims};
 use std::alloc::{AllocError, Global};

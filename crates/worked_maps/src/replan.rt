@@ -4,7 +4,7 @@ ghost use Rattle.std.specs.Prelude.{◌<◌, IfSome, OnOk};
 ghost use Rattle.sbpl_replan.specs.Replanning.{IsReadyIn};
 
 use crate::lattices::made;
-use crate::samples::{E2, F2, car, field};
+use sample_files::{E2, F2, car, field};
 use sbpl_cfg::{Place, place_at};
 use sbpl_change::are_on_map;
 use sbpl_cost::Lattice;

@@ -23,6 +23,7 @@ returns-in-Err-clause-ends g c =
           start_is = c.ends_of-start.ensures.start;
           goal_is = c.ends_of-start.ensures.goal;
           each = tt;
+          few = omega arith;
           all_made = λ is. absurd (cc);
         };
       },
@@ -45,6 +46,7 @@ returns-clause-ends g c =
           start_is = c.ends_of-start.ensures.start;
           goal_is = c.ends_of-start.ensures.goal;
           each = subst (λ (how : SearchJob). AreRecords c.in-Ok.lattice c.in-Ok.changes how no_outputs c.ends_of-start.result.0 c.ends_of-start.result.1 0 None e.records) c.demo_search.ensures.search e.each;
+          few = let count = e.few in omega arith;
           all_made = λ is. let count = e.all_made is in omega arith;
         };
       },

@@ -20,6 +20,7 @@ returns-clause-ends g c =
         start_is = c.ends_of-start.ensures.start;
         goal_is = c.ends_of-start.ensures.goal;
         each = e.each;
+        few = let count = e.few in omega arith;
         all_made = λ is. let count = e.all_made is in omega arith;
       };
     })

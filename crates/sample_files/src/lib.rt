@@ -1,9 +1,11 @@
-//! Sample files: environments, primitives for cells of 25 millimetres and sixteen headings, each in one place.
+//! Sample files, for the worked examples: environments, and primitives for cells of 25 millimetres and sixteen headings. Each
+//! stands here once.
+#![tactic(auto)]
 
 use std::alloc::{AllocError, Global};
 
 /// Three cells in a row, from the first to the last.
-pub(crate) const E1: &str = "discretization(cells): 3 1
+pub const E1: &str = "discretization(cells): 3 1
 obsthresh: 100
 cost_inscribed_thresh: 90
 cost_possibly_circumscribed_thresh: 0
@@ -17,7 +19,7 @@ environment:
 ";
 
 /// Three by two cells, of which the second costs 2, from the first cell to the last of its row.
-pub(crate) const E2: &str = "discretization(cells): 3 2
+pub const E2: &str = "discretization(cells): 3 2
 obsthresh: 100
 cost_inscribed_thresh: 90
 cost_possibly_circumscribed_thresh: 0
@@ -32,7 +34,7 @@ environment:
 ";
 
 /// Five by three cells with one that costs as much as the threshold, beside the way from (1, 1) to (3, 1).
-pub(crate) const E3: &str = "discretization(cells): 5 3
+pub const E3: &str = "discretization(cells): 5 3
 obsthresh: 100
 cost_inscribed_thresh: 90
 cost_possibly_circumscribed_thresh: 0
@@ -48,7 +50,7 @@ environment:
 ";
 
 /// One primitive: a cell forward along x.
-pub(crate) const F1: &str = "resolution_m: 0.025
+pub const F1: &str = "resolution_m: 0.025
 numberofangles: 16
 totalnumberofprimitives: 1
 primID: 0
@@ -61,7 +63,7 @@ intermediateposes: 2
 ";
 
 /// Four primitives from heading 0: one cell and two cells along x, and one cell along y and against it.
-pub(crate) const F2: &str = "resolution_m: 0.025
+pub const F2: &str = "resolution_m: 0.025
 numberofangles: 16
 totalnumberofprimitives: 4
 primID: 0
@@ -109,7 +111,7 @@ environment:
 ";
 
 /// Fifteen by fifteen cells that cost nothing, to be gone along by six cells.
-pub(crate) fn realistic(alloc: Global) -> Result<String, AllocError> {
+pub fn realistic(alloc: Global) -> Result<String, AllocError> {
     let mut text = String::from_str(alloc, REALISTIC)?;
     for _ in 0..15 {
         text.push_str("0 0 0 0 0 0 0 0 0 0 0 0 0 0 0\n")?;
@@ -131,7 +133,7 @@ environment:
 ";
 
 /// A field of 32 by 32 cells that cost nothing.
-pub(crate) fn field(alloc: Global) -> Result<String, AllocError> {
+pub fn field(alloc: Global) -> Result<String, AllocError> {
     let mut text = String::from_str(alloc, FIELD)?;
     for _ in 0..1024 {
         text.push_str("0 ")?;
@@ -203,7 +205,7 @@ fn put_prim(
 
 /// Five primitives for each of sixteen headings: a step forward, a dear step back, a turn to the left and to the right, and
 /// four steps forward.
-pub(crate) fn p16(alloc: Global) -> Result<String, AllocError> {
+pub fn p16(alloc: Global) -> Result<String, AllocError> {
     let mut text = String::from_str(
         alloc,
         "resolution_m: 0.025000\nnumberofangles: 16\ntotalnumberofprimitives: 80\n",
@@ -274,7 +276,7 @@ fn put_short(
 }
 
 /// Three primitives for each heading: a step forward, and a turn to the left and to the right.
-pub(crate) fn car(alloc: Global) -> Result<String, AllocError> {
+pub fn car(alloc: Global) -> Result<String, AllocError> {
     let mut text = String::new(alloc);
     put_head(&mut text, 48)?;
     for from in 0..16 {

@@ -1,6 +1,6 @@
 //! The program on small files, over a desk in memory.
 
-use crate::samples::{E1, E2, E3, F1, F2, p16, realistic};
+use sample_files::{E1, E2, E3, F1, F2, p16, realistic};
 use sbpl_cli::run;
 use sbpl_desk::MemoryDesk;
 use std::alloc::Global;
