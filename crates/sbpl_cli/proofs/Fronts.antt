@@ -1,5 +1,5 @@
 -- What stands written is a front of what the writes in turn come to.
-use Rattle.std.proofs.Common.{◌≡◌, ◌⊎◌, ℕ, List, [], ◌∷◌, ◌++◌, Bool, true, false, if◌then◌else◌, refl, sym, ◌∙◌, ap, append_assoc, append-nil, inl, inr}
+use Rattle.std.proofs.Common.{◌≡◌, ℕ, List, [], ◌∷◌, ◌++◌, Bool, true, false, if◌then◌else◌, refl, sym, ◌∙◌, ap, append_assoc, append-nil, inl, inr}
 use Rattle.std.specs.Str.{bytes_eq}
 use Rattle.sbpl_cli.specs.Determined.{AreFronts}
 use Rattle.sbpl_cli.specs.Writing.{AreMade, EndsAs, FaultCounts, IsCutAt, IsStoppedAt, Told, Write, text_under}

@@ -1,5 +1,5 @@
 -- The files of a job call for one refusal, or for none.
-use Rattle.std.proofs.Common.{◌≡◌, ◌⊎◌, ℕ, zero, ◌^◌, ◌<◌, ◌≤◌, Bool, true, Option, Some, None, List, IsSome, IfSome, length, refl, sym, ap, subst, ◌∙◌, arith, inl, inr}
+use Rattle.std.proofs.Common.{◌≡◌, ◌⊎◌, ℕ, ◌^◌, ◌<◌, ◌≤◌, Option, Some, None, List, IsSome, IfSome, length, refl, sym, ap, subst, ◌∙◌, arith, inl, inr}
 use Rattle.std.proofs.lemmas.Bool.{cases_lt, false≢true}
 use Rattle.sbpl_desk.specs.Desk.{Rose}
 use Rattle.sbpl_cfg.specs.declared.fault.EnvFault.{EnvFault}
@@ -8,7 +8,7 @@ use Rattle.sbpl_mprim.specs.declared.fault.PrimFault.{PrimFault}
 use Rattle.sbpl_mprim.specs.declared.prim.Primitive.{Primitive}
 use Rattle.sbpl_mprim.specs.Primitives.{Primitives}
 use Rattle.sbpl_sweep.specs.Widths.{IsFirstTooWide, NoneTooWide}
-use Rattle.sbpl_cost.specs.PrimitiveCost.{IsFirstTooDear, IsTooDear, most_cost, primitive_cost}
+use Rattle.sbpl_cost.specs.PrimitiveCost.{IsFirstTooDear, most_cost, primitive_cost}
 use Rattle.sbpl_cost.specs.World.{World}
 use Rattle.sbpl_map.specs.CellMap.{CellMap}
 use Rattle.sbpl_map.specs.declared.fault.ChangeFault.{ChangeFault}
@@ -21,11 +21,11 @@ use Rattle.sbpl_cli.specs.declared.refusal.Refusal.{Refusal}
 use Rattle.sbpl_cli.specs.declared.refusal.Refusal.TheVariants as refusal
 use Rattle.sbpl_cli.specs.Causes.{AtName, IsCause, IsChangesCause, IsFaultyChanges, IsFaultyEnvironment, IsFaultyFor, IsLabelsCause, IsRead, IsTooLong, SaysBatches, SaysEnvironment, SaysPrimitives, SaysWorld}
 use Rattle.sbpl_cli.specs.Clear.{TextsAreClear}
-use Rattle.sbpl_cli.specs.Determined.{AreAlikeWorlds, IsSource}
+use Rattle.sbpl_cli.specs.Determined.{IsSource}
 use Rattle.sbpl_cli.specs.Texts.{HasChangeFault, HasEnvironmentFault, HasPrimitiveFault, IsChangeText, IsEnvironmentText, IsPrimitiveText}
 use Rattle.sbpl_cli.specs.Writing.{FaultCounts, IsNamed, Told}
 use Rattle.sbpl_cli.proofs.Converse.{none_is_first, none_is_widest}
-use Rattle.sbpl_cli.proofs.SamePlanned.{one_course, one_world, read_once}
+use Rattle.sbpl_cli.proofs.SamePlanned.{one_world, read_once}
 
 -- a file that was read is not too long
 read_is_short : (held : Option (List ℕ)) (text : List ℕ) → IsSome held → IsRead held text → IsTooLong held → ⊥

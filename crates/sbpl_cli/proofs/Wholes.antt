@@ -10,22 +10,19 @@ use Rattle.sbpl_job.specs.declared.job.CheckJob.{CheckJob}
 use Rattle.sbpl_job.specs.declared.job.DemoJob.{DemoJob}
 use Rattle.sbpl_job.specs.declared.job.Job.{Job}
 use Rattle.sbpl_job.specs.declared.job.Job.TheVariants as job
-use Rattle.sbpl_job.specs.declared.job.Outputs.{Outputs}
 use Rattle.sbpl_job.specs.declared.job.PlanJob.{PlanJob}
 use Rattle.sbpl_job.specs.declared.job.Sources.{Sources}
 use Rattle.sbpl_cli.specs.declared.checking.SectionStop.{SectionStop}
 use Rattle.sbpl_cli.specs.declared.checking.SectionStop.TheVariants as section
 use Rattle.sbpl_cli.specs.declared.record.PlanRecord.{PlanRecord}
-use Rattle.sbpl_cli.specs.declared.refusal.Input.{Input}
 use Rattle.sbpl_cli.specs.declared.refusal.Refusal.{Refusal}
-use Rattle.sbpl_cli.specs.declared.refusal.Refusal.TheVariants as refusal
-use Rattle.sbpl_cli.specs.Causes.{ArePlanned, IsJobCause, SaysBatches, SaysWorld}
+use Rattle.sbpl_cli.specs.Causes.{ArePlanned, IsJobCause}
 use Rattle.sbpl_cli.specs.Clear.{SectionsAreClear, TextsAreClear}
 use Rattle.sbpl_cli.specs.Determined.{AreFronts, AreTold, CallsFor, FewAreFirst, IsInput, IsNoFailure, IsSource, NoneRose, RecordsAreOne, none_failed}
-use Rattle.sbpl_cli.specs.Intents.{Intent, Refused, Planned, Checked, Listed, Demonstrated, OutOfMemory, checked_status, end_writes, intent_status, lines_writes, plans_status, plans_writes, refusal_status, section_writes, writes_of}
+use Rattle.sbpl_cli.specs.Intents.{Intent, Refused, Planned, Checked, Listed, Demonstrated, OutOfMemory, checked_status, end_writes, intent_status, lines_writes, plans_writes, refusal_status, section_writes, writes_of}
 use Rattle.sbpl_cli.specs.Promises.{ComesTo, EndsJob, EndsRun, IsDemonstration, by_job, by_memory, by_words}
 use Rattle.sbpl_cli.specs.Report.{demo_text, plan_line}
-use Rattle.sbpl_cli.specs.Writing.{AreMade, EndsAs, FaultCounts, IsNamed, Told, Write, to_output}
+use Rattle.sbpl_cli.specs.Writing.{AreMade, FaultCounts, IsNamed, Told, Write, to_output}
 use Rattle.sbpl_cli.proofs.Fronts.{ends_front, made_front}
 use Rattle.sbpl_cli.proofs.OneEnding.{OneMap}
 use Rattle.sbpl_cli.proofs.OneRefusal.{AreBadLabels, AreBadSources, IsBadCourse, IsFailedRead, course_cause, labels_cause, labels_read, not_course, not_world, one_bad_course, one_source, source_cause}

@@ -1,5 +1,5 @@
 -- What is written is determined by the words and the files.
-use Rattle.std.specs.Prelude.{◌≡◌, ◌≢◌, ◌⊎◌, ◌++◌, ℕ, Bool, true, IsSome, List, Option, Some}
+use Rattle.std.specs.Prelude.{◌≡◌, ◌≢◌, ◌⊎◌, ◌++◌, ℕ, Bool, true, IsSome, List, Some}
 use Rattle.sbpl_desk.specs.Desk.{AppendsFront, Rose}
 use Rattle.sbpl_cost.specs.World.{World}
 use Rattle.sbpl_map.specs.declared.write.Write as change

@@ -8,6 +8,7 @@ use Rattle.sbpl_cfg.specs.declared.pose.Place.{Place}
 use Rattle.sbpl_cfg.specs.Environment.{Environment, IsPlaceOf}
 use Rattle.sbpl_mprim.specs.declared.prim.Primitive.{Primitive}
 use Rattle.sbpl_cost.specs.Arc.{HasLatticeArcs}
+use Rattle.sbpl_cost.specs.TailOrder.{HasLatticeTails}
 use Rattle.sbpl_cost.specs.World.{IsWorld, World}
 use Rattle.sbpl_cost.specs.States.{place_of, state_number}
 use Rattle.sbpl_cost.specs.Lattices.{network_of, arc_primitive}
@@ -155,11 +156,13 @@ pub record IsSearched (w : World) (how : SearchJob) (outputs : Outputs) (start g
   pub ample : spent ≡ true → most_passes how.step how.first * (most_times (repairs how.planner) * (network_of w).states) ≤ how.budget → behind.expanded ≡ 2 ^ 30
   pub labels : IsThere (is_some outputs.labels) (IsShown (network_of w) guide start goal r.plan behind.labels result) r.labels
 
--- the record of plan k in a world, whose graph has just the arcs that the primitives make on its map
+-- the record of plan k in a world, whose graph has just the arcs that the primitives make on its map, in the order of the file
+-- both from a state and into it
 pub record IsPlanOf (w : World) (how : SearchJob) (outputs : Outputs) (start goal k : ℕ) (before : Option Behind) (behind : Behind) (r : PlanRecord) : Type 0 where
   pub number : r.plan ≡ k
   pub is_world : IsWorld w
   pub arcs : HasLatticeArcs (network_of w) w
+  pub tails : HasLatticeTails (network_of w) w
   pub promises : KeepsPromises w start goal how.bound r
   pub searched : IsSearched w how outputs start goal before behind r
 

@@ -15,7 +15,7 @@ ghost use Rattle.sbpl_cli.specs.Writing.{StaysBut};
 use crate::plan::make_record;
 use crate::telling::Telling;
 use crate::writing::{status_after, write_last};
-use sbpl_cost::{Lattice, lattice_has_its_arcs};
+use sbpl_cost::{Lattice, lattice_has_its_arcs, lattice_tails_are_in_order};
 use sbpl_desk::{Desk, WriteStop};
 use sbpl_fixed::NoMemory;
 use sbpl_job::{Outputs, Planner, SearchJob};
@@ -73,6 +73,7 @@ fn make_plan<D: Desk, T: Telling>(
     ensures writes { NoneFalls (D.write_faults desk.old) (D.write_faults desk.new) }
 {
     lattice_has_its_arcs();
+    lattice_tails_are_in_order();
     match make_record(alloc, lattice, replanner, how, outputs, start, goal, plan) {
         Ok(record) => telling.tell(alloc, &record, desk),
         Err(NoMemory) => Err(WriteStop::NoMemory),

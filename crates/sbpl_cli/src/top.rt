@@ -1,6 +1,6 @@
 //! The one public call: does the job that words name, at a desk.
 
-ghost use Rattle.std.specs.Prelude.{◌≡◌, ◌≢◌, ◌⊎◌, ◌∷◌, ◌++◌, ℕ, List, [], None, Option, Some, IfErr, IfOk, OnErr, map, string_bytes, true};
+ghost use Rattle.std.specs.Prelude.{◌≡◌, ◌≢◌, ◌⊎◌, ◌∷◌, ◌++◌, ℕ, List, [], None, Option, Some, IfErr, IfOk, OnErr, true};
 ghost use Rattle.sbpl_cfg.specs.Environment.{Environment};
 ghost use Rattle.sbpl_cfg.specs.declared.fault.EnvFault.{EnvFault};
 ghost use Rattle.sbpl_cost.specs.PrimitiveCost.{IsFirstTooDear};
@@ -24,7 +24,7 @@ ghost use Rattle.sbpl_cli.specs.Causes.{JobStopsFor};
 ghost use Rattle.sbpl_cli.specs.Determined.{AreFronts, AreTold, CallsFor, IsNoFailure, NoneRose};
 ghost use Rattle.sbpl_cli.specs.Checked.{IsHolding};
 ghost use Rattle.sbpl_cli.specs.Intents.{Intent, checked_status, intent_status, refusal_status, refusal_writes, words_writes, writes_of};
-ghost use Rattle.sbpl_job.specs.Jobs.{IsJob, job_of};
+ghost use Rattle.sbpl_job.specs.Jobs.{IsJob, job_named};
 ghost use Rattle.sbpl_cli.specs.Promises.{AreGood, AtJob, EndsJob, EndsRun, IsCutShort, IsCheckedIn, IsDone, IsFaultFound, IsFlawFound, IsNoCheck, IsOrFailed, IsOrUnwritten, IsRefused, IsStatus, IsStopped, MayBeWritten, SomeRose, Tells, TellsBatches, TellsChangeFault, TellsEnvironment, TellsEnvironmentFault, TellsPrimitiveFault, TellsPrimitives, TellsTooMuch, TellsWorld, changes_of, sources_of};
 ghost use Rattle.sbpl_cli.specs.Writing.{AreMade, EndsAs, IsCutAt, IsOutput, IsStoppedAt, StaysBut, output};
 
@@ -105,9 +105,9 @@ fn refuse_words<D: Desk>(desk: &mut D) -> u8
 
 /// Finds the job that the words name, does it, writes what came of it, and answers the status.
 fn end_run<D: Desk>(alloc: Global, words: &[String], desk: &mut D) -> u8
-    ensures ends { EndsRun (job_of (map string_bytes words.now)) (D.held desk.old) (D.read_faults desk.old) (D.read_faults desk.new) (D.written desk.old) (D.written desk.new) (D.write_faults desk.old) (D.write_faults desk.new) result }
+    ensures ends { EndsRun (job_named words.now) (D.held desk.old) (D.read_faults desk.old) (D.read_faults desk.new) (D.written desk.old) (D.written desk.new) (D.write_faults desk.old) (D.write_faults desk.new) result }
     ensures held { Stays (D.held desk.old) (D.held desk.new) }
-    ensures others { StaysBut (MayBeWritten (job_of (map string_bytes words.now))) (D.written desk.old) (D.written desk.new) }
+    ensures others { StaysBut (MayBeWritten (job_named words.now)) (D.written desk.old) (D.written desk.new) }
     ensures reads { NoneFalls (D.read_faults desk.old) (D.read_faults desk.new) }
     ensures writes { NoneFalls (D.write_faults desk.old) (D.write_faults desk.new) }
 {
@@ -127,49 +127,49 @@ pub fn run<D: Desk>(alloc: Global, words: &[String], desk: &mut D) -> u8
     // 0: the job was done. Plans of the job's files were made, one on the map as it is and one after each batch of changes, which
     // keep their promises, and their report, and their labels and traces where they are asked for, were written; or the labels hold;
     // or what each primitive costs and sweeps was listed; or plans on an example were made, and a line for each was written.
-    ensures done { result ≡ 0 → AtJob (job_of (map string_bytes words.now)) (IsDone (D.held desk.old) (D.written desk.old) (D.written desk.new)) }
+    ensures done { result ≡ 0 → AtJob (job_named words.now) (IsDone (D.held desk.old) (D.written desk.old) (D.written desk.new)) }
     // 1: the job `check` found a first flaw in a section of the labels, behind sections that hold, and a line says so.
-    ensures flaw { result ≡ 1 → AtJob (job_of (map string_bytes words.now)) (IsFlawFound (D.held desk.old) (D.written desk.old) (D.written desk.new)) }
+    ensures flaw { result ≡ 1 → AtJob (job_named words.now) (IsFlawFound (D.held desk.old) (D.written desk.old) (D.written desk.new)) }
     // 10: it found a first fault in the text of the labels, behind sections that hold, and a line says so.
-    ensures fault { result ≡ 10 → AtJob (job_of (map string_bytes words.now)) (IsFaultFound (D.held desk.old) (D.written desk.old) (D.written desk.new)) }
+    ensures fault { result ≡ 10 → AtJob (job_named words.now) (IsFaultFound (D.held desk.old) (D.written desk.old) (D.written desk.new)) }
     // 2: the words name no job, and a line says so.
-    ensures words { result ≡ 2 → (job_of (map string_bytes words.now) ≡ None) × AreMade (D.written desk.old) (D.written desk.new) words_writes }
+    ensures words { result ≡ 2 → (job_named words.now ≡ None) × AreMade (D.written desk.old) (D.written desk.new) words_writes }
     // 3, 4, 5, 6, 8: the job was refused for a cause, and a line says which.
-    ensures environment { result ≡ 3 → AtJob (job_of (map string_bytes words.now)) (IsRefused (D.held desk.old) (D.read_faults desk.old) (D.read_faults desk.new) (D.written desk.old) (D.written desk.new) 3) }
-    ensures primitives { result ≡ 4 → AtJob (job_of (map string_bytes words.now)) (IsRefused (D.held desk.old) (D.read_faults desk.old) (D.read_faults desk.new) (D.written desk.old) (D.written desk.new) 4) }
-    ensures changes { result ≡ 5 → AtJob (job_of (map string_bytes words.now)) (IsRefused (D.held desk.old) (D.read_faults desk.old) (D.read_faults desk.new) (D.written desk.old) (D.written desk.new) 5) }
-    ensures unread { result ≡ 6 → AtJob (job_of (map string_bytes words.now)) (IsRefused (D.held desk.old) (D.read_faults desk.old) (D.read_faults desk.new) (D.written desk.old) (D.written desk.new) 6) }
-    ensures length { result ≡ 8 → AtJob (job_of (map string_bytes words.now)) (IsRefused (D.held desk.old) (D.read_faults desk.old) (D.read_faults desk.new) (D.written desk.old) (D.written desk.new) 8) }
+    ensures environment { result ≡ 3 → AtJob (job_named words.now) (IsRefused (D.held desk.old) (D.read_faults desk.old) (D.read_faults desk.new) (D.written desk.old) (D.written desk.new) 3) }
+    ensures primitives { result ≡ 4 → AtJob (job_named words.now) (IsRefused (D.held desk.old) (D.read_faults desk.old) (D.read_faults desk.new) (D.written desk.old) (D.written desk.new) 4) }
+    ensures changes { result ≡ 5 → AtJob (job_named words.now) (IsRefused (D.held desk.old) (D.read_faults desk.old) (D.read_faults desk.new) (D.written desk.old) (D.written desk.new) 5) }
+    ensures unread { result ≡ 6 → AtJob (job_named words.now) (IsRefused (D.held desk.old) (D.read_faults desk.old) (D.read_faults desk.new) (D.written desk.old) (D.written desk.new) 6) }
+    ensures length { result ≡ 8 → AtJob (job_named words.now) (IsRefused (D.held desk.old) (D.read_faults desk.old) (D.read_faults desk.new) (D.written desk.old) (D.written desk.new) 8) }
     // 7: a write failed, and the writes before it and a front of it stand there.
-    ensures write { result ≡ 7 → SomeRose (job_of (map string_bytes words.now)) (D.write_faults desk.old) (D.write_faults desk.new) }
-    ensures cut { result ≡ 7 → AtJob (job_of (map string_bytes words.now)) (IsCutShort (D.held desk.old) (D.read_faults desk.old) (D.read_faults desk.new) (D.written desk.old) (D.written desk.new) (D.write_faults desk.old) (D.write_faults desk.new)) ⊎ ((job_of (map string_bytes words.now) ≡ None) × IsCutAt (D.written desk.old) (D.written desk.new) (D.write_faults desk.old) (D.write_faults desk.new) words_writes) }
+    ensures write { result ≡ 7 → SomeRose (job_named words.now) (D.write_faults desk.old) (D.write_faults desk.new) }
+    ensures cut { result ≡ 7 → AtJob (job_named words.now) (IsCutShort (D.held desk.old) (D.read_faults desk.old) (D.read_faults desk.new) (D.written desk.old) (D.written desk.new) (D.write_faults desk.old) (D.write_faults desk.new)) ⊎ ((job_named words.now ≡ None) × IsCutAt (D.written desk.old) (D.written desk.new) (D.write_faults desk.old) (D.write_faults desk.new) words_writes) }
     // 9: memory ran out, and the first few writes stand there.
-    ensures memory { result ≡ 9 → AtJob (job_of (map string_bytes words.now)) (IsStopped (D.held desk.old) (D.read_faults desk.old) (D.read_faults desk.new) (D.written desk.old) (D.written desk.new)) ⊎ (((job_of (map string_bytes words.now) ≡ None) × IsStoppedAt (D.written desk.old) (D.written desk.new) words_writes) ⊎ AreMade (D.written desk.old) (D.written desk.new) []) }
+    ensures memory { result ≡ 9 → AtJob (job_named words.now) (IsStopped (D.held desk.old) (D.read_faults desk.old) (D.read_faults desk.new) (D.written desk.old) (D.written desk.new)) ⊎ (((job_named words.now ≡ None) × IsStoppedAt (D.written desk.old) (D.written desk.new) words_writes) ⊎ AreMade (D.written desk.old) (D.written desk.new) []) }
     // Words that name no job are refused, unless a write fails or memory runs out.
-    ensures no_job { job_of (map string_bytes words.now) ≡ None → IsOrUnwritten 2 result }
+    ensures no_job { job_named words.now ≡ None → IsOrUnwritten 2 result }
     // A cause that the desk tells is answered, unless the desk fails or memory runs out.
-    ensures environment_faulty { (job : Job) (from : Sources) (f : EnvFault) → job_of (map string_bytes words.now) ≡ Some job → sources_of job ≡ Some from → TellsEnvironmentFault (D.held desk.old) from f → IsOrFailed 3 result }
-    ensures environment_long { (job : Job) (from : Sources) → job_of (map string_bytes words.now) ≡ Some job → sources_of job ≡ Some from → TellsTooMuch (D.held desk.old from.env) → IsOrFailed 8 result }
-    ensures primitives_long { (job : Job) (from : Sources) (e : Environment) → job_of (map string_bytes words.now) ≡ Some job → sources_of job ≡ Some from → TellsEnvironment (D.held desk.old) from e → TellsTooMuch (D.held desk.old from.prims) → IsOrFailed 8 result }
-    ensures primitives_faulty { (job : Job) (from : Sources) (e : Environment) (f : PrimFault) → job_of (map string_bytes words.now) ≡ Some job → sources_of job ≡ Some from → TellsEnvironment (D.held desk.old) from e → TellsPrimitiveFault (D.held desk.old) from e f → IsOrFailed 4 result }
-    ensures too_wide { (job : Job) (from : Sources) (e : Environment) (ps : Primitives) (i : ℕ) → job_of (map string_bytes words.now) ≡ Some job → sources_of job ≡ Some from → TellsEnvironment (D.held desk.old) from e → TellsPrimitives (D.held desk.old) from e ps → IsFirstTooWide ps from.radius i → IsOrFailed 4 result }
-    ensures too_dear { (job : Job) (from : Sources) (e : Environment) (ps : Primitives) (i : ℕ) → job_of (map string_bytes words.now) ≡ Some job → sources_of job ≡ Some from → TellsEnvironment (D.held desk.old) from e → TellsPrimitives (D.held desk.old) from e ps → NoneTooWide ps from.radius → IsFirstTooDear e ps.items i → IsOrFailed 4 result }
-    ensures changes_long { (job : Job) (from : Sources) (m : CellMap) (name : List ℕ) → job_of (map string_bytes words.now) ≡ Some job → sources_of job ≡ Some from → AreGood (D.held desk.old) from m → changes_of job ≡ Some name → TellsTooMuch (D.held desk.old name) → IsOrFailed 8 result }
-    ensures changes_faulty { (job : Job) (from : Sources) (m : CellMap) (f : ChangeFault) → job_of (map string_bytes words.now) ≡ Some job → sources_of job ≡ Some from → AreGood (D.held desk.old) from m → TellsChangeFault (D.held desk.old) (changes_of job) m f → IsOrFailed 5 result }
+    ensures environment_faulty { (job : Job) (from : Sources) (f : EnvFault) → job_named words.now ≡ Some job → sources_of job ≡ Some from → TellsEnvironmentFault (D.held desk.old) from f → IsOrFailed 3 result }
+    ensures environment_long { (job : Job) (from : Sources) → job_named words.now ≡ Some job → sources_of job ≡ Some from → TellsTooMuch (D.held desk.old from.env) → IsOrFailed 8 result }
+    ensures primitives_long { (job : Job) (from : Sources) (e : Environment) → job_named words.now ≡ Some job → sources_of job ≡ Some from → TellsEnvironment (D.held desk.old) from e → TellsTooMuch (D.held desk.old from.prims) → IsOrFailed 8 result }
+    ensures primitives_faulty { (job : Job) (from : Sources) (e : Environment) (f : PrimFault) → job_named words.now ≡ Some job → sources_of job ≡ Some from → TellsEnvironment (D.held desk.old) from e → TellsPrimitiveFault (D.held desk.old) from e f → IsOrFailed 4 result }
+    ensures too_wide { (job : Job) (from : Sources) (e : Environment) (ps : Primitives) (i : ℕ) → job_named words.now ≡ Some job → sources_of job ≡ Some from → TellsEnvironment (D.held desk.old) from e → TellsPrimitives (D.held desk.old) from e ps → IsFirstTooWide ps from.radius i → IsOrFailed 4 result }
+    ensures too_dear { (job : Job) (from : Sources) (e : Environment) (ps : Primitives) (i : ℕ) → job_named words.now ≡ Some job → sources_of job ≡ Some from → TellsEnvironment (D.held desk.old) from e → TellsPrimitives (D.held desk.old) from e ps → NoneTooWide ps from.radius → IsFirstTooDear e ps.items i → IsOrFailed 4 result }
+    ensures changes_long { (job : Job) (from : Sources) (m : CellMap) (name : List ℕ) → job_named words.now ≡ Some job → sources_of job ≡ Some from → AreGood (D.held desk.old) from m → changes_of job ≡ Some name → TellsTooMuch (D.held desk.old name) → IsOrFailed 8 result }
+    ensures changes_faulty { (job : Job) (from : Sources) (m : CellMap) (f : ChangeFault) → job_named words.now ≡ Some job → sources_of job ≡ Some from → AreGood (D.held desk.old) from m → TellsChangeFault (D.held desk.old) (changes_of job) m f → IsOrFailed 5 result }
     // Good words and good files are served, unless the desk fails or memory runs out.
-    ensures complete { (job : Job) (from : Sources) (m : CellMap) (batches : List (List Write)) → job_of (map string_bytes words.now) ≡ Some job → sources_of job ≡ Some from → AreGood (D.held desk.old) from m → TellsBatches (D.held desk.old) (changes_of job) m batches → IsNoCheck job → IsOrFailed 0 result }
-    ensures demonstrated { (d : DemoJob) → job_of (map string_bytes words.now) ≡ Some (Jobs.Demo d) → IsOrUnwritten 0 result }
+    ensures complete { (job : Job) (from : Sources) (m : CellMap) (batches : List (List Write)) → job_named words.now ≡ Some job → sources_of job ≡ Some from → AreGood (D.held desk.old) from m → TellsBatches (D.held desk.old) (changes_of job) m batches → IsNoCheck job → IsOrFailed 0 result }
+    ensures demonstrated { (d : DemoJob) → job_named words.now ≡ Some (Jobs.Demo d) → IsOrUnwritten 0 result }
     // The job `check` ends as the labels do in the world that the files stand for, unless the desk fails or memory runs out.
-    ensures checked { (j : CheckJob) (w : World) (batches : List (List Write)) (text : List ℕ) (goal : ℕ) (os : List Outcome) (end : Option SectionStop) → job_of (map string_bytes words.now) ≡ Some (Jobs.Check j) → TellsWorld (D.held desk.old) j.sources w → TellsBatches (D.held desk.old) j.changes w.map batches → Tells (D.held desk.old j.labels) text → IsCheckedIn IsHolding w batches text goal os end → end ≢ Some Stops.NoMemory → IsOrFailed (checked_status end) result }
-    ensures labels_long { (j : CheckJob) (w : World) (batches : List (List Write)) → job_of (map string_bytes words.now) ≡ Some (Jobs.Check j) → TellsWorld (D.held desk.old) j.sources w → TellsBatches (D.held desk.old) j.changes w.map batches → TellsTooMuch (D.held desk.old j.labels) → IsOrFailed 8 result }
+    ensures checked { (j : CheckJob) (w : World) (batches : List (List Write)) (text : List ℕ) (goal : ℕ) (os : List Outcome) (end : Option SectionStop) → job_named words.now ≡ Some (Jobs.Check j) → TellsWorld (D.held desk.old) j.sources w → TellsBatches (D.held desk.old) j.changes w.map batches → Tells (D.held desk.old j.labels) text → IsCheckedIn IsHolding w batches text goal os end → end ≢ Some Stops.NoMemory → IsOrFailed (checked_status end) result }
+    ensures labels_long { (j : CheckJob) (w : World) (batches : List (List Write)) → job_named words.now ≡ Some (Jobs.Check j) → TellsWorld (D.held desk.old) j.sources w → TellsBatches (D.held desk.old) j.changes w.map batches → TellsTooMuch (D.held desk.old j.labels) → IsOrFailed 8 result }
     // What is written is determined by the words and the files: whatever these call for is written whole, with its status, unless a
     // read or a write failed or memory ran out.
-    ensures determined { (job : Job) (whole : Intent) → job_of (map string_bytes words.now) ≡ Some job → AreTold (D.held desk.old) job → CallsFor (D.held desk.old) job whole → IsNoFailure result → (result ≡ intent_status whole) × AreMade (D.written desk.old) (D.written desk.new) (writes_of job whole) }
+    ensures determined { (job : Job) (whole : Intent) → job_named words.now ≡ Some job → AreTold (D.held desk.old) job → CallsFor (D.held desk.old) job whole → IsNoFailure result → (result ≡ intent_status whole) × AreMade (D.written desk.old) (D.written desk.new) (writes_of job whole) }
     // And where no read failed, what was written under each name is a front of that.
-    ensures front { (job : Job) (whole : Intent) → job_of (map string_bytes words.now) ≡ Some job → AreTold (D.held desk.old) job → NoneRose job (D.read_faults desk.old) (D.read_faults desk.new) → CallsFor (D.held desk.old) job whole → AreFronts (D.written desk.old) (D.written desk.new) (writes_of job whole) }
+    ensures front { (job : Job) (whole : Intent) → job_named words.now ≡ Some job → AreTold (D.held desk.old) job → NoneRose job (D.read_faults desk.old) (D.read_faults desk.new) → CallsFor (D.held desk.old) job whole → AreFronts (D.written desk.old) (D.written desk.new) (writes_of job whole) }
     // Nothing that is held changes, nothing is written under other names than the job's, and no count falls.
     ensures held { Stays (D.held desk.old) (D.held desk.new) }
-    ensures others { StaysBut (MayBeWritten (job_of (map string_bytes words.now))) (D.written desk.old) (D.written desk.new) }
+    ensures others { StaysBut (MayBeWritten (job_named words.now)) (D.written desk.old) (D.written desk.new) }
     ensures reads { NoneFalls (D.read_faults desk.old) (D.read_faults desk.new) }
     ensures writes { NoneFalls (D.write_faults desk.old) (D.write_faults desk.new) }
 {

@@ -1,5 +1,5 @@
 -- The job that a list of words names.
-use Rattle.std.specs.Prelude.{◌^◌, ◌<◌, ◌≤◌, false, ◌/◌, ◌%◌, ◌&&◌, ◌||◌, Bool, ℕ, ℤ, pos, negsuc, nat_eq, nat_le, List, [], ◌∷◌, length, Option, Some, None, option_map, option_and_then, Result, Ok, Err, codes, if◌then◌else◌}
+use Rattle.std.specs.Prelude.{◌^◌, ◌<◌, ◌≤◌, false, ◌/◌, ◌%◌, ◌&&◌, ◌||◌, Bool, ℕ, ℤ, pos, negsuc, nat_eq, nat_le, List, [], ◌∷◌, length, map, String, string_bytes, Option, Some, None, option_map, option_and_then, Result, Ok, Err, codes, if◌then◌else◌}
 use Rattle.std.specs.Option.{option_map_or}
 use Rattle.std.specs.Result.{result_ok}
 use Rattle.std.specs.Str.{bytes_eq}
@@ -168,6 +168,10 @@ job_by c p = job_with c p.plain (λ s. value_of s p.given)
 abbrev pub job_of : List (List ℕ) → Option Job
 job_of [] = None
 job_of (word ∷ words) = option_and_then (λ c. option_and_then (job_by c) (parts_of c words)) (command_named word)
+
+-- the job that the program's words name
+abbrev pub job_named : {Z : Type 0} → List (String Z) → Option Job
+job_named words = job_of (map string_bytes words)
 
 -- inflations, the bound and the budget lie in their ranges
 pub record IsSearchJob (s : SearchJob) : Type 0 where

@@ -1,8 +1,8 @@
 //! The job that the words name.
 
-ghost use Rattle.std.specs.Prelude.{◌≡◌, ◌≤◌, ◌^◌, IfOk, map, option_and_then, string_bytes};
+ghost use Rattle.std.specs.Prelude.{◌≡◌, ◌≤◌, ◌^◌, IfOk, option_and_then};
 ghost use Rattle.sbpl_job.specs.Found.{job_found, set_in};
-ghost use Rattle.sbpl_job.specs.Jobs.{IsJob, check_in, command_named, demo_in, job_by, job_of, plan_in, plan_on, sweep_in};
+ghost use Rattle.sbpl_job.specs.Jobs.{IsJob, check_in, command_named, demo_in, job_by, job_named, plan_in, plan_on, sweep_in};
 ghost use Rattle.sbpl_job.specs.Words.{Names, parts_in, texts};
 
 use crate::demo::{read_extent, read_seed};
@@ -192,7 +192,7 @@ fn job_in(alloc: Global, command: Command, words: &[&str]) -> Result<Job, JobFau
 /// settings, each followed by a plain word as its value; and settings joined with their value by `=`. They stand in any
 /// order, and a setting at most once.
 pub fn read_job(alloc: Global, words: &[String]) -> Result<Job, JobFault>
-    ensures job { Names (job_of (map string_bytes words.now)) result }
+    ensures job { Names (job_named words.now) result }
     ensures range { IfOk result IsJob }
 {
     let [word, rest @ ..] = words else {

@@ -1,8 +1,8 @@
 //! The program from its start: its words, the texts that it prints itself, and its exit status.
 
-ghost use Rattle.std.specs.Prelude.{◌≡◌, ◌⊎◌, None, map, string_bytes};
+ghost use Rattle.std.specs.Prelude.{◌≡◌, ◌⊎◌, None};
 ghost use Rattle.sbpl_cli.specs.Promises.{IsOrUnwritten, IsStatus};
-ghost use Rattle.sbpl_job.specs.Jobs.{job_of};
+ghost use Rattle.sbpl_job.specs.Jobs.{job_named};
 
 use sbpl_cli::run;
 use sbpl_desk::RealDesk;
@@ -43,8 +43,8 @@ fn tell(rt: &HostRuntime, asked: Asked) -> u8
 /// Does the job of the words, and answers the status. Words that name no job are told how the program is called.
 fn work(rt: HostRuntime, words: &[String]) -> u8
     ensures status { IsStatus result }
-    ensures words { result ≡ 2 → job_of (map string_bytes words.now) ≡ None }
-    ensures no_job { job_of (map string_bytes words.now) ≡ None → IsOrUnwritten 2 result }
+    ensures words { result ≡ 2 → job_named words.now ≡ None }
+    ensures no_job { job_named words.now ≡ None → IsOrUnwritten 2 result }
 {
     let mut desk = RealDesk::new(rt);
     let status = run(rt.alloc(), words, &mut desk);
