@@ -2,7 +2,7 @@
 use Rattle.std.specs.Prelude.{◌≡◌, ◌≢◌, ℕ, ◌+◌, ◌<◌, ◌≤◌, Option, Some, None, List}
 use Rattle.std.specs.List.{Contains}
 use Rattle.sbpl_graph.specs.declared.TheConstants.{FAR}
-use Rattle.sbpl_graph.specs.Network.{Network, IsFreeArc}
+use Rattle.sbpl_graph.specs.Network.{Network, IsFreeArc, HasSameArcs}
 use Rattle.sbpl_graph.specs.Exact.{AreExact}
 use Rattle.sbpl_labels.specs.Marks.{Marks, states_of, g_of, v_of, back_of, row_at}
 use Rattle.sbpl_labels.specs.Recomputed.{IsRecomputed}
@@ -28,11 +28,6 @@ pub record AreRepaired (n : Network) (touched : List ℕ) (old new : Marks) : Ty
   pub recomputed : (t : ℕ) → Contains touched t → t ≢ old.start → IsRecomputed n (v_of new) t (g_of new t) (back_of new t)
   pub others : (t : ℕ) → (Contains touched t → ⊥) → row_at new t ≡ row_at old t
   pub start_row : row_at new old.start ≡ row_at old old.start
-
--- t has the same free arcs into it on both graphs, at the same costs
-pub record HasSameArcs (n n' : Network) (t : ℕ) : Type 0 where
-  pub kept : (s k c : ℕ) → IsFreeArc n s k t c → IsFreeArc n' s k t c
-  pub none_new : (s k c : ℕ) → IsFreeArc n' s k t c → IsFreeArc n s k t c
 
 -- where labels are exact on one graph, a state with the same free arcs into it on another is exact there
 abbrev pub ExactWhereSame : Type 0

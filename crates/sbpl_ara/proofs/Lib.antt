@@ -5,7 +5,6 @@ pub mod Queueing
 pub mod Gathering
 pub mod Lowering
 pub mod Resting
-pub mod Changing
 pub mod Relaxing
 pub mod Parting
 pub mod Running

@@ -12,7 +12,7 @@ use Rattle.sbpl_labels.specs.Marks.{Marks, ChangesRow, states_of, g_of, v_of, ba
 use Rattle.sbpl_ara.specs.Run.{IsFirstArc, IsOver}
 use Rattle.sbpl_ara.specs.Relaxed.{LowersHead, IsRelaxed}
 use Rattle.sbpl_ara.specs.Search.{AreUsable}
-use Rattle.sbpl_ara.proofs.Changing.{settles_state, lowers_state}
+use Rattle.sbpl_labels.proofs.Changes.{settles_state, lowers_state}
 
 -- g' is the lesser of g and the ways to t over the free arcs of s below number i; where that is lower, back' is the first that gives it
 pub record GetsLesserBelow (n : Network) (s i v t g : ℕ) (back : Option (ℕ × ℕ)) (g' : ℕ) (back' : Option (ℕ × ℕ)) : Type 0 where

@@ -38,7 +38,7 @@ pub enum LabelFault {
 impl LabelFault {
     /// The number that the program prints, 1 to 6 in the order of the variants; 0 for `NoMemory`, which isn't printed.
     pub fn number(&self) -> u8
-        ensures { result ≡ number_of self.now }
+        ensures number { result ≡ number_of self.now }
     {
         match self {
             LabelFault::Word(_) => 1,
@@ -53,7 +53,7 @@ impl LabelFault {
 
     /// The variant's name, as the program prints it.
     pub fn name(&self) -> &'static str
-        ensures { result.now ≡ name_of self.now }
+        ensures name { result.now ≡ name_of self.now }
     {
         match self {
             LabelFault::Word(_) => "Word",
@@ -68,7 +68,7 @@ impl LabelFault {
 
     /// The fault's place in the text; 0 for `NoMemory`, which has none.
     pub fn place(&self) -> usize
-        ensures { result ≡ place_of self.now }
+        ensures place { result ≡ place_of self.now }
     {
         match self {
             LabelFault::Word(place)

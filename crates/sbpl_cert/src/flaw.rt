@@ -69,7 +69,7 @@ pub enum Flaw {
 impl Flaw {
     /// The number that the program prints, 1 to 8, by which flaws are tested in order.
     pub fn number(&self) -> u8
-        ensures { result ≡ number_of self.now }
+        ensures number { result ≡ number_of self.now }
     {
         match self {
             Flaw::Start { .. } => 1,
@@ -85,7 +85,7 @@ impl Flaw {
 
     /// The name that the program prints.
     pub fn name(&self) -> &'static str
-        ensures { result.now ≡ name_of self.now }
+        ensures name { result.now ≡ name_of self.now }
     {
         match self {
             Flaw::Start { .. } => "Start",

@@ -276,7 +276,7 @@ fn read_exactly(
     plan: u32,
     states: u32,
 ) -> Result<(LabelSet, usize), LabelFault>
-    requires { at ≤ length text.now }
+    requires inside { at ≤ length text.now }
     ensures inside { IfOk result (λ x. (at < x.1) × (x.1 ≤ length text.now)) }
     ensures exact { Answers Memory (λ x. (x.0, start_at text.now x.1)) result (reads told (section_format plan states) (start_at text.now at)) }
 {

@@ -57,7 +57,7 @@ fn label_before(buffer: &mut [u8], end: usize, label: u64) -> usize
 /// Writes a row at the end of the buffer, and answers where it begins.
 #[tactic(auto, using(std::proofs::lemmas::List::append_assoc), unfolding(crate::specs::Printed::line_text))]
 fn row_before(buffer: &mut [u8], row: Row) -> usize
-    requires { length buffer.old ≡ 64 }
+    requires size { length buffer.old ≡ 64 }
     ensures inside { result < length buffer.new }
     ensures text { drop result buffer.new ≡ row_text row }
 {

@@ -7,34 +7,10 @@ use Rattle.std.proofs.lemmas.Slice.Eq.{bytes_eq-Decides}
 use Rattle.sbpl_fixed.specs.Formats as Formats
 use Rattle.sbpl_fixed.specs.declared.fault.NumFault.{NumFault}
 use Rattle.sbpl_fixed.specs.declared.fault.NumFault.TheVariants as faults
-use Rattle.sbpl_fixed.specs.Formats.{Format, item, ended, wrong, done, behind, turns, fixed, within, whole, nano, Miss, Says}
+use Rattle.sbpl_fixed.specs.Formats.{Format, ended, wrong, done, fixed, within, whole, nano, Miss, Says}
 use Rattle.sbpl_fixed.specs.Tokens.{Piece}
 use Rattle.sbpl_cfg.specs.Environment.{IsWithin}
 use Rattle.sbpl_cfg.specs.Text.{Said, Means, AllMean}
-
--- ---- parts of any format
-
-pub says_behind : {E A B : Type 0} (f : Format E A) (more : A → Format E B) (ts : List Piece) (y : B) (rest : List Piece)
-    → Says (behind f more) ts y rest → (x : A) × (mid : List Piece) × Says f ts x mid × Says (more x) mid y rest
-unfolding Says behind
-says_behind (item i then) more [] y rest h = absurd h
-says_behind (item i then) more (t ∷ ts) y rest h =
-    let p = says_behind (then t.place h.0) more ts y rest h.2 in (p.0, p.1, (h.0, h.1, p.2), p.3)
-says_behind (ended f) more [] y rest h = says_behind f more [] y rest h
-says_behind (ended f) more (t ∷ ts) y rest h = absurd h
-says_behind (wrong e) more ts y rest h = absurd h
-says_behind (done x) more ts y rest h = (x, ts, (refl, refl), h)
-
-pub behind_says : {E A B : Type 0} (f : Format E A) (more : A → Format E B) (ts : List Piece) (y : B) (rest : List Piece) (x : A) (mid : List Piece)
-    → Says f ts x mid → Says (more x) mid y rest → Says (behind f more) ts y rest
-unfolding Says behind
-behind_says (item i then) more [] y rest x mid h k = absurd h
-behind_says (item i then) more (t ∷ ts) y rest x mid h k = (h.0, h.1, behind_says (then t.place h.0) more ts y rest x mid h.2 k)
-behind_says (ended f) more [] y rest x mid h k = behind_says f more [] y rest x mid h k
-behind_says (ended f) more (t ∷ ts) y rest x mid h k = absurd h
-behind_says (wrong e) more ts y rest x mid h k = absurd h
-behind_says {B = B} (done z) more ts y rest x mid h k =
-    subst (λ u. Says (more u) ts y rest) h.0 (subst (λ m. Says (more x) m y rest) h.1 k)
 
 -- ---- items
 

@@ -20,7 +20,8 @@ use Rattle.sbpl_cfg.specs.Format.{whole_format, nano_format, size_format, obsthr
 use Rattle.sbpl_fixed.specs.Meaning.{StandsFor}
 use Rattle.sbpl_fixed.specs.Tokens.{tokens}
 use Rattle.sbpl_cfg.specs.Text.{Said, word, number, nano, IsTextOf, spelled, spelled_grid, spelled_pose}
-use Rattle.sbpl_cfg.proofs.Items.{Begins, all_begins, append_begins, at_end, begins_all, begins_append, behind_says, fixed_is, if_right, is_fixed, is_within, says_behind, unless_wrong, within_is}
+use Rattle.sbpl_fixed.proofs.Spelling.{says_both, says_parts}
+use Rattle.sbpl_cfg.proofs.Items.{Begins, all_begins, append_begins, at_end, begins_all, begins_append, fixed_is, if_right, is_fixed, is_within, unless_wrong, within_is}
 
 -- ---- a word with a number
 
@@ -145,9 +146,9 @@ thresholds_words x = obsthresh_words (pos x.obsthresh) ++ (inscribed_words (pos 
 pub thresholds_said : (x : Thresholds) (ts rest : List Piece) → Says thresholds_format ts x rest → Begins (thresholds_words x) ts rest × AreThresholds x
 unfolding thresholds_format obsthresh_format inscribed_format circumscribed_format Says
 thresholds_said x ts rest h =
-    let a = says_behind _ _ ts x rest h in
-    let b = says_behind _ _ a.1 x rest a.3 in
-    let c = says_behind _ _ b.1 x rest b.3 in
+    let a = says_parts _ _ ts rest x h in
+    let b = says_parts _ _ a.1 rest x a.3 in
+    let c = says_parts _ _ b.1 rest x b.3 in
     let o = whole_said _ (pos 0) (pos 255) a.0 ts a.1 a.2 in
     let i = whole_said _ (pos 0) (pos 255) b.0 a.1 b.1 b.2 in
     let r = whole_said _ (negsuc 0) (pos 255) c.0 b.1 c.1 c.2 in
@@ -171,9 +172,9 @@ unfolding thresholds_format obsthresh_format inscribed_format circumscribed_form
 says_thresholds x ts rest h k =
     let a = append_begins (obsthresh_words (pos x.obsthresh)) (inscribed_words (pos x.inscribed) ++ circumscribed_words x.circumscribed) ts rest h in
     let b = append_begins (inscribed_words (pos x.inscribed)) (circumscribed_words x.circumscribed) a.0 rest a.2 in
-    behind_says obsthresh_format _ ts x rest (pos x.obsthresh) a.0 (says_whole _ (pos 0) (pos 255) (pos x.obsthresh) ts a.0 a.1 (within_naturals 0 255 x.obsthresh (omega arith) k.obsthresh))
-    (behind_says inscribed_format _ a.0 x rest (pos x.inscribed) b.0 (says_whole _ (pos 0) (pos 255) (pos x.inscribed) a.0 b.0 b.1 (within_naturals 0 255 x.inscribed (omega arith) k.inscribed))
-    (behind_says circumscribed_format _ b.0 x rest x.circumscribed rest (says_whole _ (negsuc 0) (pos 255) x.circumscribed b.0 rest b.2 k.circumscribed) (refl, refl)))
+    says_both obsthresh_format _ ts a.0 rest (pos x.obsthresh) x (says_whole _ (pos 0) (pos 255) (pos x.obsthresh) ts a.0 a.1 (within_naturals 0 255 x.obsthresh (omega arith) k.obsthresh))
+    (says_both inscribed_format _ a.0 b.0 rest (pos x.inscribed) x (says_whole _ (pos 0) (pos 255) (pos x.inscribed) a.0 b.0 b.1 (within_naturals 0 255 x.inscribed (omega arith) k.inscribed))
+    (says_both circumscribed_format _ b.0 rest rest x.circumscribed x (says_whole _ (negsuc 0) (pos 255) x.circumscribed b.0 rest b.2 k.circumscribed) (refl, refl)))
 
 -- ---- the rates
 
@@ -197,9 +198,9 @@ rates_words x = cell_words x.cell ++ (speed_words x.speed ++ turn45_words x.turn
 pub rates_said : (x : Rates) (ts rest : List Piece) → Says rates_format ts x rest → Begins (rates_words x) ts rest × AreRates x
 unfolding rates_format cell_format speed_format turn45_format Says
 rates_said x ts rest h =
-    let a = says_behind _ _ ts x rest h in
-    let b = says_behind _ _ a.1 x rest a.3 in
-    let c = says_behind _ _ b.1 x rest b.3 in
+    let a = says_parts _ _ ts rest x h in
+    let b = says_parts _ _ a.1 rest x a.3 in
+    let c = says_parts _ _ b.1 rest x b.3 in
     let p = nano_said _ (pos 1) (pos 1000000000000) a.0 ts a.1 a.2 in
     let q = nano_said _ (pos 1) (pos 1000000000000) b.0 a.1 b.1 b.2 in
     let r = nano_said _ (pos 1) (pos 1000000000000) c.0 b.1 c.1 c.2 in
@@ -223,9 +224,9 @@ unfolding rates_format cell_format speed_format turn45_format Says
 says_rates x ts rest h k =
     let a = append_begins (cell_words x.cell) (speed_words x.speed ++ turn45_words x.turn45) ts rest h in
     let b = append_begins (speed_words x.speed) (turn45_words x.turn45) a.0 rest a.2 in
-    behind_says cell_format _ ts x rest x.cell a.0 (says_nano _ (pos 1) (pos 1000000000000) x.cell ts a.0 a.1 k.cell)
-    (behind_says speed_format _ a.0 x rest x.speed b.0 (says_nano _ (pos 1) (pos 1000000000000) x.speed a.0 b.0 b.1 k.speed)
-    (behind_says turn45_format _ b.0 x rest x.turn45 rest (says_nano _ (pos 1) (pos 1000000000000) x.turn45 b.0 rest b.2 k.turn45) (refl, refl)))
+    says_both cell_format _ ts a.0 rest x.cell x (says_nano _ (pos 1) (pos 1000000000000) x.cell ts a.0 a.1 k.cell)
+    (says_both speed_format _ a.0 b.0 rest x.speed x (says_nano _ (pos 1) (pos 1000000000000) x.speed a.0 b.0 b.1 k.speed)
+    (says_both turn45_format _ b.0 rest rest x.turn45 x (says_nano _ (pos 1) (pos 1000000000000) x.turn45 b.0 rest b.2 k.turn45) (refl, refl)))
 
 -- ---- the poses
 
@@ -293,7 +294,7 @@ pub start_said : (h : Header) (p : Pose) (ts rest : List Piece) → Says (start_
     → Begins (spelled_pose (codes "start(meters,rads):") p) ts rest × IsGood h p
 unfolding start_format start_pose_format
 start_said h p ts rest s =
-    let a = says_behind _ _ ts p rest s in
+    let a = says_parts _ _ ts rest p s in
     let r = pose_said _ a.0 ts a.1 a.2 in
     let g = if_right _ _ p _ a.1 rest a.3 in
     let same : a.0.value ≡ p = sym g.1 in (
@@ -306,13 +307,13 @@ pub says_start : (h : Header) (p : Pose) (ts rest : List Piece) → Begins (spel
 unfolding start_format start_pose_format Says
 says_start h p ts rest s good =
     let a = says_pose _ p ts rest s good.in_range in
-    behind_says (pose_format (codes "start(meters,rads):")) _ ts p rest (record { value = p; place = a.0 }) rest a.1 (rw good.on_map (refl, refl))
+    says_both (pose_format (codes "start(meters,rads):")) _ ts rest rest (record { value = p; place = a.0 }) p a.1 (rw good.on_map (refl, refl))
 
 pub end_said : (h : Header) (p : Pose) (ts rest : List Piece) → Says (end_format h) ts p rest
     → Begins (spelled_pose (codes "end(meters,rads):") p) ts rest × IsGood h p
 unfolding end_format end_pose_format
 end_said h p ts rest s =
-    let a = says_behind _ _ ts p rest s in
+    let a = says_parts _ _ ts rest p s in
     let r = pose_said _ a.0 ts a.1 a.2 in
     let g = if_right _ _ p _ a.1 rest a.3 in
     let same : a.0.value ≡ p = sym g.1 in (
@@ -325,7 +326,7 @@ pub says_end : (h : Header) (p : Pose) (ts rest : List Piece) → Begins (spelle
 unfolding end_format end_pose_format Says
 says_end h p ts rest s good =
     let a = says_pose _ p ts rest s good.in_range in
-    behind_says (pose_format (codes "end(meters,rads):")) _ ts p rest (record { value = p; place = a.0 }) rest a.1 (rw good.on_map (refl, refl))
+    says_both (pose_format (codes "end(meters,rads):")) _ ts rest rest (record { value = p; place = a.0 }) p a.1 (rw good.on_map (refl, refl))
 
 abbrev pub ends_words : Ends → List Said
 ends_words x = spelled_pose (codes "start(meters,rads):") x.start ++ spelled_pose (codes "end(meters,rads):") x.end
@@ -333,8 +334,8 @@ ends_words x = spelled_pose (codes "start(meters,rads):") x.start ++ spelled_pos
 pub ends_said : (h : Header) (x : Ends) (ts rest : List Piece) → Says (ends_format h) ts x rest → Begins (ends_words x) ts rest × IsGood h x.start × IsGood h x.end
 unfolding ends_format Says
 ends_said h x ts rest s =
-    let a = says_behind _ _ ts x rest s in
-    let b = says_behind _ _ a.1 x rest a.3 in
+    let a = says_parts _ _ ts rest x s in
+    let b = says_parts _ _ a.1 rest x a.3 in
     let p = start_said h a.0 ts a.1 a.2 in
     let q = end_said h b.0 a.1 b.1 b.2 in
     let start : a.0 ≡ x.start = ap (λ (y : Ends). y.start) (sym b.3.0) in
@@ -351,8 +352,8 @@ pub says_ends : (h : Header) (x : Ends) (ts rest : List Piece) → Begins (ends_
 unfolding ends_format Says
 says_ends h x ts rest s good fine =
     let a = append_begins (spelled_pose (codes "start(meters,rads):") x.start) (spelled_pose (codes "end(meters,rads):") x.end) ts rest s in
-    behind_says (start_format h) _ ts x rest x.start a.0 (says_start h x.start ts a.0 a.1 good)
-    (behind_says (end_format h) _ a.0 x rest x.end rest (says_end h x.end a.0 rest a.2 fine) (refl, refl))
+    says_both (start_format h) _ ts a.0 rest x.start x (says_start h x.start ts a.0 a.1 good)
+    (says_both (end_format h) _ a.0 rest rest x.end x (says_end h x.end a.0 rest a.2 fine) (refl, refl))
 
 -- ---- the header
 
@@ -362,9 +363,9 @@ header_words h = size_words h.size ++ (thresholds_words h.thresholds ++ rates_wo
 pub header_said : (h : Header) (ts rest : List Piece) → Says header_format ts h rest → Begins (header_words h) ts rest × IsHeaderInRange h
 unfolding header_format Says
 header_said h ts rest s =
-    let a = says_behind _ _ ts h rest s in
-    let b = says_behind _ _ a.1 h rest a.3 in
-    let c = says_behind _ _ b.1 h rest b.3 in
+    let a = says_parts _ _ ts rest h s in
+    let b = says_parts _ _ a.1 rest h a.3 in
+    let c = says_parts _ _ b.1 rest h b.3 in
     let p = size_said a.0 ts a.1 a.2 in
     let q = thresholds_said b.0 a.1 b.1 b.2 in
     let r = rates_said c.0 b.1 c.1 c.2 in
@@ -397,10 +398,10 @@ unfolding header_format Says
 says_header h ts rest s k =
     let a = append_begins (size_words h.size) (thresholds_words h.thresholds ++ rates_words h.rates) ts rest s in
     let b = append_begins (thresholds_words h.thresholds) (rates_words h.rates) a.0 rest a.2 in
-    behind_says size_format _ ts h rest h.size a.0 (says_size h.size ts a.0 a.1 (record { width = k.width; height = k.height; states = k.states }))
-    (behind_says thresholds_format _ a.0 h rest h.thresholds b.0
+    says_both size_format _ ts a.0 rest h.size h (says_size h.size ts a.0 a.1 (record { width = k.width; height = k.height; states = k.states }))
+    (says_both thresholds_format _ a.0 b.0 rest h.thresholds h
     (says_thresholds h.thresholds a.0 b.0 b.1 (record { obsthresh = k.obsthresh; inscribed = k.inscribed; circumscribed = k.circumscribed }))
-    (behind_says rates_format _ b.0 h rest h.rates rest (says_rates h.rates b.0 rest b.2 (record { cell = k.cell; speed = k.speed; turn45 = k.turn45 })) (refl, refl)))
+    (says_both rates_format _ b.0 rest rest h.rates h (says_rates h.rates b.0 rest b.2 (record { cell = k.cell; speed = k.speed; turn45 = k.turn45 })) (refl, refl)))
 
 -- ---- all numbers but the costs
 
@@ -455,8 +456,8 @@ numbers_words e = header_words (header_of e) ++ ends_words (ends_of e)
 pub numbers_said : (e : Environment) (ts rest : List Piece) → Says numbers_format ts e rest → Begins (numbers_words e) ts rest × IsEnvironment e
 unfolding numbers_format Says
 numbers_said e ts rest s =
-    let a = says_behind _ _ ts e rest s in
-    let b = says_behind _ _ a.1 e rest a.3 in
+    let a = says_parts _ _ ts rest e s in
+    let b = says_parts _ _ a.1 rest e a.3 in
     let p = header_said a.0 ts a.1 a.2 in
     let q = ends_said a.0 b.0 a.1 b.1 b.2 in
     let same : environment_of a.0 b.0 ≡ e = sym b.3.0 in (
@@ -490,8 +491,8 @@ says_numbers e ts rest s k =
       on_map = and_from (is_on_axis e.cell e.width e.end.x) (is_on_axis e.cell e.height e.end.y) (is_on e.cell e.end.x e.width k.end_on_map.x) (is_on e.cell e.end.y e.height k.end_on_map.y);
     } in
     let same : e ≡ environment_of (header_of e) (ends_of e) = ap (λ n. record e { headings = n }) usual in
-    behind_says header_format _ ts e rest (header_of e) a.0 (says_header (header_of e) ts a.0 a.1 in_range)
-    (behind_says (ends_format (header_of e)) _ a.0 e rest (ends_of e) rest (says_ends (header_of e) (ends_of e) a.0 rest a.2 start end) (same, refl))
+    says_both header_format _ ts a.0 rest (header_of e) e (says_header (header_of e) ts a.0 a.1 in_range)
+    (says_both (ends_format (header_of e)) _ a.0 rest rest (ends_of e) e (says_ends (header_of e) (ends_of e) a.0 rest a.2 start end) (same, refl))
 
 -- ---- the grid
 
@@ -545,7 +546,7 @@ costs_said zero before cells ts rest h = record {
   begins = h.1;
 }
 costs_said (suc count) before cells ts rest h =
-    let a = says_behind _ _ ts cells rest h in
+    let a = says_parts _ _ ts rest cells h in
     let one = cost_said before a.0 ts a.1 a.2 in
     let others = costs_said count a.0 cells a.1 rest a.3 in
     record {
@@ -562,7 +563,7 @@ unfolding turns Says
 says_costs [] before ts rest h k = (append-nil before, h)
 says_costs (cost ∷ more) before ts rest h k =
     let a = append_begins (number (pos cost) ∷ []) (costs_words more) ts rest h in
-    behind_says (cost_format before) _ ts (before ++ cost ∷ more) rest (before ++ cost ∷ []) a.0 (says_cost before cost ts a.0 a.1 k.0)
+    says_both (cost_format before) _ ts a.0 rest (before ++ cost ∷ []) (before ++ cost ∷ more) (says_cost before cost ts a.0 a.1 k.0)
     (subst (λ (xs : List ℕ). Says (turns (length more) cost_format (before ++ cost ∷ [])) a.0 xs rest) (append_assoc before (cost ∷ []) more)
     (says_costs more (before ++ cost ∷ []) a.0 rest a.2 k.1))
 
@@ -590,8 +591,8 @@ says_grid count cells (t ∷ ts) rest h size k =
 pub text_said : (text : List ℕ) (x : Environment × List ℕ) → StandsFor environment_format text x → IsTextOf text x.0 x.1
 unfolding environment_format
 text_said text x h =
-    let a = says_behind _ _ (tokens text) x h.0 h.1 in
-    let b = says_behind _ _ a.1 x h.0 a.3 in
+    let a = says_parts _ _ (tokens text) h.0 x h.1 in
+    let b = says_parts _ _ a.1 h.0 x a.3 in
     let z = at_end _ _ x (a.0, b.0) b.1 h.0 b.3 in
     let p = numbers_said a.0 (tokens text) a.1 a.2 in
     let q = grid_said (a.0.width * a.0.height) b.0 a.1 b.1 b.2 in
@@ -608,6 +609,6 @@ says_text text x h =
     let all = all_begins (spelled x.0 x.1) (tokens text) h.tokens in
     let a = append_begins (numbers_words x.0) (spelled_grid x.1) (tokens text) [] all in (
       [],
-      behind_says numbers_format _ (tokens text) x [] x.0 a.0 (says_numbers x.0 (tokens text) a.0 a.1 h.environment)
-          (behind_says (grid_format (x.0.width * x.0.height)) _ a.0 x [] x.1 [] (says_grid (x.0.width * x.0.height) x.1 a.0 [] a.2 h.grid.size h.grid.costs) (refl, refl)),
+      says_both numbers_format _ (tokens text) a.0 [] x.0 x (says_numbers x.0 (tokens text) a.0 a.1 h.environment)
+          (says_both (grid_format (x.0.width * x.0.height)) _ a.0 [] [] x.1 x (says_grid (x.0.width * x.0.height) x.1 a.0 [] a.2 h.grid.size h.grid.costs) (refl, refl)),
     )

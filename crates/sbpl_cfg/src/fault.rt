@@ -44,7 +44,7 @@ pub enum EnvFault {
 impl EnvFault {
     /// The number that the program prints, 1 to 8 in the order of the variants; 0 for `NoMemory`, which isn't printed.
     pub fn number(&self) -> u8
-        ensures { result ≡ number_of self.now }
+        ensures number { result ≡ number_of self.now }
     {
         match self {
             EnvFault::Word(_) => 1,
@@ -61,7 +61,7 @@ impl EnvFault {
 
     /// The variant's name, as the program prints it.
     pub fn name(&self) -> &'static str
-        ensures { result.now ≡ name_of self.now }
+        ensures name { result.now ≡ name_of self.now }
     {
         match self {
             EnvFault::Word(_) => "Word",
@@ -78,7 +78,7 @@ impl EnvFault {
 
     /// The fault's place in the text; 0 for `NoMemory`, which has none.
     pub fn place(&self) -> usize
-        ensures { result ≡ place_of self.now }
+        ensures place { result ≡ place_of self.now }
     {
         match self {
             EnvFault::Word(place)

@@ -13,8 +13,8 @@ pub const TAU: i64 = 6_283_185_307;
 /// The cell of a coordinate on a grid whose cells have the side `size`: the floor of the quotient, also below zero.
 /// Both are nanometres.
 pub fn cell_at(size: i64, x: i64) -> i64
-    requires { pos 0 <ℤ size }
-    ensures { result ≡ cell_of size x }
+    requires size { pos 0 <ℤ size }
+    ensures cell { result ≡ cell_of size x }
 {
     x.div_euclid(size)
 }
@@ -23,7 +23,7 @@ pub fn cell_at(size: i64, x: i64) -> i64
 /// `TAU / headings`: the nearest bin. Two are never equally near, since `TAU` is odd.
 #[tactic(auto, unfolding(crate::specs::Place::heading_of))]
 pub fn heading_at(headings: u32, angle: i64) -> u32
-    requires { 0 < headings }
+    requires some { 0 < headings }
     ensures heading { result ≡ heading_of headings angle }
     ensures bound { result < headings }
 {
@@ -35,7 +35,7 @@ pub fn heading_at(headings: u32, angle: i64) -> u32
 
 /// The cell of a coordinate, where it is one of the `count` cells of its axis.
 fn cell_on_axis(size: i64, count: u32, x: i64) -> Option<u32>
-    requires { pos 0 <ℤ size }
+    requires size { pos 0 <ℤ size }
     ensures cell { IfSome result (λ q. pos q ≡ cell_of size x) }
     ensures bound { IfSome result (λ q. q < count) }
     ensures on_axis { is_some result ≡ is_on_axis size count x }
@@ -50,8 +50,8 @@ fn cell_on_axis(size: i64, count: u32, x: i64) -> Option<u32>
 
 /// Whether a pose is on a map of `width` times `height` cells of the side `size`.
 pub(crate) fn is_on_map(size: i64, width: u32, height: u32, p: &Pose) -> bool
-    requires { pos 0 <ℤ size }
-    ensures { result ≡ is_on_map size width height p.now }
+    requires size { pos 0 <ℤ size }
+    ensures on_map { result ≡ is_on_map size width height p.now }
 {
     cell_on_axis(size, width, p.x).is_some() && cell_on_axis(size, height, p.y).is_some()
 }

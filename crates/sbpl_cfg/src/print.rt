@@ -13,7 +13,7 @@ use sbpl_fixed::{NoMemory, print_nano};
 
 /// Appends a word and the byte behind it.
 fn put_word(out: &mut Vec<u8>, word: &[u8], end: u8) -> Result<(), NoMemory>
-    ensures { OnOk result (out.new.items ≡ out.old.items ++ (word.now ++ end ∷ [])) }
+    ensures ok { OnOk result (out.new.items ≡ out.old.items ++ (word.now ++ end ∷ [])) }
 {
     out.extend_from_slice(word)?;
     out.push(end)?;
@@ -22,8 +22,8 @@ fn put_word(out: &mut Vec<u8>, word: &[u8], end: u8) -> Result<(), NoMemory>
 
 /// Appends a digit.
 fn put_digit(out: &mut Vec<u8>, digit: u32) -> Result<(), NoMemory>
-    requires { digit < 10 }
-    ensures { OnOk result (out.new.items ≡ out.old.items ++ (48 + digit) ∷ []) }
+    requires digit { digit < 10 }
+    ensures ok { OnOk result (out.new.items ≡ out.old.items ++ (48 + digit) ∷ []) }
 {
     out.push(b'0' + digit as u8)?;
     Ok(())
@@ -31,7 +31,7 @@ fn put_digit(out: &mut Vec<u8>, digit: u32) -> Result<(), NoMemory>
 
 /// Appends the digits of a number.
 fn put_digits(out: &mut Vec<u8>, n: u32) -> Result<(), NoMemory>
-    ensures { OnOk result (out.new.items ≡ out.old.items ++ decimal n) }
+    ensures ok { OnOk result (out.new.items ≡ out.old.items ++ decimal n) }
 {
     if n < 10 {
         put_digit(out, n)?;
@@ -44,7 +44,7 @@ fn put_digits(out: &mut Vec<u8>, n: u32) -> Result<(), NoMemory>
 
 /// Appends a number and the byte behind it.
 fn put_whole(out: &mut Vec<u8>, n: u32, end: u8) -> Result<(), NoMemory>
-    ensures { OnOk result (out.new.items ≡ out.old.items ++ (decimal n ++ end ∷ [])) }
+    ensures ok { OnOk result (out.new.items ≡ out.old.items ++ (decimal n ++ end ∷ [])) }
 {
     put_digits(out, n)?;
     out.push(end)?;
@@ -53,7 +53,7 @@ fn put_whole(out: &mut Vec<u8>, n: u32, end: u8) -> Result<(), NoMemory>
 
 /// Appends a number with its sign, and the byte behind it.
 fn put_signed(out: &mut Vec<u8>, n: i16, end: u8) -> Result<(), NoMemory>
-    ensures { OnOk result (out.new.items ≡ out.old.items ++ (signed_decimal n ++ end ∷ [])) }
+    ensures ok { OnOk result (out.new.items ≡ out.old.items ++ (signed_decimal n ++ end ∷ [])) }
 {
     if n < 0 {
         out.push(b'-')?;
@@ -66,7 +66,7 @@ fn put_signed(out: &mut Vec<u8>, n: i16, end: u8) -> Result<(), NoMemory>
 fn put_nano(out: &mut Vec<u8>, n: i64, end: u8) -> Result<(), NoMemory>
     requires low { neg_ℤ (pos (10 ^ 18)) ≤ℤ n }
     requires high { n ≤ℤ pos (10 ^ 18) }
-    ensures { OnOk result (out.new.items ≡ out.old.items ++ (nano_text n ++ end ∷ [])) }
+    ensures ok { OnOk result (out.new.items ≡ out.old.items ++ (nano_text n ++ end ∷ [])) }
 {
     print_nano(n, out)?;
     out.push(end)?;
@@ -76,7 +76,7 @@ fn put_nano(out: &mut Vec<u8>, n: i64, end: u8) -> Result<(), NoMemory>
 /// A line with a word and a number.
 #[tactic(auto, using(std::proofs::lemmas::List::append_assoc), unfolding(crate::specs::Printed::line_text))]
 fn put_whole_line(out: &mut Vec<u8>, word: &[u8], n: u32) -> Result<(), NoMemory>
-    ensures { OnOk result (out.new.items ≡ out.old.items ++ line_text (word.now ∷ decimal n ∷ [])) }
+    ensures ok { OnOk result (out.new.items ≡ out.old.items ++ line_text (word.now ∷ decimal n ∷ [])) }
 {
     put_word(out, word, b' ')?;
     put_whole(out, n, b'\n')?;
@@ -88,7 +88,7 @@ fn put_whole_line(out: &mut Vec<u8>, word: &[u8], n: u32) -> Result<(), NoMemory
 fn put_nano_line(out: &mut Vec<u8>, word: &[u8], n: i64) -> Result<(), NoMemory>
     requires low { neg_ℤ (pos (10 ^ 18)) ≤ℤ n }
     requires high { n ≤ℤ pos (10 ^ 18) }
-    ensures { OnOk result (out.new.items ≡ out.old.items ++ line_text (word.now ∷ nano_text n ∷ [])) }
+    ensures ok { OnOk result (out.new.items ≡ out.old.items ++ line_text (word.now ∷ nano_text n ∷ [])) }
 {
     put_word(out, word, b' ')?;
     put_nano(out, n, b'\n')?;
@@ -98,8 +98,8 @@ fn put_nano_line(out: &mut Vec<u8>, word: &[u8], n: i64) -> Result<(), NoMemory>
 /// A line with a word and a pose.
 #[tactic(auto, using(std::proofs::lemmas::List::append_assoc), unfolding(crate::specs::Printed::line_text))]
 fn put_pose_line(out: &mut Vec<u8>, word: &[u8], p: &Pose) -> Result<(), NoMemory>
-    requires { IsPoseInRange p.now }
-    ensures { OnOk result (out.new.items ≡ out.old.items ++ line_text (pose_words word.now p.now)) }
+    requires in_range { IsPoseInRange p.now }
+    ensures ok { OnOk result (out.new.items ≡ out.old.items ++ line_text (pose_words word.now p.now)) }
 {
     put_word(out, word, b' ')?;
     put_nano(out, p.x, b' ')?;
@@ -111,7 +111,7 @@ fn put_pose_line(out: &mut Vec<u8>, word: &[u8], p: &Pose) -> Result<(), NoMemor
 /// A line with a word and two numbers.
 #[tactic(auto, using(std::proofs::lemmas::List::append_assoc), unfolding(crate::specs::Printed::line_text))]
 fn put_size_line(out: &mut Vec<u8>, word: &[u8], width: u32, height: u32) -> Result<(), NoMemory>
-    ensures { OnOk result (out.new.items ≡ out.old.items ++ line_text (word.now ∷ decimal width ∷ decimal height ∷ [])) }
+    ensures ok { OnOk result (out.new.items ≡ out.old.items ++ line_text (word.now ∷ decimal width ∷ decimal height ∷ [])) }
 {
     put_word(out, word, b' ')?;
     put_whole(out, width, b' ')?;
@@ -122,7 +122,7 @@ fn put_size_line(out: &mut Vec<u8>, word: &[u8], width: u32, height: u32) -> Res
 /// A line with a word and a number with its sign.
 #[tactic(auto, using(std::proofs::lemmas::List::append_assoc), unfolding(crate::specs::Printed::line_text))]
 fn put_signed_line(out: &mut Vec<u8>, word: &[u8], n: i16) -> Result<(), NoMemory>
-    ensures { OnOk result (out.new.items ≡ out.old.items ++ line_text (word.now ∷ signed_decimal n ∷ [])) }
+    ensures ok { OnOk result (out.new.items ≡ out.old.items ++ line_text (word.now ∷ signed_decimal n ∷ [])) }
 {
     put_word(out, word, b' ')?;
     put_signed(out, n, b'\n')?;
@@ -132,7 +132,7 @@ fn put_signed_line(out: &mut Vec<u8>, word: &[u8], n: i16) -> Result<(), NoMemor
 /// The size and the thresholds.
 #[tactic(auto, using(std::proofs::lemmas::List::append_assoc))]
 fn put_sizes(out: &mut Vec<u8>, env: &Env) -> Result<(), NoMemory>
-    ensures { OnOk result (out.new.items ≡ out.old.items ++ lines_text (size_lines env.now)) }
+    ensures ok { OnOk result (out.new.items ≡ out.old.items ++ lines_text (size_lines env.now)) }
 {
     put_size_line(out, b"discretization(cells):", env.width, env.height)?;
     put_whole_line(out, b"obsthresh:", u32::from(env.obsthresh))?;
@@ -148,7 +148,7 @@ fn put_sizes(out: &mut Vec<u8>, env: &Env) -> Result<(), NoMemory>
 /// The side of a cell, the speed and the time to turn.
 #[tactic(auto, using(std::proofs::lemmas::List::append_assoc))]
 fn put_rates(out: &mut Vec<u8>, env: &Env) -> Result<(), NoMemory>
-    ensures { OnOk result (out.new.items ≡ out.old.items ++ lines_text (rate_lines env.now)) }
+    ensures ok { OnOk result (out.new.items ≡ out.old.items ++ lines_text (rate_lines env.now)) }
 {
     put_nano_line(out, b"cellsize(meters):", env.cell)?;
     put_nano_line(out, b"nominalvel(mpersecs):", env.speed)?;
@@ -159,7 +159,7 @@ fn put_rates(out: &mut Vec<u8>, env: &Env) -> Result<(), NoMemory>
 /// The start, the end, and the word before the grid.
 #[tactic(auto, using(std::proofs::lemmas::List::append_assoc))]
 fn put_ends(out: &mut Vec<u8>, env: &Env) -> Result<(), NoMemory>
-    ensures { OnOk result (out.new.items ≡ out.old.items ++ lines_text (end_lines env.now)) }
+    ensures ok { OnOk result (out.new.items ≡ out.old.items ++ lines_text (end_lines env.now)) }
 {
     put_pose_line(out, b"start(meters,rads):", &env.start)?;
     put_pose_line(out, b"end(meters,rads):", &env.end)?;
@@ -168,8 +168,8 @@ fn put_ends(out: &mut Vec<u8>, env: &Env) -> Result<(), NoMemory>
 }
 
 fn put_row(out: &mut Vec<u8>, cells: &[u8]) -> Result<(), NoMemory>
-    requires { 0 < length cells.now }
-    ensures { OnOk result (out.new.items ≡ out.old.items ++ line_text (map decimal cells.now)) }
+    requires some { 0 < length cells.now }
+    ensures ok { OnOk result (out.new.items ≡ out.old.items ++ line_text (map decimal cells.now)) }
 {
     let last = cells.len() - 1;
     for cost in &cells[..last] {
@@ -182,7 +182,7 @@ fn put_row(out: &mut Vec<u8>, cells: &[u8]) -> Result<(), NoMemory>
 fn put_grid(out: &mut Vec<u8>, width: u32, height: u32, cells: &[u8]) -> Result<(), NoMemory>
     requires some { 0 < width }
     requires size { length cells.now ≡ width * height }
-    ensures { OnOk result (out.new.items ≡ out.old.items ++ lines_text (grid_lines height width cells.now)) }
+    ensures ok { OnOk result (out.new.items ≡ out.old.items ++ lines_text (grid_lines height width cells.now)) }
 {
     let mut rest = cells;
     for _y in 0..height {
@@ -194,8 +194,8 @@ fn put_grid(out: &mut Vec<u8>, width: u32, height: u32, cells: &[u8]) -> Result<
 }
 
 fn put_all(out: &mut Vec<u8>, env: &Env, cells: &[u8]) -> Result<(), NoMemory>
-    requires { length cells.now ≡ env.now.width * env.now.height }
-    ensures { OnOk result (out.new.items ≡ out.old.items ++ environment_text env.now cells.now) }
+    requires size { length cells.now ≡ env.now.width * env.now.height }
+    ensures ok { OnOk result (out.new.items ≡ out.old.items ++ environment_text env.now cells.now) }
 {
     put_sizes(out, env)?;
     put_rates(out, env)?;
@@ -207,7 +207,7 @@ fn put_all(out: &mut Vec<u8>, env: &Env, cells: &[u8]) -> Result<(), NoMemory>
 /// Appends the text of an environment: a line for each word and what it says, and a line for each row of costs. A grid of
 /// the environment's size is asked for. After `NoMemory` the text is unchanged.
 pub fn print_env(env: &Env, grid: &Grid, out: &mut Vec<u8>) -> Result<(), NoMemory>
-    requires { length grid.now ≡ env.now.width * env.now.height }
+    requires size { length grid.now ≡ env.now.width * env.now.height }
     ensures ok { OnOk result (out.new.items ≡ out.old.items ++ environment_text env.now grid.now) }
     ensures err { OnErr result (out.new.items ≡ out.old.items) }
 {

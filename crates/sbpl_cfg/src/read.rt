@@ -190,8 +190,8 @@ fn pose(reader: &mut Reader, word: &[u8]) -> Result<Placed<Pose>, EnvFault>
 
 /// Whether a pose is on the map.
 fn is_within(header: &Header, p: &Pose) -> bool
-    requires { pos 0 <ℤ header.now.rates.cell }
-    ensures { result ≡ is_on_map_of header.now p.now }
+    requires cell { pos 0 <ℤ header.now.rates.cell }
+    ensures on_map { result ≡ is_on_map_of header.now p.now }
 {
     is_on_map(header.rates.cell, header.size.width, header.size.height, p)
 }
@@ -208,7 +208,7 @@ fn start_pose(reader: &mut Reader) -> Result<Placed<Pose>, EnvFault>
 /// The start, which must be on the map.
 #[tactic(auto, using(sbpl_fixed::proofs::Reading::reading), unfolding(sbpl_fixed::specs::Formats::reads, crate::specs::Format::start_format))]
 fn start(reader: &mut Reader, header: &Header) -> Result<Pose, EnvFault>
-    requires { pos 0 <ℤ header.now.rates.cell }
+    requires cell { pos 0 <ℤ header.now.rates.cell }
     ensures read { Gives NoMemory (λ x. x) result reader.new (reads told (start_format header.now) reader.old) }
     ensures in_range { IfOk result IsPoseInRange }
     ensures on_map { IfOk result (λ p. is_on_map_of header.now p ≡ true) }
@@ -232,7 +232,7 @@ fn end_pose(reader: &mut Reader) -> Result<Placed<Pose>, EnvFault>
 /// The end, which must be on the map.
 #[tactic(auto, using(sbpl_fixed::proofs::Reading::reading), unfolding(sbpl_fixed::specs::Formats::reads, crate::specs::Format::end_format))]
 fn end(reader: &mut Reader, header: &Header) -> Result<Pose, EnvFault>
-    requires { pos 0 <ℤ header.now.rates.cell }
+    requires cell { pos 0 <ℤ header.now.rates.cell }
     ensures read { Gives NoMemory (λ x. x) result reader.new (reads told (end_format header.now) reader.old) }
     ensures in_range { IfOk result IsPoseInRange }
     ensures on_map { IfOk result (λ p. is_on_map_of header.now p ≡ true) }
@@ -263,7 +263,7 @@ fn header(reader: &mut Reader) -> Result<Header, EnvFault>
 /// The start and the end.
 #[tactic(auto, using(sbpl_fixed::proofs::Reading::reading), unfolding(sbpl_fixed::specs::Formats::reads, crate::specs::Format::ends_format))]
 fn ends(reader: &mut Reader, header: &Header) -> Result<Ends, EnvFault>
-    requires { pos 0 <ℤ header.now.rates.cell }
+    requires cell { pos 0 <ℤ header.now.rates.cell }
     ensures read { Gives NoMemory (λ x. x) result reader.new (reads told (ends_format header.now) reader.old) }
     ensures start { IfOk result (λ x. IsPoseInRange x.start × (is_on_map_of header.now x.start ≡ true)) }
     ensures end { IfOk result (λ x. IsPoseInRange x.end × (is_on_map_of header.now x.end ≡ true)) }
@@ -275,8 +275,8 @@ fn ends(reader: &mut Reader, header: &Header) -> Result<Ends, EnvFault>
 
 /// The environment of what was read.
 fn env_of(header: &Header, ends: &Ends) -> Env
-    requires { IsEnvironment (environment_of header.now ends.now) }
-    ensures { result ≡ environment_of header.now ends.now }
+    requires environment { IsEnvironment (environment_of header.now ends.now) }
+    ensures value { result ≡ environment_of header.now ends.now }
 {
     Env {
         width: header.size.width,

@@ -1,7 +1,7 @@
 -- The states that a change of the map touches.
 use Rattle.std.specs.Prelude.{◌≢◌, ℕ, ℤ, ◌<◌, ◌↔◌, List}
 use Rattle.std.specs.List.{Contains}
-use Rattle.sbpl_graph.specs.Network.{Network, IsFreeArc}
+use Rattle.sbpl_graph.specs.Network.{Network, HasSameArcs}
 use Rattle.sbpl_map.specs.CellMap.{CellMap, cost_at}
 use Rattle.sbpl_cost.specs.World.{World}
 use Rattle.sbpl_cost.specs.Reading.{IsHeadReading}
@@ -16,11 +16,6 @@ pub record IsTouched (w : World) (new : CellMap) (t : ℕ) : Type 0 where
 -- these are all states that the change from one map to the other touches
 abbrev pub AreTouched : World → CellMap → List ℕ → Type 0
 AreTouched w new touched = (t : ℕ) → Contains touched t ↔ IsTouched w new t
-
--- t has the same free arcs into it on both graphs, at the same costs
-pub record HasSameArcs (n n' : Network) (t : ℕ) : Type 0 where
-  pub kept : (s k c : ℕ) → IsFreeArc n s k t c → IsFreeArc n' s k t c
-  pub none_new : (s k c : ℕ) → IsFreeArc n' s k t c → IsFreeArc n s k t c
 
 -- each other state has the same free arcs into it
 abbrev pub KeepArcsElsewhere : Network → Network → List ℕ → Type 0

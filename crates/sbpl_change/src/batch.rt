@@ -17,7 +17,7 @@ use std::alloc::Global;
 
 /// Whether all cells of a batch are on the map of a lattice.
 pub fn are_on_map(lattice: &Lattice, batch: &[Write]) -> bool
-    ensures { IsTrue result ↔ AreOnMap lattice.now.map batch.now }
+    ensures on_map { IsTrue result ↔ AreOnMap lattice.now.map batch.now }
 {
     batch
         .iter()

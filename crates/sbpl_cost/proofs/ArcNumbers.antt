@@ -7,7 +7,7 @@ use Rattle.std.proofs.lemmas.List.Sums.{count_by_more_yes, count_by_more_no, cou
 use Rattle.std.proofs.lemmas.Option.{slice_get_within, get_or_from_slice_get, slice_get-get_or, same_Some}
 use Rattle.sbpl_mprim.specs.declared.prim.Primitive.{Primitive}
 use Rattle.sbpl_cost.specs.Tables.{AreNumbers}
-use Rattle.sbpl_cost.proofs.Filling.{IsFilled, filled_more}
+use Rattle.sbpl_sweep.proofs.Lists.{IsFilled, filled_more}
 
 -- n is the number of the primitive at this place among those that start at its heading
 abbrev pub IsNumber : List Primitive → ℕ → ℕ → Type 0

@@ -20,7 +20,7 @@ use Rattle.sbpl_cost.specs.Arc.{IsArcBy}
 use Rattle.sbpl_cost.specs.Lattices.{leaving, arc_place, head_by, network_of}
 use Rattle.sbpl_cost.specs.Reading.{IsHeadReading, AddsHeads, end_of, head_by_offset, head_of_read, AreReadable}
 use Rattle.sbpl_cost.proofs.Numbered.{numbered_at}
-use Rattle.sbpl_cost.proofs.Filling.{take_next}
+use Rattle.sbpl_sweep.proofs.Lists.{take_next}
 use Rattle.sbpl_cost.proofs.PlaceLaws.{place_of_state, place_of_state_number}
 use Rattle.sbpl_cost.proofs.LatticeLaws.{sound, state_number_below}
 use Rattle.sbpl_cost.proofs.Arcs.{IsFound}

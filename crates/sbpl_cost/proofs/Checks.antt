@@ -6,14 +6,14 @@ use Rattle.std.proofs.lemmas.Bool.Decides.{Decides-int_eq}
 use Rattle.std.proofs.lemmas.List.{length_push}
 use Rattle.std.proofs.lemmas.Option.{none-some, same_Some, slice_get_within, slice_get-get_or}
 use Rattle.std.proofs.Math.ListN.{get_or}
-use Rattle.sbpl_cfg.specs.declared.pose.Pose.{Pose}
 use Rattle.sbpl_mprim.specs.declared.prim.Primitive.{Primitive}
 use Rattle.sbpl_mprim.specs.Primitives.{IsPrimitive}
 use Rattle.sbpl_sweep.specs.declared.cell.Cell.{Cell}
 use Rattle.sbpl_sweep.specs.Sweep.{IsCentre}
 use Rattle.sbpl_sweep.specs.Centres.{AreCentres, AreSwept}
 use Rattle.sbpl_cost.specs.Checked.{IsListed, AddsOthers, AreAlong, AreAround}
-use Rattle.sbpl_cost.proofs.Filling.{before_push, at_push, take_next}
+use Rattle.sbpl_sweep.proofs.Lists.{before_push, at_push, take_next}
+use Rattle.sbpl_sweep.proofs.ReadsListed.{end_is_centre}
 
 -- one more cell at the end
 listed_push : (list : List Cell) (c x : Cell) → IsListed list x → IsListed (list ++ c ∷ []) x
@@ -76,16 +76,6 @@ known_where_equal known n c within h =
 -- no cells yet
 pub added_none : (old known : List Cell) → AddsOthers old [] known old
 added_none old known = record { kept = λ x h. h; each = λ x h. inl h; all = λ x h. absurd (none-some x h.1) }
-
--- the end cell is a centre cell, since the last pose lies there
-pub end_is_centre : (cell : ℤ) (headings : ℕ) (p : Primitive) → IsPrimitive cell headings p → IsCentre cell p.poses p.dx p.dy
-end_is_centre cell headings p good =
-    let last : ℕ = length p.poses - 1 in
-    let some = good.some_pose in
-    let default : Pose = record { x = pos 0; y = pos 0; theta = pos 0 } in
-    let there = slice_get-get_or p.poses last default (omega arith) in
-    let end = good.end (get_or p.poses last default) last (omega arith) there in
-    record { number = last; pose = get_or p.poses last default; stands = there; column = end.x; row = end.y }
 
 -- a list of one cell has that cell
 one_listed : (end c : Cell) → IsListed (end ∷ []) c → end ≡ c

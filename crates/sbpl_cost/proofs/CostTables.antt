@@ -7,7 +7,7 @@ use Rattle.sbpl_cfg.specs.Environment.{Environment}
 use Rattle.sbpl_mprim.specs.declared.prim.Primitive.{Primitive}
 use Rattle.sbpl_cost.specs.PrimitiveCost.{primitive_cost, most_cost}
 use Rattle.sbpl_cost.proofs.Filling.{map_more}
-use Rattle.sbpl_cost.proofs.Freedom.{made_from}
+use Rattle.sbpl_sweep.proofs.Lists.{made_from}
 
 -- the costs of the first n primitives, none of which is too dear
 abbrev pub AreCosts : Environment → List Primitive → List ℕ → ℕ → Type 0

@@ -9,6 +9,7 @@ use Rattle.sbpl_mprim.specs.Primitives.{offset_cell}
 use Rattle.sbpl_sweep.specs.declared.cell.Cell.{Cell}
 use Rattle.sbpl_sweep.specs.Sweep.{IsCentre, IsSwept}
 use Rattle.sbpl_sweep.specs.Centres.{AreSwept}
+use Rattle.sbpl_sweep.proofs.Lists.{made_at, made_from}
 use Rattle.sbpl_cost.specs.PrimitiveCost.{primitive_cost}
 use Rattle.sbpl_cost.specs.World.{World}
 use Rattle.sbpl_cost.specs.Arc.{cost_from, IsBelow, IsFree, IsPaid, IsGreatestPaid, IsFreeAt}
@@ -24,17 +25,6 @@ passes_at test (y ∷ ys) (suc i) x all at = passes_at test ys i x (and_parts (t
 pub all_pass : {X : Type 0} (test : X → Bool) (xs : List X) → ((i : ℕ) (x : X) → slice_get xs i ≡ Some x → test x ≡ true) → list_all test xs ≡ true
 all_pass test [] each = refl
 all_pass test (y ∷ ys) each = and_from (test y) (list_all test ys) (each 0 y refl) (all_pass test ys (λ i x at. each (suc i) x at))
-
--- elements of a list that was made by a function
-pub made_at : {X Y : Type 0} (f : X → Y) (xs : List X) (i : ℕ) (x : X) → slice_get xs i ≡ Some x → slice_get (map f xs) i ≡ Some (f x)
-made_at f [] i x at = absurd (none-some x at)
-made_at f (y ∷ ys) zero x at = ap (λ z. Some (f z)) (same_Some y x at)
-made_at f (y ∷ ys) (suc i) x at = made_at f ys i x at
-
-pub made_from : {X Y : Type 0} (f : X → Y) (xs : List X) (i : ℕ) (y : Y) → slice_get (map f xs) i ≡ Some y → (x : X) × (slice_get xs i ≡ Some x) × (f x ≡ y)
-made_from f [] i y at = absurd (none-some y at)
-made_from f (x ∷ xs) zero y at = (x, refl, same_Some (f x) y at)
-made_from f (x ∷ xs) (suc i) y at = made_from f xs i y at
 
 pub below : (threshold : ℕ) (o : Option ℕ) → is_below threshold o ≡ true → IsSomeAnd o (λ c. c < threshold)
 below threshold None h = absurd (let no : false ≡ true = h in cc)

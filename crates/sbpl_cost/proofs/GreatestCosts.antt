@@ -6,7 +6,8 @@ use Rattle.std.proofs.lemmas.Option.{slice_get_within, same_Some}
 use Rattle.sbpl_map.specs.CellMap.{CellMap, cost_at}
 use Rattle.sbpl_sweep.specs.declared.cell.Cell.{Cell}
 use Rattle.sbpl_cost.specs.Judging.{IsCellBelow, AreBelow, IsGreatestBelow}
-use Rattle.sbpl_cost.proofs.Filling.{earlier, last, among, take_next, before_push, at_push}
+use Rattle.sbpl_sweep.proofs.Lists.{take_next, before_push, at_push}
+use Rattle.sbpl_cost.proofs.Filling.{earlier, last, among}
 
 some_below : (o : Option ℕ) (limit c : ℕ) → o ≡ Some c → c < limit → IsSomeAnd o (λ k. k < limit)
 some_below None limit c h below = absurd (let no : None ≡ Some c = h in cc)

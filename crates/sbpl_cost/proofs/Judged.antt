@@ -15,7 +15,7 @@ use Rattle.sbpl_cost.specs.Arc.{cost_from, IsFree, IsPaid, IsGreatestPaid, IsFre
 use Rattle.sbpl_cost.specs.Lattices.{network_of}
 use Rattle.sbpl_cost.specs.Judging.{IsNear, IsGreatestBelow, AreBelow, IsGreatestPassed, IsObstructed, at_source, at_centre, beside_it}
 use Rattle.sbpl_cost.proofs.Arcs.{IsFound, arc_of}
-use Rattle.sbpl_cost.proofs.Checks.{end_is_centre}
+use Rattle.sbpl_sweep.proofs.ReadsListed.{end_is_centre}
 use Rattle.sbpl_cost.proofs.Offsets.{swept_within}
 
 -- what is below the lesser of two limits is below both

@@ -11,7 +11,7 @@ use Rattle.sbpl_cost.specs.World.{World, IsWorld}
 use Rattle.sbpl_cost.specs.Arc.{column_from, row_from}
 use Rattle.sbpl_cost.specs.Lattices.{leaving, head_by, network_of}
 use Rattle.sbpl_cost.proofs.Numbered.{numbered, length-places_from}
-use Rattle.sbpl_cost.proofs.Freedom.{made_from}
+use Rattle.sbpl_sweep.proofs.Lists.{made_from}
 use Rattle.sbpl_cost.proofs.Arcs.{IsFound, found_at}
 use Rattle.sbpl_cost.proofs.LatticeLaws.{sound}
 

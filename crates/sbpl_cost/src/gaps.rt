@@ -27,16 +27,16 @@ pub(crate) struct Gaps {
 
 /// How many cells a number of cells goes forwards.
 fn cells_ahead(d: i32) -> u32
-    requires { IsWithin (negsuc 32766) (pos 32767) d }
-    ensures { result ≡ ahead d }
+    requires range { IsWithin (negsuc 32766) (pos 32767) d }
+    ensures cells { result ≡ ahead d }
 {
     if d > 0 { d.unsigned_abs() } else { 0 }
 }
 
 /// How many cells a number of cells goes backwards.
 fn cells_behind(d: i32) -> u32
-    requires { IsWithin (negsuc 32766) (pos 32767) d }
-    ensures { result ≡ behind d }
+    requires range { IsWithin (negsuc 32766) (pos 32767) d }
+    ensures cells { result ≡ behind d }
 {
     if d < 0 { d.unsigned_abs() } else { 0 }
 }
@@ -47,7 +47,7 @@ fn advance(headings: u32, way: Way, prim: &Prim) -> u32
     requires dy { IsWithin (negsuc 32766) (pos 32767) prim.now.dy }
     requires from { prim.now.from < headings }
     requires to { prim.now.to < headings }
-    ensures { result ≡ advance headings way prim.now }
+    ensures advance { result ≡ advance headings way prim.now }
 {
     match way {
         Way::Right => cells_ahead(prim.dx),
@@ -60,8 +60,8 @@ fn advance(headings: u32, way: Way, prim: &Prim) -> u32
 
 /// A cost for so many cells, where there are any.
 fn fraction(cost: u32, cells: u32) -> Option<Rate>
-    requires { cost ≤ most_cost }
-    ensures { (n : ℕ) → floor_at result n ≡ floor_for cost cells n }
+    requires cheap { cost ≤ most_cost }
+    ensures floor { (n : ℕ) → floor_at result n ≡ floor_for cost cells n }
 {
     if cells == 0 {
         None
@@ -75,14 +75,14 @@ fn fraction_by(env: &Env, way: Way, prim: &Prim, cost: u32) -> Option<Rate>
     requires primitive { IsPrimitive env.now.cell env.now.headings prim.now }
     requires cost { cost ≡ primitive_cost env.now prim.now }
     requires cheap { cost ≤ most_cost }
-    ensures { (n : ℕ) → floor_at result n ≡ floor_by env.now way n prim.now }
+    ensures floor { (n : ℕ) → floor_at result n ≡ floor_by env.now way n prim.now }
 {
     fraction(cost, advance(env.headings, way, prim))
 }
 
 /// The lesser of two fractions, either of which may be missing.
 fn lesser(a: Option<Rate>, b: Option<Rate>) -> Option<Rate>
-    ensures { (n : ℕ) → floor_at result n ≡ lesser (floor_at a n) (floor_at b n) }
+    ensures floor { (n : ℕ) → floor_at result n ≡ lesser (floor_at a n) (floor_at b n) }
 {
     let Some(first) = a else {
         return b;
@@ -98,7 +98,7 @@ fn least_rate(env: &Env, prims: &[Prim], costs: &[u32], way: Way) -> Rate
     requires primitives { (i : ℕ) (p : Primitive) → slice_get prims.now i ≡ Some p → IsPrimitive env.now.cell env.now.headings p }
     requires costs { costs.now ≡ map (primitive_cost env.now) prims.now }
     requires cheap { AreCheap env.now prims.now }
-    ensures { IsRate env.now prims.now way result }
+    ensures rate { IsRate env.now prims.now way result }
 {
     let mut least = None;
     for i in 0..prims.len() {
@@ -112,7 +112,7 @@ fn least_rate(env: &Env, prims: &[Prim], costs: &[u32], way: Way) -> Rate
 
 /// What it costs to get along an axis from one cell to another, by the rates of going forwards and backwards.
 fn along(from: u32, to: u32, forwards: &Rate, backwards: &Rate) -> u64
-    ensures { result ≡ max ((to - from) * forwards.now.cost / forwards.now.cells) ((from - to) * backwards.now.cost / backwards.now.cells) }
+    ensures cost { result ≡ max ((to - from) * forwards.now.cost / forwards.now.cells) ((from - to) * backwards.now.cost / backwards.now.cells) }
 {
     if from <= to {
         forwards.floor(to - from)

@@ -52,7 +52,7 @@ fn length_of_way(poses: &[Pose]) -> u64
 pub(crate) fn bins_turned(headings: u32, from: u32, to: u32) -> u32
     requires from { from < headings }
     requires to { to < headings }
-    ensures { result ≡ heading_gap headings from to }
+    ensures bins { result ≡ heading_gap headings from to }
 {
     let apart = from.abs_diff(to);
     apart.min(headings - apart)
@@ -72,7 +72,7 @@ fn milliseconds_of_way(p: &Prim, env: &Env) -> u128
 
 /// The milliseconds that the turn takes, rounded up.
 fn milliseconds_of_turn(p: &Prim, env: &Env) -> u128
-    requires { IsPrimitive env.now.cell env.now.headings p.now }
+    requires primitive { IsPrimitive env.now.cell env.now.headings p.now }
     ensures value { result ≡ angular_time env.now p.now }
     ensures positive { p.now.from ≢ p.now.to → 1 ≤ result }
     ensures small { result ≤ 10 ^ 26 }

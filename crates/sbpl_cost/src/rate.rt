@@ -14,7 +14,7 @@ pub(crate) struct Rate {
 impl Rate {
     /// It is less than another, as a fraction.
     pub(crate) fn is_less(&self, other: &Rate) -> bool
-        ensures { IsTrue result ↔ (self.now.cost * other.now.cells < other.now.cost * self.now.cells) }
+        ensures less { IsTrue result ↔ (self.now.cost * other.now.cells < other.now.cost * self.now.cells) }
     {
         u64::from(self.cost) * u64::from(other.cells)
             < u64::from(other.cost) * u64::from(self.cells)
@@ -22,7 +22,7 @@ impl Rate {
 
     /// What `n` cells cost, rounded down.
     pub(crate) fn floor(&self, n: u32) -> u64
-        ensures { result ≡ n * self.now.cost / self.now.cells }
+        ensures floor { result ≡ n * self.now.cost / self.now.cells }
     {
         u64::from(n) * u64::from(self.cost) / u64::from(self.cells)
     }

@@ -52,7 +52,7 @@ fn draw_grid(alloc: Global, draws: &mut Draws, width: u32, height: u32) -> Resul
 
 /// The centre of a cell along an axis, in nanometres.
 fn center(cell: u32) -> i64
-    requires { cell < 512 }
+    requires inside { cell < 512 }
     ensures center { result ≡ center cell }
 {
     25_000_000 * i64::from(cell) + 12_500_000

@@ -54,7 +54,7 @@ const WAYS: [Way; 16] = [
 
 /// A ninth of a number, to the nearest whole number. No number is halfway.
 fn nearest_ninth(n: u32) -> u32
-    requires { n ≤ 18000 }
+    requires range { n ≤ 18000 }
     ensures nearest { result ≡ nearest_ninth n }
     ensures small { result ≤ 2000 }
 {
@@ -83,7 +83,7 @@ fn angle(heading: i32) -> i32
 
 /// The heading of pose `j` of ten: the last pose has the heading at the end.
 fn heading_at(motion: &Motion, j: u32) -> i32
-    requires { IsMotion motion.now }
+    requires motion { IsMotion motion.now }
     ensures heading { result ≡ heading_at motion.now j }
 {
     if j == 9 {
@@ -166,7 +166,7 @@ fn put_motion(out: &mut Vec<u8>, motion: &Motion) -> Result<(), NoMemory>
 /// The step along a heading.
 #[tactic(auto, unfolding(crate::specs::Primitives::way_along))]
 fn way_along(heading: u32) -> Way
-    requires { heading < 16 }
+    requires heading { heading < 16 }
     ensures way { result ≡ way_along heading }
     ensures small { IsStep result }
 {

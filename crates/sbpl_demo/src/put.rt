@@ -37,7 +37,7 @@ pub(crate) fn put_signed(out: &mut Vec<u8>, n: i32, end: u8) -> Result<(), NoMem
 
 /// Appends a digit.
 fn put_digit(out: &mut Vec<u8>, digit: u32) -> Result<(), NoMemory>
-    requires { digit < 10 }
+    requires digit { digit < 10 }
     ensures ok { OnOk result (out.new.items ≡ out.old.items ++ (48 + digit) ∷ []) }
 {
     out.push(b'0' + digit as u8)?;

@@ -108,7 +108,7 @@ impl MemoryDesk {
 
     /// The bytes written under `name` so far.
     pub fn written(&self, name: &str) -> &[u8]
-        ensures { result.now ≡ memory_written self.now name.now }
+        ensures written { result.now ≡ memory_written self.now name.now }
     {
         match self.written.get(name) {
             Some(text) => text,
@@ -130,7 +130,7 @@ fn begin_call(calls: &mut u64, failing: &BTreeMap<u64, usize>) -> Option<usize>
 /// The first bytes, up to this number of them.
 #[tactic(auto, using(std::proofs::lemmas::List::take_min))]
 fn front(bytes: &[u8], most: usize) -> &[u8]
-    ensures { result.now ≡ take most bytes.now }
+    ensures front { result.now ≡ take most bytes.now }
 {
     &bytes[..most.min(bytes.len())]
 }
@@ -158,7 +158,7 @@ fn append(
 
 /// Copies what is held, where that is at most 2^30 bytes.
 fn copy(content: &Content, into: &mut Vec<u8>) -> Result<(), ReadStop>
-    requires { into.old.items ≡ [] }
+    requires empty { into.old.items ≡ [] }
     ensures bytes { OnOk result (into.new.items ≡ content_bytes content.now) }
     ensures refused { OnErr result (into.new.items ≡ []) }
     ensures long { TooLongWhere result (content_bytes content.now) }

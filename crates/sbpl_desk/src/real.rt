@@ -65,7 +65,7 @@ fn read_piece<F: Read>(
 
 /// Reads to the end, and stops after 2^30 + 1 bytes.
 fn read_whole<F: Read>(file: &mut F, into: &mut Vec<u8>) -> Result<(), ReadStop>
-    requires { into.old.items ≡ [] }
+    requires empty { into.old.items ≡ [] }
     ensures bytes { OnOk result (IfSome (F.remaining file.old) (λ bytes. into.new.items ≡ bytes)) }
     ensures bounded { OnOk result (vec_len into.new ≤ 2 ^ 30) }
     ensures long { IfSome (F.remaining file.old) (TooLongWhere result) }
@@ -98,7 +98,7 @@ fn write_whole<W: Write>(to: &mut W, bytes: &[u8]) -> Result<(), WriteStop>
 
 /// Reads a file, with room for it from the start.
 fn read_file<R: Files>(rt: &R, name: &str, into: &mut Vec<u8>) -> Result<(), ReadStop>
-    requires { into.old.items ≡ [] }
+    requires empty { into.old.items ≡ [] }
     ensures bounded { OnOk result (vec_len into.new ≤ 2 ^ 30) }
 {
     let Ok(mut file) = fs::open(rt, name) else {

@@ -7,6 +7,7 @@ pub mod Roots
 pub mod Printing
 pub mod Reading
 pub mod Meaning
+pub mod Spelled
 pub mod Spelling
 pub mod Items
 pub mod UnsignedText

@@ -54,10 +54,10 @@ nine_of_three n lt = omega arith
 
 -- ---- numbers
 
-whole_digits : (n : ℕ) → n < 2 ^ 64 → (all_digits (decimal n) ≡ true) × (number_of (decimal n) ≡ n) × (0 < length (decimal n))
+pub whole_digits : (n : ℕ) → n < 2 ^ 64 → (all_digits (decimal n) ≡ true) × (number_of (decimal n) ≡ n) × (0 < length (decimal n))
 whole_digits n lt = (digits_decimal numerals n lt, digits_value-decimal numerals n lt, decimal_nonempty n lt)
 
-point_is : (count n : ℕ) (sign : List ℕ) (minus : Bool) → n / 10 ^ count < 2 ^ 64 → IsSign sign minus → IsDecimal (sign ++ point_text count n) minus (decimal (n / 10 ^ count)) (last_digits count (n % 10 ^ count))
+pub point_is : (count n : ℕ) (sign : List ℕ) (minus : Bool) → n / 10 ^ count < 2 ^ 64 → IsSign sign minus → IsDecimal (sign ++ point_text count n) minus (decimal (n / 10 ^ count)) (last_digits count (n % 10 ^ count))
 point_is count n sign minus lt signed =
     let whole = whole_digits (n / 10 ^ count) lt in
     record {
@@ -71,7 +71,7 @@ point_is count n sign minus lt signed =
       some = omega (arith, whole.2);
     }
 
-sized_ok : (minus : Bool) (n : ℕ) → n ≤ most → sized minus n ≡ Ok (signed minus n)
+pub sized_ok : (minus : Bool) (n : ℕ) → n ≤ most → sized minus n ≡ Ok (signed minus n)
 sized_ok minus n le = rw (le-leb n most le) refl
 
 nano_back : (n : ℕ) (sign : List ℕ) (minus : Bool) → n ≤ most → IsSign sign minus → nano_of (sign ++ point_text 9 n) ≡ Ok (signed minus n)
@@ -118,12 +118,12 @@ digits_filled (d ∷ ds) e =
     let both = and_parts (is_digit d) (all_digits ds) e in
     and_from (is_filled d) (list_all is_filled ds) (digit_filled d both.0) (digits_filled ds both.1)
 
-point_filled : (count n : ℕ) → n / 10 ^ count < 2 ^ 64 → list_all is_filled (point_text count n) ≡ true
+pub point_filled : (count n : ℕ) → n / 10 ^ count < 2 ^ 64 → list_all is_filled (point_text count n) ≡ true
 point_filled count n lt =
     rw (list_all-append is_filled (decimal (n / 10 ^ count)) (46 ∷ last_digits count (n % 10 ^ count)), digits_filled (decimal (n / 10 ^ count)) (whole_digits (n / 10 ^ count) lt).0)
     (digits_filled (last_digits count (n % 10 ^ count)) (last_are_digits count (n % 10 ^ count)))
 
-point_some : (count n : ℕ) → 0 < length (point_text count n)
+pub point_some : (count n : ℕ) → 0 < length (point_text count n)
 point_some count n = omega (arith, length-append (decimal (n / 10 ^ count)) (46 ∷ last_digits count (n % 10 ^ count)))
 
 pub nanos_are_words : NanosAreWords

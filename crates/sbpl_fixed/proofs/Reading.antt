@@ -1,7 +1,12 @@
 -- Reading by parts, and what a reading means.
-use Rattle.std.proofs.Common.{◌≡◌, ℕ, suc, ◌+◌, ◌-◌, ◌<◌, ◌≤◌, Ok, Err, refl, arith}
+use Rattle.std.proofs.Common.{◌≡◌, ℕ, suc, ◌+◌, ◌-◌, ◌<◌, ◌≤◌, Result, Ok, Err, refl, arith}
 use Rattle.sbpl_fixed.specs.declared.fault.TextFault.{TextFault}
-use Rattle.sbpl_fixed.specs.Formats.{Format, item, ended, wrong, done, behind, turns, Left, next, over, reads, read_on, then_read}
+use Rattle.sbpl_fixed.specs.Formats.{Format, item, ended, wrong, done, behind, turns, Left, next, over, reads, then_read}
+
+-- what was read is read on, and a fault stands
+abbrev pub read_on : {E A B : Type 0} → Result (A × Left) E → (A → Left → Result (B × Left) E) → Result (B × Left) E
+read_on (Ok x) next = next x.0 x.1
+read_on (Err e) next = Err e
 
 -- what stands behind a format is read behind it
 pub reads_behind : {E A B : Type 0} (tell : TextFault → E) (f : Format E A) (more : A → Format E B) (left : Left)

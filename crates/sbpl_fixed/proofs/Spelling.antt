@@ -6,7 +6,7 @@ use Rattle.std.proofs.lemmas.List.{append-nil}
 use Rattle.sbpl_fixed.specs.Tokens.{Piece, tokens_past, tokens}
 use Rattle.sbpl_fixed.specs.Formats.{Item, Miss, no_word, fixed, Format, item, ended, wrong, done, behind, turns, Says}
 use Rattle.sbpl_fixed.specs.Meaning.{StandsFor}
-use Rattle.sbpl_fixed.specs.Spelling.{Expected, Spells, IsSpelled, AllAfter, Spaced, written, AreSpelledBy}
+use Rattle.sbpl_fixed.proofs.Spelled.{Expected, Spells, IsSpelled, AllAfter, Spaced, written, AreSpelledBy}
 use Rattle.sbpl_fixed.proofs.ReadBack.{words_are_tokens, at_end}
 
 abbrev ok_value : ℤ → Result ℤ Miss

@@ -117,11 +117,6 @@ reads tell (ended f) left = then_read tell (over left) (λ rest. reads tell f re
 reads tell (wrong e) left = Err e
 reads tell (done x) left = Ok (x, left)
 
--- what was read is read on, and a fault stands
-abbrev pub read_on : {E A B : Type 0} → Result (A × Left) E → (A → Left → Result (B × Left) E) → Result (B × Left) E
-read_on (Ok x) next = next x.0 x.1
-read_on (Err e) next = Err e
-
 abbrev pub value_of : {A E : Type 0} → Result (A × Left) E → Result A E
 value_of (Ok x) = Ok x.0
 value_of (Err e) = Err e

@@ -7,4 +7,3 @@ pub mod Printed
 pub mod ReadBack
 pub mod Formats
 pub mod Meaning
-pub mod Spelling

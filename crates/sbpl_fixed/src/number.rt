@@ -11,19 +11,19 @@ use crate::fault::NumFault;
 const MOST: u64 = 1_000_000_000_000_000_000;
 
 fn is_digit(byte: u8) -> bool
-    ensures { result ≡ is_digit byte }
+    ensures digit { result ≡ is_digit byte }
 {
     byte >= b'0' && byte <= b'9'
 }
 
 pub(crate) fn all_digits(bytes: &[u8]) -> bool
-    ensures { result ≡ all_digits bytes.now }
+    ensures digits { result ≡ all_digits bytes.now }
 {
     bytes.iter().all(|b| is_digit(*b))
 }
 
 fn is_minus(text: &[u8]) -> bool
-    ensures { result ≡ is_minus text.now }
+    ensures minus { result ≡ is_minus text.now }
 {
     match text {
         [first, ..] => *first == b'-',
@@ -32,7 +32,7 @@ fn is_minus(text: &[u8]) -> bool
 }
 
 fn without_sign(text: &[u8]) -> &[u8]
-    ensures { result.now ≡ without_sign text.now }
+    ensures unsigned { result.now ≡ without_sign text.now }
 {
     match text {
         [first, rest @ ..] if *first == b'+' || *first == b'-' => rest,
@@ -44,7 +44,7 @@ fn without_sign(text: &[u8]) -> &[u8]
 fn capped_number(digits: &[u8], cap: u64) -> u64
     requires digits { all_digits digits.now ≡ true }
     requires cap { cap ≤ 10 ^ 18 + 1 }
-    ensures { result ≡ min cap (number_of digits.now) }
+    ensures number { result ≡ min cap (number_of digits.now) }
 {
     let mut value: u64 = 0;
     for digit in digits {
@@ -56,7 +56,7 @@ fn capped_number(digits: &[u8], cap: u64) -> u64
 
 /// A number with its sign, or `Size` where it is above `10^18`.
 fn sized(minus: bool, number: u64) -> Result<i64, NumFault>
-    ensures { result ≡ sized minus number }
+    ensures value { result ≡ sized minus number }
 {
     if number > MOST {
         return Err(NumFault::Size);
@@ -69,7 +69,7 @@ fn sized(minus: bool, number: u64) -> Result<i64, NumFault>
 /// `Form` where the text is none, `Size` where it is one and its absolute value is above `10^18`.
 #[tactic(auto, unfolding(crate::specs::Numbers::whole_of))]
 pub fn read_whole(text: &[u8]) -> Result<i64, NumFault>
-    ensures { result ≡ whole_of text.now }
+    ensures value { result ≡ whole_of text.now }
 {
     let body = without_sign(text);
     if body.is_empty() || !all_digits(body) {
@@ -79,7 +79,7 @@ pub fn read_whole(text: &[u8]) -> Result<i64, NumFault>
 }
 
 fn digit_or_zero(digits: &[u8], index: usize) -> u8
-    ensures { result ≡ slice_index_or digits.now index 48 }
+    ensures digit { result ≡ slice_index_or digits.now index 48 }
 {
     match digits.get(index) {
         Some(digit) => *digit,
@@ -88,7 +88,7 @@ fn digit_or_zero(digits: &[u8], index: usize) -> u8
 }
 
 fn nine_decimals(ds: &[u8]) -> [u8; 9]
-    ensures { result ≡ nine_decimals ds.now }
+    ensures decimals { result ≡ nine_decimals ds.now }
 {
     [
         digit_or_zero(ds, 0),
@@ -106,7 +106,7 @@ fn nine_decimals(ds: &[u8]) -> [u8; 9]
 /// The first nine decimals as a number.
 #[tactic(auto, using(crate::proofs::Digits::nine_digits, crate::proofs::Digits::nine_below))]
 fn billionths(decimals: &[u8]) -> u64
-    requires { all_digits decimals.now ≡ true }
+    requires digits { all_digits decimals.now ≡ true }
     ensures number { result ≡ number_of (nine_decimals decimals.now) }
     ensures bound { result < 10 ^ 9 }
 {
@@ -140,7 +140,7 @@ pub(crate) fn parts(body: &[u8]) -> (&[u8], &[u8])
 /// `Form` where the text is no decimal, `Size` where it is one and its absolute value in billionths is above `10^18`.
 #[tactic(auto, using(crate::proofs::Digits::sized_nano_capped), unfolding(crate::specs::Numbers::nano_of))]
 pub fn read_nano(text: &[u8]) -> Result<i64, NumFault>
-    ensures { result ≡ nano_of text.now }
+    ensures value { result ≡ nano_of text.now }
 {
     let (whole, decimals) = parts(without_sign(text));
     if whole.len() + decimals.len() == 0 || !all_digits(whole) || !all_digits(decimals) {

@@ -52,15 +52,15 @@ fn ranged(
 impl<'a> Reader<'a> {
     /// Starts at the front of a text.
     pub fn new(text: &'a [u8]) -> Reader<'a>
-        ensures { result ≡ start text.now }
+        ensures start { result ≡ start text.now }
     {
         Reader { text, at: 0 }
     }
 
     /// Starts at an offset of a text.
     pub fn from(text: &'a [u8], at: usize) -> Reader<'a>
-        requires { at ≤ length text.now }
-        ensures { result ≡ start_at text.now at }
+        requires inside { at ≤ length text.now }
+        ensures start { result ≡ start_at text.now at }
     {
         Reader { text, at }
     }

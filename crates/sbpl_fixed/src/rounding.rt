@@ -4,7 +4,7 @@ ghost use Rattle.std.specs.Prelude.{◌≡◌, ℕ, ◌+◌, ◌*◌, ◌^◌, �
 
 /// The least `q` with `q * b >= a`.
 pub fn ceil_div(a: u128, b: u128) -> u128
-    requires { 0 < b }
+    requires positive { 0 < b }
     ensures enough { a ≤ result * b }
     ensures least { (q : ℕ) → a ≤ q * b → result ≤ q }
 {
@@ -13,7 +13,7 @@ pub fn ceil_div(a: u128, b: u128) -> u128
 
 /// A power of two whose square is at least `n`.
 fn root_bound(n: u128) -> u64
-    requires { n ≤ 2 ^ 126 }
+    requires small { n ≤ 2 ^ 126 }
     ensures some { 0 < result }
     ensures enough { n ≤ result * result }
     ensures small { result ≤ 2 ^ 63 }
@@ -26,7 +26,7 @@ fn root_bound(n: u128) -> u64
 
 /// The least `r` with `r * r >= n`.
 pub fn ceil_root(n: u128) -> u64
-    requires { n ≤ 2 ^ 126 }
+    requires small { n ≤ 2 ^ 126 }
     ensures enough { n ≤ result * result }
     ensures least { (r : ℕ) → n ≤ r * r → result ≤ r }
 {

@@ -16,7 +16,7 @@ pub struct Token {
 
 /// Space, tab, line feed, vertical tab, form feed and carriage return part tokens.
 fn is_blank(byte: u8) -> bool
-    ensures { result ≡ is_blank byte }
+    ensures blank { result ≡ is_blank byte }
 {
     byte == b' ' || byte == b'\t' || byte == b'\n' || byte == 11 || byte == 12 || byte == b'\r'
 }
@@ -37,15 +37,15 @@ fn filled_front(bytes: &[u8]) -> usize
 
 /// Whether no filled byte stands right before the offset.
 fn is_fresh(text: &[u8], at: usize) -> bool
-    requires { at ≤ length text.now }
-    ensures { result ≡ is_fresh text.now at }
+    requires inside { at ≤ length text.now }
+    ensures fresh { result ≡ is_fresh text.now at }
 {
     at == 0 || is_blank(text[at - 1])
 }
 
 /// Where the search for a token begins: behind the token that `at` is amid, if it is.
 fn search_start(text: &[u8], at: usize) -> usize
-    requires { at ≤ length text.now }
+    requires inside { at ≤ length text.now }
     ensures inside { result ≤ length text.now }
     ensures behind { at ≤ result }
     ensures first { tokens_from text.now at ≡ tokens_past true result (drop result text.now) }
@@ -59,7 +59,7 @@ fn search_start(text: &[u8], at: usize) -> usize
 
 /// The first token that begins at or behind the offset `at`, or `None` where there is none.
 pub fn next_token(text: &[u8], at: usize) -> Option<Token>
-    requires { at ≤ length text.now }
+    requires inside { at ≤ length text.now }
     ensures inside { IfSome result (λ t. (at ≤ t.from) × (t.from < t.to) × (t.to ≤ length text.now)) }
     ensures first { MatchOption result (tokens_from text.now at ≡ [])
         (λ t. tokens_from text.now at ≡ token_at text.now t.from t.to ∷ tokens_from text.now t.to) }

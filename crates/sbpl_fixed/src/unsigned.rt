@@ -11,7 +11,7 @@ use crate::number::{all_digits, parts};
 fn capped_digits(digits: &[u8], cap: u128) -> u128
     requires digits { all_digits digits.now ≡ true }
     requires cap { cap ≤ 2 ^ 100 }
-    ensures { result ≡ min cap (number_of digits.now) }
+    ensures number { result ≡ min cap (number_of digits.now) }
 {
     let mut value: u128 = 0;
     for digit in digits {
@@ -42,8 +42,8 @@ pub fn read_digits(text: &[u8], end: u64) -> Result<u64, NumFault>
 /// none, `Size` where it is one and its thousandths are `end` or more.
 #[tactic(auto, using(crate::proofs::Digits::three_below), unfolding(crate::specs::Unsigned::milli_of))]
 pub fn read_milli(text: &[u8], end: u128) -> Result<u128, NumFault>
-    requires { end ≤ 2 ^ 100 }
-    ensures { result ≡ milli_of end text.now }
+    requires small { end ≤ 2 ^ 100 }
+    ensures value { result ≡ milli_of end text.now }
 {
     let (whole, decimals) = parts(text);
     if whole.is_empty() || !all_digits(whole) || !all_digits(decimals) || decimals.len() != 3 {

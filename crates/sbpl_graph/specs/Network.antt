@@ -23,3 +23,8 @@ pub record IsFreeArc (n : Network) (s k t c : ℕ) : Type 0 where
   pub number : k < n.fan s
   pub head : n.head s k ≡ Some t
   pub cost : n.cost s k ≡ Some c
+
+-- t has the same free arcs into it on both graphs, at the same costs
+pub record HasSameArcs (n n' : Network) (t : ℕ) : Type 0 where
+  pub kept : (s k c : ℕ) → IsFreeArc n s k t c → IsFreeArc n' s k t c
+  pub none_new : (s k c : ℕ) → IsFreeArc n' s k t c → IsFreeArc n s k t c

@@ -6,9 +6,8 @@ use Rattle.std.proofs.lemmas.Bool.{cases_eq}
 use Rattle.std.proofs.lemmas.List.Elements.{All-nil, All-push, Contains-push, Contains-append_left}
 use Rattle.std.proofs.lemmas.Option.{same_Some, none-some}
 use Rattle.sbpl_graph.specs.Fit.{FitCount}
-use Rattle.sbpl_graph.specs.Network.{IsFreeArc}
+use Rattle.sbpl_graph.specs.Network.{IsFreeArc, HasSameArcs}
 use Rattle.sbpl_cfg.specs.Environment.{Environment}
-use Rattle.sbpl_adstar.specs.Repaired.{HasSameArcs}
 use Rattle.sbpl_heur.specs.declared.hop.Hop.{Hop}
 use Rattle.sbpl_heur.specs.Boards.{Board, IsBoard, cell_count, cell_before, board_head, board_network}
 use Rattle.sbpl_heur.specs.Weights.{IsHopArc}

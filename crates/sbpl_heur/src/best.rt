@@ -58,7 +58,7 @@ fn headings_of(env: &Env) -> u32
 
 /// The number of cells.
 fn cells_of(env: &Env) -> u32
-    ensures { result ≡ env.now.width * env.now.height }
+    ensures cells { result ≡ env.now.width * env.now.height }
 {
     env.width * env.height
 }

@@ -68,28 +68,28 @@ fn cell_in(env: &Env, x: i64, y: i64) -> Option<u32>
 
 /// The column of a cell.
 fn column_of(env: &Env, cell: u32) -> u32
-    ensures { result ≡ cell % env.now.width }
+    ensures column { result ≡ cell % env.now.width }
 {
     cell % env.width
 }
 
 /// The row of a cell.
 fn row_of(env: &Env, cell: u32) -> u32
-    ensures { result ≡ cell / env.now.width }
+    ensures row { result ≡ cell / env.now.width }
 {
     cell / env.width
 }
 
 /// The coordinate from which this many cells lead to another.
 fn coordinate_before(x: u32, d: i32) -> i64
-    ensures { pos x ≡ result +ℤ d }
+    ensures before { pos x ≡ result +ℤ d }
 {
     i64::from(x) - i64::from(d)
 }
 
 /// The coordinate to which this many cells lead from another.
 fn coordinate_after(x: u32, d: i32) -> i64
-    ensures { result ≡ pos x +ℤ d }
+    ensures after { result ≡ pos x +ℤ d }
 {
     i64::from(x) + i64::from(d)
 }

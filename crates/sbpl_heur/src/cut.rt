@@ -10,7 +10,7 @@ use sbpl_graph::{FAR, Graph};
 
 /// The greatest distance of a cell that was reached, or 0 where none was.
 fn farthest(distances: &[u64]) -> u64
-    ensures { IsFarthestReached (slice_index distances.now) (length distances.now) result }
+    ensures farthest { IsFarthestReached (slice_index distances.now) (length distances.now) result }
 {
     let mut most = 0;
     for distance in distances {

@@ -9,14 +9,14 @@ use sbpl_cost::Lattice;
 
 /// Whether a hop leads to another cell.
 fn moves(hop: &Hop) -> bool
-    ensures { IsTrue result ↔ Moves hop.now.dx hop.now.dy }
+    ensures moves { IsTrue result ↔ Moves hop.now.dx hop.now.dy }
 {
     hop.dx != 0 || hop.dy != 0
 }
 
 /// Where the list has the pair of a hop.
 fn place_of_pair(hops: &[Hop], hop: &Hop) -> Option<usize>
-    ensures { MatchOption result (HasNoPair hops.now hop.now) (λ j. HasPairAt hops.now hop.now j) }
+    ensures pair { MatchOption result (HasNoPair hops.now hop.now) (λ j. HasPairAt hops.now hop.now j) }
 {
     for (j, known) in hops.iter().enumerate() {
         if known.dx == hop.dx && known.dy == hop.dy {

@@ -11,6 +11,7 @@ use Rattle.clap.specs.Values.{reading_of}
 use Rattle.clap.specs.Walk.{Held, Row, Rule, Text, Waiting, Walk, after_flag, after_step, arg_by_id, arg_by_index, arg_by_long, at_row, first_of, has_row, idle, is_pending, long_met, long_or_other, long_word, more_values, next, option, option_met, option_word, pending_count, plain_word, pushed, settled, settled_rows, short_or_plain, subcommand_or_other, to_positional, trailing, used, used_by_id, value, walked, waits, with_values, without, word_met}
 use Rattle.clap.specs.Faults.{bundle_fault, flag_word_fault, long_fault, positional_fault, settle_fault, step_fault, stray_fault, turn_fault, use_fault, walk_fault}
 use Rattle.clap.specs.Kinds.{Kinds, or_else}
+use Rattle.clap.specs.Simple.{Shape, built, filled, with_index}
 use Rattle.clap.specs.declared.error.kind.ErrorKind.TheVariants.{InvalidValue, UnknownArgument}
 use Rattle.clap.specs.declared.builder.value_parser.ValueParser.TheVariants as parser
 use Rattle.clap.specs.declared.parser.matches.ValueSource.TheVariants.{CommandLine}
@@ -19,7 +20,7 @@ use Rattle.sbpl_job.specs.declared.words.Command.TheVariants as command
 use Rattle.sbpl_job.specs.declared.words.Setting.{Setting}
 use Rattle.sbpl_job.specs.declared.words.Setting.TheVariants as setting
 use Rattle.sbpl_job.specs.Words.{id_of, is_known, is_plain_word, once, setting_named, setting_of, stands_once, takes}
-use Rattle.sbpl_job.specs.Lines.{option_built, plain_built, plain_id, rules, shape}
+use Rattle.sbpl_job.specs.Lines.{app, option_rule, plain_id, plain_rule, rules}
 
 -- ---- rows
 
@@ -46,6 +47,16 @@ has_row_added id other x (r ∷ rs) new apart =
     or_from (bytes_eq r.id id) _ parts.0 (has_row_added id other x rs parts.1 apart)
 
 -- ---- the arguments of each command
+
+-- a plain word and an option, and the line of a command, as they are built
+abbrev pub plain_built : ℕ → Text → Rule
+plain_built k id = with_index (k + 1) (filled (plain_rule id))
+
+abbrev pub option_built : Setting → Rule
+option_built s = filled (option_rule (id_of s))
+
+abbrev pub shape : Command → Shape
+shape c = (built (app c)).top
 
 not_at : (n k : ℕ) → n < k + 1 → nat_eq n (k + 1) ≡ false
 not_at n k lt = ne_eqb n (k + 1) (λ e. omega (arith, e))

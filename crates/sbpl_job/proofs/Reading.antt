@@ -24,10 +24,10 @@ use Rattle.sbpl_job.specs.declared.words.Command.{Command}
 use Rattle.sbpl_job.specs.declared.words.Command.TheVariants as command
 use Rattle.sbpl_job.specs.declared.words.Setting.{Setting}
 use Rattle.sbpl_job.specs.Words.{Parts, are_fit, id_of, is_known, is_plain_word, once, parts_after, setting_of, value_of, with_given, with_plain}
-use Rattle.sbpl_job.specs.Lines.{app, plain_id, rules, shape}
+use Rattle.sbpl_job.specs.Lines.{app, plain_id, rules}
 use Rattle.sbpl_job.specs.Found.{FindsParts, IsFound, word_at}
 use Rattle.sbpl_job.specs.Jobs.{Settings, job_by, job_with}
-use Rattle.sbpl_job.proofs.Finding.{Finds, IsFresh, Refuses, Uses, Walks, after_name, after_plain, at, bytes_apart, has_no_place, has_place, places, plain_from_setting, plains_apart, row_of_use, settles_none, some_is, uses, walks}
+use Rattle.sbpl_job.proofs.Finding.{Finds, IsFresh, Refuses, Uses, Walks, after_name, after_plain, at, bytes_apart, has_no_place, has_place, places, plain_from_setting, plains_apart, row_of_use, settles_none, shape, some_is, uses, walks}
 
 -- ---- the uses and the parts
 

@@ -1,11 +1,9 @@
 -- The command line of each command, as it is given to clap.
-use Rattle.std.specs.Prelude.{ℕ, zero, suc, ◌+◌, true, List, [], ◌∷◌, Option, Some, None, codes}
+use Rattle.std.specs.Prelude.{ℕ, zero, suc, true, List, [], ◌∷◌, Option, Some, None, codes}
 use Rattle.clap.specs.Walk.{Rule, Text}
-use Rattle.clap.specs.Simple.{App, Shape, built, filled, filled_from, new_rule, new_shape, with_index}
+use Rattle.clap.specs.Simple.{App, Shape, filled_from, new_rule, new_shape}
 use Rattle.sbpl_job.specs.declared.words.Command.{Command}
 use Rattle.sbpl_job.specs.declared.words.Command.TheVariants as command
-use Rattle.sbpl_job.specs.declared.words.Setting.{Setting}
-use Rattle.sbpl_job.specs.Words.{id_of}
 
 -- what the plain words of a command are called
 abbrev pub plain_id : Command → ℕ → Option Text
@@ -31,13 +29,6 @@ plain_rule id = record (new_rule id) { required = true }
 abbrev pub option_rule : Text → Rule
 option_rule id = record (new_rule id) { long = Some id; value_names = 1 }
 
--- the same as they are built
-abbrev pub plain_built : ℕ → Text → Rule
-plain_built k id = with_index (k + 1) (filled (plain_rule id))
-
-abbrev pub option_built : Setting → Rule
-option_built s = filled (option_rule (id_of s))
-
 -- the arguments of a command, in order
 abbrev pub arguments : Command → List Rule
 arguments command.Plan = plain_rule (codes "ENV") ∷ (plain_rule (codes "MPRIM") ∷ (option_rule (codes "changes") ∷ (option_rule (codes "radius") ∷ (option_rule (codes "planner")
@@ -62,10 +53,6 @@ bare word = record { top = bare_shape word; subs = [] }
 -- the line of a command
 abbrev pub app : Command → App
 app c = record { top = record (bare_shape (word_of c)) { rules = arguments c }; subs = [] }
-
--- the same as it is built
-abbrev pub shape : Command → Shape
-shape c = (built (app c)).top
 
 abbrev pub rules : Command → List Rule
 rules c = filled_from 1 (arguments c)

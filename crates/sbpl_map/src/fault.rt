@@ -35,7 +35,7 @@ pub enum ChangeFault {
 impl ChangeFault {
     /// The number that the program prints, 1 to 5 in the order of the variants; 0 for `NoMemory`, which isn't printed.
     pub fn number(&self) -> u8
-        ensures { result ≡ number_of self.now }
+        ensures number { result ≡ number_of self.now }
     {
         match self {
             ChangeFault::Word(_) => 1,
@@ -49,7 +49,7 @@ impl ChangeFault {
 
     /// The variant's name, as the program prints it.
     pub fn name(&self) -> &'static str
-        ensures { result.now ≡ name_of self.now }
+        ensures name { result.now ≡ name_of self.now }
     {
         match self {
             ChangeFault::Word(_) => "Word",
@@ -63,7 +63,7 @@ impl ChangeFault {
 
     /// The number of the fault's line, from 1; 0 for `NoMemory`, which has none.
     pub fn line(&self) -> u64
-        ensures { result ≡ line_of self.now }
+        ensures line { result ≡ line_of self.now }
     {
         match self {
             ChangeFault::Word(line)

@@ -19,7 +19,7 @@ const DEAREST: u32 = 255;
 
 /// Whether a text had not the form of a number.
 fn lacks_form(read: Result<i64, NumFault>) -> bool
-    ensures { result ≡ lacks_form read }
+    ensures form { result ≡ lacks_form read }
 {
     match read {
         Err(NumFault::Form) => true,
@@ -40,7 +40,7 @@ fn in_range(read: Result<i64, NumFault>, high: u32) -> Option<u32>
 
 /// A write to a cell, or `OffMap` where the cell is not on the map.
 fn placed(map: &Map, number: u64, x: u32, y: u32, cost: u8) -> Result<Write, ChangeFault>
-    ensures { result ≡ placed map.now number (Some x) (Some y) (Some cost) }
+    ensures write { result ≡ placed map.now number (Some x) (Some y) (Some cost) }
 {
     if x < map.width() && y < map.height() {
         Ok(Write { x, y, cost })
@@ -57,7 +57,7 @@ fn measured(
     y: Result<i64, NumFault>,
     cost: Result<i64, NumFault>,
 ) -> Result<Write, ChangeFault>
-    ensures { result ≡ measured map.now number x y cost }
+    ensures write { result ≡ measured map.now number x y cost }
 {
     if lacks_form(x) || lacks_form(y) || lacks_form(cost) {
         return Err(ChangeFault::Number(number));
@@ -74,7 +74,7 @@ fn measured(
 
 /// The fields of a line that has just three.
 fn three_fields(line: &[u8]) -> Option<(&[u8], &[u8], &[u8])>
-    ensures { three (fields line.now) ≡ option_map (λ t. (t.0.now, t.1.now, t.2.now)) result }
+    ensures fields { three (fields line.now) ≡ option_map (λ t. (t.0.now, t.1.now, t.2.now)) result }
 {
     let (x, rest) = first_field(line)?;
     let (y, rest) = first_field(rest)?;
@@ -87,7 +87,7 @@ fn three_fields(line: &[u8]) -> Option<(&[u8], &[u8], &[u8])>
 
 /// The write of the fields behind the word of a cell.
 fn written(map: &Map, number: u64, line: &[u8]) -> Result<Write, ChangeFault>
-    ensures { result ≡ written map.now number (three (fields line.now)) }
+    ensures write { result ≡ written map.now number (three (fields line.now)) }
 {
     match three_fields(line) {
         Some((x, y, cost)) => measured(map, number, read_whole(x), read_whole(y), read_whole(cost)),
@@ -97,7 +97,7 @@ fn written(map: &Map, number: u64, line: &[u8]) -> Result<Write, ChangeFault>
 
 /// The end of a batch, behind whose word nothing may stand.
 fn ended(number: u64, line: &[u8]) -> Result<Said, ChangeFault>
-    ensures { result ≡ ended number (fields line.now) }
+    ensures end { result ≡ ended number (fields line.now) }
 {
     match first_field(line) {
         Some(_) => Err(ChangeFault::Word(number)),
@@ -108,7 +108,7 @@ fn ended(number: u64, line: &[u8]) -> Result<Said, ChangeFault>
 /// What the line with this number says, or its fault.
 #[tactic(auto, unfolding(crate::specs::Reading::judged))]
 pub(crate) fn judged(map: &Map, number: u64, line: &[u8]) -> Result<Said, ChangeFault>
-    ensures { result ≡ judged map.now number (fields line.now) }
+    ensures said { result ≡ judged map.now number (fields line.now) }
 {
     let Some((word, rest)) = first_field(line) else {
         return Ok(Said::Nothing);

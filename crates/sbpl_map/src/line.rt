@@ -39,7 +39,7 @@ pub(crate) fn first_line(text: &[u8]) -> (&[u8], &[u8])
 
 /// Spaces and tabs part fields.
 fn is_parting(byte: u8) -> bool
-    ensures { result ≡ is_parting byte }
+    ensures parting { result ≡ is_parting byte }
 {
     byte == b' ' || byte == b'\t'
 }

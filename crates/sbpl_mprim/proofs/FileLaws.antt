@@ -17,7 +17,8 @@ use Rattle.sbpl_mprim.specs.Reading.{angles_format, head_format, prim_format, pr
 use Rattle.sbpl_mprim.specs.Text.{IsTextOf, Saying, a_nano, a_whole, a_word, spelled, spelled_prim}
 use Rattle.sbpl_mprim.proofs.NextLaws.{AreNext, are_next, next_are}
 use Rattle.sbpl_mprim.proofs.PrimLaws.{PrimFound, natural_front, natural_within, prim_found, prim_said}
-use Rattle.sbpl_mprim.proofs.Spelling.{Spells, all_meant, found_behind, found_done, found_end, found_nano, found_whole, found_word, found_yes, just_said, natural_is, none_spelled, say_behind, say_done, say_end, say_nano, say_whole, say_word, say_yes, spells_all, spells_append, spells_none, spells_split}
+use Rattle.sbpl_fixed.proofs.Spelling.{says_both, says_parts}
+use Rattle.sbpl_mprim.proofs.Spelling.{Spells, all_meant, found_done, found_end, found_nano, found_whole, found_word, found_yes, just_said, natural_is, none_spelled, say_done, say_end, say_nano, say_whole, say_word, say_yes, spells_all, spells_append, spells_none, spells_split}
 
 -- ---- one more primitive, and so many more
 
@@ -25,7 +26,7 @@ pub turn_found : (cell : ℤ) (headings : ℕ) (earlier : List Primitive) (ts : 
     → (p : Primitive) × (qs ≡ earlier ++ p ∷ []) × PrimFound cell headings earlier ts p rest
 unfolding prim_turn
 turn_found cell headings earlier ts qs rest some h =
-    let a = found_behind (prim_format cell headings earlier) _ ts qs rest h in
+    let a = says_parts (prim_format cell headings earlier) _ ts rest qs h in
     let b = prim_found cell headings earlier ts a.0 a.1 some a.2 in
     let c = found_done PrimFault (earlier ++ a.0 ∷ []) a.1 qs rest a.3 in
     (a.0, c.0, subst (λ (l : List Piece). PrimFound cell headings earlier ts a.0 l) (sym c.1) b)
@@ -44,7 +45,7 @@ prims_found cell headings zero earlier ts qs rest some h =
     let a = found_done PrimFault earlier ts qs rest h in
     record { more = []; all = a.0 ∙ sym (append-nil earlier); many = refl; next = tt; spells = spells_none headings ts rest a.1 }
 prims_found cell headings (suc n) earlier ts qs rest some h =
-    let a = found_behind (prim_turn cell headings earlier) (turns n (prim_turn cell headings)) ts qs rest h in
+    let a = says_parts (prim_turn cell headings earlier) (turns n (prim_turn cell headings)) ts rest qs h in
     let b = turn_found cell headings earlier ts a.0 a.1 some a.2 in
     let c = prims_found cell headings n a.0 a.1 qs rest some a.3 in
     record {
@@ -63,9 +64,9 @@ prims_said cell headings earlier (p ∷ ps) ts rest next h =
     let a = spells_split headings (spelled_prim p) (flat_map spelled_prim ps) ts rest h in
     let b = prim_said cell headings earlier p ts a.0 next.0 a.1 in
     let turn : Says (prim_turn cell headings earlier) ts (earlier ++ p ∷ []) a.0 =
-    say_behind (prim_format cell headings earlier) (λ (prim : Primitive). done (earlier ++ prim ∷ [])) ts p a.0 (earlier ++ p ∷ []) a.0 b (say_done PrimFault (earlier ++ p ∷ []) a.0 a.0 refl) in
+    says_both (prim_format cell headings earlier) (λ (prim : Primitive). done (earlier ++ prim ∷ [])) ts a.0 a.0 p (earlier ++ p ∷ []) b (say_done PrimFault (earlier ++ p ∷ []) a.0 a.0 refl) in
     let c = prims_said cell headings (earlier ++ p ∷ []) ps a.0 rest next.1 a.2 in
-    say_behind (prim_turn cell headings earlier) (turns (length ps) (prim_turn cell headings)) ts (earlier ++ p ∷ []) a.0 (earlier ++ p ∷ ps) rest turn (rw append_assoc at c)
+    says_both (prim_turn cell headings earlier) (turns (length ps) (prim_turn cell headings)) ts a.0 rest (earlier ++ p ∷ []) (earlier ++ p ∷ ps) turn (rw append_assoc at c)
 
 -- ---- what stands before the first primitive
 
@@ -114,8 +115,8 @@ total_found headings ts n rest h =
 head_found : (cell : ℤ) (headings : ℕ) (ts : List Piece) (n : ℕ) (rest : List Piece) → Says (head_format cell headings) ts n rest → Spells headings (spelled_head cell headings n) ts rest × (n ≤ 4096)
 unfolding head_format
 head_found cell headings ts n rest h =
-    let a = found_behind (resolution_format cell) _ ts n rest h in
-    let b = found_behind (angles_format headings) _ a.1 n rest a.3 in
+    let a = says_parts (resolution_format cell) _ ts rest n h in
+    let b = says_parts (angles_format headings) _ a.1 rest n a.3 in
     let t = total_found headings b.1 n rest b.3 in (
       spells_append headings (a_word (codes "resolution_m:") ∷ a_nano cell ∷ []) _ ts a.1 rest (resolution_found cell headings ts a.0 a.1 a.2)
           (spells_append headings (a_word (codes "numberofangles:") ∷ a_whole (pos headings) ∷ []) _ a.1 b.1 rest (angles_found headings a.1 b.0 b.1 b.2) t.0),
@@ -137,8 +138,8 @@ head_said cell headings total ts rest size some most count h =
     let t = just_said total total_format b.0 rest (say_word _ headings _ _ _ b.0 rest b.2 (λ _ us k.
     say_whole _ headings (pos 0) (pos 4096) (pos total) (λ _ m. done (unsigned_abs m)) _ us rest (natural_within total 4096 count) k (λ _ vs l.
     (total, refl, say_done PrimFault total vs rest (none_spelled headings vs rest l))))) in
-    say_behind (resolution_format cell) (λ _. behind (angles_format headings) (λ _. total_format)) ts cell a.0 total rest r
-    (say_behind (angles_format headings) (λ _. total_format) a.0 headings b.0 total rest n t)
+    says_both (resolution_format cell) (λ _. behind (angles_format headings) (λ _. total_format)) ts a.0 rest cell total r
+    (says_both (angles_format headings) (λ _. total_format) a.0 b.0 rest headings total n t)
 
 -- ---- the file
 
@@ -147,8 +148,8 @@ pub file_found : (cell : ℤ) (headings : ℕ) (text : List ℕ) (prims : List P
     → StandsFor (prims_format cell headings) text prims → IsTextOf text (record { cell = cell; headings = headings; items = prims })
 unfolding prims_format spelled
 file_found cell headings text prims size some most h =
-    let a = found_behind (head_format cell headings) _ (tokens text) prims h.0 h.1 in
-    let b = found_behind (turns a.0 (prim_turn cell headings) []) (λ (ps : List Primitive). ended (done ps)) a.1 prims h.0 a.3 in
+    let a = says_parts (head_format cell headings) _ (tokens text) h.0 prims h.1 in
+    let b = says_parts (turns a.0 (prim_turn cell headings) []) (λ (ps : List Primitive). ended (done ps)) a.1 h.0 prims a.3 in
     let e = found_end PrimFault b.0 b.1 prims h.0 b.3 in
     let front = head_found cell headings (tokens text) a.0 a.1 a.2 in
     let p = prims_found cell headings a.0 [] a.1 b.0 b.1 some b.2 in
@@ -173,6 +174,6 @@ file_said ps text h =
     let front = head_said ps.cell ps.headings (length ps.items) (tokens text) a.0 fits.cell fits.headings.0 fits.headings.1 fits.count a.1 in
     let each = prims_said ps.cell ps.headings [] ps.items a.0 [] (are_next ps fits) a.2 in (
       [],
-      say_behind (head_format ps.cell ps.headings) _ (tokens text) (length ps.items) a.0 ps.items [] front
-          (say_behind (turns (length ps.items) (prim_turn ps.cell ps.headings) []) (λ (qs : List Primitive). ended (done qs)) a.0 ps.items [] ps.items [] each (say_end PrimFault ps.items)),
+      says_both (head_format ps.cell ps.headings) _ (tokens text) a.0 [] (length ps.items) ps.items front
+          (says_both (turns (length ps.items) (prim_turn ps.cell ps.headings) []) (λ (qs : List Primitive). ended (done qs)) a.0 [] [] ps.items ps.items each (say_end PrimFault ps.items)),
     )

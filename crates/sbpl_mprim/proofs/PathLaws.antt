@@ -10,7 +10,8 @@ use Rattle.sbpl_mprim.specs.declared.parts.PlacedPose.{PlacedPose}
 use Rattle.sbpl_mprim.specs.Primitives.{IsOffsetInRange}
 use Rattle.sbpl_mprim.specs.Reading.{path_format, pose_format, pose_turn}
 use Rattle.sbpl_mprim.specs.Text.{spelled_pose}
-use Rattle.sbpl_mprim.proofs.Spelling.{Spells, SaysSome, found_behind, found_done, found_nano, say_behind, say_done, say_nano, spells_append, spells_none, spells_split, none_spelled}
+use Rattle.sbpl_fixed.proofs.Spelling.{says_both, says_parts}
+use Rattle.sbpl_mprim.proofs.Spelling.{Spells, SaysSome, found_done, found_nano, say_done, say_nano, spells_append, spells_none, spells_split, none_spelled}
 
 -- ---- one pose
 
@@ -38,7 +39,7 @@ pub turn_found : (headings : ℕ) (poses : List Pose) (ts : List Piece) (qs : Li
     → (p : Pose) × (qs ≡ poses ++ p ∷ []) × IsOffsetInRange p × Spells headings (spelled_pose p) ts rest
 unfolding pose_turn
 turn_found headings poses ts qs rest h =
-    let a = found_behind pose_format (λ (p : PlacedPose). done (poses ++ p.pose ∷ [])) ts qs rest h in
+    let a = says_parts pose_format (λ (p : PlacedPose). done (poses ++ p.pose ∷ [])) ts rest qs h in
     let b = pose_found headings ts a.0 a.1 a.2 in
     let c = found_done PrimFault (poses ++ a.0.pose ∷ []) a.1 qs rest a.3 in
     (a.0.pose, c.0, b.1, subst (λ (l : List Piece). Spells headings (spelled_pose a.0.pose) ts l) (sym c.1) b.0)
@@ -49,7 +50,7 @@ unfolding pose_turn
 turn_said headings poses ts p rest range h =
     let a = pose_said headings ts p rest range h in
     let b : Says (done (poses ++ a.0.pose ∷ [])) rest (poses ++ p ∷ []) rest = rw a.1 (say_done PrimFault (poses ++ p ∷ []) rest rest refl) in
-    say_behind pose_format (λ (q : PlacedPose). done (poses ++ q.pose ∷ [])) ts a.0 rest (poses ++ p ∷ []) rest a.2 b
+    says_both pose_format (λ (q : PlacedPose). done (poses ++ q.pose ∷ [])) ts rest rest a.0 (poses ++ p ∷ []) a.2 b
 
 -- what so many turns said
 pub record PosesFound (headings count : ℕ) (poses : List Pose) (ts : List Piece) (qs : List Pose) (rest : List Piece) : Type 0 where
@@ -66,7 +67,7 @@ poses_found headings zero poses ts qs rest h =
     let a = found_done PrimFault poses ts qs rest h in
     record { more = []; all = a.0 ∙ sym (append-nil poses); many = refl; range = tt; spells = spells_none headings ts rest a.1 }
 poses_found headings (suc n) poses ts qs rest h =
-    let a = found_behind (pose_turn poses) (turns n pose_turn) ts qs rest h in
+    let a = says_parts (pose_turn poses) (turns n pose_turn) ts rest qs h in
     let b = turn_found headings poses ts a.0 a.1 a.2 in
     let c = poses_found headings n a.0 a.1 qs rest a.3 in
     record {
@@ -85,7 +86,7 @@ poses_said headings poses (p ∷ ps) ts rest range h =
     let a = spells_split headings (spelled_pose p) (flat_map spelled_pose ps) ts rest h in
     let b = turn_said headings poses ts p a.0 range.0 a.1 in
     let c = poses_said headings (poses ++ p ∷ []) ps a.0 rest range.1 a.2 in
-    say_behind (pose_turn poses) (turns (length ps) pose_turn) ts (poses ++ p ∷ []) a.0 (poses ++ p ∷ ps) rest b (rw append_assoc at c)
+    says_both (pose_turn poses) (turns (length ps) pose_turn) ts a.0 rest (poses ++ p ∷ []) (poses ++ p ∷ ps) b (rw append_assoc at c)
 
 -- ---- a path
 
@@ -112,9 +113,9 @@ pub path_found : (headings count : ℕ) (ts : List Piece) (path : List Pose × P
     → PathFound headings count ts path rest
 unfolding path_format
 path_found headings count ts path rest some h =
-    let a = found_behind (turns (count - 1) pose_turn []) path_end ts path rest h in
+    let a = says_parts (turns (count - 1) pose_turn []) path_end ts rest path h in
     let b = poses_found headings (count - 1) [] ts a.0 a.1 a.2 in
-    let c = found_behind pose_format (λ (last : PlacedPose). done (a.0 ++ last.pose ∷ [], last)) a.1 path rest a.3 in
+    let c = says_parts pose_format (λ (last : PlacedPose). done (a.0 ++ last.pose ∷ [], last)) a.1 rest path a.3 in
     let d = pose_found headings a.1 c.0 c.1 c.2 in
     let e = found_done PrimFault (a.0 ++ c.0.pose ∷ [], c.0) c.1 path rest c.3 in
     let front : List Pose = b.more in
@@ -141,8 +142,8 @@ path_said headings front last ts rest range h =
     let b = poses_said headings [] front ts a.0 ranges.0 a.1 in
     let c = pose_said headings a.0 last rest ranges.1 one in
     let end : Says (path_end front) a.0 (front ++ c.0.pose ∷ [], c.0) rest =
-    say_behind pose_format (λ (p : PlacedPose). done (front ++ p.pose ∷ [], p)) a.0 c.0 rest (front ++ c.0.pose ∷ [], c.0) rest c.2 (say_done PrimFault (front ++ c.0.pose ∷ [], c.0) rest rest refl) in
+    says_both pose_format (λ (p : PlacedPose). done (front ++ p.pose ∷ [], p)) a.0 rest rest c.0 (front ++ c.0.pose ∷ [], c.0) c.2 (say_done PrimFault (front ++ c.0.pose ∷ [], c.0) rest rest refl) in
     let count : length front + 1 - 1 ≡ length front = omega arith in
     let all : Says (behind (turns (length front + 1 - 1) pose_turn []) path_end) ts (front ++ c.0.pose ∷ [], c.0) rest =
-    rw count (say_behind (turns (length front) pose_turn []) path_end ts front a.0 (front ++ c.0.pose ∷ [], c.0) rest b end) in
+    rw count (says_both (turns (length front) pose_turn []) path_end ts a.0 rest front (front ++ c.0.pose ∷ [], c.0) b end) in
     ((front ++ c.0.pose ∷ [], c.0), (ap (λ (p : Pose). front ++ p ∷ []) c.1, c.1), all)

@@ -22,7 +22,8 @@ use Rattle.sbpl_mprim.proofs.JudgingLaws.{costs_something, costs_then, ends_at, 
 use Rattle.sbpl_mprim.proofs.NextLaws.{IsNext}
 use Rattle.sbpl_mprim.proofs.PathLaws.{path_found, path_said}
 use Rattle.sbpl_mprim.proofs.Places.{all_at, at_all, at_seam, last_at, last_some}
-use Rattle.sbpl_mprim.proofs.Spelling.{Spells, SaysSome, just_said, found_behind, found_done, found_test, found_whole, found_word, natural_is, none_spelled, say_behind, say_done, say_test, say_whole, say_word, spells_append, spells_none, spells_split}
+use Rattle.sbpl_fixed.proofs.Spelling.{says_both, says_parts}
+use Rattle.sbpl_mprim.proofs.Spelling.{Spells, SaysSome, just_said, found_done, found_test, found_whole, found_word, natural_is, none_spelled, say_done, say_test, say_whole, say_word, spells_append, spells_none, spells_split}
 
 -- a whole number of zero or more that was found, as a natural number
 pub natural_front : (headings high : ℕ) (n : ℤ) (ss : List Saying) (ts rest : List Piece) → IsWithin (pos 0) (pos high) n → Spells headings (a_whole n ∷ ss) ts rest → Spells headings (a_whole (pos (unsigned_abs n)) ∷ ss) ts rest
@@ -114,9 +115,9 @@ pub end_found : (headings : ℕ) (ts : List Piece) (e : End) (rest : List Piece)
 unfolding end_format
 end_found headings ts e rest some h =
     let a = found_word headings _ _ ts e rest h in
-    let b = found_behind signed_format _ a.behind e rest a.says in
-    let c = found_behind signed_format _ b.1 e rest b.3 in
-    let d = found_behind signed_format _ c.1 e rest c.3 in
+    let b = says_parts signed_format _ a.behind rest e a.says in
+    let c = says_parts signed_format _ b.1 rest e b.3 in
+    let d = says_parts signed_format _ c.1 rest e c.3 in
     let f = found_done PrimFault _ d.1 e rest d.3 in
     let x = signed_found headings a.behind b.0 b.1 b.2 in
     let y = signed_found headings b.1 c.0 c.1 c.2 in
@@ -135,12 +136,12 @@ end_said headings ts e rest range h =
     let b = spells_split headings (a_whole e.dy ∷ []) (a_heading e.to ∷ []) a.0 rest a.2 in
     let t = heading_number headings e.to b.0 rest b.2 in
     let same : record e { to = heading_modulo headings t.0 } ≡ e = ap (λ (to : ℕ). record e { to = to }) t.2 in
-    let last = say_behind signed_format (λ (n : ℤ). done (record { dx = e.dx; dy = e.dy; to = heading_modulo headings n })) b.0 t.0 rest (record e { to = heading_modulo headings t.0 }) rest
+    let last = says_both signed_format (λ (n : ℤ). done (record { dx = e.dx; dy = e.dy; to = heading_modulo headings n })) b.0 rest rest t.0 (record e { to = heading_modulo headings t.0 })
     (signed_said headings b.0 t.0 rest t.1 t.3) (say_done PrimFault (record e { to = heading_modulo headings t.0 }) rest rest refl) in (
       record e { to = heading_modulo headings t.0 },
       same,
-      say_behind signed_format _ us e.dx a.0 _ rest (signed_said headings us e.dx a.0 range.dx a.1)
-          (say_behind signed_format _ a.0 e.dy b.0 _ rest (signed_said headings a.0 e.dy b.0 range.dy b.1) last),
+      says_both signed_format _ us a.0 rest e.dx _ (signed_said headings us e.dx a.0 range.dx a.1)
+          (says_both signed_format _ a.0 b.0 rest e.dy _ (signed_said headings a.0 e.dy b.0 range.dy b.1) last),
     ))
 
 -- ---- the multiplier
@@ -202,9 +203,9 @@ pub front_found : (headings : ℕ) (earlier : List Primitive) (ts : List Piece) 
     → FrontFound headings earlier ts f rest
 unfolding front_format
 front_found headings earlier ts f rest some h =
-    let a = found_behind (start_format headings earlier) _ ts f rest h in
-    let b = found_behind (end_format headings) _ a.1 f rest a.3 in
-    let c = found_behind mult_format _ b.1 f rest b.3 in
+    let a = says_parts (start_format headings earlier) _ ts rest f h in
+    let b = says_parts (end_format headings) _ a.1 rest f a.3 in
+    let c = says_parts mult_format _ b.1 rest f b.3 in
     let d = found_done PrimFault (a.0, b.0, c.0) c.1 f rest c.3 in
     let s = start_found headings earlier ts a.0 a.1 a.2 in
     let e = end_found headings a.1 b.0 b.1 some b.2 in
@@ -232,9 +233,9 @@ front_said headings earlier id from e mult ts rest small below own end_is most h
     let m = mult_said headings b.0 mult rest most b.2 in (
       (s.0, d.0, m.0),
       (s.1.0, s.1.1, d.1, m.1),
-      say_behind (start_format headings earlier) _ ts s.0 a.0 (s.0, d.0, m.0) rest s.2
-          (say_behind (end_format headings) _ a.0 d.0 b.0 (s.0, d.0, m.0) rest d.2
-          (say_behind mult_format _ b.0 m.0 rest (s.0, d.0, m.0) rest m.2 (say_done PrimFault (s.0, d.0, m.0) rest rest refl))),
+      says_both (start_format headings earlier) _ ts a.0 rest s.0 (s.0, d.0, m.0) s.2
+          (says_both (end_format headings) _ a.0 b.0 rest d.0 (s.0, d.0, m.0) d.2
+          (says_both mult_format _ b.0 rest rest m.0 (s.0, d.0, m.0) m.2 (say_done PrimFault (s.0, d.0, m.0) rest rest refl))),
     )
 
 -- ---- a primitive whose tokens were read
@@ -289,9 +290,9 @@ pub prim_found : (cell : ℤ) (headings : ℕ) (earlier : List Primitive) (ts : 
     → PrimFound cell headings earlier ts prim rest
 unfolding prim_format
 prim_found cell headings earlier ts prim rest some h =
-    let a = found_behind (front_format headings earlier) _ ts prim rest h in
-    let b = found_behind (count_format (sum_by pose_count earlier)) _ a.1 prim rest a.3 in
-    let c = found_behind (path_format b.0) _ b.1 prim rest b.3 in
+    let a = says_parts (front_format headings earlier) _ ts rest prim h in
+    let b = says_parts (count_format (sum_by pose_count earlier)) _ a.1 rest prim a.3 in
+    let c = says_parts (path_format b.0) _ b.1 rest prim b.3 in
     let f = front_found headings earlier ts a.0 a.1 some a.2 in
     let n = count_found headings (sum_by pose_count earlier) a.1 b.0 b.1 b.2 in
     let p = path_found headings b.0 b.1 c.0 c.1 n.1 c.2 in
@@ -356,6 +357,6 @@ prim_said cell headings earlier prim ts rest next h =
     let same = made_same prim f.0 p.0.0 f.1 p.1.0 in
     let costs = costs_then prim is.mult.0 is.moves in
     let j = subst (λ (q : Primitive). Says (judged cell headings f.0.0.place p.0.1 q) rest prim rest) (sym same) (judged_said cell headings f.0.0.place p.0.1 prim rest p.1.1 costs) in
-    say_behind (front_format headings earlier) _ ts f.0 a.0 prim rest f.2
-    (say_behind (count_format (sum_by pose_count earlier)) _ a.0 (length prim.poses) b.0 prim rest n
-    (say_behind (path_format (length prim.poses)) _ b.0 p.0 rest prim rest p.2 j))
+    says_both (front_format headings earlier) _ ts a.0 rest f.0 prim f.2
+    (says_both (count_format (sum_by pose_count earlier)) _ a.0 b.0 rest (length prim.poses) prim n
+    (says_both (path_format (length prim.poses)) _ b.0 rest rest p.0 prim p.2 j))

@@ -172,28 +172,6 @@ say_nano P headings low high n more ss (t ∷ ts) rest w h k = let s = k t.place
 
 -- ---- parts one behind the other, and tests in the middle
 
-pub found_behind : {E A B : Type 0} (f : Format E A) (more : A → Format E B) (ts : List Piece) (y : B) (rest : List Piece) → Says (behind f more) ts y rest
-    → (x : A) × (mid : List Piece) × Says f ts x mid × Says (more x) mid y rest
-unfolding Says behind
-found_behind (item i next) more [] y rest h = absurd h
-found_behind (item i next) more (t ∷ ts) y rest h = let k = found_behind (next t.place h.0) more ts y rest h.2 in (k.0, k.1, (h.0, h.1, k.2), k.3)
-found_behind (ended f) more [] y rest h = found_behind f more [] y rest h
-found_behind (ended f) more (t ∷ ts) y rest h = absurd h
-found_behind (wrong e) more ts y rest h = absurd h
-found_behind (done x) more ts y rest h = (x, ts, (refl, refl), h)
-
-pub say_behind : {E A B : Type 0} (f : Format E A) (more : A → Format E B) (ts : List Piece) (x : A) (mid : List Piece) (y : B) (rest : List Piece)
-    → Says f ts x mid → Says (more x) mid y rest → Says (behind f more) ts y rest
-unfolding Says behind
-say_behind (item i next) more [] x mid y rest h k = absurd h
-say_behind (item i next) more (t ∷ ts) x mid y rest h k = (h.0, h.1, say_behind (next t.place h.0) more ts x mid y rest h.2 k)
-say_behind (ended f) more [] x mid y rest h k = say_behind f more [] x mid y rest h k
-say_behind (ended f) more (t ∷ ts) x mid y rest h k = absurd h
-say_behind (wrong e) more ts x mid y rest h k = absurd h
-say_behind {E} {A} {B} (done z) more ts x mid y rest h k =
-    let one = subst (λ (l : List Piece). Says (more x) l y rest) h.1 k in
-    subst (λ (w : A). Says (more w) ts y rest) h.0 one
-
 pub found_test : {E A : Type 0} (b : Bool) (e : E) (f : Format E A) (ts : List Piece) (x : A) (rest : List Piece) → Says (if b then wrong e else f) ts x rest
     → (b ≡ false) × Says f ts x rest
 unfolding Says

@@ -53,7 +53,7 @@ pub(crate) fn is_in_cell(cell: i64, dx: i32, dy: i32, last: Pose) -> bool
 
 /// A pose's angle lies in the bin of a heading.
 pub(crate) fn is_in_bin(headings: u32, to: u32, last: Pose) -> bool
-    requires { 0 < headings }
+    requires some { 0 < headings }
     ensures inside { result ≡ is_in_bin headings to last }
 {
     heading_at(headings, last.theta) == to

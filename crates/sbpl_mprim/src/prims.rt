@@ -36,7 +36,7 @@ impl Model for Prims {
 impl Prims {
     /// These primitives, which are what a file may give for the cell size and the headings.
     pub(crate) fn of(cell: i64, headings: u32, items: Vec<Prim>) -> Prims
-        requires { ArePrimitives (record { cell = cell; headings = headings; items = items.items }) }
+        requires prims { ArePrimitives (record { cell = cell; headings = headings; items = items.items }) }
         ensures prims { result ≡ record { cell = cell; headings = headings; items = items.items } }
     {
         Prims {

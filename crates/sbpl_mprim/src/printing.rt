@@ -39,7 +39,7 @@ fn print_cells(n: i32, blank: u8, out: &mut Vec<u8>) -> Result<(), NoMemory>
 }
 
 fn print_parts(value: i64, blank: u8, out: &mut Vec<u8>) -> Result<(), NoMemory>
-    requires { IsWithin (negsuc 999999999999999999) (pos 1000000000000000000) value }
+    requires range { IsWithin (negsuc 999999999999999999) (pos 1000000000000000000) value }
     ensures ok { OnOk result (out.new.items ≡ out.old.items ++ (nano_text value ++ blank ∷ [])) }
 {
     print_nano(value, out)?;
@@ -49,7 +49,7 @@ fn print_parts(value: i64, blank: u8, out: &mut Vec<u8>) -> Result<(), NoMemory>
 
 #[tactic(auto, unfolding(crate::specs::Printed::line_text))]
 fn print_resolution(name: &[u8], value: i64, out: &mut Vec<u8>) -> Result<(), NoMemory>
-    requires { IsWithin (negsuc 999999999999999999) (pos 1000000000000000000) value }
+    requires range { IsWithin (negsuc 999999999999999999) (pos 1000000000000000000) value }
     ensures ok { OnOk result (out.new.items ≡ out.old.items ++ line_text (name.now ∷ nano_text value ∷ [])) }
 {
     print_word(name, b' ', out)?;
@@ -66,7 +66,7 @@ fn print_field(name: &[u8], n: u32, out: &mut Vec<u8>) -> Result<(), NoMemory>
 
 #[tactic(auto, unfolding(crate::specs::Printed::line_text))]
 fn print_pose(pose: &Pose, out: &mut Vec<u8>) -> Result<(), NoMemory>
-    requires { IsOffsetInRange pose.now }
+    requires range { IsOffsetInRange pose.now }
     ensures ok { OnOk result (out.new.items ≡ out.old.items ++ line_text (pose_line pose.now)) }
 {
     print_parts(pose.x, b' ', out)?;
@@ -85,7 +85,7 @@ fn print_end(name: &[u8], prim: &Prim, out: &mut Vec<u8>) -> Result<(), NoMemory
 }
 
 fn print_poses(poses: &[Pose], out: &mut Vec<u8>) -> Result<(), NoMemory>
-    requires { ArePrintable poses.now }
+    requires printable { ArePrintable poses.now }
     ensures ok { OnOk result (out.new.items ≡ out.old.items ++ lines_text (map pose_line poses.now)) }
 {
     for pose in poses {
@@ -96,7 +96,7 @@ fn print_poses(poses: &[Pose], out: &mut Vec<u8>) -> Result<(), NoMemory>
 
 /// The lines of a primitive without its poses.
 fn print_prim_head(prim: &Prim, count: u32, out: &mut Vec<u8>) -> Result<(), NoMemory>
-    requires { count ≡ length prim.now.poses }
+    requires count { count ≡ length prim.now.poses }
     ensures ok { OnOk result (out.new.items ≡ out.old.items ++ lines_text (prim_head prim.now)) }
 {
     print_field(b"primID:", prim.id, out)?;
@@ -108,7 +108,7 @@ fn print_prim_head(prim: &Prim, count: u32, out: &mut Vec<u8>) -> Result<(), NoM
 }
 
 fn print_prim(prim: &Prim, out: &mut Vec<u8>) -> Result<(), NoMemory>
-    requires { IsPrintable prim.now }
+    requires printable { IsPrintable prim.now }
     ensures ok { OnOk result (out.new.items ≡ out.old.items ++ lines_text (prim_lines prim.now)) }
 {
     let poses = prim.poses.as_slice();
@@ -127,7 +127,7 @@ fn print_head(prims: &Prims, out: &mut Vec<u8>) -> Result<(), NoMemory>
 }
 
 fn print_each(prims: &[Prim], out: &mut Vec<u8>) -> Result<(), NoMemory>
-    requires { (i : ℕ) (p : APrim) → slice_get prims.now i ≡ Some p → IsPrintable p }
+    requires printable { (i : ℕ) (p : APrim) → slice_get prims.now i ≡ Some p → IsPrintable p }
     ensures ok { OnOk result (out.new.items ≡ out.old.items ++ lines_text (flat_map prim_lines prims.now)) }
 {
     for prim in prims {

@@ -72,7 +72,7 @@ fn read_end(headings: u32, reader: &mut Reader) -> Result<End, PrimFault>
 
 #[tactic(auto, unfolding(sbpl_fixed::specs::Formats::reads, crate::specs::Reading::start_format))]
 fn read_start(headings: u32, earlier: &Earlier, reader: &mut Reader) -> Result<Start, PrimFault>
-    requires { 0 < headings }
+    requires some { 0 < headings }
     ensures read { Gives Memory (λ x. x) result reader.new (reads told (start_format headings earlier.now) reader.old) }
 {
     reader.word(b"primID:")?;
@@ -100,7 +100,7 @@ fn read_mult(reader: &mut Reader) -> Result<u32, PrimFault>
 
 #[tactic(auto, unfolding(sbpl_fixed::specs::Formats::reads, crate::specs::Reading::count_format))]
 fn read_count(before: u32, reader: &mut Reader) -> Result<u32, PrimFault>
-    requires { before ≤ 200000 }
+    requires few { before ≤ 200000 }
     ensures read { Gives Memory (λ x. x) result reader.new (reads told (count_format before) reader.old) }
     ensures range { IfOk result (λ n. (1 ≤ n) × (before + n ≤ 200000)) }
 {
@@ -145,7 +145,7 @@ fn read_path(
     count: u32,
     reader: &mut Reader,
 ) -> Result<(Poses, PlacedPose), PrimFault>
-    requires { 1 ≤ count }
+    requires some { 1 ≤ count }
     ensures read { Gives Memory (λ x. (x.0, x.1)) result reader.new (reads told (path_format count) reader.old) }
     ensures count { IfOk result (λ x. length x.0 ≡ count) }
     ensures range { IfOk result (λ x. IsOffsetInRange x.1.pose) }

@@ -64,7 +64,7 @@ fn sink(heap: &mut [Entry], places: &mut [u32], mut hole: usize, entry: Entry) -
 
 /// The one of the places below a place whose entry comes first.
 fn first_child(heap: &[Entry], place: usize) -> Option<usize>
-    requires { place < length heap.now }
+    requires place { place < length heap.now }
     ensures child { IsChild (length heap.now) (rank_at heap.now) place result }
 {
     let first = 4 * place + 1;

@@ -175,7 +175,7 @@ all_reads table n m reads same h = subst (λ k. AreReadsOf table k reads) same h
 -- ---- the reads of primitives
 
 -- the end cell is a centre cell, since the last pose lies there
-end_is_centre : (cell : ℤ) (headings : ℕ) (p : Primitive) → IsPrimitive cell headings p → IsCentre cell p.poses p.dx p.dy
+pub end_is_centre : (cell : ℤ) (headings : ℕ) (p : Primitive) → IsPrimitive cell headings p → IsCentre cell p.poses p.dx p.dy
 end_is_centre cell headings p good =
     let last : ℕ = length p.poses - 1 in
     let some = good.some_pose in

@@ -14,7 +14,7 @@ use std::alloc::Global;
 
 /// Whether a cell is in a band's row, and not before the band.
 fn is_behind_start(cell: &Cell, band: &Band) -> bool
-    ensures { IsTrue result ↔ ((cell.now.y ≡ band.now.y) × (band.now.first ≤ℤ cell.now.x)) }
+    ensures behind { IsTrue result ↔ ((cell.now.y ≡ band.now.y) × (band.now.first ≤ℤ cell.now.x)) }
 {
     cell.y == band.y && cell.x >= band.first
 }

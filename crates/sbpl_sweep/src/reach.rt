@@ -34,7 +34,7 @@ pub(crate) fn axis_at(side: u64, at: i64) -> Axis
 /// Whether the cell with number `n` beyond the next one begins nearer than the root of `most`.
 fn is_reached(gap: u64, side: u64, n: u64, most: u128) -> bool
     requires inside { gap + side * n ≤ 2 ^ 62 }
-    ensures { IsTrue result ↔ (squared_step gap side n < most) }
+    ensures reached { IsTrue result ↔ (squared_step gap side n < most) }
 {
     let step = u128::from(gap + side * n);
     step * step < most

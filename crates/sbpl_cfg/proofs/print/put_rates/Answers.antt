@@ -8,7 +8,9 @@ returns c =
     let cell : SFits w64 c.env.inside.cell = search rules in
     let speed : SFits w64 c.env.inside.speed = search rules in
     let turn45 : SFits w64 c.env.inside.turn45 = search rules in
-    rw (← c.env.view_is) (after_three _ _ _ _
-    (simp to_z-of_z at c.in_ok-put_nano_line.ensures)
-    (simp to_z-of_z at c.in_ok-put_nano_line-2.ensures)
-    (simp to_z-of_z at c.in_ok-put_nano_line-3.ensures))
+    record {
+      ok = rw (← c.env.view_is) (after_three _ _ _ _
+          (simp to_z-of_z at c.in_ok-put_nano_line.ensures.ok)
+          (simp to_z-of_z at c.in_ok-put_nano_line-2.ensures.ok)
+          (simp to_z-of_z at c.in_ok-put_nano_line-3.ensures.ok));
+    }

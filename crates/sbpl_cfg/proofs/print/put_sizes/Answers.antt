@@ -6,8 +6,10 @@ use Rattle.sbpl_cfg.proofs.print.put_sizes.Goals as goal
 pub returns : goal.returns
 returns c =
     let circumscribed : SFits w16 c.env.inside.circumscribed = search rules in
-    rw (← c.env.view_is) (after_four _ _ _ _ _
-    c.in_ok-put_size_line.ensures
-    (simp c.from.ensures at c.in_ok-put_whole_line.ensures)
-    (simp c.from-2.ensures at c.in_ok-put_whole_line-2.ensures)
-    (simp to_z-of_z at c.in_ok-put_signed_line.ensures))
+    record {
+      ok = rw (← c.env.view_is) (after_four _ _ _ _ _
+          c.in_ok-put_size_line.ensures.ok
+          (simp c.from.ensures at c.in_ok-put_whole_line.ensures.ok)
+          (simp c.from-2.ensures at c.in_ok-put_whole_line-2.ensures.ok)
+          (simp to_z-of_z at c.in_ok-put_signed_line.ensures.ok));
+    }

@@ -15,12 +15,12 @@ fraction_by-requires-clause-cheap c = cheap_at c.args.env.now c.args.prims.now c
 pub loop-i-preserved : goal.loop-i-preserved
 loop-i-preserved c =
     least_more c.args.env.now c.args.way c.args.prims.now c.loop-i.i c.index-prims-i.result c.loop-i.least c.fraction_by.result c.lesser-least.result
-    (slice_get_read c.args.prims.now (length c.args.prims.now) c.loop-i.i _ refl c.loop-i-test.true c.index-prims-i.is) c.loop-i.invariant c.fraction_by.ensures c.lesser-least.ensures
+    (slice_get_read c.args.prims.now (length c.args.prims.now) c.loop-i.i _ refl c.loop-i-test.true c.index-prims-i.is) c.loop-i.invariant c.fraction_by.ensures.floor c.lesser-least.ensures.floor
 
 pub returns-in_default : goal.returns-in_default
 returns-in_default c =
-    none_found c.args.env.now c.args.way c.args.prims.now c.loop-i.least (λ n. c.loop-i.invariant n ∙ ap (least_floor c.args.env.now c.args.way n) (take_all c.loop-i.i c.args.prims.now c.loop-i-test.false)) c.in_default.is
+    record { rate = none_found c.args.env.now c.args.way c.args.prims.now c.loop-i.least (λ n. c.loop-i.invariant n ∙ ap (least_floor c.args.env.now c.args.way n) (take_all c.loop-i.i c.args.prims.now c.loop-i-test.false)) c.in_default.is }
 
 pub returns : goal.returns
 returns c =
-    rate_found c.args.env.now c.args.way c.args.prims.now c.loop-i.least c.in-Some.rate (λ n. c.loop-i.invariant n ∙ ap (least_floor c.args.env.now c.args.way n) (take_all c.loop-i.i c.args.prims.now c.loop-i-test.false)) c.in-Some.is
+    record { rate = rate_found c.args.env.now c.args.way c.args.prims.now c.loop-i.least c.in-Some.rate (λ n. c.loop-i.invariant n ∙ ap (least_floor c.args.env.now c.args.way n) (take_all c.loop-i.i c.args.prims.now c.loop-i-test.false)) c.in-Some.is }

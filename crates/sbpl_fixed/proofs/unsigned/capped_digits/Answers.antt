@@ -14,4 +14,4 @@ loop-digit-preserved c =
     }
 
 pub returns : goal.returns
-returns c = capped_done c.args.cap c.loop-digit.value c.loop-digit.digit-index c.args.digits.now _ (omega arith) c.loop-digit.invariant.bound c.loop-digit.invariant.number
+returns c = record { number = capped_done c.args.cap c.loop-digit.value c.loop-digit.digit-index c.args.digits.now _ (omega arith) c.loop-digit.invariant.bound c.loop-digit.invariant.number }

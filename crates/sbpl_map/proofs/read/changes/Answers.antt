@@ -14,7 +14,7 @@ loop-rest-init c =
 pub returns-in_err-judged : goal.returns-in_err-judged
 returns-in_err-judged c =
     let was = stops c.args.map.now c.loop-rest.number c.loop-rest.rest.now c.first_line.result.0.now c.first_line.result.1.now c.loop-rest.draft c.in_err-judged.field-0.0 _
-    c.loop-rest.invariant.0 c.first_line.ensures.lines (sym c.judged.ensures ∙ c.in_err-judged.was) in
+    c.loop-rest.invariant.0 c.first_line.ensures.lines (sym c.judged.ensures.said ∙ c.in_err-judged.was) in
     let p = err_from_is_err_and c.from_residual-in_err-judged.result c.from_residual-in_err-judged.ensures.1 in
     record { read = answered _ _ (p.1 ∙ ap (λ e. Err e) p.2 ∙ sym was) }
 
@@ -28,7 +28,7 @@ pub loop-rest-preserved : goal.loop-rest-preserved
 loop-rest-preserved c =
     let new = c.in_ok-add.ensures.added in (
       goes_on c.args.map.now c.loop-rest.number c.loop-rest.rest.now c.first_line.result.0.now c.first_line.result.1.now c.loop-rest.draft c.add.new.self c.in_ok-judged.field-0 _
-          c.loop-rest.invariant.0 c.first_line.ensures.lines (sym c.judged.ensures ∙ c.in_ok-judged.was) new,
+          c.loop-rest.invariant.0 c.first_line.ensures.lines (sym c.judged.ensures.said ∙ c.in_ok-judged.was) new,
       omega (arith, c.loop-rest.invariant.1, c.first_line.ensures.shorter),
       omega (arith, c.loop-rest.invariant.2, grows c.loop-rest.draft c.add.new.self c.loop-rest.number c.in_ok-judged.field-0 new),
     )

@@ -12,5 +12,5 @@ returns c =
     let m : FitsSigned w64 c.args.cell = c.ranges.cell in
     let n : FitsSigned w64 c.args.x = c.ranges.x in
     let r : FitsSigned w64 c.cell_at.result = search rules in
-    let e = simp to_z-of_z at c.cell_at.ensures in
+    let e = simp to_z-of_z at c.cell_at.ensures.cell in
     record { cell = simp to_z-of_z e }

@@ -9,7 +9,7 @@ false_is_not_true h = cc
 pub returns-then-is_behind_start : goal.returns-then-is_behind_start
 returns-then-is_behind_start c =
     let at = sym c.in-Some.ensures.value in
-    let test = c.is_behind_start.ensures.0 c.if-is_behind_start.true in
+    let test = c.is_behind_start.ensures.behind.0 c.if-is_behind_start.true in
     let bound = c.requires.goes_on.bounded c.in-Some.last.now.x c.in-Some.last.now.y (record { number = _; stands = at }) in
     let x : FitsSigned w64 c.in-Some.last.now.x = search rules in
     let next : FitsSigned w64 (c.in-Some.last.now.x +ℤ pos 1) = search (rules, ints) in
@@ -19,4 +19,4 @@ pub returns-else-is_behind_start : goal.returns-else-is_behind_start
 returns-else-is_behind_start c =
     let at = sym c.in-Some.ensures.value in
     let first : FitsSigned w64 c.args.band.now.first = search rules in
-    simp to_z-of_z (record { next = next_at_start c.args.cells.now c.requires.ordered c.in-Some.last.now at c.args.band.now c.requires.goes_on (λ both. false_is_not_true (sym c.if-is_behind_start.false ∙ c.is_behind_start.ensures.1 both)) })
+    simp to_z-of_z (record { next = next_at_start c.args.cells.now c.requires.ordered c.in-Some.last.now at c.args.band.now c.requires.goes_on (λ both. false_is_not_true (sym c.if-is_behind_start.false ∙ c.is_behind_start.ensures.behind.1 both)) })

@@ -12,5 +12,5 @@ returns-in_ok-append-in-Some-clause-front c =
       front = take after bytes;
       rest = drop after bytes;
       whole = sym (take-append-drop after bytes);
-      written = c.in_ok-append-in-Some.ensures.appended ∙ ap (λ front. before ++ front) c.front.ensures;
+      written = c.in_ok-append-in-Some.ensures.appended ∙ ap (λ front. before ++ front) c.front.ensures.front;
     }

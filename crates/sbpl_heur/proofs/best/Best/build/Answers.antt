@@ -23,5 +23,5 @@ invariant_of-best c =
     let size = ap length (c.costs-costs.ensures.value ∙ ap (λ m. m.costs) c.map.ensures.map) ∙ world.map.cells ∙ cells_of_map w world in
     let area = ap (λ e. e.width * e.height) c.env-env.ensures.env in
     fresh_parts w c.env-env.result.now c.args.goal (vec_capacity c.in_ok-hops.hops) c.cells_of.result c.headings_of-headings.result c.in_ok-walks.walks c.in_ok-cells.cells.items c.in_ok-turns.turns.items world c.env-env.ensures.env
-    c.requires.goal c.cells_of.ensures c.headings_of-headings.ensures.value (c.in_ok-cells.ensures.items_if_clones_equal (λ y h. h)) (c.in_ok-turns.ensures.items_if_clones_equal (λ y h. h)) (ap cell_count board ∙ size ∙ sym area ∙ sym c.cells_of.ensures)
+    c.requires.goal c.cells_of.ensures.cells c.headings_of-headings.ensures.value (c.in_ok-cells.ensures.items_if_clones_equal (λ y h. h)) (c.in_ok-turns.ensures.items_if_clones_equal (λ y h. h)) (ap cell_count board ∙ size ∙ sym area ∙ sym c.cells_of.ensures.cells)
     c.in_ok-walks.ensures.start (ap (λ z. z.room) board ∙ sym c.in_ok-hops.ensures.exact)
