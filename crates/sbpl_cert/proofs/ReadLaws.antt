@@ -1,5 +1,5 @@
 -- What a reader of sections answers, in terms of what tokens stand for.
-use Rattle.std.proofs.Common.{◌≡◌, ℕ, ◌+◌, ◌^◌, ◌<◌, ◌≤◌, List, [], ◌∷◌, length, min, drop, ℤ, Result, Ok, Err, refl, sym, ap, subst, ◌∙◌, ⊎_elim, arith}
+use Rattle.std.proofs.Common.{◌≡◌, ℕ, ◌+◌, ◌-◌, ◌^◌, ◌<◌, ◌≤◌, List, [], ◌∷◌, length, min, drop, ℤ, Result, Ok, Err, refl, sym, ap, subst, ◌∙◌, ⊎_elim, arith}
 use Rattle.std.specs.Prelude.{◌≢◌, codes, IfOk, IfErr}
 use Rattle.std.proofs.lemmas.Bool.{cases_lt}
 use Rattle.std.proofs.lemmas.List.{drop_all}
@@ -13,7 +13,7 @@ use Rattle.sbpl_cert.specs.declared.fault.LabelFault.TheVariants.{NoMemory}
 use Rattle.sbpl_cert.specs.Faults.{told}
 use Rattle.sbpl_cert.specs.Format.{front_format, section_format}
 use Rattle.sbpl_cert.specs.Sections.{Section, IsSection}
-use Rattle.sbpl_cert.specs.Text.{AreTokensOf, EndsWith, HasFault, with_rest}
+use Rattle.sbpl_cert.specs.Text.{AreTokensOf, EndsWith, HasFault, IsBehindEnd, with_rest}
 use Rattle.sbpl_cert.proofs.Leaves.{said_leaves, behind_in_text}
 use Rattle.sbpl_cert.proofs.SectionLaws.{front_out, section_out, section_in, word_out}
 
@@ -143,6 +143,20 @@ pub ends_behind : (text : List ℕ) (at place : ℕ) (rest : Left) → at ≤ le
 ends_behind text at place rest inside h end =
     let w = behind_in_text text at (record { place = place; bytes = codes "end" }) rest.tokens inside h in
     (omega (arith, w.0), w.2, same_left rest (start_at text (place + 3)) end (sym w.3))
+
+-- the word that ends three bytes behind its place ends there
+pub right_behind_end : (text : List ℕ) (at place : ℕ) (rest : Left) → EndsWith (tokens_from text at) (record { place = place; bytes = codes "end" } ∷ rest.tokens)
+    → rest ≡ start_at text (place + 3) → IsBehindEnd text at (place + 3)
+right_behind_end text at place rest h left =
+    let same : place ≡ place + 3 - 3 = omega arith in
+    let tokens : rest.tokens ≡ tokens_from text (place + 3) = ap (λ (l : Left). l.tokens) left in
+    let here = subst (λ (ts : List Piece). EndsWith (tokens_from text at) (record { place = place; bytes = codes "end" } ∷ ts)) tokens h in
+    subst (λ (n : ℕ). EndsWith (tokens_from text at) (record { place = n; bytes = codes "end" } ∷ tokens_from text (place + 3))) same here
+
+-- the same where the reading began behind the end of the text
+pub behind_end_within : (text : List ℕ) (at from offset : ℕ) → start_at text from ≡ start_at text at → IsBehindEnd text from offset → IsBehindEnd text at offset
+behind_end_within text at from offset same h =
+    subst (λ (l : Left). EndsWith l.tokens (record { place = offset - 3; bytes = codes "end" } ∷ tokens_from text offset)) same h
 
 pub read_to : (s : Section) {l m : Left} → l ≡ m → section_read s l ≡ section_read s m
 read_to s same = ap (section_read s) same

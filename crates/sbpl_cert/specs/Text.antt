@@ -1,11 +1,11 @@
 -- Which tokens stand for a section, one by one and with no reading in it.
-use Rattle.std.specs.Prelude.{◌≡◌, ◌≢◌, ◌+◌, ◌*◌, ◌<◌, ◌⊎◌, ℕ, List, [], ◌∷◌, ◌++◌, length, codes}
+use Rattle.std.specs.Prelude.{◌≡◌, ◌≢◌, ◌+◌, ◌-◌, ◌*◌, ◌<◌, ◌⊎◌, ℕ, List, [], ◌∷◌, ◌++◌, length, codes}
 use Rattle.std.specs.List.{flat_map}
 use Rattle.sbpl_graph.specs.declared.TheConstants.{FAR}
 use Rattle.sbpl_fixed.specs.Numbers.{number_of}
 use Rattle.sbpl_fixed.specs.Unsigned.{IsDigits, IsMilli}
 use Rattle.sbpl_fixed.specs.Formats.{Left, IsFaulty}
-use Rattle.sbpl_fixed.specs.Tokens.{Piece}
+use Rattle.sbpl_fixed.specs.Tokens.{Piece, tokens_from}
 use Rattle.sbpl_cert.specs.declared.fault.LabelFault.{LabelFault}
 use Rattle.sbpl_cert.specs.declared.fault.LabelFault.TheVariants.{NoMemory}
 use Rattle.sbpl_cert.specs.declared.outcome.Outcome.{Outcome}
@@ -79,6 +79,10 @@ with_rest s rest = (s, rest)
 -- a list ends with another
 abbrev pub EndsWith : List Piece → List Piece → Type 0
 EndsWith ts rest = (before : List Piece) × (ts ≡ before ++ rest)
+
+-- of the tokens from `at` on, the last that begins before the offset is a section's last word, and the offset is the one right behind it
+abbrev pub IsBehindEnd : List ℕ → ℕ → ℕ → Type 0
+IsBehindEnd text at offset = EndsWith (tokens_from text at) (record { place = offset - 3; bytes = codes "end" } ∷ tokens_from text offset)
 
 -- Up to the fault's place the tokens are what the format calls for, and there they fail in the way that the fault names. A token that is missing is missed at the end.
 abbrev pub HasFault : ℕ → ℕ → Left → LabelFault → Type 0

@@ -8,7 +8,7 @@ ghost use Rattle.sbpl_cert.specs.declared.fault.LabelFault.TheVariants.{NoMemory
 ghost use Rattle.sbpl_cert.specs.Faults.{told};
 ghost use Rattle.sbpl_cert.specs.Format.{arc_turn, bound, count_format, digits, front_format, head_format, label, low_format, outcome_format, path_format, row_format, row_turn, section_format, title_format};
 ghost use Rattle.sbpl_cert.specs.Sections.{Section};
-ghost use Rattle.sbpl_cert.specs.Text.{AreTokensOf, EndsWith, HasFault, with_rest};
+ghost use Rattle.sbpl_cert.specs.Text.{AreTokensOf, EndsWith, HasFault, IsBehindEnd, with_rest};
 
 use crate::arcs::Arcs;
 use crate::fault::LabelFault;
@@ -278,6 +278,7 @@ fn read_exactly(
 ) -> Result<(LabelSet, usize), LabelFault>
     requires inside { at ≤ length text.now }
     ensures inside { IfOk result (λ x. (at < x.1) × (x.1 ≤ length text.now)) }
+    ensures behind { IfOk result (λ x. IsBehindEnd text.now at x.1) }
     ensures exact { Answers Memory (λ x. (x.0, start_at text.now x.1)) result (reads told (section_format plan states) (start_at text.now at)) }
 {
     let mut reader = Reader::from(text, at);
@@ -286,9 +287,9 @@ fn read_exactly(
 }
 
 /// Reads the section that begins at an offset of a text, and answers the offset behind it. Where the text ends before the
-/// offset it has no more tokens. The section must be of this plan and of so many states. Blanks of any kind part its tokens. Any other text has exactly one first fault in reading order, which
-/// is answered with its place. `Trailing` is never answered, since more sections may stand behind this one. `NoMemory`
-/// says nothing of the text.
+/// offset it has no more tokens. The section must be of this plan and of so many states. Blanks of any kind part its
+/// tokens. Any other text has exactly one first fault in reading order, which is answered with its place. `Trailing` is
+/// never answered, since more sections may stand behind this one. `NoMemory` says nothing of the text.
 pub fn read_labels(
     alloc: Global,
     text: &[u8],
@@ -298,8 +299,9 @@ pub fn read_labels(
 ) -> Result<(LabelSet, usize), LabelFault>
     // It is of the plan and of the number of states that were passed.
     ensures given { IfOk result (λ x. (x.0.plan ≡ plan) × (length x.0.labels ≡ states)) }
-    // The offset that is answered lies behind `at` and in the text.
+    // The offset that is answered lies behind `at` and in the text: right behind the section's last word.
     ensures inside { IfOk result (λ x. (at < x.1) × (x.1 ≤ length text.now)) }
+    ensures behind { IfOk result (λ x. IsBehindEnd text.now at x.1) }
     // The tokens from `at` on stand for what is read, one by one, and then go on from the offset that is answered.
     ensures found { IfOk result (λ x. AreTokensOf (tokens_from text.now at) x.0 (tokens_from text.now x.1)) }
     // What the tokens stand for is read, unless memory runs out.

@@ -33,13 +33,13 @@ expansions_of_both [] qs = omega arith
 expansions_of_both (p ∷ ps) qs = let more = expansions_of_both ps qs in omega arith
 
 -- counts that grow twice
-grows_twice : (before mid after : Counts) (a b c : ℕ) → c ≡ a + b → mid ≡ record before { plan = before.plan + a; run = before.run + a } → after ≡ record mid { plan = mid.plan + b; run = mid.run + b } → after ≡ record before { plan = before.plan + c; run = before.run + c }
+pub grows_twice : (before mid after : Counts) (a b c : ℕ) → c ≡ a + b → mid ≡ record before { plan = before.plan + a; run = before.run + a } → after ≡ record mid { plan = mid.plan + b; run = mid.run + b } → after ≡ record before { plan = before.plan + c; run = before.run + c }
 grows_twice before mid after a b c sum one two =
     two ∙ ap (λ (m : Counts). record m { plan = m.plan + b; run = m.run + b }) one
     ∙ ap (λ (x : ℕ). record before { plan = x; run = before.run + a + b }) (let e : before.plan + a + b ≡ before.plan + c = omega arith in e)
     ∙ ap (λ (x : ℕ). record before { plan = before.plan + c; run = x }) (let e : before.run + a + b ≡ before.run + c = omega arith in e)
 
-grows_by_none : (before : Counts) → before ≡ record before { plan = before.plan + 0; run = before.run + 0 }
+pub grows_by_none : (before : Counts) → before ≡ record before { plan = before.plan + 0; run = before.run + 0 }
 grows_by_none before =
     ap (λ (x : ℕ). record before { plan = x }) (sym (add-zero before.plan)) ∙ ap (λ (x : ℕ). record before { plan = before.plan + 0; run = x }) (sym (add-zero before.run))
 

@@ -5,3 +5,4 @@ pub mod Outcomes
 pub mod Determined
 pub mod Turns
 pub mod Made
+pub mod Stopped

@@ -1,6 +1,6 @@
 //! The making of a plan.
 
-ghost use Rattle.std.specs.Prelude.{◌≡◌, ℕ, ◌+◌, ◌*◌, ◌^◌, ◌≤◌, ◌<◌, ◌↔◌, IsTrue, ◌⊎◌, IfOk, length, true, false, vec_capacity};
+ghost use Rattle.std.specs.Prelude.{◌≡◌, ℕ, ◌+◌, ◌*◌, ◌^◌, ◌≤◌, ◌<◌, ◌↔◌, IsTrue, ◌⊎◌, IfOk, OnErr, length, true, false, vec_capacity};
 ghost use Rattle.sbpl_graph.specs.Certificate.{AreSupported};
 ghost use Rattle.sbpl_graph.specs.Network.{Network};
 ghost use Rattle.sbpl_labels.specs.Counts.{AreCounts, IsSpent};
@@ -11,6 +11,7 @@ ghost use Rattle.sbpl_plan.specs.Looking.{IsEnough, IsStartFresh, Looks};
 ghost use Rattle.sbpl_plan.specs.Made.{AreMade};
 ghost use Rattle.sbpl_plan.specs.Outcomes.{IsAnswered, IsOutcome, IsTold, IsTrueOutcome};
 ghost use Rattle.sbpl_plan.specs.Passing.{ArePasses, IsLast, expansions};
+ghost use Rattle.sbpl_plan.specs.Stopped.{IsStopped};
 
 use crate::anytime::Anytime;
 use crate::ask::Ask;
@@ -74,6 +75,7 @@ fn make_passes<G: Graph, H: Guide, S: Anytime>(
     requires fresh { IsStartFresh (S.state search.old).labels }
     requires room { states_of (S.state search.old).labels ≤ vec_capacity arcs.old }
     ensures made { IfOk result (λ r. AreMade (S.ready (G.network graph.now)) S.most (record { network = G.network graph.now; guide = H.distance guide.now; goal = goal; ask = ask.now }) (S.state search.old) (S.state search.new) budget.old budget.new arcs.new.items r.passes.items r.spent r.found) }
+    ensures memory { OnErr result (IsStopped (S.ready (G.network graph.now)) (S.state search.old) (S.state search.new) budget.old budget.new) }
 {
     let mut passes = Vec::new(alloc);
     let mut eps = ask.first;
@@ -145,6 +147,7 @@ pub(crate) fn make_plan<G: Graph, H: Guide, S: Anytime>(
     ensures start { IfOk result (λ _. (S.state search.new).labels.start ≡ (S.state search.old).labels.start) }
     ensures states { IfOk result (λ _. states_of (S.state search.new).labels ≡ states_of (S.state search.old).labels) }
     ensures same_goal { IfOk result (λ _. (S.state search.new).goal ≡ (S.state search.old).goal) }
+    ensures memory { OnErr result (IsStopped (S.ready (G.network graph.now)) (S.state search.old) (S.state search.new) budget.old budget.new) }
 {
     bound_holds();
     none_holds();

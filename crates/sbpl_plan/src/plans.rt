@@ -1,6 +1,6 @@
 //! Whole plans.
 
-ghost use Rattle.std.specs.Prelude.{◌≡◌, ◌+◌, ◌*◌, ◌^◌, ◌≤◌, IfOk, length, true, false};
+ghost use Rattle.std.specs.Prelude.{◌≡◌, ◌+◌, ◌*◌, ◌^◌, ◌≤◌, IfOk, OnErr, length, true, false};
 ghost use Rattle.sbpl_graph.specs.Certificate.{AreSupported};
 ghost use Rattle.sbpl_ara.specs.Search.{AreReady, AreUsable};
 ghost use Rattle.sbpl_labels.specs.Counts.{AreCounts, IsSpent};
@@ -9,6 +9,7 @@ ghost use Rattle.sbpl_plan.specs.Asked.{IsAsk, most_passes};
 ghost use Rattle.sbpl_plan.specs.Looking.{IsStartFresh};
 ghost use Rattle.sbpl_plan.specs.Outcomes.{IsAnswered, IsOutcome, IsTrueOutcome};
 ghost use Rattle.sbpl_plan.specs.Passing.{ArePasses, expansions};
+ghost use Rattle.sbpl_plan.specs.Stopped.{IsStopped};
 
 use crate::ask::Ask;
 use crate::make::make_plan;
@@ -57,6 +58,8 @@ pub fn plan<G: Graph, H: Guide>(
     ensures start { IfOk result (λ _. ara.new.labels.start ≡ ara.old.labels.start) }
     ensures states { IfOk result (λ _. states_of ara.new.labels ≡ states_of ara.old.labels) }
     ensures same_goal { IfOk result (λ _. ara.new.goal ≡ ara.old.goal) }
+    // So they may where memory ran out, and what was expanded up to there is counted.
+    ensures memory { OnErr result (IsStopped (AreReady (G.network graph.now)) ara.old ara.new budget.old budget.new) }
 {
     make_plan(alloc, graph, guide, ara, goal, ask, budget)
 }
@@ -98,6 +101,8 @@ pub fn replan<G: Graph, H: Guide>(
     ensures start { IfOk result (λ _. search.new.labels.start ≡ search.old.labels.start) }
     ensures states { IfOk result (λ _. states_of search.new.labels ≡ states_of search.old.labels) }
     ensures same_goal { IfOk result (λ _. search.new.goal ≡ search.old.goal) }
+    // So they may where memory ran out, and what was expanded up to there is counted.
+    ensures memory { OnErr result (IsStopped (AreUsable (G.network graph.now)) search.old search.new budget.old budget.new) }
 {
     make_plan(alloc, graph, guide, search, goal, ask, budget)
 }

@@ -1,9 +1,10 @@
 //! One pass of a plan.
 
-ghost use Rattle.std.specs.Prelude.{◌≡◌, ◌≤◌, ◌<◌, ◌↔◌, [], IfOk, IsTrue, IsFalse, if◌then◌else◌, vec_capacity};
+ghost use Rattle.std.specs.Prelude.{◌≡◌, ◌≤◌, ◌<◌, ◌↔◌, [], IfOk, OnErr, IsTrue, IsFalse, if◌then◌else◌, vec_capacity};
 ghost use Rattle.sbpl_labels.specs.declared.pass_end.PassEnd.TheVariants as PassEnd;
 ghost use Rattle.sbpl_labels.specs.Marks.{states_of};
 ghost use Rattle.sbpl_plan.specs.Looking.{IsStartFresh};
+ghost use Rattle.sbpl_plan.specs.Stopped.{IsStopped};
 ghost use Rattle.sbpl_plan.specs.Turns.{IsTurn};
 
 use crate::anytime::Anytime;
@@ -39,7 +40,8 @@ fn is_spent(end: PassEnd) -> bool
     }
 }
 
-/// Makes one pass of this inflation, and tells whether it was spent. `arcs` then holds the path that the pass found.
+/// Makes one pass of this inflation, and tells whether it was spent. `arcs` then holds the path that the pass found. Where
+/// memory runs out the pass was made.
 pub(crate) fn turn<G: Graph, H: Guide, S: Anytime>(
     alloc: Global,
     graph: &G,
@@ -60,6 +62,7 @@ pub(crate) fn turn<G: Graph, H: Guide, S: Anytime>(
     requires empty { arcs.old.items ≡ [] }
     requires room { states_of (S.state search.old).labels ≤ vec_capacity arcs.old }
     ensures turn { IfOk result (λ r. IsTurn (S.ready (G.network graph.now)) S.most (record { network = G.network graph.now; guide = H.distance guide.now; goal = goal; ask = ask.now }) eps (S.state search.old) (S.state search.new) budget.old budget.new arcs.new.items r.1 r.0) }
+    ensures memory { OnErr result (IsStopped (S.ready (G.network graph.now)) (S.state search.old) (S.state search.new) budget.old budget.new) }
     ensures room { vec_capacity arcs.new ≡ vec_capacity arcs.old }
 {
     let end = search.pass(graph, guide, eps, budget);

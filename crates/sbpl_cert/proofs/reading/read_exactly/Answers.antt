@@ -1,6 +1,6 @@
 use Rattle.std.proofs.Common.{arith, ◌∙◌, ap}
 use Rattle.sbpl_fixed.specs.Formats.{Left}
-use Rattle.sbpl_cert.proofs.ReadLaws.{ends_behind, read_to}
+use Rattle.sbpl_cert.proofs.ReadLaws.{ends_behind, read_to, right_behind_end}
 use Rattle.sbpl_cert.proofs.reading.read_exactly.Goals as goal
 
 pub overflow_add-result : goal.overflow_add-result
@@ -16,6 +16,13 @@ returns-clause-inside c =
     let end = c.in_ok-set.ensures.end ∙ ap (λ (l : Left). l.end) c.from-reader.ensures.start in
     let w = ends_behind c.args.text.now c.args.at c.in_ok-set.place c.read_section.new.reader c.requires.inside last end in
     (w.0, w.1)
+
+pub returns-clause-behind : goal.returns-clause-behind
+returns-clause-behind c =
+    let last = rw c.from-reader.ensures at c.in_ok-set.ensures.last in
+    let end = c.in_ok-set.ensures.end ∙ ap (λ (l : Left). l.end) c.from-reader.ensures in
+    let w = ends_behind c.args.text.now c.args.at c.in_ok-set.place c.read_section.new.reader c.requires last end in
+    right_behind_end c.args.text.now c.args.at c.in_ok-set.place c.read_section.new.reader last w.2
 
 pub returns-clause-exact : goal.returns-clause-exact
 returns-clause-exact c =

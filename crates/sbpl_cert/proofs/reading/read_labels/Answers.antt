@@ -1,6 +1,6 @@
 use Rattle.std.proofs.Common.{arith}
 use Rattle.std.proofs.lemmas.Result.{IfOk-weaker}
-use Rattle.sbpl_cert.proofs.ReadLaws.{found_at, only_at, faulty_at, only_faulty_at, start_within}
+use Rattle.sbpl_cert.proofs.ReadLaws.{behind_end_within, found_at, only_at, faulty_at, only_faulty_at, start_within}
 use Rattle.sbpl_cert.proofs.reading.read_labels.Goals as goal
 
 pub returns-clause-given : goal.returns-clause-given
@@ -13,6 +13,11 @@ returns-clause-given c =
 pub returns-clause-inside : goal.returns-clause-inside
 returns-clause-inside c =
     IfOk-weaker c.read_exactly.result _ _ (λ x w. (omega (arith, c.min.ensures, w.0, w.1), w.1)) c.read_exactly.ensures.inside
+
+pub returns-clause-behind : goal.returns-clause-behind
+returns-clause-behind c =
+    let within = start_within c.args.text.now c.args.at c.min.result (omega (arith, c.min.ensures)) in
+    IfOk-weaker c.read_exactly.result _ _ (λ x w. behind_end_within c.args.text.now c.args.at c.min.result x.1 within w) c.read_exactly.ensures.behind
 
 pub returns-clause-found : goal.returns-clause-found
 returns-clause-found c =

@@ -2,6 +2,7 @@ use Rattle.std.proofs.Common.{◌≡◌, ℕ, refl, sym, ◌∙◌, ap, subst, l
 use Rattle.sbpl_ara.specs.declared.step.Step.{Step}
 use Rattle.sbpl_plan.specs.Looking.{Looks}
 use Rattle.sbpl_plan.specs.Turns.{IsTurn}
+use Rattle.sbpl_plan.proofs.Stopping.{on_err}
 use Rattle.sbpl_plan.proofs.Turning.{run_start, turn_of}
 use Rattle.sbpl_plan.proofs.turn.turn.Goals as goal
 
@@ -27,3 +28,16 @@ returns-clause-turn g c =
     (c.in_ok-trace.ensures.told ∙ ap (λ (l : List Step). if c.args.ask.now.traced then l else []) trace)
     (subst (λ (x : ℕ). Looks (g.G.Graph.network c.args.graph.now) (g.H.Guide.distance c.args.guide.now) x (g.S.Anytime.state c.pass-end.new.self).labels c.look-found.new.into.items c.look-found.result) c.requires.goal
     c.look-found.ensures.looks))
+
+pub returns-in_err-trace-clause-memory : goal.returns-in_err-trace-clause-memory
+returns-in_err-trace-clause-memory g c =
+    on_err c.from_residual.result _
+    (record {
+      is_ready = c.pass-end.ensures.ready;
+      fresh = (run_start _ _ _ _ _ c.pass-end.ensures.run (record { zero = (g.met.S.Anytime.usable _ _ _ c.requires.ready).exact.from_start; fresh = c.requires.fresh })).fresh;
+      start = c.pass-end.ensures.start;
+      states = c.pass-end.ensures.states;
+      same_goal = c.pass-end.ensures.goal;
+      expanded = length (g.S.Anytime.state c.pass-end.new.self).trace;
+      counted = c.pass-end.ensures.counted;
+    })

@@ -1,0 +1,55 @@
+-- What stands where a plan ends for want of memory.
+use Rattle.std.proofs.Common.{ℕ, ◌+◌, Bool, List, Result, Ok, Err, refl, ◌∙◌}
+use Rattle.std.specs.Prelude.{OnErr}
+use Rattle.sbpl_labels.specs.Counts.{Counts}
+use Rattle.sbpl_labels.specs.Marks.{Marks}
+use Rattle.sbpl_ara.specs.Search.{Search}
+use Rattle.sbpl_plan.specs.declared.passes.Pass.{Pass}
+use Rattle.sbpl_plan.specs.Looking.{IsStartFresh}
+use Rattle.sbpl_plan.specs.Passing.{Inquiry, expansions}
+use Rattle.sbpl_plan.specs.Stopped.{IsStopped}
+use Rattle.sbpl_plan.specs.Turns.{IsTurn}
+use Rattle.sbpl_plan.proofs.Planning.{AreGoingOn, grows_by_none, grows_twice}
+
+-- what holds anyway holds where memory ran out
+pub on_err : {A E : Type 0} (r : Result A E) (P : Type 0) → P → OnErr r P
+on_err (Ok x) P h = tt
+on_err (Err e) P h = h
+
+-- before the first pass
+pub stopped_at_first : (ready : Marks → ℕ → Type 0) (old : Search) (before : Counts) → ready old.labels before.run → IsStartFresh old.labels → IsStopped ready old old before before
+stopped_at_first ready old before is_ready fresh = record {
+  is_ready = is_ready;
+  fresh = fresh;
+  start = refl;
+  states = refl;
+  same_goal = refl;
+  expanded = 0;
+  counted = grows_by_none before;
+}
+
+-- in a pass behind others
+pub stopped_in_turn : (ready : Marks → ℕ → Type 0) (most : ℕ) (q : Inquiry) (old now new : Search) (before mid after : Counts) (passes : List Pass) (eps : ℕ)
+    → AreGoingOn ready most q old now before mid passes eps → IsStopped ready now new mid after → IsStopped ready old new before after
+stopped_in_turn ready most q old now new before mid after passes eps so t = record {
+  is_ready = t.is_ready;
+  fresh = t.fresh;
+  start = t.start ∙ so.start;
+  states = t.states ∙ so.states;
+  same_goal = t.same_goal ∙ so.same_goal;
+  expanded = expansions passes + t.expanded;
+  counted = grows_twice before mid after _ _ _ refl so.counted t.counted;
+}
+
+-- behind a pass that was made
+pub stopped_behind : (ready : Marks → ℕ → Type 0) (most : ℕ) (q : Inquiry) (eps : ℕ) (old new : Search) (before after : Counts) (arcs : List ℕ) (spent : Bool) (p : Pass)
+    → IsTurn ready most q eps old new before after arcs spent p → IsStopped ready old new before after
+stopped_behind ready most q eps old new before after arcs spent p t = record {
+  is_ready = t.is_ready;
+  fresh = t.fresh;
+  start = t.start;
+  states = t.states;
+  same_goal = t.same_goal;
+  expanded = p.expanded;
+  counted = t.counted;
+}
