@@ -44,8 +44,8 @@ fn least_of(keys: &[Option<Key>; 16]) -> Option<(u32, Key)> {
 
 /// Makes the same change of the heap and of the list, as the word says, and answers whether both gave the same.
 fn change(heap: &mut Open, keys: &mut [Option<Key>; 16], word: u64) -> bool
-    requires { states_of heap.old ≡ 16 }
-    ensures { states_of heap.new ≡ 16 }
+    requires states { states_of heap.old ≡ 16 }
+    ensures states { states_of heap.new ≡ 16 }
 {
     let s = (word % 16) as u32;
     match word / 320 % 8 {
