@@ -1,5 +1,5 @@
 -- The heads of the arcs that read a cell, by the table of reads.
-use Rattle.std.proofs.Common.{◌≡◌, ℕ, zero, suc, ℤ, pos, negsuc, ◌+◌, ◌<◌, ◌==◌, ◌&&◌, ◌+ℤ◌, ◌-ℤ◌, ◌++◌, ◌∷◌, [], ◌⊎◌, inl, inr, List, take, count_by, slice_get, Option, Some, None, option_and_then, nat_lt, refl, ap, sym, zero-add, ◌∙◌, arith, subst}
+use Rattle.std.proofs.Common.{◌≡◌, ℕ, zero, suc, ℤ, pos, negsuc, ◌+◌, ◌<◌, ◌≤◌, ◌==◌, ◌&&◌, ◌+ℤ◌, ◌-ℤ◌, ◌++◌, ◌∷◌, [], ◌⊎◌, inl, inr, List, length, take, count_by, slice_get, Option, Some, None, option_and_then, nat_lt, refl, ap, sym, zero-add, ◌∙◌, arith, subst}
 use Rattle.std.specs.List.{filter_map, cons_option}
 use Rattle.std.proofs.lemmas.Bool.{and_parts, and_from, lt-ltb, ltb-true, cond-true, eq-eqb}
 use Rattle.std.proofs.lemmas.Int.{ints}
@@ -53,6 +53,15 @@ pub filtered_at : {X Y : Type 0} (f : X → Option Y) (xs : List X) (j : ℕ) (x
 filtered_at f [] j x y at h = absurd (none-some x at)
 filtered_at f (z ∷ xs) zero x y at h = consed_first (f z) (filter_map f xs) y (ap f (same_Some z x at) ∙ h)
 filtered_at f (z ∷ xs) (suc j) x y at h = let later = filtered_at f xs j x y at h in consed_later (f z) (filter_map f xs) later.0 y later.1
+
+-- there are no more answers than elements
+consed_few : {Y : Type 0} (o : Option Y) (ys : List Y) (n : ℕ) → length ys ≤ n → length (cons_option o ys) ≤ n + 1
+consed_few None ys n few = omega (arith, few)
+consed_few (Some y) ys n few = omega (arith, few)
+
+pub filtered_few : {X Y : Type 0} (f : X → Option Y) (xs : List X) → length (filter_map f xs) ≤ length xs
+filtered_few f [] = omega arith
+filtered_few f (x ∷ xs) = omega (arith, consed_few (f x) (filter_map f xs) (length xs) (filtered_few f xs))
 
 -- the answer to one more element
 pub filtered_more : {X Y : Type 0} (f : X → Option Y) (xs : List X) (old mid new : List Y) (j : ℕ) (x : X) (o : Option Y) → slice_get xs j ≡ Some x → mid ≡ old ++ filter_map f (take j xs) → new ≡ mid ++ cons_option o [] → o ≡ f x
@@ -213,4 +222,5 @@ module _ (w : World) (is_world : IsWorld w) where
         sound = found;
         complete = λ t reading. let from = asked x y t reading in filtered_at f w.sweeps.reads from.0 from.1.0 t from.1.1 from.1.2;
         states = λ i t at. let reading = found i t at in (sound w is_world).head_is_state reading.source reading.number t reading.arc.source reading.arc.number reading.arc.head;
+        few = filtered_few f w.sweeps.reads;
       }

@@ -1,5 +1,5 @@
 -- Which arcs of a lattice read a cell.
-use Rattle.std.specs.Prelude.{◌≡◌, ℕ, ℤ, pos, ◌+ℤ◌, ◌-ℤ◌, ◌<◌, ◌↔◌, ◌++◌, List, length, slice_get, Option, Some, option_and_then}
+use Rattle.std.specs.Prelude.{◌≡◌, ℕ, ℤ, pos, ◌+ℤ◌, ◌-ℤ◌, ◌<◌, ◌≤◌, ◌↔◌, ◌++◌, List, length, slice_get, Option, Some, option_and_then}
 use Rattle.sbpl_graph.specs.Network.{Network, IsArc}
 use Rattle.sbpl_cfg.specs.declared.pose.Place.{Place}
 use Rattle.sbpl_cfg.specs.Environment.{Environment}
@@ -31,13 +31,15 @@ pub record IsHeadReading (w : World) (x y : ℤ) (t : ℕ) : Type 0 where
   pub arc : IsArc (network_of w) source number t
   pub reads : ReadsCell w source number x y
 
--- the heads of all arcs that read cell (x, y), and no other states, were added behind a list
+-- the heads of all arcs that read cell (x, y), and no other states, were added behind a list, at most one for each pair of
+-- a primitive and a cell that it reads
 pub record AddsHeads (w : World) (x y : ℤ) (old new : List ℕ) : Type 0 where
   pub added : List ℕ
   pub kept : new ≡ old ++ added
   pub sound : (i t : ℕ) → slice_get added i ≡ Some t → IsHeadReading w x y t
   pub complete : (t : ℕ) → IsHeadReading w x y t → (i : ℕ) × (slice_get added i ≡ Some t)
   pub states : (i t : ℕ) → slice_get added i ≡ Some t → t < (network_of w).states
+  pub few : length added ≤ length w.sweeps.reads
 
 -- the state where the motion by p from a place ends, none off the map
 abbrev pub end_of : Environment → Primitive → Place → Option ℕ

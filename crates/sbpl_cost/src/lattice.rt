@@ -220,7 +220,8 @@ impl Lattice {
     }
 
     /// Adds to a list the heads of all arcs with a head whose judgement reads cell `(x, y)`, which may be off the map. A
-    /// state can be added more than once. After `NoMemory` the list is unchanged.
+    /// state can be added more than once, but at most once for each pair of a primitive and a cell that it reads. After
+    /// `NoMemory` the list is unchanged.
     pub fn heads_reading(&self, x: u32, y: u32, into: &mut Vec<u32>) -> Result<(), NoMemory>
         ensures heads { OnOk result (AddsHeads self.now (pos x) (pos y) into.old.items into.new.items) }
         ensures memory { OnErr result (into.new.items ≡ into.old.items) }
