@@ -14,7 +14,7 @@ use sbpl_graph::Guide;
 use sbpl_labels::Labels;
 use sbpl_open::{Key, Open};
 
-/// Appends the open states to the steps.
+/// Appends the open states to the steps, in no order. These steps are a list of states: they were not taken.
 pub fn gather(queue: &Open, steps: &mut Steps)
     requires room { length steps.old.items + frontier.states_of queue.now ≤ steps.old.room }
     requires inside { All (λ step. step.state < frontier.states_of queue.now) steps.old.items }
