@@ -107,7 +107,8 @@ impl Replanner {
 
     /// Makes a plan on the present map of the lattice: passes with the inflation `ask.first`, then `ask.step` less each
     /// time and never below 1.000, until one finds a path whose bound is at most `ask.bound`, shows that there is no path,
-    /// is spent, or has inflation 1.000. After `NoMemory` nothing is said of the labels.
+    /// is spent, or has inflation 1.000. After `NoMemory` another plan may be made on the map, from the labels that the
+    /// passes so far left.
     pub fn plan(&mut self, alloc: Global, lattice: &Lattice, ask: &Ask) -> Result<Planned, NoMemory>
         requires ready { IsReadyIn lattice.now self.old }
         requires asked { IsAsk ask.now }
@@ -130,6 +131,8 @@ impl Replanner {
         ensures ready { IfOk result (λ _. IsReadyIn lattice.now self.new) }
         ensures same { IfOk result (λ _. StaysTheSame self.old self.new) }
         ensures guide { self.new.guide ≡ self.old.guide }
+        // So it may where memory ran out.
+        ensures memory { OnErr result (IsReadyIn lattice.now self.new × StaysTheSame self.old self.new) }
     {
         self.budget.next_plan();
         self.search.plan(
@@ -143,7 +146,7 @@ impl Replanner {
     }
 
     /// Writes a batch to the map of the lattice, and makes the heuristic and the labels ready for a plan on it. All cells of
-    /// the batch are on the map. After `NoMemory` the map is the old or the new one, and nothing is said of the labels.
+    /// the batch are on the map. After `NoMemory` the map is the old or the new one, and nothing else has changed.
     pub fn change(
         &mut self,
         alloc: Global,
@@ -161,6 +164,7 @@ impl Replanner {
         ensures ready { OnOk result (IsReadyIn lattice.new self.new) }
         ensures same { OnOk result (StaysTheSame self.old self.new) }
         ensures counts { self.new.counts ≡ self.old.counts }
+        ensures unchanged { OnErr result (self.new ≡ self.old) }
     {
         let _used = self.budget.used();
         self.search

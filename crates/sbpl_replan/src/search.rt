@@ -9,6 +9,7 @@ ghost use Rattle.sbpl_plan.specs.Asked.{IsAsk, most_passes};
 ghost use Rattle.sbpl_plan.specs.Looking.{IsStartFresh};
 ghost use Rattle.sbpl_plan.specs.Outcomes.{IsAnswered, IsOutcome, IsTrueOutcome};
 ghost use Rattle.sbpl_plan.specs.Passing.{ArePasses, expansions};
+ghost use Rattle.sbpl_plan.specs.Stopped.{IsStopped};
 ghost use Rattle.sbpl_change.specs.Noted.{AreOnMap};
 ghost use Rattle.sbpl_cost.specs.World.{IsWorld};
 ghost use Rattle.sbpl_cost.specs.Lattices.{network_of};
@@ -80,6 +81,8 @@ impl Search {
         ensures start { IfOk result (λ _. (state_of self.new).labels.start ≡ (state_of self.old).labels.start) }
         ensures same_goal { IfOk result (λ _. (state_of self.new).goal ≡ (state_of self.old).goal) }
         ensures same_kind { IfOk result (λ _. repairs_of self.new ≡ repairs_of self.old) }
+        ensures memory { OnErr result (IsStopped (MayBegin (repairs_of self.old) (network_of lattice.now)) (state_of self.old) (state_of self.new) budget.old budget.new) }
+        ensures kind { OnErr result (repairs_of self.new ≡ repairs_of self.old) }
     {
         match self {
             Search::Ara(ara) => plan(alloc, lattice, guide, ara, goal, ask, budget),
@@ -109,6 +112,7 @@ impl Search {
         ensures start { OnOk result ((state_of self.new).labels.start ≡ (state_of self.old).labels.start) }
         ensures same_goal { OnOk result ((state_of self.new).goal ≡ (state_of self.old).goal) }
         ensures same_kind { OnOk result (repairs_of self.new ≡ repairs_of self.old) }
+        ensures unchanged { OnErr result (self.new ≡ self.old) }
     {
         match self {
             Search::Ara(ara) => {
@@ -137,6 +141,7 @@ fn repair(
     ensures kept { IsWorld lattice.new }
     ensures begun { OnOk result (AreRepairedFor lattice.old lattice.new search.old.labels search.new.labels) }
     ensures begin { (count : ℕ) → AreUsable (network_of lattice.old) search.old.labels count → OnOk result (AreUsable (network_of lattice.new) search.new.labels count) }
+    ensures unchanged { OnErr result (search.new ≡ search.old) }
     ensures goal { OnOk result (search.new.goal ≡ search.old.goal) }
 {
     exact_where_same();
