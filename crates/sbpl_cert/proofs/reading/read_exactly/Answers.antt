@@ -19,9 +19,9 @@ returns-clause-inside c =
 
 pub returns-clause-behind : goal.returns-clause-behind
 returns-clause-behind c =
-    let last = rw c.from-reader.ensures at c.in_ok-set.ensures.last in
-    let end = c.in_ok-set.ensures.end ∙ ap (λ (l : Left). l.end) c.from-reader.ensures in
-    let w = ends_behind c.args.text.now c.args.at c.in_ok-set.place c.read_section.new.reader c.requires last end in
+    let last = rw c.from-reader.ensures.start at c.in_ok-set.ensures.last in
+    let end = c.in_ok-set.ensures.end ∙ ap (λ (l : Left). l.end) c.from-reader.ensures.start in
+    let w = ends_behind c.args.text.now c.args.at c.in_ok-set.place c.read_section.new.reader c.requires.inside last end in
     right_behind_end c.args.text.now c.args.at c.in_ok-set.place c.read_section.new.reader last w.2
 
 pub returns-clause-exact : goal.returns-clause-exact
