@@ -2,10 +2,10 @@
 use Rattle.std.proofs.Common.{◌≡◌, ℕ, List, [], ◌∷◌, ◌++◌, length, map, refl, sym, ap, ◌∙◌, append_assoc}
 use Rattle.std.specs.Prelude.{decimal, codes}
 use Rattle.std.specs.List.{flat_map}
-use Rattle.sbpl_fixed.specs.Printed.{milli_text}
+use Rattle.sbpl_fixed.specs.Printed.{milli_text, line_text}
 use Rattle.sbpl_cert.specs.declared.row.Row.{Row}
 use Rattle.sbpl_cert.specs.declared.outcome.Outcome.TheVariants as outcome
-use Rattle.sbpl_cert.specs.Printed.{line_text, label_text, outcome_line, row_text, section_text}
+use Rattle.sbpl_cert.specs.Printed.{label_text, outcome_line, row_text, section_text}
 use Rattle.sbpl_cert.specs.Sections.{Section}
 
 abbrev pub spaced : List ℕ → List ℕ

@@ -6,7 +6,7 @@ use Rattle.std.proofs.lemmas.Bool.{ne_eqb}
 use Rattle.std.proofs.lemmas.List.{length-append, drop_at}
 use Rattle.sbpl_graph.specs.declared.TheConstants.{FAR}
 use Rattle.sbpl_graph.specs.Certificate.{IsLabel}
-use Rattle.sbpl_fixed.specs.Printed.{milli_text}
+use Rattle.sbpl_fixed.specs.Printed.{milli_text, line_text}
 use Rattle.sbpl_fixed.specs.ReadBack.{IsWord}
 use Rattle.sbpl_fixed.specs.Runs.{ends_blank}
 use Rattle.sbpl_fixed.specs.Tokens.{is_blank, is_fresh, tokens_past, tokens_from}
@@ -16,7 +16,7 @@ use Rattle.sbpl_cert.specs.declared.outcome.Outcome.{Outcome}
 use Rattle.sbpl_cert.specs.declared.outcome.Outcome.TheVariants as outcome
 use Rattle.sbpl_cert.specs.declared.row.Row.{Row}
 use Rattle.sbpl_cert.specs.Sections.{Section, IsSection, IsRow, AreRows, IsOutcome, HasArcs}
-use Rattle.sbpl_cert.specs.Printed.{line_text, label_text, head_line, outcome_line, row_line, row_text, section_text}
+use Rattle.sbpl_cert.specs.Printed.{label_text, head_line, outcome_line, row_line, row_text, section_text}
 use Rattle.sbpl_cert.specs.Text.{Saying, a_word, a_label, a_milli, Means, MeansNumber, AreMeant, spelled_head, spelled_outcome, spelled_row, spelled_arc, spelled, AreTokensOf}
 use Rattle.sbpl_cert.proofs.SectionLaws.{meant_both}
 

@@ -2,17 +2,11 @@
 use Rattle.std.specs.Prelude.{◌≡◌, ℕ, List, [], ◌∷◌, ◌++◌, length, take, map, codes, decimal, if◌then◌else◌, ◌==◌}
 use Rattle.std.specs.List.{flat_map}
 use Rattle.sbpl_graph.specs.declared.TheConstants.{FAR}
-use Rattle.sbpl_fixed.specs.Printed.{milli_text}
+use Rattle.sbpl_fixed.specs.Printed.{line_text, milli_text}
 use Rattle.sbpl_cert.specs.declared.outcome.Outcome.{Outcome}
 use Rattle.sbpl_cert.specs.declared.outcome.Outcome.TheVariants as outcome
 use Rattle.sbpl_cert.specs.declared.row.Row.{Row}
 use Rattle.sbpl_cert.specs.Sections.{Section}
-
--- the text of a line of words
-unfoldable pub line_text : List (List ℕ) → List ℕ
-line_text [] = 10 ∷ []
-line_text (w ∷ []) = w ++ 10 ∷ []
-line_text (w ∷ v ∷ ws) = w ++ (32 ∷ line_text (v ∷ ws))
 
 -- a number, or a minus alone for infinity
 abbrev pub label_text : ℕ → List ℕ

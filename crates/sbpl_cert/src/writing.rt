@@ -2,8 +2,8 @@
 
 ghost use Rattle.std.specs.Prelude.{◌≡◌, ◌+◌, ◌<◌, ◌≤◌, ◌++◌, ◌∷◌, [], OnOk, OnErr, decimal, codes, length, map, drop};
 ghost use Rattle.std.specs.List.{flat_map};
-ghost use Rattle.sbpl_fixed.specs.Printed.{milli_text};
-ghost use Rattle.sbpl_cert.specs.Printed.{BeginsWith, head_line, label_text, line_text, outcome_line, row_text, section_text};
+ghost use Rattle.sbpl_fixed.specs.Printed.{milli_text, line_text};
+ghost use Rattle.sbpl_cert.specs.Printed.{BeginsWith, head_line, label_text, outcome_line, row_text, section_text};
 ghost use Rattle.sbpl_cert.specs.Sections.{Section};
 ghost use Rattle.sbpl_cert.specs.declared.outcome.Outcome.TheVariants as outcome;
 
@@ -55,7 +55,7 @@ fn label_before(buffer: &mut [u8], end: usize, label: u64) -> usize
 }
 
 /// Writes a row at the end of the buffer, and answers where it begins.
-#[tactic(auto, using(std::proofs::lemmas::List::append_assoc), unfolding(crate::specs::Printed::line_text))]
+#[tactic(auto, using(std::proofs::lemmas::List::append_assoc), unfolding(sbpl_fixed::specs::Printed::line_text))]
 fn row_before(buffer: &mut [u8], row: Row) -> usize
     requires size { length buffer.old ≡ 64 }
     ensures inside { result < length buffer.new }
@@ -153,7 +153,7 @@ fn put_arcs(out: &mut Vec<u8>, arcs: &[u32]) -> Result<(), NoMemory>
 }
 
 /// Appends the line of a path.
-#[tactic(auto, using(crate::proofs::Kept::kept_now, crate::proofs::Kept::kept_after, std::proofs::lemmas::List::append_assoc), unfolding(crate::specs::Printed::line_text))]
+#[tactic(auto, using(crate::proofs::Kept::kept_now, crate::proofs::Kept::kept_after, std::proofs::lemmas::List::append_assoc), unfolding(sbpl_fixed::specs::Printed::line_text))]
 fn put_path(out: &mut Vec<u8>, cost: u64, bound: u128, arcs: &[u32]) -> Result<(), NoMemory>
     ensures ok { OnOk result (out.new.items ≡ out.old.items ++ line_text (outcome_line (outcome.Path cost bound) arcs.now)) }
     ensures kept { BeginsWith out.old.items out.new.items }
@@ -167,7 +167,7 @@ fn put_path(out: &mut Vec<u8>, cost: u64, bound: u128, arcs: &[u32]) -> Result<(
 }
 
 /// Appends the line of the outcome.
-#[tactic(auto, unfolding(crate::specs::Printed::line_text))]
+#[tactic(auto, unfolding(sbpl_fixed::specs::Printed::line_text))]
 fn put_outcome(out: &mut Vec<u8>, outcome: Outcome, arcs: &[u32]) -> Result<(), NoMemory>
     ensures ok { OnOk result (out.new.items ≡ out.old.items ++ line_text (outcome_line outcome arcs.now)) }
     ensures kept { BeginsWith out.old.items out.new.items }

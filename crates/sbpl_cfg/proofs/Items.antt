@@ -17,7 +17,7 @@ use Rattle.sbpl_cfg.specs.Text.{Said, Means, AllMean}
 to_le : (a b : ℤ) → int_le a b ≡ true → a ≤ℤ b
 to_le a b e = omega (arith, ints)
 
-from_le : (a b : ℤ) → a ≤ℤ b → int_le a b ≡ true
+pub from_le : (a b : ℤ) → a ≤ℤ b → int_le a b ≡ true
 from_le a b h = grind (arith, ints)
 
 pub fixed_is : (w bytes : List ℕ) (v : ℤ) → fixed w bytes ≡ Ok v → bytes ≡ w

@@ -3,10 +3,8 @@ use Rattle.std.proofs.Common.{◌≡◌, ℕ, zero, suc, sub-one, ◌+◌, ◌-�
 use Rattle.std.proofs.Math.Seq.{drop-cons}
 use Rattle.std.proofs.lemmas.List.{drop_all, get_or-take, length-drop, length-map}
 use Rattle.std.specs.Fmt.{decimal}
-use Rattle.sbpl_cfg.specs.Printed.{grid_lines, line_text, lines_text}
-
-pub after_two : (a x y : List ℕ) {b c : List ℕ} → b ≡ a ++ x → c ≡ b ++ y → c ≡ a ++ (x ++ y)
-after_two a x y p q = rw (q, p) (append_assoc a x y)
+use Rattle.sbpl_fixed.specs.Printed.{line_text, lines_text}
+use Rattle.sbpl_cfg.specs.Printed.{grid_lines}
 
 pub after_three : (a x y z : List ℕ) {b c d : List ℕ} → b ≡ a ++ x → c ≡ b ++ y → d ≡ c ++ z → d ≡ a ++ (x ++ (y ++ (z ++ [])))
 after_three a x y z p q r = rw (r, q, p) (simp (append_assoc, append-nil))
@@ -24,10 +22,6 @@ line_text-more w (v ∷ ws) h = refl
 pub line_text-last : (w : List ℕ) → line_text (w ∷ []) ≡ w ++ 10 ∷ []
 unfolding line_text
 line_text-last w = refl
-
-pub lines_text-append : (ls ms : List (List (List ℕ))) → lines_text (ls ++ ms) ≡ lines_text ls ++ lines_text ms
-lines_text-append [] ms = refl
-lines_text-append (l ∷ ls) ms = rw (lines_text-append ls ms) (simp append_assoc)
 
 -- one more cost of a row, which isn't its last
 pub row_more : (out old next cells : List ℕ) (i x : ℕ) → i < length cells - 1 → x ≡ get_or (take (length cells - 1) cells) i 0

@@ -9,12 +9,12 @@ use Rattle.std.specs.Int.RustNames.{unsigned_abs}
 use Rattle.std.proofs.lemmas.Int.{ints}
 use Rattle.std.proofs.lemmas.List.{length-drop, map-append, nil_from_length, take-append-drop}
 use Rattle.sbpl_fixed.specs.Numbers.{most, nano_of, whole_of}
-use Rattle.sbpl_fixed.specs.Printed.{nano_text}
+use Rattle.sbpl_fixed.specs.Printed.{nano_text, line_text, lines_text}
 use Rattle.sbpl_fixed.specs.ReadBack.{IsWord}
 use Rattle.sbpl_fixed.specs.Tokens.{Piece, is_blank, is_filled, tokens_past}
 use Rattle.sbpl_fixed.proofs.ReadBack.{blanks_part_tokens, nanos_are_read_back, nanos_are_words, wholes_are_read_back, wholes_are_words, words_are_tokens}
 use Rattle.sbpl_cfg.specs.Environment.{Environment, IsEnvironment, IsWithin}
-use Rattle.sbpl_cfg.specs.Printed.{environment_lines, environment_text, grid_lines, line_text, lines_text}
+use Rattle.sbpl_cfg.specs.Printed.{environment_lines, environment_text, grid_lines}
 use Rattle.sbpl_cfg.specs.Text.{AllMean, IsGrid, IsTextOf, number, spelled, words_of}
 
 -- ---- the words of lines

@@ -1,20 +1,9 @@
 -- The text of an environment.
 use Rattle.std.specs.Prelude.{ℕ, zero, suc, List, [], ◌∷◌, ◌++◌, map, take, drop, codes}
 use Rattle.std.specs.Fmt.{decimal, signed_decimal}
-use Rattle.sbpl_fixed.specs.Printed.{nano_text}
+use Rattle.sbpl_fixed.specs.Printed.{lines_text, nano_text}
 use Rattle.sbpl_cfg.specs.declared.pose.Pose.{Pose}
 use Rattle.sbpl_cfg.specs.Environment.{Environment}
-
--- words parted by one space, with a line feed behind the last
-unfoldable pub line_text : List (List ℕ) → List ℕ
-line_text [] = 10 ∷ []
-line_text (w ∷ []) = w ++ 10 ∷ []
-line_text (w ∷ v ∷ ws) = w ++ 32 ∷ line_text (v ∷ ws)
-
--- one line behind the other
-abbrev pub lines_text : List (List (List ℕ)) → List ℕ
-lines_text [] = []
-lines_text (l ∷ ls) = line_text l ++ lines_text ls
 
 -- a pose, behind its word
 abbrev pub pose_words : List ℕ → Pose → List (List ℕ)

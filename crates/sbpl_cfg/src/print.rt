@@ -2,9 +2,9 @@
 
 ghost use Rattle.std.specs.Prelude.{◌≡◌, ◌+◌, ◌*◌, ◌<◌, ◌++◌, ◌∷◌, [], length, map, pos, neg_ℤ, ◌^◌, ◌≤ℤ◌, OnOk, OnErr};
 ghost use Rattle.std.specs.Fmt.{decimal, signed_decimal};
-ghost use Rattle.sbpl_fixed.specs.Printed.{nano_text};
+ghost use Rattle.sbpl_fixed.specs.Printed.{nano_text, line_text, lines_text};
 ghost use Rattle.sbpl_cfg.specs.Environment.{IsPoseInRange};
-ghost use Rattle.sbpl_cfg.specs.Printed.{end_lines, environment_text, grid_lines, line_text, lines_text, pose_words, rate_lines, size_lines};
+ghost use Rattle.sbpl_cfg.specs.Printed.{end_lines, environment_text, grid_lines, pose_words, rate_lines, size_lines};
 
 use crate::env::Env;
 use crate::grid::Grid;
@@ -74,7 +74,7 @@ fn put_nano(out: &mut Vec<u8>, n: i64, end: u8) -> Result<(), NoMemory>
 }
 
 /// A line with a word and a number.
-#[tactic(auto, using(std::proofs::lemmas::List::append_assoc), unfolding(crate::specs::Printed::line_text))]
+#[tactic(auto, using(std::proofs::lemmas::List::append_assoc), unfolding(sbpl_fixed::specs::Printed::line_text))]
 fn put_whole_line(out: &mut Vec<u8>, word: &[u8], n: u32) -> Result<(), NoMemory>
     ensures ok { OnOk result (out.new.items ≡ out.old.items ++ line_text (word.now ∷ decimal n ∷ [])) }
 {
@@ -84,7 +84,7 @@ fn put_whole_line(out: &mut Vec<u8>, word: &[u8], n: u32) -> Result<(), NoMemory
 }
 
 /// A line with a word and billionths.
-#[tactic(auto, using(std::proofs::lemmas::List::append_assoc), unfolding(crate::specs::Printed::line_text))]
+#[tactic(auto, using(std::proofs::lemmas::List::append_assoc), unfolding(sbpl_fixed::specs::Printed::line_text))]
 fn put_nano_line(out: &mut Vec<u8>, word: &[u8], n: i64) -> Result<(), NoMemory>
     requires low { neg_ℤ (pos (10 ^ 18)) ≤ℤ n }
     requires high { n ≤ℤ pos (10 ^ 18) }
@@ -96,7 +96,7 @@ fn put_nano_line(out: &mut Vec<u8>, word: &[u8], n: i64) -> Result<(), NoMemory>
 }
 
 /// A line with a word and a pose.
-#[tactic(auto, using(std::proofs::lemmas::List::append_assoc), unfolding(crate::specs::Printed::line_text))]
+#[tactic(auto, using(std::proofs::lemmas::List::append_assoc), unfolding(sbpl_fixed::specs::Printed::line_text))]
 fn put_pose_line(out: &mut Vec<u8>, word: &[u8], p: &Pose) -> Result<(), NoMemory>
     requires in_range { IsPoseInRange p.now }
     ensures ok { OnOk result (out.new.items ≡ out.old.items ++ line_text (pose_words word.now p.now)) }
@@ -109,7 +109,7 @@ fn put_pose_line(out: &mut Vec<u8>, word: &[u8], p: &Pose) -> Result<(), NoMemor
 }
 
 /// A line with a word and two numbers.
-#[tactic(auto, using(std::proofs::lemmas::List::append_assoc), unfolding(crate::specs::Printed::line_text))]
+#[tactic(auto, using(std::proofs::lemmas::List::append_assoc), unfolding(sbpl_fixed::specs::Printed::line_text))]
 fn put_size_line(out: &mut Vec<u8>, word: &[u8], width: u32, height: u32) -> Result<(), NoMemory>
     ensures ok { OnOk result (out.new.items ≡ out.old.items ++ line_text (word.now ∷ decimal width ∷ decimal height ∷ [])) }
 {
@@ -120,7 +120,7 @@ fn put_size_line(out: &mut Vec<u8>, word: &[u8], width: u32, height: u32) -> Res
 }
 
 /// A line with a word and a number with its sign.
-#[tactic(auto, using(std::proofs::lemmas::List::append_assoc), unfolding(crate::specs::Printed::line_text))]
+#[tactic(auto, using(std::proofs::lemmas::List::append_assoc), unfolding(sbpl_fixed::specs::Printed::line_text))]
 fn put_signed_line(out: &mut Vec<u8>, word: &[u8], n: i16) -> Result<(), NoMemory>
     ensures ok { OnOk result (out.new.items ≡ out.old.items ++ line_text (word.now ∷ signed_decimal n ∷ [])) }
 {

@@ -8,9 +8,9 @@ use Rattle.sbpl_graph.specs.Network.{Network, IsArc, IsFreeArc}
 use Rattle.sbpl_map.specs.CellMap.{CellMap, cost_at}
 use Rattle.sbpl_map.specs.MapAfter.{AreWritten}
 use Rattle.sbpl_map.specs.declared.write.Write.{Write}
-use Rattle.sbpl_cost.specs.World.{World, IsWorld}
+use Rattle.sbpl_cost.specs.World.{IsWorld, World, over_map}
 use Rattle.sbpl_cost.specs.Lattices.{network_of}
-use Rattle.sbpl_cost.specs.Reading.{IsHeadReading, over_map, DifferInCostsAlone, UnreadArcsCostTheSame, MapsChangeNoReads}
+use Rattle.sbpl_cost.specs.Reading.{IsHeadReading, DifferInCostsAlone, UnreadArcsCostTheSame, MapsChangeNoReads}
 use Rattle.sbpl_change.specs.Noted.{cell_cmp, AreNoted}
 use Rattle.sbpl_change.specs.Heads.{IsHeadOf, AreHeadsOf}
 use Rattle.sbpl_change.specs.Touched.{IsTouched, AreTouched, KeepArcsElsewhere}

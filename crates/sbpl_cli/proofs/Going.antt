@@ -4,7 +4,7 @@ use Rattle.std.proofs.lemmas.Option.{slice_get_within}
 use Rattle.sbpl_desk.specs.Desk.{NoneFalls, Stays}
 use Rattle.sbpl_desk.specs.declared.desk.WriteStop.{WriteStop}
 use Rattle.sbpl_desk.specs.declared.desk.WriteStop.TheVariants.{NoMemory}
-use Rattle.sbpl_cost.specs.World.{IsWorld, World}
+use Rattle.sbpl_cost.specs.World.{IsWorld, World, over_map}
 use Rattle.sbpl_job.specs.declared.job.Outputs.{Outputs}
 use Rattle.sbpl_job.specs.declared.job.SearchJob.{SearchJob}
 use Rattle.sbpl_labels.specs.Counts.{Counts}
@@ -14,7 +14,7 @@ use Rattle.sbpl_map.specs.declared.write.Write as change
 use Rattle.sbpl_replan.specs.Replanning.{BeginsWith, IsReadyIn, Replanning, StaysTheSame}
 use Rattle.sbpl_cli.specs.declared.record.PlanRecord.{PlanRecord}
 use Rattle.sbpl_cli.specs.Asked.{repairs}
-use Rattle.sbpl_cli.specs.Headline.{Behind, IsPlanOf, on_map}
+use Rattle.sbpl_cli.specs.Headline.{Behind, IsPlanOf}
 use Rattle.sbpl_cli.specs.Intents.{end_writes, last_write, plans_status}
 use Rattle.sbpl_cli.specs.Planning.{EndsPlan, GoesOnFrom, IsSetFor, behind_of}
 use Rattle.sbpl_cli.specs.Promises.{EndsPlans}
@@ -36,7 +36,7 @@ none_falls_on f g h p q = λ name. let a = p name in let b = q name in omega ari
 
 module _ (written_of : PlanRecord → List Write) (w : World) (batches : List (List change.Write)) (how : SearchJob) (outputs : Outputs) (start goal : ℕ) where
   -- plan k was made and told, and then the others ended so
-  one_more : (k : ℕ) (before : Option Behind) (behind : Behind) (r : PlanRecord) (a b c : Told) (f g h : FaultCounts) (status : ℕ) → IsMapAfter w.map batches k behind.map → IsPlanOf (on_map w behind.map) how outputs start goal k before behind r
+  one_more : (k : ℕ) (before : Option Behind) (behind : Behind) (r : PlanRecord) (a b c : Told) (f g h : FaultCounts) (status : ℕ) → IsMapAfter w.map batches k behind.map → IsPlanOf (over_map w behind.map) how outputs start goal k before behind r
       → AreMade a b (written_of r) → NoneFalls f g → EndsPlans written_of w batches how outputs start goal (k + 1) (Some behind) b c g h status → EndsPlans written_of w batches how outputs start goal k before a c f h status
   one_more k before behind r a b c f g h status after plan made low e = record {
     records = r ∷ e.records;
@@ -63,7 +63,7 @@ module _ (written_of : PlanRecord → List Write) (w : World) (batches : List (L
   all_told k before a b f g status last ends = record { records = []; all = true; each = tt; few = omega arith; all_made = λ is. omega arith; ends = ends }
 
   -- plan k was made, but was not told
-  untold : (k : ℕ) (before : Option Behind) (behind : Behind) (r : PlanRecord) (a b : Told) (f g : FaultCounts) (status : ℕ) (e : WriteStop) → k ≤ length batches → IsMapAfter w.map batches k behind.map → IsPlanOf (on_map w behind.map) how outputs start goal k before behind r
+  untold : (k : ℕ) (before : Option Behind) (behind : Behind) (r : PlanRecord) (a b : Told) (f g : FaultCounts) (status : ℕ) (e : WriteStop) → k ≤ length batches → IsMapAfter w.map batches k behind.map → IsPlanOf (over_map w behind.map) how outputs start goal k before behind r
       → EndsIn {T = Unit {0}} a b f g (written_of r) (Err e) → status ≡ status_after {T = Unit {0}} 9 (Err e) → EndsPlans written_of w batches how outputs start goal k before a b f g status
   untold k before behind r a b f g status e inside after plan ends is = record {
     records = r ∷ [];
@@ -76,7 +76,7 @@ module _ (written_of : PlanRecord → List Write) (w : World) (batches : List (L
 
   -- the plans up to plan k were made and told, on the map after so many batches
   pub record IsGoing (now : World) (k : ℕ) (r : Replanning) (a b : Told) (f g : FaultCounts) : Type 0 where
-    pub same : now ≡ on_map w now.map
+    pub same : now ≡ over_map w now.map
     pub inside : k ≤ length batches
     pub after : IsMapAfter w.map batches k now.map
     pub kept : IsWorld now
@@ -103,7 +103,7 @@ module _ (written_of : PlanRecord → List Write) (w : World) (batches : List (L
   at_last now k n r a b f g same going = subst (λ (i : ℕ). IsGoing now i r a b f g) same going
 
   module _ (now : World) (k : ℕ) (r s : Replanning) (a b c : Told) (f g h : FaultCounts) (going : IsGoing now k r a b f g) where
-    on_that : (before : Option Behind) (p : PlanRecord) → IsPlanOf now how outputs start goal k before (behind_of now s) p → IsPlanOf (on_map w now.map) how outputs start goal k before (behind_of now s) p
+    on_that : (before : Option Behind) (p : PlanRecord) → IsPlanOf now how outputs start goal k before (behind_of now s) p → IsPlanOf (over_map w now.map) how outputs start goal k before (behind_of now s) p
     on_that before p plan = subst (λ (v : World). IsPlanOf v how outputs start goal k before (behind_of now s) p) going.same plan
 
     -- what holds of the plan that is made next
@@ -159,5 +159,5 @@ module _ (written_of : PlanRecord → List Write) (w : World) (batches : List (L
       ends = λ d i status e. tells d i status made low e;
     }
       where
-        back : on_map next now.map ≡ now
+        back : over_map next now.map ≡ now
         back = ap (λ (v : World). record v { map = now.map }) others

@@ -26,6 +26,7 @@ use Rattle.sbpl_cli.specs.Checked.{AreChecked, Case, IsFlawed, IsGraphAfter, IsH
 use Rattle.sbpl_cli.specs.Headline.{IsStateOf}
 use Rattle.sbpl_cli.specs.Intents.{checked_status}
 use Rattle.sbpl_cli.specs.Promises.{IsOrFailed}
+use Rattle.sbpl_cost.proofs.Views.{states_are}
 
 place_by : (x y t u v w : ℕ) → x ≡ u → y ≡ v → t ≡ w → ◌≡◌ {A = Place} (record { x = x; y = y; t = t }) (record { x = u; y = v; t = w })
 place_by x y t u v w a b c = cc
@@ -51,13 +52,8 @@ OneMap = (first now other : CellMap) (batches : List (List Write)) (k : ℕ) →
 pub one_graph : OneMap → (w : World) (batches : List (List Write)) (k : ℕ) (n o : Network) → IsGraphAfter w batches k n → IsGraphAfter w batches k o → n ≡ o
 one_graph one w batches k n o a b = a.network ∙ ap (λ (m : CellMap). network_of (record w { map = m })) (one w.map a.map b.map batches k a.is_world.map b.is_world.map a.after b.after) ∙ sym b.network
 
--- it has the states of the environment
-pub state_count_is : (w : World) → (network_of w).states ≡ state_count w.env
-unfolding network_of
-state_count_is w = refl
-
 states_after : (w : World) (batches : List (List Write)) (k : ℕ) (n : Network) → IsGraphAfter w batches k n → n.states ≡ state_count w.env
-states_after w batches k n a = ap (λ (x : Network). x.states) a.network ∙ state_count_is (record w { map = a.map })
+states_after w batches k n a = ap (λ (x : Network). x.states) a.network ∙ states_are (record w { map = a.map })
 
 -- two ways to end have the same status, unless memory ran out in the second
 abbrev pub EndAlike : Option SectionStop → Option SectionStop → Type 0

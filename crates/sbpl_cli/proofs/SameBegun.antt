@@ -21,8 +21,8 @@ use Rattle.sbpl_job.specs.declared.job.Planner.{Planner}
 use Rattle.sbpl_replan.specs.Replanning.{BeginsWith}
 use Rattle.sbpl_cli.specs.Asked.{repairs}
 use Rattle.sbpl_cli.specs.Headline.{Begins, Behind}
-use Rattle.sbpl_cli.proofs.OneEnding.{state_count_is}
 use Rattle.sbpl_cli.proofs.SameGuide.{made}
+use Rattle.sbpl_cost.proofs.Views.{states_are}
 
 module _ {a b : Marks} {count first : ℕ} (x : IsOpened a count first) (y : IsOpened b count first) where
   opened_rows : (s : ℕ) → s < states_of a → Agree a b s
@@ -110,7 +110,7 @@ module _ (e : Environment) (ps : Primitives) (sweeps others : Swept) (radius : s
       → IsOpened a (network_of (made e ps sweeps m)).states start → IsOpened b (network_of (made e ps others m)).states start → AreBegun e a b
   opened_begun m start a b same x y =
       let own : IsOpened b (network_of (made e ps sweeps m)).states start = rw same y in
-      record { same = one_opened x own; states = x.states ∙ state_count_is (made e ps sweeps m); no_arc = x.no_arc a.start }
+      record { same = one_opened x own; states = x.states ∙ states_are (made e ps sweeps m); no_arc = x.no_arc a.start }
 
   with_begun : (r : Bool) (m : CellMap) (left : Behind) (a b : Marks) → network_of (made e ps sweeps m) ≡ network_of (made e ps others m) → IsCarried left
       → BeginsWith r (made e ps sweeps left.map) (made e ps sweeps m) left.labels a → BeginsWith r (made e ps others left.map) (made e ps others m) left.labels b

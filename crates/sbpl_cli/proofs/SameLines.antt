@@ -26,9 +26,9 @@ use Rattle.sbpl_cli.specs.Listing.{listing_at, listing_by}
 use Rattle.sbpl_cli.specs.Report.{demo_text}
 use Rattle.sbpl_cli.specs.Writing.{Told, to_output}
 use Rattle.sbpl_cli.specs.Clear.{TextsAreClear}
-use Rattle.sbpl_cli.proofs.OneEnding.{state_count_is}
 use Rattle.sbpl_cli.proofs.SameGuide.{made}
 use Rattle.sbpl_cli.proofs.SamePlanned.{one_world}
+use Rattle.sbpl_cost.proofs.Views.{states_are}
 
 -- ---- a demonstration
 
@@ -60,7 +60,7 @@ pub one_first_line : (d : DemoJob) (w v : World) (count count' : ℕ) (bs cs : L
     → demo_text (network_of w).states (length w.prims.items) count ≡ demo_text (network_of v).states (length v.prims.items) count'
 one_first_line d w v count count' bs cs rs us all all' is also x y =
     let alike = same_drawn d w v x.drawn y.drawn in
-    let states : (network_of w).states ≡ (network_of v).states = state_count_is w ∙ ap (λ (e : Environment). state_count e) (sym alike.env) ∙ sym (state_count_is v) in
+    let states : (network_of w).states ≡ (network_of v).states = states_are w ∙ ap (λ (e : Environment). state_count e) (sym alike.env) ∙ sym (states_are v) in
     let prims : w.prims ≡ v.prims = sym alike.prims in
     let counts : count ≡ count' = is ∙ ap (λ (l : List (List change.Write)). length l) (x.changes ∙ sym y.changes) ∙ sym also in
     λ i. demo_text (states i) (length (prims i).items) (counts i)

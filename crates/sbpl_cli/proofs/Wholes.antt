@@ -80,6 +80,11 @@ module _ (clear : TextsAreClear) (sections : SectionsAreClear) (one_map : OneMap
   alike_refusals : (j : Job) (r u : Refusal) → r ≡ u → Agrees reads reads' j (Refused r) (Refused u)
   alike_refusals j r u same = inr (inl (ap (λ (x : Refusal). refusal_status x) same, ap (λ (x : Refusal). writes_of j (Refused x)) same))
 
+  -- where a name is given it is told
+  told_name : (o : Option (List ℕ)) → ((name : List ℕ) → IsNamed o name → IsSome (held name)) → IfSome o (λ name. IsSome (held name))
+  told_name None each = tt
+  told_name (Some name) each = each name refl
+
   -- ---- plan
 
   module _ (p : PlanJob) (told : AreTold held (job.Plan p)) where
@@ -88,10 +93,6 @@ module _ (clear : TextsAreClear) (sections : SectionsAreClear) (one_map : OneMap
 
     plan_prims : IsSome (held p.sources.prims)
     plan_prims = told p.sources.prims (inl (inr refl))
-
-    told_name : (o : Option (List ℕ)) → ((name : List ℕ) → IsNamed o name → IsSome (held name)) → IfSome o (λ name. IsSome (held name))
-    told_name None each = tt
-    told_name (Some name) each = each name refl
 
     plan_changes : IfSome p.changes (λ name. IsSome (held name))
     plan_changes = told_name p.changes (λ name is. told name (inr is))
@@ -154,12 +155,8 @@ module _ (clear : TextsAreClear) (sections : SectionsAreClear) (one_map : OneMap
     check_prims : IsSome (held c.sources.prims)
     check_prims = told c.sources.prims (inl (inr refl))
 
-    told_change : (o : Option (List ℕ)) → ((name : List ℕ) → IsNamed o name → IsSome (held name)) → IfSome o (λ name. IsSome (held name))
-    told_change None each = tt
-    told_change (Some name) each = each name refl
-
     check_changes : IfSome c.changes (λ name. IsSome (held name))
-    check_changes = told_change c.changes (λ name is. told name (inr (inl is)))
+    check_changes = told_name c.changes (λ name is. told name (inr (inl is)))
 
     check_labels : IsSome (held c.labels)
     check_labels = told c.labels (inr (inr refl))

@@ -9,7 +9,7 @@ use Rattle.sbpl_cfg.specs.Environment.{Environment, IsPlaceOf}
 use Rattle.sbpl_mprim.specs.declared.prim.Primitive.{Primitive}
 use Rattle.sbpl_cost.specs.Arc.{HasLatticeArcs}
 use Rattle.sbpl_cost.specs.TailOrder.{HasLatticeTails}
-use Rattle.sbpl_cost.specs.World.{IsWorld, World}
+use Rattle.sbpl_cost.specs.World.{IsWorld, World, over_map}
 use Rattle.sbpl_cost.specs.States.{place_of, state_number}
 use Rattle.sbpl_cost.specs.Lattices.{network_of, arc_primitive}
 use Rattle.sbpl_heur.specs.Bests.{IsBest}
@@ -119,14 +119,10 @@ abbrev pub expanded_before : Option Behind → ℕ
 expanded_before None = 0
 expanded_before (Some b) = b.expanded
 
--- the world on this map
-abbrev pub on_map : World → CellMap → World
-on_map w m = record w { map = m }
-
 -- the labels that a plan in a world begins with: opened ones; and behind another plan those that it left, where the planner repairs them
 abbrev pub Begins : Planner → World → (start : ℕ) → Option Behind → Marks → Type 0
 Begins p w start None m = IsOpened m (network_of w).states start
-Begins p w start (Some b) m = BeginsWith (repairs p) (on_map w b.map) w b.labels m
+Begins p w start (Some b) m = BeginsWith (repairs p) (over_map w b.map) w b.labels m
 
 -- a plan that was spent is marked with its expansions, which are the budget, or else the run's are 2 ^ 30; one that was not is not marked
 abbrev pub IsMarked : (budget before : ℕ) → Bool → PlanRecord → Type 0
@@ -172,7 +168,7 @@ abbrev pub AreRecords : World → List (List Write) → SearchJob → Outputs �
 AreRecords w batches how outputs start goal k before [] = Unit {0}
 AreRecords w batches how outputs start goal k before (r ∷ rs) =
     (behind : Behind) × IsMapAfter w.map batches k behind.map
-    × IsPlanOf (on_map w behind.map) how outputs start goal k before behind r
+    × IsPlanOf (over_map w behind.map) how outputs start goal k before behind r
     × AreRecords w batches how outputs start goal (k + 1) (Some behind) rs
 
 -- These are records of plans in a world, from the start of its environment to its end: of plan 0 on the map as it is, and then

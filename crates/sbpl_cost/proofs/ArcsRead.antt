@@ -94,7 +94,7 @@ place_at e x y t a b at_column at_row right high = rw (at_column, at_row) (cond-
 
 -- ---- arcs
 
-made_of : {A B : Type 0} (f : A → Option B) (o : Option A) (y : B) → option_and_then f o ≡ Some y → (x : A) × (o ≡ Some x) × (f x ≡ Some y)
+pub made_of : {A B : Type 0} (f : A → Option B) (o : Option A) (y : B) → option_and_then f o ≡ Some y → (x : A) × (o ≡ Some x) × (f x ≡ Some y)
 made_of f None y h = absurd (none-some y h)
 made_of f (Some x) y h = (x, refl, h)
 

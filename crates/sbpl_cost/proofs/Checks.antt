@@ -11,18 +11,19 @@ use Rattle.sbpl_mprim.specs.Primitives.{IsPrimitive}
 use Rattle.sbpl_sweep.specs.declared.cell.Cell.{Cell}
 use Rattle.sbpl_sweep.specs.Sweep.{IsCentre}
 use Rattle.sbpl_sweep.specs.Centres.{AreCentres, AreSwept}
-use Rattle.sbpl_cost.specs.Checked.{IsListed, AddsOthers, AreAlong, AreAround}
+use Rattle.sbpl_sweep.specs.ReadTables.{IsAmong}
+use Rattle.sbpl_cost.specs.Checked.{AddsOthers, AreAlong, AreAround}
 use Rattle.sbpl_sweep.proofs.Lists.{before_push, at_push, take_next}
 use Rattle.sbpl_sweep.proofs.ReadsListed.{end_is_centre}
 
 -- one more cell at the end
-listed_push : (list : List Cell) (c x : Cell) → IsListed list x → IsListed (list ++ c ∷ []) x
+listed_push : (list : List Cell) (c x : Cell) → IsAmong list x → IsAmong (list ++ c ∷ []) x
 listed_push list c x (i, h) = (i, before_push list c i (slice_get_within list i x h) ∙ h)
 
-listed_last : (list : List Cell) (c : Cell) → IsListed (list ++ c ∷ []) c
+listed_last : (list : List Cell) (c : Cell) → IsAmong (list ++ c ∷ []) c
 listed_last list c = (length list, at_push list c (length list) refl)
 
-from_push : (list : List Cell) (c x : Cell) → IsListed (list ++ c ∷ []) x → IsListed list x ⊎ (c ≡ x)
+from_push : (list : List Cell) (c x : Cell) → IsAmong (list ++ c ∷ []) x → IsAmong list x ⊎ (c ≡ x)
 from_push list c x (i, h) =
     let inside = slice_get_within (list ++ c ∷ []) i x h in
     elim (cases_lt i (length list)) [
@@ -31,39 +32,39 @@ from_push list c x (i, h) =
     ]
 
 module _ (old cells known list : List Cell) (n : ℕ) (c : Cell) (at : slice_get cells n ≡ Some c) (so_far : AddsOthers old (take n cells) known list) where
-  earlier : (x : Cell) → IsListed (take n cells) x → IsListed (take (n + 1) cells) x
-  earlier x h = subst (λ l. IsListed l x) (sym (take_next cells n c at)) (listed_push (take n cells) c x h)
+  earlier : (x : Cell) → IsAmong (take n cells) x → IsAmong (take (n + 1) cells) x
+  earlier x h = subst (λ l. IsAmong l x) (sym (take_next cells n c at)) (listed_push (take n cells) c x h)
 
-  here : IsListed (take (n + 1) cells) c
-  here = subst (λ l. IsListed l c) (sym (take_next cells n c at)) (listed_last (take n cells) c)
+  here : IsAmong (take (n + 1) cells) c
+  here = subst (λ l. IsAmong l c) (sym (take_next cells n c at)) (listed_last (take n cells) c)
 
-  before : (x : Cell) → IsListed (take (n + 1) cells) x → IsListed (take n cells) x ⊎ (c ≡ x)
-  before x h = from_push (take n cells) c x (subst (λ l. IsListed l x) (take_next cells n c at) h)
+  before : (x : Cell) → IsAmong (take (n + 1) cells) x → IsAmong (take n cells) x ⊎ (c ≡ x)
+  before x h = from_push (take n cells) c x (subst (λ l. IsAmong l x) (take_next cells n c at) h)
 
   -- one more cell that was added
   pub added_more : (new : List Cell) → new ≡ list ++ c ∷ [] → AddsOthers old (take (n + 1) cells) known new
   added_more new is = record {
-    kept = λ x h. subst (λ l. IsListed l x) (sym is) (listed_push list c x (so_far.kept x h));
-    each = λ x h. elim (from_push list c x (subst (λ l. IsListed l x) is h)) [
+    kept = λ x h. subst (λ l. IsAmong l x) (sym is) (listed_push list c x (so_far.kept x h));
+    each = λ x h. elim (from_push list c x (subst (λ l. IsAmong l x) is h)) [
       | inl was ↦ elim (so_far.each x was) [ inl before ↦ inl before | inr among ↦ inr (earlier x among) ]
-      | inr same ↦ inr (subst (λ z. IsListed (take (n + 1) cells) z) same here)
+      | inr same ↦ inr (subst (λ z. IsAmong (take (n + 1) cells) z) same here)
     ];
     all = λ x h. elim (before x h) [
-      | inl was ↦ elim (so_far.all x was) [ inl in_list ↦ inl (subst (λ l. IsListed l x) (sym is) (listed_push list c x in_list)) | inr in_known ↦ inr in_known ]
-      | inr same ↦ inl (subst (λ l. IsListed l x) (sym is) (subst (λ z. IsListed (list ++ c ∷ []) z) same (listed_last list c)))
+      | inl was ↦ elim (so_far.all x was) [ inl in_list ↦ inl (subst (λ l. IsAmong l x) (sym is) (listed_push list c x in_list)) | inr in_known ↦ inr in_known ]
+      | inr same ↦ inl (subst (λ l. IsAmong l x) (sym is) (subst (λ z. IsAmong (list ++ c ∷ []) z) same (listed_last list c)))
     ];
   }
 
   -- one more cell that is known
-  pub skipped_more : IsListed known c → AddsOthers old (take (n + 1) cells) known list
+  pub skipped_more : IsAmong known c → AddsOthers old (take (n + 1) cells) known list
   skipped_more is = record {
     kept = so_far.kept;
     each = λ x h. elim (so_far.each x h) [ inl before ↦ inl before | inr among ↦ inr (earlier x among) ];
-    all = λ x h. elim (before x h) [ inl was ↦ so_far.all x was | inr same ↦ inr (subst (λ z. IsListed known z) same is) ];
+    all = λ x h. elim (before x h) [ inl was ↦ so_far.all x was | inr same ↦ inr (subst (λ z. IsAmong known z) same is) ];
   }
 
 -- a cell that equals the known one at a place is known
-pub known_where_equal : (known : List Cell) (n : ℕ) (c : Cell) → n < length known → (int_eq (get_or known n (record { y = pos 0; x = pos 0 })).y c.y && int_eq (get_or known n (record { y = pos 0; x = pos 0 })).x c.x) ≡ true → IsListed known c
+pub known_where_equal : (known : List Cell) (n : ℕ) (c : Cell) → n < length known → (int_eq (get_or known n (record { y = pos 0; x = pos 0 })).y c.y && int_eq (get_or known n (record { y = pos 0; x = pos 0 })).x c.x) ≡ true → IsAmong known c
 known_where_equal known n c within h =
     let k : Cell = get_or known n (record { y = pos 0; x = pos 0 }) in
     let parts = and_parts (int_eq k.y c.y) (int_eq k.x c.x) h in
@@ -78,7 +79,7 @@ pub added_none : (old known : List Cell) → AddsOthers old [] known old
 added_none old known = record { kept = λ x h. h; each = λ x h. inl h; all = λ x h. absurd (none-some x h.1) }
 
 -- a list of one cell has that cell
-one_listed : (end c : Cell) → IsListed (end ∷ []) c → end ≡ c
+one_listed : (end c : Cell) → IsAmong (end ∷ []) c → end ≡ c
 one_listed end c (zero, h) = same_Some end c h
 one_listed end c (suc i, h) = absurd (none-some c h)
 

@@ -29,7 +29,7 @@ state_number_below e p at =
     let state = mul-add-lt (p.y * e.width + p.x) e.headings p.t (e.width * e.height) cell at.t in
     omega (arith, state)
 
-place_where_cost : (costs : List ℕ) (o : Option ℕ) (c : ℕ) → option_and_then (slice_get costs) o ≡ Some c → (place : ℕ) × (o ≡ Some place) × (slice_get costs place ≡ Some c)
+pub place_where_cost : (costs : List ℕ) (o : Option ℕ) (c : ℕ) → option_and_then (slice_get costs) o ≡ Some c → (place : ℕ) × (o ≡ Some place) × (slice_get costs place ≡ Some c)
 place_where_cost costs None c h = absurd (none-some c h)
 place_where_cost costs (Some place) c h = (place, refl, h)
 

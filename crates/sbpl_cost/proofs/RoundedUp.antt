@@ -3,9 +3,7 @@ use Rattle.std.proofs.Common.{◌≡◌, ℕ, zero, suc, ◌+◌, ◌-◌, ◌*�
 use Rattle.std.proofs.lemmas.Bool.{cases_lt, leb-true, leb-false}
 use Rattle.std.proofs.lemmas.Nat.{mul-le, div_below, div-add-mod', mod_below}
 use Rattle.sbpl_cost.specs.PrimitiveCost.{root_above, ceiling, IsLeast}
-
-pub square_mono : (a b : ℕ) → a ≤ b → a * a ≤ b * b
-square_mono a b h = mul-le a a b b h h
+use Rattle.sbpl_fixed.proofs.Roots.{square_mono}
 
 -- a square that is above another has the greater root
 pub root_below : (a b : ℕ) → a * a < b * b → a < b

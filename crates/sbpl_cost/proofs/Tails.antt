@@ -18,6 +18,7 @@ use Rattle.sbpl_cost.proofs.Heads.{state_in_some, state_in_at, ends_in}
 use Rattle.sbpl_cost.proofs.PlaceLaws.{place_of_state, state_of_place_of, place_of_state_number}
 use Rattle.sbpl_cost.proofs.LatticeLaws.{state_number_below}
 use Rattle.sbpl_cost.proofs.Arcs.{found}
+use Rattle.sbpl_cost.proofs.ArcsRead.{made_of}
 
 -- a tail of state t: the primitive that ends at its heading, and the place that it leads from
 pub record IsTailBy (w : World) (t j s k : ℕ) : Type 0 where
@@ -41,11 +42,6 @@ pair_made None n s k h = absurd (none-some (s, k) h)
 pair_made (Some r) n s k h =
     let pair = same_Some {A = ℕ × ℕ} (r, n) (s, k) h in
     (ap (λ x. Some x) (ap (λ (p : ℕ × ℕ). p.0) pair), ap (λ (p : ℕ × ℕ). p.1) pair)
-
--- what is there was made of something
-made_of : {A B : Type 0} (f : A → Option B) (o : Option A) (y : B) → option_and_then f o ≡ Some y → (x : A) × (o ≡ Some x) × (f x ≡ Some y)
-made_of f None y h = absurd (none-some y h)
-made_of f (Some x) y h = (x, refl, h)
 
 pub left_of : (a x d : ℤ) → x -ℤ d ≡ a → x ≡ a +ℤ d
 left_of a x d h = omega (arith, ints, h)

@@ -3,17 +3,14 @@ use Rattle.std.specs.Prelude.{◌≡◌, ℕ, ℤ, ◌⊎◌, List, slice_get, S
 use Rattle.sbpl_mprim.specs.declared.prim.Primitive.{Primitive}
 use Rattle.sbpl_mprim.specs.Primitives.{Primitives}
 use Rattle.sbpl_sweep.specs.declared.cell.Cell.{Cell}
+use Rattle.sbpl_sweep.specs.ReadTables.{IsAmong}
 use Rattle.sbpl_sweep.specs.Sweep.{IsCentre, IsSwept}
 
--- a cell is in a list
-abbrev pub IsListed : List Cell → Cell → Type 0
-IsListed cells c = (i : ℕ) × (slice_get cells i ≡ Some c)
-
--- cells that are not known were added to a list, and no others
+-- to a list some of these cells were added, among them all that are not known
 pub record AddsOthers (old cells known new : List Cell) : Type 0 where
-  pub kept : (c : Cell) → IsListed old c → IsListed new c
-  pub each : (c : Cell) → IsListed new c → IsListed old c ⊎ IsListed cells c
-  pub all : (c : Cell) → IsListed cells c → IsListed new c ⊎ IsListed known c
+  pub kept : (c : Cell) → IsAmong old c → IsAmong new c
+  pub each : (c : Cell) → IsAmong new c → IsAmong old c ⊎ IsAmong cells c
+  pub all : (c : Cell) → IsAmong cells c → IsAmong new c ⊎ IsAmong known c
 
 -- the cells along a motion are its centre cells
 pub record AreAlong (cell : ℤ) (p : Primitive) (cells : List Cell) : Type 0 where

@@ -9,7 +9,7 @@ use Rattle.sbpl_sweep.specs.Reads.{IsRead}
 use Rattle.sbpl_map.specs.CellMap.{CellMap, cost_at}
 use Rattle.sbpl_cost.specs.Judging.{IsNear}
 use Rattle.sbpl_cost.specs.States.{place_on_map, state_in}
-use Rattle.sbpl_cost.specs.World.{World, IsWorld}
+use Rattle.sbpl_cost.specs.World.{World, IsWorld, over_map}
 use Rattle.sbpl_cost.specs.Arc.{IsArcBy, column_from, row_from}
 use Rattle.sbpl_cost.specs.Lattices.{network_of}
 
@@ -56,10 +56,6 @@ head_of_read e prims x y r = option_and_then (head_by_offset e x y r.cell.x r.ce
 -- each read names a primitive, and its cell is one that a motion can touch
 abbrev pub AreReadable : List Primitive → List Read → Type 0
 AreReadable prims reads = (i : ℕ) (r : Read) → slice_get reads i ≡ Some r → (r.prim < length prims) × IsNear r.cell
-
--- the same lattice over another map
-abbrev pub over_map : World → CellMap → World
-over_map w m = record w { map = m }
 
 -- where all cells that an arc reads cost the same on another map, so does the arc
 abbrev pub UnreadArcsCostTheSame : Type 0

@@ -14,6 +14,10 @@ pub record World : Type 0 where
   pub sweeps : Swept
   pub map : CellMap
 
+-- the same lattice over another map
+abbrev pub over_map : World → CellMap → World
+over_map w m = record w { map = m }
+
 -- the parts belong together, no primitive is too dear, and the radius is at most a kilometre
 pub record IsWorld (w : World) : Type 0 where
   pub env : IsEnvironment w.env

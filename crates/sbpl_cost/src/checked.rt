@@ -8,7 +8,8 @@ ghost use Rattle.sbpl_cost.specs.Checked.{AddsOthers, AreAlong, AreAround, HaveA
 
 use sbpl_fixed::NoMemory;
 use sbpl_mprim::{Prim, Prims};
-use sbpl_sweep::{Cell, Runs, Sweeps};
+use sbpl_runs::Runs;
+use sbpl_sweep::{Cell, Sweeps};
 use std::alloc::Global;
 
 /// Adds those of some cells that are not known. The known cells are among the cells, and both are in the same order.

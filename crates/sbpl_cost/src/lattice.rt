@@ -24,7 +24,8 @@ use sbpl_fixed::NoMemory;
 use sbpl_graph::Graph;
 use sbpl_map::{Map, OffMap};
 use sbpl_mprim::Prims;
-use sbpl_sweep::{Cell, Runs, Sweeps};
+use sbpl_runs::Runs;
+use sbpl_sweep::{Cell, Sweeps};
 use std::alloc::Global;
 use std::marker::Model;
 

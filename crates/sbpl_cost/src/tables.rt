@@ -10,7 +10,7 @@ use crate::primitive_cost::prim_cost;
 use sbpl_cfg::Env;
 use sbpl_fixed::NoMemory;
 use sbpl_mprim::Prims;
-use sbpl_sweep::Runs;
+use sbpl_runs::Runs;
 use std::alloc::Global;
 
 /// The places in the file of the primitives that start at heading `t`.

@@ -3,8 +3,7 @@ use Rattle.std.proofs.Common.{◌≡◌, ℕ, zero, suc, ◌+◌, ◌-◌, ◌*�
 use Rattle.std.specs.List.{flat_map}
 use Rattle.std.proofs.lemmas.List.{map-append}
 use Rattle.std.proofs.lemmas.List.Concat.{flat_map-append}
-use Rattle.sbpl_fixed.specs.Printed.{last_digits}
-use Rattle.sbpl_cfg.specs.Printed.{line_text, lines_text}
+use Rattle.sbpl_fixed.specs.Printed.{last_digits, line_text, lines_text}
 use Rattle.sbpl_map.specs.ChangeText.{replan_line}
 use Rattle.sbpl_map.specs.Printed.{batch_lines, changes_text, write_line}
 use Rattle.sbpl_map.specs.declared.write.Write.{Write}
@@ -14,6 +13,7 @@ use Rattle.sbpl_demo.specs.Changes.{batches, change, writes}
 use Rattle.sbpl_mprim.specs.Printed as prim
 use Rattle.sbpl_demo.specs.Primitives.{backward, far, forward, head_lines, left, motion_head, motion_lines, motions, motions_from, pose_lines, pose_words, primitives_text, right, way_along}
 use Rattle.sbpl_demo.specs.declared.primitives.Motion.{Motion}
+use Rattle.sbpl_fixed.proofs.Lines.{lines_text-append}
 
 pub word_none : (x : ℕ) → word_after 0 x ≡ x
 unfolding word_after
@@ -48,10 +48,6 @@ pub costs_next : (n x : ℕ) → costs_drawn (n + 1) x ≡ costs_drawn n x ++ co
 unfolding costs_drawn
 costs_next n x = rw (add-one n) refl
 
-lines_join : (ls ms : List (List (List ℕ))) → lines_text (ls ++ ms) ≡ lines_text ls ++ lines_text ms
-lines_join [] ms = refl
-lines_join (l ∷ ls) ms = rw (lines_join ls ms) (simp append_assoc)
-
 -- the text of writes
 abbrev text_of : List Write → List ℕ
 text_of ws = lines_text (map write_line ws)
@@ -68,11 +64,11 @@ writes_next width height n from =
     let before = writes width height n from in
     let more = change width height (word_after (3 * n) from) in
     let next : writes width height (n + 1) from ≡ before ++ more = rw (add-one n) refl in
-    rw (next, map-append write_line before more) (lines_join (map write_line before) (map write_line more))
+    rw (next, map-append write_line before more) (lines_text-append (map write_line before) (map write_line more))
 
 -- a batch's writes, and its end
 pub batch_ends : (batch : List Write) → lines_text (batch_lines batch) ≡ lines_text (map write_line batch) ++ line_text replan_line
-batch_ends batch = lines_join (map write_line batch) (replan_line ∷ []) ∙ ap (λ (l : List ℕ). text_of batch ++ l) (append-nil (line_text replan_line))
+batch_ends batch = lines_text-append (map write_line batch) (replan_line ∷ []) ∙ ap (λ (l : List ℕ). text_of batch ++ l) (append-nil (line_text replan_line))
 
 pub batches_none : (width height from : ℕ) → changes_text (batches width height 0 from) ≡ []
 unfolding batches
@@ -85,7 +81,7 @@ batches_next width height n from =
     let before = batches width height n from in
     let batch = writes width height 8 (word_after (24 * n) from) in
     let next : batches width height (n + 1) from ≡ before ++ batch ∷ [] = rw (add-one n) refl in
-    rw (next, flat_map-append batch_lines before (batch ∷ []), append-nil (batch_lines batch)) (lines_join (flat_map batch_lines before) (batch_lines batch))
+    rw (next, flat_map-append batch_lines before (batch ∷ []), append-nil (batch_lines batch)) (lines_text-append (flat_map batch_lines before) (batch_lines batch))
 
 -- ---- the lines of primitives
 

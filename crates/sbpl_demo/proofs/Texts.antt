@@ -2,11 +2,8 @@
 use Rattle.std.proofs.Common.{◌≡◌, ℕ, ◌+◌, ◌/◌, ◌%◌, ◌<◌, ◌≤◌, List, [], ◌∷◌, ◌++◌, append_assoc, append-nil, refl, arith}
 use Rattle.std.specs.Prelude.{codes, decimal}
 use Rattle.std.proofs.lemmas.Fmt.{decimal_digit, decimal_step}
-use Rattle.sbpl_mprim.specs.Printed.{line_text, lines_text}
+use Rattle.sbpl_fixed.specs.Printed.{line_text, lines_text}
 use Rattle.sbpl_demo.specs.Primitives.{head_lines}
-
-pub after_two : (a x y : List ℕ) {b c : List ℕ} → b ≡ a ++ x → c ≡ b ++ y → c ≡ a ++ (x ++ y)
-after_two a x y p q = rw (q, p) (append_assoc a x y)
 
 pub after_five : (a b c d e f : List ℕ) {p q r s t : List ℕ} → p ≡ a ++ b → q ≡ p ++ c → r ≡ q ++ d → s ≡ r ++ e → t ≡ s ++ f → t ≡ a ++ (b ++ (c ++ (d ++ (e ++ (f ++ [])))))
 after_five a b c d e f h i j k l = rw (l, k, j, i, h) (simp (append_assoc, append-nil))

@@ -2,12 +2,12 @@
 use Rattle.std.specs.Prelude.{ℕ, zero, suc, ◌+◌, ◌*◌, ◌/◌, ◌<◌, ℤ, pos, negsuc, neg_ℤ, ◌+ℤ◌, ◌-ℤ◌, ◌*ℤ◌, ◌≤ℤ◌, List, [], ◌∷◌, ◌++◌, get_or, map, codes, if◌then◌else◌, nat_eq}
 use Rattle.std.specs.Fmt.{signed_decimal}
 use Rattle.std.specs.List.{flat_map}
-use Rattle.sbpl_fixed.specs.Printed.{point_text}
+use Rattle.sbpl_fixed.specs.Printed.{point_text, lines_text}
 use Rattle.sbpl_cfg.specs.declared.pose.Pose.{Pose}
 use Rattle.sbpl_mprim.specs.declared.prim.Primitive.{Primitive}
 use Rattle.sbpl_mprim.specs.Judging.{heading_modulo}
 use Rattle.sbpl_mprim.specs.Primitives.{Primitives}
-use Rattle.sbpl_mprim.specs.Printed.{field, lines_text}
+use Rattle.sbpl_mprim.specs.Printed.{field}
 use Rattle.sbpl_demo.specs.declared.primitives.Motion.{Motion}
 use Rattle.sbpl_demo.specs.declared.primitives.Way.{Way}
 

@@ -1,7 +1,7 @@
 //! The batches of changes that are drawn.
 
 ghost use Rattle.std.specs.Prelude.{◌≡◌, ◌<◌, ◌≤◌, ◌++◌, map, OnOk, IfOk};
-ghost use Rattle.sbpl_cfg.specs.Printed.{line_text, lines_text};
+ghost use Rattle.sbpl_fixed.specs.Printed.{line_text, lines_text};
 ghost use Rattle.sbpl_map.specs.Printed.{batch_lines, changes_text, write_line};
 ghost use Rattle.sbpl_map.specs.declared.write.Write.{Write};
 ghost use Rattle.sbpl_demo.specs.Generator.{word_after};
@@ -13,7 +13,7 @@ use sbpl_fixed::NoMemory;
 use std::alloc::Global;
 
 /// Appends the line that writes a cost to a cell.
-#[tactic(auto, using(std::proofs::lemmas::List::append_assoc), unfolding(sbpl_cfg::specs::Printed::line_text))]
+#[tactic(auto, using(std::proofs::lemmas::List::append_assoc), unfolding(sbpl_fixed::specs::Printed::line_text))]
 fn put_cell(out: &mut Vec<u8>, x: u32, y: u32, cost: u32) -> Result<(), NoMemory>
     ensures ok { OnOk result (out.new.items ≡ out.old.items ++ line_text (write_line (record { x = x; y = y; cost = cost }))) }
 {
@@ -81,7 +81,7 @@ fn draw_change(
 }
 
 /// Draws a batch of eight changes and appends its lines.
-#[tactic(auto, using(crate::proofs::Steps::writes_none, crate::proofs::Steps::writes_next, crate::proofs::Steps::batch_ends, crate::proofs::Steps::word_none, crate::proofs::Steps::word_change, std::proofs::lemmas::List::append_assoc), unfolding(sbpl_cfg::specs::Printed::line_text))]
+#[tactic(auto, using(crate::proofs::Steps::writes_none, crate::proofs::Steps::writes_next, crate::proofs::Steps::batch_ends, crate::proofs::Steps::word_none, crate::proofs::Steps::word_change, std::proofs::lemmas::List::append_assoc), unfolding(sbpl_fixed::specs::Printed::line_text))]
 fn draw_batch(out: &mut Vec<u8>, draws: &mut Draws, width: u32, height: u32) -> Result<(), NoMemory>
     requires width { 8 ≤ width }
     requires height { 8 ≤ height }

@@ -2,7 +2,8 @@
 
 ghost use Rattle.std.specs.Prelude.{◌≡◌, ◌<◌, ◌≤◌, ◌++◌, pos, negsuc, ◌≤ℤ◌, OnOk, IfOk};
 ghost use Rattle.std.specs.List.{flat_map};
-ghost use Rattle.sbpl_mprim.specs.Printed.{field, line_text, lines_text};
+ghost use Rattle.sbpl_fixed.specs.Printed.{line_text, lines_text};
+ghost use Rattle.sbpl_mprim.specs.Printed.{field};
 ghost use Rattle.sbpl_demo.specs.Primitives.{IsMotion, IsStep, along, angle, backward, end_words, far, forward, heading_at, left, motion_head, motion_lines, motions_from, nearest_ninth, pose_lines, pose_words, primitives_text, right, way_along};
 
 use crate::put::{put_count, put_parts, put_signed, put_word};
@@ -94,7 +95,7 @@ fn heading_at(motion: &Motion, j: u32) -> i32
 }
 
 /// Appends the line of pose `j` of ten.
-#[tactic(auto, using(std::proofs::lemmas::List::append_assoc), unfolding(sbpl_mprim::specs::Printed::line_text))]
+#[tactic(auto, using(std::proofs::lemmas::List::append_assoc), unfolding(sbpl_fixed::specs::Printed::line_text))]
 fn put_pose(out: &mut Vec<u8>, motion: &Motion, j: u32) -> Result<(), NoMemory>
     requires motion { IsMotion motion.now }
     requires pose { j < 10 }
@@ -119,7 +120,7 @@ fn put_poses(out: &mut Vec<u8>, motion: &Motion) -> Result<(), NoMemory>
 }
 
 /// Appends the line of a word and a number.
-#[tactic(auto, using(std::proofs::lemmas::List::append_assoc), unfolding(sbpl_mprim::specs::Printed::line_text))]
+#[tactic(auto, using(std::proofs::lemmas::List::append_assoc), unfolding(sbpl_fixed::specs::Printed::line_text))]
 fn put_field(out: &mut Vec<u8>, name: &[u8], n: u32) -> Result<(), NoMemory>
     ensures ok { OnOk result (out.new.items ≡ out.old.items ++ line_text (field name.now n)) }
 {
@@ -129,7 +130,7 @@ fn put_field(out: &mut Vec<u8>, name: &[u8], n: u32) -> Result<(), NoMemory>
 }
 
 /// Appends the line of the end.
-#[tactic(auto, using(std::proofs::lemmas::List::append_assoc), unfolding(sbpl_mprim::specs::Printed::line_text))]
+#[tactic(auto, using(std::proofs::lemmas::List::append_assoc), unfolding(sbpl_fixed::specs::Printed::line_text))]
 fn put_end(out: &mut Vec<u8>, motion: &Motion) -> Result<(), NoMemory>
     ensures ok { OnOk result (out.new.items ≡ out.old.items ++ line_text (end_words motion.now)) }
 {

@@ -45,7 +45,7 @@ fn put_digit(out: &mut Vec<u8>, digit: u32) -> Result<(), NoMemory>
 }
 
 /// Appends the last `count` digits of a number, with zeros in front.
-#[tactic(auto, using(crate::proofs::Steps::digits_next, crate::proofs::Texts::after_two, std::proofs::lemmas::List::append_assoc))]
+#[tactic(auto, using(crate::proofs::Steps::digits_next, sbpl_fixed::proofs::Lines::after_two, std::proofs::lemmas::List::append_assoc))]
 fn put_last_digits(out: &mut Vec<u8>, count: u32, n: u32) -> Result<(), NoMemory>
     ensures ok { OnOk result (out.new.items ≡ out.old.items ++ last_digits count n) }
 {

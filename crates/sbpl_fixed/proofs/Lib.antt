@@ -11,3 +11,5 @@ pub mod Spelled
 pub mod Spelling
 pub mod Items
 pub mod UnsignedText
+pub mod Lines
+pub mod OwnFaults

@@ -1,5 +1,6 @@
--- The texts of numbers in fixed point.
+-- The texts of numbers in fixed point, and of lines of words.
 use Rattle.std.specs.Prelude.{ℕ, zero, suc, ◌+◌, ◌/◌, ◌%◌, ◌^◌, List, [], ◌∷◌, ◌++◌, ℤ, pos, negsuc, decimal}
+use Rattle.std.specs.List.{flat_map}
 
 -- the last `count` decimal digits of n, with zeros in front
 unfoldable pub last_digits : ℕ → ℕ → List ℕ
@@ -18,3 +19,13 @@ milli_text n = point_text 3 n
 abbrev pub nano_text : ℤ → List ℕ
 nano_text (pos n) = point_text 9 n
 nano_text (negsuc n) = 45 ∷ point_text 9 (n + 1)
+
+-- words parted by one space, with a line feed behind the last
+unfoldable pub line_text : List (List ℕ) → List ℕ
+line_text [] = 10 ∷ []
+line_text (w ∷ []) = w ++ 10 ∷ []
+line_text (w ∷ v ∷ ws) = w ++ 32 ∷ line_text (v ∷ ws)
+
+-- one line behind the other
+abbrev pub lines_text : List (List (List ℕ)) → List ℕ
+lines_text lines = flat_map line_text lines

@@ -18,6 +18,7 @@ use Rattle.sbpl_heur.specs.Walks.{IsLeastCost, Moves, LiesFrom, IsCellArc, IsCel
 use Rattle.sbpl_heur.specs.declared.hop.Hop.{Hop}
 use Rattle.sbpl_heur.specs.Hops.{AreHops}
 use Rattle.sbpl_heur.specs.Bests.{cell_of, IsBest}
+use Rattle.sbpl_cost.proofs.LatticeLaws.{place_where_cost}
 
 -- a number is zero or not
 zero_or_not : (x : ℤ) → (x ≡ pos 0) ⊎ (x ≡ pos 0 → ⊥)
@@ -34,14 +35,10 @@ has_cost : (o : Option ℕ) (n : ℕ) → IsSomeAnd o (λ c. c < n) → (c : ℕ
 has_cost None n h = absurd h
 has_cost (Some c) n h = (c, refl, h)
 
-place_where : (costs : List ℕ) (o : Option ℕ) (c : ℕ) → option_and_then (slice_get costs) o ≡ Some c → (place : ℕ) × (o ≡ Some place) × (slice_get costs place ≡ Some c)
-place_where costs None c h = absurd (none-some c h)
-place_where costs (Some place) c h = (place, refl, h)
-
 -- the cost of a cell by its column and row
 cost_read : (m : CellMap) (x y c : ℕ) → cost_at m (pos x) (pos y) ≡ Some c → slice_get m.costs (y * m.width + x) ≡ Some c
 cost_read m x y c h =
-    let place = place_where m.costs (place_in m (pos x) (pos y)) c h in
+    let place = place_where_cost m.costs (place_in m (pos x) (pos y)) c h in
     let inside = cond_some (nat_lt x m.width && nat_lt y m.height) (y * m.width + x) place.0 place.1 in
     ap (slice_get m.costs) inside.1 ∙ place.2
 

@@ -4,10 +4,7 @@ use Rattle.std.proofs.lemmas.Nat.{mul-add-lt, div_below}
 use Rattle.sbpl_cost.specs.States.{state_count}
 use Rattle.sbpl_cost.specs.World.{World}
 use Rattle.sbpl_cost.specs.Lattices.{network_of}
-
-pub states_are : (w : World) → (network_of w).states ≡ state_count w.env
-unfolding network_of
-states_are w = refl
+use Rattle.sbpl_cost.proofs.Views.{states_are}
 
 -- a cell with a heading is a state
 pub state_below : (w : World) (cell headings heading : ℕ) → headings ≡ w.env.headings → cell < w.env.width * w.env.height → heading < headings → cell * headings + heading < (network_of w).states

@@ -8,6 +8,7 @@ use Rattle.sbpl_cost.specs.PrimitiveCost.{primitive_cost}
 use Rattle.sbpl_heur.specs.declared.hop.Hop.{Hop}
 use Rattle.sbpl_heur.specs.Walks.{Moves}
 use Rattle.sbpl_heur.specs.Hops.{AreHops, IsHopOf, SamePair, HasNoPair, HasPairAt, Includes, lowers, adds}
+use Rattle.sbpl_sweep.proofs.Lists.{before_push}
 
 -- an element of a list in which one was written, and of one to which one was added
 pub at_set : {X : Type 0} (xs : List X) (j : ℕ) (x y : X) → slice_get xs j ≡ Some x → slice_get (set xs j y) j ≡ Some y
@@ -21,11 +22,6 @@ beside_set (z ∷ xs) zero zero y h = absurd (h refl)
 beside_set (z ∷ xs) zero (suc k) y h = refl
 beside_set (z ∷ xs) (suc j) zero y h = refl
 beside_set (z ∷ xs) (suc j) (suc k) y h = beside_set xs j k y (λ e. h (ap suc e))
-
-before_added : {X : Type 0} (xs : List X) (y : X) (i : ℕ) → i < length xs → slice_get (xs ++ y ∷ []) i ≡ slice_get xs i
-before_added [] y i h = absurd (omega arith)
-before_added (x ∷ xs) y zero h = refl
-before_added (x ∷ xs) y (suc i) h = before_added xs y i (omega arith)
 
 at_added : {X : Type 0} (xs : List X) (y : X) → slice_get (xs ++ y ∷ []) (length xs) ≡ Some y
 at_added [] y = refl
@@ -199,7 +195,7 @@ module _ (e : Environment) (prims : List Primitive) where
         new_last = ap (λ l. slice_get l (length old)) is ∙ at_added old h
 
         new_before : (k : ℕ) → k < length old → slice_get new k ≡ slice_get old k
-        new_before k inside = ap (λ l. slice_get l k) is ∙ before_added old h k inside
+        new_before k inside = ap (λ l. slice_get l k) is ∙ before_push old h k inside
 
         kept : (k : ℕ) (f : Hop) → slice_get old k ≡ Some f → slice_get new k ≡ Some f
         kept k f at = new_before k (slice_get_within old k f at) ∙ at

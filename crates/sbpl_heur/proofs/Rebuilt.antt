@@ -17,10 +17,11 @@ use Rattle.sbpl_heur.specs.Followed.{Walking}
 use Rattle.sbpl_heur.specs.Weights.{IsHopWalk, AreLeast}
 use Rattle.sbpl_heur.specs.Cuts.{IsFarthestReached, IsCut, AreTurns, cut_to}
 use Rattle.sbpl_heur.specs.Bests.{Table, Fits, AreParts, IsBest, IsTable, IsGuide, distance_in}
-use Rattle.sbpl_heur.proofs.Cutting.{states_are, state_below, cell_below}
+use Rattle.sbpl_heur.proofs.Cutting.{state_below, cell_below}
 use Rattle.sbpl_heur.proofs.Splitting.{gap_split}
 use Rattle.sbpl_heur.proofs.Walking.{light_hops, cell_bound, bound_small}
 use Rattle.sbpl_heur.proofs.Arriving.{consistent}
+use Rattle.sbpl_cost.proofs.Views.{states_are}
 
 -- the primitives of a world are light
 pub world_light : (w : World) (hops : List Hop) → IsWorld w → AreHops w.env w.prims.items hops → AreLight hops

@@ -1,5 +1,4 @@
 pub mod Cells
-mod Cuts
 mod Lines
 mod Going
 mod LineLaws

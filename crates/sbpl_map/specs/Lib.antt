@@ -1,6 +1,5 @@
 pub mod CellMap
 pub mod ChangeText
-pub mod Cut
 pub mod Faults
 pub mod Fields
 pub mod LineFaults

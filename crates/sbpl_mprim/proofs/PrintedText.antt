@@ -7,16 +7,16 @@ use Rattle.std.proofs.Math.Nat.{mod-eq_of_lt}
 use Rattle.std.proofs.lemmas.Int.{ints}
 use Rattle.std.proofs.lemmas.List.Concat.{flat_map-append}
 use Rattle.sbpl_fixed.specs.Numbers.{most}
-use Rattle.sbpl_fixed.specs.Printed.{nano_text}
+use Rattle.sbpl_fixed.specs.Printed.{nano_text, line_text, lines_text}
 use Rattle.sbpl_fixed.specs.ReadBack.{IsWord}
 use Rattle.sbpl_fixed.specs.Tokens.{is_blank, tokens, tokens_past}
-use Rattle.sbpl_fixed.proofs.ReadBack.{nanos_are_read_back, nanos_are_words, blanks_part_tokens, wholes_are_read_back, wholes_are_words, words_are_tokens}
+use Rattle.sbpl_fixed.proofs.ReadBack.{nanos_are_read_back, nanos_are_words, blanks_part_tokens, wholes_are_read_back, wholes_are_words, words_are_tokens, at_end}
 use Rattle.sbpl_cfg.specs.Environment.{IsWithin}
 use Rattle.sbpl_cfg.specs.declared.pose.Pose.{Pose}
 use Rattle.sbpl_mprim.specs.declared.prim.Primitive.{Primitive}
 use Rattle.sbpl_mprim.specs.Judging.{heading_modulo}
 use Rattle.sbpl_mprim.specs.Primitives.{ArePrimitives, IsOffsetInRange, IsPrimitive, Primitives}
-use Rattle.sbpl_mprim.specs.Printed.{end_line, field, line_text, lines_text, pose_line, prim_lines, prims_text}
+use Rattle.sbpl_mprim.specs.Printed.{end_line, field, pose_line, prim_lines, prims_text}
 use Rattle.sbpl_mprim.specs.Text.{AreShown, IsTextOf, Saying, Shows, words_of, a_heading, a_nano, a_whole, a_word, spelled, spelled_pose, spelled_prim}
 use Rattle.sbpl_mprim.proofs.Pieces.{printable}
 use Rattle.sbpl_mprim.proofs.Places.{at_all}
@@ -55,7 +55,8 @@ prints_line headings s [] w [] h = prints_word headings s w 10 refl h.0
 prints_line headings s [] w (v ∷ ws) h = absurd h.1
 prints_line headings s (u ∷ us) w [] h = absurd h.1
 prints_line headings s (u ∷ us) w (v ∷ vs) h =
-    prints_both headings (s ∷ []) (u ∷ us) (w ++ 32 ∷ []) (line_text (v ∷ vs)) (prints_word headings s w 32 refl h.0) (prints_line headings u us v vs h.1)
+    let both = prints_both headings (s ∷ []) (u ∷ us) (w ++ 32 ∷ []) (line_text (v ∷ vs)) (prints_word headings s w 32 refl h.0) (prints_line headings u us v vs h.1) in
+    subst (λ (bytes : List ℕ). Prints headings (s ∷ u ∷ us) bytes) (append_assoc w (32 ∷ []) (line_text (v ∷ vs))) both
 
 -- ---- numbers
 
@@ -140,17 +141,13 @@ prints_file ps h =
     let each = prints_prims ps.cell ps.headings ps.items h.headings.1 long (at_all (IsPrimitive ps.cell ps.headings) ps.items h.each) in
     prints_both ps.headings _ _ _ _ resolution (prints_both ps.headings _ _ _ _ angles (prints_both ps.headings _ _ _ _ total each))
 
-no_tokens : (place : ℕ) → tokens_past true place [] ≡ []
-unfolding tokens_past
-no_tokens place = refl
-
 text_of_prints : (ps : Primitives) (text : List ℕ) → ArePrimitives ps → Prints ps.headings (spelled ps) text → IsTextOf text ps
 unfolding Prints
 text_of_prints ps text h prints =
     let k = prints 0 [] in
     let all : Spells ps.headings (spelled ps) (tokens text) [] =
     subst (λ (bytes : List ℕ). Spells ps.headings (spelled ps) (tokens_past true 0 bytes) []) (append-nil text)
-    (subst (λ l. Spells ps.headings (spelled ps) (tokens_past true 0 (text ++ [])) l) (no_tokens k.0) k.1) in
+    (subst (λ l. Spells ps.headings (spelled ps) (tokens_past true 0 (text ++ [])) l) (at_end k.0) k.1) in
     record { tokens = all_meant ps.headings (spelled ps) (tokens text) all; fits = h }
 
 pub text_is_printed : (ps : Primitives) → ArePrimitives ps → IsTextOf (prims_text ps) ps

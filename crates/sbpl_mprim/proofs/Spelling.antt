@@ -10,6 +10,7 @@ use Rattle.sbpl_fixed.specs.declared.fault.NumFault.TheVariants.{Form, Size}
 use Rattle.sbpl_fixed.specs.Formats.{Miss, out_of_range, no_word, Format, item, ended, wrong, done, fixed, whole, nano, within, behind, Says}
 use Rattle.sbpl_cfg.specs.Environment.{IsWithin}
 use Rattle.sbpl_mprim.specs.Text.{Saying, a_word, a_whole, a_nano, Means, AreMeant}
+use Rattle.sbpl_cfg.proofs.Items.{from_le}
 
 -- ---- tokens in front of others
 
@@ -55,14 +56,11 @@ spells_split headings (s ∷ ss) us (t ∷ ts) rest h = let k = spells_split hea
 
 -- ---- numbers in a range
 
-int_le_true : (a b : ℤ) → a ≤ℤ b → int_le a b ≡ true
-int_le_true a b h = grind (arith, ints)
-
 int_le_tells : (a b : ℤ) → int_le a b ≡ true → a ≤ℤ b
 int_le_tells a b h = grind (arith, ints)
 
 pub within_ok : (low high n : ℤ) (r : Result ℤ NumFault) → r ≡ Ok n → IsWithin low high n → within low high r ≡ Ok n
-within_ok low high n r e w = rw (e, int_le_true low n w.0, int_le_true n high w.1) refl
+within_ok low high n r e w = rw (e, from_le low n w.0, from_le n high w.1) refl
 
 abbrev was_read : ℤ → Result ℤ NumFault
 was_read n = Ok n

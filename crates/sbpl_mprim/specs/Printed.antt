@@ -3,18 +3,9 @@ use Rattle.std.specs.Prelude.{◌≡◌, ℕ, ◌≤◌, Some, slice_get, List, 
 use Rattle.std.specs.Fmt.{signed_decimal}
 use Rattle.std.specs.List.{flat_map}
 use Rattle.sbpl_cfg.specs.declared.pose.Pose.{Pose}
-use Rattle.sbpl_fixed.specs.Printed.{nano_text}
+use Rattle.sbpl_fixed.specs.Printed.{lines_text, nano_text}
 use Rattle.sbpl_mprim.specs.declared.prim.Primitive.{Primitive}
 use Rattle.sbpl_mprim.specs.Primitives.{Primitives, IsOffsetInRange}
-
--- the text of a line of words
-unfoldable pub line_text : List (List ℕ) → List ℕ
-line_text [] = 10 ∷ []
-line_text (w ∷ []) = w ++ 10 ∷ []
-line_text (w ∷ v ∷ ws) = w ++ 32 ∷ [] ++ line_text (v ∷ ws)
-
-abbrev pub lines_text : List (List (List ℕ)) → List ℕ
-lines_text lines = flat_map line_text lines
 
 -- the line of a word and a number
 abbrev pub field : List ℕ → ℕ → List (List ℕ)

@@ -4,10 +4,10 @@ ghost use Rattle.std.specs.Prelude.{◌≡◌, ℕ, ◌≤◌, [], ◌∷◌, �
 ghost use Rattle.std.specs.Fmt.{signed_decimal};
 ghost use Rattle.std.specs.List.{flat_map};
 ghost use Rattle.sbpl_cfg.specs.Environment.{IsWithin};
-ghost use Rattle.sbpl_fixed.specs.Printed.{nano_text};
+ghost use Rattle.sbpl_fixed.specs.Printed.{nano_text, line_text, lines_text};
 ghost use Rattle.sbpl_mprim.specs.Primitives.{IsOffsetInRange};
 ghost use Rattle.sbpl_mprim.specs.declared.prim.Primitive.{Primitive as APrim};
-ghost use Rattle.sbpl_mprim.specs.Printed.{ArePrintable, IsPrintable, end_line, field, line_text, lines_text, pose_line, prim_head, prim_lines, prims_head, prims_text};
+ghost use Rattle.sbpl_mprim.specs.Printed.{ArePrintable, IsPrintable, end_line, field, pose_line, prim_head, prim_lines, prims_head, prims_text};
 
 use crate::prim::Prim;
 use crate::prims::Prims;
@@ -47,7 +47,7 @@ fn print_parts(value: i64, blank: u8, out: &mut Vec<u8>) -> Result<(), NoMemory>
     Ok(())
 }
 
-#[tactic(auto, unfolding(crate::specs::Printed::line_text))]
+#[tactic(auto, unfolding(sbpl_fixed::specs::Printed::line_text))]
 fn print_resolution(name: &[u8], value: i64, out: &mut Vec<u8>) -> Result<(), NoMemory>
     requires range { IsWithin (negsuc 999999999999999999) (pos 1000000000000000000) value }
     ensures ok { OnOk result (out.new.items ≡ out.old.items ++ line_text (name.now ∷ nano_text value ∷ [])) }
@@ -56,7 +56,7 @@ fn print_resolution(name: &[u8], value: i64, out: &mut Vec<u8>) -> Result<(), No
     print_parts(value, b'\n', out)
 }
 
-#[tactic(auto, unfolding(crate::specs::Printed::line_text))]
+#[tactic(auto, unfolding(sbpl_fixed::specs::Printed::line_text))]
 fn print_field(name: &[u8], n: u32, out: &mut Vec<u8>) -> Result<(), NoMemory>
     ensures ok { OnOk result (out.new.items ≡ out.old.items ++ line_text (field name.now n)) }
 {
@@ -64,7 +64,7 @@ fn print_field(name: &[u8], n: u32, out: &mut Vec<u8>) -> Result<(), NoMemory>
     print_count(n, b'\n', out)
 }
 
-#[tactic(auto, unfolding(crate::specs::Printed::line_text))]
+#[tactic(auto, unfolding(sbpl_fixed::specs::Printed::line_text))]
 fn print_pose(pose: &Pose, out: &mut Vec<u8>) -> Result<(), NoMemory>
     requires range { IsOffsetInRange pose.now }
     ensures ok { OnOk result (out.new.items ≡ out.old.items ++ line_text (pose_line pose.now)) }
@@ -74,7 +74,7 @@ fn print_pose(pose: &Pose, out: &mut Vec<u8>) -> Result<(), NoMemory>
     print_parts(pose.theta, b'\n', out)
 }
 
-#[tactic(auto, unfolding(crate::specs::Printed::line_text))]
+#[tactic(auto, unfolding(sbpl_fixed::specs::Printed::line_text))]
 fn print_end(name: &[u8], prim: &Prim, out: &mut Vec<u8>) -> Result<(), NoMemory>
     ensures ok { OnOk result (out.new.items ≡ out.old.items ++ line_text (end_line name.now prim.now)) }
 {

@@ -1,10 +1,11 @@
 //! What the text of primitives is, for every text.
 
 ghost use Rattle.std.specs.Prelude.{◌≡◌, ◌⊎◌, ◌↔◌, ℕ, ℤ, List};
+ghost use Rattle.sbpl_fixed.specs.Printed.{lines_text};
 ghost use Rattle.sbpl_fixed.specs.Meaning.{StandsFor};
 ghost use Rattle.sbpl_mprim.specs.declared.fault.PrimFault.{PrimFault};
 ghost use Rattle.sbpl_mprim.specs.Primitives.{ArePrimitives, Primitives};
-ghost use Rattle.sbpl_mprim.specs.Printed.{lines_text, prims_text};
+ghost use Rattle.sbpl_mprim.specs.Printed.{prims_text};
 ghost use Rattle.sbpl_mprim.specs.Reading.{prims_format};
 ghost use Rattle.sbpl_mprim.specs.Text.{AreShown, AreSizes, HasFault, IsFaulty, IsText, IsTextOf, spelled, words_of};
 

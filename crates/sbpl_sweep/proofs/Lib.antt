@@ -1,6 +1,5 @@
 pub mod BandOrders
 pub mod CellOrders
-pub mod Cuts
 pub mod Counts
 pub mod DiscsTouched
 pub mod Distances

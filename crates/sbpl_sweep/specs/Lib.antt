@@ -1,6 +1,5 @@
 pub mod Bands
 pub mod Centres
-pub mod Cut
 pub mod Discs
 pub mod Gathered
 pub mod Reach

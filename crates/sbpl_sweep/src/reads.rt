@@ -7,7 +7,7 @@ ghost use Rattle.sbpl_sweep.specs.Widths.{cell_count};
 ghost use Rattle.sbpl_sweep.specs.ReadTables.{IsAmong, source_cell, read_by, AddsSource, AddsReads, AreReadsOf};
 
 use crate::cell::Cell;
-use crate::runs::Runs;
+use sbpl_runs::Runs;
 use sbpl_fixed::NoMemory;
 use std::alloc::Global;
 

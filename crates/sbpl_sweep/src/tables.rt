@@ -8,7 +8,7 @@ ghost use Rattle.sbpl_sweep.specs.Sweeping.{AreFewSweptAt, IsOwnCause};
 use crate::cell::Cell;
 use crate::centres::centre_cells;
 use crate::fault::SweepFault;
-use crate::runs::Runs;
+use sbpl_runs::Runs;
 use crate::stop::Stop;
 use crate::sweeping::swept_cells;
 use sbpl_fixed::NoMemory;

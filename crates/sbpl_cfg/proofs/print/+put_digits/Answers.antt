@@ -1,6 +1,6 @@
 use Rattle.std.proofs.Common.{arith}
 use Rattle.std.proofs.lemmas.Fmt.{decimal_digit, decimal_step}
-use Rattle.sbpl_cfg.proofs.PrintLaws.{after_two}
+use Rattle.sbpl_fixed.proofs.Lines.{after_two}
 use Rattle.sbpl_cfg.proofs.print.+put_digits.Goals as goal
 
 pub returns-then-n-lt10 : goal.returns-then-n-lt10

@@ -1,4 +1,4 @@
-use Rattle.sbpl_cfg.specs.Printed.{line_text}
+use Rattle.sbpl_fixed.specs.Printed.{line_text}
 use Rattle.sbpl_cfg.proofs.PrintLaws.{after_three}
 use Rattle.sbpl_cfg.proofs.print.put_ends.Goals as goal
 

@@ -1,5 +1,6 @@
 use Rattle.std.proofs.Common.{◌≡◌, ◌+◌, ◌-◌, ◌*◌, ◌++◌, length}
-use Rattle.sbpl_cfg.specs.Printed.{grid_lines, lines_text}
+use Rattle.sbpl_fixed.specs.Printed.{lines_text}
+use Rattle.sbpl_cfg.specs.Printed.{grid_lines}
 use Rattle.sbpl_cfg.proofs.print.put_grid.Given as goal
 
 -- what is written and what is left make the grid

@@ -1,7 +1,6 @@
 use Rattle.std.proofs.Common.{◌≡◌, ◌++◌, ◌∷◌, [], rules, append_assoc}
 use Rattle.std.proofs.lemmas.Int.{to_z-of_z}
-use Rattle.sbpl_fixed.specs.Printed.{nano_text}
-use Rattle.sbpl_cfg.specs.Printed.{line_text}
+use Rattle.sbpl_fixed.specs.Printed.{nano_text, line_text}
 use Rattle.sbpl_cfg.proofs.print.put_pose_line.Goals as goal
 
 pub returns : goal.returns

@@ -1,6 +1,6 @@
 use Rattle.std.proofs.Common.{◌≡◌, ◌++◌, map, drop}
 use Rattle.std.specs.Fmt.{decimal}
-use Rattle.sbpl_cfg.specs.Printed.{line_text}
+use Rattle.sbpl_fixed.specs.Printed.{line_text}
 use Rattle.sbpl_cfg.proofs.print.put_row.Given as goal
 
 -- what is written and what is left make the line

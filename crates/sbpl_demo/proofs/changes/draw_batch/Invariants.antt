@@ -1,5 +1,5 @@
 use Rattle.std.proofs.Common.{◌≡◌, ◌*◌, ◌++◌, map}
-use Rattle.sbpl_cfg.specs.Printed.{lines_text}
+use Rattle.sbpl_fixed.specs.Printed.{lines_text}
 use Rattle.sbpl_map.specs.Printed.{write_line}
 use Rattle.sbpl_demo.specs.Generator.{word_after}
 use Rattle.sbpl_demo.specs.Changes.{writes}

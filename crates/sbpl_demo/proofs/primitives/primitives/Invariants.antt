@@ -1,6 +1,6 @@
 use Rattle.std.proofs.Common.{◌≡◌, ◌++◌}
 use Rattle.std.specs.List.{flat_map}
-use Rattle.sbpl_mprim.specs.Printed.{lines_text}
+use Rattle.sbpl_fixed.specs.Printed.{lines_text}
 use Rattle.sbpl_demo.specs.Primitives.{head_lines, motion_lines, motions}
 use Rattle.sbpl_demo.proofs.primitives.primitives.Given as goal
 

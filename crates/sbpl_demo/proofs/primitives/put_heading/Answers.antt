@@ -1,5 +1,5 @@
 use Rattle.std.proofs.Common.{◌≡◌, ◌++◌, ◌∙◌, ap, sym, rules}
-use Rattle.sbpl_mprim.specs.Printed.{lines_text}
+use Rattle.sbpl_fixed.specs.Printed.{lines_text}
 use Rattle.sbpl_demo.specs.Primitives.{backward, far, forward, left, motion_lines, right, way_along}
 use Rattle.sbpl_demo.proofs.Steps as steps
 use Rattle.sbpl_demo.proofs.Texts.{five_written}

@@ -1,5 +1,5 @@
 use Rattle.std.proofs.Common.{◌≡◌, ◌++◌}
-use Rattle.sbpl_mprim.specs.Printed.{lines_text}
+use Rattle.sbpl_fixed.specs.Printed.{lines_text}
 use Rattle.sbpl_demo.specs.Primitives.{pose_lines}
 use Rattle.sbpl_demo.proofs.primitives.put_poses.Given as goal
 

@@ -1,5 +1,6 @@
 use Rattle.std.proofs.Common.{◌≡◌, ◌++◌, map, take}
-use Rattle.sbpl_mprim.specs.Printed.{lines_text, pose_line}
+use Rattle.sbpl_fixed.specs.Printed.{lines_text}
+use Rattle.sbpl_mprim.specs.Printed.{pose_line}
 use Rattle.sbpl_mprim.proofs.printing.print_poses.Given as goal
 
 abbrev pub invariant-loop-pose : goal.invariant-loop-pose

@@ -1,6 +1,6 @@
 use Rattle.std.proofs.Common.{arith}
-use Rattle.sbpl_sweep.proofs.Cuts.{pushed}
-use Rattle.sbpl_sweep.proofs.runs.Runs.push.Goals as goal
+use Rattle.sbpl_runs.proofs.Cuts.{pushed}
+use Rattle.sbpl_runs.proofs.runs.Runs.push.Goals as goal
 
 pub returns-clause-added : goal.returns-clause-added
 returns-clause-added g c =

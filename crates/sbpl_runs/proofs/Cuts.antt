@@ -2,7 +2,7 @@
 use Rattle.std.proofs.Common.{◌≡◌, ℕ, zero, suc, ◌+◌, ◌-◌, ◌<◌, ◌≤◌, inl, inr, List, [], ◌∷◌, ◌++◌, length, take, drop, slice_get, slice_range, slice_index, Some, refl, ap, sym, ◌∙◌, arith, subst}
 use Rattle.std.proofs.lemmas.Bool.{cases_lt}
 use Rattle.std.proofs.lemmas.List.{length-append, length-drop, drop-append-le, take-append-le, drop_at, take_all, get_or_append_left, get_or_push, get_or_past, length_push}
-use Rattle.sbpl_map.specs.Cut.{cut_after, cut, IsCut}
+use Rattle.sbpl_runs.specs.Cut.{cut_after, cut, IsCut}
 
 pub length-cut_after : {X : Type 0} (items : List X) (a : ℕ) (starts : List ℕ) → length (cut_after items a starts) ≡ length starts
 length-cut_after items a [] = refl
@@ -53,15 +53,14 @@ cut_push items more (a ∷ starts) e kept end =
     let whole = ap (take (e - slice_index (a ∷ starts) (length starts))) rest ∙ take_all (e - slice_index (a ∷ starts) (length starts)) more enough in
     cut_after_push items more a starts e kept.inside ∙ ap (λ l. cut_after items a starts ++ l ∷ []) whole
 
-pub is_cut_push : {X : Type 0} (items more : List X) (starts : List ℕ) (e : ℕ) → IsCut (length items) starts → length starts < 4294967296 → e ≡ length (items ++ more) → IsCut e (starts ++ e ∷ [])
-is_cut_push items more starts e kept room end =
+pub is_cut_push : {X : Type 0} (items more : List X) (starts : List ℕ) (e : ℕ) → IsCut (length items) starts → e ≡ length (items ++ more) → IsCut e (starts ++ e ∷ [])
+is_cut_push items more starts e kept end =
     let longer = length-append items more in
     let one_more = length_push starts e in
     let old = λ (i : ℕ) (h : i < length starts). get_or_append_left starts (e ∷ []) 0 i h in
     let new = λ (i : ℕ) (h : length starts ≡ i). get_or_push starts e 0 i h in
     record {
       some = omega (arith, one_more);
-      few = omega (arith, one_more, room);
       rising = λ i h. elim (cases_lt (i + 1) (length starts)) [
         | inl before ↦ omega (arith, old i (omega arith), old (i + 1) before, kept.rising i before)
         | inr last ↦ omega (arith, old i (omega (arith, one_more, kept.some)), new (i + 1) (omega (arith, one_more)), kept.inside i)
@@ -101,10 +100,3 @@ pub pushed : {X : Type 0} (items more table : List X) (starts middle ends : List
 pushed items more table starts middle ends e lists kept same in_table in_middle in_ends end =
     let there = cut_push items more starts e kept (end ∙ ap length in_table) in
     rw (in_table, in_ends, in_middle, ← same) there
-
-pub still_cut : {X : Type 0} (items more table : List X) (starts middle ends : List ℕ) (e : ℕ) (lists : List (List X)) → IsCut (length items) starts → cut items starts ≡ lists → length lists + 1 < 4294967296
-    → table ≡ items ++ more → middle ≡ starts → ends ≡ middle ++ e ∷ [] → e ≡ length table → IsCut (length table) ends
-still_cut items more table starts middle ends e lists kept same room in_table in_middle in_ends end =
-    let few : length starts < 4294967296 = omega (arith, room, ap length same, length-cut items starts kept.some) in
-    let there = is_cut_push items more starts e kept few (end ∙ ap length in_table) in
-    rw (in_ends, in_middle, ← end) there

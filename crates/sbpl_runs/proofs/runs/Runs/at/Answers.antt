@@ -1,6 +1,6 @@
 use Rattle.std.proofs.Common.{ap, sym, ◌∙◌, Some}
-use Rattle.sbpl_sweep.proofs.Cuts.{lies_at}
-use Rattle.sbpl_sweep.proofs.runs.Runs.at.Goals as goal
+use Rattle.sbpl_runs.proofs.Cuts.{lies_at}
+use Rattle.sbpl_runs.proofs.runs.Runs.at.Goals as goal
 
 pub part-requires : goal.part-requires
 part-requires g c =

@@ -19,7 +19,7 @@ fn part<'a, T>(items: &'a [T], starts: &[usize], i: usize) -> &'a [T]
 }
 
 /// Lists, seen as a list of lists. They lie one after another in one table, so that reading one costs one step.
-#[derive(Drop)]
+#[derive(Debug, Drop)]
 pub struct Runs<T> {
     items: Vec<T>,
     /// Where each list begins, and at the end where the next one would.
@@ -28,7 +28,7 @@ pub struct Runs<T> {
 
 impl<T> Model for Runs<T> {
     ghost use Rattle.std.specs.Prelude.{List, length};
-    ghost use Rattle.sbpl_sweep.specs.Cut.{cut, IsCut};
+    ghost use Rattle.sbpl_runs.specs.Cut.{cut, IsCut};
 
     ghost Value = { List (List T) };
 

@@ -1,6 +1,6 @@
 use Rattle.std.proofs.Common.{ap, arith, length}
-use Rattle.sbpl_sweep.proofs.Cuts.{length-cut}
-use Rattle.sbpl_sweep.proofs.runs.Runs.count.Goals as goal
+use Rattle.sbpl_runs.proofs.Cuts.{length-cut}
+use Rattle.sbpl_runs.proofs.runs.Runs.count.Goals as goal
 
 pub returns : goal.returns
 returns g c =
