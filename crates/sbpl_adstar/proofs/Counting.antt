@@ -96,10 +96,6 @@ counted_more {states} {trace} {trace'} {closed} {closed'} {v} {v'} step counted 
           omega (arith, counted.total, sum_less (λ s. left (closed s) (v s)) (λ s. left (closed' s) (v' s)) step.state states inside less same);
     }
 
-pub counted_thrice : {states : ℕ} {trace : List Step} {closed : ℕ → Bool} {v : ℕ → ℕ} → AreCounted states trace closed v
-    → (s : ℕ) → times s trace ≤ 3
-counted_thrice counted s = omega (arith, counted.each s)
-
 -- where a state can still be taken there is room for its step
 pub counted_room : {states : ℕ} {trace : List Step} {closed : ℕ → Bool} {v : ℕ → ℕ} (s : ℕ) → AreCounted states trace closed v
     → s < states → 1 ≤ left (closed s) (v s) → length trace < 3 * states

@@ -12,18 +12,14 @@ use Rattle.sbpl_ara.specs.declared.step.Step.{Step}
 use Rattle.sbpl_ara.specs.Queue.{is_among}
 use Rattle.sbpl_ara.specs.Run.{IsOpen, IsOver, IsUnder}
 use Rattle.sbpl_ara.specs.Search.{AreWaiting}
-use Rattle.sbpl_ara.proofs.Queueing.{among_push, open_moved}
+use Rattle.sbpl_ara.proofs.Queueing.{among_push}
 use Rattle.sbpl_adstar.specs.Repaired.{AreRepaired}
-use Rattle.sbpl_adstar.proofs.Exactness.{contains_or_not}
 
 -- the first states of a list are noted, and none has left
 pub record AreNoted (m : Marks) (states : List ℕ) (old now : Frontier) (i : ℕ) : Type 0 where
   pub size : frontier.states_of now ≡ frontier.states_of old
   pub kept : (s : ℕ) → IsSome (frontier.key_at old s) → IsSome (frontier.key_at now s)
   pub noted : (s j : ℕ) → j < i → slice_index states j ≡ s → g_of m s ≢ v_of m s → IsSome (frontier.key_at now s)
-
-pub noted_none : {m : Marks} {states : List ℕ} {old : Frontier} → AreNoted m states old old 0
-noted_none = record { size = refl; kept = λ s is. is; noted = λ s j below. absurd (omega arith) }
 
 pub noted_more : {m : Marks} {states : List ℕ} {old now now' : Frontier} (i : ℕ) → AreNoted m states old now i
     → frontier.states_of now' ≡ frontier.states_of now → ((s : ℕ) → IsSome (frontier.key_at now s) → IsSome (frontier.key_at now' s))
@@ -51,9 +47,6 @@ pub record AreTakenNoted (m : Marks) (steps : List Step) (old now : Frontier) : 
   pub kept : (s : ℕ) → IsSome (frontier.key_at old s) → IsSome (frontier.key_at now s)
   pub noted : (s : ℕ) → is_among steps s ≡ true → g_of m s ≢ v_of m s → IsSome (frontier.key_at now s)
 
-pub taken_none : {m : Marks} {old : Frontier} → AreTakenNoted m [] old old
-taken_none = record { size = refl; kept = λ s is. is; noted = λ s (is : false ≡ true). absurd (false≢true is) }
-
 pub taken_more : {m : Marks} {old now now' : Frontier} (steps : List Step) (step : Step) → AreTakenNoted m steps old now
     → frontier.states_of now' ≡ frontier.states_of now → ((s : ℕ) → IsSome (frontier.key_at now s) → IsSome (frontier.key_at now' s))
     → (g_of m step.state ≢ v_of m step.state → IsSome (frontier.key_at now' step.state))
@@ -77,17 +70,3 @@ open_apart {closed} {m} {s} it same =
     (λ (under : IsUnder m s). omega arith)
     (λ (over : IsOver m s × (closed s ≡ false)). omega (arith, over.0))
     it.inconsistent
-
--- no open state is lost where the touched ones are noted
-pub repaired_waiting : {n : Network} {touched : List ℕ} {old new : Marks} (queue queue' : Frontier) {closed : ℕ → Bool} → AreRepaired n touched old new
-    → AreWaiting old queue closed → ((s : ℕ) → IsSome (frontier.key_at queue s) → IsSome (frontier.key_at queue' s))
-    → ((s : ℕ) → Contains touched s → g_of new s ≢ v_of new s → IsSome (frontier.key_at queue' s)) → AreWaiting new queue' closed
-repaired_waiting {touched = touched} {old = old} {new = new} queue queue' {closed = closed} repaired waiting kept noted s it =
-    ⊎_elim
-    (λ among. noted s among (open_apart it))
-    (λ none.
-    let row = repaired.others s none in
-    let same_g : g_of old s ≡ g_of new s = sym (ap (λ (r : Row). r.g) row) in
-    let same_v : v_of old s ≡ v_of new s = sym (ap (λ (r : Row). r.v) row) in
-    kept s (waiting s (open_moved closed closed new old s (sym repaired.same_states) same_g same_v refl it)))
-    (contains_or_not touched s)

@@ -11,7 +11,6 @@ use Rattle.sbpl_ara.specs.Queue.{AreQueued}
 use Rattle.sbpl_ara.specs.Run.{Query, IsOver, IsUnder, IsNext, IsRun, IsStep, LowersHeads, RaisesState, none_closed, closed_with, closed_after}
 use Rattle.sbpl_ara.specs.Search.{Search, AreUsable}
 use Rattle.sbpl_ara.proofs.Closing.{closed_after_push}
-use Rattle.sbpl_ara.proofs.Opening.{open_alike}
 use Rattle.sbpl_ara.proofs.Passing.{closed_by, counts_more, ordered_alike}
 use Rattle.sbpl_adstar.specs.Taken.{IsTaken, step_of}
 use Rattle.sbpl_adstar.proofs.Counting.{AreCounted, left, left_near, left_lowered, left_raised, counted_none, counted_more, counted_room}

@@ -38,42 +38,6 @@ pub record IsRaising (n : Network) (old m : Marks) (s i : ℕ) : Type 0 where
   pub other_back : (t : ℕ) → ((k : ℕ) → k < i → back_of old t ≢ Some (s, k)) → back_of m t ≡ back_of old t
   pub fits : (count : ℕ) → FitCount n.states (g_of old) (v_of old) count → FitCount n.states (g_of m) (v_of m) count
 
--- s has its infinite v, and nothing else has changed
-pub raising_none : {n : Network} {old m : Marks} {s : ℕ} → states_of old ≡ n.states
-    → ChangesRow old m s (record { g = g_of old s; v = FAR; back = back_of old s }) → IsRaising n old m s 0
-raising_none {n} {old} {m} {s} states change =
-    let same_g : (t : ℕ) → g_of m t ≡ g_of old t =
-    λ t.
-    ⊎_elim
-    (λ (at : t ≡ s). rw at (ap (λ (r : Row). r.g) change.at))
-    (λ (other : t ≢ s). ap (λ (r : Row). r.g) (change.others t other))
-    (cases_eq t s) in
-    let same_back : (t : ℕ) → back_of m t ≡ back_of old t =
-    λ t.
-    ⊎_elim
-    (λ (at : t ≡ s). rw at (ap (λ (r : Row). r.back) change.at))
-    (λ (other : t ≢ s). ap (λ (r : Row). r.back) (change.others t other))
-    (cases_eq t s) in
-    record {
-      same_start = change.start;
-      same_states = change.states;
-      raised = ap (λ (r : Row). r.v) change.at;
-      other_v = λ u other. ap (λ (r : Row). r.v) (change.others u other);
-      heads = λ t k below. absurd (omega arith);
-      other_g = λ t none. same_g t;
-      other_back = λ t none. same_back t;
-      fits = λ count fit. record {
-        near_g = λ t inside near. omega (arith, same_g t, fit.near_g t inside (omega (arith, same_g t)));
-        near_v = λ t inside near.
-            ⊎_elim
-            (λ (at : t ≡ s). let far : v_of m t ≡ FAR = rw at (ap (λ (r : Row). r.v) change.at) in absurd (omega arith))
-            (λ (other : t ≢ s).
-            let same : v_of m t ≡ v_of old t = ap (λ (r : Row). r.v) (change.others t other) in
-            omega (arith, fit.near_v t inside (omega arith)))
-            (cases_eq t s);
-      };
-    }
-
 module _ {n : Network} (old : Marks) (s : ℕ) (exact : AreExact n old.start (g_of old) (v_of old) (back_of old))
     (states : states_of old ≡ n.states) where
   -- a state with a back arc is the head of that arc

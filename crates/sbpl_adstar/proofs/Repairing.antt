@@ -38,17 +38,6 @@ pub record AreRepairedBelow (n : Network) (touched : List ℕ) (i : ℕ) (old m 
   pub start_row : row_at m old.start ≡ row_at old old.start
   pub fits : (count : ℕ) → FitCount (states_of old) (g_of old) (v_of old) count → FitCount (states_of old) (g_of m) (v_of m) count
 
-pub repaired_none : {n : Network} {touched : List ℕ} {old : Marks} → AreRepairedBelow n touched 0 old old
-repaired_none = record {
-  same_start = refl;
-  same_states = refl;
-  same_v = λ t. refl;
-  recomputed = λ t j below. absurd (omega arith);
-  others = λ t none. refl;
-  start_row = refl;
-  fits = λ count fit. fit;
-}
-
 module _ {n : Network} {touched : List ℕ} {old m m' : Marks} (i : ℕ) where
   -- the next touched state is the start
   pub repaired_start : AreRepairedBelow n touched i old m → slice_index touched i ≡ m.start → m' ≡ m

@@ -21,13 +21,6 @@ label_inside m s x above =
     (λ (past : states_of m ≤ s). absurd (omega (arith, ap (λ (r : Row). r.g) (get_or_past m.rows s no_row past))))
     (cases_lt s (states_of m))
 
-pub over_inside : (m : Marks) (s : ℕ) → IsOver m s → s < states_of m
-over_inside m s over =
-    ⊎_elim
-    (λ (inside : s < states_of m). inside)
-    (λ (past : states_of m ≤ s). absurd (omega (arith, ap (λ (r : Row). r.v) (get_or_past m.rows s no_row past))))
-    (cases_lt s (states_of m))
-
 -- a state with the same labels and the same test is open as before
 pub open_moved : (closed closed' : ℕ → Bool) (m m' : Marks) (s : ℕ) → states_of m' ≡ states_of m → g_of m' s ≡ g_of m s
     → v_of m' s ≡ v_of m s → closed' s ≡ closed s → IsOpen closed m s → IsOpen closed' m' s
@@ -117,16 +110,6 @@ module _ (eps : ℕ) (h : ℕ → ℕ) where
     others = λ u apart. queued_still closed closed' m m' u (frontier.key_at f u) states (rows u apart) (same u apart) (queued.each u);
   }
 
-  -- the same where t was not placed yet
-  pub unplaced_still : (closed closed' : ℕ → Bool) (m m' : Marks) {f : Frontier} (t : ℕ) → AreQueuedBut eps h closed m f t
-      → states_of m' ≡ states_of m → ((u : ℕ) → u ≢ t → row_at m' u ≡ row_at m u) → ((u : ℕ) → u ≢ t → closed' u ≡ closed u)
-      → AreQueuedBut eps h closed' m' f t
-  unplaced_still closed closed' m m' {f} t but states rows same = record {
-    inside = omega (arith, but.inside);
-    states = but.states ∙ sym states;
-    others = λ u apart. queued_still closed closed' m m' u (frontier.key_at f u) states (rows u apart) (same u apart) (but.others u apart);
-  }
-
   -- an arc has lowered its head, or none
   pub relaxed_unplaced : (n : Network) {closed : ℕ → Bool} (m m' : Marks) {f : Frontier} (s k : ℕ) (head : Option ℕ)
       → AreQueued eps h closed m f → IsRelaxed n m m' s k head → IsUnplaced eps h closed m' f head
@@ -134,14 +117,6 @@ module _ (eps : ℕ) (h : ℕ → ℕ) where
   relaxed_unplaced n {closed} m m' s k (Some t) queued relaxed =
       let by : LowersHead n m m' s k t relaxed.0 = relaxed.1 in
       unplaced closed closed m m' t queued (label_inside m t _ by.lower) by.changed.states by.changed.others (λ u apart. refl)
-
-  -- an empty queue is refilled with no states
-  pub refilled_none : {m : Marks} {f : Frontier} → frontier.states_of f ≡ states_of m → IsEmpty f → AreRefilled eps h [] m f
-  refilled_none states empty = record {
-    states = states;
-    among = λ s (is : false ≡ true). absurd (false≢true is);
-    absent = λ s none. empty.none s;
-  }
 
   -- one state more is given its key
   pub refilled_more : {m : Marks} {f f' : Frontier} (steps : List Step) (step : Step) (key : Option (ℕ × ℕ)) → AreRefilled eps h steps m f

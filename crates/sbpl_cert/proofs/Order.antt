@@ -184,9 +184,6 @@ module _ (n : Network) (start goal : ℕ) (s : Section) where
   first_turn : (f : Flaw) → HasFlaw n start goal s f → Clear n start goal s (number_of f) → turn_of goal f ≡ 0 → arc_of f ≡ 0 → IsFirstFlaw n start goal s f
   first_turn f has clear turn arc = first_by f has clear (λ e _ _ before. nothing_earlier e f turn arc before)
 
-  pub first_at_start : g_at s.labels start ≢ 0 → IsFirstFlaw n start goal s (flaw.Start (g_at s.labels start))
-  first_at_start some = first_turn (flaw.Start (g_at s.labels start)) (record { has_is = refl; some = some }) clear_one refl refl
-
   none_before_arc : (u k has most : ℕ) → ((j : ℕ) → j < k → IsArcKept n s.labels u j) → ((v : ℕ) → v < u → (j : ℕ) → IsArcKept n s.labels v j)
       → (e : Flaw) → HasFlaw n start goal s e → number_of e ≡ 2 → IsEarlier goal e (flaw.Arc u k has most) → ⊥
   none_before_arc u k has most arcs states (flaw.Arc v j has' most') off same before =
@@ -202,9 +199,6 @@ module _ (n : Network) (start goal : ℕ) (s : Section) where
       let g : Flaw = flaw.Arc u k off.0 off.1 in
       let first : IsFirstFlaw n start goal s g = first_by g off.3 clear (none_before_arc u k off.0 off.1 at.2 w.2) in
       subst (λ (x : Flaw). IsFirstFlaw n start goal s x) (sym off.2) first
-
-  pub first_at_goal_guide : Clear n start goal s 3 → h_at s.labels goal ≢ 0 → IsFirstFlaw n start goal s (flaw.GoalGuide (h_at s.labels goal))
-  first_at_goal_guide clear some = first_turn (flaw.GoalGuide (h_at s.labels goal)) (record { has_is = refl; some = some }) clear refl refl
 
   none_before_guide : (u k has most : ℕ) → h_at s.labels goal ≡ 0 → ((j : ℕ) → j < k → IsGuideKept n s.labels u j) → ((v : ℕ) → v < u → (j : ℕ) → IsGuideKept n s.labels v j)
       → (e : Flaw) → HasFlaw n start goal s e → number_of e ≡ 3 → IsEarlier goal e (flaw.Guide u k has most) → ⊥

@@ -94,9 +94,6 @@ arcs_words (k ∷ ks) small =
     let n = number_word k (let lt = small 0 (omega arith) in omega arith) in
     (n.0, n.1, arcs_words ks (λ i lt. small (suc i) (omega arith)))
 
-a_plain_word : (w : List ℕ) → IsWord w → IsWord w × Means (a_word w) w
-a_plain_word w is = (is, refl)
-
 outcome_means : (o : Outcome) (arcs : List ℕ) (place : ℕ) (behind : List ℕ) → IsOutcome o → HasArcs o arcs
     → AreMeant (spelled_outcome o arcs) (tokens_past true place (line_text (outcome_line o arcs) ++ behind)) (tokens_past true (place + length (line_text (outcome_line o arcs))) behind)
 unfolding AreWords

@@ -13,13 +13,6 @@ pub record IsFirstArc (n : Network) (s k : ℕ) : Type 0 where
   pub number : k < n.fan s
   pub head : IsSome (n.head s k)
 
-pub first_arc : (n : Network) (s k : ℕ) (ks : List ℕ) → IsPathFrom n s (k ∷ ks) → IsFirstArc n s k
-first_arc n s k ks path = record {
-  state = path.2.3.source;
-  number = path.2.3.number;
-  head = subst (λ o. IsSome o) (sym path.2.3.head) refl;
-}
-
 -- behind the first arc the path goes on from its head
 pub path_behind : (n : Network) (s k u : ℕ) (ks : List ℕ) → IsPathFrom n s (k ∷ ks) → n.head s k ≡ Some u → IsPathFrom n u ks
 path_behind n s k u ks path head =

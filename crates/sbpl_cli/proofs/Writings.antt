@@ -59,10 +59,6 @@ one_cut a b f g name text grows stay rose = record {
   made = one_made a b name grows.front grows.written stay;
 }
 
--- no write, for want of memory
-pub none_stopped : (a b : Told) (ws : List Write) → Stays a b → IsStoppedAt a b ws
-none_stopped a b ws same = record { first = []; rest = ws; whole = refl; made = none_made a b same }
-
 -- a write that finds no memory writes nothing
 pub none_kept : (a b : Told) (name : List ℕ) → Keeps (a name) (b name) → ((other : List ℕ) → other ≢ name → b other ≡ a other) → AreMade a b []
 none_kept a b name kept stay = record { grown = λ other. under (bytes_eq name other) other (bytes_eq-Decides name other) }
@@ -124,19 +120,11 @@ ends_behind T a b c f g h ws vs (Ok x) p low q = made_both a b c ws vs p q
 ends_behind T a b c f g h ws vs (Err Failed) p low q = cut_behind a b c f g h ws vs p low q
 ends_behind T a b c f g h ws vs (Err NoMemory) p low q = stopped_behind a b c ws vs p q
 
--- want of memory behind these writes
-pub stopped_after : (a b : Told) (ws vs : List Write) → AreMade a b ws → IsStoppedAt a b (ws ++ vs)
-stopped_after a b ws vs p = record { first = ws; rest = vs; whole = refl; made = p }
-
 -- the status that answers how writing ended
 pub status_ends : (a b : Told) (f g : FaultCounts) (ws : List Write) (wanted status : ℕ) (r : Result (Unit {0}) WriteStop) → EndsIn {T = Unit {0}} a b f g ws r → status ≡ status_after wanted r → EndsAs a b f g ws wanted status
 status_ends a b f g ws wanted status (Ok x) p is = inl (is, p)
 status_ends a b f g ws wanted status (Err Failed) p is = inr (inl (is, p))
 status_ends a b f g ws wanted status (Err NoMemory) p is = inr (inr (is, p))
-
--- want of memory before anything was written
-pub memory_ends : (a b : Told) (f g : FaultCounts) (ws : List Write) (wanted : ℕ) → Stays a b → EndsAs a b f g ws wanted 9
-memory_ends a b f g ws wanted same = inr (inr (refl, none_stopped a b ws same))
 
 -- nothing was written before
 pub ends_since : (a b c : Told) (f g h : FaultCounts) (ws : List Write) (wanted status : ℕ) → Stays a b → NoneFalls f g → EndsAs b c g h ws wanted status → EndsAs a c f h ws wanted status

@@ -74,10 +74,6 @@ known_where_equal known n c within h =
     let by_column : ℤ → Cell = λ x. record { y = c.y; x = x } in
     (n, slice_get-get_or known n (record { y = pos 0; x = pos 0 }) within ∙ ap (λ z. Some z) (ap by_row row ∙ ap by_column column))
 
--- no cells yet
-pub added_none : (old known : List Cell) → AddsOthers old [] known old
-added_none old known = record { kept = λ x h. h; each = λ x h. inl h; all = λ x h. absurd (none-some x h.1) }
-
 -- a list of one cell has that cell
 one_listed : (end c : Cell) → IsAmong (end ∷ []) c → end ≡ c
 one_listed end c (zero, h) = same_Some end c h

@@ -25,13 +25,3 @@ time-some cell headings way turn prim is goes turns = elim (cases_lt 0 (way_leng
   | inl lt ↦ let h = goes lt in omega arith
   | inr le ↦ let h = turns (is.moves (AreAtOnePoint-none prim.poses (omega arith))) in omega arith
 ]
-
--- one primitive of a file has no more poses than all of them
-pub pose_count-few : (ps : Primitives) (i : ℕ) (prim : Primitive) → ArePrimitives ps → slice_get ps.items i ≡ Some prim → pose_count prim ≤ 200000
-pose_count-few ps i prim are here =
-    let within = slice_get_within ps.items i prim here in
-    let le = get_or-le-sum_by pose_count ps.items i prim within in
-    let is = get_or_from_slice_get ps.items i prim prim here in
-    let few = are.poses in
-    let all = rw is at le in
-    omega arith

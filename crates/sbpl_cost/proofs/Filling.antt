@@ -36,10 +36,6 @@ places_more test xs i x h =
 pub map_more : {X Y : Type 0} (f : X → Y) (xs : List X) (i : ℕ) (x : X) → slice_get xs i ≡ Some x → map f (take (i + 1) xs) ≡ map f (take i xs) ++ f x ∷ []
 map_more f xs i x h = ap (map f) (take_next xs i x h) ∙ map-append f (take i xs) (x ∷ [])
 
--- a term of a sum is at most the sum
-pub term_le_sum : {X : Type 0} (f : X → ℕ) (xs : List X) (i : ℕ) (x : X) → slice_get xs i ≡ Some x → f x ≤ sum_by f xs
-term_le_sum f xs i x h = subst (λ z. f z ≤ sum_by f xs) (get_or_from_slice_get xs i x x h) (get_or-le-sum_by f xs i x (slice_get_within xs i x h))
-
 pub places_yes : {X : Type 0} (test : X → Bool) (xs : List X) (i : ℕ) (x : X) → slice_get xs i ≡ Some x → test x ≡ true
     → places_from test 0 (take (i + 1) xs) ≡ places_from test 0 (take i xs) ++ i ∷ []
 places_yes test xs i x h passes = places_more test xs i x h ∙ ap (λ b. places_from test 0 (take i xs) ++ cond b (i ∷ []) []) passes

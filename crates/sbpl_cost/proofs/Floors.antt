@@ -20,13 +20,6 @@ floor_le n c d a b some_d some_b less =
     let three : q * b * d ≤ n * a * d = omega (arith, one, two) in
     le-div q (n * a) b some_b (le_of_mul-le-mul_right three some_d)
 
--- more cells have no lesser floor
-pub floor_more : (n m c d : ℕ) → n ≤ m → 1 ≤ d → n * c / d ≤ m * c / d
-floor_more n m c d less some =
-    let low : n * c / d * d ≤ n * c = div-mul-le_self (n * c) d in
-    let high : n * c ≤ m * c = mul-le-mul_right c less in
-    le-div (n * c / d) (m * c) d some (omega (arith, low, high))
-
 -- a step of g cells that costs k or more lowers the floor by k at most
 pub floor_step : (n m g k c d : ℕ) → n ≤ m + g → 1 ≤ d → c * g ≤ k * d → n * c / d ≤ k + m * c / d
 floor_step n m g k c d less some dear =

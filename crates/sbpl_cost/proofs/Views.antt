@@ -60,9 +60,6 @@ number_below w s k t same h = subst (λ n. k < length (leaving w.prims.items n))
 pub state_below : (w : World) (s : ℕ) → s < (network_of w).states → s < state_count w.env
 state_below w s h = subst (λ n. s < n) (states_are w) h
 
-pub state_above : (w : World) (s : ℕ) → s < state_count w.env → s < (network_of w).states
-state_above w s h = subst (λ n. s < n) (sym (states_are w)) h
-
 -- the motion of an arc, by the primitive that was read
 pub found_prim : (w : World) (s k t place : ℕ) (p : Primitive) → IsWorld w → t ≡ (place_of w.env s).t → slice_get (leaving w.prims.items t) k ≡ Some place → slice_get w.prims.items place ≡ Some p → IsFound w s k place p
 found_prim w s k t place p is_world same h at =

@@ -9,7 +9,8 @@ use Rattle.sbpl_cfg.specs.declared.pose.Pose.{Pose}
 use Rattle.sbpl_cfg.specs.Environment.{IsWithin}
 use Rattle.sbpl_mprim.specs.Primitives.{AreAtOnePoint}
 use Rattle.sbpl_cost.specs.PrimitiveCost.{squared_distance, distance, way_length}
-use Rattle.sbpl_cost.proofs.RoundedUp.{square_mono, root_above-least}
+use Rattle.sbpl_cost.proofs.RoundedUp.{root_above-least}
+use Rattle.sbpl_fixed.proofs.Roots.{square_mono}
 
 -- coordinates in range are at most 2000 metres apart
 pub apart-le : (a b : ℤ) → IsWithin (negsuc 999999999999) (pos 1000000000000) a → IsWithin (negsuc 999999999999) (pos 1000000000000) b → unsigned_abs (a -ℤ b) ≤ 2000000000000

@@ -71,14 +71,6 @@ nine_digits ds e =
 pub nine_below : (ds : List ℕ) → all_digits ds ≡ true → number_of (nine_decimals ds) < 10 ^ 9
 nine_below ds e = digits_below 0 (nine_decimals ds) (nine_digits ds e)
 
--- a number above the limit may be capped above the limit
-pub sized_capped : (minus : Bool) (n : ℕ) → sized minus (min (most + 1) n) ≡ sized minus n
-sized_capped minus n =
-    elim (cases_lt most n) [
-      | inl lt ↦ let over : min (most + 1) n ≡ most + 1 = omega arith in rw (over, lt-leb n most) refl
-      | inr le ↦ ap (sized minus) (omega arith)
-    ]
-
 pub sized_nano_capped : (minus : Bool) (w d : ℕ) → sized minus (min (10 ^ 9 + 1) w * 10 ^ 9 + d) ≡ sized minus (w * 10 ^ 9 + d)
 sized_nano_capped minus w d =
     elim (cases_lt (10 ^ 9 + 1) w) [

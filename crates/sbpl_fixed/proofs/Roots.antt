@@ -8,14 +8,6 @@ use Rattle.std.proofs.lemmas.Grind.{one_shifted, pow_more}
 pub square_mono : (a b : ℕ) → a ≤ b → a * a ≤ b * b
 square_mono a b h = mul-le a a b b h h
 
--- what is below a number whose square is too small is too small
-pub least_root : (n low high r : ℕ) → low * low < n → high ≤ low + 1 → n ≤ r * r → high ≤ r
-least_root n low high r small next enough =
-    elim (cases_lt low r) [
-      | inl lt ↦ omega arith
-      | inr le ↦ absurd (let s = square_mono r low le in omega arith)
-    ]
-
 pub short_power : (m b : ℕ) → 2 ^ b ≤ m → m < 2 ^ 126 → b < 126
 short_power m b small high =
     elim (cases_lt b 126) [

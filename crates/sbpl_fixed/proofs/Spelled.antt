@@ -35,10 +35,3 @@ pub record Spaced : Type 0 where
 abbrev pub written : List Spaced → List ℕ
 written [] = []
 written (w ∷ ws) = w.word ++ w.blank ∷ written ws
-
--- the words are the expected tokens
-abbrev pub AreSpelledBy : List Expected → List Spaced → Type 0
-AreSpelledBy [] [] = Unit {0}
-AreSpelledBy [] (w ∷ ws) = ⊥
-AreSpelledBy (e ∷ es) [] = ⊥
-AreSpelledBy (e ∷ es) (w ∷ ws) = IsWord w.word × (is_blank w.blank ≡ true) × (e.item w.word ≡ Ok e.value) × AreSpelledBy es ws

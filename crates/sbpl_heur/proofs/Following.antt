@@ -11,9 +11,6 @@ pub record AreWrittenBelow (old new : Board) (costs : List ℕ) (i : ℕ) : Type
   pub size : length new.costs ≡ length old.costs
   pub same : (j : ℕ) → j < i → slice_index new.costs j ≡ slice_index costs j
 
-pub none_written : (b : Board) (costs : List ℕ) → AreWrittenBelow b b costs 0
-none_written b costs = record { rest = refl; size = refl; same = λ j below. absurd (omega arith) }
-
 -- a cost that is there already, and one that is written
 pub kept_written : (old b : Board) (costs : List ℕ) (i : ℕ) → slice_index b.costs i ≡ slice_index costs i → AreWrittenBelow old b costs i → AreWrittenBelow old b costs (i + 1)
 kept_written old b costs i here are = record {

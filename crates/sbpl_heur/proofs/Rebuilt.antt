@@ -46,9 +46,6 @@ module _ (w : World) (is_world : IsWorld w) (arcs : HasLatticeArcs (network_of w
   cell_inside : (s : ℕ) → s < (network_of w).states → s / w.env.headings < w.map.width * w.map.height
   cell_inside s state = omega (arith, cell_below w s w.env.headings refl some state, cells_are)
 
-  bound_at : ℕ → ℕ
-  bound_at a = min (slice_index distances a) cut.far
-
   cell_value : (a : ℕ) → a < w.map.width * w.map.height → slice_index b.cells a ≡ cut_to w goal cut.far a (slice_index distances a)
   cell_value a within = cut.values a (omega (arith, within, entries))
 

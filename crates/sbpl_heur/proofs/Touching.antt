@@ -84,38 +84,6 @@ pub record AreTouchedBelow (b : Board) (cell n : ℕ) (touched : List ℕ) : Typ
   pub itself : Contains touched cell
   pub heads : (k t : ℕ) → k < n → board_head b cell k ≡ Some t → Contains touched t
 
-pub first_touched : (b : Board) (cell : ℕ) → cell < cell_count b → AreTouchedBelow b cell 0 ([] ++ cell ∷ [])
-first_touched b cell inside = record {
-  inside = All-push (λ t. t < cell_count b + 1) [] cell (All-nil (λ (t : ℕ). t < cell_count b + 1)) (omega arith);
-  itself = Contains-push [] cell;
-  heads = λ k t below head. absurd (omega arith);
-}
-
-pub more_touched : (b : Board) (cell n t : ℕ) (touched : List ℕ) → board_head b cell n ≡ Some t → t < cell_count b + 1 → AreTouchedBelow b cell n touched → AreTouchedBelow b cell (n + 1) (touched ++ t ∷ [])
-more_touched b cell n t touched head inside are = record {
-  inside = All-push (λ u. u < cell_count b + 1) touched t are.inside inside;
-  itself = Contains-append_left touched (t ∷ []) cell are.itself;
-  heads = λ k u below is. elim (cases_eq k n) [
-    | inl same ↦
-        let one : t ≡ u = same_Some t u (sym head ∙ ap (board_head b cell) (sym same) ∙ is) in
-        subst (λ x. Contains (touched ++ t ∷ []) x) one (Contains-push touched t)
-    | inr beside ↦ Contains-append_left touched (t ∷ []) u (are.heads k u (omega arith) is)
-  ];
-}
-
-pub same_touched : (b : Board) (cell n : ℕ) (touched : List ℕ) → board_head b cell n ≡ None → AreTouchedBelow b cell n touched → AreTouchedBelow b cell (n + 1) touched
-same_touched b cell n touched head are = record {
-  inside = are.inside;
-  itself = are.itself;
-  heads = λ k u below is. elim (cases_eq k n) [
-    | inl same ↦ absurd (none-some u (sym head ∙ ap (board_head b cell) (sym same) ∙ is))
-    | inr beside ↦ are.heads k u (omega arith) is
-  ];
-}
-
-pub all_touched : (b : Board) (cell : ℕ) (touched : List ℕ) → AreTouchedBelow b cell (length b.hops) touched → AreTouched b cell touched
-all_touched b cell touched are = record { inside = are.inside; itself = are.itself; heads = are.heads }
-
 -- labels that fit a count fit a greater one
 pub fits_more : (states : ℕ) (g v : ℕ → ℕ) (few many : ℕ) → few ≤ many → FitCount states g v few → FitCount states g v many
 fits_more states g v few many low fits =

@@ -192,9 +192,6 @@ same_bytes x y same = (bytes_eq-Decides x y).1 same
 abbrev pub name_of : Setting → Text
 name_of s = 45 ∷ (45 ∷ id_of s)
 
-plain_index : (k : ℕ) (id : Text) → (plain_built k id).index ≡ Some (k + 1)
-plain_index k id = refl
-
 -- plain words differ in their names, and settings differ from them
 pub plains_apart : (c : Command) (k j : ℕ) (a b : Text) → k < j → plain_id c k ≡ Some a → plain_id c j ≡ Some b → bytes_eq a b ≡ false
 plains_apart c k j a b lt is_a is_b = differ a b (λ same.

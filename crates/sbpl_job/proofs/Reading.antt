@@ -27,7 +27,7 @@ use Rattle.sbpl_job.specs.Words.{Parts, are_fit, id_of, is_known, is_plain_word,
 use Rattle.sbpl_job.specs.Lines.{app, plain_id, rules}
 use Rattle.sbpl_job.specs.Found.{FindsParts, IsFound, word_at}
 use Rattle.sbpl_job.specs.Jobs.{Settings, job_by, job_with}
-use Rattle.sbpl_job.proofs.Finding.{Finds, IsFresh, Refuses, Uses, Walks, after_name, after_plain, at, bytes_apart, has_no_place, has_place, places, plain_from_setting, plains_apart, row_of_use, settles_none, shape, some_is, uses, walks}
+use Rattle.sbpl_job.proofs.Finding.{Uses, Walks, after_name, after_plain, at, bytes_apart, has_no_place, has_place, places, plain_from_setting, plains_apart, row_of_use, settles_none, shape, some_is, uses, walks}
 
 -- ---- the uses and the parts
 

@@ -126,20 +126,6 @@ pub record Walking (n : Network) (g v : ℕ → ℕ) (back : ℕ → Option (ℕ
   pub before : (i u : ℕ) → i < length arcs → chain_at back goal i ≡ Some u → g u ≤ v u
   pub counted : length arcs ≤ above g (least_of g v here) n.states
 
--- it begins at the goal
-pub walk_begins : {n : Network} {g v : ℕ → ℕ} {back : ℕ → Option (ℕ × ℕ)} {goal : ℕ} → goal < n.states → g goal < FAR
-    → Walking n g v back goal goal 0 []
-walk_begins inside near = record {
-  inside = inside;
-  near = omega arith;
-  paid = omega arith;
-  path = (refl, refl);
-  followed = refl;
-  place = refl;
-  before = λ i u before on. absurd (omega arith);
-  counted = omega arith;
-}
-
 module _ {n : Network} {start : ℕ} {g v : ℕ → ℕ} {back : ℕ → Option (ℕ × ℕ)} {goal here cost : ℕ} {arcs : List ℕ}
     (exact : AreExact n start g v back) (walking : Walking n g v back goal here cost arcs) (over : g here ≤ v here) where
   -- the back arc of a state on the walk gives its label

@@ -9,24 +9,12 @@ use Rattle.sbpl_plan.specs.Looking.{IsStartFresh}
 use Rattle.sbpl_plan.specs.Passing.{Inquiry, expansions}
 use Rattle.sbpl_plan.specs.Stopped.{IsStopped}
 use Rattle.sbpl_plan.specs.Turns.{IsTurn}
-use Rattle.sbpl_plan.proofs.Planning.{AreGoingOn, grows_by_none, grows_twice}
+use Rattle.sbpl_plan.proofs.Planning.{AreGoingOn, grows_twice}
 
 -- what holds anyway holds where memory ran out
 pub on_err : {A E : Type 0} (r : Result A E) (P : Type 0) → P → OnErr r P
 on_err (Ok x) P h = tt
 on_err (Err e) P h = h
-
--- before the first pass
-pub stopped_at_first : (ready : Marks → ℕ → Type 0) (old : Search) (before : Counts) → ready old.labels before.run → IsStartFresh old.labels → IsStopped ready old old before before
-stopped_at_first ready old before is_ready fresh = record {
-  is_ready = is_ready;
-  fresh = fresh;
-  start = refl;
-  states = refl;
-  same_goal = refl;
-  expanded = 0;
-  counted = grows_by_none before;
-}
 
 -- in a pass behind others
 pub stopped_in_turn : (ready : Marks → ℕ → Type 0) (most : ℕ) (q : Inquiry) (old now new : Search) (before mid after : Counts) (passes : List Pass) (eps : ℕ)

@@ -29,10 +29,6 @@ fits_more states count more g v low fits = record {
   near_v = λ s inside near. let most : v s + 4294967295 ≤ count * 4294967295 = fits.near_v s inside near in omega arith;
 }
 
-pub begins_later : (repairs : Bool) (n : Network) (m : Marks) (count more : ℕ) → count ≤ more → MayBegin repairs n m count → MayBegin repairs n m more
-begins_later true n m count more low is = record { states = is.states; exact = is.exact; fits = fits_more _ _ _ _ _ low is.fits }
-begins_later false n m count more low is = record { states = is.states; exact = is.exact; none_under = is.none_under; fits = fits_more _ _ _ _ _ low is.fits }
-
 -- a state that is not touched is exact on the new graph as it was on the old one
 pub untouched_is_exact : ExactWhereSame → (n n' : Network) (m : Marks) (touched : List ℕ) → states_of m ≡ n.states → AreExact n m.start (g_of m) (v_of m) (back_of m) → KeepArcsElsewhere n n' touched
     → (t : ℕ) → t < states_of m → t ≢ m.start → (Contains touched t → ⊥) → IsExactAt n' (v_of m) t (g_of m t) (back_of m t)
@@ -43,10 +39,6 @@ untouched_is_exact law n n' m touched states exact kept t inside apart none =
 -- states that are touched are states
 pub all_inside : (touched : List ℕ) (states : ℕ) → ((t : ℕ) → Contains touched t → t < states) → (k d : ℕ) → k < length touched → slice_index_or touched k d < states
 all_inside touched states inside k d here = inside (slice_index_or touched k d) (k, here, get_or_default touched k (slice_index_or touched k d) d here)
-
-pub same_fresh : (old new : Marks) → new.start ≡ old.start → ((t : ℕ) → v_of new t ≡ v_of old t) → IsStartFresh old → IsStartFresh new
-same_fresh old new start same (inl far) = inl (ap (λ (s : ℕ). v_of new s) start ∙ same old.start ∙ far)
-same_fresh old new start same (inr zero) = inr (ap (λ (s : ℕ). v_of new s) start ∙ same old.start ∙ zero)
 
 pub usable_after : (n n' : Network) (old new : Marks) (count : ℕ) → n'.states ≡ n.states → states_of new ≡ states_of old → AreExact n' new.start (g_of new) (v_of new) (back_of new)
     → ((count : ℕ) → FitCount (states_of old) (g_of old) (v_of old) count → FitCount (states_of old) (g_of new) (v_of new) count) → AreUsable n old count → AreUsable n' new count

@@ -53,28 +53,6 @@ cut_push items more (a ∷ starts) e kept end =
     let whole = ap (take (e - slice_index (a ∷ starts) (length starts))) rest ∙ take_all (e - slice_index (a ∷ starts) (length starts)) more enough in
     cut_after_push items more a starts e kept.inside ∙ ap (λ l. cut_after items a starts ++ l ∷ []) whole
 
-pub is_cut_push : {X : Type 0} (items more : List X) (starts : List ℕ) (e : ℕ) → IsCut (length items) starts → e ≡ length (items ++ more) → IsCut e (starts ++ e ∷ [])
-is_cut_push items more starts e kept end =
-    let longer = length-append items more in
-    let one_more = length_push starts e in
-    let old = λ (i : ℕ) (h : i < length starts). get_or_append_left starts (e ∷ []) 0 i h in
-    let new = λ (i : ℕ) (h : length starts ≡ i). get_or_push starts e 0 i h in
-    record {
-      some = omega (arith, one_more);
-      rising = λ i h. elim (cases_lt (i + 1) (length starts)) [
-        | inl before ↦ omega (arith, old i (omega arith), old (i + 1) before, kept.rising i before)
-        | inr last ↦ omega (arith, old i (omega (arith, one_more, kept.some)), new (i + 1) (omega (arith, one_more)), kept.inside i)
-      ];
-      inside = λ i. elim (cases_lt i (length starts)) [
-        | inl before ↦ omega (arith, old i before, kept.inside i)
-        | inr after ↦ elim (cases_lt (length starts) i) [
-          | inl past ↦ omega (arith, get_or_past (starts ++ e ∷ []) i 0 (omega (arith, one_more)))
-          | inr last ↦ omega (arith, new i (omega arith))
-        ]
-      ];
-      whole = new (length (starts ++ e ∷ []) - 1) (omega (arith, one_more));
-    }
-
 -- where the list with a number lies
 pub record LiesAt {X : Type 0} (items : List X) (starts : List ℕ) (lists : List (List X)) (i : ℕ) : Type 0 where
   pub next : i + 1 < length starts

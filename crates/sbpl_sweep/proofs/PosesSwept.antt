@@ -28,14 +28,6 @@ pub record AreSweptBefore (cell : ℤ) (radius : ℕ) (poses : List Pose) (k : �
   pub near : (j : ℕ) (p : Pose) (x y : ℤ) → j < k → slice_get poses j ≡ Some p → IsNear cell radius p x y → IsCovered bands x y
   pub bounded : AreBounded bands
 
-pub swept_none : (cell : ℤ) (radius : ℕ) (poses : List Pose) → AreSweptBefore cell radius poses 0 []
-swept_none cell radius poses = record {
-  each = λ x y c. absurd (none-some _ c.stands);
-  own = λ j p x y h at own. absurd (omega arith);
-  near = λ j p x y h at near. absurd (omega arith);
-  bounded = λ x y c. absurd (none-some _ c.stands);
-}
-
 pub swept_of : (cell : ℤ) (radius : ℕ) (poses : List Pose) (j : ℕ) (p : Pose) (x y : ℤ) → slice_get poses j ≡ Some p → IsOwn cell p x y ⊎ IsNear cell radius p x y → IsSwept cell radius poses x y
 swept_of cell radius poses j p x y at (inl own) = inl (record { number = j; pose = p; stands = at; column = own.0; row = own.1 })
 swept_of cell radius poses j p x y at (inr near) = inr (record { number = j; pose = p; stands = at; near = near })

@@ -86,14 +86,6 @@ reads_added prim cells old mid new ordered (inr (pushed, away)) added = record {
 
 -- ---- motion by motion
 
-pub none_read : (table : List (List Cell)) → AreReadsOf table 0 []
-none_read table = record {
-  each = λ j r at. absurd (none-some r at);
-  all = λ i cells c h there read. absurd (omega arith);
-  once = λ j k r at_j at_k. absurd (none-some r at_j);
-  few = omega arith;
-}
-
 module _ (table : List (List Cell)) (n : ℕ) (old new : List Read) (cells : List Cell) (at : slice_get table n ≡ Some cells) (so_far : AreReadsOf table n old) (adds : AddsReads n cells old new) where
   -- a read stands in the front or is one of the last motion's
   where_read : (j : ℕ) (r : Read) → slice_get new j ≡ Some r → (slice_get old j ≡ Some r) ⊎ ((i : ℕ) × (j ≡ length old + i) × ((c : Cell) × (slice_get adds.cells i ≡ Some c) × (read_by n c ≡ r)))
@@ -168,9 +160,6 @@ module _ (table : List (List Cell)) (n : ℕ) (old new : List Read) (cells : Lis
         let sum = ap (sum_by cell_count) (take_next table n cells at) ∙ sum_by_push cell_count (take n table) cells in
         omega (arith, count, same, sum, so_far.few, adds.are.few);
   }
-
-pub all_reads : (table : List (List Cell)) (n m : ℕ) (reads : List Read) → n ≡ m → AreReadsOf table n reads → AreReadsOf table m reads
-all_reads table n m reads same h = subst (λ k. AreReadsOf table k reads) same h
 
 -- ---- the reads of primitives
 

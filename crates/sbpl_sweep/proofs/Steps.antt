@@ -12,11 +12,6 @@ pub quotient_within : (z : ℤ) (n m : ℕ) → 1 ≤ n → IsWithin (negsuc m) 
 quotient_within (pos a) n m some h = let le : a / n ≤ a = div-le_self a n in (omega (arith, ints, h.1), omega (arith, ints, h.1))
 quotient_within (negsuc a) n m some h = let le : a / n ≤ a = div-le_self a n in (omega (arith, ints, h.0), omega (arith, ints, h.0))
 
--- a number is as many times a divisor as the quotient says, and the rest
-pub quotient_and_rest : (z : ℤ) (n r : ℕ) → 1 ≤ n → int_rem_euclid z (pos n) ≡ pos r → ((pos n *ℤ int_div_euclid z (pos n)) +ℤ pos r ≡ z) × (r < n)
-quotient_and_rest (pos a) n r some h = (omega (arith, ints, h), omega (arith, ints, h))
-quotient_and_rest (negsuc a) n r some h = (omega (arith, ints, h), omega (arith, ints, h))
-
 -- the greater of two numbers has the greater square
 pub square_le : (a b : ℕ) → a ≤ b → a * a ≤ b * b
 square_le a b h = mul-le-mul h h

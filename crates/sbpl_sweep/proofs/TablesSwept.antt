@@ -24,15 +24,6 @@ pub record IsTabled (prims : Primitives) (radius i : ℕ) (table : List (List Ce
   pub few : total ≤ most_cells_together
   pub narrow : (j : ℕ) → j < i → IsTooWide prims radius j → ⊥
 
-pub tabled_none : (prims : Primitives) (radius : ℕ) → IsTabled prims radius 0 [] 0
-tabled_none prims radius = record {
-  count = refl;
-  each = λ k p cells at there. absurd (none-some cells there);
-  total_is = refl;
-  few = omega arith;
-  narrow = λ j h wide. absurd (omega arith);
-}
-
 -- no list of swept cells is longer than that of all
 some_no_more : (cell : ℤ) (radius : ℕ) (poses : List Pose) (some all : List Cell) → AreSomeSwept cell radius poses some → AreFewSwept cell radius poses all → length some ≤ length all
 some_no_more cell radius poses some all are_some are_all =

@@ -1,5 +1,5 @@
 use Rattle.std.proofs.Common.{◌≤◌, SFits, w64, to_z-of_z, arith}
-use Rattle.sbpl_cost.proofs.RoundedUp.{square_mono}
+use Rattle.sbpl_fixed.proofs.Roots.{square_mono}
 use Rattle.sbpl_cost.proofs.Ways.{apart-le}
 use Rattle.sbpl_cost.proofs.primitive_cost.squared_difference.Goals as goal
 
