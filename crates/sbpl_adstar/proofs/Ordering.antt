@@ -40,6 +40,13 @@ pub record AreOrdered (h : ℕ → ℕ) (closed : ℕ → Bool) (m : Marks) : Ty
   pub settled : (x : ℕ) → closed x ≡ true → v_of m x ≡ g_of m x
   pub behind : (x u : ℕ) → closed x ≡ true → IsOpen closed m u → IsNoLater (g_of m x) (h x) (low_of m u) (h u)
 
+-- at first no state is closed
+pub ordered_none : {h : ℕ → ℕ} {closed : ℕ → Bool} {m : Marks} → ((x : ℕ) → closed x ≡ false) → AreOrdered h closed m
+ordered_none none = record {
+  settled = λ x is. absurd (true≢false (sym is ∙ none x));
+  behind = λ x u is open_u. absurd (true≢false (sym is ∙ none x));
+}
+
 -- the key of an underconsistent state
 pub key_under : (eps : ℕ) (h : ℕ → ℕ) (m : Marks) (s : ℕ) → IsUnder m s → key_at eps h m s ≡ (1000 * (v_of m s + h s), v_of m s)
 key_under eps h m s under = grind (arith, nat_tests)

@@ -11,11 +11,11 @@ use Rattle.sbpl_ara.specs.Queue.{AreQueued}
 use Rattle.sbpl_ara.specs.Run.{Query, IsOver, IsUnder, IsNext, IsRun, IsStep, LowersHeads, RaisesState, none_closed, closed_with, closed_after}
 use Rattle.sbpl_ara.specs.Search.{Search, AreUsable}
 use Rattle.sbpl_ara.proofs.Closing.{closed_after_push}
-use Rattle.sbpl_ara.proofs.Passing.{closed_by, counts_more, ordered_alike}
+use Rattle.sbpl_ara.proofs.Opening.{open_alike}
+use Rattle.sbpl_ara.proofs.Passing.{closed_by, counts_more}
 use Rattle.sbpl_adstar.specs.Taken.{IsTaken, step_of}
 use Rattle.sbpl_adstar.proofs.Counting.{AreCounted, left, left_near, left_lowered, left_raised, counted_none, counted_more, counted_room}
-use Rattle.sbpl_adstar.proofs.Ordering.{AreOrdered, ordered_lowered, ordered_raised}
-use Rattle.sbpl_ara.proofs.Ordering.{ordered_none}
+use Rattle.sbpl_adstar.proofs.Ordering.{AreOrdered, ordered_none, ordered_lowered, ordered_raised}
 
 -- a pass that began from the old search and counts is now here
 pub record IsPassing (q : Query) (old now : Search) (before counts : Counts) : Type 0 where
@@ -35,6 +35,14 @@ pub run_push : (q : Query) (closed : ℕ → Bool) (steps : List Step) (old m ne
 run_push q closed [] old m new step is next by = (new, rw (← is) next, rw (← is) by, refl)
 run_push q closed (first ∷ rest) old m new step run next by =
     (run.0, run.1, run.2, run_push q (closed_with first closed) rest run.0 m new step run.3 next by)
+
+-- what is ordered by one test is ordered by another that answers alike
+ordered_alike : {h : ℕ → ℕ} {closed closed' : ℕ → Bool} {m : Marks} → ((u : ℕ) → closed u ≡ closed' u) → AreOrdered h closed m
+    → AreOrdered h closed' m
+ordered_alike {closed = closed} {closed' = closed'} same ordered = record {
+  settled = λ x is. ordered.settled x (same x ∙ is);
+  behind = λ x u is open_u. ordered.behind x u (same x ∙ is) (open_alike closed' closed (λ y. sym (same y)) open_u);
+}
 
 -- at its beginning no step was made
 pub passing_none : {q : Query} {old now : Search} {counts : Counts} → now.labels ≡ old.labels → now.goal ≡ old.goal → now.trace ≡ []

@@ -53,7 +53,7 @@ counts_more before counts counts' steps steps' was spent more =
     rw (spent, was, plan, run) refl
 
 -- what is ordered by one test is ordered by another that answers alike
-pub ordered_alike : {h : ℕ → ℕ} {closed closed' : ℕ → Bool} {m : Marks} → ((u : ℕ) → closed u ≡ closed' u) → AreOrdered h closed m
+ordered_alike : {h : ℕ → ℕ} {closed closed' : ℕ → Bool} {m : Marks} → ((u : ℕ) → closed u ≡ closed' u) → AreOrdered h closed m
     → AreOrdered h closed' m
 ordered_alike {closed = closed} {closed' = closed'} same ordered = record {
   settled = λ x is. ordered.settled x (same x ∙ is);

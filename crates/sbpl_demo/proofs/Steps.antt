@@ -10,7 +10,6 @@ use Rattle.sbpl_map.specs.declared.write.Write.{Write}
 use Rattle.sbpl_demo.specs.Generator.{draw, next_word, word_after}
 use Rattle.sbpl_demo.specs.Environment.{cost_of, costs_drawn}
 use Rattle.sbpl_demo.specs.Changes.{batches, change, writes}
-use Rattle.sbpl_mprim.specs.Printed as prim
 use Rattle.sbpl_demo.specs.Primitives.{backward, far, forward, head_lines, left, motion_head, motion_lines, motions, motions_from, pose_lines, pose_words, primitives_text, right, way_along}
 use Rattle.sbpl_demo.specs.declared.primitives.Motion.{Motion}
 use Rattle.sbpl_fixed.proofs.Lines.{lines_text-append}
@@ -85,43 +84,43 @@ batches_next width height n from =
 
 -- ---- the lines of primitives
 
-pub poses_none : (m : Motion) → prim.lines_text (pose_lines m 0) ≡ []
+pub poses_none : (m : Motion) → lines_text (pose_lines m 0) ≡ []
 unfolding pose_lines
 poses_none m = refl
 
-pub poses_next : (m : Motion) (n : ℕ) → prim.lines_text (pose_lines m (n + 1)) ≡ prim.lines_text (pose_lines m n) ++ prim.line_text (pose_words m n)
+pub poses_next : (m : Motion) (n : ℕ) → lines_text (pose_lines m (n + 1)) ≡ lines_text (pose_lines m n) ++ line_text (pose_words m n)
 unfolding pose_lines
 poses_next m n =
     let next : pose_lines m (n + 1) ≡ pose_lines m n ++ pose_words m n ∷ [] = rw (add-one n) refl in
-    rw (next, flat_map-append prim.line_text (pose_lines m n) (pose_words m n ∷ []), append-nil (prim.line_text (pose_words m n))) refl
+    rw (next, flat_map-append line_text (pose_lines m n) (pose_words m n ∷ []), append-nil (line_text (pose_words m n))) refl
 
-pub motion_written : (m : Motion) → prim.lines_text (motion_lines m) ≡ prim.lines_text (motion_head m) ++ prim.lines_text (pose_lines m 10)
+pub motion_written : (m : Motion) → lines_text (motion_lines m) ≡ lines_text (motion_head m) ++ lines_text (pose_lines m 10)
 unfolding motion_lines
-motion_written m = flat_map-append prim.line_text (motion_head m) (pose_lines m 10)
+motion_written m = flat_map-append line_text (motion_head m) (pose_lines m 10)
 
-pub motions_none : prim.lines_text (flat_map motion_lines (motions 0)) ≡ []
+pub motions_none : lines_text (flat_map motion_lines (motions 0)) ≡ []
 unfolding motions
 motions_none = refl
 
 pub motions_next : (n : ℕ)
-    → prim.lines_text (flat_map motion_lines (motions (n + 1))) ≡ prim.lines_text (flat_map motion_lines (motions n)) ++ prim.lines_text (flat_map motion_lines (motions_from n))
+    → lines_text (flat_map motion_lines (motions (n + 1))) ≡ lines_text (flat_map motion_lines (motions n)) ++ lines_text (flat_map motion_lines (motions_from n))
 unfolding motions
 motions_next n =
     let next : motions (n + 1) ≡ motions n ++ motions_from n = rw (add-one n) refl in
-    rw (next, flat_map-append motion_lines (motions n) (motions_from n)) (flat_map-append prim.line_text (flat_map motion_lines (motions n)) (flat_map motion_lines (motions_from n)))
+    rw (next, flat_map-append motion_lines (motions n) (motions_from n)) (flat_map-append line_text (flat_map motion_lines (motions n)) (flat_map motion_lines (motions_from n)))
 
 -- the five primitives of a heading, one behind the other
-pub five_written : (from : ℕ) → prim.lines_text (flat_map motion_lines (motions_from from))
-    ≡ prim.lines_text (motion_lines (forward from (way_along from)))
-    ++ (prim.lines_text (motion_lines (backward from (way_along from)))
-    ++ (prim.lines_text (motion_lines (left from))
-    ++ (prim.lines_text (motion_lines (right from))
-    ++ prim.lines_text (motion_lines (far from (way_along from))))))
+pub five_written : (from : ℕ) → lines_text (flat_map motion_lines (motions_from from))
+    ≡ lines_text (motion_lines (forward from (way_along from)))
+    ++ (lines_text (motion_lines (backward from (way_along from)))
+    ++ (lines_text (motion_lines (left from))
+    ++ (lines_text (motion_lines (right from))
+    ++ lines_text (motion_lines (far from (way_along from))))))
 unfolding motions_from
 five_written from = simp (flat_map-append, append-nil)
 
-pub file_written : primitives_text ≡ prim.lines_text head_lines ++ prim.lines_text (flat_map motion_lines (motions 16))
-file_written = flat_map-append prim.line_text head_lines (flat_map motion_lines (motions 16))
+pub file_written : primitives_text ≡ lines_text head_lines ++ lines_text (flat_map motion_lines (motions 16))
+file_written = flat_map-append line_text head_lines (flat_map motion_lines (motions 16))
 
 pub digits_none : (a : List ℕ) (count n : ℕ) → count ≡ 0 → a ≡ a ++ last_digits count n
 unfolding last_digits
