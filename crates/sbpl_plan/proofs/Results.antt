@@ -31,6 +31,10 @@ no_path_found n h goal m others found.Broken looks is arcs cost bound path =
     let below : v_of m looks.0.0 < g_of m looks.0.0 = broken.under in
     let kept : g_of m looks.0.0 ≤ v_of m looks.0.0 = path.walk.unbroken broken.place looks.0.0 broken.on_chain in omega arith
 
+-- where there is no path, the labels show none or nothing is known
+pub cut_or_unknown : (n : Network) (h : ℕ → ℕ) (goal : ℕ) (m : Marks) (others : List ℕ) (f : Found) → Looks n h goal m others f → (f ≡ found.None) ⊎ (f ≡ found.Broken) → (IsCutOff (states_of m) goal (g_of m) (v_of m) → ⊥) → IsOutcome n h goal m outcome.Unknown
+cut_or_unknown n h goal m others f looks is not = (not, no_path_found n h goal m others f looks is)
+
 -- the result is true
 pub outcome_is_true : (n : Network) (h : ℕ → ℕ) (goal : ℕ) (m : Marks) (start : ℕ) (o : Outcome) → BoundHolds → NoneHolds → IsSound n → IsConsistent n goal h → states_of m ≡ n.states → AreSupported n m.start (g_of m) (v_of m) → m.start ≡ start → IsOutcome n h goal m o → IsTrueOutcome n start goal o
 outcome_is_true n h goal m start (outcome.Path arcs cost bound) bounds nones sound consistent same supported first path =
