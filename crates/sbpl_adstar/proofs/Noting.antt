@@ -1,19 +1,15 @@
 -- States are noted in the queue one after the other.
-use Rattle.std.proofs.Common.{◌≡◌, ◌≢◌, ℕ, ◌+◌, ◌<◌, Bool, true, false, nat_eq, IsSome, List, [], ◌∷◌, ◌++◌, length, slice_index, arith, ⊎_elim, refl, sym, ◌∙◌, ap}
+use Rattle.std.proofs.Common.{◌≡◌, ◌≢◌, ℕ, ◌+◌, ◌<◌, Bool, true, false, nat_eq, IsSome, List, [], ◌∷◌, ◌++◌, length, slice_index, arith, ⊎_elim, sym, ◌∙◌, ap}
 use Rattle.std.specs.List.{Contains}
-use Rattle.std.proofs.lemmas.Bool.{cases_eq, or_cases, eqb-true, false≢true}
+use Rattle.std.proofs.lemmas.Bool.{cases_eq, or_cases, eqb-true}
 use Rattle.std.proofs.lemmas.List.{get_or_default}
-use Rattle.sbpl_graph.specs.Network.{Network}
-use Rattle.sbpl_labels.specs.declared.row.Row.{Row}
 use Rattle.sbpl_labels.specs.Marks.{Marks, g_of, v_of}
 use Rattle.sbpl_open.specs.Frontier.{Frontier}
 use Rattle.sbpl_open.specs.Frontier as frontier
 use Rattle.sbpl_ara.specs.declared.step.Step.{Step}
 use Rattle.sbpl_ara.specs.Queue.{is_among}
 use Rattle.sbpl_ara.specs.Run.{IsOpen, IsOver, IsUnder}
-use Rattle.sbpl_ara.specs.Search.{AreWaiting}
 use Rattle.sbpl_ara.proofs.Queueing.{among_push}
-use Rattle.sbpl_adstar.specs.Repaired.{AreRepaired}
 
 -- the first states of a list are noted, and none has left
 pub record AreNoted (m : Marks) (states : List ℕ) (old now : Frontier) (i : ℕ) : Type 0 where

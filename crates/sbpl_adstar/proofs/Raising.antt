@@ -10,7 +10,7 @@ use Rattle.sbpl_graph.specs.Exact.{AreExact}
 use Rattle.sbpl_graph.specs.Fit.{FitCount}
 use Rattle.sbpl_graph.proofs.Keeping.{same_arc}
 use Rattle.sbpl_labels.specs.declared.row.Row.{Row}
-use Rattle.sbpl_labels.specs.Marks.{Marks, AreLabels, ChangesRow, states_of, g_of, v_of, back_of, no_row}
+use Rattle.sbpl_labels.specs.Marks.{Marks, AreLabels, states_of, g_of, v_of, back_of, no_row}
 use Rattle.sbpl_labels.specs.Recomputed.{IsRecomputed, Recomputes}
 use Rattle.sbpl_ara.specs.Run.{IsUnder, RaisesState}
 use Rattle.sbpl_adstar.specs.Repaired.{IsExactAt}

@@ -1,6 +1,6 @@
 -- The queue goes on holding the open states.
 use Rattle.std.proofs.Common.{◌≡◌, ◌≢◌, ℕ, ◌<◌, ◌≤◌, Bool, true, false, not, ◌||◌, ◌&&◌, ◌⊎◌, nat_eq, Option, Some, None, MatchOption, List, [], ◌∷◌, ◌++◌, arith, ⊎_elim, inl, inr, refl, sym, ◌∙◌, ap}
-use Rattle.std.proofs.lemmas.Bool.{cases_eq, cases_lt, cases_Bool, or_cases, or_left, or_right, and_parts, eq-eqb, ne_eqb, true≢false, false≢true}
+use Rattle.std.proofs.lemmas.Bool.{cases_eq, cases_lt, cases_Bool, or_cases, or_left, or_right, and_parts, eq-eqb, ne_eqb, true≢false}
 use Rattle.std.proofs.lemmas.List.{get_or_past}
 use Rattle.sbpl_graph.specs.Network.{Network}
 use Rattle.sbpl_labels.specs.declared.row.Row.{Row}

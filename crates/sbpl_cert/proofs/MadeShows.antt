@@ -1,6 +1,5 @@
 -- Rows that are made of labels show what the labels show.
-use Rattle.std.proofs.Common.{◌≡◌, ◌≢◌, ℕ, ◌+◌, ◌<◌, ◌≤◌, sym, ◌∙◌, ap, subst, arith}
-use Rattle.sbpl_graph.specs.declared.TheConstants.{FAR}
+use Rattle.std.proofs.Common.{◌≡◌, ℕ, ◌+◌, ◌<◌, ◌≤◌, sym, ◌∙◌, ap, subst, arith}
 use Rattle.sbpl_graph.specs.Bound.{IsLow}
 use Rattle.sbpl_graph.specs.Certificate.{AreSupported, IsLabel, ShowBound}
 use Rattle.sbpl_graph.specs.Laws.{IsConsistent, IsSound}

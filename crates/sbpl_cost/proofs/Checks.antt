@@ -1,5 +1,5 @@
 -- Lists of the cells that a judgement reads.
-use Rattle.std.proofs.Common.{◌≡◌, ℕ, zero, suc, ℤ, pos, ◌+◌, ◌-◌, ◌<◌, ◌&&◌, true, ◌++◌, ◌∷◌, [], inl, inr, ◌⊎◌, List, length, take, slice_get, Some, refl, ap, sym, ◌∙◌, arith, subst}
+use Rattle.std.proofs.Common.{◌≡◌, ℕ, zero, suc, ℤ, pos, ◌+◌, ◌<◌, ◌&&◌, true, ◌++◌, ◌∷◌, [], inl, inr, ◌⊎◌, List, length, take, slice_get, Some, refl, ap, sym, ◌∙◌, arith, subst}
 use Rattle.std.specs.Ordering.{int_eq}
 use Rattle.std.proofs.lemmas.Bool.{cases_lt, and_parts}
 use Rattle.std.proofs.lemmas.Bool.Decides.{Decides-int_eq}

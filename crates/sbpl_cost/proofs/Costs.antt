@@ -1,11 +1,9 @@
 -- Each primitive costs something.
-use Rattle.std.proofs.Common.{◌≡◌, ◌≢◌, ℕ, ℤ, ◌*◌, ◌<◌, ◌≤◌, max, Some, slice_get, arith, inl, inr}
+use Rattle.std.proofs.Common.{◌≢◌, ℕ, ℤ, ◌*◌, ◌<◌, ◌≤◌, max, arith, inl, inr}
 use Rattle.std.proofs.lemmas.Bool.{cases_lt}
 use Rattle.std.proofs.lemmas.Nat.{mul-le}
-use Rattle.std.proofs.lemmas.List.Sums.{get_or-le-sum_by}
-use Rattle.std.proofs.lemmas.Option.{slice_get_within, get_or_from_slice_get}
 use Rattle.sbpl_mprim.specs.declared.prim.Primitive.{Primitive}
-use Rattle.sbpl_mprim.specs.Primitives.{Primitives, IsPrimitive, ArePrimitives, pose_count}
+use Rattle.sbpl_mprim.specs.Primitives.{IsPrimitive}
 use Rattle.sbpl_cost.specs.PrimitiveCost.{way_length}
 use Rattle.sbpl_cost.proofs.Ways.{AreAtOnePoint-none}
 

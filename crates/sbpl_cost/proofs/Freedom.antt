@@ -1,5 +1,5 @@
 -- When the lattice's arcs are free, and what they cost.
-use Rattle.std.proofs.Common.{◌≡◌, ℕ, zero, suc, ℤ, pos, ◌+◌, ◌*◌, ◌<◌, ◌≤◌, ◌&&◌, inl, inr, Bool, true, false, List, [], ◌∷◌, map, slice_get, Option, Some, None, IsSomeAnd, unwrap_or, nat_lt, max, refl, ap, sym, ◌∙◌, arith, subst}
+use Rattle.std.proofs.Common.{◌≡◌, ℕ, zero, suc, ℤ, pos, ◌+◌, ◌*◌, ◌<◌, ◌≤◌, ◌&&◌, inl, inr, Bool, true, false, List, [], ◌∷◌, slice_get, Option, Some, None, IsSomeAnd, unwrap_or, nat_lt, max, refl, ap, sym, ◌∙◌, arith, subst}
 use Rattle.std.specs.List.{list_all}
 use Rattle.std.proofs.lemmas.Bool.{and_parts, and_from, lt-ltb, ltb-true, cond-true, cases_lt}
 use Rattle.std.proofs.lemmas.Option.{cond_some, none-some, same_Some}

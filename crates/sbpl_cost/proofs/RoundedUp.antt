@@ -1,7 +1,7 @@
 -- Roots and quotients, rounded up.
 use Rattle.std.proofs.Common.{◌≡◌, ℕ, zero, suc, ◌+◌, ◌-◌, ◌*◌, ◌/◌, ◌<◌, ◌≤◌, Bool, true, false, nat_le, if◌then◌else◌, refl, arith, inl, inr}
 use Rattle.std.proofs.lemmas.Bool.{cases_lt, leb-true, leb-false}
-use Rattle.std.proofs.lemmas.Nat.{mul-le, div_below, div-add-mod', mod_below}
+use Rattle.std.proofs.lemmas.Nat.{div_below, div-add-mod', mod_below}
 use Rattle.sbpl_cost.specs.PrimitiveCost.{root_above, ceiling, IsLeast}
 use Rattle.sbpl_fixed.proofs.Roots.{square_mono}
 

@@ -1,7 +1,6 @@
 -- A format's texts as lists: which tokens with which values stand one behind another for a value, and a text of such words.
-use Rattle.std.specs.Prelude.{◌≡◌, ℕ, true, List, [], ◌∷◌, ◌++◌, ℤ, Ok}
-use Rattle.sbpl_fixed.specs.Tokens.{is_blank, Piece}
-use Rattle.sbpl_fixed.specs.ReadBack.{IsWord}
+use Rattle.std.specs.Prelude.{◌≡◌, ℕ, List, [], ◌∷◌, ◌++◌, ℤ, Ok}
+use Rattle.sbpl_fixed.specs.Tokens.{Piece}
 use Rattle.sbpl_fixed.specs.Formats.{Item, Format, Says}
 
 -- a token that must stand: the item, and its value

@@ -1,10 +1,9 @@
 -- Formats in parts, as lists of tokens.
-use Rattle.std.proofs.Common.{◌≡◌, ℕ, zero, suc, ◌+◌, Bool, true, false, List, [], ◌∷◌, ◌++◌, length, ℤ, pos, Result, Ok, Err, refl, sym, ap, subst, ◌∙◌, append_assoc, arith}
-use Rattle.std.specs.Prelude.{if◌then◌else◌, bytes_eq}
+use Rattle.std.proofs.Common.{◌≡◌, ℕ, zero, suc, List, [], ◌∷◌, ◌++◌, length, refl, sym, ap, subst, ◌∙◌, append_assoc}
 use Rattle.std.specs.List.{flat_map}
 use Rattle.std.proofs.lemmas.List.{append-nil}
-use Rattle.sbpl_fixed.specs.Tokens.{Piece, tokens_past, tokens}
-use Rattle.sbpl_fixed.specs.Formats.{Item, Miss, no_word, fixed, Format, item, ended, wrong, done, behind, turns, Says}
+use Rattle.sbpl_fixed.specs.Tokens.{Piece, tokens}
+use Rattle.sbpl_fixed.specs.Formats.{Format, item, ended, wrong, done, behind, turns, Says}
 use Rattle.sbpl_fixed.specs.Meaning.{StandsFor}
 use Rattle.sbpl_fixed.proofs.Spelled.{Expected, Spells, IsSpelled, AllAfter}
 

@@ -1,10 +1,10 @@
 -- The heuristic is consistent.
-use Rattle.std.proofs.Common.{◌≡◌, ℕ, ℤ, pos, negsuc, ◌+◌, ◌*◌, ◌/◌, ◌%◌, ◌<◌, ◌≤◌, ◌+ℤ◌, ◌&&◌, inl, inr, ◌⊎◌, max, List, [], ◌∷◌, slice_get, Option, Some, None, IsSomeAnd, option_and_then, nat_lt, refl, ap, sym, ◌∙◌, arith, subst}
+use Rattle.std.proofs.Common.{◌≡◌, ℕ, ℤ, pos, negsuc, ◌+◌, ◌*◌, ◌/◌, ◌%◌, ◌<◌, ◌≤◌, ◌+ℤ◌, ◌&&◌, inl, inr, ◌⊎◌, max, List, [], ◌∷◌, slice_get, Option, Some, None, IsSomeAnd, nat_lt, refl, ap, sym, ◌∙◌, arith, subst}
 use Rattle.std.proofs.Math.Nat.{mul-le-mul}
 use Rattle.std.proofs.lemmas.Bool.{cases_eq}
 use Rattle.std.proofs.lemmas.Int.{ints}
 use Rattle.std.proofs.lemmas.Nat.{div-add-mod', div-mul-add, mod-mul-add}
-use Rattle.std.proofs.lemmas.Option.{slice_get_within, same_Some, none-some, cond_some}
+use Rattle.std.proofs.lemmas.Option.{slice_get_within, same_Some, cond_some}
 use Rattle.sbpl_graph.specs.Network.{IsFreeArc}
 use Rattle.sbpl_graph.specs.Laws.{IsConsistent, HasGaps}
 use Rattle.sbpl_mprim.specs.declared.prim.Primitive.{Primitive}

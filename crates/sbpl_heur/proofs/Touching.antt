@@ -1,10 +1,8 @@
 -- What the cost of a cell bears on.
-use Rattle.std.proofs.Common.{◌≡◌, ◌≢◌, ℕ, ◌+◌, ◌*◌, ◌<◌, ◌≤◌, List, [], ◌∷◌, ◌++◌, length, slice_get, Some, None, inl, inr, ap, sym, ◌∙◌, arith, subst}
+use Rattle.std.proofs.Common.{◌≡◌, ◌≢◌, ℕ, ◌+◌, ◌*◌, ◌<◌, ◌≤◌, List, length, slice_get, Some, inl, inr, ap, sym, ◌∙◌, arith, subst}
 use Rattle.std.specs.List.{All, Contains}
 use Rattle.std.proofs.Math.Nat.{mul-le-mul_right}
 use Rattle.std.proofs.lemmas.Bool.{cases_eq}
-use Rattle.std.proofs.lemmas.List.Elements.{All-nil, All-push, Contains-push, Contains-append_left}
-use Rattle.std.proofs.lemmas.Option.{same_Some, none-some}
 use Rattle.sbpl_graph.specs.Fit.{FitCount}
 use Rattle.sbpl_graph.specs.Network.{IsFreeArc, HasSameArcs}
 use Rattle.sbpl_cfg.specs.Environment.{Environment}

@@ -7,7 +7,7 @@ use Rattle.sbpl_fixed.specs.Tokens.{Piece}
 use Rattle.sbpl_fixed.specs.Numbers.{whole_of, nano_of}
 use Rattle.sbpl_fixed.specs.declared.fault.NumFault.{NumFault}
 use Rattle.sbpl_fixed.specs.declared.fault.NumFault.TheVariants.{Form, Size}
-use Rattle.sbpl_fixed.specs.Formats.{Miss, out_of_range, no_word, Format, item, ended, wrong, done, fixed, whole, nano, within, behind, Says}
+use Rattle.sbpl_fixed.specs.Formats.{Miss, out_of_range, no_word, Format, item, ended, wrong, done, fixed, whole, nano, within, Says}
 use Rattle.sbpl_cfg.specs.Environment.{IsWithin}
 use Rattle.sbpl_mprim.specs.Text.{Saying, a_word, a_whole, a_nano, Means, AreMeant}
 use Rattle.sbpl_cfg.proofs.Items.{from_le}

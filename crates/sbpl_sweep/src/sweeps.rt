@@ -6,9 +6,9 @@ ghost use Rattle.sbpl_sweep.specs.Widths.{NoneTooWide, IsCause};
 use crate::cell::Cell;
 use crate::fault::SweepFault;
 use crate::reads::{Read, read_table};
-use sbpl_runs::Runs;
 use crate::tables::{centre_table, swept_table};
 use sbpl_mprim::Prims;
+use sbpl_runs::Runs;
 use std::alloc::Global;
 use std::marker::Model;
 

@@ -8,11 +8,11 @@ ghost use Rattle.sbpl_sweep.specs.Sweeping.{AreFewSweptAt, IsOwnCause};
 use crate::cell::Cell;
 use crate::centres::centre_cells;
 use crate::fault::SweepFault;
-use sbpl_runs::Runs;
 use crate::stop::Stop;
 use crate::sweeping::swept_cells;
 use sbpl_fixed::NoMemory;
 use sbpl_mprim::Prims;
+use sbpl_runs::Runs;
 use std::alloc::Global;
 
 /// The most cells that all primitives may sweep together.

@@ -1,5 +1,4 @@
 use Rattle.std.proofs.Common.{◌<◌, ℕ, subst, sym}
-use Rattle.sbpl_labels.specs.Marks.{states_of}
 use Rattle.sbpl_cert.proofs.MadeShows.{rows_show}
 use Rattle.sbpl_cert.proofs.making.section_of.Goals as goal
 
