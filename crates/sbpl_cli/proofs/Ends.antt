@@ -2,6 +2,8 @@
 use Rattle.std.proofs.Common.{ℕ, ◌≤◌, List, Option, Some, None, refl, ◌∙◌, subst, arith, inl, inr}
 use Rattle.std.proofs.lemmas.Bool.{cases_lt}
 use Rattle.sbpl_desk.specs.Desk.{NoneFalls, Rose, Stays}
+use Rattle.sbpl_map.specs.CellMap.{CellMap}
+use Rattle.sbpl_map.specs.declared.write.Write.{Write}
 use Rattle.sbpl_cost.specs.World.{World}
 use Rattle.sbpl_job.specs.declared.job.CheckJob.{CheckJob}
 use Rattle.sbpl_job.specs.declared.job.Job.{Job}
@@ -12,7 +14,7 @@ use Rattle.sbpl_cli.specs.declared.refusal.Refusal.{Refusal}
 use Rattle.sbpl_cli.specs.declared.refusal.Refusal.TheVariants as refusal
 use Rattle.sbpl_cli.specs.declared.refusal.Stop.{Stop}
 use Rattle.sbpl_cli.specs.declared.refusal.Stop.TheVariants as stop
-use Rattle.sbpl_cli.specs.Causes.{AtName, ChangesStopFor, EarlyStopsFor, IsCause, IsChangesCause, IsFaultyChanges, IsJobCause, IsLabelsCause, IsRead, IsTooLong, JobStopsFor, SaysWorld, StopsFor}
+use Rattle.sbpl_cli.specs.Causes.{AtName, ChangesStopFor, EarlyStopsFor, IsCause, IsChangesCause, IsFaultyChanges, IsJobCause, IsLabelsCause, IsRead, IsTooLong, JobStopsFor, SaysBatches, SaysWorld, StopsFor}
 use Rattle.sbpl_cli.specs.Intents.{Intent, Refused, OutOfMemory, intent_status, refusal_status, refusal_writes, writes_of}
 use Rattle.sbpl_cli.specs.Promises.{ComesTo, EndsJob, MayBeWritten}
 use Rattle.sbpl_cli.specs.Writing.{EndsAs, FaultCounts, IsOutput, StaysBut, Told}
@@ -91,6 +93,11 @@ job_cause_later held f g h (job.Sweep from) r low high cause = cause_later held 
 job_cause_later held f g h (job.Demo d) r low high cause = cause
 
 -- ---- a stop is handed on
+
+-- what a desk held later it held before
+pub batches_since : (held later : Told) (changes : Option (List ℕ)) (m : CellMap) (batches : List (List Write)) → Stays held later → SaysBatches later changes m batches → SaysBatches held changes m batches
+batches_since held later None m batches stays is = is
+batches_since held later (Some name) m batches stays (text, read, is) = (text, subst (λ (held_bytes : Option (List ℕ)). IsRead held_bytes text) (stays name) read, is)
 
 -- a stop for the change file is one, where a world was read before
 pub course_stop : (held held' : Told) (f g h : FaultCounts) (from : Sources) (changes : Option (List ℕ)) (w : World) (s : Stop) → SaysWorld held from w → Stays held held' → NoneFalls f g → ChangesStopFor held' g h changes w.map s → EarlyStopsFor held f h from changes s

@@ -1,4 +1,4 @@
-use Rattle.std.proofs.Common.{List, ℕ, suc, length, subst}
+use Rattle.std.proofs.Common.{List, ℕ, suc, length, subst, ◌∙◌}
 use Rattle.sbpl_fixed.specs.Formats.{start_at}
 use Rattle.sbpl_cli.specs.Checked.{AreChecked, Case, IsShownHolding}
 use Rattle.sbpl_cli.specs.Intents.{Checked}
@@ -31,3 +31,9 @@ returns-clause-ends g c =
       };
       ends = ends_since _ _ _ _ _ _ _ _ _ c.read_check.ensures.written c.read_check.ensures.writes ends.ends;
     }
+
+pub returns-clause-held : goal.returns-clause-held
+returns-clause-held g c = λ name. c.check_text.ensures.held name ∙ c.in_ok-lattice.ensures.held name
+
+pub returns-clause-others : goal.returns-clause-others
+returns-clause-others g c = λ name no. c.check_text.ensures.others name no ∙ c.in_ok-lattice.ensures.written name
