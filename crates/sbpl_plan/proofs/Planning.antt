@@ -5,11 +5,13 @@ use Rattle.std.proofs.lemmas.Bool.{cases_lt}
 use Rattle.sbpl_labels.specs.Counts.{Counts}
 use Rattle.sbpl_labels.specs.Marks.{Marks, states_of}
 use Rattle.sbpl_ara.specs.Search.{Search}
+use Rattle.sbpl_ara.specs.declared.step.Step.{Step}
+use Rattle.sbpl_plan.specs.declared.ask.Ask.{Ask}
 use Rattle.sbpl_plan.specs.declared.passes.Pass.{Pass}
 use Rattle.sbpl_plan.specs.Asked.{IsAsk, lowered, most_passes}
 use Rattle.sbpl_plan.specs.Looking.{IsStartFresh}
 use Rattle.sbpl_plan.specs.Made.{AreMade}
-use Rattle.sbpl_plan.specs.Passing.{ArePasses, Inquiry, IsLast, expansions}
+use Rattle.sbpl_plan.specs.Passing.{AreFirstPasses, ArePasses, EndWith, Inquiry, IsLast, expansions}
 use Rattle.sbpl_plan.specs.Turns.{IsTurn}
 
 -- one pass more
@@ -28,7 +30,7 @@ more_passes step eps some low other = elim (cases_lt eps (1000 + step)) [
       omega arith
 ]
 
-expansions_of_both : (ps qs : List Pass) → expansions (ps ++ qs) ≡ expansions ps + expansions qs
+pub expansions_of_both : (ps qs : List Pass) → expansions (ps ++ qs) ≡ expansions ps + expansions qs
 expansions_of_both [] qs = omega arith
 expansions_of_both (p ∷ ps) qs = let more = expansions_of_both ps qs in omega arith
 
@@ -56,6 +58,7 @@ expansions_more ps p = let both = expansions_of_both ps (p ∷ []) in omega arit
 -- passes were made, none of them the last, and the next one has this inflation
 pub record AreGoingOn (ready : Marks → ℕ → Type 0) (most : ℕ) (q : Inquiry) (old now : Search) (before after : Counts) (passes : List Pass) (eps : ℕ) : Type 0 where
   pub leads : (ps : List Pass) (new : Marks) (spent : Bool) → ArePasses q eps now.labels ps new spent → ArePasses q q.ask.first old.labels (passes ++ ps) new spent
+  pub fronts : (ps : List Pass) (new : Marks) → AreFirstPasses q eps now.labels ps new → AreFirstPasses q q.ask.first old.labels (passes ++ ps) new
   pub counted : after ≡ record before { plan = before.plan + expansions passes; run = before.run + expansions passes }
   pub many : length passes + most_passes q.ask.step eps ≤ most_passes q.ask.step q.ask.first
   pub spread : expansions passes ≤ length passes * (most * states_of old.labels)
@@ -68,6 +71,7 @@ pub record AreGoingOn (ready : Marks → ℕ → Type 0) (most : ℕ) (q : Inqui
 pub begins : (ready : Marks → ℕ → Type 0) (most : ℕ) (q : Inquiry) (old : Search) (before : Counts) → ready old.labels before.run → IsStartFresh old.labels → AreGoingOn ready most q old old before before [] q.ask.first
 begins ready most q old before is_ready fresh = record {
   leads = λ ps new spent made. made;
+  fronts = λ ps new made. made;
   counted = grows_by_none before;
   many = omega arith;
   spread = omega arith;
@@ -83,6 +87,7 @@ pub goes_on : (ready : Marks → ℕ → Type 0) (most : ℕ) (q : Inquiry) (old
 goes_on ready most q old now new before mid after passes eps arcs true p asked low so t not = absurd (not (inr (inr (inl refl))))
 goes_on ready most q old now new before mid after passes eps arcs false p asked low so t not = record {
   leads = λ ps m spent made. subst (λ (l : List Pass). ArePasses q q.ask.first old.labels l m spent) (sym (append_assoc passes (p ∷ []) ps)) (so.leads (p ∷ ps) m spent (inr (new.labels, t.pass, not, made)));
+  fronts = λ ps m made. subst (λ (l : List Pass). AreFirstPasses q q.ask.first old.labels l m) (sym (append_assoc passes (p ∷ []) ps)) (so.fronts (p ∷ ps) m (inr (new.labels, t.pass, not, made)));
   counted = grows_twice before mid after _ _ _ (expansions_more passes p) so.counted t.counted;
   many = let more = more_passes q.ask.step eps asked.step_low low (λ one. not (inr (inr (inr one)))) in let sum = so.many in rw (length-append passes (p ∷ [])) (omega arith);
   spread = one_more _ _ _ _ _ _ (expansions_more passes p) (length-append passes (p ∷ [])) so.spread (subst (λ k. p.expanded ≤ most * k) so.states t.few);
@@ -93,6 +98,12 @@ goes_on ready most q old now new before mid after passes eps arcs false p asked 
   same_goal = t.same_goal ∙ so.same_goal;
 }
 
+-- what the last pass expanded, with others before it
+end_behind : (ask : Ask) (passes : List Pass) (p : Pass) (steps : List Step) → EndWith ask (p ∷ []) steps → EndWith ask (passes ++ p ∷ []) steps
+end_behind ask [] p steps is = is
+end_behind ask (a ∷ []) p steps is = is
+end_behind ask (a ∷ b ∷ ps) p steps is = end_behind ask (b ∷ ps) p steps is
+
 -- a pass behind them that is the last
 pub all_made : (ready : Marks → ℕ → Type 0) (most : ℕ) (q : Inquiry) (old now new : Search) (before mid after : Counts) (passes : List Pass) (eps : ℕ) (arcs : List ℕ) (spent : Bool) (p : Pass) → AreGoingOn ready most q old now before mid passes eps → IsTurn ready most q eps now new mid after arcs spent p → IsLast q eps new.labels spent p.found → AreMade ready most q old new before after arcs (passes ++ p ∷ []) spent p.found
 all_made ready most q old now new before mid after passes eps arcs spent p so t last = record {
@@ -102,6 +113,7 @@ all_made ready most q old now new before mid after passes eps arcs spent p so t 
   last = last;
   none_at_rest = t.none_at_rest;
   tight_at_rest = t.tight_at_rest;
+  traced = end_behind q.ask passes p new.trace t.traced;
   is_spent = t.is_spent;
   counted = grows_twice before mid after _ _ _ (expansions_more passes p) so.counted t.counted;
   few = let sum = so.many in rw (length-append passes (p ∷ [])) (omega arith);

@@ -113,6 +113,7 @@ turn_of ready most q eps old new before after arcs spent p goal same_goal run ne
   states = states;
   same_goal = same_goal;
   counted = subst (λ (k : ℕ). after ≡ record before { plan = before.plan + k; run = before.run + k }) (sym expanded) counted;
+  traced = (expanded, told);
   is_spent = λ is. (next is).0;
   few = subst (λ (k : ℕ). k ≤ most * states_of old.labels) (sym expanded) few;
   unfinished = λ is. subst (λ (k : ℕ). k < most * states_of old.labels) (sym expanded) (unfinished is);

@@ -10,7 +10,7 @@ use Rattle.sbpl_plan.specs.declared.found.Found.{Found}
 use Rattle.sbpl_plan.specs.declared.passes.Pass.{Pass}
 use Rattle.sbpl_plan.specs.Asked.{most_passes}
 use Rattle.sbpl_plan.specs.Looking.{IsStartFresh, Looks}
-use Rattle.sbpl_plan.specs.Passing.{ArePasses, Inquiry, IsLast, expansions}
+use Rattle.sbpl_plan.specs.Passing.{ArePasses, EndWith, Inquiry, IsLast, expansions}
 use Rattle.sbpl_plan.specs.Turns.{IsTight}
 
 -- passes of a plan led from the one state of a search to the other; the last one found this, with these arcs; each takes a state at most this often, and leaves labels that are ready for another
@@ -21,6 +21,7 @@ pub record AreMade (ready : Marks → ℕ → Type 0) (most : ℕ) (q : Inquiry)
   pub last : IsLast q last_inflation new.labels spent found
   pub none_at_rest : spent ≡ false → last_inflation ≡ 1000 → g_of new.labels q.goal ≡ FAR → IsCutOff (states_of new.labels) q.goal (g_of new.labels) (v_of new.labels)
   pub tight_at_rest : spent ≡ false → last_inflation ≡ 1000 → IsTight found
+  pub traced : EndWith q.ask passes new.trace
   pub is_spent : spent ≡ true → IsSpent after
   pub counted : after ≡ record before { plan = before.plan + expansions passes; run = before.run + expansions passes }
   pub few : length passes ≤ most_passes q.ask.step q.ask.first

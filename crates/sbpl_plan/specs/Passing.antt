@@ -48,6 +48,19 @@ ArePasses q eps old (p ∷ ps) new spent =
     ((ps ≡ []) × IsPass q eps old new spent p × IsLast q eps new spent p.found)
     ⊎ ((mid : Marks) × IsPass q eps old mid false p × (IsLast q eps mid false p.found → ⊥) × ArePasses q (lowered q.ask.step eps) mid ps new spent)
 
+-- these passes in turn, the first of this inflation, lead from the old labels to the new ones; the plan ends after none of them but perhaps the last
+abbrev pub AreFirstPasses : Inquiry → ℕ → Marks → List Pass → Marks → Type 0
+AreFirstPasses q eps old [] new = new ≡ old
+AreFirstPasses q eps old (p ∷ ps) new =
+    ((ps ≡ []) × ((spent : Bool) × IsPass q eps old new spent p))
+    ⊎ ((mid : Marks) × IsPass q eps old mid false p × (IsLast q eps mid false p.found → ⊥) × AreFirstPasses q (lowered q.ask.step eps) mid ps new)
+
+-- the last of some passes expanded these steps, and tells them where they are to be told
+abbrev pub EndWith : Ask → List Pass → List Step → Type 0
+EndWith ask [] steps = ⊥
+EndWith ask (p ∷ []) steps = (p.expanded ≡ length steps) × (p.trace ≡ (if ask.traced then steps else []))
+EndWith ask (p ∷ r ∷ ps) steps = EndWith ask (r ∷ ps) steps
+
 -- how many states passes expanded together
 abbrev pub expansions : List Pass → ℕ
 expansions [] = 0

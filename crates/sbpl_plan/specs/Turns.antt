@@ -1,5 +1,5 @@
 -- What one pass does to a search and to the counts of expansions.
-use Rattle.std.specs.Prelude.{◌≡◌, ℕ, ◌+◌, ◌*◌, ◌<◌, ◌≤◌, Bool, true, false, List}
+use Rattle.std.specs.Prelude.{◌≡◌, ℕ, ◌+◌, ◌*◌, ◌<◌, ◌≤◌, Bool, true, false, List, [], ◌∷◌}
 use Rattle.sbpl_graph.specs.declared.TheConstants.{FAR}
 use Rattle.sbpl_graph.specs.Certificate.{AreSupported}
 use Rattle.sbpl_labels.specs.Counts.{Counts, IsSpent}
@@ -10,7 +10,7 @@ use Rattle.sbpl_plan.specs.declared.found.Found.{Found}
 use Rattle.sbpl_plan.specs.declared.found.Found.TheVariants as found
 use Rattle.sbpl_plan.specs.declared.passes.Pass.{Pass}
 use Rattle.sbpl_plan.specs.Looking.{IsStartFresh, Looks}
-use Rattle.sbpl_plan.specs.Passing.{Inquiry, IsPass}
+use Rattle.sbpl_plan.specs.Passing.{EndWith, Inquiry, IsPass}
 
 -- a path whose bound is 1.000, or none
 abbrev pub IsTight : Found → Type 0
@@ -29,6 +29,7 @@ pub record IsTurn (ready : Marks → ℕ → Type 0) (most : ℕ) (q : Inquiry) 
   pub states : states_of new.labels ≡ states_of old.labels
   pub same_goal : new.goal ≡ old.goal
   pub counted : after ≡ record before { plan = before.plan + p.expanded; run = before.run + p.expanded }
+  pub traced : EndWith q.ask (p ∷ []) new.trace
   pub is_spent : spent ≡ true → IsSpent after
   pub few : p.expanded ≤ most * states_of old.labels
   pub unfinished : spent ≡ true → p.expanded < most * states_of old.labels

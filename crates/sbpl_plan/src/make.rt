@@ -10,7 +10,7 @@ ghost use Rattle.sbpl_plan.specs.Asked.{IsAsk, lowered, most_passes};
 ghost use Rattle.sbpl_plan.specs.Looking.{IsEnough, IsStartFresh, Looks};
 ghost use Rattle.sbpl_plan.specs.Made.{AreMade};
 ghost use Rattle.sbpl_plan.specs.Outcomes.{IsAnswered, IsOutcome, IsTold, IsTrueOutcome};
-ghost use Rattle.sbpl_plan.specs.Passing.{ArePasses, IsLast, expansions};
+ghost use Rattle.sbpl_plan.specs.Passing.{ArePasses, EndWith, IsLast, expansions};
 ghost use Rattle.sbpl_plan.specs.Stopped.{IsStopped};
 
 use crate::anytime::Anytime;
@@ -75,7 +75,7 @@ fn make_passes<G: Graph, H: Guide, S: Anytime>(
     requires fresh { IsStartFresh (S.state search.old).labels }
     requires room { states_of (S.state search.old).labels ≤ vec_capacity arcs.old }
     ensures made { IfOk result (λ r. AreMade (S.ready (G.network graph.now)) S.most (record { network = G.network graph.now; guide = H.distance guide.now; goal = goal; ask = ask.now }) (S.state search.old) (S.state search.new) budget.old budget.new arcs.new.items r.passes.items r.spent r.found) }
-    ensures memory { OnErr result (IsStopped (S.ready (G.network graph.now)) (S.state search.old) (S.state search.new) budget.old budget.new) }
+    ensures memory { OnErr result (IsStopped (S.ready (G.network graph.now)) (record { network = G.network graph.now; guide = H.distance guide.now; goal = goal; ask = ask.now }) ask.now.first (S.state search.old) (S.state search.new) budget.old budget.new) }
 {
     let mut passes = Vec::new(alloc);
     let mut eps = ask.first;
@@ -137,6 +137,7 @@ pub(crate) fn make_plan<G: Graph, H: Guide, S: Anytime>(
     ensures so { IfOk result (λ r. IsTrueOutcome (G.network graph.now) (S.state search.old).labels.start goal r.outcome) }
     ensures answered { IfOk result (λ r. r.spent ≡ false → IsAnswered ask.now.bound r.outcome) }
     ensures counted { IfOk result (λ r. budget.new ≡ record budget.old { plan = budget.old.plan + expansions r.passes; run = budget.old.run + expansions r.passes }) }
+    ensures traced { IfOk result (λ r. EndWith ask.now r.passes (S.state search.new).trace) }
     ensures spent { IfOk result (λ r. r.spent ≡ true → IsSpent budget.new) }
     ensures within { IfOk result (λ _. AreCounts budget.new) }
     ensures few { IfOk result (λ r. length r.passes ≤ most_passes ask.now.step ask.now.first) }
@@ -147,7 +148,7 @@ pub(crate) fn make_plan<G: Graph, H: Guide, S: Anytime>(
     ensures start { IfOk result (λ _. (S.state search.new).labels.start ≡ (S.state search.old).labels.start) }
     ensures states { IfOk result (λ _. states_of (S.state search.new).labels ≡ states_of (S.state search.old).labels) }
     ensures same_goal { IfOk result (λ _. (S.state search.new).goal ≡ (S.state search.old).goal) }
-    ensures memory { OnErr result (IsStopped (S.ready (G.network graph.now)) (S.state search.old) (S.state search.new) budget.old budget.new) }
+    ensures memory { OnErr result (IsStopped (S.ready (G.network graph.now)) (record { network = G.network graph.now; guide = H.distance guide.now; goal = goal; ask = ask.now }) ask.now.first (S.state search.old) (S.state search.new) budget.old budget.new) }
 {
     bound_holds();
     none_holds();

@@ -8,7 +8,7 @@ ghost use Rattle.sbpl_labels.specs.Marks.{states_of, g_of, v_of};
 ghost use Rattle.sbpl_plan.specs.Asked.{IsAsk, most_passes};
 ghost use Rattle.sbpl_plan.specs.Looking.{IsStartFresh};
 ghost use Rattle.sbpl_plan.specs.Outcomes.{IsAnswered, IsOutcome, IsTrueOutcome};
-ghost use Rattle.sbpl_plan.specs.Passing.{ArePasses, expansions};
+ghost use Rattle.sbpl_plan.specs.Passing.{ArePasses, EndWith, expansions};
 ghost use Rattle.sbpl_plan.specs.Stopped.{IsStopped};
 
 use crate::ask::Ask;
@@ -44,6 +44,8 @@ pub fn plan<G: Graph, H: Guide>(
     // The result is true, and known where the plan was not spent.
     ensures so { IfOk result (λ r. IsTrueOutcome (G.network graph.now) ara.old.labels.start goal r.outcome) }
     ensures answered { IfOk result (λ r. r.spent ≡ false → IsAnswered ask.now.bound r.outcome) }
+    // The search holds the steps of the last pass.
+    ensures traced { IfOk result (λ r. EndWith ask.now r.passes ara.new.trace) }
     // Each expansion is counted, and none is made beyond the budget. A plan is spent only where its budget or the run's is, and not where it may expand as many
     // states in each pass as there are.
     ensures counted { IfOk result (λ r. budget.new ≡ record budget.old { plan = budget.old.plan + expansions r.passes; run = budget.old.run + expansions r.passes }) }
@@ -58,8 +60,8 @@ pub fn plan<G: Graph, H: Guide>(
     ensures start { IfOk result (λ _. ara.new.labels.start ≡ ara.old.labels.start) }
     ensures states { IfOk result (λ _. states_of ara.new.labels ≡ states_of ara.old.labels) }
     ensures same_goal { IfOk result (λ _. ara.new.goal ≡ ara.old.goal) }
-    // So they may where memory ran out, and what was expanded up to there is counted.
-    ensures memory { OnErr result (IsStopped (AreReady (G.network graph.now)) ara.old ara.new budget.old budget.new) }
+    // So they may where memory ran out, behind the passes that were made up to there, which are counted.
+    ensures memory { OnErr result (IsStopped (AreReady (G.network graph.now)) (record { network = G.network graph.now; guide = H.distance guide.now; goal = goal; ask = ask.now }) ask.now.first ara.old ara.new budget.old budget.new) }
 {
     make_plan(alloc, graph, guide, ara, goal, ask, budget)
 }
@@ -87,6 +89,8 @@ pub fn replan<G: Graph, H: Guide>(
     // The result is true, and known where the plan was not spent.
     ensures so { IfOk result (λ r. IsTrueOutcome (G.network graph.now) search.old.labels.start goal r.outcome) }
     ensures answered { IfOk result (λ r. r.spent ≡ false → IsAnswered ask.now.bound r.outcome) }
+    // The search holds the steps of the last pass.
+    ensures traced { IfOk result (λ r. EndWith ask.now r.passes search.new.trace) }
     // Each expansion is counted, and none is made beyond the budget. A plan is spent only where its budget or the run's is, and not where it may expand three
     // times as many states in each pass as there are.
     ensures counted { IfOk result (λ r. budget.new ≡ record budget.old { plan = budget.old.plan + expansions r.passes; run = budget.old.run + expansions r.passes }) }
@@ -101,8 +105,8 @@ pub fn replan<G: Graph, H: Guide>(
     ensures start { IfOk result (λ _. search.new.labels.start ≡ search.old.labels.start) }
     ensures states { IfOk result (λ _. states_of search.new.labels ≡ states_of search.old.labels) }
     ensures same_goal { IfOk result (λ _. search.new.goal ≡ search.old.goal) }
-    // So they may where memory ran out, and what was expanded up to there is counted.
-    ensures memory { OnErr result (IsStopped (AreUsable (G.network graph.now)) search.old search.new budget.old budget.new) }
+    // So they may where memory ran out, behind the passes that were made up to there, which are counted.
+    ensures memory { OnErr result (IsStopped (AreUsable (G.network graph.now)) (record { network = G.network graph.now; guide = H.distance guide.now; goal = goal; ask = ask.now }) ask.now.first search.old search.new budget.old budget.new) }
 {
     make_plan(alloc, graph, guide, search, goal, ask, budget)
 }

@@ -62,10 +62,11 @@ pub(crate) fn turn<G: Graph, H: Guide, S: Anytime>(
     requires empty { arcs.old.items ≡ [] }
     requires room { states_of (S.state search.old).labels ≤ vec_capacity arcs.old }
     ensures turn { IfOk result (λ r. IsTurn (S.ready (G.network graph.now)) S.most (record { network = G.network graph.now; guide = H.distance guide.now; goal = goal; ask = ask.now }) eps (S.state search.old) (S.state search.new) budget.old budget.new arcs.new.items r.1 r.0) }
-    ensures memory { OnErr result (IsStopped (S.ready (G.network graph.now)) (S.state search.old) (S.state search.new) budget.old budget.new) }
+    ensures memory { OnErr result (IsStopped (S.ready (G.network graph.now)) (record { network = G.network graph.now; guide = H.distance guide.now; goal = goal; ask = ask.now }) eps (S.state search.old) (S.state search.new) budget.old budget.new) }
     ensures room { vec_capacity arcs.new ≡ vec_capacity arcs.old }
 {
     let end = search.pass(graph, guide, eps, budget);
+    let spent = is_spent(end);
     let found = look(graph, guide, search, goal, arcs);
     let steps = search.trace();
     let expanded = steps.len() as u64;
@@ -76,5 +77,5 @@ pub(crate) fn turn<G: Graph, H: Guide, S: Anytime>(
         found,
         trace,
     };
-    Ok((pass, is_spent(end)))
+    Ok((pass, spent))
 }

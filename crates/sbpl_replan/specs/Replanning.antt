@@ -1,5 +1,5 @@
 -- Plans on a lattice, one after another, while its map changes.
-use Rattle.std.specs.Prelude.{ℕ, Bool, true, false, MatchBool, List, ◌≡◌, if◌then◌else◌}
+use Rattle.std.specs.Prelude.{ℕ, Bool, true, false, MatchBool, List, ◌≡◌, ◌+◌, ◌≤◌, if◌then◌else◌}
 use Rattle.sbpl_graph.specs.Exact.{AreExact}
 use Rattle.sbpl_graph.specs.Network.{Network}
 use Rattle.sbpl_labels.specs.Counts.{Counts}
@@ -8,7 +8,8 @@ use Rattle.sbpl_ara.specs.Search.{AreReady, AreUsable, Search}
 use Rattle.sbpl_adstar.specs.Repaired.{AreRepaired}
 use Rattle.sbpl_plan.specs.declared.ask.Ask.{Ask}
 use Rattle.sbpl_plan.specs.Looking.{IsStartFresh}
-use Rattle.sbpl_plan.specs.Passing.{Inquiry}
+use Rattle.sbpl_plan.specs.declared.passes.Pass.{Pass}
+use Rattle.sbpl_plan.specs.Passing.{AreFirstPasses, Inquiry, expansions}
 use Rattle.sbpl_change.specs.Touched.{AreTouched}
 use Rattle.sbpl_cost.specs.World.{World}
 use Rattle.sbpl_cost.specs.Lattices.{network_of}
@@ -73,3 +74,10 @@ pub record StaysTheSame (old new : Replanning) : Type 0 where
   pub start : new.search.labels.start ≡ old.search.labels.start
   pub goal : new.goal ≡ old.goal
   pub per_plan : new.counts.per_plan ≡ old.counts.per_plan
+
+-- a plan ended for want of memory: its first few passes led from the labels that stood to those that stand now, and their expansions are counted
+pub record IsCutPlan (q : Inquiry) (old new : Replanning) : Type 0 where
+  pub passes : List Pass
+  pub made : AreFirstPasses q q.ask.first old.search.labels passes new.search.labels
+  pub counted : new.counts ≡ record old.counts { plan = expansions passes; run = old.counts.run + expansions passes }
+  pub within : expansions passes ≤ old.counts.per_plan

@@ -11,7 +11,7 @@ ghost use Rattle.sbpl_cost.specs.World.{IsWorld};
 ghost use Rattle.sbpl_cost.specs.Lattices.{network_of};
 ghost use Rattle.sbpl_heur.specs.Bests.{distance_in};
 ghost use Rattle.sbpl_map.specs.MapAfter.{AreWritten};
-ghost use Rattle.sbpl_replan.specs.Replanning.{BeginsWith, IsReadyIn, StaysTheSame, inquiry, most_times};
+ghost use Rattle.sbpl_replan.specs.Replanning.{BeginsWith, IsCutPlan, IsReadyIn, StaysTheSame, inquiry, most_times};
 
 use crate::search::Search;
 use sbpl_adstar::AdStar;
@@ -123,7 +123,7 @@ impl Replanner {
         ensures counted { IfOk result (λ r. self.new.counts ≡ record self.old.counts { plan = expansions r.passes; run = self.old.counts.run + expansions r.passes }) }
         ensures spent { IfOk result (λ r. r.spent ≡ true → (expansions r.passes ≡ self.old.counts.per_plan) ⊎ (self.new.counts.run ≡ 2 ^ 30)) }
         ensures within { IfOk result (λ r. expansions r.passes ≤ self.old.counts.per_plan) }
-        ensures run { IfOk result (λ _. self.new.counts.run ≤ 2 ^ 30) }
+        ensures run { self.new.counts.run ≤ 2 ^ 30 }
         ensures few { IfOk result (λ r. length r.passes ≤ most_passes ask.now.step ask.now.first) }
         ensures enough { IfOk result (λ r. r.spent ≡ true → most_passes ask.now.step ask.now.first * (most_times self.old.repairs * (network_of lattice.now).states) ≤ self.old.counts.per_plan → self.new.counts.run ≡ 2 ^ 30) }
         // The labels support what they show, and the map may change.
@@ -131,18 +131,21 @@ impl Replanner {
         ensures ready { IfOk result (λ _. IsReadyIn lattice.now self.new) }
         ensures same { IfOk result (λ _. StaysTheSame self.old self.new) }
         ensures guide { self.new.guide ≡ self.old.guide }
-        // So it may where memory ran out.
+        // So it may where memory ran out, behind the passes that were made up to there.
+        ensures stopped { OnErr result (IsCutPlan (inquiry lattice.now (distance_in self.old.guide) self.old.goal ask.now) self.old self.new) }
         ensures memory { OnErr result (IsReadyIn lattice.now self.new × StaysTheSame self.old self.new) }
     {
         self.budget.next_plan();
-        self.search.plan(
+        let planned = self.search.plan(
             alloc,
             lattice,
             &self.guide,
             self.goal,
             ask,
             &mut self.budget,
-        )
+        );
+        let _counts = self.budget.used();
+        planned
     }
 
     /// Writes a batch to the map of the lattice, and makes the heuristic and the labels ready for a plan on it. All cells of

@@ -81,7 +81,7 @@ impl Search {
         ensures start { IfOk result (λ _. (state_of self.new).labels.start ≡ (state_of self.old).labels.start) }
         ensures same_goal { IfOk result (λ _. (state_of self.new).goal ≡ (state_of self.old).goal) }
         ensures same_kind { IfOk result (λ _. repairs_of self.new ≡ repairs_of self.old) }
-        ensures memory { OnErr result (IsStopped (MayBegin (repairs_of self.old) (network_of lattice.now)) (state_of self.old) (state_of self.new) budget.old budget.new) }
+        ensures memory { OnErr result (IsStopped (MayBegin (repairs_of self.old) (network_of lattice.now)) (inquiry lattice.now (distance_in guide.now) goal ask.now) ask.now.first (state_of self.old) (state_of self.new) budget.old budget.new) }
         ensures kind { OnErr result (repairs_of self.new ≡ repairs_of self.old) }
     {
         match self {
