@@ -1,5 +1,5 @@
 -- The states that a pass begins with are found.
-use Rattle.std.proofs.Common.{◌≡◌, ◌≢◌, ℕ, ◌+◌, ◌<◌, ◌≤◌, true, false, Bool, nat_eq, Some, None, IsSome, List, [], ◌∷◌, ◌++◌, length, arith, ⊎_elim, inl, inr, refl, sym, ◌∙◌, ap, length-append}
+use Rattle.std.proofs.Common.{◌≡◌, ◌≢◌, ℕ, ◌+◌, ◌<◌, ◌≤◌, true, false, Bool, nat_eq, Some, None, IsSome, List, [], ◌∷◌, ◌++◌, length, arith, ⊎_elim, inl, inr, refl, sym, ◌∙◌, ap, length-append, append_assoc}
 use Rattle.std.specs.List.{All}
 use Rattle.std.proofs.lemmas.Bool.{cases_eq, cases_lt, cases_Bool, or_left, or_right, eq-eqb, false≢true}
 use Rattle.std.proofs.lemmas.List.{get_or_past}
@@ -11,18 +11,19 @@ use Rattle.sbpl_open.specs.Frontier.{Frontier, ChangesKey}
 use Rattle.sbpl_open.specs.Frontier as frontier
 use Rattle.sbpl_ara.specs.declared.step.Step.{Step}
 use Rattle.sbpl_ara.specs.Run.{IsOpen, IsOver, IsUnder, none_closed, closed_after}
-use Rattle.sbpl_ara.specs.Queue.{is_among}
+use Rattle.sbpl_ara.specs.Queue.{is_among, AddsOpen}
 use Rattle.sbpl_ara.specs.Search.{Room, AreWaiting}
 use Rattle.sbpl_ara.proofs.Closing.{lowers}
 use Rattle.sbpl_ara.proofs.Queueing.{among_push, among_closed}
 
 -- the steps hold the states of the first entries besides what they held
-pub record IsGathering (most : ℕ) (queued : List Entry) (old now : Room) (i : ℕ) : Type 0 where
+pub record IsGathering (f : Frontier) (queued : List Entry) (old now : Room) (i : ℕ) : Type 0 where
   pub room : now.room ≡ old.room
   pub longer : length now.items ≡ length old.items + i
-  pub inside : All (λ step. step.state < most) now.items
+  pub inside : All (λ step. step.state < frontier.states_of f) now.items
   pub kept : (s : ℕ) → is_among old.items s ≡ true → is_among now.items s ≡ true
   pub gathered : (j : ℕ) → j < i → is_among now.items (state_at queued j) ≡ true
+  pub added : AddsOpen f old.items now.items
 
 -- a state of the queue has a number below theirs
 pub queued_inside : (f : Frontier) (s : ℕ) → IsSome (frontier.key_at f s) → s < frontier.states_of f
@@ -32,15 +33,24 @@ queued_inside f s is =
     (λ (past : frontier.states_of f ≤ s). absurd (false≢true (rw (get_or_past f.keys s None past) at is)))
     (cases_lt s (frontier.states_of f))
 
-pub gathering_more : (most : ℕ) (queued : List Entry) (old now now' : Room) (i : ℕ) → IsGathering most queued old now i
-    → state_at queued i < most → now'.items ≡ now.items ++ lowers (state_at queued i) ∷ [] → now'.room ≡ now.room
-    → IsGathering most queued old now' (i + 1)
-gathering_more most queued old now now' i here small pushed room =
+-- one open state more
+adds_more : (f : Frontier) (old now : List Step) (s : ℕ) → AddsOpen f old now → IsSome (frontier.key_at f s) → AddsOpen f old (now ++ lowers s ∷ [])
+adds_more f old now s so queued = record {
+  more = so.more ++ lowers s ∷ [];
+  added = ap (λ (steps : List Step). steps ++ lowers s ∷ []) so.added ∙ append_assoc old so.more (lowers s ∷ []);
+  are_open = All-push (λ (step : Step). IsSome (frontier.key_at f step.state)) so.more (lowers s) so.are_open queued;
+  none_raised = All-push (λ (step : Step). step.raised ≡ false) so.more (lowers s) so.none_raised refl;
+}
+
+pub gathering_more : (f : Frontier) (queued : List Entry) (old now now' : Room) (i : ℕ) → IsGathering f queued old now i
+    → IsSome (frontier.key_at f (state_at queued i)) → now'.items ≡ now.items ++ lowers (state_at queued i) ∷ [] → now'.room ≡ now.room
+    → IsGathering f queued old now' (i + 1)
+gathering_more f queued old now now' i here is pushed room =
     let step = lowers (state_at queued i) in
     record {
       room = room ∙ here.room;
       longer = omega (arith, ap length pushed ∙ length-append now.items (step ∷ []), here.longer);
-      inside = rw pushed (All-push (λ (step : Step). step.state < most) now.items step here.inside small);
+      inside = rw pushed (All-push (λ (step : Step). step.state < frontier.states_of f) now.items step here.inside (queued_inside f (state_at queued i) is));
       kept = λ s was.
           rw pushed (among_push now.items step s ∙ or_left (is_among now.items s) (nat_eq (state_at queued i) s) (here.kept s was));
       gathered = λ j below.
@@ -53,6 +63,7 @@ gathering_more most queued old now now' i here small pushed room =
           let same : nat_eq (state_at queued i) state ≡ true = eq-eqb _ _ (sym (ap (state_at queued) at)) in
           rw pushed (among_push now.items step state ∙ or_right (is_among now.items state) (nat_eq (state_at queued i) state) same))
           (cases_lt j i);
+      added = rw pushed (adds_more f old.items now.items (state_at queued i) here.added is);
     }
 
 -- every state whose g and v differ is among the steps of the last pass and what its queue held

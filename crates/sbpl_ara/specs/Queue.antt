@@ -1,5 +1,6 @@
 -- The queue of a pass, which holds the open states with their keys.
-use Rattle.std.specs.Prelude.{◌≡◌, ◌≢◌, ℕ, ◌<◌, Bool, true, false, ◌||◌, nat_eq, Option, Some, None, List, [], ◌∷◌}
+use Rattle.std.specs.Prelude.{◌≡◌, ◌≢◌, ℕ, ◌<◌, Bool, true, false, ◌||◌, nat_eq, Option, Some, None, List, [], ◌∷◌, ◌++◌, IsSome}
+use Rattle.std.specs.List.{All}
 use Rattle.sbpl_open.specs.Frontier.{Frontier}
 use Rattle.sbpl_open.specs.Frontier as frontier
 use Rattle.sbpl_open.specs.Order.{IsBelow}
@@ -32,6 +33,13 @@ IsUnplaced eps h closed m f (Some t) = AreQueuedBut eps h closed m f t
 abbrev pub is_among : List Step → ℕ → Bool
 is_among [] s = false
 is_among (step ∷ rest) s = nat_eq step.state s || is_among rest s
+
+-- behind the old steps, which stay as they are, only steps of open states are added, none of them raised
+pub record AddsOpen (f : Frontier) (old new : List Step) : Type 0 where
+  pub more : List Step
+  pub added : new ≡ old ++ more
+  pub are_open : All (λ step. IsSome (frontier.key_at f step.state)) more
+  pub none_raised : All (λ step. step.raised ≡ false) more
 
 -- with no state closed, the queue holds those open states that are among those of the steps
 pub record AreRefilled (eps : ℕ) (h : ℕ → ℕ) (steps : List Step) (m : Marks) (f : Frontier) : Type 0 where

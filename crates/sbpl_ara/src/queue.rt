@@ -6,7 +6,7 @@ ghost use Rattle.sbpl_labels.specs.Marks.{states_of};
 ghost use Rattle.sbpl_open.specs.Frontier.{ChangesKey};
 ghost use Rattle.sbpl_open.specs.Frontier as frontier;
 ghost use Rattle.sbpl_ara.specs.Marked.{closed_at};
-ghost use Rattle.sbpl_ara.specs.Queue.{AreQueued, AreRefilled, IsUnplaced, is_among};
+ghost use Rattle.sbpl_ara.specs.Queue.{AddsOpen, AreQueued, AreRefilled, IsUnplaced, is_among};
 ghost use Rattle.sbpl_ara.specs.Run.{IsOpen, key_at, none_closed};
 
 use crate::{Closed, Step, Steps};
@@ -22,6 +22,8 @@ pub fn gather(queue: &Open, steps: &mut Steps)
     ensures kept { (s : ℕ) → is_among steps.old.items s ≡ true → is_among steps.new.items s ≡ true }
     ensures gathered { (s : ℕ) → IsSome (frontier.key_at queue.now s)
         → is_among steps.new.items s ≡ true }
+    ensures added { AddsOpen queue.now steps.old.items steps.new.items }
+    ensures few { length steps.new.items ≤ length steps.old.items + frontier.states_of queue.now }
     ensures room { steps.new.room ≡ steps.old.room }
 {
     let entries = queue.entries();

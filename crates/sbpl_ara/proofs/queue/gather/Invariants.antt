@@ -1,7 +1,6 @@
-use Rattle.sbpl_open.specs.Frontier as frontier
 use Rattle.sbpl_ara.proofs.Gathering.{IsGathering}
 use Rattle.sbpl_ara.proofs.queue.gather.Given as goal
 
 abbrev pub invariant-loop-entry : goal.invariant-loop-entry
 invariant-loop-entry l =
-    IsGathering (frontier.states_of l.queue) l.entries l.fn.steps l.steps l.entry-index
+    IsGathering l.queue l.entries l.fn.steps l.steps l.entry-index
