@@ -88,7 +88,7 @@ pub trait Desk {
     ///
     /// # Errors
     ///
-    /// - `Failed` only where the name's count of failed reads rose. A name that isn't held is such a fault.
+    /// - `Failed` only where the name's count of failed reads rose. A `MemoryDesk` fails where it holds no such name.
     /// - `TooLong` exactly where more than 2^30 bytes are held and the read did not fail.
     /// - `NoMemory` where memory ran out.
     fn read(&mut self, name: &str, into: &mut Vec<u8>) -> Result<(), ReadStop>

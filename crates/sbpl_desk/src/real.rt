@@ -17,8 +17,8 @@ const PIECE: usize = 8192;
 
 /// The files of the system and the standard output. It tells no bytes.
 ///
-/// Its counts of failed reads and of failed writes are those of every name. Each rises where the system
-/// answers a call with an error, and where it takes nothing of what is to be written.
+/// Its counts of failed reads and of failed writes are those of every name. Each rises where a call
+/// answers `Failed`: where the system answers with an error, or takes nothing of what is to be written.
 #[derive(Drop)]
 pub struct RealDesk<R: Files + Print + Alloc> {
     rt: R,

@@ -24,7 +24,7 @@ pub trait Graph {
         ensures value { result ≡ (network self.now).fan s }
         ensures few { result ≤ 4096 };
 
-    /// The state that arc `k` of `s` leads to, or `None` exactly where it leads off the map.
+    /// The state that arc `k` of `s` leads to, or `None` where it leads to none.
     fn head(&self, s: u32, k: u32) -> Option<u32>
         requires state { s < (network self.now).states }
         requires number { k < (network self.now).fan s }
@@ -48,8 +48,8 @@ pub trait Graph {
         ensures value { result ≡ (network self.now).tail_fan t }
         ensures few { result ≤ 4096 };
 
-    /// Tail `j` of `t`, as its source and the arc's number there, or `None` exactly where its source
-    /// would lie off the map.
+    /// Tail `j` of `t`, as its source and the arc's number there, or `None` where it comes
+    /// from no state.
     fn tail(&self, t: u32, j: u32) -> Option<(u32, u32)>
         requires state { t < (network self.now).states }
         requires number { j < (network self.now).tail_fan t }
