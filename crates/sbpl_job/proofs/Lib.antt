@@ -4,3 +4,4 @@ pub mod Finding
 pub mod Reading
 pub mod Naming
 pub mod PartedForms
+pub mod Asking

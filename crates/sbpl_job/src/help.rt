@@ -1,7 +1,8 @@
 //! Texts for people: help, the version, and a short usage.
 
-ghost use Rattle.std.specs.Prelude.{◌≡◌, map, string_bytes};
+ghost use Rattle.std.specs.Prelude.{◌≡◌, IsSome, None, map, string_bytes};
 ghost use Rattle.sbpl_job.specs.Asked.{asked_for, asked_of};
+ghost use Rattle.sbpl_job.specs.Jobs.{job_named};
 
 use crate::line::line_of;
 use crate::read::command_named;
@@ -81,6 +82,7 @@ fn asked_alone(word: &str) -> Option<Asked>
 /// name no job.
 pub fn read_asked(words: &[String]) -> Option<Asked>
     ensures asked { result ≡ asked_for (map string_bytes words.now) }
+    ensures no_job { IsSome result → job_named words.now ≡ None }
 {
     match words {
         [word] => asked_alone(word.as_str()),
