@@ -49,7 +49,8 @@ end_of e p source = state_in e (pos source.x +ℤ p.dx) (pos source.y +ℤ p.dy)
 abbrev pub head_by_offset : Environment → ℤ → ℤ → ℤ → ℤ → Primitive → Option ℕ
 head_by_offset e x y dx dy p = option_and_then (end_of e p) (place_on_map e (x -ℤ dx) (y -ℤ dy) p.from)
 
--- the head of the arc that reads cell (x, y) by a read of the table
+-- the head of the arc that reads cell (x, y) by a read of the table, which names a primitive and how far a cell that it
+-- reads lies from its source cell; none where there is no such arc, or it ends off the map
 unfoldable pub head_of_read : Environment → List Primitive → ℤ → ℤ → Read → Option ℕ
 head_of_read e prims x y r = option_and_then (head_by_offset e x y r.cell.x r.cell.y) (slice_get prims r.prim)
 

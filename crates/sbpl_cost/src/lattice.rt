@@ -1,6 +1,7 @@
 //! The lattice: an environment, primitives and a map, as a graph.
 
-ghost use Rattle.std.specs.Prelude.{◌≡◌, pos, ◌^◌, ◌<◌, ◌≤◌, ◌↔◌, length, slice_get, Some, IsSome, IfSome, IsOk, IfOk, IfErr, OnOk, OnErr};
+ghost use Rattle.std.specs.Prelude.{◌≡◌, pos, ◌^◌, ◌<◌, ◌≤◌, ◌↔◌, ◌++◌, length, slice_get, Some, IsSome, IfSome, IsOk, IfOk, IfErr, OnOk, OnErr};
+ghost use Rattle.std.specs.List.{filter_map};
 ghost use Rattle.sbpl_mprim.specs.declared.prim.Primitive.{Primitive};
 ghost use Rattle.sbpl_sweep.specs.Swept.{AreSweepsOf};
 ghost use Rattle.sbpl_map.specs.CellMap.{cost_at, IsOnMap, ChangesCell};
@@ -9,7 +10,7 @@ ghost use Rattle.sbpl_cost.specs.States.{IsPlace, place_of, state_number};
 ghost use Rattle.sbpl_cost.specs.World.{World, IsWorld};
 ghost use Rattle.sbpl_cost.specs.Arc.{IsArcBy};
 ghost use Rattle.sbpl_cost.specs.Lattices.{network_of, arc_place, leaving, entering};
-ghost use Rattle.sbpl_cost.specs.Reading.{AddsHeads, UnreadCostTheSame, DifferInCostsAlone};
+ghost use Rattle.sbpl_cost.specs.Reading.{head_of_read, AddsHeads, UnreadCostTheSame, DifferInCostsAlone};
 ghost use Rattle.sbpl_cost.specs.Tables.{AreCheap, IsCause};
 
 use crate::checked::{along_table, around_table};
@@ -220,11 +221,13 @@ impl Lattice {
         self.map.cost(x, y)
     }
 
-    /// Adds to a list the heads of all arcs with a head whose judgement reads cell `(x, y)`, which may be off the map. A
-    /// state can be added more than once, but at most once for each pair of a primitive and a cell that it reads. After
-    /// `NoMemory` the list is unchanged.
+    /// Adds to a list the heads of all arcs with a head whose judgement reads cell `(x, y)`, which may be off the map: for
+    /// each pair of a primitive and a cell that it reads, in the order of the table of reads, the head of its arc that reads
+    /// `(x, y)` as that cell, where there is one. So a state can be added more than once. After `NoMemory` the list is
+    /// unchanged.
     pub fn heads_reading(&self, x: u32, y: u32, into: &mut Vec<u32>) -> Result<(), NoMemory>
         ensures heads { OnOk result (AddsHeads self.now (pos x) (pos y) into.old.items into.new.items) }
+        ensures listed { OnOk result (into.new.items ≡ into.old.items ++ filter_map (head_of_read self.now.env self.now.prims.items (pos x) (pos y)) self.now.sweeps.reads) }
         ensures memory { OnErr result (into.new.items ≡ into.old.items) }
     {
         add_heads(&self.env, &self.prims, self.sweeps.reads(), x, y, into)?;
