@@ -5,7 +5,7 @@ use Rattle.sbpl_labels.specs.Counts.{Counts}
 use Rattle.sbpl_labels.specs.Marks.{Marks}
 use Rattle.sbpl_ara.specs.Search.{Search}
 use Rattle.sbpl_plan.specs.declared.passes.Pass.{Pass}
-use Rattle.sbpl_plan.specs.Passing.{Inquiry, expansions}
+use Rattle.sbpl_plan.specs.Passing.{Inquiry}
 use Rattle.sbpl_plan.specs.Stopped.{IsStopped}
 use Rattle.sbpl_plan.specs.Turns.{IsTurn}
 use Rattle.sbpl_plan.proofs.Planning.{AreGoingOn, expansions_of_both, grows_twice}
