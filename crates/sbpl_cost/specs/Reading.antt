@@ -31,8 +31,8 @@ pub record IsHeadReading (w : World) (x y : ℤ) (t : ℕ) : Type 0 where
   pub arc : IsArc (network_of w) source number t
   pub reads : ReadsCell w source number x y
 
--- the heads of all arcs that read cell (x, y), and no other states, were added behind a list, at most one for each pair of
--- a primitive and a cell that it reads
+-- the heads of all arcs that read cell (x, y), and no other states, were added behind a list, no more of them than
+-- there are pairs of a primitive and a cell that it reads
 pub record AddsHeads (w : World) (x y : ℤ) (old new : List ℕ) : Type 0 where
   pub added : List ℕ
   pub kept : new ≡ old ++ added
