@@ -16,7 +16,7 @@ use Rattle.sbpl_cli.specs.declared.refusal.Stop.{Stop}
 use Rattle.sbpl_cli.specs.declared.refusal.Stop.TheVariants as stop
 use Rattle.sbpl_cli.specs.Causes.{AtName, ChangesStopFor, EarlyStopsFor, IsCause, IsChangesCause, IsFaultyChanges, IsJobCause, IsLabelsCause, IsRead, IsTooLong, JobStopsFor, SaysBatches, SaysWorld, StopsFor}
 use Rattle.sbpl_cli.specs.Intents.{Intent, Refused, OutOfMemory, intent_status, refusal_status, refusal_writes, writes_of}
-use Rattle.sbpl_cli.specs.Promises.{ComesTo, EndsJob, MayBeWritten}
+use Rattle.sbpl_cli.specs.Promises.{ComesTo, EndsJob, IsWrittenFor, MayBeWritten}
 use Rattle.sbpl_cli.specs.Writing.{EndsAs, FaultCounts, IsOutput, StaysBut, Told}
 use Rattle.sbpl_cli.proofs.Writings.{ends_since, none_made, rose_since}
 
@@ -130,17 +130,22 @@ sweep_stop held f g from stop.NoMemory cause = tt
 -- ---- the end of a job
 
 -- the job came to this, and then its writes were made
-pub ended : (held : Told) (reads reads' : FaultCounts) (before mid after : Told) (f g h : FaultCounts) (j : Job) (i : Intent) (status : ℕ) → ComesTo held reads reads' j i → Stays before mid → NoneFalls f g → EndsAs mid after g h (writes_of j i) (intent_status i) status → EndsJob held reads reads' before after f h j status
-ended held reads reads' before mid after f g h j i status comes same low ends = record { intent = i; comes = comes; ends = ends_since before mid after f g h _ _ status same low ends }
+pub ended : (held : Told) (reads reads' : FaultCounts) (before mid after : Told) (f g h : FaultCounts) (j : Job) (i : Intent) (status : ℕ) → ComesTo held reads reads' j i → Stays before mid → NoneFalls f g → EndsAs mid after g h (writes_of j i) (intent_status i) status → StaysBut (IsWrittenFor j i) mid after → EndsJob held reads reads' before after f h j status
+ended held reads reads' before mid after f g h j i status comes same low ends others = record {
+  intent = i;
+  comes = comes;
+  ends = ends_since before mid after f g h _ _ status same low ends;
+  others = λ name other. others name other ∙ same name;
+}
 
 -- the job was refused, and then the line that says so was written
-pub refused : (held : Told) (reads mid_reads reads' : FaultCounts) (before mid after : Told) (f g h : FaultCounts) (j : Job) (r : Refusal) (status : ℕ) → IsJobCause held reads mid_reads j r → NoneFalls reads mid_reads → NoneFalls mid_reads reads' → Stays before mid → NoneFalls f g → EndsAs mid after g h (refusal_writes j r) (refusal_status r) status → EndsJob held reads reads' before after f h j status
-refused held reads mid_reads reads' before mid after f g h j r status cause low high same fewer ends =
-    ended held reads reads' before mid after f g h j (Refused r) status (job_cause_later held reads mid_reads reads' j r low high cause) same fewer ends
+pub refused : (held : Told) (reads mid_reads reads' : FaultCounts) (before mid after : Told) (f g h : FaultCounts) (j : Job) (r : Refusal) (status : ℕ) → IsJobCause held reads mid_reads j r → NoneFalls reads mid_reads → NoneFalls mid_reads reads' → Stays before mid → NoneFalls f g → EndsAs mid after g h (refusal_writes j r) (refusal_status r) status → StaysBut IsOutput mid after → EndsJob held reads reads' before after f h j status
+refused held reads mid_reads reads' before mid after f g h j r status cause low high same fewer ends others =
+    ended held reads reads' before mid after f g h j (Refused r) status (job_cause_later held reads mid_reads reads' j r low high cause) same fewer ends others
 
 -- memory ran out before anything was written
 pub memory_ended : (held : Told) (reads reads' : FaultCounts) (before after : Told) (f h : FaultCounts) (j : Job) → Stays before after → EndsJob held reads reads' before after f h j 9
-memory_ended held reads reads' before after f h j same = record { intent = OutOfMemory; comes = tt; ends = inl (refl, none_made before after same) }
+memory_ended held reads reads' before after f h j same = record { intent = OutOfMemory; comes = tt; ends = inl (refl, none_made before after same); others = λ name none. same name }
 
 -- the standard output is a name that each job may write under
 pub plain_is : (j : Job) (name : List ℕ) → IsOutput name → MayBeWritten (Some j) name

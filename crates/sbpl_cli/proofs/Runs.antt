@@ -5,6 +5,7 @@ use Rattle.sbpl_cfg.specs.declared.fault.EnvFault.{EnvFault}
 use Rattle.sbpl_cfg.specs.Environment.{Environment}
 use Rattle.sbpl_mprim.specs.declared.fault.PrimFault.{PrimFault}
 use Rattle.sbpl_mprim.specs.Primitives.{Primitives}
+use Rattle.sbpl_desk.specs.Desk.{Stays}
 use Rattle.sbpl_sweep.specs.Widths.{IsFirstTooWide, NoneTooWide}
 use Rattle.sbpl_cost.specs.PrimitiveCost.{IsFirstTooDear}
 use Rattle.sbpl_cost.specs.Alike.{AlikeWorldsAreOneGraph}
@@ -30,9 +31,9 @@ use Rattle.sbpl_cli.specs.declared.refusal.Refusal.TheVariants as refusal
 use Rattle.sbpl_cli.specs.Causes.{IsCause, IsEarlyCause, IsJobCause, IsTooLong, SaysBatches, SaysWorld}
 use Rattle.sbpl_cli.specs.Intents.{Intent, Refused, Planned, Checked, Listed, Demonstrated, OutOfMemory, checked_status, checked_writes, demo_writes, end_writes, intent_status, labels_text, labels_writes, last_write, lines_writes, plans_status, plans_writes, refusal_status, section_writes, stop_writes, trace_writes, words_writes, writes_of}
 use Rattle.sbpl_cli.specs.Listing.{listings}
-use Rattle.sbpl_cli.specs.Promises.{AreGood, AtJob, ComesTo, EndsJob, EndsRun, by_job, by_words, by_memory, IsCutShort, IsCheckedIn, IsDone, IsFaultFound, IsFlawFound, IsNoCheck, IsOrFailed, IsOrUnwritten, IsRefused, IsStatus, IsStopped, MayBeWritten, SomeRose, Tells, TellsBatches, TellsChangeFault, TellsEnvironment, TellsEnvironmentFault, TellsPrimitiveFault, TellsPrimitives, TellsTooMuch, TellsWorld, changes_of, sources_of}
+use Rattle.sbpl_cli.specs.Promises.{AreGood, AtJob, ComesTo, EndsJob, EndsRun, by_job, by_words, by_memory, IsCutShort, IsCheckedIn, IsDone, IsFaultFound, IsFlawFound, IsNoCheck, IsOrFailed, IsOrUnwritten, IsRefused, IsStatus, IsStopped, IsWrittenFor, MayBeWritten, SomeRose, Tells, TellsBatches, TellsChangeFault, TellsEnvironment, TellsEnvironmentFault, TellsPrimitiveFault, TellsPrimitives, TellsTooMuch, TellsWorld, changes_of, sources_of}
 use Rattle.sbpl_cli.specs.Traces.{trace_text}
-use Rattle.sbpl_cli.specs.Writing.{AreMade, EndsAs, FaultCounts, IsCutAt, IsNamed, IsOutput, IsOutputOf, IsStoppedAt, Told, Write, output, to_named, to_output}
+use Rattle.sbpl_cli.specs.Writing.{AreMade, EndsAs, FaultCounts, IsCutAt, IsNamed, IsOutput, IsOutputOf, IsStoppedAt, StaysBut, Told, Write, output, to_named, to_output}
 use Rattle.sbpl_cli.proofs.Ends.{plain_is}
 use Rattle.sbpl_cli.specs.Clear.{TextsAreClear}
 use Rattle.sbpl_cli.specs.Clear.{SectionsAreClear}
@@ -228,20 +229,20 @@ module _ (held : Told) (reads reads' : FaultCounts) (before after : Told) (fault
   abbrev pub IsRefusing : ℕ → Type 0
   IsRefusing s = (3 ≤ s) × (s ≤ 8) × (s ≢ 7)
 
-  refused_by : (j : Job) (i : Intent) (status : ℕ) → ComesTo held reads reads' j i → intent_status i ≡ status → 3 ≤ status → status ≤ 8 → AreMade before after (writes_of j i) → IsRefused held reads reads' before after status j
-  refused_by j (Refused r) status comes is low high made = record { refusal = r; has_status = is; cause = comes; line = made }
-  refused_by j (Planned records all) status comes is low high made = absurd (not_plans all status (sym is) (λ h. omega arith) (λ h. omega arith))
-  refused_by j (Checked goal os None) status comes is low high made = absurd (omega arith)
-  refused_by j (Checked goal os (Some (section.Flaw x))) status comes is low high made = absurd (omega arith)
-  refused_by j (Checked goal os (Some (section.Fault x))) status comes is low high made = absurd (omega arith)
-  refused_by j (Checked goal os (Some section.NoMemory)) status comes is low high made = absurd (omega arith)
-  refused_by j (Listed w) status comes is low high made = absurd (omega arith)
-  refused_by j (Demonstrated w count records all) status comes is low high made = absurd (not_plans all status (sym is) (λ h. omega arith) (λ h. omega arith))
-  refused_by j OutOfMemory status comes is low high made = absurd (omega arith)
+  refused_by : (j : Job) (i : Intent) (status : ℕ) → ComesTo held reads reads' j i → intent_status i ≡ status → 3 ≤ status → status ≤ 8 → AreMade before after (writes_of j i) → StaysBut (IsWrittenFor j i) before after → IsRefused held reads reads' before after status j
+  refused_by j (Refused r) status comes is low high made others = record { refusal = r; has_status = is; cause = comes; line = made; others = others }
+  refused_by j (Planned records all) status comes is low high made others = absurd (not_plans all status (sym is) (λ h. omega arith) (λ h. omega arith))
+  refused_by j (Checked goal os None) status comes is low high made others = absurd (omega arith)
+  refused_by j (Checked goal os (Some (section.Flaw x))) status comes is low high made others = absurd (omega arith)
+  refused_by j (Checked goal os (Some (section.Fault x))) status comes is low high made others = absurd (omega arith)
+  refused_by j (Checked goal os (Some section.NoMemory)) status comes is low high made others = absurd (omega arith)
+  refused_by j (Listed w) status comes is low high made others = absurd (omega arith)
+  refused_by j (Demonstrated w count records all) status comes is low high made others = absurd (not_plans all status (sym is) (λ h. omega arith) (λ h. omega arith))
+  refused_by j OutOfMemory status comes is low high made others = absurd (omega arith)
 
   job_refused : (j : Job) (status wanted : ℕ) → EndsJob held reads reads' before after faults faults' j status → status ≡ wanted → IsRefusing wanted → IsRefused held reads reads' before after wanted j
   job_refused j status wanted e at (low, high, seven) = elim e.ends [
-    | inl (is, made) ↦ refused_by j e.intent wanted e.comes (sym is ∙ at) low high made
+    | inl (is, made) ↦ refused_by j e.intent wanted e.comes (sym is ∙ at) low high made e.others
     | inr (inl (is, cut)) ↦ absurd (seven (sym at ∙ is))
     | inr (inr (is, stopped)) ↦ absurd (omega arith)
   ]
@@ -293,7 +294,7 @@ module _ (held : Told) (reads reads' : FaultCounts) (before after : Told) (fault
   job_cut : (j : Job) (status : ℕ) → EndsJob held reads reads' before after faults faults' j status → status ≡ 7 → IsCutShort held reads reads' before after faults faults' j
   job_cut j status e seven = elim e.ends [
     | inl (is, made) ↦ absurd (not_intent e.intent status is (inl seven))
-    | inr (inl (is, cut)) ↦ record { intent = e.intent; comes = e.comes; cut = cut }
+    | inr (inl (is, cut)) ↦ record { intent = e.intent; comes = e.comes; cut = cut; others = e.others }
     | inr (inr (is, stopped)) ↦ absurd (omega arith)
   ]
 
@@ -303,9 +304,9 @@ module _ (held : Told) (reads reads' : FaultCounts) (before after : Told) (fault
 
   job_stopped : (j : Job) (status : ℕ) → EndsJob held reads reads' before after faults faults' j status → status ≡ 9 → IsStopped held reads reads' before after j
   job_stopped j status e nine = elim e.ends [
-    | inl (is, made) ↦ record { intent = e.intent; comes = e.comes; stopped = all_made (writes_of j e.intent) made }
+    | inl (is, made) ↦ record { intent = e.intent; comes = e.comes; stopped = all_made (writes_of j e.intent) made; others = e.others }
     | inr (inl (is, cut)) ↦ absurd (omega arith)
-    | inr (inr (is, stopped)) ↦ record { intent = e.intent; comes = e.comes; stopped = stopped }
+    | inr (inr (is, stopped)) ↦ record { intent = e.intent; comes = e.comes; stopped = stopped; others = e.others }
   ]
 
   job_not_words : (j : Job) (status : ℕ) → EndsJob held reads reads' before after faults faults' j status → status ≡ 2 → ⊥
@@ -356,7 +357,7 @@ module _ (held : Told) (reads reads' : FaultCounts) (before after : Told) (fault
     run_status (by_words is (inl (at, made))) = is_two status at
     run_status (by_words is (inr (inl (at, cut)))) = is_seven status at
     run_status (by_words is (inr (inr (at, stopped)))) = is_nine status at
-    run_status (by_memory at made) = is_nine status at
+    run_status (by_memory at same) = is_nine status at
 
     words_statuses : EndsAs before after faults faults' words_writes 2 status → (status ≡ 2) ⊎ ((status ≡ 7) ⊎ (status ≡ 9))
     words_statuses (inl (at, made)) = inl at
@@ -369,36 +370,36 @@ module _ (held : Told) (reads reads' : FaultCounts) (before after : Told) (fault
     pub run_done : EndsRun named held reads reads' before after faults faults' status → status ≡ 0 → AtJob named (IsDone held before after)
     run_done (by_job j is e) zero = (j, is, job_done j status e zero)
     run_done (by_words is ends) zero = absurd (not_by_words ends (λ h. omega arith) (λ h. omega arith) (λ h. omega arith))
-    run_done (by_memory at made) zero = absurd (omega arith)
+    run_done (by_memory at same) zero = absurd (omega arith)
 
     pub run_words : EndsRun named held reads reads' before after faults faults' status → status ≡ 2 → (named ≡ None) × AreMade before after words_writes
     run_words (by_job j is e) two = absurd (job_not_words j status e two)
     run_words (by_words is (inl (at, made))) two = (is, made)
     run_words (by_words is (inr (inl (at, cut)))) two = absurd (omega arith)
     run_words (by_words is (inr (inr (at, stopped)))) two = absurd (omega arith)
-    run_words (by_memory at made) two = absurd (omega arith)
+    run_words (by_memory at same) two = absurd (omega arith)
 
     pub run_refused : (wanted : ℕ) → EndsRun named held reads reads' before after faults faults' status → status ≡ wanted → IsRefusing wanted → AtJob named (IsRefused held reads reads' before after wanted)
     run_refused wanted (by_job j is e) at other = (j, is, job_refused j status wanted e at other)
     run_refused wanted (by_words is ends) at (low, high, seven) = absurd (not_by_words ends (λ h. omega arith) (λ h. seven (sym at ∙ h)) (λ h. omega arith))
-    run_refused wanted (by_memory nine made) at (low, high, seven) = absurd (omega arith)
+    run_refused wanted (by_memory nine same) at (low, high, seven) = absurd (omega arith)
 
     pub run_flawed : EndsRun named held reads reads' before after faults faults' status → status ≡ 1 → AtJob named (IsFlawFound held before after)
     run_flawed (by_job j is e) one = (j, is, job_flawed j status e one)
     run_flawed (by_words is ends) one = absurd (not_by_words ends (λ h. omega arith) (λ h. omega arith) (λ h. omega arith))
-    run_flawed (by_memory at made) one = absurd (omega arith)
+    run_flawed (by_memory at same) one = absurd (omega arith)
 
     pub run_faulted : EndsRun named held reads reads' before after faults faults' status → status ≡ 10 → AtJob named (IsFaultFound held before after)
     run_faulted (by_job j is e) ten = (j, is, job_faulted j status e ten)
     run_faulted (by_words is ends) ten = absurd (not_by_words ends (λ h. omega arith) (λ h. omega arith) (λ h. omega arith))
-    run_faulted (by_memory at made) ten = absurd (omega arith)
+    run_faulted (by_memory at same) ten = absurd (omega arith)
 
     pub run_cut : EndsRun named held reads reads' before after faults faults' status → status ≡ 7 → AtJob named (IsCutShort held reads reads' before after faults faults') ⊎ ((named ≡ None) × IsCutAt before after faults faults' words_writes)
     run_cut (by_job j is e) seven = inl (j, is, job_cut j status e seven)
     run_cut (by_words is (inl (at, made))) seven = absurd (omega arith)
     run_cut (by_words is (inr (inl (at, cut)))) seven = inr (is, cut)
     run_cut (by_words is (inr (inr (at, stopped)))) seven = absurd (omega arith)
-    run_cut (by_memory at made) seven = absurd (omega arith)
+    run_cut (by_memory at same) seven = absurd (omega arith)
 
     pub run_write : EndsRun named held reads reads' before after faults faults' status → status ≡ 7 → SomeRose named faults faults'
     run_write ends seven = elim (run_cut ends seven) [
@@ -406,17 +407,17 @@ module _ (held : Told) (reads reads' : FaultCounts) (before after : Told) (fault
       | inr (is, cut) ↦ subst (λ (o : Option Job). SomeRose o faults faults') (sym is) (cut_rose None before after faults faults' words_writes (refl, tt) cut)
     ]
 
-    pub run_stopped : EndsRun named held reads reads' before after faults faults' status → status ≡ 9 → AtJob named (IsStopped held reads reads' before after) ⊎ (((named ≡ None) × IsStoppedAt before after words_writes) ⊎ AreMade before after [])
+    pub run_stopped : EndsRun named held reads reads' before after faults faults' status → status ≡ 9 → AtJob named (IsStopped held reads reads' before after) ⊎ (((named ≡ None) × IsStoppedAt before after words_writes) ⊎ Stays before after)
     run_stopped (by_job j is e) nine = inl (j, is, job_stopped j status e nine)
     run_stopped (by_words is (inl (at, made))) nine = absurd (omega arith)
     run_stopped (by_words is (inr (inl (at, cut)))) nine = absurd (omega arith)
     run_stopped (by_words is (inr (inr (at, stopped)))) nine = inr (inl (is, stopped))
-    run_stopped (by_memory at made) nine = inr (inr made)
+    run_stopped (by_memory at same) nine = inr (inr same)
 
     pub run_no_job : EndsRun named held reads reads' before after faults faults' status → named ≡ None → IsOrUnwritten 2 status
     run_no_job (by_job j is e) none = absurd (cc)
     run_no_job (by_words is ends) none = words_statuses ends
-    run_no_job (by_memory at made) none = inr (inr at)
+    run_no_job (by_memory at same) none = inr (inr at)
 
     -- where the words name a job, what holds of each way that it can come holds of the run
     by_each : (j : Job) (wanted : ℕ) → EndsRun named held reads reads' before after faults faults' status → named ≡ Some j → ((i : Intent) → ComesTo held reads reads' j i → IsOrFailed wanted (intent_status i)) → IsOrFailed wanted status
@@ -424,7 +425,7 @@ module _ (held : Told) (reads reads' : FaultCounts) (before after : Told) (fault
         let same : other ≡ j = cc in
         job_status j status wanted (subst (λ k. EndsJob held reads reads' before after faults faults' k status) same e) each
     by_each j wanted (by_words is ends) names each = absurd (cc)
-    by_each j wanted (by_memory at made) names each = inr (inr (inr at))
+    by_each j wanted (by_memory at same) names each = inr (inr (inr at))
 
     -- where the files stand for no world and batches, a job is refused for one of them, or memory runs out
     by_early : (j : Job) (from : Sources) (wanted : ℕ) → EndsRun named held reads reads' before after faults faults' status → named ≡ Some j → sources_of j ≡ Some from → ((r : Refusal) → IsEarlyCause held reads reads' from (changes_of j) r → IsOrFailed wanted (refusal_status r)) → (SaysCourse held from (changes_of j) → ⊥) → IsOrFailed wanted status
@@ -517,7 +518,7 @@ module _ (held : Told) (reads reads' : FaultCounts) (before after : Told) (fault
           | inr (inr (at, stopped)) ↦ inr (inr at)
         ]
     run_demonstrated (by_words is ends) d names = absurd (cc)
-    run_demonstrated (by_memory at made) d names = inr (inr at)
+    run_demonstrated (by_memory at same) d names = inr (inr at)
 
     -- where the files stand for a world and batches, a check is refused for its file of labels alone
     check_refused : TextsAreClear → (c : CheckJob) (w : World) (batches : List (List change.Write)) (wanted : ℕ) → TellsWorld held c.sources w → TellsBatches held c.changes w.map batches → (IsTooLong (held c.labels) → IsOrFailed wanted 8) → (r : Refusal) → IsJobCause held reads reads' (job.Check c) r → IsOrFailed wanted (refusal_status r)

@@ -29,6 +29,7 @@ use Rattle.sbpl_cli.proofs.OneRefusal.{AreBadLabels, AreBadSources, IsBadCourse,
 use Rattle.sbpl_cli.proofs.SameChecked.{check_as_far}
 use Rattle.sbpl_cli.proofs.SameLines.{few_demonstrated, one_demonstrated, one_first_line, one_listed}
 use Rattle.sbpl_cli.proofs.SamePlanned.{few_planned, one_planned}
+use Rattle.sbpl_cli.proofs.Writings.{none_made}
 
 -- ---- how two ends of a job go together
 
@@ -323,7 +324,7 @@ module _ (clear : TextsAreClear) (sections : SectionsAreClear) (one_map : OneMap
         let same : other ≡ j = same_Some other j (sym at ∙ is) in
         job_whole j whole status told calls free (subst (λ (k : Job). EndsJob held reads reads' before after faults faults' k status) same e)
     run_whole named status (by_words none ends) j whole is told calls free = absurd (none_names j (sym none ∙ is))
-    run_whole named status (by_memory nine made) j whole is told calls (no_read, no_write, no_want) = absurd (no_want nine)
+    run_whole named status (by_memory nine same) j whole is told calls (no_read, no_write, no_want) = absurd (no_want nine)
 
     pub run_front : (named : Option Job) (status : ℕ) → EndsRun named held reads reads' before after faults faults' status → (j : Job) (whole : Intent) → named ≡ Some j → AreTold held j → NoneRose j reads reads' → CallsFor held j whole
         → AreFronts before after (writes_of j whole)
@@ -331,4 +332,4 @@ module _ (clear : TextsAreClear) (sections : SectionsAreClear) (one_map : OneMap
         let same : other ≡ j = same_Some other j (sym at ∙ is) in
         job_front j whole status told quiet_reads calls (subst (λ (k : Job). EndsJob held reads reads' before after faults faults' k status) same e)
     run_front named status (by_words none ends) j whole is told quiet_reads calls = absurd (none_names j (sym none ∙ is))
-    run_front named status (by_memory nine made) j whole is told quiet_reads calls = made_front before after [] (writes_of j whole) (writes_of j whole) refl made
+    run_front named status (by_memory nine same) j whole is told quiet_reads calls = made_front before after [] (writes_of j whole) (writes_of j whole) refl (none_made before after same)

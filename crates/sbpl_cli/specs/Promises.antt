@@ -29,10 +29,10 @@ use Rattle.sbpl_cli.specs.declared.record.PlanRecord.{PlanRecord}
 use Rattle.sbpl_cli.specs.declared.refusal.Refusal.{Refusal}
 use Rattle.sbpl_cli.specs.Causes.{AreDemonstrated, ArePlanned, IsJobCause, IsRead, NoneTooDear, SaysBatches, SaysWorld}
 use Rattle.sbpl_sweep.specs.Widths.{NoneTooWide}
-use Rattle.sbpl_cli.specs.Intents.{Intent, Refused, Planned, Checked, Listed, Demonstrated, OutOfMemory, checked_status, checked_writes, demo_writes, end_writes, intent_status, listing_writes, plans_status, plans_writes, refusal_status, refusal_writes, words_writes, writes_of}
+use Rattle.sbpl_cli.specs.Intents.{Intent, Refused, Planned, Checked, Listed, Demonstrated, OutOfMemory, checked_status, checked_writes, demo_writes, end_writes, intent_status, listing_writes, outputs_of, plans_status, plans_writes, refusal_status, refusal_writes, words_writes, writes_of}
 use Rattle.sbpl_cli.specs.Texts.{HasChangeFault, HasEnvironmentFault, HasPrimitiveFault, IsChangeText, IsEnvironmentText, IsPrimitiveText}
-use Rattle.sbpl_desk.specs.Desk.{Rose}
-use Rattle.sbpl_cli.specs.Writing.{AreMade, EndsAs, FaultCounts, IsCutAt, IsOutput, IsOutputOf, IsStoppedAt, Told, Write}
+use Rattle.sbpl_desk.specs.Desk.{Rose, Stays}
+use Rattle.sbpl_cli.specs.Writing.{AreMade, EndsAs, FaultCounts, IsCutAt, IsOutput, IsOutputOf, IsStoppedAt, StaysBut, Told, Write}
 
 -- the words name this job, of which P holds
 abbrev pub AtJob : Option Job → (Job → Type 0) → Type 0
@@ -109,12 +109,14 @@ IsDone held before after (job.Check j) = IsJudged held before after None j
 IsDone held before after (job.Sweep from) = IsListed held before after from
 IsDone held before after (job.Demo d) = IsDemonstrated before after d
 
--- the job was refused with this status, for a cause, and the line of the refusal was written
+-- the job was refused with this status, for a cause, and the line of the refusal was written, and nothing under other names than
+-- that of the standard output
 pub record IsRefused (held : Told) (reads reads' : FaultCounts) (before after : Told) (status : ℕ) (j : Job) : Type 0 where
   pub refusal : Refusal
   pub has_status : refusal_status refusal ≡ status
   pub cause : IsJobCause held reads reads' j refusal
   pub line : AreMade before after (refusal_writes j refusal)
+  pub others : StaysBut IsOutput before after
 
 -- the job `demo` comes to plans of a demonstration in this world, with so many batches
 abbrev pub IsDemonstration : DemoJob → World → (batches : ℕ) → List PlanRecord → (all : Bool) → Type 0
@@ -141,23 +143,37 @@ ComesTo held reads reads' (job.Sweep from) (Demonstrated w batches records all) 
 ComesTo held reads reads' (job.Demo d) (Demonstrated w batches records all) = IsDemonstration d w batches records all
 ComesTo held reads reads' j OutOfMemory = Unit {0}
 
--- a write of what the job comes to failed: those before it were made, and a front of it
+-- the name is one that a job which comes to this may write under: beside the standard output only where plans were made, and
+-- none where memory runs out before anything is written
+abbrev pub IsWrittenFor : Job → Intent → List ℕ → Type 0
+IsWrittenFor j (Refused r) name = IsOutput name
+IsWrittenFor j (Planned records all) name = IsOutputOf (outputs_of j) name
+IsWrittenFor j (Checked goal os end) name = IsOutput name
+IsWrittenFor j (Listed w) name = IsOutput name
+IsWrittenFor j (Demonstrated w batches records all) name = IsOutput name
+IsWrittenFor j OutOfMemory name = ⊥
+
+-- a write of what the job comes to failed: those before it were made, and a front of it, and nothing under other names than such
+-- a job's
 pub record IsCutShort (held : Told) (reads reads' : FaultCounts) (before after : Told) (faults faults' : FaultCounts) (j : Job) : Type 0 where
   pub intent : Intent
   pub comes : ComesTo held reads reads' j intent
   pub cut : IsCutAt before after faults faults' (writes_of j intent)
+  pub others : StaysBut (IsWrittenFor j intent) before after
 
--- the first few writes of what the job comes to were made
+-- the first few writes of what the job comes to were made, and nothing under other names than such a job's
 pub record IsStopped (held : Told) (reads reads' : FaultCounts) (before after : Told) (j : Job) : Type 0 where
   pub intent : Intent
   pub comes : ComesTo held reads reads' j intent
   pub stopped : IsStoppedAt before after (writes_of j intent)
+  pub others : StaysBut (IsWrittenFor j intent) before after
 
 -- how a job ends, by the program's status
 pub record EndsJob (held : Told) (reads reads' : FaultCounts) (before after : Told) (faults faults' : FaultCounts) (j : Job) (status : ℕ) : Type 0 where
   pub intent : Intent
   pub comes : ComesTo held reads reads' j intent
   pub ends : EndsAs before after faults faults' (writes_of j intent) (intent_status intent) status
+  pub others : StaysBut (IsWrittenFor j intent) before after
 
 -- how the checking of so many sections more, the first that of a plan, ends by the program's status
 pub record EndsSections (c : Case) (plan more : ℕ) (left : Left) (before after : Told) (faults faults' : FaultCounts) (status : ℕ) : Type 0 where
@@ -179,7 +195,7 @@ pub record EndsPlans (written_of : PlanRecord → List Write) (w : World) (batch
 pub data EndsRun (named : Option Job) (held : Told) (reads reads' : FaultCounts) (before after : Told) (faults faults' : FaultCounts) (status : ℕ) : Type 0 where
   by_job : (j : Job) → named ≡ Some j → EndsJob held reads reads' before after faults faults' j status → EndsRun named held reads reads' before after faults faults' status
   by_words : named ≡ None → EndsAs before after faults faults' words_writes 2 status → EndsRun named held reads reads' before after faults faults' status
-  by_memory : status ≡ 9 → AreMade before after [] → EndsRun named held reads reads' before after faults faults' status
+  by_memory : status ≡ 9 → Stays before after → EndsRun named held reads reads' before after faults faults' status
 
 -- the name is one that the job may write under
 abbrev pub MayBeWritten : Option Job → List ℕ → Type 0

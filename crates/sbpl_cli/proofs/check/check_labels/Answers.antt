@@ -30,6 +30,7 @@ returns-clause-ends g c =
         };
       };
       ends = ends_since _ _ _ _ _ _ _ _ _ c.read_check.ensures.written c.read_check.ensures.writes ends.ends;
+      others = λ name no. c.check_text.ensures.others name no ∙ c.read_check.ensures.written name;
     }
 
 pub returns-clause-held : goal.returns-clause-held

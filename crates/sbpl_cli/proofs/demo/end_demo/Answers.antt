@@ -30,6 +30,7 @@ returns-in-Err-clause-ends g c =
     )
     (λ name. refl) (λ name. omega arith)
     (status_ends _ _ _ _ _ 9 _ (Err c.in-Err.stop) c.in-Err.ensures.ends c.status_after.ensures.status)
+    c.write_first.ensures.others
 
 pub returns-clause-ends : goal.returns-clause-ends
 returns-clause-ends g c =
@@ -53,6 +54,7 @@ returns-clause-ends g c =
     )
     (λ name. refl) (λ name. omega arith)
     (ends_as_behind _ _ _ _ _ _ (_ ∷ []) (lines_writes e.records e.all) _ _ c.in_default-write_first.ensures.ends c.write_first.ensures.writes e.ends)
+    (stays_but_on _ _ _ _ c.write_first.ensures.others c.make_plans.ensures.others)
 
 pub returns-clause-held : goal.returns-clause-held
 returns-clause-held g c = stays_on _ _ _ c.write_first.ensures.held c.make_plans.ensures.held

@@ -24,7 +24,7 @@ returns-clause-ends g c =
         all_made = λ is. let count = e.all_made is in omega arith;
       };
     })
-    c.read_course.ensures.written c.read_course.ensures.writes e.ends
+    c.read_course.ensures.written c.read_course.ensures.writes e.ends c.make_plans.ensures.others
 
 pub returns-clause-held : goal.returns-clause-held
 returns-clause-held g c = stays_on _ _ _ c.read_course.ensures.held c.make_plans.ensures.held

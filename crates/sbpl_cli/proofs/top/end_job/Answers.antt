@@ -4,7 +4,7 @@ use Rattle.sbpl_cli.proofs.top.end_job.Goals as goal
 pub returns-in-Err-Refused-clause-ends : goal.returns-in-Err-Refused-clause-ends
 returns-in-Err-Refused-clause-ends g c =
     let seen = rw c.in-Err-Refused.field-0-is at c.in-Err-Refused.ensures in
-    refused _ _ (g.D.Desk.read_faults c.do_job.new.desk) _ _ _ _ _ (g.D.Desk.write_faults c.do_job.new.desk) _ c.args.job.now c.in-Err-Refused.refusal _ seen.stop c.do_job.ensures.reads c.refuse.ensures.reads seen.unwritten c.do_job.ensures.writes c.refuse.ensures.ends
+    refused _ _ (g.D.Desk.read_faults c.do_job.new.desk) _ _ _ _ _ (g.D.Desk.write_faults c.do_job.new.desk) _ c.args.job.now c.in-Err-Refused.refusal _ seen.stop c.do_job.ensures.reads c.refuse.ensures.reads seen.unwritten c.do_job.ensures.writes c.refuse.ensures.ends c.refuse.ensures.others
 
 pub returns-in-Err-NoMemory-clause-ends : goal.returns-in-Err-NoMemory-clause-ends
 returns-in-Err-NoMemory-clause-ends g c =
