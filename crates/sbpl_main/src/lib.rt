@@ -3,4 +3,4 @@
 
 mod program;
 
-pub use program::start;
+pub use program::{answer, start};

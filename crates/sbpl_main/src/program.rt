@@ -1,7 +1,8 @@
 //! The program from its start: its words, the texts that it prints itself, and its exit status.
 
-ghost use Rattle.std.specs.Prelude.{◌≡◌, ◌⊎◌, None};
+ghost use Rattle.std.specs.Prelude.{◌≡◌, ◌⊎◌, IsSome, None, map, string_bytes};
 ghost use Rattle.sbpl_cli.specs.Promises.{IsOrUnwritten, IsStatus};
+ghost use Rattle.sbpl_job.specs.Asked.{asked_for};
 ghost use Rattle.sbpl_job.specs.Jobs.{job_named};
 
 use sbpl_cli::run;
@@ -55,19 +56,29 @@ fn work(rt: HostRuntime, words: &[String]) -> u8
     status
 }
 
-/// Does what the program's words ask for, and answers the status: tells help or the version, or does the job that they name.
-///
-/// The status is one of those that the help lists.
+/// Does what words ask for, and answers the status: tells help or the version, or does the job that they name.
+pub fn answer(rt: HostRuntime, words: &[String]) -> u8
+    ensures status { IsStatus result }
+    // Words that ask for help or the version are told it, unless that cannot be written or memory runs out.
+    ensures asked { IsSome (asked_for (map string_bytes words.now)) → IsOrUnwritten 0 result }
+    // 2 only where the words name no job, and then, unless they ask for help or the version, or a write fails or memory runs out.
+    ensures words { result ≡ 2 → job_named words.now ≡ None }
+    ensures no_job { asked_for (map string_bytes words.now) ≡ None → job_named words.now ≡ None → IsOrUnwritten 2 result }
+{
+    match read_asked(words) {
+        Some(asked) => tell(&rt, asked),
+        None => work(rt, words),
+    }
+}
+
+/// Does what the program's words ask for, and answers the status, which is one of those that the help lists.
 pub fn start(rt: HostRuntime) -> u8
     ensures status { IsStatus result }
 {
     match words_of(&rt) {
-        Ok(words) => match read_asked(words.as_slice()) {
-            Some(asked) => tell(&rt, asked),
-            None => work(rt, words.as_slice()),
-        },
+        Ok(words) => answer(rt, words.as_slice()),
         Err(error) if error.kind() == io::ErrorKind::OutOfMemory => NO_MEMORY,
         // A word that isn't text names no job, like no word at all.
-        Err(_) => work(rt, &[]),
+        Err(_) => answer(rt, &[]),
     }
 }
