@@ -140,10 +140,10 @@ pub fn run<D: Desk>(alloc: Global, words: &[String], desk: &mut D) -> u8
     ensures changes { result ≡ 5 → AtJob (job_named words.now) (IsRefused (D.held desk.old) (D.read_faults desk.old) (D.read_faults desk.new) (D.written desk.old) (D.written desk.new) 5) }
     ensures unread { result ≡ 6 → AtJob (job_named words.now) (IsRefused (D.held desk.old) (D.read_faults desk.old) (D.read_faults desk.new) (D.written desk.old) (D.written desk.new) 6) }
     ensures length { result ≡ 8 → AtJob (job_named words.now) (IsRefused (D.held desk.old) (D.read_faults desk.old) (D.read_faults desk.new) (D.written desk.old) (D.written desk.new) 8) }
-    // 7: a write failed, and the writes before it and a front of it stand there, on the standard output alone where the job is refused.
+    // 7: a write failed, and the writes before it and a front of it stand there, on the standard output alone where the job comes to a refusal.
     ensures write { result ≡ 7 → SomeRose (job_named words.now) (D.write_faults desk.old) (D.write_faults desk.new) }
     ensures cut { result ≡ 7 → AtJob (job_named words.now) (IsCutShort (D.held desk.old) (D.read_faults desk.old) (D.read_faults desk.new) (D.written desk.old) (D.written desk.new) (D.write_faults desk.old) (D.write_faults desk.new)) ⊎ ((job_named words.now ≡ None) × IsCutAt (D.written desk.old) (D.written desk.new) (D.write_faults desk.old) (D.write_faults desk.new) words_writes) }
-    // 9: memory ran out, and the first few writes stand there, on the standard output alone where the job is refused.
+    // 9: memory ran out, and the first few writes stand there, on the standard output alone where the job comes to a refusal.
     ensures memory { result ≡ 9 → AtJob (job_named words.now) (IsStopped (D.held desk.old) (D.read_faults desk.old) (D.read_faults desk.new) (D.written desk.old) (D.written desk.new)) ⊎ (((job_named words.now ≡ None) × IsStoppedAt (D.written desk.old) (D.written desk.new) words_writes) ⊎ Stays (D.written desk.old) (D.written desk.new)) }
     // Words that name no job are refused, unless a write fails or memory runs out.
     ensures no_job { job_named words.now ≡ None → IsOrUnwritten 2 result }
