@@ -1,15 +1,13 @@
 -- What the items of a section mean, in both directions.
 use Rattle.std.proofs.Common.{◌≡◌, ℕ, ◌+◌, ◌*◌, ◌^◌, ◌<◌, ◌≤◌, Bool, true, false, ◌⊎◌, inl, inr, List, [], ◌∷◌, ℤ, pos, Result, Ok, Err, refl, sym, ap, ◌∙◌, arith}
-use Rattle.std.specs.Prelude.{bytes_eq, codes, if◌then◌else◌}
-use Rattle.std.proofs.lemmas.Bool.{cases_Bool, and_parts, cases_lt, lt-ltb, le-ltb, lt-leb, le-leb}
+use Rattle.std.specs.Prelude.{bytes_eq, codes, if◌then◌else◌, nat_le}
+use Rattle.std.proofs.lemmas.Bool.{cases_Bool, and_parts, leb-true, cases_lt, lt-ltb, le-ltb, lt-leb, le-leb}
 use Rattle.std.proofs.lemmas.Slice.Eq.{bytes_eq-Decides}
 use Rattle.sbpl_graph.specs.declared.TheConstants.{FAR}
 use Rattle.sbpl_fixed.specs.Numbers.{all_digits, is_digit, number_of}
-use Rattle.sbpl_fixed.specs.Unsigned.{below, IsDigits}
+use Rattle.sbpl_fixed.specs.Unsigned.{below, IsDigits, NumbersAreTheirDigits}
 use Rattle.sbpl_fixed.specs.declared.fault.NumFault.TheVariants.{Form, Size}
-use Rattle.sbpl_fixed.specs.Formats.{Miss, no_word, out_of_range}
-use Rattle.sbpl_fixed.proofs.Digits.{IsDigit-from_test}
-use Rattle.sbpl_fixed.proofs.UnsignedText.{digits_have_values, no_others_are_digits, millis_have_values, no_others_are_millis}
+use Rattle.sbpl_fixed.specs.Formats.{Miss, no_word, out_of_range, fixed}
 use Rattle.sbpl_cert.specs.Format.{as_number, digits, label, as_bound, bound, outcome_word}
 use Rattle.sbpl_cert.specs.Text.{MeansNumber, Means, a_label, a_milli}
 
@@ -31,73 +29,83 @@ below_out end n v e =
       | inr le ↦ absurd (let missed : as_number (Err Size) ≡ item_met v = rw (le-ltb n end le) at e in cc)
     ]
 
-pub digits_out : (end : ℕ) (bytes : List ℕ) (v : ℤ) → digits end bytes ≡ Ok v → (v ≡ pos (number_of bytes)) × (number_of bytes < end) × IsDigits bytes
-digits_out end bytes v e =
-    elim (no_others_are_digits end bytes) [
-      | inl none ↦ absurd (let missed : as_number (Err Form) ≡ item_met v = sym (ap as_number none) ∙ e in cc)
-      | inr is ↦ (let met = below_out end (number_of bytes) v (sym (ap as_number (digits_have_values end bytes is)) ∙ e) in (met.0, met.1, is))
-    ]
-
-pub digits_in : (end n : ℕ) (bytes : List ℕ) → MeansNumber n bytes → n < end → digits end bytes ≡ Ok (pos n)
-digits_in end n bytes means lt = ap as_number (digits_have_values end bytes means.0) ∙ rw (means.1, lt-ltb n end lt) refl
-
--- ---- labels
-
 abbrev label_by : Bool → Result ℤ Miss → Result ℤ Miss
 label_by far other = if far then Ok (pos FAR) else other
 
 digit_first : (bytes : List ℕ) → IsDigits bytes → bytes ≡ codes "-" → ⊥
 digit_first [] is same = absurd (omega (arith, is.some))
 digit_first (b ∷ bs) is same =
-    let digit = IsDigit-from_test b (and_parts (is_digit b) (all_digits bs) is.digits_only).0 in
+    let digit = and_parts (nat_le 48 b) (nat_le b 57) (and_parts (is_digit b) (all_digits bs) is.digits_only).0 in
     let minus : b ≡ 45 = cc in
-    omega (arith, digit.low)
+    omega (arith, leb-true 48 b digit.0)
 
-pub label_out : (end : ℕ) (bytes : List ℕ) (v : ℤ) → end ≤ FAR → label end bytes ≡ Ok v
-    → (n : ℕ) × (v ≡ pos n) × Means (a_label n) bytes × ((n ≡ FAR) ⊎ (n < end))
-label_out end bytes v small e =
-    let decides = bytes_eq-Decides bytes (codes "-") in
-    let go : (b : Bool) → bytes_eq bytes (codes "-") ≡ b → label_by b (digits end bytes) ≡ Ok v → (n : ℕ) × (v ≡ pos n) × Means (a_label n) bytes × ((n ≡ FAR) ⊎ (n < end)) = elim [
-      | true ↦ λ q met. (FAR, (let same : item_met (pos FAR) ≡ item_met v = met in cc), inl (decides.0 q, refl), inl refl)
-      | false ↦ λ q met. (let out = digits_out end bytes v met in (number_of bytes, out.0, inr ((out.2, refl), omega (arith, out.1)), inr out.1))
-    ] in
-    go (bytes_eq bytes (codes "-")) refl e
+module _ (numbers : NumbersAreTheirDigits) where
+  pub digits_out : (end : ℕ) (bytes : List ℕ) (v : ℤ) → digits end bytes ≡ Ok v → (v ≡ pos (number_of bytes)) × (number_of bytes < end) × IsDigits bytes
+  digits_out end bytes v e =
+      elim (numbers.other_digits end bytes) [
+        | inl none ↦ absurd (let missed : as_number (Err Form) ≡ item_met v = sym (ap as_number none) ∙ e in cc)
+        | inr is ↦ (let met = below_out end (number_of bytes) v (sym (ap as_number (numbers.digits end bytes is)) ∙ e) in (met.0, met.1, is))
+      ]
 
-pub label_in : (end n : ℕ) (bytes : List ℕ) → end ≤ FAR → Means (a_label n) bytes → (n ≡ FAR) ⊎ (n < end) → label end bytes ≡ Ok (pos n)
-label_in end n bytes small means range =
-    let decides = bytes_eq-Decides bytes (codes "-") in
-    elim means [
-      | inl far ↦ rw (decides.1 far.0) (ap (λ (x : ℕ). item_met (pos x)) (sym far.1))
-      | inr near ↦ (
-          let lt : n < end = elim range [ inl far ↦ omega (arith, near.1) | inr lt ↦ lt ] in
-          let other : bytes_eq bytes (codes "-") ≡ false =
-          elim (cases_Bool (bytes_eq bytes (codes "-"))) [ inl q ↦ absurd (digit_first bytes near.0.0 (decides.0 q)) | inr q ↦ q ] in
-          rw other (digits_in end n bytes near.0 lt)
-          )
-    ]
+  pub digits_in : (end n : ℕ) (bytes : List ℕ) → MeansNumber n bytes → n < end → digits end bytes ≡ Ok (pos n)
+  digits_in end n bytes means lt = ap as_number (numbers.digits end bytes means.0) ∙ rw (means.1, lt-ltb n end lt) refl
 
--- ---- bounds
+  pub label_out : (end : ℕ) (bytes : List ℕ) (v : ℤ) → end ≤ FAR → label end bytes ≡ Ok v
+      → (n : ℕ) × (v ≡ pos n) × Means (a_label n) bytes × ((n ≡ FAR) ⊎ (n < end))
+  label_out end bytes v small e =
+      let decides = bytes_eq-Decides bytes (codes "-") in
+      let go : (b : Bool) → bytes_eq bytes (codes "-") ≡ b → label_by b (digits end bytes) ≡ Ok v → (n : ℕ) × (v ≡ pos n) × Means (a_label n) bytes × ((n ≡ FAR) ⊎ (n < end)) = elim [
+        | true ↦ λ q met. (FAR, (let same : item_met (pos FAR) ≡ item_met v = met in cc), inl (decides.0 q, refl), inl refl)
+        | false ↦ λ q met. (let out = digits_out end bytes v met in (number_of bytes, out.0, inr ((out.2, refl), omega (arith, out.1)), inr out.1))
+      ] in
+      go (bytes_eq bytes (codes "-")) refl e
 
-pub bound_out : (bytes : List ℕ) (v : ℤ) → bound bytes ≡ Ok v → (n : ℕ) × (v ≡ pos n) × Means (a_milli n) bytes × (1000 ≤ n) × (n < 2 ^ 100)
-bound_out bytes v e =
-    elim (no_others_are_millis (2 ^ 100) bytes) [
-      | inl none ↦ absurd (let missed : as_bound (Err Form) ≡ item_met v = sym (ap as_bound none) ∙ e in cc)
-      | inr w ↦ (
-          let n = number_of w.0 * 1000 + number_of w.1 in
-          let met : as_bound (below (2 ^ 100) n) ≡ item_met v = sym (ap as_bound (millis_have_values (2 ^ 100) bytes w.0 w.1 w.2)) ∙ e in
-          elim (cases_lt n (2 ^ 100)) [
-            | inl lt ↦ elim (cases_lt n 1000) [
-              | inl low ↦ absurd (let missed : item_missed ≡ item_met v = rw (lt-ltb n (2 ^ 100) lt, lt-leb 1000 n low) at met in cc)
-              | inr high ↦ (let same : item_met (pos n) ≡ item_met v = rw (lt-ltb n (2 ^ 100) lt, le-leb 1000 n high) at met in (n, cc, (w.0, w.1, w.2, refl), high, lt))
+  pub label_in : (end n : ℕ) (bytes : List ℕ) → end ≤ FAR → Means (a_label n) bytes → (n ≡ FAR) ⊎ (n < end) → label end bytes ≡ Ok (pos n)
+  label_in end n bytes small means range =
+      let decides = bytes_eq-Decides bytes (codes "-") in
+      elim means [
+        | inl far ↦ rw (decides.1 far.0) (ap (λ (x : ℕ). item_met (pos x)) (sym far.1))
+        | inr near ↦ (
+            let lt : n < end = elim range [ inl far ↦ omega (arith, near.1) | inr lt ↦ lt ] in
+            let other : bytes_eq bytes (codes "-") ≡ false =
+            elim (cases_Bool (bytes_eq bytes (codes "-"))) [ inl q ↦ absurd (digit_first bytes near.0.0 (decides.0 q)) | inr q ↦ q ] in
+            rw other (digits_in end n bytes near.0 lt)
+            )
+      ]
+
+  -- ---- bounds
+
+  pub bound_out : (bytes : List ℕ) (v : ℤ) → bound bytes ≡ Ok v → (n : ℕ) × (v ≡ pos n) × Means (a_milli n) bytes × (1000 ≤ n) × (n < 2 ^ 100)
+  bound_out bytes v e =
+      elim (numbers.other_millis (2 ^ 100) bytes) [
+        | inl none ↦ absurd (let missed : as_bound (Err Form) ≡ item_met v = sym (ap as_bound none) ∙ e in cc)
+        | inr w ↦ (
+            let n = number_of w.0 * 1000 + number_of w.1 in
+            let met : as_bound (below (2 ^ 100) n) ≡ item_met v = sym (ap as_bound (numbers.millis (2 ^ 100) bytes w.0 w.1 w.2)) ∙ e in
+            elim (cases_lt n (2 ^ 100)) [
+              | inl lt ↦ elim (cases_lt n 1000) [
+                | inl low ↦ absurd (let missed : item_missed ≡ item_met v = rw (lt-ltb n (2 ^ 100) lt, lt-leb 1000 n low) at met in cc)
+                | inr high ↦ (let same : item_met (pos n) ≡ item_met v = rw (lt-ltb n (2 ^ 100) lt, le-leb 1000 n high) at met in (n, cc, (w.0, w.1, w.2, refl), high, lt))
+              ]
+              | inr le ↦ absurd (let missed : item_missed ≡ item_met v = rw (le-ltb n (2 ^ 100) le) at met in cc)
             ]
-            | inr le ↦ absurd (let missed : item_missed ≡ item_met v = rw (le-ltb n (2 ^ 100) le) at met in cc)
-          ]
-          )
-    ]
+            )
+      ]
 
-pub bound_in : (n : ℕ) (bytes : List ℕ) → Means (a_milli n) bytes → 1000 ≤ n → n < 2 ^ 100 → bound bytes ≡ Ok (pos n)
-bound_in n bytes means high lt =
-    ap as_bound (millis_have_values (2 ^ 100) bytes means.0 means.1 means.2) ∙ rw (means.3, lt-ltb n (2 ^ 100) lt, le-leb 1000 n high) refl
+  pub bound_in : (n : ℕ) (bytes : List ℕ) → Means (a_milli n) bytes → 1000 ≤ n → n < 2 ^ 100 → bound bytes ≡ Ok (pos n)
+  bound_in n bytes means high lt =
+      ap as_bound (numbers.millis (2 ^ 100) bytes means.0 means.1 means.2) ∙ rw (means.3, lt-ltb n (2 ^ 100) lt, le-leb 1000 n high) refl
+
+-- ---- words
+
+pub word_out : (word bytes : List ℕ) (v : ℤ) → fixed word bytes ≡ Ok v → bytes ≡ word
+word_out word bytes v e = elim (cases_Bool (bytes_eq bytes word)) [
+  | inl q ↦ (bytes_eq-Decides bytes word).0 q
+  | inr q ↦ absurd (let missed : no_outcome ≡ item_met v = rw q at e in cc)
+]
+
+pub word_in : (word bytes : List ℕ) → bytes ≡ word → fixed word bytes ≡ Ok (pos 0)
+word_in word bytes e = rw ((bytes_eq-Decides bytes word).1 e) refl
 
 -- ---- the words of outcomes
 

@@ -11,7 +11,7 @@ use Rattle.sbpl_cert.specs.Sections.{Section}
 abbrev pub spaced : List ℕ → List ℕ
 spaced ks = flat_map (λ k. 32 ∷ decimal k) ks
 
--- a word and numbers behind it
+-- a word and numbers after it
 numbers_line : (w ks : List ℕ) → line_text (w ∷ map decimal ks) ≡ w ++ (spaced ks ++ 10 ∷ [])
 unfolding line_text
 numbers_line w [] = refl
@@ -31,7 +31,7 @@ section_is : (s : Section)
 unfolding section_text line_text
 section_is s = refl
 
--- parts that were put one behind another
+-- parts that were put one after another
 four_parts : (old h o r e a b c d : List ℕ) → a ≡ old ++ h → b ≡ a ++ o → c ≡ b ++ r → d ≡ c ++ e → d ≡ old ++ (h ++ (o ++ (r ++ e)))
 four_parts old h o r e a b c d one two three four =
     four ∙ rw (three, two, one) (simp append_assoc)

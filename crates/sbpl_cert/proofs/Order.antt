@@ -16,7 +16,7 @@ use Rattle.sbpl_cert.specs.declared.flaw.Flaw.TheVariants as flaw
 use Rattle.sbpl_cert.specs.Sections.{Section, IsSection, g_at, v_at, h_at}
 use Rattle.sbpl_cert.specs.Sound.{ShowsBound, ShowsOutcome, ShowsAll, IsSo}
 use Rattle.sbpl_cert.specs.Flaws.{HasFlaw, HasNoFlaw, IsFirstFlaw, IsBefore, number_of, turn_of, arc_of, IsArcOff, IsGuideOff, IsLeastBound, IsLimit}
-use Rattle.sbpl_cert.specs.Checking.{IsArcKept, IsFirstArcFlaw, IsGuideKept, IsFirstGuideFlaw, IsLowKept, IsFirstLowFlaw, IsStepFlaw, IsBoundFlaw, IsSettled, IsFirstOpenFlaw}
+use Rattle.sbpl_cert.specs.Checking.{IsArcKept, IsFirstArcFlaw, IsGuideKept, IsFirstGuideFlaw, IsLowKept, IsFirstLowFlaw, IsStepFlaw, IsBoundFlaw, IsSettled, IsFirstUnsettledFlaw}
 use Rattle.sbpl_cert.proofs.Paths.{same_end, same_head, arc_on_path, arc_on_front}
 
 -- no flaw has a smaller number
@@ -307,7 +307,7 @@ module _ (n : Network) (start goal : ℕ) (s : Section) where
       ]
   none_before_open u is settled _ off same before = omega arith
 
-  pub first_at_open : (f : Flaw) → length s.labels ≡ n.states → s.outcome ≡ outcome.NoPath → Clear n start goal s 5 → IsFirstOpenFlaw goal s.labels f → IsFirstFlaw n start goal s f
+  pub first_at_open : (f : Flaw) → length s.labels ≡ n.states → s.outcome ≡ outcome.NoPath → Clear n start goal s 5 → IsFirstUnsettledFlaw goal s.labels f → IsFirstFlaw n start goal s f
   first_at_open f states is clear w =
       let g : Flaw = flaw.Goal w.0 in
       let first : IsFirstFlaw n start goal s g =

@@ -1,11 +1,11 @@
--- The faults of a section are its own: want of memory is none of them.
+-- The faults of a section are its own: running out of memory is none of them.
 use Rattle.std.proofs.Common.{ℕ, List, []}
 use Rattle.std.specs.Prelude.{◌≢◌, if◌then◌else◌, ◌==◌, codes, unsigned_abs}
 use Rattle.sbpl_fixed.specs.Formats.{Format, done, turns, IsFaulty}
 use Rattle.sbpl_fixed.specs.Tokens.{Piece}
 use Rattle.sbpl_fixed.specs.declared.fault.TextFault.{TextFault}
 use Rattle.sbpl_fixed.specs.declared.fault.TextFault.TheVariants as common
-use Rattle.sbpl_fixed.proofs.OwnFaults.{Spares, behind_spares, either_spares, right_spares, spared, turns_spare}
+use Rattle.sbpl_fixed.specs.OwnFaults.{Spares, behind_spares, either_spares, right_spares, spared, turns_spare}
 use Rattle.sbpl_cert.specs.declared.fault.LabelFault.{LabelFault}
 use Rattle.sbpl_cert.specs.declared.fault.LabelFault.TheVariants.{NoMemory, Count}
 use Rattle.sbpl_cert.specs.declared.outcome.Outcome.{Outcome}

@@ -29,7 +29,7 @@ same_end n s (k ∷ ks) t u a b p q =
     let others = same_end n p.0 ks t u p.2 q.2 p.4 (subst (λ (x : ℕ). IsFreePath n x ks u q.2) (sym first.0) q.4) in
     (others.0, omega arith)
 
--- where arcs are a free path, the arc behind each front of them is free
+-- where arcs are a free path, the arc after each prefix of them is free
 pub arc_on_path : (n : Network) (s : ℕ) (ks : List ℕ) (i t u a b : ℕ) → i < length ks → IsFreePath n s ks t a → IsFreePath n s (take i ks) u b
     → (v : ℕ) × (c : ℕ) × IsFreeArc n u (get_or ks i 0) v c
 arc_on_path n s [] i t u a b h p q = absurd (omega arith)
@@ -38,7 +38,7 @@ arc_on_path n s (k ∷ ks) (suc i) t u a b h p q =
     let first = same_head n s k p.0 q.0 p.1 q.1 p.3 q.3 in
     arc_on_path n p.0 ks i t u p.2 q.2 (omega arith) p.4 (subst (λ (x : ℕ). IsFreePath n x (take i ks) u q.2) (sym first.0) q.4)
 
--- the same where a front of the arcs is a free path
+-- the same where a prefix of the arcs is a free path
 pub arc_on_front : (n : Network) (s : ℕ) (ks : List ℕ) (i j t u a b : ℕ) → i < j → j < length ks → IsFreePath n s (take j ks) t a → IsFreePath n s (take i ks) u b
     → (v : ℕ) × (c : ℕ) × IsFreeArc n u (get_or ks i 0) v c
 arc_on_front n s ks i j t u a b lt inside p q =

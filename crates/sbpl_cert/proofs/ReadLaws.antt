@@ -6,22 +6,28 @@ use Rattle.std.proofs.lemmas.List.{drop_all}
 use Rattle.sbpl_fixed.specs.declared.fault.TextFault.{TextFault}
 use Rattle.sbpl_fixed.specs.declared.fault.TextFault.TheVariants.{Ended}
 use Rattle.sbpl_fixed.specs.Formats.{Answers, Left, Met, Miss, fixed, met, next, next_of, reads, start_at, Says}
+use Rattle.sbpl_fixed.specs.Meaning.{ReadingIsWhatIsSaid}
+use Rattle.sbpl_fixed.specs.Runs.{TokensGoOn}
 use Rattle.sbpl_fixed.specs.Tokens.{Piece, is_fresh, tokens_from, tokens_past}
-use Rattle.sbpl_fixed.proofs.Meaning.{read_as_said, read_first_fault}
+use Rattle.sbpl_fixed.specs.Unsigned.{NumbersAreTheirDigits}
 use Rattle.sbpl_cert.specs.declared.fault.LabelFault.{LabelFault}
 use Rattle.sbpl_cert.specs.declared.fault.LabelFault.TheVariants.{NoMemory}
 use Rattle.sbpl_cert.specs.Faults.{told}
 use Rattle.sbpl_cert.specs.Format.{front_format, section_format}
 use Rattle.sbpl_cert.specs.Sections.{Section, IsSection}
 use Rattle.sbpl_cert.specs.Text.{AreTokensOf, EndsWith, HasFault, IsBehindEnd, with_rest}
-use Rattle.sbpl_cert.proofs.Leaves.{said_leaves, behind_in_text}
-use Rattle.sbpl_cert.proofs.SectionLaws.{front_out, section_out, section_in, word_out}
+use Rattle.sbpl_cert.proofs.Leaves.{said_leaves}
+use Rattle.sbpl_cert.proofs.ItemLaws.{word_out}
+use Rattle.sbpl_cert.proofs.SectionLaws.{front_out, section_out, section_in}
+
+abbrev pub Reading : Type 0
+Reading = ReadingIsWhatIsSaid LabelFault Section
 
 -- what was read before the last word keeps its ranges
-pub front_fits : (plan states : ℕ) (left rest : Left) (s : Section) → plan < 2 ^ 32 → states < 2 ^ 32 → reads told (front_format plan states) left ≡ Ok (s, rest) → IsSection s
-front_fits plan states left rest s p q e =
-    let said = (read_as_said told (front_format plan states) left rest s).0 e in
-    (front_out plan states s left.tokens rest.tokens p q said.0).2
+pub front_fits : (numbers : NumbersAreTheirDigits) (reading : Reading) (plan states : ℕ) (left rest : Left) (s : Section) → plan < 2 ^ 32 → states < 2 ^ 32 → reads told (front_format plan states) left ≡ Ok (s, rest) → IsSection s
+front_fits numbers reading plan states left rest s p q e =
+    let said = (reading.said told (front_format plan states) left rest s).0 e in
+    (front_out numbers plan states s left.tokens rest.tokens p q said.0).2
 
 abbrev met_record : ℕ → ℤ → Left → Met
 met_record place value left = record { place = place; value = value; left = left }
@@ -52,11 +58,11 @@ word_is_next word end (t ∷ ts) place v rest e =
     ] in
     go (fixed word t.bytes) refl e
 
-pub section_ends : (plan states : ℕ) (left mid rest : Left) (s : Section) (place : ℕ) (v : ℤ) → reads told (front_format plan states) left ≡ Ok (s, mid)
+pub section_ends : (reading : Reading) (plan states : ℕ) (left mid rest : Left) (s : Section) (place : ℕ) (v : ℤ) → reads told (front_format plan states) left ≡ Ok (s, mid)
     → next (fixed (codes "end")) mid ≡ met_at place v rest → EndsWith left.tokens (record { place = place; bytes = codes "end" } ∷ rest.tokens) × (rest.end ≡ left.end)
 unfolding next
-section_ends plan states left mid rest s place v e f =
-    let said = (read_as_said told (front_format plan states) left mid s).0 e in
+section_ends reading plan states left mid rest s place v e f =
+    let said = (reading.said told (front_format plan states) left mid s).0 e in
     let leaves = said_leaves (front_format plan states) left.tokens s mid.tokens said.0 in
     let last = word_is_next (codes "end") mid.end mid.tokens place v rest f in
     (subst (λ (l : List Piece). EndsWith left.tokens l) last.0 leaves, last.1 ∙ said.1)
@@ -69,11 +75,11 @@ Answer = Result (Section × ℕ) LabelFault
 abbrev AnswersExactly : ℕ → ℕ → List ℕ → ℕ → Answer → Type 0
 AnswersExactly plan states text at r = Answers {A = Section × Left} NoMemory (λ (x : Section × ℕ). (x.0, start_at text x.1)) r (reads told (section_format plan states) (start_at text at))
 
-pub found_at : (plan states : ℕ) (text : List ℕ) (at : ℕ) (r : Answer) → plan < 2 ^ 32 → states < 2 ^ 32 → AnswersExactly plan states text at r
+pub found_at : (numbers : NumbersAreTheirDigits) (reading : Reading) (plan states : ℕ) (text : List ℕ) (at : ℕ) (r : Answer) → plan < 2 ^ 32 → states < 2 ^ 32 → AnswersExactly plan states text at r
     → IfOk r (λ x. (x.0.plan ≡ plan) × (length x.0.labels ≡ states) × AreTokensOf (tokens_from text at) x.0 (tokens_from text x.1))
-found_at plan states text at (Ok x) p q exact =
-    section_out plan states x.0 (tokens_from text at) (tokens_from text x.1) p q ((read_as_said told (section_format plan states) (start_at text at) (start_at text x.1) x.0).0 exact).0
-found_at plan states text at (Err e) p q exact = tt
+found_at numbers reading plan states text at (Ok x) p q exact =
+    section_out numbers plan states x.0 (tokens_from text at) (tokens_from text x.1) p q ((reading.said told (section_format plan states) (start_at text at) (start_at text x.1) x.0).0 exact).0
+found_at numbers reading plan states text at (Err e) p q exact = tt
 
 abbrev section_read : Section → Left → Result (Section × Left) LabelFault
 section_read s left = Ok (s, left)
@@ -95,56 +101,56 @@ answered s u rest more same rests = ap (λ (x : Section). rest_read x rest) same
 abbrev fault_read : LabelFault → Result (Section × Left) LabelFault
 fault_read e = Err e
 
-reads_said : (plan states : ℕ) (text : List ℕ) (at : ℕ) (s : Section) (rest : List Piece) → s.plan ≡ plan → length s.labels ≡ states → AreTokensOf (tokens_from text at) s rest
+reads_said : (numbers : NumbersAreTheirDigits) (reading : Reading) (plan states : ℕ) (text : List ℕ) (at : ℕ) (s : Section) (rest : List Piece) → s.plan ≡ plan → length s.labels ≡ states → AreTokensOf (tokens_from text at) s rest
     → reads told (section_format plan states) (start_at text at) ≡ section_read s (record { end = length text; tokens = rest })
-reads_said plan states text at s rest p q w =
-    let said = section_in s (tokens_from text at) rest w in
+reads_said numbers reading plan states text at s rest p q w =
+    let said = section_in numbers s (tokens_from text at) rest w in
     let here : Says (section_format plan states) (tokens_from text at) s rest =
     subst (λ (m : ℕ). Says (section_format plan m) (tokens_from text at) s rest) q (subst (λ (k : ℕ). Says (section_format k (length s.labels)) (tokens_from text at) s rest) p said) in
-    (read_as_said told (section_format plan states) (start_at text at) (record { end = length text; tokens = rest }) s).1 (here, refl)
+    (reading.said told (section_format plan states) (start_at text at) (record { end = length text; tokens = rest }) s).1 (here, refl)
 
-pub only_at : (plan states : ℕ) (text : List ℕ) (at : ℕ) (r : Answer) → AnswersExactly plan states text at r
+pub only_at : (numbers : NumbersAreTheirDigits) (reading : Reading) (plan states : ℕ) (text : List ℕ) (at : ℕ) (r : Answer) → AnswersExactly plan states text at r
     → (s : Section) (rest : List Piece) → s.plan ≡ plan → length s.labels ≡ states → AreTokensOf (tokens_from text at) s rest
     → Answers {A = Section × List Piece} NoMemory (λ (x : Section × ℕ). with_rest x.0 (tokens_from text x.1)) r (Ok (with_rest s rest))
-only_at plan states text at (Ok x) exact s rest p q w =
-    let both : section_read s (record { end = length text; tokens = rest }) ≡ section_read x.0 (start_at text x.1) = sym (reads_said plan states text at s rest p q w) ∙ exact in
+only_at numbers reading plan states text at (Ok x) exact s rest p q w =
+    let both : section_read s (record { end = length text; tokens = rest }) ≡ section_read x.0 (start_at text x.1) = sym (reads_said numbers reading plan states text at s rest p q w) ∙ exact in
     let parts = same_read s x.0 (record { end = length text; tokens = rest }) (start_at text x.1) both in
     let rests : rest ≡ tokens_from text x.1 = ap (λ (l : Left). l.tokens) parts.1 in
     answered s x.0 rest (tokens_from text x.1) parts.0 rests
-only_at plan states text at (Err e) exact s rest p q w = λ n.
-    let clash : section_read s (record { end = length text; tokens = rest }) ≡ fault_read e = sym (reads_said plan states text at s rest p q w) ∙ exact n in
+only_at numbers reading plan states text at (Err e) exact s rest p q w = λ n.
+    let clash : section_read s (record { end = length text; tokens = rest }) ≡ fault_read e = sym (reads_said numbers reading plan states text at s rest p q w) ∙ exact n in
     absurd cc
 
-pub faulty_at : (plan states : ℕ) (text : List ℕ) (at : ℕ) (r : Answer) → AnswersExactly plan states text at r
+pub faulty_at : (reading : Reading) (plan states : ℕ) (text : List ℕ) (at : ℕ) (r : Answer) → AnswersExactly plan states text at r
     → IfErr r (λ e. e ≢ NoMemory → HasFault plan states (start_at text at) e)
-faulty_at plan states text at (Ok x) exact = tt
-faulty_at plan states text at (Err e) exact = λ n. (read_first_fault told (section_format plan states) (start_at text at) e).0 (exact n)
+faulty_at reading plan states text at (Ok x) exact = tt
+faulty_at reading plan states text at (Err e) exact = λ n. (reading.faulty told (section_format plan states) (start_at text at) e).0 (exact n)
 
 abbrev section_fault : LabelFault → Result Section LabelFault
 section_fault e = Err e
 
-pub only_faulty_at : (plan states : ℕ) (text : List ℕ) (at : ℕ) (r : Answer) → AnswersExactly plan states text at r
+pub only_faulty_at : (reading : Reading) (plan states : ℕ) (text : List ℕ) (at : ℕ) (r : Answer) → AnswersExactly plan states text at r
     → (e : LabelFault) → HasFault plan states (start_at text at) e → Answers {A = Section} NoMemory (λ (x : Section × ℕ). x.0) r (Err e)
-only_faulty_at plan states text at (Ok x) exact e h =
-    let clash : fault_read e ≡ section_read x.0 (start_at text x.1) = sym ((read_first_fault told (section_format plan states) (start_at text at) e).1 h) ∙ exact in
+only_faulty_at reading plan states text at (Ok x) exact e h =
+    let clash : fault_read e ≡ section_read x.0 (start_at text x.1) = sym ((reading.faulty told (section_format plan states) (start_at text at) e).1 h) ∙ exact in
     absurd cc
-only_faulty_at plan states text at (Err d) exact e h = λ n.
-    let same : fault_read e ≡ fault_read d = sym ((read_first_fault told (section_format plan states) (start_at text at) e).1 h) ∙ exact n in
+only_faulty_at reading plan states text at (Err d) exact e h = λ n.
+    let same : fault_read e ≡ fault_read d = sym ((reading.faulty told (section_format plan states) (start_at text at) e).1 h) ∙ exact n in
     let one : e ≡ d = cc in
     ap section_fault one
 
--- ---- behind the last word
+-- ---- after the last word
 
 same_left : (a b : Left) → a.end ≡ b.end → a.tokens ≡ b.tokens → a ≡ b
 same_left a b e t = ap (λ (n : ℕ). record { end = n; tokens = a.tokens }) e ∙ ap (λ (l : List Piece). record { end = b.end; tokens = l }) t
 
-pub ends_behind : (text : List ℕ) (at place : ℕ) (rest : Left) → at ≤ length text → EndsWith (tokens_from text at) (record { place = place; bytes = codes "end" } ∷ rest.tokens) → rest.end ≡ length text
+pub ends_behind : TokensGoOn → (text : List ℕ) (at place : ℕ) (rest : Left) → at ≤ length text → EndsWith (tokens_from text at) (record { place = place; bytes = codes "end" } ∷ rest.tokens) → rest.end ≡ length text
     → (at < place + 3) × (place + 3 ≤ length text) × (rest ≡ start_at text (place + 3))
-ends_behind text at place rest inside h end =
-    let w = behind_in_text text at (record { place = place; bytes = codes "end" }) rest.tokens inside h in
+ends_behind go_on text at place rest inside h end =
+    let w = go_on text at h.0 (record { place = place; bytes = codes "end" }) rest.tokens inside h.1 in
     (omega (arith, w.0), w.2, same_left rest (start_at text (place + 3)) end (sym w.3))
 
--- the word that ends three bytes behind its place ends there
+-- the word that ends three bytes after its place ends there
 pub right_behind_end : (text : List ℕ) (at place : ℕ) (rest : Left) → EndsWith (tokens_from text at) (record { place = place; bytes = codes "end" } ∷ rest.tokens)
     → rest ≡ start_at text (place + 3) → IsBehindEnd text at (place + 3)
 right_behind_end text at place rest h left =
@@ -153,7 +159,7 @@ right_behind_end text at place rest h left =
     let here = subst (λ (ts : List Piece). EndsWith (tokens_from text at) (record { place = place; bytes = codes "end" } ∷ ts)) tokens h in
     subst (λ (n : ℕ). EndsWith (tokens_from text at) (record { place = n; bytes = codes "end" } ∷ tokens_from text (place + 3))) same here
 
--- the same where the reading began behind the end of the text
+-- the same where the reading began after the end of the text
 pub behind_end_within : (text : List ℕ) (at from offset : ℕ) → start_at text from ≡ start_at text at → IsBehindEnd text from offset → IsBehindEnd text at offset
 behind_end_within text at from offset same h =
     subst (λ (l : Left). EndsWith l.tokens (record { place = offset - 3; bytes = codes "end" } ∷ tokens_from text offset)) same h
@@ -161,12 +167,12 @@ behind_end_within text at from offset same h =
 pub read_to : (s : Section) {l m : Left} → l ≡ m → section_read s l ≡ section_read s m
 read_to s same = ap (section_read s) same
 
--- no token begins behind the end of a text
+-- no token begins after the end of a text
 none_past : (text : List ℕ) (at : ℕ) → length text ≤ at → tokens_from text at ≡ []
 unfolding tokens_past
 none_past text at past = ap (tokens_past (is_fresh text at) at) (drop_all at text past)
 
--- a reading from behind the end of a text is one from its end
+-- a reading from after the end of a text is one from its end
 pub start_within : (text : List ℕ) (at from : ℕ) → from ≡ min at (length text) → start_at text from ≡ start_at text at
 start_within text at from is =
     ⊎_elim

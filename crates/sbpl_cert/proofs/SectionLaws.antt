@@ -1,22 +1,22 @@
 -- What the format of a section says, and its tokens one by one.
-use Rattle.std.proofs.Common.{◌≡◌, ℕ, zero, suc, ◌^◌, ◌<◌, inl, inr, List, [], ◌∷◌, ◌++◌, length, get_or, eqb, ℤ, pos, Ok, refl, sym, ap, subst, ◌∙◌, append_assoc, arith, eq-eqb}
+use Rattle.std.proofs.Common.{◌≡◌, ℕ, zero, suc, ◌^◌, ◌<◌, inl, inr, List, [], ◌∷◌, ◌++◌, length, get_or, eqb, ℤ, pos, refl, sym, ap, subst, ◌∙◌, append_assoc, arith, eq-eqb}
 use Rattle.std.specs.Prelude.{codes, unsigned_abs}
 use Rattle.std.specs.List.{flat_map, AllByRecursion}
 use Rattle.std.proofs.lemmas.Bool.{cases_Bool, eqb-true}
 use Rattle.std.proofs.lemmas.List.{append-nil}
 use Rattle.sbpl_fixed.specs.Numbers.{number_of}
 use Rattle.sbpl_fixed.specs.Formats.{Format, item, done, fixed, behind, turns, Says}
+use Rattle.sbpl_fixed.specs.Parts.{says_parts, says_both}
 use Rattle.sbpl_fixed.specs.Tokens.{Piece}
-use Rattle.sbpl_fixed.proofs.Items.{words_are_met}
-use Rattle.sbpl_fixed.proofs.Spelling.{says_parts, says_both}
+use Rattle.sbpl_fixed.specs.Unsigned.{NumbersAreTheirDigits}
 use Rattle.sbpl_cert.specs.declared.fault.LabelFault.{LabelFault}
 use Rattle.sbpl_cert.specs.declared.outcome.Outcome.{Outcome}
 use Rattle.sbpl_cert.specs.declared.outcome.Outcome.TheVariants as outcome
 use Rattle.sbpl_cert.specs.declared.row.Row.{Row}
-use Rattle.sbpl_cert.specs.Sections.{Section, IsSection, IsRow, AreRows, IsLowest, IsOutcome, AreArcs, HasArcs}
+use Rattle.sbpl_cert.specs.Sections.{Section, IsSection, IsRow, AreRows, IsLowest, IsOutcomeInRange, AreArcs, HasArcs}
 use Rattle.sbpl_cert.specs.Format.{digits, title_format, count_format, low_format, head_format, arc_turn, path_format, outcome_format, row_format, row_turn, front_format, section_format}
 use Rattle.sbpl_cert.specs.Text.{Saying, a_word, a_number, a_label, a_milli, AreMeant, spelled_head, spelled_outcome, spelled_row, spelled_arc, spelled, AreTokensOf}
-use Rattle.sbpl_cert.proofs.ItemLaws.{digits_out, digits_in, label_out, label_in, bound_out, bound_in, outcome_word_out, path_in, no_path_in, unknown_in}
+use Rattle.sbpl_cert.proofs.ItemLaws.{word_out, word_in, digits_out, digits_in, label_out, label_in, bound_out, bound_in, outcome_word_out, path_in, no_path_in, unknown_in}
 
 -- ---- tokens in parts
 
@@ -73,344 +73,339 @@ module _ {X : Type 0} (f : Format LabelFault X) (Holds : X → Type 0) (spell : 
       says_both (round f before) (turns n (round f)) ts p.0 rest (before ++ x ∷ []) (before ++ x ∷ xs) one
       (subst (λ (all : List X). Says (turns n (round f) (before ++ x ∷ [])) p.0 all rest) (append_assoc before (x ∷ []) xs) more)
 
--- ---- rows
+module _ (numbers : NumbersAreTheirDigits) where
+  -- ---- rows
 
-abbrev row_of : ℕ → ℕ → ℕ → Row
-row_of g v h = record { g = g; v = v; h = h }
+  abbrev row_of : ℕ → ℕ → ℕ → Row
+  row_of g v h = record { g = g; v = v; h = h }
 
-row_made : (r : Row) (a b c : ℤ) (g v h : ℕ) → r ≡ row_of (unsigned_abs a) (unsigned_abs b) (unsigned_abs c) → a ≡ pos g → b ≡ pos v → c ≡ pos h → r ≡ row_of g v h
-row_made r a b c g v h is one two three = is ∙ rw (one, two, three) refl
+  row_made : (r : Row) (a b c : ℤ) (g v h : ℕ) → r ≡ row_of (unsigned_abs a) (unsigned_abs b) (unsigned_abs c) → a ≡ pos g → b ≡ pos v → c ≡ pos h → r ≡ row_of g v h
+  row_made r a b c g v h is one two three = is ∙ rw (one, two, three) refl
 
-pub row_out : (r : Row) (ts rest : List Piece) → Says row_format ts r rest → IsRow r × AreMeant (spelled_row r) ts rest
-unfolding Says row_format AreMeant
-row_out r [] rest h = absurd h
-row_out r (a ∷ []) rest h = absurd h.2
-row_out r (a ∷ b ∷ []) rest h = absurd h.2.2
-row_out r (a ∷ b ∷ c ∷ ts) rest h =
-    let g = label_out (2 ^ 62) a.bytes h.0 (omega arith) h.1 in
-    let v = label_out (2 ^ 62) b.bytes h.2.0 (omega arith) h.2.1 in
-    let d = digits_out (2 ^ 55) c.bytes h.2.2.0 h.2.2.1 in
-    let is = row_made r h.0 h.2.0 h.2.2.0 g.0 v.0 (number_of c.bytes) h.2.2.2.0 g.1 v.1 d.0 in
-    rw is (record { g = g.3; v = v.3; h = d.1 }, (g.2, (v.2, ((d.2, refl), h.2.2.2.1))))
+  pub row_out : (r : Row) (ts rest : List Piece) → Says row_format ts r rest → IsRow r × AreMeant (spelled_row r) ts rest
+  unfolding Says row_format AreMeant
+  row_out r [] rest h = absurd h
+  row_out r (a ∷ []) rest h = absurd h.2
+  row_out r (a ∷ b ∷ []) rest h = absurd h.2.2
+  row_out r (a ∷ b ∷ c ∷ ts) rest h =
+      let g = label_out numbers (2 ^ 62) a.bytes h.0 (omega arith) h.1 in
+      let v = label_out numbers (2 ^ 62) b.bytes h.2.0 (omega arith) h.2.1 in
+      let d = digits_out numbers (2 ^ 55) c.bytes h.2.2.0 h.2.2.1 in
+      let is = row_made r h.0 h.2.0 h.2.2.0 g.0 v.0 (number_of c.bytes) h.2.2.2.0 g.1 v.1 d.0 in
+      rw is (record { g = g.3; v = v.3; h = d.1 }, (g.2, (v.2, ((d.2, refl), h.2.2.2.1))))
 
-pub row_in : (r : Row) (ts rest : List Piece) → IsRow r → AreMeant (spelled_row r) ts rest → Says row_format ts r rest
-unfolding Says row_format AreMeant
-row_in r [] rest fits h = absurd h
-row_in r (a ∷ []) rest fits h = absurd h.1
-row_in r (a ∷ b ∷ []) rest fits h = absurd h.1.1
-row_in r (a ∷ b ∷ c ∷ ts) rest fits h = (
-  pos r.g,
-  label_in (2 ^ 62) r.g a.bytes (omega arith) h.0 fits.g,
-  (
-    pos r.v,
-    label_in (2 ^ 62) r.v b.bytes (omega arith) h.1.0 fits.v,
-    (pos r.h, digits_in (2 ^ 55) r.h c.bytes h.1.1.0 fits.h, (refl, h.1.1.1)),
-  ),
-)
-
--- each of a list, by recursion and by its place
-each_row : (rows : List Row) → AllByRecursion IsRow rows → AreRows rows
-each_row [] all s lt = absurd (omega arith)
-each_row (r ∷ rows) all zero lt = all.0
-each_row (r ∷ rows) all (suc s) lt = each_row rows all.1 s (omega arith)
-
-all_rows : (rows : List Row) → AreRows rows → AllByRecursion IsRow rows
-all_rows [] each = tt
-all_rows (r ∷ rows) each = (each 0 (omega arith), all_rows rows (λ s lt. each (suc s) (omega arith)))
-
-rows_out : (n : ℕ) (rows : List Row) (ts rest : List Piece) → Says (turns n row_turn []) ts rows rest → (length rows ≡ n) × AreRows rows × AreMeant (flat_map spelled_row rows) ts rest
-unfolding row_turn
-rows_out n rows ts rest h =
-    let w = rounds_out row_format IsRow spelled_row row_out row_in n [] rows ts rest h in
-    rw w.1 (w.2, each_row w.0 w.3, w.4)
-
-rows_in : (rows : List Row) (ts rest : List Piece) → AreRows rows → AreMeant (flat_map spelled_row rows) ts rest → Says (turns (length rows) row_turn []) ts rows rest
-unfolding row_turn
-rows_in rows ts rest each h = rounds_in row_format IsRow spelled_row row_out row_in (length rows) [] rows ts rest refl (all_rows rows each) h
-
--- ---- arcs
-
-abbrev arc_format : Format LabelFault ℕ
-arc_format = item (digits 4096) (λ _ k. done (unsigned_abs k))
-
-abbrev IsArcNumber : ℕ → Type 0
-IsArcNumber k = k < 4096
-
-arc_out : (k : ℕ) (ts rest : List Piece) → Says arc_format ts k rest → IsArcNumber k × AreMeant (spelled_arc k) ts rest
-unfolding Says AreMeant
-arc_out k [] rest h = absurd h
-arc_out k (a ∷ ts) rest h =
-    let d = digits_out 4096 a.bytes h.0 h.1 in
-    let is : k ≡ number_of a.bytes = h.2.0 ∙ ap unsigned_abs d.0 in
-    rw is (d.1, ((d.2, refl), h.2.1))
-
-arc_in : (k : ℕ) (ts rest : List Piece) → IsArcNumber k → AreMeant (spelled_arc k) ts rest → Says arc_format ts k rest
-unfolding Says AreMeant
-arc_in k [] rest fits h = absurd h
-arc_in k (a ∷ ts) rest fits h = (pos k, digits_in 4096 k a.bytes h.0 fits, (refl, h.1))
-
-each_arc : (arcs : List ℕ) → AllByRecursion IsArcNumber arcs → (i : ℕ) → i < length arcs → get_or arcs i 0 < 4096
-each_arc [] all i lt = absurd (omega arith)
-each_arc (k ∷ ks) all zero lt = all.0
-each_arc (k ∷ ks) all (suc i) lt = each_arc ks all.1 i (omega arith)
-
-all_arcs : (arcs : List ℕ) → ((i : ℕ) → i < length arcs → get_or arcs i 0 < 4096) → AllByRecursion IsArcNumber arcs
-all_arcs [] each = tt
-all_arcs (k ∷ ks) each = (each 0 (omega arith), all_arcs ks (λ i lt. each (suc i) (omega arith)))
-
-arcs_out : (n : ℕ) (arcs : List ℕ) (ts rest : List Piece) → Says (turns n arc_turn []) ts arcs rest
-    → (length arcs ≡ n) × ((i : ℕ) → i < length arcs → get_or arcs i 0 < 4096) × AreMeant (flat_map spelled_arc arcs) ts rest
-unfolding arc_turn behind
-arcs_out n arcs ts rest h =
-    let w = rounds_out arc_format IsArcNumber spelled_arc arc_out arc_in n [] arcs ts rest h in
-    rw w.1 (w.2, each_arc w.0 w.3, w.4)
-
-arcs_in : (arcs : List ℕ) (ts rest : List Piece) → ((i : ℕ) → i < length arcs → get_or arcs i 0 < 4096) → AreMeant (flat_map spelled_arc arcs) ts rest
-    → Says (turns (length arcs) arc_turn []) ts arcs rest
-unfolding arc_turn behind
-arcs_in arcs ts rest each h = rounds_in arc_format IsArcNumber spelled_arc arc_out arc_in (length arcs) [] arcs ts rest refl (all_arcs arcs each) h
-
--- ---- the outcome
-
-abbrev pathed : ℕ → ℕ → List ℕ → Outcome × List ℕ
-pathed cost b arcs = (outcome.Path cost b, arcs)
-
-path_made : (o : Outcome × List ℕ) (x y : ℤ) (cost b : ℕ) (arcs : List ℕ) → o ≡ pathed (unsigned_abs x) (unsigned_abs y) arcs → x ≡ pos cost → y ≡ pos b → o ≡ pathed cost b arcs
-path_made o x y cost b arcs is one two = is ∙ rw (one, two) refl
-
-abbrev OutcomeOut : Outcome × List ℕ → List Piece → List Piece → Type 0
-OutcomeOut o ts rest = IsOutcome o.0 × HasArcs o.0 o.1 × AreMeant (spelled_outcome o.0 o.1) ts rest
-
-path_out : (o : Outcome × List ℕ) (t : Piece) (ts rest : List Piece) → t.bytes ≡ codes "path" → Says path_format ts o rest → OutcomeOut o (t ∷ ts) rest
-unfolding Says path_format AreMeant
-path_out o t [] rest is h = absurd h
-path_out o t (a ∷ []) rest is h = absurd h.2
-path_out o t (a ∷ b ∷ []) rest is h = absurd h.2.2
-path_out o t (a ∷ b ∷ c ∷ ts) rest is h =
-    let cost = digits_out (2 ^ 62) a.bytes h.0 h.1 in
-    let m = bound_out b.bytes h.2.0 h.2.1 in
-    let n = digits_out (2 ^ 23) c.bytes h.2.2.0 h.2.2.1 in
-    let parts = says_parts (turns (unsigned_abs h.2.2.0) arc_turn []) (λ arcs. done (pathed (unsigned_abs h.0) (unsigned_abs h.2.0) arcs)) ts rest o h.2.2.2 in
-    let arcs = arcs_out (unsigned_abs h.2.2.0) parts.0 ts parts.1 parts.2 in
-    let made = path_made o h.0 h.2.0 (number_of a.bytes) m.0 parts.0 parts.3.0 cost.0 m.1 in
-    let count : length parts.0 ≡ number_of c.bytes = arcs.0 ∙ ap unsigned_abs n.0 in
-    rw made (
-      (cost.1, m.3, m.4),
-      record { few = omega (arith, n.1); small = arcs.1 },
-      (is, ((cost.2, refl), (m.2, ((n.2, sym count), subst (λ (l : List Piece). AreMeant (flat_map spelled_arc parts.0) ts l) (sym parts.3.1) arcs.2)))),
-    )
-
-path_in_ : (cost b : ℕ) (arcs : List ℕ) (ts rest : List Piece) → IsOutcome (outcome.Path cost b) → AreArcs arcs
-    → AreMeant (a_number cost ∷ a_milli b ∷ a_number (length arcs) ∷ flat_map spelled_arc arcs) ts rest → Says path_format ts (pathed cost b arcs) rest
-unfolding Says path_format AreMeant
-path_in_ cost b arcs [] rest fits small h = absurd h
-path_in_ cost b arcs (x ∷ []) rest fits small h = absurd h.1
-path_in_ cost b arcs (x ∷ y ∷ []) rest fits small h = absurd h.1.1
-path_in_ cost b arcs (x ∷ y ∷ z ∷ ts) rest fits small h = (
-  pos cost,
-  digits_in (2 ^ 62) cost x.bytes h.0 fits.0,
-  (
-    pos b,
-    bound_in b y.bytes h.1.0 fits.1 fits.2,
+  pub row_in : (r : Row) (ts rest : List Piece) → IsRow r → AreMeant (spelled_row r) ts rest → Says row_format ts r rest
+  unfolding Says row_format AreMeant
+  row_in r [] rest fits h = absurd h
+  row_in r (a ∷ []) rest fits h = absurd h.1
+  row_in r (a ∷ b ∷ []) rest fits h = absurd h.1.1
+  row_in r (a ∷ b ∷ c ∷ ts) rest fits h = (
+    pos r.g,
+    label_in numbers (2 ^ 62) r.g a.bytes (omega arith) h.0 fits.g,
     (
-      pos (length arcs),
-      digits_in (2 ^ 23) (length arcs) z.bytes h.1.1.0 small.few,
-      says_both (turns (length arcs) arc_turn []) (λ ks. done (pathed cost b ks)) ts rest rest arcs (pathed cost b arcs) (arcs_in arcs ts rest small.small h.1.1.1) (refl, refl),
+      pos r.v,
+      label_in numbers (2 ^ 62) r.v b.bytes (omega arith) h.1.0 fits.v,
+      (pos r.h, digits_in numbers (2 ^ 55) r.h c.bytes h.1.1.0 fits.h, (refl, h.1.1.1)),
     ),
-  ),
-)
+  )
 
-pub outcome_out : (o : Outcome × List ℕ) (ts rest : List Piece) → Says outcome_format ts o rest → OutcomeOut o ts rest
-unfolding Says outcome_format AreMeant
-outcome_out o [] rest h = absurd h
-outcome_out o (t ∷ ts) rest h =
-    elim (outcome_word_out t.bytes h.0 h.1) [
-      | inl w ↦ path_out o t ts rest w.0 (rw w.1 at h.2)
-      | inr v ↦ elim v [
-        | inl w ↦ (let k : Says {E = LabelFault} (done (outcome.NoPath, [])) ts o rest = rw w.1 at h.2 in rw k.0 (tt, refl, (w.0, k.1)))
-        | inr w ↦ (let k : Says {E = LabelFault} (done (outcome.Unknown, [])) ts o rest = rw w.1 at h.2 in rw k.0 (tt, refl, (w.0, k.1)))
+  -- each of a list, by recursion and by its place
+  each_row : (rows : List Row) → AllByRecursion IsRow rows → AreRows rows
+  each_row [] all s lt = absurd (omega arith)
+  each_row (r ∷ rows) all zero lt = all.0
+  each_row (r ∷ rows) all (suc s) lt = each_row rows all.1 s (omega arith)
+
+  all_rows : (rows : List Row) → AreRows rows → AllByRecursion IsRow rows
+  all_rows [] each = tt
+  all_rows (r ∷ rows) each = (each 0 (omega arith), all_rows rows (λ s lt. each (suc s) (omega arith)))
+
+  rows_out : (n : ℕ) (rows : List Row) (ts rest : List Piece) → Says (turns n row_turn []) ts rows rest → (length rows ≡ n) × AreRows rows × AreMeant (flat_map spelled_row rows) ts rest
+  unfolding row_turn
+  rows_out n rows ts rest h =
+      let w = rounds_out row_format IsRow spelled_row row_out row_in n [] rows ts rest h in
+      rw w.1 (w.2, each_row w.0 w.3, w.4)
+
+  rows_in : (rows : List Row) (ts rest : List Piece) → AreRows rows → AreMeant (flat_map spelled_row rows) ts rest → Says (turns (length rows) row_turn []) ts rows rest
+  unfolding row_turn
+  rows_in rows ts rest each h = rounds_in row_format IsRow spelled_row row_out row_in (length rows) [] rows ts rest refl (all_rows rows each) h
+
+  -- ---- arcs
+
+  abbrev arc_format : Format LabelFault ℕ
+  arc_format = item (digits 4096) (λ _ k. done (unsigned_abs k))
+
+  abbrev IsArcNumber : ℕ → Type 0
+  IsArcNumber k = k < 4096
+
+  arc_out : (k : ℕ) (ts rest : List Piece) → Says arc_format ts k rest → IsArcNumber k × AreMeant (spelled_arc k) ts rest
+  unfolding Says AreMeant
+  arc_out k [] rest h = absurd h
+  arc_out k (a ∷ ts) rest h =
+      let d = digits_out numbers 4096 a.bytes h.0 h.1 in
+      let is : k ≡ number_of a.bytes = h.2.0 ∙ ap unsigned_abs d.0 in
+      rw is (d.1, ((d.2, refl), h.2.1))
+
+  arc_in : (k : ℕ) (ts rest : List Piece) → IsArcNumber k → AreMeant (spelled_arc k) ts rest → Says arc_format ts k rest
+  unfolding Says AreMeant
+  arc_in k [] rest fits h = absurd h
+  arc_in k (a ∷ ts) rest fits h = (pos k, digits_in numbers 4096 k a.bytes h.0 fits, (refl, h.1))
+
+  each_arc : (arcs : List ℕ) → AllByRecursion IsArcNumber arcs → (i : ℕ) → i < length arcs → get_or arcs i 0 < 4096
+  each_arc [] all i lt = absurd (omega arith)
+  each_arc (k ∷ ks) all zero lt = all.0
+  each_arc (k ∷ ks) all (suc i) lt = each_arc ks all.1 i (omega arith)
+
+  all_arcs : (arcs : List ℕ) → ((i : ℕ) → i < length arcs → get_or arcs i 0 < 4096) → AllByRecursion IsArcNumber arcs
+  all_arcs [] each = tt
+  all_arcs (k ∷ ks) each = (each 0 (omega arith), all_arcs ks (λ i lt. each (suc i) (omega arith)))
+
+  arcs_out : (n : ℕ) (arcs : List ℕ) (ts rest : List Piece) → Says (turns n arc_turn []) ts arcs rest
+      → (length arcs ≡ n) × ((i : ℕ) → i < length arcs → get_or arcs i 0 < 4096) × AreMeant (flat_map spelled_arc arcs) ts rest
+  unfolding arc_turn behind
+  arcs_out n arcs ts rest h =
+      let w = rounds_out arc_format IsArcNumber spelled_arc arc_out arc_in n [] arcs ts rest h in
+      rw w.1 (w.2, each_arc w.0 w.3, w.4)
+
+  arcs_in : (arcs : List ℕ) (ts rest : List Piece) → ((i : ℕ) → i < length arcs → get_or arcs i 0 < 4096) → AreMeant (flat_map spelled_arc arcs) ts rest
+      → Says (turns (length arcs) arc_turn []) ts arcs rest
+  unfolding arc_turn behind
+  arcs_in arcs ts rest each h = rounds_in arc_format IsArcNumber spelled_arc arc_out arc_in (length arcs) [] arcs ts rest refl (all_arcs arcs each) h
+
+  -- ---- the outcome
+
+  abbrev pathed : ℕ → ℕ → List ℕ → Outcome × List ℕ
+  pathed cost b arcs = (outcome.Path cost b, arcs)
+
+  path_made : (o : Outcome × List ℕ) (x y : ℤ) (cost b : ℕ) (arcs : List ℕ) → o ≡ pathed (unsigned_abs x) (unsigned_abs y) arcs → x ≡ pos cost → y ≡ pos b → o ≡ pathed cost b arcs
+  path_made o x y cost b arcs is one two = is ∙ rw (one, two) refl
+
+  abbrev OutcomeOut : Outcome × List ℕ → List Piece → List Piece → Type 0
+  OutcomeOut o ts rest = IsOutcomeInRange o.0 × HasArcs o.0 o.1 × AreMeant (spelled_outcome o.0 o.1) ts rest
+
+  path_out : (o : Outcome × List ℕ) (t : Piece) (ts rest : List Piece) → t.bytes ≡ codes "path" → Says path_format ts o rest → OutcomeOut o (t ∷ ts) rest
+  unfolding Says path_format AreMeant
+  path_out o t [] rest is h = absurd h
+  path_out o t (a ∷ []) rest is h = absurd h.2
+  path_out o t (a ∷ b ∷ []) rest is h = absurd h.2.2
+  path_out o t (a ∷ b ∷ c ∷ ts) rest is h =
+      let cost = digits_out numbers (2 ^ 62) a.bytes h.0 h.1 in
+      let m = bound_out numbers b.bytes h.2.0 h.2.1 in
+      let n = digits_out numbers (2 ^ 23) c.bytes h.2.2.0 h.2.2.1 in
+      let parts = says_parts (turns (unsigned_abs h.2.2.0) arc_turn []) (λ arcs. done (pathed (unsigned_abs h.0) (unsigned_abs h.2.0) arcs)) ts rest o h.2.2.2 in
+      let arcs = arcs_out (unsigned_abs h.2.2.0) parts.0 ts parts.1 parts.2 in
+      let made = path_made o h.0 h.2.0 (number_of a.bytes) m.0 parts.0 parts.3.0 cost.0 m.1 in
+      let count : length parts.0 ≡ number_of c.bytes = arcs.0 ∙ ap unsigned_abs n.0 in
+      rw made (
+        (cost.1, m.3, m.4),
+        record { few = omega (arith, n.1); small = arcs.1 },
+        (is, ((cost.2, refl), (m.2, ((n.2, sym count), subst (λ (l : List Piece). AreMeant (flat_map spelled_arc parts.0) ts l) (sym parts.3.1) arcs.2)))),
+      )
+
+  path_in_ : (cost b : ℕ) (arcs : List ℕ) (ts rest : List Piece) → IsOutcomeInRange (outcome.Path cost b) → AreArcs arcs
+      → AreMeant (a_number cost ∷ a_milli b ∷ a_number (length arcs) ∷ flat_map spelled_arc arcs) ts rest → Says path_format ts (pathed cost b arcs) rest
+  unfolding Says path_format AreMeant
+  path_in_ cost b arcs [] rest fits small h = absurd h
+  path_in_ cost b arcs (x ∷ []) rest fits small h = absurd h.1
+  path_in_ cost b arcs (x ∷ y ∷ []) rest fits small h = absurd h.1.1
+  path_in_ cost b arcs (x ∷ y ∷ z ∷ ts) rest fits small h = (
+    pos cost,
+    digits_in numbers (2 ^ 62) cost x.bytes h.0 fits.0,
+    (
+      pos b,
+      bound_in numbers b y.bytes h.1.0 fits.1 fits.2,
+      (
+        pos (length arcs),
+        digits_in numbers (2 ^ 23) (length arcs) z.bytes h.1.1.0 small.few,
+        says_both (turns (length arcs) arc_turn []) (λ ks. done (pathed cost b ks)) ts rest rest arcs (pathed cost b arcs) (arcs_in arcs ts rest small.small h.1.1.1) (refl, refl),
+      ),
+    ),
+  )
+
+  pub outcome_out : (o : Outcome × List ℕ) (ts rest : List Piece) → Says outcome_format ts o rest → OutcomeOut o ts rest
+  unfolding Says outcome_format AreMeant
+  outcome_out o [] rest h = absurd h
+  outcome_out o (t ∷ ts) rest h =
+      elim (outcome_word_out t.bytes h.0 h.1) [
+        | inl w ↦ path_out o t ts rest w.0 (rw w.1 at h.2)
+        | inr v ↦ elim v [
+          | inl w ↦ (let k : Says {E = LabelFault} (done (outcome.NoPath, [])) ts o rest = rw w.1 at h.2 in rw k.0 (tt, refl, (w.0, k.1)))
+          | inr w ↦ (let k : Says {E = LabelFault} (done (outcome.Unknown, [])) ts o rest = rw w.1 at h.2 in rw k.0 (tt, refl, (w.0, k.1)))
+        ]
       ]
-    ]
 
-pub outcome_in : (x : Outcome) (arcs : List ℕ) (ts rest : List Piece) → IsOutcome x → HasArcs x arcs → AreMeant (spelled_outcome x arcs) ts rest → Says outcome_format ts (x, arcs) rest
-unfolding Says outcome_format AreMeant
-outcome_in (outcome.Path cost b) arcs [] rest fits has h = absurd h
-outcome_in (outcome.Path cost b) arcs (t ∷ ts) rest fits has h = (pos 0, path_in t.bytes h.0, path_in_ cost b arcs ts rest fits has h.1)
-outcome_in outcome.NoPath arcs [] rest fits has h = absurd h
-outcome_in outcome.NoPath arcs (t ∷ ts) rest fits has h = (pos 1, no_path_in t.bytes h.0, (ap (λ (ks : List ℕ). (outcome.NoPath, ks)) has, h.1))
-outcome_in outcome.Unknown arcs [] rest fits has h = absurd h
-outcome_in outcome.Unknown arcs (t ∷ ts) rest fits has h = (pos 2, unknown_in t.bytes h.0, (ap (λ (ks : List ℕ). (outcome.Unknown, ks)) has, h.1))
+  pub outcome_in : (x : Outcome) (arcs : List ℕ) (ts rest : List Piece) → IsOutcomeInRange x → HasArcs x arcs → AreMeant (spelled_outcome x arcs) ts rest → Says outcome_format ts (x, arcs) rest
+  unfolding Says outcome_format AreMeant
+  outcome_in (outcome.Path cost b) arcs [] rest fits has h = absurd h
+  outcome_in (outcome.Path cost b) arcs (t ∷ ts) rest fits has h = (pos 0, path_in t.bytes h.0, path_in_ cost b arcs ts rest fits has h.1)
+  outcome_in outcome.NoPath arcs [] rest fits has h = absurd h
+  outcome_in outcome.NoPath arcs (t ∷ ts) rest fits has h = (pos 1, no_path_in t.bytes h.0, (ap (λ (ks : List ℕ). (outcome.NoPath, ks)) has, h.1))
+  outcome_in outcome.Unknown arcs [] rest fits has h = absurd h
+  outcome_in outcome.Unknown arcs (t ∷ ts) rest fits has h = (pos 2, unknown_in t.bytes h.0, (ap (λ (ks : List ℕ). (outcome.Unknown, ks)) has, h.1))
 
--- ---- the first line
+  -- ---- the first line
 
-pub word_out : (word bytes : List ℕ) (v : ℤ) → fixed word bytes ≡ Ok v → bytes ≡ word
-word_out word bytes v e = ((words_are_met word bytes v).0 e).0
+  abbrev title : List Saying
+  title = a_word (codes "labels") ∷ a_word (codes "1") ∷ []
 
-word_in : (word bytes : List ℕ) → bytes ≡ word → fixed word bytes ≡ Ok (pos 0)
-word_in word bytes e = (words_are_met word bytes (pos 0)).1 (e, refl)
+  title_out : (x : Unit {0}) (ts rest : List Piece) → Says title_format ts x rest → AreMeant title ts rest
+  unfolding Says title_format AreMeant
+  title_out x [] rest h = absurd h
+  title_out x (a ∷ []) rest h = absurd h.2
+  title_out x (a ∷ b ∷ ts) rest h = (word_out (codes "labels") a.bytes h.0 h.1, (word_out (codes "1") b.bytes h.2.0 h.2.1, h.2.2.1))
 
-abbrev title : List Saying
-title = a_word (codes "labels") ∷ a_word (codes "1") ∷ []
+  title_in : (ts rest : List Piece) → AreMeant title ts rest → Says title_format ts tt rest
+  unfolding Says title_format AreMeant
+  title_in [] rest h = absurd h
+  title_in (a ∷ []) rest h = absurd h.1
+  title_in (a ∷ b ∷ ts) rest h = (pos 0, word_in (codes "labels") a.bytes h.0, (pos 0, word_in (codes "1") b.bytes h.1.0, (refl, h.1.1)))
 
-title_out : (x : Unit {0}) (ts rest : List Piece) → Says title_format ts x rest → AreMeant title ts rest
-unfolding Says title_format AreMeant
-title_out x [] rest h = absurd h
-title_out x (a ∷ []) rest h = absurd h.2
-title_out x (a ∷ b ∷ ts) rest h = (word_out (codes "labels") a.bytes h.0 h.1, (word_out (codes "1") b.bytes h.2.0 h.2.1, h.2.2.1))
+  count_out : (word : List ℕ) (n : ℕ) (x : Unit {0}) (ts rest : List Piece) → Says (count_format word n) ts x rest → AreMeant (a_word word ∷ a_number n ∷ []) ts rest
+  unfolding Says count_format AreMeant
+  count_out word n x [] rest h = absurd h
+  count_out word n x (a ∷ []) rest h = absurd h.2
+  count_out word n x (a ∷ b ∷ ts) rest h =
+      let d = digits_out numbers (2 ^ 32) b.bytes h.2.0 h.2.1 in
+      let w = word_out word a.bytes h.0 h.1 in
+      elim (cases_Bool (eqb (unsigned_abs h.2.0) n)) [
+        | inl e ↦ (
+            let is : number_of b.bytes ≡ n = sym (ap unsigned_abs d.0) ∙ eqb-true (unsigned_abs h.2.0) n e in
+            let k : Says {E = LabelFault} (done x) ts x rest = (refl, (rw e at h.2.2).1) in
+            (w, ((d.2, is), k.1))
+            )
+        | inr e ↦ absurd (rw e at h.2.2)
+      ]
 
-title_in : (ts rest : List Piece) → AreMeant title ts rest → Says title_format ts tt rest
-unfolding Says title_format AreMeant
-title_in [] rest h = absurd h
-title_in (a ∷ []) rest h = absurd h.1
-title_in (a ∷ b ∷ ts) rest h = (pos 0, word_in (codes "labels") a.bytes h.0, (pos 0, word_in (codes "1") b.bytes h.1.0, (refl, h.1.1)))
+  count_in : (word : List ℕ) (n : ℕ) (ts rest : List Piece) → n < 2 ^ 32 → AreMeant (a_word word ∷ a_number n ∷ []) ts rest → Says (count_format word n) ts tt rest
+  unfolding Says count_format AreMeant
+  count_in word n [] rest lt h = absurd h
+  count_in word n (a ∷ []) rest lt h = absurd h.1
+  count_in word n (a ∷ b ∷ ts) rest lt h = (pos 0, word_in word a.bytes h.0, (pos n, digits_in numbers (2 ^ 32) n b.bytes h.1.0 lt, rw (eq-eqb n n refl) (refl, h.1.1)))
 
-count_out : (word : List ℕ) (n : ℕ) (x : Unit {0}) (ts rest : List Piece) → Says (count_format word n) ts x rest → AreMeant (a_word word ∷ a_number n ∷ []) ts rest
-unfolding Says count_format AreMeant
-count_out word n x [] rest h = absurd h
-count_out word n x (a ∷ []) rest h = absurd h.2
-count_out word n x (a ∷ b ∷ ts) rest h =
-    let d = digits_out (2 ^ 32) b.bytes h.2.0 h.2.1 in
-    let w = word_out word a.bytes h.0 h.1 in
-    elim (cases_Bool (eqb (unsigned_abs h.2.0) n)) [
-      | inl e ↦ (
-          let is : number_of b.bytes ≡ n = sym (ap unsigned_abs d.0) ∙ eqb-true (unsigned_abs h.2.0) n e in
-          let k : Says {E = LabelFault} (done x) ts x rest = (refl, (rw e at h.2.2).1) in
-          (w, ((d.2, is), k.1))
-          )
-      | inr e ↦ absurd (rw e at h.2.2)
-    ]
+  low_out : (low : ℕ) (ts rest : List Piece) → Says low_format ts low rest → IsLowest low × AreMeant (a_word (codes "low") ∷ a_label low ∷ []) ts rest
+  unfolding Says low_format AreMeant
+  low_out low [] rest h = absurd h
+  low_out low (a ∷ []) rest h = absurd h.2
+  low_out low (a ∷ b ∷ ts) rest h =
+      let l = label_out numbers (2 ^ 63) b.bytes h.2.0 (omega arith) h.2.1 in
+      let is : low ≡ l.0 = h.2.2.0 ∙ ap unsigned_abs l.1 in
+      rw is (l.3, (word_out (codes "low") a.bytes h.0 h.1, (l.2, h.2.2.1)))
 
-count_in : (word : List ℕ) (n : ℕ) (ts rest : List Piece) → n < 2 ^ 32 → AreMeant (a_word word ∷ a_number n ∷ []) ts rest → Says (count_format word n) ts tt rest
-unfolding Says count_format AreMeant
-count_in word n [] rest lt h = absurd h
-count_in word n (a ∷ []) rest lt h = absurd h.1
-count_in word n (a ∷ b ∷ ts) rest lt h = (pos 0, word_in word a.bytes h.0, (pos n, digits_in (2 ^ 32) n b.bytes h.1.0 lt, rw (eq-eqb n n refl) (refl, h.1.1)))
+  low_in : (low : ℕ) (ts rest : List Piece) → IsLowest low → AreMeant (a_word (codes "low") ∷ a_label low ∷ []) ts rest → Says low_format ts low rest
+  unfolding Says low_format AreMeant
+  low_in low [] rest fits h = absurd h
+  low_in low (a ∷ []) rest fits h = absurd h.1
+  low_in low (a ∷ b ∷ ts) rest fits h = (pos 0, word_in (codes "low") a.bytes h.0, (pos low, label_in numbers (2 ^ 63) low b.bytes (omega arith) h.1.0 fits, (refl, h.1.1)))
 
-low_out : (low : ℕ) (ts rest : List Piece) → Says low_format ts low rest → IsLowest low × AreMeant (a_word (codes "low") ∷ a_label low ∷ []) ts rest
-unfolding Says low_format AreMeant
-low_out low [] rest h = absurd h
-low_out low (a ∷ []) rest h = absurd h.2
-low_out low (a ∷ b ∷ ts) rest h =
-    let l = label_out (2 ^ 63) b.bytes h.2.0 (omega arith) h.2.1 in
-    let is : low ≡ l.0 = h.2.2.0 ∙ ap unsigned_abs l.1 in
-    rw is (l.3, (word_out (codes "low") a.bytes h.0 h.1, (l.2, h.2.2.1)))
+  abbrev counted : List ℕ → ℕ → List Saying
+  counted word n = a_word word ∷ a_number n ∷ []
 
-low_in : (low : ℕ) (ts rest : List Piece) → IsLowest low → AreMeant (a_word (codes "low") ∷ a_label low ∷ []) ts rest → Says low_format ts low rest
-unfolding Says low_format AreMeant
-low_in low [] rest fits h = absurd h
-low_in low (a ∷ []) rest fits h = absurd h.1
-low_in low (a ∷ b ∷ ts) rest fits h = (pos 0, word_in (codes "low") a.bytes h.0, (pos low, label_in (2 ^ 63) low b.bytes (omega arith) h.1.0 fits, (refl, h.1.1)))
+  abbrev lowest : ℕ → List Saying
+  lowest low = a_word (codes "low") ∷ a_label low ∷ []
 
-abbrev counted : List ℕ → ℕ → List Saying
-counted word n = a_word word ∷ a_number n ∷ []
+  head_out : (plan states low : ℕ) (ts rest : List Piece) → Says (head_format plan states) ts low rest
+      → IsLowest low × AreMeant (title ++ (counted (codes "plan") plan ++ (counted (codes "states") states ++ lowest low))) ts rest
+  unfolding head_format
+  head_out plan states low ts rest h =
+      let one = says_parts title_format (λ _. behind (count_format (codes "plan") plan) (λ _. behind (count_format (codes "states") states) (λ _. low_format))) ts rest low h in
+      let two = says_parts (count_format (codes "plan") plan) (λ _. behind (count_format (codes "states") states) (λ _. low_format)) one.1 rest low one.3 in
+      let three = says_parts (count_format (codes "states") states) (λ _. low_format) two.1 rest low two.3 in
+      let last = low_out low three.1 rest three.3 in (
+        last.0,
+        meant_both title (counted (codes "plan") plan ++ (counted (codes "states") states ++ lowest low)) ts one.1 rest (title_out one.0 ts one.1 one.2)
+            (meant_both (counted (codes "plan") plan) (counted (codes "states") states ++ lowest low) one.1 two.1 rest (count_out (codes "plan") plan two.0 one.1 two.1 two.2)
+            (meant_both (counted (codes "states") states) (lowest low) two.1 three.1 rest (count_out (codes "states") states three.0 two.1 three.1 three.2) last.1)),
+      )
 
-abbrev lowest : ℕ → List Saying
-lowest low = a_word (codes "low") ∷ a_label low ∷ []
+  head_in : (plan states low : ℕ) (ts rest : List Piece) → plan < 2 ^ 32 → states < 2 ^ 32 → IsLowest low
+      → AreMeant (title ++ (counted (codes "plan") plan ++ (counted (codes "states") states ++ lowest low))) ts rest → Says (head_format plan states) ts low rest
+  unfolding head_format
+  head_in plan states low ts rest p s fits h =
+      let one = meant_parts title (counted (codes "plan") plan ++ (counted (codes "states") states ++ lowest low)) ts rest h in
+      let two = meant_parts (counted (codes "plan") plan) (counted (codes "states") states ++ lowest low) one.0 rest one.2 in
+      let three = meant_parts (counted (codes "states") states) (lowest low) two.0 rest two.2 in
+      says_both title_format (λ _. behind (count_format (codes "plan") plan) (λ _. behind (count_format (codes "states") states) (λ _. low_format))) ts one.0 rest tt low (title_in ts one.0 one.1)
+      (says_both (count_format (codes "plan") plan) (λ _. behind (count_format (codes "states") states) (λ _. low_format)) one.0 two.0 rest tt low (count_in (codes "plan") plan one.0 two.0 p two.1)
+      (says_both (count_format (codes "states") states) (λ _. low_format) two.0 three.0 rest tt low (count_in (codes "states") states two.0 three.0 s three.1) (low_in low three.0 rest fits three.2)))
 
-head_out : (plan states low : ℕ) (ts rest : List Piece) → Says (head_format plan states) ts low rest
-    → IsLowest low × AreMeant (title ++ (counted (codes "plan") plan ++ (counted (codes "states") states ++ lowest low))) ts rest
-unfolding head_format
-head_out plan states low ts rest h =
-    let one = says_parts title_format (λ _. behind (count_format (codes "plan") plan) (λ _. behind (count_format (codes "states") states) (λ _. low_format))) ts rest low h in
-    let two = says_parts (count_format (codes "plan") plan) (λ _. behind (count_format (codes "states") states) (λ _. low_format)) one.1 rest low one.3 in
-    let three = says_parts (count_format (codes "states") states) (λ _. low_format) two.1 rest low two.3 in
-    let last = low_out low three.1 rest three.3 in (
-      last.0,
-      meant_both title (counted (codes "plan") plan ++ (counted (codes "states") states ++ lowest low)) ts one.1 rest (title_out one.0 ts one.1 one.2)
-          (meant_both (counted (codes "plan") plan) (counted (codes "states") states ++ lowest low) one.1 two.1 rest (count_out (codes "plan") plan two.0 one.1 two.1 two.2)
-          (meant_both (counted (codes "states") states) (lowest low) two.1 three.1 rest (count_out (codes "states") states three.0 two.1 three.1 three.2) last.1)),
-    )
+  -- ---- a section
 
-head_in : (plan states low : ℕ) (ts rest : List Piece) → plan < 2 ^ 32 → states < 2 ^ 32 → IsLowest low
-    → AreMeant (title ++ (counted (codes "plan") plan ++ (counted (codes "states") states ++ lowest low))) ts rest → Says (head_format plan states) ts low rest
-unfolding head_format
-head_in plan states low ts rest p s fits h =
-    let one = meant_parts title (counted (codes "plan") plan ++ (counted (codes "states") states ++ lowest low)) ts rest h in
-    let two = meant_parts (counted (codes "plan") plan) (counted (codes "states") states ++ lowest low) one.0 rest one.2 in
-    let three = meant_parts (counted (codes "states") states) (lowest low) two.0 rest two.2 in
-    says_both title_format (λ _. behind (count_format (codes "plan") plan) (λ _. behind (count_format (codes "states") states) (λ _. low_format))) ts one.0 rest tt low (title_in ts one.0 one.1)
-    (says_both (count_format (codes "plan") plan) (λ _. behind (count_format (codes "states") states) (λ _. low_format)) one.0 two.0 rest tt low (count_in (codes "plan") plan one.0 two.0 p two.1)
-    (says_both (count_format (codes "states") states) (λ _. low_format) two.0 three.0 rest tt low (count_in (codes "states") states two.0 three.0 s three.1) (low_in low three.0 rest fits three.2)))
+  abbrev front : Section → List Saying
+  front s = spelled_head s ++ (spelled_outcome s.outcome s.arcs ++ flat_map spelled_row s.labels)
 
--- ---- a section
+  abbrev made : ℕ → ℕ → Outcome → List ℕ → List Row → Section
+  made plan low o arcs rows = record { plan = plan; low = low; outcome = o; arcs = arcs; labels = rows }
 
-abbrev front : Section → List Saying
-front s = spelled_head s ++ (spelled_outcome s.outcome s.arcs ++ flat_map spelled_row s.labels)
+  pub front_out : (plan states : ℕ) (s : Section) (ts rest : List Piece) → plan < 2 ^ 32 → states < 2 ^ 32 → Says (front_format plan states) ts s rest
+      → (s.plan ≡ plan) × (length s.labels ≡ states) × IsSection s × AreMeant (front s) ts rest
+  unfolding front_format Says
+  front_out plan states s ts rest p q h =
+      let one = says_parts (head_format plan states) (λ low. behind outcome_format (λ o. behind (turns states row_turn []) (λ rows. done (made plan low o.0 o.1 rows)))) ts rest s h in
+      let two = says_parts outcome_format (λ o. behind (turns states row_turn []) (λ rows. done (made plan one.0 o.0 o.1 rows))) one.1 rest s one.3 in
+      let three = says_parts (turns states row_turn []) (λ rows. done (made plan one.0 two.0.0 two.0.1 rows)) two.1 rest s two.3 in
+      let head = head_out plan states one.0 ts one.1 one.2 in
+      let path = outcome_out two.0 one.1 two.1 two.2 in
+      let rows = rows_out states three.0 two.1 three.1 three.2 in
+      let is : s ≡ made plan one.0 two.0.0 two.0.1 three.0 = three.3.0 in
+      let lines = subst (λ (l : List Piece). AreMeant (flat_map spelled_row three.0) two.1 l) (sym three.3.1) rows.2 in
+      rw is (
+        refl,
+        rows.0,
+        record { plan = p; low = head.0; outcome = path.0; arcs = path.1; states = omega (arith, rows.0); labels = rows.1 },
+        meant_both (spelled_head (made plan one.0 two.0.0 two.0.1 three.0)) (spelled_outcome two.0.0 two.0.1 ++ flat_map spelled_row three.0) ts one.1 rest
+            (rw rows.0 head.1)
+            (meant_both (spelled_outcome two.0.0 two.0.1) (flat_map spelled_row three.0) one.1 two.1 rest path.2 lines),
+      )
 
-abbrev made : ℕ → ℕ → Outcome → List ℕ → List Row → Section
-made plan low o arcs rows = record { plan = plan; low = low; outcome = o; arcs = arcs; labels = rows }
+  front_in : (s : Section) (ts rest : List Piece) → IsSection s → AreMeant (front s) ts rest → Says (front_format s.plan (length s.labels)) ts s rest
+  unfolding front_format Says
+  front_in s ts rest fits h =
+      let states = length s.labels in
+      let one = meant_parts (spelled_head s) (spelled_outcome s.outcome s.arcs ++ flat_map spelled_row s.labels) ts rest h in
+      let two = meant_parts (spelled_outcome s.outcome s.arcs) (flat_map spelled_row s.labels) one.0 rest one.2 in
+      says_both (head_format s.plan states) (λ low. behind outcome_format (λ o. behind (turns states row_turn []) (λ rows. done (made s.plan low o.0 o.1 rows)))) ts one.0 rest s.low s
+      (head_in s.plan states s.low ts one.0 fits.plan fits.states fits.low one.1)
+      (says_both outcome_format (λ o. behind (turns states row_turn []) (λ rows. done (made s.plan s.low o.0 o.1 rows))) one.0 two.0 rest (s.outcome, s.arcs) s
+      (outcome_in s.outcome s.arcs one.0 two.0 fits.outcome fits.arcs two.1)
+      (says_both (turns states row_turn []) (λ rows. done (made s.plan s.low s.outcome s.arcs rows)) two.0 rest rest s.labels s (rows_in s.labels two.0 rest fits.labels two.2) (refl, refl)))
 
-pub front_out : (plan states : ℕ) (s : Section) (ts rest : List Piece) → plan < 2 ^ 32 → states < 2 ^ 32 → Says (front_format plan states) ts s rest
-    → (s.plan ≡ plan) × (length s.labels ≡ states) × IsSection s × AreMeant (front s) ts rest
-unfolding front_format Says
-front_out plan states s ts rest p q h =
-    let one = says_parts (head_format plan states) (λ low. behind outcome_format (λ o. behind (turns states row_turn []) (λ rows. done (made plan low o.0 o.1 rows)))) ts rest s h in
-    let two = says_parts outcome_format (λ o. behind (turns states row_turn []) (λ rows. done (made plan one.0 o.0 o.1 rows))) one.1 rest s one.3 in
-    let three = says_parts (turns states row_turn []) (λ rows. done (made plan one.0 two.0.0 two.0.1 rows)) two.1 rest s two.3 in
-    let head = head_out plan states one.0 ts one.1 one.2 in
-    let path = outcome_out two.0 one.1 two.1 two.2 in
-    let rows = rows_out states three.0 two.1 three.1 three.2 in
-    let is : s ≡ made plan one.0 two.0.0 two.0.1 three.0 = three.3.0 in
-    let lines = subst (λ (l : List Piece). AreMeant (flat_map spelled_row three.0) two.1 l) (sym three.3.1) rows.2 in
-    rw is (
-      refl,
-      rows.0,
-      record { plan = p; low = head.0; outcome = path.0; arcs = path.1; states = omega (arith, rows.0); labels = rows.1 },
-      meant_both (spelled_head (made plan one.0 two.0.0 two.0.1 three.0)) (spelled_outcome two.0.0 two.0.1 ++ flat_map spelled_row three.0) ts one.1 rest
-          (rw rows.0 head.1)
-          (meant_both (spelled_outcome two.0.0 two.0.1) (flat_map spelled_row three.0) one.1 two.1 rest path.2 lines),
-    )
+  abbrev last_word : Section → Format LabelFault Section
+  last_word s = item (fixed (codes "end")) (λ _ _. done s)
 
-front_in : (s : Section) (ts rest : List Piece) → IsSection s → AreMeant (front s) ts rest → Says (front_format s.plan (length s.labels)) ts s rest
-unfolding front_format Says
-front_in s ts rest fits h =
-    let states = length s.labels in
-    let one = meant_parts (spelled_head s) (spelled_outcome s.outcome s.arcs ++ flat_map spelled_row s.labels) ts rest h in
-    let two = meant_parts (spelled_outcome s.outcome s.arcs) (flat_map spelled_row s.labels) one.0 rest one.2 in
-    says_both (head_format s.plan states) (λ low. behind outcome_format (λ o. behind (turns states row_turn []) (λ rows. done (made s.plan low o.0 o.1 rows)))) ts one.0 rest s.low s
-    (head_in s.plan states s.low ts one.0 fits.plan fits.states fits.low one.1)
-    (says_both outcome_format (λ o. behind (turns states row_turn []) (λ rows. done (made s.plan s.low o.0 o.1 rows))) one.0 two.0 rest (s.outcome, s.arcs) s
-    (outcome_in s.outcome s.arcs one.0 two.0 fits.outcome fits.arcs two.1)
-    (says_both (turns states row_turn []) (λ rows. done (made s.plan s.low s.outcome s.arcs rows)) two.0 rest rest s.labels s (rows_in s.labels two.0 rest fits.labels two.2) (refl, refl)))
+  end_out : (s x : Section) (ts rest : List Piece) → Says (last_word s) ts x rest → (x ≡ s) × AreMeant (a_word (codes "end") ∷ []) ts rest
+  unfolding Says AreMeant
+  end_out s x [] rest h = absurd h
+  end_out s x (t ∷ ts) rest h = (h.2.0, (word_out (codes "end") t.bytes h.0 h.1, h.2.1))
 
-abbrev last_word : Section → Format LabelFault Section
-last_word s = item (fixed (codes "end")) (λ _ _. done s)
+  end_in : (s : Section) (ts rest : List Piece) → AreMeant (a_word (codes "end") ∷ []) ts rest → Says (last_word s) ts s rest
+  unfolding Says AreMeant
+  end_in s [] rest h = absurd h
+  end_in s (t ∷ ts) rest h = (pos 0, word_in (codes "end") t.bytes h.0, (refl, h.1))
 
-end_out : (s x : Section) (ts rest : List Piece) → Says (last_word s) ts x rest → (x ≡ s) × AreMeant (a_word (codes "end") ∷ []) ts rest
-unfolding Says AreMeant
-end_out s x [] rest h = absurd h
-end_out s x (t ∷ ts) rest h = (h.2.0, (word_out (codes "end") t.bytes h.0 h.1, h.2.1))
+  -- the tokens of a section, with the last word apart
+  apart : (s : Section) → spelled s ≡ front s ++ a_word (codes "end") ∷ []
+  unfolding spelled
+  apart s =
+      ap (λ (x : List Saying). spelled_head s ++ x) (sym (append_assoc (spelled_outcome s.outcome s.arcs) (flat_map spelled_row s.labels) (a_word (codes "end") ∷ [])))
+      ∙ sym (append_assoc (spelled_head s) (spelled_outcome s.outcome s.arcs ++ flat_map spelled_row s.labels) (a_word (codes "end") ∷ []))
 
-end_in : (s : Section) (ts rest : List Piece) → AreMeant (a_word (codes "end") ∷ []) ts rest → Says (last_word s) ts s rest
-unfolding Says AreMeant
-end_in s [] rest h = absurd h
-end_in s (t ∷ ts) rest h = (pos 0, word_in (codes "end") t.bytes h.0, (refl, h.1))
+  front_and_end : (s : Section) (ts rest : List Piece) → AreMeant (front s ++ a_word (codes "end") ∷ []) ts rest → AreMeant (spelled s) ts rest
+  front_and_end s ts rest h = subst (λ (x : List Saying). AreMeant x ts rest) (sym (apart s)) h
 
--- the tokens of a section, with the last word apart
-apart : (s : Section) → spelled s ≡ front s ++ a_word (codes "end") ∷ []
-unfolding spelled
-apart s =
-    ap (λ (x : List Saying). spelled_head s ++ x) (sym (append_assoc (spelled_outcome s.outcome s.arcs) (flat_map spelled_row s.labels) (a_word (codes "end") ∷ [])))
-    ∙ sym (append_assoc (spelled_head s) (spelled_outcome s.outcome s.arcs ++ flat_map spelled_row s.labels) (a_word (codes "end") ∷ []))
+  front_then_end : (s : Section) (ts rest : List Piece) → AreMeant (spelled s) ts rest → AreMeant (front s ++ a_word (codes "end") ∷ []) ts rest
+  front_then_end s ts rest h = subst (λ (x : List Saying). AreMeant x ts rest) (apart s) h
 
-front_and_end : (s : Section) (ts rest : List Piece) → AreMeant (front s ++ a_word (codes "end") ∷ []) ts rest → AreMeant (spelled s) ts rest
-front_and_end s ts rest h = subst (λ (x : List Saying). AreMeant x ts rest) (sym (apart s)) h
+  pub section_out : (plan states : ℕ) (s : Section) (ts rest : List Piece) → plan < 2 ^ 32 → states < 2 ^ 32 → Says (section_format plan states) ts s rest
+      → (s.plan ≡ plan) × (length s.labels ≡ states) × AreTokensOf ts s rest
+  unfolding section_format Says
+  section_out plan states s ts rest p q h =
+      let one = says_parts (front_format plan states) last_word ts rest s h in
+      let first = front_out plan states one.0 ts one.1 p q one.2 in
+      let last = end_out one.0 s one.1 rest one.3 in
+      let tokens = meant_both (front one.0) (a_word (codes "end") ∷ []) ts one.1 rest first.3 last.1 in
+      rw last.0 (first.0, first.1, record { tokens = front_and_end one.0 ts rest tokens; fits = first.2 })
 
-front_then_end : (s : Section) (ts rest : List Piece) → AreMeant (spelled s) ts rest → AreMeant (front s ++ a_word (codes "end") ∷ []) ts rest
-front_then_end s ts rest h = subst (λ (x : List Saying). AreMeant x ts rest) (apart s) h
-
-pub section_out : (plan states : ℕ) (s : Section) (ts rest : List Piece) → plan < 2 ^ 32 → states < 2 ^ 32 → Says (section_format plan states) ts s rest
-    → (s.plan ≡ plan) × (length s.labels ≡ states) × AreTokensOf ts s rest
-unfolding section_format Says
-section_out plan states s ts rest p q h =
-    let one = says_parts (front_format plan states) last_word ts rest s h in
-    let first = front_out plan states one.0 ts one.1 p q one.2 in
-    let last = end_out one.0 s one.1 rest one.3 in
-    let tokens = meant_both (front one.0) (a_word (codes "end") ∷ []) ts one.1 rest first.3 last.1 in
-    rw last.0 (first.0, first.1, record { tokens = front_and_end one.0 ts rest tokens; fits = first.2 })
-
-pub section_in : (s : Section) (ts rest : List Piece) → AreTokensOf ts s rest → Says (section_format s.plan (length s.labels)) ts s rest
-unfolding section_format Says
-section_in s ts rest w =
-    let p = meant_parts (front s) (a_word (codes "end") ∷ []) ts rest (front_then_end s ts rest w.tokens) in
-    says_both (front_format s.plan (length s.labels)) last_word ts p.0 rest s s (front_in s ts p.0 w.fits p.1) (end_in s p.0 rest p.2)
+  pub section_in : (s : Section) (ts rest : List Piece) → AreTokensOf ts s rest → Says (section_format s.plan (length s.labels)) ts s rest
+  unfolding section_format Says
+  section_in s ts rest w =
+      let p = meant_parts (front s) (a_word (codes "end") ∷ []) ts rest (front_then_end s ts rest w.tokens) in
+      says_both (front_format s.plan (length s.labels)) last_word ts p.0 rest s s (front_in s ts p.0 w.fits p.1) (end_in s p.0 rest p.2)

@@ -76,5 +76,5 @@ abbrev pub IsSettled : ℕ → List Row → ℕ → Type 0
 IsSettled goal labels s = g_at labels s < FAR → (s ≡ goal → ⊥) × (v_at labels s < FAR)
 
 -- this is the flaw of the first state that is not settled
-abbrev pub IsFirstOpenFlaw : ℕ → List Row → Flaw → Type 0
-IsFirstOpenFlaw goal labels f = (s : ℕ) × (f ≡ flaw.Goal s) × (s < length labels) × (g_at labels s < FAR) × ((s ≡ goal) ⊎ (v_at labels s ≡ FAR)) × ((u : ℕ) → u < s → IsSettled goal labels u)
+abbrev pub IsFirstUnsettledFlaw : ℕ → List Row → Flaw → Type 0
+IsFirstUnsettledFlaw goal labels f = (s : ℕ) × (f ≡ flaw.Goal s) × (s < length labels) × (g_at labels s < FAR) × ((s ≡ goal) ⊎ (v_at labels s ≡ FAR)) × ((u : ℕ) → u < s → IsSettled goal labels u)

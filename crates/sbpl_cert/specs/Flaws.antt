@@ -94,7 +94,7 @@ pub record IsEndOff (n : Network) (start goal : ℕ) (s : Section) (state : ℕ)
   pub other : state ≢ goal
 
 -- there is said to be no path, and this state of finite g is the goal or has an infinite v
-pub record IsOpen (n : Network) (goal : ℕ) (s : Section) (state : ℕ) : Type 0 where
+pub record IsUnsettled (n : Network) (goal : ℕ) (s : Section) (state : ℕ) : Type 0 where
   pub outcome : s.outcome ≡ outcome.NoPath
   pub inside : state < n.states
   pub near : g_at s.labels state < FAR
@@ -110,7 +110,7 @@ HasFlaw n start goal s (flaw.Low state has most) = IsLowOff n goal s state has m
 HasFlaw n start goal s (flaw.Path step) = IsStepOff n start s step
 HasFlaw n start goal s (flaw.Cost has paid) = IsCostOff n start s has paid
 HasFlaw n start goal s (flaw.Bound has least) = IsBoundOff s has least
-HasFlaw n start goal s (flaw.Goal state) = IsEndOff n start goal s state ⊎ IsOpen n goal s state
+HasFlaw n start goal s (flaw.Goal state) = IsEndOff n start goal s state ⊎ IsUnsettled n goal s state
 
 -- ---- the order in which they are tested
 

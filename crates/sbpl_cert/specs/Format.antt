@@ -99,6 +99,6 @@ front_format plan states =
     behind (head_format plan states) (λ low. behind outcome_format (λ o. behind (turns states row_turn []) (λ rows.
     done (record { plan = plan; low = low; outcome = o.0; arcs = o.1; labels = rows }))))
 
--- the section of a plan, of so many states
+-- the section of a plan, of this number of states
 unfoldable pub section_format : ℕ → ℕ → Format LabelFault Section
 section_format plan states = behind (front_format plan states) (λ s. item (fixed (codes "end")) (λ _ _. done s))

@@ -47,10 +47,10 @@ abbrev pub IsLowest : ℕ → Type 0
 IsLowest low = (low ≡ FAR) ⊎ (low < 2 ^ 63)
 
 -- a cost below 2^62, and a bound of 1.000 and more with thousandths below 2^100
-abbrev pub IsOutcome : Outcome → Type 0
-IsOutcome (outcome.Path cost bound) = (cost < 2 ^ 62) × (1000 ≤ bound) × (bound < 2 ^ 100)
-IsOutcome outcome.NoPath = Unit {0}
-IsOutcome outcome.Unknown = Unit {0}
+abbrev pub IsOutcomeInRange : Outcome → Type 0
+IsOutcomeInRange (outcome.Path cost bound) = (cost < 2 ^ 62) × (1000 ≤ bound) × (bound < 2 ^ 100)
+IsOutcomeInRange outcome.NoPath = Unit {0}
+IsOutcomeInRange outcome.Unknown = Unit {0}
 
 -- fewer than 2^23 arc numbers below 4096
 pub record AreArcs (arcs : List ℕ) : Type 0 where
@@ -67,7 +67,7 @@ HasArcs outcome.Unknown arcs = arcs ≡ []
 pub record IsSection (s : Section) : Type 0 where
   pub plan : s.plan < 2 ^ 32
   pub low : IsLowest s.low
-  pub outcome : IsOutcome s.outcome
+  pub outcome : IsOutcomeInRange s.outcome
   pub arcs : HasArcs s.outcome s.arcs
   pub states : length s.labels < 2 ^ 32
   pub labels : AreRows s.labels

@@ -33,7 +33,7 @@ Means (a_number n) bytes = MeansNumber n bytes
 Means (a_label x) bytes = ((bytes ≡ codes "-") × (x ≡ FAR)) ⊎ (MeansNumber x bytes × (x < FAR))
 Means (a_milli n) bytes = (whole : List ℕ) × (decimals : List ℕ) × IsMilli bytes whole decimals × (number_of whole * 1000 + number_of decimals ≡ n)
 
--- the front of the tokens says these, one for one, and the rest is left
+-- the first tokens say these, one for one, and the rest is left
 unfoldable pub AreMeant : List Saying → List Piece → List Piece → Type 0
 AreMeant [] ts rest = rest ≡ ts
 AreMeant (s ∷ ss) [] rest = ⊥
@@ -64,15 +64,15 @@ pub record AreTokensOf (ts : List Piece) (s : Section) (rest : List Piece) : Typ
   pub tokens : AreMeant (spelled s) ts rest
   pub fits : IsSection s
 
--- a section is of a plan, and of so many states
+-- a section is of this plan, and of this number of states
 abbrev pub IsOf : ℕ → ℕ → Section → Type 0
 IsOf plan states s = (s.plan ≡ plan) × (length s.labels ≡ states)
 
--- the tokens begin with some section of the plan, of so many states
+-- the tokens begin with some section of the plan, of this number of states
 abbrev pub AreTokens : ℕ → ℕ → List Piece → Type 0
 AreTokens plan states ts = (s : Section) × (rest : List Piece) × IsOf plan states s × AreTokensOf ts s rest
 
--- a section, and the tokens behind it
+-- a section, and the tokens after it
 abbrev pub with_rest : Section → List Piece → Section × List Piece
 with_rest s rest = (s, rest)
 
@@ -80,7 +80,7 @@ with_rest s rest = (s, rest)
 abbrev pub EndsWith : List Piece → List Piece → Type 0
 EndsWith ts rest = (before : List Piece) × (ts ≡ before ++ rest)
 
--- of the tokens from `at` on, the last that begins before the offset is a section's last word, and the offset is the one right behind it
+-- of the tokens from `at` on, the last that begins before the offset is a section's last word, and the offset is the one right after it
 abbrev pub IsBehindEnd : List ℕ → ℕ → ℕ → Type 0
 IsBehindEnd text at offset = EndsWith (tokens_from text at) (record { place = offset - 3; bytes = codes "end" } ∷ tokens_from text offset)
 

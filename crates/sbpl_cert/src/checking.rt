@@ -7,7 +7,7 @@ ghost use Rattle.sbpl_graph.specs.Path.{IsFreePath};
 ghost use Rattle.sbpl_graph.specs.declared.TheConstants.{FAR as Far};
 ghost use Rattle.sbpl_cert.specs.declared.flaw.Flaw.{Flaw as AFlaw};
 ghost use Rattle.sbpl_cert.specs.declared.outcome.Outcome.TheVariants as outcome;
-ghost use Rattle.sbpl_cert.specs.Checking.{IsArcFlaw, IsArcFlawAt, IsArcKept, IsBoundFlaw, IsFirstArcFlaw, IsFirstGuideFlaw, IsFirstLowFlaw, IsFirstOpenFlaw, IsGuideFlaw, IsGuideFlawAt, IsGuideKept, IsLowKept, IsSettled, IsShut, IsStepFlaw};
+ghost use Rattle.sbpl_cert.specs.Checking.{IsArcFlaw, IsArcFlawAt, IsArcKept, IsBoundFlaw, IsFirstArcFlaw, IsFirstGuideFlaw, IsFirstLowFlaw, IsFirstUnsettledFlaw, IsGuideFlaw, IsGuideFlawAt, IsGuideKept, IsLowKept, IsSettled, IsShut, IsStepFlaw};
 ghost use Rattle.sbpl_cert.specs.Flaws.{HasNoFlaw, IsFirstFlaw};
 ghost use Rattle.sbpl_cert.specs.Sections.{AreRows, IsSection, v_at};
 ghost use Rattle.sbpl_cert.specs.Sound.{IsSo, ShowsAll, ShowsBound, ShowsOutcome};
@@ -192,7 +192,7 @@ fn check_bound(cost: u64, low: u64, bound: u128) -> Result<(), Flaw>
 fn check_none(rows: &[Row], goal: u32) -> Result<(), Flaw>
     requires rows { AreRows rows.now }
     requires few { length rows.now < 2 ^ 32 }
-    ensures settled { MatchResult result (λ _. (s : ℕ) → s < length rows.now → IsSettled goal rows.now s) (IsFirstOpenFlaw goal rows.now) }
+    ensures settled { MatchResult result (λ _. (s : ℕ) → s < length rows.now → IsSettled goal rows.now s) (IsFirstUnsettledFlaw goal rows.now) }
 {
     for s in 0..rows.len() as u32 {
         let row = rows[s as usize];

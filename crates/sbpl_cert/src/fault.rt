@@ -24,7 +24,7 @@ pub enum LabelFault {
     /// The text ends inside a section, or before a section that must come.
     #[error("byte {0}: the text ends where more must stand")]
     Ended(usize),
-    /// A token stands behind the last section.
+    /// A token stands after the last section.
     #[error("byte {0}: more stands behind the last section")]
     Trailing(usize),
     /// The plan or the number of states is not the one that is expected.

@@ -1,4 +1,4 @@
-//! What the order of flaws comes to: a section has at most one first flaw.
+//! What the order of flaws means: a section has at most one first flaw.
 
 ghost use Rattle.std.specs.Prelude.{◌≡◌, ℕ};
 ghost use Rattle.sbpl_graph.specs.Network.{Network};

@@ -1,9 +1,15 @@
 //! A section of a label text.
 
-use crate::arcs::Arcs;
 use crate::outcome::Outcome;
-use crate::rows::Rows;
+use crate::row::Row;
+use sbpl_list::ListOf;
 use std::marker::Model;
+
+/// The arc numbers of a path in order.
+pub type Arcs = ListOf<u32>;
+
+/// A row for each state in order.
+pub type Rows = ListOf<Row>;
 
 /// A section of a label text: what a plan answered, and the labels that show it. Its type keeps every value in the range
 /// that the text has for it, with `FAR` for infinity, and that there are arcs in a section of a path alone.

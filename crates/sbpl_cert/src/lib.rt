@@ -1,7 +1,6 @@
 //! Label texts, and the checker that needs to trust nobody: whether labels show what a plan answered.
 #![tactic(auto)]
 
-mod arcs;
 mod checking;
 mod fault;
 mod first;
@@ -11,20 +10,17 @@ mod making;
 mod outcome;
 mod reading;
 mod row;
-mod rows;
 mod text;
 mod writing;
 
-pub use arcs::Arcs;
 pub use checking::check;
 pub use fault::LabelFault;
 pub use first::first_flaws_are_one;
 pub use flaw::Flaw;
-pub use label_set::LabelSet;
+pub use label_set::{Arcs, LabelSet, Rows};
 pub use making::section_of;
 pub use outcome::Outcome;
 pub use reading::read_labels;
 pub use row::Row;
-pub use rows::Rows;
 pub use text::texts_are_sections_or_faulty;
 pub use writing::write_labels;

@@ -6,14 +6,12 @@ ghost use Rattle.sbpl_graph.specs.Laws.{IsSound};
 ghost use Rattle.sbpl_graph.specs.Network.{Network};
 ghost use Rattle.sbpl_labels.specs.Marks.{states_of, g_of, v_of};
 ghost use Rattle.sbpl_cert.specs.Made.{HaveRows, IsOfLabels};
-ghost use Rattle.sbpl_cert.specs.Sections.{AreRows, HasArcs, IsOutcome, IsRow};
+ghost use Rattle.sbpl_cert.specs.Sections.{AreRows, HasArcs, IsOutcomeInRange, IsRow};
 ghost use Rattle.sbpl_cert.specs.Sound.{ShowsBound};
 
-use crate::arcs::Arcs;
-use crate::label_set::LabelSet;
+use crate::label_set::{Arcs, LabelSet, Rows};
 use crate::outcome::Outcome;
 use crate::row::Row;
-use crate::rows::Rows;
 use sbpl_fixed::NoMemory;
 use sbpl_graph::Guide;
 use sbpl_labels::Labels;
@@ -68,7 +66,7 @@ pub fn section_of<H: Guide>(
     requires states { states ≡ states_of labels.now }
     requires goal { goal < states_of labels.now }
     requires known { (s : ℕ) → s < states_of labels.now → H.knows guide.now s }
-    requires outcome { IsOutcome outcome }
+    requires outcome { IsOutcomeInRange outcome }
     requires arcs { HasArcs outcome arcs }
     ensures plan { IfOk result (λ s. s.plan ≡ plan) }
     ensures outcome { IfOk result (λ s. s.outcome ≡ outcome) }

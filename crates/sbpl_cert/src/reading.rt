@@ -10,13 +10,14 @@ ghost use Rattle.sbpl_cert.specs.Format.{arc_turn, bound, count_format, digits, 
 ghost use Rattle.sbpl_cert.specs.Sections.{Section};
 ghost use Rattle.sbpl_cert.specs.Text.{AreTokensOf, EndsWith, HasFault, IsBehindEnd, with_rest};
 
-use crate::arcs::Arcs;
 use crate::fault::LabelFault;
-use crate::label_set::LabelSet;
+use crate::label_set::{Arcs, LabelSet, Rows};
 use crate::outcome::Outcome;
 use crate::row::Row;
-use crate::rows::Rows;
-use sbpl_fixed::{NumFault, Placed, Reader, TextFault, read_digits, read_milli};
+use sbpl_fixed::{
+    NumFault, Placed, Reader, TextFault, read_digits, read_milli, reading_is_what_is_said,
+    tokens_are_longest_runs, unsigned_numbers_are_their_digits,
+};
 use sbpl_graph::FAR;
 use std::alloc::Global;
 
@@ -121,7 +122,7 @@ fn read_low(reader: &mut Reader) -> Result<u64, LabelFault>
 }
 
 /// Reads the first line. Answers the low.
-#[tactic(auto, using(sbpl_fixed::proofs::Reading::reads_behind), unfolding(sbpl_fixed::specs::Formats::reads, crate::specs::Format::head_format))]
+#[tactic(auto, using(sbpl_fixed::specs::Parts::reads_behind), unfolding(sbpl_fixed::specs::Formats::reads, crate::specs::Format::head_format))]
 fn read_head(plan: u32, states: u32, reader: &mut Reader) -> Result<u64, LabelFault>
     ensures read { Gives Memory (λ x. x) result reader.new (reads told (head_format plan states) reader.old) }
 {
@@ -141,8 +142,8 @@ fn read_arc(arcs: &mut Vec<u32>, reader: &mut Reader) -> Result<(), LabelFault>
     Ok(())
 }
 
-/// Reads so many more arc numbers.
-#[tactic(auto, using(sbpl_fixed::proofs::Reading::reads_behind, sbpl_fixed::proofs::Reading::turns_next, sbpl_fixed::proofs::Reading::turns_over), unfolding(sbpl_fixed::specs::Formats::reads))]
+/// Reads this number of further arc numbers.
+#[tactic(auto, using(sbpl_fixed::specs::Parts::reads_behind, sbpl_fixed::specs::Parts::turns_next, sbpl_fixed::specs::Parts::turns_over), unfolding(sbpl_fixed::specs::Formats::reads))]
 fn read_arcs(count: u32, arcs: &mut Vec<u32>, reader: &mut Reader) -> Result<(), LabelFault>
     ensures read { Gives Memory (λ _. arcs.new.items) result reader.new (reads told (turns count arc_turn arcs.old.items) reader.old) }
 {
@@ -152,8 +153,8 @@ fn read_arcs(count: u32, arcs: &mut Vec<u32>, reader: &mut Reader) -> Result<(),
     Ok(())
 }
 
-/// Reads a path behind its word.
-#[tactic(auto, using(sbpl_fixed::proofs::Reading::reads_behind), unfolding(sbpl_fixed::specs::Formats::reads, crate::specs::Format::path_format))]
+/// Reads a path after its word.
+#[tactic(auto, using(sbpl_fixed::specs::Parts::reads_behind), unfolding(sbpl_fixed::specs::Formats::reads, crate::specs::Format::path_format))]
 fn read_path(alloc: Global, reader: &mut Reader) -> Result<(Outcome, Arcs), LabelFault>
     ensures read { Gives Memory (λ x. (x.0, x.1)) result reader.new (reads told path_format reader.old) }
 {
@@ -196,7 +197,7 @@ fn read_row(reader: &mut Reader) -> Result<Row, LabelFault>
 }
 
 /// Reads one more row.
-#[tactic(auto, using(sbpl_fixed::proofs::Reading::reads_behind), unfolding(sbpl_fixed::specs::Formats::reads, crate::specs::Format::row_turn))]
+#[tactic(auto, using(sbpl_fixed::specs::Parts::reads_behind), unfolding(sbpl_fixed::specs::Formats::reads, crate::specs::Format::row_turn))]
 fn read_next_row(rows: &mut Vec<Row>, reader: &mut Reader) -> Result<(), LabelFault>
     ensures read { Gives Memory (λ _. rows.new.items) result reader.new (reads told (row_turn rows.old.items) reader.old) }
 {
@@ -205,8 +206,8 @@ fn read_next_row(rows: &mut Vec<Row>, reader: &mut Reader) -> Result<(), LabelFa
     Ok(())
 }
 
-/// Reads so many more rows.
-#[tactic(auto, using(sbpl_fixed::proofs::Reading::reads_behind, sbpl_fixed::proofs::Reading::turns_next, sbpl_fixed::proofs::Reading::turns_over), unfolding(sbpl_fixed::specs::Formats::reads))]
+/// Reads this number of further rows.
+#[tactic(auto, using(sbpl_fixed::specs::Parts::reads_behind, sbpl_fixed::specs::Parts::turns_next, sbpl_fixed::specs::Parts::turns_over), unfolding(sbpl_fixed::specs::Formats::reads))]
 fn read_rows(count: u32, rows: &mut Vec<Row>, reader: &mut Reader) -> Result<(), LabelFault>
     ensures read { Gives Memory (λ _. rows.new.items) result reader.new (reads told (turns count row_turn rows.old.items) reader.old) }
 {
@@ -217,7 +218,7 @@ fn read_rows(count: u32, rows: &mut Vec<Row>, reader: &mut Reader) -> Result<(),
 }
 
 /// Reads the parts of a section that stand before its last word.
-#[tactic(auto, using(sbpl_fixed::proofs::Reading::reads_behind), unfolding(sbpl_fixed::specs::Formats::reads, crate::specs::Format::front_format))]
+#[tactic(auto, using(sbpl_fixed::specs::Parts::reads_behind), unfolding(sbpl_fixed::specs::Formats::reads, crate::specs::Format::front_format))]
 fn read_parts(
     alloc: Global,
     plan: u32,
@@ -241,6 +242,8 @@ fn read_front(
 ) -> Result<LabelSet, LabelFault>
     ensures read { Gives Memory (λ x. x) result reader.new (reads told (front_format plan states) reader.old) }
 {
+    unsigned_numbers_are_their_digits();
+    reading_is_what_is_said::<LabelFault, LabelSet>();
     let (low, outcome, arcs, rows) = read_parts(alloc, plan, states, reader)?;
     Ok(LabelSet {
         plan,
@@ -252,7 +255,7 @@ fn read_front(
 }
 
 /// Reads a section, and answers where its last word stands.
-#[tactic(auto, using(sbpl_fixed::proofs::Reading::reads_behind), unfolding(sbpl_fixed::specs::Formats::reads, crate::specs::Format::section_format))]
+#[tactic(auto, using(sbpl_fixed::specs::Parts::reads_behind), unfolding(sbpl_fixed::specs::Formats::reads, crate::specs::Format::section_format))]
 fn read_section(
     alloc: Global,
     plan: u32,
@@ -263,6 +266,7 @@ fn read_section(
     ensures last { IfOk result (λ x. EndsWith reader.old.tokens (record { place = x.1; bytes = codes "end" } ∷ reader.new.tokens)) }
     ensures end { IfOk result (λ _. reader.new.end ≡ reader.old.end) }
 {
+    reading_is_what_is_said::<LabelFault, LabelSet>();
     let set = read_front(alloc, plan, states, reader)?;
     let place = reader.word(b"end")?;
     Ok((set, place))
@@ -281,15 +285,16 @@ fn read_exactly(
     ensures behind { IfOk result (λ x. IsBehindEnd text.now at x.1) }
     ensures exact { Answers Memory (λ x. (x.0, start_at text.now x.1)) result (reads told (section_format plan states) (start_at text.now at)) }
 {
+    tokens_are_longest_runs();
     let mut reader = Reader::from(text, at);
     let (set, place) = read_section(alloc, plan, states, &mut reader)?;
     Ok((set, place + LAST_LENGTH))
 }
 
-/// Reads the section that begins at an offset of a text, and answers the offset behind it. Where the text ends before the
-/// offset it has no more tokens. The section must be of this plan and of so many states. Blanks of any kind part its
+/// Reads the section that begins at an offset of a text, and answers the offset after it. Where the text ends before the
+/// offset it has no more tokens. The section must be of this plan and this number of states. Blanks of any kind part its
 /// tokens. Any other text has exactly one first fault in reading order, which is answered with its place. `Trailing` is
-/// never answered, since more sections may stand behind this one. `NoMemory` says nothing of the text.
+/// never answered, since more sections may follow this one. `NoMemory` says nothing of the text.
 pub fn read_labels(
     alloc: Global,
     text: &[u8],
@@ -299,7 +304,7 @@ pub fn read_labels(
 ) -> Result<(LabelSet, usize), LabelFault>
     // It is of the plan and of the number of states that were passed.
     ensures given { IfOk result (λ x. (x.0.plan ≡ plan) × (length x.0.labels ≡ states)) }
-    // The offset that is answered lies behind `at` and in the text: right behind the section's last word.
+    // The offset that is answered lies after `at` and in the text: right after the section's last word.
     ensures inside { IfOk result (λ x. (at < x.1) × (x.1 ≤ length text.now)) }
     ensures behind { IfOk result (λ x. IsBehindEnd text.now at x.1) }
     // The tokens from `at` on stand for what is read, one by one, and then go on from the offset that is answered.
@@ -313,5 +318,7 @@ pub fn read_labels(
     // All at once, as the format reads.
     ensures exact { Answers Memory (λ x. (x.0, start_at text.now x.1)) result (reads told (section_format plan states) (start_at text.now at)) }
 {
+    unsigned_numbers_are_their_digits();
+    reading_is_what_is_said::<LabelFault, LabelSet>();
     read_exactly(alloc, text, at.min(text.len()), plan, states)
 }

@@ -14,7 +14,7 @@ use itoa::write_digits;
 use sbpl_fixed::{NoMemory, print_milli};
 use sbpl_graph::FAR;
 
-/// Room for a row: three numbers of at most twenty digits, with a blank behind each.
+/// Room for a row: three numbers of at most twenty digits, with a blank after each.
 const ROOM: usize = 64;
 
 /// Writes a byte before the offset `end`, and answers where it stands.

@@ -12,7 +12,7 @@ at_contained xs x (i, h, e) = (i, slice_get-get_or xs i x h ∙ ap (λ z. Some z
 pub in_none : {X : Type 0} (x : X) → Contains [] x → ⊥
 in_none x (i, h, e) = absurd (omega arith)
 
--- an element is the first or one behind it
+-- an element is the first or a later one
 pub first_or_behind : {X : Type 0} (y : X) (xs : List X) (x : X) → Contains (y ∷ xs) x → (y ≡ x) ⊎ Contains xs x
 first_or_behind y xs x (zero, h, e) = inl e
 first_or_behind y xs x (suc i, h, e) = inr (i, omega arith, e)

@@ -13,7 +13,7 @@ use Rattle.sbpl_cost.specs.Lattices.{network_of}
 use Rattle.sbpl_cost.specs.Reading.{IsHeadReading, DifferInCostsAlone, UnreadArcsCostTheSame, MapsChangeNoReads}
 use Rattle.sbpl_change.specs.Noted.{cell_cmp, AreNoted}
 use Rattle.sbpl_change.specs.Heads.{IsHeadOf, AreHeadsOf}
-use Rattle.sbpl_change.specs.Touched.{IsTouched, AreTouched, KeepArcsElsewhere}
+use Rattle.sbpl_change.specs.Affected.{IsAffected, AreAffected, KeepArcsElsewhere}
 use Rattle.sbpl_change.proofs.Written.{changed_is_written}
 
 same_numbers_unless : (a b : ℕ) (r : Bool) → nat_eq a b ≡ r → ((Some a ≢ Some b) → ⊥) → Some a ≡ Some b
@@ -48,7 +48,7 @@ module _ (w : World) (m : CellMap) (rest : DifferInCostsAlone (network_of (over_
   head_after x y t h = record { source = h.source; number = h.number; arc = same_arc (network_of w) (network_of (over_map w m)) h.source h.number t rest_back h.arc; reads = (reads w m h.source h.number x y).1 h.reads }
 
   module _ (batch : List Write) (costs : BTreeMap (ℕ × ℕ) ℕ) (heads : List ℕ) (noted : AreNoted w.map batch costs) (written : AreWritten w.map batch m) (are : AreHeadsOf (over_map w m) costs heads) where
-    touched_by_head : (t : ℕ) → IsHeadOf (over_map w m) costs t → IsTouched w m t
+    touched_by_head : (t : ℕ) → IsHeadOf (over_map w m) costs t → IsAffected w m t
     touched_by_head t h = record {
       x = pos h.x;
       y = pos h.y;
@@ -66,7 +66,7 @@ module _ (w : World) (m : CellMap) (rest : DifferInCostsAlone (network_of (over_
       head = record { changed = λ same. changed (same ∙ sym (noted.sound x y c is)); reads = head_after (pos x) (pos y) t head };
     }
 
-    head_by_touched : (t : ℕ) → IsTouched w m t → IsHeadOf (over_map w m) costs t
+    head_by_touched : (t : ℕ) → IsAffected w m t → IsHeadOf (over_map w m) costs t
     head_by_touched t h =
         let to = changed_is_written batch w.map m h.x h.y written h.changed in
         let v = to.write in
@@ -74,10 +74,10 @@ module _ (w : World) (m : CellMap) (rest : DifferInCostsAlone (network_of (over_
         let head : IsHeadReading w (pos v.x) (pos v.y) t = subst (λ y. IsHeadReading w (pos v.x) y t) to.row (subst (λ x. IsHeadReading w x h.y t) to.column h.reads) in
         head_by_note v.x v.y t (get cell_cmp costs (v.x, v.y)) refl (noted.complete to.place v to.stands) changed head
 
-    pub heads_are_touched : AreTouched w m heads
+    pub heads_are_touched : AreAffected w m heads
     heads_are_touched t = (λ h. touched_by_head t (are.sound t h), λ h. are.complete t (head_by_touched t h))
 
-  module _ (touched : List ℕ) (costs_same : UnreadArcsCostTheSame) (is_world : IsWorld w) (is_other : IsWorld (over_map w m)) (are : AreTouched w m touched) where
+  module _ (touched : List ℕ) (costs_same : UnreadArcsCostTheSame) (is_world : IsWorld w) (is_other : IsWorld (over_map w m)) (are : AreAffected w m touched) where
     same_cost : (s k t : ℕ) → IsArc (network_of w) s k t → (Contains touched t → ⊥) → (network_of (over_map w m)).cost s k ≡ (network_of w).cost s k
     same_cost s k t arc none = costs_same w m s k is_world is_other (λ x y read.
         same_unless (cost_at m x y) (cost_at w.map x y) (λ changed.

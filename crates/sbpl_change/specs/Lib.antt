@@ -1,3 +1,3 @@
 pub mod Noted
 pub mod Heads
-pub mod Touched
+pub mod Affected

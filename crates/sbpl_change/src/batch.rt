@@ -6,7 +6,7 @@ ghost use Rattle.sbpl_map.specs.MapAfter.{AreWritten};
 ghost use Rattle.sbpl_cost.specs.World.{IsWorld};
 ghost use Rattle.sbpl_cost.specs.Lattices.{network_of};
 ghost use Rattle.sbpl_change.specs.Noted.{AreOnMap};
-ghost use Rattle.sbpl_change.specs.Touched.{AreTouched, AreStates, KeepArcsElsewhere};
+ghost use Rattle.sbpl_change.specs.Affected.{AreAffected, AreStates, KeepArcsElsewhere};
 
 use crate::costs::{present_cost, present_costs};
 use crate::heads::add_changed_heads;
@@ -62,7 +62,7 @@ pub fn apply(
     ensures written { OnOk result (AreWritten lattice.old.map batch.now lattice.new.map) }
     ensures others { lattice.new ≡ record lattice.old { map = lattice.new.map } }
     ensures kept { IsWorld lattice.new }
-    ensures touched { OnOk result (AreTouched lattice.old lattice.new.map touched.new.items) }
+    ensures touched { OnOk result (AreAffected lattice.old lattice.new.map touched.new.items) }
     ensures same_arcs { OnOk result (KeepArcsElsewhere (network_of lattice.old) (network_of lattice.new) touched.new.items) }
     ensures states { OnOk result (AreStates (network_of lattice.new) touched.new.items) }
     ensures refused { OnErr result ((lattice.new.map ≡ lattice.old.map) ⊎ AreWritten lattice.old.map batch.now lattice.new.map) }

@@ -9,7 +9,7 @@ use Rattle.sbpl_sweep.specs.Swept.{Swept}
 use Rattle.sbpl_map.specs.CellMap.{CellMap}
 use Rattle.sbpl_cost.specs.World.{World, IsWorld}
 use Rattle.sbpl_cost.specs.Arc.{IsFree, IsGreatestPaid, IsFreeAt}
-use Rattle.sbpl_cost.specs.Lattices.{arc_place, head_by, tail_by, network_of}
+use Rattle.sbpl_cost.specs.Lattices.{arc_index, head_by, tail_by, network_of}
 use Rattle.sbpl_cost.specs.Alike.{AlikeWorldsAreOneGraph}
 use Rattle.sbpl_cost.proofs.Arcs.{found_at, arc_of}
 use Rattle.sbpl_cost.proofs.ArcsRead.{found_by_arc}
@@ -38,7 +38,7 @@ module _ (w : World) (a b : Swept) (s : ℕ) (p : Primitive) (radius : b.radius 
 
 module _ (w : World) (t : Swept) (is_world : IsWorld w) (is_other : IsWorld (with_sweeps w t)) (radius : t.radius ≡ w.sweeps.radius) where
   -- an arc costs the same by both tables
-  cost_by_place : (s k : ℕ) (o : Option ℕ) → arc_place w s k ≡ o → (network_of (with_sweeps w t)).cost s k ≡ (network_of w).cost s k
+  cost_by_place : (s k : ℕ) (o : Option ℕ) → arc_index w s k ≡ o → (network_of (with_sweeps w t)).cost s k ≡ (network_of w).cost s k
   cost_by_place s k None h = no_cost (with_sweeps w t) s k h ∙ sym (no_cost w s k h)
   cost_by_place s k (Some place) h =
       let f = found_at w s k place is_world h in
@@ -50,7 +50,7 @@ module _ (w : World) (t : Swept) (is_world : IsWorld w) (is_other : IsWorld (wit
       (λ c h. (there.cost c).1 (still_free_at w w.sweeps t s p radius c ((here.cost c).0 h)))
 
   same_costs : (network_of (with_sweeps w t)).cost ≡ (network_of w).cost
-  same_costs = fun_ext (λ s. fun_ext (λ k. cost_by_place s k (arc_place w s k) refl))
+  same_costs = fun_ext (λ s. fun_ext (λ k. cost_by_place s k (arc_index w s k) refl))
 
   same_graph : network_of (with_sweeps w t) ≡ network_of w
   unfolding network_of head_by tail_by

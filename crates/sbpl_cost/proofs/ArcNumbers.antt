@@ -7,9 +7,9 @@ use Rattle.std.proofs.lemmas.List.Sums.{count_by_more_yes, count_by_more_no, cou
 use Rattle.std.proofs.lemmas.Option.{slice_get_within, get_or_from_slice_get, slice_get-get_or, same_Some}
 use Rattle.sbpl_mprim.specs.declared.prim.Primitive.{Primitive}
 use Rattle.sbpl_cost.specs.Tables.{AreNumbers}
-use Rattle.sbpl_sweep.proofs.Lists.{IsFilled, filled_more}
+use Rattle.sbpl_cost.proofs.Filling.{IsFilled, filled_more}
 
--- n is the number of the primitive at this place among those that start at its heading
+-- n is the number of the primitive at this index among those that start at its heading
 abbrev pub IsNumber : List Primitive → ℕ → ℕ → Type 0
 IsNumber prims i n = (p : Primitive) → slice_get prims i ≡ Some p → n ≡ count_by (λ q. q.from == p.from) (take i prims)
 
@@ -50,7 +50,7 @@ module _ (prims : List Primitive) (headings : ℕ) (counts numbers : List ℕ) (
 pub read_there : (xs : List ℕ) (i n : ℕ) → i < length xs → n ≡ get_or xs i n → n ≡ get_or xs i 0
 read_there xs i n h is = is ∙ get_or_from_slice_get xs i (get_or xs i 0) n (slice_get-get_or xs i 0 h)
 
--- a number is at most the primitive's place
+-- a number is at most the primitive's index
 pub few_before : (prims : List Primitive) (h i : ℕ) → i ≤ length prims → count_by (λ q. q.from == h) (take i prims) ≤ i
 few_before prims h i le = omega (arith, count_by-le-length (λ q. q.from == h) (take i prims), length-take-le i prims le)
 

@@ -9,8 +9,8 @@ use Rattle.sbpl_sweep.specs.Centres.{AreSwept}
 use Rattle.sbpl_cost.specs.States.{place_of}
 use Rattle.sbpl_cost.specs.World.{World, IsWorld}
 use Rattle.sbpl_cost.specs.Arc.{IsArcBy, IsArcOf, HasLatticeArcs}
-use Rattle.sbpl_cost.specs.Lattices.{leaving, arc_place, arc_primitive, head_by, cost_by, swept_at, network_of}
-use Rattle.sbpl_cost.proofs.Numbered.{numbered, length-places_from}
+use Rattle.sbpl_cost.specs.Lattices.{leaving, arc_index, arc_primitive, head_by, cost_by, swept_at, network_of}
+use Rattle.sbpl_cost.proofs.Numbered.{numbered, length-indices_from}
 use Rattle.sbpl_cost.proofs.Heads.{ends_in, head_where_ends, off_map_where_none, none_where_off_map}
 use Rattle.sbpl_cost.proofs.Freedom.{free_at, cost_where_free, not_free_where_none, none_where_not_free}
 
@@ -18,7 +18,7 @@ use Rattle.sbpl_cost.proofs.Freedom.{free_at, cost_where_free, not_free_where_no
 pub record IsSweeping (w : World) (place : ℕ) (p : Primitive) : Type 0 where
   pub swept : AreSwept w.env.cell w.sweeps.radius p.poses (swept_at w place)
 
--- the table has the cells that the primitive at this place sweeps
+-- the table has the cells that the primitive at this index sweeps
 pub sweeping : (w : World) (place : ℕ) (p : Primitive) → IsWorld w → slice_get w.prims.items place ≡ Some p → IsSweeping w place p
 sweeping w place p is_world stands =
     let entry = is_world.sweeps.swept.each place p stands in
@@ -29,12 +29,12 @@ sweeping w place p is_world stands =
 -- the motion of arc k of state s
 pub record IsFound (w : World) (s k place : ℕ) (p : Primitive) : Type 0 where
   pub by : IsArcBy w s k place p
-  pub at : arc_place w s k ≡ Some place
+  pub at : arc_index w s k ≡ Some place
   pub primitive : arc_primitive w s k ≡ Some p
   pub good : IsPrimitive w.prims.cell w.prims.headings p
 
--- the arc with this place in the table is the motion by the primitive that stands there
-pub found_at : (w : World) (s k place : ℕ) → IsWorld w → arc_place w s k ≡ Some place → (p : Primitive) × IsFound w s k place p
+-- the arc with this index in the table is the motion by the primitive that stands there
+pub found_at : (w : World) (s k place : ℕ) → IsWorld w → arc_index w s k ≡ Some place → (p : Primitive) × IsFound w s k place p
 found_at w s k place is_world at =
     let n = numbered (λ p. p.from == (place_of w.env s).t) 0 w.prims.items k place at in
     let same : n.at ≡ place = omega (arith, n.number) in
@@ -65,7 +65,7 @@ module _ (w : World) (is_world : IsWorld w) where
   arc_of s k place p f =
       let head_is : option_and_then (head_by w s) (arc_primitive w s k) ≡ head_by w s p = ap (λ o. option_and_then (head_by w s) o) f.primitive in
       let are = (sweeping w place p is_world f.by.stands).swept in
-      let cost_is : option_and_then (λ i. option_and_then (cost_by w s (swept_at w i)) (slice_get w.prims.items i)) (arc_place w s k) ≡ cost_by w s (swept_at w place) p =
+      let cost_is : option_and_then (λ i. option_and_then (cost_by w s (swept_at w i)) (slice_get w.prims.items i)) (arc_index w s k) ≡ cost_by w s (swept_at w place) p =
       ap (λ o. option_and_then (λ i. option_and_then (cost_by w s (swept_at w i)) (slice_get w.prims.items i)) o) f.at ∙ ap (λ o. option_and_then (cost_by w s (swept_at w place)) o) f.by.stands in
       record {
         head = λ t. (λ h. ends_in w is_world s p f.good t (sym head_is ∙ h), λ ends. head_is ∙ head_where_ends w is_world s p f.good t ends);
@@ -78,6 +78,6 @@ module _ (w : World) (is_world : IsWorld w) where
   unfolding network_of
   has_lattice_arcs = record {
     states = refl;
-    fan = λ s _. length-places_from (λ p. p.from == (place_of w.env s).t) 0 w.prims.items;
+    fan = λ s _. length-indices_from (λ p. p.from == (place_of w.env s).t) 0 w.prims.items;
     arcs = λ s k _ h. let f = found w s k is_world h in (f.0, f.1, f.2.by, arc_of s k f.0 f.1 f.2);
   }

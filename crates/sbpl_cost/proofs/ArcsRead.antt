@@ -17,10 +17,10 @@ use Rattle.sbpl_sweep.specs.Reads.IsRead.{at_source, at_target, at_centre, at_sw
 use Rattle.sbpl_cost.specs.States.{IsPlace, place_of, state_number, state_count, place_on_map}
 use Rattle.sbpl_cost.specs.World.{World, IsWorld}
 use Rattle.sbpl_cost.specs.Arc.{IsArcBy}
-use Rattle.sbpl_cost.specs.Lattices.{leaving, arc_place, head_by, network_of}
+use Rattle.sbpl_cost.specs.Lattices.{leaving, arc_index, head_by, network_of}
 use Rattle.sbpl_cost.specs.Reading.{IsHeadReading, AddsHeads, end_of, head_by_offset, head_of_read, AreReadable}
 use Rattle.sbpl_cost.proofs.Numbered.{numbered_at}
-use Rattle.sbpl_sweep.proofs.Lists.{take_next}
+use Rattle.sbpl_cost.proofs.Filling.{take_next}
 use Rattle.sbpl_cost.proofs.PlaceLaws.{place_of_state, place_of_state_number}
 use Rattle.sbpl_cost.proofs.LatticeLaws.{sound, state_number_below}
 use Rattle.sbpl_cost.proofs.Arcs.{IsFound}
@@ -117,7 +117,7 @@ module _ (w : World) (is_world : IsWorld w) where
   found_by_arc s k place p by =
       let t = (place_of w.env s).t in
       let table = numbered_at (λ q. q.from == t) 0 w.prims.items place p by.stands (eq-eqb p.from t by.heading) ∙ ap (λ n. Some n) (zero-add place) in
-      let at : arc_place w s k ≡ Some place = ap (λ n. slice_get (leaving w.prims.items t) n) (sym by.number) ∙ table in
+      let at : arc_index w s k ≡ Some place = ap (λ n. slice_get (leaving w.prims.items t) n) (sym by.number) ∙ table in
       record { by = by; at = at; primitive = ap (λ o. option_and_then (slice_get w.prims.items) o) at ∙ by.stands; good = is_world.prims.each place p by.stands }
 
   -- the cell of a read is not far off
@@ -183,7 +183,7 @@ module _ (w : World) (is_world : IsWorld w) where
         number = k;
         arc = is_arc s k r.prim t p (state_number_below w.env source on_map) f head;
         reads = record {
-          place = r.prim;
+          index = r.prim;
           prim = p;
           by = f.by;
           dx = r.cell.x;
@@ -202,12 +202,12 @@ module _ (w : World) (is_world : IsWorld w) where
       let k = reading.number in
       let reads = reading.reads in
       let p = reads.prim in
-      let r : Read = record { prim = reads.place; cell = record { y = reads.dy; x = reads.dx } } in
-      let at = is_world.sweeps.reads.all reads.place p reads.dx reads.dy reads.by.stands (subst (λ c. IsRead c w.sweeps.radius p reads.dx reads.dy) (sym is_world.cell) reads.read) in
+      let r : Read = record { prim = reads.index; cell = record { y = reads.dy; x = reads.dx } } in
+      let at = is_world.sweeps.reads.all reads.index p reads.dx reads.dy reads.by.stands (subst (λ c. IsRead c w.sweeps.radius p reads.dx reads.dy) (sym is_world.cell) reads.read) in
       let source = place_of w.env s in
       let inside = place_of_state w.env is_world.env s (source_of s k t reading.arc) in
       let here = place_at w.env (x -ℤ reads.dx) (y -ℤ reads.dy) p.from source.x source.y (away_by x reads.dx (pos source.x) reads.column) (away_by y reads.dy (pos source.y) reads.row) inside.x inside.y in
-      let head = head_arc s k reads.place t p (found_by_arc s k reads.place p reads.by) reading.arc.head in
+      let head = head_arc s k reads.index t p (found_by_arc s k reads.index p reads.by) reading.arc.head in
       (at.0, (r, at.1, ap (λ o. option_and_then (head_by_offset w.env x y reads.dx reads.dy) o) reads.by.stands ∙ ap (λ o. option_and_then (end_of w.env p) o) here ∙ head))
 
   pub adds_heads : (x y : ℤ) (old new : List ℕ) → new ≡ old ++ filter_map (head_of_read w.env w.prims.items x y) w.sweeps.reads → AddsHeads w x y old new

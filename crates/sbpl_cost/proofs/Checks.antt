@@ -1,35 +1,31 @@
 -- Lists of the cells that a judgement reads.
-use Rattle.std.proofs.Common.{◌≡◌, ℕ, zero, suc, ℤ, pos, ◌+◌, ◌<◌, ◌&&◌, true, ◌++◌, ◌∷◌, [], inl, inr, ◌⊎◌, List, length, take, slice_get, Some, refl, ap, sym, ◌∙◌, arith, subst}
+use Rattle.std.proofs.Common.{◌≡◌, ℕ, zero, suc, ℤ, pos, ◌+◌, ◌<◌, ◌&&◌, true, ◌++◌, ◌∷◌, [], inl, inr, ◌⊎◌, List, length, take, slice_get, Some, ap, sym, ◌∙◌, arith, subst}
 use Rattle.std.specs.Ordering.{int_eq}
 use Rattle.std.proofs.lemmas.Bool.{cases_lt, and_parts}
 use Rattle.std.proofs.lemmas.Bool.Decides.{Decides-int_eq}
-use Rattle.std.proofs.lemmas.List.{length_push}
-use Rattle.std.proofs.lemmas.Option.{none-some, same_Some, slice_get_within, slice_get-get_or}
+use Rattle.std.proofs.lemmas.Grind.{common_steps}
+use Rattle.std.proofs.lemmas.Option.{gets, none-some, same_Some, slice_get-get_or}
 use Rattle.std.proofs.Math.ListN.{get_or}
 use Rattle.sbpl_mprim.specs.declared.prim.Primitive.{Primitive}
-use Rattle.sbpl_mprim.specs.Primitives.{IsPrimitive}
 use Rattle.sbpl_sweep.specs.declared.cell.Cell.{Cell}
 use Rattle.sbpl_sweep.specs.Sweep.{IsCentre}
 use Rattle.sbpl_sweep.specs.Centres.{AreCentres, AreSwept}
 use Rattle.sbpl_sweep.specs.ReadTables.{IsAmong}
 use Rattle.sbpl_cost.specs.Checked.{AddsOthers, AreAlong, AreAround}
-use Rattle.sbpl_sweep.proofs.Lists.{before_push, at_push, take_next}
-use Rattle.sbpl_sweep.proofs.ReadsListed.{end_is_centre}
+use Rattle.sbpl_cost.proofs.Filling.{take_next}
 
 -- one more cell at the end
 listed_push : (list : List Cell) (c x : Cell) → IsAmong list x → IsAmong (list ++ c ∷ []) x
-listed_push list c x (i, h) = (i, before_push list c i (slice_get_within list i x h) ∙ h)
+listed_push list c x (i, h) = (i, grind (arith, common_steps, gets))
 
 listed_last : (list : List Cell) (c : Cell) → IsAmong (list ++ c ∷ []) c
-listed_last list c = (length list, at_push list c (length list) refl)
+listed_last list c = (length list, grind (arith, common_steps, gets))
 
 from_push : (list : List Cell) (c x : Cell) → IsAmong (list ++ c ∷ []) x → IsAmong list x ⊎ (c ≡ x)
-from_push list c x (i, h) =
-    let inside = slice_get_within (list ++ c ∷ []) i x h in
-    elim (cases_lt i (length list)) [
-      | inl less ↦ inl (i, sym (before_push list c i less) ∙ h)
-      | inr more ↦ inr (same_Some c x (sym (at_push list c i (omega (arith, length_push list c))) ∙ h))
-    ]
+from_push list c x (i, h) = elim (cases_lt i (length list)) [
+  | inl less ↦ inl (i, grind (arith, common_steps, gets))
+  | inr more ↦ inr (grind (arith, common_steps, gets))
+]
 
 module _ (old cells known list : List Cell) (n : ℕ) (c : Cell) (at : slice_get cells n ≡ Some c) (so_far : AddsOthers old (take n cells) known list) where
   earlier : (x : Cell) → IsAmong (take n cells) x → IsAmong (take (n + 1) cells) x
@@ -63,7 +59,7 @@ module _ (old cells known list : List Cell) (n : ℕ) (c : Cell) (at : slice_get
     all = λ x h. elim (before x h) [ inl was ↦ so_far.all x was | inr same ↦ inr (subst (λ z. IsAmong known z) same is) ];
   }
 
--- a cell that equals the known one at a place is known
+-- a cell that equals the known one at an index is known
 pub known_where_equal : (known : List Cell) (n : ℕ) (c : Cell) → n < length known → (int_eq (get_or known n (record { y = pos 0; x = pos 0 })).y c.y && int_eq (get_or known n (record { y = pos 0; x = pos 0 })).x c.x) ≡ true → IsAmong known c
 known_where_equal known n c within h =
     let k : Cell = get_or known n (record { y = pos 0; x = pos 0 }) in
@@ -79,12 +75,13 @@ one_listed : (end c : Cell) → IsAmong (end ∷ []) c → end ≡ c
 one_listed end c (zero, h) = same_Some end c h
 one_listed end c (suc i, h) = absurd (none-some c h)
 
-pub along_from : (cell : ℤ) (headings : ℕ) (p : Primitive) (end : Cell) (centres cells : List Cell) → IsPrimitive cell headings p → AreCentres cell p.poses centres
+pub along_from : (cell : ℤ) (p : Primitive) (end : Cell) (centres cells : List Cell) → IsCentre cell p.poses p.dx p.dy → AreCentres cell p.poses centres
     → end ≡ record { y = p.dy; x = p.dx } → AddsOthers (end ∷ []) centres (end ∷ []) cells → AreAlong cell p cells
-along_from cell headings p end centres cells good are is added =
+along_from cell p end centres cells in_centre are is added =
     let P : Cell → Type 0 = λ c. IsCentre cell p.poses c.x c.y in
-    let at_end : P end = subst P (sym is) (end_is_centre cell headings p good) in
+    let at_end : P end = subst P (sym is) in_centre in
     record {
+      end = in_centre;
       each = λ i c h. elim (added.each c (i, h)) [
         | inl first ↦ subst P (one_listed end c first) at_end
         | inr centre ↦ are.each centre.0 c centre.1

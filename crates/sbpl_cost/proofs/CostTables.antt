@@ -1,13 +1,11 @@
 -- The table of the primitives' costs.
 use Rattle.std.proofs.Common.{◌≡◌, ◌<◌, ◌≤◌, ◌+◌, ◌++◌, ◌∷◌, [], ℕ, List, inl, inr, ap, sym, ◌∙◌, map, take, length, slice_get, get_or, Some, arith, refl, subst}
 use Rattle.std.proofs.lemmas.Bool.{cases_lt}
-use Rattle.std.proofs.lemmas.List.{length-map}
-use Rattle.std.proofs.lemmas.Option.{same_Some, slice_get_read, slice_get-get_or}
+use Rattle.std.proofs.lemmas.Grind.{common_steps}
+use Rattle.std.proofs.lemmas.Option.{gets, same_Some, slice_get_read, slice_get_within, slice_get-map}
 use Rattle.sbpl_cfg.specs.Environment.{Environment}
 use Rattle.sbpl_mprim.specs.declared.prim.Primitive.{Primitive}
 use Rattle.sbpl_cost.specs.PrimitiveCost.{primitive_cost, most_cost}
-use Rattle.sbpl_cost.proofs.Filling.{map_more}
-use Rattle.sbpl_sweep.proofs.Lists.{made_from}
 
 -- the costs of the first n primitives, none of which is too dear
 abbrev pub AreCosts : Environment → List Primitive → List ℕ → ℕ → Type 0
@@ -18,7 +16,7 @@ AreCosts e prims costs n =
 pub costs_more : (e : Environment) (prims : List Primitive) (costs new : List ℕ) (i cost : ℕ) (p : Primitive) → slice_get prims i ≡ Some p → AreCosts e prims costs i
     → new ≡ costs ++ cost ∷ [] → cost ≡ primitive_cost e p → cost ≤ most_cost → 1 ≤ cost → AreCosts e prims new (i + 1)
 costs_more e prims costs new i cost p there old added is high low = (
-  added ∙ ap (λ l. l ++ cost ∷ []) old.0 ∙ ap (λ c. map (primitive_cost e) (take i prims) ++ c ∷ []) is ∙ sym (map_more (primitive_cost e) prims i p there),
+  let so_far = old.0 in grind (arith, common_steps, gets),
   λ k q before at. elim (cases_lt k i) [
     | inl earlier ↦ old.1 k q earlier at
     | inr now ↦
@@ -32,10 +30,20 @@ costs_more e prims costs new i cost p there old added is high low = (
 pub read_there : {X : Type 0} (list items : List X) (i : ℕ) (x : X) → list ≡ items → i < length items → x ≡ get_or list i x → slice_get items i ≡ Some x
 read_there list items i x same h is = ap (λ l. slice_get l i) (sym same) ∙ slice_get_read list (length list) i x refl (omega (arith, h, ap length same)) is
 
+-- what stands in the table of costs is the primitive's cost
+pub price_is : (e : Environment) (prims : List Primitive) (prices : List ℕ) (i price : ℕ) → prices ≡ map (primitive_cost e) prims → i < length prims → price ≡ get_or prices i price
+    → (p : Primitive) × (slice_get prims i ≡ Some p) × (price ≡ primitive_cost e p)
+price_is e prims prices i price same h is = grind (arith, common_steps, gets, slice_get-map)
+
+-- the price of the primitive that was read
+pub price_of : (e : Environment) (prims : List Primitive) (prices : List ℕ) (i price : ℕ) (p : Primitive) → prices ≡ map (primitive_cost e) prims → slice_get prims i ≡ Some p → price ≡ get_or prices i price → price ≡ primitive_cost e p
+price_of e prims prices i price p same at is =
+    let found = price_is e prims prices i price same (slice_get_within prims i p at) is in
+    found.2 ∙ ap (primitive_cost e) (same_Some found.0 p (sym found.1 ∙ at))
+
 -- what stands in the table of costs is not too dear
 pub cheap_at : (e : Environment) (prims : List Primitive) (costs : List ℕ) (i : ℕ) → costs ≡ map (primitive_cost e) prims → ((k : ℕ) (p : Primitive) → slice_get prims k ≡ Some p → (1 ≤ primitive_cost e p) × (primitive_cost e p ≤ most_cost)) → i < length prims
     → get_or costs i 0 ≤ most_cost
 cheap_at e prims costs i same cheap h =
-    let there = slice_get-get_or costs i 0 (omega (arith, h, ap length same, length-map prims (primitive_cost e))) in
-    let from = made_from (primitive_cost e) prims i (get_or costs i 0) (ap (λ l. slice_get l i) (sym same) ∙ there) in
-    subst (λ n. n ≤ most_cost) from.2 (cheap i from.0 from.1).1
+    let own = price_is e prims costs i (get_or costs i 0) same h (grind (arith, common_steps, gets)) in
+    subst (λ n. n ≤ most_cost) (sym own.2) (cheap i own.0 own.1).1

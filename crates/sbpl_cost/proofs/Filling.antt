@@ -1,44 +1,47 @@
--- The front of a list, and one element more.
-use Rattle.std.proofs.Common.{◌≡◌, ℕ, ◌+◌, inl, inr, Bool, true, false, cond, List, [], ◌∷◌, ◌++◌, length, take, map, slice_get, Some, ap, sym, ◌∙◌, arith}
+-- The prefix of a list with one element more, and tables that are filled one entry after another.
+use Rattle.std.proofs.Common.{◌≡◌, ℕ, ◌+◌, ◌<◌, inl, inr, ◌⊎◌, Bool, true, false, cond, List, [], ◌∷◌, ◌++◌, length, take, slice_get, Some, ap, ◌∙◌, arith, subst}
 use Rattle.std.proofs.lemmas.Bool.{cases_lt}
-use Rattle.std.proofs.lemmas.List.{map-append, length-take-le, append-nil, length_push}
-use Rattle.std.proofs.lemmas.Option.{slice_get_within, same_Some}
-use Rattle.sbpl_sweep.proofs.Lists.{before_push, at_push, take_next}
-use Rattle.sbpl_cost.specs.Lattices.{places_from}
-use Rattle.sbpl_cost.proofs.Numbered.{places_from-push}
+use Rattle.std.proofs.lemmas.Grind.{common_steps}
+use Rattle.std.proofs.lemmas.List.{length-take-le, append-nil}
+use Rattle.std.proofs.lemmas.Option.{gets, slice_get_within}
+use Rattle.sbpl_cost.specs.Lattices.{indices_from}
+use Rattle.sbpl_cost.proofs.Numbered.{indices_from-push}
+
+-- the elements before the next one and that one
+pub take_next : {X : Type 0} (xs : List X) (i : ℕ) (x : X) → slice_get xs i ≡ Some x → take (i + 1) xs ≡ take i xs ++ x ∷ []
+take_next xs i x h = grind (arith, common_steps, gets)
 
 -- an element of the first n + 1 is one of the first n or the next
-pub data IsAmong {X : Type 0} (xs : List X) (n : ℕ) (x : X) (i : ℕ) (y : X) : Type 0 where
-  earlier : slice_get (take n xs) i ≡ Some y → IsAmong xs n x i y
-  last : x ≡ y → IsAmong xs n x i y
-
-pub among : {X : Type 0} (xs : List X) (n : ℕ) (x : X) (i : ℕ) (y : X) → slice_get xs n ≡ Some x → slice_get (take (n + 1) xs) i ≡ Some y → IsAmong xs n x i y
-among xs n x i y next at =
-    let within = slice_get_within xs n x next in
-    let size : length (take n xs) ≡ n = length-take-le n xs (omega arith) in
-    let pushed = ap (λ l. slice_get l i) (sym (take_next xs n x next)) ∙ at in
-    let inside = slice_get_within (take n xs ++ x ∷ []) i y pushed in
-    elim (cases_lt i n) [
-      | inl less ↦ earlier (sym (before_push (take n xs) x i (omega arith)) ∙ pushed)
-      | inr more ↦ last (same_Some x y (sym (at_push (take n xs) x i (omega (arith, length_push (take n xs) x))) ∙ pushed))
-    ]
+pub among : {X : Type 0} (xs : List X) (n : ℕ) (x : X) (i : ℕ) (y : X) → slice_get xs n ≡ Some x → slice_get (take (n + 1) xs) i ≡ Some y → (slice_get (take n xs) i ≡ Some y) ⊎ (x ≡ y)
+among xs n x i y next at = grind (arith, common_steps, gets)
 
 -- one more element that passes, and one that doesn't
-pub places_more : {X : Type 0} (test : X → Bool) (xs : List X) (i : ℕ) (x : X) → slice_get xs i ≡ Some x
-    → places_from test 0 (take (i + 1) xs) ≡ places_from test 0 (take i xs) ++ cond (test x) (i ∷ []) []
-places_more test xs i x h =
+pub indices_more : {X : Type 0} (test : X → Bool) (xs : List X) (i : ℕ) (x : X) → slice_get xs i ≡ Some x
+    → indices_from test 0 (take (i + 1) xs) ≡ indices_from test 0 (take i xs) ++ cond (test x) (i ∷ []) []
+indices_more test xs i x h =
     let within = slice_get_within xs i x h in
     let n : 0 + length (take i xs) ≡ i = omega (arith, length-take-le i xs (omega arith)) in
-    ap (places_from test 0) (take_next xs i x h) ∙ places_from-push test 0 (take i xs) x ∙ ap (λ k. places_from test 0 (take i xs) ++ cond (test x) (k ∷ []) []) n
+    ap (indices_from test 0) (take_next xs i x h) ∙ indices_from-push test 0 (take i xs) x ∙ ap (λ k. indices_from test 0 (take i xs) ++ cond (test x) (k ∷ []) []) n
 
--- one more element of a list that is made by a function
-pub map_more : {X Y : Type 0} (f : X → Y) (xs : List X) (i : ℕ) (x : X) → slice_get xs i ≡ Some x → map f (take (i + 1) xs) ≡ map f (take i xs) ++ f x ∷ []
-map_more f xs i x h = ap (map f) (take_next xs i x h) ∙ map-append f (take i xs) (x ∷ [])
+pub indices_yes : {X : Type 0} (test : X → Bool) (xs : List X) (i : ℕ) (x : X) → slice_get xs i ≡ Some x → test x ≡ true
+    → indices_from test 0 (take (i + 1) xs) ≡ indices_from test 0 (take i xs) ++ i ∷ []
+indices_yes test xs i x h passes = indices_more test xs i x h ∙ ap (λ b. indices_from test 0 (take i xs) ++ cond b (i ∷ []) []) passes
 
-pub places_yes : {X : Type 0} (test : X → Bool) (xs : List X) (i : ℕ) (x : X) → slice_get xs i ≡ Some x → test x ≡ true
-    → places_from test 0 (take (i + 1) xs) ≡ places_from test 0 (take i xs) ++ i ∷ []
-places_yes test xs i x h passes = places_more test xs i x h ∙ ap (λ b. places_from test 0 (take i xs) ++ cond b (i ∷ []) []) passes
+pub indices_no : {X : Type 0} (test : X → Bool) (xs : List X) (i : ℕ) (x : X) → slice_get xs i ≡ Some x → test x ≡ false
+    → indices_from test 0 (take (i + 1) xs) ≡ indices_from test 0 (take i xs)
+indices_no test xs i x h fails = indices_more test xs i x h ∙ ap (λ b. indices_from test 0 (take i xs) ++ cond b (i ∷ []) []) fails ∙ append-nil (indices_from test 0 (take i xs))
 
-pub places_no : {X : Type 0} (test : X → Bool) (xs : List X) (i : ℕ) (x : X) → slice_get xs i ≡ Some x → test x ≡ false
-    → places_from test 0 (take (i + 1) xs) ≡ places_from test 0 (take i xs)
-places_no test xs i x h fails = places_more test xs i x h ∙ ap (λ b. places_from test 0 (take i xs) ++ cond b (i ∷ []) []) fails ∙ append-nil (places_from test 0 (take i xs))
+-- each of the first n entries of a table, and no other entry, is there and is as it is to be
+abbrev pub IsFilled : {X : Type 0} → (ℕ → X → Type 0) → List X → ℕ → Type 0
+IsFilled {X} P table n = (length table ≡ n) × ((k : ℕ) → k < n → (y : X) × (slice_get table k ≡ Some y) × P k y)
+
+-- one more entry
+pub filled_more : {X : Type 0} (P : ℕ → X → Type 0) (table new : List X) (n : ℕ) (x : X) → IsFilled P table n → new ≡ table ++ x ∷ [] → P n x → IsFilled P new (n + 1)
+filled_more P table new n x (count, old) added right = (
+  grind (arith, common_steps, gets),
+  λ k h.
+      elim (cases_lt k n) [
+        | inl before ↦ let was = old k before in (was.0, grind (arith, common_steps, gets, was.1), was.2)
+        | inr after ↦ let last : n ≡ k = omega arith in (x, grind (arith, common_steps, gets), subst (λ m. P m x) last right)
+      ],
+)

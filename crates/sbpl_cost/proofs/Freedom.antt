@@ -1,15 +1,15 @@
 -- When the lattice's arcs are free, and what they cost.
-use Rattle.std.proofs.Common.{◌≡◌, ℕ, zero, suc, ℤ, pos, ◌+◌, ◌*◌, ◌<◌, ◌≤◌, ◌&&◌, inl, inr, Bool, true, false, List, [], ◌∷◌, slice_get, Option, Some, None, IsSomeAnd, unwrap_or, nat_lt, max, refl, ap, sym, ◌∙◌, arith, subst}
+use Rattle.std.proofs.Common.{◌≡◌, ℕ, zero, suc, ℤ, pos, ◌+◌, ◌*◌, ◌<◌, ◌≤◌, ◌&&◌, inl, inr, Bool, true, false, List, [], ◌∷◌, slice_get, Option, Some, None, IsSomeAnd, option_map, unwrap_or, nat_lt, max, refl, ap, sym, ◌∙◌, arith, subst}
 use Rattle.std.specs.List.{list_all}
 use Rattle.std.proofs.lemmas.Bool.{and_parts, and_from, lt-ltb, ltb-true, cond-true, cases_lt}
-use Rattle.std.proofs.lemmas.Option.{cond_some, none-some, same_Some}
+use Rattle.std.proofs.lemmas.Grind.{common_steps}
+use Rattle.std.proofs.lemmas.Option.{cond_some, gets, none-some, same_Some, slice_get-map}
 use Rattle.sbpl_cfg.specs.declared.pose.Pose.{Pose}
 use Rattle.sbpl_mprim.specs.declared.prim.Primitive.{Primitive}
 use Rattle.sbpl_mprim.specs.Primitives.{offset_cell}
 use Rattle.sbpl_sweep.specs.declared.cell.Cell.{Cell}
 use Rattle.sbpl_sweep.specs.Sweep.{IsCentre, IsSwept}
 use Rattle.sbpl_sweep.specs.Centres.{AreSwept}
-use Rattle.sbpl_sweep.proofs.Lists.{made_at, made_from}
 use Rattle.sbpl_cost.specs.PrimitiveCost.{primitive_cost}
 use Rattle.sbpl_cost.specs.World.{World}
 use Rattle.sbpl_cost.specs.Arc.{cost_from, IsBelow, IsFree, IsPaid, IsGreatestPaid, IsFreeAt}
@@ -57,17 +57,21 @@ greatest_is_one threshold (Some c) os all = greatest_from threshold c os (and_pa
 
 module _ (w : World) (s : ℕ) (p : Primitive) where
   -- the cost of the cell in which a pose lies
-  pose_cost : Pose → Option ℕ
+  abbrev pose_cost : Pose → Option ℕ
   pose_cost q = cost_from w s (offset_cell w.env.cell q.x) (offset_cell w.env.cell q.y)
+
+  -- the cost of a cell that lies this far from the source cell
+  abbrev cell_cost : Cell → Option ℕ
+  cell_cost c = cost_from w s c.x c.y
 
   -- a centre cell's cost is one of the list
   centre_at : (x y : ℤ) (c : IsCentre w.env.cell p.poses x y) → slice_get (centre_costs w s p) c.number ≡ Some (cost_from w s x y)
-  centre_at x y c = made_at (λ q. cost_from w s (offset_cell w.env.cell q.x) (offset_cell w.env.cell q.y)) p.poses c.number c.pose c.stands ∙ ap (λ o. Some o) (ap (λ a. cost_from w s a (offset_cell w.env.cell c.pose.y)) c.column ∙ ap (λ b. cost_from w s x b) c.row)
+  centre_at x y c = slice_get-map pose_cost p.poses c.number ∙ ap (option_map pose_cost) c.stands ∙ ap (λ o. Some o) (ap (λ a. cost_from w s a (offset_cell w.env.cell c.pose.y)) c.column ∙ ap (λ b. cost_from w s x b) c.row)
 
   -- each cost of the list is that of a centre cell
   centre_from : (i : ℕ) (o : Option ℕ) → slice_get (centre_costs w s p) i ≡ Some o → (x : ℤ) × (y : ℤ) × IsCentre w.env.cell p.poses x y × (cost_from w s x y ≡ o)
   centre_from i o at =
-      let made = made_from (λ q. cost_from w s (offset_cell w.env.cell q.x) (offset_cell w.env.cell q.y)) p.poses i o at in
+      let made : (q : Pose) × (slice_get p.poses i ≡ Some q) × (pose_cost q ≡ o) = grind (arith, common_steps, gets, slice_get-map) in
       (offset_cell w.env.cell made.0.x, offset_cell w.env.cell made.0.y, record { number = i; pose = made.0; stands = made.1; column = refl; row = refl }, made.2)
 
   -- a paid cell's cost is one of the list, and each cost of the list is a paid cell's
@@ -103,12 +107,12 @@ module _ (w : World) (s : ℕ) (p : Primitive) where
     swept_below : list_all (is_below w.env.obsthresh) (swept_costs w s cells) ≡ true → (x y : ℤ) → IsSwept w.env.cell w.sweeps.radius p.poses x y → IsBelow w s x y w.env.obsthresh
     swept_below all x y swept =
         let there = are.all x y swept in
-        let at = made_at (λ (c : Cell). cost_from w s c.x c.y) cells there.0 (record { y = y; x = x }) there.1 in
+        let at = slice_get-map cell_cost cells there.0 ∙ ap (option_map cell_cost) there.1 in
         below w.env.obsthresh (cost_from w s x y) (passes_at (is_below w.env.obsthresh) (swept_costs w s cells) there.0 (cost_from w s x y) all at)
 
     all_swept_below : ((x y : ℤ) → IsSwept w.env.cell w.sweeps.radius p.poses x y → IsBelow w s x y w.env.obsthresh) → list_all (is_below w.env.obsthresh) (swept_costs w s cells) ≡ true
     all_swept_below each = all_pass (is_below w.env.obsthresh) (swept_costs w s cells) (λ i o at.
-        let from = made_from (λ (c : Cell). cost_from w s c.x c.y) cells i o at in
+        let from : (c : Cell) × (slice_get cells i ≡ Some c) × (cell_cost c ≡ o) = grind (arith, common_steps, gets, slice_get-map) in
         let swept = are.each i from.0 from.1 in
         is_below_true w.env.obsthresh o (subst (λ z. IsSomeAnd z (λ c. c < w.env.obsthresh)) from.2 (each from.0.x from.0.y swept)))
 

@@ -15,7 +15,6 @@ use Rattle.sbpl_cost.specs.Arc.{cost_from, IsFree, IsPaid, IsGreatestPaid, IsFre
 use Rattle.sbpl_cost.specs.Lattices.{network_of}
 use Rattle.sbpl_cost.specs.Judging.{IsNear, IsGreatestBelow, AreBelow, IsGreatestPassed, IsObstructed, at_source, at_centre, beside_it}
 use Rattle.sbpl_cost.proofs.Arcs.{IsFound, arc_of}
-use Rattle.sbpl_sweep.proofs.ReadsListed.{end_is_centre}
 use Rattle.sbpl_cost.proofs.Offsets.{swept_within}
 
 -- what is below the lesser of two limits is below both
@@ -68,9 +67,6 @@ module _ (w : World) (is_world : IsWorld w) (s k place : ℕ) (p : Primitive) (f
     centre_below : (x y : ℤ) → IsCentre w.env.cell p.poses x y → IsSomeAnd (cost_from w s x y) (λ c. c < min w.env.obsthresh w.env.inscribed)
     centre_below x y centre = let there = are.along.all x y centre in rest.below there.0 (record { y = y; x = x }) there.1
 
-    target : IsCentre w.env.cell p.poses p.dx p.dy
-    target = end_is_centre w.env.cell w.env.headings p are.good
-
     swept_below : (x y : ℤ) → IsSwept w.env.cell w.sweeps.radius p.poses x y → IsSomeAnd (cost_from w s x y) (λ c. c < w.env.obsthresh)
     swept_below x y swept = elim (are.around.all x y swept) [
       | inl centre ↦ below_left (cost_from w s x y) w.env.obsthresh w.env.inscribed (centre_below x y centre)
@@ -80,8 +76,8 @@ module _ (w : World) (is_world : IsWorld w) (s k place : ℕ) (p : Primitive) (f
     free : IsFree w s p
     free = record {
       source = some_and (cost_from w s (pos 0) (pos 0)) start w.env.obsthresh start_is start_below;
-      target = below_left (cost_from w s p.dx p.dy) w.env.obsthresh w.env.inscribed (centre_below p.dx p.dy target);
-      target_inscribed = below_right (cost_from w s p.dx p.dy) w.env.obsthresh w.env.inscribed (centre_below p.dx p.dy target);
+      target = below_left (cost_from w s p.dx p.dy) w.env.obsthresh w.env.inscribed (centre_below p.dx p.dy are.along.end);
+      target_inscribed = below_right (cost_from w s p.dx p.dy) w.env.obsthresh w.env.inscribed (centre_below p.dx p.dy are.along.end);
       centres = λ x y centre. below_right (cost_from w s x y) w.env.obsthresh w.env.inscribed (centre_below x y centre);
       swept = swept_below;
     }
@@ -93,7 +89,7 @@ module _ (w : World) (is_world : IsWorld w) (s k place : ℕ) (p : Primitive) (f
     none_above x y c (inl (at_x, at_y)) is =
         let same = same_Some start c (sym start_is ∙ sym (ap (λ a. cost_from w s a y) at_x ∙ ap (λ b. cost_from w s (pos 0) b) at_y) ∙ is) in
         omega (arith, rest.at_least)
-    none_above x y c (inr (inl (at_x, at_y))) is = centre_at_most p.dx p.dy c target (sym (ap (λ a. cost_from w s a y) at_x ∙ ap (λ b. cost_from w s p.dx b) at_y) ∙ is)
+    none_above x y c (inr (inl (at_x, at_y))) is = centre_at_most p.dx p.dy c are.along.end (sym (ap (λ a. cost_from w s a y) at_x ∙ ap (λ b. cost_from w s p.dx b) at_y) ∙ is)
     none_above x y c (inr (inr centre)) is = centre_at_most x y c centre is
 
     paid : IsGreatestPaid w s p greatest
@@ -117,7 +113,7 @@ module _ (w : World) (is_world : IsWorld w) (s k place : ℕ) (p : Primitive) (f
       let there = subst (λ q. IsGreatestPassed w.env w.map q along around greatest) same passed in
       some_where_free there.start greatest there.start_is there.start_below there.rest there.beside price (price * (more + 1)) own (ap (λ g. price * (g + 1)) is)
 
--- what the tables have for the primitive at a place of the file
+-- what the tables have for the primitive at an index of the file
 pub read_at : (w : World) → IsWorld w → (centres beside : List (List Cell)) (place : ℕ) (p : Primitive) (along around : List Cell) → HaveAlong w.prims centres → HaveAround w.prims w.sweeps.radius beside
     → slice_get w.prims.items place ≡ Some p → slice_get centres place ≡ Some along → slice_get beside place ≡ Some around → AreRead w p along around
 read_at w is_world centres beside place p along around have_along have_around stands at_along at_around =

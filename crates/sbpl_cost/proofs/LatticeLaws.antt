@@ -8,7 +8,7 @@ use Rattle.std.proofs.lemmas.Option.{get_or_from_slice_get, cond_some, none-some
 use Rattle.sbpl_graph.specs.Laws.{IsSound, HasGaps}
 use Rattle.sbpl_cfg.specs.declared.pose.Place.{Place}
 use Rattle.sbpl_cfg.specs.Environment.{Environment}
-use Rattle.sbpl_map.specs.CellMap.{CellMap, IsCellMap, IsOnMap, place_in, cost_at}
+use Rattle.sbpl_map.specs.CellMap.{CellMap, IsCellMap, IsOnMap, index_in, cost_at}
 use Rattle.sbpl_cost.specs.PrimitiveCost.{primitive_cost}
 use Rattle.sbpl_cost.specs.States.{IsPlace, place_of, state_number, state_count}
 use Rattle.sbpl_cost.specs.World.{World, IsWorld}
@@ -16,7 +16,7 @@ use Rattle.sbpl_mprim.specs.declared.prim.Primitive.{Primitive}
 use Rattle.sbpl_cost.specs.Arc.{cost_from, IsFreeAt, IsLeaving, EndsIn}
 use Rattle.sbpl_cost.specs.Gaps.{gap_of}
 use Rattle.sbpl_cost.specs.Lattices.{network_of}
-use Rattle.sbpl_cost.proofs.Numbered.{length-places_from}
+use Rattle.sbpl_cost.proofs.Numbered.{length-indices_from}
 use Rattle.sbpl_cost.proofs.Heads.{on_map_at}
 use Rattle.sbpl_cost.proofs.Arcs.{found, arc_of}
 use Rattle.sbpl_cost.proofs.GapLaws.{gap_small, gap_to_itself, gap_along}
@@ -36,7 +36,7 @@ place_where_cost costs (Some place) c h = (place, refl, h)
 -- a cell that has a cost is on the map, and its cost is at most 255
 pub on_map_where_cost : (m : CellMap) (x y : ℤ) (c : ℕ) → IsCellMap m → cost_at m x y ≡ Some c → IsOnMap m x y × (c ≤ 255)
 on_map_where_cost m (pos a) (pos b) c kept h =
-    let place = place_where_cost m.costs (place_in m (pos a) (pos b)) c h in
+    let place = place_where_cost m.costs (index_in m (pos a) (pos b)) c h in
     let inside = cond_some (nat_lt a m.width && nat_lt b m.height) (b * m.width + a) place.0 place.1 in
     let parts = and_parts (nat_lt a m.width) (nat_lt b m.height) inside.0 in
     let cost = get_or_from_slice_get m.costs place.0 c 0 place.2 in
@@ -86,7 +86,7 @@ module _ (w : World) (is_world : IsWorld w) where
   sound = record {
     some_state = count_positive w.env.width w.env.height w.env.headings is_world.env.width.0 is_world.env.height.0 (omega (arith, is_world.headings, is_world.prims.headings.0));
     few_states = is_world.env.states;
-    few_arcs = λ s _. omega (arith, length-places_from (λ p. p.from == (place_of w.env s).t) 0 w.prims.items, count_by-le-length (λ p. p.from == (place_of w.env s).t) w.prims.items, is_world.prims.count);
+    few_arcs = λ s _. omega (arith, length-indices_from (λ p. p.from == (place_of w.env s).t) 0 w.prims.items, count_by-le-length (λ p. p.from == (place_of w.env s).t) w.prims.items, is_world.prims.count);
     head_is_state = λ s k t _ number h.
         let f = found w s k is_world number in
         let ends = (((arc_of w is_world s k f.0 f.1 f.2).head t).0 h) in

@@ -13,7 +13,7 @@ use Rattle.sbpl_cost.specs.PrimitiveCost.{heading_gap}
 use Rattle.sbpl_cost.specs.Gaps.{lesser, floor_by, least_floor, way_bound, gap_of}
 use Rattle.sbpl_cost.specs.Rates.{floor_at, IsRate, AreGaps}
 use Rattle.sbpl_cost.proofs.Floors.{floor_le, least_floor_push, nothing}
-use Rattle.sbpl_sweep.proofs.Lists.{take_next}
+use Rattle.sbpl_cost.proofs.Filling.{take_next}
 
 pub second_is_lesser : (a b : Option Rate) (r s : Rate) → a ≡ Some r → b ≡ Some s → s.cost * r.cells < r.cost * s.cells → (n : ℕ) → Some (n * s.cost / s.cells) ≡ lesser (floor_at a n) (floor_at b n)
 second_is_lesser a b r s is_r is_s less n =

@@ -10,7 +10,7 @@ use Rattle.sbpl_cost.specs.States.{IsPlace, place_of, state_number, state_in, st
 use Rattle.sbpl_cost.specs.World.{World, IsWorld}
 use Rattle.sbpl_cost.specs.Lattices.{entering, tail_by, network_of}
 use Rattle.sbpl_cost.specs.TailOrder.{IsEntering, column_to, row_to, IsArcInto, IsTailOf, HasLatticeTails}
-use Rattle.sbpl_cost.proofs.Numbered.{numbered, length-places_from}
+use Rattle.sbpl_cost.proofs.Numbered.{numbered, length-indices_from}
 use Rattle.sbpl_cost.proofs.Heads.{state_in_some, state_in_at, off_where_no_state, no_state_where_off}
 use Rattle.sbpl_cost.proofs.PlaceLaws.{place_of_state, state_of_place_of, place_of_state_number}
 use Rattle.sbpl_cost.proofs.LatticeLaws.{state_number_below}
@@ -111,6 +111,6 @@ pub lattice_tails : (w : World) → IsWorld w → HasLatticeTails (network_of w)
 unfolding network_of
 lattice_tails w is_world = record {
   states = refl;
-  fan = λ t _. length-places_from (λ p. p.to == (place_of w.env t).t) 0 w.prims.items;
+  fan = λ t _. length-indices_from (λ p. p.to == (place_of w.env t).t) 0 w.prims.items;
   tails = λ t j state h. let f = found_tail w t j h in (f.0, f.1, f.2.by, tail_of w is_world t j f.0 f.1 f.2 state);
 }

@@ -1,13 +1,13 @@
 -- Roots and quotients, rounded up.
 use Rattle.std.proofs.Common.{◌≡◌, ℕ, zero, suc, ◌+◌, ◌-◌, ◌*◌, ◌/◌, ◌<◌, ◌≤◌, Bool, true, false, nat_le, if◌then◌else◌, refl, arith, inl, inr}
+use Rattle.std.proofs.Math.Nat.{mul-le-mul}
 use Rattle.std.proofs.lemmas.Bool.{cases_lt, leb-true, leb-false}
 use Rattle.std.proofs.lemmas.Nat.{div_below, div-add-mod', mod_below}
 use Rattle.sbpl_cost.specs.PrimitiveCost.{root_above, ceiling, IsLeast}
-use Rattle.sbpl_fixed.proofs.Roots.{square_mono}
 
 -- a square that is above another has the greater root
 pub root_below : (a b : ℕ) → a * a < b * b → a < b
-root_below a b h = elim (cases_lt a b) [ inl lt ↦ lt | inr le ↦ absurd (let s = square_mono b a le in omega arith) ]
+root_below a b h = elim (cases_lt a b) [ inl lt ↦ lt | inr le ↦ absurd (let s = mul-le-mul le le in omega arith) ]
 
 root_step : (b : Bool) (n r : ℕ) → nat_le (suc n) (r * r) ≡ b → IsLeast (λ s. n ≤ s * s) r → IsLeast (λ s. suc n ≤ s * s) (if b then r else r + 1)
 root_step true n r enough is = record {

@@ -17,7 +17,7 @@ pub tail_fan_is : (w : World) (t : ℕ) → (network_of w).tail_fan t ≡ length
 unfolding network_of
 tail_fan_is w t = refl
 
--- a place in the table is a place in the file
+-- an index in the table is an index in the file
 pub entering_read : (prims : List Primitive) (t j : ℕ) (list : List ℕ) → list ≡ entering prims t → j < length (entering prims t) → get_or list j 0 < length prims
 entering_read prims t j list same h =
     let there = slice_get-get_or (entering prims t) j 0 h ∙ ap (λ l. Some (get_or l j 0)) (sym same) in
@@ -33,7 +33,7 @@ pub number_read : (prims : List Primitive) (numbers : List ℕ) (i number : ℕ)
     → number ≡ count_by (λ q. q.from == p.from) (take i prims)
 number_read prims numbers i number p are stands is = is ∙ get_or_from_slice_get numbers i (count_by (λ q. q.from == p.from) (take i prims)) number (are i p stands)
 
--- the tail that stands at a place of the file
+-- the tail that stands at an index of the file
 pub tail_read : (w : World) (t j place : ℕ) (target : Place) (p : Primitive) → target ≡ place_of w.env t → slice_get (entering w.prims.items target.t) j ≡ Some place → slice_get w.prims.items place ≡ Some p
     → (number : ℕ) → number ≡ count_by (λ q. q.from == p.from) (take place w.prims.items)
     → (o : Option ℕ) → o ≡ state_in w.env (pos target.x -ℤ p.dx) (pos target.y -ℤ p.dy) p.from → option_map (λ (s : ℕ). (s, number)) o ≡ (network_of w).tail t j

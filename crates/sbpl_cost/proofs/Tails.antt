@@ -12,8 +12,8 @@ use Rattle.sbpl_cfg.specs.declared.pose.Place.{Place}
 use Rattle.sbpl_mprim.specs.declared.prim.Primitive.{Primitive}
 use Rattle.sbpl_cost.specs.States.{IsPlace, place_of, state_number, state_in, state_count}
 use Rattle.sbpl_cost.specs.World.{World, IsWorld}
-use Rattle.sbpl_cost.specs.Lattices.{leaving, entering, arc_place, arc_primitive, head_by, tail_by, network_of}
-use Rattle.sbpl_cost.proofs.Numbered.{numbered, numbered_at, length-places_from}
+use Rattle.sbpl_cost.specs.Lattices.{leaving, entering, arc_index, arc_primitive, head_by, tail_by, network_of}
+use Rattle.sbpl_cost.proofs.Numbered.{numbered, numbered_at, length-indices_from}
 use Rattle.sbpl_cost.proofs.Heads.{state_in_some, state_in_at, ends_in}
 use Rattle.sbpl_cost.proofs.PlaceLaws.{place_of_state, state_of_place_of, place_of_state_number}
 use Rattle.sbpl_cost.proofs.LatticeLaws.{state_number_below}
@@ -50,7 +50,7 @@ pub right_of : (a x d : ℤ) → x ≡ a +ℤ d → x -ℤ d ≡ a
 right_of a x d h = omega (arith, ints, h)
 
 pub few_entering : (prims : List Primitive) (t : ℕ) → length (entering prims t) ≤ length prims
-few_entering prims t = omega (arith, length-places_from (λ p. p.to == t) 0 prims, count_by-le-length (λ p. p.to == t) prims)
+few_entering prims t = omega (arith, length-indices_from (λ p. p.to == t) 0 prims, count_by-le-length (λ p. p.to == t) prims)
 
 module _ (w : World) (is_world : IsWorld w) where
   pub tail_is : (t j s k : ℕ) → (network_of w).tail t j ≡ Some (s, k) → IsTailBy w t j s k
@@ -85,7 +85,7 @@ module _ (w : World) (is_world : IsWorld w) where
   source_is t j s k tail = ap (place_of w.env) tail.state ∙ place_of_state_number w.env is_world.env tail.source tail.on_map
 
   -- a tail is in the table of its source's heading
-  tail_place : (t j s k : ℕ) (tail : IsTailBy w t j s k) → arc_place w s k ≡ Some tail.place
+  tail_place : (t j s k : ℕ) (tail : IsTailBy w t j s k) → arc_index w s k ≡ Some tail.place
   tail_place t j s k tail =
       let from = ap (λ (q : Place). q.t) (source_is t j s k tail) ∙ tail.heading in
       ap (λ h. slice_get (leaving w.prims.items h) k) from ∙ ap (λ n. slice_get (leaving w.prims.items tail.prim.from) n) tail.number

@@ -9,7 +9,7 @@ use Rattle.sbpl_sweep.specs.Reads.IsRead.{at_source, at_target, at_centre, at_sw
 use Rattle.sbpl_map.specs.CellMap.{CellMap, IsCellMap, cost_at, ChangesCell}
 use Rattle.sbpl_cost.specs.World.{IsWorld, World, over_map}
 use Rattle.sbpl_cost.specs.Arc.{column_from, row_from, cost_from, IsBelow, IsFree, IsPaid, IsGreatestPaid, IsFreeAt}
-use Rattle.sbpl_cost.specs.Lattices.{arc_place, head_by, tail_by, network_of}
+use Rattle.sbpl_cost.specs.Lattices.{arc_index, head_by, tail_by, network_of}
 use Rattle.sbpl_cost.specs.Reading.{ReadsCell, UnreadArcsCostTheSame, MapsChangeCostsAlone, MapsChangeNoReads, UnreadCostTheSame}
 use Rattle.sbpl_cost.proofs.Arcs.{IsFound, found_at, arc_of}
 use Rattle.sbpl_cost.proofs.ArcsRead.{found_by_arc}
@@ -57,7 +57,7 @@ pub other_cost : (w : World) (m : CellMap) (s k place : ℕ) (p : Primitive) →
     → ((x y : ℤ) → ReadsCell w s k x y → cost_at m x y ≡ cost_at w.map x y) → (network_of (over_map w m)).cost s k ≡ (network_of w).cost s k
 other_cost w m s k place p is_world is_other f alike =
     let same : (dx dy : ℤ) → IsRead w.env.cell w.sweeps.radius p dx dy → cost_at m (column_from w s dx) (row_from w s dy) ≡ cost_at w.map (column_from w s dx) (row_from w s dy) = λ dx dy read.
-    alike (column_from w s dx) (row_from w s dy) (record { place = place; prim = p; by = f.by; dx = dx; dy = dy; column = refl; row = refl; read = read }) in
+    alike (column_from w s dx) (row_from w s dy) (record { index = place; prim = p; by = f.by; dx = dx; dy = dy; column = refl; row = refl; read = read }) in
     let here = arc_of w is_world s k place p f in
     let there = arc_of (over_map w m) is_other s k place p (found_by_arc (over_map w m) is_other s k place p f.by) in
     same_answer ((network_of (over_map w m)).cost s k) ((network_of w).cost s k)
@@ -65,11 +65,11 @@ other_cost w m s k place p is_world is_other f alike =
     (λ c h. (there.cost c).1 (still_free_at w w.map m s p same c ((here.cost c).0 h)))
 
 -- an arc that is in no table costs nothing on any map
-pub no_cost : (w : World) (s k : ℕ) → arc_place w s k ≡ None → (network_of w).cost s k ≡ None
+pub no_cost : (w : World) (s k : ℕ) → arc_index w s k ≡ None → (network_of w).cost s k ≡ None
 unfolding network_of
 no_cost w s k h = rw h refl
 
-cost_by_place : (w : World) (m : CellMap) (s k : ℕ) (o : Option ℕ) → arc_place w s k ≡ o → IsWorld w → IsWorld (over_map w m)
+cost_by_place : (w : World) (m : CellMap) (s k : ℕ) (o : Option ℕ) → arc_index w s k ≡ o → IsWorld w → IsWorld (over_map w m)
     → ((x y : ℤ) → ReadsCell w s k x y → cost_at m x y ≡ cost_at w.map x y) → (network_of (over_map w m)).cost s k ≡ (network_of w).cost s k
 cost_by_place w m s k None h is_world is_other alike = no_cost (over_map w m) s k h ∙ sym (no_cost w s k h)
 cost_by_place w m s k (Some place) h is_world is_other alike =
@@ -77,7 +77,7 @@ cost_by_place w m s k (Some place) h is_world is_other alike =
     other_cost w m s k place f.0 is_world is_other f.1 alike
 
 pub unread_arcs_cost_the_same : UnreadArcsCostTheSame
-unread_arcs_cost_the_same w m s k is_world is_other alike = cost_by_place w m s k (arc_place w s k) refl is_world is_other alike
+unread_arcs_cost_the_same w m s k is_world is_other alike = cost_by_place w m s k (arc_index w s k) refl is_world is_other alike
 
 pub maps_change_costs_alone : MapsChangeCostsAlone
 unfolding network_of head_by tail_by
@@ -85,8 +85,8 @@ maps_change_costs_alone w m = record { states = refl; fan = refl; head = refl; t
 
 pub maps_change_no_reads : MapsChangeNoReads
 maps_change_no_reads w m s k x y = (
-  λ r. record { place = r.place; prim = r.prim; by = r.by; dx = r.dx; dy = r.dy; column = r.column; row = r.row; read = r.read },
-  λ r. record { place = r.place; prim = r.prim; by = r.by; dx = r.dx; dy = r.dy; column = r.column; row = r.row; read = r.read },
+  λ r. record { index = r.index; prim = r.prim; by = r.by; dx = r.dx; dy = r.dy; column = r.column; row = r.row; read = r.read },
+  λ r. record { index = r.index; prim = r.prim; by = r.by; dx = r.dx; dy = r.dy; column = r.column; row = r.row; read = r.read },
 )
 
 -- where two cells are not the same, their columns or their rows are not

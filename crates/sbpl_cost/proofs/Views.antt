@@ -1,23 +1,15 @@
 -- What the methods of a lattice answer, in terms of its graph.
-use Rattle.std.proofs.Common.{◌≡◌, ℕ, ◌<◌, ◌≤◌, ◌==◌, List, length, map, slice_get, get_or, Option, Some, None, option_and_then, IfSome, refl, ap, sym, ◌∙◌, arith, subst}
-use Rattle.std.proofs.lemmas.List.{length-map}
+use Rattle.std.proofs.Common.{◌≡◌, ℕ, ◌<◌, ◌≤◌, ◌==◌, List, length, slice_get, get_or, Option, Some, None, option_and_then, IfSome, refl, ap, sym, ◌∙◌, arith, subst}
 use Rattle.std.proofs.lemmas.List.Sums.{count_by-le-length}
-use Rattle.std.proofs.lemmas.Option.{slice_get_within, slice_get_read, slice_get-get_or, same_Some}
-use Rattle.sbpl_cfg.specs.Environment.{Environment}
+use Rattle.std.proofs.lemmas.Option.{slice_get_within, slice_get-get_or, same_Some}
 use Rattle.sbpl_mprim.specs.declared.prim.Primitive.{Primitive}
-use Rattle.sbpl_cost.specs.PrimitiveCost.{primitive_cost}
 use Rattle.sbpl_cost.specs.States.{place_of, state_in, state_count}
 use Rattle.sbpl_cost.specs.World.{World, IsWorld}
 use Rattle.sbpl_cost.specs.Arc.{column_from, row_from}
-use Rattle.sbpl_cost.specs.Lattices.{leaving, head_by, network_of}
-use Rattle.sbpl_cost.proofs.Numbered.{numbered, length-places_from}
-use Rattle.sbpl_sweep.proofs.Lists.{made_from}
+use Rattle.sbpl_cost.specs.Lattices.{leaving, head_by, network_of, states_are}
+use Rattle.sbpl_cost.proofs.Numbered.{numbered, length-indices_from}
 use Rattle.sbpl_cost.proofs.Arcs.{IsFound, found_at}
 use Rattle.sbpl_cost.proofs.LatticeLaws.{sound}
-
-pub states_are : (w : World) → (network_of w).states ≡ state_count w.env
-unfolding network_of
-states_are w = refl
 
 pub fan_is : (w : World) (s : ℕ) → (network_of w).fan s ≡ length (leaving w.prims.items (place_of w.env s).t)
 unfolding network_of
@@ -27,29 +19,21 @@ pub head_is : (w : World) (s k place : ℕ) (p : Primitive) → IsFound w s k pl
 unfolding network_of head_by
 head_is w s k place p f = ap (λ o. option_and_then (head_by w s) o) f.primitive
 
--- a place in the table is a place in the file
+-- an index in the table is an index in the file
 pub leaving_inside : (prims : List Primitive) (t k place : ℕ) → slice_get (leaving prims t) k ≡ Some place → place < length prims
 leaving_inside prims t k place h =
     let n = numbered (λ p. p.from == t) 0 prims k place h in
     omega (arith, n.number, slice_get_within prims n.at n.item n.stands)
 
--- there are no more places than primitives
+-- there are no more indices than primitives
 pub few_leaving : (prims : List Primitive) (t : ℕ) → length (leaving prims t) ≤ length prims
-few_leaving prims t = omega (arith, length-places_from (λ p. p.from == t) 0 prims, count_by-le-length (λ p. p.from == t) prims)
-
--- what stands in the table of costs is the primitive's cost
-pub price_is : (e : Environment) (prims : List Primitive) (prices : List ℕ) (i price : ℕ) → prices ≡ map (primitive_cost e) prims → i < length prims → price ≡ get_or prices i price
-    → (p : Primitive) × (slice_get prims i ≡ Some p) × (price ≡ primitive_cost e p)
-price_is e prims prices i price same h is =
-    let there = slice_get_read prices (length prices) i price refl (omega (arith, h, ap length same, length-map prims (primitive_cost e))) is in
-    let from = made_from (primitive_cost e) prims i price (ap (λ l. slice_get l i) (sym same) ∙ there) in
-    (from.0, from.1, sym from.2)
+few_leaving prims t = omega (arith, length-indices_from (λ p. p.from == t) 0 prims, count_by-le-length (λ p. p.from == t) prims)
 
 pub leaving_read : (prims : List Primitive) (t k : ℕ) (list : List ℕ) → list ≡ leaving prims t → k < length (leaving prims t) → get_or list k 0 < length prims
 leaving_read prims t k list same h =
     leaving_inside prims t k (get_or list k 0) (slice_get-get_or (leaving prims t) k 0 h ∙ ap (λ l. Some (get_or l k 0)) (sym same))
 
--- the motion of an arc, by the place that the table has
+-- the motion of an arc, by the index that the table has
 pub found_by : (w : World) (s k t place : ℕ) → IsWorld w → t ≡ (place_of w.env s).t → slice_get (leaving w.prims.items t) k ≡ Some place → (p : Primitive) × IsFound w s k place p
 found_by w s k t place is_world same h = found_at w s k place is_world (ap (λ n. slice_get (leaving w.prims.items n) k) (sym same) ∙ h)
 
@@ -70,9 +54,3 @@ found_prim w s k t place p is_world same h at =
 pub head_inside : (w : World) → IsWorld w → (s k : ℕ) → s < (network_of w).states → k < (network_of w).fan s → (o : Option ℕ) → o ≡ (network_of w).head s k → IfSome o (λ t. t < (network_of w).states)
 head_inside w is_world s k state number None is = tt
 head_inside w is_world s k state number (Some t) is = (sound w is_world).head_is_state s k t state number (sym is)
-
--- the price of the primitive that was read
-pub price_of : (e : Environment) (prims : List Primitive) (prices : List ℕ) (i price : ℕ) (p : Primitive) → prices ≡ map (primitive_cost e) prims → slice_get prims i ≡ Some p → price ≡ get_or prices i price → price ≡ primitive_cost e p
-price_of e prims prices i price p same at is =
-    let found = price_is e prims prices i price same (slice_get_within prims i p at) is in
-    found.2 ∙ ap (primitive_cost e) (same_Some found.0 p (sym found.1 ∙ at))

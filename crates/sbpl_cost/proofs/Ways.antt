@@ -2,6 +2,7 @@
 use Rattle.std.proofs.Common.{◌≡◌, ℕ, zero, suc, ℤ, pos, negsuc, ◌-ℤ◌, ◌+◌, ◌-◌, ◌*◌, ◌<◌, ◌≤◌, List, [], ◌∷◌, length, get_or, drop, Some, slice_get, refl, ap, sym, ◌∙◌, arith}
 use Rattle.std.specs.List.{zip}
 use Rattle.std.specs.Int.RustNames.{unsigned_abs}
+use Rattle.std.proofs.Math.Nat.{mul-le-mul}
 use Rattle.std.proofs.lemmas.Int.{ints}
 use Rattle.std.proofs.lemmas.Option.{slice_get-get_or}
 use Rattle.std.proofs.lemmas.List.Sums.{sum_by-cons}
@@ -10,7 +11,6 @@ use Rattle.sbpl_cfg.specs.Environment.{IsWithin}
 use Rattle.sbpl_mprim.specs.Primitives.{AreAtOnePoint}
 use Rattle.sbpl_cost.specs.PrimitiveCost.{squared_distance, distance, way_length}
 use Rattle.sbpl_cost.proofs.RoundedUp.{root_above-least}
-use Rattle.sbpl_fixed.proofs.Roots.{square_mono}
 
 -- coordinates in range are at most 2000 metres apart
 pub apart-le : (a b : ℤ) → IsWithin (negsuc 999999999999) (pos 1000000000000) a → IsWithin (negsuc 999999999999) (pos 1000000000000) b → unsigned_abs (a -ℤ b) ≤ 2000000000000
@@ -47,7 +47,7 @@ way_length-drop poses (suc i) r d some within is =
 -- numbers whose product with themselves is nothing are nothing
 no_square : (n : ℕ) → n * n ≤ 0 → n ≡ 0
 no_square zero h = refl
-no_square (suc n) h = absurd (let s = square_mono 1 (suc n) (omega arith) in omega (arith, s))
+no_square (suc n) h = absurd (let one : 1 ≤ suc n = omega arith in let s = mul-le-mul one one in omega (arith, s))
 
 -- poses that are no way apart are at one point
 at_one_point : (p q : Pose) → distance p q ≡ 0 → (p.x ≡ q.x) × (p.y ≡ q.y)

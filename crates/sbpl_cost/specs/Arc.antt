@@ -9,15 +9,15 @@ use Rattle.sbpl_cost.specs.PrimitiveCost.{primitive_cost}
 use Rattle.sbpl_cost.specs.States.{IsPlace, place_of, state_number, state_count}
 use Rattle.sbpl_cost.specs.World.{World}
 
--- the primitive at this place of the file is the k-th, from 0, that starts at heading t
-pub record IsLeaving (prims : List Primitive) (t k place : ℕ) (p : Primitive) : Type 0 where
-  pub stands : slice_get prims place ≡ Some p
+-- the primitive at this index of the file is the k-th, from 0, that starts at heading t
+pub record IsLeaving (prims : List Primitive) (t k index : ℕ) (p : Primitive) : Type 0 where
+  pub stands : slice_get prims index ≡ Some p
   pub heading : p.from ≡ t
-  pub number : count_by (λ q. q.from == t) (take place prims) ≡ k
+  pub number : count_by (λ q. q.from == t) (take index prims) ≡ k
 
--- arc k of state s is the motion by p, which stands at this place of the file
+-- arc k of state s is the motion by p, which stands at this index of the file
 abbrev pub IsArcBy : World → ℕ → ℕ → ℕ → Primitive → Type 0
-IsArcBy w s k place p = IsLeaving w.prims.items (place_of w.env s).t k place p
+IsArcBy w s k index p = IsLeaving w.prims.items (place_of w.env s).t k index p
 
 -- the column that lies this far from the source cell of s
 abbrev pub column_from : World → ℕ → ℤ → ℤ
@@ -82,4 +82,4 @@ pub record IsArcOf (n : Network) (w : World) (s k : ℕ) (p : Primitive) : Type 
 pub record HasLatticeArcs (n : Network) (w : World) : Type 0 where
   pub states : n.states ≡ state_count w.env
   pub fan : (s : ℕ) → s < n.states → n.fan s ≡ count_by (λ p. p.from == (place_of w.env s).t) w.prims.items
-  pub arcs : (s k : ℕ) → s < n.states → k < n.fan s → (place : ℕ) × (p : Primitive) × IsArcBy w s k place p × IsArcOf n w s k p
+  pub arcs : (s k : ℕ) → s < n.states → k < n.fan s → (index : ℕ) × (p : Primitive) × IsArcBy w s k index p × IsArcOf n w s k p

@@ -12,8 +12,9 @@ pub record AddsOthers (old cells known new : List Cell) : Type 0 where
   pub each : (c : Cell) → IsAmong new c → IsAmong old c ⊎ IsAmong cells c
   pub all : (c : Cell) → IsAmong cells c → IsAmong new c ⊎ IsAmong known c
 
--- the cells along a motion are its centre cells
+-- the cells along a motion are its centre cells, of which its end cell is one
 pub record AreAlong (cell : ℤ) (p : Primitive) (cells : List Cell) : Type 0 where
+  pub end : IsCentre cell p.poses p.dx p.dy
   pub each : (i : ℕ) (c : Cell) → slice_get cells i ≡ Some c → IsCentre cell p.poses c.x c.y
   pub all : (x y : ℤ) → IsCentre cell p.poses x y → (i : ℕ) × (slice_get cells i ≡ Some (record { y = y; x = x }))
 

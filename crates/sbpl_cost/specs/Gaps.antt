@@ -31,7 +31,7 @@ lesser None o = o
 lesser (Some a) None = Some a
 lesser (Some a) (Some b) = Some (min a b)
 
--- what n cells cost at a cost for so many cells, rounded down; none where those are none
+-- what n cells cost at this cost for this number of cells, rounded down; none where that number is 0
 abbrev pub floor_for : ℕ → ℕ → ℕ → Option ℕ
 floor_for cost cells n = if cells == 0 then None else Some (n * cost / cells)
 
@@ -55,15 +55,15 @@ gap_of e prims a b =
     (max (max (way_bound e prims Up (b.y - a.y)) (way_bound e prims Down (a.y - b.y))) (way_bound e prims Round (heading_gap e.headings a.t b.t)))
 
 -- this primitive's fraction of cost to cells is the least of all that go that way
-pub record HasLeastFraction (e : Environment) (prims : List Primitive) (way : Way) (place : ℕ) (p : Primitive) : Type 0 where
-  pub stands : slice_get prims place ≡ Some p
+pub record HasLeastFraction (e : Environment) (prims : List Primitive) (way : Way) (index : ℕ) (p : Primitive) : Type 0 where
+  pub stands : slice_get prims index ≡ Some p
   pub goes : 1 ≤ advance e.headings way p
   pub least : (i : ℕ) (q : Primitive) → slice_get prims i ≡ Some q → 1 ≤ advance e.headings way q
       → primitive_cost e p * advance e.headings way q ≤ primitive_cost e q * advance e.headings way p
 
 -- the bound of a way is the floor of the least fraction times the cells to go
 abbrev pub BoundsAreFloors : Type 0
-BoundsAreFloors = (e : Environment) (prims : List Primitive) (way : Way) (n place : ℕ) (p : Primitive) → HasLeastFraction e prims way place p
+BoundsAreFloors = (e : Environment) (prims : List Primitive) (way : Way) (n index : ℕ) (p : Primitive) → HasLeastFraction e prims way index p
     → way_bound e prims way n ≡ n * primitive_cost e p / advance e.headings way p
 
 -- the bound of a way that no primitive goes is 0

@@ -1,5 +1,5 @@
 -- The lattice of a world, as a graph.
-use Rattle.std.specs.Prelude.{ℕ, pos, ◌+◌, ◌*◌, ◌-ℤ◌, ◌&&◌, ◌==◌, Bool, false, List, [], ◌∷◌, length, take, map, count_by, slice_get, slice_index_or, Option, Some, None, option_and_then, option_map, unwrap_or, nat_lt, max, if◌then◌else◌}
+use Rattle.std.specs.Prelude.{◌≡◌, refl, ℕ, pos, ◌+◌, ◌*◌, ◌-ℤ◌, ◌&&◌, ◌==◌, Bool, false, List, [], ◌∷◌, length, take, map, count_by, slice_get, slice_index_or, Option, Some, None, option_and_then, option_map, unwrap_or, nat_lt, max, if◌then◌else◌}
 use Rattle.std.specs.List.{list_all}
 use Rattle.sbpl_graph.specs.Network.{Network}
 use Rattle.sbpl_graph.specs.Laws.{HasExactTails, HasGaps}
@@ -13,25 +13,25 @@ use Rattle.sbpl_cost.specs.World.{World, IsWorld}
 use Rattle.sbpl_cost.specs.Arc.{column_from, row_from, cost_from, HasLatticeArcs}
 
 -- the numbers of the elements that pass a test, where the first element has number i
-abbrev pub places_from : {X : Type 0} → (X → Bool) → ℕ → List X → List ℕ
-places_from test i [] = []
-places_from test i (x ∷ xs) = if test x then i ∷ places_from test (i + 1) xs else places_from test (i + 1) xs
+abbrev pub indices_from : {X : Type 0} → (X → Bool) → ℕ → List X → List ℕ
+indices_from test i [] = []
+indices_from test i (x ∷ xs) = if test x then i ∷ indices_from test (i + 1) xs else indices_from test (i + 1) xs
 
--- the places in the file of the primitives that start at heading t
+-- the indices in the file of the primitives that start at heading t
 abbrev pub leaving : List Primitive → ℕ → List ℕ
-leaving prims t = places_from (λ p. p.from == t) 0 prims
+leaving prims t = indices_from (λ p. p.from == t) 0 prims
 
--- the places in the file of the primitives that end at heading t
+-- the indices in the file of the primitives that end at heading t
 abbrev pub entering : List Primitive → ℕ → List ℕ
-entering prims t = places_from (λ p. p.to == t) 0 prims
+entering prims t = indices_from (λ p. p.to == t) 0 prims
 
--- the place in the file of the primitive of arc k of state s
-abbrev pub arc_place : World → ℕ → ℕ → Option ℕ
-arc_place w s k = slice_get (leaving w.prims.items (place_of w.env s).t) k
+-- the index in the file of the primitive of arc k of state s
+abbrev pub arc_index : World → ℕ → ℕ → Option ℕ
+arc_index w s k = slice_get (leaving w.prims.items (place_of w.env s).t) k
 
 -- the primitive of arc k of state s
 abbrev pub arc_primitive : World → ℕ → ℕ → Option Primitive
-arc_primitive w s k = option_and_then (slice_get w.prims.items) (arc_place w s k)
+arc_primitive w s k = option_and_then (slice_get w.prims.items) (arc_index w s k)
 
 -- the state where the motion by p from state s ends
 unfoldable pub head_by : World → ℕ → Primitive → Option ℕ
@@ -71,14 +71,14 @@ is_free w s cells p = ends_are_free w s p && (list_all (is_below w.env.inscribed
 unfoldable pub cost_by : World → ℕ → List Cell → Primitive → Option ℕ
 cost_by w s cells p = if is_free w s cells p then Some (primitive_cost w.env p * (greatest_of (paid_costs w s p) + 1)) else None
 
--- the cells that the primitive at a place of the file sweeps
+-- the cells that the primitive at an index of the file sweeps
 abbrev pub swept_at : World → ℕ → List Cell
-swept_at w place = slice_index_or w.sweeps.swept place []
+swept_at w index = slice_index_or w.sweeps.swept index []
 
--- the state from which the primitive at a place of the file leads to state t, and the number of that arc
+-- the state from which the primitive at an index of the file leads to state t, and the number of that arc
 unfoldable pub tail_by : World → ℕ → ℕ → Primitive → Option (ℕ × ℕ)
-tail_by w t place p =
-    option_map (λ s. (s, count_by (λ q. q.from == p.from) (take place w.prims.items)))
+tail_by w t index p =
+    option_map (λ s. (s, count_by (λ q. q.from == p.from) (take index w.prims.items)))
     (state_in w.env (pos (place_of w.env t).x -ℤ p.dx) (pos (place_of w.env t).y -ℤ p.dy) p.from)
 
 -- the lattice: arcs in the order of the file, tails too, and gaps by the primitives alone
@@ -87,17 +87,22 @@ network_of w = record {
   states = state_count w.env;
   fan = λ s. length (leaving w.prims.items (place_of w.env s).t);
   head = λ s k. option_and_then (head_by w s) (arc_primitive w s k);
-  cost = λ s k. option_and_then (λ place. option_and_then (cost_by w s (swept_at w place)) (slice_get w.prims.items place)) (arc_place w s k);
+  cost = λ s k. option_and_then (λ index. option_and_then (cost_by w s (swept_at w index)) (slice_get w.prims.items index)) (arc_index w s k);
   tail_fan = λ t. length (entering w.prims.items (place_of w.env t).t);
   tail = λ t j. option_and_then (λ i. option_and_then (tail_by w t i) (slice_get w.prims.items i)) (slice_get (entering w.prims.items (place_of w.env t).t) j);
   gap = λ a b. gap_of w.env w.prims.items (place_of w.env a) (place_of w.env b);
 }
 
+-- a state is a cell with a heading
+pub states_are : (w : World) → (network_of w).states ≡ state_count w.env
+unfolding network_of
+states_are w = refl
+
 -- the arcs of the lattice are those that it is to have
 abbrev pub LatticeHasItsArcs : Type 0
 LatticeHasItsArcs = (w : World) → IsWorld w → HasLatticeArcs (network_of w) w
 
--- the tails of each state are exactly the arcs that lead to it, each once
+-- the tails of each state are exactly its incoming arcs, each once
 abbrev pub LatticeHasExactTails : Type 0
 LatticeHasExactTails = (w : World) → IsWorld w → HasExactTails (network_of w)
 

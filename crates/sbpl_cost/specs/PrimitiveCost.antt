@@ -55,10 +55,10 @@ most_cost = 16777215
 abbrev pub IsTooDear : Environment → Primitive → Type 0
 IsTooDear e prim = most_cost < primitive_cost e prim
 
--- the first of the primitives that costs more than it may stands at this place
-pub record IsFirstTooDear (e : Environment) (prims : List Primitive) (place : ℕ) : Type 0 where
-  pub here : (p : Primitive) × (slice_get prims place ≡ Some p) × IsTooDear e p
-  pub before : (i : ℕ) (p : Primitive) → i < place → slice_get prims i ≡ Some p → primitive_cost e p ≤ most_cost
+-- the first of the primitives that costs more than it may stands at this index
+pub record IsFirstTooDear (e : Environment) (prims : List Primitive) (index : ℕ) : Type 0 where
+  pub here : (p : Primitive) × (slice_get prims index ≡ Some p) × IsTooDear e p
+  pub before : (i : ℕ) (p : Primitive) → i < index → slice_get prims i ≡ Some p → primitive_cost e p ≤ most_cost
 
 -- a number is the least of which a fact holds
 pub record IsLeast (P : ℕ → Type 0) (n : ℕ) : Type 0 where

@@ -15,9 +15,9 @@ use Rattle.sbpl_cost.specs.Lattices.{network_of}
 
 -- judging arc k of state s reads cell (x, y): it is the source cell, the end cell, a centre cell or a swept cell
 pub record ReadsCell (w : World) (s k : ℕ) (x y : ℤ) : Type 0 where
-  pub place : ℕ
+  pub index : ℕ
   pub prim : Primitive
-  pub by : IsArcBy w s k place prim
+  pub by : IsArcBy w s k index prim
   pub dx : ℤ
   pub dy : ℤ
   pub column : column_from w s dx ≡ x
@@ -31,7 +31,7 @@ pub record IsHeadReading (w : World) (x y : ℤ) (t : ℕ) : Type 0 where
   pub arc : IsArc (network_of w) source number t
   pub reads : ReadsCell w source number x y
 
--- the heads of all arcs that read cell (x, y), and no other states, were added behind a list, no more of them than
+-- the heads of all arcs that read cell (x, y), and no other states, were appended to a list, no more of them than
 -- there are pairs of a primitive and a cell that it reads
 pub record AddsHeads (w : World) (x y : ℤ) (old new : List ℕ) : Type 0 where
   pub added : List ℕ

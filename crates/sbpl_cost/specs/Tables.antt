@@ -13,11 +13,11 @@ use Rattle.sbpl_cost.specs.Checked.{HaveAlong, HaveAround}
 use Rattle.sbpl_cost.specs.Rates.{AreGaps}
 use Rattle.sbpl_cost.specs.World.{World, IsWorld}
 
--- each heading has the places of the primitives that start at it
+-- each heading has the indices of the primitives that start at it
 abbrev pub AreLeaving : Primitives → List (List ℕ) → Type 0
 AreLeaving prims table = (t : ℕ) → t < prims.headings → slice_get table t ≡ Some (leaving prims.items t)
 
--- each heading has the places of the primitives that end at it
+-- each heading has the indices of the primitives that end at it
 abbrev pub AreEntering : Primitives → List (List ℕ) → Type 0
 AreEntering prims table = (t : ℕ) → t < prims.headings → slice_get table t ≡ Some (entering prims.items t)
 
@@ -29,7 +29,7 @@ AreNumbers prims numbers = (i : ℕ) (p : Primitive) → slice_get prims i ≡ S
 abbrev pub AreCheap : Environment → List Primitive → Type 0
 AreCheap e prims = (i : ℕ) (p : Primitive) → slice_get prims i ≡ Some p → (1 ≤ primitive_cost e p) × (primitive_cost e p ≤ most_cost)
 
--- why a lattice is not made: the first primitive that is too dear, or want of memory
+-- why a lattice is not made: the first primitive that is too dear, or out of memory
 abbrev pub IsCause : Environment → List Primitive → LatticeFault → Type 0
 IsCause e prims (TooDear i) = IsFirstTooDear e prims i
 IsCause e prims NoMemory = Unit {0}

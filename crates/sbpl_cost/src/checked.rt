@@ -9,7 +9,7 @@ ghost use Rattle.sbpl_cost.specs.Checked.{AddsOthers, AreAlong, AreAround, HaveA
 use sbpl_fixed::NoMemory;
 use sbpl_mprim::{Prim, Prims};
 use sbpl_runs::Runs;
-use sbpl_sweep::{Cell, Sweeps};
+use sbpl_sweep::{Cell, Sweeps, ends_are_centres};
 use std::alloc::Global;
 
 /// Adds those of some cells that are not known. The known cells are among the cells, and both are in the same order.
@@ -31,6 +31,7 @@ fn push_others(list: &mut Vec<Cell>, cells: &[Cell], known: &[Cell]) -> Result<(
 fn along_cells(alloc: Global, prim: &Prim, centres: &[Cell]) -> Result<Vec<Cell>, NoMemory>
     ensures along { IfOk result (λ v. (size : _) (headings : _) → IsPrimitive size headings prim.now → AreCentres size prim.now.poses centres.now → AreAlong size prim.now v.items) }
 {
+    ends_are_centres();
     let end = [Cell {
         y: i64::from(prim.dy),
         x: i64::from(prim.dx),

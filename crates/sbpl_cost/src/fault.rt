@@ -6,7 +6,7 @@ use thiserror::Error;
 /// Why a lattice can't be made.
 #[derive(Clone, Copy, Debug, PartialEq, Eq, Error)]
 pub enum LatticeFault {
-    /// The first primitive, by its place in the file, that costs more than `MOST_COST`.
+    /// The first primitive, by its index in the file, that costs more than `MOST_COST`.
     #[error("primitive {0} is too dear")]
     TooDear(u32),
     /// Memory ran out.

@@ -58,7 +58,7 @@ fn advance(headings: u32, way: Way, prim: &Prim) -> u32
     }
 }
 
-/// A cost for so many cells, where there are any.
+/// A cost for a number of cells, where there are any.
 fn fraction(cost: u32, cells: u32) -> Option<Rate>
     requires cheap { cost ≤ most_cost }
     ensures floor { (n : ℕ) → floor_at result n ≡ floor_for cost cells n }

@@ -9,7 +9,7 @@ ghost use Rattle.sbpl_cost.specs.PrimitiveCost.{primitive_cost, most_cost};
 ghost use Rattle.sbpl_cost.specs.States.{IsPlace, place_of, state_number};
 ghost use Rattle.sbpl_cost.specs.World.{World, IsWorld};
 ghost use Rattle.sbpl_cost.specs.Arc.{IsArcBy};
-ghost use Rattle.sbpl_cost.specs.Lattices.{network_of, arc_place, leaving, entering};
+ghost use Rattle.sbpl_cost.specs.Lattices.{network_of, arc_index, leaving, entering};
 ghost use Rattle.sbpl_cost.specs.Reading.{head_of_read, AddsHeads, UnreadCostTheSame, DifferInCostsAlone};
 ghost use Rattle.sbpl_cost.specs.Tables.{AreCheap, IsCause};
 
@@ -39,9 +39,9 @@ pub struct Lattice {
     prims: Prims,
     sweeps: Sweeps,
     map: Map,
-    /// For each heading the places in the file of the primitives that start at it.
+    /// For each heading the indices in the file of the primitives that start at it.
     leaving: Runs<u32>,
-    /// For each heading the places in the file of the primitives that end at it.
+    /// For each heading the indices in the file of the primitives that end at it.
     entering: Runs<u32>,
     /// For each primitive its number among those that start at its heading.
     numbers: Vec<u32>,
@@ -68,7 +68,7 @@ impl Model for Lattice {
 
 impl Lattice {
     /// The lattice of an environment, its primitives, the sweeps that were made of these, and its map: they belong
-    /// together by cell size, headings and size. `TooDear` names the first primitive, by its place in the file, whose cost by itself is
+    /// together by cell size, headings and size. `TooDear` names the first primitive, by its index in the file, whose cost by itself is
     /// above `MOST_COST`, and comes exactly where there is one.
     pub fn new(
         alloc: Global,
@@ -163,19 +163,19 @@ impl Lattice {
         place_at(&self.env, s)
     }
 
-    /// The place in the file of the primitive of arc `k` of state `s`: it is the `k`-th, from 0, of those that start at
+    /// The index in the file of the primitive of arc `k` of state `s`: it is the `k`-th, from 0, of those that start at
     /// the heading of `s`.
     pub fn prim_of(&self, s: u32, k: u32) -> u32
         requires state { s < (network_of self.now).states }
         requires number { k < (network_of self.now).fan s }
-        ensures value { arc_place self.now s k ≡ Some result }
+        ensures value { arc_index self.now s k ≡ Some result }
         ensures primitive { (p : Primitive) × IsArcBy self.now s k result p }
         ensures inside { result < length self.now.prims.items }
     {
         self.leaving_at(heading_of(&self.env, s), k)
     }
 
-    /// The place in the file of the `k`-th primitive, from 0, of those that start at heading `t`.
+    /// The index in the file of the `k`-th primitive, from 0, of those that start at heading `t`.
     fn leaving_at(&self, t: u32, k: u32) -> u32
         requires heading { t < self.now.env.headings }
         requires number { k < length (leaving self.now.prims.items t) }
@@ -185,7 +185,7 @@ impl Lattice {
         self.leaving.at(t as usize)[k as usize]
     }
 
-    /// The place in the file of the `j`-th primitive, from 0, of those that end at heading `t`.
+    /// The index in the file of the `j`-th primitive, from 0, of those that end at heading `t`.
     fn entering_at(&self, t: u32, j: u32) -> u32
         requires heading { t < self.now.env.headings }
         requires number { j < length (entering self.now.prims.items t) }
@@ -195,7 +195,7 @@ impl Lattice {
         self.entering.at(t as usize)[j as usize]
     }
 
-    /// The id of the primitive at place `i` of the file.
+    /// The id of the primitive at index `i` of the file.
     pub fn prim_id(&self, i: u32) -> u32
         requires place { i < length self.now.prims.items }
         ensures id { (p : Primitive) × (slice_get self.now.prims.items i ≡ Some p) × (result ≡ p.id) }
@@ -203,7 +203,7 @@ impl Lattice {
         self.prims.get(i).id
     }
 
-    /// The cost by itself of the primitive at place `i` of the file, 1..16777215.
+    /// The cost by itself of the primitive at index `i` of the file, 1..16777215.
     pub fn cost_of(&self, i: u32) -> u32
         requires place { i < length self.now.prims.items }
         ensures cost { (p : Primitive) × (slice_get self.now.prims.items i ≡ Some p) × (result ≡ primitive_cost self.now.env p) }

@@ -12,7 +12,7 @@ pub fn lattice_has_its_arcs()
     ensures law { LatticeHasItsArcs }
 {}
 
-/// The tails of each state of the lattice are exactly the arcs that lead to it, each once, and its gaps are lower bounds
+/// The tails of each state of the lattice are exactly its incoming arcs, each once, and its gaps are lower bounds
 /// on costs. It does nothing.
 pub fn lattice_has_its_tails()
     ensures tails { LatticeHasExactTails }

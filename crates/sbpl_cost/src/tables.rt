@@ -13,7 +13,7 @@ use sbpl_mprim::Prims;
 use sbpl_runs::Runs;
 use std::alloc::Global;
 
-/// The places in the file of the primitives that start at heading `t`.
+/// The indices in the file of the primitives that start at heading `t`.
 fn places_leaving(alloc: Global, prims: &Prims, t: u32) -> Result<Vec<u32>, NoMemory>
     ensures places { IfOk result (λ v. v.items ≡ leaving prims.now.items t) }
 {
@@ -26,7 +26,7 @@ fn places_leaving(alloc: Global, prims: &Prims, t: u32) -> Result<Vec<u32>, NoMe
     Ok(places)
 }
 
-/// For each heading the places in the file of the primitives that start at it.
+/// For each heading the indices in the file of the primitives that start at it.
 pub(crate) fn leaving_table(alloc: Global, prims: &Prims) -> Result<Runs<u32>, NoMemory>
     ensures table { IfOk result (λ r. AreLeaving prims.now r) }
 {
@@ -38,7 +38,7 @@ pub(crate) fn leaving_table(alloc: Global, prims: &Prims) -> Result<Runs<u32>, N
     Ok(table)
 }
 
-/// The places in the file of the primitives that end at heading `t`.
+/// The indices in the file of the primitives that end at heading `t`.
 fn places_entering(alloc: Global, prims: &Prims, t: u32) -> Result<Vec<u32>, NoMemory>
     ensures places { IfOk result (λ v. v.items ≡ entering prims.now.items t) }
 {
@@ -51,7 +51,7 @@ fn places_entering(alloc: Global, prims: &Prims, t: u32) -> Result<Vec<u32>, NoM
     Ok(places)
 }
 
-/// For each heading the places in the file of the primitives that end at it.
+/// For each heading the indices in the file of the primitives that end at it.
 pub(crate) fn entering_table(alloc: Global, prims: &Prims) -> Result<Runs<u32>, NoMemory>
     ensures table { IfOk result (λ r. AreEntering prims.now r) }
 {

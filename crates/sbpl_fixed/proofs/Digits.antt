@@ -58,7 +58,7 @@ digits_below n (d ∷ ds) e =
     let longer : (n + 1) * 10 ^ suc (length ds) ≡ (n + 1) * 10 * 10 ^ length ds = rw pow-succ' (sym (mul_assoc (n + 1) 10 (10 ^ length ds))) in
     omega (arith, more, room, longer)
 
--- the decimals with zeros behind them are digits too
+-- the decimals with zeros after them are digits too
 digit_or_zero : (ds : List ℕ) (i : ℕ) → all_digits ds ≡ true → is_digit (get_or ds i 48) ≡ true
 digit_or_zero [] i e = refl
 digit_or_zero (d ∷ ds) zero e = (and_parts (is_digit d) (all_digits ds) e).0

@@ -1,15 +1,14 @@
 pub mod Tokens
+pub mod Following
 pub mod Runs
 pub mod Forms
 pub mod ReadBack
 pub mod Digits
 pub mod Roots
 pub mod Printing
-pub mod Reading
 pub mod Meaning
 pub mod Spelled
 pub mod Spelling
 pub mod Items
 pub mod UnsignedText
 pub mod Lines
-pub mod OwnFaults

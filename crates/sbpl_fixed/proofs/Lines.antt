@@ -1,4 +1,4 @@
--- Texts that are appended one behind the other.
+-- Texts that are appended one after the other.
 use Rattle.std.proofs.Common.{◌≡◌, ℕ, List, [], ◌∷◌, ◌++◌, refl, append_assoc}
 use Rattle.sbpl_fixed.specs.Printed.{lines_text}
 

@@ -11,7 +11,7 @@ all_weaker : (P Q : Piece → Type 0) (ts : List Piece) → ((t : Piece) → P t
 all_weaker P Q [] f h = tt
 all_weaker P Q (t ∷ ts) f h = (f t h.0, all_weaker P Q ts f h.1)
 
--- a run behind one more byte
+-- a run after one more byte
 run_behind : (fresh : Bool) (place b : ℕ) (bs : List ℕ) (t : Piece) → IsRun (is_blank b) (place + 1) bs t → IsRun fresh place (b ∷ bs) t
 run_behind fresh place b bs t r = record {
   before = b ∷ r.before;
@@ -52,7 +52,7 @@ first_run place b bs e = record {
   ends = front_ends (b ∷ bs);
 }
 
--- the runs of what is behind a byte
+-- the runs of what comes after a byte
 runs_behind : (fresh was : Bool) (place b : ℕ) (bs : List ℕ) (ts : List Piece) → is_blank b ≡ was → AllByRecursion (IsRun was (place + 1) bs) ts → AllByRecursion (IsRun fresh place (b ∷ bs)) ts
 runs_behind fresh was place b bs ts e h =
     all_weaker (IsRun was (place + 1) bs) (IsRun fresh place (b ∷ bs)) ts (λ t r. run_behind fresh place b bs t (subst (λ (v : Bool). IsRun v (place + 1) bs t) (sym e) r)) h
@@ -74,7 +74,7 @@ each_is_run false place (b ∷ bs) =
 
 -- ---- each longest run is a token
 
--- the front that is filled, where a blank or nothing is behind it
+-- the prefix that is filled, where a blank or nothing comes after it
 pub whole_front : (bytes behind : List ℕ) → list_all is_filled bytes ≡ true → begins_blank behind ≡ true → prefix_len is_filled (bytes ++ behind) ≡ length bytes
 whole_front [] [] f e = refl
 whole_front [] (c ∷ cs) f e = rw e refl

@@ -3,34 +3,12 @@ use Rattle.std.proofs.Common.{◌≡◌, ℕ, zero, suc, List, [], ◌∷◌, �
 use Rattle.std.specs.List.{flat_map}
 use Rattle.std.proofs.lemmas.List.{append-nil}
 use Rattle.sbpl_fixed.specs.Tokens.{Piece, tokens}
-use Rattle.sbpl_fixed.specs.Formats.{Format, item, ended, wrong, done, behind, turns, Says}
+use Rattle.sbpl_fixed.specs.Formats.{Format, ended, done, behind, turns, Says}
 use Rattle.sbpl_fixed.specs.Meaning.{StandsFor}
+use Rattle.sbpl_fixed.specs.Parts.{says_parts}
 use Rattle.sbpl_fixed.proofs.Spelled.{Expected, Spells, IsSpelled, AllAfter}
 
--- ---- parts
-
--- what a format says with another behind it, in two parts
-pub says_parts : {E A B : Type 0} (f : Format E A) (next : A → Format E B) (ts rest : List Piece) (x : B) → Says (behind f next) ts x rest
-    → (y : A) × (mid : List Piece) × Says f ts y mid × Says (next y) mid x rest
-unfolding Says behind
-says_parts (item i more) next [] rest x h = absurd h
-says_parts (item i more) next (t ∷ ts) rest x h = let p = says_parts (more t.place h.0) next ts rest x h.2 in (p.0, p.1, (h.0, h.1, p.2), p.3)
-says_parts (ended f) next [] rest x h = says_parts f next [] rest x h
-says_parts (ended f) next (t ∷ ts) rest x h = absurd h
-says_parts (wrong e) next ts rest x h = absurd h
-says_parts (done y) next ts rest x h = (y, ts, (refl, refl), h)
-
-pub says_both : {E A B : Type 0} (f : Format E A) (next : A → Format E B) (ts mid rest : List Piece) (y : A) (x : B) → Says f ts y mid → Says (next y) mid x rest
-    → Says (behind f next) ts x rest
-unfolding Says behind
-says_both (item i more) next [] mid rest y x g h = absurd g
-says_both (item i more) next (t ∷ ts) mid rest y x g h = (g.0, g.1, says_both (more t.place g.0) next ts mid rest y x g.2 h)
-says_both (ended f) next [] mid rest y x g h = says_both f next [] mid rest y x g h
-says_both (ended f) next (t ∷ ts) mid rest y x g h = absurd g
-says_both (wrong e) next ts mid rest y x g h = absurd g
-says_both (done z) next ts mid rest y x g h = rw (← g.0, ← g.1) h
-
--- a text that ends behind a format stands for what the format says of all its tokens
+-- a text that ends after a format stands for what the format says of all its tokens
 pub whole_said : {E A : Type 0} (f : Format E A) (text : List ℕ) (x : A) → StandsFor (behind f (λ y. ended (done y))) text x → Says f (tokens text) x []
 unfolding Says
 whole_said {E} {A} f text x h =
@@ -52,7 +30,7 @@ spells_both (w ∷ ws) vs (t ∷ ts) mid rest g h = (g.0, spells_both ws vs ts m
 
 -- ---- rounds that collect a list
 
--- one more behind those that were read
+-- one more after those that were read
 abbrev pub collected_behind : {E X : Type 0} → (List X → Format E X) → List X → Format E (List X)
 collected_behind f before = behind (f before) (λ x. done (before ++ x ∷ []))
 

@@ -1,4 +1,4 @@
--- How the tokens of a text go on behind a blank, within a token and behind one.
+-- How the tokens of a text go on after a blank, within a token and after one.
 use Rattle.std.proofs.Common.{◌≡◌, ℕ, suc, ◌+◌, ◌-◌, ◌<◌, Bool, true, false, List, [], ◌∷◌, length, drop, refl, sym, ap, ◌∙◌, arith, inl, inr, add-zero, one-add}
 use Rattle.std.specs.Prelude.{take_while}
 use Rattle.std.specs.List.{prefix_len}
@@ -7,7 +7,7 @@ use Rattle.std.proofs.lemmas.List.{drop-drop, length-drop}
 use Rattle.std.proofs.Math.Seq.{drop-length}
 use Rattle.sbpl_fixed.specs.Tokens.{is_blank, is_filled, tokens_past, is_fresh, tokens_from, token_at}
 
--- what is behind the front that passes does not begin with what passes
+-- what comes after the prefix that passes does not begin with what passes
 pub past_front : (p : ℕ → Bool) (bs : List ℕ) → prefix_len p (drop (prefix_len p bs) bs) ≡ 0
 past_front p [] = refl
 past_front p (b ∷ bs) =
@@ -26,7 +26,7 @@ skip_filled place (b ∷ bs) =
       | inr e ↦ rw (e, one-add) (skip_filled (place + 1) bs ∙ ap (λ (n : ℕ). tokens_past true n (drop (prefix_len is_filled bs) bs)) (omega arith))
     ]
 
--- nor behind a blank, up to the next byte that is filled
+-- nor after a blank, up to the next byte that is filled
 skip_blank : (place : ℕ) (bs : List ℕ) → tokens_past true place bs ≡ tokens_past true (place + prefix_len is_blank bs) (drop (prefix_len is_blank bs) bs)
 unfolding tokens_past
 skip_blank place [] = refl
@@ -54,7 +54,7 @@ first_filled place (b ∷ bs) h some =
       | inr e ↦ (rw e (omega arith), first_token place b bs e)
     ]
 
--- amid a token the search goes on behind it
+-- amid a token the search goes on after it
 pub amid_token : (text : List ℕ) (at n : ℕ) → is_fresh text at ≡ false → n ≡ prefix_len is_filled (drop at text) → tokens_from text at ≡ tokens_past true (at + n) (drop (at + n) text)
 amid_token text at n amid e = rw (amid, e, ← drop-drop) (skip_filled at (drop at text))
 
@@ -67,7 +67,7 @@ pub none_left : (text : List ℕ) (start k : ℕ) → k ≡ prefix_len is_blank 
 unfolding tokens_past
 none_left text start k e end = behind_blanks text start k e ∙ rw (end, drop-length) refl
 
--- and else there is one, behind the blanks
+-- and else there is one, after the blanks
 pub one_left : (text : List ℕ) (start k n : ℕ) → k ≡ prefix_len is_blank (drop start text) → n ≡ prefix_len is_filled (drop (start + k) text) → start + k < length text
     → (0 < n) × (tokens_past true start (drop start text) ≡ token_at text (start + k) (start + k + n) ∷ tokens_from text (start + k + n))
 one_left text start k n e f some =

@@ -7,7 +7,7 @@ use Rattle.std.proofs.lemmas.List.Folds.{list_all-append}
 use Rattle.sbpl_fixed.specs.Tokens.{is_filled}
 use Rattle.sbpl_fixed.specs.Numbers.{is_digit, all_digits, number_after, number_of, is_whole, whole_part, decimals_part}
 use Rattle.sbpl_fixed.specs.Printed.{last_digits, milli_text}
-use Rattle.sbpl_fixed.specs.Unsigned.{digits_of, is_milli, milli_of, IsDigits, IsMilli, DigitsHaveValues, NoOthersAreDigits, MillisHaveValues, NoOthersAreMillis, DecimalsAreReadBack, DecimalsAreWords, ThousandthsAreReadBack, ThousandthsAreWords}
+use Rattle.sbpl_fixed.specs.Unsigned.{digits_of, is_milli, milli_of, IsDigits, IsMilli, DigitsHaveValues, NoOthersAreDigits, MillisHaveValues, NoOthersAreMillis, DecimalsAreDigits, DecimalsAreReadBack, DecimalsAreWords, ThousandthsAreMillis, ThousandthsAreReadBack, ThousandthsAreWords}
 use Rattle.sbpl_fixed.proofs.Forms.{parted, point_parts}
 use Rattle.std.proofs.lemmas.Fmt.{decimal_step_wide, decimal_digit}
 use Rattle.sbpl_fixed.proofs.ReadBack.{number_push, last_number, last_are_digits, last_length, digits_filled}
@@ -88,6 +88,9 @@ decimal_is (suc k) n lt small =
           )
     ]
 
+pub decimals_are_digits : DecimalsAreDigits
+decimals_are_digits n small = decimal_is 39 n small small
+
 pub decimals_are_read_back : DecimalsAreReadBack
 unfolding digits_of
 decimals_are_read_back end n small lt =
@@ -104,6 +107,9 @@ milli_is n small =
       record { parts = refl; whole_digits = w.0; decimal_digits = last_are_digits 3 (n % 1000); three = last_length 3 (n % 1000) },
       omega (arith, w.1, last),
     )
+
+pub thousandths_are_millis : ThousandthsAreMillis
+thousandths_are_millis n small = let w = milli_is n small in (_, _, w.0, w.1)
 
 pub thousandths_are_read_back : ThousandthsAreReadBack
 unfolding milli_of

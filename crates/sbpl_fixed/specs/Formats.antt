@@ -48,14 +48,14 @@ pub data Format (E A : Type 0) : Type 0 where
   wrong : E → Format E A
   done : A → Format E A
 
--- a format, and behind it what its value calls for
+-- a format, and after it what its value calls for
 unfoldable pub behind : {E A B : Type 0} → Format E A → (A → Format E B) → Format E B
 behind (item i more) next = item i (λ place value. behind (more place value) next)
 behind (ended f) next = ended (behind f next)
 behind (wrong e) next = wrong e
 behind (done x) next = next x
 
--- so many formats, one behind another, each from what the ones before it said
+-- a number of formats, one after another, each from what the ones before it said
 unfoldable pub turns : {E S : Type 0} → ℕ → (S → Format E S) → S → Format E S
 turns zero step s = done s
 turns (suc n) step s = behind (step s) (turns n step)
@@ -127,7 +127,7 @@ reads_text tell f text = value_of (reads tell f (start text))
 
 -- ---- what a format means, without reading
 
--- the front of the tokens stands for x, and the rest is left
+-- a prefix of the tokens stands for x, and the rest is left
 unfoldable pub Says : {E A : Type 0} → Format E A → List Piece → A → List Piece → Type 0
 Says (item i more) [] x rest = ⊥
 Says (item i more) (t ∷ ts) x rest = (v : ℤ) × (i t.bytes ≡ Ok v) × Says (more t.place v) ts x rest
@@ -154,7 +154,7 @@ abbrev pub Steps : {X : Type 0} → (X → ℕ) → (X → ℤ) → Result X Tex
 Steps place value (Ok x) left step = step ≡ Ok (record { place = place x; value = value x; left = left })
 Steps place value (Err t) left step = step ≡ Err t
 
--- What was read, seen by view, is what reading gives, and so is the fault, unless it is `spared`, as want of memory.
+-- What was read, seen by view, is what reading gives, and so is the fault, unless it is `spared`, as running out of memory.
 abbrev pub Gives : {X A E : Type 0} → E → (X → A) → Result X E → Left → Result (A × Left) E → Type 0
 Gives spared view (Ok x) left read = read ≡ Ok (view x, left)
 Gives spared view (Err e) left read = e ≢ spared → read ≡ Err e

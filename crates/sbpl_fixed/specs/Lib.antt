@@ -7,3 +7,5 @@ pub mod Printed
 pub mod ReadBack
 pub mod Formats
 pub mod Meaning
+pub mod OwnFaults
+pub mod Parts

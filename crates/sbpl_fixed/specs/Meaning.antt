@@ -45,6 +45,15 @@ IsSaidOrFaultyAlone E A = (tell : TextFault → E) (f : Format E A) (left : Left
 abbrev pub IsFaultyOnce : (E A : Type 0) → Type 0
 IsFaultyOnce E A = (tell : TextFault → E) (f : Format E A) (left : Left) (e d : E) → IsFaulty tell f left.end left.tokens e → IsFaulty tell f left.end left.tokens d → e ≡ d
 
+-- reading is what is said
+pub record ReadingIsWhatIsSaid (E A : Type 0) : Type 0 where
+  pub said : ReadsWhatIsSaid E A
+  pub faulty : ReadsFirstFault E A
+  pub either : IsSaidOrFaulty E A
+  pub not_both : IsSaidOrFaultyAlone E A
+  pub one_value : IsSaidOnce E A
+  pub one_fault : IsFaultyOnce E A
+
 -- ---- items in plain words
 
 -- a word is met by these very bytes

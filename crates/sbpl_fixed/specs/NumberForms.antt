@@ -20,7 +20,7 @@ pub record IsWhole (text : List ℕ) (minus : Bool) (digits : List ℕ) : Type 0
 abbrev pub IsPoint : List ℕ → List ℕ → Type 0
 IsPoint point decimals = (point ≡ 46 ∷ []) ⊎ ((point ≡ []) × (decimals ≡ []))
 
--- a sign or none, then digits with at most one point among, before or behind them, and at least one digit
+-- a sign or none, then digits with at most one point among, before or after them, and at least one digit
 pub record IsDecimal (text : List ℕ) (minus : Bool) (whole decimals : List ℕ) : Type 0 where
   pub sign : List ℕ
   pub point : List ℕ
@@ -48,7 +48,7 @@ DecimalsHaveValues = (text : List ℕ) (minus : Bool) (whole decimals : List ℕ
 abbrev pub NoOthersAreDecimals : Type 0
 NoOthersAreDecimals = (text : List ℕ) → (nano_of text ≡ Err Form) ⊎ ((minus : Bool) × (whole : List ℕ) × (decimals : List ℕ) × IsDecimal text minus whole decimals)
 
--- the first nine decimals are those of the text with zeros behind it
+-- the first nine decimals are those of the text with zeros after it
 abbrev pub MissingDecimalsAreZeros : Type 0
 MissingDecimalsAreZeros = (decimals : List ℕ) → nine_decimals decimals ≡ take 9 (decimals ++ replicate 9 48)
 

@@ -11,7 +11,7 @@ is_digit b = nat_le 48 b && nat_le b 57
 abbrev pub all_digits : List ℕ → Bool
 all_digits bytes = list_all is_digit bytes
 
--- the number that digits write behind those of n
+-- the number that digits write after those of n
 unfoldable pub number_after : ℕ → List ℕ → ℕ
 number_after n [] = n
 number_after n (d ∷ ds) = number_after (n * 10 + (d - 48)) ds
@@ -24,7 +24,7 @@ abbrev pub is_minus : List ℕ → Bool
 is_minus [] = false
 is_minus (b ∷ _) = b == 45
 
--- without a plus or a minus in front
+-- without a leading plus or minus
 abbrev pub without_sign : List ℕ → List ℕ
 without_sign [] = []
 without_sign (b ∷ bs) = if (b == 43) || (b == 45) then bs else b ∷ bs
@@ -54,11 +54,11 @@ is_no_point b = not (b == 46)
 abbrev pub whole_part : List ℕ → List ℕ
 whole_part body = take (prefix_len is_no_point body) body
 
--- what stands behind the first point, or nothing
+-- what stands after the first point, or nothing
 abbrev pub decimals_part : List ℕ → List ℕ
 decimals_part body = drop (prefix_len is_no_point body + 1) body
 
--- digits with at most one point among, before or behind them, and at least one digit
+-- digits with at most one point among, before or after them, and at least one digit
 abbrev pub is_decimal : List ℕ → Bool
 is_decimal body = nat_lt 0 (length (whole_part body) + length (decimals_part body)) && (all_digits (whole_part body) && all_digits (decimals_part body))
 

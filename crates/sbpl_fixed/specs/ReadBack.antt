@@ -28,7 +28,7 @@ NanosAreWords = (value : ℤ) → unsigned_abs value < 2 ^ 64 → IsWord (nano_t
 abbrev pub WholesAreWords : Type 0
 WholesAreWords = (value : ℤ) → unsigned_abs value < 2 ^ 63 → IsWord (signed_decimal value)
 
--- a word and a blank behind it are a token, and the tokens of what follows
+-- a word and a blank after it are a token, and the tokens of what follows
 abbrev pub WordsAreTokens : Type 0
 WordsAreTokens = (word : List ℕ) (blank : ℕ) (rest : List ℕ) (place : ℕ) → IsWord word → is_blank blank ≡ true
     → tokens_past true place (word ++ blank ∷ rest) ≡ record { place = place; bytes = word } ∷ tokens_past true (place + length word + 1) rest

@@ -1,7 +1,7 @@
 -- What a token is, whole: a longest run of bytes that part no words.
 use Rattle.std.specs.Prelude.{◌≡◌, ℕ, ◌+◌, ◌<◌, ◌≤◌, Bool, true, ◌⊎◌, List, [], ◌∷◌, ◌++◌, length}
 use Rattle.std.specs.List.{list_all}
-use Rattle.sbpl_fixed.specs.Tokens.{is_blank, is_filled, Piece}
+use Rattle.sbpl_fixed.specs.Tokens.{is_blank, is_filled, tokens_from, Piece}
 
 -- a blank stands last, or nothing, and then it is as given
 abbrev pub ends_blank : Bool → List ℕ → Bool
@@ -13,8 +13,8 @@ abbrev pub begins_blank : List ℕ → Bool
 begins_blank [] = true
 begins_blank (b ∷ bs) = is_blank b
 
--- A run in a text that stands at a place, with or without a blank in front of it (fresh): filled bytes, with a blank or
--- nothing before them and behind them.
+-- A run in a text that stands at a place, with or without a blank before it (fresh): filled bytes, with a blank or
+-- nothing before them and after them.
 pub record IsRun (fresh : Bool) (place : ℕ) (text : List ℕ) (t : Piece) : Type 0 where
   pub before : List ℕ
   pub behind : List ℕ
@@ -33,7 +33,12 @@ abbrev pub IsOneOf : Piece → List Piece → Type 0
 IsOneOf t [] = ⊥
 IsOneOf t (s ∷ ss) = (t ≡ s) ⊎ IsOneOf t ss
 
--- each stands behind the one before it, and none before low
+-- each stands after the one before it, and none before low
 abbrev pub AreAbove : ℕ → List Piece → Type 0
 AreAbove low [] = Unit {0}
 AreAbove low (t ∷ ts) = (low ≤ t.place) × AreAbove (t.place + 1) ts
+
+-- a token of a text from an offset on stands there or later and within the text, and the tokens from its end on are those that come after it
+abbrev pub TokensGoOn : Type 0
+TokensGoOn = (text : List ℕ) (at : ℕ) (before : List Piece) (t : Piece) (after : List Piece) → at ≤ length text → tokens_from text at ≡ before ++ t ∷ after
+    → (at ≤ t.place) × (0 < length t.bytes) × (t.place + length t.bytes ≤ length text) × (tokens_from text (t.place + length t.bytes) ≡ after)

@@ -13,7 +13,7 @@ pub record Piece : Type 0 where
   pub place : ℕ
   pub bytes : List ℕ
 
--- The tokens that begin in a text that stands at a place. One begins where a filled byte stands first or behind a blank (fresh).
+-- The tokens that begin in a text that stands at a place. One begins where a filled byte stands first or after a blank (fresh).
 unfoldable pub tokens_past : Bool → ℕ → List ℕ → List Piece
 tokens_past fresh place [] = []
 tokens_past fresh place (b ∷ bs) =
@@ -29,7 +29,7 @@ tokens text = tokens_past true 0 text
 abbrev pub is_fresh : List ℕ → ℕ → Bool
 is_fresh text at = (at == 0) || is_blank (slice_index text (at - 1))
 
--- the tokens that begin at the offset or behind it
+-- the tokens that begin at the offset or after it
 abbrev pub tokens_from : List ℕ → ℕ → List Piece
 tokens_from text at = tokens_past (is_fresh text at) at (drop at text)
 

@@ -63,3 +63,23 @@ ThousandthsAreReadBack = (end n : ℕ) → n < 10 ^ 39 → n < end → milli_of 
 
 abbrev pub ThousandthsAreWords : Type 0
 ThousandthsAreWords = (n : ℕ) → n < 10 ^ 39 → IsWord (milli_text n)
+
+-- what is printed is digits, and writes the number
+abbrev pub DecimalsAreDigits : Type 0
+DecimalsAreDigits = (n : ℕ) → n < 10 ^ 39 → IsDigits (decimal n) × (number_of (decimal n) ≡ n)
+
+abbrev pub ThousandthsAreMillis : Type 0
+ThousandthsAreMillis = (n : ℕ) → n < 10 ^ 39 → (whole : List ℕ) × (decimals : List ℕ) × IsMilli (milli_text n) whole decimals × (number_of whole * 1000 + number_of decimals ≡ n)
+
+-- what is read as a number without a sign, and what is printed as one
+pub record NumbersAreTheirDigits : Type 0 where
+  pub digits : DigitsHaveValues
+  pub other_digits : NoOthersAreDigits
+  pub millis : MillisHaveValues
+  pub other_millis : NoOthersAreMillis
+  pub printed_digits : DecimalsAreDigits
+  pub digits_back : DecimalsAreReadBack
+  pub digit_words : DecimalsAreWords
+  pub printed_millis : ThousandthsAreMillis
+  pub millis_back : ThousandthsAreReadBack
+  pub milli_words : ThousandthsAreWords

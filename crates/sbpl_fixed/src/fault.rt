@@ -30,7 +30,7 @@ pub enum TextFault {
     /// The text ended where a token must stand.
     #[error("the text ended at {0}")]
     Ended(usize),
-    /// A token stands behind the last one.
+    /// A token stands after the last one.
     #[error("more text at {0}")]
     Trailing(usize),
 }

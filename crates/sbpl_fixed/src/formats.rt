@@ -1,17 +1,12 @@
 //! What holds of every format, whatever its text.
 
-ghost use Rattle.sbpl_fixed.specs.Meaning.{ReadsWhatIsSaid, ReadsFirstFault, IsSaidOrFaulty, IsSaidOnce, IsSaidOrFaultyAlone, IsFaultyOnce, WordsAreMet, WordsAreMissed, NumbersAreMet, NumbersWithoutForm, NumbersOutOfRange};
+ghost use Rattle.sbpl_fixed.specs.Meaning.{ReadingIsWhatIsSaid, WordsAreMet, WordsAreMissed, NumbersAreMet, NumbersWithoutForm, NumbersOutOfRange};
 
 /// A format of values `A` with faults `E` is read from left to right, with the first fault that is met. What is read so
 /// is just what the format says of the tokens, and the fault that is answered is just the one at the first place where
 /// the text fails. Each text is said to be a value or has a fault, never both, and never two of either.
 pub fn reading_is_what_is_said<E, A>()
-    ensures said { ReadsWhatIsSaid E A }
-    ensures faulty { ReadsFirstFault E A }
-    ensures either { IsSaidOrFaulty E A }
-    ensures not_both { IsSaidOrFaultyAlone E A }
-    ensures one_value { IsSaidOnce E A }
-    ensures one_fault { IsFaultyOnce E A }
+    ensures law { ReadingIsWhatIsSaid E A }
 {}
 
 /// Which tokens meet an item: a fixed word its own bytes, and a number those that read as one in the range. A token

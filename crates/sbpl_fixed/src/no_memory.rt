@@ -1,4 +1,4 @@
-//! Want of memory, the one answer that nothing is tied to.
+//! Out of memory, the one answer that nothing is tied to.
 
 use std::alloc::{AllocError, AllocFailed};
 use thiserror::Error;

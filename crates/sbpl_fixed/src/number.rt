@@ -135,7 +135,7 @@ pub(crate) fn parts(body: &[u8]) -> (&[u8], &[u8])
 }
 
 /// Reads a decimal, in billionths: a plus, a minus or no sign, then digits with at most one point among, before or
-/// behind them, and at least one digit. Digits behind the ninth decimal are dropped, so that it is cut toward zero (this
+/// after them, and at least one digit. Digits after the ninth decimal are dropped, so that it is cut toward zero (this
 /// project's profile).
 /// `Form` where the text is no decimal, `Size` where it is one and its absolute value in billionths is above `10^18`.
 #[tactic(auto, using(crate::proofs::Digits::sized_nano_capped), unfolding(crate::specs::Numbers::nano_of))]

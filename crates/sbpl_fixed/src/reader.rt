@@ -50,7 +50,7 @@ fn ranged(
 }
 
 impl<'a> Reader<'a> {
-    /// Starts at the front of a text.
+    /// Starts at the beginning of a text.
     pub fn new(text: &'a [u8]) -> Reader<'a>
         ensures start { result ≡ start text.now }
     {

@@ -2,15 +2,15 @@
 
 ghost use Rattle.std.specs.Prelude.{ℕ, List, ◌≡◌, ◌+◌, ◌<◌, ◌≤◌, [], ◌∷◌, true, length, drop, MatchOption, IfSome};
 ghost use Rattle.std.specs.List.{prefix_len, AllByRecursion};
-ghost use Rattle.sbpl_fixed.specs.Runs.{IsLongestRun, IsOneOf, AreAbove};
+ghost use Rattle.sbpl_fixed.specs.Runs.{IsLongestRun, IsOneOf, AreAbove, TokensGoOn};
 ghost use Rattle.sbpl_fixed.specs.Tokens.{tokens, Piece, is_blank, is_filled, is_fresh, token_at, tokens_from, tokens_past};
 
-/// Where a token stands in a text: the offset of its first byte, and the offset behind its last.
+/// Where a token stands in a text: the offset of its first byte, and the offset after its last.
 #[derive(Clone, Copy, Debug, PartialEq, Eq)]
 pub struct Token {
     /// The offset of the first byte, the token's place.
     pub from: usize,
-    /// The offset behind the last byte.
+    /// The offset after the last byte.
     pub to: usize,
 }
 
@@ -43,7 +43,7 @@ fn is_fresh(text: &[u8], at: usize) -> bool
     at == 0 || is_blank(text[at - 1])
 }
 
-/// Where the search for a token begins: behind the token that `at` is amid, if it is.
+/// Where the search for a token begins: after the token that `at` is amid, if it is.
 fn search_start(text: &[u8], at: usize) -> usize
     requires inside { at ≤ length text.now }
     ensures inside { result ≤ length text.now }
@@ -57,7 +57,7 @@ fn search_start(text: &[u8], at: usize) -> usize
     }
 }
 
-/// The first token that begins at or behind the offset `at`, or `None` where there is none.
+/// The first token that begins at or after the offset `at`, or `None` where there is none.
 pub fn next_token(text: &[u8], at: usize) -> Option<Token>
     requires inside { at ≤ length text.now }
     ensures inside { IfSome result (λ t. (at ≤ t.from) × (t.from < t.to) × (t.to ≤ length text.now)) }
@@ -73,9 +73,11 @@ pub fn next_token(text: &[u8], at: usize) -> Option<Token>
     Some(Token { from, to })
 }
 
-/// The tokens of a text are its longest runs of bytes between blanks, each once, in the order in which they stand.
+/// The tokens of a text are its longest runs of bytes between blanks, each once, in the order in which they stand. The
+/// tokens from a token's end on are those that come after it.
 pub fn tokens_are_longest_runs()
     ensures each { (text : List ℕ) → AllByRecursion (IsLongestRun text) (tokens text) }
     ensures all { (text : List ℕ) (t : Piece) → IsLongestRun text t → IsOneOf t (tokens text) }
     ensures order { (text : List ℕ) → AreAbove 0 (tokens text) }
+    ensures on { TokensGoOn }
 {}

@@ -2,7 +2,7 @@
 
 ghost use Rattle.std.specs.Prelude.{◌≡◌, ◌^◌, ◌<◌, ◌≤◌, true, min, IfOk};
 ghost use Rattle.sbpl_fixed.specs.Numbers.{all_digits, number_of};
-ghost use Rattle.sbpl_fixed.specs.Unsigned.{DecimalsAreReadBack, DecimalsAreWords, DigitsHaveValues, MillisHaveValues, NoOthersAreDigits, NoOthersAreMillis, ThousandthsAreReadBack, ThousandthsAreWords, digits_of, milli_of};
+ghost use Rattle.sbpl_fixed.specs.Unsigned.{NumbersAreTheirDigits, digits_of, milli_of};
 
 use crate::fault::NumFault;
 use crate::number::{all_digits, parts};
@@ -59,12 +59,5 @@ pub fn read_milli(text: &[u8], end: u128) -> Result<u128, NumFault>
 /// What is read as a number without a sign: each text of the form asked for, as the value of its digits, and no other text.
 /// What is printed as such a number is one token, and is read back as the same value.
 pub fn unsigned_numbers_are_their_digits()
-    ensures digits { DigitsHaveValues }
-    ensures other_digits { NoOthersAreDigits }
-    ensures millis { MillisHaveValues }
-    ensures other_millis { NoOthersAreMillis }
-    ensures digits_back { DecimalsAreReadBack }
-    ensures digit_words { DecimalsAreWords }
-    ensures millis_back { ThousandthsAreReadBack }
-    ensures milli_words { ThousandthsAreWords }
+    ensures law { NumbersAreTheirDigits }
 {}

@@ -25,7 +25,7 @@ inside_it : (low high p : ℤ) → low ≤ℤ p → p ≤ℤ high → distance_t
 inside_it low high p from to =
     cond-false (int_lt p low) _ _ (is_not_less p low from) ∙ cond-false (int_lt high p) _ _ (is_not_less high p to)
 
--- a point at the end of an interval or behind it
+-- a point at the end of an interval or after it
 behind_it : (low high p : ℤ) (d : ℕ) → low ≤ℤ high → p ≡ high +ℤ pos d → distance_to low high p ≡ d
 behind_it low high p zero h e = inside_it low high p (omega (arith, ints)) (omega (arith, ints))
 behind_it low high p (suc d) h e =

@@ -13,7 +13,7 @@ use Rattle.sbpl_sweep.specs.Gathered.{IsListed, AreInOrder, AreCovered, GoesOn, 
 use Rattle.sbpl_sweep.specs.declared.stop.Stop.{Stop}
 use Rattle.sbpl_sweep.specs.declared.stop.Stop.TheVariants.{TooMany, NoMemory}
 use Rattle.sbpl_sweep.proofs.Distances.{below_or_not, below_or_equal}
-use Rattle.sbpl_sweep.proofs.Lists.{before_push, at_push, made_at, made_from, there_is}
+use Rattle.sbpl_sweep.proofs.Lists.{before_push, at_push, from_push, made_at, made_from, there_is}
 
 -- ---- the order of cells
 
@@ -49,29 +49,19 @@ pub listed_last : (old new : List Cell) (x y : ℤ) → new ≡ old ++ (record {
 listed_last old new x y added = record { number = length old; stands = ap (λ z. slice_get z (length old)) added ∙ at_push old (record { y = y; x = x }) (length old) refl }
 
 pub listed_from : (old new : List Cell) (c : Cell) (x y : ℤ) → new ≡ old ++ c ∷ [] → IsListed new x y → IsListed old x y ⊎ (c ≡ record { y = y; x = x })
-listed_from old new c x y added l =
-    let there = ap (λ z. slice_get z l.number) (sym added) ∙ l.stands in
-    let within = slice_get_within (old ++ c ∷ []) l.number (record { y = y; x = x }) there in
-    elim (cases_lt l.number (length old)) [
-      | inl before ↦ inl (record { number = l.number; stands = sym (before_push old c l.number before) ∙ there })
-      | inr after ↦
-          let last : l.number ≡ length old = omega (arith, length_push old c) in
-          inr (same_Some c (record { y = y; x = x }) (sym (at_push old c l.number last) ∙ there))
-    ]
+listed_from old new c x y added l = elim (from_push old c l.number (record { y = y; x = x }) (ap (λ z. slice_get z l.number) (sym added) ∙ l.stands)) [
+  | inl stands ↦ inl (record { number = l.number; stands = stands })
+  | inr last ↦ inr last.1
+]
 
 pub in_order_push : (old new : List Cell) (c : Cell) → new ≡ old ++ c ∷ [] → AreInOrder old → ((x y : ℤ) → IsListed old x y → IsBefore (record { y = y; x = x }) c) → AreInOrder new
-in_order_push old new c added ordered behind = λ i a b at_i at_j.
-    let there = ap (λ z. slice_get z i) (sym added) ∙ at_i in
+in_order_push old new c added ordered before = λ i a b at_i at_j.
     let next = ap (λ z. slice_get z (i + 1)) (sym added) ∙ at_j in
     let within = slice_get_within (old ++ c ∷ []) (i + 1) b next in
-    let first : i < length old = omega (arith, length_push old c) in
-    let at_a = sym (before_push old c i first) ∙ there in
-    elim (cases_lt (i + 1) (length old)) [
-      | inl before ↦ ordered i a b at_a (sym (before_push old c (i + 1) before) ∙ next)
-      | inr after ↦
-          let last : i + 1 ≡ length old = omega arith in
-          let same = same_Some c b (sym (at_push old c (i + 1) last) ∙ next) in
-          subst (λ z. IsBefore a z) same (behind a.x a.y (record { number = i; stands = at_a }))
+    let at_a = sym (before_push old c i (omega (arith, length_push old c))) ∙ ap (λ z. slice_get z i) (sym added) ∙ at_i in
+    elim (from_push old c (i + 1) b next) [
+      | inl stands ↦ ordered i a b at_a stands
+      | inr last ↦ subst (λ z. IsBefore a z) last.1 (before a.x a.y (record { number = i; stands = at_a }))
     ]
 
 -- ---- where a band goes on

@@ -1,9 +1,10 @@
 -- The cells that judging motions reads, motion by motion.
 use Rattle.std.proofs.Common.{◌≡◌, ℕ, zero, suc, ℤ, pos, ◌+◌, ◌-◌, ◌<◌, inl, inr, ◌⊎◌, List, [], ◌∷◌, ◌++◌, length, take, map, slice_get, sum_by, Some, refl, ap, sym, ◌∙◌, arith, subst}
 use Rattle.std.proofs.lemmas.Bool.{cases_lt}
+use Rattle.std.proofs.lemmas.Grind.{common_steps}
 use Rattle.std.proofs.lemmas.List.{length-append, length-map}
 use Rattle.std.proofs.lemmas.List.Sums.{sum_by_push}
-use Rattle.std.proofs.lemmas.Option.{slice_get_within, same_Some, slice_get-get_or}
+use Rattle.std.proofs.lemmas.Option.{gets, slice_get_within, same_Some, slice_get-get_or}
 use Rattle.std.proofs.Math.ListN.{get_or}
 use Rattle.sbpl_cfg.specs.declared.pose.Pose.{Pose}
 use Rattle.sbpl_mprim.specs.declared.prim.Primitive.{Primitive}
@@ -12,14 +13,14 @@ use Rattle.sbpl_sweep.specs.declared.cell.Cell.{Cell}
 use Rattle.sbpl_sweep.specs.declared.reads.Read.{Read}
 use Rattle.sbpl_sweep.specs.Gathered.{AreInOrder}
 use Rattle.sbpl_sweep.specs.Widths.{cell_count}
-use Rattle.sbpl_sweep.specs.Sweep.{IsCentre}
+use Rattle.sbpl_sweep.specs.Sweep.{EndsAreCentres}
 use Rattle.sbpl_sweep.specs.Centres.{AreSwept}
 use Rattle.sbpl_sweep.specs.Tables.{HaveSwept}
 use Rattle.sbpl_sweep.specs.Reads.{IsRead, HaveReads}
 use Rattle.sbpl_sweep.specs.Reads.IsRead.{at_source, at_target, at_centre, at_swept}
 use Rattle.sbpl_sweep.specs.ReadTables.{IsAmong, source_cell, read_by, IsReadOf, AddsSource, AreReadCells, AddsReads, AreReadsOf}
 use Rattle.sbpl_sweep.proofs.Listings.{later, not_before_itself}
-use Rattle.sbpl_sweep.proofs.Lists.{made_at, made_from, there_is, take_next, in_front, behind_front, from_either}
+use Rattle.sbpl_sweep.proofs.Lists.{made_at, made_from, there_is, in_first, in_second, from_either}
 
 -- ---- the cells of one motion
 
@@ -87,7 +88,7 @@ reads_added prim cells old mid new ordered (inr (pushed, away)) added = record {
 -- ---- motion by motion
 
 module _ (table : List (List Cell)) (n : ℕ) (old new : List Read) (cells : List Cell) (at : slice_get table n ≡ Some cells) (so_far : AreReadsOf table n old) (adds : AddsReads n cells old new) where
-  -- a read stands in the front or is one of the last motion's
+  -- a read was there before or is one of the last motion's
   where_read : (j : ℕ) (r : Read) → slice_get new j ≡ Some r → (slice_get old j ≡ Some r) ⊎ ((i : ℕ) × (j ≡ length old + i) × ((c : Cell) × (slice_get adds.cells i ≡ Some c) × (read_by n c ≡ r)))
   where_read j r there =
       elim (from_either old (map (read_by n) adds.cells) j r (ap (λ l. slice_get l j) (sym adds.added) ∙ there)) [
@@ -96,12 +97,12 @@ module _ (table : List (List Cell)) (n : ℕ) (old new : List Read) (cells : Lis
       ]
 
   read_kept : (j : ℕ) (r : Read) → slice_get old j ≡ Some r → slice_get new j ≡ Some r
-  read_kept j r there = ap (λ l. slice_get l j) adds.added ∙ in_front old (map (read_by n) adds.cells) j (slice_get_within old j r there) ∙ there
+  read_kept j r there = ap (λ l. slice_get l j) adds.added ∙ in_first old (map (read_by n) adds.cells) j (slice_get_within old j r there) ∙ there
 
   read_last : (c : Cell) → IsAmong adds.cells c → (j : ℕ) × (slice_get new j ≡ Some (read_by n c))
   read_last c (i, there) = (
     length old + i,
-    ap (λ l. slice_get l (length old + i)) adds.added ∙ behind_front old (map (read_by n) adds.cells) i (length old + i) refl ∙ made_at (read_by n) adds.cells i c there,
+    ap (λ l. slice_get l (length old + i)) adds.added ∙ in_second old (map (read_by n) adds.cells) i (length old + i) refl ∙ made_at (read_by n) adds.cells i c there,
   )
 
   each_more : (j : ℕ) (r : Read) → slice_get new j ≡ Some r → (r.prim < n + 1) × ((swept : List Cell) → slice_get table r.prim ≡ Some swept → IsReadOf swept r.cell)
@@ -157,14 +158,15 @@ module _ (table : List (List Cell)) (n : ℕ) (old new : List Read) (cells : Lis
     few =
         let count = ap length adds.added ∙ length-append old (map (read_by n) adds.cells) in
         let same = length-map adds.cells (read_by n) in
-        let sum = ap (sum_by cell_count) (take_next table n cells at) ∙ sum_by_push cell_count (take n table) cells in
+        let next : take (n + 1) table ≡ take n table ++ cells ∷ [] = grind (arith, common_steps, gets) in
+        let sum = ap (sum_by cell_count) next ∙ sum_by_push cell_count (take n table) cells in
         omega (arith, count, same, sum, so_far.few, adds.are.few);
   }
 
 -- ---- the reads of primitives
 
 -- the end cell is a centre cell, since the last pose lies there
-pub end_is_centre : (cell : ℤ) (headings : ℕ) (p : Primitive) → IsPrimitive cell headings p → IsCentre cell p.poses p.dx p.dy
+pub end_is_centre : EndsAreCentres
 end_is_centre cell headings p good =
     let last : ℕ = length p.poses - 1 in
     let some = good.some_pose in

@@ -2,8 +2,7 @@
 use Rattle.std.proofs.Common.{◌≡◌, ℕ, ℤ, pos, ◌+◌, ◌*◌, ◌<◌, ◌≤◌, ◌+ℤ◌, inl, inr, ◌⊎◌, List, [], ◌∷◌, ◌++◌, length, slice_get, refl, ap, sym, ◌∙◌, arith, subst, Bool, true, false}
 use Rattle.std.proofs.lemmas.Bool.{cases_lt}
 use Rattle.std.proofs.lemmas.Int.{ints}
-use Rattle.std.proofs.lemmas.List.{length_push}
-use Rattle.std.proofs.lemmas.Option.{slice_get_within, same_Some}
+use Rattle.std.proofs.lemmas.Option.{slice_get_within}
 use Rattle.sbpl_cfg.specs.declared.pose.Pose.{Pose}
 use Rattle.sbpl_sweep.specs.declared.band.Band.{Band}
 use Rattle.sbpl_sweep.specs.declared.disc.Disc.{Disc}
@@ -11,7 +10,7 @@ use Rattle.sbpl_sweep.specs.Sweep.{distance_to_cell}
 use Rattle.sbpl_sweep.specs.Reach.{squared_step, IsReach}
 use Rattle.sbpl_sweep.specs.Bands.{IsIn, IsCovered, IsNear, IsDisc, row_beside, gap_beside, AddsRows}
 use Rattle.sbpl_sweep.proofs.Distances.{beside, distance_own, distance_behind, distance_before}
-use Rattle.sbpl_sweep.proofs.Lists.{before_push, at_push}
+use Rattle.sbpl_sweep.proofs.Lists.{before_push, at_push, from_push}
 use Rattle.sbpl_sweep.proofs.Steps.{square_le}
 
 -- ---- one more band
@@ -28,16 +27,10 @@ pub covered_last : (old new : List Band) (b : Band) (x y : ℤ) → new ≡ old 
 covered_last old new b x y added inside = record { number = length old; band = b; stands = ap (λ l. slice_get l (length old)) added ∙ at_push old b (length old) refl; inside = inside }
 
 pub covered_from : (old new : List Band) (b : Band) (x y : ℤ) → new ≡ old ++ b ∷ [] → IsCovered new x y → IsCovered old x y ⊎ IsIn b x y
-covered_from old new b x y added c =
-    let there = ap (λ l. slice_get l c.number) (sym added) ∙ c.stands in
-    let within = slice_get_within (old ++ b ∷ []) c.number c.band there in
-    elim (cases_lt c.number (length old)) [
-      | inl before ↦ inl (record { number = c.number; band = c.band; stands = sym (before_push old b c.number before) ∙ there; inside = c.inside })
-      | inr after ↦
-          let last : c.number ≡ length old = omega (arith, length_push old b) in
-          let same = same_Some b c.band (sym (at_push old b c.number last) ∙ there) in
-          inr (subst (λ z. IsIn z x y) (sym same) c.inside)
-    ]
+covered_from old new b x y added c = elim (from_push old b c.number c.band (ap (λ l. slice_get l c.number) (sym added) ∙ c.stands)) [
+  | inl stands ↦ inl (record { number = c.number; band = c.band; stands = stands; inside = c.inside })
+  | inr last ↦ inr (subst (λ z. IsIn z x y) (sym last.1) c.inside)
+]
 
 -- ---- one row
 

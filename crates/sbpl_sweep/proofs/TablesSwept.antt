@@ -3,7 +3,7 @@ use Rattle.std.proofs.Common.{◌≡◌, ℕ, ℤ, ◌+◌, ◌<◌, ◌≤◌, 
 use Rattle.std.proofs.lemmas.Bool.{cases_lt}
 use Rattle.std.proofs.lemmas.List.{length_push, length-take-le}
 use Rattle.std.proofs.lemmas.List.Sums.{sum_by_push}
-use Rattle.std.proofs.lemmas.Option.{slice_get_within, same_Some}
+use Rattle.std.proofs.lemmas.Option.{slice_get_within}
 use Rattle.sbpl_cfg.specs.declared.pose.Pose.{Pose}
 use Rattle.sbpl_mprim.specs.declared.prim.Primitive.{Primitive}
 use Rattle.sbpl_mprim.specs.Primitives.{Primitives}
@@ -14,7 +14,7 @@ use Rattle.sbpl_sweep.specs.Tables.{HaveSwept}
 use Rattle.sbpl_sweep.specs.Widths.{AreSomeSwept, cell_count, most_cells_together, IsTooWide, IsFirstTooWide, NoneTooWide, IsCause}
 use Rattle.sbpl_sweep.specs.Sweeping.{AreFewSwept, AreFewSweptAt, IsOwnCause}
 use Rattle.sbpl_sweep.proofs.Counts.{no_more, together_no_more}
-use Rattle.sbpl_sweep.proofs.Lists.{before_push, at_push, there_is, taken_at}
+use Rattle.sbpl_sweep.proofs.Lists.{from_push, there_is, taken_at}
 
 -- the first primitives have their swept cells, and none of them is too wide
 pub record IsTabled (prims : Primitives) (radius i : ℕ) (table : List (List Cell)) (total : ℕ) : Type 0 where
@@ -31,18 +31,12 @@ some_no_more cell radius poses some all are_some are_all =
 
 pub added_each : (prims : Primitives) (radius i : ℕ) (table new : List (List Cell)) (total : ℕ) (cells : List Cell) → new ≡ table ++ cells ∷ [] → IsTabled prims radius i table total → AreFewSweptAt prims radius i cells
     → (k : ℕ) (p : Primitive) (list : List Cell) → slice_get prims.items k ≡ Some p → slice_get new k ≡ Some list → AreFewSwept prims.cell radius p.poses list
-added_each prims radius i table new total cells added tabled few k p list at there =
-    let here = ap (λ l. slice_get l k) (sym added) ∙ there in
-    let within = slice_get_within (table ++ cells ∷ []) k list here in
-    let count = tabled.count in
-    elim (cases_lt k (length table)) [
-      | inl before ↦ tabled.each k p list at (sym (before_push table cells k before) ∙ here)
-      | inr after ↦
-          let last : k ≡ length table = omega (arith, within, length_push table cells) in
-          let same = same_Some cells list (sym (at_push table cells k last) ∙ here) in
-          let place : k ≡ i = last ∙ count in
-          subst (λ z. AreFewSwept prims.cell radius p.poses z) same (few p (ap (slice_get prims.items) (sym place) ∙ at))
-    ]
+added_each prims radius i table new total cells added tabled few k p list at there = elim (from_push table cells k list (ap (λ l. slice_get l k) (sym added) ∙ there)) [
+  | inl before ↦ tabled.each k p list at before
+  | inr last ↦
+      let place : k ≡ i = last.0 ∙ tabled.count in
+      subst (λ z. AreFewSwept prims.cell radius p.poses z) last.1 (few p (ap (slice_get prims.items) (sym place) ∙ at))
+]
 
 -- the lists of the first primitives and of the next one
 pub sum_too_wide : (prims : Primitives) (radius i : ℕ) (table : List (List Cell)) (total : ℕ) (cells : List Cell) → i < length prims.items → IsTabled prims radius i table total → AreFewSweptAt prims radius i cells

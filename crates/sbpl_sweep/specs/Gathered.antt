@@ -37,7 +37,7 @@ abbrev pub IsStopOf : List Band → Stop → Type 0
 IsStopOf bands TooMany = CoverTooMany bands
 IsStopOf bands NoMemory = Unit {0}
 
--- a band goes on where cells that are in order end: no cell comes behind it, and where a cell of its row does, the
+-- a band goes on where cells that are in order end: no cell comes after it, and where a cell of its row does, the
 -- band's cells before that one are among them
 pub record GoesOn (cells : List Cell) (b : Band) : Type 0 where
   pub rows : (x y : ℤ) → IsListed cells x y → y ≤ℤ b.y

@@ -7,7 +7,7 @@ use Rattle.sbpl_sweep.specs.declared.reach.Axis.{Axis}
 abbrev pub squared_step : ℕ → ℕ → ℕ → ℕ
 squared_step gap side n = (gap + side * n) * (gap + side * n)
 
--- so many cells beside the own one begin nearer than the root of a number
+-- this many cells beside the own one begin nearer than the root of a number
 pub record IsReach (gap side most count : ℕ) : Type 0 where
   pub reached : (n : ℕ) → n < count → squared_step gap side n < most
   pub beyond : (n : ℕ) → count ≤ n → most ≤ squared_step gap side n

@@ -12,7 +12,7 @@ pub data IsRead (cell : ℤ) (radius : ℕ) (p : Primitive) (x y : ℤ) : Type 0
   at_centre : IsCentre cell p.poses x y → IsRead cell radius p x y
   at_swept : IsSwept cell radius p.poses x y → IsRead cell radius p x y
 
--- the list holds each pair of a primitive's place in the file and a cell that judging it reads, each once, and no others
+-- the list holds each pair of a primitive's index in the file and a cell that judging it reads, each once, and no others
 pub record HaveReads (prims : Primitives) (radius : ℕ) (reads : List Read) : Type 0 where
   pub each : (j : ℕ) (r : Read) → slice_get reads j ≡ Some r → (p : Primitive) × (slice_get prims.items r.prim ≡ Some p) × IsRead prims.cell radius p r.cell.x r.cell.y
   pub all : (i : ℕ) (p : Primitive) (x y : ℤ) → slice_get prims.items i ≡ Some p → IsRead prims.cell radius p x y

@@ -2,7 +2,8 @@
 use Rattle.std.specs.Prelude.{◌≡◌, ℕ, ℤ, pos, ◌+◌, ◌*◌, ◌<◌, ◌+ℤ◌, ◌-ℤ◌, ◌*ℤ◌, ◌⊎◌, List, slice_get, Some, int_lt, if◌then◌else◌}
 use Rattle.std.specs.Int.RustNames.{unsigned_abs}
 use Rattle.sbpl_cfg.specs.declared.pose.Pose.{Pose}
-use Rattle.sbpl_mprim.specs.Primitives.{offset_cell}
+use Rattle.sbpl_mprim.specs.declared.prim.Primitive.{Primitive}
+use Rattle.sbpl_mprim.specs.Primitives.{offset_cell, IsPrimitive}
 
 -- some pose lies in cell (x, y)
 pub record IsCentre (cell : ℤ) (poses : List Pose) (x y : ℤ) : Type 0 where
@@ -20,16 +21,20 @@ distance_to low high p = if int_lt p low then unsigned_abs (low -ℤ p) else (if
 abbrev pub distance_to_cell : ℤ → ℤ → ℤ → ℕ
 distance_to_cell cell offset x = distance_to (pos 2 *ℤ cell *ℤ x) (pos 2 *ℤ cell *ℤ (x +ℤ pos 1)) (cell +ℤ pos 2 *ℤ offset)
 
--- some pose is nearer to the closed square of cell (x, y) than a radius in nanometres
-pub record IsTouched (cell : ℤ) (radius : ℕ) (poses : List Pose) (x y : ℤ) : Type 0 where
+-- cell (x, y) is a cell of the disc around some pose: the pose is nearer to its closed square than a radius in nanometres
+pub record IsUnderDisc (cell : ℤ) (radius : ℕ) (poses : List Pose) (x y : ℤ) : Type 0 where
   pub number : ℕ
   pub pose : Pose
   pub stands : slice_get poses number ≡ Some pose
   pub near : distance_to_cell cell pose.x x * distance_to_cell cell pose.x x + distance_to_cell cell pose.y y * distance_to_cell cell pose.y y < 2 * radius * (2 * radius)
 
--- a motion sweeps its centre cells, and the cells that a disc of this radius around a pose touches from within
+-- a motion sweeps its centre cells, and the cells of the discs of this radius around its poses
 abbrev pub IsSwept : ℤ → ℕ → List Pose → ℤ → ℤ → Type 0
-IsSwept cell radius poses x y = IsCentre cell poses x y ⊎ IsTouched cell radius poses x y
+IsSwept cell radius poses x y = IsCentre cell poses x y ⊎ IsUnderDisc cell radius poses x y
+
+-- a primitive's end cell is one of its centre cells
+abbrev pub EndsAreCentres : Type 0
+EndsAreCentres = (cell : ℤ) (headings : ℕ) (p : Primitive) → IsPrimitive cell headings p → IsCentre cell p.poses p.dx p.dy
 
 -- a point sweeps its centre cells alone
 abbrev pub PointSweepsCentres : Type 0

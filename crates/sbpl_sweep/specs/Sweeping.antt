@@ -22,11 +22,11 @@ abbrev pub IsSweepStop : ℤ → ℕ → List Pose → Stop → Type 0
 IsSweepStop cell radius poses TooMany = SweepsMoreThan cell radius poses most_cells
 IsSweepStop cell radius poses StopNoMemory = Unit {0}
 
--- the cells that the primitive at a place of the file sweeps
+-- the cells that the primitive at an index of the file sweeps
 abbrev pub AreFewSweptAt : Primitives → ℕ → ℕ → List Cell → Type 0
 AreFewSweptAt prims radius i cells = (p : Primitive) → slice_get prims.items i ≡ Some p → AreFewSwept prims.cell radius p.poses cells
 
--- why the cells of the primitive at a place of the file are not listed
+-- why the cells of the primitive at an index of the file are not listed
 abbrev pub IsOwnCause : Primitives → ℕ → ℕ → SweepFault → Type 0
 IsOwnCause prims radius i (TooWide j) = (j ≡ i) × IsTooWideItself prims radius i
 IsOwnCause prims radius i NoMemory = Unit {0}

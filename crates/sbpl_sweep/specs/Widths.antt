@@ -14,7 +14,7 @@ pub record AreSomeSwept (cell : ℤ) (radius : ℕ) (poses : List Pose) (cells :
   pub each : (i : ℕ) (c : Cell) → slice_get cells i ≡ Some c → IsSwept cell radius poses c.x c.y
   pub ordered : (i : ℕ) (a b : Cell) → slice_get cells i ≡ Some a → slice_get cells (i + 1) ≡ Some b → IsBefore a b
 
--- a motion sweeps more than so many cells
+-- a motion sweeps more cells than a limit
 abbrev pub SweepsMoreThan : ℤ → ℕ → List Pose → ℕ → Type 0
 SweepsMoreThan cell radius poses n = (cells : List Cell) × AreSomeSwept cell radius poses cells × (n < length cells)
 
@@ -26,7 +26,7 @@ pub record AreSomeSweptByEach (cell : ℤ) (radius : ℕ) (motions : List Primit
 abbrev pub cell_count : List Cell → ℕ
 cell_count cells = length cells
 
--- some motions together sweep more than so many cells, where a cell counts for each motion that sweeps it
+-- some motions together sweep more cells than a limit, where a cell counts for each motion that sweeps it
 abbrev pub SweepTogetherMoreThan : ℤ → ℕ → List Primitive → ℕ → Type 0
 SweepTogetherMoreThan cell radius motions n = (lists : List (List Cell)) × AreSomeSweptByEach cell radius motions lists × (n < sum_by cell_count lists)
 
@@ -37,11 +37,11 @@ most_cells = 65536
 abbrev pub most_cells_together : ℕ
 most_cells_together = 2 ^ 22
 
--- the primitive at place i sweeps too many cells by itself
+-- the primitive at index i sweeps too many cells by itself
 abbrev pub IsTooWideItself : Primitives → ℕ → ℕ → Type 0
 IsTooWideItself prims radius i = (p : Primitive) × (slice_get prims.items i ≡ Some p) × SweepsMoreThan prims.cell radius p.poses most_cells
 
--- the primitive at place i sweeps too many cells by itself or together with those before it
+-- the primitive at index i sweeps too many cells by itself or together with those before it
 abbrev pub IsTooWide : Primitives → ℕ → ℕ → Type 0
 IsTooWide prims radius i = IsTooWideItself prims radius i ⊎ ((i < length prims.items) × SweepTogetherMoreThan prims.cell radius (take (i + 1) prims.items) most_cells_together)
 
@@ -52,7 +52,7 @@ pub record IsFirstTooWide (prims : Primitives) (radius i : ℕ) : Type 0 where
 abbrev pub NoneTooWide : Primitives → ℕ → Type 0
 NoneTooWide prims radius = (i : ℕ) → IsTooWide prims radius i → ⊥
 
--- why sweeps are not made: the first primitive that is too wide, or want of memory
+-- why sweeps are not made: the first primitive that is too wide, or out of memory
 abbrev pub IsCause : Primitives → ℕ → SweepFault → Type 0
 IsCause prims radius (TooWide i) = IsFirstTooWide prims radius i
 IsCause prims radius NoMemory = Unit {0}

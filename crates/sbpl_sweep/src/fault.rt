@@ -6,7 +6,7 @@ use thiserror::Error;
 /// Why sweeps can't be made.
 #[derive(Clone, Copy, Debug, PartialEq, Eq, Error)]
 pub enum SweepFault {
-    /// The first primitive, by its place in the file, that sweeps more than 65,536 cells or with which the sum of swept
+    /// The first primitive, by its index in the file, that sweeps more than 65,536 cells or with which the sum of swept
     /// cells passes 2^22.
     #[error("primitive {0} is too wide")]
     TooWide(u32),

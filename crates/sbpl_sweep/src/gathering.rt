@@ -19,7 +19,7 @@ fn is_behind_start(cell: &Cell, band: &Band) -> bool
     cell.y == band.y && cell.x >= band.first
 }
 
-/// The first column of a band behind the cells that are listed.
+/// The first column of a band after the cells that are listed.
 fn next_column(cells: &[Cell], band: &Band) -> i64
     requires ordered { AreInOrder cells.now }
     requires goes_on { GoesOn cells.now band.now }

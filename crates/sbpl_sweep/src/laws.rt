@@ -1,7 +1,12 @@
 //! What holds of every sweep.
 
-ghost use Rattle.sbpl_sweep.specs.Sweep.{PointSweepsCentres};
+ghost use Rattle.sbpl_sweep.specs.Sweep.{EndsAreCentres, PointSweepsCentres};
 ghost use Rattle.sbpl_sweep.specs.Widths.{FewPosesAreNarrow, PointsSweepFewCells};
+
+/// The end cell of a primitive is one of its centre cells, since its last pose lies there. It does nothing.
+pub fn ends_are_centres()
+    ensures law { EndsAreCentres }
+{}
 
 /// A robot of radius 0 sweeps its centre cells alone. It does nothing.
 pub fn point_sweeps_centres()

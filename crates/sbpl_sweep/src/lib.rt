@@ -18,6 +18,6 @@ mod tables;
 
 pub use cell::Cell;
 pub use fault::SweepFault;
-pub use laws::{few_poses_are_narrow, point_sweeps_centres};
+pub use laws::{ends_are_centres, few_poses_are_narrow, point_sweeps_centres};
 pub use reads::Read;
 pub use sweeps::Sweeps;

@@ -11,7 +11,7 @@ use sbpl_fixed::NoMemory;
 use sbpl_runs::Runs;
 use std::alloc::Global;
 
-/// A primitive, by its place in the file, and a cell that judging it reads, as an offset from its source cell.
+/// A primitive, by its index in the file, and a cell that judging it reads, as an offset from its source cell.
 #[derive(Clone, Copy, Debug, PartialEq, Eq)]
 pub struct Read {
     pub prim: u32,

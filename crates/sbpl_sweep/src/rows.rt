@@ -54,7 +54,7 @@ pub(crate) fn disc_of(cell: i64, radius: u64, pose: &Pose) -> Disc
     }
 }
 
-/// The cells from `left` before a disc's own column to `right` behind it, in this row.
+/// The cells from `left` before a disc's own column to `right` after it, in this row.
 fn band_of(disc: &Disc, y: i64, left: u64, right: u64) -> Band
     requires bounds { IsInBounds disc.now }
     requires left { left ≤ 4 * 10 ^ 12 }

@@ -49,7 +49,7 @@ impl Sweeps {
     ghost use Rattle.sbpl_sweep.specs.Swept.{AreSweepsOf};
 
     /// The sweeps of these primitives for a disc of this radius, at most 10^12 nanometres, around each pose. `cell` is
-    /// the cell size that the primitives were read for. `TooWide` names the first primitive, by its place in the file,
+    /// the cell size that the primitives were read for. `TooWide` names the first primitive, by its index in the file,
     /// that sweeps more than 65,536 cells or with which the sum of swept cells passes 2^22, and comes exactly where
     /// there is one.
     pub fn new(alloc: Global, prims: &Prims, radius: u64, cell: i64) -> Result<Sweeps, SweepFault>
@@ -87,7 +87,7 @@ impl Sweeps {
         self.centres.count() as u32
     }
 
-    /// The centre cells of the primitive at place `i` of the file.
+    /// The centre cells of the primitive at index `i` of the file.
     pub fn centre(&self, i: u32) -> &[Cell]
         requires place { i < length self.now.centres }
         ensures cells { slice_get self.now.centres i ≡ Some result.now }
@@ -95,7 +95,7 @@ impl Sweeps {
         self.centres.at(i as usize)
     }
 
-    /// The swept cells of the primitive at place `i` of the file, its centre cells among them.
+    /// The swept cells of the primitive at index `i` of the file, its centre cells among them.
     pub fn swept(&self, i: u32) -> &[Cell]
         requires place { i < length self.now.swept }
         ensures cells { slice_get self.now.swept i ≡ Some result.now }
@@ -103,7 +103,7 @@ impl Sweeps {
         self.swept.at(i as usize)
     }
 
-    /// Each pair of a primitive, by its place in the file, and a cell that judging it reads, as an offset from its source
+    /// Each pair of a primitive, by its index in the file, and a cell that judging it reads, as an offset from its source
     /// cell: the source cell, the end cell, the centre cells and the swept cells. Each pair stands once; there are at most
     /// 4,198,400.
     pub fn reads(&self) -> &[Read]

@@ -32,7 +32,7 @@ pub(crate) fn centre_table(alloc: Global, prims: &Prims) -> Result<Runs<Cell>, N
     Ok(table)
 }
 
-/// The swept cells of the primitive at place `i` of the file.
+/// The swept cells of the primitive at index `i` of the file.
 fn swept_by(alloc: Global, prims: &Prims, radius: u64, i: u32) -> Result<Vec<Cell>, SweepFault>
     requires radius { radius ≤ 10 ^ 12 }
     requires place { i < length prims.now.items }

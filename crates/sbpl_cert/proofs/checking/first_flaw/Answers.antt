@@ -12,7 +12,7 @@ returns-in-NoPath g c =
     let n = g.G.Graph.network c.args.graph.now in
     let s = c.args.set.now in
     let shown = c.in_ok-check_labels.ensures.labels in
-    let same : c.as_slice.result.now ≡ c.args.set.now.labels = c.as_slice.ensures.rows ∙ ap (λ (s : Section). s.labels) c.set.view_is in
+    let same : c.as_slice.result.now ≡ c.args.set.now.labels = c.as_slice.ensures.items ∙ ap (λ (s : Section). s.labels) c.set.view_is in
     let is = sym (ap (λ (s : Section). s.outcome) c.set.view_is) ∙ c.in-NoPath.is in
     let settled = rw same at c.check_none.ensures.settled in
     record {

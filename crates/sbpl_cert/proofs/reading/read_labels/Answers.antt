@@ -8,7 +8,7 @@ returns-clause-given c =
     let within = start_within c.args.text.now c.args.at c.min.result (omega (arith, c.min.ensures)) in
     let exact = rw within at c.read_exactly.ensures.exact in
     IfOk-weaker c.read_exactly.result _ _ (λ x w. (w.0, w.1))
-    (found_at c.args.plan c.args.states c.args.text.now c.args.at c.read_exactly.result c.ranges.plan.fits c.ranges.states.fits exact)
+    (found_at c.unsigned_numbers_are_their_digits.ensures.law c.reading_is_what_is_said.ensures.law c.args.plan c.args.states c.args.text.now c.args.at c.read_exactly.result c.ranges.plan.fits c.ranges.states.fits exact)
 
 pub returns-clause-inside : goal.returns-clause-inside
 returns-clause-inside c =
@@ -24,25 +24,25 @@ returns-clause-found c =
     let within = start_within c.args.text.now c.args.at c.min.result (omega (arith, c.min.ensures)) in
     let exact = rw within at c.read_exactly.ensures.exact in
     IfOk-weaker c.read_exactly.result _ _ (λ x w. w.2)
-    (found_at c.args.plan c.args.states c.args.text.now c.args.at c.read_exactly.result c.ranges.plan.fits c.ranges.states.fits exact)
+    (found_at c.unsigned_numbers_are_their_digits.ensures.law c.reading_is_what_is_said.ensures.law c.args.plan c.args.states c.args.text.now c.args.at c.read_exactly.result c.ranges.plan.fits c.ranges.states.fits exact)
 
 pub returns-clause-only : goal.returns-clause-only
 returns-clause-only c =
     let within = start_within c.args.text.now c.args.at c.min.result (omega (arith, c.min.ensures)) in
     let exact = rw within at c.read_exactly.ensures.exact in
-    only_at c.args.plan c.args.states c.args.text.now c.args.at c.read_exactly.result exact
+    only_at c.unsigned_numbers_are_their_digits.ensures.law c.reading_is_what_is_said.ensures.law c.args.plan c.args.states c.args.text.now c.args.at c.read_exactly.result exact
 
 pub returns-clause-faulty : goal.returns-clause-faulty
 returns-clause-faulty c =
     let within = start_within c.args.text.now c.args.at c.min.result (omega (arith, c.min.ensures)) in
     let exact = rw within at c.read_exactly.ensures.exact in
-    faulty_at c.args.plan c.args.states c.args.text.now c.args.at c.read_exactly.result exact
+    faulty_at c.reading_is_what_is_said.ensures.law c.args.plan c.args.states c.args.text.now c.args.at c.read_exactly.result exact
 
 pub returns-clause-only_faulty : goal.returns-clause-only_faulty
 returns-clause-only_faulty c =
     let within = start_within c.args.text.now c.args.at c.min.result (omega (arith, c.min.ensures)) in
     let exact = rw within at c.read_exactly.ensures.exact in
-    only_faulty_at c.args.plan c.args.states c.args.text.now c.args.at c.read_exactly.result exact
+    only_faulty_at c.reading_is_what_is_said.ensures.law c.args.plan c.args.states c.args.text.now c.args.at c.read_exactly.result exact
 
 pub returns-clause-exact : goal.returns-clause-exact
 returns-clause-exact c =

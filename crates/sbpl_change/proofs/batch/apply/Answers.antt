@@ -3,7 +3,7 @@ use Rattle.std.proofs.lemmas.Result.{on_ok_weaker}
 use Rattle.sbpl_cost.specs.World.{World, IsWorld}
 use Rattle.sbpl_cost.specs.Lattices.{network_of}
 use Rattle.sbpl_change.specs.Heads.{AreHeadsOf}
-use Rattle.sbpl_change.specs.Touched.{KeepArcsElsewhere}
+use Rattle.sbpl_change.specs.Affected.{KeepArcsElsewhere}
 use Rattle.sbpl_change.proofs.Touching.{heads_are_touched, arcs_kept_elsewhere}
 use Rattle.sbpl_change.proofs.batch.apply.Goals as goal
 

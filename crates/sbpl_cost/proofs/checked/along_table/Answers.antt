@@ -3,7 +3,7 @@ use Rattle.std.proofs.lemmas.Option.{slice_get_within, same_Some}
 use Rattle.sbpl_mprim.specs.declared.prim.Primitive.{Primitive}
 use Rattle.sbpl_sweep.specs.Centres.{AreCentres}
 use Rattle.sbpl_cost.specs.Checked.{AreAlong}
-use Rattle.sbpl_sweep.proofs.Lists.{filled_more}
+use Rattle.sbpl_cost.proofs.Filling.{filled_more}
 use Rattle.sbpl_cost.proofs.checked.along_table.Goals as goal
 
 pub loop-i-preserved : goal.loop-i-preserved

@@ -3,7 +3,7 @@ use Rattle.std.proofs.lemmas.Option.{slice_get_within, same_Some}
 use Rattle.sbpl_mprim.specs.declared.prim.Primitive.{Primitive}
 use Rattle.sbpl_sweep.specs.Centres.{AreCentres, AreSwept}
 use Rattle.sbpl_cost.specs.Checked.{AreAround}
-use Rattle.sbpl_sweep.proofs.Lists.{filled_more}
+use Rattle.sbpl_cost.proofs.Filling.{filled_more}
 use Rattle.sbpl_cost.proofs.Checks.{around_from}
 use Rattle.sbpl_cost.proofs.checked.around_table.Goals as goal
 

@@ -1,7 +1,7 @@
 use Rattle.std.proofs.Common.{◌≡◌, slice_get, Some}
 use Rattle.sbpl_mprim.specs.declared.prim.Primitive.{Primitive}
 use Rattle.sbpl_cost.specs.Checked.{AreAround}
-use Rattle.sbpl_sweep.proofs.Lists.{IsFilled}
+use Rattle.sbpl_cost.proofs.Filling.{IsFilled}
 use Rattle.sbpl_cost.proofs.checked.around_table.Given as goal
 
 abbrev pub invariant-loop-i : goal.invariant-loop-i

@@ -1,5 +1,5 @@
 use Rattle.std.proofs.Common.{◌≤◌, SFits, w64, to_z-of_z, arith}
-use Rattle.sbpl_fixed.proofs.Roots.{square_mono}
+use Rattle.std.proofs.Math.Nat.{mul-le-mul}
 use Rattle.sbpl_cost.proofs.Ways.{apart-le}
 use Rattle.sbpl_cost.proofs.primitive_cost.squared_difference.Goals as goal
 
@@ -10,4 +10,4 @@ returns-clause-small c =
     let fits_b : SFits w64 c.args.b = c.ranges.b in
     let is = simp to_z-of_z at c.abs_diff.ensures in
     let le : c.from-apart.result ≤ 2000000000000 = omega arith in
-    square_mono c.from-apart.result 2000000000000 le
+    mul-le-mul le le

@@ -1,6 +1,6 @@
 use Rattle.std.proofs.Common.{◌≡◌, ap, ◌∙◌, Some, arith}
 use Rattle.sbpl_cost.specs.Lattices.{leaving}
-use Rattle.sbpl_sweep.proofs.Lists.{filled_more}
+use Rattle.sbpl_cost.proofs.Filling.{filled_more}
 use Rattle.sbpl_cost.proofs.tables.leaving_table.Goals as goal
 
 pub loop-t-preserved : goal.loop-t-preserved

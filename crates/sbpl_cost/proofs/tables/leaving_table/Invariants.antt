@@ -1,6 +1,6 @@
 use Rattle.std.proofs.Common.{◌≡◌}
 use Rattle.sbpl_cost.specs.Lattices.{leaving}
-use Rattle.sbpl_sweep.proofs.Lists.{IsFilled}
+use Rattle.sbpl_cost.proofs.Filling.{IsFilled}
 use Rattle.sbpl_cost.proofs.tables.leaving_table.Given as goal
 
 abbrev pub invariant-loop-t : goal.invariant-loop-t

@@ -1,6 +1,6 @@
 use Rattle.std.proofs.Common.{◌==◌, ◌++◌, ◌∷◌, [], ap, ◌∙◌, sym}
 use Rattle.std.proofs.lemmas.Bool.{eq-eqb, ne_eqb}
-use Rattle.sbpl_cost.proofs.Filling.{places_yes, places_no}
+use Rattle.sbpl_cost.proofs.Filling.{indices_yes, indices_no}
 use Rattle.sbpl_cost.proofs.tables.places_leaving.Goals as goal
 use Rattle.sbpl_cost.proofs.tables.places_leaving.Goals.{then-get-t+in_ok-push, else-get-t}
 
@@ -8,9 +8,9 @@ pub loop-i-preserved : goal.loop-i-preserved
 loop-i-preserved c =
     elim c.if-get-t.branch [
       | then-get-t+in_ok-push w ↦
-          let yes = places_yes (λ p. p.from == c.args.t) c.args.prims.now.items c.loop-i.i c.get.result.now c.get.ensures.prim (eq-eqb _ _ w.if-get-t.true) in
+          let yes = indices_yes (λ p. p.from == c.args.t) c.args.prims.now.items c.loop-i.i c.get.result.now c.get.ensures.prim (eq-eqb _ _ w.if-get-t.true) in
           ap (λ v. v.items) w.places-is ∙ w.in_ok-push.ensures.items ∙ ap (λ l. l ++ c.loop-i.i ∷ []) c.loop-i.invariant ∙ sym yes
       | else-get-t w ↦
-          let no = places_no (λ p. p.from == c.args.t) c.args.prims.now.items c.loop-i.i c.get.result.now c.get.ensures.prim (ne_eqb _ _ w.if-get-t.false) in
+          let no = indices_no (λ p. p.from == c.args.t) c.args.prims.now.items c.loop-i.i c.get.result.now c.get.ensures.prim (ne_eqb _ _ w.if-get-t.false) in
           ap (λ v. v.items) w.places-is ∙ c.loop-i.invariant ∙ sym no
     ]

@@ -1,5 +1,5 @@
 use Rattle.std.proofs.Common.{arith}
-use Rattle.sbpl_cost.proofs.Views.{price_is}
+use Rattle.sbpl_cost.proofs.CostTables.{price_is}
 use Rattle.sbpl_cost.proofs.lattice.Lattice.cost_of.Goals as goal
 
 pub returns-clause-cost : goal.returns-clause-cost

@@ -1,5 +1,5 @@
 use Rattle.std.proofs.Common.{arith}
-use Rattle.sbpl_cost.proofs.Views.{states_are}
+use Rattle.sbpl_cost.specs.Lattices.{states_are}
 use Rattle.sbpl_cost.proofs.lattice.Lattice.place_of.Goals as goal
 
 pub place_at-requires : goal.place_at-requires

@@ -1,6 +1,6 @@
 use Rattle.std.proofs.Common.{subst, sym, ◌<◌}
 use Rattle.std.proofs.lemmas.Option.{IfSome_then}
-use Rattle.sbpl_cost.proofs.Views.{states_are}
+use Rattle.sbpl_cost.specs.Lattices.{states_are}
 use Rattle.sbpl_cost.proofs.lattice.Lattice.state_of.Goals as goal
 
 pub returns-clause-state : goal.returns-clause-state

@@ -2,9 +2,10 @@ use Rattle.std.proofs.Common.{rules, ap, sym, ◌*◌, ◌+◌, ◌<◌, ◌^◌
 use Rattle.sbpl_graph.specs.Laws.{IsSound}
 use Rattle.sbpl_cost.specs.Lattices.{network_of}
 use Rattle.std.proofs.lemmas.Option.{slice_get_within}
+use Rattle.sbpl_cost.proofs.CostTables.{price_of}
 use Rattle.sbpl_cost.proofs.Judged.{read_at, near_along, near_around, none_where_obstructed, some_where_passed}
 use Rattle.sbpl_cost.proofs.LatticeLaws.{sound}
-use Rattle.sbpl_cost.proofs.Views.{found_by, number_below, state_below, price_of}
+use Rattle.sbpl_cost.proofs.Views.{found_by, number_below, state_below}
 use Rattle.sbpl_cost.proofs.lattice.LatticeGraph.judge.Goals as goal
 
 pub place_at-source-requires : goal.place_at-source-requires

@@ -1,7 +1,7 @@
 use Rattle.std.proofs.Common.{sym, ◌∙◌}
 use Rattle.sbpl_cost.proofs.LatticeLaws.{sound, gaps}
 use Rattle.sbpl_cost.proofs.Tails.{exact_tails}
-use Rattle.sbpl_cost.proofs.Views.{states_are}
+use Rattle.sbpl_cost.specs.Lattices.{states_are}
 use Rattle.sbpl_cost.proofs.lattice.LatticeGraph.states.Goals as goal
 
 pub returns-clause-value : goal.returns-clause-value
