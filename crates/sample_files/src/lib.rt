@@ -161,7 +161,7 @@ const STEPS: [(i32, i32, i32); 16] = [
     (2, -1, 58905),
 ];
 
-/// Appends a number of ten-thousandths with four decimals, and the byte behind it.
+/// Appends a number of ten-thousandths with four decimals, and the byte after it.
 fn put_units(text: &mut String, units: i32, end: char) -> Result<(), AllocError> {
     if units < 0 {
         text.push('-')?;
@@ -239,7 +239,7 @@ pub fn p16(alloc: Global) -> Result<String, AllocError> {
     Ok(text)
 }
 
-/// Appends the head of a file of so many primitives.
+/// Appends the head of a file of `count` primitives.
 fn put_head(text: &mut String, count: u32) -> Result<(), AllocError> {
     write!(
         text,

@@ -1,4 +1,4 @@
--- What formats say of the front of a list of tokens.
+-- What formats say of the first tokens of a list.
 use Rattle.std.proofs.Common.{◌≡◌, ℕ, ℤ, pos, ◌≤ℤ◌, Bool, true, false, cond, ◌&&◌, List, [], ◌∷◌, ◌++◌, map, Result, Ok, Err, refl, ap, subst, arith}
 use Rattle.std.specs.Prelude.{int_le, bytes_eq}
 use Rattle.std.proofs.lemmas.Bool.{and_parts}
@@ -53,7 +53,7 @@ within_is low high n (Err faults.Size) = λ e. absurd cc
 pub is_within : (low high n : ℤ) (r : Result ℤ NumFault) → Ranged low high n r → within low high r ≡ Ok n
 is_within low high n r h = rw h.value (rw (from_le low n h.between.0, from_le n high h.between.1) refl)
 
--- ---- the front of a list of tokens
+-- ---- the first tokens of a list
 
 -- the tokens begin with what is said, and the rest is left
 abbrev pub Begins : List Said → List Piece → List Piece → Type 0

@@ -1,11 +1,11 @@
--- The faults of an environment's text are its own: want of memory is none of them.
+-- The faults of an environment's text are its own: running out of memory is none of them.
 use Rattle.std.proofs.Common.{ℕ, ℤ, List, [], length}
 use Rattle.std.specs.Prelude.{◌≢◌}
 use Rattle.sbpl_fixed.specs.Formats.{done}
 use Rattle.sbpl_fixed.specs.Tokens.{tokens}
 use Rattle.sbpl_fixed.specs.declared.fault.TextFault.{TextFault}
 use Rattle.sbpl_fixed.specs.declared.fault.TextFault.TheVariants as common
-use Rattle.sbpl_fixed.proofs.OwnFaults.{Spares, behind_spares, done_spares, right_spares, spared, turns_spare, wrong_spares}
+use Rattle.sbpl_fixed.specs.OwnFaults.{Spares, behind_spares, done_spares, right_spares, spared, turns_spare, wrong_spares}
 use Rattle.sbpl_cfg.specs.declared.fault.EnvFault.{EnvFault}
 use Rattle.sbpl_cfg.specs.declared.fault.EnvFault.TheVariants.{NoMemory, TooLarge, StartOff, EndOff}
 use Rattle.sbpl_cfg.specs.declared.parts.Header.{Header}

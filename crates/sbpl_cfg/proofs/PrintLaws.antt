@@ -1,4 +1,4 @@
--- Texts that are appended one behind the other.
+-- Texts that are appended one after the other.
 use Rattle.std.proofs.Common.{◌≡◌, ℕ, zero, suc, sub-one, ◌+◌, ◌-◌, ◌<◌, ◌≤◌, List, [], ◌∷◌, ◌++◌, length, map, take, drop, get_or, append_assoc, append-nil, add-one, arith, refl, sym, ◌∙◌, ap}
 use Rattle.std.proofs.Math.Seq.{drop-cons}
 use Rattle.std.proofs.lemmas.List.{drop_all, get_or-take, length-drop, length-map}
@@ -52,9 +52,9 @@ grid_lines-more (suc rows) width cells h = rw sub-one refl
 pub grid_more : (old out next row below rest : List ℕ) (height width y : ℕ) → y < height → row ≡ take width rest → below ≡ drop width rest
     → next ≡ out ++ line_text (map decimal row) → out ++ lines_text (grid_lines (height - y) width rest) ≡ old
     → next ++ lines_text (grid_lines (height - (y + 1)) width below) ≡ old
-grid_more old out next row below rest height width y more at behind wrote before =
+grid_more old out next row below rest height width y more at after wrote before =
     let step : grid_lines (height - y) width rest ≡ map decimal row ∷ grid_lines (height - (y + 1)) width below =
-    rw (at, behind, grid_lines-more (height - y) width rest (omega arith)) (ap (λ n. map decimal (take width rest) ∷ grid_lines n width (drop width rest)) (omega arith)) in
+    rw (at, after, grid_lines-more (height - y) width rest (omega arith)) (ap (λ n. map decimal (take width rest) ∷ grid_lines n width (drop width rest)) (omega arith)) in
     rw (wrote, append_assoc out (line_text (map decimal row)) (lines_text (grid_lines (height - (y + 1)) width below))) (rw step at before)
 
 -- no row is left

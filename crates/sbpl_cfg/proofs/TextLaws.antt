@@ -20,7 +20,7 @@ use Rattle.sbpl_cfg.specs.Format.{whole_format, nano_format, size_format, obsthr
 use Rattle.sbpl_fixed.specs.Meaning.{StandsFor}
 use Rattle.sbpl_fixed.specs.Tokens.{tokens}
 use Rattle.sbpl_cfg.specs.Text.{Said, word, number, nano, IsTextOf, spelled, spelled_grid, spelled_pose}
-use Rattle.sbpl_fixed.proofs.Spelling.{says_both, says_parts}
+use Rattle.sbpl_fixed.specs.Parts.{says_both, says_parts}
 use Rattle.sbpl_cfg.proofs.Items.{Begins, all_begins, append_begins, at_end, begins_all, begins_append, fixed_is, if_right, is_fixed, is_within, unless_wrong, within_is}
 
 -- ---- a word with a number
@@ -528,7 +528,7 @@ says_cost before cost [] rest h k = absurd h
 says_cost before cost (t ∷ ts) rest h k =
     (pos cost, is_within (pos 0) (pos 255) (pos cost) (whole_of t.bytes) (record { value = h.0; between = within_naturals 0 255 cost (omega arith) k }), (refl, h.1))
 
--- costs behind those that were read
+-- costs after those that were read
 pub record Further (count : ℕ) (before cells : List ℕ) (ts rest : List Piece) : Type 0 where
   pub more : List ℕ
   pub all : cells ≡ before ++ more

@@ -29,7 +29,7 @@ name_of (StartOff _) = codes "StartOff"
 name_of (EndOff _) = codes "EndOff"
 name_of NoMemory = codes "NoMemory"
 
--- its place
+-- its place, an offset in the text
 abbrev pub place_of : EnvFault → ℕ
 place_of (Word place) = place
 place_of (Number place) = place

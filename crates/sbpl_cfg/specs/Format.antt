@@ -48,11 +48,11 @@ environment_of h ends = record {
   headings = usual_headings;
 }
 
--- a word and a whole number behind it
+-- a word and a whole number after it
 unfoldable pub whole_format : List ℕ → ℤ → ℤ → Format EnvFault ℤ
 whole_format word low high = item (fixed word) (λ _ _. item (whole low high) (λ _ n. done n))
 
--- a word and a decimal behind it
+-- a word and a decimal after it
 unfoldable pub nano_format : List ℕ → ℤ → ℤ → Format EnvFault ℤ
 nano_format word low high = item (fixed word) (λ _ _. item (nano low high) (λ _ n. done n))
 
@@ -103,7 +103,7 @@ rates_format =
 abbrev pub coordinate : (ℕ → ℤ → Format EnvFault (Placed Pose)) → Format EnvFault (Placed Pose)
 coordinate more = item (nano (negsuc 999999999999999999) (pos 1000000000000000000)) more
 
--- a word and a pose behind it, with the place of its x
+-- a word and a pose after it, with the offset of its x
 unfoldable pub pose_format : List ℕ → Format EnvFault (Placed Pose)
 pose_format word =
     item (fixed word) (λ _ _.
@@ -148,7 +148,7 @@ numbers_format = behind header_format (λ h. behind (ends_format h) (λ ends. do
 unfoldable pub cost_format : List ℕ → Format EnvFault (List ℕ)
 cost_format cells = item (whole (pos 0) (pos 255)) (λ _ cost. done (cells ++ nat_abs cost ∷ []))
 
--- a word, and so many costs
+-- a word, and this many costs
 unfoldable pub grid_format : ℕ → Format EnvFault (List ℕ)
 grid_format count = item (fixed (codes "environment:")) (λ _ _. turns count cost_format [])
 

@@ -5,7 +5,7 @@ use Rattle.sbpl_fixed.specs.Printed.{lines_text, nano_text}
 use Rattle.sbpl_cfg.specs.declared.pose.Pose.{Pose}
 use Rattle.sbpl_cfg.specs.Environment.{Environment}
 
--- a pose, behind its word
+-- a pose, after its word
 abbrev pub pose_words : List ℕ → Pose → List (List ℕ)
 pose_words word p = word ∷ nano_text p.x ∷ nano_text p.y ∷ nano_text p.theta ∷ []
 

@@ -22,14 +22,14 @@ Means (word w) bytes = bytes ≡ w
 Means (number n) bytes = whole_of bytes ≡ Ok n
 Means (nano n) bytes = nano_of bytes ≡ Ok n
 
--- each token says what stands at its place in the list, and there are as many
+-- each token says what stands at its index in the list, and there are as many
 abbrev pub AllMean : List Said → List (List ℕ) → Type 0
 AllMean [] [] = Unit {0}
 AllMean [] (bytes ∷ others) = ⊥
 AllMean (said ∷ more) [] = ⊥
 AllMean (said ∷ more) (bytes ∷ others) = Means said bytes × AllMean more others
 
--- the tokens of a text, without their places
+-- the tokens of a text, without their offsets
 abbrev pub words_of : List ℕ → List (List ℕ)
 words_of text = map (λ t. t.bytes) (tokens text)
 
@@ -80,7 +80,7 @@ pub record IsTextOf (text : List ℕ) (e : Environment) (cells : List ℕ) : Typ
 abbrev pub IsText : List ℕ → Type 0
 IsText text = (e : Environment) × (cells : List ℕ) × IsTextOf text e cells
 
--- Up to the fault's place the text is what the format calls for, and there it fails in the way that the fault names.
+-- Up to the fault's offset the text is what the format calls for, and there it fails in the way that the fault names.
 abbrev pub HasFault : List ℕ → EnvFault → Type 0
 HasFault text f = HasFirstFault told environment_format text f
 

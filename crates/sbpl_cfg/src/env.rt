@@ -1,7 +1,11 @@
-//! The numbers of an environment file.
+//! The numbers of an environment file, and its costs.
 
 use crate::pose::Pose;
+use sbpl_list::ListOf;
 use std::marker::Model;
+
+/// The costs of the cells, row by row from `y = 0`, with `x` along a row. Each cost is in 0..255.
+pub type Grid = ListOf<u8>;
 
 /// The numbers of an environment file. Lengths are nanometres, times nanoseconds, speeds nanometres per second,
 /// angles nanoradians. Its type keeps the ranges of the format, that `width * height * headings` is at most 2^23,

@@ -8,8 +8,8 @@ use sbpl_fixed::{NoMemory, TextFault};
 use std::alloc::{AllocError, AllocFailed};
 use thiserror::Error;
 
-/// The first fault of a text, in reading order, with its place: an offset in the text. The place of a token is the offset
-/// of its first byte, and that of a missing token the length of the text.
+/// The first fault of a text, in reading order, with its offset in the text. The offset of a token is that of its first
+/// byte, and that of a missing token the length of the text.
 #[derive(Clone, Copy, Debug, PartialEq, Eq, Error)]
 pub enum EnvFault {
     /// Another token stands where a fixed word must stand.
@@ -24,16 +24,16 @@ pub enum EnvFault {
     /// The text ends where a token must stand.
     #[error("the text ends at byte {0}, where more must stand")]
     Ended(usize),
-    /// A token stands behind the last one.
+    /// A token stands after the last one.
     #[error("more than an environment, at byte {0}")]
     Trailing(usize),
-    /// There are more than 2^23 states. The place is that of the width.
+    /// There are more than 2^23 states. The offset is that of the width.
     #[error("more than 2^23 states, by the size at byte {0}")]
     TooLarge(usize),
-    /// The start's cell is off the map. The place is that of the start's x.
+    /// The start's cell is off the map. The offset is that of the start's x.
     #[error("a start off the map, at byte {0}")]
     StartOff(usize),
-    /// The end's cell is off the map. The place is that of the end's x.
+    /// The end's cell is off the map. The offset is that of the end's x.
     #[error("an end off the map, at byte {0}")]
     EndOff(usize),
     /// Memory ran out. This says nothing of the text.
@@ -76,7 +76,7 @@ impl EnvFault {
         }
     }
 
-    /// The fault's place in the text; 0 for `NoMemory`, which has none.
+    /// The fault's place, an offset in the text; 0 for `NoMemory`, which has none.
     pub fn place(&self) -> usize
         ensures place { result ≡ place_of self.now }
     {

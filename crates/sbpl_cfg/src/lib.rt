@@ -3,7 +3,6 @@
 
 mod env;
 mod fault;
-mod grid;
 mod parts;
 mod place;
 mod pose;
@@ -11,9 +10,8 @@ mod print;
 mod read;
 mod text;
 
-pub use env::Env;
+pub use env::{Env, Grid};
 pub use fault::EnvFault;
-pub use grid::Grid;
 pub use place::{TAU, cell_at, heading_at, place_at, places_in_plain_words};
 pub use pose::{Place, Pose};
 pub use print::print_env;

@@ -6,12 +6,11 @@ ghost use Rattle.sbpl_fixed.specs.Printed.{nano_text, line_text, lines_text};
 ghost use Rattle.sbpl_cfg.specs.Environment.{IsPoseInRange};
 ghost use Rattle.sbpl_cfg.specs.Printed.{end_lines, environment_text, grid_lines, pose_words, rate_lines, size_lines};
 
-use crate::env::Env;
-use crate::grid::Grid;
+use crate::env::{Env, Grid};
 use crate::pose::Pose;
 use sbpl_fixed::{NoMemory, print_nano};
 
-/// Appends a word and the byte behind it.
+/// Appends a word and the byte after it.
 fn put_word(out: &mut Vec<u8>, word: &[u8], end: u8) -> Result<(), NoMemory>
     ensures ok { OnOk result (out.new.items ≡ out.old.items ++ (word.now ++ end ∷ [])) }
 {
@@ -42,7 +41,7 @@ fn put_digits(out: &mut Vec<u8>, n: u32) -> Result<(), NoMemory>
     Ok(())
 }
 
-/// Appends a number and the byte behind it.
+/// Appends a number and the byte after it.
 fn put_whole(out: &mut Vec<u8>, n: u32, end: u8) -> Result<(), NoMemory>
     ensures ok { OnOk result (out.new.items ≡ out.old.items ++ (decimal n ++ end ∷ [])) }
 {
@@ -51,7 +50,7 @@ fn put_whole(out: &mut Vec<u8>, n: u32, end: u8) -> Result<(), NoMemory>
     Ok(())
 }
 
-/// Appends a number with its sign, and the byte behind it.
+/// Appends a number with its sign, and the byte after it.
 fn put_signed(out: &mut Vec<u8>, n: i16, end: u8) -> Result<(), NoMemory>
     ensures ok { OnOk result (out.new.items ≡ out.old.items ++ (signed_decimal n ++ end ∷ [])) }
 {
@@ -62,7 +61,7 @@ fn put_signed(out: &mut Vec<u8>, n: i16, end: u8) -> Result<(), NoMemory>
     Ok(())
 }
 
-/// Appends billionths and the byte behind them.
+/// Appends billionths and the byte after them.
 fn put_nano(out: &mut Vec<u8>, n: i64, end: u8) -> Result<(), NoMemory>
     requires low { neg_ℤ (pos (10 ^ 18)) ≤ℤ n }
     requires high { n ≤ℤ pos (10 ^ 18) }

@@ -9,9 +9,8 @@ ghost use Rattle.sbpl_cfg.specs.Faults.{told};
 ghost use Rattle.sbpl_cfg.specs.Format.{cell_format, circumscribed_format, cost_format, end_format, end_pose_format, ends_format, environment_format, environment_of, grid_format, header_format, inscribed_format, is_on_map_of, IsHeaderInRange, nano_format, numbers_format, obsthresh_format, pose_format, rates_format, size_format, speed_format, start_format, start_pose_format, thresholds_format, turn45_format, whole_format};
 ghost use Rattle.sbpl_cfg.specs.Text.{HasFault, IsTextOf};
 
-use crate::env::Env;
+use crate::env::{Env, Grid};
 use crate::fault::EnvFault;
-use crate::grid::Grid;
 use crate::parts::{Ends, Header, Rates, Size, Thresholds};
 use crate::place::is_on_map;
 use crate::pose::Pose;
@@ -30,7 +29,7 @@ const MOST_RATE: i64 = 1_000_000_000_000;
 /// The greatest absolute value of a number of a pose: nanometres or nanoradians.
 const FARTHEST: i64 = 1_000_000_000_000_000_000;
 
-/// A word, and a number of zero or more behind it.
+/// A word, and a number of zero or more after it.
 #[tactic(auto, unfolding(sbpl_fixed::specs::Formats::reads, crate::specs::Format::whole_format))]
 fn natural(reader: &mut Reader, word: &[u8], low: u32, high: u32) -> Result<u32, EnvFault>
     ensures read { Gives NoMemory (λ x. pos x) result reader.new (reads told (whole_format word.now (pos low) (pos high)) reader.old) }
@@ -40,7 +39,7 @@ fn natural(reader: &mut Reader, word: &[u8], low: u32, high: u32) -> Result<u32,
     Ok(reader.natural(low, high)?.value)
 }
 
-/// A word, and a whole number behind it.
+/// A word, and a whole number after it.
 #[tactic(auto, unfolding(sbpl_fixed::specs::Formats::reads, crate::specs::Format::whole_format))]
 fn whole(reader: &mut Reader, word: &[u8], low: i64, high: i64) -> Result<i64, EnvFault>
     ensures read { Gives NoMemory (λ x. x) result reader.new (reads told (whole_format word.now low high) reader.old) }
@@ -50,7 +49,7 @@ fn whole(reader: &mut Reader, word: &[u8], low: i64, high: i64) -> Result<i64, E
     Ok(reader.whole(low, high)?.value)
 }
 
-/// A word, and a decimal behind it.
+/// A word, and a decimal after it.
 #[tactic(auto, unfolding(sbpl_fixed::specs::Formats::reads, crate::specs::Format::nano_format))]
 fn nano(reader: &mut Reader, word: &[u8], low: i64, high: i64) -> Result<i64, EnvFault>
     ensures read { Gives NoMemory (λ x. x) result reader.new (reads told (nano_format word.now low high) reader.old) }
@@ -108,7 +107,7 @@ fn circumscribed(reader: &mut Reader) -> Result<i16, EnvFault>
 }
 
 /// What costs mean.
-#[tactic(auto, using(sbpl_fixed::proofs::Reading::reading), unfolding(sbpl_fixed::specs::Formats::reads, crate::specs::Format::thresholds_format))]
+#[tactic(auto, using(sbpl_fixed::specs::Parts::reading), unfolding(sbpl_fixed::specs::Formats::reads, crate::specs::Format::thresholds_format))]
 fn thresholds(reader: &mut Reader) -> Result<Thresholds, EnvFault>
     ensures read { Gives NoMemory (λ x. x) result reader.new (reads told thresholds_format reader.old) }
     ensures between { IfOk result (λ x. IsWithin (negsuc 0) (pos 255) x.circumscribed) }
@@ -151,7 +150,7 @@ fn turn45(reader: &mut Reader) -> Result<i64, EnvFault>
 }
 
 /// A cell's side, the speed and the time to turn.
-#[tactic(auto, using(sbpl_fixed::proofs::Reading::reading), unfolding(sbpl_fixed::specs::Formats::reads, crate::specs::Format::rates_format))]
+#[tactic(auto, using(sbpl_fixed::specs::Parts::reading), unfolding(sbpl_fixed::specs::Formats::reads, crate::specs::Format::rates_format))]
 fn rates(reader: &mut Reader) -> Result<Rates, EnvFault>
     ensures read { Gives NoMemory (λ x. x) result reader.new (reads told rates_format reader.old) }
     ensures cell { IfOk result (λ x. IsWithin (pos 1) (pos 1000000000000) x.cell) }
@@ -168,7 +167,7 @@ fn rates(reader: &mut Reader) -> Result<Rates, EnvFault>
     })
 }
 
-/// A word, and a pose behind it.
+/// A word, and a pose after it.
 #[tactic(auto, unfolding(sbpl_fixed::specs::Formats::reads, crate::specs::Format::pose_format))]
 fn pose(reader: &mut Reader, word: &[u8]) -> Result<Placed<Pose>, EnvFault>
     ensures read { Gives NoMemory (λ x. x) result reader.new (reads told (pose_format word.now) reader.old) }
@@ -206,7 +205,7 @@ fn start_pose(reader: &mut Reader) -> Result<Placed<Pose>, EnvFault>
 }
 
 /// The start, which must be on the map.
-#[tactic(auto, using(sbpl_fixed::proofs::Reading::reading), unfolding(sbpl_fixed::specs::Formats::reads, crate::specs::Format::start_format))]
+#[tactic(auto, using(sbpl_fixed::specs::Parts::reading), unfolding(sbpl_fixed::specs::Formats::reads, crate::specs::Format::start_format))]
 fn start(reader: &mut Reader, header: &Header) -> Result<Pose, EnvFault>
     requires cell { pos 0 <ℤ header.now.rates.cell }
     ensures read { Gives NoMemory (λ x. x) result reader.new (reads told (start_format header.now) reader.old) }
@@ -230,7 +229,7 @@ fn end_pose(reader: &mut Reader) -> Result<Placed<Pose>, EnvFault>
 }
 
 /// The end, which must be on the map.
-#[tactic(auto, using(sbpl_fixed::proofs::Reading::reading), unfolding(sbpl_fixed::specs::Formats::reads, crate::specs::Format::end_format))]
+#[tactic(auto, using(sbpl_fixed::specs::Parts::reading), unfolding(sbpl_fixed::specs::Formats::reads, crate::specs::Format::end_format))]
 fn end(reader: &mut Reader, header: &Header) -> Result<Pose, EnvFault>
     requires cell { pos 0 <ℤ header.now.rates.cell }
     ensures read { Gives NoMemory (λ x. x) result reader.new (reads told (end_format header.now) reader.old) }
@@ -245,7 +244,7 @@ fn end(reader: &mut Reader, header: &Header) -> Result<Pose, EnvFault>
 }
 
 /// All but the poses and the costs.
-#[tactic(auto, using(sbpl_fixed::proofs::Reading::reading), unfolding(sbpl_fixed::specs::Formats::reads, crate::specs::Format::header_format))]
+#[tactic(auto, using(sbpl_fixed::specs::Parts::reading), unfolding(sbpl_fixed::specs::Formats::reads, crate::specs::Format::header_format))]
 fn header(reader: &mut Reader) -> Result<Header, EnvFault>
     ensures read { Gives NoMemory (λ x. x) result reader.new (reads told header_format reader.old) }
     ensures in_range { IfOk result IsHeaderInRange }
@@ -261,7 +260,7 @@ fn header(reader: &mut Reader) -> Result<Header, EnvFault>
 }
 
 /// The start and the end.
-#[tactic(auto, using(sbpl_fixed::proofs::Reading::reading), unfolding(sbpl_fixed::specs::Formats::reads, crate::specs::Format::ends_format))]
+#[tactic(auto, using(sbpl_fixed::specs::Parts::reading), unfolding(sbpl_fixed::specs::Formats::reads, crate::specs::Format::ends_format))]
 fn ends(reader: &mut Reader, header: &Header) -> Result<Ends, EnvFault>
     requires cell { pos 0 <ℤ header.now.rates.cell }
     ensures read { Gives NoMemory (λ x. x) result reader.new (reads told (ends_format header.now) reader.old) }
@@ -294,7 +293,7 @@ fn env_of(header: &Header, ends: &Ends) -> Env
 }
 
 /// All numbers but the costs.
-#[tactic(auto, using(sbpl_fixed::proofs::Reading::reading), unfolding(sbpl_fixed::specs::Formats::reads, crate::specs::Format::numbers_format))]
+#[tactic(auto, using(sbpl_fixed::specs::Parts::reading), unfolding(sbpl_fixed::specs::Formats::reads, crate::specs::Format::numbers_format))]
 fn numbers(reader: &mut Reader) -> Result<Env, EnvFault>
     ensures read { Gives NoMemory (λ x. x) result reader.new (reads told numbers_format reader.old) }
 {
@@ -303,8 +302,8 @@ fn numbers(reader: &mut Reader) -> Result<Env, EnvFault>
     Ok(env_of(&header, &ends))
 }
 
-/// The costs of the cells, behind their word.
-#[tactic(auto, using(sbpl_fixed::proofs::Reading::reading), unfolding(sbpl_fixed::specs::Formats::reads, crate::specs::Format::cost_format, crate::specs::Format::grid_format))]
+/// The costs of the cells, after their word.
+#[tactic(auto, using(sbpl_fixed::specs::Parts::reading), unfolding(sbpl_fixed::specs::Formats::reads, crate::specs::Format::cost_format, crate::specs::Format::grid_format))]
 fn costs(alloc: Global, reader: &mut Reader, count: u32) -> Result<Vec<u8>, EnvFault>
     ensures read { Gives NoMemory (λ x. x.items) result reader.new (reads told (grid_format count) reader.old) }
 {
@@ -318,7 +317,7 @@ fn costs(alloc: Global, reader: &mut Reader, count: u32) -> Result<Vec<u8>, EnvF
 }
 
 /// The whole file.
-#[tactic(auto, using(sbpl_fixed::proofs::Reading::reading), unfolding(sbpl_fixed::specs::Formats::reads, crate::specs::Format::environment_format))]
+#[tactic(auto, using(sbpl_fixed::specs::Parts::reading), unfolding(sbpl_fixed::specs::Formats::reads, crate::specs::Format::environment_format))]
 fn environment(alloc: Global, reader: &mut Reader) -> Result<(Env, Grid), EnvFault>
     ensures read { Gives NoMemory (λ x. x) result reader.new (reads told environment_format reader.old) }
 {
@@ -329,8 +328,8 @@ fn environment(alloc: Global, reader: &mut Reader) -> Result<(Env, Grid), EnvFau
 }
 
 /// Reads an environment file: its tokens, in order, are the words and numbers of `print_env`, parted in any way; a whole
-/// number may have a sign and zeros in front, a decimal any decimals, of which the first nine are read. The ranges are
-/// those of `Env`. A fault is the first one in reading order, at its place; `TooLarge` comes directly after the height,
+/// number may have a sign and leading zeros, a decimal any decimals, of which the first nine are read. The ranges are
+/// those of `Env`. A fault is the first one in reading order, with its offset; `TooLarge` comes directly after the height,
 /// `StartOff` and `EndOff` directly after their pose. Memory is taken for the costs alone.
 #[tactic(auto, using(sbpl_fixed::proofs::Meaning::answering))]
 pub fn read_env(alloc: Global, text: &[u8]) -> Result<(Env, Grid), EnvFault>

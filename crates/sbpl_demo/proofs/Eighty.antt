@@ -1,10 +1,12 @@
 -- What the eighty primitives are, by looking at each.
-use Rattle.std.proofs.Common.{◌≡◌, ℕ, zero, suc, ◌+◌, ◌*◌, ◌≤◌, ◌<◌, ℤ, pos, negsuc, Bool, true, false, ◌&&◌, not, List, [], ◌∷◌, ◌++◌, length, map, sum_by, Some, refl, subst, arith}
+use Rattle.std.proofs.Common.{◌≡◌, ℕ, zero, suc, ◌+◌, ◌*◌, ◌≤◌, ◌<◌, ℤ, pos, negsuc, Bool, true, false, ◌&&◌, not, List, [], ◌∷◌, ◌++◌, length, map, sum_by, Some, refl, sym, ap, subst, ◌∙◌, arith, length-append}
 use Rattle.std.specs.Prelude.{nat_le, nat_lt, unsigned_abs, ◌==◌}
 use Rattle.std.specs.List.{list_all, slice_get, AllByRecursion}
 use Rattle.std.proofs.lemmas.Bool.{and_parts, not-true}
 use Rattle.std.proofs.lemmas.Bool.Decides.{Decides-eqb, nat_tests}
 use Rattle.std.proofs.lemmas.Int.{ints}
+use Rattle.std.proofs.lemmas.Option.{get_or_from_slice_get}
+use Rattle.std.proofs.Math.Seq.{get_or-append_seam}
 use Rattle.sbpl_cfg.specs.Place.{heading_of}
 use Rattle.sbpl_cfg.specs.declared.pose.Pose.{Pose}
 use Rattle.sbpl_mprim.specs.declared.prim.Primitive.{Primitive}
@@ -12,7 +14,6 @@ use Rattle.sbpl_mprim.specs.Judging.{costs_nothing, heading_modulo, is_in_bin, i
 use Rattle.sbpl_cfg.specs.Environment.{IsWithin}
 use Rattle.sbpl_mprim.specs.Primitives.{ArePrimitives, IsOffsetInRange, IsPrimitive, pose_count}
 use Rattle.sbpl_mprim.proofs.JudgingLaws.{all_pass, costs_something, ends_at}
-use Rattle.sbpl_mprim.proofs.Places.{all_at, last_at}
 use Rattle.sbpl_demo.specs.declared.primitives.Motion.{Motion}
 use Rattle.sbpl_demo.specs.Primitives.{along, motions, motions_from, pose, poses, primitive, primitives, way_along}
 
@@ -62,6 +63,11 @@ unfolding motions motions_from poses primitive
 eight_hundred = refl
 
 -- ---- what was looked at, in facts
+
+pub all_at : {A : Type 0} (P : A → Type 0) (xs : List A) → AllByRecursion P xs → (i : ℕ) (x : A) → slice_get xs i ≡ Some x → P x
+all_at P [] h i x e = absurd cc
+all_at {A} P (y ∷ ys) h zero x e = let same : y ≡ x = cc in subst P same h.0
+all_at P (y ∷ ys) h (suc i) x e = all_at P ys h.1 i x e
 
 -- a pose is within two decimetres, and within two turns
 pub record IsNear (p : Pose) : Type 0 where
@@ -166,18 +172,19 @@ is_primitive m h =
       some_pose = omega (arith, ten m);
       poses = λ i p at. in_range p (all_at IsNear (poses m 10) h.near i p at);
       end = λ p i last at.
-          let same = last_at (poses m 9) (a_pose m 9) (poses m 10) i p (last_pose m) last at in
+          let index : i ≡ length (poses m 9) = omega (arith, last, ap length (last_pose m), length-append (poses m 9) (a_pose m 9 ∷ [])) in
+          let same : p ≡ a_pose m 9 = sym (get_or_from_slice_get (poses m 10) i p p at) ∙ rw (last_pose m, index) (get_or-append_seam (poses m 9) (a_pose m 9) [] p) in
           ends_at (pos 25000000) 16 (primitive m) p (rw (same, h.end_cell) refl) (rw (same, h.end_bin) refl);
       moves = costs.1;
     }
 
--- the primitive at a place
+-- the primitive at an index
 pub from_motion : (ms : List Motion) (i : ℕ) (p : Primitive) → slice_get (map primitive ms) i ≡ Some p → (m : Motion) × (slice_get ms i ≡ Some m) × (primitive m ≡ p)
 from_motion [] i p at = absurd cc
 from_motion (m ∷ ms) zero p at = (m, refl, cc)
 from_motion (m ∷ ms) (suc i) p at = from_motion ms i p at
 
--- the number of a primitive is its place
+-- the number of a primitive is its index
 place_is : (n : ℕ) (ms : List Motion) → are_numbered n ms ≡ true → (i : ℕ) (m : Motion) → slice_get ms i ≡ Some m → 5 * m.from + m.id ≡ n + i
 place_is n [] h i m at = absurd cc
 place_is n (k ∷ ks) h zero m at =

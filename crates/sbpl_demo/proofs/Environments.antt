@@ -56,14 +56,14 @@ cost_small drawn = elim (cases_Bool (nat_lt (drawn % 100) 15)) [
   ]
 ]
 
-cost_behind : (cells : List ℕ) (c : ℕ) → AreCosts cells → c ≤ 255 → AreCosts (cells ++ c ∷ [])
-cost_behind [] c h k = (k, tt)
-cost_behind (x ∷ xs) c h k = (h.0, cost_behind xs c h.1 k)
+costs_push : (cells : List ℕ) (c : ℕ) → AreCosts cells → c ≤ 255 → AreCosts (cells ++ c ∷ [])
+costs_push [] c h k = (k, tt)
+costs_push (x ∷ xs) c h k = (h.0, costs_push xs c h.1 k)
 
 drawn_are_costs : (n x : ℕ) → AreCosts (costs_drawn n x)
 unfolding costs_drawn
 drawn_are_costs zero x = tt
-drawn_are_costs (suc n) x = cost_behind (costs_drawn n x) (cost_of (draw n x)) (drawn_are_costs n x) (cost_small (draw n x))
+drawn_are_costs (suc n) x = costs_push (costs_drawn n x) (cost_of (draw n x)) (drawn_are_costs n x) (cost_small (draw n x))
 
 drawn_count : (n x : ℕ) → length (costs_drawn n x) ≡ n
 unfolding costs_drawn

@@ -8,13 +8,12 @@ use Rattle.std.proofs.lemmas.Nat.{mul-lt}
 use Rattle.sbpl_cfg.specs.declared.pose.Pose.{Pose}
 use Rattle.sbpl_mprim.specs.declared.prim.Primitive.{Primitive}
 use Rattle.sbpl_mprim.specs.Primitives.{pose_count}
-use Rattle.sbpl_mprim.proofs.Places.{all_at}
 use Rattle.sbpl_sweep.specs.Widths.{FewPosesAreNarrow, NoneTooWide}
 use Rattle.sbpl_cost.specs.PrimitiveCost.{DistancesRoundUp, angular_time, distance, heading_gap, linear_time, most_cost, primitive_cost, way_length}
 use Rattle.sbpl_demo.specs.declared.primitives.Motion.{Motion}
 use Rattle.sbpl_demo.specs.Environment.{environment}
 use Rattle.sbpl_demo.specs.Primitives.{motions, poses, primitive, primitives}
-use Rattle.sbpl_demo.proofs.Eighty.{IsNear, IsSound, are_sound, eight_hundred, from_motion, ten}
+use Rattle.sbpl_demo.proofs.Eighty.{all_at, IsNear, IsSound, are_sound, eight_hundred, from_motion, ten}
 
 -- ---- cells
 
@@ -54,13 +53,13 @@ module _ (law : DistancesRoundUp) where
       let rest = steps_close ps qs h.1 k.1 in
       omega (arith, first, rest, sum_by-cons (λ (pair : Pose × Pose). distance pair.0 pair.1) (p, q) (zip ps qs))
 
-  near_behind : (ps : List Pose) → AllByRecursion IsNear ps → AllByRecursion IsNear (drop 1 ps)
-  near_behind [] h = tt
-  near_behind (p ∷ ps) h = h.1
+  near_rest : (ps : List Pose) → AllByRecursion IsNear ps → AllByRecursion IsNear (drop 1 ps)
+  near_rest [] h = tt
+  near_rest (p ∷ ps) h = h.1
 
   way_short : (ps : List Pose) → AllByRecursion IsNear ps → length ps ≡ 10 → way_length ps ≤ 8000000000
   unfolding way_length
-  way_short ps h ten = omega (arith, steps_close ps (drop 1 ps) h (near_behind ps h))
+  way_short ps h ten = omega (arith, steps_close ps (drop 1 ps) h (near_rest ps h))
 
   -- ---- the cost
 

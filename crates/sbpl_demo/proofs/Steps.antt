@@ -12,7 +12,6 @@ use Rattle.sbpl_demo.specs.Environment.{cost_of, costs_drawn}
 use Rattle.sbpl_demo.specs.Changes.{batches, change, writes}
 use Rattle.sbpl_demo.specs.Primitives.{backward, far, forward, head_lines, left, motion_head, motion_lines, motions, motions_from, pose_lines, pose_words, primitives_text, right, way_along}
 use Rattle.sbpl_demo.specs.declared.primitives.Motion.{Motion}
-use Rattle.sbpl_fixed.proofs.Lines.{lines_text-append}
 
 pub word_none : (x : ℕ) → word_after 0 x ≡ x
 unfolding word_after
@@ -63,11 +62,11 @@ writes_next width height n from =
     let before = writes width height n from in
     let more = change width height (word_after (3 * n) from) in
     let next : writes width height (n + 1) from ≡ before ++ more = rw (add-one n) refl in
-    rw (next, map-append write_line before more) (lines_text-append (map write_line before) (map write_line more))
+    rw (next, map-append write_line before more) (flat_map-append line_text (map write_line before) (map write_line more))
 
 -- a batch's writes, and its end
 pub batch_ends : (batch : List Write) → lines_text (batch_lines batch) ≡ lines_text (map write_line batch) ++ line_text replan_line
-batch_ends batch = lines_text-append (map write_line batch) (replan_line ∷ []) ∙ ap (λ (l : List ℕ). text_of batch ++ l) (append-nil (line_text replan_line))
+batch_ends batch = flat_map-append line_text (map write_line batch) (replan_line ∷ []) ∙ ap (λ (l : List ℕ). text_of batch ++ l) (append-nil (line_text replan_line))
 
 pub batches_none : (width height from : ℕ) → changes_text (batches width height 0 from) ≡ []
 unfolding batches
@@ -80,7 +79,7 @@ batches_next width height n from =
     let before = batches width height n from in
     let batch = writes width height 8 (word_after (24 * n) from) in
     let next : batches width height (n + 1) from ≡ before ++ batch ∷ [] = rw (add-one n) refl in
-    rw (next, flat_map-append batch_lines before (batch ∷ []), append-nil (batch_lines batch)) (lines_text-append (flat_map batch_lines before) (batch_lines batch))
+    rw (next, flat_map-append batch_lines before (batch ∷ []), append-nil (batch_lines batch)) (flat_map-append line_text (flat_map batch_lines before) (batch_lines batch))
 
 -- ---- the lines of primitives
 
@@ -109,7 +108,7 @@ motions_next n =
     let next : motions (n + 1) ≡ motions n ++ motions_from n = rw (add-one n) refl in
     rw (next, flat_map-append motion_lines (motions n) (motions_from n)) (flat_map-append line_text (flat_map motion_lines (motions n)) (flat_map motion_lines (motions_from n)))
 
--- the five primitives of a heading, one behind the other
+-- the five primitives of a heading, one after the other
 pub five_written : (from : ℕ) → lines_text (flat_map motion_lines (motions_from from))
     ≡ lines_text (motion_lines (forward from (way_along from)))
     ++ (lines_text (motion_lines (backward from (way_along from)))

@@ -30,6 +30,6 @@ unfoldable pub batches : ℕ → ℕ → ℕ → ℕ → List (List Write)
 batches width height zero from = []
 batches width height (suc n) from = batches width height n from ++ writes width height 8 (word_after (24 * n) from) ∷ []
 
--- the batches of a file: three, drawn behind the costs of the map
+-- the batches of a file: three, drawn after the costs of the map
 abbrev pub changes_drawn : ℕ → ℕ → ℕ → List (List Write)
 changes_drawn width height seed = batches width height 3 (word_after (width * height) seed)

@@ -30,7 +30,7 @@ center cell = pos (25000000 * cell + 12500000)
 abbrev pub center_pose : ℕ → ℕ → Pose
 center_pose x y = record { x = center x; y = center y; theta = pos 0 }
 
--- from the cell behind the first corner to the cell before the last
+-- from the cell after the first corner to the cell before the last
 abbrev pub environment : ℕ → ℕ → Environment
 environment width height = record {
   width = width;

@@ -63,36 +63,36 @@ motion_lines m = motion_head m ++ pose_lines m 10
 
 -- ---- the five primitives of a heading
 
-abbrev pub step : ℤ → ℤ → Way
-step x y = record { x = x; y = y }
+abbrev pub way_of : ℤ → ℤ → Way
+way_of x y = record { x = x; y = y }
 
--- the steps along the headings, in cells
+-- the ways along the headings, in cells
 abbrev pub ways : List Way
 ways =
-    step (pos 1) (pos 0) ∷ step (pos 2) (pos 1) ∷ step (pos 1) (pos 1) ∷ step (pos 1) (pos 2)
-    ∷ step (pos 0) (pos 1) ∷ step (negsuc 0) (pos 2) ∷ step (negsuc 0) (pos 1) ∷ step (negsuc 1) (pos 1)
-    ∷ step (negsuc 0) (pos 0) ∷ step (negsuc 1) (negsuc 0) ∷ step (negsuc 0) (negsuc 0) ∷ step (negsuc 0) (negsuc 1)
-    ∷ step (pos 0) (negsuc 0) ∷ step (pos 1) (negsuc 1) ∷ step (pos 1) (negsuc 0) ∷ step (pos 2) (negsuc 0)
+    way_of (pos 1) (pos 0) ∷ way_of (pos 2) (pos 1) ∷ way_of (pos 1) (pos 1) ∷ way_of (pos 1) (pos 2)
+    ∷ way_of (pos 0) (pos 1) ∷ way_of (negsuc 0) (pos 2) ∷ way_of (negsuc 0) (pos 1) ∷ way_of (negsuc 1) (pos 1)
+    ∷ way_of (negsuc 0) (pos 0) ∷ way_of (negsuc 1) (negsuc 0) ∷ way_of (negsuc 0) (negsuc 0) ∷ way_of (negsuc 0) (negsuc 1)
+    ∷ way_of (pos 0) (negsuc 0) ∷ way_of (pos 1) (negsuc 1) ∷ way_of (pos 1) (negsuc 0) ∷ way_of (pos 2) (negsuc 0)
     ∷ []
 
--- the step along a heading
+-- the way along a heading
 unfoldable pub way_along : ℕ → Way
-way_along heading = get_or ways heading (step (pos 0) (pos 0))
+way_along heading = get_or ways heading (way_of (pos 0) (pos 0))
 
 abbrev pub forward : ℕ → Way → Motion
 forward from along = record { id = 0; «from» = from; way = along; to = pos from; mult = 1 }
 
 abbrev pub backward : ℕ → Way → Motion
-backward from along = record { id = 1; «from» = from; way = step (neg_ℤ along.x) (neg_ℤ along.y); to = pos from; mult = 5 }
+backward from along = record { id = 1; «from» = from; way = way_of (neg_ℤ along.x) (neg_ℤ along.y); to = pos from; mult = 5 }
 
 abbrev pub left : ℕ → Motion
-left from = record { id = 2; «from» = from; way = step (pos 0) (pos 0); to = pos from +ℤ pos 1; mult = 1 }
+left from = record { id = 2; «from» = from; way = way_of (pos 0) (pos 0); to = pos from +ℤ pos 1; mult = 1 }
 
 abbrev pub right : ℕ → Motion
-right from = record { id = 3; «from» = from; way = step (pos 0) (pos 0); to = pos from -ℤ pos 1; mult = 1 }
+right from = record { id = 3; «from» = from; way = way_of (pos 0) (pos 0); to = pos from -ℤ pos 1; mult = 1 }
 
 abbrev pub far : ℕ → Way → Motion
-far from along = record { id = 4; «from» = from; way = step (pos 4 *ℤ along.x) (pos 4 *ℤ along.y); to = pos from; mult = 1 }
+far from along = record { id = 4; «from» = from; way = way_of (pos 4 *ℤ along.x) (pos 4 *ℤ along.y); to = pos from; mult = 1 }
 
 unfoldable pub motions_from : ℕ → List Motion
 motions_from from =
@@ -151,8 +151,8 @@ primitives = record { cell = pos 25000000; headings = 16; items = map primitive 
 
 -- ---- the ranges
 
--- a step goes by at most two cells along an axis
-pub record IsStep (w : Way) : Type 0 where
+-- a way goes by at most two cells along an axis
+pub record IsWithinTwoCells (w : Way) : Type 0 where
   pub x : (negsuc 1 ≤ℤ w.x) × (w.x ≤ℤ pos 2)
   pub y : (negsuc 1 ≤ℤ w.y) × (w.y ≤ℤ pos 2)
 

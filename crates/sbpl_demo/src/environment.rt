@@ -71,7 +71,7 @@ fn center_pose(x: u32, y: u32) -> Pose
     }
 }
 
-/// The environment, whose start is the cell behind the first corner and whose end is the cell before the last.
+/// The environment, whose start is the cell after the first corner and whose end is the cell before the last.
 #[tactic(auto, using(crate::proofs::Environments::is_environment))]
 fn environment(width: u32, height: u32) -> Env
     requires width { (8 ≤ width) × (width ≤ 512) }

@@ -14,7 +14,6 @@ ghost use Rattle.sbpl_demo.specs.Environment.{costs, environment};
 ghost use Rattle.sbpl_demo.specs.Changes.{changes_drawn};
 ghost use Rattle.sbpl_demo.specs.Primitives.{primitives, primitives_text};
 
-use crate::bytes::Bytes;
 use crate::changes::draw_changes;
 use crate::draws::Draws;
 use crate::environment::draw_environment;
@@ -22,10 +21,14 @@ use crate::primitives::primitives;
 use sbpl_cfg::texts_are_environments_or_faulty;
 use sbpl_cost::cost_parts_are_least;
 use sbpl_fixed::NoMemory;
+use sbpl_list::ListOf;
 use sbpl_map::texts_are_changes_or_faulty;
 use sbpl_mprim::texts_are_primitives_or_faulty;
 use sbpl_sweep::few_poses_are_narrow;
 use std::alloc::Global;
+
+/// The bytes of a file.
+pub type Bytes = ListOf<u8>;
 
 /// The three files of a demonstration.
 #[derive(Debug, Drop)]

@@ -1,7 +1,6 @@
 //! The generator of the command `demo`: an environment, primitives and changes from a seed.
 #![tactic(auto)]
 
-mod bytes;
 mod changes;
 mod draws;
 mod environment;
@@ -9,5 +8,4 @@ mod files;
 mod primitives;
 mod put;
 
-pub use bytes::Bytes;
-pub use files::{Demo, generate};
+pub use files::{Bytes, Demo, generate};

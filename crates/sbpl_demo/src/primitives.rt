@@ -4,7 +4,7 @@ ghost use Rattle.std.specs.Prelude.{◌≡◌, ◌<◌, ◌≤◌, ◌++◌, pos
 ghost use Rattle.std.specs.List.{flat_map};
 ghost use Rattle.sbpl_fixed.specs.Printed.{line_text, lines_text};
 ghost use Rattle.sbpl_mprim.specs.Printed.{field};
-ghost use Rattle.sbpl_demo.specs.Primitives.{IsMotion, IsStep, along, angle, backward, end_words, far, forward, heading_at, left, motion_head, motion_lines, motions_from, nearest_ninth, pose_lines, pose_words, primitives_text, right, way_along};
+ghost use Rattle.sbpl_demo.specs.Primitives.{IsMotion, IsWithinTwoCells, along, angle, backward, end_words, far, forward, heading_at, left, motion_head, motion_lines, motions_from, nearest_ninth, pose_lines, pose_words, primitives_text, right, way_along};
 
 use crate::put::{put_count, put_parts, put_signed, put_word};
 use sbpl_fixed::NoMemory;
@@ -169,7 +169,7 @@ fn put_motion(out: &mut Vec<u8>, motion: &Motion) -> Result<(), NoMemory>
 fn way_along(heading: u32) -> Way
     requires heading { heading < 16 }
     ensures way { result ≡ way_along heading }
-    ensures small { IsStep result }
+    ensures small { IsWithinTwoCells result }
 {
     WAYS[heading as usize]
 }
@@ -177,7 +177,7 @@ fn way_along(heading: u32) -> Way
 /// A step forward.
 fn forward(from: u32, step: Way) -> Motion
     requires heading { from < 16 }
-    requires step { IsStep step }
+    requires step { IsWithinTwoCells step }
     ensures motion { result ≡ forward from step }
     ensures small { IsMotion result }
 {
@@ -193,7 +193,7 @@ fn forward(from: u32, step: Way) -> Motion
 /// A step back, which is dear.
 fn backward(from: u32, step: Way) -> Motion
     requires heading { from < 16 }
-    requires step { IsStep step }
+    requires step { IsWithinTwoCells step }
     ensures motion { result ≡ backward from step }
     ensures small { IsMotion result }
 {
@@ -242,7 +242,7 @@ fn right(from: u32) -> Motion
 /// Four steps forward.
 fn far(from: u32, step: Way) -> Motion
     requires heading { from < 16 }
-    requires step { IsStep step }
+    requires step { IsWithinTwoCells step }
     ensures motion { result ≡ far from step }
     ensures small { IsMotion result }
 {

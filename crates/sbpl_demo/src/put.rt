@@ -1,4 +1,4 @@
-//! Words and numbers of a line, each with the byte behind it.
+//! Words and numbers of a line, each with the byte after it.
 
 ghost use Rattle.std.specs.Prelude.{◌≡◌, ◌+◌, ◌-◌, ◌<◌, [], ◌∷◌, ◌++◌, decimal, OnOk};
 ghost use Rattle.std.specs.Fmt.{signed_decimal};
@@ -8,7 +8,7 @@ ghost use Rattle.sbpl_demo.specs.Primitives.{parts_text};
 use itoa::Buffer;
 use sbpl_fixed::NoMemory;
 
-/// Appends a word, and a space or a line feed behind it.
+/// Appends a word, and a space or a line feed after it.
 pub(crate) fn put_word(out: &mut Vec<u8>, word: &[u8], end: u8) -> Result<(), NoMemory>
     ensures ok { OnOk result (out.new.items ≡ out.old.items ++ (word.now ++ end ∷ [])) }
 {
@@ -44,7 +44,7 @@ fn put_digit(out: &mut Vec<u8>, digit: u32) -> Result<(), NoMemory>
     Ok(())
 }
 
-/// Appends the last `count` digits of a number, with zeros in front.
+/// Appends the last `count` digits of a number, with leading zeros.
 #[tactic(auto, using(crate::proofs::Steps::digits_next, sbpl_fixed::proofs::Lines::after_two, std::proofs::lemmas::List::append_assoc))]
 fn put_last_digits(out: &mut Vec<u8>, count: u32, n: u32) -> Result<(), NoMemory>
     ensures ok { OnOk result (out.new.items ≡ out.old.items ++ last_digits count n) }

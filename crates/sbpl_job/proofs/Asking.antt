@@ -14,25 +14,25 @@ use Rattle.sbpl_job.specs.Words.{parts_of}
 abbrev Word : Type 0
 Word = List ℕ
 
--- the job of a command with these words behind it
-abbrev job_behind : List Word → Command → Option Job
-job_behind words c = option_and_then (job_by c) (parts_of c words)
+-- the job of a command with these words after it
+abbrev job_of_words : List Word → Command → Option Job
+job_of_words words c = option_and_then (job_by c) (parts_of c words)
 
 -- a command alone is no job
-alone : (c : Command) → job_behind [] c ≡ None
+alone : (c : Command) → job_of_words [] c ≡ None
 alone command.Plan = refl
 alone command.Check = refl
 alone command.Sweep = refl
 alone command.Demo = refl
 
 -- a command takes no setting of the name `--help`
-with_help : (c : Command) → job_behind (codes "--help" ∷ []) c ≡ None
+with_help : (c : Command) → job_of_words (codes "--help" ∷ []) c ≡ None
 with_help command.Plan = refl
 with_help command.Check = refl
 with_help command.Sweep = refl
 with_help command.Demo = refl
 
-none_by : (words : List Word) → ((c : Command) → job_behind words c ≡ None) → (o : Option Command) → option_and_then (job_behind words) o ≡ None
+none_by : (words : List Word) → ((c : Command) → job_of_words words c ≡ None) → (o : Option Command) → option_and_then (job_of_words words) o ≡ None
 none_by words none None = refl
 none_by words none (Some c) = none c
 

@@ -456,7 +456,7 @@ goes_value c k s x rows takes_it plain =
           ∙ ap (λ (m : Held × Rattle.clap.specs.Walk.Step). step_fault (shape c) (k + 1) m.0 m.1) met;
     }
 
--- a setting's name in the place of a value is a fault
+-- a setting's name where a value must stand is a fault
 no_value : (c : Command) (k : ℕ) (s t : Setting) (rows : List Row) → takes c s ≡ true → takes c t ≡ true
     → turn_fault (shape c) [] (at rows (Some (id_of s, [])) (option (id_of s)) k) (name_of t) ≡ InvalidValue ∷ []
 no_value c k s t rows takes_s takes_t =

@@ -90,27 +90,27 @@ plain_sets_nothing c x plain = elim (some_or_none (setting_of c x)) [
 
 -- ---- names and values in one word
 
-cut_before : (s : Setting) (value : Word) → before_first is_equals (name_of s ++ (61 ∷ value)) ≡ name_of s
-cut_before setting.Changes value = refl
-cut_before setting.Radius value = refl
-cut_before setting.Planner value = refl
-cut_before setting.First value = refl
-cut_before setting.Step value = refl
-cut_before setting.Bound value = refl
-cut_before setting.Budget value = refl
-cut_before setting.Labels value = refl
-cut_before setting.Trace value = refl
+split_before : (s : Setting) (value : Word) → before_first is_equals (name_of s ++ (61 ∷ value)) ≡ name_of s
+split_before setting.Changes value = refl
+split_before setting.Radius value = refl
+split_before setting.Planner value = refl
+split_before setting.First value = refl
+split_before setting.Step value = refl
+split_before setting.Bound value = refl
+split_before setting.Budget value = refl
+split_before setting.Labels value = refl
+split_before setting.Trace value = refl
 
-cut_behind : (s : Setting) (value : Word) → after_first is_equals (name_of s ++ (61 ∷ value)) ≡ value
-cut_behind setting.Changes value = refl
-cut_behind setting.Radius value = refl
-cut_behind setting.Planner value = refl
-cut_behind setting.First value = refl
-cut_behind setting.Step value = refl
-cut_behind setting.Bound value = refl
-cut_behind setting.Budget value = refl
-cut_behind setting.Labels value = refl
-cut_behind setting.Trace value = refl
+split_after : (s : Setting) (value : Word) → after_first is_equals (name_of s ++ (61 ∷ value)) ≡ value
+split_after setting.Changes value = refl
+split_after setting.Radius value = refl
+split_after setting.Planner value = refl
+split_after setting.First value = refl
+split_after setting.Step value = refl
+split_after setting.Bound value = refl
+split_after setting.Budget value = refl
+split_after setting.Labels value = refl
+split_after setting.Trace value = refl
 
 name_is_whole : (s : Setting) → after_first is_equals (name_of s) ≡ []
 name_is_whole setting.Changes = refl
@@ -127,7 +127,7 @@ plain_is_long : (x : Word) → is_plain_word x ≡ true → 0 < length x
 plain_is_long [] plain = absurd (true≢false (sym plain))
 plain_is_long (b ∷ bs) plain = omega arith
 
--- a word with something behind its first '=' is put together again
+-- a word with something after its first '=' is put together again
 rejoined : (x : Word) → is_plain_word (after_first is_equals x) ≡ true → x ≡ before_first is_equals x ++ (61 ∷ after_first is_equals x)
 rejoined x plain =
     let some = plain_is_long (after_first is_equals x) plain in
@@ -148,17 +148,17 @@ front_is_plain (b ∷ bs) s plain e =
 not_joined : (c : Command) (x : Word) → is_joined c x ≡ false → spaced_word c x ≡ x ∷ []
 not_joined c x e = ap (λ b. option_map_or (λ (parts : Word × Word). parts.0 ∷ (parts.1 ∷ [])) (if b then Some (before_first is_equals x, after_first is_equals x) else None) (x ∷ [])) e
 
-is_cut : (c : Command) (x : Word) → is_joined c x ≡ true → spaced_word c x ≡ before_first is_equals x ∷ (after_first is_equals x ∷ [])
-is_cut c x e = ap (λ b. option_map_or (λ (parts : Word × Word). parts.0 ∷ (parts.1 ∷ [])) (if b then Some (before_first is_equals x, after_first is_equals x) else None) (x ∷ [])) e
+is_split : (c : Command) (x : Word) → is_joined c x ≡ true → spaced_word c x ≡ before_first is_equals x ∷ (after_first is_equals x ∷ [])
+is_split c x e = ap (λ b. option_map_or (λ (parts : Word × Word). parts.0 ∷ (parts.1 ∷ [])) (if b then Some (before_first is_equals x, after_first is_equals x) else None) (x ∷ [])) e
 
 -- the parts of a word that has both
-record IsCut (c : Command) (x : Word) (s : Setting) : Type 0 where
+record IsSplit (c : Command) (x : Word) (s : Setting) : Type 0 where
   name : before_first is_equals x ≡ name_of s
   takes_it : takes c s ≡ true
   plain : is_plain_word (after_first is_equals x) ≡ true
 
-cut_parts : (c : Command) (x : Word) → is_joined c x ≡ true → (s : Setting) × IsCut c x s
-cut_parts c x e =
+split_parts : (c : Command) (x : Word) → is_joined c x ≡ true → (s : Setting) × IsSplit c x s
+split_parts c x e =
     let both = and_parts (is_some (setting_of c (before_first is_equals x))) (is_plain_word (after_first is_equals x)) e in
     let found = it_is (setting_of c (before_first is_equals x)) both.0 in
     let it = the_name c (before_first is_equals x) found.0 found.1 in
@@ -166,7 +166,7 @@ cut_parts c x e =
 
 spaced_plain : (c : Command) (x : Word) → is_plain_word x ≡ true → spaced_word c x ≡ x ∷ []
 spaced_plain c x plain = elim (cases_Bool (is_joined c x)) [
-  | inl both ↦ let it = cut_parts c x both in absurd (front_is_plain x it.0 plain it.1.name)
+  | inl both ↦ let it = split_parts c x both in absurd (front_is_plain x it.0 plain it.1.name)
   | inr other ↦ not_joined c x other
 ]
 
@@ -176,9 +176,9 @@ spaced_name c s = not_joined c (name_of s) (and_right (is_some (setting_of c (be
 spaced_joined : (c : Command) (s : Setting) (value : Word) → takes c s ≡ true → is_plain_word value ≡ true → spaced_word c (name_of s ++ (61 ∷ value)) ≡ name_of s ∷ (value ∷ [])
 spaced_joined c s value takes_it plain =
     let x = name_of s ++ (61 ∷ value) in
-    let has : is_some (setting_of c (before_first is_equals x)) ≡ true = ap (λ n. is_some (setting_of c n)) (cut_before s value) ∙ ap is_some (by_name c s takes_it) in
-    let good : is_plain_word (after_first is_equals x) ≡ true = ap is_plain_word (cut_behind s value) ∙ plain in
-    is_cut c x (and_from _ _ has good) ∙ ap₂ (λ (a b : Word). a ∷ (b ∷ [])) (cut_before s value) (cut_behind s value)
+    let has : is_some (setting_of c (before_first is_equals x)) ≡ true = ap (λ n. is_some (setting_of c n)) (split_before s value) ∙ ap is_some (by_name c s takes_it) in
+    let good : is_plain_word (after_first is_equals x) ≡ true = ap is_plain_word (split_after s value) ∙ plain in
+    is_split c x (and_from _ _ has good) ∙ ap₂ (λ (a b : Word). a ∷ (b ∷ [])) (split_before s value) (split_after s value)
 
 -- ---- from forms to parts
 
@@ -305,8 +305,8 @@ pairs_at c s value fs takes_it single more =
     let first = and_parts (stands_once c (name_of s) (value ∷ xs)) (once c (value ∷ xs)) single in
     let second = and_parts (stands_once c value xs) (once c xs) first.1 in
     let none = not-true (list_any (bytes_eq (name_of s)) (value ∷ xs)) (sym (name_once c s (value ∷ xs) takes_it) ∙ first.0) in
-    let behind = or_parts (bytes_eq (name_of s) value) (list_any (bytes_eq (name_of s)) xs) none in
-    AllPairs-cons Differ (record { setting = s; value = value }) (flat_map given_of fs) (others fs s behind.1) (more second.1)
+    let after = or_parts (bytes_eq (name_of s) value) (list_any (bytes_eq (name_of s)) xs) none in
+    AllPairs-cons Differ (record { setting = s; value = value }) (flat_map given_of fs) (others fs s after.1) (more second.1)
 
 pairs_forms : (fs : List Form) (c : Command) → All (IsFit c) fs → once c (flat_map spaced_form fs) ≡ true → AllPairs Differ (flat_map given_of fs)
 pairs_forms [] c fit single = λ i j d lt within. absurd (omega arith)
@@ -382,7 +382,7 @@ one_word c x words p h more = elim (cases_Bool (is_plain_word x)) [
 ]
 
 -- a name with its value
-both_in_one : (c : Command) (x : Word) (words : List Word) (p : Parts) (s : Setting) → IsCut c x s → parts_after c None (before_first is_equals x ∷ (after_first is_equals x ∷ spaced c words)) ≡ Some p
+both_in_one : (c : Command) (x : Word) (words : List Word) (p : Parts) (s : Setting) → IsSplit c x s → parts_after c None (before_first is_equals x ∷ (after_first is_equals x ∷ spaced c words)) ≡ Some p
     → ((q : Parts) → parts_after c None (spaced c words) ≡ Some q → HasForms c words q) → HasForms c (x ∷ words) p
 both_in_one c x words p s cut h more =
     let value = after_first is_equals x in
@@ -399,14 +399,14 @@ continues [] c None p h = record { forms = []; fit = All-nil (IsFit c); spelled 
 continues [] c (Some s) p h = absurd (none-some p h)
 continues (x ∷ words) c None p h = elim (cases_Bool (is_joined c x)) [
   | inl both ↦
-      let it = cut_parts c x both in
-      both_in_one c x words p it.0 it.1 (ap (λ (l : List Word). parts_after c None (l ++ spaced c words)) (sym (is_cut c x both)) ∙ h) (continues words c None)
+      let it = split_parts c x both in
+      both_in_one c x words p it.0 it.1 (ap (λ (l : List Word). parts_after c None (l ++ spaced c words)) (sym (is_split c x both)) ∙ h) (continues words c None)
   | inr other ↦ one_word c x words p (ap (λ (l : List Word). parts_after c None (l ++ spaced c words)) (sym (not_joined c x other)) ∙ h) (continues words c)
 ]
 continues (x ∷ words) c (Some s) p h = elim (cases_Bool (is_joined c x)) [
   | inl both ↦
-      let it = cut_parts c x both in
-      let next = value_next c s (before_first is_equals x) (after_first is_equals x ∷ spaced c words) p (ap (λ (l : List Word). parts_after c (Some s) (l ++ spaced c words)) (sym (is_cut c x both)) ∙ h) in
+      let it = split_parts c x both in
+      let next = value_next c s (before_first is_equals x) (after_first is_equals x ∷ spaced c words) p (ap (λ (l : List Word). parts_after c (Some s) (l ++ spaced c words)) (sym (is_split c x both)) ∙ h) in
       absurd (name_is_not it.0 (before_first is_equals x) next.0 (sym it.1.name))
   | inr other ↦
       let next = value_next c s x (spaced c words) p (ap (λ (l : List Word). parts_after c (Some s) (l ++ spaced c words)) (sym (not_joined c x other)) ∙ h) in

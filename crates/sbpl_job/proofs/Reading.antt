@@ -36,7 +36,7 @@ abbrev pub lookup : Text → Uses → Option Text
 lookup id [] = None
 lookup id (u ∷ us) = if bytes_eq u.0 id then Some u.1 else lookup id us
 
--- the uses hold what the parts hold, where the plain words begin with that of place k
+-- the uses hold what the parts hold, where the plain words begin with number k
 pub record Agrees (c : Command) (k : ℕ) (parts : Option Parts) (us : Uses) : Type 0 where
   pub p : Parts
   pub parts_are : parts ≡ Some p
@@ -44,7 +44,7 @@ pub record Agrees (c : Command) (k : ℕ) (parts : Option Parts) (us : Uses) : T
   pub plains : (j : ℕ) (id : Text) → plain_id c (k + j) ≡ Some id → lookup id us ≡ word_at p.plain j
   pub ends : (j : ℕ) → plain_id c (k + j) ≡ None → word_at p.plain j ≡ None
 
--- a plain word stands where the command has no place for it
+-- a plain word stands where the command takes none
 abbrev pub IsLong : Command → ℕ → Parts → Type 0
 IsLong c k p = (j : ℕ) × (plain_id c (k + j) ≡ None) × (is_some (word_at p.plain j) ≡ true)
 
@@ -77,7 +77,7 @@ passes id u us apart = ap (λ b. if b then Some u.1 else lookup id us) apart
 meets : (id : Text) (u : Text × Text) (us : Uses) → bytes_eq u.0 id ≡ true → lookup id (u ∷ us) ≡ Some u.1
 meets id u us same = ap (λ b. if b then Some u.1 else lookup id us) same
 
--- a plain word at place k
+-- plain word number k
 agrees_plain : (c : Command) (k : ℕ) (id x : Text) (parts : Option Parts) (us : Uses) → plain_id c k ≡ Some id → Agrees c (k + 1) parts us → Agrees c k (option_map (with_plain x) parts) ((id, x) ∷ us)
 agrees_plain c k id x parts us is so = record {
   p = with_plain x so.p;

@@ -25,9 +25,9 @@ fit_from c (word ∷ words) known single =
     and_from (is_known c word && stands_once c word words) (are_fit c words) (and_from (is_known c word) (stands_once c word words) k.0 s.0) (fit_from c words k.1 s.1)
 
 -- a word that is neither plain nor a setting's name has no part
-nothing_behind : (c : Command) (words : List (List ℕ)) → ((s : Setting) → parts_after c (Some s) words ≡ None) → (o : Option Setting) → option_and_then (λ s. parts_after c (Some s) words) o ≡ None
-nothing_behind c words none (Some s) = none s
-nothing_behind c words none None = refl
+none_after : (c : Command) (words : List (List ℕ)) → ((s : Setting) → parts_after c (Some s) words ≡ None) → (o : Option Setting) → option_and_then (λ s. parts_after c (Some s) words) o ≡ None
+none_after c words none (Some s) = none s
+none_after c words none None = refl
 
 no_setting : (c : Command) (words : List (List ℕ)) (o : Option Setting) → is_some o ≡ false → option_and_then (λ s. parts_after c (Some s) words) o ≡ None
 no_setting c words (Some s) none = absurd (true≢false none)
@@ -46,7 +46,7 @@ unknown_is_none (word ∷ words) c (Some s) unknown = elim (and_cases (is_known 
 unknown_is_none (word ∷ words) c None unknown = elim (and_cases (is_known c word) (list_all (is_known c) words) unknown) [
   | inl here ↦ let both = or_parts (is_plain_word word) (is_some (setting_of c word)) here in
       ap (λ b. if b then option_map (with_plain word) (parts_after c None words) else option_and_then (λ s. parts_after c (Some s) words) (setting_of c word)) both.0 ∙ no_setting c words (setting_of c word) both.1
-  | inr later ↦ ap₂ (λ (o q : Option Parts). if is_plain_word word then option_map (with_plain word) o else q) (unknown_is_none words c None later) (nothing_behind c words (λ s. unknown_is_none words c (Some s) later) (setting_of c word)) ∙ either (is_plain_word word)
+  | inr later ↦ ap₂ (λ (o q : Option Parts). if is_plain_word word then option_map (with_plain word) o else q) (unknown_is_none words c None later) (none_after c words (λ s. unknown_is_none words c (Some s) later) (setting_of c word)) ∙ either (is_plain_word word)
 ]
   where
     either : (b : Bool) → ◌≡◌ {A = Option Parts} (if b then None else None) None

@@ -11,7 +11,7 @@ asked_of word =
     if bytes_eq word (codes "--help") || bytes_eq word (codes "-h") then Some asked.Help
     else (if bytes_eq word (codes "--version") || bytes_eq word (codes "-V") then Some asked.Version else None)
 
--- what words ask for: such a word, or `--help` behind a command
+-- what words ask for: such a word, or `--help` after a command
 abbrev pub asked_for : List (List ℕ) → Option Asked
 asked_for (word ∷ []) = asked_of word
 asked_for (word ∷ (help ∷ [])) = if bytes_eq help (codes "--help") then option_map asked.HelpOf (command_named word) else None

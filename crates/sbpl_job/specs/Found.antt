@@ -17,7 +17,7 @@ use Rattle.sbpl_job.specs.Jobs.{Settings, check_in, demo_in, job_by, plan_in, sw
 abbrev pub set_in : ArgMatches → Settings
 set_in m s = first_value (found_of m) (id_of s)
 
--- the word at a place
+-- the word at an index
 abbrev pub word_at : List (List ℕ) → ℕ → Option (List ℕ)
 word_at [] k = None
 word_at (word ∷ words) zero = Some word

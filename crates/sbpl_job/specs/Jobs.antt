@@ -50,7 +50,7 @@ sources_by env prims radius = option_map (λ r. record { env = env; prims = prim
 abbrev pub sources_in : (env prims : List ℕ) → Settings → Option Sources
 sources_in env prims set = sources_by env prims (radius_by (set setting.Radius))
 
--- the thousandths that so many billionths are exactly, in their range
+-- the thousandths that a number of billionths is exactly, in their range
 abbrev pub milli_from : (low high nano : ℕ) → Option ℕ
 milli_from low high nano = if nat_eq (nano % 10 ^ 6) 0 && (nat_le low (nano / 10 ^ 6) && nat_le (nano / 10 ^ 6) high) then Some (nano / 10 ^ 6) else None
 

@@ -1,4 +1,4 @@
--- How the words behind a command's name part into plain words and settings with their values.
+-- How the words after a command's name part into plain words and settings with their values.
 use Rattle.std.specs.Prelude.{◌≡◌, ℕ, Bool, true, false, not, nat_eq, ◌&&◌, ◌||◌, List, [], ◌∷◌, ◌++◌, map, Option, Some, None, is_some, option_map, option_and_then, Result, Ok, Err, codes, if◌then◌else◌}
 use Rattle.std.specs.Str.{bytes_eq}
 use denote.Ref.{Bor}
@@ -96,7 +96,7 @@ is_joined c word = is_some (setting_of c (before_first is_equals word)) && is_pl
 abbrev pub joined_word : Command → List ℕ → Option (List ℕ × List ℕ)
 joined_word c word = if is_joined c word then Some (before_first is_equals word, after_first is_equals word) else None
 
--- words in the spaced form, in which the value of a setting is the word behind its name
+-- words in the spaced form, in which the value of a setting is the word after its name
 abbrev pub spaced_word : Command → List ℕ → List (List ℕ)
 spaced_word c word = option_map_or (λ parts. parts.0 ∷ (parts.1 ∷ [])) (joined_word c word) (word ∷ [])
 
@@ -118,7 +118,7 @@ parts_after c None (word ∷ words) =
     if is_plain_word word then option_map (with_plain word) (parts_after c None words)
     else option_and_then (λ s. parts_after c (Some s) words) (setting_of c word)
 
--- a setting's name does not stand again behind it
+-- a setting's name does not stand again after it
 abbrev pub stands_once : Command → List ℕ → List (List ℕ) → Bool
 stands_once c word words = not (option_map_or (λ _. list_any (bytes_eq word) words) (setting_of c word) false)
 

@@ -9,7 +9,7 @@ use crate::read::command_named;
 use crate::words::Command;
 use std::alloc::{AllocError, Global};
 
-/// What words ask to be told in place of a job.
+/// What words ask to be told instead of a job.
 #[derive(Clone, Copy, Debug, PartialEq, Eq)]
 pub enum Asked {
     /// `--help` or `-h`: what the program does.

@@ -188,7 +188,7 @@ fn job_in(alloc: Global, command: Command, words: &[&str]) -> Result<Job, JobFau
 
 /// The job that the words after the program's name stand for. `Words` exactly where they name no job.
 ///
-/// The first word is the command. The words behind it are plain words, which are not empty and do not begin with `-`;
+/// The first word is the command. The words after it are plain words, which are not empty and do not begin with `-`;
 /// settings, each followed by a plain word as its value; and settings joined with their value by `=`. They stand in any
 /// order, and a setting at most once.
 pub fn read_job(alloc: Global, words: &[String]) -> Result<Job, JobFault>

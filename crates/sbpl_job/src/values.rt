@@ -50,7 +50,7 @@ fn read_milli(text: &str, low: u32, high: u32) -> Result<u32, JobFault>
     }
 }
 
-/// The thousandths that so many billionths are, in their range.
+/// The thousandths that `nano` billionths are, in their range.
 fn milli_of(nano: u64, low: u32, high: u32) -> Result<u32, JobFault>
     ensures milli { Names (milli_from low high nano) result }
     ensures range { IfOk result (λ m. (low ≤ m) × (m ≤ high)) }

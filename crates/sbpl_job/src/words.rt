@@ -1,4 +1,4 @@
-//! Words: commands, settings, and the spaced form, in which a setting's value is the word behind its name.
+//! Words: commands, settings, and the spaced form, in which a setting's value is the word after its name.
 
 ghost use Rattle.std.specs.Prelude.{◌≡◌, ◌&&◌, IfOk, map, option_map, string_bytes};
 ghost use Rattle.std.specs.List.{list_any};
@@ -21,7 +21,7 @@ pub enum Command {
     Demo,
 }
 
-/// Something that the words can set, by a value behind its name.
+/// Something that the words can set, by a value after its name.
 #[derive(Clone, Copy, Debug, PartialEq, Eq)]
 pub enum Setting {
     /// `--changes`: the file of changes that are made after the first plan.
@@ -165,7 +165,7 @@ pub(crate) fn are_fit(command: Command, words: &[&str]) -> bool
 }
 
 /// Words have parts exactly where they are, in turn, plain words and settings that the command takes, each with its plain
-/// value in the next word or behind `=`, and no setting is given twice; and these are the parts. It does nothing.
+/// value in the next word or after `=`, and no setting is given twice; and these are the parts. It does nothing.
 pub fn words_part_into_forms()
     ensures parts { PartsAreOfForms }
     ensures none { NoPartsWithoutForms }

@@ -3,9 +3,9 @@ use Rattle.std.proofs.Common.{◌≡◌, ◌≢◌, ℕ, ℤ, pos, negsuc, ◌+�
 use Rattle.std.proofs.lemmas.Bool.Decides.{nat_tests}
 use Rattle.std.proofs.lemmas.Option.{cond_some, none-some, slice_get-get_or}
 use Rattle.std.proofs.lemmas.Nat.{same_from_place, mul-add-lt}
-use Rattle.sbpl_map.specs.CellMap.{CellMap, IsCellMap, place_in, cost_at, ChangesCell}
+use Rattle.sbpl_map.specs.CellMap.{CellMap, IsCellMap, index_in, cost_at, ChangesCell}
 
--- a cell that has a place has its column and its row inside the map
+-- a cell that has an index has its column and its row inside the map
 pub record StandsAt (m : CellMap) (x y : ℤ) (p : ℕ) : Type 0 where
   pub column : ℕ
   pub row : ℕ
@@ -13,9 +13,9 @@ pub record StandsAt (m : CellMap) (x y : ℤ) (p : ℕ) : Type 0 where
   pub y_is : y ≡ pos row
   pub right : column < m.width
   pub high : row < m.height
-  pub place : p ≡ row * m.width + column
+  pub index : p ≡ row * m.width + column
 
-pub stands_at : (m : CellMap) (x y : ℤ) (p : ℕ) → place_in m x y ≡ Some p → StandsAt m x y p
+pub stands_at : (m : CellMap) (x y : ℤ) (p : ℕ) → index_in m x y ≡ Some p → StandsAt m x y p
 stands_at m (pos a) (pos b) p e =
     let h = cond_some (nat_lt a m.width && nat_lt b m.height) (b * m.width + a) p e in
     record {
@@ -25,30 +25,30 @@ stands_at m (pos a) (pos b) p e =
       y_is = refl;
       right = grind (arith, nat_tests);
       high = grind (arith, nat_tests);
-      place = sym h.1;
+      index = sym h.1;
     }
 stands_at m (pos a) (negsuc b) p e = absurd (none-some p e)
 stands_at m (negsuc a) y p e = absurd (none-some p e)
 
--- a place is inside the list
-pub place_below : (m : CellMap) (x y : ℤ) (p : ℕ) → IsCellMap m → place_in m x y ≡ Some p → p < length m.costs
-place_below m x y p kept e =
+-- an index is inside the list
+pub index_below : (m : CellMap) (x y : ℤ) (p : ℕ) → IsCellMap m → index_in m x y ≡ Some p → p < length m.costs
+index_below m x y p kept e =
     let at = stands_at m x y p e in
     let h = mul-add-lt at.row m.width at.column m.height at.high at.right in
-    omega (arith, kept.cells, at.place, h)
+    omega (arith, kept.cells, at.index, h)
 
--- two cells at one place are one cell
-pub one_cell : (m : CellMap) (x y u v : ℤ) (p q : ℕ) → place_in m x y ≡ Some p → place_in m u v ≡ Some q → q ≡ p → (u ≡ x) × (v ≡ y)
+-- two cells with one index are one cell
+pub one_cell : (m : CellMap) (x y u v : ℤ) (p q : ℕ) → index_in m x y ≡ Some p → index_in m u v ≡ Some q → q ≡ p → (u ≡ x) × (v ≡ y)
 one_cell m x y u v p q e f same =
     let a = stands_at m x y p e in
     let b = stands_at m u v q f in
-    let one = same_from_place b.row b.column a.row a.column m.width b.right a.right (sym b.place ∙ same ∙ a.place) in
+    let one = same_from_place b.row b.column a.row a.column m.width b.right a.right (sym b.index ∙ same ∙ a.index) in
     (b.x_is ∙ ap pos one.1 ∙ sym a.x_is, b.y_is ∙ ap pos one.0 ∙ sym a.y_is)
 
--- the cost that stands at a cell's place is the cell's
-pub cost_read : (m : CellMap) (costs : List ℕ) (x y : ℤ) (p r : ℕ) → IsCellMap m → costs ≡ m.costs → place_in m x y ≡ Some p → r ≡ get_or costs p r → cost_at m x y ≡ Some r
+-- the cost at a cell's index is the cell's
+pub cost_read : (m : CellMap) (costs : List ℕ) (x y : ℤ) (p r : ℕ) → IsCellMap m → costs ≡ m.costs → index_in m x y ≡ Some p → r ≡ get_or costs p r → cost_at m x y ≡ Some r
 cost_read m costs x y p r kept same e s =
-    let h = place_below m x y p kept e in
+    let h = index_below m x y p kept e in
     rw (e, slice_get-get_or m.costs p r h, ← same) (ap Some (sym s))
 
 slice_get-set_same : (xs : List ℕ) (i y : ℕ) → i < length xs → slice_get (set xs i y) i ≡ Some y
@@ -63,19 +63,19 @@ slice_get-set_other (x ∷ xs) zero (suc j) y h = refl
 slice_get-set_other (x ∷ xs) (suc i) zero y h = refl
 slice_get-set_other (x ∷ xs) (suc i) (suc j) y h = slice_get-set_other xs i j y (λ e. h (ap suc e))
 
--- what stands at other places is unchanged
+-- what stands at other indices is unchanged
 others_unchanged : (costs : List ℕ) (p c : ℕ) (o : Option ℕ) → ((q : ℕ) → o ≡ Some q → q ≢ p) → option_and_then (slice_get (set costs p c)) o ≡ option_and_then (slice_get costs) o
 others_unchanged costs p c None other = refl
 others_unchanged costs p c (Some q) other = slice_get-set_other costs p q c (other q refl)
 
--- a write to a cell's place changes that cell and nothing else
-pub cell_changed : (m : CellMap) (x y : ℤ) (p c : ℕ) → IsCellMap m → place_in m x y ≡ Some p
+-- a write at a cell's index changes that cell and nothing else
+pub cell_changed : (m : CellMap) (x y : ℤ) (p c : ℕ) → IsCellMap m → index_in m x y ≡ Some p
     → ChangesCell m (record { width = m.width; height = m.height; costs = set m.costs p c }) x y c
 cell_changed m x y p c kept e = record {
   width = refl;
   height = refl;
-  at = let h = place_below m x y p kept e in rw e (slice_get-set_same m.costs p c h);
-  others = λ u v differs. others_unchanged m.costs p c (place_in m u v) (λ q f same.
+  at = let h = index_below m x y p kept e in rw e (slice_get-set_same m.costs p c h);
+  others = λ u v differs. others_unchanged m.costs p c (index_in m u v) (λ q f same.
       let one = one_cell m x y u v p q e f same in
       elim differs as (λ _. ⊥) [ inl d ↦ d one.0 | inr d ↦ d one.1 ]);
 }

@@ -17,20 +17,20 @@ answered (Ok x) read e = sym e
 answered (Err f) read e = λ _. sym e
 
 -- what all lines give, by what the first of those that are left gives
-first_read : (m : CellMap) (at : ℕ) (rest line behind : List ℕ) (d : Drafted) (all : Result (List (List Write)) ChangeFault)
-    → reads_on m at (lines rest) d ≡ all → lines rest ≡ line ∷ lines behind → then_on (judged m at (fields line)) (λ s. reads_on m (at + 1) (lines behind) (drafted d at s)) ≡ all
+first_read : (m : CellMap) (at : ℕ) (rest line after : List ℕ) (d : Drafted) (all : Result (List (List Write)) ChangeFault)
+    → reads_on m at (lines rest) d ≡ all → lines rest ≡ line ∷ lines after → then_on (judged m at (fields line)) (λ s. reads_on m (at + 1) (lines after) (drafted d at s)) ≡ all
 unfolding reads_on
-first_read m at rest line behind d all h e = rw e at h
+first_read m at rest line after d all h e = rw e at h
 
-pub goes_on : (m : CellMap) (at : ℕ) (rest line behind : List ℕ) (d new : Drafted) (s : Said) (all : Result (List (List Write)) ChangeFault)
-    → reads_on m at (lines rest) d ≡ all → lines rest ≡ line ∷ lines behind → judged m at (fields line) ≡ Ok s → new ≡ drafted d at s → reads_on m (at + 1) (lines behind) new ≡ all
-goes_on m at rest line behind d new s all h e j n =
-    let there = rw j at (first_read m at rest line behind d all h e) in
+pub goes_on : (m : CellMap) (at : ℕ) (rest line after : List ℕ) (d new : Drafted) (s : Said) (all : Result (List (List Write)) ChangeFault)
+    → reads_on m at (lines rest) d ≡ all → lines rest ≡ line ∷ lines after → judged m at (fields line) ≡ Ok s → new ≡ drafted d at s → reads_on m (at + 1) (lines after) new ≡ all
+goes_on m at rest line after d new s all h e j n =
+    let there = rw j at (first_read m at rest line after d all h e) in
     rw n there
 
-pub stops : (m : CellMap) (at : ℕ) (rest line behind : List ℕ) (d : Drafted) (f : ChangeFault) (all : Result (List (List Write)) ChangeFault)
-    → reads_on m at (lines rest) d ≡ all → lines rest ≡ line ∷ lines behind → judged m at (fields line) ≡ Err f → all ≡ Err f
-stops m at rest line behind d f all h e j = sym (rw j at (first_read m at rest line behind d all h e))
+pub stops : (m : CellMap) (at : ℕ) (rest line after : List ℕ) (d : Drafted) (f : ChangeFault) (all : Result (List (List Write)) ChangeFault)
+    → reads_on m at (lines rest) d ≡ all → lines rest ≡ line ∷ lines after → judged m at (fields line) ≡ Err f → all ≡ Err f
+stops m at rest line after d f all h e j = sym (rw j at (first_read m at rest line after d all h e))
 
 pub ends : (m : CellMap) (at : ℕ) (rest : List ℕ) (d : Drafted) (all : Result (List (List Write)) ChangeFault)
     → reads_on m at (lines rest) d ≡ all → length rest ≡ 0 → all ≡ closed d

@@ -8,9 +8,9 @@ use Rattle.sbpl_fixed.specs.Numbers.{whole_of}
 use Rattle.sbpl_fixed.specs.declared.fault.NumFault.{NumFault}
 use Rattle.sbpl_fixed.specs.declared.fault.NumFault.TheVariants.{Form, Size}
 use Rattle.sbpl_map.specs.CellMap.{CellMap}
-use Rattle.sbpl_map.specs.ChangeText.{cell_line, Gives, GiveWrite, IsWriteOnMap, Says}
+use Rattle.sbpl_map.specs.ChangeText.{cell_line, IsNumberUpTo, GiveWrite, IsWriteOnMap, LineSays}
 use Rattle.sbpl_map.specs.LineFaults.{IsOther, IsNoNumber, IsOutside, HaveNoNumber, AreOutside, AreOffMap, HasLineFault}
-use Rattle.sbpl_map.specs.Reading.{lacks_form, in_range, placed, measured, cell_said, three, written, ended, judged}
+use Rattle.sbpl_map.specs.Reading.{lacks_form, in_range, write_on_map, measured, cell_said, three, written, ended, judged}
 use Rattle.sbpl_map.specs.declared.write.Write.{Write}
 use Rattle.sbpl_map.specs.declared.said.Said.{Said}
 use Rattle.sbpl_map.specs.declared.said.Said.TheVariants.{Nothing, Cell, Replan}
@@ -19,12 +19,12 @@ use Rattle.sbpl_map.specs.declared.fault.ChangeFault.TheVariants.{Word, Number, 
 
 -- what was judged is true of the line
 abbrev pub Verdict : CellMap → ℕ → List (List ℕ) → Result Said ChangeFault → Type 0
-Verdict m at line (Ok s) = Says m line s
+Verdict m at line (Ok s) = LineSays m line s
 Verdict m at line (Err f) = HasLineFault m at line f
 
 -- ---- a number
 
-gives_of : (high : ℕ) (field : List ℕ) (n : ℕ) (r : Result ℤ NumFault) → whole_of field ≡ r → in_range high r ≡ Some n → Gives high field n
+gives_of : (high : ℕ) (field : List ℕ) (n : ℕ) (r : Result ℤ NumFault) → whole_of field ≡ r → in_range high r ≡ Some n → IsNumberUpTo high field n
 gives_of high field n (Ok (pos k)) e h =
     elim (cases_Bool (nat_le k high)) [
       | inl b ↦ let same : Some k ≡ Some n = rw b at h in let one : k ≡ n = grind arith in (e ∙ ap (λ i. Ok (pos i)) one, omega (arith, leb-true k high b))
@@ -69,11 +69,11 @@ numbers x y c f h = elim h [
   | inr b ↦ elim b [ inl a ↦ number_of y f.row a | inr a ↦ number_of c f.cost a ]
 ]
 
-placed_verdict : (m : CellMap) (at : ℕ) (x y c : List ℕ) (ox oy oc : Option ℕ) → Forms x y c → Ranges x y c ox oy oc → Verdict m at (cell_line x y c) (cell_said (placed m at ox oy oc))
-placed_verdict m at x y c None oy oc f r = (refl, (x, y, c, refl, record { numbers = numbers x y c f; outside = inl (outside_of 8388607 x _ refl r.column f.column) }))
-placed_verdict m at x y c (Some a) None oc f r = (refl, (x, y, c, refl, record { numbers = numbers x y c f; outside = inr (inl (outside_of 8388607 y _ refl r.row f.row)) }))
-placed_verdict m at x y c (Some a) (Some b) None f r = (refl, (x, y, c, refl, record { numbers = numbers x y c f; outside = inr (inr (outside_of 255 c _ refl r.cost f.cost)) }))
-placed_verdict m at x y c (Some a) (Some b) (Some k) f r =
+on_map_verdict : (m : CellMap) (at : ℕ) (x y c : List ℕ) (ox oy oc : Option ℕ) → Forms x y c → Ranges x y c ox oy oc → Verdict m at (cell_line x y c) (cell_said (write_on_map m at ox oy oc))
+on_map_verdict m at x y c None oy oc f r = (refl, (x, y, c, refl, record { numbers = numbers x y c f; outside = inl (outside_of 8388607 x _ refl r.column f.column) }))
+on_map_verdict m at x y c (Some a) None oc f r = (refl, (x, y, c, refl, record { numbers = numbers x y c f; outside = inr (inl (outside_of 8388607 y _ refl r.row f.row)) }))
+on_map_verdict m at x y c (Some a) (Some b) None f r = (refl, (x, y, c, refl, record { numbers = numbers x y c f; outside = inr (inr (outside_of 255 c _ refl r.cost f.cost)) }))
+on_map_verdict m at x y c (Some a) (Some b) (Some k) f r =
     let w : Write = record { x = a; y = b; cost = k } in
     let gives : GiveWrite x y c w = record { column = gives_of 8388607 x a _ refl r.column; row = gives_of 8388607 y b _ refl r.row; cost = gives_of 255 c k _ refl r.cost } in
     elim (cases_Bool (nat_lt a m.width && nat_lt b m.height)) [
@@ -102,7 +102,7 @@ measured_verdict m at x y c =
         ),
       )
       | inr e ↦ let one = or_parts lx (ly || lc) e in let two = or_parts ly lc one.1 in
-          rw e (placed_verdict m at x y c _ _ _ (record { column = one.0; row = two.0; cost = two.1 }) (record { column = refl; row = refl; cost = refl }))
+          rw e (on_map_verdict m at x y c _ _ _ (record { column = one.0; row = two.0; cost = two.1 }) (record { column = refl; row = refl; cost = refl }))
     ]
 
 -- ---- lines
@@ -143,10 +143,10 @@ judged_verdict m at (word ∷ more) =
 
 -- ---- and what is true of a line is judged of it
 
-in_range_given : (high : ℕ) (field : List ℕ) (n : ℕ) → Gives high field n → in_range high (whole_of field) ≡ Some n
+in_range_given : (high : ℕ) (field : List ℕ) (n : ℕ) → IsNumberUpTo high field n → in_range high (whole_of field) ≡ Some n
 in_range_given high field n g = rw (g.0, le-leb n high g.1) refl
 
-form_given : (high : ℕ) (field : List ℕ) (n : ℕ) → Gives high field n → lacks_form (whole_of field) ≡ false
+form_given : (high : ℕ) (field : List ℕ) (n : ℕ) → IsNumberUpTo high field n → lacks_form (whole_of field) ≡ false
 form_given high field n g = rw g.0 refl
 
 form_not_missing : (field : List ℕ) (r : Result ℤ NumFault) → whole_of field ≡ r → (IsNoNumber field → ⊥) → lacks_form r ≡ false
@@ -164,11 +164,11 @@ range_outside high field o = elim o [
   | inr h ↦ outside_not_in high (whole_of field) h.0 h.1 h.2
 ]
 
-placed_outside : (m : CellMap) (at : ℕ) (ox oy oc : Option ℕ) → (ox ≡ None) ⊎ ((oy ≡ None) ⊎ (oc ≡ None)) → placed m at ox oy oc ≡ Err (Range at)
-placed_outside m at None oy oc h = refl
-placed_outside m at (Some a) None oc h = refl
-placed_outside m at (Some a) (Some b) None h = refl
-placed_outside m at (Some a) (Some b) (Some k) h = absurd (elim h [
+write_outside : (m : CellMap) (at : ℕ) (ox oy oc : Option ℕ) → (ox ≡ None) ⊎ ((oy ≡ None) ⊎ (oc ≡ None)) → write_on_map m at ox oy oc ≡ Err (Range at)
+write_outside m at None oy oc h = refl
+write_outside m at (Some a) None oc h = refl
+write_outside m at (Some a) (Some b) None h = refl
+write_outside m at (Some a) (Some b) (Some k) h = absurd (elim h [
   | inl e ↦ grind arith
   | inr o ↦ elim o [ inl e ↦ grind arith | inr e ↦ grind arith ]
 ])
@@ -185,7 +185,7 @@ no_number_judged m at x y c h =
     rw some refl
 
 have_forms : (m : CellMap) (at : ℕ) (x y c : List ℕ) → lacks_form (whole_of x) ≡ false → lacks_form (whole_of y) ≡ false → lacks_form (whole_of c) ≡ false
-    → measured m at (whole_of x) (whole_of y) (whole_of c) ≡ placed m at (in_range 8388607 (whole_of x)) (in_range 8388607 (whole_of y)) (in_range 255 (whole_of c))
+    → measured m at (whole_of x) (whole_of y) (whole_of c) ≡ write_on_map m at (in_range 8388607 (whole_of x)) (in_range 8388607 (whole_of y)) (in_range 255 (whole_of c))
 have_forms m at x y c fx fy fc =
     let none = or_from (lacks_form (whole_of x)) (lacks_form (whole_of y) || lacks_form (whole_of c)) fx (or_from (lacks_form (whole_of y)) (lacks_form (whole_of c)) fy fc) in
     rw none refl
@@ -195,25 +195,25 @@ range_judged m at x y c h =
     let fx = form_not_missing x _ refl (λ e. h.numbers (inl e)) in
     let fy = form_not_missing y _ refl (λ e. h.numbers (inr (inl e))) in
     let fc = form_not_missing c _ refl (λ e. h.numbers (inr (inr e))) in
-    have_forms m at x y c fx fy fc ∙ placed_outside m at _ _ _ (elim h.outside [
+    have_forms m at x y c fx fy fc ∙ write_outside m at _ _ _ (elim h.outside [
       | inl o ↦ inl (range_outside 8388607 x o)
       | inr o ↦ inr (elim o [ inl p ↦ inl (range_outside 8388607 y p) | inr p ↦ inr (range_outside 255 c p) ])
     ])
 
-give_placed : (m : CellMap) (at : ℕ) (x y c : List ℕ) (w : Write) → GiveWrite x y c w → measured m at (whole_of x) (whole_of y) (whole_of c) ≡ placed m at (Some w.x) (Some w.y) (Some w.cost)
-give_placed m at x y c w g =
+give_write : (m : CellMap) (at : ℕ) (x y c : List ℕ) (w : Write) → GiveWrite x y c w → measured m at (whole_of x) (whole_of y) (whole_of c) ≡ write_on_map m at (Some w.x) (Some w.y) (Some w.cost)
+give_write m at x y c w g =
     have_forms m at x y c (form_given 8388607 x w.x g.column) (form_given 8388607 y w.y g.row) (form_given 255 c w.cost g.cost)
     ∙ rw (in_range_given 8388607 x w.x g.column, in_range_given 8388607 y w.y g.row, in_range_given 255 c w.cost g.cost) refl
 
 write_judged : (m : CellMap) (at : ℕ) (x y c : List ℕ) (w : Write) → GiveWrite x y c w → IsWriteOnMap m w → measured m at (whole_of x) (whole_of y) (whole_of c) ≡ Ok w
-write_judged m at x y c w g on = give_placed m at x y c w g ∙ rw (and_from (nat_lt w.x m.width) (nat_lt w.y m.height) (lt-ltb w.x m.width on.x) (lt-ltb w.y m.height on.y)) refl
+write_judged m at x y c w g on = give_write m at x y c w g ∙ rw (and_from (nat_lt w.x m.width) (nat_lt w.y m.height) (lt-ltb w.x m.width on.x) (lt-ltb w.y m.height on.y)) refl
 
 off_map_judged : (m : CellMap) (at : ℕ) (x y c : List ℕ) → AreOffMap m x y c → measured m at (whole_of x) (whole_of y) (whole_of c) ≡ Err (OffMap at)
 off_map_judged m at x y c h =
     let w = h.0 in
     let off = false_from_ne_true (nat_lt w.x m.width && nat_lt w.y m.height) (λ e. let both = and_parts (nat_lt w.x m.width) (nat_lt w.y m.height) e in
     h.2 (record { x = ltb-true w.x m.width both.0; y = ltb-true w.y m.height both.1 })) in
-    give_placed m at x y c w h.1 ∙ rw off refl
+    give_write m at x y c w h.1 ∙ rw off refl
 
 cell_judged : (m : CellMap) (at : ℕ) (line : List (List ℕ)) (x y c : List ℕ) (r : Result Write ChangeFault) → line ≡ cell_line x y c → measured m at (whole_of x) (whole_of y) (whole_of c) ≡ r → judged m at line ≡ cell_said r
 unfolding judged

@@ -1,4 +1,4 @@
--- How the lines of a text and the fields of a line go on behind the first one.
+-- How the lines of a text and the fields of a line go on after the first one.
 use Rattle.std.proofs.Common.{◌≡◌, ℕ, zero, suc, ◌+◌, ◌<◌, false, List, [], ◌∷◌, length, take, drop, refl, ap, ◌∙◌, arith, inl, inr, one-add}
 use Rattle.std.specs.Prelude.{◌==◌}
 use Rattle.std.specs.List.{prefix_len, slice_split, onto_first, filter}
@@ -28,17 +28,17 @@ first_part (b ∷ bs) h =
           rw (e, one-add, one) (ap (λ l. onto_first b l) (first_part bs (omega (arith, k))))
     ]
 
-onto_behind : (x : List ℕ) (b : ℕ) (parts : List (List ℕ)) → lines_of_parts (x ∷ onto_first b parts) ≡ strip_carriage_return x ∷ lines_of_parts (onto_first b parts)
-onto_behind x b [] = refl
-onto_behind x b (part ∷ parts) = refl
+onto_first_line : (x : List ℕ) (b : ℕ) (parts : List (List ℕ)) → lines_of_parts (x ∷ onto_first b parts) ≡ strip_carriage_return x ∷ lines_of_parts (onto_first b parts)
+onto_first_line x b [] = refl
+onto_first_line x b (part ∷ parts) = refl
 
 -- a text has one part more than line feeds, so one at least
-pub parts_behind : (x : List ℕ) (bs : List ℕ) → lines_of_parts (x ∷ slice_split (λ b. b == 10) bs) ≡ strip_carriage_return x ∷ lines_of_parts (slice_split (λ b. b == 10) bs)
-parts_behind x [] = refl
-parts_behind x (b ∷ bs) =
+pub lines_of_parts_after : (x : List ℕ) (bs : List ℕ) → lines_of_parts (x ∷ slice_split (λ b. b == 10) bs) ≡ strip_carriage_return x ∷ lines_of_parts (slice_split (λ b. b == 10) bs)
+lines_of_parts_after x [] = refl
+lines_of_parts_after x (b ∷ bs) =
     elim (cases_Bool (b == 10)) [
       | inl e ↦ rw e refl
-      | inr e ↦ rw e (onto_behind x b (slice_split (λ c. c == 10) bs))
+      | inr e ↦ rw e (onto_first_line x b (slice_split (λ c. c == 10) bs))
     ]
 
 is_no_zero : (n : ℕ) → (suc n == 0) ≡ false
@@ -60,16 +60,16 @@ only_line (b ∷ bs) some h = ap lines_of_parts (one_part (b ∷ bs) h) ∙ alon
 pub line_before : (text : List ℕ) (end : ℕ) → end ≡ prefix_len is_in_line text → end < length text → lines text ≡ strip_carriage_return (take end text) ∷ lines (drop (end + 1) text)
 line_before text end e h =
     let there = first_part text (rw e at h) in
-    rw e (ap lines_of_parts there ∙ parts_behind _ (drop (prefix_len is_in_line text + 1) text))
+    rw e (ap lines_of_parts there ∙ lines_of_parts_after _ (drop (prefix_len is_in_line text + 1) text))
 
 -- ---- fields
 
--- a space or tab in front changes nothing
-pub behind_parting : (line : List ℕ) → fields line ≡ fields (drop (prefix_len is_parting line) line)
-behind_parting [] = refl
-behind_parting (b ∷ bs) =
+-- a leading space or tab changes nothing
+pub after_parting : (line : List ℕ) → fields line ≡ fields (drop (prefix_len is_parting line) line)
+after_parting [] = refl
+after_parting (b ∷ bs) =
     elim (cases_Bool (is_parting b)) [
-      | inl e ↦ rw (e, one-add) (behind_parting bs)
+      | inl e ↦ rw (e, one-add) (after_parting bs)
       | inr e ↦ rw (e, e) refl
     ]
 
@@ -81,24 +81,24 @@ past_parting (b ∷ bs) =
       | inr e ↦ rw (e, e) refl
     ]
 
--- the first part, and those behind it
+-- the first part, and those after it
 record PartsAt (line : List ℕ) : Type 0 where
   parts : List (List ℕ)
   cut : slice_split is_parting line ≡ take (prefix_len is_in_field line) line ∷ parts
-  behind : filter has_some parts ≡ fields (drop (prefix_len is_in_field line) line)
+  after : filter has_some parts ≡ fields (drop (prefix_len is_in_field line) line)
 
 parts_at : (line : List ℕ) → PartsAt line
-parts_at [] = record { parts = []; cut = refl; behind = refl }
+parts_at [] = record { parts = []; cut = refl; after = refl }
 parts_at (b ∷ bs) =
     elim (cases_Bool (is_parting b)) [
-      | inl e ↦ record { parts = slice_split is_parting bs; cut = rw e refl; behind = rw (e, e) refl }
+      | inl e ↦ record { parts = slice_split is_parting bs; cut = rw e refl; after = rw (e, e) refl }
       | inr e ↦ let more = parts_at bs in
-          record { parts = more.parts; cut = rw (e, one-add) (ap (λ l. onto_first b l) more.cut); behind = rw (e, one-add) more.behind }
+          record { parts = more.parts; cut = rw (e, one-add) (ap (λ l. onto_first b l) more.cut); after = rw (e, one-add) more.after }
     ]
 
-in_front : (line : List ℕ) → prefix_len is_parting line ≡ 0 → 0 < length line → 0 < prefix_len is_in_field line
-in_front [] h some = absurd (omega arith)
-in_front (b ∷ bs) h some =
+field_first : (line : List ℕ) → prefix_len is_parting line ≡ 0 → 0 < length line → 0 < prefix_len is_in_field line
+field_first [] h some = absurd (omega arith)
+field_first (b ∷ bs) h some =
     elim (cases_Bool (is_parting b)) [
       | inl e ↦ absurd (let k : suc (prefix_len is_parting bs) ≡ 0 = rw (e, one-add) at h in omega arith)
       | inr e ↦ rw (e, one-add) (omega arith)
@@ -115,12 +115,12 @@ pub field_before : (line start : List ℕ) (end : ℕ) → start ≡ drop (prefi
 field_before line start end s e some =
     let clear : prefix_len is_parting start ≡ 0 = rw s (past_parting line) in
     let at = parts_at start in
-    behind_parting line ∙ rw (← s, e) (ap (λ l. filter has_some l) at.cut ∙ some_taken start (prefix_len is_in_field start) at.parts (in_front start clear some) some
-    ∙ ap (λ l. take (prefix_len is_in_field start) start ∷ l) at.behind)
+    after_parting line ∙ rw (← s, e) (ap (λ l. filter has_some l) at.cut ∙ some_taken start (prefix_len is_in_field start) at.parts (field_first start clear some) some
+    ∙ ap (λ l. take (prefix_len is_in_field start) start ∷ l) at.after)
 
 empty_is : (l : List ℕ) → length l ≡ 0 → l ≡ []
 empty_is [] h = refl
 empty_is (b ∷ bs) h = absurd (omega arith)
 
 pub no_field : (line : List ℕ) → length (drop (prefix_len is_parting line) line) ≡ 0 → fields line ≡ []
-no_field line h = behind_parting line ∙ ap fields (empty_is (drop (prefix_len is_parting line) line) h)
+no_field line h = after_parting line ∙ ap fields (empty_is (drop (prefix_len is_parting line) line) h)

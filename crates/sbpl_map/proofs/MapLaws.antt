@@ -10,19 +10,19 @@ use Rattle.sbpl_map.specs.CellMap.{CellMap, IsCellMap, cost_at, ChangesCell}
 use Rattle.sbpl_map.specs.MapAfter.{is_to, found_or, last_cost, first_writes, cost_after, IsMapAfter, AreWritten}
 use Rattle.sbpl_map.specs.declared.write.Write.{Write}
 
--- ---- the last of writes one behind another
+-- ---- the last of writes one after another
 
 found_or_assoc : (a b c : Option ℕ) → found_or (found_or a b) c ≡ found_or a (found_or b c)
 found_or_assoc (Some x) b c = refl
 found_or_assoc None b c = refl
 
-none_behind : (a : Option ℕ) → a ≡ found_or a None
-none_behind (Some x) = refl
-none_behind None = refl
+or_none : (a : Option ℕ) → a ≡ found_or a None
+or_none (Some x) = refl
+or_none None = refl
 
 last_cost-append : (xs ys : List Write) (x y : ℤ) → last_cost (xs ++ ys) x y ≡ found_or (last_cost ys x y) (last_cost xs x y)
 unfolding last_cost
-last_cost-append [] ys x y = none_behind (last_cost ys x y)
+last_cost-append [] ys x y = or_none (last_cost ys x y)
 last_cost-append (w ∷ xs) ys x y = rw (last_cost-append xs ys x y) (found_or_assoc (last_cost ys x y) (last_cost xs x y) _)
 
 -- ---- one write
@@ -103,7 +103,7 @@ map_after_next first now new batches k batch h e w =
 
 -- ---- one map
 
--- each place of the list of costs is that of a cell
+-- each index of the list of costs is that of a cell
 cell_at_place : (m : CellMap) (i : ℕ) → 1 ≤ m.width → i < m.width * m.height → cost_at m (pos (i % m.width)) (pos (i / m.width)) ≡ slice_get m.costs i
 cell_at_place m i some h =
     let right : i % m.width < m.width = mod-lt i (omega arith) in

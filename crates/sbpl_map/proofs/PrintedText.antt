@@ -9,13 +9,13 @@ use Rattle.sbpl_fixed.specs.Tokens.{is_filled}
 use Rattle.sbpl_fixed.specs.ReadBack.{IsWord}
 use Rattle.sbpl_fixed.proofs.ReadBack.{wholes_are_read_back, wholes_are_words}
 use Rattle.sbpl_map.specs.CellMap.{CellMap}
-use Rattle.sbpl_map.specs.ChangeText.{AllSay, AreOnMap, Gives, IsTextOf, IsWriteOnMap, Says, spelled, spelled_batch, told}
+use Rattle.sbpl_map.specs.ChangeText.{LinesSay, AreOnMap, IsNumberUpTo, IsTextOf, IsWriteOnMap, LineSays, spelled, spelled_batch, lines_with_fields}
 use Rattle.sbpl_map.specs.Fields.{fields, has_some, is_parting}
 use Rattle.sbpl_map.specs.Printed.{AreChangesOf, batch_lines, changes_text, write_line}
 use Rattle.sbpl_map.specs.declared.write.Write.{Write}
 use Rattle.sbpl_map.specs.declared.said.Said.{Said}
 use Rattle.sbpl_map.specs.declared.said.Said.TheVariants.{Cell}
-use Rattle.sbpl_map.proofs.Lines.{parts_behind}
+use Rattle.sbpl_map.proofs.Lines.{lines_of_parts_after}
 
 -- ---- the bytes of words
 
@@ -45,10 +45,10 @@ all_append P (x ∷ xs) ys h k = (h.0, all_append P xs ys h.1 k)
 
 -- ---- a list that is cut
 
-cut_behind : (p : ℕ → Bool) (front : List ℕ) (y : ℕ) (rest : List ℕ) → AllByRecursion (λ b. p b ≡ false) front → p y ≡ true
+split_first : (p : ℕ → Bool) (front : List ℕ) (y : ℕ) (rest : List ℕ) → AllByRecursion (λ b. p b ≡ false) front → p y ≡ true
     → slice_split p (front ++ y ∷ rest) ≡ front ∷ slice_split p rest
-cut_behind p [] y rest h e = rw e refl
-cut_behind p (b ∷ bs) y rest h e = rw h.0 (ap (λ parts. onto_first b parts) (cut_behind p bs y rest h.1 e))
+split_first p [] y rest h e = rw e refl
+split_first p (b ∷ bs) y rest h e = rw h.0 (ap (λ parts. onto_first b parts) (split_first p bs y rest h.1 e))
 
 cut_nowhere : (p : ℕ → Bool) (bytes : List ℕ) → AllByRecursion (λ b. p b ≡ false) bytes → slice_split p bytes ≡ bytes ∷ []
 cut_nowhere p [] h = refl
@@ -93,8 +93,8 @@ not_stripped bytes h = rw (no_return bytes (length bytes - 1) h) refl
 
 first_line : (bytes rest : List ℕ) → AllByRecursion IsInner bytes → lines (bytes ++ 10 ∷ rest) ≡ bytes ∷ lines rest
 first_line bytes rest h =
-    let cut = cut_behind (λ b. b == 10) bytes 10 rest (all_weaker IsInner (λ b. (b == 10) ≡ false) bytes (λ b k. k.0) h) refl in
-    ap lines_of_parts cut ∙ parts_behind bytes rest ∙ ap (λ (l : List ℕ). l ∷ lines rest) (not_stripped bytes h)
+    let cut = split_first (λ b. b == 10) bytes 10 rest (all_weaker IsInner (λ b. (b == 10) ≡ false) bytes (λ b k. k.0) h) refl in
+    ap lines_of_parts cut ∙ lines_of_parts_after bytes rest ∙ ap (λ (l : List ℕ). l ∷ lines rest) (not_stripped bytes h)
 
 word_first : (w : List ℕ) (parts : List (List ℕ)) → IsWord w → filter has_some (w ∷ parts) ≡ w ∷ filter has_some parts
 word_first [] parts h = absurd (omega (arith, h.some))
@@ -106,7 +106,7 @@ line_fields (w ∷ []) h =
     let whole = cut_nowhere is_parting w (all_weaker (λ b. is_filled b ≡ true) (λ b. is_parting b ≡ false) w no_parting (all_filled w h.0.filled)) in
     ap (λ (l : List (List ℕ)). filter has_some l) whole ∙ word_first w [] h.0
 line_fields (w ∷ v ∷ ws) h =
-    let cut = cut_behind is_parting w 32 (spaced (v ∷ ws)) (all_weaker (λ b. is_filled b ≡ true) (λ b. is_parting b ≡ false) w no_parting (all_filled w h.0.filled)) refl in
+    let cut = split_first is_parting w 32 (spaced (v ∷ ws)) (all_weaker (λ b. is_filled b ≡ true) (λ b. is_parting b ≡ false) w no_parting (all_filled w h.0.filled)) refl in
     ap (λ (l : List (List ℕ)). filter has_some l) cut ∙ word_first w (slice_split is_parting (spaced (v ∷ ws))) h.0
     ∙ ap (λ (l : List (List ℕ)). w ∷ l) (line_fields (v ∷ ws) h.1)
 
@@ -115,14 +115,14 @@ line_fields (w ∷ v ∷ ws) h =
 abbrev IsLine : List (List ℕ) → Type 0
 IsLine ws = (has_some ws ≡ true) × AreWords ws
 
-told_first : (ws : List (List ℕ)) (more : List (List ℕ)) → IsLine ws → told (spaced ws ∷ more) ≡ ws ∷ told more
+told_first : (ws : List (List ℕ)) (more : List (List ℕ)) → IsLine ws → lines_with_fields (spaced ws ∷ more) ≡ ws ∷ lines_with_fields more
 told_first ws more h = rw (line_fields ws h.1, h.0) refl
 
-lines_are_told : (ls : List (List (List ℕ))) → AllByRecursion IsLine ls → told (lines (lines_text ls)) ≡ ls
+lines_are_told : (ls : List (List (List ℕ))) → AllByRecursion IsLine ls → lines_with_fields (lines (lines_text ls)) ≡ ls
 lines_are_told [] h = refl
 lines_are_told (l ∷ ls) h =
     let front : lines_text (l ∷ ls) ≡ spaced l ++ 10 ∷ lines_text ls = rw (line_is l, append_assoc (spaced l) (10 ∷ []) (lines_text ls)) refl in
-    ap (λ text. told (lines text)) front ∙ ap told (first_line (spaced l) (lines_text ls) (inner_line l h.0.1))
+    ap (λ text. lines_with_fields (lines text)) front ∙ ap lines_with_fields (first_line (spaced l) (lines_text ls) (inner_line l h.0.1))
     ∙ told_first l (lines (lines_text ls)) h.0 ∙ ap (λ (more : List (List (List ℕ))). l ∷ more) (lines_are_told ls h.1)
 
 -- ---- writes
@@ -130,10 +130,10 @@ lines_are_told (l ∷ ls) h =
 number_is_word : (n : ℕ) → n ≤ 8388608 → IsWord (decimal n)
 number_is_word n h = wholes_are_words (pos n) (omega arith)
 
-gives : (high n : ℕ) → high ≤ 8388608 → n ≤ high → Gives high (decimal n) n
+gives : (high n : ℕ) → high ≤ 8388608 → n ≤ high → IsNumberUpTo high (decimal n) n
 gives high n k h = (wholes_are_read_back (pos n) (omega arith), h)
 
-write_says : (m : CellMap) (w : Write) → m.width ≤ 8388608 → m.height ≤ 8388608 → IsWriteOnMap m w → w.cost ≤ 255 → Says m (write_line w) (Cell w)
+write_says : (m : CellMap) (w : Write) → m.width ≤ 8388608 → m.height ≤ 8388608 → IsWriteOnMap m w → w.cost ≤ 255 → LineSays m (write_line w) (Cell w)
 write_says m w width height on cost = (
   decimal w.x,
   decimal w.y,
@@ -160,7 +160,7 @@ abbrev AreCosts : List Write → Type 0
 AreCosts batch = AllByRecursion (λ w. w.cost ≤ 255) batch
 
 batch_says : (m : CellMap) (batch : List Write) (ls : List (List (List ℕ))) (more : List Said) → m.width ≤ 8388608 → m.height ≤ 8388608
-    → AllByRecursion (λ w. IsWriteOnMap m w) batch → AreCosts batch → AllSay m ls more → AllSay m (batch_lines batch ++ ls) (spelled_batch batch ++ more)
+    → AllByRecursion (λ w. IsWriteOnMap m w) batch → AreCosts batch → LinesSay m ls more → LinesSay m (batch_lines batch ++ ls) (spelled_batch batch ++ more)
 batch_says m [] ls more width height on costs h = (refl, h)
 batch_says m (w ∷ ws) ls more width height on costs h = (write_says m w width height on.0 costs.0, batch_says m ws ls more width height on.1 costs.1 h)
 
@@ -170,7 +170,7 @@ batch_are_lines m [] ls width height on costs h = ((refl, (record { some = omega
 batch_are_lines m (w ∷ ws) ls width height on costs h = (write_is_line m w width height on.0 costs.0, batch_are_lines m ws ls width height on.1 costs.1 h)
 
 all_say : (m : CellMap) (batches : List (List Write)) → m.width ≤ 8388608 → m.height ≤ 8388608 → AreOnMap m batches → AllByRecursion AreCosts batches
-    → AllSay m (flat_map batch_lines batches) (spelled batches)
+    → LinesSay m (flat_map batch_lines batches) (spelled batches)
 all_say m [] width height on costs = tt
 all_say m (b ∷ bs) width height on costs = batch_says m b (flat_map batch_lines bs) (spelled bs) width height on.0 costs.0 (all_say m bs width height on.1 costs.1)
 

@@ -22,15 +22,15 @@ pub record IsOnMap (m : CellMap) (x y : ℤ) : Type 0 where
   pub low : pos 0 ≤ℤ y
   pub high : y <ℤ pos m.height
 
--- the place of cell (x, y) in the list of costs, none off the map
-abbrev pub place_in : CellMap → ℤ → ℤ → Option ℕ
-place_in m (pos x) (pos y) = if nat_lt x m.width && nat_lt y m.height then Some (y * m.width + x) else None
-place_in m (pos x) (negsuc y) = None
-place_in m (negsuc x) y = None
+-- the index of cell (x, y) in the list of costs, none off the map
+abbrev pub index_in : CellMap → ℤ → ℤ → Option ℕ
+index_in m (pos x) (pos y) = if nat_lt x m.width && nat_lt y m.height then Some (y * m.width + x) else None
+index_in m (pos x) (negsuc y) = None
+index_in m (negsuc x) y = None
 
 -- the cost of cell (x, y), none off the map
 abbrev pub cost_at : CellMap → ℤ → ℤ → Option ℕ
-cost_at m x y = option_and_then (slice_get m.costs) (place_in m x y)
+cost_at m x y = option_and_then (slice_get m.costs) (index_in m x y)
 
 -- cell (x, y) gets this cost, and nothing else changes
 pub record ChangesCell (old new : CellMap) (x y : ℤ) (cost : ℕ) : Type 0 where

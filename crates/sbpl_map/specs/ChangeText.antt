@@ -1,5 +1,5 @@
 -- What the text of changes is: its lines, one after another, and what each of them says. Lines are those of std's `lines`:
--- the text is cut at its line feeds, and one carriage return right before a line feed is dropped; behind the last line
+-- the text is cut at its line feeds, and one carriage return right before a line feed is dropped; after the last line
 -- feed stands one more line, as it is, unless it is empty.
 use Rattle.std.specs.Prelude.{◌≡◌, ℕ, pos, ◌<◌, ◌≤◌, List, [], ◌∷◌, ◌++◌, map, codes, Ok}
 use Rattle.std.specs.List.{filter, flat_map, AllByRecursion}
@@ -20,14 +20,14 @@ abbrev pub cell_line : List ℕ → List ℕ → List ℕ → List (List ℕ)
 cell_line x y c = codes "cell" ∷ x ∷ y ∷ c ∷ []
 
 -- the field is a whole number from 0 to high, and this one
-abbrev pub Gives : ℕ → List ℕ → ℕ → Type 0
-Gives high field n = (whole_of field ≡ Ok (pos n)) × (n ≤ high)
+abbrev pub IsNumberUpTo : ℕ → List ℕ → ℕ → Type 0
+IsNumberUpTo high field n = (whole_of field ≡ Ok (pos n)) × (n ≤ high)
 
 -- three fields give a write, each number in its range
 pub record GiveWrite (x y c : List ℕ) (w : Write) : Type 0 where
-  pub column : Gives 8388607 x w.x
-  pub row : Gives 8388607 y w.y
-  pub cost : Gives 255 c w.cost
+  pub column : IsNumberUpTo 8388607 x w.x
+  pub row : IsNumberUpTo 8388607 y w.y
+  pub cost : IsNumberUpTo 255 c w.cost
 
 -- the write is to a cell of the map
 pub record IsWriteOnMap (m : CellMap) (w : Write) : Type 0 where
@@ -35,23 +35,23 @@ pub record IsWriteOnMap (m : CellMap) (w : Write) : Type 0 where
   pub y : w.y < m.height
 
 -- the fields of a line say nothing, a write to the map, or that the batch ends
-abbrev pub Says : CellMap → List (List ℕ) → Said → Type 0
-Says m line Nothing = line ≡ []
-Says m line (Cell w) = (x : List ℕ) × (y : List ℕ) × (c : List ℕ) × (line ≡ cell_line x y c) × GiveWrite x y c w × IsWriteOnMap m w
-Says m line Replan = line ≡ replan_line
+abbrev pub LineSays : CellMap → List (List ℕ) → Said → Type 0
+LineSays m line Nothing = line ≡ []
+LineSays m line (Cell w) = (x : List ℕ) × (y : List ℕ) × (c : List ℕ) × (line ≡ cell_line x y c) × GiveWrite x y c w × IsWriteOnMap m w
+LineSays m line Replan = line ≡ replan_line
 
 -- ---- texts
 
 -- the lines of a text that have fields, each as the list of these
-abbrev pub told : List (List ℕ) → List (List (List ℕ))
-told text_lines = filter has_some (map fields text_lines)
+abbrev pub lines_with_fields : List (List ℕ) → List (List (List ℕ))
+lines_with_fields text_lines = filter has_some (map fields text_lines)
 
--- each says what stands at its place in the list, and there are as many
-abbrev pub AllSay : CellMap → List (List (List ℕ)) → List Said → Type 0
-AllSay m [] [] = Unit {0}
-AllSay m [] (said ∷ more) = ⊥
-AllSay m (line ∷ others) [] = ⊥
-AllSay m (line ∷ others) (said ∷ more) = Says m line said × AllSay m others more
+-- each says what stands at its index in the list, and there are as many
+abbrev pub LinesSay : CellMap → List (List (List ℕ)) → List Said → Type 0
+LinesSay m [] [] = Unit {0}
+LinesSay m [] (said ∷ more) = ⊥
+LinesSay m (line ∷ others) [] = ⊥
+LinesSay m (line ∷ others) (said ∷ more) = LineSays m line said × LinesSay m others more
 
 -- the writes of a batch, and its end
 abbrev pub spelled_batch : List Write → List Said
@@ -62,7 +62,7 @@ spelled batches = flat_map spelled_batch batches
 
 -- The text stands for the batches: its lines that have fields are the list above.
 abbrev pub IsTextOf : CellMap → List ℕ → List (List Write) → Type 0
-IsTextOf m text batches = AllSay m (told (lines text)) (spelled batches)
+IsTextOf m text batches = LinesSay m (lines_with_fields (lines text)) (spelled batches)
 
 -- the text stands for batches
 abbrev pub IsText : CellMap → List ℕ → Type 0

@@ -5,7 +5,7 @@ use Rattle.std.specs.Str.Lines.{lines}
 use Rattle.sbpl_fixed.specs.Numbers.{whole_of}
 use Rattle.sbpl_fixed.specs.declared.fault.NumFault.TheVariants.{Form, Size}
 use Rattle.sbpl_map.specs.CellMap.{CellMap}
-use Rattle.sbpl_map.specs.ChangeText.{cell_line, replan_line, GiveWrite, IsWriteOnMap, Says}
+use Rattle.sbpl_map.specs.ChangeText.{cell_line, replan_line, GiveWrite, IsWriteOnMap, LineSays}
 use Rattle.sbpl_map.specs.Fields.{fields}
 use Rattle.sbpl_map.specs.declared.write.Write.{Write}
 use Rattle.sbpl_map.specs.declared.said.Said.{Said}
@@ -42,7 +42,7 @@ pub record AreOutside (x y c : List ℕ) : Type 0 where
 abbrev pub AreOffMap : CellMap → List ℕ → List ℕ → List ℕ → Type 0
 AreOffMap m x y c = (w : Write) × GiveWrite x y c w × (IsWriteOnMap m w → ⊥)
 
--- the line with this number has three fields behind the word of a cell, of which P holds
+-- the line with this number has three fields after the word of a cell, of which P holds
 abbrev pub OfCell : List (List ℕ) → (List ℕ → List ℕ → List ℕ → Type 0) → Type 0
 OfCell line P = (x : List ℕ) × (y : List ℕ) × (c : List ℕ) × (line ≡ cell_line x y c) × P x y c
 
@@ -59,32 +59,32 @@ HasLineFault m at line NoMemory = ⊥
 
 -- no line has a fault: each says something, or nothing for want of fields
 abbrev pub AreSound : CellMap → List (List ℕ) → Type 0
-AreSound m text_lines = AllByRecursion (λ line. (s : Said) × Says m (fields line) s) text_lines
+AreSound m text_lines = AllByRecursion (λ line. (s : Said) × LineSays m (fields line) s) text_lines
 
 -- The first of the lines with a fault has this one. The lines are numbered from `first`.
 pub record IsFirstFault (m : CellMap) (first : ℕ) (text_lines : List (List ℕ)) (f : ChangeFault) : Type 0 where
   pub before : List (List ℕ)
   pub line : List ℕ
-  pub behind : List (List ℕ)
-  pub parts : text_lines ≡ before ++ line ∷ behind
+  pub after : List (List ℕ)
+  pub parts : text_lines ≡ before ++ line ∷ after
   pub sound : AreSound m before
   pub fault : HasLineFault m (first + length before) (fields line) f
 
 -- No line has a fault, and the last one that has fields, which has this number, is that of a cell.
-pub record IsLeftOpen (m : CellMap) (first : ℕ) (text_lines : List (List ℕ)) (at : ℕ) : Type 0 where
+pub record LacksReplan (m : CellMap) (first : ℕ) (text_lines : List (List ℕ)) (at : ℕ) : Type 0 where
   pub before : List (List ℕ)
   pub line : List ℕ
-  pub behind : List (List ℕ)
-  pub parts : text_lines ≡ before ++ line ∷ behind
+  pub after : List (List ℕ)
+  pub parts : text_lines ≡ before ++ line ∷ after
   pub sound : AreSound m before
   pub write : Write
-  pub cell : Says m (fields line) (Cell write)
-  pub skipped : AllByRecursion (λ l. fields l ≡ []) behind
+  pub cell : LineSays m (fields line) (Cell write)
+  pub skipped : AllByRecursion (λ l. fields l ≡ []) after
   pub number : at ≡ first + length before
 
--- The text's fault is that of its first faulty line, and where there is none a cell's line that no batch's end is behind.
+-- The text's fault is that of its first faulty line, and where there is none a cell's line after which no batch ends.
 abbrev pub HasFault : CellMap → List ℕ → ChangeFault → Type 0
-HasFault m text f = IsFirstFault m 1 (lines text) f ⊎ ((at : ℕ) × (f ≡ NoReplan at) × IsLeftOpen m 1 (lines text) at)
+HasFault m text f = IsFirstFault m 1 (lines text) f ⊎ ((at : ℕ) × (f ≡ NoReplan at) × LacksReplan m 1 (lines text) at)
 
 abbrev pub IsFaulty : CellMap → List ℕ → Type 0
 IsFaulty m text = (f : ChangeFault) × (f ≢ NoMemory) × HasFault m text f

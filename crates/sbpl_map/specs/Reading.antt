@@ -26,18 +26,18 @@ in_range high (Ok (negsuc n)) = None
 in_range high (Err _) = None
 
 -- the write, unless a number was out of range or the cell is off the map
-abbrev pub placed : CellMap → ℕ → Option ℕ → Option ℕ → Option ℕ → Result Write ChangeFault
-placed m at None y c = Err (Range at)
-placed m at (Some x) None c = Err (Range at)
-placed m at (Some x) (Some y) None = Err (Range at)
-placed m at (Some x) (Some y) (Some c) =
+abbrev pub write_on_map : CellMap → ℕ → Option ℕ → Option ℕ → Option ℕ → Result Write ChangeFault
+write_on_map m at None y c = Err (Range at)
+write_on_map m at (Some x) None c = Err (Range at)
+write_on_map m at (Some x) (Some y) None = Err (Range at)
+write_on_map m at (Some x) (Some y) (Some c) =
     if nat_lt x m.width && nat_lt y m.height then Ok (record { x = x; y = y; cost = c }) else Err (OffMap at)
 
 -- the write that three numbers give
 abbrev pub measured : CellMap → ℕ → Result ℤ NumFault → Result ℤ NumFault → Result ℤ NumFault → Result Write ChangeFault
 measured m at x y c =
     if lacks_form x || (lacks_form y || lacks_form c) then Err (Number at)
-    else placed m at (in_range 8388607 x) (in_range 8388607 y) (in_range 255 c)
+    else write_on_map m at (in_range 8388607 x) (in_range 8388607 y) (in_range 255 c)
 
 abbrev pub cell_said : Result Write ChangeFault → Result Said ChangeFault
 cell_said (Ok w) = Ok (Cell w)
@@ -51,12 +51,12 @@ three (x ∷ y ∷ []) = None
 three (x ∷ y ∷ c ∷ []) = Some (x, y, c)
 three (x ∷ y ∷ c ∷ d ∷ more) = None
 
--- the write that the three fields behind a cell's word give
+-- the write that the three fields after a cell's word give
 abbrev pub written : CellMap → ℕ → Option (List ℕ × List ℕ × List ℕ) → Result Write ChangeFault
 written m at None = Err (Word at)
 written m at (Some t) = measured m at (whole_of t.0) (whole_of t.1) (whole_of t.2)
 
--- the batch ends where nothing stands behind the word of that
+-- the batch ends where nothing stands after its word
 abbrev pub ended : ℕ → List (List ℕ) → Result Said ChangeFault
 ended at [] = Ok Replan
 ended at (x ∷ more) = Err (Word at)
@@ -70,7 +70,7 @@ judged m at (word ∷ more) =
 
 -- ---- lines
 
--- what was read: whole batches, the writes behind the last of them, and the number of the last line of a cell
+-- what was read: whole batches, the writes after the last of them, and the number of the last line of a cell
 pub record Drafted : Type 0 where
   pub done : List (List Write)
   pub batch : List Write

@@ -15,7 +15,7 @@ pub enum ChangeFault {
     /// The first field is neither `cell` nor `replan`, or the count of fields is wrong.
     #[error("neither a cell nor a replan, at line {0}")]
     Word(u64),
-    /// A field behind `cell` is not a whole number.
+    /// A field after `cell` is not a whole number.
     #[error("not a whole number, at line {0}")]
     Number(u64),
     /// x or y is outside 0..8388607, or the cost is outside 0..255.
@@ -24,7 +24,7 @@ pub enum ChangeFault {
     /// The cell is not on the map.
     #[error("a cell off the map, at line {0}")]
     OffMap(u64),
-    /// A cell stands behind the last `replan`. The line is that of the last such cell.
+    /// A cell stands after the last `replan`. The line is that of the last such cell.
     #[error("no replan behind the cell at line {0}")]
     NoReplan(u64),
     /// Memory ran out. This says nothing of the text.

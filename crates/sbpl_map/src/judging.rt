@@ -2,7 +2,7 @@
 
 ghost use Rattle.std.specs.Prelude.{◌≡◌, ◌≤◌, Some, option_map, IfSome};
 ghost use Rattle.sbpl_map.specs.Fields.{fields};
-ghost use Rattle.sbpl_map.specs.Reading.{in_range, judged, lacks_form, measured, placed, written, ended, three};
+ghost use Rattle.sbpl_map.specs.Reading.{in_range, judged, lacks_form, measured, write_on_map, written, ended, three};
 
 use crate::fault::ChangeFault;
 use crate::line::first_field;
@@ -39,8 +39,8 @@ fn in_range(read: Result<i64, NumFault>, high: u32) -> Option<u32>
 }
 
 /// A write to a cell, or `OffMap` where the cell is not on the map.
-fn placed(map: &Map, number: u64, x: u32, y: u32, cost: u8) -> Result<Write, ChangeFault>
-    ensures write { result ≡ placed map.now number (Some x) (Some y) (Some cost) }
+fn write_on_map(map: &Map, number: u64, x: u32, y: u32, cost: u8) -> Result<Write, ChangeFault>
+    ensures write { result ≡ write_on_map map.now number (Some x) (Some y) (Some cost) }
 {
     if x < map.width() && y < map.height() {
         Ok(Write { x, y, cost })
@@ -67,7 +67,7 @@ fn measured(
         in_range(y, FARTHEST),
         in_range(cost, DEAREST),
     ) {
-        (Some(x), Some(y), Some(cost)) => placed(map, number, x, y, cost as u8),
+        (Some(x), Some(y), Some(cost)) => write_on_map(map, number, x, y, cost as u8),
         _ => Err(ChangeFault::Range(number)),
     }
 }
@@ -85,7 +85,7 @@ fn three_fields(line: &[u8]) -> Option<(&[u8], &[u8], &[u8])>
     }
 }
 
-/// The write of the fields behind the word of a cell.
+/// The write of the fields after the word of a cell.
 fn written(map: &Map, number: u64, line: &[u8]) -> Result<Write, ChangeFault>
     ensures write { result ≡ written map.now number (three (fields line.now)) }
 {
@@ -95,7 +95,7 @@ fn written(map: &Map, number: u64, line: &[u8]) -> Result<Write, ChangeFault>
     }
 }
 
-/// The end of a batch, behind whose word nothing may stand.
+/// The end of a batch, after whose word nothing may stand.
 fn ended(number: u64, line: &[u8]) -> Result<Said, ChangeFault>
     ensures end { result ≡ ended number (fields line.now) }
 {

@@ -23,7 +23,7 @@ fn without_return(line: &[u8]) -> &[u8]
     }
 }
 
-/// The first line of a text, without what ends it, and the text behind it. One carriage return before the line feed is
+/// The first line of a text, without what ends it, and the text after it. One carriage return before the line feed is
 /// dropped, and none where no line feed ends the line.
 pub(crate) fn first_line(text: &[u8]) -> (&[u8], &[u8])
     requires some { 0 < length text.now }
@@ -58,7 +58,7 @@ fn field_len(line: &[u8]) -> usize
     line.iter().take_while(|b| !is_parting(**b)).count()
 }
 
-/// The first field of a line and what stands behind it, or `None` where there is no field.
+/// The first field of a line and what stands after it, or `None` where there is no field.
 pub(crate) fn first_field(line: &[u8]) -> Option<(&[u8], &[u8])>
     ensures first { MatchOption result (fields line.now ≡ []) (λ x. fields line.now ≡ x.0.now ∷ fields x.1.now) }
 {

@@ -1,7 +1,7 @@
 //! The costs of the cells, as they are at present.
 
 ghost use Rattle.std.specs.Prelude.{◌≡◌, ◌*◌, ◌<◌, ◌↔◌, length, IsSome, IsOk, IfOk, OnOk, OnErr, Some};
-ghost use Rattle.sbpl_map.specs.CellMap.{cost_at, place_in, IsOnMap, IsCellMap, ChangesCell};
+ghost use Rattle.sbpl_map.specs.CellMap.{cost_at, index_in, IsOnMap, IsCellMap, ChangesCell};
 
 use crate::off_map::OffMap;
 use sbpl_cfg::{Env, Grid};
@@ -70,8 +70,8 @@ impl Map {
         ensures value { result ≡ cost_at self.now x y }
         ensures on_map { IsSome result ↔ IsOnMap self.now x y }
     {
-        let place = self.place(x, y)?;
-        Some(self.costs[place])
+        let index = self.index_of(x, y)?;
+        Some(self.costs[index])
     }
 
     /// Writes cost `c` to cell `(x, y)` and returns the old cost. `OffMap` comes exactly off the map, and then nothing
@@ -85,17 +85,17 @@ impl Map {
         ensures height { self.new.height ≡ self.old.height }
         ensures kept { IsCellMap self.new }
     {
-        let Some(place) = self.place(x, y) else {
+        let Some(index) = self.index_of(x, y) else {
             return Err(OffMap);
         };
-        let was = self.costs[place];
-        self.costs[place] = c;
+        let was = self.costs[index];
+        self.costs[index] = c;
         Ok(was)
     }
 
-    /// The place of cell `(x, y)` among the costs.
-    fn place(&self, x: i64, y: i64) -> Option<usize>
-        ensures value { result ≡ place_in self.now x y }
+    /// The index of cell `(x, y)` among the costs.
+    fn index_of(&self, x: i64, y: i64) -> Option<usize>
+        ensures value { result ≡ index_in self.now x y }
         ensures on_map { IsSome result ↔ IsOnMap self.now x y }
     {
         let on_map = 0 <= x && x < i64::from(self.width) && 0 <= y && y < i64::from(self.height);

@@ -20,7 +20,7 @@ use sbpl_fixed::NoMemory;
 use std::alloc::Global;
 use std::marker::Model;
 
-/// What was read of a change file: whole batches, the writes behind the last of them, and the number of the last line
+/// What was read of a change file: whole batches, the writes after the last of them, and the number of the last line
 /// of a cell.
 #[derive(Drop)]
 struct Draft {
@@ -67,7 +67,7 @@ impl Draft {
         Ok(())
     }
 
-    /// The batches, behind which no writes may be left.
+    /// The batches, after which no writes may be left.
     fn close(self) -> Result<Changes, ChangeFault>
         ensures closed { result ≡ closed self }
     {
@@ -89,10 +89,10 @@ fn changes(alloc: Global, text: &[u8], map: &Map) -> Result<Changes, ChangeFault
     let mut rest = text;
     let mut number: u64 = 1;
     while !rest.is_empty() {
-        let (line, behind) = first_line(rest);
+        let (line, after) = first_line(rest);
         draft.add(number, judged(map, number, line)?)?;
         number += 1;
-        rest = behind;
+        rest = after;
     }
     draft.close()
 }

@@ -10,7 +10,7 @@ ghost use Rattle.sbpl_map.specs.Printed.{AreChangesOf, changes_text};
 
 /// Every text stands, on a map, for exactly one list of batches or has exactly one fault, and never both. It stands for
 /// batches where its lines with fields are, one after another, a cell's line for each write of a batch and the word of its
-/// end behind them. So does the plain text of batches whose writes are on the map, which has these lines and no others.
+/// end after them. So does the plain text of batches whose writes are on the map, which has these lines and no others.
 pub fn texts_are_changes_or_faulty()
     ensures either { (m : CellMap) (text : List ℕ) → IsText m text ⊎ IsFaulty m text }
     ensures not_both { (m : CellMap) (text : List ℕ) (f : ChangeFault) → IsText m text → HasFault m text f → ⊥ }

@@ -17,10 +17,10 @@ use Rattle.sbpl_mprim.specs.Reading.{angles_format, head_format, prim_format, pr
 use Rattle.sbpl_mprim.specs.Text.{IsTextOf, Saying, a_nano, a_whole, a_word, spelled, spelled_prim}
 use Rattle.sbpl_mprim.proofs.NextLaws.{AreNext, are_next, next_are}
 use Rattle.sbpl_mprim.proofs.PrimLaws.{PrimFound, natural_front, natural_within, prim_found, prim_said}
-use Rattle.sbpl_fixed.proofs.Spelling.{says_both, says_parts}
+use Rattle.sbpl_fixed.specs.Parts.{says_both, says_parts}
 use Rattle.sbpl_mprim.proofs.Spelling.{Spells, all_meant, found_done, found_end, found_nano, found_whole, found_word, found_yes, just_said, natural_is, none_spelled, say_done, say_end, say_nano, say_whole, say_word, say_yes, spells_all, spells_append, spells_none, spells_split}
 
--- ---- one more primitive, and so many more
+-- ---- one more primitive, and several more
 
 pub turn_found : (cell : ℤ) (headings : ℕ) (earlier : List Primitive) (ts : List Piece) (qs : List Primitive) (rest : List Piece) → 1 ≤ headings → Says (prim_turn cell headings earlier) ts qs rest
     → (p : Primitive) × (qs ≡ earlier ++ p ∷ []) × PrimFound cell headings earlier ts p rest
@@ -81,11 +81,11 @@ resolution_found : (cell : ℤ) (headings : ℕ) (ts : List Piece) (r : ℤ) (re
 unfolding resolution_format
 resolution_found cell headings ts r rest h =
     let a = found_word headings _ _ ts r rest h in
-    let b = found_nano headings (pos 1) (pos 1000000000000) (same_resolution cell) a.behind r rest a.says in
-    let c = found_yes (int_eq b.value cell) (Resolution b.place) (done b.value) b.behind r rest b.says in
-    let d = found_done PrimFault b.value b.behind r rest c.1 in
+    let b = found_nano headings (pos 1) (pos 1000000000000) (same_resolution cell) a.after r rest a.says in
+    let c = found_yes (int_eq b.value cell) (Resolution b.place) (done b.value) b.after r rest b.says in
+    let d = found_done PrimFault b.value b.after r rest c.1 in
     let same = (Decides-int_eq b.value cell).0 c.0 in
-    subst (λ (z : ℤ). Spells headings (a_word (codes "resolution_m:") ∷ a_nano z ∷ []) ts rest) same (a.front _ (b.front [] (spells_none headings b.behind rest d.1)))
+    subst (λ (z : ℤ). Spells headings (a_word (codes "resolution_m:") ∷ a_nano z ∷ []) ts rest) same (a.front _ (b.front [] (spells_none headings b.after rest d.1)))
 
 at_zero : (n : ℤ) → pos 1 ≤ℤ n → pos 0 ≤ℤ n
 at_zero n h = omega (arith, ints)
@@ -97,20 +97,20 @@ angles_found : (headings : ℕ) (ts : List Piece) (n : ℕ) (rest : List Piece) 
 unfolding angles_format
 angles_found headings ts n rest h =
     let a = found_word headings _ _ ts n rest h in
-    let b = found_whole headings (pos 1) (pos 64) (same_angles headings) a.behind n rest a.says in
-    let c = found_yes (unsigned_abs b.value == headings) (Angles b.place) (done (unsigned_abs b.value)) b.behind n rest b.says in
-    let d = found_done PrimFault (unsigned_abs b.value) b.behind n rest c.1 in
+    let b = found_whole headings (pos 1) (pos 64) (same_angles headings) a.after n rest a.says in
+    let c = found_yes (unsigned_abs b.value == headings) (Angles b.place) (done (unsigned_abs b.value)) b.after n rest b.says in
+    let d = found_done PrimFault (unsigned_abs b.value) b.after n rest c.1 in
     let same = (Decides-eqb (unsigned_abs b.value) headings).0 c.0 in
-    let counted = natural_front headings 64 b.value [] a.behind rest (at_zero b.value b.within.0, b.within.1) (b.front [] (spells_none headings b.behind rest d.1)) in
+    let counted = natural_front headings 64 b.value [] a.after rest (at_zero b.value b.within.0, b.within.1) (b.front [] (spells_none headings b.after rest d.1)) in
     subst (λ (z : ℕ). Spells headings (a_word (codes "numberofangles:") ∷ a_whole (pos z) ∷ []) ts rest) same (a.front _ counted)
 
 total_found : (headings : ℕ) (ts : List Piece) (n : ℕ) (rest : List Piece) → Says total_format ts n rest → Spells headings (a_word (codes "totalnumberofprimitives:") ∷ a_whole (pos n) ∷ []) ts rest × (n ≤ 4096)
 unfolding total_format
 total_found headings ts n rest h =
     let a = found_word headings _ _ ts n rest h in
-    let b = found_whole headings _ _ _ a.behind n rest a.says in
-    let c = found_done PrimFault (unsigned_abs b.value) b.behind n rest b.says in
-    rw c.0 (a.front _ (natural_front headings 4096 b.value [] a.behind rest b.within (b.front [] (spells_none headings b.behind rest c.1))), (natural_is 4096 b.value b.within).1)
+    let b = found_whole headings _ _ _ a.after n rest a.says in
+    let c = found_done PrimFault (unsigned_abs b.value) b.after n rest b.says in
+    rw c.0 (a.front _ (natural_front headings 4096 b.value [] a.after rest b.within (b.front [] (spells_none headings b.after rest c.1))), (natural_is 4096 b.value b.within).1)
 
 head_found : (cell : ℤ) (headings : ℕ) (ts : List Piece) (n : ℕ) (rest : List Piece) → Says (head_format cell headings) ts n rest → Spells headings (spelled_head cell headings n) ts rest × (n ≤ 4096)
 unfolding head_format

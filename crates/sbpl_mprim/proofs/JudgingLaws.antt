@@ -11,7 +11,7 @@ use Rattle.sbpl_cfg.specs.Place.{heading_of}
 use Rattle.sbpl_mprim.specs.declared.prim.Primitive.{Primitive}
 use Rattle.sbpl_mprim.specs.Judging.{CostsNothing, HasId, are_at_one_point, costs_nothing, has_id, is_in_bin, is_in_cell, is_same_point}
 use Rattle.sbpl_mprim.specs.Primitives.{AreAtOnePoint, EndsAt, offset_cell}
-use Rattle.sbpl_mprim.proofs.Places.{all_at, at_all, one_passes}
+use Rattle.sbpl_mprim.proofs.Indices.{all_at, at_all, one_passes}
 
 -- ---- tests of all
 

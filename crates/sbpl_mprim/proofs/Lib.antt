@@ -5,7 +5,7 @@ pub mod NextLaws
 pub mod OwnFaults
 pub mod PathLaws
 pub mod Pieces
-pub mod Places
+pub mod Indices
 pub mod PrimLaws
 pub mod PrintedText
 pub mod ReadLaws

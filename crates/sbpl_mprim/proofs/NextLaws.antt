@@ -10,15 +10,15 @@ use Rattle.sbpl_mprim.specs.declared.prim.Primitive.{Primitive}
 use Rattle.sbpl_mprim.specs.Judging.{has_id}
 use Rattle.sbpl_mprim.specs.Primitives.{ArePrimitives, HaveOwnIds, IsPrimitive, Primitives, pose_count}
 use Rattle.sbpl_mprim.proofs.JudgingLaws.{id_taken, taken}
-use Rattle.sbpl_mprim.proofs.Places.{all_at, at_all, at_front, at_seam, front_at}
+use Rattle.sbpl_mprim.proofs.Indices.{all_at, at_all, at_front, at_seam, front_at}
 
--- a primitive may stand behind these
+-- a primitive may stand after these
 pub record IsNext (cell : ℤ) (headings : ℕ) (earlier : List Primitive) (prim : Primitive) : Type 0 where
   pub prim_is : IsPrimitive cell headings prim
   pub own : has_id earlier prim.from prim.id ≡ false
   pub few : sum_by pose_count earlier + length prim.poses ≤ 200000
 
--- each may stand behind those before it
+-- each may stand after those before it
 unfoldable pub AreNext : ℤ → ℕ → List Primitive → List Primitive → Type 0
 AreNext cell headings earlier [] = Unit {0}
 AreNext cell headings earlier (p ∷ ps) = IsNext cell headings earlier p × AreNext cell headings (earlier ++ p ∷ []) ps
@@ -54,7 +54,7 @@ own_id cell headings earlier (r ∷ ps) h i (suc j) p q lt e f g k =
 pub next_own : (cell : ℤ) (headings : ℕ) (ps : List Primitive) → AreNext cell headings [] ps → HaveOwnIds ps
 next_own cell headings ps h = λ i j p q lt e f g k. own_id cell headings [] ps h i j p q (omega arith) e f g k
 
--- primitives that stand behind none are what a file may give
+-- primitives that stand after none are what a file may give
 pub next_are : (cell : ℤ) (headings : ℕ) (ps : List Primitive) → IsWithin (pos 1) (pos 1000000000000) cell → 1 ≤ headings → headings ≤ 64 → length ps ≤ 4096 → AreNext cell headings [] ps
     → ArePrimitives (record { cell = cell; headings = headings; items = ps })
 next_are cell headings ps size some most count h = record {
@@ -67,11 +67,11 @@ next_are cell headings ps size some most count h = record {
 }
 
 -- and the other way round
-next_behind : (cell : ℤ) (headings : ℕ) (earlier ps : List Primitive) → AllByRecursion (IsPrimitive cell headings) ps → sum_by pose_count (earlier ++ ps) ≤ 200000 → HaveOwnIds (earlier ++ ps)
+next_after : (cell : ℤ) (headings : ℕ) (earlier ps : List Primitive) → AllByRecursion (IsPrimitive cell headings) ps → sum_by pose_count (earlier ++ ps) ≤ 200000 → HaveOwnIds (earlier ++ ps)
     → AreNext cell headings earlier ps
 unfolding AreNext
-next_behind cell headings earlier [] each few own = tt
-next_behind cell headings earlier (p ∷ ps) each few own =
+next_after cell headings earlier [] each few own = tt
+next_after cell headings earlier (p ∷ ps) each few own =
     let free : (b : Bool) → has_id earlier p.from p.id ≡ b → has_id earlier p.from p.id ≡ false = elim [
       | true ↦ λ e.
           let k = id_taken earlier p.from p.id e in
@@ -81,8 +81,8 @@ next_behind cell headings earlier (p ∷ ps) each few own =
     let sums : sum_by pose_count (earlier ++ p ∷ ps) ≡ sum_by pose_count earlier + (length p.poses + sum_by pose_count ps) = sum_by-append pose_count earlier (p ∷ ps) ∙ ap (λ (n : ℕ). sum_by pose_count earlier + n) (sum_by-cons pose_count p ps) in
     let apart : (earlier ++ p ∷ []) ++ ps ≡ earlier ++ p ∷ ps = append_assoc earlier (p ∷ []) ps in (
       record { prim_is = each.0; own = free (has_id earlier p.from p.id) refl; few = omega (arith, sums) },
-      next_behind cell headings (earlier ++ p ∷ []) ps each.1 (rw apart few) (rw apart own),
+      next_after cell headings (earlier ++ p ∷ []) ps each.1 (rw apart few) (rw apart own),
     )
 
 pub are_next : (ps : Primitives) → ArePrimitives ps → AreNext ps.cell ps.headings [] ps.items
-are_next ps h = next_behind ps.cell ps.headings [] ps.items (at_all (IsPrimitive ps.cell ps.headings) ps.items h.each) h.poses h.ids
+are_next ps h = next_after ps.cell ps.headings [] ps.items (at_all (IsPrimitive ps.cell ps.headings) ps.items h.each) h.poses h.ids

@@ -1,11 +1,11 @@
--- The faults of a primitive file are its own: want of memory is none of them.
+-- The faults of a primitive file are its own: running out of memory is none of them.
 use Rattle.std.proofs.Common.{ℕ, ℤ, List, [], length}
 use Rattle.std.specs.Prelude.{◌≢◌}
 use Rattle.sbpl_fixed.specs.Formats.{turns}
 use Rattle.sbpl_fixed.specs.Tokens.{tokens}
 use Rattle.sbpl_fixed.specs.declared.fault.TextFault.{TextFault}
 use Rattle.sbpl_fixed.specs.declared.fault.TextFault.TheVariants as common
-use Rattle.sbpl_fixed.proofs.OwnFaults.{Spares, behind_spares, done_spares, item_spares, right_spares, spared, turns_spare, wrong_spares}
+use Rattle.sbpl_fixed.specs.OwnFaults.{Spares, behind_spares, done_spares, item_spares, right_spares, spared, turns_spare, wrong_spares}
 use Rattle.sbpl_mprim.specs.declared.fault.PrimFault.{PrimFault}
 use Rattle.sbpl_mprim.specs.declared.fault.PrimFault.TheVariants.{NoMemory, Resolution, Angles, EndCell, EndHeading, NoPose, SameId, ZeroCost, TooLarge}
 use Rattle.sbpl_mprim.specs.declared.parts.PlacedPose.{PlacedPose}

@@ -10,7 +10,7 @@ use Rattle.sbpl_mprim.specs.declared.parts.PlacedPose.{PlacedPose}
 use Rattle.sbpl_mprim.specs.Primitives.{IsOffsetInRange}
 use Rattle.sbpl_mprim.specs.Reading.{path_format, pose_format, pose_turn}
 use Rattle.sbpl_mprim.specs.Text.{spelled_pose}
-use Rattle.sbpl_fixed.proofs.Spelling.{says_both, says_parts}
+use Rattle.sbpl_fixed.specs.Parts.{says_both, says_parts}
 use Rattle.sbpl_mprim.proofs.Spelling.{Spells, SaysSome, found_done, found_nano, say_done, say_nano, spells_append, spells_none, spells_split, none_spelled}
 
 -- ---- one pose
@@ -19,10 +19,10 @@ pub pose_found : (headings : ℕ) (ts : List Piece) (p : PlacedPose) (rest : Lis
 unfolding pose_format
 pose_found headings ts p rest h =
     let a = found_nano headings _ _ _ ts p rest h in
-    let b = found_nano headings _ _ _ a.behind p rest a.says in
-    let c = found_nano headings _ _ _ b.behind p rest b.says in
-    let d = found_done PrimFault _ c.behind p rest c.says in
-    rw d.0 (a.front _ (b.front _ (c.front [] (spells_none headings c.behind rest d.1))), record { x = a.within; y = b.within; theta = c.within })
+    let b = found_nano headings _ _ _ a.after p rest a.says in
+    let c = found_nano headings _ _ _ b.after p rest b.says in
+    let d = found_done PrimFault _ c.after p rest c.says in
+    rw d.0 (a.front _ (b.front _ (c.front [] (spells_none headings c.after rest d.1))), record { x = a.within; y = b.within; theta = c.within })
 
 pub pose_said : (headings : ℕ) (ts : List Piece) (p : Pose) (rest : List Piece) → IsOffsetInRange p → Spells headings (spelled_pose p) ts rest → SaysSome (λ q. q.pose ≡ p) pose_format ts rest
 unfolding pose_format
@@ -52,7 +52,7 @@ turn_said headings poses ts p rest range h =
     let b : Says (done (poses ++ a.0.pose ∷ [])) rest (poses ++ p ∷ []) rest = rw a.1 (say_done PrimFault (poses ++ p ∷ []) rest rest refl) in
     says_both pose_format (λ (q : PlacedPose). done (poses ++ q.pose ∷ [])) ts rest rest a.0 (poses ++ p ∷ []) a.2 b
 
--- what so many turns said
+-- what some turns said
 pub record PosesFound (headings count : ℕ) (poses : List Pose) (ts : List Piece) (qs : List Pose) (rest : List Piece) : Type 0 where
   pub more : List Pose
   pub all : qs ≡ poses ++ more

@@ -21,8 +21,8 @@ use Rattle.sbpl_mprim.specs.Text.{Saying, a_word, a_whole, a_heading, spelled_po
 use Rattle.sbpl_mprim.proofs.JudgingLaws.{costs_something, costs_then, ends_at, in_end_bin, in_end_cell}
 use Rattle.sbpl_mprim.proofs.NextLaws.{IsNext}
 use Rattle.sbpl_mprim.proofs.PathLaws.{path_found, path_said}
-use Rattle.sbpl_mprim.proofs.Places.{all_at, at_all, at_seam, last_at, last_some}
-use Rattle.sbpl_fixed.proofs.Spelling.{says_both, says_parts}
+use Rattle.sbpl_mprim.proofs.Indices.{all_at, at_all, at_seam, last_at, last_some}
+use Rattle.sbpl_fixed.specs.Parts.{says_both, says_parts}
 use Rattle.sbpl_mprim.proofs.Spelling.{Spells, SaysSome, just_said, found_done, found_test, found_whole, found_word, natural_is, none_spelled, say_done, say_test, say_whole, say_word, spells_append, spells_none, spells_split}
 
 -- a whole number of zero or more that was found, as a natural number
@@ -44,14 +44,14 @@ pub start_found : (headings : ℕ) (earlier : List Primitive) (ts : List Piece) 
 unfolding start_format
 start_found headings earlier ts s rest h =
     let a = found_word headings _ _ ts s rest h in
-    let b = found_whole headings _ _ _ a.behind s rest a.says in
-    let c = found_word headings _ _ b.behind s rest b.says in
-    let d = found_whole headings _ _ _ c.behind s rest c.says in
-    let e = found_test (has_id earlier (unsigned_abs d.value) (unsigned_abs b.value)) _ _ d.behind s rest d.says in
-    let f = found_done PrimFault _ d.behind s rest e.1 in
-    let last = natural_front headings (headings - 1) d.value [] c.behind rest d.within (d.front [] (spells_none headings d.behind rest f.1)) in
+    let b = found_whole headings _ _ _ a.after s rest a.says in
+    let c = found_word headings _ _ b.after s rest b.says in
+    let d = found_whole headings _ _ _ c.after s rest c.says in
+    let e = found_test (has_id earlier (unsigned_abs d.value) (unsigned_abs b.value)) _ _ d.after s rest d.says in
+    let f = found_done PrimFault _ d.after s rest e.1 in
+    let last = natural_front headings (headings - 1) d.value [] c.after rest d.within (d.front [] (spells_none headings d.after rest f.1)) in
     rw f.0 (
-      a.front _ (natural_front headings 65535 b.value _ a.behind rest b.within (b.front _ (c.front _ last))),
+      a.front _ (natural_front headings 65535 b.value _ a.after rest b.within (b.front _ (c.front _ last))),
       record { id = (natural_is 65535 b.value b.within).1; from = (natural_is (headings - 1) d.value d.within).1; own = e.0 },
     )
 
@@ -79,8 +79,8 @@ signed_found : (headings : ℕ) (ts : List Piece) (n : ℤ) (rest : List Piece) 
 unfolding signed_format
 signed_found headings ts n rest h =
     let a = found_whole headings _ _ _ ts n rest h in
-    let b = found_done PrimFault _ a.behind n rest a.says in
-    rw b.0 (a.front [] (spells_none headings a.behind rest b.1), a.within)
+    let b = found_done PrimFault _ a.after n rest a.says in
+    rw b.0 (a.front [] (spells_none headings a.after rest b.1), a.within)
 
 signed_said : (headings : ℕ) (ts : List Piece) (n : ℤ) (rest : List Piece) → IsSigned n → Spells headings (a_whole n ∷ []) ts rest → Says signed_format ts n rest
 unfolding signed_format
@@ -115,16 +115,16 @@ pub end_found : (headings : ℕ) (ts : List Piece) (e : End) (rest : List Piece)
 unfolding end_format
 end_found headings ts e rest some h =
     let a = found_word headings _ _ ts e rest h in
-    let b = says_parts signed_format _ a.behind rest e a.says in
+    let b = says_parts signed_format _ a.after rest e a.says in
     let c = says_parts signed_format _ b.1 rest e b.3 in
     let d = says_parts signed_format _ c.1 rest e c.3 in
     let f = found_done PrimFault _ d.1 e rest d.3 in
-    let x = signed_found headings a.behind b.0 b.1 b.2 in
+    let x = signed_found headings a.after b.0 b.1 b.2 in
     let y = signed_found headings b.1 c.0 c.1 c.2 in
     let t = signed_found headings c.1 d.0 d.1 d.2 in
     let last : Spells headings (a_heading (heading_modulo headings d.0) ∷ []) c.1 rest = subst (λ (l : List Piece). Spells headings (a_heading (heading_modulo headings d.0) ∷ []) c.1 l) (sym f.1) (heading_front headings d.0 c.1 d.1 t.1 t.0) in
     rw f.0 (
-      a.front _ (spells_append headings (a_whole b.0 ∷ []) _ a.behind b.1 rest x.0 (spells_append headings (a_whole c.0 ∷ []) _ b.1 c.1 rest y.0 last)),
+      a.front _ (spells_append headings (a_whole b.0 ∷ []) _ a.after b.1 rest x.0 (spells_append headings (a_whole c.0 ∷ []) _ b.1 c.1 rest y.0 last)),
       record { dx = x.1; dy = y.1; to = heading_below headings d.0 some },
     )
 
@@ -151,9 +151,9 @@ pub mult_found : (headings : ℕ) (ts : List Piece) (m : ℕ) (rest : List Piece
 unfolding mult_format
 mult_found headings ts m rest h =
     let a = found_word headings _ _ ts m rest h in
-    let b = found_whole headings _ _ _ a.behind m rest a.says in
-    let c = found_done PrimFault _ b.behind m rest b.says in
-    rw c.0 (a.front _ (natural_front headings 16777215 b.value [] a.behind rest b.within (b.front [] (spells_none headings b.behind rest c.1))), (natural_is 16777215 b.value b.within).1)
+    let b = found_whole headings _ _ _ a.after m rest a.says in
+    let c = found_done PrimFault _ b.after m rest b.says in
+    rw c.0 (a.front _ (natural_front headings 16777215 b.value [] a.after rest b.within (b.front [] (spells_none headings b.after rest c.1))), (natural_is 16777215 b.value b.within).1)
 
 pub mult_said : (headings : ℕ) (ts : List Piece) (m : ℕ) (rest : List Piece) → m ≤ 16777215 → Spells headings (a_word (codes "additionalactioncostmult:") ∷ a_whole (pos m) ∷ []) ts rest
     → SaysSome (λ n. n ≡ m) mult_format ts rest
@@ -170,13 +170,13 @@ pub count_found : (headings before : ℕ) (ts : List Piece) (n : ℕ) (rest : Li
 unfolding count_format
 count_found headings before ts n rest h =
     let a = found_word headings _ _ ts n rest h in
-    let b = found_whole headings _ _ _ a.behind n rest a.says in
-    let c = found_test (unsigned_abs b.value == 0) _ _ b.behind n rest b.says in
-    let d = found_test (nat_lt 200000 (before + unsigned_abs b.value)) _ _ b.behind n rest c.1 in
-    let e = found_done PrimFault _ b.behind n rest d.1 in
+    let b = found_whole headings _ _ _ a.after n rest a.says in
+    let c = found_test (unsigned_abs b.value == 0) _ _ b.after n rest b.says in
+    let d = found_test (nat_lt 200000 (before + unsigned_abs b.value)) _ _ b.after n rest c.1 in
+    let e = found_done PrimFault _ b.after n rest d.1 in
     let some : 1 ≤ unsigned_abs b.value = grind (arith, nat_tests, c.0) in
     let few : before + unsigned_abs b.value ≤ 200000 = grind (arith, nat_tests, d.0) in
-    rw e.0 (a.front _ (natural_front headings 200000 b.value [] a.behind rest b.within (b.front [] (spells_none headings b.behind rest e.1))), some, few)
+    rw e.0 (a.front _ (natural_front headings 200000 b.value [] a.after rest b.within (b.front [] (spells_none headings b.after rest e.1))), some, few)
 
 pub count_said : (headings before : ℕ) (ts : List Piece) (n : ℕ) (rest : List Piece) → 1 ≤ n → before + n ≤ 200000 → Spells headings (a_word (codes "intermediateposes:") ∷ a_whole (pos n) ∷ []) ts rest
     → SaysSome (λ m. m ≡ n) (count_format before) ts rest

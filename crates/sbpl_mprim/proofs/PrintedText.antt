@@ -19,12 +19,12 @@ use Rattle.sbpl_mprim.specs.Primitives.{ArePrimitives, IsOffsetInRange, IsPrimit
 use Rattle.sbpl_mprim.specs.Printed.{end_line, field, pose_line, prim_lines, prims_text}
 use Rattle.sbpl_mprim.specs.Text.{AreShown, IsTextOf, Saying, Shows, words_of, a_heading, a_nano, a_whole, a_word, spelled, spelled_pose, spelled_prim}
 use Rattle.sbpl_mprim.proofs.Pieces.{printable}
-use Rattle.sbpl_mprim.proofs.Places.{at_all}
+use Rattle.sbpl_mprim.proofs.Indices.{at_all}
 use Rattle.sbpl_mprim.proofs.Spelling.{Spells, all_meant, spells_append, spells_none}
 
 -- ---- bytes that are printed
 
--- wherever these bytes begin a text behind a blank, their tokens are spelled so, and the rest of the text follows
+-- wherever these bytes begin a text after a blank, their tokens are spelled so, and the rest of the text follows
 unfoldable pub Prints : ℕ → List Saying → List ℕ → Type 0
 Prints headings ss bytes = (place : ℕ) (rest : List ℕ) → (next : ℕ) × Spells headings ss (tokens_past true place (bytes ++ rest)) (tokens_past true next rest)
 
@@ -166,21 +166,21 @@ prints_any headings [] (w ∷ ws) h = absurd h
 prints_any headings (s ∷ ss) [] h = absurd h
 prints_any headings (s ∷ ss) (w ∷ ws) h = prints_line headings s ss w ws h
 
--- what a line shows, and what those behind it do
+-- what a line shows, and what those after it do
 record Parts (headings : ℕ) (ss : List Saying) (line more : List (List ℕ)) : Type 0 where
   front : List Saying
-  behind : List Saying
-  whole : ss ≡ front ++ behind
+  after : List Saying
+  whole : ss ≡ front ++ after
   first : AreShown headings front line
-  rest : AreShown headings behind more
+  rest : AreShown headings after more
 
 parted : (headings : ℕ) (ss : List Saying) (line more : List (List ℕ)) → AreShown headings ss (line ++ more) → Parts headings ss line more
 unfolding AreShown
-parted headings ss [] more h = record { front = []; behind = ss; whole = refl; first = tt; rest = h }
+parted headings ss [] more h = record { front = []; after = ss; whole = refl; first = tt; rest = h }
 parted headings [] (w ∷ ws) more h = absurd h
 parted headings (s ∷ ss) (w ∷ ws) more h =
     let k = parted headings ss ws more h.1 in
-    record { front = s ∷ k.front; behind = k.behind; whole = ap (λ (us : List Saying). s ∷ us) k.whole; first = (h.0, k.first); rest = k.rest }
+    record { front = s ∷ k.front; after = k.after; whole = ap (λ (us : List Saying). s ∷ us) k.whole; first = (h.0, k.first); rest = k.rest }
 
 none_shown : (headings : ℕ) (ss : List Saying) → AreShown headings ss [] → ss ≡ []
 unfolding AreShown
@@ -191,7 +191,7 @@ prints_lines : (headings : ℕ) (ss : List Saying) (lines : List (List (List ℕ
 prints_lines headings ss [] h = rw (none_shown headings ss h) (prints_none headings)
 prints_lines headings ss (l ∷ ls) h =
     let k = parted headings ss l (words_of ls) h in
-    rw k.whole (prints_both headings k.front k.behind (line_text l) (lines_text ls) (prints_any headings k.front l k.first) (prints_lines headings k.behind ls k.rest))
+    rw k.whole (prints_both headings k.front k.after (line_text l) (lines_text ls) (prints_any headings k.front l k.first) (prints_lines headings k.after ls k.rest))
 
 pub text_is_worded : (ps : Primitives) (lines : List (List (List ℕ))) → ArePrimitives ps → AreShown ps.headings (spelled ps) (words_of lines) → IsTextOf (lines_text lines) ps
 text_is_worded ps lines h shown = text_of_prints ps (lines_text lines) h (prints_lines ps.headings (spelled ps) lines shown)

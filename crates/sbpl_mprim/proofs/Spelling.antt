@@ -10,9 +10,8 @@ use Rattle.sbpl_fixed.specs.declared.fault.NumFault.TheVariants.{Form, Size}
 use Rattle.sbpl_fixed.specs.Formats.{Miss, out_of_range, no_word, Format, item, ended, wrong, done, fixed, whole, nano, within, Says}
 use Rattle.sbpl_cfg.specs.Environment.{IsWithin}
 use Rattle.sbpl_mprim.specs.Text.{Saying, a_word, a_whole, a_nano, Means, AreMeant}
-use Rattle.sbpl_cfg.proofs.Items.{from_le}
 
--- ---- tokens in front of others
+-- ---- tokens before others
 
 -- the tokens begin with what is spelled, and the rest is left
 unfoldable pub Spells : ℕ → List Saying → List Piece → List Piece → Type 0
@@ -59,8 +58,11 @@ spells_split headings (s ∷ ss) us (t ∷ ts) rest h = let k = spells_split hea
 int_le_tells : (a b : ℤ) → int_le a b ≡ true → a ≤ℤ b
 int_le_tells a b h = grind (arith, ints)
 
+int_le_holds : (a b : ℤ) → a ≤ℤ b → int_le a b ≡ true
+int_le_holds a b h = grind (arith, ints)
+
 pub within_ok : (low high n : ℤ) (r : Result ℤ NumFault) → r ≡ Ok n → IsWithin low high n → within low high r ≡ Ok n
-within_ok low high n r e w = rw (e, from_le low n w.0, from_le n high w.1) refl
+within_ok low high n r e w = rw (e, int_le_holds low n w.0, int_le_holds n high w.1) refl
 
 abbrev was_read : ℤ → Result ℤ NumFault
 was_read n = Ok n
@@ -101,16 +103,16 @@ fixed_tells word bytes v e =
 pub fixed_ok : (word bytes : List ℕ) → bytes ≡ word → fixed word bytes ≡ Ok (pos 0)
 fixed_ok word bytes e = let t : bytes_eq bytes word ≡ true = (bytes_eq-Decides bytes word).1 e in rw t refl
 
--- ---- the item in front, when a format says something
+-- ---- the first item, when a format says something
 
--- an item said v where it stood, and the format goes on behind it; the token's saying goes in front of what is spelled there
+-- an item said v where it stood, and the format goes on after it; the token's saying goes before what is spelled there
 pub record Found {E A : Type 0} (headings : ℕ) (more : ℕ → ℤ → Format E A) (saying : ℤ → Saying) (range : ℤ → Type 0) (ts : List Piece) (x : A) (rest : List Piece) : Type 0 where
   pub place : ℕ
   pub value : ℤ
-  pub behind : List Piece
+  pub after : List Piece
   pub within : range value
-  pub says : Says (more place value) behind x rest
-  pub front : (ss : List Saying) → Spells headings ss behind rest → Spells headings (saying value ∷ ss) ts rest
+  pub says : Says (more place value) after x rest
+  pub front : (ss : List Saying) → Spells headings ss after rest → Spells headings (saying value ∷ ss) ts rest
 
 pub found_word : {E A : Type 0} (headings : ℕ) (word : List ℕ) (more : ℕ → ℤ → Format E A) (ts : List Piece) (x : A) (rest : List Piece)
     → Says (item (fixed word) more) ts x rest → Found headings more (λ _. a_word word) (λ _. Unit {0}) ts x rest
@@ -119,7 +121,7 @@ found_word headings word more [] x rest h = absurd h
 found_word headings word more (t ∷ ts) x rest h = record {
   place = t.place;
   value = h.0;
-  behind = ts;
+  after = ts;
   within = tt;
   says = h.2;
   front = λ ss k. (fixed_tells word t.bytes h.0 h.1, k);
@@ -131,7 +133,7 @@ unfolding Says Spells
 found_whole headings low high more [] x rest h = absurd h
 found_whole headings low high more (t ∷ ts) x rest h =
     let told = within_tells low high h.0 (whole_of t.bytes) h.1 in
-    record { place = t.place; value = h.0; behind = ts; within = told.1; says = h.2; front = λ ss k. (told.0, k) }
+    record { place = t.place; value = h.0; after = ts; within = told.1; says = h.2; front = λ ss k. (told.0, k) }
 
 pub found_nano : {E A : Type 0} (headings : ℕ) (low high : ℤ) (more : ℕ → ℤ → Format E A) (ts : List Piece) (x : A) (rest : List Piece)
     → Says (item (nano low high) more) ts x rest → Found headings more a_nano (IsWithin low high) ts x rest
@@ -139,9 +141,9 @@ unfolding Says Spells
 found_nano headings low high more [] x rest h = absurd h
 found_nano headings low high more (t ∷ ts) x rest h =
     let told = within_tells low high h.0 (nano_of t.bytes) h.1 in
-    record { place = t.place; value = h.0; behind = ts; within = told.1; says = h.2; front = λ ss k. (told.0, k) }
+    record { place = t.place; value = h.0; after = ts; within = told.1; says = h.2; front = λ ss k. (told.0, k) }
 
--- ---- an item in front, so that a format says something
+-- ---- a first item, so that a format says something
 
 -- the format says some value with this property of the tokens
 abbrev pub SaysSome : {E A : Type 0} → (A → Type 0) → Format E A → List Piece → List Piece → Type 0
@@ -168,7 +170,7 @@ unfolding Says Spells
 say_nano P headings low high n more ss [] rest w h k = absurd h
 say_nano P headings low high n more ss (t ∷ ts) rest w h k = let s = k t.place ts h.1 in (s.0, s.1, (n, within_ok low high n (nano_of t.bytes) h.0 w, s.2))
 
--- ---- parts one behind the other, and tests in the middle
+-- ---- parts one after the other, and tests in the middle
 
 pub found_test : {E A : Type 0} (b : Bool) (e : E) (f : Format E A) (ts : List Piece) (x : A) (rest : List Piece) → Says (if b then wrong e else f) ts x rest
     → (b ≡ false) × Says f ts x rest
@@ -205,7 +207,7 @@ pub say_yes : {E A : Type 0} (b : Bool) (e : E) (f : Format E A) (ts : List Piec
     → Says (if b then f else wrong e) ts x rest
 say_yes b e f ts x rest p h = rw p h
 
--- nothing stands behind the last token
+-- nothing stands after the last token
 pub found_end : {A : Type 0} (E : Type 0) (y : A) (ts : List Piece) (x : A) (rest : List Piece) → Says (ended (just {E = E} y)) ts x rest → (ts ≡ []) × (x ≡ y)
 unfolding Says
 found_end E y [] x rest h = (refl, h.0)

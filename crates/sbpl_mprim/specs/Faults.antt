@@ -39,7 +39,7 @@ name_of (ZeroCost _) = codes "ZeroCost"
 name_of (TooLarge _) = codes "TooLarge"
 name_of NoMemory = codes "NoMemory"
 
--- its place
+-- its place, an offset in the text
 abbrev pub place_of : PrimFault → ℕ
 place_of (Word place) = place
 place_of (Number place) = place

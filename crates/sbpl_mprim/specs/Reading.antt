@@ -25,7 +25,7 @@ pose_format =
 unfoldable pub pose_turn : List Pose → Format PrimFault (List Pose)
 pose_turn poses = behind pose_format (λ p. done (poses ++ p.pose ∷ []))
 
--- all poses, and the last of them again with its places
+-- all poses, and the last of them again with its offsets
 unfoldable pub path_format : ℕ → Format PrimFault (List Pose × PlacedPose)
 path_format count = behind (turns (count - 1) pose_turn []) (λ poses. behind pose_format (λ last. done (poses ++ last.pose ∷ [], last)))
 
@@ -52,7 +52,7 @@ end_format headings =
 unfoldable pub mult_format : Format PrimFault ℕ
 mult_format = item (fixed (codes "additionalactioncostmult:")) (λ _ _. item (whole (pos 0) (pos 16777215)) (λ _ mult. done (unsigned_abs mult)))
 
--- how many poses there are, behind so many poses of earlier primitives
+-- how many poses there are, where the earlier primitives have `before` poses
 unfoldable pub count_format : ℕ → Format PrimFault ℕ
 count_format before =
     item (fixed (codes "intermediateposes:")) (λ _ _. item (whole (pos 0) (pos 200000)) (λ place count.
@@ -74,7 +74,7 @@ unfoldable pub front_format : ℕ → List Primitive → Format PrimFault (Start
 front_format headings earlier =
     behind (start_format headings earlier) (λ s. behind (end_format headings) (λ e. behind mult_format (λ mult. done (s, e, mult))))
 
--- one primitive behind the earlier ones
+-- one primitive after the earlier ones
 unfoldable pub prim_format : ℤ → ℕ → List Primitive → Format PrimFault Primitive
 prim_format cell headings earlier =
     behind (front_format headings earlier) (λ f. behind (count_format (sum_by pose_count earlier)) (λ count.

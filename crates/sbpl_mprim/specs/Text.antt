@@ -70,7 +70,7 @@ pub record IsTextOf (text : List ℕ) (ps : Primitives) : Type 0 where
   pub tokens : AreMeant ps.headings (spelled ps) (tokens text)
   pub fits : ArePrimitives ps
 
--- the words of lines, one line behind the other
+-- the words of lines, one line after the other
 abbrev pub words_of : List (List (List ℕ)) → List (List ℕ)
 words_of lines = flat_map (λ line. line) lines
 
@@ -78,7 +78,7 @@ words_of lines = flat_map (λ line. line) lines
 abbrev pub IsText : ℤ → ℕ → List ℕ → Type 0
 IsText cell headings text = (ps : Primitives) × (ps.cell ≡ cell) × (ps.headings ≡ headings) × IsTextOf text ps
 
--- Up to the fault's place the text is what the format calls for, and there it fails in the way that the fault names.
+-- Up to the fault's offset the text is what the format calls for, and there it fails in the way that the fault names.
 abbrev pub HasFault : ℤ → ℕ → List ℕ → PrimFault → Type 0
 HasFault cell headings text f = HasFirstFault told (prims_format cell headings) text f
 

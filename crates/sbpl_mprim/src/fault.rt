@@ -8,8 +8,8 @@ use sbpl_fixed::{NoMemory, TextFault};
 use std::alloc::{AllocError, AllocFailed};
 use thiserror::Error;
 
-/// Why a text stands for no primitives: its first fault in reading order, with the place of the token that is wrong, as
-/// the offset of its first byte. The place of a missing token is the length of the text.
+/// Why a text stands for no primitives: its first fault in reading order, with the offset of the token that is wrong,
+/// that of its first byte. The offset of a missing token is the length of the text.
 #[derive(Clone, Copy, Debug, PartialEq, Eq, Error)]
 pub enum PrimFault {
     /// Another token stands where a fixed word must stand.
@@ -24,31 +24,31 @@ pub enum PrimFault {
     /// The text ends where a token must stand.
     #[error("byte {0}: the text ends where more must stand")]
     Ended(usize),
-    /// A token stands behind the last one.
+    /// A token stands after the last one.
     #[error("byte {0}: more stands behind the last primitive")]
     Trailing(usize),
-    /// The resolution is not the cell size. The place is its number.
+    /// The resolution is not the cell size. The offset is that of its number.
     #[error("byte {0}: the resolution is not the cell size")]
     Resolution(usize),
-    /// The number of angles is not the number of headings. The place is its number.
+    /// The number of angles is not the number of headings. The offset is that of its number.
     #[error("byte {0}: the number of angles is not the number of headings")]
     Angles(usize),
-    /// The last pose, from the centre of the source cell, is not in the end cell. The place is its x.
+    /// The last pose, from the centre of the source cell, is not in the end cell. The offset is that of its x.
     #[error("byte {0}: the last pose is not in the end cell")]
     EndCell(usize),
-    /// The last pose's angle is not in the bin of the end heading. The place is its angle.
+    /// The last pose's angle is not in the bin of the end heading. The offset is that of its angle.
     #[error("byte {0}: the last pose has not the end heading")]
     EndHeading(usize),
-    /// There are no poses. The place is their number.
+    /// There are no poses. The offset is that of their number.
     #[error("byte {0}: a primitive without poses")]
     NoPose(usize),
-    /// An earlier primitive has the same start heading and the same id. The place is the id.
+    /// An earlier primitive has the same start heading and the same id. The offset is that of the id.
     #[error("byte {0}: an earlier primitive has this start heading and this id")]
     SameId(usize),
-    /// The multiplier is 0, or all poses are at one point and the headings are equal. The place is the id.
+    /// The multiplier is 0, or all poses are at one point and the headings are equal. The offset is that of the id.
     #[error("byte {0}: a primitive that costs nothing")]
     ZeroCost(usize),
-    /// The poses read so far and those announced are above 200,000. The place is the number announced.
+    /// The poses read so far and those announced are above 200,000. The offset is that of the number announced.
     #[error("byte {0}: too many poses")]
     TooLarge(usize),
     /// Memory ran out. This says nothing of the text.
@@ -101,7 +101,7 @@ impl PrimFault {
         }
     }
 
-    /// The fault's place in the text; 0 for `NoMemory`, which has none.
+    /// The fault's place, an offset in the text; 0 for `NoMemory`, which has none.
     pub fn place(&self) -> usize
         ensures place { result ≡ place_of self.now }
     {

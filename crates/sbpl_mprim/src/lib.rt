@@ -5,7 +5,6 @@ mod earlier;
 mod fault;
 mod judging;
 mod parts;
-mod poses;
 mod prim;
 mod prims;
 mod printing;
@@ -15,8 +14,7 @@ mod text;
 
 pub use fault::PrimFault;
 pub use judging::primitives_are_judged_in_plain_words;
-pub use poses::Poses;
-pub use prim::{Prim, Primitive};
+pub use prim::{Poses, Prim, Primitive};
 pub use prims::Prims;
 pub use printing::print_prims;
 pub use read::read_prims;

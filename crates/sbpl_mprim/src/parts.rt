@@ -2,7 +2,7 @@
 
 use sbpl_cfg::Pose;
 
-/// A pose, with the places of its x and of its angle in the text.
+/// A pose, with the offsets of its x and of its angle in the text.
 #[derive(Clone, Copy)]
 pub(crate) struct PlacedPose {
     pub(crate) pose: Pose,
@@ -10,7 +10,7 @@ pub(crate) struct PlacedPose {
     pub(crate) theta_place: usize,
 }
 
-/// An id and a start heading, with the place of the id.
+/// An id and a start heading, with the offset of the id.
 #[derive(Clone, Copy)]
 pub(crate) struct Start {
     pub(crate) id: u32,

@@ -1,6 +1,10 @@
 //! One motion primitive.
 
-use crate::poses::Poses;
+use sbpl_cfg::Pose;
+use sbpl_list::ListOf;
+
+/// The poses along a primitive, as offsets from the centre of the source cell.
+pub type Poses = ListOf<Pose>;
 
 /// A motion primitive.
 // The name `Prim` itself can't be the struct's: the proofs' own library has a module of that name.

@@ -77,7 +77,7 @@ impl Prims {
         self.items.as_slice()
     }
 
-    /// The primitive at place `i` of the file.
+    /// The primitive with number `i` in the file, from 0.
     pub fn get(&self, i: u32) -> &Prim
         requires place { i < length self.now.items }
         ensures prim { slice_get self.now.items i ≡ Some result.now }

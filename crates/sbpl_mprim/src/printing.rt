@@ -15,7 +15,7 @@ use itoa::Buffer;
 use sbpl_cfg::Pose;
 use sbpl_fixed::{NoMemory, print_nano};
 
-/// Appends a word, and a space or a line feed behind it.
+/// Appends a word, and a space or a line feed after it.
 fn print_word(word: &[u8], blank: u8, out: &mut Vec<u8>) -> Result<(), NoMemory>
     ensures ok { OnOk result (out.new.items ≡ out.old.items ++ (word.now ++ blank ∷ [])) }
 {

@@ -37,7 +37,7 @@ fn read_file(alloc: Global, text: &[u8], cell: i64, headings: u32) -> Result<Pri
 /// Reads a primitive file of SBPL's form, for a cell size in nanometres and a number of headings. Where the format has no
 /// such cell size or no such number of headings, no text stands for primitives. Blanks of any kind part its tokens. `Ok`
 /// has the primitives that the text stands for, in file order. Any other text has exactly one first fault in reading
-/// order, which is answered with its place. `NoMemory` says nothing of the text.
+/// order, which is answered with its offset. `NoMemory` says nothing of the text.
 pub fn read_prims(alloc: Global, text: &[u8], cell: i64, headings: u32) -> Result<Prims, PrimFault>
     // They are for the cell size and the headings that were passed.
     ensures given { IfOk result (λ ps. (ps.cell ≡ cell) × (ps.headings ≡ headings)) }

@@ -13,8 +13,7 @@ use crate::earlier::Earlier;
 use crate::fault::PrimFault;
 use crate::judging::{costs_nothing, heading_modulo, is_in_bin, is_in_cell};
 use crate::parts::{End, PlacedPose, Start};
-use crate::poses::Poses;
-use crate::prim::{Prim, Primitive};
+use crate::prim::{Poses, Prim, Primitive};
 use sbpl_cfg::Pose;
 use sbpl_fixed::Reader;
 use std::alloc::Global;
@@ -56,7 +55,7 @@ fn read_signed(reader: &mut Reader) -> Result<i32, PrimFault>
     Ok(number.value as i32)
 }
 
-#[tactic(auto, using(sbpl_fixed::proofs::Reading::reads_behind), unfolding(sbpl_fixed::specs::Formats::reads, crate::specs::Reading::end_format))]
+#[tactic(auto, using(sbpl_fixed::specs::Parts::reads_behind), unfolding(sbpl_fixed::specs::Formats::reads, crate::specs::Reading::end_format))]
 fn read_end(headings: u32, reader: &mut Reader) -> Result<End, PrimFault>
     requires some { 0 < headings }
     requires few { headings ≤ 64 }
@@ -116,7 +115,7 @@ fn read_count(before: u32, reader: &mut Reader) -> Result<u32, PrimFault>
 }
 
 /// Reads one more pose.
-#[tactic(auto, using(sbpl_fixed::proofs::Reading::reads_behind), unfolding(sbpl_fixed::specs::Formats::reads, crate::specs::Reading::pose_turn))]
+#[tactic(auto, using(sbpl_fixed::specs::Parts::reads_behind), unfolding(sbpl_fixed::specs::Formats::reads, crate::specs::Reading::pose_turn))]
 fn read_next_pose(poses: &mut Vec<Pose>, reader: &mut Reader) -> Result<(), PrimFault>
     ensures read { Gives Memory (λ _. poses.new.items) result reader.new (reads told (pose_turn poses.old.items) reader.old) }
     ensures count { OnOk result (vec_len poses.new ≡ vec_len poses.old + 1) }
@@ -126,8 +125,8 @@ fn read_next_pose(poses: &mut Vec<Pose>, reader: &mut Reader) -> Result<(), Prim
     Ok(())
 }
 
-/// Reads so many more poses.
-#[tactic(auto, using(sbpl_fixed::proofs::Reading::reads_behind, sbpl_fixed::proofs::Reading::turns_next, sbpl_fixed::proofs::Reading::turns_over), unfolding(sbpl_fixed::specs::Formats::reads))]
+/// Reads `count` more poses.
+#[tactic(auto, using(sbpl_fixed::specs::Parts::reads_behind, sbpl_fixed::specs::Parts::turns_next, sbpl_fixed::specs::Parts::turns_over), unfolding(sbpl_fixed::specs::Formats::reads))]
 fn read_poses(count: u32, poses: &mut Vec<Pose>, reader: &mut Reader) -> Result<(), PrimFault>
     ensures read { Gives Memory (λ _. poses.new.items) result reader.new (reads told (turns count pose_turn poses.old.items) reader.old) }
     ensures count { OnOk result (vec_len poses.new ≡ vec_len poses.old + count) }
@@ -138,8 +137,8 @@ fn read_poses(count: u32, poses: &mut Vec<Pose>, reader: &mut Reader) -> Result<
     Ok(())
 }
 
-/// Reads the poses of a primitive. Answers the last of them again, with its places.
-#[tactic(auto, using(sbpl_fixed::proofs::Reading::reads_behind), unfolding(sbpl_fixed::specs::Formats::reads, crate::specs::Reading::path_format))]
+/// Reads the poses of a primitive. Answers the last of them again, with its offsets.
+#[tactic(auto, using(sbpl_fixed::specs::Parts::reads_behind), unfolding(sbpl_fixed::specs::Formats::reads, crate::specs::Reading::path_format))]
 fn read_path(
     alloc: Global,
     count: u32,
@@ -184,7 +183,7 @@ fn judge(
 }
 
 /// Reads what stands before the poses of a primitive.
-#[tactic(auto, using(sbpl_fixed::proofs::Reading::reads_behind), unfolding(sbpl_fixed::specs::Formats::reads, crate::specs::Reading::front_format))]
+#[tactic(auto, using(sbpl_fixed::specs::Parts::reads_behind), unfolding(sbpl_fixed::specs::Formats::reads, crate::specs::Reading::front_format))]
 fn read_front(
     headings: u32,
     earlier: &Earlier,
@@ -214,8 +213,8 @@ fn made(start: Start, end: End, mult: u32, poses: Poses) -> Prim
     }
 }
 
-/// Reads one primitive behind the earlier ones.
-#[tactic(auto, using(sbpl_fixed::proofs::Reading::reads_behind), unfolding(sbpl_fixed::specs::Formats::reads, crate::specs::Reading::prim_format))]
+/// Reads one primitive after the earlier ones.
+#[tactic(auto, using(sbpl_fixed::specs::Parts::reads_behind), unfolding(sbpl_fixed::specs::Formats::reads, crate::specs::Reading::prim_format))]
 fn read_prim(
     alloc: Global,
     cell: i64,
@@ -238,7 +237,7 @@ fn read_prim(
 }
 
 /// Reads one more primitive.
-#[tactic(auto, using(sbpl_fixed::proofs::Reading::reads_behind), unfolding(sbpl_fixed::specs::Formats::reads, crate::specs::Reading::prim_turn))]
+#[tactic(auto, using(sbpl_fixed::specs::Parts::reads_behind), unfolding(sbpl_fixed::specs::Formats::reads, crate::specs::Reading::prim_turn))]
 fn read_next_prim(
     alloc: Global,
     cell: i64,
@@ -294,7 +293,7 @@ fn read_total(reader: &mut Reader) -> Result<u32, PrimFault>
 }
 
 /// Reads what stands before the first primitive. Answers how many there are.
-#[tactic(auto, using(sbpl_fixed::proofs::Reading::reads_behind), unfolding(sbpl_fixed::specs::Formats::reads, crate::specs::Reading::head_format))]
+#[tactic(auto, using(sbpl_fixed::specs::Parts::reads_behind), unfolding(sbpl_fixed::specs::Formats::reads, crate::specs::Reading::head_format))]
 fn read_head(cell: i64, headings: u32, reader: &mut Reader) -> Result<u32, PrimFault>
     ensures read { Gives Memory (λ x. x) result reader.new (reads told (head_format cell headings) reader.old) }
     ensures sizes { OnOk result (AreSizes cell headings) }
@@ -305,8 +304,8 @@ fn read_head(cell: i64, headings: u32, reader: &mut Reader) -> Result<u32, PrimF
     Ok(total)
 }
 
-/// Reads so many primitives.
-#[tactic(auto, using(sbpl_fixed::proofs::Reading::reads_behind, sbpl_fixed::proofs::Reading::turns_next, sbpl_fixed::proofs::Reading::turns_over), unfolding(sbpl_fixed::specs::Formats::reads))]
+/// Reads `total` primitives.
+#[tactic(auto, using(sbpl_fixed::specs::Parts::reads_behind, sbpl_fixed::specs::Parts::turns_next, sbpl_fixed::specs::Parts::turns_over), unfolding(sbpl_fixed::specs::Formats::reads))]
 fn read_each(
     alloc: Global,
     cell: i64,
@@ -327,7 +326,7 @@ fn read_each(
 }
 
 /// Reads all of a file.
-#[tactic(auto, using(sbpl_fixed::proofs::Reading::reads_behind), unfolding(sbpl_fixed::specs::Formats::reads, crate::specs::Reading::prims_format))]
+#[tactic(auto, using(sbpl_fixed::specs::Parts::reads_behind), unfolding(sbpl_fixed::specs::Formats::reads, crate::specs::Reading::prims_format))]
 pub(crate) fn read_all(
     alloc: Global,
     cell: i64,

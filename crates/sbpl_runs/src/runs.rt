@@ -28,13 +28,13 @@ pub struct Runs<T> {
 
 impl<T> Model for Runs<T> {
     ghost use Rattle.std.specs.Prelude.{List, length};
-    ghost use Rattle.sbpl_runs.specs.Cut.{cut, IsCut};
+    ghost use Rattle.sbpl_runs.specs.Lists.{lists_between, AreStarts};
 
     ghost Value = { List (List T) };
 
-    ghost view = { λ r. cut r.items.items r.starts.items };
+    ghost view = { λ r. lists_between r.items.items r.starts.items };
 
-    ghost invariant = { λ r. IsCut (length r.items.items) r.starts.items };
+    ghost invariant = { λ r. AreStarts (length r.items.items) r.starts.items };
 }
 
 impl<T: Copy + Drop> Runs<T> {

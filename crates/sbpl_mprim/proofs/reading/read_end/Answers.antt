@@ -2,7 +2,7 @@ use Rattle.std.proofs.Common.{rules}
 use Rattle.std.proofs.lemmas.Int.{to_z-of_z}
 use Rattle.std.specs.Prelude.{FitsSigned}
 use Rattle.std.specs.Int.{w32}
-use Rattle.sbpl_fixed.proofs.Reading.{reads_behind}
+use Rattle.sbpl_fixed.specs.Parts.{reads_behind}
 use Rattle.sbpl_fixed.specs.Formats.{reads}
 use Rattle.sbpl_mprim.specs.Reading.{end_format}
 use Rattle.sbpl_mprim.proofs.reading.read_end.Goals as goal

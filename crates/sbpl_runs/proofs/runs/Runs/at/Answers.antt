@@ -1,5 +1,5 @@
 use Rattle.std.proofs.Common.{ap, sym, ◌∙◌, Some}
-use Rattle.sbpl_runs.proofs.Cuts.{lies_at}
+use Rattle.sbpl_runs.proofs.ListLaws.{lies_at}
 use Rattle.sbpl_runs.proofs.runs.Runs.at.Goals as goal
 
 pub part-requires : goal.part-requires

@@ -1,5 +1,5 @@
 use Rattle.std.proofs.Common.{arith}
-use Rattle.sbpl_runs.proofs.Cuts.{pushed}
+use Rattle.sbpl_runs.proofs.ListLaws.{pushed}
 use Rattle.sbpl_runs.proofs.runs.Runs.push.Goals as goal
 
 pub returns-clause-added : goal.returns-clause-added

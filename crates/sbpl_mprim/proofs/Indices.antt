@@ -1,9 +1,8 @@
--- Elements of a list by their places.
+-- Elements of a list by their indices.
 use Rattle.std.proofs.Common.{◌≡◌, ℕ, zero, suc, ◌+◌, ◌<◌, Bool, true, false, ◌||◌, List, [], ◌∷◌, ◌++◌, length, Option, Some, refl, sym, ap, subst, ◌∙◌, arith, length-append}
+use Rattle.std.proofs.lemmas.Option.{get_or_from_slice_get}
+use Rattle.std.proofs.Math.Seq.{get_or-append_seam}
 use Rattle.std.specs.List.{slice_get, list_any, AllByRecursion}
-
-abbrev some_of : {A : Type 0} → A → Option A
-some_of x = Some x
 
 pub all_at : {A : Type 0} (P : A → Type 0) (xs : List A) → AllByRecursion P xs → (i : ℕ) (x : A) → slice_get xs i ≡ Some x → P x
 all_at P [] h i x e = absurd cc
@@ -23,7 +22,7 @@ pub at_seam : {A : Type 0} (xs : List A) (y : A) (ys : List A) → slice_get (xs
 at_seam [] y ys = refl
 at_seam (x ∷ xs) y ys = at_seam xs y ys
 
--- an element with its place, where one passes a test
+-- an element with its index, where one passes a test
 pub one_passes : {A : Type 0} (p : A → Bool) (xs : List A) → list_any p xs ≡ true → (i : ℕ) × (x : A) × (slice_get xs i ≡ Some x) × (p x ≡ true)
 one_passes p [] e = absurd cc
 one_passes {A} p (x ∷ xs) e =
@@ -50,13 +49,9 @@ front_at (z ∷ zs) ys (suc i) x lt e = front_at zs ys i x (omega arith) e
 
 -- the last element is the one that stands last
 pub last_at : {A : Type 0} (front : List A) (last : A) (xs : List A) (i : ℕ) (x : A) → xs ≡ front ++ last ∷ [] → i + 1 ≡ length xs → slice_get xs i ≡ Some x → x ≡ last
-last_at {A} front last xs i x parts at_end here =
-    let long : length xs ≡ length front + 1 = ap length parts ∙ length-append front (last ∷ []) in
-    let place : i ≡ length front = omega arith in
-    let found : slice_get (front ++ last ∷ []) (length front) ≡ Some x = subst (λ (n : ℕ). slice_get (front ++ last ∷ []) n ≡ Some x) place (subst (λ (l : List A). slice_get l i ≡ Some x) parts here) in
-    let seam = at_seam front last [] in
-    let same : some_of x ≡ some_of last = sym found ∙ seam in
-    cc
+last_at front last xs i x parts at_end here =
+    let index : i ≡ length front = omega (arith, at_end, ap length parts, length-append front (last ∷ [])) in
+    sym (get_or_from_slice_get xs i x x here) ∙ rw (parts, index) (get_or-append_seam front last [] x)
 
 pub last_some : {A : Type 0} (xs : List A) → 0 < length xs → Last xs
 last_some [] h = absurd (omega arith)
