@@ -1,5 +1,1 @@
-pub mod Repaired
-pub mod Raised
-pub mod Times
-pub mod Taken
-pub mod Parts
+pub mod Planner

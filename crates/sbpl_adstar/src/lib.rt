@@ -2,10 +2,6 @@
 #![tactic(auto)]
 
 mod adstar;
-mod facts;
-mod note;
-mod raise;
-mod repair;
+mod planner;
 
 pub use adstar::AdStar;
-pub use facts::exact_where_same;

@@ -4,11 +4,11 @@ use Rattle.std.proofs.Math.Nat.{mul-le-mul}
 use Rattle.std.proofs.lemmas.Bool.{cases_eq}
 use Rattle.std.proofs.lemmas.Int.{ints}
 use Rattle.std.proofs.lemmas.Nat.{div-add-mod', div-mul-add, mod-mul-add}
-use Rattle.std.proofs.lemmas.Option.{slice_get_within, same_Some, cond_some}
+use Rattle.std.proofs.lemmas.Option.{slice_get_within, same_Some, cond_some, option_and_then_some}
 use Rattle.sbpl_graph.specs.Network.{IsFreeArc}
 use Rattle.sbpl_graph.specs.Laws.{IsConsistent, HasGaps}
 use Rattle.sbpl_mprim.specs.declared.prim.Primitive.{Primitive}
-use Rattle.sbpl_map.specs.CellMap.{CellMap, place_in, cost_at}
+use Rattle.sbpl_map.specs.CellMap.{CellMap, index_in, cost_at}
 use Rattle.sbpl_cost.specs.PrimitiveCost.{primitive_cost}
 use Rattle.sbpl_cost.specs.States.{place_of, state_count}
 use Rattle.sbpl_cost.specs.World.{World, IsWorld}
@@ -18,7 +18,6 @@ use Rattle.sbpl_heur.specs.Walks.{IsLeastCost, Moves, LiesFrom, IsCellArc, IsCel
 use Rattle.sbpl_heur.specs.declared.hop.Hop.{Hop}
 use Rattle.sbpl_heur.specs.Hops.{AreHops}
 use Rattle.sbpl_heur.specs.Bests.{cell_of, IsBest}
-use Rattle.sbpl_cost.proofs.LatticeLaws.{place_where_cost}
 
 -- a number is zero or not
 zero_or_not : (x : ℤ) → (x ≡ pos 0) ⊎ (x ≡ pos 0 → ⊥)
@@ -38,9 +37,7 @@ has_cost (Some c) n h = (c, refl, h)
 -- the cost of a cell by its column and row
 cost_read : (m : CellMap) (x y c : ℕ) → cost_at m (pos x) (pos y) ≡ Some c → slice_get m.costs (y * m.width + x) ≡ Some c
 cost_read m x y c h =
-    let place = place_where_cost m.costs (place_in m (pos x) (pos y)) c h in
-    let inside = cond_some (nat_lt x m.width && nat_lt y m.height) (y * m.width + x) place.0 place.1 in
-    ap (slice_get m.costs) inside.1 ∙ place.2
+    option_and_then_some (slice_get m.costs) (index_in m (pos x) (pos y)) c h (λ index is at. ap (slice_get m.costs) (cond_some (nat_lt x m.width && nat_lt y m.height) (y * m.width + x) index is).1 ∙ at)
 
 nothing_more : (x : ℕ) → pos x +ℤ pos 0 ≡ pos x
 nothing_more x = omega (arith, ints)

@@ -1,35 +1,22 @@
 -- The list of hops, one primitive after another.
-use Rattle.std.proofs.Common.{◌≡◌, ℕ, ℤ, zero, suc, ◌+◌, ◌<◌, ◌≤◌, ◌++◌, inl, inr, ◌⊎◌, min, List, [], ◌∷◌, length, length-set, set, get_or, slice_get, Some, refl, ap, sym, ◌∙◌, arith, subst}
+use Rattle.std.proofs.Common.{◌≡◌, ℕ, ℤ, ◌+◌, ◌<◌, ◌≤◌, ◌++◌, inl, inr, ◌⊎◌, min, List, [], ◌∷◌, length, length-set, set, get_or, slice_get, Some, refl, ap, sym, ◌∙◌, arith, subst}
 use Rattle.std.proofs.lemmas.Bool.{cases_lt, cases_eq}
-use Rattle.std.proofs.lemmas.Option.{slice_get_within, same_Some, none-some, get_or_from_slice_get}
+use Rattle.std.proofs.lemmas.Grind.{common_steps}
+use Rattle.std.proofs.lemmas.List.{length_push}
+use Rattle.std.proofs.lemmas.Option.{gets, slice_get_within, same_Some, none-some, get_or_from_slice_get}
 use Rattle.sbpl_cfg.specs.Environment.{Environment}
 use Rattle.sbpl_mprim.specs.declared.prim.Primitive.{Primitive}
 use Rattle.sbpl_cost.specs.PrimitiveCost.{primitive_cost}
 use Rattle.sbpl_heur.specs.declared.hop.Hop.{Hop}
 use Rattle.sbpl_heur.specs.Walks.{Moves}
 use Rattle.sbpl_heur.specs.Hops.{AreHops, IsHopOf, SamePair, HasNoPair, HasPairAt, Includes, lowers, adds}
-use Rattle.sbpl_sweep.proofs.Lists.{before_push}
 
 -- an element of a list in which one was written, and of one to which one was added
 pub at_set : {X : Type 0} (xs : List X) (j : ℕ) (x y : X) → slice_get xs j ≡ Some x → slice_get (set xs j y) j ≡ Some y
-at_set [] j x y h = absurd (none-some x h)
-at_set (z ∷ xs) zero x y h = refl
-at_set (z ∷ xs) (suc j) x y h = at_set xs j x y h
+at_set xs j x y h = grind (arith, common_steps, gets)
 
 pub beside_set : {X : Type 0} (xs : List X) (j k : ℕ) (y : X) → (k ≡ j → ⊥) → slice_get (set xs j y) k ≡ slice_get xs k
-beside_set [] j k y h = refl
-beside_set (z ∷ xs) zero zero y h = absurd (h refl)
-beside_set (z ∷ xs) zero (suc k) y h = refl
-beside_set (z ∷ xs) (suc j) zero y h = refl
-beside_set (z ∷ xs) (suc j) (suc k) y h = beside_set xs j k y (λ e. h (ap suc e))
-
-at_added : {X : Type 0} (xs : List X) (y : X) → slice_get (xs ++ y ∷ []) (length xs) ≡ Some y
-at_added [] y = refl
-at_added (x ∷ xs) y = at_added xs y
-
-length_added : {X : Type 0} (xs : List X) (y : X) → length (xs ++ y ∷ []) ≡ length xs + 1
-length_added [] y = refl
-length_added (x ∷ xs) y = let rest = length_added xs y in omega arith
+beside_set xs j k y h = grind (arith, common_steps, gets)
 
 -- the least cost of the first n primitives that move by this pair
 pub record IsLeastOfFirst (e : Environment) (prims : List Primitive) (n : ℕ) (dx dy : ℤ) (cost : ℕ) : Type 0 where
@@ -192,24 +179,17 @@ module _ (e : Environment) (prims : List Primitive) where
 
       module _ (none : HasNoPair old h) (is : new ≡ old ++ h ∷ []) where
         new_last : slice_get new (length old) ≡ Some h
-        new_last = ap (λ l. slice_get l (length old)) is ∙ at_added old h
+        new_last = grind (arith, common_steps, gets)
 
         new_before : (k : ℕ) → k < length old → slice_get new k ≡ slice_get old k
-        new_before k inside = ap (λ l. slice_get l k) is ∙ before_push old h k inside
+        new_before k inside = grind (arith, common_steps, gets)
 
         kept : (k : ℕ) (f : Hop) → slice_get old k ≡ Some f → slice_get new k ≡ Some f
         kept k f at = new_before k (slice_get_within old k f at) ∙ at
 
         -- each hop was there, or is the one that was added
         which : (k : ℕ) (f : Hop) → slice_get new k ≡ Some f → (slice_get old k ≡ Some f) ⊎ ((k ≡ length old) × (h ≡ f))
-        which k f now =
-            let inside = slice_get_within new k f now in
-            elim (cases_lt k (length old)) [
-              | inl before ↦ inl (sym (new_before k before) ∙ now)
-              | inr after ↦
-                  let last : k ≡ length old = omega (arith, ap length is, length_added old h) in
-                  inr (last, same_Some h f (sym new_last ∙ ap (slice_get new) (sym last) ∙ now))
-            ]
+        which k f now = grind (arith, common_steps, gets)
 
         added_least : IsLeastOfFirst e prims (n + 1) h.dx h.dy h.cost
         added_least = record {
@@ -267,7 +247,7 @@ module _ (e : Environment) (prims : List Primitive) where
 -- no more than one hop is added
 pub one_more : (old new : List Hop) (h : Hop) → Includes old new h → length new ≤ length old + 1
 one_more old new h (lowers j g at pair is) = omega (arith, ap length is, length-set old j (record { dx = g.dx; dy = g.dy; cost = min g.cost h.cost }))
-one_more old new h (adds none is) = omega (arith, ap length is, length_added old h)
+one_more old new h (adds none is) = omega (arith, ap length is, length_push old h)
 
 -- a hop whose cost was lowered where it was read
 pub lowers_at : (old read : List Hop) (h : Hop) (j : ℕ) (known : Hop) (cost : ℕ) → read ≡ old → HasPairAt read h j → known ≡ get_or old j known → cost ≡ min known.cost h.cost

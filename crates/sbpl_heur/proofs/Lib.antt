@@ -9,5 +9,5 @@ pub mod Hopping
 pub mod Walking
 pub mod Splitting
 pub mod Arriving
-pub mod Cutting
+pub mod StateCells
 pub mod Rebuilt

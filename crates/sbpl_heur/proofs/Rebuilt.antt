@@ -9,19 +9,18 @@ use Rattle.sbpl_cfg.specs.Environment.{Environment}
 use Rattle.sbpl_map.specs.CellMap.{CellMap}
 use Rattle.sbpl_cost.specs.World.{World, IsWorld}
 use Rattle.sbpl_cost.specs.Arc.{HasLatticeArcs}
-use Rattle.sbpl_cost.specs.Lattices.{network_of}
+use Rattle.sbpl_cost.specs.Lattices.{network_of, states_are}
 use Rattle.sbpl_heur.specs.declared.hop.Hop.{Hop}
 use Rattle.sbpl_heur.specs.Hops.{AreHops}
 use Rattle.sbpl_heur.specs.Boards.{AreLight, Board, IsBoard, cell_count, map_of}
 use Rattle.sbpl_heur.specs.Followed.{Walking}
 use Rattle.sbpl_heur.specs.Weights.{IsHopWalk, AreLeast}
-use Rattle.sbpl_heur.specs.Cuts.{IsFarthestReached, IsCut, AreTurns, cut_to}
+use Rattle.sbpl_heur.specs.Caps.{IsFarthestReached, IsCapped, AreTurns, capped_to}
 use Rattle.sbpl_heur.specs.Bests.{Table, Fits, AreParts, IsBest, IsTable, IsGuide, distance_in}
-use Rattle.sbpl_heur.proofs.Cutting.{state_below, cell_below}
+use Rattle.sbpl_heur.proofs.StateCells.{state_below, cell_below}
 use Rattle.sbpl_heur.proofs.Splitting.{gap_split}
 use Rattle.sbpl_heur.proofs.Walking.{light_hops, cell_bound, bound_small}
 use Rattle.sbpl_heur.proofs.Arriving.{consistent}
-use Rattle.sbpl_cost.proofs.Views.{states_are}
 
 -- the primitives of a world are light
 pub world_light : (w : World) (hops : List Hop) → IsWorld w → AreHops w.env w.prims.items hops → AreLight hops
@@ -29,7 +28,7 @@ world_light w hops is_world are = light_hops w.env w.prims.items hops is_world.c
 
 module _ (w : World) (is_world : IsWorld w) (arcs : HasLatticeArcs (network_of w) w) (gaps : HasGaps (network_of w)) (sound : IsSound (network_of w)) (goal : ℕ) (inside : goal < (network_of w).states) (hops : List Hop) (are : AreHops w.env w.prims.items hops)
     (distances : List ℕ) (entries : length distances ≡ w.map.width * w.map.height) (least : AreLeast w.env w.map hops (goal / w.env.headings) (slice_index distances))
-    (b : Table) (cut : IsCut w goal distances b.cells) (turned : AreTurns w goal b.turns) (turns : length b.turns ≡ w.env.headings) where
+    (b : Table) (capped : IsCapped w goal distances b.cells) (turned : AreTurns w goal b.turns) (turns : length b.turns ≡ w.env.headings) where
   some : 1 ≤ w.env.headings
   some = omega (arith, is_world.headings, is_world.prims.headings.0)
 
@@ -37,19 +36,19 @@ module _ (w : World) (is_world : IsWorld w) (arcs : HasLatticeArcs (network_of w
   cells_are = ap (λ x. x * w.map.height) is_world.width ∙ ap (λ y. w.env.width * y) is_world.height
 
   size : length b.cells ≡ w.env.width * w.env.height
-  size = cut.size ∙ entries ∙ cells_are
+  size = capped.size ∙ entries ∙ cells_are
 
-  farthest : IsFarthestReached (slice_index distances) (w.map.width * w.map.height) cut.far
-  farthest = subst (λ n. IsFarthestReached (slice_index distances) n cut.far) entries cut.farthest
+  farthest : IsFarthestReached (slice_index distances) (w.map.width * w.map.height) capped.far
+  farthest = subst (λ n. IsFarthestReached (slice_index distances) n capped.far) entries capped.farthest
 
   -- the cell of a state, on the map
   cell_inside : (s : ℕ) → s < (network_of w).states → s / w.env.headings < w.map.width * w.map.height
   cell_inside s state = omega (arith, cell_below w s w.env.headings refl some state, cells_are)
 
-  cell_value : (a : ℕ) → a < w.map.width * w.map.height → slice_index b.cells a ≡ cut_to w goal cut.far a (slice_index distances a)
-  cell_value a within = cut.values a (omega (arith, within, entries))
+  cell_value : (a : ℕ) → a < w.map.width * w.map.height → slice_index b.cells a ≡ capped_to w goal capped.far a (slice_index distances a)
+  cell_value a within = capped.values a (omega (arith, within, entries))
 
-  state_value : (s : ℕ) → s < (network_of w).states → distance_in b s ≡ max (min (slice_index distances (s / w.env.headings)) cut.far) ((network_of w).gap s goal)
+  state_value : (s : ℕ) → s < (network_of w).states → distance_in b s ≡ max (min (slice_index distances (s / w.env.headings)) capped.far) ((network_of w).gap s goal)
   state_value s state =
       let n = w.env.headings in
       let cell = cell_value (s / n) (cell_inside s state) in
@@ -60,9 +59,9 @@ module _ (w : World) (is_world : IsWorld w) (arcs : HasLatticeArcs (network_of w
 
   pub is_best : IsBest w goal (distance_in b)
   is_best = record {
-    bound = λ s. min (slice_index distances (s / w.env.headings)) cut.far;
+    bound = λ s. min (slice_index distances (s / w.env.headings)) capped.far;
     bounds = λ s state.
-        cell_bound w.env w.prims.items w.map hops are (goal / w.env.headings) (slice_index distances) least cut.far (s / w.env.headings) farthest
+        cell_bound w.env w.prims.items w.map hops are (goal / w.env.headings) (slice_index distances) least capped.far (s / w.env.headings) farthest
         (cell_inside s (omega (arith, state, states_are w)));
     values = λ s state. state_value s (omega (arith, state, states_are w));
   }
@@ -74,7 +73,7 @@ module _ (w : World) (is_world : IsWorld w) (arcs : HasLatticeArcs (network_of w
   cell_small a = elim (cases_lt a (length b.cells)) [
     | inl in_list ↦
         let within : a < w.map.width * w.map.height = omega (arith, in_list, size, cells_are) in
-        let bound = bound_small w.env w.prims.items w.map hops are (goal / w.env.headings) (slice_index distances) least cut.far a farthest within in
+        let bound = bound_small w.env w.prims.items w.map hops are (goal / w.env.headings) (slice_index distances) least capped.far a farthest within in
         let gap = gap_small a (goal % w.env.headings) within (mod_below goal w.env.headings some) in
         omega (arith, cell_value a within, bound, gap)
     | inr beyond ↦ let none : slice_index b.cells a ≡ 0 = get_or_past b.cells a 0 beyond in omega arith
@@ -179,17 +178,17 @@ pub record IsRebuilt (w : World) (goal : ℕ) (hops : List Hop) (distances : Lis
   pub hops_are : AreHops w.env w.prims.items hops
   pub entries : length distances ≡ w.map.width * w.map.height
   pub least : AreLeast w.env w.map hops (goal / w.env.headings) (slice_index distances)
-  pub cut : IsCut w goal distances b.cells
+  pub capped : IsCapped w goal distances b.cells
   pub turned : AreTurns w goal b.turns
   pub count : length b.turns ≡ w.env.headings
   pub same : b.goal ≡ goal
 
 module _ (w : World) (goal : ℕ) (hops : List Hop) (distances : List ℕ) (b : Table) (r : IsRebuilt w goal hops distances b) where
   pub rebuilt_best : IsBest w goal (distance_in b)
-  rebuilt_best = is_best w r.world r.arcs r.gaps r.sound goal r.inside hops r.hops_are distances r.entries r.least b r.cut r.turned r.count
+  rebuilt_best = is_best w r.world r.arcs r.gaps r.sound goal r.inside hops r.hops_are distances r.entries r.least b r.capped r.turned r.count
 
   pub rebuilt_guide : IsGuide (network_of w) goal b
-  rebuilt_guide = is_guide w r.world r.arcs r.gaps r.sound goal r.inside hops r.hops_are distances r.entries r.least b r.cut r.turned r.count r.same
+  rebuilt_guide = is_guide w r.world r.arcs r.gaps r.sound goal r.inside hops r.hops_are distances r.entries r.least b r.capped r.turned r.count r.same
 
 zeros_small : (n i : ℕ) → slice_index (replicate n 0) i < 2 ^ 55
 zeros_small n i = elim (cases_lt i n) [

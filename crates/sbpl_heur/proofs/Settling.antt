@@ -6,10 +6,11 @@ use Rattle.std.proofs.lemmas.Option.{slice_get_within}
 use Rattle.sbpl_graph.specs.declared.TheConstants.{FAR}
 use Rattle.sbpl_graph.specs.Certificate.{IsLabel, ShowBound}
 use Rattle.sbpl_labels.specs.Marks.{Marks, AreLabels, g_of, v_of, back_of}
-use Rattle.sbpl_open.specs.Order.{IsBelow}
-use Rattle.sbpl_ara.specs.Order.{over_key, under_key}
-use Rattle.sbpl_ara.specs.Run.{query, IsAtRest}
-use Rattle.sbpl_ara.specs.Search.{AreUsable}
+use Rattle.sbpl_open.specs.KeyOrder.{IsBelow}
+use Rattle.sbpl_search.specs.Query.{query}
+use Rattle.sbpl_search.specs.Ready.{AreUsable}
+use Rattle.sbpl_serial.specs.Keys.{over_key, under_key}
+use Rattle.sbpl_serial.specs.Run.{IsAtRest}
 use Rattle.sbpl_heur.specs.Boards.{Board, IsBoard, cell_count, map_of, board_network}
 use Rattle.sbpl_heur.specs.Weights.{IsHopArc, IsHopWalk, AreLeast}
 use Rattle.sbpl_heur.proofs.Boarding.{arc_of_free, free_of_arc, sound, few_cells}

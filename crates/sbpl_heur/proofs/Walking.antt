@@ -7,11 +7,11 @@ use Rattle.sbpl_mprim.specs.declared.prim.Primitive.{Primitive}
 use Rattle.sbpl_map.specs.CellMap.{CellMap}
 use Rattle.sbpl_cost.specs.PrimitiveCost.{primitive_cost, most_cost}
 use Rattle.sbpl_heur.specs.declared.hop.Hop.{Hop}
-use Rattle.sbpl_heur.specs.Walks.{IsStep, IsCellArc, IsWalk, IsLeastWalk, IsFarthest, HasNoWalk, IsCellBound}
+use Rattle.sbpl_heur.specs.Walks.{IsCellStep, IsCellArc, IsWalk, IsLeastWalk, IsFarthest, HasNoWalk, IsCellBound}
 use Rattle.sbpl_heur.specs.Hops.{AreHops}
 use Rattle.sbpl_heur.specs.Boards.{AreLight}
 use Rattle.sbpl_heur.specs.Weights.{IsHopArc, IsHopWalk, AreLeast}
-use Rattle.sbpl_heur.specs.Cuts.{IsFarthestReached}
+use Rattle.sbpl_heur.specs.Caps.{IsFarthestReached}
 
 pub light_hops : (e : Environment) (prims : List Primitive) (hops : List Hop) → ((i : ℕ) (p : Primitive) → slice_get prims i ≡ Some p → (1 ≤ primitive_cost e p) × (primitive_cost e p ≤ most_cost)) → AreHops e prims hops → AreLight hops
 light_hops e prims hops cheap are j h at =
@@ -39,7 +39,7 @@ module _ (e : Environment) (prims : List Primitive) (m : CellMap) (hops : List H
         record {
           hop = there.1;
           at = there.2;
-          step = subst (λ z. IsStep e m there.1.dx there.1.dy z a b weight) cost (subst (λ z. IsStep e m there.1.dx z arc.cost a b weight) row (subst (λ z. IsStep e m z arc.dy arc.cost a b weight) column arc.step));
+          step = subst (λ z. IsCellStep e m there.1.dx there.1.dy z a b weight) cost (subst (λ z. IsCellStep e m there.1.dx z arc.cost a b weight) row (subst (λ z. IsCellStep e m z arc.dy arc.cost a b weight) column arc.step));
         },
       )
 
@@ -94,7 +94,7 @@ module _ (e : Environment) (prims : List Primitive) (m : CellMap) (hops : List H
           }
         ]
 
-    -- a distance cut at the greatest of a reached cell is the cell bound
+    -- a distance capped at the greatest of a reached cell is the cell bound
     pub cell_bound : (far a : ℕ) → IsFarthestReached d (m.width * m.height) far → a < m.width * m.height → IsCellBound e prims m goal a (min (d a) far)
     cell_bound far a is inside = elim (cases_lt (d a) FAR) [
       | inl near ↦

@@ -6,7 +6,7 @@ use Rattle.sbpl_map.specs.CellMap.{CellMap}
 use Rattle.sbpl_cost.specs.PrimitiveCost.{most_cost}
 use Rattle.sbpl_heur.specs.declared.hop.Hop.{Hop}
 
--- an environment, the costs of its cells, and hops with room for so many
+-- an environment, the costs of its cells, and hops, with how many there is room for
 pub record Board : Type 0 where
   pub env : Environment
   pub costs : List ℕ

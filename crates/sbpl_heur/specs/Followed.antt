@@ -3,7 +3,8 @@ use Rattle.std.specs.Prelude.{◌≡◌, ℕ, ◌+◌, ◌^◌, ◌<◌, ◌≤�
 use Rattle.std.specs.List.{All, Contains}
 use Rattle.sbpl_labels.specs.Counts.{Counts}
 use Rattle.sbpl_labels.specs.Marks.{Marks}
-use Rattle.sbpl_ara.specs.Search.{Search, AreUsable}
+use Rattle.sbpl_search.specs.Ready.{AreUsable}
+use Rattle.sbpl_serial.specs.Serial.{SerialState}
 use Rattle.sbpl_heur.specs.Boards.{Board, IsBoard, cell_count, board_head, board_network}
 
 -- the graph, and the labels of its search
@@ -17,7 +18,7 @@ pub record IsOnePlan (counts : Counts) : Type 0 where
   pub per_plan : counts.per_plan ≡ 2 ^ 30
 
 -- the parts belong together: the search goes from a cell to the state that is none, its labels are exact on the graph, each expansion is counted, and there is room for the states that a cell touches
-pub record AreWalks (b : Board) (search : Search) (counts : Counts) (room : ℕ) : Type 0 where
+pub record AreWalks (b : Board) (search : SerialState) (counts : Counts) (room : ℕ) : Type 0 where
   pub board : IsBoard b
   pub start : search.labels.start < cell_count b
   pub goal : search.goal ≡ cell_count b

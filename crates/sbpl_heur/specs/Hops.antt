@@ -34,10 +34,10 @@ pub data Includes (old new : List Hop) (h : Hop) : Type 0 where
   lowers : (j : ℕ) (g : Hop) → slice_get old j ≡ Some g → SamePair g h → new ≡ slice_set old j (record { dx = g.dx; dy = g.dy; cost = min g.cost h.cost }) → Includes old new h
   adds : HasNoPair old h → new ≡ old ++ h ∷ [] → Includes old new h
 
--- a hop is the motion by the primitive at this place
-pub record IsHopOf (e : Environment) (prims : List Primitive) (place : ℕ) (h : Hop) : Type 0 where
+-- a hop is the motion by the primitive at this index
+pub record IsHopOf (e : Environment) (prims : List Primitive) (index : ℕ) (h : Hop) : Type 0 where
   pub prim : Primitive
-  pub stands : slice_get prims place ≡ Some prim
+  pub stands : slice_get prims index ≡ Some prim
   pub column : h.dx ≡ prim.dx
   pub row : h.dy ≡ prim.dy
   pub own : h.cost ≡ primitive_cost e prim

@@ -3,5 +3,5 @@ pub mod Hops
 pub mod Boards
 pub mod Weights
 pub mod Followed
-pub mod Cuts
+pub mod Caps
 pub mod Bests

@@ -24,7 +24,7 @@ abbrev pub LiesFrom : CellMap → ℕ → ℕ → ℤ → ℤ → Type 0
 LiesFrom m a b dx dy = (pos (b % m.width) ≡ pos (a % m.width) +ℤ dx) × (pos (b / m.width) ≡ pos (a / m.width) +ℤ dy)
 
 -- a pair leads from cell a of the map to cell b of the map, both are below obsthresh, and b is below the inscribed threshold; the step weighs the pair's cost times one more than the greater of the two cells' costs
-pub record IsStep (e : Environment) (m : CellMap) (dx dy : ℤ) (cost a b weight : ℕ) : Type 0 where
+pub record IsCellStep (e : Environment) (m : CellMap) (dx dy : ℤ) (cost a b weight : ℕ) : Type 0 where
   pub leads : LiesFrom m a b dx dy
   pub start : ℕ
   pub end : ℕ
@@ -42,7 +42,7 @@ pub record IsCellArc (e : Environment) (prims : List Primitive) (m : CellMap) (a
   pub moves : Moves dx dy
   pub cost : ℕ
   pub least : IsLeastCost e prims dx dy cost
-  pub step : IsStep e m dx dy cost a b weight
+  pub step : IsCellStep e m dx dy cost a b weight
 
 -- a walk from cell a over these cells ends at the goal, and weighs this
 abbrev pub IsWalk : Environment → List Primitive → CellMap → ℕ → List ℕ → ℕ → ℕ → Type 0

@@ -4,13 +4,13 @@ use Rattle.sbpl_graph.specs.declared.TheConstants.{FAR}
 use Rattle.sbpl_cfg.specs.Environment.{Environment}
 use Rattle.sbpl_map.specs.CellMap.{CellMap}
 use Rattle.sbpl_heur.specs.declared.hop.Hop.{Hop}
-use Rattle.sbpl_heur.specs.Walks.{IsStep}
+use Rattle.sbpl_heur.specs.Walks.{IsCellStep}
 
 -- hop j leads from cell a to cell b
 pub record IsHopArc (e : Environment) (m : CellMap) (hops : List Hop) (a b j weight : ℕ) : Type 0 where
   pub hop : Hop
   pub at : slice_get hops j ≡ Some hop
-  pub step : IsStep e m hop.dx hop.dy hop.cost a b weight
+  pub step : IsCellStep e m hop.dx hop.dy hop.cost a b weight
 
 -- a walk from cell a over these cells by hops ends at the goal, and weighs this
 abbrev pub IsHopWalk : Environment → CellMap → List Hop → ℕ → List ℕ → ℕ → ℕ → Type 0

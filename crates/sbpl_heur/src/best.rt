@@ -7,7 +7,7 @@ ghost use Rattle.sbpl_labels.specs.Marks.{g_of};
 ghost use Rattle.sbpl_heur.specs.Boards.{cell_count};
 ghost use Rattle.sbpl_heur.specs.Bests.{IsBest, IsGuide, Fits, distance_in};
 
-use crate::cut::{cut, turn};
+use crate::cap::{cap, turn};
 use crate::hop::Hop;
 use crate::hops::list_hops;
 use crate::walks::Walks;
@@ -120,7 +120,7 @@ impl Best {
         self.walks
             .follow(env, lattice.map().costs(), self.hops.as_slice());
         weigh(&self.walks, &mut self.cells);
-        cut(lattice, headings, self.goal, &mut self.cells);
+        cap(lattice, headings, self.goal, &mut self.cells);
         turn(lattice, headings, self.goal, &mut self.turns);
     }
 }

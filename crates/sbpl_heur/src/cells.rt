@@ -213,7 +213,7 @@ fn copy_hops(hops: &[Hop], into: &mut Vec<Hop>)
 }
 
 impl Cells {
-    /// The cells of an environment, without hops, with room for so many.
+    /// The cells of an environment, without hops, with room for this number of them.
     pub(crate) fn new(alloc: Global, env: &Env, costs: &[u8], room: u32) -> Result<Cells, NoMemory>
         requires board { IsBoard (record { env = env.now; costs = costs.now; hops = []; room = room }) }
         ensures board { IfOk result (λ c. c ≡ record { env = env.now; costs = costs.now; hops = []; room = room }) }

@@ -40,7 +40,7 @@ fn include(hops: &mut Vec<Hop>, hop: Hop)
     known.cost = known.cost.min(hop.cost);
 }
 
-/// The motion by the primitive at place `i` of the file, as a hop.
+/// The motion by the primitive at index `i` of the file, as a hop.
 fn hop_of(lattice: &Lattice, i: u32) -> Hop
     requires place { i < length lattice.now.prims.items }
     ensures hop { IsHopOf lattice.now.env lattice.now.prims.items i result }

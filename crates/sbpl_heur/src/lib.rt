@@ -2,8 +2,8 @@
 #![tactic(auto)]
 
 mod best;
+mod cap;
 mod cells;
-mod cut;
 mod hop;
 mod hops;
 mod walks;

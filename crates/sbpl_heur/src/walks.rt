@@ -3,26 +3,25 @@
 ghost use Rattle.std.specs.Prelude.{◌≡◌, ℕ, ◌+◌, ◌*◌, ◌^◌, ◌<◌, ◌≤◌, IfOk, [], length, slice_index, slice_set, vec_capacity};
 ghost use Rattle.sbpl_graph.specs.Network.{Network};
 ghost use Rattle.sbpl_labels.specs.Marks.{states_of, g_of};
-ghost use Rattle.sbpl_ara.specs.Search.{AreUsable};
+ghost use Rattle.sbpl_search.specs.Ready.{AreUsable};
 ghost use Rattle.sbpl_heur.specs.Boards.{IsBoard, cell_count, map_of};
 ghost use Rattle.sbpl_heur.specs.Followed.{AreTouched, IsOnePlan};
 ghost use Rattle.sbpl_heur.specs.Weights.{AreLeast};
 
 use crate::cells::Cells;
 use crate::hop::Hop;
-use sbpl_adstar::{AdStar, exact_where_same};
-use sbpl_ara::Ara;
 use sbpl_cfg::Env;
 use sbpl_fixed::NoMemory;
 use sbpl_graph::{Graph, Zero};
 use sbpl_labels::Budget;
+use sbpl_serial::{Serial, exact_where_same};
 use std::alloc::Global;
 use std::marker::Model;
 
 /// The most expansions before the labels are opened again.
 const RUN: u64 = 1 << 30;
 
-/// Where more than one cell in so many has changed, the search begins anew.
+/// Where more than one cell in this number has changed, the search begins anew.
 const FEW: u32 = 64;
 
 /// The least weights of walks from all cells to a goal's cell. They are the labels of a search backwards from that cell
@@ -30,7 +29,7 @@ const FEW: u32 = 64;
 #[derive(Drop)]
 pub(crate) struct Walks {
     cells: Cells,
-    search: AdStar,
+    search: Serial,
     budget: Budget,
     /// Room for the states that a changed cell touches.
     touched: Vec<u32>,
@@ -65,8 +64,8 @@ fn touch(cells: &Cells, cell: u32, touched: &mut Vec<u32>)
     }
 }
 
-/// Opens the labels of a search again where its run may end before a pass over so many states does.
-fn make_room(search: &mut AdStar, budget: &mut Budget, states: u32)
+/// Makes the labels of a search initial again where its run may end before a pass over this number of states does.
+fn make_room(search: &mut Serial, budget: &mut Budget, states: u32)
     requires states { states ≡ states_of search.old.labels }
     requires few { states ≤ 2 ^ 23 }
     requires one_plan { IsOnePlan budget.old }
@@ -83,7 +82,7 @@ fn make_room(search: &mut AdStar, budget: &mut Budget, states: u32)
 }
 
 impl Walks {
-    /// The walks to a goal over cells of these costs, before a search, and without hops but with room for so many.
+    /// The walks to a goal over cells of these costs, before a search, and without hops but with room for this number of them.
     pub(crate) fn new(
         alloc: Global,
         env: &Env,
@@ -99,11 +98,11 @@ impl Walks {
     {
         let cells = Cells::new(alloc, env, costs, room)?;
         let count = cells.count();
-        let search = Ara::open(alloc, count + 1, goal, count)?;
+        let search = Serial::open(alloc, count + 1, goal, count)?;
         let touched = Vec::with_capacity(alloc, room as usize + 1)?;
         Ok(Walks {
             cells,
-            search: AdStar::from(search),
+            search,
             budget: Budget::new(RUN),
             touched,
         })
@@ -171,7 +170,7 @@ impl Walks {
         let _used = self.budget.used();
         touch(&self.cells, cell, &mut self.touched);
         self.cells.set(cell, cost);
-        self.search.change(&self.cells, self.touched.as_slice());
+        self.search.repair(&self.cells, self.touched.as_slice());
     }
 
     /// Settles all cells.

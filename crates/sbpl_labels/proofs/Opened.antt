@@ -10,9 +10,9 @@ use Rattle.sbpl_graph.specs.Kept.{NoneUnder}
 use Rattle.sbpl_graph.proofs.Keeping.{opened_exact}
 use Rattle.sbpl_graph.proofs.Fitting.{fit_opened, fit_more}
 use Rattle.sbpl_labels.specs.declared.row.Row.{Row}
-use Rattle.sbpl_labels.specs.Marks.{Marks, IsOpened, g_of, v_of, back_of, no_row, far_row}
+use Rattle.sbpl_labels.specs.Marks.{Marks, AreInitial, g_of, v_of, back_of, no_row, far_row}
 
-module _ {m : Marks} {states start : ℕ} (opened : IsOpened m states start) where
+module _ {m : Marks} {states start : ℕ} (opened : AreInitial m states start) where
   pub exact_where_opened : (n : Network) → n.states ≡ states → AreExact n start (g_of m) (v_of m) (back_of m)
   exact_where_opened n same =
       opened_exact opened.from_start (λ s inside other. opened.far_g s (omega arith) other) (λ s inside. opened.far_v s (omega arith)) opened.no_arc
@@ -32,7 +32,7 @@ module _ {m : Marks} {states start : ℕ} (opened : IsOpened m states start) whe
 -- rows that are all infinite are opened by writing 0 into the start's g
 pub opened_rows : (rows : List Row) (count start : ℕ) (row : Row) → length rows ≡ count → start < count
     → ((s : ℕ) → s < count → slice_index_or rows s no_row ≡ far_row) → row.g ≡ 0 → row.v ≡ FAR → row.back ≡ None
-    → IsOpened (record { start = start; rows = slice_set rows start row }) count start
+    → AreInitial (record { start = start; rows = slice_set rows start row }) count start
 opened_rows rows count start row size inside far g v back =
     let same : slice_index_or (slice_set rows start row) start no_row ≡ row = get_or-set_same rows start row no_row (omega arith) in
     let other : (s : ℕ) → s ≢ start → slice_index_or (slice_set rows start row) s no_row ≡ slice_index_or rows s no_row =

@@ -42,7 +42,7 @@ pub record AreLabels (m : Marks) : Type 0 where
   pub none_at_start : back_of m m.start ≡ None
 
 -- opened labels: g is 0 at the start, all others are infinite, and there is no back arc
-pub record IsOpened (m : Marks) (count first : ℕ) : Type 0 where
+pub record AreInitial (m : Marks) (count first : ℕ) : Type 0 where
   pub states : states_of m ≡ count
   pub start : m.start ≡ first
   pub from_start : g_of m first ≡ 0

@@ -10,7 +10,7 @@ ghost use Rattle.sbpl_graph.specs.Laws.{IsSound};
 ghost use Rattle.sbpl_graph.specs.Network.{Network};
 ghost use Rattle.sbpl_graph.specs.Path.{IsFreePath};
 ghost use Rattle.sbpl_labels.specs.CutOff.{IsCutOff};
-ghost use Rattle.sbpl_labels.specs.Marks.{Marks, AreLabels, IsOpened, ChangesRow, states_of, g_of, v_of, back_of, no_row, far_row};
+ghost use Rattle.sbpl_labels.specs.Marks.{Marks, AreLabels, AreInitial, ChangesRow, states_of, g_of, v_of, back_of, no_row, far_row};
 ghost use Rattle.sbpl_labels.specs.Recomputed.{Recomputes};
 ghost use Rattle.sbpl_labels.specs.Walks.{WalkGives};
 ghost use Rattle.sbpl_graph.specs.declared.TheConstants.{FAR};
@@ -62,7 +62,7 @@ impl Labels {
     /// error is that memory ran out.
     pub fn open(alloc: Global, states: u32, start: u32) -> Result<Labels, NoMemory>
         requires start { start < states }
-        ensures opened { IfOk result (λ m. IsOpened m states start) }
+        ensures opened { IfOk result (λ m. AreInitial m states start) }
         ensures exact { IfOk result (λ m. (n : Network) → n.states ≡ states
             → AreExact n start (g_of m) (v_of m) (back_of m)) }
         ensures not_under { IfOk result (λ m. NoneUnder states (g_of m) (v_of m)) }
@@ -75,7 +75,7 @@ impl Labels {
 
     /// Makes these opened labels again.
     pub fn reset(&mut self)
-        ensures opened { IsOpened self.new (states_of self.old) self.old.start }
+        ensures opened { AreInitial self.new (states_of self.old) self.old.start }
         ensures exact { (n : Network) → n.states ≡ states_of self.old
             → AreExact n self.old.start (g_of self.new) (v_of self.new) (back_of self.new) }
         ensures not_under { NoneUnder (states_of self.old) (g_of self.new) (v_of self.new) }

@@ -1,10 +1,10 @@
--- The order of a heap, as of numbers at places.
+-- The order of a heap, as of numbers at slots.
 use Rattle.std.proofs.Common.{◌≡◌, ◌≢◌, ℕ, zero, suc, ◌+◌, ◌^◌, ◌<◌, ◌≤◌, arith, ⊎_elim, inl, inr, ap}
 use Rattle.std.proofs.lemmas.Bool.{cases_eq, cases_lt}
-use Rattle.sbpl_open.specs.Order.{ComesBefore}
+use Rattle.sbpl_open.specs.KeyOrder.{ComesBefore}
 use Rattle.sbpl_open.specs.declared.entry.Entry.{Entry}
 use Rattle.sbpl_open.specs.Entries.{key_of}
-use Rattle.sbpl_open.specs.Heap.{rank, parent, IsHeap, IsHeapBut, IsBehind, IsFirstChild}
+use Rattle.sbpl_open.specs.Heap.{rank, parent, IsHeap, IsHeapBut, IsNotBefore, IsFirstChild}
 
 -- the state of lower rank comes before the other
 pub before_from_rank : (a b : Entry) → a.second < 2 ^ 64 → b.second < 2 ^ 64 → a.state < 2 ^ 32 → b.state < 2 ^ 32 → rank a ≤ rank b
@@ -23,7 +23,7 @@ before_from_rank a b small small' state state' low apart =
     (cases_lt a.second b.second))
     (cases_lt a.first b.first)
 
--- the first place holds the least
+-- the first slot holds the least
 module _ {len : ℕ} {r : ℕ → ℕ} (heap : IsHeap len r) where
   pub first_within : (n i : ℕ) → i < n → i < len → r 0 ≤ r i
   first_within zero i below inside = absurd (omega arith)
@@ -46,10 +46,10 @@ heap_pushed {len} {r} {r'} heap same = record {
       let same_i = same i (omega arith) in
       let same_up = same (parent i) (omega arith) in
       omega arith;
-  across = λ i some inside below behind. absurd (omega arith);
+  across = λ i some inside below not_before. absurd (omega arith);
 }
 
--- another rank at one place
+-- another rank at one slot
 pub heap_rekeyed : {len : ℕ} {r r' : ℕ → ℕ} (hole : ℕ) → IsHeap len r → ((i : ℕ) → i < len → i ≢ hole → r' i ≡ r i)
     → IsHeapBut len r' hole
 heap_rekeyed {len} {r} {r'} hole heap same = record {
@@ -58,16 +58,16 @@ heap_rekeyed {len} {r} {r'} hole heap same = record {
       let same_i = same i inside apart in
       let same_up = same (parent i) (omega arith) off in
       omega arith;
-  across = λ i some inside below behind.
+  across = λ i some inside below not_before.
       let here : r (parent i) ≤ r i = heap.upward i some inside in
       let above : r (parent i) ≡ r hole = ap r below in
-      let up = heap.upward hole behind (omega arith) in
+      let up = heap.upward hole not_before (omega arith) in
       let same_i = same i inside (omega arith) in
       let same_up = same (parent hole) (omega arith) (omega arith) in
       omega arith;
 }
 
--- the same ranks at fewer places
+-- the same ranks at fewer slots
 pub heap_alike : {len len' : ℕ} {r r' : ℕ → ℕ} → IsHeap len r → len' ≤ len → ((i : ℕ) → i < len' → r' i ≡ r i) → IsHeap len' r'
 heap_alike {len} {len'} {r} {r'} heap fewer same = record {
   upward = λ i some inside.
@@ -145,7 +145,7 @@ module _ {len : ℕ} {r r' : ℕ → ℕ} (hole c : ℕ) (but : IsHeapBut len r 
         omega arith;
   }
 
-  pub behind_down : r c ≤ r hole → r' c ≡ r hole → IsBehind r' c
+  pub behind_down : r c ≤ r hole → r' c ≡ r hole → IsNotBefore r' c
   behind_down lower down some =
       let over : r' (parent c) ≡ r' hole = ap r' child.below in
       omega arith

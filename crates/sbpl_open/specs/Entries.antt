@@ -6,7 +6,7 @@ use Rattle.sbpl_open.specs.declared.entry.Entry.{Entry}
 abbrev pub no_entry : Entry
 no_entry = record { first = 0; second = 0; state = 0 }
 
--- the entry at place i of a list, and its state
+-- the entry at slot i of a list, and its state
 abbrev pub entry_at : List Entry → ℕ → Entry
 entry_at heap i = slice_index_or heap i no_entry
 

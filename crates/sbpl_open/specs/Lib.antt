@@ -1,4 +1,4 @@
-pub mod Order
-pub mod Frontier
+pub mod KeyOrder
+pub mod OpenList
 pub mod Entries
 pub mod Heap

@@ -7,56 +7,56 @@ ghost use Rattle.sbpl_open.specs.Heap.{AreAgreed, HasHole, IsHeap, KeyChanges, f
 use crate::Entry;
 use crate::sift::sift;
 
-/// The place that stands open for an entry: that of its state, or one more at the end where the
+/// The slot that stands open for an entry: that of its state, or one more at the end where the
 /// state is not there yet.
-pub(crate) fn hole_for(heap: &mut Vec<Entry>, places: &[u32], entry: Entry) -> usize
-    requires few { length places.now < 2 ^ 32 }
-    requires agreed { AreAgreed heap.old.items places.now }
+pub(crate) fn hole_for(heap: &mut Vec<Entry>, slots: &[u32], entry: Entry) -> usize
+    requires few { length slots.now < 2 ^ 32 }
+    requires agreed { AreAgreed heap.old.items slots.now }
     requires ordered { IsHeap (length heap.old.items) (rank_at heap.old.items) }
-    requires state { entry.state < length places.now }
-    requires room { length places.now ≤ vec_capacity heap.old }
-    ensures hole { HasHole heap.new.items places.now result entry }
-    ensures keys { KeyChanges heap.old.items places.now (filled heap.new.items result entry)
-        (placed_at places.now result entry) entry.state (Some (key_of entry)) }
+    requires state { entry.state < length slots.now }
+    requires room { length slots.now ≤ vec_capacity heap.old }
+    ensures hole { HasHole heap.new.items slots.now result entry }
+    ensures keys { KeyChanges heap.old.items slots.now (filled heap.new.items result entry)
+        (placed_at slots.now result entry) entry.state (Some (key_of entry)) }
     ensures room { vec_capacity heap.new ≡ vec_capacity heap.old }
 {
-    let place = places[entry.state as usize];
-    if place > 0 {
-        return place as usize - 1;
+    let slot = slots[entry.state as usize];
+    if slot > 0 {
+        return slot as usize - 1;
     }
     heap.push_reserved(entry);
     heap.len() - 1
 }
 
 /// Takes `s`, which is there, out of the heap. The last entry closes the gap.
-pub(crate) fn remove(heap: &mut Vec<Entry>, places: &mut [u32], s: u32)
-    requires few { length places.old < 2 ^ 32 }
-    requires agreed { AreAgreed heap.old.items places.old }
+pub(crate) fn remove(heap: &mut Vec<Entry>, slots: &mut [u32], s: u32)
+    requires few { length slots.old < 2 ^ 32 }
+    requires agreed { AreAgreed heap.old.items slots.old }
     requires ordered { IsHeap (length heap.old.items) (rank_at heap.old.items) }
-    requires there { 0 < slice_index places.old s }
-    ensures agreed { AreAgreed heap.new.items places.new }
-    ensures keys { KeyChanges heap.old.items places.old heap.new.items places.new s None }
+    requires there { 0 < slice_index slots.old s }
+    ensures agreed { AreAgreed heap.new.items slots.new }
+    ensures keys { KeyChanges heap.old.items slots.old heap.new.items slots.new s None }
     ensures ordered { IsHeap (length heap.new.items) (rank_at heap.new.items) }
     ensures room { vec_capacity heap.new ≡ vec_capacity heap.old }
 {
-    let gap = places[s as usize] as usize - 1;
+    let gap = slots[s as usize] as usize - 1;
     let last = heap.len() - 1;
     let moved = heap[last];
     heap.truncate(last);
-    places[s as usize] = 0;
+    slots[s as usize] = 0;
     if gap < last {
-        sift(heap, places, gap, moved);
+        sift(heap, slots, gap, moved);
     }
 }
 
 /// Takes all entries out of the heap.
-pub(crate) fn empty(heap: &mut Vec<Entry>, places: &mut [u32])
-    requires agreed { AreAgreed heap.old.items places.old }
+pub(crate) fn empty(heap: &mut Vec<Entry>, slots: &mut [u32])
+    requires agreed { AreAgreed heap.old.items slots.old }
     ensures heap { heap.new.items ≡ [] }
-    ensures places { (s : ℕ) → slice_index places.new s ≡ 0 }
+    ensures slots { (s : ℕ) → slice_index slots.new s ≡ 0 }
     ensures room { vec_capacity heap.new ≡ vec_capacity heap.old }
 {
     while let Some(entry) = heap.pop() {
-        places[entry.state as usize] = 0;
+        slots[entry.state as usize] = 0;
     }
 }

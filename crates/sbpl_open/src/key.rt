@@ -1,7 +1,7 @@
 //! The keys of open states.
 
 ghost use Rattle.std.specs.Prelude.{◌↔◌, IsTrue};
-ghost use Rattle.sbpl_open.specs.Order.{IsBelow};
+ghost use Rattle.sbpl_open.specs.KeyOrder.{IsBelow};
 
 /// A key of two parts. Keys compare by the first part, then by the second.
 #[derive(Clone, Copy, Debug, PartialEq, Eq)]

@@ -1,7 +1,7 @@
 //! The open states of a search.
 
 ghost use Rattle.std.specs.Prelude.{◌≡◌, ℕ, ◌^◌, ◌<◌, ◌≤◌, ◌↔◌, IsTrue, IsSome, IsNone, IfOk, IfSome, MatchOption, Some, None, length};
-ghost use Rattle.sbpl_open.specs.Frontier.{Frontier, states_of, key_at, IsEmpty, ChangesKey, IsLeast};
+ghost use Rattle.sbpl_open.specs.OpenList.{OpenList, states_of, key_at, IsEmpty, ChangesKey, IsLeast};
 ghost use Rattle.sbpl_open.specs.Entries.{entry_at, key_of, state_at};
 
 use crate::ends::{empty, hole_for, remove};
@@ -12,24 +12,24 @@ use std::alloc::Global;
 use std::marker::Model;
 
 /// The open states of a search, as a finite map from states to keys with its least: a heap of four
-/// branches of states with their keys, and each state's place in it. All its memory is taken when it
+/// branches of states with their keys, and each state's slot in it. All its memory is taken when it
 /// is made.
 #[derive(Drop)]
 pub struct Open {
     heap: Vec<Entry>,
-    places: Vec<u32>,
+    slots: Vec<u32>,
 }
 
 impl Model for Open {
     ghost use Rattle.std.specs.Prelude.{vec_capacity};
-    ghost use Rattle.sbpl_open.specs.Frontier.{Frontier};
+    ghost use Rattle.sbpl_open.specs.OpenList.{OpenList};
     ghost use Rattle.sbpl_open.specs.Heap.{AreParts, keys_of};
 
-    ghost Value = { Frontier };
+    ghost Value = { OpenList };
 
-    ghost view = { λ a. record { keys = keys_of a.heap.items a.places.items } };
+    ghost view = { λ a. record { keys = keys_of a.heap.items a.slots.items } };
 
-    ghost invariant = { λ a. AreParts a.heap.items a.places.items (vec_capacity a.heap) };
+    ghost invariant = { λ a. AreParts a.heap.items a.slots.items (vec_capacity a.heap) };
 }
 
 impl Open {
@@ -40,8 +40,8 @@ impl Open {
         ensures empty { IfOk result (λ f. IsEmpty f) }
     {
         let heap = Vec::with_capacity(alloc, states as usize)?;
-        let places = vec![in alloc; 0; states as usize]?;
-        Ok(Open { heap, places })
+        let slots = vec![in alloc; 0; states as usize]?;
+        Ok(Open { heap, slots })
     }
 
     /// Lets every state leave. It looks at the open states alone.
@@ -49,7 +49,7 @@ impl Open {
         ensures states { states_of self.new ≡ states_of self.old }
         ensures empty { IsEmpty self.new }
     {
-        empty(&mut self.heap, &mut self.places);
+        empty(&mut self.heap, &mut self.slots);
     }
 
     /// Gives `s` this key, whether or not it has one.
@@ -62,8 +62,8 @@ impl Open {
             second: key.1,
             state: s,
         };
-        let hole = hole_for(&mut self.heap, &self.places, entry);
-        sift(&mut self.heap, &mut self.places, hole, entry);
+        let hole = hole_for(&mut self.heap, &self.slots, entry);
+        sift(&mut self.heap, &mut self.slots, hole, entry);
     }
 
     /// Lets `s` leave. Where it is not open nothing changes.
@@ -72,8 +72,8 @@ impl Open {
         ensures changed { ChangesKey self.old self.new s None }
         ensures unchanged { key_at self.old s ≡ None → self.new ≡ self.old }
     {
-        if self.places[s as usize] > 0 {
-            remove(&mut self.heap, &mut self.places, s);
+        if self.slots[s as usize] > 0 {
+            remove(&mut self.heap, &mut self.slots, s);
         }
     }
 
@@ -82,7 +82,7 @@ impl Open {
         requires state { s < states_of self.now }
         ensures there { IsTrue result ↔ IsSome (key_at self.now s) }
     {
-        self.places[s as usize] > 0
+        self.slots[s as usize] > 0
     }
 
     /// The open states with their keys, each once, in no order.

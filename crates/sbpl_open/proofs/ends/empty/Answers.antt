@@ -4,9 +4,9 @@ use Rattle.sbpl_open.proofs.ends.empty.Goals as goal
 
 pub loop-entry-preserved : goal.loop-entry-preserved
 loop-entry-preserved c = (
-  agreed_pop c.loop-entry.heap.items c.pop.new.self.items c.loop-entry.places c.in-Some.entry c.in-Some.ensures.items c.loop-entry.invariant.0,
+  agreed_pop c.loop-entry.heap.items c.pop.new.self.items c.loop-entry.slots c.in-Some.entry c.in-Some.ensures.items c.loop-entry.invariant.0,
   c.in-Some.ensures.capacity ∙ c.loop-entry.invariant.1,
 )
 
-pub returns-clause-places : goal.returns-clause-places
-returns-clause-places c = absent_all c.loop-entry.invariant.0 (omega (arith, c.in_default.ensures.cases))
+pub returns-clause-slots : goal.returns-clause-slots
+returns-clause-slots c = absent_all c.loop-entry.invariant.0 (omega (arith, c.in_default.ensures.cases))

@@ -8,8 +8,8 @@ push_reserved-requires c =
     let fewer = states_fewer c.args.entry.state c.requires.agreed c.requires.state (omega arith) in
     omega arith
 
-pub returns-then-place-gt0-clause-hole : goal.returns-then-place-gt0-clause-hole
-returns-then-place-gt0-clause-hole c = hole_there c.args.entry c.requires.agreed c.requires.ordered c.if-place-gt0.true
+pub returns-then-slot-gt0-clause-hole : goal.returns-then-slot-gt0-clause-hole
+returns-then-slot-gt0-clause-hole c = hole_there c.args.entry c.requires.agreed c.requires.ordered c.if-slot-gt0.true
 
 pub returns-clause-hole : goal.returns-clause-hole
 returns-clause-hole c =

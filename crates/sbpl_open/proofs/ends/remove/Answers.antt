@@ -8,49 +8,49 @@ use Rattle.sbpl_open.proofs.ends.remove.Goals as goal
 
 pub overflow_sub-last : goal.overflow_sub-last
 overflow_sub-last c =
-    let place = place_at c.args.s c.requires.agreed c.requires.there in
-    omega (arith, c.len-last.ensures, place.0)
+    let slot = place_at c.args.s c.requires.agreed c.requires.there in
+    omega (arith, c.len-last.ensures, slot.0)
 
 pub index-moved-requires : goal.index-moved-requires
 index-moved-requires c =
-    let place = place_at c.args.s c.requires.agreed c.requires.there in
-    omega (arith, c.len-last.ensures, place.0)
+    let slot = place_at c.args.s c.requires.agreed c.requires.there in
+    omega (arith, c.len-last.ensures, slot.0)
 
 pub sift-requires-clause-hole : goal.sift-requires-clause-hole
 sift-requires-clause-hole c =
     let heap = c.args.heap.now.items in
     let last = c.len-last.result - 1 in
-    let place = place_at c.args.s c.requires.agreed c.requires.there in
-    let len : length heap ≡ last + 1 = omega (arith, c.len-last.ensures, place.0) in
+    let slot = place_at c.args.s c.requires.agreed c.requires.there in
+    let len : length heap ≡ last + 1 = omega (arith, c.len-last.ensures, slot.0) in
     let moved : c.index-moved.result.now ≡ entry_at heap last = get_or_read heap last c.index-moved.result.now (omega arith) c.index-moved.ensures no_entry in
     rw (c.deref_mut.ensures.value ∙ c.truncate.ensures.items, moved)
-    (hole_closing heap c.args.places.now c.args.s (slice_index c.args.places.now c.args.s - 1) last c.requires.agreed c.requires.ordered len place.1 c.if-gap-last.true)
+    (hole_closing heap c.args.slots.now c.args.s (slice_index c.args.slots.now c.args.s - 1) last c.requires.agreed c.requires.ordered len slot.1 c.if-gap-last.true)
 
 pub returns-then-gap-last-clause-keys : goal.returns-then-gap-last-clause-keys
 returns-then-gap-last-clause-keys c =
     let heap = c.args.heap.now.items in
     let last = c.len-last.result - 1 in
-    let place = place_at c.args.s c.requires.agreed c.requires.there in
-    let len : length heap ≡ last + 1 = omega (arith, c.len-last.ensures, place.0) in
+    let slot = place_at c.args.s c.requires.agreed c.requires.there in
+    let len : length heap ≡ last + 1 = omega (arith, c.len-last.ensures, slot.0) in
     let moved : c.index-moved.result.now ≡ entry_at heap last = get_or_read heap last c.index-moved.result.now (omega arith) c.index-moved.ensures no_entry in
     let kept = rw (c.deref_mut.ensures.value ∙ c.truncate.ensures.items, moved) at c.sift.ensures.keys in
     rw (with_items_is c.truncate.new.self c.sift.new.heap (omega arith))
-    (changes_then (keys_closing heap c.args.places.now c.args.s (slice_index c.args.places.now c.args.s - 1) last c.requires.agreed c.requires.ordered len place.1 c.if-gap-last.true) kept)
+    (changes_then (keys_closing heap c.args.slots.now c.args.s (slice_index c.args.slots.now c.args.s - 1) last c.requires.agreed c.requires.ordered len slot.1 c.if-gap-last.true) kept)
 
 pub returns-else-gap-last-clause-agreed : goal.returns-else-gap-last-clause-agreed
 returns-else-gap-last-clause-agreed c =
     let heap = c.args.heap.now.items in
     let last = c.len-last.result - 1 in
-    let place = place_at c.args.s c.requires.agreed c.requires.there in
-    let len : length heap ≡ last + 1 = omega (arith, c.len-last.ensures, place.0) in
+    let slot = place_at c.args.s c.requires.agreed c.requires.there in
+    let len : length heap ≡ last + 1 = omega (arith, c.len-last.ensures, slot.0) in
     rw c.truncate.ensures.items
-    (agreed_leaving heap c.args.places.now c.args.s (slice_index c.args.places.now c.args.s - 1) last c.requires.agreed c.requires.ordered len place.1 c.if-gap-last.false place.0)
+    (agreed_leaving heap c.args.slots.now c.args.s (slice_index c.args.slots.now c.args.s - 1) last c.requires.agreed c.requires.ordered len slot.1 c.if-gap-last.false slot.0)
 
 pub returns-else-gap-last-clause-keys : goal.returns-else-gap-last-clause-keys
 returns-else-gap-last-clause-keys c =
     let heap = c.args.heap.now.items in
     let last = c.len-last.result - 1 in
-    let place = place_at c.args.s c.requires.agreed c.requires.there in
-    let len : length heap ≡ last + 1 = omega (arith, c.len-last.ensures, place.0) in
+    let slot = place_at c.args.s c.requires.agreed c.requires.there in
+    let len : length heap ≡ last + 1 = omega (arith, c.len-last.ensures, slot.0) in
     rw c.truncate.ensures.items
-    (keys_leaving heap c.args.places.now c.args.s (slice_index c.args.places.now c.args.s - 1) last c.requires.agreed c.requires.ordered len place.1 c.if-gap-last.false place.0)
+    (keys_leaving heap c.args.slots.now c.args.s (slice_index c.args.slots.now c.args.s - 1) last c.requires.agreed c.requires.ordered len slot.1 c.if-gap-last.false slot.0)

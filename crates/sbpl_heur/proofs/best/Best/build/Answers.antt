@@ -1,6 +1,6 @@
 use Rattle.std.proofs.Common.{◌*◌, length, arith, ap, sym, ◌∙◌, vec_capacity}
 use Rattle.sbpl_heur.specs.Boards.{cell_count}
-use Rattle.sbpl_heur.proofs.Cutting.{cell_below}
+use Rattle.sbpl_heur.proofs.StateCells.{cell_below}
 use Rattle.sbpl_heur.proofs.Rebuilt.{bare_in_world, cells_of_map, fresh_parts}
 use Rattle.sbpl_heur.proofs.best.Best.build.Goals as goal
 

@@ -23,7 +23,7 @@ follow-requires-clause-board c =
     (c.costs.ensures.value ∙ ap (λ m. m.costs) c.map.ensures.map) c.as_slice.ensures.value
 
 rebuilt : (c : goal.After-turn)
-    → IsRebuilt c.args.lattice.now c.self.inside.goal c.list_hops.new.hops.items c.weigh.new.distances.items (record { goal = c.self.inside.goal; cells = c.cut.new.distances.items; turns = c.turn.new.turns.items; room = vec_capacity c.list_hops.new.hops })
+    → IsRebuilt c.args.lattice.now c.self.inside.goal c.list_hops.new.hops.items c.weigh.new.distances.items (record { goal = c.self.inside.goal; cells = c.cap.new.distances.items; turns = c.turn.new.turns.items; room = vec_capacity c.list_hops.new.hops })
 rebuilt c =
     let w = c.args.lattice.now in
     let fits = rw (← c.self.view_is) at c.requires.fits in
@@ -43,7 +43,7 @@ rebuilt c =
           least_alike w c.follow.new.self.board c.list_hops.new.hops.items c.follow.new.self.labels.start _ (g_of c.follow.new.self.labels) _ (ap (λ z. z.env) board ∙ c.env-env.ensures.env)
           (ap map_of board ∙ same_map w c.env-env.result.now c.costs.result.now world c.env-env.ensures.env costs) (ap (λ z. z.hops) board ∙ c.as_slice.ensures.value)
           (c.follow.ensures.start ∙ c.self.invariant.start ∙ ap (λ n. c.self.inside.goal / n) fits.turns) (λ a within. c.weigh.ensures.weights a (omega (arith, within, entries, c.weigh.ensures.size))) c.follow.ensures.least;
-      cut = c.cut.ensures.cut;
+      capped = c.cap.ensures.capped;
       turned = c.turn.ensures.turns;
       count = c.turn.ensures.size ∙ c.headings_of-headings.ensures.value ∙ ap (λ e. e.headings) c.env-env.ensures.env;
       same = refl;
@@ -56,7 +56,7 @@ invariant_of-self c =
     let guide = rebuilt_guide _ _ _ _ _ is in
     record {
       table = guide.table;
-      cells = ap cell_count c.follow.ensures.board ∙ ap length (c.costs.ensures.value ∙ ap (λ m. m.costs) c.map.ensures.map) ∙ is.world.map.cells ∙ sym is.entries ∙ sym is.cut.size;
+      cells = ap cell_count c.follow.ensures.board ∙ ap length (c.costs.ensures.value ∙ ap (λ m. m.costs) c.map.ensures.map) ∙ is.world.map.cells ∙ sym is.entries ∙ sym is.capped.size;
       start = c.follow.ensures.start ∙ c.self.invariant.start ∙ ap (λ n. c.self.inside.goal / n) (fits.turns ∙ sym is.count);
       hops = ap (λ z. z.room) c.follow.ensures.board ∙ c.self.invariant.hops ∙ sym c.list_hops.ensures.room;
     }

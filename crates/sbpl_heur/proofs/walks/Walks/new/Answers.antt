@@ -1,5 +1,4 @@
 use Rattle.std.proofs.Common.{◌≡◌, length, arith, ap, sym, ◌∙◌, subst}
-use Rattle.sbpl_ara.specs.Search.{AreUsable}
 use Rattle.sbpl_heur.specs.Boards.{cell_count, board_network}
 use Rattle.sbpl_heur.proofs.walks.Walks.new.Goals as goal
 
@@ -9,14 +8,13 @@ invariant_of-result c =
     let made = c.in_ok-cells.ensures.board in
     let fresh = c.new-2.ensures.fresh in
     let count : cell_count b ≡ length c.args.costs.now = ap (λ z. length z.costs) made in
-    let first = ap (λ m. m.start) c.from.ensures.labels ∙ c.in_ok-search.ensures.opened.start in
+    let first = c.in_ok-search.ensures.opened.start in
     let ready = c.in_ok-search.ensures.ready (board_network b) c.new-2.result.run (omega (arith, c.count-count.ensures.value)) in
-    let usable : AreUsable (board_network b) c.in_ok-search.search.labels c.new-2.result.run = record { states = ready.states; exact = ready.exact; fits = ready.fits } in
     record {
       board = c.count-count.ensures.kept;
       start = omega (arith, first, count, c.requires.goal);
-      goal = c.from.ensures.goal ∙ c.in_ok-search.ensures.goal ∙ c.count-count.ensures.value;
-      usable = subst (λ m. AreUsable (board_network b) m c.new-2.result.run) (sym c.from.ensures.labels) usable;
+      goal = c.in_ok-search.ensures.goal ∙ c.count-count.ensures.value;
+      usable = record { states = ready.states; exact = ready.exact; fits = ready.fits };
       one_plan = record { all = ap (λ z. z.plan) fresh ∙ sym (ap (λ z. z.run) fresh); per_plan = ap (λ z. z.per_plan) fresh };
       hops_fit = omega (arith, ap (λ z. length z.hops) made);
       touched_fit = omega (arith, ap (λ z. z.room) made, c.in_ok-touched.ensures.exact);

@@ -4,11 +4,11 @@ use Rattle.sbpl_open.proofs.Viewing.{states_view, key_listed, key_absent, change
 use Rattle.sbpl_open.proofs.open.Open.leave.Goals as goal
 
 pub index-requires : goal.index-requires
-index-requires c = omega (arith, states_view c.self.inside.heap.items c.self.inside.places.items c.self.view_is)
+index-requires c = omega (arith, states_view c.self.inside.heap.items c.self.inside.slots.items c.self.view_is)
 
 pub remove-requires-clause-there : goal.remove-requires-clause-there
 remove-requires-clause-there c =
-    let p = c.self.inside.places.items in
+    let p = c.self.inside.slots.items in
     let states = states_view c.self.inside.heap.items p c.self.view_is in
     let read : c.index.result.now ≡ slice_index p c.args.s = get_or_read p c.args.s c.index.result.now (omega arith) c.index.ensures 0 in
     rw (c.deref_mut.ensures.value, ← read) c.if-index-gt0.true
@@ -16,16 +16,16 @@ remove-requires-clause-there c =
 pub returns-then-index-gt0-clause-changed : goal.returns-then-index-gt0-clause-changed
 returns-then-index-gt0-clause-changed c =
     let h = c.self.inside.heap.items in
-    let p = c.self.inside.places.items in
-    let same = with_items_is c.self.inside.places c.remove.new.places (omega arith) in
+    let p = c.self.inside.slots.items in
+    let same = with_items_is c.self.inside.slots c.remove.new.slots (omega arith) in
     let change = rw c.deref_mut.ensures.value at c.remove.ensures.keys in
-    let len : length c.remove.new.places ≡ length p = omega arith in
+    let len : length c.remove.new.slots ≡ length p = omega arith in
     changes_view h p _ _ c.args.s None c.self.view_is (ap length same ∙ len) (rw same change)
 
 pub returns-then-index-gt0-clause-unchanged : goal.returns-then-index-gt0-clause-unchanged
 returns-then-index-gt0-clause-unchanged c = λ none.
     let h = c.self.inside.heap.items in
-    let p = c.self.inside.places.items in
+    let p = c.self.inside.slots.items in
     let states = states_view h p c.self.view_is in
     let read : c.index.result.now ≡ slice_index p c.args.s = get_or_read p c.args.s c.index.result.now (omega arith) c.index.ensures 0 in
     let there : 0 < slice_index p c.args.s = rw (← read) c.if-index-gt0.true in
@@ -35,7 +35,7 @@ returns-then-index-gt0-clause-unchanged c = λ none.
 pub returns-else-index-gt0-clause-changed : goal.returns-else-index-gt0-clause-changed
 returns-else-index-gt0-clause-changed c =
     let h = c.self.inside.heap.items in
-    let p = c.self.inside.places.items in
+    let p = c.self.inside.slots.items in
     let states = states_view h p c.self.view_is in
     let read : c.index.result.now ≡ slice_index p c.args.s = get_or_read p c.args.s c.index.result.now (omega arith) c.index.ensures 0 in
     let absent : slice_index p c.args.s ≡ 0 = omega arith in
@@ -43,9 +43,9 @@ returns-else-index-gt0-clause-changed c =
 
 pub invariant_of-self : goal.invariant_of-self
 invariant_of-self c =
-    let places = with_items_is c.self.inside.places c.remove.new.places (omega arith) in
+    let slots = with_items_is c.self.inside.slots c.remove.new.slots (omega arith) in
     let change = rw c.deref_mut.ensures.value at c.remove.ensures.keys in
-    rw places
+    rw slots
     (record {
       few = omega (arith, c.self.invariant.few);
       agreed = c.remove.ensures.agreed;

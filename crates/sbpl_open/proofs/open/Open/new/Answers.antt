@@ -5,8 +5,8 @@ use Rattle.sbpl_open.proofs.open.Open.new.Goals as goal
 
 pub returns-clause-states : goal.returns-clause-states
 returns-clause-states c =
-    states_fresh c.in_ok-heap.heap.items c.in_ok-places.places.items c.args.states (omega (arith, c.in_ok-places.ensures.len))
+    states_fresh c.in_ok-heap.heap.items c.in_ok-slots.slots.items c.args.states (omega (arith, c.in_ok-slots.ensures.len))
 
 pub returns-clause-empty : goal.returns-clause-empty
 returns-clause-empty c =
-    empty_fresh c.in_ok-heap.heap.items c.in_ok-places.places.items (λ s inside. grind (arith, common_steps))
+    empty_fresh c.in_ok-heap.heap.items c.in_ok-slots.slots.items (λ s inside. grind (arith, common_steps))

@@ -1,5 +1,0 @@
-use Rattle.sbpl_ara.proofs.Lowering.{in_either}
-use Rattle.sbpl_adstar.proofs.adstar.AdStar.low.Goals as goal
-
-pub low_among-requires-clause-all : goal.low_among-requires-clause-all
-low_among-requires-clause-all g c = rw c.as_slice.ensures.value (in_either _ _ c.self.invariant.waiting c.self.invariant.closed_by_steps)

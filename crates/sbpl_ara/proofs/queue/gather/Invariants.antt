@@ -1,6 +1,0 @@
-use Rattle.sbpl_ara.proofs.Gathering.{IsGathering}
-use Rattle.sbpl_ara.proofs.queue.gather.Given as goal
-
-abbrev pub invariant-loop-entry : goal.invariant-loop-entry
-invariant-loop-entry l =
-    IsGathering l.queue l.entries l.fn.steps l.steps l.entry-index

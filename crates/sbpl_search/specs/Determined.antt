@@ -1,0 +1,40 @@
+-- When the passes of a planner, and the labels from which its plans begin, are determined.
+use Rattle.std.specs.Prelude.{◌≡◌, ℕ, ◌<◌, ◌≤◌, ◌↔◌, Bool, true, None, List}
+use Rattle.std.specs.List.{Contains}
+use Rattle.sbpl_graph.specs.Network.{Network}
+use Rattle.sbpl_labels.specs.Marks.{Marks, states_of, back_of}
+use Rattle.sbpl_search.specs.Meaning.{Meaning}
+use Rattle.sbpl_search.specs.Query.{Query}
+
+-- two guides say the same of each of this many states
+abbrev pub AreAlikeGuides : ℕ → (h h' : ℕ → ℕ) → Type 0
+AreAlikeGuides states h h' = (s : ℕ) → s < states → h s ≡ h' s
+
+-- Two passes of a query from the same labels that expand as many states did the same and end with the same labels; none expands
+-- more than one that rests; after no pass there is both rest and something left to expand. A pass keeps the start, the number of
+-- states, and that the start has no back arc. The guide matters at states alone.
+pub record DeterminesPasses {Note : Type 0} (leads : Query → List Note → Marks → Marks → Type 0) (rests goes_on : Query → List Note → Marks → Type 0) (expansions : List Note → ℕ) : Type 0 where
+  pub one : (q : Query) (old a b : Marks) (xs ys : List Note) → leads q xs old a → leads q ys old b → expansions xs ≡ expansions ys → (xs ≡ ys) × (a ≡ b)
+  pub longest : (q : Query) (old a b : Marks) (xs ys : List Note) → leads q xs old a → leads q ys old b → rests q xs a → expansions ys ≤ expansions xs
+  pub not_both : (q : Query) (notes : List Note) (m : Marks) → rests q notes m → goes_on q notes m → ⊥
+  pub start : (q : Query) (old new : Marks) (notes : List Note) → leads q notes old new → new.start ≡ old.start
+  pub states : (q : Query) (old new : Marks) (notes : List Note) → leads q notes old new → states_of new ≡ states_of old
+  pub no_arc : (q : Query) (old new : Marks) (notes : List Note) → leads q notes old new → back_of old old.start ≡ None → back_of new new.start ≡ None
+  pub guided : (q : Query) (h : ℕ → ℕ) (old new : Marks) (notes : List Note) → AreAlikeGuides (states_of old) q.guide h → leads q notes old new → leads (record q { guide = h }) notes old new
+  pub guided_rests : (q : Query) (h : ℕ → ℕ) (m : Marks) (notes : List Note) → AreAlikeGuides (states_of m) q.guide h → rests q notes m → rests (record q { guide = h }) notes m
+  pub guided_goes_on : (q : Query) (h : ℕ → ℕ) (m : Marks) (notes : List Note) → AreAlikeGuides (states_of m) q.guide h → goes_on q notes m → goes_on (record q { guide = h }) notes m
+
+-- so the passes of a planner are determined
+abbrev pub AreDetermined : {Note : Type 0} → Meaning Note → Type 0
+AreDetermined means = DeterminesPasses means.leads means.rests means.goes_on means.expansions
+
+-- The labels from which the next plan begins are determined by those that the plan before left and, where labels are repaired, by
+-- which states were touched. They have one row for each state, and the start keeps that it has no back arc.
+pub record DeterminesBeginnings (repairs : Bool) (begun : Network → List ℕ → Marks → Marks → Type 0) : Type 0 where
+  pub one : (n : Network) (touched others : List ℕ) (old a b : Marks) → (repairs ≡ true → (t : ℕ) → Contains touched t ↔ Contains others t) → begun n touched old a → begun n others old b → a ≡ b
+  pub states : (n : Network) (touched : List ℕ) (old new : Marks) → states_of old ≡ n.states → begun n touched old new → states_of new ≡ n.states
+  pub no_arc : (n : Network) (touched : List ℕ) (old new : Marks) → back_of old old.start ≡ None → begun n touched old new → back_of new new.start ≡ None
+
+-- so a planner's beginnings are determined
+abbrev pub AreBeginningsDetermined : {Note : Type 0} → Meaning Note → Type 0
+AreBeginningsDetermined means = DeterminesBeginnings means.repairs means.begun

@@ -1,0 +1,37 @@
+-- What a pass does to a search and to the counts of expansions.
+use Rattle.std.specs.Prelude.{◌≡◌, ℕ, ◌+◌, ◌*◌, ◌<◌, ◌≤◌, Some}
+use Rattle.sbpl_graph.specs.declared.TheConstants.{FAR}
+use Rattle.sbpl_graph.specs.Certificate.{AreSupported, ShowBound, ShowNone}
+use Rattle.sbpl_labels.specs.Chain.{chain_at}
+use Rattle.sbpl_labels.specs.Counts.{Counts, IsSpent}
+use Rattle.sbpl_labels.specs.Marks.{states_of, g_of, v_of, back_of}
+use Rattle.sbpl_labels.specs.declared.pass_end.PassEnd.{PassEnd}
+use Rattle.sbpl_labels.specs.declared.pass_end.PassEnd.TheVariants.{Rest, Spent}
+use Rattle.sbpl_search.specs.Meaning.{Meaning}
+use Rattle.sbpl_search.specs.Query.{Query}
+use Rattle.sbpl_search.specs.Ready.{IsStartFresh}
+use Rattle.sbpl_search.specs.State.{State}
+
+-- A pass led from the one state of a search to the other, and ended so. It takes each state no more often than the planner
+-- says, each expansion is counted, and it is spent only where the budget is and something is left to expand, so not after it
+-- has taken each state as often as it may. At rest no state on the chain of back arcs from the goal is underconsistent; with
+-- inflation one the labels then show that there is no path where the goal's is infinite, and that each path costs at least g of
+-- the goal. The labels may begin another pass, and support a bound.
+pub record IsPassed {Note : Type 0} (means : Meaning Note) (q : Query) (old new : State Note) (before after : Counts) (end : PassEnd) : Type 0 where
+  pub leads : means.leads q new.notes old.labels new.labels
+  pub rests : end ≡ Rest → means.rests q new.notes new.labels
+  pub goes_on : end ≡ Spent → means.goes_on q new.notes new.labels
+  pub is_spent : end ≡ Spent → IsSpent after
+  pub counted : after ≡ record before { plan = before.plan + means.expansions new.notes; run = before.run + means.expansions new.notes }
+  pub each : (s : ℕ) → means.times s new.notes ≤ means.most
+  pub few : means.expansions new.notes ≤ means.most * states_of old.labels
+  pub unfinished : end ≡ Spent → means.expansions new.notes < means.most * states_of old.labels
+  pub unbroken : end ≡ Rest → (i u : ℕ) → chain_at (back_of new.labels) old.goal i ≡ Some u → g_of new.labels u ≤ v_of new.labels u
+  pub none : end ≡ Rest → q.eps ≡ 1000 → g_of new.labels old.goal ≡ FAR → ShowNone q.network new.labels.start old.goal (g_of new.labels) (v_of new.labels)
+  pub tight : end ≡ Rest → q.eps ≡ 1000 → ShowBound q.network new.labels.start old.goal (g_of new.labels) (v_of new.labels) q.guide (g_of new.labels old.goal)
+  pub ready : means.ready q.network new.labels after.run
+  pub supported : AreSupported q.network new.labels.start (g_of new.labels) (v_of new.labels)
+  pub start : new.labels.start ≡ old.labels.start
+  pub states : states_of new.labels ≡ states_of old.labels
+  pub goal : new.goal ≡ old.goal
+  pub fresh : IsStartFresh old.labels → IsStartFresh new.labels

@@ -1,0 +1,87 @@
+//! A search that makes passes.
+
+ghost use Rattle.std.specs.Prelude.{◌≡◌, ◌≢◌, ℕ, ◌+◌, ◌^◌, ◌<◌, ◌≤◌, true, IfOk, OnErr};
+ghost use Rattle.sbpl_graph.specs.Bound.{IsLow};
+ghost use Rattle.sbpl_graph.specs.Network.{Network};
+ghost use Rattle.sbpl_labels.specs.Marks.{AreLabels, Marks, states_of, g_of, v_of};
+ghost use Rattle.sbpl_search.specs.Changed.{IsChangeable};
+ghost use Rattle.sbpl_search.specs.Meaning.{Meaning};
+ghost use Rattle.sbpl_search.specs.Passed.{IsPassed};
+ghost use Rattle.sbpl_search.specs.Query.{query};
+ghost use Rattle.sbpl_search.specs.Ready.{AreUsable, IsStartFresh};
+ghost use Rattle.sbpl_search.specs.State.{State};
+
+use sbpl_fixed::NoMemory;
+use sbpl_graph::{Graph, Guide};
+use sbpl_labels::{Budget, Labels, PassEnd};
+use std::alloc::Global;
+
+/// A search to one goal: labels of all states, and passes that improve them. Each planner implements this, and plans are made
+/// and repaired over it. A planner that needs more than a graph, a guide, an inflation and a budget, as workers, has it in its
+/// value. It may ask more of the graph and the guide than the trait does, as that threads can share them.
+pub trait Search<G: Graph, H: Guide> {
+    /// What a pass records of each thing that it does.
+    type Note: Copy;
+
+    /// What the planner's calls mean.
+    ghost meaning: { Meaning Self.Note };
+
+    /// The labels, the goal, and what the last pass did.
+    ghost state: { Self → State Self.Note };
+
+    /// A pass of this inflation, in thousandths, 1000 to 100000: it goes on until no open key is below the goal's, or until
+    /// the budget is spent. Where memory runs out, the planner's meaning says what is left.
+    fn pass(
+        &mut self,
+        alloc: Global,
+        graph: &G,
+        guide: &H,
+        eps: u32,
+        budget: &mut Budget,
+    ) -> Result<PassEnd, NoMemory>
+        requires eps_low { 1000 ≤ eps }
+        requires eps_high { eps ≤ 100000 }
+        requires guide { H.guides guide.now (G.network graph.now) (state self.old).goal }
+        requires ready { meaning.ready (G.network graph.now) (state self.old).labels budget.old.run }
+        ensures passed { IfOk result (IsPassed meaning (query (G.network graph.now) (H.distance guide.now) eps (state self.old).goal) (state self.old) (state self.new) budget.old budget.new) }
+        ensures cut { OnErr result (meaning.cut (query (G.network graph.now) (H.distance guide.now) eps (state self.old).goal) (state self.old) (state self.new) budget.old budget.new) };
+
+    /// Whether labels are repaired after a change of the graph, for which the touched states are wanted.
+    fn repairs(&self) -> bool
+        ensures value { result ≡ meaning.repairs };
+
+    /// Makes the labels ready for a plan on a graph that has changed: repaired, or initial again. Where they are repaired, all
+    /// states whose incoming arcs have changed are among the touched ones; else these are not looked at. It takes no memory.
+    fn change(&mut self, graph: &G, touched: &[u32])
+        requires states { states_of (state self.old).labels ≡ (G.network graph.now).states }
+        requires fits { meaning.repairs ≡ true → IsChangeable (G.network graph.now) touched.now (state self.old).labels }
+        ensures begun { meaning.begun (G.network graph.now) touched.now (state self.old).labels (state self.new).labels }
+        ensures ready { (n : Network) (count : ℕ) → n.states ≡ (G.network graph.now).states → meaning.ready n (state self.old).labels count → meaning.ready (G.network graph.now) (state self.new).labels count }
+        ensures fresh { IsStartFresh (state self.old).labels → IsStartFresh (state self.new).labels }
+        ensures start { (state self.new).labels.start ≡ (state self.old).labels.start }
+        ensures states { states_of (state self.new).labels ≡ states_of (state self.old).labels }
+        ensures goal { (state self.new).goal ≡ (state self.old).goal };
+
+    /// The labels.
+    fn labels(&self) -> &Labels
+        ensures value { result.now ≡ (state self.now).labels }
+        ensures labels { AreLabels (state self.now).labels }
+        ensures goal { (state self.now).goal < states_of (state self.now).labels };
+
+    /// The lower bound that the labels give: the least of g of the goal and of g + h over all states whose g and v differ, with
+    /// h by this guide. It looks only where the last pass may have left such states.
+    fn low(&self, guide: &H) -> u64
+        requires known { (s : ℕ) → s < states_of (state self.now).labels → H.knows guide.now s }
+        ensures least { IsLow (states_of (state self.now).labels) (state self.now).goal
+            (g_of (state self.now).labels) (v_of (state self.now).labels) (H.distance guide.now) result };
+
+    /// What the last pass did, in order.
+    fn notes(&self) -> &[Self::Note]
+        ensures value { result.now ≡ (state self.now).notes };
+
+    /// How many states the last pass expanded.
+    fn expanded(&self) -> u64
+        ensures value { result ≡ meaning.expansions (state self.now).notes };
+
+    ghost usable: { (n : Network) (m : Marks) (count : ℕ) → meaning.ready n m count → AreUsable n m count };
+}

@@ -1,0 +1,204 @@
+-- The arcs of a raised state, one after the other.
+use Rattle.std.proofs.Common.{◌≡◌, ◌≢◌, ℕ, ◌+◌, ◌<◌, ◌≤◌, Option, Some, None, arith, ⊎_elim, refl, sym, ◌∙◌, ap, subst}
+use Rattle.std.proofs.lemmas.Bool.{cases_eq, cases_lt}
+use Rattle.std.proofs.lemmas.List.{get_or_past}
+use Rattle.std.proofs.lemmas.Option.{none-some, same_Some}
+use Rattle.sbpl_graph.specs.declared.TheConstants.{FAR}
+use Rattle.sbpl_graph.specs.Network.{Network}
+use Rattle.sbpl_graph.specs.Laws.{IsSound, HasExactTails}
+use Rattle.sbpl_graph.specs.Exact.{AreExact}
+use Rattle.sbpl_graph.specs.Fit.{FitCount}
+use Rattle.sbpl_graph.proofs.Keeping.{same_arc}
+use Rattle.sbpl_labels.specs.declared.row.Row.{Row}
+use Rattle.sbpl_labels.specs.Marks.{Marks, AreLabels, states_of, g_of, v_of, back_of, no_row}
+use Rattle.sbpl_labels.specs.Recomputed.{IsRecomputed, Recomputes}
+use Rattle.sbpl_serial.specs.Run.{IsUnder, RaisesState}
+use Rattle.sbpl_search.specs.Changed.{IsExactAt}
+use Rattle.sbpl_serial.specs.Raised.{IsReturned}
+use Rattle.sbpl_serial.proofs.Repairing.{recomputed_alike}
+use Rattle.sbpl_serial.proofs.Exactness.{exact_recomputed, exact_everywhere, exact_at}
+
+-- a state with a back arc is a state
+pub back_inside : (m : Marks) {t s k : ℕ} → back_of m t ≡ Some (s, k) → t < states_of m
+back_inside m {t} {s} {k} by =
+    ⊎_elim
+    (λ (inside : t < states_of m). inside)
+    (λ (past : states_of m ≤ t).
+    absurd (none-some (s, k) (sym (ap (λ (r : Row). r.back) (get_or_past m.rows t no_row past)) ∙ by)))
+    (cases_lt t (states_of m))
+
+-- labels in the middle of the raising of s, before its arc of number i
+pub record IsRaising (n : Network) (old m : Marks) (s i : ℕ) : Type 0 where
+  pub same_start : m.start ≡ old.start
+  pub same_states : states_of m ≡ states_of old
+  pub raised : v_of m s ≡ FAR
+  pub other_v : (u : ℕ) → u ≢ s → v_of m u ≡ v_of old u
+  pub heads : (t k : ℕ) → k < i → back_of old t ≡ Some (s, k) → IsRecomputed n (v_of m) t (g_of m t) (back_of m t)
+  pub other_g : (t : ℕ) → ((k : ℕ) → k < i → back_of old t ≢ Some (s, k)) → g_of m t ≡ g_of old t
+  pub other_back : (t : ℕ) → ((k : ℕ) → k < i → back_of old t ≢ Some (s, k)) → back_of m t ≡ back_of old t
+  pub fits : (count : ℕ) → FitCount n.states (g_of old) (v_of old) count → FitCount n.states (g_of m) (v_of m) count
+
+module _ {n : Network} (old : Marks) (s : ℕ) (exact : AreExact n old.start (g_of old) (v_of old) (back_of old))
+    (states : states_of old ≡ n.states) where
+  -- a state with a back arc is the head of that arc
+  pub head_by : (t k : ℕ) → back_of old t ≡ Some (s, k) → (t ≢ old.start) × (k < n.fan s) × (n.head s k ≡ Some t)
+  head_by t k by =
+      let inside = back_inside old by in
+      let apart : t ≢ old.start = λ e. none-some (s, k) (sym exact.none_at_start ∙ ap (λ u. back_of old u) (sym e) ∙ by) in
+      let given = exact.gives t s k (omega arith) apart by in
+      (apart, given.1.free.number, given.1.free.head)
+
+  module _ {m : Marks} (i : ℕ) (here : IsRaising n old m s i) where
+    -- a state whose back arc is arc i or a later one has kept it
+    pub waiting : (t k : ℕ) → i ≤ k → back_of old t ≡ Some (s, k) → (l : ℕ) → l < i → back_of old t ≢ Some (s, l)
+    waiting t k above by l below other = absurd (omega (arith, (same_arc s k s l (sym by ∙ other)).1))
+
+    -- arc i is no back arc
+    pub raising_same : ((t : ℕ) → n.head s i ≡ Some t → back_of m t ≢ Some (s, i)) → IsRaising n old m s (i + 1)
+    raising_same none = record {
+      same_start = here.same_start;
+      same_states = here.same_states;
+      raised = here.raised;
+      other_v = here.other_v;
+      heads = λ t k below by.
+          ⊎_elim
+          (λ (at : k ≡ i).
+          let by_i : back_of old t ≡ Some (s, i) = subst (λ j. back_of old t ≡ Some (s, j)) at by in
+          absurd (none t (head_by t i by_i).2 (here.other_back t (waiting t i (omega arith) by_i) ∙ by_i)))
+          (λ (before : k ≢ i). here.heads t k (omega arith) by)
+          (cases_eq k i);
+      other_g = λ t others. here.other_g t (λ k below. others k (omega arith));
+      other_back = λ t others. here.other_back t (λ k below. others k (omega arith));
+      fits = here.fits;
+    }
+
+    -- what is recomputed has no back arc from s
+    not_recomputed : (t g : ℕ) (back : Option (ℕ × ℕ)) → back ≡ Some (s, i) → IsRecomputed n (v_of m) t g back → ⊥
+    not_recomputed t g None by is = none-some (s, i) by
+    not_recomputed t g (Some (a, l)) by is =
+        let same = same_arc a l s i by in
+        let near : v_of m s < FAR = rw (← same.0) is.2.way.near in
+        omega (arith, here.raised)
+
+    -- a state that now has arc i as its back arc had it before
+    pub had_arc : (t : ℕ) → back_of m t ≡ Some (s, i) → (was : Option (ℕ × ℕ)) → back_of old t ≡ was → back_of old t ≡ Some (s, i)
+    had_arc t by None is =
+        sym (here.other_back t (λ k below at. none-some (s, k) (sym is ∙ at))) ∙ by
+    had_arc t by (Some (a, l)) is =
+        ⊎_elim
+        (λ (at : a ≡ s).
+        ⊎_elim
+        (λ (before : l < i).
+        let own : back_of old t ≡ Some (s, l) = subst (λ b. back_of old t ≡ Some (b, l)) at is in
+        absurd (not_recomputed t (g_of m t) (back_of m t) by (here.heads t l before own)))
+        (λ (after : i ≤ l).
+        sym (here.other_back t (λ k below other. absurd (omega (arith, (same_arc a l s k (sym is ∙ other)).1)))) ∙ by)
+        (cases_lt l i))
+        (λ (apart : a ≢ s). sym (here.other_back t (λ k below other. apart (same_arc a l s k (sym is ∙ other)).0)) ∙ by)
+        (cases_eq a s)
+
+    -- t, whose back arc is arc i, is recomputed
+    pub raising_other : {m' : Marks} (t : ℕ) → n.head s i ≡ Some t → back_of m t ≡ Some (s, i) → Recomputes n m m' t
+        → ((count : ℕ) → FitCount (states_of m) (g_of m) (v_of m) count → FitCount (states_of m) (g_of m') (v_of m') count)
+        → IsRaising n old m' s (i + 1)
+    raising_other {m'} t head by recomputes fits =
+        let had = had_arc t by (back_of old t) refl in
+        let same_v : (u : ℕ) → v_of m' u ≡ v_of m u =
+        λ u.
+        ⊎_elim
+        (λ (at : u ≡ t). rw at recomputes.same_v)
+        (λ (other : u ≢ t). ap (λ (r : Row). r.v) (recomputes.others u other))
+        (cases_eq u t) in
+        let size : states_of m ≡ n.states = here.same_states ∙ states in
+        record {
+          same_start = recomputes.same_start ∙ here.same_start;
+          same_states = recomputes.same_states ∙ here.same_states;
+          raised = same_v s ∙ here.raised;
+          other_v = λ u other. same_v u ∙ here.other_v u other;
+          heads = λ u k below by_k.
+              ⊎_elim
+              (λ (at : u ≡ t). rw at (recomputed_alike n (v_of m) (v_of m') t (g_of m' t) (back_of m' t) same_v recomputes.recomputed))
+              (λ (other : u ≢ t).
+              let before : k ≢ i =
+              λ e. other (same_Some u t (sym (head_by u i (subst (λ j. back_of old u ≡ Some (s, j)) e by_k)).2 ∙ head)) in
+              let was = here.heads u k (omega arith) by_k in
+              let now = subst (λ (r : Row). IsRecomputed n (v_of m) u r.g r.back) (sym (recomputes.others u other)) was in
+              recomputed_alike n (v_of m) (v_of m') u (g_of m' u) (back_of m' u) same_v now)
+              (cases_eq u t);
+          other_g = λ u others.
+              let other : u ≢ t = λ e. others i (omega arith) (rw e had) in
+              ap (λ (r : Row). r.g) (recomputes.others u other) ∙ here.other_g u (λ k below. others k (omega arith));
+          other_back = λ u others.
+              let other : u ≢ t = λ e. others i (omega arith) (rw e had) in
+              ap (λ (r : Row). r.back) (recomputes.others u other) ∙ here.other_back u (λ k below. others k (omega arith));
+          fits = λ count fit.
+              let now = here.fits count fit in
+              rw (← size) (fits count (rw size now));
+        }
+
+    -- whatever arc i is
+    pub raising_more : {m' : Marks} (head : Option ℕ) → IsReturned n m m' s i head
+        → ((count : ℕ) → FitCount (states_of m) (g_of m) (v_of m) count → FitCount (states_of m) (g_of m') (v_of m') count)
+        → IsRaising n old m' s (i + 1)
+    raising_more None returned fits = rw returned.0 (raising_same returned.1)
+    raising_more (Some t) returned fits = raising_other t returned.head returned.by returned.recomputes fits
+
+  module _ {new : Marks} {i : ℕ} (here : IsRaising n old new s i) (over : n.fan s ≤ i) where
+    -- after the last arc s is raised
+    pub raises_all : IsUnder old s → RaisesState n old new s
+    raises_all under = record {
+      same_start = here.same_start;
+      same_states = here.same_states;
+      under = under;
+      raised = here.raised;
+      other_v = here.other_v;
+      heads = λ t k apart by. here.heads t k (omega (arith, (head_by t k by).1)) by;
+      other_g = λ t others. here.other_g t (λ k below by. others (head_by t k by).0 k by);
+      other_back = λ t others. here.other_back t (λ k below by. others (head_by t k by).0 k by);
+    }
+
+    -- a state whose back arc comes from elsewhere is exact as before
+    kept_at : (t : ℕ) → t < n.states → t ≢ old.start → ((k : ℕ) → back_of old t ≢ Some (s, k))
+        → IsExactAt n (v_of new) t (g_of new t) (back_of new t)
+    kept_at t inside apart others =
+        let was = exact_at old exact t inside apart in
+        let same_g = here.other_g t (λ k below. others k) in
+        let same_back = here.other_back t (λ k below. others k) in
+        record {
+          least = λ a k c arc near.
+              let other : a ≢ s = λ e. let near_s : v_of new s < FAR = rw (← e) near in absurd (omega (arith, here.raised)) in
+              omega (arith, same_g, here.other_v a other, was.least a k c arc (omega (arith, here.other_v a other)));
+          gives = λ a k by.
+              let by_old : back_of old t ≡ Some (a, k) = sym same_back ∙ by in
+              let other : a ≢ s = λ e. others k (subst (λ b. back_of old t ≡ Some (b, k)) e by_old) in
+              let given = was.gives a k by_old in (
+                given.0,
+                record {
+                  free = given.1.free;
+                  near = omega (arith, here.other_v a other, given.1.near);
+                  sum = omega (arith, same_g, here.other_v a other, given.1.sum);
+                },
+              );
+          far_without_arc = λ none. same_g ∙ was.far_without_arc (sym same_back ∙ none);
+          no_arc_where_far = λ far. same_back ∙ was.no_arc_where_far (sym same_g ∙ far);
+        }
+
+    -- and each state is exact
+    raised_at : IsSound n → HasExactTails n → AreLabels new → (t : ℕ) → t < n.states → t ≢ old.start → (back : Option (ℕ × ℕ))
+        → back_of old t ≡ back → IsExactAt n (v_of new) t (g_of new t) (back_of new t)
+    raised_at sound tails labels t inside apart None is = kept_at t inside apart (λ k by. none-some (s, k) (sym is ∙ by))
+    raised_at sound tails labels t inside apart (Some (a, l)) is =
+        ⊎_elim
+        (λ (at : a ≡ s).
+        let own : back_of old t ≡ Some (s, l) = subst (λ b. back_of old t ≡ Some (b, l)) at is in
+        exact_recomputed n (v_of new) t (g_of new t) sound tails
+        (λ u within. (labels.labels u (omega (arith, here.same_states, states))).1) (back_of new t)
+        (here.heads t l (omega (arith, (head_by t l own).1)) own))
+        (λ (other : a ≢ s). kept_at t inside apart (λ k by. other (same_arc a l s k (sym is ∙ by)).0))
+        (cases_eq a s)
+
+    pub exact_raised : IsSound n → HasExactTails n → AreLabels new → AreExact n new.start (g_of new) (v_of new) (back_of new)
+    exact_raised sound tails labels =
+        exact_everywhere labels (here.same_states ∙ states) sound
+        (λ t inside apart.
+        raised_at sound tails labels t inside (λ e. apart (e ∙ sym here.same_start)) (back_of old t) refl)

@@ -1,0 +1,14 @@
+pub mod Marked
+pub mod Keys
+pub mod Run
+pub mod Determined
+pub mod Relaxed
+pub mod Queue
+pub mod Low
+pub mod Serial
+pub mod Repaired
+pub mod Raised
+pub mod Times
+pub mod Taken
+pub mod Passed
+pub mod Meant

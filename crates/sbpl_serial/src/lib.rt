@@ -1,0 +1,22 @@
+//! Serial search: passes that expand one open state after another, the least key first, over any graph.
+#![tactic(auto)]
+
+mod closed;
+mod expansion;
+mod facts;
+mod low;
+mod note;
+mod parts;
+mod queue;
+mod raise;
+mod repair;
+mod serial;
+mod step;
+mod steps;
+
+pub use closed::Closed;
+pub use facts::{exact_where_same, run_is_determined};
+pub use parts::Parts;
+pub use serial::Serial;
+pub use step::Step;
+pub use steps::Steps;

@@ -1,0 +1,364 @@
+//! A serial search: its parts, and the passes on them.
+
+ghost use Rattle.std.specs.Prelude.{◌≡◌, ℕ, ◌+◌, ◌-◌, ◌*◌, ◌^◌, ◌<◌, ◌≤◌, [], length, Bool, true, false, IfOk};
+ghost use Rattle.std.specs.List.{All};
+ghost use Rattle.sbpl_graph.specs.Bound.{IsLow};
+ghost use Rattle.sbpl_graph.specs.Fit.{FitCount};
+ghost use Rattle.sbpl_graph.specs.Kept.{NoneUnder};
+ghost use Rattle.sbpl_graph.specs.Network.{Network};
+ghost use Rattle.sbpl_labels.specs.Marks.{AreLabels, AreInitial, states_of, g_of, v_of};
+ghost use Rattle.sbpl_open.specs.OpenList as open_list;
+ghost use Rattle.sbpl_search.specs.Changed.{IsChangeable};
+ghost use Rattle.sbpl_search.specs.Query.{query};
+ghost use Rattle.sbpl_search.specs.Ready.{AreReady, AreUsable};
+ghost use Rattle.sbpl_serial.specs.Marked.{closed_at};
+ghost use Rattle.sbpl_serial.specs.Meant.{AreRepairedFor};
+ghost use Rattle.sbpl_serial.specs.Keys.{goal_key};
+ghost use Rattle.sbpl_serial.specs.Passed.{IsForwardPass, IsSerialPass};
+ghost use Rattle.sbpl_serial.specs.Queue.{AreQueued, IsFirstBelow};
+ghost use Rattle.sbpl_serial.specs.Run.{none_closed, closed_after, IsOpen, IsOver, IsUnder};
+ghost use Rattle.sbpl_serial.specs.Serial.{AreParts};
+ghost use Rattle.sbpl_serial.specs.Taken.{IsTaken};
+
+use crate::expansion::expand;
+use crate::low::low_among;
+use crate::note::{note_taken, note_touched};
+use crate::queue::{gather, refill};
+use crate::raise::raise;
+use crate::repair::recompute_all;
+use crate::{Closed, Parts, Step, Steps};
+use sbpl_fixed::NoMemory;
+use sbpl_graph::{Graph, Guide};
+use sbpl_labels::{Budget, Labels, PassEnd};
+use sbpl_open::{Key, Open};
+use std::alloc::Global;
+use std::marker::Model;
+
+/// A search that expands one open state after another: the labels of all states, the goal, the expansions of the last pass and
+/// the queue that it left. Both serial planners stand on it: ARA* (Likhachev, Gordon and Thrun 2003), whose labels are never
+/// underconsistent, and Anytime D* (Likhachev, Ferguson, Gordon, Stentz and Thrun 2005), whose labels are repaired after changes
+/// of the graph. All memory is taken when it is opened.
+#[derive(Drop)]
+pub struct Serial {
+    labels: Labels,
+    goal: u32,
+    closed: Closed,
+    steps: Steps,
+    queue: Open,
+}
+
+impl Model for Serial {
+    ghost use Rattle.sbpl_serial.specs.Serial.{SerialState, AreParts};
+
+    ghost Value = { SerialState };
+
+    ghost view = { λ a. record { labels = a.labels; goal = a.goal; trace = a.steps.items; queue = a.queue } };
+
+    ghost invariant = { λ a. AreParts a.labels a.goal a.closed a.steps a.queue };
+}
+
+impl Serial {
+    /// A search from `start` to `goal` on a graph of this many states, before its first pass: its labels are initial and its
+    /// trace is empty.
+    pub fn open(alloc: Global, states: u32, start: u32, goal: u32) -> Result<Serial, NoMemory>
+        requires start { start < states }
+        requires goal { goal < states }
+        ensures opened { IfOk result (λ a. AreInitial a.labels states start) }
+        ensures ready { IfOk result
+            (λ a. (n : Network) (count : ℕ) → n.states ≡ states → AreReady n a.labels count) }
+        ensures goal { IfOk result (λ a. a.goal ≡ goal) }
+        ensures untraced { IfOk result (λ a. a.trace ≡ []) }
+    {
+        let labels = Labels::open(alloc, states, start)?;
+        let closed = Closed::open(alloc, states)?;
+        let steps = Steps::with_room(alloc, 3 * states as usize)?;
+        let mut queue = Open::new(alloc, states)?;
+        queue.put(start, Key(0, 0));
+        Ok(Serial {
+            labels,
+            goal,
+            closed,
+            steps,
+            queue,
+        })
+    }
+
+    /// Makes the labels initial again and empties the trace. The start, the goal and the number of states stay. It takes no
+    /// memory.
+    pub fn reset(&mut self)
+        ensures opened { AreInitial self.new.labels (states_of self.old.labels)
+            self.old.labels.start }
+        ensures ready { (n : Network) (count : ℕ) → n.states ≡ states_of self.old.labels
+            → AreReady n self.new.labels count }
+        ensures goal { self.new.goal ≡ self.old.goal }
+        ensures untraced { self.new.trace ≡ [] }
+    {
+        self.labels.reset();
+        self.closed.clear();
+        self.steps.clear();
+        self.queue.clear();
+        self.queue.put(self.labels.start(), Key(0, 0));
+    }
+
+    /// The parts of the search, without memory. Each open state is in the queue, the steps have room for three steps a state, and
+    /// just those states are closed that the steps have closed.
+    pub fn into_parts(self) -> Parts
+        ensures labels { result.labels ≡ self.labels }
+        ensures valid { AreLabels result.labels }
+        ensures goal { result.goal ≡ self.goal }
+        ensures steps { result.steps.items ≡ self.trace }
+        ensures queue { result.queue ≡ self.queue }
+        ensures parts { AreParts result.labels result.goal result.closed result.steps result.queue }
+    {
+        let Serial {
+            labels,
+            goal,
+            closed,
+            steps,
+            queue,
+        } = self;
+        let _start = labels.start();
+        Parts {
+            labels,
+            goal,
+            closed,
+            steps,
+            queue,
+        }
+    }
+
+    /// The search that has these parts. It takes no memory.
+    pub fn from_parts(parts: Parts) -> Serial
+        requires parts { AreParts parts.labels parts.goal parts.closed parts.steps parts.queue }
+        ensures labels { result.labels ≡ parts.labels }
+        ensures goal { result.goal ≡ parts.goal }
+        ensures trace { result.trace ≡ parts.steps.items }
+        ensures queue { result.queue ≡ parts.queue }
+    {
+        let Parts {
+            labels,
+            goal,
+            closed,
+            steps,
+            queue,
+        } = parts;
+        Serial {
+            labels,
+            goal,
+            closed,
+            steps,
+            queue,
+        }
+    }
+
+    /// Repairs the labels after a change of the graph: each touched state is recomputed on the graph as it now is, and every v
+    /// stays. The condition is that every other state, but the start, has on this graph the g and the back arc, or none, that
+    /// exact labels ask. A state may be touched twice. No other state is looked at. It takes no memory.
+    pub fn repair<G: Graph>(&mut self, graph: &G, touched: &[u32])
+        requires states { states_of self.old.labels ≡ (G.network graph.now).states }
+        requires changeable { IsChangeable (G.network graph.now) touched.now self.old.labels }
+        ensures repaired { AreRepairedFor (G.network graph.now) touched.now self.old.labels
+            self.new.labels }
+        ensures fits { (count : ℕ)
+            → FitCount (states_of self.old.labels) (g_of self.old.labels) (v_of self.old.labels) count
+            → FitCount (states_of self.old.labels) (g_of self.new.labels) (v_of self.new.labels) count }
+        ensures goal { self.new.goal ≡ self.old.goal }
+        ensures trace { self.new.trace ≡ self.old.trace }
+    {
+        let _states = graph.states();
+        recompute_all(&mut self.labels, graph, touched);
+        note_touched(&mut self.queue, &self.labels, touched);
+        let _start = self.labels.start();
+    }
+
+    /// A pass: open states are expanded, the least key first, until no open key is below the goal's or the budget is spent. Open
+    /// are the states with v below g, and those with g below v that this pass has not lowered. A state with g below v is lowered:
+    /// its v becomes its g, and each head gets the lesser of its g and the way over it. A state with v below g is raised: its v
+    /// becomes infinite, and each head whose back arc comes from it is recomputed. Of each key the first part is 1000 times v and
+    /// the guide where v is below g, else 1000 g and `eps` times the guide; the second is the lesser of g and v, and of equal keys
+    /// the state of lower number comes first. `eps` is the inflation in thousandths, 1000 to 100000. It takes no memory.
+    pub fn pass<G: Graph, H: Guide>(
+        &mut self,
+        graph: &G,
+        guide: &H,
+        eps: u32,
+        budget: &mut Budget,
+    ) -> PassEnd
+        requires eps_low { 1000 ≤ eps }
+        requires eps_high { eps ≤ 100000 }
+        requires guide { H.guides guide.now (G.network graph.now) self.old.goal }
+        requires usable { AreUsable (G.network graph.now) self.old.labels budget.old.run }
+        ensures passed { IsSerialPass (query (G.network graph.now) (H.distance guide.now) eps self.old.goal) self.old self.new budget.old budget.new result }
+        ensures forward { NoneUnder (states_of self.old.labels) (g_of self.old.labels) (v_of self.old.labels)
+            → IsForwardPass (query (G.network graph.now) (H.distance guide.now) eps self.old.goal) self.old self.new budget.old budget.new result }
+    {
+        let _states = graph.states();
+        let _start = self.labels.start();
+        self.begin(guide, eps);
+        'expansions: while let Some(s) = self.next() {
+            if budget.spent() {
+                return PassEnd::Spent;
+            }
+            budget.spend();
+            self.take(graph, guide, eps, s);
+        }
+        PassEnd::Rest
+    }
+
+    /// The labels.
+    pub fn labels(&self) -> &Labels
+        ensures value { result.now ≡ self.now.labels }
+        ensures labels { AreLabels self.now.labels }
+        ensures goal { self.now.goal < states_of self.now.labels }
+    {
+        let _start = self.labels.start();
+        &self.labels
+    }
+
+    /// The low of the labels: the least of g of the goal and of g + h over all states whose g and v differ, with h by this
+    /// guide. It looks only where such states may be: in the queue and among the expansions of the last pass.
+    pub fn low<H: Guide>(&self, guide: &H) -> u64
+        requires known { (s : ℕ) → s < states_of self.now.labels → H.knows guide.now s }
+        ensures least { IsLow (states_of self.now.labels) self.now.goal (g_of self.now.labels)
+            (v_of self.now.labels) (H.distance guide.now) result }
+    {
+        low_among(
+            &self.queue,
+            self.steps.as_slice(),
+            &self.labels,
+            guide,
+            self.goal,
+        )
+    }
+
+    /// The expansions of the last pass in order, or none before the first one and after a reset.
+    pub fn trace(&self) -> &[Step]
+        ensures value { result.now ≡ self.now.trace }
+    {
+        self.steps.as_slice()
+    }
+
+    /// Begins a pass: no state is closed, and the queue holds the states whose g and v differ. They are looked for only where they
+    /// may be: in the queue and among the states of the last pass.
+    fn begin<H: Guide>(&mut self, guide: &H, eps: u32)
+        requires known { (s : ℕ) → s < states_of self.old.labels → H.knows guide.now s }
+        ensures labels { self.new.labels ≡ self.old.labels }
+        ensures goal { self.new.goal ≡ self.old.goal }
+        ensures untraced { self.new.trace ≡ [] }
+        ensures queued { AreQueued eps (H.distance guide.now) none_closed self.new.labels self.new.queue }
+        ensures inside { self.old.goal < states_of self.old.labels }
+    {
+        note_taken(&mut self.queue, &self.labels, self.steps.as_slice());
+        self.steps.clear();
+        gather(&self.queue, &mut self.steps);
+        self.queue.clear();
+        refill(
+            &mut self.queue,
+            self.steps.as_slice(),
+            &self.labels,
+            guide,
+            eps,
+        );
+        self.closed.clear();
+        self.steps.clear();
+    }
+
+    /// The least state of the queue, where its key is below the goal's.
+    fn next(&self) -> Option<u32>
+        ensures next { IsFirstBelow self.now.queue (goal_key (g_of self.now.labels self.now.goal))
+            result }
+        ensures labels { AreLabels self.now.labels }
+        ensures inside { self.now.goal < states_of self.now.labels }
+    {
+        let _start = self.labels.start();
+        let (s, key) = self.queue.least()?;
+        let g = self.labels.g(self.goal);
+        key.is_below(Key(1000 * u128::from(g), g)).then_some(s)
+    }
+    /// Takes the open state `s`: it is lowered or raised.
+    fn take<G: Graph, H: Guide>(&mut self, graph: &G, guide: &H, eps: u32, s: u32)
+        requires open { IsOpen (closed_after none_closed self.old.trace) self.old.labels s }
+        requires usable { AreUsable (G.network graph.now) self.old.labels (2 ^ 30 - 1) }
+        requires known { (u : ℕ) → u < states_of self.old.labels → H.knows guide.now u }
+        requires queued { AreQueued eps (H.distance guide.now)
+            (closed_after none_closed self.old.trace) self.old.labels self.old.queue }
+        requires room { length self.old.trace < 3 * states_of self.old.labels }
+        ensures taken { (raised : Bool) × IsTaken (G.network graph.now) self.old self.new s raised }
+        ensures usable { (count : ℕ) → AreUsable (G.network graph.now) self.old.labels count
+            → AreUsable (G.network graph.now) self.new.labels (count + 1) }
+        ensures queued { AreQueued eps (H.distance guide.now)
+            (closed_after none_closed self.new.trace) self.new.labels self.new.queue }
+        ensures goal { self.new.goal ≡ self.old.goal }
+        ensures start { self.new.labels.start ≡ self.old.labels.start }
+        ensures states { states_of self.new.labels ≡ states_of self.old.labels }
+    {
+        if self.labels.v(s) < self.labels.g(s) {
+            self.raise(graph, guide, eps, s);
+        } else {
+            self.lower(graph, guide, eps, s);
+        }
+    }
+
+    /// Lowers by the overconsistent state `s`, and closes it.
+    fn lower<G: Graph, H: Guide>(&mut self, graph: &G, guide: &H, eps: u32, s: u32)
+        requires open { IsOpen (closed_after none_closed self.old.trace) self.old.labels s }
+        requires over { IsOver self.old.labels s }
+        requires usable { AreUsable (G.network graph.now) self.old.labels (2 ^ 30 - 1) }
+        requires known { (u : ℕ) → u < states_of self.old.labels → H.knows guide.now u }
+        requires queued { AreQueued eps (H.distance guide.now)
+            (closed_after none_closed self.old.trace) self.old.labels self.old.queue }
+        requires room { length self.old.trace < 3 * states_of self.old.labels }
+        ensures taken { IsTaken (G.network graph.now) self.old self.new s false }
+        ensures usable { (count : ℕ) → AreUsable (G.network graph.now) self.old.labels count
+            → AreUsable (G.network graph.now) self.new.labels (count + 1) }
+        ensures queued { AreQueued eps (H.distance guide.now)
+            (closed_after none_closed self.new.trace) self.new.labels self.new.queue }
+        ensures goal { self.new.goal ≡ self.old.goal }
+    {
+        self.closed.insert(s);
+        expand(
+            &mut self.labels,
+            &mut self.queue,
+            &self.closed,
+            graph,
+            guide,
+            eps,
+            s,
+        );
+        self.steps.push(Step {
+            state: s,
+            raised: false,
+        });
+    }
+
+    /// Raises the underconsistent state `s`.
+    fn raise<G: Graph, H: Guide>(&mut self, graph: &G, guide: &H, eps: u32, s: u32)
+        requires open { IsOpen (closed_after none_closed self.old.trace) self.old.labels s }
+        requires under { IsUnder self.old.labels s }
+        requires usable { AreUsable (G.network graph.now) self.old.labels (2 ^ 30 - 1) }
+        requires known { (u : ℕ) → u < states_of self.old.labels → H.knows guide.now u }
+        requires queued { AreQueued eps (H.distance guide.now)
+            (closed_after none_closed self.old.trace) self.old.labels self.old.queue }
+        requires room { length self.old.trace < 3 * states_of self.old.labels }
+        ensures taken { IsTaken (G.network graph.now) self.old self.new s true }
+        ensures usable { (count : ℕ) → AreUsable (G.network graph.now) self.old.labels count
+            → AreUsable (G.network graph.now) self.new.labels count }
+        ensures queued { AreQueued eps (H.distance guide.now)
+            (closed_after none_closed self.new.trace) self.new.labels self.new.queue }
+        ensures goal { self.new.goal ≡ self.old.goal }
+    {
+        raise(
+            &mut self.labels,
+            &mut self.queue,
+            &self.closed,
+            graph,
+            guide,
+            eps,
+            s,
+        );
+        self.steps.push(Step {
+            state: s,
+            raised: true,
+        });
+    }
+}
