@@ -11,7 +11,7 @@ use Rattle.sbpl_graph.specs.Exact.{AreExact}
 use Rattle.sbpl_labels.specs.Chain.{IsBackPath, IsWalk}
 use Rattle.sbpl_labels.specs.Marks.{Marks, states_of, g_of, v_of, back_of, no_row, row_at}
 use Rattle.sbpl_labels.specs.declared.row.Row.{Row}
-use Rattle.sbpl_plan.specs.Looking.{IsStartFresh}
+use Rattle.sbpl_search.specs.Ready.{IsStartFresh}
 
 module _ (n : Network) (m : Marks) (sound : IsSound n) (same : states_of m ≡ n.states) (exact : AreExact n m.start (g_of m) (v_of m) (back_of m)) where
   -- each label but the start's is above 0

@@ -13,30 +13,30 @@ use Rattle.sbpl_plan.specs.declared.found.Found.{Found}
 use Rattle.sbpl_plan.specs.declared.found.Found.TheVariants as found
 use Rattle.sbpl_plan.specs.declared.result.Outcome.{Outcome}
 use Rattle.sbpl_plan.specs.declared.result.Outcome.TheVariants as outcome
-use Rattle.sbpl_plan.specs.Looking.{IsPathFound, Looks}
-use Rattle.sbpl_plan.specs.Outcomes.{IsAnswered, IsOutcome, IsTold, IsTrueOutcome}
-use Rattle.sbpl_plan.specs.Passing.{Inquiry, IsLast}
-use Rattle.sbpl_plan.specs.Turns.{IsTight}
+use Rattle.sbpl_plan.specs.Looking.{IsPathFound, WalkFinds}
+use Rattle.sbpl_plan.specs.Outcomes.{IsConclusive, IsResultOf, AgreesWithFound, IsTrueOutcome}
+use Rattle.sbpl_plan.specs.Passing.{Inquiry, EndsPlan}
+use Rattle.sbpl_plan.specs.Iterations.{IsTight}
 
 -- labels that show none, or a break, have no path
 none_no_path : (n : Network) (h : ℕ → ℕ) (goal : ℕ) (m : Marks) → g_of m goal ≡ FAR → (arcs : List ℕ) (cost bound : ℕ) → IsPathFound n h goal m arcs cost bound → ⊥
 none_no_path n h goal m far arcs cost bound path = let near : g_of m goal < FAR = path.walk.near in omega arith
 
-pub no_path_found : (n : Network) (h : ℕ → ℕ) (goal : ℕ) (m : Marks) (others : List ℕ) (f : Found) → Looks n h goal m others f → (f ≡ found.None) ⊎ (f ≡ found.Broken) → (arcs : List ℕ) (cost bound : ℕ) → IsPathFound n h goal m arcs cost bound → ⊥
-no_path_found n h goal m others (found.Path a b) looks (inl is) arcs cost bound path = cc
-no_path_found n h goal m others (found.Path a b) looks (inr is) arcs cost bound path = cc
-no_path_found n h goal m others found.None looks is arcs cost bound path = none_no_path n h goal m looks.0 arcs cost bound path
-no_path_found n h goal m others found.Broken looks is arcs cost bound path =
-    let broken = looks.0.1 in
-    let below : v_of m looks.0.0 < g_of m looks.0.0 = broken.under in
-    let kept : g_of m looks.0.0 ≤ v_of m looks.0.0 = path.walk.unbroken broken.place looks.0.0 broken.on_chain in omega arith
+pub no_path_found : (n : Network) (h : ℕ → ℕ) (goal : ℕ) (m : Marks) (others : List ℕ) (f : Found) → WalkFinds n h goal m others f → (f ≡ found.None) ⊎ (f ≡ found.Broken) → (arcs : List ℕ) (cost bound : ℕ) → IsPathFound n h goal m arcs cost bound → ⊥
+no_path_found n h goal m others (found.Path a b) finds (inl is) arcs cost bound path = cc
+no_path_found n h goal m others (found.Path a b) finds (inr is) arcs cost bound path = cc
+no_path_found n h goal m others found.None finds is arcs cost bound path = none_no_path n h goal m finds.0 arcs cost bound path
+no_path_found n h goal m others found.Broken finds is arcs cost bound path =
+    let broken = finds.0.1 in
+    let below : v_of m finds.0.0 < g_of m finds.0.0 = broken.under in
+    let kept : g_of m finds.0.0 ≤ v_of m finds.0.0 = path.walk.unbroken broken.place finds.0.0 broken.on_chain in omega arith
 
 -- where there is no path, the labels show none or nothing is known
-pub cut_or_unknown : (n : Network) (h : ℕ → ℕ) (goal : ℕ) (m : Marks) (others : List ℕ) (f : Found) → Looks n h goal m others f → (f ≡ found.None) ⊎ (f ≡ found.Broken) → (IsCutOff (states_of m) goal (g_of m) (v_of m) → ⊥) → IsOutcome n h goal m outcome.Unknown
-cut_or_unknown n h goal m others f looks is not = (not, no_path_found n h goal m others f looks is)
+pub cut_or_unknown : (n : Network) (h : ℕ → ℕ) (goal : ℕ) (m : Marks) (others : List ℕ) (f : Found) → WalkFinds n h goal m others f → (f ≡ found.None) ⊎ (f ≡ found.Broken) → (IsCutOff (states_of m) goal (g_of m) (v_of m) → ⊥) → IsResultOf n h goal m outcome.Unknown
+cut_or_unknown n h goal m others f finds is not = (not, no_path_found n h goal m others f finds is)
 
 -- the result is true
-pub outcome_is_true : (n : Network) (h : ℕ → ℕ) (goal : ℕ) (m : Marks) (start : ℕ) (o : Outcome) → BoundHolds → NoneHolds → IsSound n → IsConsistent n goal h → states_of m ≡ n.states → AreSupported n m.start (g_of m) (v_of m) → m.start ≡ start → IsOutcome n h goal m o → IsTrueOutcome n start goal o
+pub outcome_is_true : (n : Network) (h : ℕ → ℕ) (goal : ℕ) (m : Marks) (start : ℕ) (o : Outcome) → BoundHolds → NoneHolds → IsSound n → IsConsistent n goal h → states_of m ≡ n.states → AreSupported n m.start (g_of m) (v_of m) → m.start ≡ start → IsResultOf n h goal m o → IsTrueOutcome n start goal o
 outcome_is_true n h goal m start (outcome.Path arcs cost bound) bounds nones sound consistent same supported first path =
     let shows : ShowBound n m.start goal (g_of m) (v_of m) h path.low = record {
       supported = supported;
@@ -61,26 +61,26 @@ outcome_is_true n h goal m start outcome.NoPath bounds nones sound consistent sa
 outcome_is_true n h goal m start outcome.Unknown bounds nones sound consistent same supported first unknown = tt
 
 -- where the last pass was not spent, the result is known
-pub outcome_is_known : (q : Inquiry) (eps : ℕ) (m : Marks) (others : List ℕ) (f : Found) (o : Outcome) → 1000 ≤ q.ask.bound → IsLast q eps m false f → (eps ≡ 1000 → g_of m q.goal ≡ FAR → IsCutOff (states_of m) q.goal (g_of m) (v_of m)) → (eps ≡ 1000 → IsTight f) → Looks q.network q.guide q.goal m others f → IsTold f o → IsOutcome q.network q.guide q.goal m o → IsAnswered q.ask.bound o
-outcome_is_known q eps m others (found.Path c b) (outcome.Path arcs cost bound) low last none tight looks told is = elim last [
-  | inl enough ↦ let same : bound ≡ b = told.1 in omega arith
-  | inr (inl cut) ↦ absurd (let near : g_of m q.goal < FAR = looks.walk.near in let far : g_of m q.goal ≡ FAR = cut.goal_is_far in omega arith)
+pub outcome_is_known : (q : Inquiry) (eps : ℕ) (m : Marks) (others : List ℕ) (f : Found) (o : Outcome) → 1000 ≤ q.ask.bound → EndsPlan q eps m false f → (eps ≡ 1000 → g_of m q.goal ≡ FAR → IsCutOff (states_of m) q.goal (g_of m) (v_of m)) → (eps ≡ 1000 → IsTight f) → WalkFinds q.network q.guide q.goal m others f → AgreesWithFound f o → IsResultOf q.network q.guide q.goal m o → IsConclusive q.ask.bound o
+outcome_is_known q eps m others (found.Path c b) (outcome.Path arcs cost bound) low last none tight finds agrees is = elim last [
+  | inl enough ↦ let same : bound ≡ b = agrees.1 in omega arith
+  | inr (inl cut) ↦ absurd (let near : g_of m q.goal < FAR = finds.walk.near in let far : g_of m q.goal ≡ FAR = cut.goal_is_far in omega arith)
   | inr (inr (inl spent)) ↦ absurd (cc)
-  | inr (inr (inr one)) ↦ let at : b ≡ 1000 = tight one in let same : bound ≡ b = told.1 in omega arith
+  | inr (inr (inr one)) ↦ let at : b ≡ 1000 = tight one in let same : bound ≡ b = agrees.1 in omega arith
 ]
-outcome_is_known q eps m others (found.Path c b) outcome.NoPath low last none tight looks told is = absurd told
-outcome_is_known q eps m others (found.Path c b) outcome.Unknown low last none tight looks told is = absurd told
-outcome_is_known q eps m others found.None (outcome.Path arcs cost bound) low last none tight looks told is = absurd told
-outcome_is_known q eps m others found.None outcome.NoPath low last none tight looks told is = tt
-outcome_is_known q eps m others found.None outcome.Unknown low last none tight looks told is = elim last [
+outcome_is_known q eps m others (found.Path c b) outcome.NoPath low last none tight finds agrees is = absurd agrees
+outcome_is_known q eps m others (found.Path c b) outcome.Unknown low last none tight finds agrees is = absurd agrees
+outcome_is_known q eps m others found.None (outcome.Path arcs cost bound) low last none tight finds agrees is = absurd agrees
+outcome_is_known q eps m others found.None outcome.NoPath low last none tight finds agrees is = tt
+outcome_is_known q eps m others found.None outcome.Unknown low last none tight finds agrees is = elim last [
   | inl enough ↦ enough
   | inr (inl cut) ↦ is.0 cut
   | inr (inr (inl spent)) ↦ absurd (cc)
-  | inr (inr (inr one)) ↦ is.0 (none one looks.0)
+  | inr (inr (inr one)) ↦ is.0 (none one finds.0)
 ]
-outcome_is_known q eps m others found.Broken (outcome.Path arcs cost bound) low last none tight looks told is = absurd told
-outcome_is_known q eps m others found.Broken outcome.NoPath low last none tight looks told is = tt
-outcome_is_known q eps m others found.Broken outcome.Unknown low last none tight looks told is = elim last [
+outcome_is_known q eps m others found.Broken (outcome.Path arcs cost bound) low last none tight finds agrees is = absurd agrees
+outcome_is_known q eps m others found.Broken outcome.NoPath low last none tight finds agrees is = tt
+outcome_is_known q eps m others found.Broken outcome.Unknown low last none tight finds agrees is = elim last [
   | inl enough ↦ enough
   | inr (inl cut) ↦ is.0 cut
   | inr (inr (inl spent)) ↦ absurd (cc)

@@ -1,11 +1,10 @@
 -- What labels show is one: the path that back arcs lead along, its cost and its bound.
-use Rattle.std.proofs.Common.{◌≡◌, ◌≢◌, ℕ, ◌<◌, ◌≤◌, Option, None, List, [], ◌∷◌, length, refl, sym, ap, arith, ⊎_elim, inl, inr, ◌∙◌}
+use Rattle.std.proofs.Common.{◌≡◌, ◌≢◌, ℕ, ◌<◌, ◌≤◌, Option, Some, None, List, [], ◌∷◌, length, refl, sym, ap, arith, ⊎_elim, inl, inr, ◌∙◌}
 use Rattle.std.proofs.lemmas.Bool.{cases_eq}
 use Rattle.std.proofs.lemmas.Option.{none-some, same_Some}
 use Rattle.sbpl_graph.specs.Bound.{IsBound, IsLow}
 use Rattle.sbpl_graph.specs.Network.{Network}
 use Rattle.sbpl_graph.specs.Path.{IsFreePath}
-use Rattle.sbpl_graph.proofs.Keeping.{same_arc}
 use Rattle.sbpl_labels.specs.Chain.{IsBackPath}
 use Rattle.sbpl_labels.specs.CutOff.{IsCutOff}
 use Rattle.sbpl_labels.specs.Marks.{Marks, states_of, g_of, v_of, back_of}
@@ -14,10 +13,17 @@ use Rattle.sbpl_plan.specs.declared.found.Found.{Found}
 use Rattle.sbpl_plan.specs.declared.found.Found.TheVariants as found
 use Rattle.sbpl_plan.specs.declared.result.Outcome.{Outcome}
 use Rattle.sbpl_plan.specs.declared.result.Outcome.TheVariants as outcome
-use Rattle.sbpl_plan.specs.Looking.{IsPathFound, Looks}
-use Rattle.sbpl_plan.specs.Outcomes.{IsOutcome}
-use Rattle.sbpl_plan.specs.Determined.{AreAlikeGuides, OutcomesAreOne}
+use Rattle.sbpl_plan.specs.Looking.{IsPathFound, WalkFinds}
+use Rattle.sbpl_plan.specs.Outcomes.{IsResultOf}
+use Rattle.sbpl_search.specs.Determined.{AreAlikeGuides}
+use Rattle.sbpl_plan.specs.Determined.{OutcomesAreOne}
 use Rattle.sbpl_plan.proofs.Results.{no_path_found}
+
+-- arcs that are one have one source and one number
+same_arc : (a j s k : ℕ) → ◌≡◌ {A = Option (ℕ × ℕ)} (Some (a, j)) (Some (s, k)) → (a ≡ s) × (j ≡ k)
+same_arc a j s k e =
+    let inner : ◌≡◌ {A = ℕ × ℕ} (a, j) (s, k) = cc in
+    (ap (λ (p : ℕ × ℕ). p.0) inner, ap (λ (p : ℕ × ℕ). p.1) inner)
 
 module _ (back : ℕ → Option (ℕ × ℕ)) (t : ℕ) where
   -- two ways along back arcs that are as long are one
@@ -96,24 +102,24 @@ module _ (n : Network) (h : ℕ → ℕ) (goal : ℕ) (m : Marks) (none : back_o
       (way, price, one_bound a.bound_is bounds)
 
   -- what the walk gives is one
-  pub one_look : (arcs arcs' : List ℕ) (f f' : Found) → Looks n h goal m arcs f → Looks n h goal m arcs' f' → f ≡ f'
-  one_look arcs arcs' (found.Path cost bound) (found.Path cost' bound') a b =
+  pub one_find : (arcs arcs' : List ℕ) (f f' : Found) → WalkFinds n h goal m arcs f → WalkFinds n h goal m arcs' f' → f ≡ f'
+  one_find arcs arcs' (found.Path cost bound) (found.Path cost' bound') a b =
       let one = one_path a b in
       λ i. found.Path (one.1 i) (one.2 i)
-  one_look arcs arcs' (found.Path cost bound) found.None a b = absurd (no_path_found n h goal m arcs' found.None b (inl refl) arcs cost bound a)
-  one_look arcs arcs' (found.Path cost bound) found.Broken a b = absurd (no_path_found n h goal m arcs' found.Broken b (inr refl) arcs cost bound a)
-  one_look arcs arcs' found.None (found.Path cost bound) a b = absurd (no_path_found n h goal m arcs found.None a (inl refl) arcs' cost bound b)
-  one_look arcs arcs' found.None found.None a b = refl
-  one_look arcs arcs' found.None found.Broken a b =
+  one_find arcs arcs' (found.Path cost bound) found.None a b = absurd (no_path_found n h goal m arcs' found.None b (inl refl) arcs cost bound a)
+  one_find arcs arcs' (found.Path cost bound) found.Broken a b = absurd (no_path_found n h goal m arcs' found.Broken b (inr refl) arcs cost bound a)
+  one_find arcs arcs' found.None (found.Path cost bound) a b = absurd (no_path_found n h goal m arcs found.None a (inl refl) arcs' cost bound b)
+  one_find arcs arcs' found.None found.None a b = refl
+  one_find arcs arcs' found.None found.Broken a b =
       let near : g_of m goal < FAR = b.0.1.near in
       let far : g_of m goal ≡ FAR = a.0 in
       absurd (omega arith)
-  one_look arcs arcs' found.Broken (found.Path cost bound) a b = absurd (no_path_found n h goal m arcs found.Broken a (inr refl) arcs' cost bound b)
-  one_look arcs arcs' found.Broken found.None a b =
+  one_find arcs arcs' found.Broken (found.Path cost bound) a b = absurd (no_path_found n h goal m arcs found.Broken a (inr refl) arcs' cost bound b)
+  one_find arcs arcs' found.Broken found.None a b =
       let near : g_of m goal < FAR = a.0.1.near in
       let far : g_of m goal ≡ FAR = b.0 in
       absurd (omega arith)
-  one_look arcs arcs' found.Broken found.Broken a b = refl
+  one_find arcs arcs' found.Broken found.Broken a b = refl
 
   -- where the labels show that there is no path none is found
   cut_no_path : IsCutOff (states_of m) goal (g_of m) (v_of m) → {arcs : List ℕ} {cost bound : ℕ} → IsPathFound n h goal m arcs cost bound → ⊥
@@ -123,7 +129,7 @@ module _ (n : Network) (h : ℕ → ℕ) (goal : ℕ) (m : Marks) (none : back_o
       omega arith
 
   -- the result is one
-  pub one_outcome : (o o' : Outcome) → IsOutcome n h goal m o → IsOutcome n h goal m o' → o ≡ o'
+  pub one_outcome : (o o' : Outcome) → IsResultOf n h goal m o → IsResultOf n h goal m o' → o ≡ o'
   one_outcome (outcome.Path arcs cost bound) (outcome.Path arcs' cost' bound') a b =
       let one = one_path a b in
       λ i. outcome.Path (one.0 i) (one.1 i) (one.2 i)
@@ -137,7 +143,7 @@ module _ (n : Network) (h : ℕ → ℕ) (goal : ℕ) (m : Marks) (none : back_o
   one_outcome outcome.Unknown outcome.Unknown a b = refl
 
 -- the result by another guide that says the same of each state
-guided_outcome : (n : Network) (h h' : ℕ → ℕ) (goal : ℕ) (m : Marks) (o : Outcome) → AreAlikeGuides (states_of m) h h' → IsOutcome n h goal m o → IsOutcome n h' goal m o
+guided_outcome : (n : Network) (h h' : ℕ → ℕ) (goal : ℕ) (m : Marks) (o : Outcome) → AreAlikeGuides (states_of m) h h' → IsResultOf n h goal m o → IsResultOf n h' goal m o
 guided_outcome n h h' goal m (outcome.Path arcs cost bound) alike is = guided_path h' alike is
 guided_outcome n h h' goal m outcome.NoPath alike is = is
 guided_outcome n h h' goal m outcome.Unknown alike is = (is.0, λ arcs cost bound path. is.1 arcs cost bound (guided_path h (λ s inside. sym (alike s inside)) path))

@@ -10,7 +10,7 @@ pub record IsAsk (ask : Ask) : Type 0 where
   pub step_high : ask.step ≤ 99000
   pub bound_low : 1000 ≤ ask.bound
 
--- the inflation of the pass behind one of this inflation: lower by the step, and never below 1000
+-- the inflation of the pass after one of this inflation: lower by the step, and never below 1000
 abbrev pub lowered : (step eps : ℕ) → ℕ
 lowered step eps = max 1000 (eps - step)
 

@@ -2,7 +2,8 @@ pub mod Asked
 pub mod Looking
 pub mod Passing
 pub mod Outcomes
+pub mod ReadyAfter
+pub mod Iterations
+pub mod Planned
+pub mod OutOfMemory
 pub mod Determined
-pub mod Turns
-pub mod Made
-pub mod Stopped

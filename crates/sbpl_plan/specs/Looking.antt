@@ -1,5 +1,5 @@
 -- What labels show after a pass.
-use Rattle.std.specs.Prelude.{◌≡◌, ℕ, ◌≤◌, ◌⊎◌, List, []}
+use Rattle.std.specs.Prelude.{◌≡◌, ℕ, ◌≤◌, List, []}
 use Rattle.sbpl_graph.specs.declared.TheConstants.{FAR}
 use Rattle.sbpl_graph.specs.Network.{Network}
 use Rattle.sbpl_graph.specs.Bound.{IsBound, IsLow}
@@ -16,17 +16,12 @@ pub record IsPathFound (n : Network) (h : ℕ → ℕ) (goal : ℕ) (m : Marks) 
   pub bound_is : IsBound cost low bound
 
 -- what the walk along the back arcs gives, and its arcs from the start
-abbrev pub Looks : Network → (ℕ → ℕ) → ℕ → Marks → List ℕ → Found → Type 0
-Looks n h goal m arcs (found.Path cost bound) = IsPathFound n h goal m arcs cost bound
-Looks n h goal m arcs found.None = (g_of m goal ≡ FAR) × (arcs ≡ [])
-Looks n h goal m arcs found.Broken = ((s : ℕ) × IsFirstBreak (states_of m) (g_of m) (v_of m) (back_of m) goal s) × (arcs ≡ [])
+abbrev pub WalkFinds : Network → (ℕ → ℕ) → ℕ → Marks → List ℕ → Found → Type 0
+WalkFinds n h goal m arcs (found.Path cost bound) = IsPathFound n h goal m arcs cost bound
+WalkFinds n h goal m arcs found.None = (g_of m goal ≡ FAR) × (arcs ≡ [])
+WalkFinds n h goal m arcs found.Broken = ((s : ℕ) × IsFirstBreak (states_of m) (g_of m) (v_of m) (back_of m) goal s) × (arcs ≡ [])
 
 -- a path with a bound that is good enough
 abbrev pub IsEnough : ℕ → Found → Type 0
 IsEnough asked (found.Path cost bound) = bound ≤ asked
-IsEnough asked found.None = ⊥
-IsEnough asked found.Broken = ⊥
-
--- v of the start is infinite, or it is 0 as g is
-abbrev pub IsStartFresh : Marks → Type 0
-IsStartFresh m = (v_of m m.start ≡ FAR) ⊎ (v_of m m.start ≡ 0)
+IsEnough asked _ = ⊥

@@ -11,10 +11,10 @@ use Rattle.sbpl_plan.specs.declared.result.Outcome.TheVariants as outcome
 use Rattle.sbpl_plan.specs.Looking.{IsPathFound}
 
 -- the result by the final labels: the path of the walk; or that there is none, where the labels show it; or neither
-abbrev pub IsOutcome : Network → (ℕ → ℕ) → ℕ → Marks → Outcome → Type 0
-IsOutcome n h goal m (outcome.Path arcs cost bound) = IsPathFound n h goal m arcs cost bound
-IsOutcome n h goal m outcome.NoPath = IsCutOff (states_of m) goal (g_of m) (v_of m)
-IsOutcome n h goal m outcome.Unknown =
+abbrev pub IsResultOf : Network → (ℕ → ℕ) → ℕ → Marks → Outcome → Type 0
+IsResultOf n h goal m (outcome.Path arcs cost bound) = IsPathFound n h goal m arcs cost bound
+IsResultOf n h goal m outcome.NoPath = IsCutOff (states_of m) goal (g_of m) (v_of m)
+IsResultOf n h goal m outcome.Unknown =
     (IsCutOff (states_of m) goal (g_of m) (v_of m) → ⊥) × ((arcs : List ℕ) (cost bound : ℕ) → IsPathFound n h goal m arcs cost bound → ⊥)
 
 -- a path is free, joins start to goal, and costs at most its bound times every such path; where there is said to be none there is none
@@ -25,19 +25,16 @@ IsTrueOutcome n start goal outcome.NoPath = (arcs : List ℕ) (cost : ℕ) → I
 IsTrueOutcome n start goal outcome.Unknown = Unit {0}
 
 -- the result is known, and a path's bound is at most the one asked
-abbrev pub IsAnswered : ℕ → Outcome → Type 0
-IsAnswered asked (outcome.Path arcs cost bound) = bound ≤ asked
-IsAnswered asked outcome.NoPath = Unit {0}
-IsAnswered asked outcome.Unknown = ⊥
+abbrev pub IsConclusive : ℕ → Outcome → Type 0
+IsConclusive asked (outcome.Path arcs cost bound) = bound ≤ asked
+IsConclusive asked outcome.NoPath = Unit {0}
+IsConclusive asked outcome.Unknown = ⊥
 
 -- the result tells the path that the last pass found, or that it found none
-abbrev pub IsTold : Found → Outcome → Type 0
-IsTold (found.Path c b) (outcome.Path arcs cost bound) = (cost ≡ c) × (bound ≡ b)
-IsTold (found.Path c b) outcome.NoPath = ⊥
-IsTold (found.Path c b) outcome.Unknown = ⊥
-IsTold found.None (outcome.Path arcs cost bound) = ⊥
-IsTold found.None outcome.NoPath = Unit {0}
-IsTold found.None outcome.Unknown = Unit {0}
-IsTold found.Broken (outcome.Path arcs cost bound) = ⊥
-IsTold found.Broken outcome.NoPath = Unit {0}
-IsTold found.Broken outcome.Unknown = Unit {0}
+abbrev pub AgreesWithFound : Found → Outcome → Type 0
+AgreesWithFound (found.Path c b) (outcome.Path arcs cost bound) = (cost ≡ c) × (bound ≡ b)
+AgreesWithFound found.None outcome.NoPath = Unit {0}
+AgreesWithFound found.None outcome.Unknown = Unit {0}
+AgreesWithFound found.Broken outcome.NoPath = Unit {0}
+AgreesWithFound found.Broken outcome.Unknown = Unit {0}
+AgreesWithFound _ _ = ⊥

@@ -3,16 +3,17 @@
 ghost use Rattle.std.specs.Prelude.{◌≡◌, ◌≤◌, ◌<◌, [], vec_capacity};
 ghost use Rattle.sbpl_graph.specs.Exact.{AreExact};
 ghost use Rattle.sbpl_labels.specs.Marks.{states_of, g_of, v_of, back_of};
-ghost use Rattle.sbpl_plan.specs.Looking.{IsStartFresh, Looks};
+ghost use Rattle.sbpl_search.specs.Ready.{IsStartFresh};
+ghost use Rattle.sbpl_plan.specs.Looking.{WalkFinds};
 
-use crate::anytime::Anytime;
 use crate::found::Found;
 use sbpl_graph::{Graph, Guide};
 use sbpl_labels::{Walk, bound_of};
+use sbpl_search::Search;
 
 /// What the walk along the back arcs of a search gives. `into` has room for as many arcs as there are states; it then holds
 /// the arcs of the path, from the start. It takes no memory.
-pub(crate) fn look<G: Graph, H: Guide, S: Anytime>(
+pub(crate) fn look<G: Graph, H: Guide, S: Search<G, H>>(
     graph: &G,
     guide: &H,
     search: &S,
@@ -26,7 +27,7 @@ pub(crate) fn look<G: Graph, H: Guide, S: Anytime>(
     requires fresh { IsStartFresh (S.state search.now).labels }
     requires empty { into.old.items ≡ [] }
     requires room { states_of (S.state search.now).labels ≤ vec_capacity into.old }
-    ensures looks { Looks (G.network graph.now) (H.distance guide.now) goal (S.state search.now).labels into.new.items result }
+    ensures found { WalkFinds (G.network graph.now) (H.distance guide.now) goal (S.state search.now).labels into.new.items result }
     ensures room { vec_capacity into.new ≡ vec_capacity into.old }
 {
     let _states = graph.states();

@@ -1,46 +1,10 @@
-//! What a plan came to.
-
-ghost use Rattle.std.specs.Prelude.{◌≡◌};
+//! The result of a plan.
 
 use crate::passes::Passes;
-use std::marker::Model;
+use sbpl_list::ListOf;
 
-/// The arc numbers of a path from the start, seen as a list.
-#[derive(Debug, Drop)]
-pub struct Arcs {
-    items: Vec<u32>,
-}
-
-impl Model for Arcs {
-    ghost use Rattle.std.specs.Prelude.{ℕ, List};
-
-    ghost Value = { List ℕ };
-
-    ghost view = { λ arcs. arcs.items.items };
-}
-
-impl Arcs {
-    /// These arc numbers. It takes no memory.
-    pub fn of(items: Vec<u32>) -> Arcs
-        ensures arcs { result ≡ items.items }
-    {
-        Arcs { items }
-    }
-
-    /// The arc numbers in order.
-    pub fn as_slice(&self) -> &[u32]
-        ensures arcs { result.now ≡ self.now }
-    {
-        self.items.as_slice()
-    }
-
-    /// The arc numbers in order. It takes no memory.
-    pub fn into_vec(self) -> Vec<u32>
-        ensures arcs { result.items ≡ self }
-    {
-        self.items
-    }
-}
+/// The arc numbers of a path from the start.
+pub type Arcs = ListOf<u32>;
 
 /// The result of a plan.
 #[derive(Debug, Drop)]
@@ -53,11 +17,11 @@ pub enum Outcome {
     Unknown,
 }
 
-/// What a plan came to.
+/// A plan that was made, by a search that records such notes.
 #[derive(Debug, Drop)]
-pub struct Planned {
+pub struct Planned<N> {
     /// Its passes in order.
-    pub passes: Passes,
+    pub passes: Passes<N>,
     /// Whether the last pass was spent.
     pub spent: bool,
     /// Its result.

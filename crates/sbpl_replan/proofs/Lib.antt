@@ -1,1 +1,1 @@
-pub mod Repairing
+pub mod Changing

@@ -1,105 +1,74 @@
 //! Plans one after another.
 
-ghost use Rattle.std.specs.Prelude.{◌≡◌, ◌+◌, ◌*◌, ◌^◌, ◌≤◌, ◌<◌, ◌⊎◌, IfOk, OnErr, OnOk, length, true, false};
-ghost use Rattle.sbpl_graph.specs.Certificate.{AreSupported};
-ghost use Rattle.sbpl_labels.specs.Marks.{AreLabels, IsOpened, states_of, g_of, v_of};
-ghost use Rattle.sbpl_plan.specs.Asked.{IsAsk, most_passes};
-ghost use Rattle.sbpl_plan.specs.Outcomes.{IsAnswered, IsOutcome, IsTrueOutcome};
-ghost use Rattle.sbpl_plan.specs.Passing.{ArePasses, expansions};
+ghost use Rattle.std.specs.Prelude.{◌≡◌, ◌^◌, ◌≤◌, ◌<◌, ◌⊎◌, ℕ, IfOk, OnErr, OnOk};
+ghost use Rattle.sbpl_labels.specs.Marks.{AreLabels};
+ghost use Rattle.sbpl_search.specs.Ready.{IsStartFresh};
+ghost use Rattle.sbpl_plan.specs.Asked.{IsAsk};
+ghost use Rattle.sbpl_plan.specs.Determined.{AreWithin};
+ghost use Rattle.sbpl_plan.specs.Planned.{IsPlanned};
 ghost use Rattle.sbpl_change.specs.Noted.{AreOnMap};
 ghost use Rattle.sbpl_cost.specs.World.{IsWorld};
 ghost use Rattle.sbpl_cost.specs.Lattices.{network_of};
 ghost use Rattle.sbpl_heur.specs.Bests.{distance_in};
 ghost use Rattle.sbpl_map.specs.MapAfter.{AreWritten};
-ghost use Rattle.sbpl_replan.specs.Replanning.{BeginsWith, IsCutPlan, IsReadyIn, StaysTheSame, inquiry, most_times};
+ghost use Rattle.sbpl_replan.specs.Replanning.{BeginsWith, IsReadyIn, StandsOutOfMemory, StaysTheSame, at_plan, inquiry};
 
-use crate::search::Search;
-use sbpl_adstar::AdStar;
-use sbpl_ara::Ara;
+use crate::change::change;
 use sbpl_cost::Lattice;
 use sbpl_fixed::NoMemory;
-use sbpl_graph::Graph;
 use sbpl_heur::Best;
 use sbpl_labels::{Budget, Labels};
 use sbpl_map::Write;
-use sbpl_plan::{Ask, Planned};
+use sbpl_plan::{Ask, Planned, plan};
+use sbpl_search::Search;
 use std::alloc::Global;
 use std::marker::Model;
 
-/// Plans on a lattice from a start to a goal, one after another, while batches of changes are written to its map.
+/// Plans on a lattice from a start to a goal by one search, one after another, while batches of changes are written to its map.
 #[derive(Drop)]
-pub struct Replanner {
+pub struct Replanner<S: Search<Lattice, Best> + Drop> {
     goal: u32,
     guide: Best,
-    search: Search,
+    search: S,
     budget: Budget,
     /// Room for the states that a batch touches.
     touched: Vec<u32>,
 }
 
-impl Model for Replanner {
-    ghost use Rattle.sbpl_replan.specs.Replanning.{Replanning, repairs_of, state_of};
+impl<S: Search<Lattice, Best> + Drop> Model for Replanner<S> {
+    ghost use Rattle.sbpl_replan.specs.Replanning.{Replanning};
 
-    ghost Value = { Replanning };
+    ghost Value = { Replanning S.Note };
 
-    ghost view = { λ r. record { repairs = repairs_of r.search; search = state_of r.search; goal = r.goal; guide = r.guide; counts = r.budget } };
+    ghost view = { λ r. record { search = S.state r.search; goal = r.goal; guide = r.guide; counts = r.budget } };
 }
 
-impl Replanner {
-    /// Plans each of which begins with opened labels: by ARA*. A plan may expand `budget` states, 1 to 2^30.
-    pub fn anew(
+impl<S: Search<Lattice, Best> + Drop> Replanner<S> {
+    /// Plans of which the first begins with the labels of this search. It is a search to `goal` on a lattice of this size, and
+    /// a pass may begin with its labels on this map. A plan may expand `budget` states, 1 to 2^30.
+    pub fn new(
         alloc: Global,
         lattice: &Lattice,
-        start: u32,
+        search: S,
         goal: u32,
         budget: u64,
-    ) -> Result<Replanner, NoMemory>
-        requires start { start < (network_of lattice.now).states }
+    ) -> Result<Replanner<S>, NoMemory>
         requires goal { goal < (network_of lattice.now).states }
+        requires to_goal { (S.state search).goal ≡ goal }
+        requires labels { S.meaning.ready (network_of lattice.now) (S.state search).labels 0 }
+        requires fresh { IsStartFresh (S.state search).labels }
         requires some { 1 ≤ budget }
         requires few { budget ≤ 2 ^ 30 }
-        ensures ready { IfOk result (IsReadyIn lattice.now) }
-        ensures opened { IfOk result (λ r. IsOpened r.search.labels (network_of lattice.now).states start) }
-        ensures repairs { IfOk result (λ r. r.repairs ≡ false) }
+        ensures ready { IfOk result (IsReadyIn S.meaning lattice.now) }
+        ensures search { IfOk result (λ r. r.search ≡ S.state search) }
         ensures goal { IfOk result (λ r. r.goal ≡ goal) }
         ensures counts { IfOk result (λ r. r.counts ≡ record { per_plan = budget; plan = 0; run = 0 }) }
     {
         let guide = Best::build(alloc, lattice, goal)?;
-        let ara = Ara::open(alloc, lattice.states(), start, goal)?;
         Ok(Replanner {
             goal,
             guide,
-            search: Search::Ara(ara),
-            budget: Budget::new(budget),
-            touched: Vec::new(alloc),
-        })
-    }
-
-    /// Plans of which the first begins with opened labels, and each other one with those that the plan before it left,
-    /// repaired: by Anytime D*. A plan may expand `budget` states, 1 to 2^30.
-    pub fn repairing(
-        alloc: Global,
-        lattice: &Lattice,
-        start: u32,
-        goal: u32,
-        budget: u64,
-    ) -> Result<Replanner, NoMemory>
-        requires start { start < (network_of lattice.now).states }
-        requires goal { goal < (network_of lattice.now).states }
-        requires some { 1 ≤ budget }
-        requires few { budget ≤ 2 ^ 30 }
-        ensures ready { IfOk result (IsReadyIn lattice.now) }
-        ensures opened { IfOk result (λ r. IsOpened r.search.labels (network_of lattice.now).states start) }
-        ensures repairs { IfOk result (λ r. r.repairs ≡ true) }
-        ensures goal { IfOk result (λ r. r.goal ≡ goal) }
-        ensures counts { IfOk result (λ r. r.counts ≡ record { per_plan = budget; plan = 0; run = 0 }) }
-    {
-        let guide = Best::build(alloc, lattice, goal)?;
-        let ara = Ara::open(alloc, lattice.states(), start, goal)?;
-        Ok(Replanner {
-            goal,
-            guide,
-            search: Search::AdStar(AdStar::from(ara)),
+            search,
             budget: Budget::new(budget),
             touched: Vec::new(alloc),
         })
@@ -108,38 +77,31 @@ impl Replanner {
     /// Makes a plan on the present map of the lattice: passes with the inflation `ask.first`, then `ask.step` less each
     /// time and never below 1.000, until one finds a path whose bound is at most `ask.bound`, shows that there is no path,
     /// is spent, or has inflation 1.000. After `NoMemory` another plan may be made on the map, from the labels that the
-    /// passes so far left.
-    pub fn plan(&mut self, alloc: Global, lattice: &Lattice, ask: &Ask) -> Result<Planned, NoMemory>
-        requires ready { IsReadyIn lattice.now self.old }
+    /// passes so far left, unless memory ran out within a pass.
+    pub fn plan(
+        &mut self,
+        alloc: Global,
+        lattice: &Lattice,
+        ask: &Ask,
+    ) -> Result<Planned<S::Note>, NoMemory>
+        requires ready { IsReadyIn S.meaning lattice.now self.old }
         requires asked { IsAsk ask.now }
-        // The passes are those that the definitions determine, and so is the result.
-        ensures passes { IfOk result (λ r. ArePasses (inquiry lattice.now (distance_in self.old.guide) self.old.goal ask.now) ask.now.first self.old.search.labels r.passes self.new.search.labels r.spent) }
-        ensures outcome { IfOk result (λ r. IsOutcome (network_of lattice.now) (distance_in self.old.guide) self.old.goal self.new.search.labels r.outcome) }
-        // The result is true, and known where the plan was not spent.
-        ensures so { IfOk result (λ r. IsTrueOutcome (network_of lattice.now) self.old.search.labels.start self.old.goal r.outcome) }
-        ensures answered { IfOk result (λ r. r.spent ≡ false → IsAnswered ask.now.bound r.outcome) }
-        // Each expansion is counted, and none is made beyond the budget or the run's 2^30. A plan is spent only where its budget or the run's is, and not where it may expand all
-        // states in each pass, three times where labels are repaired.
-        ensures counted { IfOk result (λ r. self.new.counts ≡ record self.old.counts { plan = expansions r.passes; run = self.old.counts.run + expansions r.passes }) }
-        ensures spent { IfOk result (λ r. r.spent ≡ true → (expansions r.passes ≡ self.old.counts.per_plan) ⊎ (self.new.counts.run ≡ 2 ^ 30)) }
-        ensures within { IfOk result (λ r. expansions r.passes ≤ self.old.counts.per_plan) }
+        ensures planned { IfOk result (IsPlanned S.meaning (inquiry lattice.now (distance_in self.old.guide) self.old.goal ask.now) self.old.search self.new.search (at_plan self.old.counts) self.new.counts) }
+        // No expansion is beyond the budget or the run's 2^30, and a plan is spent only where the one or the other is used up.
+        ensures within { IfOk result (λ r. AreWithin self.old.counts.per_plan self.old.counts.run r.passes r.spent) }
         ensures run { self.new.counts.run ≤ 2 ^ 30 }
-        ensures few { IfOk result (λ r. length r.passes ≤ most_passes ask.now.step ask.now.first) }
-        ensures enough { IfOk result (λ r. r.spent ≡ true → most_passes ask.now.step ask.now.first * (most_times self.old.repairs * (network_of lattice.now).states) ≤ self.old.counts.per_plan → self.new.counts.run ≡ 2 ^ 30) }
-        // The labels support what they show, and the map may change.
-        ensures supported { IfOk result (λ _. AreSupported (network_of lattice.now) self.new.search.labels.start (g_of self.new.search.labels) (v_of self.new.search.labels)) }
-        ensures ready { IfOk result (λ _. IsReadyIn lattice.now self.new) }
+        // Another plan may begin, and the map may change.
+        ensures ready { IfOk result (λ _. IsReadyIn S.meaning lattice.now self.new) }
         ensures same { IfOk result (λ _. StaysTheSame self.old self.new) }
         ensures guide { self.new.guide ≡ self.old.guide }
-        // So it may where memory ran out, behind the passes that were made up to there.
-        ensures stopped { OnErr result (IsCutPlan (inquiry lattice.now (distance_in self.old.guide) self.old.goal ask.now) self.old self.new) }
-        ensures memory { OnErr result (IsReadyIn lattice.now self.new × StaysTheSame self.old self.new) }
+        ensures memory { OnErr result (StandsOutOfMemory S.meaning lattice.now (inquiry lattice.now (distance_in self.old.guide) self.old.goal ask.now) self.old self.new) }
     {
         self.budget.next_plan();
-        let planned = self.search.plan(
+        let planned = plan(
             alloc,
             lattice,
             &self.guide,
+            &mut self.search,
             self.goal,
             ask,
             &mut self.budget,
@@ -156,22 +118,21 @@ impl Replanner {
         lattice: &mut Lattice,
         batch: &[Write],
     ) -> Result<(), NoMemory>
-        requires ready { IsReadyIn lattice.old self.old }
+        requires ready { IsReadyIn S.meaning lattice.old self.old }
         requires on_map { AreOnMap lattice.old.map batch.now }
         ensures written { OnOk result (AreWritten lattice.old.map batch.now lattice.new.map) }
         ensures refused { OnErr result ((lattice.new.map ≡ lattice.old.map) ⊎ AreWritten lattice.old.map batch.now lattice.new.map) }
         ensures others { lattice.new ≡ record lattice.old { map = lattice.new.map } }
         ensures kept { IsWorld lattice.new }
-        // Each v stays, where labels are repaired, and each g is exact on the new map; else the labels are opened anew.
-        ensures begun { OnOk result (BeginsWith self.old.repairs lattice.old lattice.new self.old.search.labels self.new.search.labels) }
-        ensures ready { OnOk result (IsReadyIn lattice.new self.new) }
+        // The labels are those that the planner makes of the ones that there were.
+        ensures begun { OnOk result (BeginsWith S.meaning lattice.old lattice.new self.old.search.labels self.new.search.labels) }
+        ensures ready { OnOk result (IsReadyIn S.meaning lattice.new self.new) }
         ensures same { OnOk result (StaysTheSame self.old self.new) }
         ensures counts { self.new.counts ≡ self.old.counts }
         ensures unchanged { OnErr result (self.new ≡ self.old) }
     {
         let _used = self.budget.used();
-        self.search
-            .change(alloc, lattice, batch, &mut self.touched)?;
+        change(alloc, lattice, batch, &mut self.search, &mut self.touched)?;
         self.guide.rebuild(lattice);
         Ok(())
     }

@@ -9,7 +9,7 @@ use std::alloc::{AllocError, Global};
 use std::process::Abort;
 use std::test::Fail;
 
-/// The labels of a corridor of three states: two arcs of cost 25, one behind the other.
+/// The labels of a corridor of three states: two arcs of cost 25, one after the other.
 const CORRIDOR: &str =
     "labels 1 plan 0 states 3 low 50\npath 50 1.000 2 0 0\n0 0 50\n25 25 25\n50 - 0\nend\n";
 
@@ -102,7 +102,7 @@ fn a_section_is_read_and_written(rt: HostRuntime) -> Result<(), Fail> {
     checked
 }
 
-/// A section of one state with the greatest bound, and one of no state behind it.
+/// A section of one state with the greatest bound, and one of no state after it.
 const TWO: &str = "labels 1 plan 0 states 1 low -
 path 3 1267650600228229401496703205.375 1 4095
 0 - 7

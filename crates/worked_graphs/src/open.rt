@@ -1,7 +1,7 @@
 //! The heap against a list.
 
 ghost use Rattle.std.specs.Prelude.{◌≡◌};
-ghost use Rattle.sbpl_open.specs.Frontier.{states_of};
+ghost use Rattle.sbpl_open.specs.OpenList.{states_of};
 
 use sbpl_open::{Key, Open};
 use std::test::Fail;

@@ -3,14 +3,14 @@
 ghost use Rattle.std.specs.Prelude.{◌≡◌, ◌<◌, IfSome};
 ghost use Rattle.sbpl_graph.specs.Fit.{FitCount};
 ghost use Rattle.sbpl_labels.specs.Marks.{states_of, g_of, v_of};
-ghost use Rattle.sbpl_plan.specs.Looking.{IsStartFresh};
+ghost use Rattle.sbpl_search.specs.Ready.{IsStartFresh};
 
 use crate::listed::Listed;
 use sbpl_adstar::AdStar;
 use sbpl_ara::{Ara, Step};
 use sbpl_graph::{Graph, Zero};
 use sbpl_labels::Budget;
-use sbpl_plan::{Ask, Found, Outcome, Planned, plan, replan};
+use sbpl_plan::{Ask, Found, Outcome, Planned, plan};
 use std::alloc::Global;
 use std::process::Abort;
 use std::test::Fail;
@@ -38,7 +38,7 @@ fn planned(
     graph: &Listed,
     goal: u32,
     budget: &mut Budget,
-) -> Option<(Planned, AdStar)>
+) -> Option<(Planned<Step>, AdStar)>
     requires goal { goal < 3 }
     ensures states { IfSome result (λ r. states_of r.1.labels ≡ 3) }
     ensures start { IfSome result (λ r. r.1.labels.start ≡ 0) }
@@ -60,7 +60,7 @@ fn replanned(
     graph: &Listed,
     search: &mut AdStar,
     budget: &mut Budget,
-) -> Option<Planned>
+) -> Option<Planned<Step>>
     requires states { states_of search.old.labels ≡ 3 }
     requires start { search.old.labels.start ≡ 0 }
     requires goal { search.old.goal ≡ 2 }
@@ -75,11 +75,11 @@ fn replanned(
     let _used = budget.used();
     let _states = graph.states();
     search.change(graph, [1, 2].as_slice());
-    replan(alloc, graph, &Zero, search, 2, &ASK, budget).ok()
+    plan(alloc, graph, &Zero, search, 2, &ASK, budget).ok()
 }
 
 /// The inflation of the only pass, what it found, and the states that it expanded.
-fn only_pass(planned: &Planned) -> Option<(u32, Found, &[Step])> {
+fn only_pass(planned: &Planned<Step>) -> Option<(u32, Found, &[Step])> {
     match planned.passes.as_slice() {
         [pass] => Some((pass.inflation, pass.found, pass.trace.as_slice())),
         _ => None,

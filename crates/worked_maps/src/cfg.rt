@@ -1,7 +1,7 @@
 //! Environment files, read and printed.
 
 use sample_files::{E1, E2, E3};
-use sbpl_cfg::{EnvFault, Place, Pose, cell_at, heading_at, place_at, print_env, read_env};
+use sbpl_cfg::{Env, EnvFault, Place, Pose, cell_at, heading_at, place_at, print_env, read_env};
 use std::alloc::{AllocError, Global};
 use std::test::Fail;
 
@@ -15,44 +15,43 @@ fn with_line(alloc: Global, at: usize, text: &str) -> Result<String, AllocError>
     Ok(all)
 }
 
+/// Lines of E1 by their numbers, counted from 0, with other texts, and after the arrow the fault: its number, name and place.
+const FAULTS: &str = "\
+10 0 0 => 4 Ended 278
+10 0 0 0 5 => 5 Trailing 280
+0 discretization(cells): 3 1 NumThetaDirs: 16 => 1 Word 27
+0 discretization(cells): 524289 1 => 6 TooLarge 23
+0 discretization(cells): 1 524289 => 6 TooLarge 23
+0 discretization(cells): 8388609 1 => 3 Range 23
+0 discretization(cells): 524288 1 => 4 Ended 285
+1 obsthresh: 256 => 3 Range 38
+1 obsthresh: 1e2 => 2 Number 38
+3 cost_possibly_circumscribed_thresh: -2 => 3 Range 104
+7 start(meters,rads): 0.0750 0.0125 0 => 7 StartOff 211
+7 start(meters,rads): 0.0125 0.025 0 => 7 StartOff 211
+8 end(meters,rads): -0.0001 0.0125 0 => 8 EndOff 245
+8 end(meters,rads): -0.0001 0.0125 x => 2 Number 260";
+
+/// The fault of E1 with another text for one of its lines, as a line.
+fn fault_of(alloc: Global, change: &str) -> Result<String, Fail> {
+    let (at, text) = change.split_once(' ').ok_or("a line's number")?;
+    let at = at.parse::<usize>().ok().ok_or("a number")?;
+    let file = with_line(alloc, at, text)?;
+    let fault = read_env(alloc, file.as_bytes()).err().ok_or("a fault")?;
+    Ok(format!(in alloc; "{} {} {}", fault.number(), fault.name(), fault.place())?)
+}
+
 #[test]
 fn faults_have_numbers_names_and_places(rt: HostRuntime) -> Result<(), Fail> {
-    let rows = [
-        (10, "0 0", 4, "Ended", 278),
-        (10, "0 0 0 5", 5, "Trailing", 280),
-        (
-            0,
-            "discretization(cells): 3 1\nNumThetaDirs: 16",
-            1,
-            "Word",
-            27,
-        ),
-        (0, "discretization(cells): 524289 1", 6, "TooLarge", 23),
-        (0, "discretization(cells): 1 524289", 6, "TooLarge", 23),
-        (0, "discretization(cells): 8388609 1", 3, "Range", 23),
-        (0, "discretization(cells): 524288 1", 4, "Ended", 285),
-        (1, "obsthresh: 256", 3, "Range", 38),
-        (1, "obsthresh: 1e2", 2, "Number", 38),
-        (3, "cost_possibly_circumscribed_thresh: -2", 3, "Range", 104),
-        (7, "start(meters,rads): 0.0750 0.0125 0", 7, "StartOff", 211),
-        (7, "start(meters,rads): 0.0125 0.025 0", 7, "StartOff", 211),
-        (8, "end(meters,rads): -0.0001 0.0125 0", 8, "EndOff", 245),
-        (8, "end(meters,rads): -0.0001 0.0125 x", 2, "Number", 260),
-    ];
-    for (line, text, number, name, place) in rows {
-        let file = with_line(rt.alloc(), line, text)?;
-        let fault = read_env(rt.alloc(), file.as_bytes()).err().ok_or(text)?;
-        assert_eq!(rt;
-            (fault.number(), fault.name(), fault.place()),
-            (number, name, place),
-            "{text}"
-        );
+    for row in FAULTS.split('\n') {
+        let (change, want) = row.split_once(" => ").ok_or("an arrow")?;
+        assert_eq!(rt; fault_of(rt.alloc(), change)?.as_str(), want, "{row}");
     }
     Ok(())
 }
 
 #[test]
-fn a_front_of_a_file_is_faulty_where_it_ends(rt: HostRuntime) {
+fn a_prefix_of_a_file_is_faulty_where_it_ends(rt: HostRuntime) {
     // From and to of the fixed words and of the number that is out of range until its last digit.
     let words = [
         (0, 22),
@@ -82,60 +81,75 @@ fn a_front_of_a_file_is_faulty_where_it_ends(rt: HostRuntime) {
     }
 }
 
+/// The environment of a text, its costs, and what is printed of both.
+fn read_and_printed(alloc: Global, text: &[u8]) -> Result<(Env, Vec<u8>, Vec<u8>), Fail> {
+    let (env, grid) = read_env(alloc, text)?;
+    let mut out = Vec::new(alloc);
+    print_env(&env, &grid, &mut out)?;
+    Ok((env, grid.into_vec(), out))
+}
+
 #[test]
 fn what_is_printed_is_read_back(rt: HostRuntime) -> Result<(), Fail> {
     for text in [E1, E2, E3] {
-        let (env, grid) = read_env(rt.alloc(), text.as_bytes())?;
-        let mut out = Vec::new(rt.alloc());
-        print_env(&env, &grid, &mut out)?;
-        let (again, costs) = read_env(rt.alloc(), &out)?;
-        assert_eq!(rt; again, env);
-        assert_eq!(rt; costs.as_slice(), grid.as_slice());
+        let (env, costs, out) = read_and_printed(rt.alloc(), text.as_bytes())?;
+        let (again, same, _out) = read_and_printed(rt.alloc(), &out)?;
+        assert_eq!(rt; (again, same.as_slice()), (env, costs.as_slice()));
     }
     Ok(())
 }
 
+/// The size, the number of headings, the thresholds and the rates.
+fn numbers_of(env: &Env) -> [i64; 9] {
+    [
+        i64::from(env.width),
+        i64::from(env.height),
+        i64::from(env.headings),
+        i64::from(env.obsthresh),
+        i64::from(env.inscribed),
+        i64::from(env.circumscribed),
+        env.cell,
+        env.speed,
+        env.turn45,
+    ]
+}
+
 #[test]
 fn a_file_says_its_numbers(rt: HostRuntime) -> Result<(), Fail> {
-    let (env, grid) = read_env(rt.alloc(), E3.as_bytes())?;
-    assert_eq!(rt; (env.width, env.height, env.headings), (5, 3, 16));
-    assert_eq!(rt;
-        (env.obsthresh, env.inscribed, env.circumscribed),
-        (100, 90, 0)
-    );
-    assert_eq!(rt;
-        (env.cell, env.speed, env.turn45),
-        (25_000_000, 1_000_000_000, 2_000_000_000)
-    );
-    assert_eq!(rt;
-        place_at(&env, &env.start),
-        Some(Place { x: 1, y: 1, t: 0 })
-    );
-    assert_eq!(rt; place_at(&env, &env.end), Some(Place { x: 3, y: 1, t: 0 }));
-    assert_eq!(rt;
-        place_at(
-            &env,
-            &Pose {
-                x: -1,
-                y: 0,
-                theta: 0
-            }
-        ),
-        None
-    );
-    assert_eq!(rt;
-        grid.into_vec().as_slice(),
-        [0, 0, 0, 0, 0, 0, 0, 0, 0, 0, 0, 0, 100, 0, 0].as_slice()
-    );
+    let (env, costs, _out) = read_and_printed(rt.alloc(), E3.as_bytes())?;
+    let numbers = [
+        5,
+        3,
+        16,
+        100,
+        90,
+        0,
+        25_000_000,
+        1_000_000_000,
+        2_000_000_000,
+    ];
+    assert_eq!(rt; numbers_of(&env), numbers);
+    let off = Pose {
+        x: -1,
+        y: 0,
+        theta: 0,
+    };
+    for (pose, want) in [
+        (env.start, Some(Place { x: 1, y: 1, t: 0 })),
+        (env.end, Some(Place { x: 3, y: 1, t: 0 })),
+        (off, None),
+    ] {
+        assert_eq!(rt; place_at(&env, &pose), want);
+    }
+    let grid = [0, 0, 0, 0, 0, 0, 0, 0, 0, 0, 0, 0, 100, 0, 0];
+    assert_eq!(rt; costs.as_slice(), grid.as_slice());
     Ok(())
 }
 
 #[test]
 fn a_file_is_printed_with_nine_decimals(rt: HostRuntime) -> Result<(), Fail> {
     let file = with_line(rt.alloc(), 8, "end(meters,rads): 0.0625 0.0125 -.5")?;
-    let (env, grid) = read_env(rt.alloc(), file.as_bytes())?;
-    let mut out = Vec::new(rt.alloc());
-    print_env(&env, &grid, &mut out)?;
+    let (_env, _costs, out) = read_and_printed(rt.alloc(), file.as_bytes())?;
     let want = "discretization(cells): 3 1
 obsthresh: 100
 cost_inscribed_thresh: 90

@@ -6,7 +6,7 @@ use sbpl_job::{
 use std::alloc::Global;
 use std::test::Fail;
 
-/// Words that name a job, and behind the arrow that job as a line: of `plan` its environment, primitives, radius, changes,
+/// Words that name a job, and after the arrow that job as a line: of `plan` its environment, primitives, radius, changes,
 /// planner, first inflation, step, bound, budget, labels and trace; of `check` its environment, primitives, radius, changes
 /// and labels.
 const JOBS: &str = "\
@@ -191,15 +191,18 @@ fn jobs(rt: HostRuntime) -> Result<(), Fail> {
     Ok(())
 }
 
+/// Whether words name no job.
+fn name_none(alloc: Global, words: &[String]) -> bool {
+    matches!(&read_job(alloc, words), Err(JobFault::Words))
+}
+
 #[test]
 fn no_job(rt: HostRuntime) -> Result<(), Fail> {
     for line in NO_JOB.split('\n') {
         let words = words_of(rt.alloc(), line)?;
-        let job = read_job(rt.alloc(), words.as_slice());
-        assert!(rt; matches!(&job, Err(JobFault::Words)), "{line}");
+        assert!(rt; name_none(rt.alloc(), words.as_slice()), "{line}");
     }
-    let none = read_job(rt.alloc(), &[]);
-    assert!(rt; matches!(&none, Err(JobFault::Words)));
+    assert!(rt; name_none(rt.alloc(), &[]));
     Ok(())
 }
 

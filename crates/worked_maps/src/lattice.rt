@@ -183,7 +183,7 @@ fn a_disc_must_not_reach_an_obstacle(rt: HostRuntime) {
     }
 }
 
-/// The heads of the arcs that read cell `(x, y)`, behind state 7.
+/// The heads of the arcs that read cell `(x, y)`, after state 7.
 fn heads(alloc: Global, lattice: &Lattice, x: u32, y: u32) -> Result<Vec<u32>, AllocError> {
     let mut heads = vec![in alloc; 7]?;
     if let Err(_) = lattice.heads_reading(x, y, &mut heads) {

@@ -2,7 +2,7 @@
 
 use sample_files::{F1, F2, p16};
 use sbpl_cfg::Pose;
-use sbpl_mprim::{Poses, PrimFault, print_prims, read_prims};
+use sbpl_mprim::{Poses, Prim, PrimFault, Prims, print_prims, read_prims};
 use std::alloc::{AllocError, Global};
 use std::test::Fail;
 
@@ -26,87 +26,62 @@ fn changed(
     Ok(all)
 }
 
+/// Lines of F1 by their numbers, counted from 0, with other texts, and after the arrow the fault: its number, name and place.
+/// From the twentieth row on one fault comes before another: a number's form, its range, and then what it means; the end
+/// cell, the end heading, and then the cost.
+const FAULTS: &str = "\
+3 primid: 0 => 1 Word 66
+0 resolution_m: 2.5e-2 => 2 Number 14
+4 startangle_c: 0.0 => 2 Number 90
+4 startangle_c: 16 => 3 Range 90
+5 endpose_c: 1 0 32768 => 3 Range 107
+7 intermediateposes: 200001 => 3 Range 156
+9 0.0250 0.0000 1000000000.1 => 3 Range 193
+9 0.0250 0.0000 => 4 Ended 193
+2 totalnumberofprimitives: 2 => 4 Ended 200
+2 totalnumberofprimitives: 0 => 5 Trailing 66
+9 0.0250 0.0000 0.0000 0 => 5 Trailing 200
+0 resolution_m: 0.050 => 6 Resolution 14
+1 numberofangles: 17 => 7 Angles 36
+9 0.0375 0.0000 0.0000 => 8 EndCell 179
+9 0.0250 0.0000 0.3927 => 9 EndHeading 193
+5 endpose_c: 1 0 1 => 9 EndHeading 193
+7 intermediateposes: 0 => 10 NoPose 156
+6 additionalactioncostmult: 0 => 12 ZeroCost 74
+8 0.0250 0.0000 0.0000 => 12 ZeroCost 74
+0 resolution_m: 0 => 3 Range 14
+1 numberofangles: 65 => 3 Range 36
+0 resolution_m: 0.050 & 1 numberofangles: x => 6 Resolution 14
+1 numberofangles: 17 & 2 totalnumberofprimitives: x => 7 Angles 36
+7 intermediateposes: 0 & 8 x => 10 NoPose 156
+9 0.0375 0.0000 0.3927 => 8 EndCell 179
+9 0.0375 0.0000 0.0000 & 6 additionalactioncostmult: 0 => 8 EndCell 179
+9 0.0250 0.0000 0.3927 & 6 additionalactioncostmult: 0 => 9 EndHeading 193
+9 0.0000 0.0000 0.0000 & 5 endpose_c: 0 0 -0 => 12 ZeroCost 74
+9 0.0000 0.0000 6.2832 & 5 endpose_c: 0 0 16 => 12 ZeroCost 74";
+
+/// The number of a line, and the text that it has instead of its own.
+fn change_of(change: &str) -> Result<(usize, &str), Fail> {
+    let (at, text) = change.split_once(' ').ok_or("a line's number")?;
+    let at = at.parse::<usize>().ok().ok_or("a number")?;
+    Ok((at, text))
+}
+
+/// The fault of F1 with other texts for one or two of its lines, as a line.
+fn fault_of(alloc: Global, changes: &str) -> Result<String, Fail> {
+    let (first, second) = changes.split_once(" & ").unwrap_or((changes, changes));
+    let file = changed(alloc, change_of(first)?, change_of(second)?, "")?;
+    let fault = read_prims(alloc, file.as_bytes(), CELL, 16)
+        .err()
+        .ok_or("a fault")?;
+    Ok(format!(in alloc; "{} {} {}", fault.number(), fault.name(), fault.place())?)
+}
+
 #[test]
 fn faults_have_numbers_names_and_places(rt: HostRuntime) -> Result<(), Fail> {
-    let same = (10, "");
-    let rows = [
-        ((3, "primid: 0"), same, 1, "Word", 66),
-        ((0, "resolution_m: 2.5e-2"), same, 2, "Number", 14),
-        ((4, "startangle_c: 0.0"), same, 2, "Number", 90),
-        ((4, "startangle_c: 16"), same, 3, "Range", 90),
-        ((5, "endpose_c: 1 0 32768"), same, 3, "Range", 107),
-        ((7, "intermediateposes: 200001"), same, 3, "Range", 156),
-        ((9, "0.0250 0.0000 1000000000.1"), same, 3, "Range", 193),
-        ((9, "0.0250 0.0000"), same, 4, "Ended", 193),
-        ((2, "totalnumberofprimitives: 2"), same, 4, "Ended", 200),
-        ((2, "totalnumberofprimitives: 0"), same, 5, "Trailing", 66),
-        ((9, "0.0250 0.0000 0.0000 0"), same, 5, "Trailing", 200),
-        ((0, "resolution_m: 0.050"), same, 6, "Resolution", 14),
-        ((1, "numberofangles: 17"), same, 7, "Angles", 36),
-        ((9, "0.0375 0.0000 0.0000"), same, 8, "EndCell", 179),
-        ((9, "0.0250 0.0000 0.3927"), same, 9, "EndHeading", 193),
-        ((5, "endpose_c: 1 0 1"), same, 9, "EndHeading", 193),
-        ((7, "intermediateposes: 0"), same, 10, "NoPose", 156),
-        ((6, "additionalactioncostmult: 0"), same, 12, "ZeroCost", 74),
-        ((8, "0.0250 0.0000 0.0000"), same, 12, "ZeroCost", 74),
-        // One fault before another: a number's form, its range, and then what it means.
-        ((0, "resolution_m: 0"), same, 3, "Range", 14),
-        ((1, "numberofangles: 65"), same, 3, "Range", 36),
-        (
-            (0, "resolution_m: 0.050"),
-            (1, "numberofangles: x"),
-            6,
-            "Resolution",
-            14,
-        ),
-        (
-            (1, "numberofangles: 17"),
-            (2, "totalnumberofprimitives: x"),
-            7,
-            "Angles",
-            36,
-        ),
-        ((7, "intermediateposes: 0"), (8, "x"), 10, "NoPose", 156),
-        // The end cell, the end heading, and then the cost.
-        ((9, "0.0375 0.0000 0.3927"), same, 8, "EndCell", 179),
-        (
-            (9, "0.0375 0.0000 0.0000"),
-            (6, "additionalactioncostmult: 0"),
-            8,
-            "EndCell",
-            179,
-        ),
-        (
-            (9, "0.0250 0.0000 0.3927"),
-            (6, "additionalactioncostmult: 0"),
-            9,
-            "EndHeading",
-            193,
-        ),
-        (
-            (9, "0.0000 0.0000 0.0000"),
-            (5, "endpose_c: 0 0 -0"),
-            12,
-            "ZeroCost",
-            74,
-        ),
-        (
-            (9, "0.0000 0.0000 6.2832"),
-            (5, "endpose_c: 0 0 16"),
-            12,
-            "ZeroCost",
-            74,
-        ),
-    ];
-    for (first, second, number, name, place) in rows {
-        let file = changed(rt.alloc(), first, second, "")?;
-        let fault = read_prims(rt.alloc(), file.as_bytes(), CELL, 16)
-            .err()
-            .ok_or(name)?;
-        assert_eq!(rt;
-            (fault.number(), fault.name(), fault.place()),
-            (number, name, place)
-        );
+    for row in FAULTS.split('\n') {
+        let (changes, want) = row.split_once(" => ").ok_or("an arrow")?;
+        assert_eq!(rt; fault_of(rt.alloc(), changes)?.as_str(), want, "{row}");
     }
     Ok(())
 }
@@ -148,6 +123,19 @@ fn a_second_primitive_is_judged_by_the_first(rt: HostRuntime) -> Result<(), Fail
     Ok(())
 }
 
+/// The id, the start heading, the end cell, the end heading and the multiplier.
+fn numbers_of(p: &Prim) -> (u32, u32, i32, i32, u32, u32) {
+    (p.id, p.from, p.dx, p.dy, p.to, p.mult)
+}
+
+/// The primitives of a text, and what is printed of them.
+fn read_and_printed(alloc: Global, text: &[u8]) -> Result<(Prims, Vec<u8>), Fail> {
+    let prims = read_prims(alloc, text, CELL, 16)?;
+    let mut out = Vec::new(alloc);
+    print_prims(&prims, &mut out)?;
+    Ok((prims, out))
+}
+
 #[test]
 fn a_pose_may_lie_anywhere_in_the_end_cell(rt: HostRuntime) -> Result<(), Fail> {
     let near = changed(
@@ -159,10 +147,7 @@ fn a_pose_may_lie_anywhere_in_the_end_cell(rt: HostRuntime) -> Result<(), Fail> 
     let prims = read_prims(rt.alloc(), near.as_bytes(), CELL, 16)?;
     assert!(rt; prims.len() == 1);
     let prim = prims.get(0);
-    assert_eq!(rt;
-        (prim.id, prim.from, prim.dx, prim.dy, prim.to, prim.mult),
-        (0, 0, 1, 0, 0, 1)
-    );
+    assert_eq!(rt; numbers_of(prim), (0, 0, 1, 0, 0, 1));
     let last = Pose {
         x: 37_400_000,
         y: -12_500_000,
@@ -187,31 +172,32 @@ fn a_pose_may_lie_anywhere_in_the_end_cell(rt: HostRuntime) -> Result<(), Fail> 
 fn what_is_printed_is_read_back(rt: HostRuntime) -> Result<(), Fail> {
     let p16 = p16(rt.alloc())?;
     for (text, count) in [(F1, 1), (F2, 4), (p16.as_str(), 80)] {
-        let prims = read_prims(rt.alloc(), text.as_bytes(), CELL, 16)?;
+        let (prims, out) = read_and_printed(rt.alloc(), text.as_bytes())?;
+        let (again, _out) = read_and_printed(rt.alloc(), &out)?;
         assert_eq!(rt;
-            (prims.len(), prims.cell(), prims.headings()),
-            (count, CELL, 16)
+            (prims.len(), prims.cell(), prims.headings(), again.len()),
+            (count, CELL, 16, count)
         );
-        let mut out = Vec::new(rt.alloc());
-        print_prims(&prims, &mut out)?;
-        let again = read_prims(rt.alloc(), &out, CELL, 16)?;
-        assert_eq!(rt; again.len(), count);
         for (p, q) in again.as_slice().iter().zip(prims.as_slice()) {
             assert_eq!(rt;
-                (p.id, p.from, p.dx, p.dy, p.to, p.mult),
-                (q.id, q.from, q.dx, q.dy, q.to, q.mult)
+                (numbers_of(p), p.poses.as_slice()),
+                (numbers_of(q), q.poses.as_slice())
             );
-            assert_eq!(rt; p.poses.as_slice(), q.poses.as_slice());
         }
     }
     Ok(())
+}
+
+/// The coordinates and the angle of pose `i`.
+fn pose_of(prim: &Prim, i: usize) -> Option<(i64, i64, i64)> {
+    prim.poses.as_slice().get(i).map(|p| (p.x, p.y, p.theta))
 }
 
 #[test]
 fn a_file_says_its_numbers(rt: HostRuntime) -> Result<(), Fail> {
     let text = p16(rt.alloc())?;
     let prims = read_prims(rt.alloc(), text.as_bytes(), CELL, 16)?;
-    // The place, what it says, and its poses 1 and 9.
+    // The index, what it says, and its poses 1 and 9.
     let rows = [
         (0, (0, 0, 1, 0, 0, 1), (2_800_000, 0, 0), (25_000_000, 0, 0)),
         (3, (3, 0, 0, 0, 15, 1), (0, 0, 0), (0, 0, -392_700_000)),
@@ -236,14 +222,11 @@ fn a_file_says_its_numbers(rt: HostRuntime) -> Result<(), Fail> {
     ];
     for (i, says, second, last) in rows {
         let prim = prims.as_slice().get(i).ok_or("a primitive is missing")?;
+        assert_eq!(rt; numbers_of(prim), says);
         assert_eq!(rt;
-            (prim.id, prim.from, prim.dx, prim.dy, prim.to, prim.mult),
-            says
+            (pose_of(prim, 1), pose_of(prim, 9), pose_of(prim, 10)),
+            (Some(second), Some(last), None)
         );
-        let poses = prim.poses.as_slice();
-        assert!(rt; poses.len() == 10);
-        assert_eq!(rt; (poses[1].x, poses[1].y, poses[1].theta), second);
-        assert_eq!(rt; (poses[9].x, poses[9].y, poses[9].theta), last);
     }
     Ok(())
 }
@@ -256,9 +239,7 @@ fn a_file_is_printed_with_nine_decimals(rt: HostRuntime) -> Result<(), Fail> {
         (5, "endpose_c: +1 0 -16"),
         "",
     )?;
-    let prims = read_prims(rt.alloc(), file.as_bytes(), CELL, 16)?;
-    let mut out = Vec::new(rt.alloc());
-    print_prims(&prims, &mut out)?;
+    let (_prims, out) = read_and_printed(rt.alloc(), file.as_bytes())?;
     let want = "resolution_m: 0.025000000
 numberofangles: 16
 totalnumberofprimitives: 1

@@ -1,33 +1,58 @@
 //! Plans on small maps that change: a worked example, and random batches.
 
-ghost use Rattle.std.specs.Prelude.{◌<◌, IfSome, OnOk};
+ghost use Rattle.std.specs.Prelude.{◌≡◌, ◌<◌, IfSome, OnOk};
+ghost use Rattle.sbpl_adstar.specs.Planner.{adstar};
+ghost use Rattle.sbpl_ara.specs.Planner.{ara};
+ghost use Rattle.sbpl_cost.specs.Lattices.{network_of};
 ghost use Rattle.sbpl_replan.specs.Replanning.{IsReadyIn};
+ghost use Rattle.sbpl_search.specs.Ready.{AreReady, IsStartFresh};
 
 use crate::lattices::made;
 use sample_files::{E2, F2, car, field};
+use sbpl_adstar::AdStar;
+use sbpl_ara::Ara;
 use sbpl_cfg::{Place, place_at};
 use sbpl_change::are_on_map;
 use sbpl_cost::Lattice;
 use sbpl_graph::{Graph, Guide};
+use sbpl_heur::Best;
 use sbpl_map::Write;
 use sbpl_plan::{Ask, Outcome, Planned};
 use sbpl_replan::Replanner;
+use sbpl_search::Search;
+use sbpl_serial::Step;
 use std::alloc::Global;
 use std::process::Abort;
 use std::test::Fail;
 
-/// Plans from the start of the environment to its end, from repaired labels or from labels that are opened anew.
-fn plans_on(alloc: Global, lattice: &Lattice, repairs: bool) -> Option<Replanner>
-    ensures ready { IfSome result (IsReadyIn lattice.now) }
+/// A search from the start of the environment to its end, and the end's state.
+fn search_on(alloc: Global, lattice: &Lattice) -> Option<(Ara, u32)>
+    ensures ready { IfSome result (λ r. AreReady (network_of lattice.now) r.0.labels 0) }
+    ensures fresh { IfSome result (λ r. IsStartFresh r.0.labels) }
+    ensures to_goal { IfSome result (λ r. r.0.goal ≡ r.1) }
+    ensures goal { IfSome result (λ r. r.1 < (network_of lattice.now).states) }
 {
     let env = lattice.env();
     let start = lattice.state_of(&place_at(env, &env.start)?)?;
     let goal = lattice.state_of(&place_at(env, &env.end)?)?;
-    if repairs {
-        Replanner::repairing(alloc, lattice, start, goal, 1_000_000).ok()
-    } else {
-        Replanner::anew(alloc, lattice, start, goal, 1_000_000).ok()
-    }
+    let search = Ara::open(alloc, lattice.states(), start, goal).ok()?;
+    Some((search, goal))
+}
+
+/// Plans whose labels are initial again after each change.
+fn anew_on(alloc: Global, lattice: &Lattice) -> Option<Replanner<Ara>>
+    ensures ready { IfSome result (IsReadyIn ara lattice.now) }
+{
+    let (search, goal) = search_on(alloc, lattice)?;
+    Replanner::new(alloc, lattice, search, goal, 1_000_000).ok()
+}
+
+/// Plans whose labels are repaired.
+fn repairing_on(alloc: Global, lattice: &Lattice) -> Option<Replanner<AdStar>>
+    ensures ready { IfSome result (IsReadyIn adstar lattice.now) }
+{
+    let (search, goal) = search_on(alloc, lattice)?;
+    Replanner::new(alloc, lattice, AdStar::from(search), goal, 1_000_000).ok()
 }
 
 /// What is asked of a plan in one pass.
@@ -47,14 +72,14 @@ const FALLING: Ask = Ask {
 };
 
 /// Makes the plans ready for the map after these writes.
-fn change(
+fn change<S: Search<Lattice, Best, Note = Step> + Drop>(
     alloc: Global,
     lattice: &mut Lattice,
-    plans: &mut Replanner,
+    plans: &mut Replanner<S>,
     batch: &[Write],
 ) -> Result<(), Fail>
-    requires ready { IsReadyIn lattice.old plans.old }
-    ensures ready { OnOk result (IsReadyIn lattice.new plans.new) }
+    requires ready { IsReadyIn S.meaning lattice.old plans.old }
+    ensures ready { OnOk result (IsReadyIn S.meaning lattice.new plans.new) }
 {
     if !are_on_map(lattice, batch) {
         return Err(Fail::new("off the map"));
@@ -72,7 +97,7 @@ fn path(outcome: &Outcome) -> Option<(&[u32], u64, u128)> {
 }
 
 /// Whether a plan has one pass, which lowered just these states.
-fn lowered(planned: &Planned, states: &[u32]) -> bool {
+fn lowered(planned: &Planned<Step>, states: &[u32]) -> bool {
     match planned.passes.as_slice() {
         [pass] => {
             pass.trace.as_slice().len() == states.len()
@@ -86,8 +111,11 @@ fn lowered(planned: &Planned, states: &[u32]) -> bool {
 }
 
 /// The heuristic at heading 0 of each of the six cells of the hall, row by row.
-fn guided(lattice: &Lattice, plans: &Replanner) -> Option<[u64; 6]>
-    requires ready { IsReadyIn lattice.now plans.now }
+fn guided<S: Search<Lattice, Best, Note = Step> + Drop>(
+    lattice: &Lattice,
+    plans: &Replanner<S>,
+) -> Option<[u64; 6]>
+    requires ready { IsReadyIn S.meaning lattice.now plans.now }
 {
     let mut values = [0; 6];
     for cell in 0..6 {
@@ -99,8 +127,12 @@ fn guided(lattice: &Lattice, plans: &Replanner) -> Option<[u64; 6]>
 }
 
 /// The g of a state.
-fn reached(lattice: &Lattice, plans: &Replanner, s: u32) -> Option<u64>
-    requires ready { IsReadyIn lattice.now plans.now }
+fn reached<S: Search<Lattice, Best, Note = Step> + Drop>(
+    lattice: &Lattice,
+    plans: &Replanner<S>,
+    s: u32,
+) -> Option<u64>
+    requires ready { IsReadyIn S.meaning lattice.now plans.now }
 {
     if s < lattice.states() {
         Some(plans.labels().g(s))
@@ -118,15 +150,15 @@ fn write(x: u32, y: u32, cost: u8) -> Write {
 type Row<'a> = (u64, &'a [u32], u64);
 
 /// Makes the next plan of the hall in one pass, and compares it.
-fn plan_is(
+fn plan_is<S: Search<Lattice, Best, Note = Step> + Drop>(
     rt: &impl Abort,
     alloc: Global,
     lattice: &Lattice,
-    plans: &mut Replanner,
+    plans: &mut Replanner<S>,
     row: Row,
 ) -> Result<(), Fail>
-    requires ready { IsReadyIn lattice.now plans.old }
-    ensures ready { OnOk result (IsReadyIn lattice.now plans.new) }
+    requires ready { IsReadyIn S.meaning lattice.now plans.old }
+    ensures ready { OnOk result (IsReadyIn S.meaning lattice.now plans.new) }
 {
     let plan = plans.plan(alloc, lattice, &AT_ONCE)?;
     assert_eq!(rt; path(&plan.outcome), Some((row.1, row.2, 1000)));
@@ -137,15 +169,15 @@ fn plan_is(
     Ok(())
 }
 
-/// Makes three plans of the hall, before a cell is blocked, before it is freed, and behind that.
-fn plans_are(
+/// Makes three plans of the hall, before a cell is blocked, before it is freed, and after that.
+fn plans_are<S: Search<Lattice, Best, Note = Step> + Drop>(
     rt: &impl Abort,
     alloc: Global,
     lattice: &mut Lattice,
-    plans: &mut Replanner,
+    plans: &mut Replanner<S>,
     rows: [Row; 3],
 ) -> Result<(), Fail>
-    requires ready { IsReadyIn lattice.old plans.old }
+    requires ready { IsReadyIn S.meaning lattice.old plans.old }
 {
     plan_is(rt, alloc, lattice, plans, rows[0])?;
     change(alloc, lattice, plans, [write(2, 1, 100)].as_slice())?;
@@ -154,7 +186,7 @@ fn plans_are(
     plan_is(rt, alloc, lattice, plans, rows[2])
 }
 
-/// The same plans on a lattice that is the hall's.
+/// The same plans on a lattice that is the hall's, repaired or begun anew.
 fn hall_plans_are(
     rt: &impl Abort,
     alloc: Global,
@@ -162,10 +194,17 @@ fn hall_plans_are(
     repairs: bool,
     rows: [Row; 3],
 ) -> Result<(), Fail> {
-    let mut plans = plans_on(alloc, lattice, repairs).ok_or("begun")?;
-    let compared = plans_are(rt, alloc, lattice, &mut plans, rows);
-    drop(plans);
-    compared
+    if repairs {
+        let mut plans = repairing_on(alloc, lattice).ok_or("begun")?;
+        let compared = plans_are(rt, alloc, lattice, &mut plans, rows);
+        drop(plans);
+        compared
+    } else {
+        let mut plans = anew_on(alloc, lattice).ok_or("begun")?;
+        let compared = plans_are(rt, alloc, lattice, &mut plans, rows);
+        drop(plans);
+        compared
+    }
 }
 
 #[test]
@@ -186,16 +225,16 @@ fn hall_repaired_or_begun_anew(rt: HostRuntime) -> Result<(), Fail> {
 }
 
 /// Makes the next plan in one pass, and compares the states that it lowered and its path with its cost.
-fn plan_lowers(
+fn plan_lowers<S: Search<Lattice, Best, Note = Step> + Drop>(
     rt: &impl Abort,
     alloc: Global,
     lattice: &Lattice,
-    plans: &mut Replanner,
+    plans: &mut Replanner<S>,
     states: &[u32],
     want: (&[u32], u64, u128),
 ) -> Result<(), Fail>
-    requires ready { IsReadyIn lattice.now plans.old }
-    ensures ready { OnOk result (IsReadyIn lattice.now plans.new) }
+    requires ready { IsReadyIn S.meaning lattice.now plans.old }
+    ensures ready { OnOk result (IsReadyIn S.meaning lattice.now plans.new) }
 {
     let plan = plans.plan(alloc, lattice, &AT_ONCE)?;
     assert!(rt; lowered(&plan, states));
@@ -205,13 +244,13 @@ fn plan_lowers(
 }
 
 /// Plans of the hall that are repaired: what is changed back lowers nothing, and a blocked cell lowers one state.
-fn repairs_lower(
+fn repairs_lower<S: Search<Lattice, Best, Note = Step> + Drop>(
     rt: &impl Abort,
     alloc: Global,
     lattice: &mut Lattice,
-    plans: &mut Replanner,
+    plans: &mut Replanner<S>,
 ) -> Result<(), Fail>
-    requires ready { IsReadyIn lattice.old plans.old }
+    requires ready { IsReadyIn S.meaning lattice.old plans.old }
 {
     let long = ([2, 1, 3].as_slice(), 100, 1000);
     let short = ([1].as_slice(), 150, 1000);
@@ -231,7 +270,7 @@ fn repairs_lower(
 
 /// The same plans on a lattice that is the hall's.
 fn hall_repairs_lower(rt: &impl Abort, alloc: Global, lattice: &mut Lattice) -> Result<(), Fail> {
-    let mut plans = plans_on(alloc, lattice, true).ok_or("begun")?;
+    let mut plans = repairing_on(alloc, lattice).ok_or("begun")?;
     let compared = repairs_lower(rt, alloc, lattice, &mut plans);
     drop(plans);
     compared
@@ -259,9 +298,9 @@ fn draw(word: &mut u64, limit: u32) -> u32
 /// Writes to the field: a third of them make an obstacle, and a third make a cell dear.
 fn drawn(word: &mut u64) -> [Write; 60] {
     let mut batch = [write(0, 0, 0); 60];
-    for place in &mut batch {
+    for slot in &mut batch {
         let cost = [0, 20, 254][draw(word, 3) as usize];
-        *place = write(draw(word, 32), draw(word, 32), cost);
+        *slot = write(draw(word, 32), draw(word, 32), cost);
     }
     batch
 }
@@ -276,14 +315,14 @@ fn known(outcome: &Outcome) -> Result<Option<u64>, Fail> {
 }
 
 /// What the next plan makes known after these writes.
-fn known_after(
+fn known_after<S: Search<Lattice, Best, Note = Step> + Drop>(
     alloc: Global,
     lattice: &mut Lattice,
-    plans: &mut Replanner,
+    plans: &mut Replanner<S>,
     batch: &[Write],
 ) -> Result<Option<u64>, Fail>
-    requires ready { IsReadyIn lattice.old plans.old }
-    ensures ready { OnOk result (IsReadyIn lattice.new plans.new) }
+    requires ready { IsReadyIn S.meaning lattice.old plans.old }
+    ensures ready { OnOk result (IsReadyIn S.meaning lattice.new plans.new) }
 {
     change(alloc, lattice, plans, batch)?;
     let planned = plans.plan(alloc, lattice, &FALLING)?;
@@ -293,12 +332,12 @@ fn known_after(
 }
 
 /// What the plans make known after each of thirty drawn batches.
-fn thirty_known(
+fn thirty_known<S: Search<Lattice, Best, Note = Step> + Drop>(
     alloc: Global,
     lattice: &mut Lattice,
-    plans: &mut Replanner,
+    plans: &mut Replanner<S>,
 ) -> Result<[Option<u64>; 30], Fail>
-    requires ready { IsReadyIn lattice.old plans.old }
+    requires ready { IsReadyIn S.meaning lattice.old plans.old }
 {
     let mut word = 24;
     let mut costs = [None; 30];
@@ -309,16 +348,23 @@ fn thirty_known(
     Ok(costs)
 }
 
-/// The same on a lattice, with plans of one kind.
+/// The same on a lattice, repaired or begun anew.
 fn thirty_on(
     alloc: Global,
     lattice: &mut Lattice,
     repairs: bool,
 ) -> Result<[Option<u64>; 30], Fail> {
-    let mut plans = plans_on(alloc, lattice, repairs).ok_or("begun")?;
-    let costs = thirty_known(alloc, lattice, &mut plans);
-    drop(plans);
-    costs
+    if repairs {
+        let mut plans = repairing_on(alloc, lattice).ok_or("begun")?;
+        let costs = thirty_known(alloc, lattice, &mut plans);
+        drop(plans);
+        costs
+    } else {
+        let mut plans = anew_on(alloc, lattice).ok_or("begun")?;
+        let costs = thirty_known(alloc, lattice, &mut plans);
+        drop(plans);
+        costs
+    }
 }
 
 /// The same on a field that is free at first.

@@ -5,7 +5,7 @@ use sbpl_sweep::{Cell, Read, SweepFault, Sweeps};
 use std::alloc::{AllocError, Global};
 use std::test::Fail;
 
-/// So many primitives from heading 0 to the next cell along x, with cells of 25 millimetres.
+/// `count` primitives from heading 0 to the next cell along x, with cells of 25 millimetres.
 fn ahead(alloc: Global, count: u32) -> Result<String, AllocError> {
     let mut text = format!(in alloc;
         "resolution_m: 0.025
@@ -29,7 +29,7 @@ intermediateposes: 2
     Ok(text)
 }
 
-/// The sweeps of so many such primitives.
+/// The sweeps of `count` such primitives.
 fn sweeps_of(alloc: Global, count: u32, radius: u64) -> Result<Result<Sweeps, SweepFault>, Fail> {
     let text = ahead(alloc, count)?;
     if text.len() > 1_000_000_000 || radius > 1_000_000_000_000 {
@@ -103,7 +103,7 @@ fn a_point_reads_its_source_and_its_end(rt: HostRuntime) -> Result<(), Fail> {
 
 #[test]
 fn too_wide_names_the_first_primitive(rt: HostRuntime) -> Result<(), Fail> {
-    // One disc of so many cells, a row of too many, and 65 discs of 65,264 cells each.
+    // One disc of too many cells, a row of too many, and 65 discs of 65,264 cells each.
     for (count, radius, place) in [
         (2, 3_620_000_000, 0),
         (1, 1_000_000_000_000, 0),

@@ -1,4 +1,4 @@
-use Rattle.std.proofs.Common.{◌≡◌, ◌≢◌, ℕ, ◌<◌, List, [], ◌∷◌, arith, sym, inl, inr}
+use Rattle.std.proofs.Common.{◌≡◌, ◌≢◌, ℕ, ◌<◌, List, [], ◌∷◌, arith, rules, sym, inl, inr}
 use Rattle.std.proofs.lemmas.Bool.{cases_eq}
 use Rattle.std.specs.List.{Contains}
 use Rattle.worked_graphs.proofs.plan.replanned.Goals as goal
@@ -12,6 +12,10 @@ touched_all touched t is inside apart =
     ] in
     rw is among
 
-pub change-requires-clause-untouched : goal.change-requires-clause-untouched
-change-requires-clause-untouched c = λ t inside apart none.
-    absurd (none (touched_all c.as_slice.result.now t c.as_slice.ensures (omega (arith, c.requires.states)) (λ zero. apart (omega (arith, c.requires.start)))))
+pub change-requires-clause-changeable : goal.change-requires-clause-changeable
+change-requires-clause-changeable c = record {
+  inside = search rules;
+  fits = search rules;
+  untouched = λ t inside apart none.
+      absurd (none (touched_all c.as_slice.result.now t c.as_slice.ensures (omega (arith, c.requires.states)) (λ zero. apart (omega (arith, c.requires.start)))));
+}

@@ -1,0 +1,50 @@
+use Rattle.std.proofs.Common.{◌∙◌, ℕ, List, inl, sym, subst, arith}
+use Rattle.sbpl_labels.specs.Marks.{Marks}
+use Rattle.sbpl_plan.specs.declared.passes.Pass.{Pass}
+use Rattle.sbpl_plan.specs.Asked.{lowered}
+use Rattle.sbpl_plan.specs.Looking.{WalkFinds}
+use Rattle.sbpl_plan.specs.Outcomes.{IsResultOf}
+use Rattle.sbpl_plan.specs.Passing.{EndsPlan, Inquiry, inquiry_of}
+use Rattle.sbpl_plan.specs.Planned.{IsPlanned}
+use Rattle.sbpl_plan.proofs.Planning.{AreGoingOn, goes_on, on_err, part_of_one, planned_of, runs_out_after}
+use Rattle.sbpl_plan.proofs.make.plan.Goals as goal
+
+pub returns-in_err-pass-clause-memory : goal.returns-in_err-pass-clause-memory
+returns-in_err-pass-clause-memory g c =
+    on_err c.from_residual-in_err-pass.result _ (runs_out_after g.S.Search.meaning _ _ _ _ _ _ _ _ _ c.loop-passes.invariant.going_on c.in_err-pass.ensures.memory)
+
+pub returns-in_err-push-clause-memory : goal.returns-in_err-push-clause-memory
+returns-in_err-push-clause-memory g c =
+    on_err c.from_residual-in_err-push.result _
+    (runs_out_after g.S.Search.meaning _ _ _ _ _ _ _ _ _ c.loop-passes.invariant.going_on (inl (part_of_one g.S.Search.meaning _ _ _ _ _ _ _ _ _ c.in_ok-pass.ensures.iteration)))
+
+pub returns-then-is_last-clause-planned : goal.returns-then-is_last-clause-planned
+returns-then-is_last-clause-planned g c =
+    let q : Inquiry = inquiry_of (g.G.Graph.network c.args.graph.now) (g.H.Guide.distance c.args.guide.now) c.args.goal c.args.ask.now in
+    let t = c.in_ok-pass.ensures.iteration in
+    let last : EndsPlan q c.loop-passes.eps (g.S.Search.state c.iterate.new.search).labels c.in_ok-pass.spent c.in_ok-pass.pass.found =
+    subst (λ (m : Marks). EndsPlan q c.loop-passes.eps m c.in_ok-pass.spent c.in_ok-pass.pass.found) c.labels.ensures.value (c.is_last.ensures.last.0 c.if-is_last.true) in
+    let result : IsResultOf q.network q.guide q.goal (g.S.Search.state c.iterate.new.search).labels c.outcome_of-outcome.result =
+    subst (λ (m : Marks). IsResultOf q.network q.guide q.goal m c.outcome_of-outcome.result) c.labels-then-is_last.ensures.value
+    (c.outcome_of-outcome.ensures.outcome _ _ (subst (λ (m : Marks). WalkFinds q.network q.guide q.goal m c.iterate.new.arcs.items c.in_ok-pass.pass.found) (sym c.labels-then-is_last.ensures.value) t.found)) in
+    subst (λ (ps : List (Pass g.row.S-Note.Denot)). IsPlanned g.S.Search.meaning q (g.S.Search.state c.args.search.now) (g.S.Search.state c.iterate.new.search) c.args.budget.now c.iterate.new.budget
+    (record { passes = ps; spent = c.in_ok-pass.spent; outcome = c.outcome_of-outcome.result })) (sym (c.of.ensures.items ∙ c.in_ok-push.ensures.items))
+    (planned_of g.S.Search.meaning q _ _ _ _ _ _ _ _ c.loop-passes.invariant.going_on _ _ _ t _ c.requires.asked last result (g.met.S.Search.usable _ _ _ t.leaves.ready).states
+    c.outcome_of-outcome.ensures.agrees c.bound_holds.ensures.every_path c.none_holds.ensures.no_path c.states.ensures.sound (g.met.H.Guide.consistent c.args.guide.now _ _ c.requires.guide) c.used-used.ensures.counts)
+
+pub loop-passes-preserved : goal.loop-passes-preserved
+loop-passes-preserved g c =
+    let q : Inquiry = inquiry_of (g.G.Graph.network c.args.graph.now) (g.H.Guide.distance c.args.guide.now) c.args.goal c.args.ask.now in
+    let not = λ (last : EndsPlan q c.loop-passes.eps (g.S.Search.state c.iterate.new.search).labels c.in_ok-pass.spent c.in_ok-pass.pass.found).
+    (let yes = c.is_last.ensures.last.1 (subst (λ (m : Marks). EndsPlan q c.loop-passes.eps m c.in_ok-pass.spent c.in_ok-pass.pass.found) (sym c.labels.ensures.value) last) in
+    let no : ⊥ = cc (yes, c.if-is_last.false) in no) in
+    let on = goes_on g.S.Search.meaning q _ _ _ _ _ _ _ _ c.loop-passes.invariant.going_on _ _ _ c.in_ok-pass.ensures.iteration c.requires.asked c.loop-passes.invariant.low not in
+    let high = c.loop-passes.invariant.high in
+    let is = c.lowered-eps.ensures.lowered in
+    record {
+      going_on = subst (λ (e : ℕ). AreGoingOn g.S.Search.meaning q (g.S.Search.state c.args.search.now) (g.S.Search.state c.iterate.new.search) c.args.budget.now c.iterate.new.budget c.push.new.self.items e) (sym is)
+          (subst (λ (ps : List (Pass g.row.S-Note.Denot)). AreGoingOn g.S.Search.meaning q (g.S.Search.state c.args.search.now) (g.S.Search.state c.iterate.new.search) c.args.budget.now c.iterate.new.budget ps (lowered q.ask.step c.loop-passes.eps)) (sym c.in_ok-push.ensures.items) on);
+      low = omega arith;
+      high = omega arith;
+      room = rw (c.iterate.ensures.room) (let r = c.loop-passes.invariant.room in let k = c.clear.ensures.capacity in omega arith);
+    }

@@ -1,0 +1,17 @@
+-- A search that is ready for another pass.
+use Rattle.std.specs.Prelude.{◌≡◌, ℕ, ◌+◌}
+use Rattle.sbpl_graph.specs.Network.{Network}
+use Rattle.sbpl_labels.specs.Counts.{Counts}
+use Rattle.sbpl_labels.specs.Marks.{states_of}
+use Rattle.sbpl_search.specs.Meaning.{Meaning}
+use Rattle.sbpl_search.specs.Ready.{IsStartFresh}
+use Rattle.sbpl_search.specs.State.{State}
+
+-- after this many expansions, each counted for the plan and for the run, a search may begin another pass, with the start, the states and the goal that it had
+pub record IsReadyAfter {Note : Type 0} (means : Meaning Note) (n : Network) (count : ℕ) (old new : State Note) (before after : Counts) : Type 0 where
+  pub counted : after ≡ record before { plan = before.plan + count; run = before.run + count }
+  pub ready : means.ready n new.labels after.run
+  pub fresh : IsStartFresh new.labels
+  pub start : new.labels.start ≡ old.labels.start
+  pub states : states_of new.labels ≡ states_of old.labels
+  pub same_goal : new.goal ≡ old.goal

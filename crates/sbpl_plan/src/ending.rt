@@ -1,0 +1,68 @@
+//! When a plan ends, and its result.
+
+ghost use Rattle.std.specs.Prelude.{◌≡◌, ℕ, ◌<◌, ◌↔◌, IsTrue, ◌⊎◌, true};
+ghost use Rattle.sbpl_graph.specs.Network.{Network};
+ghost use Rattle.sbpl_labels.specs.CutOff.{IsCutOff};
+ghost use Rattle.sbpl_labels.specs.Marks.{states_of, g_of, v_of};
+ghost use Rattle.sbpl_plan.specs.Asked.{lowered};
+ghost use Rattle.sbpl_plan.specs.Looking.{IsEnough, WalkFinds};
+ghost use Rattle.sbpl_plan.specs.Outcomes.{AgreesWithFound, IsResultOf};
+
+use crate::ask::Ask;
+use crate::found::Found;
+use crate::result::{Arcs, Outcome};
+use sbpl_labels::Labels;
+
+/// Whether a path with a bound that is good enough was found.
+fn is_enough(asked: u32, found: Found) -> bool
+    ensures enough { IsTrue result ↔ IsEnough asked found }
+{
+    match found {
+        Found::Path { cost: _, bound } => bound <= u128::from(asked),
+        Found::None | Found::Broken => false,
+    }
+}
+
+/// The inflation of the pass after one of inflation `eps`.
+pub(crate) fn lowered(step: u32, eps: u32) -> u32
+    ensures lowered { result ≡ lowered step eps }
+{
+    eps.saturating_sub(step).max(1000)
+}
+
+/// Whether a plan ends after a pass of inflation `eps` that was spent or not and found this.
+pub(crate) fn is_last(
+    ask: &Ask,
+    eps: u32,
+    labels: &Labels,
+    goal: u32,
+    spent: bool,
+    found: Found,
+) -> bool
+    requires goal { goal < states_of labels.now }
+    ensures last { IsTrue result ↔ (IsEnough ask.now.bound found ⊎ (IsCutOff (states_of labels.now) goal (g_of labels.now) (v_of labels.now) ⊎ ((spent ≡ true) ⊎ (eps ≡ 1000)))) }
+{
+    is_enough(ask.bound, found) || spent || eps == 1000 || labels.shows_none(goal)
+}
+
+/// The result by the final labels, where the last pass found this, with these arcs.
+pub(crate) fn outcome_of(labels: &Labels, goal: u32, found: Found, arcs: Vec<u32>) -> Outcome
+    requires goal { goal < states_of labels.now }
+    ensures outcome { (n : Network) (h : ℕ → ℕ) → WalkFinds n h goal labels.now arcs.items found → IsResultOf n h goal labels.now result }
+    ensures agrees { AgreesWithFound found result }
+{
+    match found {
+        Found::Path { cost, bound } => Outcome::Path {
+            arcs: Arcs::of(arcs),
+            cost,
+            bound,
+        },
+        Found::None | Found::Broken => {
+            if labels.shows_none(goal) {
+                Outcome::NoPath
+            } else {
+                Outcome::Unknown
+            }
+        }
+    }
+}

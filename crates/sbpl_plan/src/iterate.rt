@@ -1,0 +1,79 @@
+//! One iteration of a plan: a pass, and the walk along the back arcs that it left.
+
+ghost use Rattle.std.specs.Prelude.{◌≡◌, ◌≤◌, ◌<◌, ◌↔◌, [], IfOk, OnErr, IsTrue, IsFalse, if◌then◌else◌, vec_capacity};
+ghost use Rattle.sbpl_labels.specs.declared.pass_end.PassEnd.TheVariants as PassEnd;
+ghost use Rattle.sbpl_labels.specs.Marks.{states_of};
+ghost use Rattle.sbpl_search.specs.Ready.{IsStartFresh};
+ghost use Rattle.sbpl_plan.specs.Iterations.{IsIteration};
+ghost use Rattle.sbpl_plan.specs.OutOfMemory.{RunsOutOfMemory};
+ghost use Rattle.sbpl_plan.specs.Passing.{inquiry_of};
+
+use crate::ask::Ask;
+use crate::look::look;
+use crate::passes::{Pass, Trace};
+use sbpl_fixed::NoMemory;
+use sbpl_graph::{Graph, Guide};
+use sbpl_labels::{Budget, PassEnd};
+use sbpl_search::Search;
+use std::alloc::Global;
+
+/// What a pass did, where it is to be told.
+fn told<N: Copy>(alloc: Global, notes: &[N], traced: bool) -> Result<Trace<N>, NoMemory>
+    ensures told { IfOk result (λ t. t ≡ (if traced then notes.now else [])) }
+{
+    let mut told = Vec::new(alloc);
+    if traced {
+        told.extend_from_slice(notes)?;
+    }
+    Ok(Trace::of(told))
+}
+
+/// Whether a pass was spent.
+fn is_spent(end: PassEnd) -> bool
+    ensures spent { IsTrue result ↔ (end ≡ PassEnd.Spent) }
+    ensures rest { IsFalse result ↔ (end ≡ PassEnd.Rest) }
+{
+    match end {
+        PassEnd::Spent => true,
+        PassEnd::Rest => false,
+    }
+}
+
+/// Makes one pass of this inflation, and tells whether it was spent. `arcs` then holds the path that the pass found. Where
+/// memory runs out the pass was made, or cut.
+pub(crate) fn iterate<G: Graph, H: Guide, S: Search<G, H>>(
+    alloc: Global,
+    graph: &G,
+    guide: &H,
+    search: &mut S,
+    goal: u32,
+    ask: &Ask,
+    eps: u32,
+    budget: &mut Budget,
+    arcs: &mut Vec<u32>,
+) -> Result<(Pass<S::Note>, bool), NoMemory>
+    requires goal { goal ≡ (S.state search.old).goal }
+    requires guide { H.guides guide.now (G.network graph.now) goal }
+    requires eps_low { 1000 ≤ eps }
+    requires eps_high { eps ≤ 100000 }
+    requires ready { S.meaning.ready (G.network graph.now) (S.state search.old).labels budget.old.run }
+    requires fresh { IsStartFresh (S.state search.old).labels }
+    requires empty { arcs.old.items ≡ [] }
+    requires room { states_of (S.state search.old).labels ≤ vec_capacity arcs.old }
+    ensures iteration { IfOk result (λ r. IsIteration S.meaning (inquiry_of (G.network graph.now) (H.distance guide.now) goal ask.now) eps (S.state search.old) (S.state search.new) budget.old budget.new arcs.new.items r.1 r.0) }
+    ensures memory { OnErr result (RunsOutOfMemory S.meaning (inquiry_of (G.network graph.now) (H.distance guide.now) goal ask.now) eps (S.state search.old) (S.state search.new) budget.old budget.new) }
+    ensures room { vec_capacity arcs.new ≡ vec_capacity arcs.old }
+{
+    let end = search.pass(alloc, graph, guide, eps, budget)?;
+    let spent = is_spent(end);
+    let found = look(graph, guide, search, goal, arcs);
+    let expanded = search.expanded();
+    let trace = told(alloc, search.notes(), ask.traced)?;
+    let pass = Pass {
+        inflation: eps,
+        expanded,
+        found,
+        trace,
+    };
+    Ok((pass, spent))
+}

@@ -1,0 +1,30 @@
+use Rattle.std.proofs.Common.{◌∙◌, ℕ, List, sym, subst}
+use Rattle.sbpl_change.specs.Affected.{AreStates, AreAffected, KeepArcsElsewhere}
+use Rattle.sbpl_cost.specs.Lattices.{network_of}
+use Rattle.sbpl_replan.proofs.Changing.{changeable, same_states}
+use Rattle.sbpl_replan.proofs.change.change.Goals as goal
+
+pub change-requires-clause-states : goal.change-requires-clause-states
+change-requires-clause-states g c = c.requires.usable.states ∙ sym (same_states _ _ c.apply.ensures.others)
+
+pub change-requires-clause-fits : goal.change-requires-clause-fits
+change-requires-clause-fits g c = λ _.
+    changeable c.exact_where_same.ensures.every_state _ _ _ _ (same_states _ _ c.apply.ensures.others) c.requires.usable
+    (subst (λ (l : List ℕ). AreStates (network_of c.apply.new.lattice) l) (sym c.as_slice.ensures.value) c.in_ok-apply.ensures.states)
+    (subst (λ (l : List ℕ). KeepArcsElsewhere (network_of c.args.lattice.now) (network_of c.apply.new.lattice) l) (sym c.as_slice.ensures.value) c.in_ok-apply.ensures.same_arcs)
+
+pub change-requires-else-repairs-clause-states : goal.change-requires-else-repairs-clause-states
+change-requires-else-repairs-clause-states g c = c.requires.usable.states ∙ sym (same_states _ _ c.write_batch.ensures.others)
+
+pub returns-in_ok-apply-clause-begun : goal.returns-in_ok-apply-clause-begun
+returns-in_ok-apply-clause-begun g c = record {
+  touched = c.as_slice.result.now;
+  are_touched = λ _. subst (λ (l : List ℕ). AreAffected c.args.lattice.now c.apply.new.lattice.map l) (sym c.as_slice.ensures.value) c.in_ok-apply.ensures.touched;
+  begun = c.change.ensures.begun;
+}
+
+pub returns-in_ok-apply-clause-ready : goal.returns-in_ok-apply-clause-ready
+returns-in_ok-apply-clause-ready g c = λ count is. c.change.ensures.ready _ count (sym (same_states _ _ c.apply.ensures.others)) is
+
+pub returns-else-repairs-clause-ready : goal.returns-else-repairs-clause-ready
+returns-else-repairs-clause-ready g c = λ count is. c.change-else-repairs.ensures.ready _ count (sym (same_states _ _ c.write_batch.ensures.others)) is

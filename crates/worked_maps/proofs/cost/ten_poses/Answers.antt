@@ -1,8 +1,0 @@
-use Rattle.std.proofs.Common.{refl}
-use Rattle.sbpl_cfg.specs.Place.{heading_of}
-use Rattle.worked_maps.proofs.Written.{sample}
-use Rattle.worked_maps.proofs.cost.ten_poses.Goals as goal
-
-pub cost-requires-clause-primitive : goal.cost-requires-clause-primitive
-unfolding heading_of
-cost-requires-clause-primitive g c = rw c.in_ok-ten.ensures.items (sample _ _ _ refl)
