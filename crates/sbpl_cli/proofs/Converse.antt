@@ -17,53 +17,53 @@ use Rattle.sbpl_job.specs.declared.job.Sources.{Sources}
 use Rattle.sbpl_cli.specs.declared.refusal.Input.TheVariants as input
 use Rattle.sbpl_cli.specs.declared.refusal.Refusal.{Refusal}
 use Rattle.sbpl_cli.specs.declared.refusal.Refusal.TheVariants as refusal
-use Rattle.sbpl_cli.specs.Causes.{AtName, IsCause, IsChangesCause, IsEarlyCause, IsFaultyChanges, IsFaultyFor, IsJobCause, IsLabelsCause, IsRead, IsTooLong, NoneTooDear, SaysBatches, SaysEnvironment, SaysPrimitives, SaysWorld}
+use Rattle.sbpl_cli.specs.Causes.{AtName, IsCause, IsChangesCause, IsEarlyCause, IsFaultyChanges, IsFaultyFor, IsJobCause, IsLabelsCause, IsReadText, IsTooLong, NoneTooDear, ReadsBatches, ReadsEnvironment, ReadsPrimitives, ReadsWorld}
 use Rattle.sbpl_cli.specs.Intents.{Intent, Refused, Planned, Checked, Listed, Demonstrated, OutOfMemory, intent_status, refusal_status}
-use Rattle.sbpl_cli.specs.Promises.{AreGood, ComesTo, IsNoCheck, IsOrFailed, Tells, TellsBatches, TellsChangeFault, TellsEnvironment, TellsEnvironmentFault, TellsMap, TellsPrimitiveFault, TellsPrimitives, TellsTooMuch, TellsWorld, changes_of, sources_of}
+use Rattle.sbpl_cli.specs.Promises.{AreGood, GivesIntent, IsNoCheck, IsOrFailed, Tells, TellsBatches, TellsChangeFault, TellsEnvironment, TellsEnvironmentFault, TellsMap, TellsPrimitiveFault, TellsPrimitives, TellsTooMuch, TellsWorld, changes_of, sources_of}
 use Rattle.sbpl_cli.specs.Texts.{HasChangeFault, HasEnvironmentFault, HasPrimitiveFault, IsChangeText, IsEnvironmentText, IsPrimitiveText}
-use Rattle.sbpl_cli.specs.Writing.{FaultCounts, Told}
+use Rattle.sbpl_cli.specs.Writing.{Names, Told}
 use Rattle.sbpl_cli.specs.Clear.{TextsAreClear}
 
 -- ---- what was read is what the desk tells
 
-pub told_is : (held : Option (List ℕ)) (text t : List ℕ) → held ≡ Some text → IsRead held t → t ≡ text
-told_is held text t tells read = let P : Option (List ℕ) → Type 0 = λ h. IsRead h t in (subst P tells read).told
+pub told_is : (held : Option (List ℕ)) (text t : List ℕ) → held ≡ Some text → IsReadText held t → t ≡ text
+told_is held text t tells read = let P : Option (List ℕ) → Type 0 = λ h. IsReadText h t in (subst P tells read).told
 
 pub too_long_not_short : (held : Option (List ℕ)) (text : List ℕ) → Tells held text → IsTooLong held → ⊥
 too_long_not_short held text tells long =
     let more : 2 ^ 30 < length text = (let P : Option (List ℕ) → Type 0 = λ h. IsTooLong h in subst P tells.held_bytes long) in
     let few : length text ≤ 2 ^ 30 = tells.short in omega arith
 
-pub too_much_not_read : (held : Option (List ℕ)) (t : List ℕ) → TellsTooMuch held → IsRead held t → ⊥
+pub too_much_not_read : (held : Option (List ℕ)) (t : List ℕ) → TellsTooMuch held → IsReadText held t → ⊥
 too_much_not_read held t (text, tells, long) read =
     let same : t ≡ text = told_is held text t tells read in
     let few : length t ≤ 2 ^ 30 = read.short in
     let few' : length text ≤ 2 ^ 30 = subst (λ l. length l ≤ 2 ^ 30) same few in omega arith
 
 -- the environment that was read stands in the text that the desk tells
-said_text : (held : Told) (from : Sources) (e : Environment) (cells text : List ℕ) → Tells (held from.env) text → SaysEnvironment held from e cells → IsEnvironmentText text e cells
+said_text : (held : Told) (from : Sources) (e : Environment) (cells text : List ℕ) → Tells (held from.env) text → ReadsEnvironment held from e cells → IsEnvironmentText text e cells
 said_text held from e cells text tells says = subst (λ t. IsEnvironmentText t e cells) (told_is _ text says.text tells.held_bytes says.read) says.stands
 
 -- where a fault is told, no environment was read
-not_said : TextsAreClear → (held : Told) (from : Sources) (f : EnvFault) (e : Environment) (cells : List ℕ) → TellsEnvironmentFault held from f → SaysEnvironment held from e cells → ⊥
+not_said : TextsAreClear → (held : Told) (from : Sources) (f : EnvFault) (e : Environment) (cells : List ℕ) → TellsEnvironmentFault held from f → ReadsEnvironment held from e cells → ⊥
 not_said clear held from f e cells (text, tells, faulty) says = clear.environment_fault text e cells f (said_text held from e cells text tells says) faulty
 
 -- where too much is told, no environment was read
-not_said_long : (held : Told) (from : Sources) (e : Environment) (cells : List ℕ) → TellsTooMuch (held from.env) → SaysEnvironment held from e cells → ⊥
+not_said_long : (held : Told) (from : Sources) (e : Environment) (cells : List ℕ) → TellsTooMuch (held from.env) → ReadsEnvironment held from e cells → ⊥
 not_said_long held from e cells much says = too_much_not_read _ says.text much says.read
 
 -- the environment that was read is the one that is told
-pub same_environment : TextsAreClear → (held : Told) (from : Sources) (e d : Environment) (cells : List ℕ) → TellsEnvironment held from e → SaysEnvironment held from d cells → d ≡ e
+pub same_environment : TextsAreClear → (held : Told) (from : Sources) (e d : Environment) (cells : List ℕ) → TellsEnvironment held from e → ReadsEnvironment held from d cells → d ≡ e
 same_environment clear held from e d cells (text, others, tells, stands) says = (clear.environment text d e cells others (said_text held from d cells text tells says) stands).0
 
 -- the map of a world that was read is the one that is told
-pub same_map : TextsAreClear → (held : Told) (from : Sources) (m : CellMap) (w : World) → TellsMap held from m → SaysWorld held from w → w.map ≡ m
+pub same_map : TextsAreClear → (held : Told) (from : Sources) (m : CellMap) (w : World) → TellsMap held from m → ReadsWorld held from w → w.map ≡ m
 same_map clear held from m w (text, e, cells, tells, stands, is) says =
     let both = clear.environment text w.env e says.cells cells (said_text held from w.env says.cells text tells says.environment) stands in
     says.map ∙ ap (λ (d : Environment). record { width = d.width; height = d.height; costs = says.cells }) both.0 ∙ ap (λ (l : List ℕ). record { width = e.width; height = e.height; costs = l }) both.1 ∙ sym is
 
 -- where an environment is told, no fault of it was read
-not_faulty : TextsAreClear → (held : Told) (from : Sources) (e : Environment) (f : EnvFault) (t : List ℕ) → TellsEnvironment held from e → IsRead (held from.env) t → HasEnvironmentFault t f → ⊥
+not_faulty : TextsAreClear → (held : Told) (from : Sources) (e : Environment) (f : EnvFault) (t : List ℕ) → TellsEnvironment held from e → IsReadText (held from.env) t → HasEnvironmentFault t f → ⊥
 not_faulty clear held from e f t (text, cells, tells, stands) read faulty =
     clear.environment_fault text e cells f stands (subst (λ u. HasEnvironmentFault u f) (told_is _ text t tells.held_bytes read) faulty)
 
@@ -71,25 +71,25 @@ environment_not_long : (held : Told) (from : Sources) (e : Environment) → Tell
 environment_not_long held from e (text, cells, tells, stands) long = too_long_not_short _ text tells long
 
 -- the primitives that were read for an environment stand in the text that the desk tells
-said_primitives : (held : Told) (from : Sources) (e : Environment) (ps : Primitives) (text : List ℕ) → Tells (held from.prims) text → SaysPrimitives held from e ps → IsPrimitiveText e text ps
+said_primitives : (held : Told) (from : Sources) (e : Environment) (ps : Primitives) (text : List ℕ) → Tells (held from.prims) text → ReadsPrimitives held from e ps → IsPrimitiveText e text ps
 said_primitives held from e ps text tells says = subst (λ t. IsPrimitiveText e t ps) (told_is _ text says.text tells.held_bytes says.read) says.stands
 
 -- where a fault of the primitives is told, none were read
-faulty_not_said : TextsAreClear → (held : Told) (from : Sources) (env d : Environment) (cells : List ℕ) (ps : Primitives) (f : PrimFault) → TellsEnvironment held from env → TellsPrimitiveFault held from env f → SaysEnvironment held from d cells → SaysPrimitives held from d ps → ⊥
+faulty_not_said : TextsAreClear → (held : Told) (from : Sources) (env d : Environment) (cells : List ℕ) (ps : Primitives) (f : PrimFault) → TellsEnvironment held from env → TellsPrimitiveFault held from env f → ReadsEnvironment held from d cells → ReadsPrimitives held from d ps → ⊥
 faulty_not_said clear held from env d cells ps f told (text, tells, faulty) first second =
     let same : d ≡ env = same_environment clear held from env d cells told first in
     let stands : IsPrimitiveText env text ps = subst (λ x. IsPrimitiveText x text ps) same (said_primitives held from d ps text tells second) in
     clear.primitive_fault text env ps f stands faulty
 
 -- where primitives are told, no fault of them was read
-primitives_not_faulty : TextsAreClear → (held : Told) (from : Sources) (env d : Environment) (cells : List ℕ) (ps : Primitives) (f : PrimFault) → TellsEnvironment held from env → TellsPrimitives held from env ps → SaysEnvironment held from d cells → IsFaultyFor held from d f → ⊥
+primitives_not_faulty : TextsAreClear → (held : Told) (from : Sources) (env d : Environment) (cells : List ℕ) (ps : Primitives) (f : PrimFault) → TellsEnvironment held from env → TellsPrimitives held from env ps → ReadsEnvironment held from d cells → IsFaultyFor held from d f → ⊥
 primitives_not_faulty clear held from env d cells ps f told (text, tells, stands) first faulty =
     let same : d ≡ env = same_environment clear held from env d cells told first in
     let here : HasPrimitiveFault d text f = subst (λ t. HasPrimitiveFault d t f) (told_is _ text faulty.text tells.held_bytes faulty.read) faulty.faulty in
     clear.primitive_fault text env ps f stands (subst (λ x. HasPrimitiveFault x text f) same here)
 
 -- the primitives that were read are those that are told
-pub same_primitives : TextsAreClear → (held : Told) (from : Sources) (env d : Environment) (cells : List ℕ) (ps qs : Primitives) → TellsEnvironment held from env → TellsPrimitives held from env ps → SaysEnvironment held from d cells → SaysPrimitives held from d qs → qs ≡ ps
+pub same_primitives : TextsAreClear → (held : Told) (from : Sources) (env d : Environment) (cells : List ℕ) (ps qs : Primitives) → TellsEnvironment held from env → TellsPrimitives held from env ps → ReadsEnvironment held from d cells → ReadsPrimitives held from d qs → qs ≡ ps
 same_primitives clear held from env d cells ps qs told (text, tells, stands) first second =
     let same : d ≡ env = same_environment clear held from env d cells told first in
     clear.primitives text env qs ps (subst (λ x. IsPrimitiveText x text qs) same (said_primitives held from d qs text tells second)) stands
@@ -103,7 +103,7 @@ batches_not_long : (held : Told) (name : List ℕ) (m : CellMap) (batches : List
 batches_not_long held name m batches (text, tells, stands) long = too_long_not_short _ text tells long
 
 -- the batches that were read are those that are told
-pub same_batches : TextsAreClear → (held : Told) (changes : Option (List ℕ)) (m : CellMap) (batches others : List (List Write)) → TellsBatches held changes m batches → SaysBatches held changes m others → others ≡ batches
+pub same_batches : TextsAreClear → (held : Told) (changes : Option (List ℕ)) (m : CellMap) (batches others : List (List Write)) → TellsBatches held changes m batches → ReadsBatches held changes m others → others ≡ batches
 same_batches clear held None m batches others told says = says ∙ sym told
 same_batches clear held (Some name) m batches others (text, tells, stands) (t, read, also) =
     clear.changes m text others batches (subst (λ u. IsChangeText m u others) (told_is _ text t tells.held_bytes read) also) stands
@@ -129,92 +129,55 @@ no_memory wanted = inr (inr (inr refl))
 -- ---- what was read where a job came so far
 
 -- the files stand for a world and batches of changes
-pub record SaysCourse (held : Told) (from : Sources) (changes : Option (List ℕ)) : Type 0 where
+pub record ReadsCourse (held : Told) (from : Sources) (changes : Option (List ℕ)) : Type 0 where
   pub world : World
   pub batches : List (List Write)
-  pub says : SaysWorld held from world
-  pub course : SaysBatches held changes world.map batches
+  pub says : ReadsWorld held from world
+  pub course : ReadsBatches held changes world.map batches
 
 same_sources : (s t : Sources) → ◌≡◌ {A = Option Sources} (Some s) (Some t) → s ≡ t
 same_sources s t is = cc
 
-course_from : (held : Told) (s t : Sources) (changes : Option (List ℕ)) → ◌≡◌ {A = Option Sources} (Some s) (Some t) → SaysCourse held s changes → SaysCourse held t changes
-course_from held s t changes is c = subst (λ (u : Sources). SaysCourse held u changes) (same_sources s t is) c
+course_from : (held : Told) (s t : Sources) (changes : Option (List ℕ)) → ◌≡◌ {A = Option Sources} (Some s) (Some t) → ReadsCourse held s changes → ReadsCourse held t changes
+course_from held s t changes is c = subst (λ (u : Sources). ReadsCourse held u changes) (same_sources s t is) c
 
--- the file of labels is tried behind the others
-labels_course : (held : Told) (reads reads' : FaultCounts) (c : CheckJob) (r : Refusal) → IsLabelsCause held reads reads' c r → SaysCourse held c.sources c.changes
-labels_course held reads reads' c (refusal.Environment x) cause = absurd cause
-labels_course held reads reads' c (refusal.Primitives x) cause = absurd cause
-labels_course held reads reads' c (refusal.TooWide x) cause = absurd cause
-labels_course held reads reads' c (refusal.TooDear x) cause = absurd cause
-labels_course held reads reads' c (refusal.Changes x) cause = absurd cause
-labels_course held reads reads' c (refusal.Read input.Environment) cause = absurd cause
-labels_course held reads reads' c (refusal.Read input.Primitives) cause = absurd cause
-labels_course held reads reads' c (refusal.Read input.Changes) cause = absurd cause
-labels_course held reads reads' c (refusal.Read input.Labels) (w, batches, says, changes, at) = record { world = w; batches = batches; says = says; course = changes }
-labels_course held reads reads' c (refusal.Length input.Environment) cause = absurd cause
-labels_course held reads reads' c (refusal.Length input.Primitives) cause = absurd cause
-labels_course held reads reads' c (refusal.Length input.Changes) cause = absurd cause
-labels_course held reads reads' c (refusal.Length input.Labels) (w, batches, says, changes, at) = record { world = w; batches = batches; says = says; course = changes }
+-- the file of labels is tried after the others
+labels_course : (held : Told) (Failed : Names) (c : CheckJob) (r : Refusal) → IsLabelsCause held Failed c r → ReadsCourse held c.sources c.changes
+labels_course held Failed c (refusal.Read input.Labels) (w, batches, says, changes, at) = record { world = w; batches = batches; says = says; course = changes }
+labels_course held Failed c (refusal.Length input.Labels) (w, batches, says, changes, at) = record { world = w; batches = batches; says = says; course = changes }
+labels_course held Failed c _ cause = absurd cause
 
 -- a file of labels was not read: the reading failed, or it is too long
-pub labels_refused : (held : Told) (reads reads' : FaultCounts) (c : CheckJob) (wanted : ℕ) (r : Refusal) → (IsTooLong (held c.labels) → IsOrFailed wanted 8) → IsLabelsCause held reads reads' c r → IsOrFailed wanted (refusal_status r)
-labels_refused held reads reads' c wanted (refusal.Environment x) long cause = absurd cause
-labels_refused held reads reads' c wanted (refusal.Primitives x) long cause = absurd cause
-labels_refused held reads reads' c wanted (refusal.TooWide x) long cause = absurd cause
-labels_refused held reads reads' c wanted (refusal.TooDear x) long cause = absurd cause
-labels_refused held reads reads' c wanted (refusal.Changes x) long cause = absurd cause
-labels_refused held reads reads' c wanted (refusal.Read x) long cause = failed_read wanted
-labels_refused held reads reads' c wanted (refusal.Length input.Environment) long cause = absurd cause
-labels_refused held reads reads' c wanted (refusal.Length input.Primitives) long cause = absurd cause
-labels_refused held reads reads' c wanted (refusal.Length input.Changes) long cause = absurd cause
-labels_refused held reads reads' c wanted (refusal.Length input.Labels) long (w, batches, says, changes, at) = long at
+pub labels_refused : (held : Told) (Failed : Names) (c : CheckJob) (wanted : ℕ) (r : Refusal) → (IsTooLong (held c.labels) → IsOrFailed wanted 8) → IsLabelsCause held Failed c r → IsOrFailed wanted (refusal_status r)
+labels_refused held Failed c wanted (refusal.Read x) long cause = failed_read wanted
+labels_refused held Failed c wanted (refusal.Length input.Labels) long (w, batches, says, changes, at) = long at
+labels_refused held Failed c wanted _ long cause = absurd cause
 
 -- the change file is tried where the others stand for a world
-pub changes_world : (held : Told) (reads reads' : FaultCounts) (from : Sources) (changes : Option (List ℕ)) (r : Refusal) → IsChangesCause held reads reads' from changes r → (w : World) × SaysWorld held from w
-changes_world held reads reads' from changes (refusal.Environment x) cause = absurd cause
-changes_world held reads reads' from changes (refusal.Primitives x) cause = absurd cause
-changes_world held reads reads' from changes (refusal.TooWide x) cause = absurd cause
-changes_world held reads reads' from changes (refusal.TooDear x) cause = absurd cause
-changes_world held reads reads' from changes (refusal.Changes x) (w, says, at) = (w, says)
-changes_world held reads reads' from changes (refusal.Read input.Environment) cause = absurd cause
-changes_world held reads reads' from changes (refusal.Read input.Primitives) cause = absurd cause
-changes_world held reads reads' from changes (refusal.Read input.Changes) (w, says, at) = (w, says)
-changes_world held reads reads' from changes (refusal.Read input.Labels) cause = absurd cause
-changes_world held reads reads' from changes (refusal.Length input.Environment) cause = absurd cause
-changes_world held reads reads' from changes (refusal.Length input.Primitives) cause = absurd cause
-changes_world held reads reads' from changes (refusal.Length input.Changes) (w, says, at) = (w, says)
-changes_world held reads reads' from changes (refusal.Length input.Labels) cause = absurd cause
+pub changes_world : (held : Told) (Failed : Names) (from : Sources) (changes : Option (List ℕ)) (r : Refusal) → IsChangesCause held Failed from changes r → (w : World) × ReadsWorld held from w
+changes_world held Failed from changes (refusal.Changes x) (w, says, at) = (w, says)
+changes_world held Failed from changes (refusal.Read input.Changes) (w, says, at) = (w, says)
+changes_world held Failed from changes (refusal.Length input.Changes) (w, says, at) = (w, says)
+changes_world held Failed from changes _ cause = absurd cause
 
 -- a job is refused for the files of its lattice or its change file; or it is `check`, and they were read
-pub cause_of : (held : Told) (reads reads' : FaultCounts) (j : Job) (from : Sources) (r : Refusal) → sources_of j ≡ Some from → IsJobCause held reads reads' j r → IsEarlyCause held reads reads' from (changes_of j) r ⊎ (SaysCourse held from (changes_of j) × (IsNoCheck j → ⊥))
-cause_of held reads reads' (job.Plan p) from r is cause = inl (subst (λ (s : Sources). IsEarlyCause held reads reads' s p.changes r) (same_sources p.sources from is) cause)
-cause_of held reads reads' (job.Check c) from r is (inl cause) = inl (subst (λ (s : Sources). IsEarlyCause held reads reads' s c.changes r) (same_sources c.sources from is) (inl cause))
-cause_of held reads reads' (job.Check c) from r is (inr (inl cause)) = inl (subst (λ (s : Sources). IsEarlyCause held reads reads' s c.changes r) (same_sources c.sources from is) (inr cause))
-cause_of held reads reads' (job.Check c) from r is (inr (inr cause)) = inr (course_from held c.sources from c.changes is (labels_course held reads reads' c r cause), λ none. none)
-cause_of held reads reads' (job.Sweep s) from r is cause = inl (inl (subst (λ (t : Sources). IsCause held reads reads' t r) (same_sources s from is) cause))
-cause_of held reads reads' (job.Demo d) from r is cause = absurd cause
+pub cause_of : (held : Told) (Failed : Names) (j : Job) (from : Sources) (r : Refusal) → sources_of j ≡ Some from → IsJobCause held Failed j r → IsEarlyCause held Failed from (changes_of j) r ⊎ (ReadsCourse held from (changes_of j) × (IsNoCheck j → ⊥))
+cause_of held Failed (job.Plan p) from r is cause = inl (subst (λ (s : Sources). IsEarlyCause held Failed s p.changes r) (same_sources p.sources from is) cause)
+cause_of held Failed (job.Check c) from r is (inl cause) = inl (subst (λ (s : Sources). IsEarlyCause held Failed s c.changes r) (same_sources c.sources from is) (inl cause))
+cause_of held Failed (job.Check c) from r is (inr (inl cause)) = inl (subst (λ (s : Sources). IsEarlyCause held Failed s c.changes r) (same_sources c.sources from is) (inr cause))
+cause_of held Failed (job.Check c) from r is (inr (inr cause)) = inr (course_from held c.sources from c.changes is (labels_course held Failed c r cause), λ none. none)
+cause_of held Failed (job.Sweep s) from r is cause = inl (inl (subst (λ (t : Sources). IsCause held Failed t r) (same_sources s from is) cause))
+cause_of held Failed (job.Demo d) from r is cause = absurd cause
 
--- A job whose files stand for no world and batches of changes comes to nothing but a refusal or want of memory.
-pub by_intent : (held : Told) (reads reads' : FaultCounts) (wanted : ℕ) (j : Job) (from : Sources) (i : Intent) → sources_of j ≡ Some from → ((r : Refusal) → IsJobCause held reads reads' j r → IsOrFailed wanted (refusal_status r)) → (SaysCourse held from (changes_of j) → ⊥) → ComesTo held reads reads' j i → IsOrFailed wanted (intent_status i)
-by_intent held reads reads' wanted j from (Refused r) is refused none comes = refused r comes
-by_intent held reads reads' wanted (job.Plan p) from (Planned records all) is refused none comes = absurd (none (course_from held p.sources from p.changes is (record { world = comes.world; batches = comes.batches; says = comes.says; course = comes.changes })))
-by_intent held reads reads' wanted (job.Check c) from (Planned records all) is refused none comes = absurd comes
-by_intent held reads reads' wanted (job.Sweep s) from (Planned records all) is refused none comes = absurd comes
-by_intent held reads reads' wanted (job.Demo d) from (Planned records all) is refused none comes = absurd comes
-by_intent held reads reads' wanted (job.Plan p) from (Checked goal os end) is refused none comes = absurd comes
-by_intent held reads reads' wanted (job.Check c) from (Checked goal os end) is refused none comes = absurd (none (course_from held c.sources from c.changes is (record { world = comes.world; batches = comes.batches; says = comes.says; course = comes.changes })))
-by_intent held reads reads' wanted (job.Sweep s) from (Checked goal os end) is refused none comes = absurd comes
-by_intent held reads reads' wanted (job.Demo d) from (Checked goal os end) is refused none comes = absurd comes
-by_intent held reads reads' wanted (job.Plan p) from (Listed w) is refused none comes = absurd comes
-by_intent held reads reads' wanted (job.Check c) from (Listed w) is refused none comes = absurd comes
-by_intent held reads reads' wanted (job.Sweep s) from (Listed w) is refused none comes = absurd (none (course_from held s from None is (record { world = w; batches = []; says = comes.0; course = refl })))
-by_intent held reads reads' wanted (job.Demo d) from (Listed w) is refused none comes = absurd comes
-by_intent held reads reads' wanted (job.Plan p) from (Demonstrated w count records all) is refused none comes = absurd comes
-by_intent held reads reads' wanted (job.Check c) from (Demonstrated w count records all) is refused none comes = absurd comes
-by_intent held reads reads' wanted (job.Sweep s) from (Demonstrated w count records all) is refused none comes = absurd comes
-by_intent held reads reads' wanted (job.Demo d) from (Demonstrated w count records all) is refused none comes = cc
-by_intent held reads reads' wanted j from OutOfMemory is refused none comes = no_memory wanted
+-- A job whose files stand for no world and batches of changes means nothing but a refusal, or memory runs out.
+pub by_intent : (held : Told) (Failed : Names) (wanted : ℕ) (j : Job) (from : Sources) (i : Intent) → sources_of j ≡ Some from → ((r : Refusal) → IsJobCause held Failed j r → IsOrFailed wanted (refusal_status r)) → (ReadsCourse held from (changes_of j) → ⊥) → GivesIntent held Failed j i → IsOrFailed wanted (intent_status i)
+by_intent held Failed wanted j from (Refused r) is refused none gives = refused r gives
+by_intent held Failed wanted j from OutOfMemory is refused none gives = no_memory wanted
+by_intent held Failed wanted (job.Plan p) from (Planned records all) is refused none gives = absurd (none (course_from held p.sources from p.changes is (record { world = gives.world; batches = gives.batches; says = gives.says; course = gives.changes })))
+by_intent held Failed wanted (job.Check c) from (Checked goal os end) is refused none gives = absurd (none (course_from held c.sources from c.changes is (record { world = gives.world; batches = gives.batches; says = gives.says; course = gives.changes })))
+by_intent held Failed wanted (job.Sweep s) from (Listed w) is refused none gives = absurd (none (course_from held s from None is (record { world = w; batches = []; says = gives.0; course = refl })))
+by_intent held Failed wanted (job.Demo d) from (Demonstrated w count records all) is refused none gives = cc
+by_intent held Failed wanted _ from _ is refused none gives = absurd gives
 
 same_name : (a b : List ℕ) → ◌≡◌ {A = Option (List ℕ)} (Some a) (Some b) → a ≡ b
 same_name a b is = cc
@@ -224,67 +187,63 @@ named : (changes : Option (List ℕ)) (P : List ℕ → Type 0) → AtName chang
 named None P at = absurd at
 named (Some name) P at = (name, refl, at)
 
-module _ (clear : TextsAreClear) (held : Told) (reads reads' : FaultCounts) (from : Sources) where
+module _ (clear : TextsAreClear) (held : Told) (Failed : Names) (from : Sources) where
   -- a faulty environment
-  pub environment_faulty : (f : EnvFault) → TellsEnvironmentFault held from f → (r : Refusal) → IsCause held reads reads' from r → IsOrFailed 3 (refusal_status r)
+  pub environment_faulty : (f : EnvFault) → TellsEnvironmentFault held from f → (r : Refusal) → IsCause held Failed from r → IsOrFailed 3 (refusal_status r)
   environment_faulty f tells (refusal.Environment x) p = inl refl
   environment_faulty f tells (refusal.Primitives x) p = absurd (not_said clear held from f _ _ tells p.environment)
   environment_faulty f tells (refusal.TooWide x) p = absurd (not_said clear held from f _ _ tells p.environment)
   environment_faulty f tells (refusal.TooDear x) p = absurd (not_said clear held from f _ _ tells p.environment)
-  environment_faulty f tells (refusal.Changes x) p = absurd p
   environment_faulty f tells (refusal.Read x) p = failed_read 3
   environment_faulty f tells (refusal.Length input.Environment) p = absurd (too_long_not_short _ tells.0 tells.1 p)
   environment_faulty f tells (refusal.Length input.Primitives) p = absurd (not_said clear held from f _ _ tells p.environment)
-  environment_faulty f tells (refusal.Length input.Changes) p = absurd p
-  environment_faulty f tells (refusal.Length input.Labels) p = absurd p
+  environment_faulty f tells _ p = absurd p
 
-  pub environment_faulty_none : (f : EnvFault) → TellsEnvironmentFault held from f → (w : World) → SaysWorld held from w → ⊥
+  pub environment_faulty_none : (f : EnvFault) → TellsEnvironmentFault held from f → (w : World) → ReadsWorld held from w → ⊥
   environment_faulty_none f tells w p = not_said clear held from f _ _ tells p.environment
 
   -- an environment file that is too long
-  pub environment_long : TellsTooMuch (held from.env) → (r : Refusal) → IsCause held reads reads' from r → IsOrFailed 8 (refusal_status r)
+  pub environment_long : TellsTooMuch (held from.env) → (r : Refusal) → IsCause held Failed from r → IsOrFailed 8 (refusal_status r)
   environment_long much (refusal.Environment x) p = absurd (too_much_not_read _ p.text much p.read)
   environment_long much (refusal.Primitives x) p = absurd (not_said_long held from _ _ much p.environment)
   environment_long much (refusal.TooWide x) p = absurd (not_said_long held from _ _ much p.environment)
   environment_long much (refusal.TooDear x) p = absurd (not_said_long held from _ _ much p.environment)
-  environment_long much (refusal.Changes x) p = absurd p
   environment_long much (refusal.Read x) p = failed_read 8
   environment_long much (refusal.Length x) p = inl refl
+  environment_long much _ p = absurd p
 
-  pub environment_long_none : TellsTooMuch (held from.env) → (w : World) → SaysWorld held from w → ⊥
+  pub environment_long_none : TellsTooMuch (held from.env) → (w : World) → ReadsWorld held from w → ⊥
   environment_long_none much w p = not_said_long held from _ _ much p.environment
 
   -- a primitive file that is too long
-  pub primitives_long : (env : Environment) → TellsEnvironment held from env → TellsTooMuch (held from.prims) → (r : Refusal) → IsCause held reads reads' from r → IsOrFailed 8 (refusal_status r)
+  pub primitives_long : (env : Environment) → TellsEnvironment held from env → TellsTooMuch (held from.prims) → (r : Refusal) → IsCause held Failed from r → IsOrFailed 8 (refusal_status r)
   primitives_long env told much (refusal.Environment x) p = absurd (not_faulty clear held from env x p.text told p.read p.faulty)
   primitives_long env told much (refusal.Primitives x) p = absurd (too_much_not_read _ p.primitives.text much p.primitives.read)
   primitives_long env told much (refusal.TooWide x) p = absurd (too_much_not_read _ p.primitives.text much p.primitives.read)
   primitives_long env told much (refusal.TooDear x) p = absurd (too_much_not_read _ p.primitives.text much p.primitives.read)
-  primitives_long env told much (refusal.Changes x) p = absurd p
   primitives_long env told much (refusal.Read x) p = failed_read 8
   primitives_long env told much (refusal.Length x) p = inl refl
+  primitives_long env told much _ p = absurd p
 
-  pub primitives_long_none : (env : Environment) → TellsEnvironment held from env → TellsTooMuch (held from.prims) → (w : World) → SaysWorld held from w → ⊥
+  pub primitives_long_none : (env : Environment) → TellsEnvironment held from env → TellsTooMuch (held from.prims) → (w : World) → ReadsWorld held from w → ⊥
   primitives_long_none env told much w p = too_much_not_read _ p.primitives.text much p.primitives.read
 
   -- faulty primitives
-  pub primitives_faulty : (env : Environment) (f : PrimFault) → TellsEnvironment held from env → TellsPrimitiveFault held from env f → (r : Refusal) → IsCause held reads reads' from r → IsOrFailed 4 (refusal_status r)
+  pub primitives_faulty : (env : Environment) (f : PrimFault) → TellsEnvironment held from env → TellsPrimitiveFault held from env f → (r : Refusal) → IsCause held Failed from r → IsOrFailed 4 (refusal_status r)
   primitives_faulty env f told tells (refusal.Environment x) p = absurd (not_faulty clear held from env x p.text told p.read p.faulty)
   primitives_faulty env f told tells (refusal.Primitives x) p = inl refl
   primitives_faulty env f told tells (refusal.TooWide x) p = inl refl
   primitives_faulty env f told tells (refusal.TooDear x) p = inl refl
-  primitives_faulty env f told tells (refusal.Changes x) p = absurd p
   primitives_faulty env f told tells (refusal.Read x) p = failed_read 4
   primitives_faulty env f told tells (refusal.Length input.Environment) p = absurd (environment_not_long held from env told p)
   primitives_faulty env f told tells (refusal.Length input.Primitives) p = absurd (too_long_not_short _ tells.0 tells.1 p.holds)
-  primitives_faulty env f told tells (refusal.Length input.Changes) p = absurd p
-  primitives_faulty env f told tells (refusal.Length input.Labels) p = absurd p
+  primitives_faulty env f told tells _ p = absurd p
 
-  pub primitives_faulty_none : (env : Environment) (f : PrimFault) → TellsEnvironment held from env → TellsPrimitiveFault held from env f → (w : World) → SaysWorld held from w → ⊥
+  pub primitives_faulty_none : (env : Environment) (f : PrimFault) → TellsEnvironment held from env → TellsPrimitiveFault held from env f → (w : World) → ReadsWorld held from w → ⊥
   primitives_faulty_none env f told tells w p = faulty_not_said clear held from env _ _ _ f told tells p.environment p.primitives
 
   -- good primitives, of which none, or one, passes a limit
-  pub primitives_good : (env : Environment) (ps : Primitives) → TellsEnvironment held from env → TellsPrimitives held from env ps → (wanted : ℕ) → ((i : ℕ) → IsFirstTooWide ps from.radius i → IsOrFailed wanted 4) → ((i : ℕ) → NoneTooWide ps from.radius → IsFirstTooDear env ps.items i → IsOrFailed wanted 4) → (r : Refusal) → IsCause held reads reads' from r → IsOrFailed wanted (refusal_status r)
+  pub primitives_good : (env : Environment) (ps : Primitives) → TellsEnvironment held from env → TellsPrimitives held from env ps → (wanted : ℕ) → ((i : ℕ) → IsFirstTooWide ps from.radius i → IsOrFailed wanted 4) → ((i : ℕ) → NoneTooWide ps from.radius → IsFirstTooDear env ps.items i → IsOrFailed wanted 4) → (r : Refusal) → IsCause held Failed from r → IsOrFailed wanted (refusal_status r)
   primitives_good env ps told tells wanted wide dear (refusal.Environment x) p = absurd (not_faulty clear held from env x p.text told p.read p.faulty)
   primitives_good env ps told tells wanted wide dear (refusal.Primitives x) p = absurd (primitives_not_faulty clear held from env _ _ ps x told tells p.environment p.primitives)
   primitives_good env ps told tells wanted wide dear (refusal.TooWide x) p =
@@ -293,75 +252,67 @@ module _ (clear : TextsAreClear) (held : Told) (reads reads' : FaultCounts) (fro
       let same = same_primitives clear held from env _ _ ps _ told tells p.environment p.primitives in
       dear x (subst (λ (qs : Primitives). NoneTooWide qs from.radius) same p.narrow)
       (subst (λ (e : Environment). IsFirstTooDear e ps.items x) (same_environment clear held from env _ _ told p.environment) (subst (λ (qs : Primitives). IsFirstTooDear p.env qs.items x) same p.dear))
-  primitives_good env ps told tells wanted wide dear (refusal.Changes x) p = absurd p
   primitives_good env ps told tells wanted wide dear (refusal.Read x) p = failed_read wanted
   primitives_good env ps told tells wanted wide dear (refusal.Length input.Environment) p = absurd (environment_not_long held from env told p)
   primitives_good env ps told tells wanted wide dear (refusal.Length input.Primitives) p = absurd (too_long_not_short _ tells.0 tells.1 p.holds)
-  primitives_good env ps told tells wanted wide dear (refusal.Length input.Changes) p = absurd p
-  primitives_good env ps told tells wanted wide dear (refusal.Length input.Labels) p = absurd p
+  primitives_good env ps told tells wanted wide dear _ p = absurd p
 
   -- a primitive that is too wide
-  pub too_wide_none : (env : Environment) (ps : Primitives) (i : ℕ) → TellsEnvironment held from env → TellsPrimitives held from env ps → IsFirstTooWide ps from.radius i → (w : World) → SaysWorld held from w → ⊥
+  pub too_wide_none : (env : Environment) (ps : Primitives) (i : ℕ) → TellsEnvironment held from env → TellsPrimitives held from env ps → IsFirstTooWide ps from.radius i → (w : World) → ReadsWorld held from w → ⊥
   too_wide_none env ps i told tells wide w p =
       let same = same_primitives clear held from env _ _ ps _ told tells p.environment p.primitives in
       none_is_widest ps from.radius i (subst (λ (qs : Primitives). NoneTooWide qs from.radius) same p.narrow) wide
 
   -- a primitive that is too dear
-  pub too_dear_none : (env : Environment) (ps : Primitives) (i : ℕ) → TellsEnvironment held from env → TellsPrimitives held from env ps → IsFirstTooDear env ps.items i → (w : World) → SaysWorld held from w → ⊥
+  pub too_dear_none : (env : Environment) (ps : Primitives) (i : ℕ) → TellsEnvironment held from env → TellsPrimitives held from env ps → IsFirstTooDear env ps.items i → (w : World) → ReadsWorld held from w → ⊥
   too_dear_none env ps i told tells dear w p =
       let same = same_primitives clear held from env _ _ ps _ told tells p.environment p.primitives in
       let like = same_environment clear held from env _ _ told p.environment in
       none_is_first env ps i (subst (λ (e : Environment). NoneTooDear e ps) like (subst (λ (qs : Primitives). NoneTooDear w.env qs) same p.cheap)) dear
 
   -- good files of a lattice are refused for the change file alone
-  pub good_refused : (m : CellMap) (changes : Option (List ℕ)) (wanted : ℕ) → AreGood held from m → ((name : List ℕ) (f : ChangeFault) → changes ≡ Some name → IsFaultyChanges held name m f → IsOrFailed wanted 5) → ((name : List ℕ) → changes ≡ Some name → IsTooLong (held name) → IsOrFailed wanted 8) → (r : Refusal) → IsEarlyCause held reads reads' from changes r → IsOrFailed wanted (refusal_status r)
+  pub good_refused : (m : CellMap) (changes : Option (List ℕ)) (wanted : ℕ) → AreGood held from m → ((name : List ℕ) (f : ChangeFault) → changes ≡ Some name → IsFaultyChanges held name m f → IsOrFailed wanted 5) → ((name : List ℕ) → changes ≡ Some name → IsTooLong (held name) → IsOrFailed wanted 8) → (r : Refusal) → IsEarlyCause held Failed from changes r → IsOrFailed wanted (refusal_status r)
   good_refused m changes wanted good faulty long r (inl cause) =
       primitives_good good.env good.prims good.environment good.primitives wanted (λ k h. absurd (none_is_widest good.prims from.radius k good.narrow h)) (λ k n h. absurd (none_is_first good.env good.prims k good.cheap h)) r cause
   good_refused m changes wanted good faulty long r (inr cause) = by_changes r cause
     where
-      by_changes : (r : Refusal) → IsChangesCause held reads reads' from changes r → IsOrFailed wanted (refusal_status r)
-      by_changes (refusal.Environment x) p = absurd p
-      by_changes (refusal.Primitives x) p = absurd p
-      by_changes (refusal.TooWide x) p = absurd p
-      by_changes (refusal.TooDear x) p = absurd p
+      by_changes : (r : Refusal) → IsChangesCause held Failed from changes r → IsOrFailed wanted (refusal_status r)
       by_changes (refusal.Changes x) (w, says, at) =
           let found = named changes (λ name. IsFaultyChanges held name w.map x) at in
           faulty found.0 x found.1 (subst (λ (n : CellMap). IsFaultyChanges held found.0 n x) (same_map clear held from m w good.map says) found.2)
       by_changes (refusal.Read x) p = failed_read wanted
-      by_changes (refusal.Length input.Environment) p = absurd p
-      by_changes (refusal.Length input.Primitives) p = absurd p
       by_changes (refusal.Length input.Changes) (w, says, at) = let found = named changes (λ name. IsTooLong (held name)) at in long found.0 found.1 found.2
-      by_changes (refusal.Length input.Labels) p = absurd p
+      by_changes _ p = absurd p
 
   -- and not even for that, where it stands for batches: then a failed reading alone is left
-  pub all_good : (m : CellMap) (changes : Option (List ℕ)) (batches : List (List Write)) (wanted : ℕ) → AreGood held from m → TellsBatches held changes m batches → (r : Refusal) → IsEarlyCause held reads reads' from changes r → IsOrFailed wanted (refusal_status r)
+  pub all_good : (m : CellMap) (changes : Option (List ℕ)) (batches : List (List Write)) (wanted : ℕ) → AreGood held from m → TellsBatches held changes m batches → (r : Refusal) → IsEarlyCause held Failed from changes r → IsOrFailed wanted (refusal_status r)
   all_good m changes batches wanted good told =
       good_refused m changes wanted good
       (λ name f is faulty. absurd (batches_not_faulty clear held name m batches f (subst (λ (o : Option (List ℕ)). TellsBatches held o m batches) is told) faulty))
       (λ name is long. absurd (batches_not_long held name m batches (subst (λ (o : Option (List ℕ)). TellsBatches held o m batches) is told) long))
 
   -- a change file that is too long
-  pub changes_long : (m : CellMap) (changes : Option (List ℕ)) (name : List ℕ) → AreGood held from m → changes ≡ Some name → TellsTooMuch (held name) → (r : Refusal) → IsEarlyCause held reads reads' from changes r → IsOrFailed 8 (refusal_status r)
+  pub changes_long : (m : CellMap) (changes : Option (List ℕ)) (name : List ℕ) → AreGood held from m → changes ≡ Some name → TellsTooMuch (held name) → (r : Refusal) → IsEarlyCause held Failed from changes r → IsOrFailed 8 (refusal_status r)
   changes_long m changes name good is much =
       good_refused m changes 8 good
-      (λ other f also faulty. absurd (too_much_not_read (held name) faulty.text much (subst (λ (n : List ℕ). IsRead (held n) faulty.text) (same_name other name (sym also ∙ is)) faulty.read)))
+      (λ other f also faulty. absurd (too_much_not_read (held name) faulty.text much (subst (λ (n : List ℕ). IsReadText (held n) faulty.text) (same_name other name (sym also ∙ is)) faulty.read)))
       (λ other also long. inl refl)
 
-  pub changes_long_none : (changes : Option (List ℕ)) (name : List ℕ) → changes ≡ Some name → TellsTooMuch (held name) → SaysCourse held from changes → ⊥
+  pub changes_long_none : (changes : Option (List ℕ)) (name : List ℕ) → changes ≡ Some name → TellsTooMuch (held name) → ReadsCourse held from changes → ⊥
   changes_long_none changes name is much c =
-      let said = subst (λ (o : Option (List ℕ)). SaysBatches held o c.world.map c.batches) is c.course in
+      let said = subst (λ (o : Option (List ℕ)). ReadsBatches held o c.world.map c.batches) is c.course in
       too_much_not_read (held name) said.0 much said.1
 
   -- a faulty change file
-  pub changes_faulty : (m : CellMap) (changes : Option (List ℕ)) (f : ChangeFault) → AreGood held from m → TellsChangeFault held changes m f → (r : Refusal) → IsEarlyCause held reads reads' from changes r → IsOrFailed 5 (refusal_status r)
+  pub changes_faulty : (m : CellMap) (changes : Option (List ℕ)) (f : ChangeFault) → AreGood held from m → TellsChangeFault held changes m f → (r : Refusal) → IsEarlyCause held Failed from changes r → IsOrFailed 5 (refusal_status r)
   changes_faulty m changes f good (name, text, is, tells, faulty) =
       good_refused m changes 5 good
       (λ other g also p. inl refl)
       (λ other also long. absurd (too_long_not_short (held name) text tells (subst (λ (n : List ℕ). IsTooLong (held n)) (same_name other name (sym also ∙ is)) long)))
 
-  pub changes_faulty_none : (m : CellMap) (changes : Option (List ℕ)) (f : ChangeFault) → AreGood held from m → TellsChangeFault held changes m f → SaysCourse held from changes → ⊥
+  pub changes_faulty_none : (m : CellMap) (changes : Option (List ℕ)) (f : ChangeFault) → AreGood held from m → TellsChangeFault held changes m f → ReadsCourse held from changes → ⊥
   changes_faulty_none m changes f good (name, text, is, tells, faulty) c =
-      let said = subst (λ (o : Option (List ℕ)). SaysBatches held o c.world.map c.batches) is c.course in
+      let said = subst (λ (o : Option (List ℕ)). ReadsBatches held o c.world.map c.batches) is c.course in
       let here : IsChangeText c.world.map text c.batches = subst (λ (t : List ℕ). IsChangeText c.world.map t c.batches) (told_is (held name) text said.0 tells.held_bytes said.1) said.2 in
       clear.change_fault m text c.batches f (subst (λ (n : CellMap). IsChangeText n text c.batches) (same_map clear held from m c.world good.map c.says) here) faulty
 

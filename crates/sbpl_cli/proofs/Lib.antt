@@ -1,3 +1,4 @@
+pub mod Frames
 pub mod Writings
 pub mod Laws
 pub mod Converse
@@ -17,6 +18,6 @@ pub mod SameRecords
 pub mod SamePlanned
 pub mod SameLines
 pub mod SameChecked
-pub mod Fronts
+pub mod Prefixes
 pub mod OneRefusal
 pub mod Wholes

@@ -1,32 +1,32 @@
 -- Writes that are made in turn, of which some are left.
-use Rattle.std.proofs.Common.{◌≡◌, ◌≢◌, ℕ, ◌+◌, ◌<◌, ◌≤◌, suc, List, [], ◌∷◌, ◌++◌, length, map, drop, get_or, Result, Ok, Err, refl, sym, ◌∙◌, ap, subst, append_assoc, add-one, drop-cons, arith}
+use Rattle.std.proofs.Common.{◌≡◌, ℕ, ◌+◌, ◌<◌, ◌≤◌, suc, List, [], ◌∷◌, ◌++◌, length, map, drop, get_or, Result, Ok, Err, refl, sym, ◌∙◌, ap, subst, append_assoc, add-one, drop-cons, arith}
 use Rattle.std.proofs.lemmas.List.{drop_all}
 use Rattle.std.proofs.lemmas.List.FromFn.{length-map-range_with_len, get_or-map-range_with_len}
-use Rattle.sbpl_desk.specs.Desk.{NoneFalls, Stays}
+use Rattle.sbpl_desk.specs.Desk.{NoneFalls}
 use Rattle.sbpl_desk.specs.declared.desk.WriteStop.{WriteStop}
 use Rattle.sbpl_cost.specs.World.{World}
 use Rattle.sbpl_cli.specs.Intents.{last_write}
 use Rattle.sbpl_cli.specs.Listing.{listing_at, listings}
-use Rattle.sbpl_cli.specs.Writing.{AreMade, EndsIn, FaultCounts, Told, Write, output, to_output}
-use Rattle.sbpl_cli.proofs.Writings.{ends_behind, ends_first, made_both, none_made}
+use Rattle.sbpl_cli.specs.Writing.{AreAppended, DeskState, EndsIn, IsOutput, Write, WritesOnly, to_output}
+use Rattle.sbpl_cli.proofs.Writings.{ends_after, ends_first, made_both, none_made}
 
 -- some of these writes were made, and these are left
-pub record Makes (before now : Told) (f g : FaultCounts) (whole left : List Write) : Type 0 where
+pub record Makes (before now : DeskState) (whole left : List Write) : Type 0 where
   pub first : List Write
   pub parted : whole ≡ first ++ left
-  pub made : AreMade before now first
-  pub low : NoneFalls f g
+  pub made : AreAppended before now first
+  pub low : NoneFalls before.write_faults now.write_faults
 
-pub begins : (before : Told) (f : FaultCounts) (whole : List Write) → Makes before before f f whole whole
-begins before f whole = record { first = []; parted = refl; made = none_made before before (λ n. refl); low = λ n. omega arith }
+pub begins : (before : DeskState) (whole : List Write) → Makes before before whole whole
+begins before whole = record { first = []; parted = refl; made = none_made before before (λ n. refl); low = λ n. omega arith }
 
 -- what is left was made, or its making ended so
-pub makes_rest : (T : Type 0) (before mid after : Told) (f g h : FaultCounts) (whole left : List Write) (r : Result T WriteStop) → Makes before mid f g whole left → EndsIn {T = T} mid after g h left r → EndsIn {T = T} before after f h whole r
-makes_rest T before mid after f g h whole left r so ends = subst (λ (l : List Write). EndsIn {T = T} before after f h l r) (sym so.parted) (ends_behind T before mid after f g h so.first left r so.made so.low ends)
+pub makes_rest : (T : Type 0) (before mid after : DeskState) (whole left : List Write) (r : Result T WriteStop) → Makes before mid whole left → EndsIn {T = T} mid after left r → EndsIn {T = T} before after whole r
+makes_rest T before mid after whole left r so ends = subst (λ (l : List Write). EndsIn {T = T} before after l r) (sym so.parted) (ends_after T before mid after so.first left r so.made so.low ends)
 
 -- the next write was made
-pub makes_one : (T : Type 0) (before mid after : Told) (f g h : FaultCounts) (whole left : List Write) (w : Write) (x : T) → Makes before mid f g whole (w ∷ left) → EndsIn {T = T} mid after g h (w ∷ []) (Ok x) → NoneFalls g h → Makes before after f h whole left
-makes_one T before mid after f g h whole left w x so ends low = record {
+pub makes_one : (T : Type 0) (before mid after : DeskState) (whole left : List Write) (w : Write) (x : T) → Makes before mid whole (w ∷ left) → EndsIn {T = T} mid after (w ∷ []) (Ok x) → NoneFalls mid.write_faults after.write_faults → Makes before after whole left
+makes_one T before mid after whole left w x so ends low = record {
   first = so.first ++ w ∷ [];
   parted = so.parted ∙ sym (append_assoc so.first (w ∷ []) left);
   made = made_both before mid after so.first (w ∷ []) so.made ends;
@@ -34,8 +34,8 @@ makes_one T before mid after f g h whole left w x so ends low = record {
 }
 
 -- the next write ended the making
-pub makes_no_more : (S T : Type 0) (before mid after : Told) (f g h : FaultCounts) (whole left : List Write) (w : Write) (e : WriteStop) → Makes before mid f g whole (w ∷ left) → EndsIn {T = S} mid after g h (w ∷ []) (Err e) → EndsIn {T = T} before after f h whole (Err e)
-makes_no_more S T before mid after f g h whole left w e so ends = makes_rest T before mid after f g h whole (w ∷ left) (Err e) so (ends_first S T mid after g h (w ∷ []) left e ends)
+pub makes_no_more : (S T : Type 0) (before mid after : DeskState) (whole left : List Write) (w : Write) (e : WriteStop) → Makes before mid whole (w ∷ left) → EndsIn {T = S} mid after (w ∷ []) (Err e) → EndsIn {T = T} before after whole (Err e)
+makes_no_more S T before mid after whole left w e so ends = makes_rest T before mid after whole (w ∷ left) (Err e) so (ends_first S T mid after (w ∷ []) left e ends)
 
 -- the writes of a listing from a primitive on
 abbrev pub writes_from : World → ℕ → List Write
@@ -54,8 +54,6 @@ none_from w i past =
     ap (λ (l : List (List ℕ)). map to_output l ++ last_write ∷ []) (drop_all i (listings w) long)
 
 -- how far a listing has come
-pub record IsListingTo (held held' written written' : Told) (reads reads' faults faults' : FaultCounts) (w : World) (i : ℕ) : Type 0 where
-  pub makes : Makes written written' faults faults' (writes_from w 0) (writes_from w i)
-  pub stays : Stays held held'
-  pub others : (name : List ℕ) → name ≢ output → written' name ≡ written name
-  pub low : NoneFalls reads reads'
+pub record IsListingTo (before now : DeskState) (w : World) (i : ℕ) : Type 0 where
+  pub makes : Makes before now (writes_from w 0) (writes_from w i)
+  pub frame : WritesOnly IsOutput before now

@@ -13,20 +13,19 @@ use Rattle.sbpl_cert.specs.Flaws.{HasNoFlaw}
 use Rattle.sbpl_cert.specs.Sections.{Section}
 use Rattle.sbpl_cert.specs.Text.{AreTokens, AreTokensOf, HasFault, IsOf}
 use Rattle.sbpl_cli.specs.Clear.{SectionsAreClear}
-use Rattle.sbpl_cost.specs.Lattices.{network_of}
+use Rattle.sbpl_cost.specs.Lattices.{network_of, states_are}
 use Rattle.sbpl_cost.specs.States.{state_count, state_number}
 use Rattle.sbpl_cost.specs.Alike.{AlikeWorldsAreOneGraph}
 use Rattle.sbpl_cost.specs.World.{IsWorld, World}
 use Rattle.sbpl_map.specs.CellMap.{CellMap, IsCellMap}
 use Rattle.sbpl_map.specs.MapAfter.{IsMapAfter}
 use Rattle.sbpl_map.specs.declared.write.Write.{Write}
-use Rattle.sbpl_cli.specs.declared.checking.SectionStop.{SectionStop}
-use Rattle.sbpl_cli.specs.declared.checking.SectionStop.TheVariants as section
+use Rattle.sbpl_cli.specs.declared.section_check.SectionStop.{SectionStop}
+use Rattle.sbpl_cli.specs.declared.section_check.SectionStop.TheVariants as section
 use Rattle.sbpl_cli.specs.Checked.{AreChecked, Case, IsFlawed, IsGraphAfter, IsHolding, IsShownHolding, IsStoppedIn, IsTrailingAt}
 use Rattle.sbpl_cli.specs.Headline.{IsStateOf}
 use Rattle.sbpl_cli.specs.Intents.{checked_status}
 use Rattle.sbpl_cli.specs.Promises.{IsOrFailed}
-use Rattle.sbpl_cost.proofs.Views.{states_are}
 
 place_by : (x y t u v w : ℕ) → x ≡ u → y ≡ v → t ≡ w → ◌≡◌ {A = Place} (record { x = x; y = y; t = t }) (record { x = u; y = v; t = w })
 place_by x y t u v w a b c = cc
@@ -93,7 +92,7 @@ module _ (clear : SectionsAreClear) (one : OneMap) (c : Case) where
   trailing_none [] f none p = p
   trailing_none (t ∷ ts) f none p = cc
 
-  -- behind the last section
+  -- after the last section
   behind_alike : (plan : ℕ) (left : Left) (a b : Option SectionStop) → a ≢ Some section.NoMemory → AreChecked IsHolding c plan zero left [] a → AreChecked IsHolding c plan zero left [] b → EndAlike a b
   behind_alike plan left None None some p q = inl refl
   behind_alike plan left None (Some (section.Flaw g)) some p q = absurd q
@@ -120,9 +119,9 @@ module _ (clear : SectionsAreClear) (one : OneMap) (c : Case) where
   one_ending (suc more) plan left (o ∷ os) [] a (Some section.NoMemory) some p q = no_memory_left a
   one_ending (suc more) plan left (o ∷ os) [] a (Some (section.Flaw f)) some (n, after, rest, is, p) q = absurd (holds_not_stopped n plan left rest o (section.Flaw f) (λ no. cc) after is q)
   one_ending (suc more) plan left (o ∷ os) [] a (Some (section.Fault f)) some (n, after, rest, is, p) q = absurd (holds_not_stopped n plan left rest o (section.Fault f) (λ no. cc) after is q)
-  one_ending (suc more) plan left (o ∷ os) (o' ∷ ps) a b some (n, after, rest, is, p) (m, later, behind, also, q) =
-      let tokens : rest.tokens ≡ behind.tokens = (clear.one left.tokens rest.tokens behind.tokens is.section also.section is.tokens also.tokens).1 in
-      let same : behind ≡ rest = same_left behind rest (sym tokens) (also.same_end ∙ sym is.same_end) in
+  one_ending (suc more) plan left (o ∷ os) (o' ∷ ps) a b some (n, after, rest, is, p) (m, later, carried, also, q) =
+      let tokens : rest.tokens ≡ carried.tokens = (clear.one left.tokens rest.tokens carried.tokens is.section also.section is.tokens also.tokens).1 in
+      let same : carried ≡ rest = same_left carried rest (sym tokens) (also.same_end ∙ sym is.same_end) in
       one_ending more (plan + 1) rest os ps a b some p (subst (λ (l : Left). AreChecked IsHolding c (plan + 1) more l ps b) same q)
 
 -- ---- alike worlds

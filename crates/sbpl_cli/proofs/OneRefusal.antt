@@ -1,7 +1,6 @@
 -- The files of a job call for one refusal, or for none.
 use Rattle.std.proofs.Common.{◌≡◌, ◌⊎◌, ℕ, ◌^◌, ◌<◌, ◌≤◌, Option, Some, None, List, IsSome, IfSome, length, refl, sym, ap, subst, ◌∙◌, arith, inl, inr}
 use Rattle.std.proofs.lemmas.Bool.{cases_lt, false≢true}
-use Rattle.sbpl_desk.specs.Desk.{Rose}
 use Rattle.sbpl_cfg.specs.declared.fault.EnvFault.{EnvFault}
 use Rattle.sbpl_cfg.specs.Environment.{Environment}
 use Rattle.sbpl_mprim.specs.declared.fault.PrimFault.{PrimFault}
@@ -19,16 +18,16 @@ use Rattle.sbpl_cli.specs.declared.refusal.Input.{Input}
 use Rattle.sbpl_cli.specs.declared.refusal.Input.TheVariants as input
 use Rattle.sbpl_cli.specs.declared.refusal.Refusal.{Refusal}
 use Rattle.sbpl_cli.specs.declared.refusal.Refusal.TheVariants as refusal
-use Rattle.sbpl_cli.specs.Causes.{AtName, IsCause, IsChangesCause, IsFaultyChanges, IsFaultyEnvironment, IsFaultyFor, IsLabelsCause, IsRead, IsTooLong, SaysBatches, SaysEnvironment, SaysPrimitives, SaysWorld}
+use Rattle.sbpl_cli.specs.Causes.{AtName, IsCause, IsChangesCause, IsFaultyChanges, IsFaultyEnvironment, IsFaultyFor, IsLabelsCause, IsReadText, IsTooLong, ReadsBatches, ReadsEnvironment, ReadsPrimitives, ReadsWorld}
 use Rattle.sbpl_cli.specs.Clear.{TextsAreClear}
 use Rattle.sbpl_cli.specs.Determined.{IsSource}
 use Rattle.sbpl_cli.specs.Texts.{HasChangeFault, HasEnvironmentFault, HasPrimitiveFault, IsChangeText, IsEnvironmentText, IsPrimitiveText}
-use Rattle.sbpl_cli.specs.Writing.{FaultCounts, IsNamed, Told}
+use Rattle.sbpl_cli.specs.Writing.{IsNamed, Names, Told}
 use Rattle.sbpl_cli.proofs.Converse.{none_is_first, none_is_widest}
 use Rattle.sbpl_cli.proofs.SamePlanned.{one_world, read_once}
 
 -- a file that was read is not too long
-read_is_short : (held : Option (List ℕ)) (text : List ℕ) → IsSome held → IsRead held text → IsTooLong held → ⊥
+read_is_short : (held : Option (List ℕ)) (text : List ℕ) → IsSome held → IsReadText held text → IsTooLong held → ⊥
 read_is_short None text told read long = false≢true told
 read_is_short (Some bytes) text told read long =
     let short : length text ≤ 2 ^ 30 = read.short in
@@ -72,11 +71,11 @@ AreUnfit from e ps r =
     ⊎ ((i : ℕ) × (r ≡ refusal.TooDear i) × NoneTooWide ps from.radius × IsFirstTooDear e ps.items i)
 
 abbrev IsSecondBad : Told → Sources → Environment → Refusal → Type 0
-IsSecondBad held from e r = AreBadPrimitives held from e r ⊎ ((ps : Primitives) × SaysPrimitives held from e ps × AreUnfit from e ps r)
+IsSecondBad held from e r = AreBadPrimitives held from e r ⊎ ((ps : Primitives) × ReadsPrimitives held from e ps × AreUnfit from e ps r)
 
 -- the files of a lattice call for this refusal
 abbrev pub AreBadSources : Told → Sources → Refusal → Type 0
-AreBadSources held from r = IsBadEnvironment held from r ⊎ ((e : Environment) × (cells : List ℕ) × SaysEnvironment held from e cells × IsSecondBad held from e r)
+AreBadSources held from r = IsBadEnvironment held from r ⊎ ((e : Environment) × (cells : List ℕ) × ReadsEnvironment held from e cells × IsSecondBad held from e r)
 
 -- the change file is faulty or too long, on this map
 abbrev AreBadChanges : Told → CellMap → Refusal → List ℕ → Type 0
@@ -85,17 +84,17 @@ AreBadChanges held m r name =
     ⊎ ((r ≡ refusal.Length input.Changes) × IsTooLong (held name))
 
 abbrev pub IsBadCourse : Told → Sources → Option (List ℕ) → Refusal → Type 0
-IsBadCourse held from changes r = (w : World) × SaysWorld held from w × AtName changes (AreBadChanges held w.map r)
+IsBadCourse held from changes r = (w : World) × ReadsWorld held from w × AtName changes (AreBadChanges held w.map r)
 
 -- the file of labels is too long
 abbrev pub AreBadLabels : Told → CheckJob → Refusal → Type 0
 AreBadLabels held j r =
-    (w : World) × (batches : List (List Write)) × SaysWorld held j.sources w × SaysBatches held j.changes w.map batches
+    (w : World) × (batches : List (List Write)) × ReadsWorld held j.sources w × ReadsBatches held j.changes w.map batches
     × ((r ≡ refusal.Length input.Labels) × IsTooLong (held j.labels))
 
 -- a read of a file with this property failed, and this says so
-abbrev pub IsFailedRead : (List ℕ → Type 0) → FaultCounts → FaultCounts → Refusal → Type 0
-IsFailedRead IsOne f g r = (i : Input) × (r ≡ refusal.Read i) × ((name : List ℕ) × IsOne name × Rose (f name) (g name))
+abbrev pub IsFailedRead : (IsOne Failed : Names) → Refusal → Type 0
+IsFailedRead IsOne Failed r = (i : Input) × (r ≡ refusal.Read i) × ((name : List ℕ) × IsOne name × Failed name)
 
 -- a name with a property of which something holds
 named_at : (o : Option (List ℕ)) (P : List ℕ → Type 0) → AtName o P → (name : List ℕ) × (o ≡ Some name) × P name
@@ -107,57 +106,34 @@ at_name_on None P Q on at = at
 at_name_on (Some name) P Q on at = on name at
 
 -- why a job is refused for the files of its lattice is one of these, or a read failed
-pub source_cause : (held : Told) (f g : FaultCounts) (from : Sources) (r : Refusal) → IsCause held f g from r → AreBadSources held from r ⊎ IsFailedRead (IsSource from) f g r
-source_cause held f g from (refusal.Environment x) c = inl (inl (inl (x, refl, c)))
-source_cause held f g from (refusal.Primitives x) c = inl (inr (c.env, c.cells, c.environment, inl (inl (x, refl, c.primitives))))
-source_cause held f g from (refusal.TooWide i) c = inl (inr (c.env, c.cells, c.environment, inr (c.prims, c.primitives, inl (i, refl, c.wide))))
-source_cause held f g from (refusal.TooDear i) c = inl (inr (c.env, c.cells, c.environment, inr (c.prims, c.primitives, inr (i, refl, c.narrow, c.dear))))
-source_cause held f g from (refusal.Changes x) c = absurd c
-source_cause held f g from (refusal.Read input.Environment) c = inr (input.Environment, refl, (from.env, inl refl, c))
-source_cause held f g from (refusal.Read input.Primitives) c = inr (input.Primitives, refl, (from.prims, inr refl, c.holds))
-source_cause held f g from (refusal.Read input.Changes) c = absurd c
-source_cause held f g from (refusal.Read input.Labels) c = absurd c
-source_cause held f g from (refusal.Length input.Environment) c = inl (inl (inr (refl, c)))
-source_cause held f g from (refusal.Length input.Primitives) c = inl (inr (c.env, c.cells, c.environment, inl (inr (refl, c.holds))))
-source_cause held f g from (refusal.Length input.Changes) c = absurd c
-source_cause held f g from (refusal.Length input.Labels) c = absurd c
+pub source_cause : (held : Told) (Failed : Names) (from : Sources) (r : Refusal) → IsCause held Failed from r → AreBadSources held from r ⊎ IsFailedRead (IsSource from) Failed r
+source_cause held Failed from (refusal.Environment x) c = inl (inl (inl (x, refl, c)))
+source_cause held Failed from (refusal.Primitives x) c = inl (inr (c.env, c.cells, c.environment, inl (inl (x, refl, c.primitives))))
+source_cause held Failed from (refusal.TooWide i) c = inl (inr (c.env, c.cells, c.environment, inr (c.prims, c.primitives, inl (i, refl, c.wide))))
+source_cause held Failed from (refusal.TooDear i) c = inl (inr (c.env, c.cells, c.environment, inr (c.prims, c.primitives, inr (i, refl, c.narrow, c.dear))))
+source_cause held Failed from (refusal.Read input.Environment) c = inr (input.Environment, refl, (from.env, inl refl, c))
+source_cause held Failed from (refusal.Read input.Primitives) c = inr (input.Primitives, refl, (from.prims, inr refl, c.holds))
+source_cause held Failed from (refusal.Length input.Environment) c = inl (inl (inr (refl, c)))
+source_cause held Failed from (refusal.Length input.Primitives) c = inl (inr (c.env, c.cells, c.environment, inl (inr (refl, c.holds))))
+source_cause held Failed from _ c = absurd c
 
-pub course_cause : (held : Told) (f g : FaultCounts) (from : Sources) (changes : Option (List ℕ)) (r : Refusal) → IsChangesCause held f g from changes r → IsBadCourse held from changes r ⊎ IsFailedRead (IsNamed changes) f g r
-course_cause held f g from changes (refusal.Environment x) c = absurd c
-course_cause held f g from changes (refusal.Primitives x) c = absurd c
-course_cause held f g from changes (refusal.TooWide x) c = absurd c
-course_cause held f g from changes (refusal.TooDear x) c = absurd c
-course_cause held f g from changes (refusal.Changes x) (w, says, at) =
+pub course_cause : (held : Told) (Failed : Names) (from : Sources) (changes : Option (List ℕ)) (r : Refusal) → IsChangesCause held Failed from changes r → IsBadCourse held from changes r ⊎ IsFailedRead (IsNamed changes) Failed r
+course_cause held Failed from changes (refusal.Changes x) (w, says, at) =
     inl (w, says, at_name_on changes (λ name. IsFaultyChanges held name w.map x) (AreBadChanges held w.map (refusal.Changes x)) (λ name faulty. inl (x, refl, faulty)) at)
-course_cause held f g from changes (refusal.Read input.Environment) c = absurd c
-course_cause held f g from changes (refusal.Read input.Primitives) c = absurd c
-course_cause held f g from changes (refusal.Read input.Changes) (w, says, at) =
-    let found = named_at changes (λ name. Rose (f name) (g name)) at in
+course_cause held Failed from changes (refusal.Read input.Changes) (w, says, at) =
+    let found = named_at changes Failed at in
     inr (input.Changes, refl, (found.0, found.1, found.2))
-course_cause held f g from changes (refusal.Read input.Labels) c = absurd c
-course_cause held f g from changes (refusal.Length input.Environment) c = absurd c
-course_cause held f g from changes (refusal.Length input.Primitives) c = absurd c
-course_cause held f g from changes (refusal.Length input.Changes) (w, says, at) =
+course_cause held Failed from changes (refusal.Length input.Changes) (w, says, at) =
     inl (w, says, at_name_on changes (λ name. IsTooLong (held name)) (AreBadChanges held w.map (refusal.Length input.Changes)) (λ name long. inr (refl, long)) at)
-course_cause held f g from changes (refusal.Length input.Labels) c = absurd c
+course_cause held Failed from changes _ c = absurd c
 
-pub labels_cause : (held : Told) (f g : FaultCounts) (j : CheckJob) (r : Refusal) → IsLabelsCause held f g j r → AreBadLabels held j r ⊎ IsFailedRead (λ name. name ≡ j.labels) f g r
-labels_cause held f g j (refusal.Environment x) c = absurd c
-labels_cause held f g j (refusal.Primitives x) c = absurd c
-labels_cause held f g j (refusal.TooWide x) c = absurd c
-labels_cause held f g j (refusal.TooDear x) c = absurd c
-labels_cause held f g j (refusal.Changes x) c = absurd c
-labels_cause held f g j (refusal.Read input.Environment) c = absurd c
-labels_cause held f g j (refusal.Read input.Primitives) c = absurd c
-labels_cause held f g j (refusal.Read input.Changes) c = absurd c
-labels_cause held f g j (refusal.Read input.Labels) (w, batches, says, changes, rose) = inr (input.Labels, refl, (j.labels, refl, rose))
-labels_cause held f g j (refusal.Length input.Environment) c = absurd c
-labels_cause held f g j (refusal.Length input.Primitives) c = absurd c
-labels_cause held f g j (refusal.Length input.Changes) c = absurd c
-labels_cause held f g j (refusal.Length input.Labels) (w, batches, says, changes, long) = inl (w, batches, says, changes, (refl, long))
+pub labels_cause : (held : Told) (Failed : Names) (j : CheckJob) (r : Refusal) → IsLabelsCause held Failed j r → AreBadLabels held j r ⊎ IsFailedRead (λ name. name ≡ j.labels) Failed r
+labels_cause held Failed j (refusal.Read input.Labels) (w, batches, says, changes, rose) = inr (input.Labels, refl, (j.labels, refl, rose))
+labels_cause held Failed j (refusal.Length input.Labels) (w, batches, says, changes, long) = inl (w, batches, says, changes, (refl, long))
+labels_cause held Failed j _ c = absurd c
 
 -- where the file of labels was read, it is not too long
-pub labels_read : (held : Told) (j : CheckJob) → IsSome (held j.labels) → (r : Refusal) (text : List ℕ) → AreBadLabels held j r → IsRead (held j.labels) text → ⊥
+pub labels_read : (held : Told) (j : CheckJob) → IsSome (held j.labels) → (r : Refusal) (text : List ℕ) → AreBadLabels held j r → IsReadText (held j.labels) text → ⊥
 labels_read held j told r text (w, batches, says, course, (is, long)) read = read_is_short (held j.labels) text told read long
 
 -- ---- two of them are one
@@ -175,14 +151,14 @@ module _ (clear : TextsAreClear) (held : Told) where
     one_environment r u (inr (is, long)) (inl (g, also, y)) = absurd (read_is_short (held from.env) y.text told_env y.read long)
     one_environment r u (inr (is, long)) (inr (also, too)) = is ∙ sym also
 
-    not_environment : (r : Refusal) (e : Environment) (cells : List ℕ) → IsBadEnvironment held from r → SaysEnvironment held from e cells → ⊥
+    not_environment : (r : Refusal) (e : Environment) (cells : List ℕ) → IsBadEnvironment held from r → ReadsEnvironment held from e cells → ⊥
     not_environment r e cells (inl (f, is, x)) says =
         let text : says.text ≡ x.text = read_once (held from.env) says.text x.text told_env says.read x.read in
         let own : IsEnvironmentText x.text e cells = subst (λ (t : List ℕ). IsEnvironmentText t e cells) text says.stands in
         clear.environment_fault x.text e cells f own x.faulty
     not_environment r e cells (inr (is, long)) says = read_is_short (held from.env) says.text told_env says.read long
 
-    same_said : (e d : Environment) (cells others : List ℕ) → SaysEnvironment held from e cells → SaysEnvironment held from d others → d ≡ e
+    same_said : (e d : Environment) (cells others : List ℕ) → ReadsEnvironment held from e cells → ReadsEnvironment held from d others → d ≡ e
     same_said e d cells others x y =
         let text : y.text ≡ x.text = read_once (held from.env) y.text x.text told_env y.read x.read in
         let own : IsEnvironmentText x.text d others = subst (λ (t : List ℕ). IsEnvironmentText t d others) text y.stands in
@@ -199,14 +175,14 @@ module _ (clear : TextsAreClear) (held : Told) where
     one_primitives e r u (inr (is, long)) (inl (g, also, y)) = absurd (read_is_short (held from.prims) y.text told_prims y.read long)
     one_primitives e r u (inr (is, long)) (inr (also, too)) = is ∙ sym also
 
-    not_primitives : (e : Environment) (r : Refusal) (ps : Primitives) → AreBadPrimitives held from e r → SaysPrimitives held from e ps → ⊥
+    not_primitives : (e : Environment) (r : Refusal) (ps : Primitives) → AreBadPrimitives held from e r → ReadsPrimitives held from e ps → ⊥
     not_primitives e r ps (inl (f, is, x)) says =
         let text : says.text ≡ x.text = read_once (held from.prims) says.text x.text told_prims says.read x.read in
         let own : IsPrimitiveText e x.text ps = subst (λ (t : List ℕ). IsPrimitiveText e t ps) text says.stands in
         clear.primitive_fault x.text e ps f own x.faulty
     not_primitives e r ps (inr (is, long)) says = read_is_short (held from.prims) says.text told_prims says.read long
 
-    same_listed : (e : Environment) (ps qs : Primitives) → SaysPrimitives held from e ps → SaysPrimitives held from e qs → qs ≡ ps
+    same_listed : (e : Environment) (ps qs : Primitives) → ReadsPrimitives held from e ps → ReadsPrimitives held from e qs → qs ≡ ps
     same_listed e ps qs x y =
         let text : y.text ≡ x.text = read_once (held from.prims) y.text x.text told_prims y.read x.read in
         let own : IsPrimitiveText e x.text qs = subst (λ (t : List ℕ). IsPrimitiveText e t qs) text y.stands in
@@ -234,20 +210,20 @@ module _ (clear : TextsAreClear) (held : Told) where
 
     -- where the files stand for a world there is none
 
-    fits_world : (w : World) (e : Environment) (ps : Primitives) (r : Refusal) → SaysWorld held from w → w.env ≡ e → w.prims ≡ ps → AreUnfit from e ps r → ⊥
+    fits_world : (w : World) (e : Environment) (ps : Primitives) (r : Refusal) → ReadsWorld held from w → w.env ≡ e → w.prims ≡ ps → AreUnfit from e ps r → ⊥
     fits_world w e ps r says env prims (inl (i, is, x)) = none_is_widest w.prims from.radius i says.narrow (subst (λ (l : Primitives). IsFirstTooWide l from.radius i) (sym prims) x)
     fits_world w e ps r says env prims (inr (i, is, narrow, x)) =
         let own : IsFirstTooDear w.env w.prims.items i = rw (env, prims) x in
         none_is_first w.env w.prims i says.cheap own
 
-    second_world : (w : World) (e : Environment) (r : Refusal) → SaysWorld held from w → w.env ≡ e → IsSecondBad held from e r → ⊥
+    second_world : (w : World) (e : Environment) (r : Refusal) → ReadsWorld held from w → w.env ≡ e → IsSecondBad held from e r → ⊥
     second_world w e r says env (inl x) =
-        not_primitives e r w.prims x (subst (λ (d : Environment). SaysPrimitives held from d w.prims) env says.primitives)
+        not_primitives e r w.prims x (subst (λ (d : Environment). ReadsPrimitives held from d w.prims) env says.primitives)
     second_world w e r says env (inr (ps, also, x)) =
-        let own : SaysPrimitives held from e w.prims = subst (λ (d : Environment). SaysPrimitives held from d w.prims) env says.primitives in
+        let own : ReadsPrimitives held from e w.prims = subst (λ (d : Environment). ReadsPrimitives held from d w.prims) env says.primitives in
         fits_world w e ps r says env (same_listed e ps w.prims also own) x
 
-    pub not_world : (w : World) (r : Refusal) → AreBadSources held from r → SaysWorld held from w → ⊥
+    pub not_world : (w : World) (r : Refusal) → AreBadSources held from r → ReadsWorld held from w → ⊥
     not_world w r (inl x) says = not_environment r w.env says.cells x says.environment
     not_world w r (inr (e, cells, also, x)) says = second_world w e r says (same_said e w.env cells says.cells also says.environment) x
 
@@ -263,7 +239,7 @@ module _ (clear : TextsAreClear) (held : Told) where
       one_changes m r u name told (inr (is, long)) (inl (g, also, y)) = absurd (read_is_short (held name) y.text told y.read long)
       one_changes m r u name told (inr (is, long)) (inr (also, too)) = is ∙ sym also
 
-      not_changes : (m : CellMap) (r : Refusal) (batches : List (List Write)) (name : List ℕ) → IsSome (held name) → AreBadChanges held m r name → SaysBatches held (Some name) m batches → ⊥
+      not_changes : (m : CellMap) (r : Refusal) (batches : List (List Write)) (name : List ℕ) → IsSome (held name) → AreBadChanges held m r name → ReadsBatches held (Some name) m batches → ⊥
       not_changes m r batches name told (inl (f, is, x)) (t, read, stands) =
           let text : t ≡ x.text = read_once (held name) t x.text told read x.read in
           let own : IsChangeText m x.text batches = subst (λ (l : List ℕ). IsChangeText m l batches) text stands in
@@ -274,7 +250,7 @@ module _ (clear : TextsAreClear) (held : Told) where
       at_course m None r u told x y = absurd x
       at_course m (Some name) r u told x y = one_changes m r u name told x y
 
-      off_course : (m : CellMap) (o : Option (List ℕ)) (r : Refusal) (batches : List (List Write)) → IfSome o (λ name. IsSome (held name)) → AtName o (AreBadChanges held m r) → SaysBatches held o m batches → ⊥
+      off_course : (m : CellMap) (o : Option (List ℕ)) (r : Refusal) (batches : List (List Write)) → IfSome o (λ name. IsSome (held name)) → AtName o (AreBadChanges held m r) → ReadsBatches held o m batches → ⊥
       off_course m None r batches told x says = x
       off_course m (Some name) r batches told x says = not_changes m r batches name told x says
 
@@ -283,7 +259,7 @@ module _ (clear : TextsAreClear) (held : Told) where
           let alike = one_world clear held from w v told_env told_prims says also in
           at_course w.map changes r u told_changes x (subst (λ (m : CellMap). AtName changes (AreBadChanges held m u)) alike.map y)
 
-      pub not_course : (w : World) (batches : List (List Write)) (r : Refusal) → IsBadCourse held from changes r → SaysWorld held from w → SaysBatches held changes w.map batches → ⊥
+      pub not_course : (w : World) (batches : List (List Write)) (r : Refusal) → IsBadCourse held from changes r → ReadsWorld held from w → ReadsBatches held changes w.map batches → ⊥
       not_course w batches r (v, also, x) says course =
           let alike = one_world clear held from w v told_env told_prims says also in
           off_course w.map changes r batches told_changes (subst (λ (m : CellMap). AtName changes (AreBadChanges held m r)) alike.map x) course

@@ -4,8 +4,8 @@ use Rattle.sbpl_graph.specs.Network.{Network}
 use Rattle.sbpl_graph.specs.Path.{IsFreePath}
 use Rattle.sbpl_cost.specs.World.{World}
 use Rattle.sbpl_cost.specs.Lattices.{network_of}
-use Rattle.sbpl_cli.specs.declared.record.Step.{Step}
-use Rattle.sbpl_cli.specs.Headline.{AreSteps, IsPathFrom, IsStep}
+use Rattle.sbpl_cli.specs.declared.record.PathStep.{PathStep}
+use Rattle.sbpl_cli.specs.Headline.{AreSteps, IsPathFrom, IsPathStep}
 
 -- what the first arc of a free path is
 pub record IsFirstArc (n : Network) (s k : ℕ) : Type 0 where
@@ -13,7 +13,7 @@ pub record IsFirstArc (n : Network) (s k : ℕ) : Type 0 where
   pub number : k < n.fan s
   pub head : IsSome (n.head s k)
 
--- behind the first arc the path goes on from its head
+-- after the first arc the path goes on from its head
 pub path_behind : (n : Network) (s k u : ℕ) (ks : List ℕ) → IsPathFrom n s (k ∷ ks) → n.head s k ≡ Some u → IsPathFrom n u ks
 path_behind n s k u ks path head =
     let arc : n.head s k ≡ Some path.2.0 = path.2.3.head in
@@ -21,11 +21,11 @@ path_behind n s k u ks path head =
     (path.0, path.2.2, subst (λ x. IsFreePath n x ks path.0 path.2.2) same path.2.4)
 
 -- steps so far that are completed by those of the arcs that are left
-abbrev pub Completes : World → ℕ → List ℕ → ℕ → List ℕ → List Step → Type 0
-Completes w from arcs at left steps = (others : List Step) → AreSteps w at left others → AreSteps w from arcs (steps ++ others)
+abbrev pub Completes : World → ℕ → List ℕ → ℕ → List ℕ → List PathStep → Type 0
+Completes w from arcs at left steps = (others : List PathStep) → AreSteps w at left others → AreSteps w from arcs (steps ++ others)
 
-pub one_more : (w : World) (from at k u : ℕ) (arcs ks : List ℕ) (steps : List Step) (step : Step) → Completes w from arcs at (k ∷ ks) steps → (network_of w).head at k ≡ Some u → IsStep w at k u step → Completes w from arcs u ks (steps ++ step ∷ [])
+pub one_more : (w : World) (from at k u : ℕ) (arcs ks : List ℕ) (steps : List PathStep) (step : PathStep) → Completes w from arcs at (k ∷ ks) steps → (network_of w).head at k ≡ Some u → IsPathStep w at k u step → Completes w from arcs u ks (steps ++ step ∷ [])
 one_more w from at k u arcs ks steps step done head is others more = rw append_assoc (done (step ∷ others) (u, head, is, more))
 
-pub all_done : (w : World) (from at : ℕ) (arcs : List ℕ) (steps : List Step) → Completes w from arcs at [] steps → AreSteps w from arcs steps
+pub all_done : (w : World) (from at : ℕ) (arcs : List ℕ) (steps : List PathStep) → Completes w from arcs at [] steps → AreSteps w from arcs steps
 all_done w from at arcs steps done = subst (λ l. AreSteps w from arcs l) (append-nil steps) (done [] tt)

@@ -15,9 +15,9 @@ use Rattle.sbpl_cost.specs.World.{World}
 use Rattle.sbpl_map.specs.CellMap.{CellMap}
 use Rattle.sbpl_map.specs.declared.write.Write.{Write}
 use Rattle.sbpl_job.specs.declared.job.CheckJob.{CheckJob}
-use Rattle.sbpl_cli.specs.declared.checking.SectionStop.{SectionStop}
-use Rattle.sbpl_cli.specs.declared.checking.SectionStop.TheVariants as section
-use Rattle.sbpl_cli.specs.Causes.{SaysBatches}
+use Rattle.sbpl_cli.specs.declared.section_check.SectionStop.{SectionStop}
+use Rattle.sbpl_cli.specs.declared.section_check.SectionStop.TheVariants as section
+use Rattle.sbpl_cli.specs.Causes.{ReadsBatches}
 use Rattle.sbpl_cli.specs.Checked.{AreChecked, Case, IsFlawed, IsHolding, IsShownHolding, IsStoppedIn, IsTrailingAt}
 use Rattle.sbpl_cli.specs.Clear.{SectionsAreClear, TextsAreClear}
 use Rattle.sbpl_cli.specs.Headline.{IsStateOf}
@@ -29,7 +29,7 @@ use Rattle.sbpl_cli.specs.Writing as writing
 use Rattle.sbpl_cli.proofs.OneEnding.{OneMap, checked_on, holds_not_stopped, one_graph, one_state, readable, same_graph, same_left, trailing_none}
 use Rattle.sbpl_cli.proofs.SamePlanned.{one_course, one_world, read_once}
 
--- the first checking goes as far as the second: both are one, or memory ran out in it behind the first few sections that hold
+-- the first checking goes as far as the second: both are one, or memory ran out in it after the first few sections that hold
 abbrev pub GoesAsFar : List Outcome → List Outcome → Option SectionStop → Option SectionStop → Type 0
 GoesAsFar os ps a b = ((os ≡ ps) × (a ≡ b)) ⊎ ((a ≡ Some section.NoMemory) × ((rest : List Outcome) × (ps ≡ os ++ rest)))
 
@@ -60,7 +60,7 @@ module _ (clear : SectionsAreClear) (one : OneMap) (c : Case) where
   stops_as_far plan left (section.Flaw f) section.NoMemory some p q = absurd (some refl)
   stops_as_far plan left (section.Fault f) section.NoMemory some p q = absurd (some refl)
 
-  -- behind the last section
+  -- after the last section
   ends_as_far : (plan : ℕ) (left : Left) (a b : Option SectionStop) → b ≢ Some section.NoMemory → AreChecked IsHolding c plan zero left [] a → AreChecked IsHolding c plan zero left [] b → GoesAsFar [] [] a b
   ends_as_far plan left None None some p q = inl (refl, refl)
   ends_as_far plan left None (Some (section.Flaw g)) some p q = absurd q
@@ -77,7 +77,7 @@ module _ (clear : SectionsAreClear) (one : OneMap) (c : Case) where
   one_more o o' os ps a b same (inl (outcomes, ends)) = inl (λ i. same i ∷ outcomes i, ends)
   one_more o o' os ps a b same (inr (out, (rest, parted))) = inr (out, (rest, λ i. (sym same) i ∷ parted i))
 
-  -- the checking of so many sections
+  -- the checking of this number of sections
   pub goes_as_far : (more plan : ℕ) (left : Left) (os ps : List Outcome) (a b : Option SectionStop) → b ≢ Some section.NoMemory → AreChecked IsHolding c plan more left os a → AreChecked IsHolding c plan more left ps b → GoesAsFar os ps a b
   goes_as_far zero plan left [] [] a b some p q = ends_as_far plan left a b some p q
   goes_as_far zero plan left (o ∷ os) ps a b some p q = absurd p
@@ -90,10 +90,10 @@ module _ (clear : SectionsAreClear) (one : OneMap) (c : Case) where
   goes_as_far (suc more) plan left [] (o ∷ ps) (Some (section.Fault f)) b some p (n, after, rest, is, q) = absurd (holds_not_stopped clear one c n plan left rest o (section.Fault f) (λ no. cc) after is p)
   goes_as_far (suc more) plan left (o ∷ os) [] a None some p q = absurd q
   goes_as_far (suc more) plan left (o ∷ os) [] a (Some t) some (n, after, rest, is, p) q = absurd (holds_not_stopped clear one c n plan left rest o t (λ no. some (ap (λ (x : SectionStop). Some x) no)) after is q)
-  goes_as_far (suc more) plan left (o ∷ os) (o' ∷ ps) a b some (n, after, rest, is, p) (m, later, behind, also, q) =
-      let both = clear.one left.tokens rest.tokens behind.tokens is.section also.section is.tokens also.tokens in
+  goes_as_far (suc more) plan left (o ∷ os) (o' ∷ ps) a b some (n, after, rest, is, p) (m, later, carried, also, q) =
+      let both = clear.one left.tokens rest.tokens carried.tokens is.section also.section is.tokens also.tokens in
       let outcome : o ≡ o' = sym is.says ∙ ap (λ (s : Section). s.outcome) both.0 ∙ also.says in
-      let same : behind ≡ rest = same_left clear one c behind rest (sym both.1) (also.same_end ∙ sym is.same_end) in
+      let same : carried ≡ rest = same_left clear one c carried rest (sym both.1) (also.same_end ∙ sym is.same_end) in
       one_more o o' os ps a b outcome (goes_as_far more (plan + 1) rest os ps a b some p (subst (λ (l : Left). AreChecked IsHolding c (plan + 1) more l ps b) same q))
 
 -- ---- the writes
@@ -136,7 +136,7 @@ module _ (clear : TextsAreClear) (sections : SectionsAreClear) (one : OneMap) (g
       let w = x.world in
       let v = y.world in
       let alike = one_world clear held j.sources w v told_env told_prims x.says y.says in
-      let course : SaysBatches held j.changes w.map y.batches = subst (λ (m : CellMap). SaysBatches held j.changes m y.batches) alike.map y.changes in
+      let course : ReadsBatches held j.changes w.map y.batches = subst (λ (m : CellMap). ReadsBatches held j.changes m y.batches) alike.map y.changes in
       let batches : y.batches ≡ x.batches = sym (one_course clear held j.changes w.map x.batches y.batches told_changes x.changes course) in
       let text : y.text ≡ x.text = read_once (held j.labels) y.text x.text told_labels y.read x.read in
       let from : y.in_world.start ≡ x.in_world.start = one_state w.env w.env.start y.in_world.start x.in_world.start (subst (λ (e : Environment). IsStateOf e e.start y.in_world.start) alike.env y.in_world.start_is) x.in_world.start_is in

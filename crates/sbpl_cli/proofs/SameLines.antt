@@ -11,14 +11,14 @@ use Rattle.sbpl_sweep.specs.declared.cell.Cell.{Cell}
 use Rattle.sbpl_sweep.specs.Centres.{AreCentres, AreSwept, IsBefore}
 use Rattle.sbpl_sweep.specs.Swept.{AreSweepsOf, Swept}
 use Rattle.sbpl_map.specs.CellMap.{CellMap}
-use Rattle.sbpl_cost.specs.Lattices.{network_of}
+use Rattle.sbpl_cost.specs.Lattices.{network_of, states_are}
 use Rattle.sbpl_cost.specs.States.{state_count}
 use Rattle.sbpl_cost.specs.World.{World}
 use Rattle.sbpl_cfg.specs.Environment.{Environment}
 use Rattle.sbpl_job.specs.declared.job.DemoJob.{DemoJob}
 use Rattle.sbpl_job.specs.declared.job.Sources.{Sources}
 use Rattle.sbpl_cli.specs.declared.record.PlanRecord.{PlanRecord}
-use Rattle.sbpl_cli.specs.Causes.{AreDemonstrated, IsDrawn, SaysWorld, demo_search, no_outputs}
+use Rattle.sbpl_cli.specs.Causes.{AreDemonstrated, IsDrawn, ReadsWorld, demo_search, no_outputs}
 use Rattle.sbpl_cli.specs.Determined.{AreAlikeWorlds, FewAreFirst, RecordsAreOne}
 use Rattle.sbpl_cli.specs.Headline.{ArePlans}
 use Rattle.sbpl_cli.specs.Intents.{last_write, listing_writes}
@@ -28,7 +28,6 @@ use Rattle.sbpl_cli.specs.Writing.{Told, to_output}
 use Rattle.sbpl_cli.specs.Clear.{TextsAreClear}
 use Rattle.sbpl_cli.proofs.SameGuide.{made}
 use Rattle.sbpl_cli.proofs.SamePlanned.{one_world}
-use Rattle.sbpl_cost.proofs.Views.{states_are}
 
 -- ---- a demonstration
 
@@ -152,7 +151,7 @@ module _ (e : Environment) (ps : Primitives) (m : CellMap) (radius : ℕ) (sweep
   one_list_of_sweeps = λ k. map to_output (map (λ i. one_listing i (slice_get ps.items i) refl k) (range_with_len 0 (length ps.items))) ++ last_write ∷ []
 
 -- what is listed of any worlds that the files stand for is one
-pub one_listed : TextsAreClear → (held : Told) (from : Sources) (w v : World) → IsSome (held from.env) → IsSome (held from.prims) → SaysWorld held from w → SaysWorld held from v → listing_writes v ≡ listing_writes w
+pub one_listed : TextsAreClear → (held : Told) (from : Sources) (w v : World) → IsSome (held from.env) → IsSome (held from.prims) → ReadsWorld held from w → ReadsWorld held from v → listing_writes v ≡ listing_writes w
 one_listed clear held from w v told_env told_prims says also =
     let alike = one_world clear held from w v told_env told_prims says also in
     let env = alike.env in

@@ -8,7 +8,7 @@ use Rattle.sbpl_cost.specs.World.{World}
 use Rattle.sbpl_job.specs.declared.job.PlanJob.{PlanJob}
 use Rattle.sbpl_job.specs.declared.job.Sources.{Sources}
 use Rattle.sbpl_cli.specs.declared.record.PlanRecord.{PlanRecord}
-use Rattle.sbpl_cli.specs.Causes.{ArePlanned, IsRead, SaysBatches, SaysWorld}
+use Rattle.sbpl_cli.specs.Causes.{ArePlanned, IsReadText, ReadsBatches, ReadsWorld}
 use Rattle.sbpl_cli.specs.Determined.{AreAlikeWorlds, FewAreFirst, RecordsAreOne}
 use Rattle.sbpl_cli.specs.Headline.{ArePlans}
 use Rattle.sbpl_cli.specs.Texts.{IsChangeText, IsEnvironmentText, IsPrimitiveText}
@@ -16,13 +16,13 @@ use Rattle.sbpl_cli.specs.Writing.{Told}
 use Rattle.sbpl_cli.specs.Clear.{TextsAreClear}
 
 -- what is read of a file that the desk tells is one
-pub read_once : (held : Option (List ℕ)) (t u : List ℕ) → IsSome held → IsRead held t → IsRead held u → t ≡ u
+pub read_once : (held : Option (List ℕ)) (t u : List ℕ) → IsSome held → IsReadText held t → IsReadText held u → t ≡ u
 read_once None t u told x y = absurd (false≢true told)
 read_once (Some text) t u told x y = x.told ∙ sym y.told
 
 module _ (clear : TextsAreClear) (held : Told) where
   -- the files stand for one world but for how cells stand in the tables of sweeps
-  pub one_world : (from : Sources) (w v : World) → IsSome (held from.env) → IsSome (held from.prims) → SaysWorld held from w → SaysWorld held from v → AreAlikeWorlds w v
+  pub one_world : (from : Sources) (w v : World) → IsSome (held from.env) → IsSome (held from.prims) → ReadsWorld held from w → ReadsWorld held from v → AreAlikeWorlds w v
   one_world from w v told_env told_prims x y =
       let text : y.environment.text ≡ x.environment.text = read_once (held from.env) y.environment.text x.environment.text told_env y.environment.read x.environment.read in
       let stands : IsEnvironmentText x.environment.text v.env y.cells = subst (λ (t : List ℕ). IsEnvironmentText t v.env y.cells) text y.environment.stands in
@@ -44,7 +44,7 @@ module _ (clear : TextsAreClear) (held : Told) where
 
   -- and for one list of batches of changes
   pub one_course : (changes : Option (List ℕ)) (m : CellMap) (batches others : List (List Write)) → IfSome changes (λ name. IsSome (held name))
-      → SaysBatches held changes m batches → SaysBatches held changes m others → batches ≡ others
+      → ReadsBatches held changes m batches → ReadsBatches held changes m others → batches ≡ others
   one_course None m batches others told x y = x ∙ sym y
   one_course (Some name) m batches others told x y =
       let text : y.0 ≡ x.0 = read_once (held name) y.0 x.0 told y.1 x.1 in
@@ -56,7 +56,7 @@ module _ (clear : TextsAreClear) (held : Told) where
       → ArePlanned held j rs all → ArePlanned held j us true → (rest : List PlanRecord) × (us ≡ rs ++ rest)
   few_planned first j rs us all told_env told_prims told_changes x y =
       let alike = one_world j.sources x.world y.world told_env told_prims x.says y.says in
-      let course : SaysBatches held j.changes x.world.map y.batches = subst (λ (m : CellMap). SaysBatches held j.changes m y.batches) alike.map y.changes in
+      let course : ReadsBatches held j.changes x.world.map y.batches = subst (λ (m : CellMap). ReadsBatches held j.changes m y.batches) alike.map y.changes in
       let batches : x.batches ≡ y.batches = one_course j.changes x.world.map x.batches y.batches told_changes x.changes course in
       let plans : ArePlans y.world x.batches j.search j.outputs us true = subst (λ (bs : List (List Write)). ArePlans y.world bs j.search j.outputs us true) (sym batches) y.plans in
       first x.world y.world x.batches j.search j.outputs rs us all alike x.plans plans
@@ -65,7 +65,7 @@ module _ (clear : TextsAreClear) (held : Told) where
       → ArePlanned held j rs true → ArePlanned held j us true → rs ≡ us
   one_planned one j rs us told_env told_prims told_changes x y =
       let alike = one_world j.sources x.world y.world told_env told_prims x.says y.says in
-      let course : SaysBatches held j.changes x.world.map y.batches = subst (λ (m : CellMap). SaysBatches held j.changes m y.batches) alike.map y.changes in
+      let course : ReadsBatches held j.changes x.world.map y.batches = subst (λ (m : CellMap). ReadsBatches held j.changes m y.batches) alike.map y.changes in
       let batches : x.batches ≡ y.batches = one_course j.changes x.world.map x.batches y.batches told_changes x.changes course in
       let plans : ArePlans y.world x.batches j.search j.outputs us true = subst (λ (bs : List (List Write)). ArePlans y.world bs j.search j.outputs us true) (sym batches) y.plans in
       one x.world y.world x.batches j.search j.outputs rs us alike x.plans plans

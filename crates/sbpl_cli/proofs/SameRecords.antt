@@ -20,24 +20,30 @@ use Rattle.sbpl_cert.specs.Sections.{Section, row_at}
 use Rattle.sbpl_cert.specs.Sections as section
 use Rattle.sbpl_cert.specs.declared.row.Row.{Row}
 use Rattle.sbpl_labels.specs.Marks.{Marks, states_of, g_of, v_of, back_of}
-use Rattle.sbpl_ara.specs.Run.{none_closed}
-use Rattle.sbpl_ara.proofs.Guiding.{StaysPlaced, run_placed}
+use Rattle.sbpl_search.specs.Determined.{AreAlikeGuides, AreBeginningsDetermined, AreDetermined}
+use Rattle.sbpl_search.specs.Meaning.{Meaning}
+use Rattle.sbpl_serial.specs.declared.step.Step as expansion
+use Rattle.sbpl_serial.specs.Determined.{InitialLabelsAreOne}
+use Rattle.sbpl_ara.specs.Planner.{ara}
+use Rattle.sbpl_adstar.specs.Planner.{adstar}
+use Rattle.sbpl_job.specs.declared.job.Planner.{Planner}
+use Rattle.sbpl_job.specs.declared.job.Planner.TheVariants as planner
 use Rattle.sbpl_plan.specs.declared.ask.Ask.{Ask}
 use Rattle.sbpl_plan.specs.declared.passes.Pass.{Pass}
 use Rattle.sbpl_plan.specs.declared.result.Outcome as search
 use Rattle.sbpl_plan.specs.declared.result.Outcome.TheVariants as result
 use Rattle.sbpl_plan.specs.Asked.{lowered}
-use Rattle.sbpl_plan.specs.Determined.{AreAlikeGuides, AreWithin, OutcomesAreOne, PassesAreOne}
-use Rattle.sbpl_plan.specs.Outcomes.{IsOutcome}
+use Rattle.sbpl_plan.specs.Determined.{AreWithin, OutcomesAreOne, PassesAreOne}
+use Rattle.sbpl_plan.specs.Outcomes.{IsResultOf}
 use Rattle.sbpl_plan.specs.Passing.{ArePasses, Inquiry, expansions, query_at}
 use Rattle.sbpl_job.specs.declared.job.Outputs.{Outputs}
 use Rattle.sbpl_job.specs.declared.job.SearchJob.{SearchJob}
-use Rattle.sbpl_cli.specs.declared.record.Step.{Step}
+use Rattle.sbpl_cli.specs.declared.record.PathStep.{PathStep}
 use Rattle.sbpl_cli.specs.declared.record.Outcome.{Outcome}
 use Rattle.sbpl_cli.specs.declared.record.Outcome.TheVariants as outcome
 use Rattle.sbpl_cli.specs.declared.record.PlanRecord.{PlanRecord}
-use Rattle.sbpl_cli.specs.Asked.{ask_of}
-use Rattle.sbpl_cli.specs.Headline.{ArePlans, AreRecords, AreSteps, Behind, IsMarked, IsPlanOf, IsSearched, Joins, TellsResult, expanded_before}
+use Rattle.sbpl_cli.specs.Asked.{ask_of, means_of}
+use Rattle.sbpl_cli.specs.Headline.{ArePlans, AreRecords, AreSteps, Carried, IsMarked, IsPlanOf, IsSearched, Joins, IsSameResult, expanded_before}
 use Rattle.sbpl_cli.specs.Determined.{FewAreFirst, RecordsAreOne}
 use Rattle.sbpl_cli.specs.Shown.{IsShown, IsThere}
 use Rattle.sbpl_cli.proofs.OneEnding.{OneMap, one_state}
@@ -48,7 +54,7 @@ use Rattle.sbpl_cli.proofs.SameGuide.{made, one_best}
 
 -- the steps of the same arcs are one
 one_steps : (e : Environment) (ps : Primitives) (sweeps others : Swept) (m : CellMap) → network_of (made e ps sweeps m) ≡ network_of (made e ps others m)
-    → (s u : ℕ) → s ≡ u → (arcs : List ℕ) (xs ys : List Step) → AreSteps (made e ps sweeps m) s arcs xs → AreSteps (made e ps others m) u arcs ys → xs ≡ ys
+    → (s u : ℕ) → s ≡ u → (arcs : List ℕ) (xs ys : List PathStep) → AreSteps (made e ps sweeps m) s arcs xs → AreSteps (made e ps others m) u arcs ys → xs ≡ ys
 one_steps e ps sweeps others m same s u at [] [] [] left right = refl
 one_steps e ps sweeps others m same s u at [] [] (y ∷ ys) left right = absurd right
 one_steps e ps sweeps others m same s u at [] (x ∷ xs) ys left right = absurd left
@@ -66,7 +72,7 @@ one_steps e ps sweeps others m same s u at (k ∷ ks) (x ∷ xs) (y ∷ ys) left
 
 -- the outcome that tells a result is one
 one_told : (e : Environment) (ps : Primitives) (sweeps others : Swept) (m : CellMap) → network_of (made e ps sweeps m) ≡ network_of (made e ps others m)
-    → (start goal : ℕ) (r : search.Outcome) (o p : Outcome) → TellsResult r o → TellsResult r p
+    → (start goal : ℕ) (r : search.Outcome) (o p : Outcome) → IsSameResult r o → IsSameResult r p
     → Joins (made e ps sweeps m) start goal o → Joins (made e ps others m) start goal p → o ≡ p
 one_told e ps sweeps others m same start goal (result.Path arcs cost bound) (outcome.Path x) (outcome.Path y) told also joins joins' =
     let way : x.arcs ≡ y.arcs = told.0 ∙ sym also.0 in
@@ -132,63 +138,81 @@ one_mark budget before false r u same a b = a ∙ sym b
 
 -- ---- a plan
 
--- passes keep the start and the states
-passes_placed : (q : Inquiry) (ps : List Pass) (eps : ℕ) (old new : Marks) (spent : Bool) → ArePasses q eps old ps new spent → StaysPlaced old new
-passes_placed q [] eps old new spent made = absurd made
-passes_placed q (p ∷ ps) eps old new spent (inl made) = run_placed (query_at q eps) none_closed made.1.steps old new made.1.run
-passes_placed q (p ∷ ps) eps old new spent (inr made) =
-    let first = run_placed (query_at q eps) none_closed made.1.steps old made.0 made.1.run in
-    let rest = passes_placed q ps (lowered q.ask.step eps) made.0 new spent made.3 in
-    record { start = rest.start ∙ first.start; states = rest.states ∙ first.states; no_arc = λ none. rest.no_arc (first.no_arc none) }
+-- what stays the same over a plan: the start, how many states there are, and that the start has no back arc
+record StaysPlaced (old new : Marks) : Type 0 where
+  start : new.start ≡ old.start
+  states : states_of new ≡ states_of old
+  no_arc : back_of old old.start ≡ None → back_of new new.start ≡ None
+
+passes_placed : {Note : Type 0} (means : Meaning Note) → AreDetermined means → (q : Inquiry) (ps : List (Pass Note)) (eps : ℕ) (old new : Marks) (spent : Bool) → ArePasses means q eps old ps new spent → StaysPlaced old new
+passes_placed means law q [] eps old new spent made = absurd made
+passes_placed means law q (p ∷ ps) eps old new spent (inl made) = record {
+  start = law.start (query_at q eps) old new made.1.notes made.1.leads;
+  states = law.states (query_at q eps) old new made.1.notes made.1.leads;
+  no_arc = law.no_arc (query_at q eps) old new made.1.notes made.1.leads;
+}
+passes_placed means law q (p ∷ ps) eps old new spent (inr made) =
+    let rest = passes_placed means law q ps (lowered q.ask.step eps) made.0 new spent made.3 in
+    record {
+      start = rest.start ∙ law.start (query_at q eps) old made.0 made.1.notes made.1.leads;
+      states = rest.states ∙ law.states (query_at q eps) old made.0 made.1.notes made.1.leads;
+      no_arc = λ none. rest.no_arc (law.no_arc (query_at q eps) old made.0 made.1.notes made.1.leads none);
+    }
 
 -- what a plan expanded is within its budget and what the run had left
-within_room : {w : World} {how : SearchJob} {outputs : Outputs} {start goal : ℕ} {before : Option Behind} {behind : Behind} {r : PlanRecord}
-    → (x : IsSearched w how outputs start goal before behind r) → AreWithin how.budget (expanded_before before) r.passes x.spent
-within_room {w} {how} {outputs} {start} {goal} {before} {behind} {r} x = record {
+within_room : {means : Meaning expansion.Step} {w : World} {how : SearchJob} {outputs : Outputs} {start goal : ℕ} {before : Option Carried} {carried : Carried} {r : PlanRecord}
+    → (x : IsSearched means w how outputs start goal before carried r) → AreWithin how.budget (expanded_before before) r.passes x.spent
+within_room {means} {w} {how} {outputs} {start} {goal} {before} {carried} {r} x = record {
   of_plan = omega (arith, x.within_budget, x.expanded);
   of_run = omega (arith, x.within_run, x.counted);
   used_up = λ is. (MatchBool-at_true ((r.spent ≡ Some (expansions r.passes)) × ((expansions r.passes ≡ how.budget) ⊎ (expanded_before before + expansions r.passes ≡ 2 ^ 30))) (r.spent ≡ None) is x.marked).1;
 }
 
 -- two plans have one record, leave the same, and what they leave is carried on
-pub record AreOneRecord (e : Environment) (behind other : Behind) (r u : PlanRecord) : Type 0 where
+pub record AreOneRecord (e : Environment) (carried other : Carried) (r u : PlanRecord) : Type 0 where
   pub record_is : r ≡ u
-  pub labels : behind.labels ≡ other.labels
-  pub expanded : behind.expanded ≡ other.expanded
-  pub states : states_of behind.labels ≡ state_count e
-  pub no_arc : back_of behind.labels behind.labels.start ≡ None
+  pub labels : carried.labels ≡ other.labels
+  pub expanded : carried.expanded ≡ other.expanded
+  pub states : states_of carried.labels ≡ state_count e
+  pub no_arc : back_of carried.labels carried.labels.start ≡ None
 
-module _ (one_plan : PassesAreOne) (one_result : OutcomesAreOne) (e : Environment) (ps : Primitives) (sweeps others : Swept)
+-- what is known of a planner whose plans are determined
+pub record IsPlannerDetermined (means : Meaning expansion.Step) : Type 0 where
+  pub passes : AreDetermined means
+  pub beginnings : AreBeginningsDetermined means
+  pub plans : PassesAreOne means
+
+module _ (means : Meaning expansion.Step) (law : IsPlannerDetermined means) (initial : InitialLabelsAreOne) (one_result : OutcomesAreOne) (e : Environment) (ps : Primitives) (sweeps others : Swept)
     (radius : sweeps.radius ≡ others.radius) where
-  one_record : (m : CellMap) (how : SearchJob) (outputs : Outputs) (start goal : ℕ) (before : Option Behind) (behind other : Behind) (r u : PlanRecord)
+  one_record : (m : CellMap) (how : SearchJob) (outputs : Outputs) (start goal : ℕ) (before : Option Carried) (carried other : Carried) (r u : PlanRecord)
       → network_of (made e ps sweeps m) ≡ network_of (made e ps others m) → AreCarried e ps sweeps others radius before → r.plan ≡ u.plan
       → Joins (made e ps sweeps m) start goal r.outcome → Joins (made e ps others m) start goal u.outcome
-      → IsSearched (made e ps sweeps m) how outputs start goal before behind r → IsSearched (made e ps others m) how outputs start goal before other u
-      → AreOneRecord e behind other r u
-  one_record m how outputs start goal before behind other r u same carried number joins joins' x y =
+      → IsSearched means (made e ps sweeps m) how outputs start goal before carried r → IsSearched means (made e ps others m) how outputs start goal before other u
+      → AreOneRecord e carried other r u
+  one_record m how outputs start goal before carried other r u same begins_alike number joins joins' x y =
       let n : Network = network_of (made e ps sweeps m) in
       let ask : Ask = ask_of how outputs in
       let q : Inquiry = record { network = n; guide = x.guide; goal = goal; ask = ask } in
-      let begun = one_begun e ps sweeps others radius how.planner m start before x.begun y.begun same carried x.begins y.begins in
+      let begun = one_begun e ps sweeps others radius initial means law.beginnings m start before x.begun y.begun same begins_alike x.begins y.begins in
       let guides : (s : ℕ) → s < state_count e → x.guide s ≡ y.guide s = one_best e ps sweeps others m goal x.guide y.guide same x.is_guide y.is_guide in
       let alike : AreAlikeGuides (states_of x.begun) x.guide y.guide = λ s inside. guides s (subst (λ (count : ℕ). s < count) begun.states inside) in
-      let passes : ArePasses (record { network = n; guide = y.guide; goal = goal; ask = ask }) how.first x.begun u.passes other.labels y.spent = rw (same, begun.same) y.passes in
-      let one = one_plan q y.guide how.budget (expanded_before before) how.first x.begun behind.labels other.labels r.passes u.passes x.spent y.spent begun.no_arc alike x.passes passes (within_room x) (within_room y) in
-      let placed = passes_placed q r.passes how.first x.begun behind.labels x.spent x.passes in
-      let no_arc : back_of behind.labels behind.labels.start ≡ None = placed.no_arc begun.no_arc in
-      let states : states_of behind.labels ≡ state_count e = placed.states ∙ begun.states in
-      let at_end : AreAlikeGuides (states_of behind.labels) x.guide y.guide = λ s inside. guides s (subst (λ (count : ℕ). s < count) states inside) in
-      let is_result : IsOutcome n y.guide goal behind.labels y.result = rw (same, one.labels) y.is_result in
-      let results : x.result ≡ y.result = one_result n x.guide y.guide goal behind.labels x.result y.result no_arc at_end x.is_result is_result in
-      let told : TellsResult x.result u.outcome = rw results y.told in
+      let passes : ArePasses means (record { network = n; guide = y.guide; goal = goal; ask = ask }) how.first x.begun u.passes other.labels y.spent = rw (same, begun.same) y.passes in
+      let one = law.plans q y.guide how.budget (expanded_before before) how.first x.begun carried.labels other.labels r.passes u.passes x.spent y.spent begun.no_arc alike x.passes passes (within_room x) (within_room y) in
+      let placed = passes_placed means law.passes q r.passes how.first x.begun carried.labels x.spent x.passes in
+      let no_arc : back_of carried.labels carried.labels.start ≡ None = placed.no_arc begun.no_arc in
+      let states : states_of carried.labels ≡ state_count e = placed.states ∙ begun.states in
+      let at_end : AreAlikeGuides (states_of carried.labels) x.guide y.guide = λ s inside. guides s (subst (λ (count : ℕ). s < count) states inside) in
+      let is_result : IsResultOf n y.guide goal carried.labels y.result = rw (same, one.labels) y.is_result in
+      let results : x.result ≡ y.result = one_result n x.guide y.guide goal carried.labels x.result y.result no_arc at_end x.is_result is_result in
+      let told : IsSameResult x.result u.outcome = rw results y.told in
       let outcomes : r.outcome ≡ u.outcome = one_told e ps sweeps others m same start goal x.result r.outcome u.outcome x.told told joins joins' in
       let counts : expansions r.passes ≡ expansions u.passes = ap expansions one.passes in
       let expanded : r.expanded ≡ u.expanded = x.expanded ∙ counts ∙ sym y.expanded in
       let marked : IsMarked how.budget (expanded_before before) x.spent u = rw one.both y.marked in
       let spent : r.spent ≡ u.spent = one_mark how.budget (expanded_before before) x.spent r u counts x.marked marked in
-      let shown : IsThere (is_some outputs.labels) (IsShown (network_of (made e ps others m)) y.guide start goal r.plan behind.labels x.result) u.labels = rw (number, one.labels, results) y.labels in
+      let shown : IsThere (is_some outputs.labels) (IsShown (network_of (made e ps others m)) y.guide start goal r.plan carried.labels x.result) u.labels = rw (number, one.labels, results) y.labels in
       let labels : r.labels ≡ u.labels =
-      one_there (is_some outputs.labels) (IsShown n x.guide start goal r.plan behind.labels x.result) (IsShown (network_of (made e ps others m)) y.guide start goal r.plan behind.labels x.result) r.labels u.labels
+      one_there (is_some outputs.labels) (IsShown n x.guide start goal r.plan carried.labels x.result) (IsShown (network_of (made e ps others m)) y.guide start goal r.plan carried.labels x.result) r.labels u.labels
       (λ s t. one_section at_end s t) x.labels shown
       in
       record {
@@ -203,57 +227,62 @@ module _ (one_plan : PassesAreOne) (one_result : OutcomesAreOne) (e : Environmen
 
   module _ (one_map : OneMap) (one_graph : AlikeWorldsAreOneGraph) (first : CellMap) (batches : List (List Write)) (how : SearchJob) (outputs : Outputs) (start goal : ℕ) where
     -- records of plans from one on are the first of any others from it on that are no fewer
-    pub one_records : (rs us : List PlanRecord) (k : ℕ) (before : Option Behind) → AreCarried e ps sweeps others radius before → length rs ≤ length us
-        → AreRecords (made e ps sweeps first) batches how outputs start goal k before rs → AreRecords (made e ps others first) batches how outputs start goal k before us
+    pub one_records : (rs us : List PlanRecord) (k : ℕ) (before : Option Carried) → AreCarried e ps sweeps others radius before → length rs ≤ length us
+        → AreRecords means (made e ps sweeps first) batches how outputs start goal k before rs → AreRecords means (made e ps others first) batches how outputs start goal k before us
         → (rest : List PlanRecord) × (us ≡ rs ++ rest)
-    one_records [] us k before carried no_fewer left right = (us, refl)
-    one_records (r ∷ rs) [] k before carried no_fewer left right = absurd (omega arith)
-    one_records (r ∷ rs) (u ∷ us) k before carried no_fewer left right =
-        let behind : Behind = left.0 in
-        let other : Behind = right.0 in
-        let maps : behind.map ≡ other.map = one_map first behind.map other.map batches k left.2.is_world.map right.2.is_world.map left.1 right.1 in
-        let plan : IsPlanOf (made e ps others behind.map) how outputs start goal k before other u = rw maps right.2 in
-        let same : network_of (made e ps sweeps behind.map) ≡ network_of (made e ps others behind.map) =
-        one_graph (made e ps others behind.map) (made e ps sweeps behind.map) plan.is_world left.2.is_world refl refl refl radius
+    one_records [] us k before begins_alike no_fewer left right = (us, refl)
+    one_records (r ∷ rs) [] k before begins_alike no_fewer left right = absurd (omega arith)
+    one_records (r ∷ rs) (u ∷ us) k before begins_alike no_fewer left right =
+        let carried : Carried = left.0 in
+        let other : Carried = right.0 in
+        let maps : carried.map ≡ other.map = one_map first carried.map other.map batches k left.2.is_world.map right.2.is_world.map left.1 right.1 in
+        let plan : IsPlanOf means (made e ps others carried.map) how outputs start goal k before other u = rw maps right.2 in
+        let same : network_of (made e ps sweeps carried.map) ≡ network_of (made e ps others carried.map) =
+        one_graph (made e ps others carried.map) (made e ps sweeps carried.map) plan.is_world left.2.is_world refl refl refl radius
         in
-        let one = one_record behind.map how outputs start goal before behind other r u same carried (left.2.number ∙ sym plan.number) left.2.promises.joins plan.promises.joins left.2.searched plan.searched in
-        let both : behind ≡ other = λ i. record { map = maps i; labels = one.labels i; expanded = one.expanded i } in
-        let later : AreCarried e ps sweeps others radius (Some behind) = record { states = one.states; no_arc = one.no_arc; graph = same } in
-        let further : AreRecords (made e ps others first) batches how outputs start goal (k + 1) (Some behind) us = rw both right.3 in
-        let behind_them = one_records rs us (k + 1) (Some behind) later (omega arith) left.3 further in
+        let one = one_record carried.map how outputs start goal before carried other r u same begins_alike (left.2.number ∙ sym plan.number) left.2.promises.joins plan.promises.joins left.2.searched plan.searched in
+        let both : carried ≡ other = λ i. record { map = maps i; labels = one.labels i; expanded = one.expanded i } in
+        let later : AreCarried e ps sweeps others radius (Some carried) = record { states = one.states; no_arc = one.no_arc; graph = same } in
+        let further : AreRecords means (made e ps others first) batches how outputs start goal (k + 1) (Some carried) us = rw both right.3 in
+        let behind_them = one_records rs us (k + 1) (Some carried) later (omega arith) left.3 further in
         let same_record : u ≡ r = sym one.record_is in
         let same_rest : us ≡ rs ++ behind_them.0 = behind_them.1 in
         (behind_them.0, λ i. same_record i ∷ same_rest i)
 
 -- ---- all plans
 
--- lists of one length, of which the one is the front of the other
+-- lists of one length, of which the one is a prefix of the other
 whole_front : (rs us rest : List PlanRecord) → us ≡ rs ++ rest → length us ≡ length rs → rs ≡ us
 whole_front rs us rest parted as_many =
     let both : length us ≡ length rs + length rest = ap (λ (l : List PlanRecord). length l) parted ∙ length-append rs rest in
     let none : rest ≡ [] = nil_from_length rest (omega arith) in
     sym (parted ∙ ap (λ (l : List PlanRecord). rs ++ l) none ∙ append-nil rs)
 
-first_list : PassesAreOne → OutcomesAreOne → OneMap → AlikeWorldsAreOneGraph → (e : Environment) (ps : Primitives) (sweeps others : Swept) (m : CellMap) → sweeps.radius ≡ others.radius
+first_list : ((p : Planner) → IsPlannerDetermined (means_of p)) → InitialLabelsAreOne → OutcomesAreOne → OneMap → AlikeWorldsAreOneGraph → (e : Environment) (ps : Primitives) (sweeps others : Swept) (m : CellMap) → sweeps.radius ≡ others.radius
     → (batches : List (List Write)) (how : SearchJob) (outputs : Outputs) (rs us : List PlanRecord) (all : Bool) → ArePlans (made e ps sweeps m) batches how outputs rs all → ArePlans (made e ps others m) batches how outputs us true
     → (rest : List PlanRecord) × (us ≡ rs ++ rest)
-first_list one_plan one_result one_map one_graph e ps sweeps others m radius batches how outputs rs us all left right =
+first_list laws initial one_result one_map one_graph e ps sweeps others m radius batches how outputs rs us all left right =
     let starts : left.start ≡ right.start = one_state e e.start left.start right.start left.start_is right.start_is in
     let goals : left.goal ≡ right.goal = one_state e e.end left.goal right.goal left.goal_is right.goal_is in
-    let each : AreRecords (made e ps others m) batches how outputs left.start left.goal 0 None us = rw (starts, goals) right.each in
+    let each : AreRecords (means_of how.planner) (made e ps others m) batches how outputs left.start left.goal 0 None us = rw (starts, goals) right.each in
     let none : AreCarried e ps sweeps others radius None = tt in
     let few = left.few in
     let many = right.all_made refl in
-    one_records one_plan one_result e ps sweeps others radius one_map one_graph m batches how outputs left.start left.goal rs us 0 None none (omega arith) left.each each
+    one_records (means_of how.planner) (laws how.planner) initial one_result e ps sweeps others radius one_map one_graph m batches how outputs left.start left.goal rs us 0 None none (omega arith) left.each each
 
-pub few_are_first : PassesAreOne → OutcomesAreOne → OneMap → AlikeWorldsAreOneGraph → FewAreFirst
-few_are_first one_plan one_result one_map one_graph w v batches how outputs rs us all alike left right =
+-- each planner is one of these
+pub of_each : IsPlannerDetermined ara → IsPlannerDetermined adstar → (p : Planner) → IsPlannerDetermined (means_of p)
+of_each by_ara by_adstar planner.Ara = by_ara
+of_each by_ara by_adstar planner.AdStar = by_adstar
+
+pub few_are_first : ((p : Planner) → IsPlannerDetermined (means_of p)) → InitialLabelsAreOne → OutcomesAreOne → OneMap → AlikeWorldsAreOneGraph → FewAreFirst
+few_are_first laws initial one_result one_map one_graph w v batches how outputs rs us all alike left right =
     let env = alike.env in
     let prims = alike.prims in
     let map = alike.map in
     let is : v ≡ made w.env w.prims v.sweeps w.map = λ i. record { env = env i; prims = prims i; sweeps = v.sweeps; map = map i } in
     let own : ArePlans (made w.env w.prims v.sweeps w.map) batches how outputs us true = subst (λ (x : World). ArePlans x batches how outputs us true) is right in
-    first_list one_plan one_result one_map one_graph w.env w.prims w.sweeps v.sweeps w.map (sym alike.radius) batches how outputs rs us all left own
+    first_list laws initial one_result one_map one_graph w.env w.prims w.sweeps v.sweeps w.map (sym alike.radius) batches how outputs rs us all left own
 
 pub records_are_one : FewAreFirst → RecordsAreOne
 records_are_one first w v batches how outputs rs us alike left right =

@@ -9,12 +9,12 @@ use Rattle.sbpl_graph.specs.Network.{Network}
 use Rattle.sbpl_graph.specs.Path.{IsFreePath}
 use Rattle.sbpl_labels.specs.Marks.{Marks, states_of, g_of, v_of}
 use Rattle.sbpl_plan.specs.Looking.{IsPathFound}
-use Rattle.sbpl_plan.specs.Outcomes.{IsOutcome}
+use Rattle.sbpl_plan.specs.Outcomes.{IsResultOf}
 use Rattle.sbpl_plan.specs.declared.result.Outcome as search
 use Rattle.sbpl_plan.specs.declared.result.Outcome.TheVariants as result
 use Rattle.sbpl_cert.specs.Made.{IsOfLabels}
 use Rattle.sbpl_cert.specs.Sections as sections
-use Rattle.sbpl_cert.specs.Sections.{AreArcs, HasArcs, Section, g_at, v_at}
+use Rattle.sbpl_cert.specs.Sections.{HasArcs, Section, g_at, v_at}
 use Rattle.sbpl_cert.specs.Sound.{ShowsBound, ShowsOutcome}
 use Rattle.sbpl_cert.specs.declared.outcome.Outcome as told
 use Rattle.sbpl_cert.specs.declared.row.Row.{Row}
@@ -45,14 +45,14 @@ module _ (n : Network) (sound : IsSound n) (guide : ℕ → ℕ) (goal : ℕ) (m
       let near : g_of m goal < FAR = found.walk.near in
       ⊎_elim (λ (far : g_of m goal ≡ FAR). absurd (omega arith)) (λ (small : g_of m goal < 2 ^ 62). omega arith) (supported.labels goal inside).0
 
-  pub answer_fits : (found : search.Outcome) → IsOutcome n guide goal m found → sections.IsOutcome (answer_of found)
+  pub answer_fits : (found : search.Outcome) → IsResultOf n guide goal m found → sections.IsOutcomeInRange (answer_of found)
   answer_fits (result.Path arcs cost bound) is =
       let small : cost < 2 ^ 62 = small_cost arcs cost bound is in
       (small, is.bound_is.at_least_one, small_bound cost is.low bound small is.bound_is)
   answer_fits result.NoPath is = tt
   answer_fits result.Unknown is = tt
 
-  pub arcs_fit : (found : search.Outcome) → IsOutcome n guide goal m found → HasArcs (answer_of found) (arcs_of found)
+  pub arcs_fit : (found : search.Outcome) → IsResultOf n guide goal m found → HasArcs (answer_of found) (arcs_of found)
   arcs_fit (result.Path arcs cost bound) is = record {
     few = let few : length arcs < n.states = is.walk.few in let most : n.states ≤ 2 ^ 23 = sound.few_states in omega arith;
     small = small_arcs n m.start goal cost arcs sound is.walk.path;
@@ -67,7 +67,7 @@ module _ (n : Network) (sound : IsSound n) (guide : ℕ → ℕ) (goal : ℕ) (m
       let b : less ≤ low = p.greatest less q.at_goal q.unsettled in
       omega arith
 
-  shows_outcome : (found : search.Outcome) (s : Section) → IsOutcome n guide goal m found → IsOfLabels m guide goal s → ShowsBound n m.start goal s → s.arcs ≡ arcs_of found → ShowsOutcome n m.start goal s (answer_of found)
+  shows_outcome : (found : search.Outcome) (s : Section) → IsResultOf n guide goal m found → IsOfLabels m guide goal s → ShowsBound n m.start goal s → s.arcs ≡ arcs_of found → ShowsOutcome n m.start goal s (answer_of found)
   shows_outcome (result.Path arcs cost bound) s is made bounds copied =
       let low : s.low ≡ is.low = one_low s.low is.low made.low is.low_is in
       (subst (λ (l : List ℕ). IsFreePath n m.start l goal cost) (sym copied) is.walk.path, subst (λ (l : ℕ). IsBound cost l bound) (sym low) is.bound_is)
@@ -83,7 +83,7 @@ module _ (n : Network) (sound : IsSound n) (guide : ℕ → ℕ) (goal : ℕ) (m
   }
   shows_outcome result.Unknown s is made bounds copied = tt
 
-  shown_by : (plan : ℕ) (found : search.Outcome) (s : Section) → IsOutcome n guide goal m found → s.plan ≡ plan → s.outcome ≡ answer_of found → s.arcs ≡ arcs_of found → IsOfLabels m guide goal s → ShowsBound n m.start goal s → IsShown n guide m.start goal plan m found s
+  shown_by : (plan : ℕ) (found : search.Outcome) (s : Section) → IsResultOf n guide goal m found → s.plan ≡ plan → s.outcome ≡ answer_of found → s.arcs ≡ arcs_of found → IsOfLabels m guide goal s → ShowsBound n m.start goal s → IsShown n guide m.start goal plan m found s
   shown_by plan found s is number says copied made bounds = record {
     number = number;
     labels = made;
@@ -95,7 +95,7 @@ module _ (n : Network) (sound : IsSound n) (guide : ℕ → ℕ) (goal : ℕ) (m
     };
   }
 
-  pub is_shown : (plan : ℕ) (found : search.Outcome) (said : told.Outcome) (arcs : List ℕ) (r : Result Section NoMemory) → IsOutcome n guide goal m found → said ≡ answer_of found → arcs ≡ arcs_of found
+  pub is_shown : (plan : ℕ) (found : search.Outcome) (said : told.Outcome) (arcs : List ℕ) (r : Result Section NoMemory) → IsResultOf n guide goal m found → said ≡ answer_of found → arcs ≡ arcs_of found
       → IfOk r (λ s. s.plan ≡ plan) → IfOk r (λ s. s.outcome ≡ said) → IfOk r (λ s. s.arcs ≡ arcs) → IfOk r (IsOfLabels m guide goal) → IfOk r (ShowsBound n m.start goal)
       → IfOk r (IsShown n guide m.start goal plan m found)
   is_shown plan found said arcs (Ok s) is same_answer same_arcs number says copied made bounds = shown_by plan found s is number (says ∙ same_answer) (copied ∙ same_arcs) made bounds

@@ -3,7 +3,7 @@ use Rattle.std.proofs.Common.{◌≡◌, ℕ, zero, suc, ◌+◌, ◌≤◌, Lis
 use Rattle.sbpl_graph.specs.Network.{Network}
 use Rattle.sbpl_fixed.specs.Formats.{Left, start_at}
 use Rattle.sbpl_fixed.specs.Tokens.{Piece}
-use Rattle.sbpl_desk.specs.Desk.{NoneFalls, Stays}
+use Rattle.sbpl_desk.specs.Desk.{NoneFalls}
 use Rattle.sbpl_desk.specs.declared.desk.WriteStop.{WriteStop}
 use Rattle.sbpl_cert.specs.declared.fault.LabelFault.TheVariants as fault
 use Rattle.sbpl_cert.specs.declared.outcome.Outcome.{Outcome}
@@ -13,15 +13,16 @@ use Rattle.sbpl_map.specs.declared.write.Write as change
 use Rattle.sbpl_cost.specs.Lattices.{network_of}
 use Rattle.sbpl_cost.specs.States.{state_count}
 use Rattle.sbpl_cost.specs.World.{IsWorld, World}
-use Rattle.sbpl_cli.specs.declared.checking.SectionStop.{SectionStop}
-use Rattle.sbpl_cli.specs.declared.checking.SectionStop.TheVariants as section
+use Rattle.sbpl_cli.specs.declared.section_check.SectionStop.{SectionStop}
+use Rattle.sbpl_cli.specs.declared.section_check.SectionStop.TheVariants as section
 use Rattle.sbpl_cli.specs.Checked.{AreChecked, Case, IsGraphAfter, IsSectionStop, IsShownHolding, IsStoppedIn, IsTrailing}
 use Rattle.sbpl_cli.specs.Intents.{checked_status, checked_writes, label_fault_text, last_write, stop_status, stop_writes}
-use Rattle.sbpl_cli.specs.Planning.{HoldsAndTells}
+use Rattle.sbpl_cli.specs.Planning.{HoldsAndPrints}
 use Rattle.sbpl_cli.specs.Promises.{EndsSections}
 use Rattle.sbpl_cli.specs.Verdicts.{holds_text}
-use Rattle.sbpl_cli.specs.Writing.{EndsAs, EndsIn, FaultCounts, IsOutput, StaysBut, Told, status_after, to_output}
-use Rattle.sbpl_cli.proofs.Writings.{ends_as_behind, status_ends}
+use Rattle.sbpl_cli.specs.Writing.{DeskState, EndsAs, EndsIn, IsOutput, WritesOnly, status_after, to_output}
+use Rattle.sbpl_cli.proofs.Writings.{ends_as_after, status_ends}
+use Rattle.sbpl_cli.proofs.Frames.{nothing_done}
 
 -- the graph on each map has the states of the environment
 states_after : (w : World) (batches : List (List change.Write)) (k : ℕ) (n : Network) → IsGraphAfter w batches k n → n.states ≡ state_count w.env
@@ -44,13 +45,13 @@ out_of_memory : (c : Case) (plan more : ℕ) (left : Left) → AreChecked IsShow
 out_of_memory c plan zero left = tt
 out_of_memory c plan (suc more) left = tt
 
-module _ (c : Case) (plan : ℕ) (a b : Told) (f g : FaultCounts) (status : ℕ) where
-  -- no token is left behind the last section
-  pub none_left : (left : Left) → left.tokens ≡ [] → EndsAs a b f g (last_write ∷ []) 0 status → EndsSections c plan 0 left a b f g status
+module _ (c : Case) (plan : ℕ) (a b : DeskState) (status : ℕ) where
+  -- no token is left after the last section
+  pub none_left : (left : Left) → left.tokens ≡ [] → EndsAs a b (last_write ∷ []) 0 status → EndsSections c plan 0 left a b status
   none_left left none ends = record { outcomes = []; end = None; checked = none; ends = ends }
 
-  -- a token is left behind the last section
-  pub some_left : (left : Left) (t : Piece) (ts : List Piece) → left.tokens ≡ t ∷ ts → EndsAs a b f g (to_output (label_fault_text (fault.Trailing t.place)) ∷ []) 10 status → EndsSections c plan 0 left a b f g status
+  -- a token is left after the last section
+  pub some_left : (left : Left) (t : Piece) (ts : List Piece) → left.tokens ≡ t ∷ ts → EndsAs a b (to_output (label_fault_text (fault.Trailing t.place)) ∷ []) 10 status → EndsSections c plan 0 left a b status
   some_left left t ts some ends = record {
     outcomes = [];
     end = Some (section.Fault (fault.Trailing t.place));
@@ -60,13 +61,13 @@ module _ (c : Case) (plan : ℕ) (a b : Told) (f g : FaultCounts) (status : ℕ)
 
 module _ (c : Case) (n : Network) (start goal plan more : ℕ) (after : IsGraphAfter c.world c.batches plan n) (start_is : c.start ≡ start) (goal_is : c.goal ≡ goal) where
   -- the next section does not hold
-  pub stops : (a b : Told) (f g : FaultCounts) (status : ℕ) (left : Left) (s : SectionStop) → IsSectionStop n start goal plan left s → EndsAs a b f g (stop_writes goal plan s) (stop_status s) status → EndsSections c plan (suc more) left a b f g status
-  stops a b f g status left s is ends = record {
+  pub stops : (a b : DeskState) (status : ℕ) (left : Left) (s : SectionStop) → IsSectionStop n start goal plan left s → EndsAs a b (stop_writes goal plan s) (stop_status s) status → EndsSections c plan (suc more) left a b status
+  stops a b status left s is ends = record {
     outcomes = [];
     end = Some s;
     checked = stopped_in c n plan left s after
         (subst (λ (x : ℕ). IsSectionStop n x c.goal plan left s) (sym start_is) (subst (λ (y : ℕ). IsSectionStop n start y plan left s) (sym goal_is) is));
-    ends = subst (λ (y : ℕ). EndsAs a b f g (stop_writes y plan s) (stop_status s) status) (sym goal_is) ends;
+    ends = subst (λ (y : ℕ). EndsAs a b (stop_writes y plan s) (stop_status s) status) (sym goal_is) ends;
   }
 
   -- it holds for the case too
@@ -74,39 +75,36 @@ module _ (c : Case) (n : Network) (start goal plan more : ℕ) (after : IsGraphA
   holds_in left rest o is = subst (λ (x : ℕ). IsShownHolding n x c.goal plan left o rest) (sym start_is) (subst (λ (y : ℕ). IsShownHolding n start y plan left o rest) (sym goal_is) is)
 
   -- it holds, and the line that says so was not written
-  pub goes_no_further : (a b : Told) (f g : FaultCounts) (status : ℕ) (left rest : Left) (o : Outcome) (e : WriteStop) → IsShownHolding n start goal plan left o rest → EndsIn {T = Unit {0}} a b f g (to_output (holds_text plan o) ∷ []) (Err e) → status ≡ status_after {T = Unit {0}} 9 (Err e)
-      → EndsSections c plan (suc more) left a b f g status
-  goes_no_further a b f g status left rest o e is ends status_is = record {
+  pub goes_no_further : (a b : DeskState) (status : ℕ) (left rest : Left) (o : Outcome) (e : WriteStop) → IsShownHolding n start goal plan left o rest → EndsIn {T = Unit {0}} a b (to_output (holds_text plan o) ∷ []) (Err e) → status ≡ status_after {T = Unit {0}} 9 (Err e)
+      → EndsSections c plan (suc more) left a b status
+  goes_no_further a b status left rest o e is ends status_is = record {
     outcomes = o ∷ [];
     end = Some section.NoMemory;
     checked = (n, after, rest, holds_in left rest o is, out_of_memory c (plan + 1) more rest);
-    ends = status_ends a b f g (to_output (holds_text plan o) ∷ []) 9 status (Err e) ends status_is;
+    ends = status_ends a b (to_output (holds_text plan o) ∷ []) 9 status (Err e) ends status_is;
   }
 
   -- it holds, the line that says so was written, and then the checking of the others ended so
-  pub goes_on : (a b d : Told) (f g h : FaultCounts) (status : ℕ) (left rest : Left) → HoldsAndTells n start goal plan left rest a b → NoneFalls f g → EndsSections c (plan + 1) more rest b d g h status → EndsSections c plan (suc more) left a d f h status
-  goes_on a b d f g h status left rest is low ends = record {
+  pub goes_on : (a b d : DeskState) (status : ℕ) (left rest : Left) → HoldsAndPrints n start goal plan left rest a b → NoneFalls a.write_faults b.write_faults → EndsSections c (plan + 1) more rest b d status → EndsSections c plan (suc more) left a d status
+  goes_on a b d status left rest is low ends = record {
     outcomes = is.outcome ∷ ends.outcomes;
     end = ends.end;
     checked = (n, after, rest, holds_in left rest is.outcome is.holds, ends.checked);
-    ends = ends_as_behind a b d f g h (to_output (holds_text plan is.outcome) ∷ []) (checked_writes c.goal (plan + 1) ends.outcomes ends.end) (checked_status ends.end) status is.line low ends.ends;
+    ends = ends_as_after a b d (to_output (holds_text plan is.outcome) ∷ []) (checked_writes c.goal (plan + 1) ends.outcomes ends.end) (checked_status ends.end) status is.line low ends.ends;
   }
 
 -- how far the checking of a text has come: the sections of the first k maps hold, and however it ends from there on it ends from
 -- the first section on
-pub record IsCheckedTo (first now : World) (batches : List (List change.Write)) (start goal : ℕ) (text : List ℕ) (k at : ℕ) (held held' written written' : Told) (reads reads' faults faults' : FaultCounts) : Type 0 where
-  pub leads : (more : ℕ) → k + more ≡ length batches → (after : Told) (faults'' : FaultCounts) (status : ℕ)
-      → EndsSections (record { world = first; batches = batches; start = start; goal = goal }) k (suc more) (start_at text at) written' after faults' faults'' status
-      → EndsSections (record { world = first; batches = batches; start = start; goal = goal }) 0 (suc (length batches)) (start_at text 0) written after faults faults'' status
+pub record IsCheckedTo (first now : World) (batches : List (List change.Write)) (start goal : ℕ) (text : List ℕ) (k at : ℕ) (s t : DeskState) : Type 0 where
+  pub leads : (more : ℕ) → k + more ≡ length batches → (u : DeskState) (status : ℕ)
+      → EndsSections (record { world = first; batches = batches; start = start; goal = goal }) k (suc more) (start_at text at) t u status
+      → EndsSections (record { world = first; batches = batches; start = start; goal = goal }) 0 (suc (length batches)) (start_at text 0) s u status
   pub far : k ≤ length batches
   pub map_after : IsMapAfter first.map batches k now.map
   pub other_parts : now ≡ record first { map = now.map }
   pub kept : IsWorld now
   pub inside : at ≤ length text
-  pub stays : Stays held held'
-  pub others : StaysBut IsOutput written written'
-  pub low_reads : NoneFalls reads reads'
-  pub low_writes : NoneFalls faults faults'
+  pub frame : WritesOnly IsOutput s t
 
 -- the graph of the lattice as it is
 pub graph_after : (first now : World) (batches : List (List change.Write)) (k : ℕ) → IsMapAfter first.map batches k now.map → now ≡ record first { map = now.map } → IsWorld now → IsGraphAfter first batches k (network_of now)
@@ -118,16 +116,13 @@ graph_after first now batches k after others kept = record {
 }
 
 -- at the first section
-pub none_checked : (w : World) (batches : List (List change.Write)) (start goal : ℕ) (text : List ℕ) (held written : Told) (reads faults : FaultCounts) → IsMapAfter w.map batches 0 w.map → IsWorld w → IsCheckedTo w w batches start goal text 0 0 held held written written reads reads faults faults
-none_checked w batches start goal text held written reads faults after kept = record {
-  leads = λ more is after faults'' status ends. subst (λ (m : ℕ). EndsSections (record { world = w; batches = batches; start = start; goal = goal }) 0 (suc m) (start_at text 0) written after faults faults'' status) (let same : more ≡ length batches = omega arith in same) ends;
+pub none_checked : (w : World) (batches : List (List change.Write)) (start goal : ℕ) (text : List ℕ) (s : DeskState) → IsMapAfter w.map batches 0 w.map → IsWorld w → IsCheckedTo w w batches start goal text 0 0 s s
+none_checked w batches start goal text s after kept = record {
+  leads = λ more is u status ends. subst (λ (m : ℕ). EndsSections (record { world = w; batches = batches; start = start; goal = goal }) 0 (suc m) (start_at text 0) s u status) (let same : more ≡ length batches = omega arith in same) ends;
   far = omega arith;
   map_after = after;
   other_parts = refl;
   kept = kept;
   inside = omega arith;
-  stays = λ name. refl;
-  others = λ name other. refl;
-  low_reads = λ name. omega arith;
-  low_writes = λ name. omega arith;
+  frame = nothing_done IsOutput s;
 }

@@ -1,7 +1,6 @@
--- What a job comes to is what the words and the files call for, as far as no read fails and memory lasts.
-use Rattle.std.proofs.Common.{◌≡◌, ◌≢◌, ◌⊎◌, ℕ, Bool, true, false, Option, Some, None, List, [], ◌∷◌, ◌++◌, flat_map, length, IsSome, IfSome, refl, sym, ap, subst, ◌∙◌, append_assoc, arith, inl, inr}
+-- What a job means to do is what the words and the files call for, as far as no read fails and memory lasts.
+use Rattle.std.proofs.Common.{◌≡◌, ◌≢◌, ◌⊎◌, ℕ, Bool, true, false, Option, Some, None, List, [], ◌∷◌, ◌++◌, flat_map, length, IsSome, IfSome, refl, sym, ap, subst, ◌∙◌, append_assoc, inl, inr}
 use Rattle.std.proofs.lemmas.Option.{same_Some}
-use Rattle.sbpl_desk.specs.Desk.{Rose}
 use Rattle.sbpl_cost.specs.Alike.{AlikeWorldsAreOneGraph}
 use Rattle.sbpl_cost.specs.Lattices.{network_of}
 use Rattle.sbpl_cost.specs.World.{World}
@@ -12,18 +11,18 @@ use Rattle.sbpl_job.specs.declared.job.Job.{Job}
 use Rattle.sbpl_job.specs.declared.job.Job.TheVariants as job
 use Rattle.sbpl_job.specs.declared.job.PlanJob.{PlanJob}
 use Rattle.sbpl_job.specs.declared.job.Sources.{Sources}
-use Rattle.sbpl_cli.specs.declared.checking.SectionStop.{SectionStop}
-use Rattle.sbpl_cli.specs.declared.checking.SectionStop.TheVariants as section
+use Rattle.sbpl_cli.specs.declared.section_check.SectionStop.{SectionStop}
+use Rattle.sbpl_cli.specs.declared.section_check.SectionStop.TheVariants as section
 use Rattle.sbpl_cli.specs.declared.record.PlanRecord.{PlanRecord}
 use Rattle.sbpl_cli.specs.declared.refusal.Refusal.{Refusal}
 use Rattle.sbpl_cli.specs.Causes.{ArePlanned, IsJobCause}
 use Rattle.sbpl_cli.specs.Clear.{SectionsAreClear, TextsAreClear}
-use Rattle.sbpl_cli.specs.Determined.{AreFronts, AreTold, CallsFor, FewAreFirst, IsInput, IsNoFailure, IsSource, NoneRose, RecordsAreOne, none_failed}
+use Rattle.sbpl_cli.specs.Determined.{ArePrefixes, AreTold, CallsFor, FewAreFirst, IsInput, IsNoFailure, IsSource, NoName, NoneRose, RecordsAreOne}
 use Rattle.sbpl_cli.specs.Intents.{Intent, Refused, Planned, Checked, Listed, Demonstrated, OutOfMemory, checked_status, end_writes, intent_status, lines_writes, plans_writes, refusal_status, section_writes, writes_of}
-use Rattle.sbpl_cli.specs.Promises.{ComesTo, EndsJob, EndsRun, IsDemonstration, by_job, by_memory, by_words}
+use Rattle.sbpl_cli.specs.Promises.{GivesIntent, EndsJob, EndsRun, IsDemonstration, by_job, by_memory, by_words}
 use Rattle.sbpl_cli.specs.Report.{demo_text, plan_line}
-use Rattle.sbpl_cli.specs.Writing.{AreMade, FaultCounts, IsNamed, Told, Write, to_output}
-use Rattle.sbpl_cli.proofs.Fronts.{ends_front, made_front}
+use Rattle.sbpl_cli.specs.Writing.{AreAppended, DeskState, IsNamed, Names, ReadFailed, Told, Write, to_output}
+use Rattle.sbpl_cli.proofs.Prefixes.{ends_prefix, made_prefix}
 use Rattle.sbpl_cli.proofs.OneEnding.{OneMap}
 use Rattle.sbpl_cli.proofs.OneRefusal.{AreBadLabels, AreBadSources, IsBadCourse, IsFailedRead, course_cause, labels_cause, labels_read, not_course, not_world, one_bad_course, one_source, source_cause}
 use Rattle.sbpl_cli.proofs.SameChecked.{check_as_far}
@@ -34,19 +33,19 @@ use Rattle.sbpl_cli.proofs.Writings.{none_made}
 -- ---- how two ends of a job go together
 
 -- a read of a file of the job failed
-abbrev IsUnread : FaultCounts → FaultCounts → Job → Intent → Type 0
-IsUnread reads reads' j i = (intent_status i ≡ 6) × ((name : List ℕ) × IsInput j name × Rose (reads name) (reads' name))
+abbrev HasFailedRead : Names → Job → Intent → Type 0
+HasFailedRead Failed j i = (intent_status i ≡ 6) × ((name : List ℕ) × IsInput j name × Failed name)
 
 -- both are written alike
 abbrev AreAlike : Job → Intent → Intent → Type 0
 AreAlike j i whole = (intent_status i ≡ intent_status whole) × (writes_of j i ≡ writes_of j whole)
 
--- memory ran out behind the first writes of the other
+-- memory ran out after the first writes of the other
 abbrev IsPart : Job → Intent → Intent → Type 0
 IsPart j i whole = (intent_status i ≡ 9) × ((rest : List Write) × (writes_of j whole ≡ writes_of j i ++ rest))
 
-abbrev Agrees : FaultCounts → FaultCounts → Job → Intent → Intent → Type 0
-Agrees reads reads' j i whole = IsUnread reads reads' j i ⊎ (AreAlike j i whole ⊎ IsPart j i whole)
+abbrev Agrees : Names → Job → Intent → Intent → Type 0
+Agrees Failed j i whole = HasFailedRead Failed j i ⊎ (AreAlike j i whole ⊎ IsPart j i whole)
 
 -- ---- the writes of the first few records
 
@@ -62,23 +61,14 @@ few_written f (r ∷ rs) rest =
     in
     (later, left ∙ ap (λ (ws : List Write). f r ++ ws) further.1 ∙ sym right)
 
--- ---- no read fails where none is counted
-
-none_rose : (f : ℕ) → f ≡ 0 → Rose f f → ⊥
-none_rose f none (inl more) = omega arith
-none_rose f none (inr most) = omega arith
-
-quiet : (IsOne : List ℕ → Type 0) (r : Refusal) → IsFailedRead IsOne none_failed none_failed r → ⊥
-quiet IsOne r (i, is, (name, one, rose)) = none_rose 0 refl rose
-
 -- a refusal for a read that failed
-unread : (reads reads' : FaultCounts) (j : Job) (IsOne : List ℕ → Type 0) (r : Refusal) → ((name : List ℕ) → IsOne name → IsInput j name) → IsFailedRead IsOne reads reads' r → IsUnread reads reads' j (Refused r)
-unread reads reads' j IsOne r input (i, is, (name, one, rose)) = (ap (λ (x : Refusal). refusal_status x) is, (name, input name one, rose))
+unread : (Failed : Names) (j : Job) (IsOne : List ℕ → Type 0) (r : Refusal) → ((name : List ℕ) → IsOne name → IsInput j name) → IsFailedRead IsOne Failed r → HasFailedRead Failed j (Refused r)
+unread Failed j IsOne r input (i, is, (name, one, rose)) = (ap (λ (x : Refusal). refusal_status x) is, (name, input name one, rose))
 
 -- ---- the jobs
 
-module _ (clear : TextsAreClear) (sections : SectionsAreClear) (one_map : OneMap) (graphs : AlikeWorldsAreOneGraph) (one : RecordsAreOne) (first : FewAreFirst) (held : Told) (reads reads' : FaultCounts) where
-  alike_refusals : (j : Job) (r u : Refusal) → r ≡ u → Agrees reads reads' j (Refused r) (Refused u)
+module _ (clear : TextsAreClear) (sections : SectionsAreClear) (one_map : OneMap) (graphs : AlikeWorldsAreOneGraph) (one : RecordsAreOne) (first : FewAreFirst) (held : Told) (Failed : Names) where
+  alike_refusals : (j : Job) (r u : Refusal) → r ≡ u → Agrees Failed j (Refused r) (Refused u)
   alike_refusals j r u same = inr (inl (ap (λ (x : Refusal). refusal_status x) same, ap (λ (x : Refusal). writes_of j (Refused x)) same))
 
   -- where a name is given it is told
@@ -102,12 +92,12 @@ module _ (clear : TextsAreClear) (sections : SectionsAreClear) (one_map : OneMap
     abbrev IsPlanBad : Refusal → Type 0
     IsPlanBad r = AreBadSources held p.sources r ⊎ IsBadCourse held p.sources p.changes r
 
-    plan_bad : (f g : FaultCounts) (r : Refusal) → IsJobCause held f g (job.Plan p) r → IsPlanBad r ⊎ IsUnread f g (job.Plan p) (Refused r)
-    plan_bad f g r (inl c) = elim (source_cause held f g p.sources r c) [ inl bad ↦ inl (inl bad) | inr out ↦ inr (unread f g (job.Plan p) (IsSource p.sources) r (λ name is. inl is) out) ]
-    plan_bad f g r (inr c) = elim (course_cause held f g p.sources p.changes r c) [ inl bad ↦ inl (inr bad) | inr out ↦ inr (unread f g (job.Plan p) (IsNamed p.changes) r (λ name is. inr is) out) ]
+    plan_bad : (F : Names) (r : Refusal) → IsJobCause held F (job.Plan p) r → IsPlanBad r ⊎ HasFailedRead F (job.Plan p) (Refused r)
+    plan_bad F r (inl c) = elim (source_cause held F p.sources r c) [ inl bad ↦ inl (inl bad) | inr out ↦ inr (unread F (job.Plan p) (IsSource p.sources) r (λ name is. inl is) out) ]
+    plan_bad F r (inr c) = elim (course_cause held F p.sources p.changes r c) [ inl bad ↦ inl (inr bad) | inr out ↦ inr (unread F (job.Plan p) (IsNamed p.changes) r (λ name is. inr is) out) ]
 
-    plan_quiet : (r : Refusal) → IsJobCause held none_failed none_failed (job.Plan p) r → IsPlanBad r
-    plan_quiet r c = elim (plan_bad none_failed none_failed r c) [ inl bad ↦ bad | inr (six, (name, is, rose)) ↦ absurd (none_rose 0 refl rose) ]
+    plan_quiet : (r : Refusal) → IsJobCause held NoName (job.Plan p) r → IsPlanBad r
+    plan_quiet r c = elim (plan_bad NoName r c) [ inl bad ↦ bad | inr (six, (name, is, failed)) ↦ absurd failed ]
 
     one_plan_bad : (r u : Refusal) → IsPlanBad r → IsPlanBad u → r ≡ u
     one_plan_bad r u (inl x) (inl y) = one_source clear held p.sources plan_env plan_prims r u x y
@@ -119,7 +109,7 @@ module _ (clear : TextsAreClear) (sections : SectionsAreClear) (one_map : OneMap
     not_planned r records all (inl x) planned = not_world clear held p.sources plan_env plan_prims planned.world r x planned.says
     not_planned r records all (inr x) planned = not_course clear held p.sources plan_env plan_prims p.changes plan_changes planned.world planned.batches r x planned.says planned.changes
 
-    plans_agree : (rs us : List PlanRecord) (all : Bool) → ArePlanned held p rs all → ArePlanned held p us true → Agrees reads reads' (job.Plan p) (Planned rs all) (Planned us true)
+    plans_agree : (rs us : List PlanRecord) (all : Bool) → ArePlanned held p rs all → ArePlanned held p us true → Agrees Failed (job.Plan p) (Planned rs all) (Planned us true)
     plans_agree rs us true x y =
         let same = one_planned clear held one p rs us plan_env plan_prims plan_changes x y in
         inr (inl (refl, ap (λ (l : List PlanRecord). plans_writes p.outputs l true) same))
@@ -128,24 +118,16 @@ module _ (clear : TextsAreClear) (sections : SectionsAreClear) (one_map : OneMap
         let few = few_written (section_writes p.outputs) rs parted.0 in
         inr (inr (refl, (few.0, ap (λ (l : List PlanRecord). plans_writes p.outputs l true) parted.1 ∙ few.1)))
 
-    plan_agrees : (i whole : Intent) → ComesTo held reads reads' (job.Plan p) i → CallsFor held (job.Plan p) whole → Agrees reads reads' (job.Plan p) i whole
-    plan_agrees (Refused r) (Refused u) comes calls = elim (plan_bad reads reads' r comes) [ inl bad ↦ alike_refusals (job.Plan p) r u (one_plan_bad r u bad (plan_quiet u calls)) | inr out ↦ inl out ]
-    plan_agrees (Refused r) (Planned us all) comes calls = elim (plan_bad reads reads' r comes) [ inl bad ↦ absurd (not_planned r us true bad calls.1) | inr out ↦ inl out ]
-    plan_agrees (Planned rs all) (Refused u) comes calls = absurd (not_planned u rs all (plan_quiet u calls) comes)
-    plan_agrees (Planned rs all) (Planned us every) comes calls =
-        subst (λ (b : Bool). Agrees reads reads' (job.Plan p) (Planned rs all) (Planned us b)) (sym calls.0) (plans_agree rs us all comes calls.1)
-    plan_agrees OutOfMemory whole comes calls = inr (inr (refl, (writes_of (job.Plan p) whole, refl)))
-    plan_agrees (Checked goal os end) whole comes calls = absurd comes
-    plan_agrees (Listed w) whole comes calls = absurd comes
-    plan_agrees (Demonstrated w count records all) whole comes calls = absurd comes
-    plan_agrees (Refused r) (Checked goal os end) comes calls = absurd calls
-    plan_agrees (Refused r) (Listed w) comes calls = absurd calls
-    plan_agrees (Refused r) (Demonstrated w count records all) comes calls = absurd calls
-    plan_agrees (Refused r) OutOfMemory comes calls = absurd calls
-    plan_agrees (Planned rs all) (Checked goal os end) comes calls = absurd calls
-    plan_agrees (Planned rs all) (Listed w) comes calls = absurd calls
-    plan_agrees (Planned rs all) (Demonstrated w count records every) comes calls = absurd calls
-    plan_agrees (Planned rs all) OutOfMemory comes calls = absurd calls
+    plan_agrees : (i whole : Intent) → GivesIntent held Failed (job.Plan p) i → CallsFor held (job.Plan p) whole → Agrees Failed (job.Plan p) i whole
+    plan_agrees (Refused r) (Refused u) gives calls = elim (plan_bad Failed r gives) [ inl bad ↦ alike_refusals (job.Plan p) r u (one_plan_bad r u bad (plan_quiet u calls)) | inr out ↦ inl out ]
+    plan_agrees (Refused r) (Planned us all) gives calls = elim (plan_bad Failed r gives) [ inl bad ↦ absurd (not_planned r us true bad calls.1) | inr out ↦ inl out ]
+    plan_agrees (Planned rs all) (Refused u) gives calls = absurd (not_planned u rs all (plan_quiet u calls) gives)
+    plan_agrees (Planned rs all) (Planned us every) gives calls =
+        subst (λ (b : Bool). Agrees Failed (job.Plan p) (Planned rs all) (Planned us b)) (sym calls.0) (plans_agree rs us all gives calls.1)
+    plan_agrees OutOfMemory whole gives calls = inr (inr (refl, (writes_of (job.Plan p) whole, refl)))
+    plan_agrees (Refused r) _ gives calls = absurd calls
+    plan_agrees (Planned rs all) _ gives calls = absurd calls
+    plan_agrees _ whole gives calls = absurd gives
 
   -- ---- check
 
@@ -165,13 +147,13 @@ module _ (clear : TextsAreClear) (sections : SectionsAreClear) (one_map : OneMap
     abbrev IsCheckBad : Refusal → Type 0
     IsCheckBad r = AreBadSources held c.sources r ⊎ (IsBadCourse held c.sources c.changes r ⊎ AreBadLabels held c r)
 
-    check_bad : (f g : FaultCounts) (r : Refusal) → IsJobCause held f g (job.Check c) r → IsCheckBad r ⊎ IsUnread f g (job.Check c) (Refused r)
-    check_bad f g r (inl x) = elim (source_cause held f g c.sources r x) [ inl bad ↦ inl (inl bad) | inr out ↦ inr (unread f g (job.Check c) (IsSource c.sources) r (λ name is. inl is) out) ]
-    check_bad f g r (inr (inl x)) = elim (course_cause held f g c.sources c.changes r x) [ inl bad ↦ inl (inr (inl bad)) | inr out ↦ inr (unread f g (job.Check c) (IsNamed c.changes) r (λ name is. inr (inl is)) out) ]
-    check_bad f g r (inr (inr x)) = elim (labels_cause held f g c r x) [ inl bad ↦ inl (inr (inr bad)) | inr out ↦ inr (unread f g (job.Check c) (λ name. name ≡ c.labels) r (λ name is. inr (inr is)) out) ]
+    check_bad : (F : Names) (r : Refusal) → IsJobCause held F (job.Check c) r → IsCheckBad r ⊎ HasFailedRead F (job.Check c) (Refused r)
+    check_bad F r (inl x) = elim (source_cause held F c.sources r x) [ inl bad ↦ inl (inl bad) | inr out ↦ inr (unread F (job.Check c) (IsSource c.sources) r (λ name is. inl is) out) ]
+    check_bad F r (inr (inl x)) = elim (course_cause held F c.sources c.changes r x) [ inl bad ↦ inl (inr (inl bad)) | inr out ↦ inr (unread F (job.Check c) (IsNamed c.changes) r (λ name is. inr (inl is)) out) ]
+    check_bad F r (inr (inr x)) = elim (labels_cause held F c r x) [ inl bad ↦ inl (inr (inr bad)) | inr out ↦ inr (unread F (job.Check c) (λ name. name ≡ c.labels) r (λ name is. inr (inr is)) out) ]
 
-    check_quiet : (r : Refusal) → IsJobCause held none_failed none_failed (job.Check c) r → IsCheckBad r
-    check_quiet r x = elim (check_bad none_failed none_failed r x) [ inl bad ↦ bad | inr (six, (name, is, rose)) ↦ absurd (none_rose 0 refl rose) ]
+    check_quiet : (r : Refusal) → IsJobCause held NoName (job.Check c) r → IsCheckBad r
+    check_quiet r x = elim (check_bad NoName r x) [ inl bad ↦ bad | inr (six, (name, is, failed)) ↦ absurd failed ]
 
     one_check_bad : (r u : Refusal) → IsCheckBad r → IsCheckBad u → r ≡ u
     one_check_bad r u (inl x) (inl y) = one_source clear held c.sources check_env check_prims r u x y
@@ -184,38 +166,30 @@ module _ (clear : TextsAreClear) (sections : SectionsAreClear) (one_map : OneMap
     one_check_bad r u (inr (inr (w, batches, says, course, x))) (inr (inl y)) = absurd (not_course clear held c.sources check_env check_prims c.changes check_changes w batches u y says course)
     one_check_bad r u (inr (inr (w, batches, says, course, x))) (inr (inr (v, others, also, too, y))) = x.0 ∙ sym y.0
 
-    not_checked : (r : Refusal) (goal : ℕ) (os : List Outcome) (end : Option SectionStop) → IsCheckBad r → ComesTo held reads reads' (job.Check c) (Checked goal os end) → ⊥
+    not_checked : (r : Refusal) (goal : ℕ) (os : List Outcome) (end : Option SectionStop) → IsCheckBad r → GivesIntent held Failed (job.Check c) (Checked goal os end) → ⊥
     not_checked r goal os end (inl x) checked = not_world clear held c.sources check_env check_prims checked.world r x checked.says
     not_checked r goal os end (inr (inl x)) checked = not_course clear held c.sources check_env check_prims c.changes check_changes checked.world checked.batches r x checked.says checked.changes
     not_checked r goal os end (inr (inr x)) checked = labels_read held c check_labels r checked.text x checked.read
 
-    checks_agree : (goal other : ℕ) (os ps : List Outcome) (a b : Option SectionStop) → b ≢ Some section.NoMemory → ComesTo held reads reads' (job.Check c) (Checked goal os a) → ComesTo held reads reads' (job.Check c) (Checked other ps b)
-        → Agrees reads reads' (job.Check c) (Checked goal os a) (Checked other ps b)
+    checks_agree : (goal other : ℕ) (os ps : List Outcome) (a b : Option SectionStop) → b ≢ Some section.NoMemory → GivesIntent held Failed (job.Check c) (Checked goal os a) → GivesIntent held Failed (job.Check c) (Checked other ps b)
+        → Agrees Failed (job.Check c) (Checked goal os a) (Checked other ps b)
     checks_agree goal other os ps a b some x y =
         let far = check_as_far clear sections one_map graphs held c goal other os ps a b check_env check_prims check_changes check_labels some x y in
-        subst (λ (s : ℕ). Agrees reads reads' (job.Check c) (Checked goal os a) (Checked s ps b)) far.0
+        subst (λ (s : ℕ). Agrees Failed (job.Check c) (Checked goal os a) (Checked s ps b)) far.0
         (elim far.1 [
           | inl (writes, ends) ↦ inr (inl (ap checked_status ends, writes))
           | inr (out, later) ↦ inr (inr (ap checked_status out, later))
         ])
 
-    check_agrees : (i whole : Intent) → ComesTo held reads reads' (job.Check c) i → CallsFor held (job.Check c) whole → Agrees reads reads' (job.Check c) i whole
-    check_agrees (Refused r) (Refused u) comes calls = elim (check_bad reads reads' r comes) [ inl bad ↦ alike_refusals (job.Check c) r u (one_check_bad r u bad (check_quiet u calls)) | inr out ↦ inl out ]
-    check_agrees (Refused r) (Checked goal os end) comes calls = elim (check_bad reads reads' r comes) [ inl bad ↦ absurd (not_checked r goal os end bad calls.1) | inr out ↦ inl out ]
-    check_agrees (Checked goal os end) (Refused u) comes calls = absurd (not_checked u goal os end (check_quiet u calls) comes)
-    check_agrees (Checked goal os a) (Checked other ps b) comes calls = checks_agree goal other os ps a b calls.0 comes calls.1
-    check_agrees OutOfMemory whole comes calls = inr (inr (refl, (writes_of (job.Check c) whole, refl)))
-    check_agrees (Planned records all) whole comes calls = absurd comes
-    check_agrees (Listed w) whole comes calls = absurd comes
-    check_agrees (Demonstrated w count records all) whole comes calls = absurd comes
-    check_agrees (Refused r) (Planned records all) comes calls = absurd calls
-    check_agrees (Refused r) (Listed w) comes calls = absurd calls
-    check_agrees (Refused r) (Demonstrated w count records all) comes calls = absurd calls
-    check_agrees (Refused r) OutOfMemory comes calls = absurd calls
-    check_agrees (Checked goal os end) (Planned records all) comes calls = absurd calls
-    check_agrees (Checked goal os end) (Listed w) comes calls = absurd calls
-    check_agrees (Checked goal os end) (Demonstrated w count records all) comes calls = absurd calls
-    check_agrees (Checked goal os end) OutOfMemory comes calls = absurd calls
+    check_agrees : (i whole : Intent) → GivesIntent held Failed (job.Check c) i → CallsFor held (job.Check c) whole → Agrees Failed (job.Check c) i whole
+    check_agrees (Refused r) (Refused u) gives calls = elim (check_bad Failed r gives) [ inl bad ↦ alike_refusals (job.Check c) r u (one_check_bad r u bad (check_quiet u calls)) | inr out ↦ inl out ]
+    check_agrees (Refused r) (Checked goal os end) gives calls = elim (check_bad Failed r gives) [ inl bad ↦ absurd (not_checked r goal os end bad calls.1) | inr out ↦ inl out ]
+    check_agrees (Checked goal os end) (Refused u) gives calls = absurd (not_checked u goal os end (check_quiet u calls) gives)
+    check_agrees (Checked goal os a) (Checked other ps b) gives calls = checks_agree goal other os ps a b calls.0 gives calls.1
+    check_agrees OutOfMemory whole gives calls = inr (inr (refl, (writes_of (job.Check c) whole, refl)))
+    check_agrees (Refused r) _ gives calls = absurd calls
+    check_agrees (Checked goal os end) _ gives calls = absurd calls
+    check_agrees _ whole gives calls = absurd gives
 
   -- ---- sweep
 
@@ -226,35 +200,27 @@ module _ (clear : TextsAreClear) (sections : SectionsAreClear) (one_map : OneMap
     sweep_prims : IsSome (held from.prims)
     sweep_prims = told from.prims (inr refl)
 
-    sweep_bad : (f g : FaultCounts) (r : Refusal) → IsJobCause held f g (job.Sweep from) r → AreBadSources held from r ⊎ IsUnread f g (job.Sweep from) (Refused r)
-    sweep_bad f g r c = elim (source_cause held f g from r c) [ inl bad ↦ inl bad | inr out ↦ inr (unread f g (job.Sweep from) (IsSource from) r (λ name is. is) out) ]
+    sweep_bad : (F : Names) (r : Refusal) → IsJobCause held F (job.Sweep from) r → AreBadSources held from r ⊎ HasFailedRead F (job.Sweep from) (Refused r)
+    sweep_bad F r c = elim (source_cause held F from r c) [ inl bad ↦ inl bad | inr out ↦ inr (unread F (job.Sweep from) (IsSource from) r (λ name is. is) out) ]
 
-    sweep_quiet : (r : Refusal) → IsJobCause held none_failed none_failed (job.Sweep from) r → AreBadSources held from r
-    sweep_quiet r c = elim (sweep_bad none_failed none_failed r c) [ inl bad ↦ bad | inr (six, (name, is, rose)) ↦ absurd (none_rose 0 refl rose) ]
+    sweep_quiet : (r : Refusal) → IsJobCause held NoName (job.Sweep from) r → AreBadSources held from r
+    sweep_quiet r c = elim (sweep_bad NoName r c) [ inl bad ↦ bad | inr (six, (name, is, failed)) ↦ absurd failed ]
 
-    sweep_agrees : (i whole : Intent) → ComesTo held reads reads' (job.Sweep from) i → CallsFor held (job.Sweep from) whole → Agrees reads reads' (job.Sweep from) i whole
-    sweep_agrees (Refused r) (Refused u) comes calls = elim (sweep_bad reads reads' r comes) [ inl bad ↦ alike_refusals (job.Sweep from) r u (one_source clear held from sweep_env sweep_prims r u bad (sweep_quiet u calls)) | inr out ↦ inl out ]
-    sweep_agrees (Refused r) (Listed v) comes calls = elim (sweep_bad reads reads' r comes) [ inl bad ↦ absurd (not_world clear held from sweep_env sweep_prims v r bad calls) | inr out ↦ inl out ]
-    sweep_agrees (Listed w) (Refused u) comes calls = absurd (not_world clear held from sweep_env sweep_prims w u (sweep_quiet u calls) comes.0)
-    sweep_agrees (Listed w) (Listed v) comes calls = inr (inl (refl, one_listed clear held from v w sweep_env sweep_prims calls comes.0))
-    sweep_agrees OutOfMemory whole comes calls = inr (inr (refl, (writes_of (job.Sweep from) whole, refl)))
-    sweep_agrees (Planned records all) whole comes calls = absurd comes
-    sweep_agrees (Checked goal os end) whole comes calls = absurd comes
-    sweep_agrees (Demonstrated w count records all) whole comes calls = absurd comes
-    sweep_agrees (Refused r) (Planned records all) comes calls = absurd calls
-    sweep_agrees (Refused r) (Checked goal os end) comes calls = absurd calls
-    sweep_agrees (Refused r) (Demonstrated w count records all) comes calls = absurd calls
-    sweep_agrees (Refused r) OutOfMemory comes calls = absurd calls
-    sweep_agrees (Listed w) (Planned records all) comes calls = absurd calls
-    sweep_agrees (Listed w) (Checked goal os end) comes calls = absurd calls
-    sweep_agrees (Listed w) (Demonstrated v count records all) comes calls = absurd calls
-    sweep_agrees (Listed w) OutOfMemory comes calls = absurd calls
+    sweep_agrees : (i whole : Intent) → GivesIntent held Failed (job.Sweep from) i → CallsFor held (job.Sweep from) whole → Agrees Failed (job.Sweep from) i whole
+    sweep_agrees (Refused r) (Refused u) gives calls = elim (sweep_bad Failed r gives) [ inl bad ↦ alike_refusals (job.Sweep from) r u (one_source clear held from sweep_env sweep_prims r u bad (sweep_quiet u calls)) | inr out ↦ inl out ]
+    sweep_agrees (Refused r) (Listed v) gives calls = elim (sweep_bad Failed r gives) [ inl bad ↦ absurd (not_world clear held from sweep_env sweep_prims v r bad calls) | inr out ↦ inl out ]
+    sweep_agrees (Listed w) (Refused u) gives calls = absurd (not_world clear held from sweep_env sweep_prims w u (sweep_quiet u calls) gives.0)
+    sweep_agrees (Listed w) (Listed v) gives calls = inr (inl (refl, one_listed clear held from v w sweep_env sweep_prims calls gives.0))
+    sweep_agrees OutOfMemory whole gives calls = inr (inr (refl, (writes_of (job.Sweep from) whole, refl)))
+    sweep_agrees (Refused r) _ gives calls = absurd calls
+    sweep_agrees (Listed w) _ gives calls = absurd calls
+    sweep_agrees _ whole gives calls = absurd gives
 
   -- ---- demo
 
   module _ (d : DemoJob) where
     demos_agree : (w v : World) (count count' : ℕ) (rs us : List PlanRecord) (all : Bool) → IsDemonstration d w count rs all → IsDemonstration d v count' us true
-        → Agrees reads reads' (job.Demo d) (Demonstrated w count rs all) (Demonstrated v count' us true)
+        → Agrees Failed (job.Demo d) (Demonstrated w count rs all) (Demonstrated v count' us true)
     demos_agree w v count count' rs us true (bs, is, x) (cs, also, y) =
         let line = one_first_line d w v count count' bs cs rs us true true is also x y in
         let same = one_demonstrated one d w v bs cs rs us x y in
@@ -267,69 +233,62 @@ module _ (clear : TextsAreClear) (sections : SectionsAreClear) (one_map : OneMap
         let own : demo_text (network_of v).states (length v.prims.items) count' ≡ demo_text (network_of w).states (length w.prims.items) count = sym line in
         inr (inr (refl, (few.0, λ i. to_output (own i) ∷ lines i)))
 
-    demo_agrees : (i whole : Intent) → ComesTo held reads reads' (job.Demo d) i → CallsFor held (job.Demo d) whole → Agrees reads reads' (job.Demo d) i whole
-    demo_agrees (Refused r) whole comes calls = absurd comes
-    demo_agrees (Planned records all) whole comes calls = absurd comes
-    demo_agrees (Checked goal os end) whole comes calls = absurd comes
-    demo_agrees (Listed w) whole comes calls = absurd comes
-    demo_agrees OutOfMemory whole comes calls = inr (inr (refl, (writes_of (job.Demo d) whole, refl)))
-    demo_agrees (Demonstrated w count rs all) (Demonstrated v count' us every) comes calls =
-        subst (λ (b : Bool). Agrees reads reads' (job.Demo d) (Demonstrated w count rs all) (Demonstrated v count' us b)) (sym calls.0) (demos_agree w v count count' rs us all comes calls.1)
-    demo_agrees (Demonstrated w count rs all) (Refused r) comes calls = absurd calls
-    demo_agrees (Demonstrated w count rs all) (Planned records every) comes calls = absurd calls
-    demo_agrees (Demonstrated w count rs all) (Checked goal os end) comes calls = absurd calls
-    demo_agrees (Demonstrated w count rs all) (Listed v) comes calls = absurd calls
-    demo_agrees (Demonstrated w count rs all) OutOfMemory comes calls = absurd calls
+    demo_agrees : (i whole : Intent) → GivesIntent held Failed (job.Demo d) i → CallsFor held (job.Demo d) whole → Agrees Failed (job.Demo d) i whole
+    demo_agrees OutOfMemory whole gives calls = inr (inr (refl, (writes_of (job.Demo d) whole, refl)))
+    demo_agrees (Demonstrated w count rs all) (Demonstrated v count' us every) gives calls =
+        subst (λ (b : Bool). Agrees Failed (job.Demo d) (Demonstrated w count rs all) (Demonstrated v count' us b)) (sym calls.0) (demos_agree w v count count' rs us all gives calls.1)
+    demo_agrees (Demonstrated w count rs all) _ gives calls = absurd calls
+    demo_agrees _ whole gives calls = absurd gives
 
-  agrees : (j : Job) (i whole : Intent) → AreTold held j → ComesTo held reads reads' j i → CallsFor held j whole → Agrees reads reads' j i whole
-  agrees (job.Plan p) i whole told comes calls = plan_agrees p told i whole comes calls
-  agrees (job.Check c) i whole told comes calls = check_agrees c told i whole comes calls
-  agrees (job.Sweep from) i whole told comes calls = sweep_agrees from told i whole comes calls
-  agrees (job.Demo d) i whole told comes calls = demo_agrees d i whole comes calls
+  agrees : (j : Job) (i whole : Intent) → AreTold held j → GivesIntent held Failed j i → CallsFor held j whole → Agrees Failed j i whole
+  agrees (job.Plan p) i whole told gives calls = plan_agrees p told i whole gives calls
+  agrees (job.Check c) i whole told gives calls = check_agrees c told i whole gives calls
+  agrees (job.Sweep from) i whole told gives calls = sweep_agrees from told i whole gives calls
+  agrees (job.Demo d) i whole told gives calls = demo_agrees d i whole gives calls
 
-  -- ---- a run
+-- ---- a run
 
-  module _ (before after : Told) (faults faults' : FaultCounts) where
-    -- what is called for was written whole
-    job_whole : (j : Job) (whole : Intent) (status : ℕ) → AreTold held j → CallsFor held j whole → IsNoFailure status → EndsJob held reads reads' before after faults faults' j status
-        → (status ≡ intent_status whole) × AreMade before after (writes_of j whole)
-    job_whole j whole status told calls (no_read, no_write, no_want) e = elim e.ends [
-      | inl (is, made) ↦ elim (agrees j e.intent whole told e.comes calls) [
-        | inl (six, out) ↦ absurd (no_read (is ∙ six))
-        | inr (inl (same, writes)) ↦ (is ∙ same, subst (λ (ws : List Write). AreMade before after ws) writes made)
-        | inr (inr (nine, rest)) ↦ absurd (no_want (is ∙ nine))
-      ]
-      | inr (inl (is, cut)) ↦ absurd (no_write is)
-      | inr (inr (is, stopped)) ↦ absurd (no_want is)
+module _ (clear : TextsAreClear) (sections : SectionsAreClear) (one_map : OneMap) (graphs : AlikeWorldsAreOneGraph) (one : RecordsAreOne) (first : FewAreFirst) (before after : DeskState) where
+  -- what is called for was written whole
+  job_whole : (j : Job) (whole : Intent) (status : ℕ) → AreTold before.held j → CallsFor before.held j whole → IsNoFailure status → EndsJob before after j status
+      → (status ≡ intent_status whole) × AreAppended before after (writes_of j whole)
+  job_whole j whole status told calls (no_read, no_write, no_want) e = elim e.ends [
+    | inl (is, made) ↦ elim (agrees clear sections one_map graphs one first before.held (ReadFailed before after) j e.intent whole told e.gives calls) [
+      | inl (six, out) ↦ absurd (no_read (is ∙ six))
+      | inr (inl (same, writes)) ↦ (is ∙ same, subst (λ (ws : List Write). AreAppended before after ws) writes made)
+      | inr (inr (nine, rest)) ↦ absurd (no_want (is ∙ nine))
     ]
+    | inr (inl (is, cut)) ↦ absurd (no_write is)
+    | inr (inr (is, stopped)) ↦ absurd (no_want is)
+  ]
 
-    -- and else fronts of it, where no read failed
-    job_front : (j : Job) (whole : Intent) (status : ℕ) → AreTold held j → NoneRose j reads reads' → CallsFor held j whole → EndsJob held reads reads' before after faults faults' j status → AreFronts before after (writes_of j whole)
-    job_front j whole status told quiet_reads calls e = elim (agrees j e.intent whole told e.comes calls) [
-      | inl (six, (name, input, rose)) ↦ absurd (quiet_reads name input rose)
-      | inr (inl (same, writes)) ↦ ends_front before after faults faults' (intent_status e.intent) status (writes_of j e.intent) [] (writes_of j whole) (sym writes ∙ nothing_behind (writes_of j e.intent)) e.ends
-      | inr (inr (nine, (rest, parted))) ↦ ends_front before after faults faults' (intent_status e.intent) status (writes_of j e.intent) rest (writes_of j whole) parted e.ends
-    ]
-      where
-        nothing_behind : (ws : List Write) → ws ≡ ws ++ []
-        nothing_behind [] = refl
-        nothing_behind (w ∷ ws) = ap (λ (l : List Write). w ∷ l) (nothing_behind ws)
+  -- and else prefixes of it, where no read failed
+  job_prefix : (j : Job) (whole : Intent) (status : ℕ) → AreTold before.held j → NoneRose j before after → CallsFor before.held j whole → EndsJob before after j status → ArePrefixes before after (writes_of j whole)
+  job_prefix j whole status told quiet_reads calls e = elim (agrees clear sections one_map graphs one first before.held (ReadFailed before after) j e.intent whole told e.gives calls) [
+    | inl (six, (name, input, rose)) ↦ absurd (quiet_reads name input rose)
+    | inr (inl (same, writes)) ↦ ends_prefix before after (intent_status e.intent) status (writes_of j e.intent) [] (writes_of j whole) (sym writes ∙ nothing_after (writes_of j e.intent)) e.ends
+    | inr (inr (nine, (rest, parted))) ↦ ends_prefix before after (intent_status e.intent) status (writes_of j e.intent) rest (writes_of j whole) parted e.ends
+  ]
+    where
+      nothing_after : (ws : List Write) → ws ≡ ws ++ []
+      nothing_after [] = refl
+      nothing_after (w ∷ ws) = ap (λ (l : List Write). w ∷ l) (nothing_after ws)
 
-    none_names : (j : Job) → ◌≡◌ {A = Option Job} None (Some j) → ⊥
-    none_names j is = cc
+  none_names : (j : Job) → ◌≡◌ {A = Option Job} None (Some j) → ⊥
+  none_names j is = cc
 
-    pub run_whole : (named : Option Job) (status : ℕ) → EndsRun named held reads reads' before after faults faults' status → (j : Job) (whole : Intent) → named ≡ Some j → AreTold held j → CallsFor held j whole → IsNoFailure status
-        → (status ≡ intent_status whole) × AreMade before after (writes_of j whole)
-    run_whole named status (by_job other at e) j whole is told calls free =
-        let same : other ≡ j = same_Some other j (sym at ∙ is) in
-        job_whole j whole status told calls free (subst (λ (k : Job). EndsJob held reads reads' before after faults faults' k status) same e)
-    run_whole named status (by_words none ends) j whole is told calls free = absurd (none_names j (sym none ∙ is))
-    run_whole named status (by_memory nine same) j whole is told calls (no_read, no_write, no_want) = absurd (no_want nine)
+  pub run_whole : (named : Option Job) (status : ℕ) → EndsRun named before after status → (j : Job) (whole : Intent) → named ≡ Some j → AreTold before.held j → CallsFor before.held j whole → IsNoFailure status
+      → (status ≡ intent_status whole) × AreAppended before after (writes_of j whole)
+  run_whole named status (by_job other at e) j whole is told calls free =
+      let same : other ≡ j = same_Some other j (sym at ∙ is) in
+      job_whole j whole status told calls free (subst (λ (k : Job). EndsJob before after k status) same e)
+  run_whole named status (by_words none ends) j whole is told calls free = absurd (none_names j (sym none ∙ is))
+  run_whole named status (by_memory nine same) j whole is told calls (no_read, no_write, no_want) = absurd (no_want nine)
 
-    pub run_front : (named : Option Job) (status : ℕ) → EndsRun named held reads reads' before after faults faults' status → (j : Job) (whole : Intent) → named ≡ Some j → AreTold held j → NoneRose j reads reads' → CallsFor held j whole
-        → AreFronts before after (writes_of j whole)
-    run_front named status (by_job other at e) j whole is told quiet_reads calls =
-        let same : other ≡ j = same_Some other j (sym at ∙ is) in
-        job_front j whole status told quiet_reads calls (subst (λ (k : Job). EndsJob held reads reads' before after faults faults' k status) same e)
-    run_front named status (by_words none ends) j whole is told quiet_reads calls = absurd (none_names j (sym none ∙ is))
-    run_front named status (by_memory nine same) j whole is told quiet_reads calls = made_front before after [] (writes_of j whole) (writes_of j whole) refl (none_made before after same)
+  pub run_prefix : (named : Option Job) (status : ℕ) → EndsRun named before after status → (j : Job) (whole : Intent) → named ≡ Some j → AreTold before.held j → NoneRose j before after → CallsFor before.held j whole
+      → ArePrefixes before after (writes_of j whole)
+  run_prefix named status (by_job other at e) j whole is told quiet_reads calls =
+      let same : other ≡ j = same_Some other j (sym at ∙ is) in
+      job_prefix j whole status told quiet_reads calls (subst (λ (k : Job). EndsJob before after k status) same e)
+  run_prefix named status (by_words none ends) j whole is told quiet_reads calls = absurd (none_names j (sym none ∙ is))
+  run_prefix named status (by_memory nine same) j whole is told quiet_reads calls = made_prefix before after [] (writes_of j whole) (writes_of j whole) refl (none_made before after same)

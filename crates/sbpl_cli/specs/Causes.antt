@@ -1,6 +1,6 @@
--- What the files that a lattice is made of say, and why a job on it is refused.
+-- What the files that a lattice is made of say, and why a job on it is refused. `Reads..`: what a job read, which is what the desk
+-- holds as far as it tells. That the desk tells it is `Tells..` of Promises.
 use Rattle.std.specs.Prelude.{◌≡◌, ℕ, ◌^◌, ◌<◌, ◌≤◌, ◌⊎◌, Bool, List, [], length, slice_get, Option, Some, None, IfSome}
-use Rattle.sbpl_desk.specs.Desk.{Rose}
 use Rattle.sbpl_cfg.specs.declared.fault.EnvFault.{EnvFault}
 use Rattle.sbpl_cfg.specs.Environment.{Environment}
 use Rattle.sbpl_mprim.specs.declared.fault.PrimFault.{PrimFault}
@@ -9,13 +9,14 @@ use Rattle.sbpl_mprim.specs.Primitives.{Primitives}
 use Rattle.sbpl_sweep.specs.Swept.{AreSweepsOf}
 use Rattle.sbpl_sweep.specs.Widths.{IsFirstTooWide, NoneTooWide}
 use Rattle.sbpl_map.specs.CellMap.{CellMap}
+use Rattle.sbpl_map.specs.ChangeText.{AreOnMap}
 use Rattle.sbpl_map.specs.declared.fault.ChangeFault.{ChangeFault}
 use Rattle.sbpl_map.specs.declared.write.Write.{Write}
 use Rattle.sbpl_demo.specs.Changes.{changes_drawn}
 use Rattle.sbpl_demo.specs.Environment.{costs, environment}
 use Rattle.sbpl_demo.specs.Primitives.{primitives}
 use Rattle.sbpl_cost.specs.PrimitiveCost.{IsFirstTooDear, most_cost, primitive_cost}
-use Rattle.sbpl_cost.specs.World.{World}
+use Rattle.sbpl_cost.specs.World.{IsWorld, World}
 use Rattle.sbpl_cli.specs.declared.refusal.Input.{Input}
 use Rattle.sbpl_cli.specs.declared.refusal.Input.TheVariants as input
 use Rattle.sbpl_cli.specs.declared.refusal.Refusal.{Refusal}
@@ -33,11 +34,11 @@ use Rattle.sbpl_job.specs.declared.job.SearchJob.{SearchJob}
 use Rattle.sbpl_job.specs.declared.job.Sources.{Sources}
 use Rattle.sbpl_cli.specs.declared.record.PlanRecord.{PlanRecord}
 use Rattle.sbpl_cli.specs.Headline.{ArePlans}
-use Rattle.sbpl_cli.specs.Writing.{FaultCounts, Told}
+use Rattle.sbpl_cli.specs.Writing.{DeskState, Names, ReadFailed, Told}
 use Rattle.sbpl_cli.specs.Texts.{IsEnvironmentText, HasEnvironmentFault, IsPrimitiveText, HasPrimitiveFault, IsChangeText, HasChangeFault}
 
 -- these bytes were read of a file: the held ones, where the desk tells them, and at most 2 ^ 30
-pub record IsRead (held : Option (List ℕ)) (text : List ℕ) : Type 0 where
+pub record IsReadText (held : Option (List ℕ)) (text : List ℕ) : Type 0 where
   pub told : IfSome held (λ bytes. text ≡ bytes)
   pub short : length text ≤ 2 ^ 30
 
@@ -46,15 +47,15 @@ abbrev pub IsTooLong : Option (List ℕ) → Type 0
 IsTooLong held = IfSome held (λ bytes. 2 ^ 30 < length bytes)
 
 -- the environment file stands for an environment and the costs of its cells
-pub record SaysEnvironment (held : Told) (from : Sources) (e : Environment) (cells : List ℕ) : Type 0 where
+pub record ReadsEnvironment (held : Told) (from : Sources) (e : Environment) (cells : List ℕ) : Type 0 where
   pub text : List ℕ
-  pub read : IsRead (held from.env) text
+  pub read : IsReadText (held from.env) text
   pub stands : IsEnvironmentText text e cells
 
 -- the primitive file stands for primitives, for this environment
-pub record SaysPrimitives (held : Told) (from : Sources) (e : Environment) (ps : Primitives) : Type 0 where
+pub record ReadsPrimitives (held : Told) (from : Sources) (e : Environment) (ps : Primitives) : Type 0 where
   pub text : List ℕ
-  pub read : IsRead (held from.prims) text
+  pub read : IsReadText (held from.prims) text
   pub stands : IsPrimitiveText e text ps
 
 -- no primitive costs more than it may
@@ -62,26 +63,33 @@ abbrev pub NoneTooDear : Environment → Primitives → Type 0
 NoneTooDear e ps = (i : ℕ) (p : Primitive) → slice_get ps.items i ≡ Some p → primitive_cost e p ≤ most_cost
 
 -- the files stand for a world, for a robot of the radius that is given
-pub record SaysWorld (held : Told) (from : Sources) (w : World) : Type 0 where
+pub record ReadsWorld (held : Told) (from : Sources) (w : World) : Type 0 where
   pub cells : List ℕ
-  pub environment : SaysEnvironment held from w.env cells
-  pub primitives : SaysPrimitives held from w.env w.prims
+  pub environment : ReadsEnvironment held from w.env cells
+  pub primitives : ReadsPrimitives held from w.env w.prims
   pub sweeps : AreSweepsOf w.prims from.radius w.sweeps
   pub narrow : NoneTooWide w.prims from.radius
   pub map : w.map ≡ record { width = w.env.width; height = w.env.height; costs = cells }
   pub cheap : NoneTooDear w.env w.prims
 
 -- the change file stands for batches of changes, of this map; where there is none, there are no batches
-abbrev pub SaysBatches : Told → Option (List ℕ) → CellMap → List (List Write) → Type 0
-SaysBatches held None m batches = batches ≡ []
-SaysBatches held (Some name) m batches = (text : List ℕ) × IsRead (held name) text × IsChangeText m text batches
+abbrev pub ReadsBatches : Told → Option (List ℕ) → CellMap → List (List Write) → Type 0
+ReadsBatches held None m batches = batches ≡ []
+ReadsBatches held (Some name) m batches = (text : List ℕ) × IsReadText (held name) text × IsChangeText m text batches
+
+-- a lattice and batches of changes that were read: the files stand for them
+pub record IsCourse (held : Told) (from : Sources) (changes : Option (List ℕ)) (w : World) (batches : List (List Write)) : Type 0 where
+  pub says : ReadsWorld held from w
+  pub is_world : IsWorld w
+  pub batches_are : ReadsBatches held changes w.map batches
+  pub on_map : AreOnMap w.map batches
 
 -- The files stand for a world and batches of changes, and these are records of plans in it: all of them, or the first few.
 pub record ArePlanned (held : Told) (job : PlanJob) (records : List PlanRecord) (all : Bool) : Type 0 where
   pub world : World
   pub batches : List (List Write)
-  pub says : SaysWorld held job.sources world
-  pub changes : SaysBatches held job.changes world.map batches
+  pub says : ReadsWorld held job.sources world
+  pub changes : ReadsBatches held job.changes world.map batches
   pub plans : ArePlans world batches job.search job.outputs records all
 
 -- how a demonstration is planned: by Anytime D*, with the inflations 3.000, 2.500 and so on to 1.000
@@ -108,20 +116,20 @@ pub record AreDemonstrated (job : DemoJob) (world : World) (batches : List (List
 -- the environment file has this first fault
 pub record IsFaultyEnvironment (held : Told) (from : Sources) (f : EnvFault) : Type 0 where
   pub text : List ℕ
-  pub read : IsRead (held from.env) text
+  pub read : IsReadText (held from.env) text
   pub faulty : HasEnvironmentFault text f
 
 -- the primitive file has this first fault, for an environment
 pub record IsFaultyFor (held : Told) (from : Sources) (e : Environment) (f : PrimFault) : Type 0 where
   pub text : List ℕ
-  pub read : IsRead (held from.prims) text
+  pub read : IsReadText (held from.prims) text
   pub faulty : HasPrimitiveFault e text f
 
 -- the environment file stands for an environment, and the primitive file has this first fault for it
 pub record IsFaultyPrimitives (held : Told) (from : Sources) (f : PrimFault) : Type 0 where
   pub env : Environment
   pub cells : List ℕ
-  pub environment : SaysEnvironment held from env cells
+  pub environment : ReadsEnvironment held from env cells
   pub primitives : IsFaultyFor held from env f
 
 -- the files stand for an environment and primitives, and the one at this place is the first that is too wide
@@ -129,8 +137,8 @@ pub record IsTooWideJob (held : Told) (from : Sources) (place : ℕ) : Type 0 wh
   pub env : Environment
   pub cells : List ℕ
   pub prims : Primitives
-  pub environment : SaysEnvironment held from env cells
-  pub primitives : SaysPrimitives held from env prims
+  pub environment : ReadsEnvironment held from env cells
+  pub primitives : ReadsPrimitives held from env prims
   pub wide : IsFirstTooWide prims from.radius place
 
 -- The files stand for an environment and primitives, of which none is too wide, and the one at this place is the first that
@@ -139,8 +147,8 @@ pub record IsTooDearJob (held : Told) (from : Sources) (place : ℕ) : Type 0 wh
   pub env : Environment
   pub cells : List ℕ
   pub prims : Primitives
-  pub environment : SaysEnvironment held from env cells
-  pub primitives : SaysPrimitives held from env prims
+  pub environment : ReadsEnvironment held from env cells
+  pub primitives : ReadsPrimitives held from env prims
   pub narrow : NoneTooWide prims from.radius
   pub dear : IsFirstTooDear env prims.items place
 
@@ -148,29 +156,25 @@ pub record IsTooDearJob (held : Told) (from : Sources) (place : ℕ) : Type 0 wh
 pub record IsSecond (held : Told) (from : Sources) (P : Type 0) : Type 0 where
   pub env : Environment
   pub cells : List ℕ
-  pub environment : SaysEnvironment held from env cells
+  pub environment : ReadsEnvironment held from env cells
   pub holds : P
 
--- why a job is refused: what the files hold, and which count of failed reads rose
-abbrev pub IsCause : Told → FaultCounts → FaultCounts → Sources → Refusal → Type 0
-IsCause held before after from (refusal.Environment f) = IsFaultyEnvironment held from f
-IsCause held before after from (refusal.Primitives f) = IsFaultyPrimitives held from f
-IsCause held before after from (refusal.TooWide place) = IsTooWideJob held from place
-IsCause held before after from (refusal.TooDear place) = IsTooDearJob held from place
-IsCause held before after from (refusal.Changes f) = ⊥
-IsCause held before after from (refusal.Read input.Environment) = Rose (before from.env) (after from.env)
-IsCause held before after from (refusal.Read input.Primitives) = IsSecond held from (Rose (before from.prims) (after from.prims))
-IsCause held before after from (refusal.Length input.Environment) = IsTooLong (held from.env)
-IsCause held before after from (refusal.Length input.Primitives) = IsSecond held from (IsTooLong (held from.prims))
-IsCause held before after from (refusal.Read input.Changes) = ⊥
-IsCause held before after from (refusal.Length input.Changes) = ⊥
-IsCause held before after from (refusal.Read input.Labels) = ⊥
-IsCause held before after from (refusal.Length input.Labels) = ⊥
+-- why a job is refused: what the files hold, or the names of which a read failed
+abbrev pub IsCause : Told → Names → Sources → Refusal → Type 0
+IsCause held Failed from (refusal.Environment f) = IsFaultyEnvironment held from f
+IsCause held Failed from (refusal.Primitives f) = IsFaultyPrimitives held from f
+IsCause held Failed from (refusal.TooWide place) = IsTooWideJob held from place
+IsCause held Failed from (refusal.TooDear place) = IsTooDearJob held from place
+IsCause held Failed from (refusal.Read input.Environment) = Failed from.env
+IsCause held Failed from (refusal.Read input.Primitives) = IsSecond held from (Failed from.prims)
+IsCause held Failed from (refusal.Length input.Environment) = IsTooLong (held from.env)
+IsCause held Failed from (refusal.Length input.Primitives) = IsSecond held from (IsTooLong (held from.prims))
+IsCause held Failed from _ = ⊥
 
 -- the text of the change file has this first fault, on a map
 pub record IsFaultyChanges (held : Told) (name : List ℕ) (m : CellMap) (f : ChangeFault) : Type 0 where
   pub text : List ℕ
-  pub read : IsRead (held name) text
+  pub read : IsReadText (held name) text
   pub faulty : HasChangeFault m text f
 
 -- there is such a name, and this holds of it
@@ -180,155 +184,96 @@ AtName (Some name) P = P name
 
 -- the files stand for a world, and this holds of the change file and the map
 abbrev pub AtChanges : Told → Sources → Option (List ℕ) → (List ℕ → CellMap → Type 0) → Type 0
-AtChanges held from changes P = (w : World) × SaysWorld held from w × AtName changes (λ name. P name w.map)
+AtChanges held from changes P = (w : World) × ReadsWorld held from w × AtName changes (λ name. P name w.map)
 
 -- why a job is refused for its change file, once its lattice was made
-abbrev pub IsChangesCause : Told → FaultCounts → FaultCounts → Sources → Option (List ℕ) → Refusal → Type 0
-IsChangesCause held before after from changes (refusal.Environment f) = ⊥
-IsChangesCause held before after from changes (refusal.Primitives f) = ⊥
-IsChangesCause held before after from changes (refusal.TooWide place) = ⊥
-IsChangesCause held before after from changes (refusal.TooDear place) = ⊥
-IsChangesCause held before after from changes (refusal.Changes f) = AtChanges held from changes (λ name m. IsFaultyChanges held name m f)
-IsChangesCause held before after from changes (refusal.Read input.Environment) = ⊥
-IsChangesCause held before after from changes (refusal.Read input.Primitives) = ⊥
-IsChangesCause held before after from changes (refusal.Read input.Changes) = AtChanges held from changes (λ name m. Rose (before name) (after name))
-IsChangesCause held before after from changes (refusal.Read input.Labels) = ⊥
-IsChangesCause held before after from changes (refusal.Length input.Environment) = ⊥
-IsChangesCause held before after from changes (refusal.Length input.Primitives) = ⊥
-IsChangesCause held before after from changes (refusal.Length input.Changes) = AtChanges held from changes (λ name m. IsTooLong (held name))
-IsChangesCause held before after from changes (refusal.Length input.Labels) = ⊥
+abbrev pub IsChangesCause : Told → Names → Sources → Option (List ℕ) → Refusal → Type 0
+IsChangesCause held Failed from changes (refusal.Changes f) = AtChanges held from changes (λ name m. IsFaultyChanges held name m f)
+IsChangesCause held Failed from changes (refusal.Read input.Changes) = AtChanges held from changes (λ name m. Failed name)
+IsChangesCause held Failed from changes (refusal.Length input.Changes) = AtChanges held from changes (λ name m. IsTooLong (held name))
+IsChangesCause held Failed from changes _ = ⊥
 
 -- the files stand for a world and batches of changes, and this holds of the file of labels that the job `check` reads
 abbrev pub AtLabels : Told → CheckJob → (List ℕ → Type 0) → Type 0
-AtLabels held j P = (w : World) × (batches : List (List Write)) × SaysWorld held j.sources w × SaysBatches held j.changes w.map batches × P j.labels
+AtLabels held j P = (w : World) × (batches : List (List Write)) × ReadsWorld held j.sources w × ReadsBatches held j.changes w.map batches × P j.labels
 
 -- why the job `check` is refused for its file of labels: it was not read
-abbrev pub IsLabelsCause : Told → FaultCounts → FaultCounts → CheckJob → Refusal → Type 0
-IsLabelsCause held before after j (refusal.Environment f) = ⊥
-IsLabelsCause held before after j (refusal.Primitives f) = ⊥
-IsLabelsCause held before after j (refusal.TooWide place) = ⊥
-IsLabelsCause held before after j (refusal.TooDear place) = ⊥
-IsLabelsCause held before after j (refusal.Changes f) = ⊥
-IsLabelsCause held before after j (refusal.Read input.Environment) = ⊥
-IsLabelsCause held before after j (refusal.Read input.Primitives) = ⊥
-IsLabelsCause held before after j (refusal.Read input.Changes) = ⊥
-IsLabelsCause held before after j (refusal.Read input.Labels) = AtLabels held j (λ name. Rose (before name) (after name))
-IsLabelsCause held before after j (refusal.Length input.Environment) = ⊥
-IsLabelsCause held before after j (refusal.Length input.Primitives) = ⊥
-IsLabelsCause held before after j (refusal.Length input.Changes) = ⊥
-IsLabelsCause held before after j (refusal.Length input.Labels) = AtLabels held j (λ name. IsTooLong (held name))
+abbrev pub IsLabelsCause : Told → Names → CheckJob → Refusal → Type 0
+IsLabelsCause held Failed j (refusal.Read input.Labels) = AtLabels held j Failed
+IsLabelsCause held Failed j (refusal.Length input.Labels) = AtLabels held j (λ name. IsTooLong (held name))
+IsLabelsCause held Failed j _ = ⊥
 
 -- why a job is refused: for the files of its lattice, for its change file, or for its file of labels
-abbrev pub IsJobCause : Told → FaultCounts → FaultCounts → Job → Refusal → Type 0
-IsJobCause held before after (job.Plan j) r = IsCause held before after j.sources r ⊎ IsChangesCause held before after j.sources j.changes r
-IsJobCause held before after (job.Check j) r = IsCause held before after j.sources r ⊎ (IsChangesCause held before after j.sources j.changes r ⊎ IsLabelsCause held before after j r)
-IsJobCause held before after (job.Sweep from) r = IsCause held before after from r
-IsJobCause held before after (job.Demo d) r = ⊥
-
--- why a job stopped before anything was written
-abbrev pub JobStopsFor : Told → FaultCounts → FaultCounts → Job → Stop → Type 0
-JobStopsFor held before after j (stop.Refused r) = IsJobCause held before after j r
-JobStopsFor held before after j stop.NoMemory = Unit {0}
-
--- why no lattice was made
-abbrev pub StopsFor : Told → FaultCounts → FaultCounts → Sources → Stop → Type 0
-StopsFor held before after from (stop.Refused r) = IsCause held before after from r
-StopsFor held before after from stop.NoMemory = Unit {0}
+abbrev pub IsJobCause : Told → Names → Job → Refusal → Type 0
+IsJobCause held Failed (job.Plan j) r = IsCause held Failed j.sources r ⊎ IsChangesCause held Failed j.sources j.changes r
+IsJobCause held Failed (job.Check j) r = IsCause held Failed j.sources r ⊎ (IsChangesCause held Failed j.sources j.changes r ⊎ IsLabelsCause held Failed j r)
+IsJobCause held Failed (job.Sweep from) r = IsCause held Failed from r
+IsJobCause held Failed (job.Demo d) r = ⊥
 
 -- why the files of a lattice or the change file were refused
-abbrev pub IsEarlyCause : Told → FaultCounts → FaultCounts → Sources → Option (List ℕ) → Refusal → Type 0
-IsEarlyCause held before after from changes r = IsCause held before after from r ⊎ IsChangesCause held before after from changes r
+abbrev pub IsEarlyCause : Told → Names → Sources → Option (List ℕ) → Refusal → Type 0
+IsEarlyCause held Failed from changes r = IsCause held Failed from r ⊎ IsChangesCause held Failed from changes r
+
+-- a refusal with a cause; or memory ran out
+abbrev pub StopsFor : (Refusal → Type 0) → Stop → Type 0
+StopsFor IsWhy (stop.Refused r) = IsWhy r
+StopsFor IsWhy stop.NoMemory = Unit {0}
+
+-- why a job stopped before anything was written
+abbrev pub JobStopsFor : (before after : DeskState) → Job → Stop → Type 0
+JobStopsFor before after j s = StopsFor (IsJobCause before.held (ReadFailed before after) j) s
+
+-- why no lattice was made
+abbrev pub LatticeStopsFor : (before after : DeskState) → Sources → Stop → Type 0
+LatticeStopsFor before after from s = StopsFor (IsCause before.held (ReadFailed before after) from) s
 
 -- why no lattice with its changes was read
-abbrev pub EarlyStopsFor : Told → FaultCounts → FaultCounts → Sources → Option (List ℕ) → Stop → Type 0
-EarlyStopsFor held before after from changes (stop.Refused r) = IsEarlyCause held before after from changes r
-EarlyStopsFor held before after from changes stop.NoMemory = Unit {0}
+abbrev pub EarlyStopsFor : (before after : DeskState) → Sources → Option (List ℕ) → Stop → Type 0
+EarlyStopsFor before after from changes s = StopsFor (IsEarlyCause before.held (ReadFailed before after) from changes) s
 
--- why one file was not read
-abbrev pub IsUnread : Option (List ℕ) → ℕ → ℕ → Input → Stop → Type 0
-IsUnread held before after i (stop.Refused (refusal.Read j)) = (j ≡ i) × Rose before after
-IsUnread held before after i (stop.Refused (refusal.Length j)) = (j ≡ i) × IsTooLong held
-IsUnread held before after i (stop.Refused (refusal.Environment f)) = ⊥
-IsUnread held before after i (stop.Refused (refusal.Primitives f)) = ⊥
-IsUnread held before after i (stop.Refused (refusal.TooWide place)) = ⊥
-IsUnread held before after i (stop.Refused (refusal.TooDear place)) = ⊥
-IsUnread held before after i (stop.Refused (refusal.Changes f)) = ⊥
-IsUnread held before after i stop.NoMemory = Unit {0}
+-- why the file of a name was not read
+abbrev pub IsUnread : (before after : DeskState) → List ℕ → Input → Stop → Type 0
+IsUnread before after name i (stop.Refused (refusal.Read j)) = (j ≡ i) × ReadFailed before after name
+IsUnread before after name i (stop.Refused (refusal.Length j)) = (j ≡ i) × IsTooLong (before.held name)
+IsUnread before after name i (stop.Refused _) = ⊥
+IsUnread before after name i stop.NoMemory = Unit {0}
 
 -- why the text of an environment file was refused
 abbrev pub IsEnvironmentRefused : List ℕ → Stop → Type 0
 IsEnvironmentRefused text (stop.Refused (refusal.Environment f)) = HasEnvironmentFault text f
-IsEnvironmentRefused text (stop.Refused (refusal.Primitives f)) = ⊥
-IsEnvironmentRefused text (stop.Refused (refusal.TooWide place)) = ⊥
-IsEnvironmentRefused text (stop.Refused (refusal.TooDear place)) = ⊥
-IsEnvironmentRefused text (stop.Refused (refusal.Changes f)) = ⊥
-IsEnvironmentRefused text (stop.Refused (refusal.Read i)) = ⊥
-IsEnvironmentRefused text (stop.Refused (refusal.Length i)) = ⊥
+IsEnvironmentRefused text (stop.Refused _) = ⊥
 IsEnvironmentRefused text stop.NoMemory = Unit {0}
 
 -- why the text of a primitive file was refused
 abbrev pub IsPrimitivesRefused : Environment → List ℕ → Stop → Type 0
-IsPrimitivesRefused e text (stop.Refused (refusal.Environment f)) = ⊥
 IsPrimitivesRefused e text (stop.Refused (refusal.Primitives f)) = HasPrimitiveFault e text f
-IsPrimitivesRefused e text (stop.Refused (refusal.TooWide place)) = ⊥
-IsPrimitivesRefused e text (stop.Refused (refusal.TooDear place)) = ⊥
-IsPrimitivesRefused e text (stop.Refused (refusal.Changes f)) = ⊥
-IsPrimitivesRefused e text (stop.Refused (refusal.Read i)) = ⊥
-IsPrimitivesRefused e text (stop.Refused (refusal.Length i)) = ⊥
+IsPrimitivesRefused e text (stop.Refused _) = ⊥
 IsPrimitivesRefused e text stop.NoMemory = Unit {0}
 
 -- why the primitive file, for an environment, was refused
-abbrev pub PrimitivesStopFor : Told → FaultCounts → FaultCounts → Sources → Environment → Stop → Type 0
-PrimitivesStopFor held before after from e (stop.Refused (refusal.Environment f)) = ⊥
-PrimitivesStopFor held before after from e (stop.Refused (refusal.Primitives f)) = IsFaultyFor held from e f
-PrimitivesStopFor held before after from e (stop.Refused (refusal.TooWide place)) = ⊥
-PrimitivesStopFor held before after from e (stop.Refused (refusal.TooDear place)) = ⊥
-PrimitivesStopFor held before after from e (stop.Refused (refusal.Changes f)) = ⊥
-PrimitivesStopFor held before after from e (stop.Refused (refusal.Read input.Environment)) = ⊥
-PrimitivesStopFor held before after from e (stop.Refused (refusal.Read input.Primitives)) = Rose (before from.prims) (after from.prims)
-PrimitivesStopFor held before after from e (stop.Refused (refusal.Read input.Changes)) = ⊥
-PrimitivesStopFor held before after from e (stop.Refused (refusal.Length input.Changes)) = ⊥
-PrimitivesStopFor held before after from e (stop.Refused (refusal.Read input.Labels)) = ⊥
-PrimitivesStopFor held before after from e (stop.Refused (refusal.Length input.Environment)) = ⊥
-PrimitivesStopFor held before after from e (stop.Refused (refusal.Length input.Labels)) = ⊥
-PrimitivesStopFor held before after from e (stop.Refused (refusal.Length input.Primitives)) = IsTooLong (held from.prims)
-PrimitivesStopFor held before after from e stop.NoMemory = Unit {0}
+abbrev pub PrimitivesStopFor : (before after : DeskState) → Sources → Environment → Stop → Type 0
+PrimitivesStopFor before after from e (stop.Refused (refusal.Primitives f)) = IsFaultyFor before.held from e f
+PrimitivesStopFor before after from e (stop.Refused (refusal.Read input.Primitives)) = ReadFailed before after from.prims
+PrimitivesStopFor before after from e (stop.Refused (refusal.Length input.Primitives)) = IsTooLong (before.held from.prims)
+PrimitivesStopFor before after from e (stop.Refused _) = ⊥
+PrimitivesStopFor before after from e stop.NoMemory = Unit {0}
 
 -- why the sweeps of primitives were not made
 abbrev pub IsWideStop : Primitives → ℕ → Stop → Type 0
-IsWideStop prims radius (stop.Refused (refusal.Environment f)) = ⊥
-IsWideStop prims radius (stop.Refused (refusal.Primitives f)) = ⊥
 IsWideStop prims radius (stop.Refused (refusal.TooWide place)) = IsFirstTooWide prims radius place
-IsWideStop prims radius (stop.Refused (refusal.TooDear place)) = ⊥
-IsWideStop prims radius (stop.Refused (refusal.Changes f)) = ⊥
-IsWideStop prims radius (stop.Refused (refusal.Read i)) = ⊥
-IsWideStop prims radius (stop.Refused (refusal.Length i)) = ⊥
+IsWideStop prims radius (stop.Refused _) = ⊥
 IsWideStop prims radius stop.NoMemory = Unit {0}
 
 -- why the text of a change file was refused, on a map
 abbrev pub IsChangesRefused : CellMap → List ℕ → Stop → Type 0
-IsChangesRefused m text (stop.Refused (refusal.Environment f)) = ⊥
-IsChangesRefused m text (stop.Refused (refusal.Primitives f)) = ⊥
-IsChangesRefused m text (stop.Refused (refusal.TooWide place)) = ⊥
-IsChangesRefused m text (stop.Refused (refusal.TooDear place)) = ⊥
 IsChangesRefused m text (stop.Refused (refusal.Changes f)) = HasChangeFault m text f
-IsChangesRefused m text (stop.Refused (refusal.Read i)) = ⊥
-IsChangesRefused m text (stop.Refused (refusal.Length i)) = ⊥
+IsChangesRefused m text (stop.Refused _) = ⊥
 IsChangesRefused m text stop.NoMemory = Unit {0}
 
 -- why no batches of changes of a map were read
-abbrev pub ChangesStopFor : Told → FaultCounts → FaultCounts → Option (List ℕ) → CellMap → Stop → Type 0
-ChangesStopFor held before after changes m (stop.Refused (refusal.Environment f)) = ⊥
-ChangesStopFor held before after changes m (stop.Refused (refusal.Primitives f)) = ⊥
-ChangesStopFor held before after changes m (stop.Refused (refusal.TooWide place)) = ⊥
-ChangesStopFor held before after changes m (stop.Refused (refusal.TooDear place)) = ⊥
-ChangesStopFor held before after changes m (stop.Refused (refusal.Changes f)) = AtName changes (λ name. IsFaultyChanges held name m f)
-ChangesStopFor held before after changes m (stop.Refused (refusal.Read input.Environment)) = ⊥
-ChangesStopFor held before after changes m (stop.Refused (refusal.Read input.Primitives)) = ⊥
-ChangesStopFor held before after changes m (stop.Refused (refusal.Read input.Changes)) = AtName changes (λ name. Rose (before name) (after name))
-ChangesStopFor held before after changes m (stop.Refused (refusal.Read input.Labels)) = ⊥
-ChangesStopFor held before after changes m (stop.Refused (refusal.Length input.Environment)) = ⊥
-ChangesStopFor held before after changes m (stop.Refused (refusal.Length input.Primitives)) = ⊥
-ChangesStopFor held before after changes m (stop.Refused (refusal.Length input.Changes)) = AtName changes (λ name. IsTooLong (held name))
-ChangesStopFor held before after changes m (stop.Refused (refusal.Length input.Labels)) = ⊥
-ChangesStopFor held before after changes m stop.NoMemory = Unit {0}
+abbrev pub ChangesStopFor : (before after : DeskState) → Option (List ℕ) → CellMap → Stop → Type 0
+ChangesStopFor before after changes m (stop.Refused (refusal.Changes f)) = AtName changes (λ name. IsFaultyChanges before.held name m f)
+ChangesStopFor before after changes m (stop.Refused (refusal.Read input.Changes)) = AtName changes (ReadFailed before after)
+ChangesStopFor before after changes m (stop.Refused (refusal.Length input.Changes)) = AtName changes (λ name. IsTooLong (before.held name))
+ChangesStopFor before after changes m (stop.Refused _) = ⊥
+ChangesStopFor before after changes m stop.NoMemory = Unit {0}

@@ -17,8 +17,8 @@ use Rattle.sbpl_map.specs.declared.write.Write.{Write}
 use Rattle.sbpl_cost.specs.Lattices.{network_of}
 use Rattle.sbpl_cost.specs.States.{state_count}
 use Rattle.sbpl_cost.specs.World.{IsWorld, World}
-use Rattle.sbpl_cli.specs.declared.checking.SectionStop.{SectionStop}
-use Rattle.sbpl_cli.specs.declared.checking.SectionStop.TheVariants as stop
+use Rattle.sbpl_cli.specs.declared.section_check.SectionStop.{SectionStop}
+use Rattle.sbpl_cli.specs.declared.section_check.SectionStop.TheVariants as stop
 
 -- the tokens that are left begin with the section of a plan, which has no flaw on a graph and says this outcome, and then
 -- others are left
@@ -57,12 +57,12 @@ IsSectionStop n start goal plan left (stop.Flaw f) = IsFlawed n start goal plan 
 IsSectionStop n start goal plan left (stop.Fault f) = (f ≢ fault.NoMemory) × HasFault plan n.states left f
 IsSectionStop n start goal plan left stop.NoMemory = Unit {0}
 
--- a token is left behind the last section, where none may be, and this is the fault
+-- a token is left after the last section, where none may be, and this is the fault
 abbrev pub IsTrailingAt : List Piece → LabelFault → Type 0
 IsTrailingAt [] f = ⊥
 IsTrailingAt (t ∷ ts) f = f ≡ fault.Trailing t.place
 
--- why the checking ends behind the last section, but not well
+-- why the checking ends after the last section, but not well
 abbrev pub IsTrailing : List Piece → SectionStop → Type 0
 IsTrailing ts (stop.Flaw f) = ⊥
 IsTrailing ts (stop.Fault f) = IsTrailingAt ts f
@@ -82,7 +82,7 @@ pub record Case : Type 0 where
   pub start : ℕ
   pub goal : ℕ
 
--- what is said of a section that holds: its graph, its plan, the tokens from it on, its outcome, and the tokens behind it
+-- what is said of a section that holds: its graph, its plan, the tokens from it on, its outcome, and the tokens after it
 abbrev pub Holding : Type 1
 Holding = Network → (start goal plan : ℕ) → Left → Outcome → Left → Type 0
 
@@ -92,15 +92,14 @@ IsStoppedIn c plan left (stop.Flaw f) = (n : Network) × IsGraphAfter c.world c.
 IsStoppedIn c plan left (stop.Fault f) = (f ≢ fault.NoMemory) × HasFault plan (state_count c.world.env) left f
 IsStoppedIn c plan left stop.NoMemory = Unit {0}
 
--- The tokens that are left stand for so many sections more, the first that of a plan, each for the graph on the map after as
--- many batches: those with these outcomes hold, and then it ends so. It ends well where all hold and no token is left. Want of
--- memory says nothing of what was to come.
+-- The tokens that are left stand for this number of sections more, the first that of a plan, each for the graph on the map after as
+-- many batches: those with these outcomes hold, and then it ends so. It ends well where all hold and no token is left. That
+-- memory ran out says nothing of what was to come.
 abbrev pub AreChecked : Holding → Case → (plan more : ℕ) → Left → List Outcome → Option SectionStop → Type 0
 AreChecked Holds c plan zero left [] None = left.tokens ≡ []
 AreChecked Holds c plan zero left [] (Some s) = IsTrailing left.tokens s
-AreChecked Holds c plan zero left (o ∷ os) end = ⊥
-AreChecked Holds c plan (suc more) left [] None = ⊥
 AreChecked Holds c plan (suc more) left [] (Some s) = IsStoppedIn c plan left s
 AreChecked Holds c plan (suc more) left (o ∷ os) end =
     (n : Network) × IsGraphAfter c.world c.batches plan n
     × (rest : Left) × Holds n c.start c.goal plan left o rest × AreChecked Holds c (plan + 1) more rest os end
+AreChecked Holds c plan _ left _ _ = ⊥

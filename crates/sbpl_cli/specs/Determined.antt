@@ -1,6 +1,6 @@
 -- What is written is determined by the words and the files.
 use Rattle.std.specs.Prelude.{◌≡◌, ◌≢◌, ◌⊎◌, ◌++◌, ℕ, Bool, true, IsSome, List, Some}
-use Rattle.sbpl_desk.specs.Desk.{AppendsFront, Rose}
+use Rattle.sbpl_desk.specs.Desk.{AppendsPrefix}
 use Rattle.sbpl_cost.specs.World.{World}
 use Rattle.sbpl_map.specs.declared.write.Write as change
 use Rattle.sbpl_job.specs.declared.job.Job.{Job}
@@ -8,13 +8,13 @@ use Rattle.sbpl_job.specs.declared.job.Job.TheVariants as job
 use Rattle.sbpl_job.specs.declared.job.Outputs.{Outputs}
 use Rattle.sbpl_job.specs.declared.job.SearchJob.{SearchJob}
 use Rattle.sbpl_job.specs.declared.job.Sources.{Sources}
-use Rattle.sbpl_cli.specs.declared.checking.SectionStop.TheVariants as section
+use Rattle.sbpl_cli.specs.declared.section_check.SectionStop.TheVariants as section
 use Rattle.sbpl_cli.specs.declared.record.PlanRecord.{PlanRecord}
-use Rattle.sbpl_cli.specs.Causes.{ArePlanned, IsJobCause, SaysWorld}
+use Rattle.sbpl_cli.specs.Causes.{ArePlanned, IsJobCause, ReadsWorld}
 use Rattle.sbpl_cli.specs.Headline.{ArePlans}
-use Rattle.sbpl_cli.specs.Intents.{Intent, Refused, Planned, Checked, Listed, Demonstrated, OutOfMemory}
+use Rattle.sbpl_cli.specs.Intents.{Intent, Refused, Planned, Checked, Listed, Demonstrated}
 use Rattle.sbpl_cli.specs.Promises.{IsChecked, IsDemonstration}
-use Rattle.sbpl_cli.specs.Writing.{FaultCounts, IsNamed, Told, Write, text_under}
+use Rattle.sbpl_cli.specs.Writing.{DeskState, IsNamed, Names, ReadFailed, Told, Write, text_under}
 
 -- ---- records of plans
 
@@ -39,11 +39,11 @@ FewAreFirst = (w v : World) (batches : List (List change.Write)) (how : SearchJo
 -- ---- what the words and the files call for
 
 -- the name is that of a file of a lattice
-abbrev pub IsSource : Sources → List ℕ → Type 0
+abbrev pub IsSource : Sources → Names
 IsSource from name = (name ≡ from.env) ⊎ (name ≡ from.prims)
 
 -- the name is that of a file which the job reads
-abbrev pub IsInput : Job → List ℕ → Type 0
+abbrev pub IsInput : Job → Names
 IsInput (job.Plan j) name = IsSource j.sources name ⊎ IsNamed j.changes name
 IsInput (job.Check j) name = IsSource j.sources name ⊎ (IsNamed j.changes name ⊎ (name ≡ j.labels))
 IsInput (job.Sweep from) name = IsSource from name
@@ -54,39 +54,27 @@ abbrev pub AreTold : Told → Job → Type 0
 AreTold held j = (name : List ℕ) → IsInput j name → IsSome (held name)
 
 -- no read of a file of the job failed in this call
-abbrev pub NoneRose : Job → FaultCounts → FaultCounts → Type 0
-NoneRose j reads reads' = (name : List ℕ) → IsInput j name → Rose (reads name) (reads' name) → ⊥
+abbrev pub NoneRose : Job → (before after : DeskState) → Type 0
+NoneRose j before after = (name : List ℕ) → IsInput j name → ReadFailed before after name → ⊥
 
--- no read ever fails
-abbrev pub none_failed : FaultCounts
-none_failed name = 0
+-- no name: that no read failed
+abbrev pub NoName : Names
+NoName name = ⊥
 
 -- What the words and the files call for, where no read fails and memory does not run out: a refusal with its cause, the plans
 -- of all maps, the checking of sections to its end, the list of sweeps, or a demonstration of all maps.
 abbrev pub CallsFor : Told → Job → Intent → Type 0
-CallsFor held j (Refused r) = IsJobCause held none_failed none_failed j r
+CallsFor held j (Refused r) = IsJobCause held NoName j r
 CallsFor held (job.Plan j) (Planned records all) = (all ≡ true) × ArePlanned held j records true
-CallsFor held (job.Check j) (Planned records all) = ⊥
-CallsFor held (job.Sweep from) (Planned records all) = ⊥
-CallsFor held (job.Demo d) (Planned records all) = ⊥
-CallsFor held (job.Plan j) (Checked goal os end) = ⊥
 CallsFor held (job.Check j) (Checked goal os end) = (end ≢ Some section.NoMemory) × IsChecked held j goal os end
-CallsFor held (job.Sweep from) (Checked goal os end) = ⊥
-CallsFor held (job.Demo d) (Checked goal os end) = ⊥
-CallsFor held (job.Plan j) (Listed w) = ⊥
-CallsFor held (job.Check j) (Listed w) = ⊥
-CallsFor held (job.Sweep from) (Listed w) = SaysWorld held from w
-CallsFor held (job.Demo d) (Listed w) = ⊥
-CallsFor held (job.Plan j) (Demonstrated w count records all) = ⊥
-CallsFor held (job.Check j) (Demonstrated w count records all) = ⊥
-CallsFor held (job.Sweep from) (Demonstrated w count records all) = ⊥
+CallsFor held (job.Sweep from) (Listed w) = ReadsWorld held from w
 CallsFor held (job.Demo d) (Demonstrated w count records all) = (all ≡ true) × IsDemonstration d w count records true
-CallsFor held j OutOfMemory = ⊥
+CallsFor held _ _ = ⊥
 
 -- the status says that no read and no write failed, and that memory did not run out
 abbrev pub IsNoFailure : ℕ → Type 0
 IsNoFailure status = (status ≢ 6) × (status ≢ 7) × (status ≢ 9)
 
--- under each name, told bytes grew by a front of what these writes append there
-abbrev pub AreFronts : Told → Told → List Write → Type 0
-AreFronts before after writes = (name : List ℕ) → AppendsFront (before name) (after name) (text_under name writes)
+-- under each name, told bytes grew by a prefix of what these writes append there
+abbrev pub ArePrefixes : (before after : DeskState) → List Write → Type 0
+ArePrefixes before after writes = (name : List ℕ) → AppendsPrefix (before.written name) (after.written name) (text_under name writes)

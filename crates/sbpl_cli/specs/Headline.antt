@@ -13,25 +13,26 @@ use Rattle.sbpl_cost.specs.World.{IsWorld, World, over_map}
 use Rattle.sbpl_cost.specs.States.{place_of, state_number}
 use Rattle.sbpl_cost.specs.Lattices.{network_of, arc_primitive}
 use Rattle.sbpl_heur.specs.Bests.{IsBest}
-use Rattle.sbpl_labels.specs.Marks.{Marks, IsOpened}
+use Rattle.sbpl_labels.specs.Marks.{Marks, AreInitial}
 use Rattle.sbpl_plan.specs.declared.result.Outcome as search
 use Rattle.sbpl_plan.specs.declared.result.Outcome.TheVariants as result
 use Rattle.sbpl_plan.specs.Asked.{most_passes}
-use Rattle.sbpl_plan.specs.Outcomes.{IsOutcome}
+use Rattle.sbpl_plan.specs.Outcomes.{IsResultOf}
 use Rattle.sbpl_plan.specs.Passing.{ArePasses, expansions}
 use Rattle.sbpl_map.specs.CellMap.{CellMap}
 use Rattle.sbpl_map.specs.MapAfter.{IsMapAfter}
 use Rattle.sbpl_map.specs.declared.write.Write.{Write}
-use Rattle.sbpl_replan.specs.Replanning.{BeginsWith, inquiry, most_times}
-use Rattle.sbpl_cli.specs.declared.record.Step.{Step}
+use Rattle.sbpl_replan.specs.Replanning.{BeginsWith, inquiry}
+use Rattle.sbpl_search.specs.Meaning.{Meaning}
+use Rattle.sbpl_serial.specs.declared.step.Step as expansion
+use Rattle.sbpl_cli.specs.declared.record.PathStep.{PathStep}
 use Rattle.sbpl_cli.specs.declared.record.PathRecord.{PathRecord}
 use Rattle.sbpl_cli.specs.declared.record.Outcome.{Outcome}
 use Rattle.sbpl_cli.specs.declared.record.Outcome.TheVariants as outcome
 use Rattle.sbpl_cli.specs.declared.record.PlanRecord.{PlanRecord}
 use Rattle.sbpl_job.specs.declared.job.Outputs.{Outputs}
-use Rattle.sbpl_job.specs.declared.job.Planner.{Planner}
 use Rattle.sbpl_job.specs.declared.job.SearchJob.{SearchJob}
-use Rattle.sbpl_cli.specs.Asked.{ask_of, repairs}
+use Rattle.sbpl_cli.specs.Asked.{ask_of, means_of}
 use Rattle.sbpl_cli.specs.Shown.{IsShown, IsThere}
 
 -- the state of a pose: that of its cell and heading
@@ -41,18 +42,17 @@ pub record IsStateOf (e : Environment) (p : Pose) (s : ℕ) : Type 0 where
   pub number : s ≡ state_number e place
 
 -- arc k of state s, which leads to t, is this step: it has the id of the arc's primitive and the place of t
-pub record IsStep (w : World) (s k t : ℕ) (step : Step) : Type 0 where
+pub record IsPathStep (w : World) (s k t : ℕ) (step : PathStep) : Type 0 where
   pub primitive : Primitive
   pub by : arc_primitive w s k ≡ Some primitive
   pub id : step.id ≡ primitive.id
   pub place : step.place ≡ place_of w.env t
 
 -- from state s these are the steps of the path that the arcs are
-abbrev pub AreSteps : World → ℕ → List ℕ → List Step → Type 0
+abbrev pub AreSteps : World → ℕ → List ℕ → List PathStep → Type 0
 AreSteps w s [] [] = Unit {0}
-AreSteps w s (k ∷ ks) [] = ⊥
-AreSteps w s [] (step ∷ steps) = ⊥
-AreSteps w s (k ∷ ks) (step ∷ steps) = (t : ℕ) × ((network_of w).head s k ≡ Some t) × IsStep w s k t step × AreSteps w t ks steps
+AreSteps w s (k ∷ ks) (step ∷ steps) = (t : ℕ) × ((network_of w).head s k ≡ Some t) × IsPathStep w s k t step × AreSteps w t ks steps
+AreSteps w s _ _ = ⊥
 
 -- from state s these arcs are a free path to some state
 abbrev pub IsPathFrom : Network → ℕ → List ℕ → Type 0
@@ -67,62 +67,54 @@ pub record JoinsStates (w : World) (start goal : ℕ) (path : PathRecord) : Type
 -- joins: where the result is a path, it joins start to goal
 abbrev pub Joins : World → ℕ → ℕ → Outcome → Type 0
 Joins w start goal (outcome.Path path) = JoinsStates w start goal path
-Joins w start goal outcome.NoPath = Unit {0}
-Joins w start goal outcome.Unknown = Unit {0}
+Joins w start goal _ = Unit {0}
 
 -- at most the printed bound times: its cost is at most its bound, in thousandths, times that of every free path
 abbrev pub IsWithinBound : World → ℕ → ℕ → Outcome → Type 0
 IsWithinBound w start goal (outcome.Path path) = (arcs : List ℕ) (cost : ℕ) → IsFreePath (network_of w) start arcs goal cost → 1000 * path.cost ≤ path.bound * cost
-IsWithinBound w start goal outcome.NoPath = Unit {0}
-IsWithinBound w start goal outcome.Unknown = Unit {0}
+IsWithinBound w start goal _ = Unit {0}
 
 -- none: where the result is that there is no path, no free path joins start to goal
 abbrev pub IsNoneThere : World → ℕ → ℕ → Outcome → Type 0
-IsNoneThere w start goal (outcome.Path path) = Unit {0}
 IsNoneThere w start goal outcome.NoPath = (arcs : List ℕ) (cost : ℕ) → IsFreePath (network_of w) start arcs goal cost → ⊥
-IsNoneThere w start goal outcome.Unknown = Unit {0}
+IsNoneThere w start goal _ = Unit {0}
 
 -- the result is known, and its bound is at least one and at most the one asked
-abbrev pub IsAnswered : ℕ → Outcome → Type 0
-IsAnswered asked (outcome.Path path) = (1000 ≤ path.bound) × (path.bound ≤ asked)
-IsAnswered asked outcome.NoPath = Unit {0}
-IsAnswered asked outcome.Unknown = ⊥
+abbrev pub IsKnownWithin : ℕ → Outcome → Type 0
+IsKnownWithin asked (outcome.Path path) = (1000 ≤ path.bound) × (path.bound ≤ asked)
+IsKnownWithin asked outcome.NoPath = Unit {0}
+IsKnownWithin asked outcome.Unknown = ⊥
 
 -- a result is told step by step
-abbrev pub TellsResult : search.Outcome → Outcome → Type 0
-TellsResult (result.Path arcs cost bound) (outcome.Path path) = (path.arcs ≡ arcs) × (path.cost ≡ cost) × (path.bound ≡ bound)
-TellsResult (result.Path arcs cost bound) outcome.NoPath = ⊥
-TellsResult (result.Path arcs cost bound) outcome.Unknown = ⊥
-TellsResult result.NoPath (outcome.Path path) = ⊥
-TellsResult result.NoPath outcome.NoPath = Unit {0}
-TellsResult result.NoPath outcome.Unknown = ⊥
-TellsResult result.Unknown (outcome.Path path) = ⊥
-TellsResult result.Unknown outcome.NoPath = ⊥
-TellsResult result.Unknown outcome.Unknown = Unit {0}
+abbrev pub IsSameResult : search.Outcome → Outcome → Type 0
+IsSameResult (result.Path arcs cost bound) (outcome.Path path) = (path.arcs ≡ arcs) × (path.cost ≡ cost) × (path.bound ≡ bound)
+IsSameResult result.NoPath outcome.NoPath = Unit {0}
+IsSameResult result.Unknown outcome.Unknown = Unit {0}
+IsSameResult _ _ = ⊥
 
 -- what is promised of a plan between two states: 'asked' is the bound that was asked, in thousandths
 pub record KeepsPromises (w : World) (start goal asked : ℕ) (r : PlanRecord) : Type 0 where
   pub joins : Joins w start goal r.outcome
   pub within_the_bound : IsWithinBound w start goal r.outcome
   pub none : IsNoneThere w start goal r.outcome
-  pub unless_spent : r.spent ≡ None → IsAnswered asked r.outcome
+  pub unless_spent : r.spent ≡ None → IsKnownWithin asked r.outcome
 
 -- what the plans of a run leave to the next one: the map of the last of them, its final labels, and how many states all of
 -- them expanded
-pub record Behind : Type 0 where
+pub record Carried : Type 0 where
   pub map : CellMap
   pub labels : Marks
   pub expanded : ℕ
 
 -- how many states were expanded before a plan
-abbrev pub expanded_before : Option Behind → ℕ
+abbrev pub expanded_before : Option Carried → ℕ
 expanded_before None = 0
 expanded_before (Some b) = b.expanded
 
--- the labels that a plan in a world begins with: opened ones; and behind another plan those that it left, where the planner repairs them
-abbrev pub Begins : Planner → World → (start : ℕ) → Option Behind → Marks → Type 0
-Begins p w start None m = IsOpened m (network_of w).states start
-Begins p w start (Some b) m = BeginsWith (repairs p) (over_map w b.map) w b.labels m
+-- the labels that a plan in a world begins with: initial ones; and after another plan what the planner makes of those that it left
+abbrev pub Begins : {Note : Type 0} → Meaning Note → World → (start : ℕ) → Option Carried → Marks → Type 0
+Begins means w start None m = AreInitial m (network_of w).states start
+Begins means w start (Some b) m = BeginsWith means (over_map w b.map) w b.labels m
 
 -- a plan that was spent is marked with its expansions, which are the budget, or else the run's are 2 ^ 30; one that was not is not marked
 abbrev pub IsMarked : (budget before : ℕ) → Bool → PlanRecord → Type 0
@@ -130,46 +122,46 @@ IsMarked budget before spent r = MatchBool spent
     ((r.spent ≡ Some (expansions r.passes)) × ((expansions r.passes ≡ budget) ⊎ (before + expansions r.passes ≡ 2 ^ 30)))
     (r.spent ≡ None)
 
--- The record of a search by the best heuristic, from opened or repaired labels: its passes in turn, as few as the step allows,
+-- The record of a search by the best heuristic, from initial or repaired labels: its passes in turn, as few as the step allows,
 -- the result by the final labels, and a section of these labels, where they are to be written. A plan expands no more than its
--- budget, and the run no more than 2 ^ 30. A budget for each state in each pass, three times where labels are repaired, is not spent, unless the run's is.
-pub record IsSearched (w : World) (how : SearchJob) (outputs : Outputs) (start goal : ℕ) (before : Option Behind) (behind : Behind) (r : PlanRecord) : Type 0 where
+-- budget, and the run no more than 2 ^ 30. A budget for each state in each pass, as often as the planner may take one, is not spent, unless the run's is.
+pub record IsSearched (means : Meaning expansion.Step) (w : World) (how : SearchJob) (outputs : Outputs) (start goal : ℕ) (before : Option Carried) (carried : Carried) (r : PlanRecord) : Type 0 where
   pub guide : ℕ → ℕ
   pub is_guide : IsBest w goal guide
   pub begun : Marks
-  pub begins : Begins how.planner w start before begun
+  pub begins : Begins means w start before begun
   pub spent : Bool
-  pub passes : ArePasses (inquiry w guide goal (ask_of how outputs)) how.first begun r.passes behind.labels spent
+  pub passes : ArePasses means (inquiry w guide goal (ask_of how outputs)) how.first begun r.passes carried.labels spent
   pub result : search.Outcome
-  pub is_result : IsOutcome (network_of w) guide goal behind.labels result
-  pub told : TellsResult result r.outcome
+  pub is_result : IsResultOf (network_of w) guide goal carried.labels result
+  pub told : IsSameResult result r.outcome
   pub expanded : r.expanded ≡ expansions r.passes
-  pub counted : behind.expanded ≡ expanded_before before + expansions r.passes
+  pub counted : carried.expanded ≡ expanded_before before + expansions r.passes
   pub within_budget : r.expanded ≤ how.budget
-  pub within_run : behind.expanded ≤ 2 ^ 30
+  pub within_run : carried.expanded ≤ 2 ^ 30
   pub marked : IsMarked how.budget (expanded_before before) spent r
   pub few : length r.passes ≤ most_passes how.step how.first
-  pub ample : spent ≡ true → most_passes how.step how.first * (most_times (repairs how.planner) * (network_of w).states) ≤ how.budget → behind.expanded ≡ 2 ^ 30
-  pub labels : IsThere (is_some outputs.labels) (IsShown (network_of w) guide start goal r.plan behind.labels result) r.labels
+  pub ample : spent ≡ true → most_passes how.step how.first * (means.most * (network_of w).states) ≤ how.budget → carried.expanded ≡ 2 ^ 30
+  pub labels : IsThere (is_some outputs.labels) (IsShown (network_of w) guide start goal r.plan carried.labels result) r.labels
 
 -- the record of plan k in a world, whose graph has just the arcs that the primitives make on its map, in the order of the file
 -- both from a state and into it
-pub record IsPlanOf (w : World) (how : SearchJob) (outputs : Outputs) (start goal k : ℕ) (before : Option Behind) (behind : Behind) (r : PlanRecord) : Type 0 where
+pub record IsPlanOf (means : Meaning expansion.Step) (w : World) (how : SearchJob) (outputs : Outputs) (start goal k : ℕ) (before : Option Carried) (carried : Carried) (r : PlanRecord) : Type 0 where
   pub number : r.plan ≡ k
   pub is_world : IsWorld w
   pub arcs : HasLatticeArcs (network_of w) w
   pub tails : HasLatticeTails (network_of w) w
   pub promises : KeepsPromises w start goal how.bound r
-  pub searched : IsSearched w how outputs start goal before behind r
+  pub searched : IsSearched means w how outputs start goal before carried r
 
--- The records of plans in turn, the first of which is plan k: each is made in the world on the map after the first so many
+-- The records of plans in turn, the first of which is plan k: each is made in the world on the map after as many of the first
 -- batches, and goes on from the plan before it.
-abbrev pub AreRecords : World → List (List Write) → SearchJob → Outputs → (start goal k : ℕ) → Option Behind → List PlanRecord → Type 0
-AreRecords w batches how outputs start goal k before [] = Unit {0}
-AreRecords w batches how outputs start goal k before (r ∷ rs) =
-    (behind : Behind) × IsMapAfter w.map batches k behind.map
-    × IsPlanOf (over_map w behind.map) how outputs start goal k before behind r
-    × AreRecords w batches how outputs start goal (k + 1) (Some behind) rs
+abbrev pub AreRecords : Meaning expansion.Step → World → List (List Write) → SearchJob → Outputs → (start goal k : ℕ) → Option Carried → List PlanRecord → Type 0
+AreRecords means w batches how outputs start goal k before [] = Unit {0}
+AreRecords means w batches how outputs start goal k before (r ∷ rs) =
+    (carried : Carried) × IsMapAfter w.map batches k carried.map
+    × IsPlanOf means (over_map w carried.map) how outputs start goal k before carried r
+    × AreRecords means w batches how outputs start goal (k + 1) (Some carried) rs
 
 -- These are records of plans in a world, from the start of its environment to its end: of plan 0 on the map as it is, and then
 -- of one plan after each batch of changes. They are all of them, or the first few.
@@ -178,6 +170,6 @@ pub record ArePlans (w : World) (batches : List (List Write)) (how : SearchJob) 
   pub goal : ℕ
   pub start_is : IsStateOf w.env w.env.start start
   pub goal_is : IsStateOf w.env w.env.end goal
-  pub each : AreRecords w batches how outputs start goal 0 None records
+  pub each : AreRecords (means_of how.planner) w batches how outputs start goal 0 None records
   pub few : length records ≤ length batches + 1
   pub all_made : all ≡ true → length records ≡ length batches + 1

@@ -1,4 +1,4 @@
--- What a job comes to: what is to be written, and the status.
+-- What a job means to do: what is to be written, and the status.
 use Rattle.std.specs.Prelude.{ℕ, ◌+◌, Bool, if◌then◌else◌, List, [], ◌∷◌, ◌++◌, flat_map, length, map, Option, Some, None, codes, decimal}
 use Rattle.sbpl_cfg.specs.Faults as environments
 use Rattle.sbpl_mprim.specs.Faults as primitives
@@ -19,8 +19,8 @@ use Rattle.sbpl_cert.specs.declared.outcome.Outcome.{Outcome}
 use Rattle.sbpl_cert.specs.Sections.{Section}
 use Rattle.sbpl_job.specs.declared.job.Job.{Job}
 use Rattle.sbpl_job.specs.declared.job.Job.TheVariants as job
-use Rattle.sbpl_cli.specs.declared.checking.SectionStop.{SectionStop}
-use Rattle.sbpl_cli.specs.declared.checking.SectionStop.TheVariants as stop
+use Rattle.sbpl_cli.specs.declared.section_check.SectionStop.{SectionStop}
+use Rattle.sbpl_cli.specs.declared.section_check.SectionStop.TheVariants as stop
 use Rattle.sbpl_job.specs.declared.job.Outputs.{Outputs}
 use Rattle.sbpl_cli.specs.declared.record.PlanRecord.{PlanRecord}
 use Rattle.sbpl_cli.specs.Listing.{listings}
@@ -38,8 +38,7 @@ name_or_nothing (Some name) = name
 abbrev pub sources_name : Sources → Input → List ℕ
 sources_name from input.Environment = from.env
 sources_name from input.Primitives = from.prims
-sources_name from input.Changes = []
-sources_name from input.Labels = []
+sources_name from _ = []
 
 abbrev pub plan_name : PlanJob → Input → List ℕ
 plan_name j input.Environment = j.sources.env
@@ -62,12 +61,10 @@ input_name (job.Demo d) i = []
 -- the statuses of refusals
 abbrev pub refusal_status : Refusal → ℕ
 refusal_status (refusal.Environment _) = 3
-refusal_status (refusal.Primitives _) = 4
-refusal_status (refusal.TooWide _) = 4
-refusal_status (refusal.TooDear _) = 4
 refusal_status (refusal.Changes _) = 5
 refusal_status (refusal.Read _) = 6
 refusal_status (refusal.Length _) = 8
+refusal_status _ = 4
 
 -- the line for words that name no job
 abbrev pub words_text : List ℕ
@@ -91,9 +88,9 @@ refusal_text j (refusal.Changes f) = fault_text (codes "changes") (changes.numbe
 refusal_text j (refusal.Read i) = unread_text (codes "read") (input_name j i)
 refusal_text j (refusal.Length i) = unread_text (codes "length") (input_name j i)
 
--- What a job comes to: it is refused; plans were made, all or the first few; sections of labels for this goal were checked, of
+-- What a job means to do: it is refused; plans were made, all or the first few; sections of labels for this goal were checked, of
 -- which those with these outcomes hold, and then it ended so; the sweeps of a world are listed; plans of a demonstration were made
--- in a world with so many batches of changes, all or the first few; or memory runs out before anything is written.
+-- in a world with this number of batches of changes, all or the first few; or memory runs out before anything is written.
 pub data Intent : Type 0 where
   Refused : Refusal → Intent
   Planned : List PlanRecord → (all : Bool) → Intent
@@ -187,9 +184,7 @@ refusal_writes j r = to_output (refusal_text j r) ∷ []
 -- where a job's plans are written beside the report
 abbrev pub outputs_of : Job → Outputs
 outputs_of (job.Plan j) = j.outputs
-outputs_of (job.Check j) = record { labels = None; trace = None }
-outputs_of (job.Sweep from) = record { labels = None; trace = None }
-outputs_of (job.Demo d) = record { labels = None; trace = None }
+outputs_of _ = record { labels = None; trace = None }
 
 -- what is to be written
 abbrev pub writes_of : Job → Intent → List Write
@@ -200,7 +195,7 @@ writes_of j (Listed w) = listing_writes w
 writes_of j (Demonstrated w batches records all) = demo_writes w batches records all
 writes_of j OutOfMemory = []
 
--- the status
+-- the status of a job that means to do this and whose writes are made
 abbrev pub intent_status : Intent → ℕ
 intent_status (Refused r) = refusal_status r
 intent_status (Planned records all) = plans_status all
@@ -208,3 +203,8 @@ intent_status (Checked goal os end) = checked_status end
 intent_status (Listed w) = 0
 intent_status (Demonstrated w batches records all) = plans_status all
 intent_status OutOfMemory = 9
+
+-- The statuses of the program: those of what jobs mean to do (`intent_status`), 2 for words that name no job, and 7 for a write
+-- that failed.
+abbrev pub statuses : List ℕ
+statuses = 0 ∷ 1 ∷ 2 ∷ 3 ∷ 4 ∷ 5 ∷ 6 ∷ 7 ∷ 8 ∷ 9 ∷ 10 ∷ []

@@ -14,3 +14,4 @@ pub mod Planning
 pub mod Causes
 pub mod Promises
 pub mod Determined
+pub mod Run

@@ -1,5 +1,6 @@
 -- What the program promises of its status and of what it writes.
-use Rattle.std.specs.Prelude.{◌≡◌, ℕ, suc, ◌+◌, ◌^◌, ◌<◌, ◌≤◌, ◌⊎◌, Bool, true, List, [], ◌++◌, flat_map, length, Option, Some, None}
+use Rattle.std.specs.Prelude.{◌≡◌, ◌==◌, IsTrue, ℕ, suc, ◌+◌, ◌^◌, ◌<◌, ◌≤◌, ◌⊎◌, Bool, true, List, [], ◌++◌, flat_map, length, Option, Some, None}
+use Rattle.std.specs.List.{list_any}
 use Rattle.sbpl_cfg.specs.declared.fault.EnvFault.{EnvFault}
 use Rattle.sbpl_cfg.specs.Environment.{Environment}
 use Rattle.sbpl_mprim.specs.declared.fault.PrimFault.{PrimFault}
@@ -13,11 +14,13 @@ use Rattle.sbpl_cost.specs.World.{IsWorld, World}
 use Rattle.sbpl_cert.specs.declared.fault.LabelFault.{LabelFault}
 use Rattle.sbpl_cert.specs.declared.flaw.Flaw.{Flaw}
 use Rattle.sbpl_cert.specs.declared.outcome.Outcome.{Outcome}
-use Rattle.sbpl_cli.specs.declared.checking.SectionStop.{SectionStop}
-use Rattle.sbpl_cli.specs.declared.checking.SectionStop.TheVariants as section
+use Rattle.sbpl_search.specs.Meaning.{Meaning}
+use Rattle.sbpl_serial.specs.declared.step.Step.{Step}
+use Rattle.sbpl_cli.specs.declared.section_check.SectionStop.{SectionStop}
+use Rattle.sbpl_cli.specs.declared.section_check.SectionStop.TheVariants as section
 use Rattle.sbpl_job.specs.declared.job.CheckJob.{CheckJob}
 use Rattle.sbpl_cli.specs.Checked.{AreChecked, Case, Holding, IsShownHolding}
-use Rattle.sbpl_cli.specs.Headline.{AreRecords, Behind, IsStateOf}
+use Rattle.sbpl_cli.specs.Headline.{AreRecords, Carried, IsStateOf}
 use Rattle.sbpl_job.specs.declared.job.Job.{Job}
 use Rattle.sbpl_job.specs.declared.job.Job.TheVariants as job
 use Rattle.sbpl_job.specs.declared.job.DemoJob.{DemoJob}
@@ -27,12 +30,11 @@ use Rattle.sbpl_job.specs.declared.job.SearchJob.{SearchJob}
 use Rattle.sbpl_job.specs.declared.job.Sources.{Sources}
 use Rattle.sbpl_cli.specs.declared.record.PlanRecord.{PlanRecord}
 use Rattle.sbpl_cli.specs.declared.refusal.Refusal.{Refusal}
-use Rattle.sbpl_cli.specs.Causes.{AreDemonstrated, ArePlanned, IsJobCause, IsRead, NoneTooDear, SaysBatches, SaysWorld}
+use Rattle.sbpl_cli.specs.Causes.{AreDemonstrated, ArePlanned, IsJobCause, IsReadText, NoneTooDear, ReadsBatches, ReadsWorld}
 use Rattle.sbpl_sweep.specs.Widths.{NoneTooWide}
-use Rattle.sbpl_cli.specs.Intents.{Intent, Refused, Planned, Checked, Listed, Demonstrated, OutOfMemory, checked_status, checked_writes, demo_writes, end_writes, intent_status, listing_writes, outputs_of, plans_status, plans_writes, refusal_status, refusal_writes, words_writes, writes_of}
+use Rattle.sbpl_cli.specs.Intents.{Intent, Refused, Planned, Checked, Listed, Demonstrated, OutOfMemory, checked_status, checked_writes, demo_writes, end_writes, intent_status, listing_writes, outputs_of, plans_status, plans_writes, refusal_status, refusal_writes, statuses, words_writes, writes_of}
 use Rattle.sbpl_cli.specs.Texts.{HasChangeFault, HasEnvironmentFault, HasPrimitiveFault, IsChangeText, IsEnvironmentText, IsPrimitiveText}
-use Rattle.sbpl_desk.specs.Desk.{Rose, Stays}
-use Rattle.sbpl_cli.specs.Writing.{AreMade, EndsAs, FaultCounts, IsCutAt, IsOutput, IsOutputOf, IsStoppedAt, StaysBut, Told, Write}
+use Rattle.sbpl_cli.specs.Writing.{AreAppended, DeskState, EndsAs, IsCutAt, IsOutput, IsOutputOf, RunsOutAt, Names, ReadFailed, Stays, StaysBut, Told, Write, WriteFailed}
 
 -- the words name this job, of which P holds
 abbrev pub AtJob : Option Job → (Job → Type 0) → Type 0
@@ -40,25 +42,25 @@ AtJob named P = (j : Job) × (named ≡ Some j) × P j
 
 -- the report of the plans of the job's files was written, one for the map as it is and one for each batch of changes, and their
 -- labels and their traces where they are asked for
-pub record IsReported (held before after : Told) (j : PlanJob) : Type 0 where
+pub record IsReported (before after : DeskState) (j : PlanJob) : Type 0 where
   pub records : List PlanRecord
-  pub planned : ArePlanned held j records true
-  pub report : AreMade before after (plans_writes j.outputs records true)
+  pub planned : ArePlanned before.held j records true
+  pub report : AreAppended before after (plans_writes j.outputs records true)
 
 -- plans of the demonstration were made, one for the map as it is and one for each batch, and a line for each was written
-pub record IsDemonstrated (before after : Told) (d : DemoJob) : Type 0 where
+pub record IsDemonstrated (before after : DeskState) (d : DemoJob) : Type 0 where
   pub world : World
   pub batches : List (List change.Write)
   pub records : List PlanRecord
   pub planned : AreDemonstrated d world batches records true
-  pub lines : AreMade before after (demo_writes world (length batches) records true)
+  pub lines : AreAppended before after (demo_writes world (length batches) records true)
 
 -- what each primitive of the files costs and sweeps was listed
-pub record IsListed (held before after : Told) (from : Sources) : Type 0 where
+pub record IsListed (before after : DeskState) (from : Sources) : Type 0 where
   pub world : World
-  pub says : SaysWorld held from world
+  pub says : ReadsWorld before.held from world
   pub is_world : IsWorld world
-  pub lines : AreMade before after (listing_writes world)
+  pub lines : AreAppended before after (listing_writes world)
 
 -- In a world with batches of changes the text of a file of labels, for this goal, is checked: sections with these outcomes hold,
 -- and it ends so.
@@ -73,145 +75,124 @@ pub record IsCheckedIn (Holds : Holding) (w : World) (batches : List (List chang
 pub record IsChecked (held : Told) (j : CheckJob) (goal : ℕ) (os : List Outcome) (end : Option SectionStop) : Type 0 where
   pub world : World
   pub batches : List (List change.Write)
-  pub says : SaysWorld held j.sources world
-  pub changes : SaysBatches held j.changes world.map batches
+  pub says : ReadsWorld held j.sources world
+  pub changes : ReadsBatches held j.changes world.map batches
   pub arcs : LatticeHasItsArcs
   pub is_world : IsWorld world
   pub text : List ℕ
-  pub read : IsRead (held j.labels) text
+  pub read : IsReadText (held j.labels) text
   pub in_world : IsCheckedIn IsShownHolding world batches text goal os end
 
 -- sections of labels were checked, which ended so, and their lines were written
-pub record IsJudged (held before after : Told) (end : Option SectionStop) (j : CheckJob) : Type 0 where
+pub record IsJudged (before after : DeskState) (end : Option SectionStop) (j : CheckJob) : Type 0 where
   pub goal : ℕ
   pub outcomes : List Outcome
-  pub checked : IsChecked held j goal outcomes end
-  pub lines : AreMade before after (checked_writes goal 0 outcomes end)
+  pub checked : IsChecked before.held j goal outcomes end
+  pub lines : AreAppended before after (checked_writes goal 0 outcomes end)
 
 -- the job `check` found this flaw, and said so
-abbrev pub IsFlawFound : Told → Told → Told → Job → Type 0
-IsFlawFound held before after (job.Plan j) = ⊥
-IsFlawFound held before after (job.Check j) = (f : Flaw) × IsJudged held before after (Some (section.Flaw f)) j
-IsFlawFound held before after (job.Sweep from) = ⊥
-IsFlawFound held before after (job.Demo d) = ⊥
+abbrev pub IsFlawFound : (before after : DeskState) → Job → Type 0
+IsFlawFound before after (job.Check j) = (f : Flaw) × IsJudged before after (Some (section.Flaw f)) j
+IsFlawFound before after _ = ⊥
 
 -- the job `check` found this fault in the text of the labels, and said so
-abbrev pub IsFaultFound : Told → Told → Told → Job → Type 0
-IsFaultFound held before after (job.Plan j) = ⊥
-IsFaultFound held before after (job.Check j) = (f : LabelFault) × IsJudged held before after (Some (section.Fault f)) j
-IsFaultFound held before after (job.Sweep from) = ⊥
-IsFaultFound held before after (job.Demo d) = ⊥
+abbrev pub IsFaultFound : (before after : DeskState) → Job → Type 0
+IsFaultFound before after (job.Check j) = (f : LabelFault) × IsJudged before after (Some (section.Fault f)) j
+IsFaultFound before after _ = ⊥
 
 -- the job was done, and what came of it was written
-abbrev pub IsDone : Told → Told → Told → Job → Type 0
-IsDone held before after (job.Plan j) = IsReported held before after j
-IsDone held before after (job.Check j) = IsJudged held before after None j
-IsDone held before after (job.Sweep from) = IsListed held before after from
-IsDone held before after (job.Demo d) = IsDemonstrated before after d
+abbrev pub IsDone : (before after : DeskState) → Job → Type 0
+IsDone before after (job.Plan j) = IsReported before after j
+IsDone before after (job.Check j) = IsJudged before after None j
+IsDone before after (job.Sweep from) = IsListed before after from
+IsDone before after (job.Demo d) = IsDemonstrated before after d
 
 -- the job was refused with this status, for a cause, and the line of the refusal was written, and nothing under other names than
 -- that of the standard output
-pub record IsRefused (held : Told) (reads reads' : FaultCounts) (before after : Told) (status : ℕ) (j : Job) : Type 0 where
+pub record IsRefused (before after : DeskState) (status : ℕ) (j : Job) : Type 0 where
   pub refusal : Refusal
   pub has_status : refusal_status refusal ≡ status
-  pub cause : IsJobCause held reads reads' j refusal
-  pub line : AreMade before after (refusal_writes j refusal)
-  pub others : StaysBut IsOutput before after
+  pub cause : IsJobCause before.held (ReadFailed before after) j refusal
+  pub line : AreAppended before after (refusal_writes j refusal)
+  pub others : StaysBut IsOutput before.written after.written
 
--- the job `demo` comes to plans of a demonstration in this world, with so many batches
+-- the job `demo` means plans of a demonstration in this world, with this number of batches
 abbrev pub IsDemonstration : DemoJob → World → (batches : ℕ) → List PlanRecord → (all : Bool) → Type 0
 IsDemonstration d w count records all = (batches : List (List change.Write)) × (count ≡ length batches) × AreDemonstrated d w batches records all
 
--- a job comes to this
-abbrev pub ComesTo : Told → FaultCounts → FaultCounts → Job → Intent → Type 0
-ComesTo held reads reads' j (Refused r) = IsJobCause held reads reads' j r
-ComesTo held reads reads' (job.Plan j) (Planned records all) = ArePlanned held j records all
-ComesTo held reads reads' (job.Check j) (Planned records all) = ⊥
-ComesTo held reads reads' (job.Sweep from) (Planned records all) = ⊥
-ComesTo held reads reads' (job.Demo d) (Planned records all) = ⊥
-ComesTo held reads reads' (job.Plan j) (Checked goal os end) = ⊥
-ComesTo held reads reads' (job.Check j) (Checked goal os end) = IsChecked held j goal os end
-ComesTo held reads reads' (job.Sweep from) (Checked goal os end) = ⊥
-ComesTo held reads reads' (job.Demo d) (Checked goal os end) = ⊥
-ComesTo held reads reads' (job.Plan j) (Listed w) = ⊥
-ComesTo held reads reads' (job.Check j) (Listed w) = ⊥
-ComesTo held reads reads' (job.Sweep from) (Listed w) = SaysWorld held from w × IsWorld w
-ComesTo held reads reads' (job.Demo d) (Listed w) = ⊥
-ComesTo held reads reads' (job.Plan j) (Demonstrated w batches records all) = ⊥
-ComesTo held reads reads' (job.Check j) (Demonstrated w batches records all) = ⊥
-ComesTo held reads reads' (job.Sweep from) (Demonstrated w batches records all) = ⊥
-ComesTo held reads reads' (job.Demo d) (Demonstrated w batches records all) = IsDemonstration d w batches records all
-ComesTo held reads reads' j OutOfMemory = Unit {0}
+-- a job means to do this
+abbrev pub GivesIntent : Told → Names → Job → Intent → Type 0
+GivesIntent held Failed j (Refused r) = IsJobCause held Failed j r
+GivesIntent held Failed j OutOfMemory = Unit {0}
+GivesIntent held Failed (job.Plan j) (Planned records all) = ArePlanned held j records all
+GivesIntent held Failed (job.Check j) (Checked goal os end) = IsChecked held j goal os end
+GivesIntent held Failed (job.Sweep from) (Listed w) = ReadsWorld held from w × IsWorld w
+GivesIntent held Failed (job.Demo d) (Demonstrated w batches records all) = IsDemonstration d w batches records all
+GivesIntent held Failed _ _ = ⊥
 
--- the name is one that a job which comes to this may write under: beside the standard output only where plans were made, and
+-- the name is one that a job which means to do this may write under: beside the standard output only where plans were made, and
 -- none where memory runs out before anything is written
-abbrev pub IsWrittenFor : Job → Intent → List ℕ → Type 0
-IsWrittenFor j (Refused r) name = IsOutput name
+abbrev pub IsWrittenFor : Job → Intent → Names
 IsWrittenFor j (Planned records all) name = IsOutputOf (outputs_of j) name
-IsWrittenFor j (Checked goal os end) name = IsOutput name
-IsWrittenFor j (Listed w) name = IsOutput name
-IsWrittenFor j (Demonstrated w batches records all) name = IsOutput name
 IsWrittenFor j OutOfMemory name = ⊥
+IsWrittenFor j _ name = IsOutput name
 
--- a write of what the job comes to failed: those before it were made, and a front of it, and nothing under other names than such
+-- a write of what the job means to do failed: those before it were made, and a prefix of it, and nothing under other names than such
 -- a job's
-pub record IsCutShort (held : Told) (reads reads' : FaultCounts) (before after : Told) (faults faults' : FaultCounts) (j : Job) : Type 0 where
+pub record IsCutShort (before after : DeskState) (j : Job) : Type 0 where
   pub intent : Intent
-  pub comes : ComesTo held reads reads' j intent
-  pub cut : IsCutAt before after faults faults' (writes_of j intent)
-  pub others : StaysBut (IsWrittenFor j intent) before after
+  pub gives : GivesIntent before.held (ReadFailed before after) j intent
+  pub cut : IsCutAt before after (writes_of j intent)
+  pub others : StaysBut (IsWrittenFor j intent) before.written after.written
 
--- the first few writes of what the job comes to were made, and nothing under other names than such a job's
-pub record IsStopped (held : Told) (reads reads' : FaultCounts) (before after : Told) (j : Job) : Type 0 where
+-- the first few writes of what the job means to do were made, and nothing under other names than such a job's
+pub record EndsWithoutMemory (before after : DeskState) (j : Job) : Type 0 where
   pub intent : Intent
-  pub comes : ComesTo held reads reads' j intent
-  pub stopped : IsStoppedAt before after (writes_of j intent)
-  pub others : StaysBut (IsWrittenFor j intent) before after
+  pub gives : GivesIntent before.held (ReadFailed before after) j intent
+  pub stopped : RunsOutAt before after (writes_of j intent)
+  pub others : StaysBut (IsWrittenFor j intent) before.written after.written
 
 -- how a job ends, by the program's status
-pub record EndsJob (held : Told) (reads reads' : FaultCounts) (before after : Told) (faults faults' : FaultCounts) (j : Job) (status : ℕ) : Type 0 where
+pub record EndsJob (before after : DeskState) (j : Job) (status : ℕ) : Type 0 where
   pub intent : Intent
-  pub comes : ComesTo held reads reads' j intent
-  pub ends : EndsAs before after faults faults' (writes_of j intent) (intent_status intent) status
-  pub others : StaysBut (IsWrittenFor j intent) before after
+  pub gives : GivesIntent before.held (ReadFailed before after) j intent
+  pub ends : EndsAs before after (writes_of j intent) (intent_status intent) status
+  pub others : StaysBut (IsWrittenFor j intent) before.written after.written
 
--- how the checking of so many sections more, the first that of a plan, ends by the program's status
-pub record EndsSections (c : Case) (plan more : ℕ) (left : Left) (before after : Told) (faults faults' : FaultCounts) (status : ℕ) : Type 0 where
+-- how the checking of this number of sections more, the first that of a plan, ends by the program's status
+pub record EndsSections (c : Case) (plan more : ℕ) (left : Left) (before after : DeskState) (status : ℕ) : Type 0 where
   pub outcomes : List Outcome
   pub end : Option SectionStop
   pub checked : AreChecked IsShownHolding c plan more left outcomes end
-  pub ends : EndsAs before after faults faults' (checked_writes c.goal plan outcomes end) (checked_status end) status
+  pub ends : EndsAs before after (checked_writes c.goal plan outcomes end) (checked_status end) status
 
 -- how the making of plans, the first of which is plan k, ends by the program's status; what is written of a plan is given
-pub record EndsPlans (written_of : PlanRecord → List Write) (w : World) (batches : List (List change.Write)) (how : SearchJob) (outputs : Outputs) (start goal k : ℕ) (left : Option Behind) (before after : Told) (faults faults' : FaultCounts) (status : ℕ) : Type 0 where
+pub record EndsPlans (means : Meaning Step) (written_of : PlanRecord → List Write) (w : World) (batches : List (List change.Write)) (how : SearchJob) (outputs : Outputs) (start goal k : ℕ) (left : Option Carried) (before after : DeskState) (status : ℕ) : Type 0 where
   pub records : List PlanRecord
   pub all : Bool
-  pub each : AreRecords w batches how outputs start goal k left records
+  pub each : AreRecords means w batches how outputs start goal k left records
   pub few : k + length records ≤ length batches + 1
   pub all_made : all ≡ true → k + length records ≡ length batches + 1
-  pub ends : EndsAs before after faults faults' (flat_map written_of records ++ end_writes all) (plans_status all) status
+  pub ends : EndsAs before after (flat_map written_of records ++ end_writes all) (plans_status all) status
 
 -- how a run ends, whose words name a job or none
-pub data EndsRun (named : Option Job) (held : Told) (reads reads' : FaultCounts) (before after : Told) (faults faults' : FaultCounts) (status : ℕ) : Type 0 where
-  by_job : (j : Job) → named ≡ Some j → EndsJob held reads reads' before after faults faults' j status → EndsRun named held reads reads' before after faults faults' status
-  by_words : named ≡ None → EndsAs before after faults faults' words_writes 2 status → EndsRun named held reads reads' before after faults faults' status
-  by_memory : status ≡ 9 → Stays before after → EndsRun named held reads reads' before after faults faults' status
+pub data EndsRun (named : Option Job) (before after : DeskState) (status : ℕ) : Type 0 where
+  by_job : (j : Job) → named ≡ Some j → EndsJob before after j status → EndsRun named before after status
+  by_words : named ≡ None → EndsAs before after words_writes 2 status → EndsRun named before after status
+  by_memory : status ≡ 9 → Stays before.written after.written → EndsRun named before after status
 
 -- the name is one that the job may write under
-abbrev pub MayBeWritten : Option Job → List ℕ → Type 0
-MayBeWritten None name = IsOutput name
+abbrev pub MayBeWritten : Option Job → Names
 MayBeWritten (Some (job.Plan j)) name = IsOutputOf j.outputs name
-MayBeWritten (Some (job.Check j)) name = IsOutput name
-MayBeWritten (Some (job.Sweep from)) name = IsOutput name
-MayBeWritten (Some (job.Demo d)) name = IsOutput name
+MayBeWritten _ name = IsOutput name
 
 -- a write under a name that the job may write under failed in this call
-abbrev pub SomeRose : Option Job → FaultCounts → FaultCounts → Type 0
-SomeRose named faults faults' = (name : List ℕ) × MayBeWritten named name × Rose (faults name) (faults' name)
+abbrev pub SomeRose : Option Job → (before after : DeskState) → Type 0
+SomeRose named before after = (name : List ℕ) × MayBeWritten named name × WriteFailed before after name
 
--- the statuses of the program
+-- the status is one of the program's
 abbrev pub IsStatus : ℕ → Type 0
-IsStatus s = (s ≡ 0) ⊎ ((s ≡ 1) ⊎ ((s ≡ 2) ⊎ ((s ≡ 3) ⊎ ((s ≡ 4) ⊎ ((s ≡ 5) ⊎ ((s ≡ 6) ⊎ ((s ≡ 7) ⊎ ((s ≡ 8) ⊎ ((s ≡ 9) ⊎ (s ≡ 10))))))))))
+IsStatus s = IsTrue (list_any (λ t. t == s) statuses)
 
 -- the status is this one, unless a read or a write failed or memory ran out
 abbrev pub IsOrFailed : ℕ → ℕ → Type 0
@@ -220,6 +201,8 @@ IsOrFailed wanted status = (status ≡ wanted) ⊎ ((status ≡ 6) ⊎ ((status 
 -- the status is this one, unless a write failed or memory ran out
 abbrev pub IsOrUnwritten : ℕ → ℕ → Type 0
 IsOrUnwritten wanted status = (status ≡ wanted) ⊎ ((status ≡ 7) ⊎ (status ≡ 9))
+
+-- ---- what the desk tells that it holds (`Tells..`); what a job read, of which a desk may tell nothing, is `Reads..` of Causes
 
 -- the desk tells that it holds these bytes, at most 2 ^ 30
 pub record Tells (held : Option (List ℕ)) (text : List ℕ) : Type 0 where
@@ -263,7 +246,7 @@ TellsBatches held (Some name) m batches = (text : List ℕ) × Tells (held name)
 pub record TellsWorld (held : Told) (from : Sources) (w : World) : Type 0 where
   pub environment : TellsEnvironment held from w.env
   pub primitives : TellsPrimitives held from w.env w.prims
-  pub says : SaysWorld held from w
+  pub says : ReadsWorld held from w
   pub is_world : IsWorld w
 
 -- the desk tells that the files stand for an environment with this map and for primitives, of which none is too wide or too dear
@@ -283,16 +266,17 @@ sources_of (job.Check j) = Some j.sources
 sources_of (job.Sweep from) = Some from
 sources_of (job.Demo d) = None
 
+-- the words name a job that reads these files of a lattice
+abbrev pub ReadsFrom : Option Job → Sources → Type 0
+ReadsFrom named from = AtJob named (λ j. sources_of j ≡ Some from)
+
 -- the job's change file, if it reads one
 abbrev pub changes_of : Job → Option (List ℕ)
 changes_of (job.Plan j) = j.changes
 changes_of (job.Check j) = j.changes
-changes_of (job.Sweep from) = None
-changes_of (job.Demo d) = None
+changes_of _ = None
 
 -- the job is another than `check`
 abbrev pub IsNoCheck : Job → Type 0
-IsNoCheck (job.Plan j) = Unit {0}
 IsNoCheck (job.Check j) = ⊥
-IsNoCheck (job.Sweep from) = Unit {0}
-IsNoCheck (job.Demo d) = Unit {0}
+IsNoCheck _ = Unit {0}

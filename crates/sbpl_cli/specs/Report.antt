@@ -4,8 +4,9 @@ use Rattle.sbpl_fixed.specs.Printed.{milli_text}
 use Rattle.sbpl_cfg.specs.declared.pose.Place.{Place}
 use Rattle.sbpl_plan.specs.declared.found.Found.{Found}
 use Rattle.sbpl_plan.specs.declared.found.Found.TheVariants as found
+use Rattle.sbpl_serial.specs.declared.step.Step.{Step}
 use Rattle.sbpl_plan.specs.declared.passes.Pass.{Pass}
-use Rattle.sbpl_cli.specs.declared.record.Step.{Step}
+use Rattle.sbpl_cli.specs.declared.record.PathStep.{PathStep}
 use Rattle.sbpl_cli.specs.declared.record.PathRecord.{PathRecord}
 use Rattle.sbpl_cli.specs.declared.record.Outcome.{Outcome}
 use Rattle.sbpl_cli.specs.declared.record.Outcome.TheVariants as outcome
@@ -22,7 +23,7 @@ found_text found.None = codes " none"
 found_text found.Broken = codes " broken"
 
 -- the line of a pass
-unfoldable pub pass_text : Pass → List ℕ
+unfoldable pub pass_text : Pass Step → List ℕ
 pass_text p = codes "pass " ++ (milli_text p.inflation ++ (codes " expanded " ++ (decimal p.expanded ++ (found_text p.found ++ line_feed))))
 
 -- a place, and the end of its line
@@ -30,7 +31,7 @@ unfoldable pub place_text : Place → List ℕ
 place_text p = decimal p.x ++ (codes " " ++ (decimal p.y ++ (codes " " ++ (decimal p.t ++ line_feed))))
 
 -- the line of a step
-unfoldable pub step_text : Step → List ℕ
+unfoldable pub step_text : PathStep → List ℕ
 step_text s = codes "step " ++ (decimal s.id ++ (codes " " ++ place_text s.place))
 
 -- the lines of a path

@@ -19,8 +19,7 @@ answer_of result.Unknown = answer.Unknown
 -- the arcs of the path that a result is, or none
 abbrev pub arcs_of : search.Outcome → List ℕ
 arcs_of (result.Path arcs cost bound) = arcs
-arcs_of result.NoPath = []
-arcs_of result.Unknown = []
+arcs_of _ = []
 
 -- As the written labels show: the section has the plan's number, the final labels with the guide's values, the low that
 -- they give, and the result; and it shows its bound and its result on the graph.
@@ -34,6 +33,5 @@ pub record IsShown (n : Network) (guide : ℕ → ℕ) (start goal : ℕ) (plan 
 -- something with this property is there where it is asked for, and else nothing is
 abbrev pub IsThere : {X : Type 0} → Bool → (X → Type 0) → Option X → Type 0
 IsThere true P (Some x) = P x
-IsThere true P None = ⊥
-IsThere false P (Some x) = ⊥
 IsThere false P None = Unit {0}
+IsThere _ P _ = ⊥

@@ -1,7 +1,7 @@
 -- The lines of a trace.
 use Rattle.std.specs.Prelude.{ℕ, Bool, true, false, List, ◌++◌, flat_map, codes, decimal}
 use Rattle.sbpl_fixed.specs.Printed.{milli_text}
-use Rattle.sbpl_ara.specs.declared.step.Step.{Step}
+use Rattle.sbpl_serial.specs.declared.step.Step.{Step}
 use Rattle.sbpl_plan.specs.declared.passes.Pass.{Pass}
 use Rattle.sbpl_cli.specs.declared.record.PlanRecord.{PlanRecord}
 use Rattle.sbpl_cli.specs.Report.{line_feed}
@@ -16,7 +16,7 @@ unfoldable pub expansion_text : Step → List ℕ
 expansion_text s = expansion_word s.raised ++ (decimal s.state ++ line_feed)
 
 -- the lines of a pass
-unfoldable pub expansions_text : Pass → List ℕ
+unfoldable pub expansions_text : Pass Step → List ℕ
 expansions_text p = codes "pass " ++ (milli_text p.inflation ++ (line_feed ++ flat_map expansion_text p.trace))
 
 -- the section of a plan in a trace

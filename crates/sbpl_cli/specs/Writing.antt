@@ -1,18 +1,11 @@
 -- Texts that are written under names, in turn, and how the writing of them ends.
 use Rattle.std.specs.Prelude.{◌≡◌, ◌⊎◌, ℕ, List, [], ◌∷◌, ◌++◌, flat_map, if◌then◌else◌, Option, Some, None, Result, Ok, Err, codes}
 use Rattle.std.specs.Str.{bytes_eq}
-use Rattle.sbpl_desk.specs.Desk.{Appends, Rose}
+use Rattle.sbpl_desk.specs.Desk.{Appends}
+pub use Rattle.sbpl_desk.specs.Desk.{DeskState, Names, ReadFailed, ReadsOnly, Stays, StaysBut, Told, WriteFailed, WritesOnly}
 use Rattle.sbpl_desk.specs.declared.desk.WriteStop.{WriteStop}
 use Rattle.sbpl_desk.specs.declared.desk.WriteStop.TheVariants.{Failed, NoMemory}
 use Rattle.sbpl_job.specs.declared.job.Outputs.{Outputs}
-
--- what a desk holds, or what is written, under each name, where it tells
-abbrev pub Told : Type 0
-Told = List ℕ → Option (List ℕ)
-
--- how often each name failed
-abbrev pub FaultCounts : Type 0
-FaultCounts = List ℕ → ℕ
 
 -- one text that is written under a name
 pub record Write : Type 0 where
@@ -36,50 +29,46 @@ abbrev pub to_named : Option (List ℕ) → List ℕ → List Write
 to_named None text = []
 to_named (Some name) text = record { name = name; text = text } ∷ []
 
--- what is written under other names stays
-abbrev pub StaysBut : (List ℕ → Type 0) → Told → Told → Type 0
-StaysBut IsWritten before after = (name : List ℕ) → (IsWritten name → ⊥) → after name ≡ before name
-
 -- the name is that of the standard output
-abbrev pub IsOutput : List ℕ → Type 0
+abbrev pub IsOutput : Names
 IsOutput name = name ≡ output
 
 -- this is the name, if there is one
-abbrev pub IsNamed : Option (List ℕ) → List ℕ → Type 0
+abbrev pub IsNamed : Option (List ℕ) → Names
 IsNamed o name = o ≡ Some name
 
 -- the name is that of the standard output, or of another output of a plan
-abbrev pub IsOutputOf : Outputs → List ℕ → Type 0
+abbrev pub IsOutputOf : Outputs → Names
 IsOutputOf o name = IsOutput name ⊎ (IsNamed o.labels name ⊎ IsNamed o.trace name)
 
 -- these writes were made: under each name, told bytes grew by their texts
-pub record AreMade (before after : Told) (writes : List Write) : Type 0 where
-  pub grown : (name : List ℕ) → Appends (before name) (after name) (text_under name writes)
+pub record AreAppended (before after : DeskState) (writes : List Write) : Type 0 where
+  pub grown : (name : List ℕ) → Appends (before.written name) (after.written name) (text_under name writes)
 
--- a write failed: those before it were made, and a front of its text stands written
-pub record IsCutAt (before after : Told) (faults faults' : FaultCounts) (writes : List Write) : Type 0 where
+-- a write failed: those before it were made, and a prefix of its text stands written
+pub record IsCutAt (before after : DeskState) (writes : List Write) : Type 0 where
   pub first : List Write
   pub cut : Write
   pub rest : List Write
   pub whole : writes ≡ first ++ cut ∷ rest
-  pub front : List ℕ
-  pub back : List ℕ
-  pub parted : cut.text ≡ front ++ back
-  pub rose : Rose (faults cut.name) (faults' cut.name)
-  pub made : AreMade before after (first ++ record { name = cut.name; text = front } ∷ [])
+  pub prefix : List ℕ
+  pub suffix : List ℕ
+  pub parted : cut.text ≡ prefix ++ suffix
+  pub rose : WriteFailed before after cut.name
+  pub made : AreAppended before after (first ++ record { name = cut.name; text = prefix } ∷ [])
 
 -- memory ran out: the first few writes were made
-pub record IsStoppedAt (before after : Told) (writes : List Write) : Type 0 where
+pub record RunsOutAt (before after : DeskState) (writes : List Write) : Type 0 where
   pub first : List Write
   pub rest : List Write
   pub whole : writes ≡ first ++ rest
-  pub made : AreMade before after first
+  pub made : AreAppended before after first
 
 -- how the making of these writes ends
-abbrev pub EndsIn : {T : Type 0} → Told → Told → FaultCounts → FaultCounts → List Write → Result T WriteStop → Type 0
-EndsIn before after faults faults' writes (Ok _) = AreMade before after writes
-EndsIn before after faults faults' writes (Err Failed) = IsCutAt before after faults faults' writes
-EndsIn before after faults faults' writes (Err NoMemory) = IsStoppedAt before after writes
+abbrev pub EndsIn : {T : Type 0} → (before after : DeskState) → List Write → Result T WriteStop → Type 0
+EndsIn before after writes (Ok _) = AreAppended before after writes
+EndsIn before after writes (Err Failed) = IsCutAt before after writes
+EndsIn before after writes (Err NoMemory) = RunsOutAt before after writes
 
 -- the status after the making of writes, where another one is wanted
 abbrev pub status_after : {T : Type 0} → ℕ → Result T WriteStop → ℕ
@@ -88,8 +77,8 @@ status_after wanted (Err Failed) = 7
 status_after wanted (Err NoMemory) = 9
 
 -- how a run ends that is to make these writes and to answer a status
-abbrev pub EndsAs : Told → Told → FaultCounts → FaultCounts → List Write → ℕ → ℕ → Type 0
-EndsAs before after faults faults' writes wanted status =
-    ((status ≡ wanted) × AreMade before after writes)
-    ⊎ (((status ≡ 7) × IsCutAt before after faults faults' writes)
-    ⊎ ((status ≡ 9) × IsStoppedAt before after writes))
+abbrev pub EndsAs : (before after : DeskState) → List Write → ℕ → ℕ → Type 0
+EndsAs before after writes wanted status =
+    ((status ≡ wanted) × AreAppended before after writes)
+    ⊎ (((status ≡ 7) × IsCutAt before after writes)
+    ⊎ ((status ≡ 9) × RunsOutAt before after writes))

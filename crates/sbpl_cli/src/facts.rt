@@ -3,12 +3,16 @@
 ghost use Rattle.sbpl_cli.specs.Clear.{SectionsAreClear, TextsAreClear};
 ghost use Rattle.sbpl_cli.specs.Determined.{FewAreFirst, RecordsAreOne};
 
+use sbpl_adstar::AdStar;
+use sbpl_ara::Ara;
 use sbpl_cert::{first_flaws_are_one, texts_are_sections_or_faulty};
 use sbpl_cfg::texts_are_environments_or_faulty;
-use sbpl_cost::alike_worlds_are_one_graph;
+use sbpl_cost::{Lattice, alike_worlds_are_one_graph};
+use sbpl_heur::Best;
 use sbpl_map::{texts_are_changes_or_faulty, writes_lead_to_the_next_map};
 use sbpl_mprim::texts_are_primitives_or_faulty;
 use sbpl_plan::plan_is_determined;
+use sbpl_serial::run_is_determined;
 
 /// No text of a file has two readings: it stands for one value or has one first fault, and never both; and
 /// a section of labels has one first flaw. It does nothing.
@@ -31,7 +35,9 @@ pub fn records_are_determined()
     ensures law { RecordsAreOne }
     ensures few { FewAreFirst }
 {
-    plan_is_determined();
+    run_is_determined();
+    plan_is_determined::<Lattice, Best, Ara>();
+    plan_is_determined::<Lattice, Best, AdStar>();
     writes_lead_to_the_next_map();
     alike_worlds_are_one_graph();
 }

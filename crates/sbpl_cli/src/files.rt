@@ -1,10 +1,10 @@
 //! The files that a lattice is made of and the change file, read and judged.
 
 ghost use Rattle.std.specs.Prelude.{◌≡◌, ◌≤◌, ◌^◌, [], length, IfOk, IfErr};
-ghost use Rattle.sbpl_desk.specs.Desk.{NoneFalls, Stays};
-ghost use Rattle.sbpl_cli.specs.Causes.{ChangesStopFor, IsChangesRefused, IsEnvironmentRefused, IsPrimitivesRefused, IsRead, IsUnread, PrimitivesStopFor, SaysBatches, SaysEnvironment, SaysPrimitives, StopsFor};
+ghost use Rattle.sbpl_cli.specs.Causes.{ChangesStopFor, IsChangesRefused, IsEnvironmentRefused, IsPrimitivesRefused, IsReadText, IsUnread, LatticeStopsFor, PrimitivesStopFor, ReadsBatches, ReadsEnvironment, ReadsPrimitives};
 ghost use Rattle.sbpl_cli.specs.Texts.{IsChangeText, IsEnvironmentText, IsPrimitiveText};
 ghost use Rattle.sbpl_map.specs.ChangeText.{AreOnMap};
+ghost use Rattle.sbpl_cli.specs.Writing.{ReadsOnly};
 
 use crate::refusal::{Input, Refusal, Stop};
 use sbpl_cfg::{Env, EnvFault, Grid, read_env};
@@ -22,12 +22,9 @@ pub(crate) fn read_file<D: Desk>(
     input: Input,
     desk: &mut D,
 ) -> Result<Vec<u8>, Stop>
-    ensures text { IfOk result (λ text. IsRead (D.held desk.old name.now) text.items) }
-    ensures stop { IfErr result (IsUnread (D.held desk.old name.now) (D.read_faults desk.old name.now) (D.read_faults desk.new name.now) input) }
-    ensures held { Stays (D.held desk.old) (D.held desk.new) }
-    ensures written { Stays (D.written desk.old) (D.written desk.new) }
-    ensures reads { NoneFalls (D.read_faults desk.old) (D.read_faults desk.new) }
-    ensures writes { NoneFalls (D.write_faults desk.old) (D.write_faults desk.new) }
+    ensures text { IfOk result (λ text. IsReadText ((D.state desk.old).held name.now) text.items) }
+    ensures stop { IfErr result (IsUnread (D.state desk.old) (D.state desk.new) name.now input) }
+    ensures frame { ReadsOnly (D.state desk.old) (D.state desk.new) }
 {
     let mut text = Vec::new(alloc);
     match desk.read(name.as_str(), &mut text) {
@@ -56,12 +53,9 @@ pub(crate) fn read_environment<D: Desk>(
     from: &Sources,
     desk: &mut D,
 ) -> Result<(Env, Grid), Stop>
-    ensures says { IfOk result (λ x. SaysEnvironment (D.held desk.old) from.now x.0 x.1) }
-    ensures stop { IfErr result (StopsFor (D.held desk.old) (D.read_faults desk.old) (D.read_faults desk.new) from.now) }
-    ensures held { Stays (D.held desk.old) (D.held desk.new) }
-    ensures written { Stays (D.written desk.old) (D.written desk.new) }
-    ensures reads { NoneFalls (D.read_faults desk.old) (D.read_faults desk.new) }
-    ensures writes { NoneFalls (D.write_faults desk.old) (D.write_faults desk.new) }
+    ensures says { IfOk result (λ x. ReadsEnvironment (D.state desk.old).held from.now x.0 x.1) }
+    ensures stop { IfErr result (LatticeStopsFor (D.state desk.old) (D.state desk.new) from.now) }
+    ensures frame { ReadsOnly (D.state desk.old) (D.state desk.new) }
 {
     let text = read_file(alloc, &from.env, Input::Environment, desk)?;
     judge_environment(alloc, text.as_slice())
@@ -86,12 +80,9 @@ pub(crate) fn read_primitives<D: Desk>(
     env: &Env,
     desk: &mut D,
 ) -> Result<Prims, Stop>
-    ensures says { IfOk result (SaysPrimitives (D.held desk.old) from.now env.now) }
-    ensures stop { IfErr result (PrimitivesStopFor (D.held desk.old) (D.read_faults desk.old) (D.read_faults desk.new) from.now env.now) }
-    ensures held { Stays (D.held desk.old) (D.held desk.new) }
-    ensures written { Stays (D.written desk.old) (D.written desk.new) }
-    ensures reads { NoneFalls (D.read_faults desk.old) (D.read_faults desk.new) }
-    ensures writes { NoneFalls (D.write_faults desk.old) (D.write_faults desk.new) }
+    ensures says { IfOk result (ReadsPrimitives (D.state desk.old).held from.now env.now) }
+    ensures stop { IfErr result (PrimitivesStopFor (D.state desk.old) (D.state desk.new) from.now env.now) }
+    ensures frame { ReadsOnly (D.state desk.old) (D.state desk.new) }
 {
     let text = read_file(alloc, &from.prims, Input::Primitives, desk)?;
     judge_primitives(alloc, text.as_slice(), env)
@@ -128,13 +119,10 @@ pub(crate) fn read_batches<D: Desk>(
     map: &Map,
     desk: &mut D,
 ) -> Result<Changes, Stop>
-    ensures says { IfOk result (SaysBatches (D.held desk.old) changes.now map.now) }
+    ensures says { IfOk result (ReadsBatches (D.state desk.old).held changes.now map.now) }
     ensures on_map { IfOk result (AreOnMap map.now) }
-    ensures stop { IfErr result (ChangesStopFor (D.held desk.old) (D.read_faults desk.old) (D.read_faults desk.new) changes.now map.now) }
-    ensures held { Stays (D.held desk.old) (D.held desk.new) }
-    ensures written { Stays (D.written desk.old) (D.written desk.new) }
-    ensures reads { NoneFalls (D.read_faults desk.old) (D.read_faults desk.new) }
-    ensures writes { NoneFalls (D.write_faults desk.old) (D.write_faults desk.new) }
+    ensures stop { IfErr result (ChangesStopFor (D.state desk.old) (D.state desk.new) changes.now map.now) }
+    ensures frame { ReadsOnly (D.state desk.old) (D.state desk.new) }
 {
     let Some(name) = changes else {
         return match no_changes(alloc, map) {

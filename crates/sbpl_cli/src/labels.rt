@@ -5,7 +5,7 @@ ghost use Rattle.sbpl_cost.specs.Lattices.{network_of};
 ghost use Rattle.sbpl_graph.specs.Certificate.{AreSupported};
 ghost use Rattle.sbpl_heur.specs.Bests.{IsGuide, distance_in};
 ghost use Rattle.sbpl_labels.specs.Marks.{g_of, states_of, v_of};
-ghost use Rattle.sbpl_plan.specs.Outcomes.{IsOutcome};
+ghost use Rattle.sbpl_plan.specs.Outcomes.{IsResultOf};
 ghost use Rattle.sbpl_cli.specs.Intents.{labels_text};
 ghost use Rattle.sbpl_cli.specs.Shown.{IsShown, IsThere, answer_of, arcs_of};
 
@@ -56,7 +56,7 @@ fn make_section(
     requires states { states_of labels.now ≡ (network_of lattice.now).states }
     requires goal { goal < (network_of lattice.now).states }
     requires guides { IsGuide (network_of lattice.now) goal guide.now }
-    requires found { IsOutcome (network_of lattice.now) (distance_in guide.now) goal labels.now found.now }
+    requires found { IsResultOf (network_of lattice.now) (distance_in guide.now) goal labels.now found.now }
     requires supported { AreSupported (network_of lattice.now) labels.now.start (g_of labels.now) (v_of labels.now) }
     ensures shown { IfOk result (IsShown (network_of lattice.now) (distance_in guide.now) labels.now.start goal plan labels.now found.now) }
 {
@@ -80,7 +80,7 @@ pub(crate) fn labels_of(
     requires states { states_of labels.now ≡ (network_of lattice.now).states }
     requires goal { goal < (network_of lattice.now).states }
     requires guides { IsGuide (network_of lattice.now) goal guide.now }
-    requires found { IsOutcome (network_of lattice.now) (distance_in guide.now) goal labels.now found.now }
+    requires found { IsResultOf (network_of lattice.now) (distance_in guide.now) goal labels.now found.now }
     requires supported { AreSupported (network_of lattice.now) labels.now.start (g_of labels.now) (v_of labels.now) }
     ensures shown { IfOk result (IsThere asked (IsShown (network_of lattice.now) (distance_in guide.now) labels.now.start goal plan labels.now found.now)) }
 {

@@ -1,12 +1,11 @@
 //! The lattice that files stand for, and the batches of its changes.
 
 ghost use Rattle.std.specs.Prelude.{◌≤◌, ◌^◌, IfErr, IfOk};
-ghost use Rattle.sbpl_desk.specs.Desk.{NoneFalls, Stays};
 ghost use Rattle.sbpl_cost.specs.World.{IsWorld};
 ghost use Rattle.sbpl_sweep.specs.Swept.{AreSweepsOf};
 ghost use Rattle.sbpl_sweep.specs.Widths.{NoneTooWide};
-ghost use Rattle.sbpl_cli.specs.Causes.{EarlyStopsFor, IsWideStop, SaysBatches, SaysWorld, StopsFor};
-ghost use Rattle.sbpl_map.specs.ChangeText.{AreOnMap};
+ghost use Rattle.sbpl_cli.specs.Causes.{EarlyStopsFor, IsCourse, IsWideStop, LatticeStopsFor, ReadsWorld};
+ghost use Rattle.sbpl_cli.specs.Writing.{ReadsOnly};
 
 use crate::files::{read_batches, read_environment, read_primitives};
 use crate::refusal::{Refusal, Stop};
@@ -39,13 +38,10 @@ pub(crate) fn read_lattice<D: Desk>(
     desk: &mut D,
 ) -> Result<Lattice, Stop>
     requires range { from.now.radius ≤ 10 ^ 12 }
-    ensures says { IfOk result (SaysWorld (D.held desk.old) from.now) }
+    ensures says { IfOk result (ReadsWorld (D.state desk.old).held from.now) }
     ensures kept { IfOk result IsWorld }
-    ensures stop { IfErr result (StopsFor (D.held desk.old) (D.read_faults desk.old) (D.read_faults desk.new) from.now) }
-    ensures held { Stays (D.held desk.old) (D.held desk.new) }
-    ensures written { Stays (D.written desk.old) (D.written desk.new) }
-    ensures reads { NoneFalls (D.read_faults desk.old) (D.read_faults desk.new) }
-    ensures writes { NoneFalls (D.write_faults desk.old) (D.write_faults desk.new) }
+    ensures stop { IfErr result (LatticeStopsFor (D.state desk.old) (D.state desk.new) from.now) }
+    ensures frame { ReadsOnly (D.state desk.old) (D.state desk.new) }
 {
     let (env, grid) = read_environment(alloc, from, desk)?;
     let prims = read_primitives(alloc, from, &env, desk)?;
@@ -66,15 +62,9 @@ pub(crate) fn read_course<D: Desk>(
     desk: &mut D,
 ) -> Result<(Lattice, Changes), Stop>
     requires range { from.now.radius ≤ 10 ^ 12 }
-    ensures says { IfOk result (λ x. SaysWorld (D.held desk.old) from.now x.0) }
-    ensures kept { IfOk result (λ x. IsWorld x.0) }
-    ensures batches { IfOk result (λ x. SaysBatches (D.held desk.old) changes.now x.0.map x.1) }
-    ensures on_map { IfOk result (λ x. AreOnMap x.0.map x.1) }
-    ensures stop { IfErr result (EarlyStopsFor (D.held desk.old) (D.read_faults desk.old) (D.read_faults desk.new) from.now changes.now) }
-    ensures held { Stays (D.held desk.old) (D.held desk.new) }
-    ensures written { Stays (D.written desk.old) (D.written desk.new) }
-    ensures reads { NoneFalls (D.read_faults desk.old) (D.read_faults desk.new) }
-    ensures writes { NoneFalls (D.write_faults desk.old) (D.write_faults desk.new) }
+    ensures course { IfOk result (λ x. IsCourse (D.state desk.old).held from.now changes.now x.0 x.1) }
+    ensures stop { IfErr result (EarlyStopsFor (D.state desk.old) (D.state desk.new) from.now changes.now) }
+    ensures frame { ReadsOnly (D.state desk.old) (D.state desk.new) }
 {
     let lattice = read_lattice(alloc, from, desk)?;
     match read_batches(alloc, changes, lattice.map(), desk) {

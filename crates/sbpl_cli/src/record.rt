@@ -7,7 +7,7 @@ use sbpl_plan::{Arcs, Passes};
 
 /// One step of a path: the primitive's id and the place where it ends.
 #[derive(Clone, Copy, Debug, PartialEq, Eq)]
-pub struct Step {
+pub struct PathStep {
     pub id: u32,
     pub place: Place,
 }
@@ -44,7 +44,7 @@ pub struct PlanRecord {
     /// The plan's number: 0, and one more for each batch of changes.
     pub plan: u32,
     /// Its passes in order.
-    pub passes: Passes,
+    pub passes: Passes<sbpl_serial::Step>,
     /// How many states they expanded together.
     pub expanded: u64,
     /// Where the last pass was spent, how many states the plan expanded.

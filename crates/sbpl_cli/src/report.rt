@@ -4,7 +4,7 @@ ghost use Rattle.std.specs.Prelude.{◌≡◌, ◌++◌, IfOk, OnOk, flat_map, d
 ghost use Rattle.sbpl_fixed.specs.Printed.{milli_text};
 ghost use Rattle.sbpl_cli.specs.Report.{demo_text, found_text, outcome_line, pass_text, place_text, plan_line, step_text, path_text, outcome_text, spent_text, section_text};
 
-use crate::record::{Outcome, PathRecord, PlanRecord, Step};
+use crate::record::{Outcome, PathRecord, PathStep, PlanRecord};
 use itoa::Buffer;
 use sbpl_cfg::Place;
 use sbpl_fixed::{NoMemory, print_milli};
@@ -27,7 +27,7 @@ pub(crate) fn push_number(out: &mut Vec<u8>, number: u64) -> Result<(), NoMemory
     Ok(())
 }
 
-/// Appends a word and a whole number behind it.
+/// Appends a word and a whole number after it.
 pub(crate) fn push_field(out: &mut Vec<u8>, word: &[u8], number: u64) -> Result<(), NoMemory>
     ensures appended { OnOk result (out.new.items ≡ out.old.items ++ (word.now ++ decimal number)) }
 {
@@ -35,7 +35,7 @@ pub(crate) fn push_field(out: &mut Vec<u8>, word: &[u8], number: u64) -> Result<
     push_number(out, number)
 }
 
-/// Appends a word and a number of thousandths behind it.
+/// Appends a word and a number of thousandths after it.
 pub(crate) fn push_milli(out: &mut Vec<u8>, word: &[u8], number: u128) -> Result<(), NoMemory>
     ensures appended { OnOk result (out.new.items ≡ out.old.items ++ (word.now ++ milli_text number)) }
 {
@@ -59,7 +59,7 @@ fn push_found(out: &mut Vec<u8>, found: Found) -> Result<(), NoMemory>
 
 /// Appends the line of a pass.
 #[tactic(auto, unfolding(crate::specs::Report::pass_text))]
-fn push_pass(out: &mut Vec<u8>, pass: &Pass) -> Result<(), NoMemory>
+fn push_pass(out: &mut Vec<u8>, pass: &Pass<sbpl_serial::Step>) -> Result<(), NoMemory>
     ensures appended { OnOk result (out.new.items ≡ out.old.items ++ pass_text pass.now) }
 {
     push_milli(out, b"pass ", u128::from(pass.inflation))?;
@@ -69,7 +69,7 @@ fn push_pass(out: &mut Vec<u8>, pass: &Pass) -> Result<(), NoMemory>
 }
 
 /// Appends the lines of passes.
-fn push_passes(out: &mut Vec<u8>, passes: &[Pass]) -> Result<(), NoMemory>
+fn push_passes(out: &mut Vec<u8>, passes: &[Pass<sbpl_serial::Step>]) -> Result<(), NoMemory>
     ensures appended { OnOk result (out.new.items ≡ out.old.items ++ flat_map pass_text passes.now) }
 {
     for pass in passes {
@@ -91,7 +91,7 @@ fn push_place(out: &mut Vec<u8>, place: Place) -> Result<(), NoMemory>
 
 /// Appends the line of a step.
 #[tactic(auto, unfolding(crate::specs::Report::step_text))]
-fn push_step(out: &mut Vec<u8>, step: &Step) -> Result<(), NoMemory>
+fn push_step(out: &mut Vec<u8>, step: &PathStep) -> Result<(), NoMemory>
     ensures appended { OnOk result (out.new.items ≡ out.old.items ++ step_text step.now) }
 {
     push_field(out, b"step ", u64::from(step.id))?;
@@ -100,7 +100,7 @@ fn push_step(out: &mut Vec<u8>, step: &Step) -> Result<(), NoMemory>
 }
 
 /// Appends the lines of steps.
-fn push_steps(out: &mut Vec<u8>, steps: &[Step]) -> Result<(), NoMemory>
+fn push_steps(out: &mut Vec<u8>, steps: &[PathStep]) -> Result<(), NoMemory>
     ensures appended { OnOk result (out.new.items ≡ out.old.items ++ flat_map step_text steps.now) }
 {
     for step in steps {

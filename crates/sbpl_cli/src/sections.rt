@@ -1,10 +1,9 @@
 //! The sections of a plan, written: of the report, of labels and of a trace.
 
-ghost use Rattle.std.specs.Prelude.{◌≡◌, ◌≢◌, ◌∷◌, ◌++◌, ℕ, List, []};
-ghost use Rattle.sbpl_desk.specs.Desk.{NoneFalls, Stays};
+ghost use Rattle.std.specs.Prelude.{◌∷◌, ◌++◌, []};
 ghost use Rattle.sbpl_cli.specs.Intents.{labels_writes, section_writes, trace_writes};
 ghost use Rattle.sbpl_cli.specs.Report.{section_text};
-ghost use Rattle.sbpl_cli.specs.Writing.{EndsIn, IsNamed, IsOutputOf, StaysBut, output, to_named, to_output};
+ghost use Rattle.sbpl_cli.specs.Writing.{EndsIn, IsNamed, IsOutput, IsOutputOf, WritesOnly, to_named, to_output};
 
 use crate::labels;
 use crate::record::PlanRecord;
@@ -18,11 +17,8 @@ use std::alloc::Global;
 
 /// Writes the section of a plan.
 fn write_section<D: Desk>(alloc: Global, plan: &PlanRecord, desk: &mut D) -> Result<(), WriteStop>
-    ensures ends { EndsIn (D.written desk.old) (D.written desk.new) (D.write_faults desk.old) (D.write_faults desk.new) (to_output (section_text plan.now) ∷ []) result }
-    ensures held { Stays (D.held desk.old) (D.held desk.new) }
-    ensures others { (name : List ℕ) → name ≢ output → D.written desk.new name ≡ D.written desk.old name }
-    ensures reads { NoneFalls (D.read_faults desk.old) (D.read_faults desk.new) }
-    ensures writes { NoneFalls (D.write_faults desk.old) (D.write_faults desk.new) }
+    ensures ends { EndsIn (D.state desk.old) (D.state desk.new) (to_output (section_text plan.now) ∷ []) result }
+    ensures frame { WritesOnly IsOutput (D.state desk.old) (D.state desk.new) }
 {
     match section_of(alloc, plan) {
         Ok(text) => write_text(OUTPUT, text.as_slice(), desk),
@@ -32,11 +28,8 @@ fn write_section<D: Desk>(alloc: Global, plan: &PlanRecord, desk: &mut D) -> Res
 
 /// Writes a text under a name, if there is one.
 fn write_named<D: Desk>(name: &Option<Name>, text: &[u8], desk: &mut D) -> Result<(), WriteStop>
-    ensures ends { EndsIn (D.written desk.old) (D.written desk.new) (D.write_faults desk.old) (D.write_faults desk.new) (to_named name.now text.now) result }
-    ensures held { Stays (D.held desk.old) (D.held desk.new) }
-    ensures others { StaysBut (IsNamed name.now) (D.written desk.old) (D.written desk.new) }
-    ensures reads { NoneFalls (D.read_faults desk.old) (D.read_faults desk.new) }
-    ensures writes { NoneFalls (D.write_faults desk.old) (D.write_faults desk.new) }
+    ensures ends { EndsIn (D.state desk.old) (D.state desk.new) (to_named name.now text.now) result }
+    ensures frame { WritesOnly (IsNamed name.now) (D.state desk.old) (D.state desk.new) }
 {
     match name {
         Some(name) => write_text(name.as_str(), text, desk),
@@ -51,11 +44,8 @@ fn write_labels<D: Desk>(
     plan: &PlanRecord,
     desk: &mut D,
 ) -> Result<(), WriteStop>
-    ensures ends { EndsIn (D.written desk.old) (D.written desk.new) (D.write_faults desk.old) (D.write_faults desk.new) (labels_writes outputs.now plan.now) result }
-    ensures held { Stays (D.held desk.old) (D.held desk.new) }
-    ensures others { StaysBut (IsNamed outputs.now.labels) (D.written desk.old) (D.written desk.new) }
-    ensures reads { NoneFalls (D.read_faults desk.old) (D.read_faults desk.new) }
-    ensures writes { NoneFalls (D.write_faults desk.old) (D.write_faults desk.new) }
+    ensures ends { EndsIn (D.state desk.old) (D.state desk.new) (labels_writes outputs.now plan.now) result }
+    ensures frame { WritesOnly (IsNamed outputs.now.labels) (D.state desk.old) (D.state desk.new) }
 {
     match labels::text_of(alloc, &plan.labels) {
         Ok(text) => write_named(&outputs.labels, text.as_slice(), desk),
@@ -70,11 +60,8 @@ fn write_trace<D: Desk>(
     plan: &PlanRecord,
     desk: &mut D,
 ) -> Result<(), WriteStop>
-    ensures ends { EndsIn (D.written desk.old) (D.written desk.new) (D.write_faults desk.old) (D.write_faults desk.new) (trace_writes outputs.now plan.now) result }
-    ensures held { Stays (D.held desk.old) (D.held desk.new) }
-    ensures others { StaysBut (IsNamed outputs.now.trace) (D.written desk.old) (D.written desk.new) }
-    ensures reads { NoneFalls (D.read_faults desk.old) (D.read_faults desk.new) }
-    ensures writes { NoneFalls (D.write_faults desk.old) (D.write_faults desk.new) }
+    ensures ends { EndsIn (D.state desk.old) (D.state desk.new) (trace_writes outputs.now plan.now) result }
+    ensures frame { WritesOnly (IsNamed outputs.now.trace) (D.state desk.old) (D.state desk.new) }
 {
     match trace_of(alloc, plan) {
         Ok(text) => write_named(&outputs.trace, text.as_slice(), desk),
@@ -89,11 +76,8 @@ fn write_outputs<D: Desk>(
     plan: &PlanRecord,
     desk: &mut D,
 ) -> Result<(), WriteStop>
-    ensures ends { EndsIn (D.written desk.old) (D.written desk.new) (D.write_faults desk.old) (D.write_faults desk.new) (labels_writes outputs.now plan.now ++ trace_writes outputs.now plan.now) result }
-    ensures held { Stays (D.held desk.old) (D.held desk.new) }
-    ensures others { StaysBut (IsOutputOf outputs.now) (D.written desk.old) (D.written desk.new) }
-    ensures reads { NoneFalls (D.read_faults desk.old) (D.read_faults desk.new) }
-    ensures writes { NoneFalls (D.write_faults desk.old) (D.write_faults desk.new) }
+    ensures ends { EndsIn (D.state desk.old) (D.state desk.new) (labels_writes outputs.now plan.now ++ trace_writes outputs.now plan.now) result }
+    ensures frame { WritesOnly (IsOutputOf outputs.now) (D.state desk.old) (D.state desk.new) }
 {
     match write_labels(alloc, outputs, plan, desk) {
         Ok(()) => write_trace(alloc, outputs, plan, desk),
@@ -108,11 +92,8 @@ pub(crate) fn write_plan<D: Desk>(
     plan: &PlanRecord,
     desk: &mut D,
 ) -> Result<(), WriteStop>
-    ensures ends { EndsIn (D.written desk.old) (D.written desk.new) (D.write_faults desk.old) (D.write_faults desk.new) (section_writes outputs.now plan.now) result }
-    ensures held { Stays (D.held desk.old) (D.held desk.new) }
-    ensures others { StaysBut (IsOutputOf outputs.now) (D.written desk.old) (D.written desk.new) }
-    ensures reads { NoneFalls (D.read_faults desk.old) (D.read_faults desk.new) }
-    ensures writes { NoneFalls (D.write_faults desk.old) (D.write_faults desk.new) }
+    ensures ends { EndsIn (D.state desk.old) (D.state desk.new) (section_writes outputs.now plan.now) result }
+    ensures frame { WritesOnly (IsOutputOf outputs.now) (D.state desk.old) (D.state desk.new) }
 {
     match write_section(alloc, plan, desk) {
         Ok(()) => write_outputs(alloc, outputs, plan, desk),

@@ -1,11 +1,10 @@
 //! How plans are told: in full, or each in a line.
 
 ghost use Rattle.std.specs.Prelude.{◌∷◌, [], List, ℕ};
-ghost use Rattle.sbpl_desk.specs.Desk.{NoneFalls, Stays};
 ghost use Rattle.sbpl_cli.specs.declared.record.PlanRecord.{PlanRecord};
 ghost use Rattle.sbpl_cli.specs.Intents.{section_writes};
 ghost use Rattle.sbpl_cli.specs.Report.{plan_line};
-ghost use Rattle.sbpl_cli.specs.Writing.{EndsIn, IsOutput, IsOutputOf, StaysBut, Write, to_output};
+ghost use Rattle.sbpl_cli.specs.Writing.{EndsIn, IsOutput, IsOutputOf, Write, WritesOnly, output, to_output};
 
 use crate::record::PlanRecord;
 use crate::report::line_of;
@@ -29,11 +28,8 @@ pub(crate) trait Telling {
 
     /// Writes what is told of a plan.
     fn tell<D: Desk>(&self, alloc: Global, plan: &PlanRecord, desk: &mut D) -> Result<(), WriteStop>
-        ensures ends { EndsIn (D.written desk.old) (D.written desk.new) (D.write_faults desk.old) (D.write_faults desk.new) (written self.now plan.now) result }
-        ensures held { Stays (D.held desk.old) (D.held desk.new) }
-        ensures others { StaysBut (under self.now) (D.written desk.old) (D.written desk.new) }
-        ensures reads { NoneFalls (D.read_faults desk.old) (D.read_faults desk.new) }
-        ensures writes { NoneFalls (D.write_faults desk.old) (D.write_faults desk.new) };
+        ensures ends { EndsIn (D.state desk.old) (D.state desk.new) (written self.now plan.now) result }
+        ensures frame { WritesOnly (under self.now) (D.state desk.old) (D.state desk.new) };
 }
 
 /// In full: a section of the report, one of labels and one of a trace, where they are asked for.

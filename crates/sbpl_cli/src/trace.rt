@@ -5,9 +5,9 @@ ghost use Rattle.sbpl_cli.specs.Traces.{expansion_text, expansion_word, expansio
 
 use crate::record::PlanRecord;
 use crate::report::{push_bytes, push_field, push_milli, push_number};
-use sbpl_ara::Step;
 use sbpl_fixed::NoMemory;
 use sbpl_plan::Pass;
+use sbpl_serial::Step;
 use std::alloc::Global;
 
 /// The word for an expansion.
@@ -39,7 +39,7 @@ fn push_expansions(out: &mut Vec<u8>, steps: &[Step]) -> Result<(), NoMemory>
 
 /// Appends the lines of a pass.
 #[tactic(auto, unfolding(crate::specs::Traces::expansions_text))]
-fn push_pass(out: &mut Vec<u8>, pass: &Pass) -> Result<(), NoMemory>
+fn push_pass(out: &mut Vec<u8>, pass: &Pass<Step>) -> Result<(), NoMemory>
     ensures appended { OnOk result (out.new.items ≡ out.old.items ++ expansions_text pass.now) }
 {
     push_milli(out, b"pass ", u128::from(pass.inflation))?;
@@ -48,7 +48,7 @@ fn push_pass(out: &mut Vec<u8>, pass: &Pass) -> Result<(), NoMemory>
 }
 
 /// Appends the lines of passes.
-fn push_passes(out: &mut Vec<u8>, passes: &[Pass]) -> Result<(), NoMemory>
+fn push_passes(out: &mut Vec<u8>, passes: &[Pass<Step>]) -> Result<(), NoMemory>
     ensures appended { OnOk result (out.new.items ≡ out.old.items ++ flat_map expansions_text passes.now) }
 {
     for pass in passes {

@@ -1,4 +1,4 @@
--- What a call does to what is held and written outside, and to the counts of what failed there.
+-- What a desk is, and what a call does to what is held and written there and to the counts of what failed.
 -- Bytes that a desk doesn't tell are `None`, of which nothing is claimed.
 use Rattle.std.specs.Prelude.{◌≡◌, ◌⊎◌, ◌-◌, ◌^◌, ◌<◌, ◌≤◌, ℕ, List, ◌++◌, length, ⊤, Result, Ok, Err, Option}
 use Rattle.sbpl_desk.specs.declared.desk.ReadStop.{ReadStop}
@@ -6,24 +6,70 @@ use Rattle.sbpl_desk.specs.declared.desk.ReadStop.TheVariants.{Failed, TooLong, 
 -- Keeps before after: told bytes stay. Appends before after bytes: told bytes grow by these at their end.
 pub use Rattle.std.specs.Io.KnownBytes.{Keeps, Appends}
 
+-- what each name has, where the desk tells
+abbrev pub Told : Type 0
+Told = List ℕ → Option (List ℕ)
+
+-- how often each name failed
+abbrev pub FaultCounts : Type 0
+FaultCounts = List ℕ → ℕ
+
+-- some names
+abbrev pub Names : Type 1
+Names = List ℕ → Type 0
+
+-- a desk, as its calls show it: the bytes that each name holds, the bytes written under each name so far, and how many reads
+-- and how many writes of each name failed
+pub record DeskState : Type 0 where
+  pub held : Told
+  pub written : Told
+  pub read_faults : FaultCounts
+  pub write_faults : FaultCounts
+
 -- what each name has stays
 abbrev pub Stays : {A B : Type 0} → (A → B) → (A → B) → Type 0
 Stays before after = (name : _) → after name ≡ before name
 
--- told bytes grow by some front of these: by none, some or all
-pub record AppendsFront (before after : Option (List ℕ)) (bytes : List ℕ) : Type 0 where
-  pub front : List ℕ
+-- what is written under other names than these stays
+abbrev pub StaysBut : Names → Told → Told → Type 0
+StaysBut IsWritten before after = (name : List ℕ) → (IsWritten name → ⊥) → after name ≡ before name
+
+-- told bytes grow by some prefix of these: by none, some or all
+pub record AppendsPrefix (before after : Option (List ℕ)) (bytes : List ℕ) : Type 0 where
+  pub prefix : List ℕ
   pub rest : List ℕ
-  pub whole : bytes ≡ front ++ rest
-  pub written : Appends before after front
+  pub whole : bytes ≡ prefix ++ rest
+  pub written : Appends before after prefix
 
 -- a count rose, or stands at its end
 abbrev pub Rose : ℕ → ℕ → Type 0
 Rose before after = (before < after) ⊎ (after ≡ 2 ^ 64 - 1)
 
+-- the count of failed reads of a name rose
+abbrev pub ReadFailed : (before after : DeskState) → Names
+ReadFailed before after name = Rose (before.read_faults name) (after.read_faults name)
+
+-- the count of failed writes of a name rose
+abbrev pub WriteFailed : (before after : DeskState) → Names
+WriteFailed before after name = Rose (before.write_faults name) (after.write_faults name)
+
 -- no name's count falls
-abbrev pub NoneFalls : (List ℕ → ℕ) → (List ℕ → ℕ) → Type 0
+abbrev pub NoneFalls : FaultCounts → FaultCounts → Type 0
 NoneFalls before after = (name : List ℕ) → before name ≤ after name
+
+-- nothing that is held changes, nothing is written, and no count falls
+pub record ReadsOnly (before after : DeskState) : Type 0 where
+  pub held : Stays before.held after.held
+  pub written : Stays before.written after.written
+  pub reads : NoneFalls before.read_faults after.read_faults
+  pub writes : NoneFalls before.write_faults after.write_faults
+
+-- nothing that is held changes, nothing is written but under these names, and no count falls
+pub record WritesOnly (IsWritten : Names) (before after : DeskState) : Type 0 where
+  pub held : Stays before.held after.held
+  pub others : StaysBut IsWritten before.written after.written
+  pub reads : NoneFalls before.read_faults after.read_faults
+  pub writes : NoneFalls before.write_faults after.write_faults
 
 -- a read of these held bytes is too long exactly where they are more than 2^30, unless it failed or found no memory
 abbrev pub TooLongWhere : {T : Type 0} → Result T ReadStop → List ℕ → Type 0

@@ -1,9 +1,10 @@
 -- What a desk in memory has, as its calls show it.
-use Rattle.std.specs.Prelude.{ℕ, List, [], replicate, Option, option_map, unwrap_or}
+use Rattle.std.specs.Prelude.{◌≡◌, ℕ, List, [], replicate, Option, Some, option_map, unwrap_or}
 use Rattle.std.specs.BTreeMap.{get, get_by_text, BTreeMap}
 use Rattle.std.specs.Ordering.{nat_cmp}
 use Rattle.std.specs.Prelude.{Vec, String}
 use Rattle.std.specs.Global.{Global}
+use Rattle.sbpl_desk.specs.Desk.{DeskState, Stays}
 use Rattle.sbpl_desk.specs.declared.memory.MemoryDesk.{MemoryDesk}
 use Rattle.sbpl_desk.specs.declared.memory.Content.{Content}
 use Rattle.sbpl_desk.specs.declared.memory.Content.TheVariants.{Stored, Filled}
@@ -40,3 +41,19 @@ memory_read_faults desk = desk.read_faults
 -- how many writes failed
 abbrev pub memory_write_faults : MemoryDesk → ℕ
 memory_write_faults desk = desk.write_faults
+
+-- it tells what it holds and what is written, and its counts are those of every name
+abbrev pub memory_state : MemoryDesk → DeskState
+memory_state desk = record {
+  held = memory_held desk;
+  written = λ name. Some (memory_written desk name);
+  read_faults = λ _. memory_read_faults desk;
+  write_faults = λ _. memory_write_faults desk;
+}
+
+-- no call was made and nothing was written
+pub record MakesNoCall (before after : MemoryDesk) : Type 0 where
+  pub written : Stays (memory_written before) (memory_written after)
+  pub calls : memory_calls after ≡ memory_calls before
+  pub reads : memory_read_faults after ≡ memory_read_faults before
+  pub writes : memory_write_faults after ≡ memory_write_faults before

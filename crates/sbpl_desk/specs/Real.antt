@@ -1,5 +1,6 @@
 -- What a desk over the system has, as its calls show it.
-use Rattle.std.specs.Prelude.{ℕ}
+use Rattle.std.specs.Prelude.{ℕ, None}
+use Rattle.sbpl_desk.specs.Desk.{DeskState}
 use Rattle.sbpl_desk.specs.declared.real.RealDesk.{RealDesk}
 
 -- how many reads failed
@@ -9,3 +10,12 @@ real_read_faults desk = desk.read_faults
 -- how many writes failed
 abbrev pub real_write_faults : {R F D A : Type 0} → RealDesk R F D A → ℕ
 real_write_faults desk = desk.write_faults
+
+-- it tells no bytes, and its counts are those of every name
+abbrev pub real_state : {R F D A : Type 0} → RealDesk R F D A → DeskState
+real_state desk = record {
+  held = λ _. None;
+  written = λ _. None;
+  read_faults = λ _. real_read_faults desk;
+  write_faults = λ _. real_write_faults desk;
+}

@@ -3,8 +3,8 @@ ghost use Rattle.std.specs.Prelude.{◌≡◌, ◌≢◌, ◌≤◌, ◌^◌, �
 ghost use Rattle.std.specs.BTreeMap.{get};
 ghost use Rattle.std.specs.Ordering.{nat_cmp};
 ghost use Rattle.sbpl_desk.specs.Counts.{risen, read_count, write_count};
-ghost use Rattle.sbpl_desk.specs.Desk.{Stays, AppendsFront, TooLongWhere};
-ghost use Rattle.sbpl_desk.specs.Memory.{memory_held, memory_written, memory_failing, memory_calls, memory_read_faults, memory_write_faults, text_at, content_bytes};
+ghost use Rattle.sbpl_desk.specs.Desk.{AppendsPrefix, Stays, TooLongWhere};
+ghost use Rattle.sbpl_desk.specs.Memory.{MakesNoCall, memory_held, memory_written, memory_failing, memory_calls, memory_read_faults, memory_state, memory_write_faults, text_at, content_bytes};
 
 use crate::desk::MOST;
 use crate::{Desk, ReadStop, WriteStop};
@@ -59,11 +59,8 @@ impl MemoryDesk {
         ensures held { OnOk result (memory_held self.new name.now ≡ Some bytes.now) }
         ensures others { (other : List ℕ) → other ≢ name.now → memory_held self.new other ≡ memory_held self.old other }
         ensures memory { OnErr result (Stays (memory_held self.old) (memory_held self.new)) }
-        ensures written { Stays (memory_written self.old) (memory_written self.new) }
         ensures failing { Stays (memory_failing self.old) (memory_failing self.new) }
-        ensures calls { memory_calls self.new ≡ memory_calls self.old }
-        ensures reads { memory_read_faults self.new ≡ memory_read_faults self.old }
-        ensures writes { memory_write_faults self.new ≡ memory_write_faults self.old }
+        ensures rest { MakesNoCall self.old self.new }
     {
         let mut copy = Vec::new(self.alloc);
         copy.extend_from_slice(bytes)?;
@@ -78,11 +75,8 @@ impl MemoryDesk {
         ensures held { OnOk result (memory_held self.new name.now ≡ Some (replicate len byte)) }
         ensures others { (other : List ℕ) → other ≢ name.now → memory_held self.new other ≡ memory_held self.old other }
         ensures memory { OnErr result (Stays (memory_held self.old) (memory_held self.new)) }
-        ensures written { Stays (memory_written self.old) (memory_written self.new) }
         ensures failing { Stays (memory_failing self.old) (memory_failing self.new) }
-        ensures calls { memory_calls self.new ≡ memory_calls self.old }
-        ensures reads { memory_read_faults self.new ≡ memory_read_faults self.old }
-        ensures writes { memory_write_faults self.new ≡ memory_write_faults self.old }
+        ensures rest { MakesNoCall self.old self.new }
     {
         let key = String::from_str(self.alloc, name)?;
         self.held.insert(key, Content::Filled(len, byte))?;
@@ -97,10 +91,7 @@ impl MemoryDesk {
         ensures others { (other : ℕ) → other ≢ call → memory_failing self.new other ≡ memory_failing self.old other }
         ensures memory { OnErr result (Stays (memory_failing self.old) (memory_failing self.new)) }
         ensures held { Stays (memory_held self.old) (memory_held self.new) }
-        ensures written { Stays (memory_written self.old) (memory_written self.new) }
-        ensures calls { memory_calls self.new ≡ memory_calls self.old }
-        ensures reads { memory_read_faults self.new ≡ memory_read_faults self.old }
-        ensures writes { memory_write_faults self.new ≡ memory_write_faults self.old }
+        ensures rest { MakesNoCall self.old self.new }
     {
         self.failing.insert(call, after)?;
         Ok(())
@@ -129,8 +120,8 @@ fn begin_call(calls: &mut u64, failing: &BTreeMap<u64, usize>) -> Option<usize>
 
 /// The first bytes, up to this number of them.
 #[tactic(auto, using(std::proofs::lemmas::List::take_min))]
-fn front(bytes: &[u8], most: usize) -> &[u8]
-    ensures front { result.now ≡ take most bytes.now }
+fn prefix_of(bytes: &[u8], most: usize) -> &[u8]
+    ensures prefix { result.now ≡ take most bytes.now }
 {
     &bytes[..most.min(bytes.len())]
 }
@@ -182,13 +173,7 @@ fn copy(content: &Content, into: &mut Vec<u8>) -> Result<(), ReadStop>
 }
 
 impl Desk for MemoryDesk {
-    ghost held = { λ desk. memory_held desk };
-
-    ghost written = { λ desk name. Some (memory_written desk name) };
-
-    ghost read_faults = { λ desk _. memory_read_faults desk };
-
-    ghost write_faults = { λ desk _. memory_write_faults desk };
+    ghost state = { λ desk. memory_state desk };
 
     fn read(&mut self, name: &str, into: &mut Vec<u8>) -> Result<(), ReadStop>
         // As each desk.
@@ -222,7 +207,7 @@ impl Desk for MemoryDesk {
     fn write(&mut self, name: &str, bytes: &[u8]) -> Result<(), WriteStop>
         // As each desk.
         ensures bytes { OnOk result (memory_written self.new name.now ≡ memory_written self.old name.now ++ bytes.now) }
-        ensures front { IsErrOf result WriteStop.Failed → AppendsFront (Some (memory_written self.old name.now)) (Some (memory_written self.new name.now)) bytes.now }
+        ensures prefix { IsErrOf result WriteStop.Failed → AppendsPrefix (Some (memory_written self.old name.now)) (Some (memory_written self.new name.now)) bytes.now }
         ensures memory { IsErrOf result WriteStop.NoMemory → Stays (memory_written self.old) (memory_written self.new) }
         ensures others { (other : List ℕ) → other ≢ name.now → memory_written self.new other ≡ memory_written self.old other }
         ensures held { Stays (memory_held self.old) (memory_held self.new) }
@@ -240,7 +225,7 @@ impl Desk for MemoryDesk {
         match begin_call(&mut self.calls, &self.failing) {
             None => Ok(append(self.alloc, &mut self.written, name, bytes)?),
             Some(after) => {
-                append(self.alloc, &mut self.written, name, front(bytes, after))?;
+                append(self.alloc, &mut self.written, name, prefix_of(bytes, after))?;
                 self.write_faults = self.write_faults.saturating_add(1);
                 Err(WriteStop::Failed)
             }

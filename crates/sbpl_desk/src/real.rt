@@ -1,9 +1,9 @@
 //! The real outside: files, and the standard output.
-ghost use Rattle.std.specs.Prelude.{◌≡◌, ◌≢◌, ◌≤◌, ◌<◌, ◌^◌, ◌++◌, [], None, length, take, Err, IfOk, IfSome, OnOk, OnErr, vec_len};
+ghost use Rattle.std.specs.Prelude.{◌≡◌, ◌≢◌, ◌≤◌, ◌<◌, ◌^◌, ◌++◌, [], length, take, Err, IfOk, IfSome, OnOk, OnErr, vec_len};
 ghost use Rattle.std.specs.Io.KnownBytes.{Consumes, IsAtEnd};
 ghost use Rattle.sbpl_desk.specs.Counts.{read_count, write_count};
-ghost use Rattle.sbpl_desk.specs.Desk.{Appends, AppendsFront, TooLongWhere};
-ghost use Rattle.sbpl_desk.specs.Real.{real_read_faults, real_write_faults};
+ghost use Rattle.sbpl_desk.specs.Desk.{Appends, AppendsPrefix, TooLongWhere};
+ghost use Rattle.sbpl_desk.specs.Real.{real_read_faults, real_state, real_write_faults};
 
 use crate::desk::MOST;
 use crate::{Desk, ReadStop, WriteStop};
@@ -83,7 +83,7 @@ fn read_whole<F: Read>(file: &mut F, into: &mut Vec<u8>) -> Result<(), ReadStop>
 /// Writes all of the bytes, in as many calls as it takes.
 fn write_whole<W: Write>(to: &mut W, bytes: &[u8]) -> Result<(), WriteStop>
     ensures bytes { OnOk result (Appends (W.contents to.old) (W.contents to.new) bytes.now) }
-    ensures front { OnErr result (AppendsFront (W.contents to.old) (W.contents to.new) bytes.now) }
+    ensures prefix { OnErr result (AppendsPrefix (W.contents to.old) (W.contents to.new) bytes.now) }
     ensures failed { result ≢ Err WriteStop.NoMemory }
 {
     let mut rest = bytes;
@@ -134,13 +134,7 @@ fn open_output<R: Files + Alloc>(
 }
 
 impl<R: Files + Print + Alloc> Desk for RealDesk<R> {
-    ghost held = { λ _ _. None };
-
-    ghost written = { λ _ _. None };
-
-    ghost read_faults = { λ desk _. real_read_faults desk };
-
-    ghost write_faults = { λ desk _. real_write_faults desk };
+    ghost state = { λ desk. real_state desk };
 
     fn read(&mut self, name: &str, into: &mut Vec<u8>) -> Result<(), ReadStop>
         ensures bounded { OnOk result (vec_len into.new ≤ 2 ^ 30) }

@@ -302,7 +302,7 @@ fn passes(rt: HostRuntime) -> Result<(), Fail> {
     )
 }
 
-/// Appends so many lines of states that no way is known to.
+/// Appends this number of lines of states that no way is known to.
 fn push_far(text: &mut String, count: u32, line: &str) -> Result<(), Fail> {
     for _ in 0..count {
         text.push_str(line)?;
@@ -728,7 +728,7 @@ fn sweeps(rt: HostRuntime) -> Result<(), Fail> {
     )
 }
 
-/// Plans in the corridor on a desk that fails at one call behind seven bytes, and compares the status and what is written.
+/// Plans in the corridor on a desk that fails at one call after seven bytes, and compares the status and what is written.
 fn compare_failing(
     rt: &impl Abort,
     alloc: Global,

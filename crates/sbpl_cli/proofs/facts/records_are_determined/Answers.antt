@@ -1,7 +1,12 @@
-use Rattle.sbpl_cli.proofs.SameRecords.{few_are_first, records_are_one}
+use Rattle.sbpl_cli.proofs.SameRecords.{IsPlannerDetermined, few_are_first, of_each, records_are_one}
+use Rattle.sbpl_ara.specs.Planner.{ara}
+use Rattle.sbpl_adstar.specs.Planner.{adstar}
 use Rattle.sbpl_cli.proofs.facts.records_are_determined.Goals as goal
 
 pub returns : goal.returns
 returns c =
-    let first = few_are_first c.plan_is_determined.ensures.passes c.plan_is_determined.ensures.outcome c.writes_lead_to_the_next_map.ensures.one_map c.alike_worlds_are_one_graph.ensures.law in
+    let run = c.run_is_determined.ensures in
+    let by_ara : IsPlannerDetermined ara = record { passes = run.determined; beginnings = run.anew; plans = c.plan_is_determined.ensures.passes } in
+    let by_adstar : IsPlannerDetermined adstar = record { passes = run.determined; beginnings = run.repaired; plans = c.plan_is_determined-2.ensures.passes } in
+    let first = few_are_first (of_each by_ara by_adstar) run.initial c.plan_is_determined.ensures.outcome c.writes_lead_to_the_next_map.ensures.one_map c.alike_worlds_are_one_graph.ensures.law in
     record { law = records_are_one first; few = first }

@@ -5,12 +5,12 @@ use Rattle.sbpl_cli.proofs.writing.write_text.Goals as goal
 pub returns-in-Err-Failed-clause-ends : goal.returns-in-Err-Failed-clause-ends
 returns-in-Err-Failed-clause-ends g c =
     let seen = rw c.in-Err-Failed.field-0-is at c.in-Err-Failed.ensures in
-    one_cut _ _ _ _ _ _ (seen.front refl) c.write.ensures.others (seen.failed refl)
+    one_cut _ _ _ _ (seen.prefix refl) c.write.ensures.frame.others (seen.failed refl)
 
 pub returns-in-Err-NoMemory-clause-ends : goal.returns-in-Err-NoMemory-clause-ends
 returns-in-Err-NoMemory-clause-ends g c =
     let seen = rw c.in-Err-NoMemory.field-0-is at c.in-Err-NoMemory.ensures in
-    one_stopped _ _ _ (seen.memory refl) c.write.ensures.others
+    one_stopped _ _ _ (seen.memory refl) c.write.ensures.frame.others
 
 pub returns-in-Ok-clause-ends : goal.returns-in-Ok-clause-ends
-returns-in-Ok-clause-ends g c = one_made _ _ _ _ c.in-Ok.ensures.bytes c.write.ensures.others
+returns-in-Ok-clause-ends g c = one_made _ _ _ _ c.in-Ok.ensures.bytes c.write.ensures.frame.others

@@ -1,6 +1,6 @@
 use Rattle.std.proofs.Common.{take, ◌++◌}
 use Rattle.std.proofs.KnownBytes.{Appends-trans}
-use Rattle.sbpl_desk.proofs.Fronts.{more_done}
+use Rattle.sbpl_desk.proofs.Prefixes.{more_done}
 use Rattle.sbpl_desk.proofs.real.write_whole.Goals as goal
 
 pub loop-rest-preserved : goal.loop-rest-preserved

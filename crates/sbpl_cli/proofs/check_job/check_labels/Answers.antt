@@ -1,0 +1,38 @@
+use Rattle.std.proofs.Common.{List, ℕ, suc, length, subst, ◌∙◌}
+use Rattle.sbpl_fixed.specs.Formats.{start_at}
+use Rattle.sbpl_cli.specs.Checked.{AreChecked, Case, IsShownHolding}
+use Rattle.sbpl_cli.specs.Intents.{Checked}
+use Rattle.sbpl_cli.proofs.Frames.{writes_after}
+use Rattle.sbpl_cli.proofs.Writings.{ends_since}
+use Rattle.sbpl_cli.proofs.check_job.check_labels.Goals as goal
+
+pub returns-clause-ends : goal.returns-clause-ends
+returns-clause-ends g c =
+    let w = c.in_ok-lattice.lattice in
+    let batches = c.in_ok-lattice.changes in
+    let ends = c.check_text.ensures.ends in
+    let case : Case = record { world = w; batches = batches; start = c.ends_of-start.result.0; goal = c.ends_of-start.result.1 } in
+    record {
+      intent = Checked c.ends_of-start.result.1 ends.outcomes ends.end;
+      gives = record {
+        world = w;
+        batches = batches;
+        says = c.in_ok-lattice.ensures.course.says;
+        changes = c.in_ok-lattice.ensures.course.batches_are;
+        arcs = c.lattice_has_its_arcs.ensures.law;
+        is_world = c.in_ok-lattice.ensures.course.is_world;
+        text = c.in_ok-lattice.text.items;
+        read = c.in_ok-lattice.ensures.text;
+        in_world = record {
+          start = c.ends_of-start.result.0;
+          start_is = c.ends_of-start.ensures.start;
+          goal_is = c.ends_of-start.ensures.goal;
+          checked = subst (λ (t : List ℕ). AreChecked IsShownHolding case 0 (suc (length batches)) (start_at t 0) ends.outcomes ends.end) c.as_slice-text.ensures.value ends.checked;
+        };
+      };
+      ends = ends_since _ _ _ _ _ _ c.in_ok-lattice.ensures.frame.written c.in_ok-lattice.ensures.frame.writes ends.ends;
+      others = λ name no. c.check_text.ensures.frame.others name no ∙ c.in_ok-lattice.ensures.frame.written name;
+    }
+
+pub returns-clause-frame : goal.returns-clause-frame
+returns-clause-frame g c = writes_after _ _ _ _ c.in_ok-lattice.ensures.frame c.check_text.ensures.frame

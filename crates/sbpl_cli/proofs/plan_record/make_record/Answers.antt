@@ -1,0 +1,130 @@
+use Rattle.std.proofs.Common.{arith, ◌≡◌, ℕ, ◌+◌, ◌*◌, ◌^◌, ◌≤◌, length, Bool, true, false, MatchBool, Option, None, Some, Result, Ok, Err, IfOk, refl, sym, ◌∙◌, ap, subst, inl, inr, ◌⊎◌}
+use Rattle.std.specs.Option.{is_some}
+use Rattle.sbpl_cert.specs.Sections.{Section}
+use Rattle.sbpl_fixed.specs.declared.no_memory.NoMemory.{NoMemory}
+use Rattle.sbpl_cost.specs.Lattices.{network_of}
+use Rattle.sbpl_cost.specs.World.{World}
+use Rattle.sbpl_heur.specs.Bests.{IsBest, Table, distance_in}
+use Rattle.sbpl_job.specs.declared.job.Outputs.{Outputs}
+use Rattle.sbpl_job.specs.declared.job.SearchJob.{SearchJob}
+use Rattle.sbpl_labels.specs.Counts.{Counts}
+use Rattle.sbpl_labels.specs.Marks.{Marks}
+use Rattle.sbpl_plan.specs.declared.ask.Ask.{Ask}
+use Rattle.sbpl_plan.specs.declared.result.Planned.{Planned}
+use Rattle.sbpl_plan.specs.Outcomes as search
+use Rattle.sbpl_plan.specs.Outcomes.{IsResultOf}
+use Rattle.sbpl_plan.specs.Asked.{most_passes}
+use Rattle.sbpl_plan.specs.Passing.{ArePasses, expansions}
+use Rattle.sbpl_replan.specs.Replanning.{inquiry}
+use Rattle.sbpl_search.specs.Meaning.{Meaning}
+use Rattle.sbpl_serial.specs.declared.step.Step.{Step}
+use Rattle.sbpl_cli.specs.declared.record.PlanRecord.{PlanRecord}
+use Rattle.sbpl_cli.specs.Asked.{ask_of}
+use Rattle.sbpl_cli.specs.Headline.{Begins, Carried, IsKnownWithin, IsMarked, IsNoneThere, IsSearched, IsWithinBound, Joins, KeepsPromises, IsSameResult, expanded_before}
+use Rattle.sbpl_cli.specs.Shown.{IsShown, IsThere}
+use Rattle.sbpl_cli.proofs.plan_record.make_record.Goals as goal
+
+-- a plan that was spent used up the budget, or the run's
+spends : (budget used per_plan run before : ℕ) → per_plan ≡ budget → run ≡ before + used → (used ≡ per_plan) ⊎ (run ≡ 2 ^ 30) → (used ≡ budget) ⊎ (before + used ≡ 2 ^ 30)
+spends budget used per_plan run before same counted (inl all) = inl (all ∙ same)
+spends budget used per_plan run before same counted (inr all) = inr (sym counted ∙ all)
+
+marked_by : (spent : Bool) (budget before used expanded per_plan run : ℕ) (r : PlanRecord) → expanded ≡ used → expansions r.passes ≡ used → MatchBool spent (r.spent ≡ Some expanded) (r.spent ≡ None)
+    → per_plan ≡ budget → run ≡ before + used → (spent ≡ true → (used ≡ per_plan) ⊎ (run ≡ 2 ^ 30)) → IsMarked budget before spent r
+marked_by true budget before used expanded per_plan run r is passes mark same counted spends_all =
+    (mark ∙ ap (λ (n : ℕ). Some n) (is ∙ sym passes), rw passes (spends budget used per_plan run before same counted (spends_all refl)))
+marked_by false budget before used expanded per_plan run r is passes mark same counted spends_all = mark
+
+-- what a plan used up of the run is the count of the run after it
+in_run : {per_plan used run : ℕ} (before : ℕ) → run ≡ before + used → (used ≡ per_plan) ⊎ (before + used ≡ 2 ^ 30) → (used ≡ per_plan) ⊎ (run ≡ 2 ^ 30)
+in_run before rises (inl all) = inl all
+in_run before rises (inr all) = inr (rises ∙ all)
+
+-- what is known of a plan, and of its record, is that it was searched
+module _ (means : Meaning Step) (w : World) (guide : Table) (start goal : ℕ) (how : SearchJob) (outputs : Outputs) (before : Option Carried) (begun final : Marks) (per_plan run used : ℕ) (planned : Planned Step) (section : Option Section) where
+  searched_by : (asked : Ask) (wanted : Bool) (plan : ℕ) (r : Result PlanRecord NoMemory) → IsBest w goal (distance_in guide) → Begins means w start before begun
+      → asked ≡ ask_of how outputs → ArePasses means (inquiry w (distance_in guide) goal asked) asked.first begun planned.passes final planned.spent
+      → IsResultOf (network_of w) (distance_in guide) goal final planned.outcome → per_plan ≡ how.budget → run ≡ expanded_before before + expansions planned.passes → used ≡ expansions planned.passes
+      → (planned.spent ≡ true → (expansions planned.passes ≡ per_plan) ⊎ (run ≡ 2 ^ 30))
+      → expansions planned.passes ≤ per_plan → run ≤ 2 ^ 30
+      → length planned.passes ≤ most_passes asked.step asked.first
+      → (planned.spent ≡ true → most_passes asked.step asked.first * (means.most * (network_of w).states) ≤ how.budget → run ≡ 2 ^ 30)
+      → wanted ≡ is_some outputs.labels → final.start ≡ start → IsThere wanted (IsShown (network_of w) (distance_in guide) final.start goal plan final planned.outcome) section
+      → IfOk r (λ x. x.plan ≡ plan) → IfOk r (λ x. x.passes ≡ planned.passes) → IfOk r (λ x. x.expanded ≡ used) → IfOk r (λ x. IsSameResult planned.outcome x.outcome) → IfOk r (λ x. x.labels ≡ section)
+      → IfOk r (λ x. MatchBool planned.spent (x.spent ≡ Some used) (x.spent ≡ None))
+      → IfOk r (IsSearched means w how outputs start goal before (record { map = w.map; labels = final; expanded = run }))
+  searched_by asked wanted plan (Err e) is_guide begins same passes outcome budget counted used_is spent within within_run few enough asks begins_at shown number copied expanded told kept mark = tt
+  searched_by asked wanted plan (Ok x) is_guide begins same passes outcome budget counted used_is spent within within_run few enough asks begins_at shown number copied expanded told kept mark =
+      let step = ap (λ (a : Ask). a.step) same in
+      let first = ap (λ (a : Ask). a.first) same in
+      record {
+        guide = distance_in guide;
+        is_guide = is_guide;
+        begun = begun;
+        begins = begins;
+        spent = planned.spent;
+        passes = rw copied (subst (λ (a : Ask). ArePasses means (inquiry w (distance_in guide) goal a) a.first begun planned.passes final planned.spent) same passes);
+        result = planned.outcome;
+        is_result = outcome;
+        told = told;
+        expanded = expanded ∙ used_is ∙ ap (λ ps. expansions ps) (sym copied);
+        counted = counted ∙ ap (λ ps. expanded_before before + expansions ps) (sym copied);
+        within_budget = omega (arith, expanded, used_is, budget, within);
+        within_run = within_run;
+        marked = marked_by planned.spent how.budget (expanded_before before) (expansions planned.passes) used per_plan run x used_is (ap (λ ps. expansions ps) copied) mark budget counted spent;
+        few = rw (copied, sym step, sym first) few;
+        ample = rw (sym step, sym first) enough;
+        labels = rw kept (subst (λ (b : Bool). IsThere b (IsShown (network_of w) (distance_in guide) start goal x.plan final planned.outcome) section) asks
+            (subst (λ (k : ℕ). IsThere wanted (IsShown (network_of w) (distance_in guide) start goal k final planned.outcome) section) (sym number)
+            (subst (λ (s : ℕ). IsThere wanted (IsShown (network_of w) (distance_in guide) s goal plan final planned.outcome) section) begins_at shown)));
+      }
+
+pub labels_of-requires-clause-found : goal.labels_of-requires-clause-found
+labels_of-requires-clause-found g c = rw (c.guide.ensures.value, c.labels.ensures.value, c.plan.ensures.guide, sym c.requires.set.goal_is) c.in_ok-planned.ensures.planned.outcome
+
+pub returns-clause-searched : goal.returns-clause-searched
+returns-clause-searched g c = λ before begins counted.
+    let means = g.S.Search.meaning in
+    let set = c.requires.set in
+    let planned = c.in_ok-planned.planned in
+    let made = c.in_ok-planned.ensures.planned in
+    let within = c.in_ok-planned.ensures.within in
+    let old = c.args.replanner.now in
+    let new = c.plan.new.self in
+    let guide : c.guide.result.now ≡ old.guide = c.guide.ensures.value ∙ c.plan.ensures.guide in
+    let rises : new.counts.run ≡ old.counts.run + expansions planned.passes = ap (λ (k : Counts). k.run) made.leaves.counted in
+    let run : new.counts.run ≡ expanded_before before + expansions planned.passes = rises ∙ ap (λ (n : ℕ). n + expansions planned.passes) (sym counted) in
+    let of_plan : new.counts.plan ≡ 0 + expansions planned.passes = ap (λ (k : Counts). k.plan) made.leaves.counted in
+    let used : c.expanded-expanded.result ≡ expansions planned.passes = omega (arith, c.expanded-expanded.ensures.value, of_plan) in
+    searched_by means c.args.lattice.now old.guide c.args.start c.args.goal c.args.how.now c.args.outputs.now before old.search.labels new.search.labels
+    old.counts.per_plan new.counts.run c.expanded-expanded.result planned c.in_ok-labels.labels c.ask_of-ask.result c.is_some.result c.args.plan c.record_of.result
+    (subst (λ (t : ℕ). IsBest c.args.lattice.now t (distance_in old.guide)) set.goal_is c.requires.ready.best) begins c.ask_of-ask.ensures.ask
+    (subst (λ (t : ℕ). ArePasses means (inquiry c.args.lattice.now (distance_in old.guide) t c.ask_of-ask.result) c.ask_of-ask.result.first old.search.labels planned.passes new.search.labels planned.spent) set.goal_is made.passes)
+    (subst (λ (t : ℕ). IsResultOf (network_of c.args.lattice.now) (distance_in old.guide) t new.search.labels planned.outcome) set.goal_is made.outcome)
+    set.budget_is run used (λ is. in_run old.counts.run rises (within.used_up is)) within.of_plan c.in_ok-planned.ensures.run made.few
+    (λ is ample. made.enough is (omega (arith, ample, set.budget_is)))
+    c.is_some.ensures (c.in_ok-planned.ensures.same.start ∙ set.start_is)
+    (subst (λ (m : Marks). IsThere c.is_some.result (IsShown (network_of c.args.lattice.now) (distance_in old.guide) m.start c.args.goal c.args.plan m planned.outcome) c.in_ok-labels.labels) c.labels.ensures.value
+    (subst (λ (t : Table). IsThere c.is_some.result (IsShown (network_of c.args.lattice.now) (distance_in t) c.labels.result.now.start c.args.goal c.args.plan c.labels.result.now planned.outcome) c.in_ok-labels.labels) guide c.in_ok-labels.ensures.shown))
+    c.record_of.ensures.number c.record_of.ensures.passes c.record_of.ensures.expanded c.record_of.ensures.told c.record_of.ensures.labels c.record_of.ensures.marked
+
+-- a plan that is not marked as spent was not
+unmarked : (spent : Bool) (expanded : ℕ) (x : PlanRecord) → MatchBool spent (x.spent ≡ Some expanded) (x.spent ≡ None) → x.spent ≡ None → spent ≡ false
+unmarked true expanded x mark is = cc
+unmarked false expanded x mark is = refl
+
+promises_by : (w : World) (start goal asked expanded : ℕ) (planned : Planned Step) (r : Result PlanRecord NoMemory) → IfOk r (λ x. Joins w start goal x.outcome) → IfOk r (λ x. IsWithinBound w start goal x.outcome) → IfOk r (λ x. IsNoneThere w start goal x.outcome)
+    → IfOk r (λ x. MatchBool planned.spent (x.spent ≡ Some expanded) (x.spent ≡ None)) → (planned.spent ≡ false → search.IsConclusive asked planned.outcome) → IfOk r (λ x. (a : ℕ) → search.IsConclusive a planned.outcome → IsKnownWithin a x.outcome) → IfOk r (KeepsPromises w start goal asked)
+promises_by w start goal asked expanded planned (Ok x) joins within none mark known answered = record {
+  joins = joins;
+  within_the_bound = within;
+  none = none;
+  unless_spent = λ is. answered asked (known (unmarked planned.spent expanded x mark is));
+}
+promises_by w start goal asked expanded planned (Err e) joins within none mark known answered = tt
+
+pub returns-clause-promises : goal.returns-clause-promises
+returns-clause-promises g c =
+    let bound = ap (λ (a : Ask). a.bound) c.ask_of-ask.ensures.ask in
+    promises_by _ _ _ _ _ c.in_ok-planned.planned _ c.record_of.ensures.joins c.record_of.ensures.within_the_bound c.record_of.ensures.none c.record_of.ensures.marked
+    (λ is. subst (λ (b : ℕ). search.IsConclusive b c.in_ok-planned.planned.outcome) bound (c.in_ok-planned.ensures.planned.answered is)) c.record_of.ensures.answered

@@ -1,0 +1,31 @@
+use Rattle.std.proofs.Common.{◌≡◌, ℕ, ◌+◌, ◌<◌, ◌≤◌, [], ◌∷◌, List, length, drop, get_or, subst, add-one, drop-cons}
+use Rattle.std.proofs.lemmas.List.{drop_all}
+use Rattle.sbpl_cost.specs.Lattices.{network_of}
+use Rattle.sbpl_cli.specs.Headline.{IsPathFrom}
+use Rattle.sbpl_cli.proofs.PathSteps.{Completes, all_done, one_more, path_behind}
+use Rattle.sbpl_cli.proofs.plan_record.steps_of.Goals as goal
+
+-- what is left begins with the element at hand
+left_is : (xs : List ℕ) (i : ℕ) → i < length xs → drop i xs ≡ get_or xs i 0 ∷ drop (i + 1) xs
+left_is xs i here = rw (add-one, drop-cons xs i 0)
+
+none_left : (xs : List ℕ) (i : ℕ) → length xs ≤ i → drop i xs ≡ []
+none_left xs i past = drop_all i xs past
+
+pub loop-arc-preserved : goal.loop-arc-preserved
+loop-arc-preserved c =
+    let w = c.args.lattice.now in
+    let split = left_is c.args.arcs.now c.loop-arc.arc-index c.loop-arc-test.true in
+    let left = subst (λ (l : List ℕ). IsPathFrom (network_of w) c.loop-arc.at l) split c.loop-arc.invariant.left in
+    let done = subst (λ (l : List ℕ). Completes w c.args.from c.args.arcs.now c.loop-arc.at l c.loop-arc.steps.items) split c.loop-arc.invariant.done in
+    record {
+      left = path_behind _ _ _ _ _ left c.step_of-head.ensures.head;
+      done = rw c.in_ok-push.ensures.items (one_more w _ _ _ _ _ _ _ _ done c.step_of-head.ensures.head c.step_of-head.ensures.step);
+    }
+
+pub returns : goal.returns
+returns c =
+    let w = c.args.lattice.now in
+    let over = none_left c.args.arcs.now c.loop-arc.arc-index c.loop-arc-test.false in
+    let done = subst (λ (l : List ℕ). Completes w c.args.from c.args.arcs.now c.loop-arc.at l c.loop-arc.steps.items) over c.loop-arc.invariant.done in
+    record { steps = rw c.of.ensures.steps (all_done w _ c.loop-arc.at _ _ done) }

@@ -1,0 +1,14 @@
+use Rattle.sbpl_job.specs.declared.job.Job.TheVariants as job
+use Rattle.sbpl_cli.specs.Intents.{Listed}
+use Rattle.sbpl_cli.proofs.Ends.{ended}
+use Rattle.sbpl_cli.proofs.Writings.{status_ends}
+use Rattle.sbpl_cli.proofs.sweep_job.end_sweep.Goals as goal
+use Rattle.sbpl_cli.proofs.Frames.{writes_after}
+
+pub returns-in-Ok-clause-ends : goal.returns-in-Ok-clause-ends
+returns-in-Ok-clause-ends g c =
+    ended _ (g.D.Desk.state c.read_lattice.new.desk) _ (job.Sweep c.args.from.now) (Listed c.in-Ok.lattice) _ (c.in-Ok.ensures.says, c.in-Ok.ensures.kept) c.read_lattice.ensures.frame
+    (status_ends _ _ _ _ _ _ c.write_listings.ensures.ends c.status_after.ensures.status) c.write_listings.ensures.frame.others
+
+pub returns-in-Ok-clause-frame : goal.returns-in-Ok-clause-frame
+returns-in-Ok-clause-frame g c = writes_after _ _ _ _ c.read_lattice.ensures.frame c.write_listings.ensures.frame

@@ -1,0 +1,89 @@
+//! The job `demo`: plans on an example that is drawn from a seed.
+
+ghost use Rattle.std.specs.Prelude.{◌≡◌, ◌∷◌, [], length};
+ghost use Rattle.sbpl_cost.specs.Lattices.{network_of};
+ghost use Rattle.sbpl_job.specs.Jobs.{IsDemoJob};
+ghost use Rattle.sbpl_job.specs.declared.job.Job.TheVariants as Jobs;
+ghost use Rattle.sbpl_cli.specs.Causes.{demo_search};
+ghost use Rattle.sbpl_cli.specs.Promises.{EndsJob};
+ghost use Rattle.sbpl_cli.specs.Report.{demo_text};
+ghost use Rattle.sbpl_cli.specs.Writing.{EndsIn, IsOutput, WritesOnly, to_output};
+
+use crate::drawn::draw;
+use crate::plans::make_plans;
+use crate::poses::ends_of;
+use crate::report::demo_line;
+use crate::telling::Lines;
+use crate::writing::{OUTPUT, status_after, write_text};
+use sbpl_cost::Lattice;
+use sbpl_desk::{Desk, WriteStop};
+use sbpl_fixed::NoMemory;
+use sbpl_graph::Graph;
+use sbpl_job::{DemoJob, Outputs, Planner, SearchJob};
+use sbpl_map::Changes;
+use std::alloc::Global;
+
+/// How a demonstration is planned.
+fn demo_search() -> SearchJob
+    ensures search { result ≡ demo_search }
+{
+    SearchJob {
+        planner: Planner::AdStar,
+        first: 3000,
+        step: 500,
+        bound: 1000,
+        budget: 1 << 30,
+    }
+}
+
+/// Writes the first line of a demonstration.
+fn write_first<D: Desk>(
+    alloc: Global,
+    lattice: &Lattice,
+    changes: &Changes,
+    desk: &mut D,
+) -> Result<(), WriteStop>
+    ensures ends { EndsIn (D.state desk.old) (D.state desk.new) (to_output (demo_text (network_of lattice.now).states (length lattice.now.prims.items) (length changes.now)) ∷ []) result }
+    ensures frame { WritesOnly IsOutput (D.state desk.old) (D.state desk.new) }
+{
+    let line = demo_line(
+        alloc,
+        lattice.states(),
+        lattice.prims().len(),
+        changes.batches(),
+    );
+    match line {
+        Ok(line) => write_text(OUTPUT, line.as_slice(), desk),
+        Err(NoMemory) => Err(WriteStop::NoMemory),
+    }
+}
+
+/// Draws an example, plans on it, writes a line for each plan, and answers the status. Nothing is read from the desk.
+pub(crate) fn end_demo<D: Desk>(alloc: Global, job: &DemoJob, desk: &mut D) -> u8
+    requires range { IsDemoJob job.now }
+    ensures ends { EndsJob (D.state desk.old) (D.state desk.new) (Jobs.Demo job.now) result }
+    ensures frame { WritesOnly IsOutput (D.state desk.old) (D.state desk.new) }
+{
+    let Ok((mut lattice, changes)) = draw(alloc, job) else {
+        return 9;
+    };
+    let (start, goal) = ends_of(&lattice);
+    if let Err(stop) = write_first(alloc, &lattice, &changes, desk) {
+        return status_after(Err(stop), 9);
+    }
+    let outputs = Outputs {
+        labels: None,
+        trace: None,
+    };
+    make_plans(
+        alloc,
+        &mut lattice,
+        &changes,
+        &demo_search(),
+        &outputs,
+        start,
+        goal,
+        &Lines,
+        desk,
+    )
+}

@@ -1,0 +1,39 @@
+//! The job `plan`.
+
+ghost use Rattle.std.specs.Prelude.{IfErr, IfOk, OnErr};
+ghost use Rattle.sbpl_job.specs.Jobs.{IsJob};
+ghost use Rattle.sbpl_job.specs.declared.job.Job.TheVariants as Jobs;
+ghost use Rattle.sbpl_cli.specs.Causes.{JobStopsFor};
+ghost use Rattle.sbpl_cli.specs.Promises.{EndsJob};
+ghost use Rattle.sbpl_cli.specs.Writing.{IsOutputOf, ReadsOnly, WritesOnly};
+
+use crate::lattice::read_course;
+use crate::plans::make_plans;
+use crate::poses::ends_of;
+use crate::refusal::Stop;
+use sbpl_desk::Desk;
+use sbpl_job::PlanJob;
+use std::alloc::Global;
+
+/// Makes the plans of a job, writes what came of it, and answers the status; or answers why nothing was written.
+pub(crate) fn end_plan<D: Desk>(alloc: Global, job: &PlanJob, desk: &mut D) -> Result<u8, Stop>
+    requires range { IsJob (Jobs.Plan job.now) }
+    ensures ends { IfOk result (EndsJob (D.state desk.old) (D.state desk.new) (Jobs.Plan job.now)) }
+    ensures stop { IfErr result (JobStopsFor (D.state desk.old) (D.state desk.new) (Jobs.Plan job.now)) }
+    ensures unwritten { OnErr result (ReadsOnly (D.state desk.old) (D.state desk.new)) }
+    ensures frame { WritesOnly (IsOutputOf job.now.outputs) (D.state desk.old) (D.state desk.new) }
+{
+    let (mut lattice, changes) = read_course(alloc, &job.sources, &job.changes, desk)?;
+    let (start, goal) = ends_of(&lattice);
+    Ok(make_plans(
+        alloc,
+        &mut lattice,
+        &changes,
+        &job.search,
+        &job.outputs,
+        start,
+        goal,
+        &job.outputs,
+        desk,
+    ))
+}

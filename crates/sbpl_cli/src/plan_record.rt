@@ -1,0 +1,200 @@
+//! One plan on a lattice.
+
+ghost use Rattle.std.specs.Prelude.{◌≡◌, ◌<◌, ℕ, IfOk, IsSome, MatchBool, None, Option, Some};
+ghost use Rattle.sbpl_cost.specs.Lattices.{network_of};
+ghost use Rattle.sbpl_cli.specs.Headline.{AreSteps, Begins, Carried, IsKnownWithin, IsNoneThere, IsPathFrom, IsSearched, IsPathStep, IsWithinBound, KeepsPromises, Joins, JoinsStates, IsSameResult, expanded_before};
+ghost use Rattle.sbpl_cli.specs.Planning.{IsSetFor, carried_of};
+ghost use Rattle.sbpl_job.specs.Jobs.{IsSearchJob};
+ghost use Rattle.sbpl_cli.specs.Asked.{ask_of};
+ghost use Rattle.sbpl_plan.specs.Outcomes.{IsTrueOutcome};
+ghost use Rattle.sbpl_plan.specs.Outcomes as Conclusions;
+ghost use Rattle.sbpl_replan.specs.Replanning.{IsReadyIn};
+ghost use Rattle.sbpl_plan.specs.declared.result.Outcome.TheVariants as Results;
+
+use crate::labels::labels_of;
+use crate::parts::Steps;
+use crate::record::{Outcome, PathRecord, PathStep, PlanRecord};
+use sbpl_cert::LabelSet;
+use sbpl_cost::Lattice;
+use sbpl_fixed::NoMemory;
+use sbpl_graph::Graph;
+use sbpl_heur::Best;
+use sbpl_job::{Outputs, SearchJob};
+use sbpl_plan::{Arcs, Ask, Planned};
+use sbpl_replan::Replanner;
+use sbpl_search::Search;
+use std::alloc::Global;
+
+/// The state that an arc leads to, and the step that it is.
+fn step_of(lattice: &Lattice, from: u32, arc: u32) -> (u32, PathStep)
+    requires state { from < (network_of lattice.now).states }
+    requires number { arc < (network_of lattice.now).fan from }
+    requires head { IsSome ((network_of lattice.now).head from arc) }
+    ensures head { (network_of lattice.now).head from arc ≡ Some result.0 }
+    ensures step { IsPathStep lattice.now from arc result.0 result.1 }
+{
+    let id = lattice.prim_id(lattice.prim_of(from, arc));
+    let head = lattice.head(from, arc).unwrap();
+    let place = lattice.place_of(head);
+    (head, PathStep { id, place })
+}
+
+/// The steps of the free path that these arcs are, from a state.
+fn steps_of(alloc: Global, lattice: &Lattice, from: u32, arcs: &[u32]) -> Result<Steps, NoMemory>
+    requires path { IsPathFrom (network_of lattice.now) from arcs.now }
+    ensures steps { IfOk result (AreSteps lattice.now from arcs.now) }
+{
+    let mut steps = Vec::with_capacity(alloc, arcs.len())?;
+    let mut at = from;
+    for arc in arcs {
+        let (head, step) = step_of(lattice, at, *arc);
+        steps.push(step)?;
+        at = head;
+    }
+    Ok(Steps::of(steps))
+}
+
+/// A path that a search found, step by step.
+fn path_of(
+    alloc: Global,
+    lattice: &Lattice,
+    start: u32,
+    goal: u32,
+    arcs: Arcs,
+    cost: u64,
+    bound: u128,
+) -> Result<PathRecord, NoMemory>
+    requires state { start < (network_of lattice.now).states }
+    requires so { IsTrueOutcome (network_of lattice.now) start goal (Results.Path arcs cost bound) }
+    ensures joins { IfOk result (JoinsStates lattice.now start goal) }
+    ensures arcs { IfOk result (λ p. p.arcs ≡ arcs) }
+    ensures cost { IfOk result (λ p. p.cost ≡ cost) }
+    ensures bound { IfOk result (λ p. p.bound ≡ bound) }
+{
+    let steps = steps_of(alloc, lattice, start, arcs.as_slice())?;
+    Ok(PathRecord {
+        cost,
+        bound,
+        start: lattice.place_of(start),
+        steps,
+        arcs,
+    })
+}
+
+/// The result of a plan, told step by step.
+fn outcome_of(
+    alloc: Global,
+    lattice: &Lattice,
+    start: u32,
+    goal: u32,
+    found: sbpl_plan::Outcome,
+) -> Result<Outcome, NoMemory>
+    requires state { start < (network_of lattice.now).states }
+    requires so { IsTrueOutcome (network_of lattice.now) start goal found }
+    ensures told { IfOk result (IsSameResult found) }
+    ensures joins { IfOk result (Joins lattice.now start goal) }
+    ensures within_the_bound { IfOk result (IsWithinBound lattice.now start goal) }
+    ensures none { IfOk result (IsNoneThere lattice.now start goal) }
+    ensures answered { IfOk result (λ o. (asked : ℕ) → Conclusions.IsConclusive asked found → IsKnownWithin asked o) }
+{
+    match found {
+        sbpl_plan::Outcome::Path { arcs, cost, bound } => Ok(Outcome::Path(path_of(
+            alloc, lattice, start, goal, arcs, cost, bound,
+        )?)),
+        sbpl_plan::Outcome::NoPath => Ok(Outcome::NoPath),
+        sbpl_plan::Outcome::Unknown => Ok(Outcome::Unknown),
+    }
+}
+
+/// What a search is asked for.
+fn ask_of(how: &SearchJob, outputs: &Outputs) -> Ask
+    ensures ask { result ≡ ask_of how.now outputs.now }
+{
+    Ask {
+        first: how.first,
+        step: how.step,
+        bound: how.bound,
+        traced: outputs.trace.is_some(),
+    }
+}
+
+/// How many states were expanded, where the last pass was spent.
+fn mark_of(spent: bool, expanded: u64) -> Option<u64>
+    ensures mark { MatchBool spent (result ≡ Some expanded) (result ≡ None) }
+{
+    if spent { Some(expanded) } else { None }
+}
+
+/// The record of plan `plan`, which expanded this number of states.
+fn record_of(
+    alloc: Global,
+    lattice: &Lattice,
+    start: u32,
+    goal: u32,
+    plan: u32,
+    planned: Planned<sbpl_serial::Step>,
+    expanded: u64,
+    labels: Option<LabelSet>,
+) -> Result<PlanRecord, NoMemory>
+    requires state { start < (network_of lattice.now).states }
+    requires so { IsTrueOutcome (network_of lattice.now) start goal planned.outcome }
+    ensures number { IfOk result (λ r. r.plan ≡ plan) }
+    ensures passes { IfOk result (λ r. r.passes ≡ planned.passes) }
+    ensures expanded { IfOk result (λ r. r.expanded ≡ expanded) }
+    ensures told { IfOk result (λ r. IsSameResult planned.outcome r.outcome) }
+    ensures labels { IfOk result (λ r. r.labels ≡ labels) }
+    ensures marked { IfOk result (λ r. MatchBool planned.spent (r.spent ≡ Some expanded) (r.spent ≡ None)) }
+    ensures joins { IfOk result (λ r. Joins lattice.now start goal r.outcome) }
+    ensures within_the_bound { IfOk result (λ r. IsWithinBound lattice.now start goal r.outcome) }
+    ensures none { IfOk result (λ r. IsNoneThere lattice.now start goal r.outcome) }
+    ensures answered { IfOk result (λ r. (asked : ℕ) → Conclusions.IsConclusive asked planned.outcome → IsKnownWithin asked r.outcome) }
+{
+    let outcome = outcome_of(alloc, lattice, start, goal, planned.outcome)?;
+    Ok(PlanRecord {
+        plan,
+        passes: planned.passes,
+        expanded,
+        spent: mark_of(planned.spent, expanded),
+        outcome,
+        labels,
+    })
+}
+
+/// Makes plan `plan` on the present map of a lattice, and its record.
+pub(crate) fn make_record<S: Search<Lattice, Best, Note = sbpl_serial::Step> + Drop>(
+    alloc: Global,
+    lattice: &Lattice,
+    replanner: &mut Replanner<S>,
+    how: &SearchJob,
+    outputs: &Outputs,
+    start: u32,
+    goal: u32,
+    plan: u32,
+) -> Result<PlanRecord, NoMemory>
+    requires start { start < (network_of lattice.now).states }
+    requires goal { goal < (network_of lattice.now).states }
+    requires search { IsSearchJob how.now }
+    requires ready { IsReadyIn S.meaning lattice.now replanner.old }
+    requires set { IsSetFor how.now start goal replanner.old }
+    ensures number { IfOk result (λ r. r.plan ≡ plan) }
+    ensures promises { IfOk result (KeepsPromises lattice.now start goal how.now.bound) }
+    ensures searched { (before : Option Carried) → Begins S.meaning lattice.now start before replanner.old.search.labels → expanded_before before ≡ replanner.old.counts.run
+        → IfOk result (IsSearched S.meaning lattice.now how.now outputs.now start goal before (carried_of lattice.now replanner.new)) }
+    ensures ready { IfOk result (λ _. IsReadyIn S.meaning lattice.now replanner.new) }
+    ensures set { IfOk result (λ _. IsSetFor how.now start goal replanner.new) }
+{
+    let ask = ask_of(how, outputs);
+    let planned = replanner.plan(alloc, lattice, &ask)?;
+    let labels = labels_of(
+        alloc,
+        lattice,
+        replanner.guide(),
+        replanner.labels(),
+        goal,
+        plan,
+        &planned.outcome,
+        outputs.labels.is_some(),
+    )?;
+    let expanded = replanner.expanded();
+    record_of(alloc, lattice, start, goal, plan, planned, expanded, labels)
+}

@@ -1,0 +1,70 @@
+//! The section of a plan, read and checked.
+
+ghost use Rattle.std.specs.Prelude.{◌<◌, ◌≤◌, length, IfErr, IfOk};
+ghost use Rattle.sbpl_fixed.specs.Formats.{start_at};
+ghost use Rattle.sbpl_fixed.specs.Tokens.{tokens_from};
+ghost use Rattle.sbpl_cost.specs.Lattices.{network_of};
+ghost use Rattle.sbpl_cert.specs.Text.{AreTokensOf, IsOf};
+ghost use Rattle.sbpl_cli.specs.Checked.{IsReadStop, IsSectionStop, IsShownHolding};
+
+use sbpl_cert::{Flaw, LabelFault, LabelSet, Outcome, check, read_labels};
+use sbpl_cost::Lattice;
+use sbpl_graph::Graph;
+use std::alloc::Global;
+
+/// Why the checking of sections ends before the last line.
+#[derive(Clone, Copy, Debug, PartialEq, Eq)]
+pub enum SectionStop {
+    /// A section has this first flaw.
+    Flaw(Flaw),
+    /// The text has this first fault.
+    Fault(LabelFault),
+    /// Memory ran out.
+    NoMemory,
+}
+
+/// Reads the section of a plan.
+fn read_section(
+    alloc: Global,
+    text: &[u8],
+    at: usize,
+    plan: u32,
+    states: u32,
+) -> Result<(LabelSet, usize), SectionStop>
+    requires at { at ≤ length text.now }
+    ensures of { IfOk result (λ x. IsOf plan states x.0) }
+    ensures tokens { IfOk result (λ x. AreTokensOf (tokens_from text.now at) x.0 (tokens_from text.now x.1)) }
+    ensures inside { IfOk result (λ x. x.1 ≤ length text.now) }
+    ensures stop { IfErr result (IsReadStop plan states (start_at text.now at)) }
+{
+    match read_labels(alloc, text, at, plan, states) {
+        Ok(read) => Ok(read),
+        Err(LabelFault::NoMemory) => Err(SectionStop::NoMemory),
+        Err(fault) => Err(SectionStop::Fault(fault)),
+    }
+}
+
+/// Reads the section of a plan and checks it on the lattice. Answers what the plan answered, and the offset after the
+/// section.
+pub(crate) fn check_section(
+    alloc: Global,
+    lattice: &Lattice,
+    start: u32,
+    goal: u32,
+    plan: u32,
+    text: &[u8],
+    at: usize,
+) -> Result<(Outcome, usize), SectionStop>
+    requires start { start < (network_of lattice.now).states }
+    requires goal { goal < (network_of lattice.now).states }
+    requires at { at ≤ length text.now }
+    ensures holds { IfOk result (λ x. IsShownHolding (network_of lattice.now) start goal plan (start_at text.now at) x.0 (start_at text.now x.1)) }
+    ensures inside { IfOk result (λ x. x.1 ≤ length text.now) }
+    ensures stop { IfErr result (IsSectionStop (network_of lattice.now) start goal plan (start_at text.now at)) }
+{
+    let (section, next) = read_section(alloc, text, at, plan, lattice.states())?;
+    match check(lattice, start, goal, &section) {
+        Ok(()) => Ok((section.outcome, next)),
+        Err(flaw) => Err(SectionStop::Flaw(flaw)),
+    }
+}
