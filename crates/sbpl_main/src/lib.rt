@@ -1,6 +1,8 @@
 //! The program from its start: words that ask for help, and words that name a job.
 #![tactic(auto)]
 
+mod answering;
 mod program;
 
-pub use program::{answer, start};
+pub use answering::answer;
+pub use program::start;

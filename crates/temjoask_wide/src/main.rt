@@ -1,4 +1,4 @@
-//! A run of the program that asks for its version. It is here to be tested.
+//! A run of the program for a robot that is too wide, which only a setting says. It is here to be tested: it ends with status 4.
 #![tactic(auto)]
 
 use sbpl_main::start;
