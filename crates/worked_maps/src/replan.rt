@@ -35,7 +35,9 @@ fn search_on(alloc: Global, lattice: &Lattice) -> Option<(Ara, u32)>
     let env = lattice.env();
     let start = lattice.state_of(&place_at(env, &env.start)?)?;
     let goal = lattice.state_of(&place_at(env, &env.end)?)?;
-    let search = Ara::open(alloc, lattice.states(), start, goal).ok()?;
+    let Ok(search) = Ara::open(alloc, lattice.states(), start, goal) else {
+        return None;
+    };
     Some((search, goal))
 }
 
