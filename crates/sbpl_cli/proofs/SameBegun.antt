@@ -1,5 +1,5 @@
 -- The labels that a plan begins with are one.
-use Rattle.std.proofs.Common.{◌≡◌, ◌≢◌, ℕ, ◌<◌, ◌↔◌, Bool, true, false, Option, Some, None, List, ⊎_elim, sym, ap, subst, ◌∙◌}
+use Rattle.std.proofs.Common.{◌≡◌, ℕ, ◌↔◌, true, Option, Some, None, sym, subst, ◌∙◌}
 use Rattle.std.specs.List.{Contains}
 use Rattle.sbpl_graph.specs.Network.{Network}
 use Rattle.sbpl_cfg.specs.Environment.{Environment}
@@ -10,10 +10,9 @@ use Rattle.sbpl_cost.specs.Lattices.{network_of, states_are}
 use Rattle.sbpl_cost.specs.Reading.{IsHeadReading}
 use Rattle.sbpl_cost.specs.States.{state_count}
 use Rattle.sbpl_change.specs.Affected.{IsAffected}
-use Rattle.sbpl_labels.specs.Marks.{AreInitial, Marks, states_of, g_of, v_of, back_of, row_at}
+use Rattle.sbpl_labels.specs.Marks.{AreInitial, Marks, states_of, back_of}
 use Rattle.sbpl_search.specs.Determined.{AreBeginningsDetermined}
 use Rattle.sbpl_search.specs.Meaning.{Meaning}
-use Rattle.sbpl_serial.specs.declared.step.Step.{Step}
 use Rattle.sbpl_serial.specs.Determined.{InitialLabelsAreOne}
 use Rattle.sbpl_replan.specs.Replanning.{BeginsWith}
 use Rattle.sbpl_cli.specs.Headline.{Begins, Carried}
@@ -56,7 +55,7 @@ module _ (e : Environment) (ps : Primitives) (sweeps others : Swept) (radius : s
         let own : AreInitial b (network_of (made e ps sweeps m)).states start = rw same y in
         record { same = initial a b _ start x own; states = x.states ∙ states_are (made e ps sweeps m); no_arc = x.no_arc a.start }
 
-    module _ (means : Meaning Step) (law : AreBeginningsDetermined means) where
+    module _ {Note : Type 0} (means : Meaning Note) (law : AreBeginningsDetermined means) where
       with_begun : (m : CellMap) (left : Carried) (a b : Marks) → network_of (made e ps sweeps m) ≡ network_of (made e ps others m) → IsCarried left
           → BeginsWith means (made e ps sweeps left.map) (made e ps sweeps m) left.labels a → BeginsWith means (made e ps others left.map) (made e ps others m) left.labels b
           → AreBegun e a b

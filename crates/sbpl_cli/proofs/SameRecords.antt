@@ -1,5 +1,5 @@
 -- The record of a plan is one, and so are the records of plans in turn.
-use Rattle.std.proofs.Common.{◌≡◌, ℕ, ◌+◌, ◌^◌, ◌<◌, ◌≤◌, ◌⊎◌, Bool, true, false, Option, Some, None, List, [], ◌∷◌, ◌++◌, append-nil, length, inl, inr, refl, sym, ap, subst, ◌∙◌, arith}
+use Rattle.std.proofs.Common.{map, ◌≡◌, ℕ, ◌+◌, ◌^◌, ◌<◌, ◌≤◌, ◌⊎◌, Bool, true, false, Option, Some, None, List, [], ◌∷◌, ◌++◌, append-nil, length, inl, inr, refl, sym, ap, subst, ◌∙◌, arith}
 use Rattle.std.proofs.lemmas.Bool.{MatchBool-at_true}
 use Rattle.std.proofs.lemmas.List.{ext_get_or, length-append, nil_from_length}
 use Rattle.std.proofs.lemmas.Option.{same_Some}
@@ -22,7 +22,8 @@ use Rattle.sbpl_cert.specs.declared.row.Row.{Row}
 use Rattle.sbpl_labels.specs.Marks.{Marks, states_of, g_of, v_of, back_of}
 use Rattle.sbpl_search.specs.Determined.{AreAlikeGuides, AreBeginningsDetermined, AreDetermined}
 use Rattle.sbpl_search.specs.Meaning.{Meaning}
-use Rattle.sbpl_serial.specs.declared.step.Step as expansion
+use Rattle.sbpl_cli.specs.declared.record.TraceLine.{TraceLine}
+use Rattle.sbpl_cli.specs.Traces.{traced_pass}
 use Rattle.sbpl_serial.specs.Determined.{InitialLabelsAreOne}
 use Rattle.sbpl_ara.specs.Planner.{ara}
 use Rattle.sbpl_adstar.specs.Planner.{adstar}
@@ -42,7 +43,7 @@ use Rattle.sbpl_cli.specs.declared.record.PathStep.{PathStep}
 use Rattle.sbpl_cli.specs.declared.record.Outcome.{Outcome}
 use Rattle.sbpl_cli.specs.declared.record.Outcome.TheVariants as outcome
 use Rattle.sbpl_cli.specs.declared.record.PlanRecord.{PlanRecord}
-use Rattle.sbpl_cli.specs.Asked.{ask_of, means_of}
+use Rattle.sbpl_cli.specs.Asked.{Known, ask_of, known}
 use Rattle.sbpl_cli.specs.Headline.{ArePlans, AreRecords, AreSteps, Carried, IsMarked, IsPlanOf, IsSearched, Joins, IsSameResult, expanded_before}
 use Rattle.sbpl_cli.specs.Determined.{FewAreFirst, RecordsAreOne}
 use Rattle.sbpl_cli.specs.Shown.{IsShown, IsThere}
@@ -159,13 +160,22 @@ passes_placed means law q (p ∷ ps) eps old new spent (inr made) =
       no_arc = λ none. rest.no_arc (law.no_arc (query_at q eps) old made.0 made.1.notes made.1.leads none);
     }
 
+-- passes that are told expanded as much
+pub expansions_traced : {Note : Type 0} (line : Note → TraceLine) (ps : List (Pass Note)) → expansions (map (traced_pass line) ps) ≡ expansions ps
+expansions_traced line [] = refl
+expansions_traced line (p ∷ ps) = ap (λ (n : ℕ). p.expanded + n) (expansions_traced line ps)
+
+as_many : {by : Known} {w : World} {how : SearchJob} {outputs : Outputs} {start goal : ℕ} {before : Option Carried} {carried : Carried} {r : PlanRecord}
+    → (x : IsSearched by w how outputs start goal before carried r) → expansions r.passes ≡ expansions x.notes
+as_many {by} x = ap expansions x.lines ∙ expansions_traced by.line x.notes
+
 -- what a plan expanded is within its budget and what the run had left
-within_room : {means : Meaning expansion.Step} {w : World} {how : SearchJob} {outputs : Outputs} {start goal : ℕ} {before : Option Carried} {carried : Carried} {r : PlanRecord}
-    → (x : IsSearched means w how outputs start goal before carried r) → AreWithin how.budget (expanded_before before) r.passes x.spent
-within_room {means} {w} {how} {outputs} {start} {goal} {before} {carried} {r} x = record {
-  of_plan = omega (arith, x.within_budget, x.expanded);
-  of_run = omega (arith, x.within_run, x.counted);
-  used_up = λ is. (MatchBool-at_true ((r.spent ≡ Some (expansions r.passes)) × ((expansions r.passes ≡ how.budget) ⊎ (expanded_before before + expansions r.passes ≡ 2 ^ 30))) (r.spent ≡ None) is x.marked).1;
+within_room : {by : Known} {w : World} {how : SearchJob} {outputs : Outputs} {start goal : ℕ} {before : Option Carried} {carried : Carried} {r : PlanRecord}
+    → (x : IsSearched by w how outputs start goal before carried r) → AreWithin how.budget (expanded_before before) x.notes x.spent
+within_room {by} {w} {how} {outputs} {start} {goal} {before} {carried} {r} x = record {
+  of_plan = omega (arith, x.within_budget, x.expanded, as_many x);
+  of_run = omega (arith, x.within_run, x.counted, as_many x);
+  used_up = λ is. rw (← as_many x) (MatchBool-at_true ((r.spent ≡ Some (expansions r.passes)) × ((expansions r.passes ≡ how.budget) ⊎ (expanded_before before + expansions r.passes ≡ 2 ^ 30))) (r.spent ≡ None) is x.marked).1;
 }
 
 -- two plans have one record, leave the same, and what they leave is carried on
@@ -177,28 +187,28 @@ pub record AreOneRecord (e : Environment) (carried other : Carried) (r u : PlanR
   pub no_arc : back_of carried.labels carried.labels.start ≡ None
 
 -- what is known of a planner whose plans are determined
-pub record IsPlannerDetermined (means : Meaning expansion.Step) : Type 0 where
+pub record IsPlannerDetermined {Note : Type 0} (means : Meaning Note) : Type 0 where
   pub passes : AreDetermined means
   pub beginnings : AreBeginningsDetermined means
   pub plans : PassesAreOne means
 
-module _ (means : Meaning expansion.Step) (law : IsPlannerDetermined means) (initial : InitialLabelsAreOne) (one_result : OutcomesAreOne) (e : Environment) (ps : Primitives) (sweeps others : Swept)
+module _ (by : Known) (law : IsPlannerDetermined by.means) (initial : InitialLabelsAreOne) (one_result : OutcomesAreOne) (e : Environment) (ps : Primitives) (sweeps others : Swept)
     (radius : sweeps.radius ≡ others.radius) where
   one_record : (m : CellMap) (how : SearchJob) (outputs : Outputs) (start goal : ℕ) (before : Option Carried) (carried other : Carried) (r u : PlanRecord)
       → network_of (made e ps sweeps m) ≡ network_of (made e ps others m) → AreCarried e ps sweeps others radius before → r.plan ≡ u.plan
       → Joins (made e ps sweeps m) start goal r.outcome → Joins (made e ps others m) start goal u.outcome
-      → IsSearched means (made e ps sweeps m) how outputs start goal before carried r → IsSearched means (made e ps others m) how outputs start goal before other u
+      → IsSearched by (made e ps sweeps m) how outputs start goal before carried r → IsSearched by (made e ps others m) how outputs start goal before other u
       → AreOneRecord e carried other r u
   one_record m how outputs start goal before carried other r u same begins_alike number joins joins' x y =
       let n : Network = network_of (made e ps sweeps m) in
       let ask : Ask = ask_of how outputs in
       let q : Inquiry = record { network = n; guide = x.guide; goal = goal; ask = ask } in
-      let begun = one_begun e ps sweeps others radius initial means law.beginnings m start before x.begun y.begun same begins_alike x.begins y.begins in
+      let begun = one_begun e ps sweeps others radius initial by.means law.beginnings m start before x.begun y.begun same begins_alike x.begins y.begins in
       let guides : (s : ℕ) → s < state_count e → x.guide s ≡ y.guide s = one_best e ps sweeps others m goal x.guide y.guide same x.is_guide y.is_guide in
       let alike : AreAlikeGuides (states_of x.begun) x.guide y.guide = λ s inside. guides s (subst (λ (count : ℕ). s < count) begun.states inside) in
-      let passes : ArePasses means (record { network = n; guide = y.guide; goal = goal; ask = ask }) how.first x.begun u.passes other.labels y.spent = rw (same, begun.same) y.passes in
-      let one = law.plans q y.guide how.budget (expanded_before before) how.first x.begun carried.labels other.labels r.passes u.passes x.spent y.spent begun.no_arc alike x.passes passes (within_room x) (within_room y) in
-      let placed = passes_placed means law.passes q r.passes how.first x.begun carried.labels x.spent x.passes in
+      let passes : ArePasses by.means (record { network = n; guide = y.guide; goal = goal; ask = ask }) how.first x.begun y.notes other.labels y.spent = rw (same, begun.same) y.passes in
+      let one = law.plans q y.guide how.budget (expanded_before before) how.first x.begun carried.labels other.labels x.notes y.notes x.spent y.spent begun.no_arc alike x.passes passes (within_room x) (within_room y) in
+      let placed = passes_placed by.means law.passes q x.notes how.first x.begun carried.labels x.spent x.passes in
       let no_arc : back_of carried.labels carried.labels.start ≡ None = placed.no_arc begun.no_arc in
       let states : states_of carried.labels ≡ state_count e = placed.states ∙ begun.states in
       let at_end : AreAlikeGuides (states_of carried.labels) x.guide y.guide = λ s inside. guides s (subst (λ (count : ℕ). s < count) states inside) in
@@ -206,7 +216,8 @@ module _ (means : Meaning expansion.Step) (law : IsPlannerDetermined means) (ini
       let results : x.result ≡ y.result = one_result n x.guide y.guide goal carried.labels x.result y.result no_arc at_end x.is_result is_result in
       let told : IsSameResult x.result u.outcome = rw results y.told in
       let outcomes : r.outcome ≡ u.outcome = one_told e ps sweeps others m same start goal x.result r.outcome u.outcome x.told told joins joins' in
-      let counts : expansions r.passes ≡ expansions u.passes = ap expansions one.passes in
+      let all : r.passes ≡ u.passes = x.lines ∙ ap (map (traced_pass by.line)) one.passes ∙ sym y.lines in
+      let counts : expansions r.passes ≡ expansions u.passes = ap expansions all in
       let expanded : r.expanded ≡ u.expanded = x.expanded ∙ counts ∙ sym y.expanded in
       let marked : IsMarked how.budget (expanded_before before) x.spent u = rw one.both y.marked in
       let spent : r.spent ≡ u.spent = one_mark how.budget (expanded_before before) x.spent r u counts x.marked marked in
@@ -216,7 +227,7 @@ module _ (means : Meaning expansion.Step) (law : IsPlannerDetermined means) (ini
       (λ s t. one_section at_end s t) x.labels shown
       in
       record {
-        record_is = λ i. record { plan = number i; passes = one.passes i; expanded = expanded i; spent = spent i; outcome = outcomes i; labels = labels i };
+        record_is = λ i. record { plan = number i; passes = all i; expanded = expanded i; spent = spent i; outcome = outcomes i; labels = labels i };
         labels = one.labels;
         expanded = x.counted ∙ ap (λ (count : ℕ). expanded_before before + count) counts ∙ sym y.counted;
         states = states;
@@ -228,7 +239,7 @@ module _ (means : Meaning expansion.Step) (law : IsPlannerDetermined means) (ini
   module _ (one_map : OneMap) (one_graph : AlikeWorldsAreOneGraph) (first : CellMap) (batches : List (List Write)) (how : SearchJob) (outputs : Outputs) (start goal : ℕ) where
     -- records of plans from one on are the first of any others from it on that are no fewer
     pub one_records : (rs us : List PlanRecord) (k : ℕ) (before : Option Carried) → AreCarried e ps sweeps others radius before → length rs ≤ length us
-        → AreRecords means (made e ps sweeps first) batches how outputs start goal k before rs → AreRecords means (made e ps others first) batches how outputs start goal k before us
+        → AreRecords by (made e ps sweeps first) batches how outputs start goal k before rs → AreRecords by (made e ps others first) batches how outputs start goal k before us
         → (rest : List PlanRecord) × (us ≡ rs ++ rest)
     one_records [] us k before begins_alike no_fewer left right = (us, refl)
     one_records (r ∷ rs) [] k before begins_alike no_fewer left right = absurd (omega arith)
@@ -236,14 +247,14 @@ module _ (means : Meaning expansion.Step) (law : IsPlannerDetermined means) (ini
         let carried : Carried = left.0 in
         let other : Carried = right.0 in
         let maps : carried.map ≡ other.map = one_map first carried.map other.map batches k left.2.is_world.map right.2.is_world.map left.1 right.1 in
-        let plan : IsPlanOf means (made e ps others carried.map) how outputs start goal k before other u = rw maps right.2 in
+        let plan : IsPlanOf by (made e ps others carried.map) how outputs start goal k before other u = rw maps right.2 in
         let same : network_of (made e ps sweeps carried.map) ≡ network_of (made e ps others carried.map) =
         one_graph (made e ps others carried.map) (made e ps sweeps carried.map) plan.is_world left.2.is_world refl refl refl radius
         in
         let one = one_record carried.map how outputs start goal before carried other r u same begins_alike (left.2.number ∙ sym plan.number) left.2.promises.joins plan.promises.joins left.2.searched plan.searched in
         let both : carried ≡ other = λ i. record { map = maps i; labels = one.labels i; expanded = one.expanded i } in
         let later : AreCarried e ps sweeps others radius (Some carried) = record { states = one.states; no_arc = one.no_arc; graph = same } in
-        let further : AreRecords means (made e ps others first) batches how outputs start goal (k + 1) (Some carried) us = rw both right.3 in
+        let further : AreRecords by (made e ps others first) batches how outputs start goal (k + 1) (Some carried) us = rw both right.3 in
         let behind_them = one_records rs us (k + 1) (Some carried) later (omega arith) left.3 further in
         let same_record : u ≡ r = sym one.record_is in
         let same_rest : us ≡ rs ++ behind_them.0 = behind_them.1 in
@@ -258,24 +269,24 @@ whole_front rs us rest parted as_many =
     let none : rest ≡ [] = nil_from_length rest (omega arith) in
     sym (parted ∙ ap (λ (l : List PlanRecord). rs ++ l) none ∙ append-nil rs)
 
-first_list : ((p : Planner) → IsPlannerDetermined (means_of p)) → InitialLabelsAreOne → OutcomesAreOne → OneMap → AlikeWorldsAreOneGraph → (e : Environment) (ps : Primitives) (sweeps others : Swept) (m : CellMap) → sweeps.radius ≡ others.radius
+first_list : ((p : Planner) → IsPlannerDetermined (known p).means) → InitialLabelsAreOne → OutcomesAreOne → OneMap → AlikeWorldsAreOneGraph → (e : Environment) (ps : Primitives) (sweeps others : Swept) (m : CellMap) → sweeps.radius ≡ others.radius
     → (batches : List (List Write)) (how : SearchJob) (outputs : Outputs) (rs us : List PlanRecord) (all : Bool) → ArePlans (made e ps sweeps m) batches how outputs rs all → ArePlans (made e ps others m) batches how outputs us true
     → (rest : List PlanRecord) × (us ≡ rs ++ rest)
 first_list laws initial one_result one_map one_graph e ps sweeps others m radius batches how outputs rs us all left right =
     let starts : left.start ≡ right.start = one_state e e.start left.start right.start left.start_is right.start_is in
     let goals : left.goal ≡ right.goal = one_state e e.end left.goal right.goal left.goal_is right.goal_is in
-    let each : AreRecords (means_of how.planner) (made e ps others m) batches how outputs left.start left.goal 0 None us = rw (starts, goals) right.each in
+    let each : AreRecords (known how.planner) (made e ps others m) batches how outputs left.start left.goal 0 None us = rw (starts, goals) right.each in
     let none : AreCarried e ps sweeps others radius None = tt in
     let few = left.few in
     let many = right.all_made refl in
-    one_records (means_of how.planner) (laws how.planner) initial one_result e ps sweeps others radius one_map one_graph m batches how outputs left.start left.goal rs us 0 None none (omega arith) left.each each
+    one_records (known how.planner) (laws how.planner) initial one_result e ps sweeps others radius one_map one_graph m batches how outputs left.start left.goal rs us 0 None none (omega arith) left.each each
 
 -- each planner is one of these
-pub of_each : IsPlannerDetermined ara → IsPlannerDetermined adstar → (p : Planner) → IsPlannerDetermined (means_of p)
+pub of_each : IsPlannerDetermined ara → IsPlannerDetermined adstar → (p : Planner) → IsPlannerDetermined (known p).means
 of_each by_ara by_adstar planner.Ara = by_ara
 of_each by_ara by_adstar planner.AdStar = by_adstar
 
-pub few_are_first : ((p : Planner) → IsPlannerDetermined (means_of p)) → InitialLabelsAreOne → OutcomesAreOne → OneMap → AlikeWorldsAreOneGraph → FewAreFirst
+pub few_are_first : ((p : Planner) → IsPlannerDetermined (known p).means) → InitialLabelsAreOne → OutcomesAreOne → OneMap → AlikeWorldsAreOneGraph → FewAreFirst
 few_are_first laws initial one_result one_map one_graph w v batches how outputs rs us all alike left right =
     let env = alike.env in
     let prims = alike.prims in

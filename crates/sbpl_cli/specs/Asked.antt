@@ -2,6 +2,8 @@
 use Rattle.std.specs.Option.{is_some}
 use Rattle.sbpl_search.specs.Meaning.{Meaning}
 use Rattle.sbpl_serial.specs.declared.step.Step.{Step}
+use Rattle.sbpl_cli.specs.declared.record.TraceLine.{TraceLine}
+use Rattle.sbpl_cli.specs.Traces.{line_of}
 use Rattle.sbpl_ara.specs.Planner.{ara}
 use Rattle.sbpl_adstar.specs.Planner.{adstar}
 use Rattle.sbpl_plan.specs.declared.ask.Ask.{Ask}
@@ -14,7 +16,12 @@ use Rattle.sbpl_job.specs.declared.job.SearchJob.{SearchJob}
 abbrev pub ask_of : SearchJob → Outputs → Ask
 ask_of search outputs = record { first = search.first; step = search.step; bound = search.bound; traced = is_some outputs.trace }
 
--- what a planner means
-abbrev pub means_of : Planner → Meaning Step
-means_of planner.Ara = ara
-means_of planner.AdStar = adstar
+-- a planner as the program knows it: what its passes note, what its calls mean, and how a note is told in a trace
+pub record Known : Type 1 where
+  pub Note : Type 0
+  pub means : Meaning Note
+  pub line : Note → TraceLine
+
+abbrev pub known : Planner → Known
+known planner.Ara = record { Note = Step; means = ara; line = line_of }
+known planner.AdStar = record { Note = Step; means = adstar; line = line_of }

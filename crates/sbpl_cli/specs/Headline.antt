@@ -1,5 +1,5 @@
 -- What a plan's record says of the world that it was planned in.
-use Rattle.std.specs.Prelude.{◌≡◌, ℕ, ◌+◌, ◌*◌, ◌^◌, ◌≤◌, ◌⊎◌, Bool, MatchBool, true, List, [], ◌∷◌, length, Option, Some, None}
+use Rattle.std.specs.Prelude.{map, ◌≡◌, ℕ, ◌+◌, ◌*◌, ◌^◌, ◌≤◌, ◌⊎◌, Bool, MatchBool, true, List, [], ◌∷◌, length, Option, Some, None}
 use Rattle.std.specs.Option.{is_some}
 use Rattle.sbpl_graph.specs.Network.{Network}
 use Rattle.sbpl_graph.specs.Path.{IsFreePath}
@@ -24,7 +24,7 @@ use Rattle.sbpl_map.specs.MapAfter.{IsMapAfter}
 use Rattle.sbpl_map.specs.declared.write.Write.{Write}
 use Rattle.sbpl_replan.specs.Replanning.{BeginsWith, inquiry}
 use Rattle.sbpl_search.specs.Meaning.{Meaning}
-use Rattle.sbpl_serial.specs.declared.step.Step as expansion
+use Rattle.sbpl_plan.specs.declared.passes.Pass.{Pass}
 use Rattle.sbpl_cli.specs.declared.record.PathStep.{PathStep}
 use Rattle.sbpl_cli.specs.declared.record.PathRecord.{PathRecord}
 use Rattle.sbpl_cli.specs.declared.record.Outcome.{Outcome}
@@ -32,7 +32,8 @@ use Rattle.sbpl_cli.specs.declared.record.Outcome.TheVariants as outcome
 use Rattle.sbpl_cli.specs.declared.record.PlanRecord.{PlanRecord}
 use Rattle.sbpl_job.specs.declared.job.Outputs.{Outputs}
 use Rattle.sbpl_job.specs.declared.job.SearchJob.{SearchJob}
-use Rattle.sbpl_cli.specs.Asked.{ask_of, means_of}
+use Rattle.sbpl_cli.specs.Asked.{Known, ask_of, known}
+use Rattle.sbpl_cli.specs.Traces.{traced_pass}
 use Rattle.sbpl_cli.specs.Shown.{IsShown, IsThere}
 
 -- the state of a pose: that of its cell and heading
@@ -125,13 +126,15 @@ IsMarked budget before spent r = MatchBool spent
 -- The record of a search by the best heuristic, from initial or repaired labels: its passes in turn, as few as the step allows,
 -- the result by the final labels, and a section of these labels, where they are to be written. A plan expands no more than its
 -- budget, and the run no more than 2 ^ 30. A budget for each state in each pass, as often as the planner may take one, is not spent, unless the run's is.
-pub record IsSearched (means : Meaning expansion.Step) (w : World) (how : SearchJob) (outputs : Outputs) (start goal : ℕ) (before : Option Carried) (carried : Carried) (r : PlanRecord) : Type 0 where
+pub record IsSearched (by : Known) (w : World) (how : SearchJob) (outputs : Outputs) (start goal : ℕ) (before : Option Carried) (carried : Carried) (r : PlanRecord) : Type 0 where
   pub guide : ℕ → ℕ
   pub is_guide : IsBest w goal guide
   pub begun : Marks
-  pub begins : Begins means w start before begun
+  pub begins : Begins by.means w start before begun
   pub spent : Bool
-  pub passes : ArePasses means (inquiry w guide goal (ask_of how outputs)) how.first begun r.passes carried.labels spent
+  pub notes : List (Pass by.Note)
+  pub passes : ArePasses by.means (inquiry w guide goal (ask_of how outputs)) how.first begun notes carried.labels spent
+  pub lines : r.passes ≡ map (traced_pass by.line) notes
   pub result : search.Outcome
   pub is_result : IsResultOf (network_of w) guide goal carried.labels result
   pub told : IsSameResult result r.outcome
@@ -141,27 +144,27 @@ pub record IsSearched (means : Meaning expansion.Step) (w : World) (how : Search
   pub within_run : carried.expanded ≤ 2 ^ 30
   pub marked : IsMarked how.budget (expanded_before before) spent r
   pub few : length r.passes ≤ most_passes how.step how.first
-  pub ample : spent ≡ true → most_passes how.step how.first * (means.most * (network_of w).states) ≤ how.budget → carried.expanded ≡ 2 ^ 30
+  pub ample : spent ≡ true → most_passes how.step how.first * (by.means.most * (network_of w).states) ≤ how.budget → carried.expanded ≡ 2 ^ 30
   pub labels : IsThere (is_some outputs.labels) (IsShown (network_of w) guide start goal r.plan carried.labels result) r.labels
 
 -- the record of plan k in a world, whose graph has just the arcs that the primitives make on its map, in the order of the file
 -- both from a state and into it
-pub record IsPlanOf (means : Meaning expansion.Step) (w : World) (how : SearchJob) (outputs : Outputs) (start goal k : ℕ) (before : Option Carried) (carried : Carried) (r : PlanRecord) : Type 0 where
+pub record IsPlanOf (by : Known) (w : World) (how : SearchJob) (outputs : Outputs) (start goal k : ℕ) (before : Option Carried) (carried : Carried) (r : PlanRecord) : Type 0 where
   pub number : r.plan ≡ k
   pub is_world : IsWorld w
   pub arcs : HasLatticeArcs (network_of w) w
   pub tails : HasLatticeTails (network_of w) w
   pub promises : KeepsPromises w start goal how.bound r
-  pub searched : IsSearched means w how outputs start goal before carried r
+  pub searched : IsSearched by w how outputs start goal before carried r
 
 -- The records of plans in turn, the first of which is plan k: each is made in the world on the map after as many of the first
 -- batches, and goes on from the plan before it.
-abbrev pub AreRecords : Meaning expansion.Step → World → List (List Write) → SearchJob → Outputs → (start goal k : ℕ) → Option Carried → List PlanRecord → Type 0
-AreRecords means w batches how outputs start goal k before [] = Unit {0}
-AreRecords means w batches how outputs start goal k before (r ∷ rs) =
+abbrev pub AreRecords : Known → World → List (List Write) → SearchJob → Outputs → (start goal k : ℕ) → Option Carried → List PlanRecord → Type 0
+AreRecords by w batches how outputs start goal k before [] = Unit {0}
+AreRecords by w batches how outputs start goal k before (r ∷ rs) =
     (carried : Carried) × IsMapAfter w.map batches k carried.map
-    × IsPlanOf means (over_map w carried.map) how outputs start goal k before carried r
-    × AreRecords means w batches how outputs start goal (k + 1) (Some carried) rs
+    × IsPlanOf by (over_map w carried.map) how outputs start goal k before carried r
+    × AreRecords by w batches how outputs start goal (k + 1) (Some carried) rs
 
 -- These are records of plans in a world, from the start of its environment to its end: of plan 0 on the map as it is, and then
 -- of one plan after each batch of changes. They are all of them, or the first few.
@@ -170,6 +173,6 @@ pub record ArePlans (w : World) (batches : List (List Write)) (how : SearchJob) 
   pub goal : ℕ
   pub start_is : IsStateOf w.env w.env.start start
   pub goal_is : IsStateOf w.env w.env.end goal
-  pub each : AreRecords (means_of how.planner) w batches how outputs start goal 0 None records
+  pub each : AreRecords (known how.planner) w batches how outputs start goal 0 None records
   pub few : length records ≤ length batches + 1
   pub all_made : all ≡ true → length records ≡ length batches + 1

@@ -8,7 +8,7 @@ use Rattle.sbpl_job.specs.declared.job.SearchJob.{SearchJob}
 use Rattle.sbpl_replan.specs.Replanning.{Replanning}
 use Rattle.sbpl_cli.specs.declared.record.PlanRecord.{PlanRecord}
 use Rattle.sbpl_search.specs.Meaning.{Meaning}
-use Rattle.sbpl_serial.specs.declared.step.Step.{Step}
+use Rattle.sbpl_cli.specs.Asked.{Known}
 use Rattle.sbpl_graph.specs.Network.{Network}
 use Rattle.sbpl_fixed.specs.Formats.{Left}
 use Rattle.sbpl_cert.specs.declared.outcome.Outcome.{Outcome}
@@ -33,12 +33,12 @@ pub record GoesOnFrom {Note : Type 0} (means : Meaning Note) (w : World) (start 
   pub counted : expanded_before before ≡ r.counts.run
 
 -- what is written of plan k in a world, and whether it was
-abbrev pub EndsPlan : Meaning Step → (PlanRecord → List Write) → World → SearchJob → Outputs → (start goal k : ℕ) → Option Carried → Carried → (old new : DeskState) → Result (Unit {0}) WriteStop → Type 0
-EndsPlan means written_of w how outputs start goal k before carried old new (Ok _) =
-    (r : PlanRecord) × IsPlanOf means w how outputs start goal k before carried r × AreAppended old new (written_of r)
-EndsPlan means written_of w how outputs start goal k before carried old new (Err e) =
+abbrev pub EndsPlan : Known → (PlanRecord → List Write) → World → SearchJob → Outputs → (start goal k : ℕ) → Option Carried → Carried → (old new : DeskState) → Result (Unit {0}) WriteStop → Type 0
+EndsPlan by written_of w how outputs start goal k before carried old new (Ok _) =
+    (r : PlanRecord) × IsPlanOf by w how outputs start goal k before carried r × AreAppended old new (written_of r)
+EndsPlan by written_of w how outputs start goal k before carried old new (Err e) =
     ((e ≡ NoMemory) × Stays old.written new.written)
-    ⊎ ((r : PlanRecord) × IsPlanOf means w how outputs start goal k before carried r × EndsIn {T = Unit {0}} old new (written_of r) (Err e))
+    ⊎ ((r : PlanRecord) × IsPlanOf by w how outputs start goal k before carried r × EndsIn {T = Unit {0}} old new (written_of r) (Err e))
 
 -- the section of a plan holds on a graph, and a line says so
 pub record HoldsAndPrints (n : Network) (start goal plan : ℕ) (left rest : Left) (before after : DeskState) : Type 0 where

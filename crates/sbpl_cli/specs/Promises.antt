@@ -14,8 +14,7 @@ use Rattle.sbpl_cost.specs.World.{IsWorld, World}
 use Rattle.sbpl_cert.specs.declared.fault.LabelFault.{LabelFault}
 use Rattle.sbpl_cert.specs.declared.flaw.Flaw.{Flaw}
 use Rattle.sbpl_cert.specs.declared.outcome.Outcome.{Outcome}
-use Rattle.sbpl_search.specs.Meaning.{Meaning}
-use Rattle.sbpl_serial.specs.declared.step.Step.{Step}
+use Rattle.sbpl_cli.specs.Asked.{Known}
 use Rattle.sbpl_cli.specs.declared.section_check.SectionStop.{SectionStop}
 use Rattle.sbpl_cli.specs.declared.section_check.SectionStop.TheVariants as section
 use Rattle.sbpl_job.specs.declared.job.CheckJob.{CheckJob}
@@ -167,10 +166,10 @@ pub record EndsSections (c : Case) (plan more : ℕ) (left : Left) (before after
   pub ends : EndsAs before after (checked_writes c.goal plan outcomes end) (checked_status end) status
 
 -- how the making of plans, the first of which is plan k, ends by the program's status; what is written of a plan is given
-pub record EndsPlans (means : Meaning Step) (written_of : PlanRecord → List Write) (w : World) (batches : List (List change.Write)) (how : SearchJob) (outputs : Outputs) (start goal k : ℕ) (left : Option Carried) (before after : DeskState) (status : ℕ) : Type 0 where
+pub record EndsPlans (by : Known) (written_of : PlanRecord → List Write) (w : World) (batches : List (List change.Write)) (how : SearchJob) (outputs : Outputs) (start goal k : ℕ) (left : Option Carried) (before after : DeskState) (status : ℕ) : Type 0 where
   pub records : List PlanRecord
   pub all : Bool
-  pub each : AreRecords means w batches how outputs start goal k left records
+  pub each : AreRecords by w batches how outputs start goal k left records
   pub few : k + length records ≤ length batches + 1
   pub all_made : all ≡ true → k + length records ≡ length batches + 1
   pub ends : EndsAs before after (flat_map written_of records ++ end_writes all) (plans_status all) status

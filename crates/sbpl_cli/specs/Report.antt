@@ -4,7 +4,7 @@ use Rattle.sbpl_fixed.specs.Printed.{milli_text}
 use Rattle.sbpl_cfg.specs.declared.pose.Place.{Place}
 use Rattle.sbpl_plan.specs.declared.found.Found.{Found}
 use Rattle.sbpl_plan.specs.declared.found.Found.TheVariants as found
-use Rattle.sbpl_serial.specs.declared.step.Step.{Step}
+use Rattle.sbpl_cli.specs.declared.record.TraceLine.{TraceLine}
 use Rattle.sbpl_plan.specs.declared.passes.Pass.{Pass}
 use Rattle.sbpl_cli.specs.declared.record.PathStep.{PathStep}
 use Rattle.sbpl_cli.specs.declared.record.PathRecord.{PathRecord}
@@ -23,7 +23,7 @@ found_text found.None = codes " none"
 found_text found.Broken = codes " broken"
 
 -- the line of a pass
-unfoldable pub pass_text : Pass Step → List ℕ
+unfoldable pub pass_text : Pass TraceLine → List ℕ
 pass_text p = codes "pass " ++ (milli_text p.inflation ++ (codes " expanded " ++ (decimal p.expanded ++ (found_text p.found ++ line_feed))))
 
 -- a place, and the end of its line

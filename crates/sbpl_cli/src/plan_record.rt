@@ -1,8 +1,9 @@
 //! One plan on a lattice.
 
-ghost use Rattle.std.specs.Prelude.{◌≡◌, ◌<◌, ℕ, IfOk, IsSome, MatchBool, None, Option, Some};
+ghost use Rattle.std.specs.Prelude.{map, ◌≡◌, ◌<◌, ℕ, IfOk, IsSome, MatchBool, None, Option, Some};
 ghost use Rattle.sbpl_cost.specs.Lattices.{network_of};
 ghost use Rattle.sbpl_cli.specs.Headline.{AreSteps, Begins, Carried, IsKnownWithin, IsNoneThere, IsPathFrom, IsSearched, IsPathStep, IsWithinBound, KeepsPromises, Joins, JoinsStates, IsSameResult, expanded_before};
+ghost use Rattle.sbpl_cli.specs.Traces.{traced_pass};
 ghost use Rattle.sbpl_cli.specs.Planning.{IsSetFor, carried_of};
 ghost use Rattle.sbpl_job.specs.Jobs.{IsSearchJob};
 ghost use Rattle.sbpl_cli.specs.Asked.{ask_of};
@@ -14,6 +15,7 @@ ghost use Rattle.sbpl_plan.specs.declared.result.Outcome.TheVariants as Results;
 use crate::labels::labels_of;
 use crate::parts::Steps;
 use crate::record::{Outcome, PathRecord, PathStep, PlanRecord};
+use crate::trace::{Traced, traced_passes};
 use sbpl_cert::LabelSet;
 use sbpl_cost::Lattice;
 use sbpl_fixed::NoMemory;
@@ -126,20 +128,20 @@ fn mark_of(spent: bool, expanded: u64) -> Option<u64>
 }
 
 /// The record of plan `plan`, which expanded this number of states.
-fn record_of(
+fn record_of<N: Traced + Drop>(
     alloc: Global,
     lattice: &Lattice,
     start: u32,
     goal: u32,
     plan: u32,
-    planned: Planned<sbpl_serial::Step>,
+    planned: Planned<N>,
     expanded: u64,
     labels: Option<LabelSet>,
 ) -> Result<PlanRecord, NoMemory>
     requires state { start < (network_of lattice.now).states }
     requires so { IsTrueOutcome (network_of lattice.now) start goal planned.outcome }
     ensures number { IfOk result (λ r. r.plan ≡ plan) }
-    ensures passes { IfOk result (λ r. r.passes ≡ planned.passes) }
+    ensures passes { IfOk result (λ r. r.passes ≡ map (traced_pass N.line) planned.passes) }
     ensures expanded { IfOk result (λ r. r.expanded ≡ expanded) }
     ensures told { IfOk result (λ r. IsSameResult planned.outcome r.outcome) }
     ensures labels { IfOk result (λ r. r.labels ≡ labels) }
@@ -149,10 +151,11 @@ fn record_of(
     ensures none { IfOk result (λ r. IsNoneThere lattice.now start goal r.outcome) }
     ensures answered { IfOk result (λ r. (asked : ℕ) → Conclusions.IsConclusive asked planned.outcome → IsKnownWithin asked r.outcome) }
 {
+    let passes = traced_passes(alloc, planned.passes.as_slice())?;
     let outcome = outcome_of(alloc, lattice, start, goal, planned.outcome)?;
     Ok(PlanRecord {
         plan,
-        passes: planned.passes,
+        passes,
         expanded,
         spent: mark_of(planned.spent, expanded),
         outcome,
@@ -161,7 +164,7 @@ fn record_of(
 }
 
 /// Makes plan `plan` on the present map of a lattice, and its record.
-pub(crate) fn make_record<S: Search<Lattice, Best, Note = sbpl_serial::Step> + Drop>(
+pub(crate) fn make_record<S: Search<Lattice, Best> + Drop>(
     alloc: Global,
     lattice: &Lattice,
     replanner: &mut Replanner<S>,
@@ -171,6 +174,8 @@ pub(crate) fn make_record<S: Search<Lattice, Best, Note = sbpl_serial::Step> + D
     goal: u32,
     plan: u32,
 ) -> Result<PlanRecord, NoMemory>
+where
+    S::Note: Traced,
     requires start { start < (network_of lattice.now).states }
     requires goal { goal < (network_of lattice.now).states }
     requires search { IsSearchJob how.now }
@@ -179,7 +184,7 @@ pub(crate) fn make_record<S: Search<Lattice, Best, Note = sbpl_serial::Step> + D
     ensures number { IfOk result (λ r. r.plan ≡ plan) }
     ensures promises { IfOk result (KeepsPromises lattice.now start goal how.now.bound) }
     ensures searched { (before : Option Carried) → Begins S.meaning lattice.now start before replanner.old.search.labels → expanded_before before ≡ replanner.old.counts.run
-        → IfOk result (IsSearched S.meaning lattice.now how.now outputs.now start goal before (carried_of lattice.now replanner.new)) }
+        → IfOk result (IsSearched (record { Note = S.Note; means = S.meaning; line = S.Note.line }) lattice.now how.now outputs.now start goal before (carried_of lattice.now replanner.new)) }
     ensures ready { IfOk result (λ _. IsReadyIn S.meaning lattice.now replanner.new) }
     ensures set { IfOk result (λ _. IsSetFor how.now start goal replanner.new) }
 {

@@ -8,7 +8,7 @@ ghost use Rattle.sbpl_map.specs.ChangeText.{AreOnMap};
 ghost use Rattle.sbpl_replan.specs.Replanning.{IsReadyIn};
 ghost use Rattle.sbpl_labels.specs.Marks.{AreInitial};
 ghost use Rattle.sbpl_search.specs.Ready.{IsStartFresh};
-ghost use Rattle.sbpl_cli.specs.Asked.{means_of};
+ghost use Rattle.sbpl_cli.specs.Asked.{known};
 ghost use Rattle.sbpl_cli.specs.Headline.{Carried};
 ghost use Rattle.sbpl_cli.specs.Planning.{EndsPlan, GoesOnFrom, IsSetFor, carried_of};
 ghost use Rattle.sbpl_cli.specs.Promises.{EndsPlans};
@@ -16,6 +16,7 @@ ghost use Rattle.sbpl_cli.specs.Writing.{WritesOnly};
 
 use crate::plan_record::make_record;
 use crate::telling::Telling;
+use crate::trace::Traced;
 use crate::writing::{status_after, write_last};
 use sbpl_adstar::AdStar;
 use sbpl_ara::Ara;
@@ -28,11 +29,10 @@ use sbpl_job::{Outputs, Planner, SearchJob};
 use sbpl_map::{Changes, writes_lead_to_the_next_map};
 use sbpl_replan::Replanner;
 use sbpl_search::Search;
-use sbpl_serial::Step;
 use std::alloc::Global;
 
 /// Makes plan `plan` on the present map of a lattice, and tells it.
-fn make_plan<D: Desk, T: Telling, S: Search<Lattice, Best, Note = Step> + Drop>(
+fn make_plan<D: Desk, T: Telling, S: Search<Lattice, Best> + Drop>(
     alloc: Global,
     lattice: &Lattice,
     replanner: &mut Replanner<S>,
@@ -44,6 +44,8 @@ fn make_plan<D: Desk, T: Telling, S: Search<Lattice, Best, Note = Step> + Drop>(
     telling: &T,
     desk: &mut D,
 ) -> Result<(), WriteStop>
+where
+    S::Note: Traced,
     requires start { start < (network_of lattice.now).states }
     requires goal { goal < (network_of lattice.now).states }
     requires search { IsSearchJob how.now }
@@ -51,7 +53,7 @@ fn make_plan<D: Desk, T: Telling, S: Search<Lattice, Best, Note = Step> + Drop>(
     requires ready { IsReadyIn S.meaning lattice.now replanner.old }
     requires set { IsSetFor how.now start goal replanner.old }
     ensures ends { (before : Option Carried) → GoesOnFrom S.meaning lattice.now start before replanner.old
-        → EndsPlan S.meaning (T.written telling.now) lattice.now how.now outputs.now start goal plan before (carried_of lattice.now replanner.new) (D.state desk.old) (D.state desk.new) result }
+        → EndsPlan (record { Note = S.Note; means = S.meaning; line = S.Note.line }) (T.written telling.now) lattice.now how.now outputs.now start goal plan before (carried_of lattice.now replanner.new) (D.state desk.old) (D.state desk.new) result }
     ensures ready { IfOk result (λ _. IsReadyIn S.meaning lattice.now replanner.new) }
     ensures set { IfOk result (λ _. IsSetFor how.now start goal replanner.new) }
     ensures frame { WritesOnly (T.under telling.now) (D.state desk.old) (D.state desk.new) }
@@ -65,7 +67,7 @@ fn make_plan<D: Desk, T: Telling, S: Search<Lattice, Best, Note = Step> + Drop>(
 }
 
 /// Makes and tells the plans on a lattice, while its map changes batch by batch, writes the last line, and answers the status.
-fn go_through<D: Desk, T: Telling, S: Search<Lattice, Best, Note = Step> + Drop>(
+fn go_through<D: Desk, T: Telling, S: Search<Lattice, Best> + Drop>(
     alloc: Global,
     lattice: &mut Lattice,
     changes: &Changes,
@@ -77,6 +79,8 @@ fn go_through<D: Desk, T: Telling, S: Search<Lattice, Best, Note = Step> + Drop>
     telling: &T,
     desk: &mut D,
 ) -> u8
+where
+    S::Note: Traced,
     requires start { start < (network_of lattice.old).states }
     requires goal { goal < (network_of lattice.old).states }
     requires search { IsSearchJob how.now }
@@ -85,7 +89,7 @@ fn go_through<D: Desk, T: Telling, S: Search<Lattice, Best, Note = Step> + Drop>
     requires ready { IsReadyIn S.meaning lattice.old replanner.old }
     requires set { IsSetFor how.now start goal replanner.old }
     requires begun { GoesOnFrom S.meaning lattice.old start None replanner.old }
-    ensures ends { EndsPlans S.meaning (T.written telling.now) lattice.old changes.now how.now outputs.now start goal 0 None (D.state desk.old) (D.state desk.new) result }
+    ensures ends { EndsPlans (record { Note = S.Note; means = S.meaning; line = S.Note.line }) (T.written telling.now) lattice.old changes.now how.now outputs.now start goal 0 None (D.state desk.old) (D.state desk.new) result }
     ensures frame { WritesOnly (T.under telling.now) (D.state desk.old) (D.state desk.new) }
 {
     writes_lead_to_the_next_map();
@@ -109,7 +113,7 @@ fn go_through<D: Desk, T: Telling, S: Search<Lattice, Best, Note = Step> + Drop>
 }
 
 /// Makes and tells the plans on a lattice by a search whose labels are initial, as `go_through` does.
-fn plan_by<D: Desk, T: Telling, S: Search<Lattice, Best, Note = Step> + Drop>(
+fn plan_by<D: Desk, T: Telling, S: Search<Lattice, Best> + Drop>(
     alloc: Global,
     lattice: &mut Lattice,
     changes: &Changes,
@@ -121,6 +125,8 @@ fn plan_by<D: Desk, T: Telling, S: Search<Lattice, Best, Note = Step> + Drop>(
     telling: &T,
     desk: &mut D,
 ) -> u8
+where
+    S::Note: Traced,
     requires start { start < (network_of lattice.old).states }
     requires goal { goal < (network_of lattice.old).states }
     requires search { IsSearchJob how.now }
@@ -130,7 +136,7 @@ fn plan_by<D: Desk, T: Telling, S: Search<Lattice, Best, Note = Step> + Drop>(
     requires ready { S.meaning.ready (network_of lattice.old) (S.state search).labels 0 }
     requires to_goal { (S.state search).goal ≡ goal }
     requires fresh { IsStartFresh (S.state search).labels }
-    ensures ends { EndsPlans S.meaning (T.written telling.now) lattice.old changes.now how.now outputs.now start goal 0 None (D.state desk.old) (D.state desk.new) result }
+    ensures ends { EndsPlans (record { Note = S.Note; means = S.meaning; line = S.Note.line }) (T.written telling.now) lattice.old changes.now how.now outputs.now start goal 0 None (D.state desk.old) (D.state desk.new) result }
     ensures frame { WritesOnly (T.under telling.now) (D.state desk.old) (D.state desk.new) }
 {
     match Replanner::new(alloc, lattice, search, goal, how.budget) {
@@ -168,7 +174,7 @@ pub(crate) fn make_plans<D: Desk, T: Telling>(
     requires search { IsSearchJob how.now }
     requires kept { IsWorld lattice.old }
     requires on_map { AreOnMap lattice.old.map changes.now }
-    ensures ends { EndsPlans (means_of how.now.planner) (T.written telling.now) lattice.old changes.now how.now outputs.now start goal 0 None (D.state desk.old) (D.state desk.new) result }
+    ensures ends { EndsPlans (known how.now.planner) (T.written telling.now) lattice.old changes.now how.now outputs.now start goal 0 None (D.state desk.old) (D.state desk.new) result }
     ensures frame { WritesOnly (T.under telling.now) (D.state desk.old) (D.state desk.new) }
 {
     let Ok(ara) = Ara::open(alloc, lattice.states(), start, goal) else {

@@ -12,6 +12,15 @@ pub struct PathStep {
     pub place: Place,
 }
 
+/// A line of a trace: one thing that a planner noted.
+#[derive(Clone, Copy, Debug, PartialEq, Eq)]
+pub enum TraceLine {
+    /// An overconsistent state was expanded.
+    Lower(u32),
+    /// An underconsistent state was expanded.
+    Raise(u32),
+}
+
 /// A path from the start to the goal.
 #[derive(Debug, Drop)]
 pub struct PathRecord {
@@ -44,7 +53,7 @@ pub struct PlanRecord {
     /// The plan's number: 0, and one more for each batch of changes.
     pub plan: u32,
     /// Its passes in order.
-    pub passes: Passes<sbpl_serial::Step>,
+    pub passes: Passes<TraceLine>,
     /// How many states they expanded together.
     pub expanded: u64,
     /// Where the last pass was spent, how many states the plan expanded.

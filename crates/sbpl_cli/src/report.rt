@@ -4,7 +4,7 @@ ghost use Rattle.std.specs.Prelude.{◌≡◌, ◌++◌, IfOk, OnOk, flat_map, d
 ghost use Rattle.sbpl_fixed.specs.Printed.{milli_text};
 ghost use Rattle.sbpl_cli.specs.Report.{demo_text, found_text, outcome_line, pass_text, place_text, plan_line, step_text, path_text, outcome_text, spent_text, section_text};
 
-use crate::record::{Outcome, PathRecord, PathStep, PlanRecord};
+use crate::record::{Outcome, PathRecord, PathStep, PlanRecord, TraceLine};
 use itoa::Buffer;
 use sbpl_cfg::Place;
 use sbpl_fixed::{NoMemory, print_milli};
@@ -59,7 +59,7 @@ fn push_found(out: &mut Vec<u8>, found: Found) -> Result<(), NoMemory>
 
 /// Appends the line of a pass.
 #[tactic(auto, unfolding(crate::specs::Report::pass_text))]
-fn push_pass(out: &mut Vec<u8>, pass: &Pass<sbpl_serial::Step>) -> Result<(), NoMemory>
+fn push_pass(out: &mut Vec<u8>, pass: &Pass<TraceLine>) -> Result<(), NoMemory>
     ensures appended { OnOk result (out.new.items ≡ out.old.items ++ pass_text pass.now) }
 {
     push_milli(out, b"pass ", u128::from(pass.inflation))?;
@@ -69,7 +69,7 @@ fn push_pass(out: &mut Vec<u8>, pass: &Pass<sbpl_serial::Step>) -> Result<(), No
 }
 
 /// Appends the lines of passes.
-fn push_passes(out: &mut Vec<u8>, passes: &[Pass<sbpl_serial::Step>]) -> Result<(), NoMemory>
+fn push_passes(out: &mut Vec<u8>, passes: &[Pass<TraceLine>]) -> Result<(), NoMemory>
     ensures appended { OnOk result (out.new.items ≡ out.old.items ++ flat_map pass_text passes.now) }
 {
     for pass in passes {

@@ -1,55 +1,111 @@
 //! The lines of a trace.
 
-ghost use Rattle.std.specs.Prelude.{◌≡◌, ◌++◌, IfOk, OnOk, flat_map};
-ghost use Rattle.sbpl_cli.specs.Traces.{expansion_text, expansion_word, expansions_text, trace_text};
+ghost use Rattle.std.specs.Prelude.{◌≡◌, ◌++◌, IfOk, OnOk, flat_map, map};
+ghost use Rattle.sbpl_cli.specs.Traces.{line_of, line_text, lines_text, traced_pass, trace_text};
+ghost use Rattle.sbpl_cli.specs.declared.record.TraceLine.{TraceLine};
 
-use crate::record::PlanRecord;
-use crate::report::{push_bytes, push_field, push_milli, push_number};
+use crate::record::{PlanRecord, TraceLine};
+use crate::report::{push_bytes, push_field, push_milli};
 use sbpl_fixed::NoMemory;
-use sbpl_plan::Pass;
+use sbpl_plan::{Pass, Passes, Trace};
 use sbpl_serial::Step;
 use std::alloc::Global;
 
-/// The word for an expansion.
-fn word_of(raised: bool) -> &'static [u8]
-    ensures word { result.now ≡ expansion_word raised }
-{
-    if raised { b"raise " } else { b"lower " }
+/// What a planner notes, as a line of a trace.
+pub trait Traced {
+    /// The line of a note.
+    ghost line: { Self → TraceLine };
+
+    /// The line of this note.
+    fn line(&self) -> TraceLine
+        ensures value { result ≡ line self.now };
 }
 
-/// Appends the line of an expansion.
-#[tactic(auto, unfolding(crate::specs::Traces::expansion_text))]
-fn push_expansion(out: &mut Vec<u8>, step: &Step) -> Result<(), NoMemory>
-    ensures appended { OnOk result (out.new.items ≡ out.old.items ++ expansion_text step.now) }
+impl Traced for Step {
+    ghost line = { λ step. line_of step };
+
+    fn line(&self) -> TraceLine {
+        if self.raised {
+            TraceLine::Raise(self.state)
+        } else {
+            TraceLine::Lower(self.state)
+        }
+    }
+}
+
+/// The lines of what a pass did.
+fn lines_of<N: Traced>(alloc: Global, notes: &[N]) -> Result<Trace<TraceLine>, NoMemory>
+    ensures lines { IfOk result (λ lines. lines ≡ map N.line notes.now) }
 {
-    push_bytes(out, word_of(step.raised))?;
-    push_number(out, u64::from(step.state))?;
+    let mut lines = Vec::new(alloc);
+    for note in notes {
+        lines.push(note.line())?;
+    }
+    Ok(Trace::of(lines))
+}
+
+/// A pass, with what it did as lines.
+fn traced_pass<N: Traced>(alloc: Global, pass: &Pass<N>) -> Result<Pass<TraceLine>, NoMemory>
+    ensures traced { IfOk result (λ traced. traced ≡ traced_pass N.line pass.now) }
+{
+    let trace = lines_of(alloc, pass.trace.as_slice())?;
+    Ok(Pass {
+        inflation: pass.inflation,
+        expanded: pass.expanded,
+        found: pass.found,
+        trace,
+    })
+}
+
+/// The passes of a plan, with what they did as lines.
+pub(crate) fn traced_passes<N: Traced>(
+    alloc: Global,
+    passes: &[Pass<N>],
+) -> Result<Passes<TraceLine>, NoMemory>
+    ensures traced { IfOk result (λ traced. traced ≡ map (traced_pass N.line) passes.now) }
+{
+    let mut traced = Vec::new(alloc);
+    for pass in passes {
+        traced.push(traced_pass(alloc, pass)?)?;
+    }
+    Ok(Passes::of(traced))
+}
+
+/// Appends a line.
+#[tactic(auto, unfolding(crate::specs::Traces::line_text))]
+fn push_line(out: &mut Vec<u8>, line: TraceLine) -> Result<(), NoMemory>
+    ensures appended { OnOk result (out.new.items ≡ out.old.items ++ line_text line) }
+{
+    match line {
+        TraceLine::Lower(state) => push_field(out, b"lower ", u64::from(state))?,
+        TraceLine::Raise(state) => push_field(out, b"raise ", u64::from(state))?,
+    }
     push_bytes(out, b"\n")
 }
 
-/// Appends the lines of expansions.
-fn push_expansions(out: &mut Vec<u8>, steps: &[Step]) -> Result<(), NoMemory>
-    ensures appended { OnOk result (out.new.items ≡ out.old.items ++ flat_map expansion_text steps.now) }
+/// Appends lines.
+fn push_lines(out: &mut Vec<u8>, lines: &[TraceLine]) -> Result<(), NoMemory>
+    ensures appended { OnOk result (out.new.items ≡ out.old.items ++ flat_map line_text lines.now) }
 {
-    for step in steps {
-        push_expansion(out, step)?;
+    for line in lines {
+        push_line(out, *line)?;
     }
     Ok(())
 }
 
 /// Appends the lines of a pass.
-#[tactic(auto, unfolding(crate::specs::Traces::expansions_text))]
-fn push_pass(out: &mut Vec<u8>, pass: &Pass<Step>) -> Result<(), NoMemory>
-    ensures appended { OnOk result (out.new.items ≡ out.old.items ++ expansions_text pass.now) }
+#[tactic(auto, unfolding(crate::specs::Traces::lines_text))]
+fn push_pass(out: &mut Vec<u8>, pass: &Pass<TraceLine>) -> Result<(), NoMemory>
+    ensures appended { OnOk result (out.new.items ≡ out.old.items ++ lines_text pass.now) }
 {
     push_milli(out, b"pass ", u128::from(pass.inflation))?;
     push_bytes(out, b"\n")?;
-    push_expansions(out, pass.trace.as_slice())
+    push_lines(out, pass.trace.as_slice())
 }
 
 /// Appends the lines of passes.
-fn push_passes(out: &mut Vec<u8>, passes: &[Pass<Step>]) -> Result<(), NoMemory>
-    ensures appended { OnOk result (out.new.items ≡ out.old.items ++ flat_map expansions_text passes.now) }
+fn push_passes(out: &mut Vec<u8>, passes: &[Pass<TraceLine>]) -> Result<(), NoMemory>
+    ensures appended { OnOk result (out.new.items ≡ out.old.items ++ flat_map lines_text passes.now) }
 {
     for pass in passes {
         push_pass(out, pass)?;
@@ -57,7 +113,7 @@ fn push_passes(out: &mut Vec<u8>, passes: &[Pass<Step>]) -> Result<(), NoMemory>
     Ok(())
 }
 
-/// The section of a plan in a trace: which states its passes expanded, in order.
+/// The section of a plan in a trace: what its passes did, in order.
 #[tactic(auto, unfolding(crate::specs::Traces::trace_text))]
 pub(crate) fn trace_of(alloc: Global, plan: &PlanRecord) -> Result<Vec<u8>, NoMemory>
     ensures text { IfOk result (λ text. text.items ≡ trace_text plan.now) }

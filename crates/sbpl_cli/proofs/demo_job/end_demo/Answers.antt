@@ -1,6 +1,6 @@
 use Rattle.std.proofs.Common.{[], ◌∷◌, None, Err, length, refl, subst, false, arith}
 use Rattle.sbpl_job.specs.declared.job.Job.TheVariants as job
-use Rattle.sbpl_cli.specs.Asked.{means_of}
+use Rattle.sbpl_cli.specs.Asked.{known}
 use Rattle.sbpl_cli.specs.Intents.{Demonstrated, lines_writes}
 use Rattle.sbpl_cli.specs.Causes.{no_outputs}
 use Rattle.sbpl_cli.specs.Headline.{AreRecords}
@@ -47,7 +47,7 @@ returns-clause-ends g c =
           goal = c.ends_of-start.result.1;
           start_is = c.ends_of-start.ensures.start;
           goal_is = c.ends_of-start.ensures.goal;
-          each = subst (λ (how : SearchJob). AreRecords (means_of how.planner) c.in-Ok.lattice c.in-Ok.changes how no_outputs c.ends_of-start.result.0 c.ends_of-start.result.1 0 None e.records) c.demo_search.ensures.search e.each;
+          each = subst (λ (how : SearchJob). AreRecords (known how.planner) c.in-Ok.lattice c.in-Ok.changes how no_outputs c.ends_of-start.result.0 c.ends_of-start.result.1 0 None e.records) c.demo_search.ensures.search e.each;
           few = let count = e.few in omega arith;
           all_made = λ is. let count = e.all_made is in omega arith;
         };

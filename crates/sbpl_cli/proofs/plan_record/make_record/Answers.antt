@@ -1,4 +1,5 @@
-use Rattle.std.proofs.Common.{arith, ◌≡◌, ℕ, ◌+◌, ◌*◌, ◌^◌, ◌≤◌, length, Bool, true, false, MatchBool, Option, None, Some, Result, Ok, Err, IfOk, refl, sym, ◌∙◌, ap, subst, inl, inr, ◌⊎◌}
+use Rattle.std.proofs.Common.{map, arith, ◌≡◌, ℕ, ◌+◌, ◌*◌, ◌^◌, ◌≤◌, length, Bool, true, false, MatchBool, Option, None, Some, Result, Ok, Err, IfOk, refl, sym, ◌∙◌, ap, subst, inl, inr, ◌⊎◌}
+use Rattle.std.proofs.lemmas.List.{length-map}
 use Rattle.std.specs.Option.{is_some}
 use Rattle.sbpl_cert.specs.Sections.{Section}
 use Rattle.sbpl_fixed.specs.declared.no_memory.NoMemory.{NoMemory}
@@ -16,10 +17,10 @@ use Rattle.sbpl_plan.specs.Outcomes.{IsResultOf}
 use Rattle.sbpl_plan.specs.Asked.{most_passes}
 use Rattle.sbpl_plan.specs.Passing.{ArePasses, expansions}
 use Rattle.sbpl_replan.specs.Replanning.{inquiry}
-use Rattle.sbpl_search.specs.Meaning.{Meaning}
-use Rattle.sbpl_serial.specs.declared.step.Step.{Step}
+use Rattle.sbpl_cli.specs.Traces.{traced_pass}
+use Rattle.sbpl_cli.proofs.SameRecords.{expansions_traced}
 use Rattle.sbpl_cli.specs.declared.record.PlanRecord.{PlanRecord}
-use Rattle.sbpl_cli.specs.Asked.{ask_of}
+use Rattle.sbpl_cli.specs.Asked.{Known, ask_of}
 use Rattle.sbpl_cli.specs.Headline.{Begins, Carried, IsKnownWithin, IsMarked, IsNoneThere, IsSearched, IsWithinBound, Joins, KeepsPromises, IsSameResult, expanded_before}
 use Rattle.sbpl_cli.specs.Shown.{IsShown, IsThere}
 use Rattle.sbpl_cli.proofs.plan_record.make_record.Goals as goal
@@ -41,38 +42,41 @@ in_run before rises (inl all) = inl all
 in_run before rises (inr all) = inr (rises ∙ all)
 
 -- what is known of a plan, and of its record, is that it was searched
-module _ (means : Meaning Step) (w : World) (guide : Table) (start goal : ℕ) (how : SearchJob) (outputs : Outputs) (before : Option Carried) (begun final : Marks) (per_plan run used : ℕ) (planned : Planned Step) (section : Option Section) where
-  searched_by : (asked : Ask) (wanted : Bool) (plan : ℕ) (r : Result PlanRecord NoMemory) → IsBest w goal (distance_in guide) → Begins means w start before begun
-      → asked ≡ ask_of how outputs → ArePasses means (inquiry w (distance_in guide) goal asked) asked.first begun planned.passes final planned.spent
+module _ (by : Known) (w : World) (guide : Table) (start goal : ℕ) (how : SearchJob) (outputs : Outputs) (before : Option Carried) (begun final : Marks) (per_plan run used : ℕ) (planned : Planned by.Note) (section : Option Section) where
+  searched_by : (asked : Ask) (wanted : Bool) (plan : ℕ) (r : Result PlanRecord NoMemory) → IsBest w goal (distance_in guide) → Begins by.means w start before begun
+      → asked ≡ ask_of how outputs → ArePasses by.means (inquiry w (distance_in guide) goal asked) asked.first begun planned.passes final planned.spent
       → IsResultOf (network_of w) (distance_in guide) goal final planned.outcome → per_plan ≡ how.budget → run ≡ expanded_before before + expansions planned.passes → used ≡ expansions planned.passes
       → (planned.spent ≡ true → (expansions planned.passes ≡ per_plan) ⊎ (run ≡ 2 ^ 30))
       → expansions planned.passes ≤ per_plan → run ≤ 2 ^ 30
       → length planned.passes ≤ most_passes asked.step asked.first
-      → (planned.spent ≡ true → most_passes asked.step asked.first * (means.most * (network_of w).states) ≤ how.budget → run ≡ 2 ^ 30)
+      → (planned.spent ≡ true → most_passes asked.step asked.first * (by.means.most * (network_of w).states) ≤ how.budget → run ≡ 2 ^ 30)
       → wanted ≡ is_some outputs.labels → final.start ≡ start → IsThere wanted (IsShown (network_of w) (distance_in guide) final.start goal plan final planned.outcome) section
-      → IfOk r (λ x. x.plan ≡ plan) → IfOk r (λ x. x.passes ≡ planned.passes) → IfOk r (λ x. x.expanded ≡ used) → IfOk r (λ x. IsSameResult planned.outcome x.outcome) → IfOk r (λ x. x.labels ≡ section)
+      → IfOk r (λ x. x.plan ≡ plan) → IfOk r (λ x. x.passes ≡ map (traced_pass by.line) planned.passes) → IfOk r (λ x. x.expanded ≡ used) → IfOk r (λ x. IsSameResult planned.outcome x.outcome) → IfOk r (λ x. x.labels ≡ section)
       → IfOk r (λ x. MatchBool planned.spent (x.spent ≡ Some used) (x.spent ≡ None))
-      → IfOk r (IsSearched means w how outputs start goal before (record { map = w.map; labels = final; expanded = run }))
+      → IfOk r (IsSearched by w how outputs start goal before (record { map = w.map; labels = final; expanded = run }))
   searched_by asked wanted plan (Err e) is_guide begins same passes outcome budget counted used_is spent within within_run few enough asks begins_at shown number copied expanded told kept mark = tt
   searched_by asked wanted plan (Ok x) is_guide begins same passes outcome budget counted used_is spent within within_run few enough asks begins_at shown number copied expanded told kept mark =
       let step = ap (λ (a : Ask). a.step) same in
       let first = ap (λ (a : Ask). a.first) same in
+      let all : expansions x.passes ≡ expansions planned.passes = ap expansions copied ∙ expansions_traced by.line planned.passes in
       record {
         guide = distance_in guide;
         is_guide = is_guide;
         begun = begun;
         begins = begins;
         spent = planned.spent;
-        passes = rw copied (subst (λ (a : Ask). ArePasses means (inquiry w (distance_in guide) goal a) a.first begun planned.passes final planned.spent) same passes);
+        notes = planned.passes;
+        passes = subst (λ (a : Ask). ArePasses by.means (inquiry w (distance_in guide) goal a) a.first begun planned.passes final planned.spent) same passes;
+        lines = copied;
         result = planned.outcome;
         is_result = outcome;
         told = told;
-        expanded = expanded ∙ used_is ∙ ap (λ ps. expansions ps) (sym copied);
-        counted = counted ∙ ap (λ ps. expanded_before before + expansions ps) (sym copied);
+        expanded = expanded ∙ used_is ∙ sym all;
+        counted = counted ∙ ap (λ (n : ℕ). expanded_before before + n) (sym all);
         within_budget = omega (arith, expanded, used_is, budget, within);
         within_run = within_run;
-        marked = marked_by planned.spent how.budget (expanded_before before) (expansions planned.passes) used per_plan run x used_is (ap (λ ps. expansions ps) copied) mark budget counted spent;
-        few = rw (copied, sym step, sym first) few;
+        marked = marked_by planned.spent how.budget (expanded_before before) (expansions planned.passes) used per_plan run x used_is all mark budget counted spent;
+        few = rw (copied, length-map planned.passes (traced_pass by.line), sym step, sym first) few;
         ample = rw (sym step, sym first) enough;
         labels = rw kept (subst (λ (b : Bool). IsThere b (IsShown (network_of w) (distance_in guide) start goal x.plan final planned.outcome) section) asks
             (subst (λ (k : ℕ). IsThere wanted (IsShown (network_of w) (distance_in guide) start goal k final planned.outcome) section) (sym number)
@@ -85,6 +89,7 @@ labels_of-requires-clause-found g c = rw (c.guide.ensures.value, c.labels.ensure
 pub returns-clause-searched : goal.returns-clause-searched
 returns-clause-searched g c = λ before begins counted.
     let means = g.S.Search.meaning in
+    let by : Known = record { Note = g.row.S-Note.Denot; means = means; line = g.S.Note.Traced.line } in
     let set = c.requires.set in
     let planned = c.in_ok-planned.planned in
     let made = c.in_ok-planned.ensures.planned in
@@ -96,7 +101,7 @@ returns-clause-searched g c = λ before begins counted.
     let run : new.counts.run ≡ expanded_before before + expansions planned.passes = rises ∙ ap (λ (n : ℕ). n + expansions planned.passes) (sym counted) in
     let of_plan : new.counts.plan ≡ 0 + expansions planned.passes = ap (λ (k : Counts). k.plan) made.leaves.counted in
     let used : c.expanded-expanded.result ≡ expansions planned.passes = omega (arith, c.expanded-expanded.ensures.value, of_plan) in
-    searched_by means c.args.lattice.now old.guide c.args.start c.args.goal c.args.how.now c.args.outputs.now before old.search.labels new.search.labels
+    searched_by by c.args.lattice.now old.guide c.args.start c.args.goal c.args.how.now c.args.outputs.now before old.search.labels new.search.labels
     old.counts.per_plan new.counts.run c.expanded-expanded.result planned c.in_ok-labels.labels c.ask_of-ask.result c.is_some.result c.args.plan c.record_of.result
     (subst (λ (t : ℕ). IsBest c.args.lattice.now t (distance_in old.guide)) set.goal_is c.requires.ready.best) begins c.ask_of-ask.ensures.ask
     (subst (λ (t : ℕ). ArePasses means (inquiry c.args.lattice.now (distance_in old.guide) t c.ask_of-ask.result) c.ask_of-ask.result.first old.search.labels planned.passes new.search.labels planned.spent) set.goal_is made.passes)
@@ -113,7 +118,7 @@ unmarked : (spent : Bool) (expanded : ℕ) (x : PlanRecord) → MatchBool spent 
 unmarked true expanded x mark is = cc
 unmarked false expanded x mark is = refl
 
-promises_by : (w : World) (start goal asked expanded : ℕ) (planned : Planned Step) (r : Result PlanRecord NoMemory) → IfOk r (λ x. Joins w start goal x.outcome) → IfOk r (λ x. IsWithinBound w start goal x.outcome) → IfOk r (λ x. IsNoneThere w start goal x.outcome)
+promises_by : {Note : Type 0} (w : World) (start goal asked expanded : ℕ) (planned : Planned Note) (r : Result PlanRecord NoMemory) → IfOk r (λ x. Joins w start goal x.outcome) → IfOk r (λ x. IsWithinBound w start goal x.outcome) → IfOk r (λ x. IsNoneThere w start goal x.outcome)
     → IfOk r (λ x. MatchBool planned.spent (x.spent ≡ Some expanded) (x.spent ≡ None)) → (planned.spent ≡ false → search.IsConclusive asked planned.outcome) → IfOk r (λ x. (a : ℕ) → search.IsConclusive a planned.outcome → IsKnownWithin a x.outcome) → IfOk r (KeepsPromises w start goal asked)
 promises_by w start goal asked expanded planned (Ok x) joins within none mark known answered = record {
   joins = joins;
