@@ -5,7 +5,7 @@ use Rattle.sbpl_fixed.specs.Formats.{Format, done, turns, IsFaulty}
 use Rattle.sbpl_fixed.specs.Tokens.{Piece}
 use Rattle.sbpl_fixed.specs.declared.fault.TextFault.{TextFault}
 use Rattle.sbpl_fixed.specs.declared.fault.TextFault.TheVariants as common
-use Rattle.sbpl_fixed.specs.OwnFaults.{Spares, behind_spares, either_spares, right_spares, spared, turns_spare}
+use Rattle.sbpl_fixed.specs.OwnFaults.{Spares, and_then_spares, either_spares, right_spares, spared, turns_spare}
 use Rattle.sbpl_cert.specs.declared.fault.LabelFault.{LabelFault}
 use Rattle.sbpl_cert.specs.declared.fault.LabelFault.TheVariants.{NoMemory, Count}
 use Rattle.sbpl_cert.specs.declared.outcome.Outcome.{Outcome}
@@ -36,8 +36,8 @@ low_spares = λ _ _ _ _. tt
 head_spares : (plan states : ℕ) → Spares NoMemory (head_format plan states)
 unfolding head_format
 head_spares plan states =
-    behind_spares NoMemory title_format _ title_spares (λ _. behind_spares NoMemory (count_format (codes "plan") plan) _ (count_spares (codes "plan") plan)
-    (λ _. behind_spares NoMemory (count_format (codes "states") states) _ (count_spares (codes "states") states) (λ _. low_spares)))
+    and_then_spares NoMemory title_format _ title_spares (λ _. and_then_spares NoMemory (count_format (codes "plan") plan) _ (count_spares (codes "plan") plan)
+    (λ _. and_then_spares NoMemory (count_format (codes "states") states) _ (count_spares (codes "states") states) (λ _. low_spares)))
 
 arc_spares : (arcs : List ℕ) → Spares NoMemory (arc_turn arcs)
 unfolding Spares arc_turn
@@ -45,7 +45,7 @@ arc_spares arcs = λ _ _. tt
 
 path_spares : Spares NoMemory path_format
 unfolding Spares path_format
-path_spares = λ _ _ _ _ _ n. behind_spares NoMemory (turns _ arc_turn []) _ (turns_spare NoMemory _ arc_turn [] arc_spares) (λ _. tt)
+path_spares = λ _ _ _ _ _ n. and_then_spares NoMemory (turns _ arc_turn []) _ (turns_spare NoMemory _ arc_turn [] arc_spares) (λ _. tt)
 
 abbrev Said : Type 0
 Said = Outcome × List ℕ
@@ -66,17 +66,17 @@ row_spares = λ _ _ _ _ _ _. tt
 
 next_row_spares : (rows : List Row) → Spares NoMemory (row_turn rows)
 unfolding Spares row_turn
-next_row_spares rows = behind_spares NoMemory row_format _ row_spares (λ _. tt)
+next_row_spares rows = and_then_spares NoMemory row_format _ row_spares (λ _. tt)
 
 front_spares : (plan states : ℕ) → Spares NoMemory (front_format plan states)
 unfolding Spares front_format
 front_spares plan states =
-    behind_spares NoMemory (head_format plan states) _ (head_spares plan states) (λ _. behind_spares NoMemory outcome_format _ outcome_spares
-    (λ _. behind_spares NoMemory (turns states row_turn []) _ (turns_spare NoMemory states row_turn [] next_row_spares) (λ _. tt)))
+    and_then_spares NoMemory (head_format plan states) _ (head_spares plan states) (λ _. and_then_spares NoMemory outcome_format _ outcome_spares
+    (λ _. and_then_spares NoMemory (turns states row_turn []) _ (turns_spare NoMemory states row_turn [] next_row_spares) (λ _. tt)))
 
 section_spares : (plan states : ℕ) → Spares NoMemory (section_format plan states)
 unfolding Spares section_format
-section_spares plan states = behind_spares NoMemory (front_format plan states) _ (front_spares plan states) (λ _ _ _. tt)
+section_spares plan states = and_then_spares NoMemory (front_format plan states) _ (front_spares plan states) (λ _ _ _. tt)
 
 pub no_memory_is_no_fault : (plan states end : ℕ) (ts : List Piece) (e : LabelFault) → IsFaulty told (section_format plan states) end ts e → e ≢ NoMemory
 no_memory_is_no_fault plan states end ts e h = spared NoMemory told (section_format plan states) end ts e told_spares (section_spares plan states) h

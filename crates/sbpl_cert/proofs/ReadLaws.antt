@@ -15,7 +15,7 @@ use Rattle.sbpl_cert.specs.declared.fault.LabelFault.TheVariants.{NoMemory}
 use Rattle.sbpl_cert.specs.Faults.{told}
 use Rattle.sbpl_cert.specs.Format.{front_format, section_format}
 use Rattle.sbpl_cert.specs.Sections.{Section, IsSection}
-use Rattle.sbpl_cert.specs.Text.{AreTokensOf, EndsWith, HasFault, IsBehindEnd, with_rest}
+use Rattle.sbpl_cert.specs.Text.{AreTokensOf, EndsWith, HasFault, IsAfterEnd, with_rest}
 use Rattle.sbpl_cert.proofs.Leaves.{said_leaves}
 use Rattle.sbpl_cert.proofs.ItemLaws.{word_out}
 use Rattle.sbpl_cert.proofs.SectionLaws.{front_out, section_out, section_in}
@@ -144,24 +144,24 @@ only_faulty_at reading plan states text at (Err d) exact e h = λ n.
 same_left : (a b : Left) → a.end ≡ b.end → a.tokens ≡ b.tokens → a ≡ b
 same_left a b e t = ap (λ (n : ℕ). record { end = n; tokens = a.tokens }) e ∙ ap (λ (l : List Piece). record { end = b.end; tokens = l }) t
 
-pub ends_behind : TokensGoOn → (text : List ℕ) (at place : ℕ) (rest : Left) → at ≤ length text → EndsWith (tokens_from text at) (record { place = place; bytes = codes "end" } ∷ rest.tokens) → rest.end ≡ length text
+pub ends_after : TokensGoOn → (text : List ℕ) (at place : ℕ) (rest : Left) → at ≤ length text → EndsWith (tokens_from text at) (record { place = place; bytes = codes "end" } ∷ rest.tokens) → rest.end ≡ length text
     → (at < place + 3) × (place + 3 ≤ length text) × (rest ≡ start_at text (place + 3))
-ends_behind go_on text at place rest inside h end =
+ends_after go_on text at place rest inside h end =
     let w = go_on text at h.0 (record { place = place; bytes = codes "end" }) rest.tokens inside h.1 in
     (omega (arith, w.0), w.2, same_left rest (start_at text (place + 3)) end (sym w.3))
 
 -- the word that ends three bytes after its place ends there
-pub right_behind_end : (text : List ℕ) (at place : ℕ) (rest : Left) → EndsWith (tokens_from text at) (record { place = place; bytes = codes "end" } ∷ rest.tokens)
-    → rest ≡ start_at text (place + 3) → IsBehindEnd text at (place + 3)
-right_behind_end text at place rest h left =
+pub right_after_end : (text : List ℕ) (at place : ℕ) (rest : Left) → EndsWith (tokens_from text at) (record { place = place; bytes = codes "end" } ∷ rest.tokens)
+    → rest ≡ start_at text (place + 3) → IsAfterEnd text at (place + 3)
+right_after_end text at place rest h left =
     let same : place ≡ place + 3 - 3 = omega arith in
     let tokens : rest.tokens ≡ tokens_from text (place + 3) = ap (λ (l : Left). l.tokens) left in
     let here = subst (λ (ts : List Piece). EndsWith (tokens_from text at) (record { place = place; bytes = codes "end" } ∷ ts)) tokens h in
     subst (λ (n : ℕ). EndsWith (tokens_from text at) (record { place = n; bytes = codes "end" } ∷ tokens_from text (place + 3))) same here
 
 -- the same where the reading began after the end of the text
-pub behind_end_within : (text : List ℕ) (at from offset : ℕ) → start_at text from ≡ start_at text at → IsBehindEnd text from offset → IsBehindEnd text at offset
-behind_end_within text at from offset same h =
+pub after_end_within : (text : List ℕ) (at from offset : ℕ) → start_at text from ≡ start_at text at → IsAfterEnd text from offset → IsAfterEnd text at offset
+after_end_within text at from offset same h =
     subst (λ (l : Left). EndsWith l.tokens (record { place = offset - 3; bytes = codes "end" } ∷ tokens_from text offset)) same h
 
 pub read_to : (s : Section) {l m : Left} → l ≡ m → section_read s l ≡ section_read s m

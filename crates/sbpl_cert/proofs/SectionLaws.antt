@@ -5,7 +5,7 @@ use Rattle.std.specs.List.{flat_map, AllByRecursion}
 use Rattle.std.proofs.lemmas.Bool.{cases_Bool, eqb-true}
 use Rattle.std.proofs.lemmas.List.{append-nil}
 use Rattle.sbpl_fixed.specs.Numbers.{number_of}
-use Rattle.sbpl_fixed.specs.Formats.{Format, item, done, fixed, behind, turns, Says}
+use Rattle.sbpl_fixed.specs.Formats.{Format, item, done, fixed, and_then, turns, Says}
 use Rattle.sbpl_fixed.specs.Parts.{says_parts, says_both}
 use Rattle.sbpl_fixed.specs.Tokens.{Piece}
 use Rattle.sbpl_fixed.specs.Unsigned.{NumbersAreTheirDigits}
@@ -35,14 +35,14 @@ meant_parts (s ∷ ss) vs (t ∷ ts) rest h = let p = meant_parts ss vs ts rest 
 -- ---- rounds that collect a list
 
 abbrev round : {X : Type 0} → Format LabelFault X → List X → Format LabelFault (List X)
-round f before = behind f (λ x. done (before ++ x ∷ []))
+round f before = and_then f (λ x. done (before ++ x ∷ []))
 
 module _ {X : Type 0} (f : Format LabelFault X) (Holds : X → Type 0) (spell : X → List Saying)
     (out : (x : X) (ts rest : List Piece) → Says f ts x rest → Holds x × AreMeant (spell x) ts rest)
     (into : (x : X) (ts rest : List Piece) → Holds x → AreMeant (spell x) ts rest → Says f ts x rest) where
   pub rounds_out : (n : ℕ) (before all : List X) (ts rest : List Piece) → Says (turns n (round f) before) ts all rest
       → (xs : List X) × (all ≡ before ++ xs) × (length xs ≡ n) × AllByRecursion Holds xs × AreMeant (flat_map spell xs) ts rest
-  unfolding Says turns behind AreMeant
+  unfolding Says turns and_then AreMeant
   rounds_out zero before all ts rest h = ([], h.0 ∙ sym (append-nil before), refl, tt, h.1)
   rounds_out (suc n) before all ts rest h =
       let both = says_parts (round f before) (turns n (round f)) ts rest all h in
@@ -62,7 +62,7 @@ module _ {X : Type 0} (f : Format LabelFault X) (Holds : X → Type 0) (spell : 
 
   pub rounds_in : (n : ℕ) (before xs : List X) (ts rest : List Piece) → length xs ≡ n → AllByRecursion Holds xs → AreMeant (flat_map spell xs) ts rest
       → Says (turns n (round f) before) ts (before ++ xs) rest
-  unfolding Says turns behind AreMeant
+  unfolding Says turns and_then AreMeant
   rounds_in zero before [] ts rest len holds h = (append-nil before, h)
   rounds_in zero before (x ∷ xs) ts rest len holds h = absurd cc
   rounds_in (suc n) before [] ts rest len holds h = absurd cc
@@ -161,14 +161,14 @@ module _ (numbers : NumbersAreTheirDigits) where
 
   arcs_out : (n : ℕ) (arcs : List ℕ) (ts rest : List Piece) → Says (turns n arc_turn []) ts arcs rest
       → (length arcs ≡ n) × ((i : ℕ) → i < length arcs → get_or arcs i 0 < 4096) × AreMeant (flat_map spelled_arc arcs) ts rest
-  unfolding arc_turn behind
+  unfolding arc_turn and_then
   arcs_out n arcs ts rest h =
       let w = rounds_out arc_format IsArcNumber spelled_arc arc_out arc_in n [] arcs ts rest h in
       rw w.1 (w.2, each_arc w.0 w.3, w.4)
 
   arcs_in : (arcs : List ℕ) (ts rest : List Piece) → ((i : ℕ) → i < length arcs → get_or arcs i 0 < 4096) → AreMeant (flat_map spelled_arc arcs) ts rest
       → Says (turns (length arcs) arc_turn []) ts arcs rest
-  unfolding arc_turn behind
+  unfolding arc_turn and_then
   arcs_in arcs ts rest each h = rounds_in arc_format IsArcNumber spelled_arc arc_out arc_in (length arcs) [] arcs ts rest refl (all_arcs arcs each) h
 
   -- ---- the outcome
@@ -306,8 +306,8 @@ module _ (numbers : NumbersAreTheirDigits) where
       → IsLowest low × AreMeant (title ++ (counted (codes "plan") plan ++ (counted (codes "states") states ++ lowest low))) ts rest
   unfolding head_format
   head_out plan states low ts rest h =
-      let one = says_parts title_format (λ _. behind (count_format (codes "plan") plan) (λ _. behind (count_format (codes "states") states) (λ _. low_format))) ts rest low h in
-      let two = says_parts (count_format (codes "plan") plan) (λ _. behind (count_format (codes "states") states) (λ _. low_format)) one.1 rest low one.3 in
+      let one = says_parts title_format (λ _. and_then (count_format (codes "plan") plan) (λ _. and_then (count_format (codes "states") states) (λ _. low_format))) ts rest low h in
+      let two = says_parts (count_format (codes "plan") plan) (λ _. and_then (count_format (codes "states") states) (λ _. low_format)) one.1 rest low one.3 in
       let three = says_parts (count_format (codes "states") states) (λ _. low_format) two.1 rest low two.3 in
       let last = low_out low three.1 rest three.3 in (
         last.0,
@@ -323,8 +323,8 @@ module _ (numbers : NumbersAreTheirDigits) where
       let one = meant_parts title (counted (codes "plan") plan ++ (counted (codes "states") states ++ lowest low)) ts rest h in
       let two = meant_parts (counted (codes "plan") plan) (counted (codes "states") states ++ lowest low) one.0 rest one.2 in
       let three = meant_parts (counted (codes "states") states) (lowest low) two.0 rest two.2 in
-      says_both title_format (λ _. behind (count_format (codes "plan") plan) (λ _. behind (count_format (codes "states") states) (λ _. low_format))) ts one.0 rest tt low (title_in ts one.0 one.1)
-      (says_both (count_format (codes "plan") plan) (λ _. behind (count_format (codes "states") states) (λ _. low_format)) one.0 two.0 rest tt low (count_in (codes "plan") plan one.0 two.0 p two.1)
+      says_both title_format (λ _. and_then (count_format (codes "plan") plan) (λ _. and_then (count_format (codes "states") states) (λ _. low_format))) ts one.0 rest tt low (title_in ts one.0 one.1)
+      (says_both (count_format (codes "plan") plan) (λ _. and_then (count_format (codes "states") states) (λ _. low_format)) one.0 two.0 rest tt low (count_in (codes "plan") plan one.0 two.0 p two.1)
       (says_both (count_format (codes "states") states) (λ _. low_format) two.0 three.0 rest tt low (count_in (codes "states") states two.0 three.0 s three.1) (low_in low three.0 rest fits three.2)))
 
   -- ---- a section
@@ -339,8 +339,8 @@ module _ (numbers : NumbersAreTheirDigits) where
       → (s.plan ≡ plan) × (length s.labels ≡ states) × IsSection s × AreMeant (front s) ts rest
   unfolding front_format Says
   front_out plan states s ts rest p q h =
-      let one = says_parts (head_format plan states) (λ low. behind outcome_format (λ o. behind (turns states row_turn []) (λ rows. done (made plan low o.0 o.1 rows)))) ts rest s h in
-      let two = says_parts outcome_format (λ o. behind (turns states row_turn []) (λ rows. done (made plan one.0 o.0 o.1 rows))) one.1 rest s one.3 in
+      let one = says_parts (head_format plan states) (λ low. and_then outcome_format (λ o. and_then (turns states row_turn []) (λ rows. done (made plan low o.0 o.1 rows)))) ts rest s h in
+      let two = says_parts outcome_format (λ o. and_then (turns states row_turn []) (λ rows. done (made plan one.0 o.0 o.1 rows))) one.1 rest s one.3 in
       let three = says_parts (turns states row_turn []) (λ rows. done (made plan one.0 two.0.0 two.0.1 rows)) two.1 rest s two.3 in
       let head = head_out plan states one.0 ts one.1 one.2 in
       let path = outcome_out two.0 one.1 two.1 two.2 in
@@ -362,9 +362,9 @@ module _ (numbers : NumbersAreTheirDigits) where
       let states = length s.labels in
       let one = meant_parts (spelled_head s) (spelled_outcome s.outcome s.arcs ++ flat_map spelled_row s.labels) ts rest h in
       let two = meant_parts (spelled_outcome s.outcome s.arcs) (flat_map spelled_row s.labels) one.0 rest one.2 in
-      says_both (head_format s.plan states) (λ low. behind outcome_format (λ o. behind (turns states row_turn []) (λ rows. done (made s.plan low o.0 o.1 rows)))) ts one.0 rest s.low s
+      says_both (head_format s.plan states) (λ low. and_then outcome_format (λ o. and_then (turns states row_turn []) (λ rows. done (made s.plan low o.0 o.1 rows)))) ts one.0 rest s.low s
       (head_in s.plan states s.low ts one.0 fits.plan fits.states fits.low one.1)
-      (says_both outcome_format (λ o. behind (turns states row_turn []) (λ rows. done (made s.plan s.low o.0 o.1 rows))) one.0 two.0 rest (s.outcome, s.arcs) s
+      (says_both outcome_format (λ o. and_then (turns states row_turn []) (λ rows. done (made s.plan s.low o.0 o.1 rows))) one.0 two.0 rest (s.outcome, s.arcs) s
       (outcome_in s.outcome s.arcs one.0 two.0 fits.outcome fits.arcs two.1)
       (says_both (turns states row_turn []) (λ rows. done (made s.plan s.low s.outcome s.arcs rows)) two.0 rest rest s.labels s (rows_in s.labels two.0 rest fits.labels two.2) (refl, refl)))
 

@@ -47,21 +47,21 @@ module _ (numbers : NumbersAreTheirDigits) (words_are_tokens : WordsAreTokens) w
 
   -- ---- lines
 
-  line_means : (ss : List Saying) (w : List ℕ) (ws : List (List ℕ)) (place : ℕ) (behind : List ℕ) → AreWords ss (w ∷ ws)
-      → AreMeant ss (tokens_past true place (line_text (w ∷ ws) ++ behind)) (tokens_past true (place + length (line_text (w ∷ ws))) behind)
+  line_means : (ss : List Saying) (w : List ℕ) (ws : List (List ℕ)) (place : ℕ) (after : List ℕ) → AreWords ss (w ∷ ws)
+      → AreMeant ss (tokens_past true place (line_text (w ∷ ws) ++ after)) (tokens_past true (place + length (line_text (w ∷ ws))) after)
   unfolding line_text AreMeant AreWords
-  line_means [] w ws place behind h = absurd h
-  line_means (s ∷ []) w [] place behind h =
-      let token = words_are_tokens w 10 behind place h.0 refl in
-      let text : (w ++ 10 ∷ []) ++ behind ≡ w ++ 10 ∷ behind = append_assoc w (10 ∷ []) behind in
+  line_means [] w ws place after h = absurd h
+  line_means (s ∷ []) w [] place after h =
+      let token = words_are_tokens w 10 after place h.0 refl in
+      let text : (w ++ 10 ∷ []) ++ after ≡ w ++ 10 ∷ after = append_assoc w (10 ∷ []) after in
       let far : place + length (w ++ 10 ∷ []) ≡ place + length w + 1 = omega (arith, length-append w (10 ∷ [])) in
       rw (text, token, far) (h.1, refl)
-  line_means (s ∷ t ∷ ss) w [] place behind h = absurd h.2
-  line_means (s ∷ []) w (v ∷ ws) place behind h = absurd h.2
-  line_means (s ∷ t ∷ ss) w (v ∷ ws) place behind h =
-      let more = line_means (t ∷ ss) v ws (place + length w + 1) behind h.2 in
-      let token = words_are_tokens w 32 (line_text (v ∷ ws) ++ behind) place h.0 refl in
-      let text : (w ++ 32 ∷ line_text (v ∷ ws)) ++ behind ≡ w ++ 32 ∷ (line_text (v ∷ ws) ++ behind) = append_assoc w (32 ∷ line_text (v ∷ ws)) behind in
+  line_means (s ∷ t ∷ ss) w [] place after h = absurd h.2
+  line_means (s ∷ []) w (v ∷ ws) place after h = absurd h.2
+  line_means (s ∷ t ∷ ss) w (v ∷ ws) place after h =
+      let more = line_means (t ∷ ss) v ws (place + length w + 1) after h.2 in
+      let token = words_are_tokens w 32 (line_text (v ∷ ws) ++ after) place h.0 refl in
+      let text : (w ++ 32 ∷ line_text (v ∷ ws)) ++ after ≡ w ++ 32 ∷ (line_text (v ∷ ws) ++ after) = append_assoc w (32 ∷ line_text (v ∷ ws)) after in
       let far : place + length (w ++ 32 ∷ line_text (v ∷ ws)) ≡ place + length w + 1 + length (line_text (v ∷ ws)) = omega (arith, length-append w (32 ∷ line_text (v ∷ ws))) in
       rw (text, token, far) (h.1, more)
 
@@ -75,17 +75,17 @@ module _ (numbers : NumbersAreTheirDigits) (words_are_tokens : WordsAreTokens) w
       let h = number_word r.h (let lt = fits.h in omega arith) in
       (g.0, g.1, (v.0, v.1, (h.0, h.1, tt)))
 
-  rows_mean : (rows : List Row) (place : ℕ) (behind : List ℕ) → AreRows rows
-      → AreMeant (flat_map spelled_row rows) (tokens_past true place (flat_map row_text rows ++ behind)) (tokens_past true (place + length (flat_map row_text rows)) behind)
+  rows_mean : (rows : List Row) (place : ℕ) (after : List ℕ) → AreRows rows
+      → AreMeant (flat_map spelled_row rows) (tokens_past true place (flat_map row_text rows ++ after)) (tokens_past true (place + length (flat_map row_text rows)) after)
   unfolding AreMeant
-  rows_mean [] place behind fits = let here : place + 0 ≡ place = omega arith in rw here refl
-  rows_mean (r ∷ rows) place behind fits =
-      let text : (row_text r ++ flat_map row_text rows) ++ behind ≡ row_text r ++ (flat_map row_text rows ++ behind) = append_assoc (row_text r) (flat_map row_text rows) behind in
+  rows_mean [] place after fits = let here : place + 0 ≡ place = omega arith in rw here refl
+  rows_mean (r ∷ rows) place after fits =
+      let text : (row_text r ++ flat_map row_text rows) ++ after ≡ row_text r ++ (flat_map row_text rows ++ after) = append_assoc (row_text r) (flat_map row_text rows) after in
       let far : place + length (row_text r ++ flat_map row_text rows) ≡ place + length (row_text r) + length (flat_map row_text rows) = omega (arith, length-append (row_text r) (flat_map row_text rows)) in
-      let first = line_means (spelled_row r) (label_text r.g) (label_text r.v ∷ decimal r.h ∷ []) place (flat_map row_text rows ++ behind) (row_words r (fits 0 (omega arith))) in
-      let more = rows_mean rows (place + length (row_text r)) behind (λ s lt. fits (suc s) (omega arith)) in
-      rw (text, far) (meant_both (spelled_row r) (flat_map spelled_row rows) (tokens_past true place (row_text r ++ (flat_map row_text rows ++ behind)))
-      (tokens_past true (place + length (row_text r)) (flat_map row_text rows ++ behind)) (tokens_past true (place + length (row_text r) + length (flat_map row_text rows)) behind) first more)
+      let first = line_means (spelled_row r) (label_text r.g) (label_text r.v ∷ decimal r.h ∷ []) place (flat_map row_text rows ++ after) (row_words r (fits 0 (omega arith))) in
+      let more = rows_mean rows (place + length (row_text r)) after (λ s lt. fits (suc s) (omega arith)) in
+      rw (text, far) (meant_both (spelled_row r) (flat_map spelled_row rows) (tokens_past true place (row_text r ++ (flat_map row_text rows ++ after)))
+      (tokens_past true (place + length (row_text r)) (flat_map row_text rows ++ after)) (tokens_past true (place + length (row_text r) + length (flat_map row_text rows)) after) first more)
 
   arcs_words : (arcs : List ℕ) → ((i : ℕ) → i < length arcs → get_or arcs i 0 < 4096) → AreWords (flat_map spelled_arc arcs) (map decimal arcs)
   unfolding AreWords
@@ -94,19 +94,19 @@ module _ (numbers : NumbersAreTheirDigits) (words_are_tokens : WordsAreTokens) w
       let n = number_word k (let lt = small 0 (omega arith) in omega arith) in
       (n.0, n.1, arcs_words ks (λ i lt. small (suc i) (omega arith)))
 
-  outcome_means : (o : Outcome) (arcs : List ℕ) (place : ℕ) (behind : List ℕ) → IsOutcomeInRange o → HasArcs o arcs
-      → AreMeant (spelled_outcome o arcs) (tokens_past true place (line_text (outcome_line o arcs) ++ behind)) (tokens_past true (place + length (line_text (outcome_line o arcs))) behind)
+  outcome_means : (o : Outcome) (arcs : List ℕ) (place : ℕ) (after : List ℕ) → IsOutcomeInRange o → HasArcs o arcs
+      → AreMeant (spelled_outcome o arcs) (tokens_past true place (line_text (outcome_line o arcs) ++ after)) (tokens_past true (place + length (line_text (outcome_line o arcs))) after)
   unfolding AreWords
-  outcome_means (outcome.Path cost b) arcs place behind fits has =
+  outcome_means (outcome.Path cost b) arcs place after fits has =
       let c = number_word cost (let lt = fits.0 in omega arith) in
       let m = milli_word b fits.2 in
       let n = number_word (length arcs) (let lt = has.few in omega arith) in
-      line_means (spelled_outcome (outcome.Path cost b) arcs) (codes "path") (decimal cost ∷ milli_text b ∷ decimal (length arcs) ∷ map decimal arcs) place behind
+      line_means (spelled_outcome (outcome.Path cost b) arcs) (codes "path") (decimal cost ∷ milli_text b ∷ decimal (length arcs) ∷ map decimal arcs) place after
       (record { some = omega arith; filled = refl }, refl, (c.0, c.1, (m.0, m.1, (n.0, n.1, arcs_words arcs has.small))))
-  outcome_means outcome.NoPath arcs place behind fits has =
-      line_means (a_word (codes "nopath") ∷ []) (codes "nopath") [] place behind (record { some = omega arith; filled = refl }, refl, tt)
-  outcome_means outcome.Unknown arcs place behind fits has =
-      line_means (a_word (codes "unknown") ∷ []) (codes "unknown") [] place behind (record { some = omega arith; filled = refl }, refl, tt)
+  outcome_means outcome.NoPath arcs place after fits has =
+      line_means (a_word (codes "nopath") ∷ []) (codes "nopath") [] place after (record { some = omega arith; filled = refl }, refl, tt)
+  outcome_means outcome.Unknown arcs place after fits has =
+      line_means (a_word (codes "unknown") ∷ []) (codes "unknown") [] place after (record { some = omega arith; filled = refl }, refl, tt)
 
   lowest_range : (x : ℕ) → (x ≡ FAR) ⊎ (x < 2 ^ 63) → (x ≡ FAR) ⊎ (x < FAR)
   lowest_range x h = h
@@ -139,33 +139,33 @@ module _ (numbers : NumbersAreTheirDigits) (words_are_tokens : WordsAreTokens) w
   abbrev last_line : List ℕ
   last_line = codes "end\n"
 
-  last_means : (place : ℕ) (behind : List ℕ) → AreMeant (a_word (codes "end") ∷ []) (tokens_past true place (last_line ++ behind)) (tokens_past true (place + length last_line) behind)
+  last_means : (place : ℕ) (after : List ℕ) → AreMeant (a_word (codes "end") ∷ []) (tokens_past true place (last_line ++ after)) (tokens_past true (place + length last_line) after)
   unfolding AreWords line_text
-  last_means place behind = line_means (a_word (codes "end") ∷ []) (codes "end") [] place behind (record { some = omega arith; filled = refl }, refl, tt)
+  last_means place after = line_means (a_word (codes "end") ∷ []) (codes "end") [] place after (record { some = omega arith; filled = refl }, refl, tt)
 
   -- one text after another
-  both_mean : (ss vs : List Saying) (a b : List ℕ) (place : ℕ) (behind : List ℕ)
-      → AreMeant ss (tokens_past true place (a ++ (b ++ behind))) (tokens_past true (place + length a) (b ++ behind))
-      → AreMeant vs (tokens_past true (place + length a) (b ++ behind)) (tokens_past true (place + length a + length b) behind)
-      → AreMeant (ss ++ vs) (tokens_past true place ((a ++ b) ++ behind)) (tokens_past true (place + length (a ++ b)) behind)
-  both_mean ss vs a b place behind one two =
+  both_mean : (ss vs : List Saying) (a b : List ℕ) (place : ℕ) (after : List ℕ)
+      → AreMeant ss (tokens_past true place (a ++ (b ++ after))) (tokens_past true (place + length a) (b ++ after))
+      → AreMeant vs (tokens_past true (place + length a) (b ++ after)) (tokens_past true (place + length a + length b) after)
+      → AreMeant (ss ++ vs) (tokens_past true place ((a ++ b) ++ after)) (tokens_past true (place + length (a ++ b)) after)
+  both_mean ss vs a b place after one two =
       let far : place + length (a ++ b) ≡ place + length a + length b = omega (arith, length-append a b) in
-      rw (append_assoc a b behind, far) (meant_both ss vs (tokens_past true place (a ++ (b ++ behind))) (tokens_past true (place + length a) (b ++ behind)) (tokens_past true (place + length a + length b) behind) one two)
+      rw (append_assoc a b after, far) (meant_both ss vs (tokens_past true place (a ++ (b ++ after))) (tokens_past true (place + length a) (b ++ after)) (tokens_past true (place + length a + length b) after) one two)
 
-  section_means : (s : Section) (place : ℕ) (behind : List ℕ) → IsSection s
-      → AreMeant (spelled s) (tokens_past true place (section_text s ++ behind)) (tokens_past true (place + length (section_text s)) behind)
+  section_means : (s : Section) (place : ℕ) (after : List ℕ) → IsSection s
+      → AreMeant (spelled s) (tokens_past true place (section_text s ++ after)) (tokens_past true (place + length (section_text s)) after)
   unfolding section_text spelled
-  section_means s place behind fits =
+  section_means s place after fits =
       let head = line_text (head_line s) in
       let path = line_text (outcome_line s.outcome s.arcs) in
       let rows = flat_map row_text s.labels in
-      both_mean (spelled_head s) (spelled_outcome s.outcome s.arcs ++ (flat_map spelled_row s.labels ++ a_word (codes "end") ∷ [])) head (path ++ (rows ++ last_line)) place behind
-      (line_means (spelled_head s) (codes "labels") (codes "1" ∷ codes "plan" ∷ decimal s.plan ∷ codes "states" ∷ decimal (length s.labels) ∷ codes "low" ∷ label_text s.low ∷ []) place ((path ++ (rows ++ last_line)) ++ behind) (head_words s fits))
-      (both_mean (spelled_outcome s.outcome s.arcs) (flat_map spelled_row s.labels ++ a_word (codes "end") ∷ []) path (rows ++ last_line) (place + length head) behind
-      (outcome_means s.outcome s.arcs (place + length head) ((rows ++ last_line) ++ behind) fits.outcome fits.arcs)
-      (both_mean (flat_map spelled_row s.labels) (a_word (codes "end") ∷ []) rows last_line (place + length head + length path) behind
-      (rows_mean s.labels (place + length head + length path) (last_line ++ behind) fits.labels)
-      (last_means (place + length head + length path + length rows) behind)))
+      both_mean (spelled_head s) (spelled_outcome s.outcome s.arcs ++ (flat_map spelled_row s.labels ++ a_word (codes "end") ∷ [])) head (path ++ (rows ++ last_line)) place after
+      (line_means (spelled_head s) (codes "labels") (codes "1" ∷ codes "plan" ∷ decimal s.plan ∷ codes "states" ∷ decimal (length s.labels) ∷ codes "low" ∷ label_text s.low ∷ []) place ((path ++ (rows ++ last_line)) ++ after) (head_words s fits))
+      (both_mean (spelled_outcome s.outcome s.arcs) (flat_map spelled_row s.labels ++ a_word (codes "end") ∷ []) path (rows ++ last_line) (place + length head) after
+      (outcome_means s.outcome s.arcs (place + length head) ((rows ++ last_line) ++ after) fits.outcome fits.arcs)
+      (both_mean (flat_map spelled_row s.labels) (a_word (codes "end") ∷ []) rows last_line (place + length head + length path) after
+      (rows_mean s.labels (place + length head + length path) (last_line ++ after) fits.labels)
+      (last_means (place + length head + length path + length rows) after)))
 
   -- ---- at an offset
 
@@ -182,28 +182,28 @@ module _ (numbers : NumbersAreTheirDigits) (words_are_tokens : WordsAreTokens) w
       ends_both empty head (path ++ (rows ++ last_line)) ∙ ends_both (ends_blank empty head) path (rows ++ last_line) ∙ ends_both (ends_blank (ends_blank empty head) path) rows last_line
 
   -- the last of a list that is not empty is a blank, where it ends in one
-  last_is_blank : (b : ℕ) (before behind : List ℕ) → ends_blank true (b ∷ before) ≡ true → is_blank (get_or ((b ∷ before) ++ behind) (length before) 0) ≡ true
-  last_is_blank b [] behind h = h
-  last_is_blank b (c ∷ before) behind h = last_is_blank c before behind h
+  last_is_blank : (b : ℕ) (before after : List ℕ) → ends_blank true (b ∷ before) ≡ true → is_blank (get_or ((b ∷ before) ++ after) (length before) 0) ≡ true
+  last_is_blank b [] after h = h
+  last_is_blank b (c ∷ before) after h = last_is_blank c before after h
 
-  fresh_at : (before behind : List ℕ) → ends_blank true before ≡ true → is_fresh (before ++ behind) (length before) ≡ true
-  fresh_at [] behind h = refl
-  fresh_at (b ∷ before) behind h =
+  fresh_at : (before after : List ℕ) → ends_blank true before ≡ true → is_fresh (before ++ after) (length before) ≡ true
+  fresh_at [] after h = refl
+  fresh_at (b ∷ before) after h =
       let one : suc (length before) - 1 ≡ length before = omega arith in
       let other : eqb (suc (length before)) 0 ≡ false = ne_eqb (suc (length before)) 0 (λ q. omega arith) in
-      rw (other, one) (last_is_blank b before behind h)
+      rw (other, one) (last_is_blank b before after h)
 
-  tokens_at : (before behind : List ℕ) → ends_blank true before ≡ true → tokens_from (before ++ behind) (length before) ≡ tokens_past true (length before) behind
-  tokens_at before behind h = rw (fresh_at before behind h, drop_at before behind (length before) refl) refl
+  tokens_at : (before after : List ℕ) → ends_blank true before ≡ true → tokens_from (before ++ after) (length before) ≡ tokens_past true (length before) after
+  tokens_at before after h = rw (fresh_at before after h, drop_at before after (length before) refl) refl
 
-  pub written_means : (s : Section) (before behind : List ℕ) → IsSection s → ends_blank true before ≡ true
-      → AreTokensOf (tokens_from (before ++ section_text s ++ behind) (length before)) s (tokens_from (before ++ section_text s ++ behind) (length before + length (section_text s)))
-  written_means s before behind fits h =
-      let text : before ++ section_text s ++ behind ≡ before ++ (section_text s ++ behind) = append_assoc before (section_text s) behind in
-      let first : tokens_from (before ++ section_text s ++ behind) (length before) ≡ tokens_past true (length before) (section_text s ++ behind) =
-      ap (λ (x : List ℕ). tokens_from x (length before)) text ∙ tokens_at before (section_text s ++ behind) h in
+  pub written_means : (s : Section) (before after : List ℕ) → IsSection s → ends_blank true before ≡ true
+      → AreTokensOf (tokens_from (before ++ section_text s ++ after) (length before)) s (tokens_from (before ++ section_text s ++ after) (length before + length (section_text s)))
+  written_means s before after fits h =
+      let text : before ++ section_text s ++ after ≡ before ++ (section_text s ++ after) = append_assoc before (section_text s) after in
+      let first : tokens_from (before ++ section_text s ++ after) (length before) ≡ tokens_past true (length before) (section_text s ++ after) =
+      ap (λ (x : List ℕ). tokens_from x (length before)) text ∙ tokens_at before (section_text s ++ after) h in
       let ends : ends_blank true (before ++ section_text s) ≡ true = ends_both true before (section_text s) ∙ section_ends_blank (ends_blank true before) s in
       let size : length (before ++ section_text s) ≡ length before + length (section_text s) = length-append before (section_text s) in
-      let last : tokens_from (before ++ section_text s ++ behind) (length before + length (section_text s)) ≡ tokens_past true (length before + length (section_text s)) behind =
-      ap (tokens_from (before ++ section_text s ++ behind)) (sym size) ∙ tokens_at (before ++ section_text s) behind ends ∙ ap (λ (n : ℕ). tokens_past true n behind) size in
-      record { tokens = rw (first, last) (section_means s (length before) behind fits); fits = fits }
+      let last : tokens_from (before ++ section_text s ++ after) (length before + length (section_text s)) ≡ tokens_past true (length before + length (section_text s)) after =
+      ap (tokens_from (before ++ section_text s ++ after)) (sym size) ∙ tokens_at (before ++ section_text s) after ends ∙ ap (λ (n : ℕ). tokens_past true n after) size in
+      record { tokens = rw (first, last) (section_means s (length before) after fits); fits = fits }

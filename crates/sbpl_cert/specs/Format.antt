@@ -1,7 +1,7 @@
 -- The format of a section of a label text.
 use Rattle.std.specs.Prelude.{ℕ, ℤ, pos, ◌^◌, ◌==◌, nat_le, bytes_eq, if◌then◌else◌, List, [], ◌∷◌, ◌++◌, unsigned_abs, codes, Result, Ok, Err}
 use Rattle.sbpl_graph.specs.declared.TheConstants.{FAR}
-use Rattle.sbpl_fixed.specs.Formats.{Miss, no_word, no_number, out_of_range, Item, Format, item, wrong, done, fixed, behind, turns}
+use Rattle.sbpl_fixed.specs.Formats.{Miss, no_word, no_number, out_of_range, Item, Format, item, wrong, done, fixed, and_then, turns}
 use Rattle.sbpl_fixed.specs.Unsigned.{digits_of, milli_of}
 use Rattle.sbpl_fixed.specs.declared.fault.NumFault.{NumFault}
 use Rattle.sbpl_fixed.specs.declared.fault.NumFault.TheVariants.{Form, Size}
@@ -61,7 +61,7 @@ low_format = item (fixed (codes "low")) (λ _ _. item (label (2 ^ 63)) (λ _ low
 -- the version, the plan, the number of states and the low
 unfoldable pub head_format : ℕ → ℕ → Format LabelFault ℕ
 head_format plan states =
-    behind title_format (λ _. behind (count_format (codes "plan") plan) (λ _. behind (count_format (codes "states") states) (λ _. low_format)))
+    and_then title_format (λ _. and_then (count_format (codes "plan") plan) (λ _. and_then (count_format (codes "states") states) (λ _. low_format)))
 
 -- ---- the outcome
 
@@ -73,7 +73,7 @@ arc_turn arcs = item (digits 4096) (λ _ k. done (arcs ++ unsigned_abs k ∷ [])
 unfoldable pub path_format : Format LabelFault (Outcome × List ℕ)
 path_format =
     item (digits (2 ^ 62)) (λ _ cost. item bound (λ _ b. item (digits (2 ^ 23)) (λ _ n.
-    behind (turns (unsigned_abs n) arc_turn []) (λ arcs. done (outcome.Path (unsigned_abs cost) (unsigned_abs b), arcs)))))
+    and_then (turns (unsigned_abs n) arc_turn []) (λ arcs. done (outcome.Path (unsigned_abs cost) (unsigned_abs b), arcs)))))
 
 unfoldable pub outcome_format : Format LabelFault (Outcome × List ℕ)
 outcome_format =
@@ -89,16 +89,16 @@ row_format =
 
 -- one more row
 unfoldable pub row_turn : List Row → Format LabelFault (List Row)
-row_turn rows = behind row_format (λ row. done (rows ++ row ∷ []))
+row_turn rows = and_then row_format (λ row. done (rows ++ row ∷ []))
 
 -- ---- a section
 
 -- all that stands before the last word
 unfoldable pub front_format : ℕ → ℕ → Format LabelFault Section
 front_format plan states =
-    behind (head_format plan states) (λ low. behind outcome_format (λ o. behind (turns states row_turn []) (λ rows.
+    and_then (head_format plan states) (λ low. and_then outcome_format (λ o. and_then (turns states row_turn []) (λ rows.
     done (record { plan = plan; low = low; outcome = o.0; arcs = o.1; labels = rows }))))
 
 -- the section of a plan, of this number of states
 unfoldable pub section_format : ℕ → ℕ → Format LabelFault Section
-section_format plan states = behind (front_format plan states) (λ s. item (fixed (codes "end")) (λ _ _. done s))
+section_format plan states = and_then (front_format plan states) (λ s. item (fixed (codes "end")) (λ _ _. done s))

@@ -81,8 +81,8 @@ abbrev pub EndsWith : List Piece → List Piece → Type 0
 EndsWith ts rest = (before : List Piece) × (ts ≡ before ++ rest)
 
 -- of the tokens from `at` on, the last that begins before the offset is a section's last word, and the offset is the one right after it
-abbrev pub IsBehindEnd : List ℕ → ℕ → ℕ → Type 0
-IsBehindEnd text at offset = EndsWith (tokens_from text at) (record { place = offset - 3; bytes = codes "end" } ∷ tokens_from text offset)
+abbrev pub IsAfterEnd : List ℕ → ℕ → ℕ → Type 0
+IsAfterEnd text at offset = EndsWith (tokens_from text at) (record { place = offset - 3; bytes = codes "end" } ∷ tokens_from text offset)
 
 -- Up to the fault's place the tokens are what the format calls for, and there they fail in the way that the fault names. A token that is missing is missed at the end.
 abbrev pub HasFault : ℕ → ℕ → Left → LabelFault → Type 0

@@ -25,7 +25,7 @@ pub enum LabelFault {
     #[error("byte {0}: the text ends where more must stand")]
     Ended(usize),
     /// A token stands after the last section.
-    #[error("byte {0}: more stands behind the last section")]
+    #[error("byte {0}: more stands after the last section")]
     Trailing(usize),
     /// The plan or the number of states is not the one that is expected.
     #[error("byte {0}: not the plan or the number of states that must stand here")]

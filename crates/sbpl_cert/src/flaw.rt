@@ -14,7 +14,7 @@ pub enum Flaw {
         g: u64,
     },
     /// Over a free arc from a state of finite v the head's g is above v and the arc's cost.
-    #[error("g is {has} behind arc {arc} of state {state}, which allows {most}")]
+    #[error("g is {has} after arc {arc} of state {state}, which allows {most}")]
     Arc {
         state: u32,
         arc: u32,

@@ -8,7 +8,7 @@ ghost use Rattle.sbpl_cert.specs.declared.fault.LabelFault.TheVariants.{NoMemory
 ghost use Rattle.sbpl_cert.specs.Faults.{told};
 ghost use Rattle.sbpl_cert.specs.Format.{arc_turn, bound, count_format, digits, front_format, head_format, label, low_format, outcome_format, path_format, row_format, row_turn, section_format, title_format};
 ghost use Rattle.sbpl_cert.specs.Sections.{Section};
-ghost use Rattle.sbpl_cert.specs.Text.{AreTokensOf, EndsWith, HasFault, IsBehindEnd, with_rest};
+ghost use Rattle.sbpl_cert.specs.Text.{AreTokensOf, EndsWith, HasFault, IsAfterEnd, with_rest};
 
 use crate::fault::LabelFault;
 use crate::label_set::{Arcs, LabelSet, Rows};
@@ -122,7 +122,7 @@ fn read_low(reader: &mut Reader) -> Result<u64, LabelFault>
 }
 
 /// Reads the first line. Answers the low.
-#[tactic(auto, using(sbpl_fixed::specs::Parts::reads_behind), unfolding(sbpl_fixed::specs::Formats::reads, crate::specs::Format::head_format))]
+#[tactic(auto, using(sbpl_fixed::specs::Parts::reads_and_then), unfolding(sbpl_fixed::specs::Formats::reads, crate::specs::Format::head_format))]
 fn read_head(plan: u32, states: u32, reader: &mut Reader) -> Result<u64, LabelFault>
     ensures read { Gives Memory (λ x. x) result reader.new (reads told (head_format plan states) reader.old) }
 {
@@ -143,7 +143,7 @@ fn read_arc(arcs: &mut Vec<u32>, reader: &mut Reader) -> Result<(), LabelFault>
 }
 
 /// Reads this number of further arc numbers.
-#[tactic(auto, using(sbpl_fixed::specs::Parts::reads_behind, sbpl_fixed::specs::Parts::turns_next, sbpl_fixed::specs::Parts::turns_over), unfolding(sbpl_fixed::specs::Formats::reads))]
+#[tactic(auto, using(sbpl_fixed::specs::Parts::reads_and_then, sbpl_fixed::specs::Parts::turns_next, sbpl_fixed::specs::Parts::turns_over), unfolding(sbpl_fixed::specs::Formats::reads))]
 fn read_arcs(count: u32, arcs: &mut Vec<u32>, reader: &mut Reader) -> Result<(), LabelFault>
     ensures read { Gives Memory (λ _. arcs.new.items) result reader.new (reads told (turns count arc_turn arcs.old.items) reader.old) }
 {
@@ -154,7 +154,7 @@ fn read_arcs(count: u32, arcs: &mut Vec<u32>, reader: &mut Reader) -> Result<(),
 }
 
 /// Reads a path after its word.
-#[tactic(auto, using(sbpl_fixed::specs::Parts::reads_behind), unfolding(sbpl_fixed::specs::Formats::reads, crate::specs::Format::path_format))]
+#[tactic(auto, using(sbpl_fixed::specs::Parts::reads_and_then), unfolding(sbpl_fixed::specs::Formats::reads, crate::specs::Format::path_format))]
 fn read_path(alloc: Global, reader: &mut Reader) -> Result<(Outcome, Arcs), LabelFault>
     ensures read { Gives Memory (λ x. (x.0, x.1)) result reader.new (reads told path_format reader.old) }
 {
@@ -197,7 +197,7 @@ fn read_row(reader: &mut Reader) -> Result<Row, LabelFault>
 }
 
 /// Reads one more row.
-#[tactic(auto, using(sbpl_fixed::specs::Parts::reads_behind), unfolding(sbpl_fixed::specs::Formats::reads, crate::specs::Format::row_turn))]
+#[tactic(auto, using(sbpl_fixed::specs::Parts::reads_and_then), unfolding(sbpl_fixed::specs::Formats::reads, crate::specs::Format::row_turn))]
 fn read_next_row(rows: &mut Vec<Row>, reader: &mut Reader) -> Result<(), LabelFault>
     ensures read { Gives Memory (λ _. rows.new.items) result reader.new (reads told (row_turn rows.old.items) reader.old) }
 {
@@ -207,7 +207,7 @@ fn read_next_row(rows: &mut Vec<Row>, reader: &mut Reader) -> Result<(), LabelFa
 }
 
 /// Reads this number of further rows.
-#[tactic(auto, using(sbpl_fixed::specs::Parts::reads_behind, sbpl_fixed::specs::Parts::turns_next, sbpl_fixed::specs::Parts::turns_over), unfolding(sbpl_fixed::specs::Formats::reads))]
+#[tactic(auto, using(sbpl_fixed::specs::Parts::reads_and_then, sbpl_fixed::specs::Parts::turns_next, sbpl_fixed::specs::Parts::turns_over), unfolding(sbpl_fixed::specs::Formats::reads))]
 fn read_rows(count: u32, rows: &mut Vec<Row>, reader: &mut Reader) -> Result<(), LabelFault>
     ensures read { Gives Memory (λ _. rows.new.items) result reader.new (reads told (turns count row_turn rows.old.items) reader.old) }
 {
@@ -218,7 +218,7 @@ fn read_rows(count: u32, rows: &mut Vec<Row>, reader: &mut Reader) -> Result<(),
 }
 
 /// Reads the parts of a section that stand before its last word.
-#[tactic(auto, using(sbpl_fixed::specs::Parts::reads_behind), unfolding(sbpl_fixed::specs::Formats::reads, crate::specs::Format::front_format))]
+#[tactic(auto, using(sbpl_fixed::specs::Parts::reads_and_then), unfolding(sbpl_fixed::specs::Formats::reads, crate::specs::Format::front_format))]
 fn read_parts(
     alloc: Global,
     plan: u32,
@@ -255,7 +255,7 @@ fn read_front(
 }
 
 /// Reads a section, and answers where its last word stands.
-#[tactic(auto, using(sbpl_fixed::specs::Parts::reads_behind), unfolding(sbpl_fixed::specs::Formats::reads, crate::specs::Format::section_format))]
+#[tactic(auto, using(sbpl_fixed::specs::Parts::reads_and_then), unfolding(sbpl_fixed::specs::Formats::reads, crate::specs::Format::section_format))]
 fn read_section(
     alloc: Global,
     plan: u32,
@@ -282,7 +282,7 @@ fn read_exactly(
 ) -> Result<(LabelSet, usize), LabelFault>
     requires inside { at ≤ length text.now }
     ensures inside { IfOk result (λ x. (at < x.1) × (x.1 ≤ length text.now)) }
-    ensures behind { IfOk result (λ x. IsBehindEnd text.now at x.1) }
+    ensures after { IfOk result (λ x. IsAfterEnd text.now at x.1) }
     ensures exact { Answers Memory (λ x. (x.0, start_at text.now x.1)) result (reads told (section_format plan states) (start_at text.now at)) }
 {
     tokens_are_longest_runs();
@@ -306,7 +306,7 @@ pub fn read_labels(
     ensures given { IfOk result (λ x. (x.0.plan ≡ plan) × (length x.0.labels ≡ states)) }
     // The offset that is answered lies after `at` and in the text: right after the section's last word.
     ensures inside { IfOk result (λ x. (at < x.1) × (x.1 ≤ length text.now)) }
-    ensures behind { IfOk result (λ x. IsBehindEnd text.now at x.1) }
+    ensures after { IfOk result (λ x. IsAfterEnd text.now at x.1) }
     // The tokens from `at` on stand for what is read, one by one, and then go on from the offset that is answered.
     ensures found { IfOk result (λ x. AreTokensOf (tokens_from text.now at) x.0 (tokens_from text.now x.1)) }
     // What the tokens stand for is read, unless memory runs out.

@@ -26,8 +26,8 @@ pub fn texts_are_sections_or_faulty()
     ensures not_both { (plan states : ℕ) (left : Left) (f : AFault) → AreTokens plan states left.tokens → HasFault plan states left f → ⊥ }
     ensures one_value { (ts rest more : List Piece) (s u : Section) → AreTokensOf ts s rest → AreTokensOf ts u more → (s ≡ u) × (rest ≡ more) }
     ensures one_fault { (plan states : ℕ) (left : Left) (f g : AFault) → HasFault plan states left f → HasFault plan states left g → f ≡ g }
-    ensures written { (s : Section) (before behind : List ℕ) → IsSection s → ends_blank true before ≡ true
-        → AreTokensOf (tokens_from (before ++ section_text s ++ behind) (length before)) s (tokens_from (before ++ section_text s ++ behind) (length before + length (section_text s))) }
+    ensures written { (s : Section) (before after : List ℕ) → IsSection s → ends_blank true before ≡ true
+        → AreTokensOf (tokens_from (before ++ section_text s ++ after) (length before)) s (tokens_from (before ++ section_text s ++ after) (length before + length (section_text s))) }
 {
     unsigned_numbers_are_their_digits();
     reading_is_what_is_said::<LabelFault, LabelSet>();

@@ -1,6 +1,6 @@
 -- The environment file: which tokens stand in it, one after another, with their ranges and faults.
 use Rattle.std.specs.Prelude.{ℕ, ℤ, pos, negsuc, nat_abs, ◌*◌, ◌++◌, ◌≤◌, nat_lt, Bool, if◌then◌else◌, List, [], ◌∷◌, codes}
-use Rattle.sbpl_fixed.specs.Formats.{Format, item, wrong, done, ended, fixed, whole, nano, behind, turns}
+use Rattle.sbpl_fixed.specs.Formats.{Format, item, wrong, done, ended, fixed, whole, nano, and_then, turns}
 use Rattle.sbpl_fixed.specs.declared.placed.Placed.{Placed}
 use Rattle.sbpl_cfg.specs.declared.fault.EnvFault.{EnvFault}
 use Rattle.sbpl_cfg.specs.declared.fault.EnvFault.TheVariants.{TooLarge, StartOff, EndOff}
@@ -77,9 +77,9 @@ circumscribed_format = whole_format (codes "cost_possibly_circumscribed_thresh:"
 -- what costs mean
 unfoldable pub thresholds_format : Format EnvFault Thresholds
 thresholds_format =
-    behind obsthresh_format (λ obsthresh.
-    behind inscribed_format (λ inscribed.
-    behind circumscribed_format (λ circumscribed.
+    and_then obsthresh_format (λ obsthresh.
+    and_then inscribed_format (λ inscribed.
+    and_then circumscribed_format (λ circumscribed.
     done (record { obsthresh = nat_abs obsthresh; inscribed = nat_abs inscribed; circumscribed = circumscribed }))))
 
 unfoldable pub cell_format : Format EnvFault ℤ
@@ -94,9 +94,9 @@ turn45_format = nano_format (codes "timetoturn45degsinplace(secs):") (pos 1) (po
 -- a cell's side, the speed and the time to turn
 unfoldable pub rates_format : Format EnvFault Rates
 rates_format =
-    behind cell_format (λ cell.
-    behind speed_format (λ speed.
-    behind turn45_format (λ turn45.
+    and_then cell_format (λ cell.
+    and_then speed_format (λ speed.
+    and_then turn45_format (λ turn45.
     done (record { cell = cell; speed = speed; turn45 = turn45 }))))
 
 -- a number of a pose
@@ -120,29 +120,29 @@ end_pose_format = pose_format (codes "end(meters,rads):")
 
 -- the start, which must be on the map
 unfoldable pub start_format : Header → Format EnvFault Pose
-start_format h = behind start_pose_format (λ p. if is_on_map_of h p.value then done p.value else wrong (StartOff p.place))
+start_format h = and_then start_pose_format (λ p. if is_on_map_of h p.value then done p.value else wrong (StartOff p.place))
 
 -- the end, which must be on the map
 unfoldable pub end_format : Header → Format EnvFault Pose
-end_format h = behind end_pose_format (λ p. if is_on_map_of h p.value then done p.value else wrong (EndOff p.place))
+end_format h = and_then end_pose_format (λ p. if is_on_map_of h p.value then done p.value else wrong (EndOff p.place))
 
 -- all but the poses and the costs
 unfoldable pub header_format : Format EnvFault Header
 header_format =
-    behind size_format (λ size.
-    behind thresholds_format (λ thresholds.
-    behind rates_format (λ rates.
+    and_then size_format (λ size.
+    and_then thresholds_format (λ thresholds.
+    and_then rates_format (λ rates.
     done (record { size = size; thresholds = thresholds; rates = rates }))))
 
 unfoldable pub ends_format : Header → Format EnvFault Ends
 ends_format h =
-    behind (start_format h) (λ start.
-    behind (end_format h) (λ end.
+    and_then (start_format h) (λ start.
+    and_then (end_format h) (λ end.
     done (record { start = start; end = end })))
 
 -- all numbers but the costs
 unfoldable pub numbers_format : Format EnvFault Environment
-numbers_format = behind header_format (λ h. behind (ends_format h) (λ ends. done (environment_of h ends)))
+numbers_format = and_then header_format (λ h. and_then (ends_format h) (λ ends. done (environment_of h ends)))
 
 -- one more cost
 unfoldable pub cost_format : List ℕ → Format EnvFault (List ℕ)
@@ -155,6 +155,6 @@ grid_format count = item (fixed (codes "environment:")) (λ _ _. turns count cos
 -- the whole file
 unfoldable pub environment_format : Format EnvFault (Environment × List ℕ)
 environment_format =
-    behind numbers_format (λ e.
-    behind (grid_format (e.width * e.height)) (λ cells.
+    and_then numbers_format (λ e.
+    and_then (grid_format (e.width * e.height)) (λ cells.
     ended (done (e, cells))))

@@ -13,7 +13,7 @@ use Rattle.sbpl_cost.specs.Lattices.{network_of}
 use Rattle.sbpl_cost.specs.Reading.{AddsHeads}
 use Rattle.sbpl_change.specs.Noted.{cell_cmp}
 use Rattle.sbpl_change.specs.Heads.{IsChangedHead, AddsHeadsOf, IsHeadOf}
-use Rattle.sbpl_change.proofs.Lists.{contains_at, at_contained, in_none, first_or_behind}
+use Rattle.sbpl_change.proofs.Lists.{contains_at, at_contained, in_none, first_or_after}
 use Rattle.sbpl_change.proofs.Noting.{exact_cells}
 
 -- the heads of the arcs that read a changed cell
@@ -59,15 +59,15 @@ module _ (w : World) (costs : BTreeMap (ℕ × ℕ) ℕ) (x y c : ℕ) (noted : 
     | inr state ↦ state
   ]
 
-  here_or_behind : (u v d t : ℕ) (rest : List ((ℕ × ℕ) × ℕ)) → IsChangedHead w u v d t → ◌≡◌ {A = (ℕ × ℕ) × ℕ} ((x, y), c) ((u, v), d) ⊎ Contains rest ((u, v), d) → Contains rest ((u, v), d) ⊎ Contains new t
-  here_or_behind u v d t rest head (inl same) = inr (adds.complete t (subst (λ (e : (ℕ × ℕ) × ℕ). IsChangedHead w e.0.0 e.0.1 e.1 t) (sym same) head))
-  here_or_behind u v d t rest head (inr behind) = inl behind
+  here_or_after : (u v d t : ℕ) (rest : List ((ℕ × ℕ) × ℕ)) → IsChangedHead w u v d t → ◌≡◌ {A = (ℕ × ℕ) × ℕ} ((x, y), c) ((u, v), d) ⊎ Contains rest ((u, v), d) → Contains rest ((u, v), d) ⊎ Contains new t
+  here_or_after u v d t rest head (inl same) = inr (adds.complete t (subst (λ (e : (ℕ × ℕ) × ℕ). IsChangedHead w e.0.0 e.0.1 e.1 t) (sym same) head))
+  here_or_after u v d t rest head (inr after) = inl after
 
   pub still_complete : (left rest : List ((ℕ × ℕ) × ℕ)) → left ≡ ((x, y), c) ∷ rest
       → ((u v d t : ℕ) → Contains costs.entries ((u, v), d) → IsChangedHead w u v d t → Contains left ((u, v), d) ⊎ Contains old t)
       → (u v d t : ℕ) → Contains costs.entries ((u, v), d) → IsChangedHead w u v d t → Contains rest ((u, v), d) ⊎ Contains new t
   still_complete left rest is before u v d t among head = elim (before u v d t among head) [
-    | inl there ↦ here_or_behind u v d t rest head (first_or_behind ((x, y), c) rest ((u, v), d) (subst (λ (l : List ((ℕ × ℕ) × ℕ)). Contains l ((u, v), d)) is there))
+    | inl there ↦ here_or_after u v d t rest head (first_or_after ((x, y), c) rest ((u, v), d) (subst (λ (l : List ((ℕ × ℕ) × ℕ)). Contains l ((u, v), d)) is there))
     | inr added ↦ inr (adds.kept t added)
   ]
 

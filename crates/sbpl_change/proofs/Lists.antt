@@ -13,6 +13,6 @@ pub in_none : {X : Type 0} (x : X) → Contains [] x → ⊥
 in_none x (i, h, e) = absurd (omega arith)
 
 -- an element is the first or a later one
-pub first_or_behind : {X : Type 0} (y : X) (xs : List X) (x : X) → Contains (y ∷ xs) x → (y ≡ x) ⊎ Contains xs x
-first_or_behind y xs x (zero, h, e) = inl e
-first_or_behind y xs x (suc i, h, e) = inr (i, omega arith, e)
+pub first_or_after : {X : Type 0} (y : X) (xs : List X) (x : X) → Contains (y ∷ xs) x → (y ≡ x) ⊎ Contains xs x
+first_or_after y xs x (zero, h, e) = inl e
+first_or_after y xs x (suc i, h, e) = inr (i, omega arith, e)

@@ -93,22 +93,22 @@ module _ (clear : SectionsAreClear) (one : OneMap) (c : Case) where
   trailing_none (t ∷ ts) f none p = cc
 
   -- after the last section
-  behind_alike : (plan : ℕ) (left : Left) (a b : Option SectionStop) → a ≢ Some section.NoMemory → AreChecked IsHolding c plan zero left [] a → AreChecked IsHolding c plan zero left [] b → EndAlike a b
-  behind_alike plan left None None some p q = inl refl
-  behind_alike plan left None (Some (section.Flaw g)) some p q = absurd q
-  behind_alike plan left None (Some (section.Fault g)) some p q = absurd (trailing_none left.tokens g p q)
-  behind_alike plan left (Some (section.Flaw f)) b some p q = absurd p
-  behind_alike plan left (Some (section.Fault f)) None some p q = absurd (trailing_none left.tokens f q p)
-  behind_alike plan left (Some (section.Fault f)) (Some (section.Flaw g)) some p q = absurd q
-  behind_alike plan left (Some (section.Fault f)) (Some (section.Fault g)) some p q = inl refl
-  behind_alike plan left (Some section.NoMemory) b some p q = absurd (some refl)
-  behind_alike plan left a (Some section.NoMemory) some p q = no_memory_left a
+  after_alike : (plan : ℕ) (left : Left) (a b : Option SectionStop) → a ≢ Some section.NoMemory → AreChecked IsHolding c plan zero left [] a → AreChecked IsHolding c plan zero left [] b → EndAlike a b
+  after_alike plan left None None some p q = inl refl
+  after_alike plan left None (Some (section.Flaw g)) some p q = absurd q
+  after_alike plan left None (Some (section.Fault g)) some p q = absurd (trailing_none left.tokens g p q)
+  after_alike plan left (Some (section.Flaw f)) b some p q = absurd p
+  after_alike plan left (Some (section.Fault f)) None some p q = absurd (trailing_none left.tokens f q p)
+  after_alike plan left (Some (section.Fault f)) (Some (section.Flaw g)) some p q = absurd q
+  after_alike plan left (Some (section.Fault f)) (Some (section.Fault g)) some p q = inl refl
+  after_alike plan left (Some section.NoMemory) b some p q = absurd (some refl)
+  after_alike plan left a (Some section.NoMemory) some p q = no_memory_left a
 
   pub same_left : (a b : Left) → a.tokens ≡ b.tokens → a.end ≡ b.end → a ≡ b
   same_left a b tokens end = left_by a.end b.end a.tokens b.tokens end tokens
 
   pub one_ending : (more plan : ℕ) (left : Left) (os ps : List Outcome) (a b : Option SectionStop) → a ≢ Some section.NoMemory → AreChecked IsHolding c plan more left os a → AreChecked IsHolding c plan more left ps b → EndAlike a b
-  one_ending zero plan left [] [] a b some p q = behind_alike plan left a b some p q
+  one_ending zero plan left [] [] a b some p q = after_alike plan left a b some p q
   one_ending zero plan left (o ∷ os) ps a b some p q = absurd p
   one_ending zero plan left [] (o ∷ ps) a b some p q = absurd q
   one_ending (suc more) plan left [] ps None b some p q = absurd p

@@ -14,8 +14,8 @@ pub record IsFirstArc (n : Network) (s k : ℕ) : Type 0 where
   pub head : IsSome (n.head s k)
 
 -- after the first arc the path goes on from its head
-pub path_behind : (n : Network) (s k u : ℕ) (ks : List ℕ) → IsPathFrom n s (k ∷ ks) → n.head s k ≡ Some u → IsPathFrom n u ks
-path_behind n s k u ks path head =
+pub path_after : (n : Network) (s k u : ℕ) (ks : List ℕ) → IsPathFrom n s (k ∷ ks) → n.head s k ≡ Some u → IsPathFrom n u ks
+path_after n s k u ks path head =
     let arc : n.head s k ≡ Some path.2.0 = path.2.3.head in
     let same : path.2.0 ≡ u = cc in
     (path.0, path.2.2, subst (λ x. IsFreePath n x ks path.0 path.2.2) same path.2.4)

@@ -255,10 +255,10 @@ module _ (by : Known) (law : IsPlannerDetermined by.means) (initial : InitialLab
         let both : carried ≡ other = λ i. record { map = maps i; labels = one.labels i; expanded = one.expanded i } in
         let later : AreCarried e ps sweeps others radius (Some carried) = record { states = one.states; no_arc = one.no_arc; graph = same } in
         let further : AreRecords by (made e ps others first) batches how outputs start goal (k + 1) (Some carried) us = rw both right.3 in
-        let behind_them = one_records rs us (k + 1) (Some carried) later (omega arith) left.3 further in
+        let after_them = one_records rs us (k + 1) (Some carried) later (omega arith) left.3 further in
         let same_record : u ≡ r = sym one.record_is in
-        let same_rest : us ≡ rs ++ behind_them.0 = behind_them.1 in
-        (behind_them.0, λ i. same_record i ∷ same_rest i)
+        let same_rest : us ≡ rs ++ after_them.0 = after_them.1 in
+        (after_them.0, λ i. same_record i ∷ same_rest i)
 
 -- ---- all plans
 

@@ -9,7 +9,7 @@ use Rattle.sbpl_cost.specs.declared.way.Way.{Way}
 use Rattle.sbpl_cost.specs.declared.way.Way.TheVariants.{Right, Left, Up, Down, Round}
 use Rattle.sbpl_cost.specs.PrimitiveCost.{primitive_cost, most_cost, heading_gap}
 use Rattle.sbpl_cost.specs.States.{IsPlace}
-use Rattle.sbpl_cost.specs.Gaps.{ahead, behind, advance, way_bound, gap_of, BoundsAreFloors, BoundsMayBeZero}
+use Rattle.sbpl_cost.specs.Gaps.{positive_part, negative_part, advance, way_bound, gap_of, BoundsAreFloors, BoundsMayBeZero}
 use Rattle.sbpl_cost.proofs.Floors.{floor_le, floor_step, floor_of, rate_of, no_floor}
 
 -- nothing to go costs nothing
@@ -44,7 +44,7 @@ pub gap_by_way : (n a b c : ℕ) → a < n → b < n → c < n → heading_gap n
 gap_by_way n a b c below_a below_b below_c = omega arith
 
 -- how far a motion goes along an axis
-pub axis_step : (d : ℤ) (a b : ℕ) → pos b ≡ pos a +ℤ d → (c : ℕ) → (c - a ≤ c - b + ahead d) × (a - c ≤ b - c + behind d)
+pub axis_step : (d : ℤ) (a b : ℕ) → pos b ≡ pos a +ℤ d → (c : ℕ) → (c - a ≤ c - b + positive_part d) × (a - c ≤ b - c + negative_part d)
 axis_step (pos k) a b e c = (omega (arith, ints, e), omega (arith, ints, e))
 axis_step (negsuc k) a b e c = (omega (arith, ints, e), omega (arith, ints, e))
 

@@ -72,8 +72,8 @@ near_within cell offset x reach c h few near =
       | inl end ↦
           let next = above_product (pos 2 *ℤ cell) (x +ℤ pos 1) 6000000000000 some (omega (arith, ints, c.0, h.0, end)) in
           omega (arith, ints, next)
-      | inr behind ↦
-          let own = above_product (pos 2 *ℤ cell) x 6000000000000 some (omega (arith, ints, c.0, h.0, behind)) in
+      | inr after ↦
+          let own = above_product (pos 2 *ℤ cell) x 6000000000000 some (omega (arith, ints, c.0, h.0, after)) in
           omega (arith, ints, own)
     ] in
     (left, omega (arith, ints, right))

@@ -8,21 +8,21 @@ use Rattle.sbpl_cost.specs.declared.way.Way.TheVariants.{Right, Left, Up, Down, 
 use Rattle.sbpl_cost.specs.PrimitiveCost.{primitive_cost, heading_gap}
 
 -- how many cells a number of cells goes forwards
-abbrev pub ahead : ℤ → ℕ
-ahead (pos n) = n
-ahead (negsuc n) = 0
+abbrev pub positive_part : ℤ → ℕ
+positive_part (pos n) = n
+positive_part (negsuc n) = 0
 
 -- how many cells a number of cells goes backwards
-abbrev pub behind : ℤ → ℕ
-behind (pos n) = 0
-behind (negsuc n) = n + 1
+abbrev pub negative_part : ℤ → ℕ
+negative_part (pos n) = 0
+negative_part (negsuc n) = n + 1
 
 -- how many cells, or bins of a turn, a primitive goes in a way
 abbrev pub advance : ℕ → Way → Primitive → ℕ
-advance headings Right p = ahead p.dx
-advance headings Left p = behind p.dx
-advance headings Up p = ahead p.dy
-advance headings Down p = behind p.dy
+advance headings Right p = positive_part p.dx
+advance headings Left p = negative_part p.dx
+advance headings Up p = positive_part p.dy
+advance headings Down p = negative_part p.dy
 advance headings Round p = heading_gap headings p.from p.to
 
 -- the lesser of two numbers, either of which may be missing

@@ -5,7 +5,7 @@ ghost use Rattle.sbpl_cfg.specs.Environment.{IsWithin};
 ghost use Rattle.sbpl_mprim.specs.declared.prim.Primitive.{Primitive};
 ghost use Rattle.sbpl_mprim.specs.Primitives.{IsPrimitive};
 ghost use Rattle.sbpl_cost.specs.PrimitiveCost.{primitive_cost, most_cost};
-ghost use Rattle.sbpl_cost.specs.Gaps.{ahead, behind, advance, lesser, floor_for, floor_by, gap_of};
+ghost use Rattle.sbpl_cost.specs.Gaps.{positive_part, negative_part, advance, lesser, floor_for, floor_by, gap_of};
 ghost use Rattle.sbpl_cost.specs.Rates.{floor_at, IsRate, AreGaps};
 ghost use Rattle.sbpl_cost.specs.Tables.{AreCheap};
 
@@ -26,17 +26,17 @@ pub(crate) struct Gaps {
 }
 
 /// How many cells a number of cells goes forwards.
-fn cells_ahead(d: i32) -> u32
+fn cells_forward(d: i32) -> u32
     requires range { IsWithin (negsuc 32766) (pos 32767) d }
-    ensures cells { result ≡ ahead d }
+    ensures cells { result ≡ positive_part d }
 {
     if d > 0 { d.unsigned_abs() } else { 0 }
 }
 
 /// How many cells a number of cells goes backwards.
-fn cells_behind(d: i32) -> u32
+fn cells_backward(d: i32) -> u32
     requires range { IsWithin (negsuc 32766) (pos 32767) d }
-    ensures cells { result ≡ behind d }
+    ensures cells { result ≡ negative_part d }
 {
     if d < 0 { d.unsigned_abs() } else { 0 }
 }
@@ -50,10 +50,10 @@ fn advance(headings: u32, way: Way, prim: &Prim) -> u32
     ensures advance { result ≡ advance headings way prim.now }
 {
     match way {
-        Way::Right => cells_ahead(prim.dx),
-        Way::Left => cells_behind(prim.dx),
-        Way::Up => cells_ahead(prim.dy),
-        Way::Down => cells_behind(prim.dy),
+        Way::Right => cells_forward(prim.dx),
+        Way::Left => cells_backward(prim.dx),
+        Way::Up => cells_forward(prim.dy),
+        Way::Down => cells_backward(prim.dy),
         Way::Round => bins_turned(headings, prim.from, prim.to),
     }
 }

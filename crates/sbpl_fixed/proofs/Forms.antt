@@ -10,17 +10,17 @@ use Rattle.sbpl_fixed.proofs.Digits.{IsDigit-from_test}
 
 -- ---- digits
 
-pub zeros_behind : MissingDecimalsAreZeros
-zeros_behind [] = refl
-zeros_behind (a ∷ []) = refl
-zeros_behind (a ∷ b ∷ []) = refl
-zeros_behind (a ∷ b ∷ c ∷ []) = refl
-zeros_behind (a ∷ b ∷ c ∷ d ∷ []) = refl
-zeros_behind (a ∷ b ∷ c ∷ d ∷ e ∷ []) = refl
-zeros_behind (a ∷ b ∷ c ∷ d ∷ e ∷ f ∷ []) = refl
-zeros_behind (a ∷ b ∷ c ∷ d ∷ e ∷ f ∷ g ∷ []) = refl
-zeros_behind (a ∷ b ∷ c ∷ d ∷ e ∷ f ∷ g ∷ h ∷ []) = refl
-zeros_behind (a ∷ b ∷ c ∷ d ∷ e ∷ f ∷ g ∷ h ∷ i ∷ ds) = refl
+pub zeros_after : MissingDecimalsAreZeros
+zeros_after [] = refl
+zeros_after (a ∷ []) = refl
+zeros_after (a ∷ b ∷ []) = refl
+zeros_after (a ∷ b ∷ c ∷ []) = refl
+zeros_after (a ∷ b ∷ c ∷ d ∷ []) = refl
+zeros_after (a ∷ b ∷ c ∷ d ∷ e ∷ []) = refl
+zeros_after (a ∷ b ∷ c ∷ d ∷ e ∷ f ∷ []) = refl
+zeros_after (a ∷ b ∷ c ∷ d ∷ e ∷ f ∷ g ∷ []) = refl
+zeros_after (a ∷ b ∷ c ∷ d ∷ e ∷ f ∷ g ∷ h ∷ []) = refl
+zeros_after (a ∷ b ∷ c ∷ d ∷ e ∷ f ∷ g ∷ h ∷ i ∷ ds) = refl
 
 pub numerals : IsNumeralModel (λ ds. all_digits ds ≡ true) number_of
 unfolding number_after

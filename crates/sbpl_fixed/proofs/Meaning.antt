@@ -34,7 +34,7 @@ module _ {E A : Type 0} (tell : TextFault → E) where
   says_of (item i more) end (t ∷ ts) x rest e =
       let go : (r : Result ℤ Miss) → i t.bytes ≡ r → then_read tell (met t.place (left_of end ts) r) (λ m. reads tell (more m.place m.value) m.left) ≡ Ok (x, rest)
       → Says (item i more) (t ∷ ts) x rest.tokens × (rest.end ≡ end) = elim [
-        | Ok v ↦ λ q h. let behind = says_of (more t.place v) end ts x rest h in ((v, q, behind.0), behind.1)
+        | Ok v ↦ λ q h. let after = says_of (more t.place v) end ts x rest h in ((v, q, after.0), after.1)
         | Err m ↦ λ q h. absurd cc
       ] in
       go (i t.bytes) refl (sym (at_met i more end t ts (i t.bytes) refl) ∙ e)

@@ -5,12 +5,12 @@ use Rattle.std.specs.Prelude.{decimal}
 use Rattle.std.proofs.lemmas.Fmt.{decimal_step_wide, decimal_digit}
 use Rattle.sbpl_fixed.specs.Printed.{last_digits}
 
-pub decimal_longer : (n : ℕ) (behind : List ℕ) → 10 ≤ n → n < 10 ^ 39 → decimal (n / 10) ++ (48 + n % 10) ∷ behind ≡ decimal n ++ behind
-decimal_longer n behind two small =
-    rw (decimal_step_wide n two (omega arith)) (sym (append_assoc (decimal (n / 10)) ((48 + n % 10) ∷ []) behind))
+pub decimal_longer : (n : ℕ) (after : List ℕ) → 10 ≤ n → n < 10 ^ 39 → decimal (n / 10) ++ (48 + n % 10) ∷ after ≡ decimal n ++ after
+decimal_longer n after two small =
+    rw (decimal_step_wide n two (omega arith)) (sym (append_assoc (decimal (n / 10)) ((48 + n % 10) ∷ []) after))
 
-pub decimal_last : (n : ℕ) (behind : List ℕ) → n < 10 → (48 + n) ∷ behind ≡ decimal n ++ behind
-decimal_last n behind lt = rw (decimal_digit n lt) refl
+pub decimal_last : (n : ℕ) (after : List ℕ) → n < 10 → (48 + n) ∷ after ≡ decimal n ++ after
+decimal_last n after lt = rw (decimal_digit n lt) refl
 
 -- a number of two digits or more has one digit more than its tenth
 pub one_shorter : (n k : ℕ) → 10 ≤ n → n < 10 ^ k → (2 ≤ k) × (n / 10 < 10 ^ (k - 1))
@@ -22,6 +22,6 @@ one_shorter n (suc (suc k)) two lt =
     let e : suc (suc k) - 1 ≡ suc k = omega arith in
     (omega arith, rw e (omega (arith, p, q)))
 
-pub last_digits_longer : (count n : ℕ) (behind : List ℕ) → last_digits count (n / 10) ++ (48 + n % 10) ∷ behind ≡ last_digits (suc count) n ++ behind
+pub last_digits_longer : (count n : ℕ) (after : List ℕ) → last_digits count (n / 10) ++ (48 + n % 10) ∷ after ≡ last_digits (suc count) n ++ after
 unfolding last_digits
-last_digits_longer count n behind = sym (append_assoc (last_digits count (n / 10)) ((48 + n % 10) ∷ []) behind)
+last_digits_longer count n after = sym (append_assoc (last_digits count (n / 10)) ((48 + n % 10) ∷ []) after)

@@ -13,7 +13,7 @@ use Rattle.sbpl_fixed.specs.Printed.{last_digits, point_text, milli_text}
 use Rattle.sbpl_fixed.specs.ReadBack.{NanosAreReadBack, MillisAreReadBack, WholesAreReadBack, NanosAreWords, WholesAreWords, WordsAreTokens, LastWordsAreTokens, BlanksPartTokens}
 use Rattle.sbpl_fixed.specs.Runs.{begins_blank}
 use Rattle.sbpl_fixed.proofs.Digits.{IsDigit-from_test}
-use Rattle.sbpl_fixed.proofs.Forms.{numerals, zeros_behind, wholes_have_values, decimals_have_values}
+use Rattle.sbpl_fixed.proofs.Forms.{numerals, zeros_after, wholes_have_values, decimals_have_values}
 use Rattle.sbpl_fixed.proofs.Runs.{whole_front, is_front}
 use Rattle.sbpl_fixed.proofs.Tokens.{skip_filled, first_token}
 
@@ -46,7 +46,7 @@ last_length zero n = refl
 last_length (suc count) n = let more = last_length count (n / 10) in omega (arith, length-append (last_digits count (n / 10)) ((48 + n % 10) ∷ []), more)
 
 nine_of_nine : (n : ℕ) → n < 10 ^ 9 → number_of (nine_decimals (last_digits 9 n)) ≡ n
-nine_of_nine n lt = ap number_of (zeros_behind (last_digits 9 n) ∙ take_at (last_digits 9 n) _ 9 (last_length 9 n)) ∙ last_number 9 n lt
+nine_of_nine n lt = ap number_of (zeros_after (last_digits 9 n) ∙ take_at (last_digits 9 n) _ 9 (last_length 9 n)) ∙ last_number 9 n lt
 
 nine_of_three : (n : ℕ) → n < 1000 → number_of (nine_decimals (last_digits 3 n)) ≡ n * 10 ^ 6
 unfolding last_digits number_after
@@ -137,15 +137,15 @@ wholes_are_words (negsuc n) lt = let digits = whole_digits (suc n) (omega arith)
 abbrev no_more : List ℕ
 no_more = []
 
-word_token : (b : ℕ) (bs behind : List ℕ) (place : ℕ) → list_all is_filled (b ∷ bs) ≡ true → begins_blank behind ≡ true
-    → tokens_past true place ((b ∷ bs) ++ behind) ≡ record { place = place; bytes = b ∷ bs } ∷ tokens_past true (place + length (b ∷ bs)) behind
-word_token b bs behind place filled ends =
+word_token : (b : ℕ) (bs after : List ℕ) (place : ℕ) → list_all is_filled (b ∷ bs) ≡ true → begins_blank after ≡ true
+    → tokens_past true place ((b ∷ bs) ++ after) ≡ record { place = place; bytes = b ∷ bs } ∷ tokens_past true (place + length (b ∷ bs)) after
+word_token b bs after place filled ends =
     let no_blank : is_blank b ≡ false = not-true (is_blank b) (and_parts (is_filled b) (list_all is_filled bs) filled).0 in
-    let whole : take_while is_filled (b ∷ (bs ++ behind)) ≡ b ∷ bs = is_front (b ∷ bs) behind filled ends in
-    let len : prefix_len is_filled (b ∷ (bs ++ behind)) ≡ length (b ∷ bs) = whole_front (b ∷ bs) behind filled ends in
-    let rest : tokens_past false place (b ∷ (bs ++ behind)) ≡ tokens_past true (place + length (b ∷ bs)) behind =
-    skip_filled place (b ∷ (bs ++ behind)) ∙ rw (len, drop_at (b ∷ bs) behind (length (b ∷ bs)) refl) refl in
-    first_token place b (bs ++ behind) no_blank ∙ rw (whole, rest) refl
+    let whole : take_while is_filled (b ∷ (bs ++ after)) ≡ b ∷ bs = is_front (b ∷ bs) after filled ends in
+    let len : prefix_len is_filled (b ∷ (bs ++ after)) ≡ length (b ∷ bs) = whole_front (b ∷ bs) after filled ends in
+    let rest : tokens_past false place (b ∷ (bs ++ after)) ≡ tokens_past true (place + length (b ∷ bs)) after =
+    skip_filled place (b ∷ (bs ++ after)) ∙ rw (len, drop_at (b ∷ bs) after (length (b ∷ bs)) refl) refl in
+    first_token place b (bs ++ after) no_blank ∙ rw (whole, rest) refl
 
 at_blank : (blank : ℕ) (rest : List ℕ) (place : ℕ) → is_blank blank ≡ true → tokens_past true place (blank ∷ rest) ≡ tokens_past true (place + 1) rest
 unfolding tokens_past

@@ -12,10 +12,10 @@ all_weaker P Q [] f h = tt
 all_weaker P Q (t ∷ ts) f h = (f t h.0, all_weaker P Q ts f h.1)
 
 -- a run after one more byte
-run_behind : (fresh : Bool) (place b : ℕ) (bs : List ℕ) (t : Piece) → IsRun (is_blank b) (place + 1) bs t → IsRun fresh place (b ∷ bs) t
-run_behind fresh place b bs t r = record {
+run_after : (fresh : Bool) (place b : ℕ) (bs : List ℕ) (t : Piece) → IsRun (is_blank b) (place + 1) bs t → IsRun fresh place (b ∷ bs) t
+run_after fresh place b bs t r = record {
   before = b ∷ r.before;
-  behind = r.behind;
+  after = r.after;
   parts = ap (λ (x : List ℕ). b ∷ x) r.parts;
   here = omega (arith, r.here);
   some = r.some;
@@ -43,7 +43,7 @@ front_ends (b ∷ bs) =
 first_run : (place b : ℕ) (bs : List ℕ) → is_blank b ≡ false → IsRun true place (b ∷ bs) (record { place = place; bytes = take_while is_filled (b ∷ bs) })
 first_run place b bs e = record {
   before = [];
-  behind = drop (prefix_len is_filled (b ∷ bs)) (b ∷ bs);
+  after = drop (prefix_len is_filled (b ∷ bs)) (b ∷ bs);
   parts = sym (take-append-drop (prefix_len is_filled (b ∷ bs)) (b ∷ bs));
   here = omega arith;
   some = rw (e, one-add) (omega arith);
@@ -53,67 +53,67 @@ first_run place b bs e = record {
 }
 
 -- the runs of what comes after a byte
-runs_behind : (fresh was : Bool) (place b : ℕ) (bs : List ℕ) (ts : List Piece) → is_blank b ≡ was → AllByRecursion (IsRun was (place + 1) bs) ts → AllByRecursion (IsRun fresh place (b ∷ bs)) ts
-runs_behind fresh was place b bs ts e h =
-    all_weaker (IsRun was (place + 1) bs) (IsRun fresh place (b ∷ bs)) ts (λ t r. run_behind fresh place b bs t (subst (λ (v : Bool). IsRun v (place + 1) bs t) (sym e) r)) h
+runs_after : (fresh was : Bool) (place b : ℕ) (bs : List ℕ) (ts : List Piece) → is_blank b ≡ was → AllByRecursion (IsRun was (place + 1) bs) ts → AllByRecursion (IsRun fresh place (b ∷ bs)) ts
+runs_after fresh was place b bs ts e h =
+    all_weaker (IsRun was (place + 1) bs) (IsRun fresh place (b ∷ bs)) ts (λ t r. run_after fresh place b bs t (subst (λ (v : Bool). IsRun v (place + 1) bs t) (sym e) r)) h
 
 pub each_is_run : (fresh : Bool) (place : ℕ) (text : List ℕ) → AllByRecursion (IsRun fresh place text) (tokens_past fresh place text)
 unfolding tokens_past
 each_is_run fresh place [] = tt
 each_is_run true place (b ∷ bs) =
     elim (cases_Bool (is_blank b)) [
-      | inl e ↦ rw e (runs_behind true true place b bs (tokens_past true (place + 1) bs) e (each_is_run true (place + 1) bs))
+      | inl e ↦ rw e (runs_after true true place b bs (tokens_past true (place + 1) bs) e (each_is_run true (place + 1) bs))
       | inr e ↦ subst (λ (v : Bool). AllByRecursion (IsRun true place (b ∷ bs)) (cond v (tokens_past true (place + 1) bs) (record { place = place; bytes = take_while is_filled (b ∷ bs) } ∷ tokens_past false (place + 1) bs))) (sym e)
-          (first_run place b bs e, runs_behind true false place b bs (tokens_past false (place + 1) bs) e (each_is_run false (place + 1) bs))
+          (first_run place b bs e, runs_after true false place b bs (tokens_past false (place + 1) bs) e (each_is_run false (place + 1) bs))
     ]
 each_is_run false place (b ∷ bs) =
     elim (cases_Bool (is_blank b)) [
-      | inl e ↦ rw e (runs_behind false true place b bs (tokens_past true (place + 1) bs) e (each_is_run true (place + 1) bs))
-      | inr e ↦ rw e (runs_behind false false place b bs (tokens_past false (place + 1) bs) e (each_is_run false (place + 1) bs))
+      | inl e ↦ rw e (runs_after false true place b bs (tokens_past true (place + 1) bs) e (each_is_run true (place + 1) bs))
+      | inr e ↦ rw e (runs_after false false place b bs (tokens_past false (place + 1) bs) e (each_is_run false (place + 1) bs))
     ]
 
 -- ---- each longest run is a token
 
 -- the prefix that is filled, where a blank or nothing comes after it
-pub whole_front : (bytes behind : List ℕ) → list_all is_filled bytes ≡ true → begins_blank behind ≡ true → prefix_len is_filled (bytes ++ behind) ≡ length bytes
+pub whole_front : (bytes after : List ℕ) → list_all is_filled bytes ≡ true → begins_blank after ≡ true → prefix_len is_filled (bytes ++ after) ≡ length bytes
 whole_front [] [] f e = refl
 whole_front [] (c ∷ cs) f e = rw e refl
-whole_front (b ∷ bs) behind f e =
+whole_front (b ∷ bs) after f e =
     let both = and_parts (is_filled b) (list_all is_filled bs) f in
-    rw (both.0, one-add) (ap suc (whole_front bs behind both.1 e))
+    rw (both.0, one-add) (ap suc (whole_front bs after both.1 e))
 
-pub is_front : (bytes behind : List ℕ) → list_all is_filled bytes ≡ true → begins_blank behind ≡ true → take_while is_filled (bytes ++ behind) ≡ bytes
-is_front bytes behind f e = rw (whole_front bytes behind f e) (take_at bytes behind (length bytes) refl)
+pub is_front : (bytes after : List ℕ) → list_all is_filled bytes ≡ true → begins_blank after ≡ true → take_while is_filled (bytes ++ after) ≡ bytes
+is_front bytes after f e = rw (whole_front bytes after f e) (take_at bytes after (length bytes) refl)
 
 same_piece : (s t : Piece) → s.place ≡ t.place → s.bytes ≡ t.bytes → s ≡ t
 same_piece s t p q = rw (p, q) refl
 
-run_is_token : (fresh : Bool) (place : ℕ) (before bytes behind : List ℕ) (t : Piece) → t.place ≡ place + length before → t.bytes ≡ bytes
-    → 0 < length bytes → list_all is_filled bytes ≡ true → ends_blank fresh before ≡ true → begins_blank behind ≡ true → IsOneOf t (tokens_past fresh place (before ++ (bytes ++ behind)))
+run_is_token : (fresh : Bool) (place : ℕ) (before bytes after : List ℕ) (t : Piece) → t.place ≡ place + length before → t.bytes ≡ bytes
+    → 0 < length bytes → list_all is_filled bytes ≡ true → ends_blank fresh before ≡ true → begins_blank after ≡ true → IsOneOf t (tokens_past fresh place (before ++ (bytes ++ after)))
 unfolding tokens_past
-run_is_token fresh place [] [] behind t here is some filled begins ends = absurd (omega arith)
-run_is_token false place [] (c ∷ cs) behind t here is some filled begins ends = absurd (false≢true begins)
-run_is_token true place [] (c ∷ cs) behind t here is some filled begins ends =
+run_is_token fresh place [] [] after t here is some filled begins ends = absurd (omega arith)
+run_is_token false place [] (c ∷ cs) after t here is some filled begins ends = absurd (false≢true begins)
+run_is_token true place [] (c ∷ cs) after t here is some filled begins ends =
     let no_blank : is_blank c ≡ false = not-true (is_blank c) (and_parts (is_filled c) (list_all is_filled cs) filled).0 in
-    let first : Piece = record { place = place; bytes = take_while is_filled (c ∷ (cs ++ behind)) } in
-    let same : t ≡ first = same_piece t first (omega arith) (is ∙ sym (is_front (c ∷ cs) behind filled ends)) in
-    subst (λ (v : Bool). IsOneOf t (cond v (tokens_past true (place + 1) (cs ++ behind)) (first ∷ tokens_past false (place + 1) (cs ++ behind)))) (sym no_blank) (inl same)
-run_is_token true place (c ∷ before) bytes behind t here is some filled begins ends =
-    let rest = before ++ (bytes ++ behind) in
+    let first : Piece = record { place = place; bytes = take_while is_filled (c ∷ (cs ++ after)) } in
+    let same : t ≡ first = same_piece t first (omega arith) (is ∙ sym (is_front (c ∷ cs) after filled ends)) in
+    subst (λ (v : Bool). IsOneOf t (cond v (tokens_past true (place + 1) (cs ++ after)) (first ∷ tokens_past false (place + 1) (cs ++ after)))) (sym no_blank) (inl same)
+run_is_token true place (c ∷ before) bytes after t here is some filled begins ends =
+    let rest = before ++ (bytes ++ after) in
     let first : Piece = record { place = place; bytes = take_while is_filled (c ∷ rest) } in
     elim (cases_Bool (is_blank c)) [
-      | inl e ↦ rw e (run_is_token true (place + 1) before bytes behind t (omega arith) is some filled (rw e at begins) ends)
+      | inl e ↦ rw e (run_is_token true (place + 1) before bytes after t (omega arith) is some filled (rw e at begins) ends)
       | inr e ↦ subst (λ (v : Bool). IsOneOf t (cond v (tokens_past true (place + 1) rest) (first ∷ tokens_past false (place + 1) rest))) (sym e)
-          (inr (run_is_token false (place + 1) before bytes behind t (omega arith) is some filled (rw e at begins) ends))
+          (inr (run_is_token false (place + 1) before bytes after t (omega arith) is some filled (rw e at begins) ends))
     ]
-run_is_token false place (c ∷ before) bytes behind t here is some filled begins ends =
+run_is_token false place (c ∷ before) bytes after t here is some filled begins ends =
     elim (cases_Bool (is_blank c)) [
-      | inl e ↦ rw e (run_is_token true (place + 1) before bytes behind t (omega arith) is some filled (rw e at begins) ends)
-      | inr e ↦ rw e (run_is_token false (place + 1) before bytes behind t (omega arith) is some filled (rw e at begins) ends)
+      | inl e ↦ rw e (run_is_token true (place + 1) before bytes after t (omega arith) is some filled (rw e at begins) ends)
+      | inr e ↦ rw e (run_is_token false (place + 1) before bytes after t (omega arith) is some filled (rw e at begins) ends)
     ]
 
 pub run_is_one : (text : List ℕ) (t : Piece) → IsLongestRun text t → IsOneOf t (tokens text)
-run_is_one text t r = rw r.parts (run_is_token true 0 r.before t.bytes r.behind t r.here refl r.some r.filled r.begins r.ends)
+run_is_one text t r = rw r.parts (run_is_token true 0 r.before t.bytes r.after t r.here refl r.some r.filled r.begins r.ends)
 
 -- ---- in order
 

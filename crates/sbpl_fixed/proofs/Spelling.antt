@@ -3,13 +3,13 @@ use Rattle.std.proofs.Common.{◌≡◌, ℕ, zero, suc, List, [], ◌∷◌, �
 use Rattle.std.specs.List.{flat_map}
 use Rattle.std.proofs.lemmas.List.{append-nil}
 use Rattle.sbpl_fixed.specs.Tokens.{Piece, tokens}
-use Rattle.sbpl_fixed.specs.Formats.{Format, ended, done, behind, turns, Says}
+use Rattle.sbpl_fixed.specs.Formats.{Format, ended, done, and_then, turns, Says}
 use Rattle.sbpl_fixed.specs.Meaning.{StandsFor}
 use Rattle.sbpl_fixed.specs.Parts.{says_parts}
 use Rattle.sbpl_fixed.proofs.Spelled.{Expected, Spells, IsSpelled, AllAfter}
 
 -- a text that ends after a format stands for what the format says of all its tokens
-pub whole_said : {E A : Type 0} (f : Format E A) (text : List ℕ) (x : A) → StandsFor (behind f (λ y. ended (done y))) text x → Says f (tokens text) x []
+pub whole_said : {E A : Type 0} (f : Format E A) (text : List ℕ) (x : A) → StandsFor (and_then f (λ y. ended (done y))) text x → Says f (tokens text) x []
 unfolding Says
 whole_said {E} {A} f text x h =
     let p = says_parts f (λ y. ended (done y)) (tokens text) h.0 x h.1 in
@@ -31,8 +31,8 @@ spells_both (w ∷ ws) vs (t ∷ ts) mid rest g h = (g.0, spells_both ws vs ts m
 -- ---- rounds that collect a list
 
 -- one more after those that were read
-abbrev pub collected_behind : {E X : Type 0} → (List X → Format E X) → List X → Format E (List X)
-collected_behind f before = behind (f before) (λ x. done (before ++ x ∷ []))
+abbrev pub collecting : {E X : Type 0} → (List X → Format E X) → List X → Format E (List X)
+collecting f before = and_then (f before) (λ x. done (before ++ x ∷ []))
 
 one_longer : {X : Type 0} (xs : List X) (x : X) (n : ℕ) → length xs ≡ n → length (x ∷ xs) ≡ suc n
 one_longer xs x n h = ap suc h
@@ -42,17 +42,17 @@ grouped all before xs x h = h ∙ append_assoc before (x ∷ []) xs
 
 module _ {E X : Type 0} (f : List X → Format E X) (Holds : List X → X → Type 0) (spelled : X → List Expected)
     (rule : (before : List X) → IsSpelled (f before) (Holds before) spelled) where
-  collected : (n : ℕ) (before all : List X) (ts rest : List Piece) → Says (turns n (collected_behind f) before) ts all rest
+  collected : (n : ℕ) (before all : List X) (ts rest : List Piece) → Says (turns n (collecting f) before) ts all rest
       → (xs : List X) × (all ≡ before ++ xs) × (length xs ≡ n) × AllAfter Holds before xs × Spells (flat_map spelled xs) ts rest
-  unfolding Says turns behind
+  unfolding Says turns and_then
   collected zero before all ts rest h = ([], h.0 ∙ sym (append-nil before), refl, tt, h.1)
   collected (suc n) before all ts rest h =
-      let round = says_parts (collected_behind f before) (turns n (collected_behind f)) ts rest all h in
+      let round = says_parts (collecting f before) (turns n (collecting f)) ts rest all h in
       let one = says_parts (f before) (λ x. done (before ++ x ∷ [])) ts round.1 round.0 round.2 in
       let x = one.0 in
       let state : round.0 ≡ before ++ x ∷ [] = one.3.0 in
       let place : round.1 ≡ one.1 = one.3.1 in
-      let others = collected n (before ++ x ∷ []) all one.1 rest (subst (λ (m : List Piece). Says (turns n (collected_behind f) (before ++ x ∷ [])) m all rest) place (subst (λ (s : List X). Says (turns n (collected_behind f) s) round.1 all rest) state round.3)) in (
+      let others = collected n (before ++ x ∷ []) all one.1 rest (subst (λ (m : List Piece). Says (turns n (collecting f) (before ++ x ∷ [])) m all rest) place (subst (λ (s : List X). Says (turns n (collecting f) s) round.1 all rest) state round.3)) in (
         x ∷ others.0,
         grouped all before others.0 x others.1,
         one_longer others.0 x n others.2,

@@ -59,13 +59,13 @@ pub amid_token : (text : List ℕ) (at n : ℕ) → is_fresh text at ≡ false �
 amid_token text at n amid e = rw (amid, e, ← drop-drop) (skip_filled at (drop at text))
 
 -- the search goes on at the first byte that is no blank
-behind_blanks : (text : List ℕ) (start k : ℕ) → k ≡ prefix_len is_blank (drop start text) → tokens_past true start (drop start text) ≡ tokens_past true (start + k) (drop (start + k) text)
-behind_blanks text start k e = rw (e, ← drop-drop) (skip_blank start (drop start text))
+after_blanks : (text : List ℕ) (start k : ℕ) → k ≡ prefix_len is_blank (drop start text) → tokens_past true start (drop start text) ≡ tokens_past true (start + k) (drop (start + k) text)
+after_blanks text start k e = rw (e, ← drop-drop) (skip_blank start (drop start text))
 
 -- where blanks reach the end there is no token
 pub none_left : (text : List ℕ) (start k : ℕ) → k ≡ prefix_len is_blank (drop start text) → start + k ≡ length text → tokens_past true start (drop start text) ≡ []
 unfolding tokens_past
-none_left text start k e end = behind_blanks text start k e ∙ rw (end, drop-length) refl
+none_left text start k e end = after_blanks text start k e ∙ rw (end, drop-length) refl
 
 -- and else there is one, after the blanks
 pub one_left : (text : List ℕ) (start k n : ℕ) → k ≡ prefix_len is_blank (drop start text) → n ≡ prefix_len is_filled (drop (start + k) text) → start + k < length text
@@ -75,7 +75,7 @@ one_left text start k n e f some =
     let no_blank : prefix_len is_blank rest ≡ 0 = rw (e, ← drop-drop) (past_front is_blank (drop start text)) in
     let first = first_filled (start + k) rest no_blank (omega (arith, length-drop (start + k) text)) in
     let ends : prefix_len is_filled (drop (start + k + n) text) ≡ 0 = rw (← drop-drop, f) (past_front is_filled rest) in
-    let behind : tokens_past false (start + k) rest ≡ tokens_from text (start + k + n) =
+    let after : tokens_past false (start + k) rest ≡ tokens_from text (start + k + n) =
     skip_filled (start + k) rest ∙ rw (← f, drop-drop) (sym (fresh_or_not (is_fresh text (start + k + n)) (start + k + n) (drop (start + k + n) text) ends)) in
     let size : start + k + n - (start + k) ≡ n = omega arith in
-    (rw f first.0, behind_blanks text start k e ∙ first.1 ∙ rw (size, ← f, behind) refl)
+    (rw f first.0, after_blanks text start k e ∙ first.1 ∙ rw (size, ← f, after) refl)

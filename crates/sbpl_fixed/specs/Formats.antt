@@ -49,16 +49,16 @@ pub data Format (E A : Type 0) : Type 0 where
   done : A → Format E A
 
 -- a format, and after it what its value calls for
-unfoldable pub behind : {E A B : Type 0} → Format E A → (A → Format E B) → Format E B
-behind (item i more) next = item i (λ place value. behind (more place value) next)
-behind (ended f) next = ended (behind f next)
-behind (wrong e) next = wrong e
-behind (done x) next = next x
+unfoldable pub and_then : {E A B : Type 0} → Format E A → (A → Format E B) → Format E B
+and_then (item i more) next = item i (λ place value. and_then (more place value) next)
+and_then (ended f) next = ended (and_then f next)
+and_then (wrong e) next = wrong e
+and_then (done x) next = next x
 
 -- a number of formats, one after another, each from what the ones before it said
 unfoldable pub turns : {E S : Type 0} → ℕ → (S → Format E S) → S → Format E S
 turns zero step s = done s
-turns (suc n) step s = behind (step s) (turns n step)
+turns (suc n) step s = and_then (step s) (turns n step)
 
 -- ---- reading
 

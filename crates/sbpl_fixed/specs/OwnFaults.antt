@@ -1,7 +1,7 @@
 -- The faults that a format tells are its own: one that it never names, as running out of memory, is none of them.
 use Rattle.std.proofs.Common.{ℕ, zero, suc, ℤ, Bool, true, false, List, [], ◌∷◌, inl, inr, subst, sym}
 use Rattle.std.specs.Prelude.{◌≢◌, if◌then◌else◌}
-use Rattle.sbpl_fixed.specs.Formats.{Format, Item, missed, item, ended, wrong, done, behind, turns, IsFaulty}
+use Rattle.sbpl_fixed.specs.Formats.{Format, Item, missed, item, ended, wrong, done, and_then, turns, IsFaulty}
 use Rattle.sbpl_fixed.specs.Tokens.{Piece}
 use Rattle.sbpl_fixed.specs.declared.fault.TextFault.{TextFault}
 use Rattle.sbpl_fixed.specs.declared.fault.TextFault.TheVariants as common
@@ -34,17 +34,17 @@ module _ {F : Type 0} (none : F) where
   unfolding Spares
   item_spares i more k = k
 
-  pub behind_spares : {A B : Type 0} (f : Format F A) (more : A → Format F B) → Spares none f → ((x : A) → Spares none (more x)) → Spares none (behind f more)
-  unfolding Spares behind
-  behind_spares (item i next) more s k = λ place v. behind_spares (next place v) more (s place v) k
-  behind_spares (ended f) more s k = behind_spares f more s k
-  behind_spares (wrong e) more s k = s
-  behind_spares (done x) more s k = k x
+  pub and_then_spares : {A B : Type 0} (f : Format F A) (more : A → Format F B) → Spares none f → ((x : A) → Spares none (more x)) → Spares none (and_then f more)
+  unfolding Spares and_then
+  and_then_spares (item i next) more s k = λ place v. and_then_spares (next place v) more (s place v) k
+  and_then_spares (ended f) more s k = and_then_spares f more s k
+  and_then_spares (wrong e) more s k = s
+  and_then_spares (done x) more s k = k x
 
   pub turns_spare : {S : Type 0} (n : ℕ) (step : S → Format F S) (s : S) → ((x : S) → Spares none (step x)) → Spares none (turns n step s)
   unfolding Spares turns
   turns_spare zero step s k = tt
-  turns_spare (suc n) step s k = behind_spares (step s) (turns n step) (k s) (λ x. turns_spare n step x k)
+  turns_spare (suc n) step s k = and_then_spares (step s) (turns n step) (k s) (λ x. turns_spare n step x k)
 
   pub either_spares : {A : Type 0} (b : Bool) (f g : Format F A) → Spares none f → Spares none g → Spares none (if b then f else g)
   either_spares true f g s k = s

@@ -17,13 +17,13 @@ begins_blank (b ∷ bs) = is_blank b
 -- nothing before them and after them.
 pub record IsRun (fresh : Bool) (place : ℕ) (text : List ℕ) (t : Piece) : Type 0 where
   pub before : List ℕ
-  pub behind : List ℕ
-  pub parts : text ≡ before ++ (t.bytes ++ behind)
+  pub after : List ℕ
+  pub parts : text ≡ before ++ (t.bytes ++ after)
   pub here : t.place ≡ place + length before
   pub some : 0 < length t.bytes
   pub filled : list_all is_filled t.bytes ≡ true
   pub begins : ends_blank fresh before ≡ true
-  pub ends : begins_blank behind ≡ true
+  pub ends : begins_blank after ≡ true
 
 -- one of the longest runs of a text
 abbrev pub IsLongestRun : List ℕ → Piece → Type 0

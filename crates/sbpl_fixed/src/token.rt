@@ -47,7 +47,7 @@ fn is_fresh(text: &[u8], at: usize) -> bool
 fn search_start(text: &[u8], at: usize) -> usize
     requires inside { at ≤ length text.now }
     ensures inside { result ≤ length text.now }
-    ensures behind { at ≤ result }
+    ensures after { at ≤ result }
     ensures first { tokens_from text.now at ≡ tokens_past true result (drop result text.now) }
 {
     if is_fresh(text, at) {

@@ -82,7 +82,7 @@ module _ {n : Network} {start : ℕ} {g v : ℕ → ℕ} {back : ℕ → Option 
       (not_pending s (k + 1) a j idle))
       given
 
-  -- behind its last arc a state has none pending
+  -- after its last arc a state has none pending
   pub kept_done : (s k : ℕ) → AreKept n start g v back (pending_from s k) → n.fan s ≤ k → AreKept n start g v back none_pending
   kept_done s k kept over =
       kept_used none_pending kept

@@ -11,7 +11,7 @@ use Rattle.sbpl_job.specs.declared.words.Command.TheVariants as command
 use Rattle.sbpl_job.specs.declared.words.Setting.{Setting}
 use Rattle.sbpl_job.specs.declared.words.Setting.TheVariants as setting
 
--- the texts behind references
+-- the texts that references lead to
 abbrev pub text_of : Bor (List ℕ) → List ℕ
 text_of word = word.now
 

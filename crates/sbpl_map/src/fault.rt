@@ -25,7 +25,7 @@ pub enum ChangeFault {
     #[error("a cell off the map, at line {0}")]
     OffMap(u64),
     /// A cell stands after the last `replan`. The line is that of the last such cell.
-    #[error("no replan behind the cell at line {0}")]
+    #[error("no replan after the cell at line {0}")]
     NoReplan(u64),
     /// Memory ran out. This says nothing of the text.
     #[error("out of memory")]

@@ -7,7 +7,7 @@ use Rattle.std.specs.List.{flat_map}
 use Rattle.std.specs.Ordering.{int_eq}
 use Rattle.sbpl_fixed.specs.Meaning.{StandsFor}
 use Rattle.sbpl_fixed.specs.Tokens.{Piece, tokens}
-use Rattle.sbpl_fixed.specs.Formats.{Format, ended, wrong, done, behind, turns, Says}
+use Rattle.sbpl_fixed.specs.Formats.{Format, ended, wrong, done, and_then, turns, Says}
 use Rattle.sbpl_cfg.specs.Environment.{IsWithin}
 use Rattle.sbpl_mprim.specs.declared.fault.PrimFault.{PrimFault}
 use Rattle.sbpl_mprim.specs.declared.fault.PrimFault.TheVariants.{Resolution, Angles}
@@ -138,7 +138,7 @@ head_said cell headings total ts rest size some most count h =
     let t = just_said total total_format b.0 rest (say_word _ headings _ _ _ b.0 rest b.2 (λ _ us k.
     say_whole _ headings (pos 0) (pos 4096) (pos total) (λ _ m. done (unsigned_abs m)) _ us rest (natural_within total 4096 count) k (λ _ vs l.
     (total, refl, say_done PrimFault total vs rest (none_spelled headings vs rest l))))) in
-    says_both (resolution_format cell) (λ _. behind (angles_format headings) (λ _. total_format)) ts a.0 rest cell total r
+    says_both (resolution_format cell) (λ _. and_then (angles_format headings) (λ _. total_format)) ts a.0 rest cell total r
     (says_both (angles_format headings) (λ _. total_format) a.0 b.0 rest headings total n t)
 
 -- ---- the file

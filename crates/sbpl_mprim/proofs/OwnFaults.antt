@@ -5,7 +5,7 @@ use Rattle.sbpl_fixed.specs.Formats.{turns}
 use Rattle.sbpl_fixed.specs.Tokens.{tokens}
 use Rattle.sbpl_fixed.specs.declared.fault.TextFault.{TextFault}
 use Rattle.sbpl_fixed.specs.declared.fault.TextFault.TheVariants as common
-use Rattle.sbpl_fixed.specs.OwnFaults.{Spares, behind_spares, done_spares, item_spares, right_spares, spared, turns_spare, wrong_spares}
+use Rattle.sbpl_fixed.specs.OwnFaults.{Spares, and_then_spares, done_spares, item_spares, right_spares, spared, turns_spare, wrong_spares}
 use Rattle.sbpl_mprim.specs.declared.fault.PrimFault.{PrimFault}
 use Rattle.sbpl_mprim.specs.declared.fault.PrimFault.TheVariants.{NoMemory, Resolution, Angles, EndCell, EndHeading, NoPose, SameId, ZeroCost, TooLarge}
 use Rattle.sbpl_mprim.specs.declared.parts.PlacedPose.{PlacedPose}
@@ -29,11 +29,11 @@ pose_spares = λ _ _ _ _ _ _. tt
 
 pose_turn_spares : (poses : List _) → Spares NoMemory (pose_turn poses)
 unfolding pose_turn
-pose_turn_spares poses = behind_spares NoMemory pose_format _ pose_spares (λ _. done_spares NoMemory _)
+pose_turn_spares poses = and_then_spares NoMemory pose_format _ pose_spares (λ _. done_spares NoMemory _)
 
 path_spares : (count : ℕ) → Spares NoMemory (path_format count)
 unfolding path_format
-path_spares count = behind_spares NoMemory (turns _ pose_turn []) _ (turns_spare NoMemory _ pose_turn [] pose_turn_spares) (λ _. behind_spares NoMemory pose_format _ pose_spares (λ _. done_spares NoMemory _))
+path_spares count = and_then_spares NoMemory (turns _ pose_turn []) _ (turns_spare NoMemory _ pose_turn [] pose_turn_spares) (λ _. and_then_spares NoMemory pose_format _ pose_spares (λ _. done_spares NoMemory _))
 
 -- ---- a primitive
 
@@ -48,7 +48,7 @@ signed_spares = λ _ _. tt
 
 end_spares : (headings : ℕ) → Spares NoMemory (end_format headings)
 unfolding Spares end_format
-end_spares headings = λ _ _. behind_spares NoMemory signed_format _ signed_spares (λ _. behind_spares NoMemory signed_format _ signed_spares (λ _. behind_spares NoMemory signed_format _ signed_spares (λ _. tt)))
+end_spares headings = λ _ _. and_then_spares NoMemory signed_format _ signed_spares (λ _. and_then_spares NoMemory signed_format _ signed_spares (λ _. and_then_spares NoMemory signed_format _ signed_spares (λ _. tt)))
 
 mult_spares : Spares NoMemory mult_format
 unfolding Spares mult_format
@@ -66,17 +66,17 @@ judged_spares cell headings place last prim =
 front_spares : (headings : ℕ) (earlier : List Primitive) → Spares NoMemory (front_format headings earlier)
 unfolding front_format
 front_spares headings earlier =
-    behind_spares NoMemory (start_format headings earlier) _ (start_spares headings earlier) (λ _. behind_spares NoMemory (end_format headings) _ (end_spares headings) (λ _. behind_spares NoMemory mult_format _ mult_spares (λ _. done_spares NoMemory _)))
+    and_then_spares NoMemory (start_format headings earlier) _ (start_spares headings earlier) (λ _. and_then_spares NoMemory (end_format headings) _ (end_spares headings) (λ _. and_then_spares NoMemory mult_format _ mult_spares (λ _. done_spares NoMemory _)))
 
 prim_spares : (cell : ℤ) (headings : ℕ) (earlier : List Primitive) → Spares NoMemory (prim_format cell headings earlier)
 unfolding prim_format
 prim_spares cell headings earlier =
-    behind_spares NoMemory (front_format headings earlier) _ (front_spares headings earlier) (λ _. behind_spares NoMemory (count_format _) _ (count_spares _) (λ _.
-    behind_spares NoMemory (path_format _) _ (path_spares _) (λ _. judged_spares cell headings _ _ _)))
+    and_then_spares NoMemory (front_format headings earlier) _ (front_spares headings earlier) (λ _. and_then_spares NoMemory (count_format _) _ (count_spares _) (λ _.
+    and_then_spares NoMemory (path_format _) _ (path_spares _) (λ _. judged_spares cell headings _ _ _)))
 
 prim_turn_spares : (cell : ℤ) (headings : ℕ) (earlier : List Primitive) → Spares NoMemory (prim_turn cell headings earlier)
 unfolding prim_turn
-prim_turn_spares cell headings earlier = behind_spares NoMemory (prim_format cell headings earlier) _ (prim_spares cell headings earlier) (λ _. done_spares NoMemory _)
+prim_turn_spares cell headings earlier = and_then_spares NoMemory (prim_format cell headings earlier) _ (prim_spares cell headings earlier) (λ _. done_spares NoMemory _)
 
 -- ---- the file
 
@@ -95,8 +95,8 @@ total_spares = λ _ _ _ _. tt
 prims_spare : (cell : ℤ) (headings : ℕ) → Spares NoMemory (prims_format cell headings)
 unfolding Spares prims_format head_format
 prims_spare cell headings =
-    behind_spares NoMemory (head_format cell headings) _ (behind_spares NoMemory (resolution_format cell) _ (resolution_spares cell) (λ _. behind_spares NoMemory (angles_format headings) _ (angles_spares headings) (λ _. total_spares)))
-    (λ _. behind_spares NoMemory (turns _ (prim_turn cell headings) []) _ (turns_spare NoMemory _ (prim_turn cell headings) [] (prim_turn_spares cell headings)) (λ _. tt))
+    and_then_spares NoMemory (head_format cell headings) _ (and_then_spares NoMemory (resolution_format cell) _ (resolution_spares cell) (λ _. and_then_spares NoMemory (angles_format headings) _ (angles_spares headings) (λ _. total_spares)))
+    (λ _. and_then_spares NoMemory (turns _ (prim_turn cell headings) []) _ (turns_spare NoMemory _ (prim_turn cell headings) [] (prim_turn_spares cell headings)) (λ _. tt))
 
 pub no_memory_is_no_fault : (cell : ℤ) (headings : ℕ) (text : List ℕ) (f : PrimFault) → HasFault cell headings text f → f ≢ NoMemory
 no_memory_is_no_fault cell headings text f h = spared NoMemory told (prims_format cell headings) (length text) (tokens text) f told_spares (prims_spare cell headings) h

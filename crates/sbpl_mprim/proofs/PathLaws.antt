@@ -3,7 +3,7 @@ use Rattle.std.proofs.Common.{◌≡◌, ℕ, zero, suc, ◌+◌, ◌-◌, ◌�
 use Rattle.std.proofs.lemmas.List.Concat.{flat_map-append}
 use Rattle.std.specs.List.{flat_map, AllByRecursion}
 use Rattle.sbpl_fixed.specs.Tokens.{Piece}
-use Rattle.sbpl_fixed.specs.Formats.{Format, done, behind, turns, Says}
+use Rattle.sbpl_fixed.specs.Formats.{Format, done, and_then, turns, Says}
 use Rattle.sbpl_cfg.specs.declared.pose.Pose.{Pose}
 use Rattle.sbpl_mprim.specs.declared.fault.PrimFault.{PrimFault}
 use Rattle.sbpl_mprim.specs.declared.parts.PlacedPose.{PlacedPose}
@@ -107,7 +107,7 @@ all_front [] p h = (tt, h.0)
 all_front (q ∷ qs) p h = let k = all_front qs p h.1 in ((h.0, k.0), k.1)
 
 abbrev path_end : List Pose → Format PrimFault (List Pose × PlacedPose)
-path_end poses = behind pose_format (λ (last : PlacedPose). done (poses ++ last.pose ∷ [], last))
+path_end poses = and_then pose_format (λ (last : PlacedPose). done (poses ++ last.pose ∷ [], last))
 
 pub path_found : (headings count : ℕ) (ts : List Piece) (path : List Pose × PlacedPose) (rest : List Piece) → 1 ≤ count → Says (path_format count) ts path rest
     → PathFound headings count ts path rest
@@ -144,6 +144,6 @@ path_said headings front last ts rest range h =
     let end : Says (path_end front) a.0 (front ++ c.0.pose ∷ [], c.0) rest =
     says_both pose_format (λ (p : PlacedPose). done (front ++ p.pose ∷ [], p)) a.0 rest rest c.0 (front ++ c.0.pose ∷ [], c.0) c.2 (say_done PrimFault (front ++ c.0.pose ∷ [], c.0) rest rest refl) in
     let count : length front + 1 - 1 ≡ length front = omega arith in
-    let all : Says (behind (turns (length front + 1 - 1) pose_turn []) path_end) ts (front ++ c.0.pose ∷ [], c.0) rest =
+    let all : Says (and_then (turns (length front + 1 - 1) pose_turn []) path_end) ts (front ++ c.0.pose ∷ [], c.0) rest =
     rw count (says_both (turns (length front) pose_turn []) path_end ts a.0 rest front (front ++ c.0.pose ∷ [], c.0) b end) in
     ((front ++ c.0.pose ∷ [], c.0), (ap (λ (p : Pose). front ++ p ∷ []) c.1, c.1), all)

@@ -1,7 +1,7 @@
 -- The format of a primitive file.
 use Rattle.std.specs.Prelude.{ℕ, ℤ, pos, negsuc, ◌+◌, ◌-◌, ◌==◌, nat_lt, not, if◌then◌else◌, List, [], ◌∷◌, ◌++◌, unsigned_abs, sum_by, codes}
 use Rattle.std.specs.Ordering.{int_eq}
-use Rattle.sbpl_fixed.specs.Formats.{Format, item, ended, wrong, done, fixed, whole, nano, behind, turns}
+use Rattle.sbpl_fixed.specs.Formats.{Format, item, ended, wrong, done, fixed, whole, nano, and_then, turns}
 use Rattle.sbpl_cfg.specs.declared.pose.Pose.{Pose}
 use Rattle.sbpl_mprim.specs.declared.fault.PrimFault.{PrimFault}
 use Rattle.sbpl_mprim.specs.declared.fault.PrimFault.TheVariants.{Resolution, Angles, EndCell, EndHeading, NoPose, SameId, ZeroCost, TooLarge}
@@ -23,11 +23,11 @@ pose_format =
 
 -- one more pose
 unfoldable pub pose_turn : List Pose → Format PrimFault (List Pose)
-pose_turn poses = behind pose_format (λ p. done (poses ++ p.pose ∷ []))
+pose_turn poses = and_then pose_format (λ p. done (poses ++ p.pose ∷ []))
 
 -- all poses, and the last of them again with its offsets
 unfoldable pub path_format : ℕ → Format PrimFault (List Pose × PlacedPose)
-path_format count = behind (turns (count - 1) pose_turn []) (λ poses. behind pose_format (λ last. done (poses ++ last.pose ∷ [], last)))
+path_format count = and_then (turns (count - 1) pose_turn []) (λ poses. and_then pose_format (λ last. done (poses ++ last.pose ∷ [], last)))
 
 -- ---- one primitive
 
@@ -46,7 +46,7 @@ signed_format = item (whole (negsuc 32766) (pos 32767)) (λ _ n. done n)
 -- the end cell and the end heading
 unfoldable pub end_format : ℕ → Format PrimFault End
 end_format headings =
-    item (fixed (codes "endpose_c:")) (λ _ _. behind signed_format (λ dx. behind signed_format (λ dy. behind signed_format (λ t.
+    item (fixed (codes "endpose_c:")) (λ _ _. and_then signed_format (λ dx. and_then signed_format (λ dy. and_then signed_format (λ t.
     done (record { dx = dx; dy = dy; to = heading_modulo headings t })))))
 
 unfoldable pub mult_format : Format PrimFault ℕ
@@ -72,16 +72,16 @@ made s e mult poses = record { id = s.id; from = s.from; dx = e.dx; dy = e.dy; t
 -- what stands before the poses of a primitive
 unfoldable pub front_format : ℕ → List Primitive → Format PrimFault (Start × End × ℕ)
 front_format headings earlier =
-    behind (start_format headings earlier) (λ s. behind (end_format headings) (λ e. behind mult_format (λ mult. done (s, e, mult))))
+    and_then (start_format headings earlier) (λ s. and_then (end_format headings) (λ e. and_then mult_format (λ mult. done (s, e, mult))))
 
 -- one primitive after the earlier ones
 unfoldable pub prim_format : ℤ → ℕ → List Primitive → Format PrimFault Primitive
 prim_format cell headings earlier =
-    behind (front_format headings earlier) (λ f. behind (count_format (sum_by pose_count earlier)) (λ count.
-    behind (path_format count) (λ path. judged cell headings f.0.place path.1 (made f.0 f.1 f.2 path.0))))
+    and_then (front_format headings earlier) (λ f. and_then (count_format (sum_by pose_count earlier)) (λ count.
+    and_then (path_format count) (λ path. judged cell headings f.0.place path.1 (made f.0 f.1 f.2 path.0))))
 
 unfoldable pub prim_turn : ℤ → ℕ → List Primitive → Format PrimFault (List Primitive)
-prim_turn cell headings earlier = behind (prim_format cell headings earlier) (λ prim. done (earlier ++ prim ∷ []))
+prim_turn cell headings earlier = and_then (prim_format cell headings earlier) (λ prim. done (earlier ++ prim ∷ []))
 
 -- ---- the file
 
@@ -102,8 +102,8 @@ unfoldable pub total_format : Format PrimFault ℕ
 total_format = item (fixed (codes "totalnumberofprimitives:")) (λ _ _. item (whole (pos 0) (pos 4096)) (λ _ total. done (unsigned_abs total)))
 
 unfoldable pub head_format : ℤ → ℕ → Format PrimFault ℕ
-head_format cell headings = behind (resolution_format cell) (λ _. behind (angles_format headings) (λ _. total_format))
+head_format cell headings = and_then (resolution_format cell) (λ _. and_then (angles_format headings) (λ _. total_format))
 
 -- all of a file
 unfoldable pub prims_format : ℤ → ℕ → Format PrimFault (List Primitive)
-prims_format cell headings = behind (head_format cell headings) (λ total. behind (turns total (prim_turn cell headings) []) (λ prims. ended (done prims)))
+prims_format cell headings = and_then (head_format cell headings) (λ total. and_then (turns total (prim_turn cell headings) []) (λ prims. ended (done prims)))

@@ -25,7 +25,7 @@ pub enum PrimFault {
     #[error("byte {0}: the text ends where more must stand")]
     Ended(usize),
     /// A token stands after the last one.
-    #[error("byte {0}: more stands behind the last primitive")]
+    #[error("byte {0}: more stands after the last primitive")]
     Trailing(usize),
     /// The resolution is not the cell size. The offset is that of its number.
     #[error("byte {0}: the resolution is not the cell size")]

@@ -55,7 +55,7 @@ fn read_signed(reader: &mut Reader) -> Result<i32, PrimFault>
     Ok(number.value as i32)
 }
 
-#[tactic(auto, using(sbpl_fixed::specs::Parts::reads_behind), unfolding(sbpl_fixed::specs::Formats::reads, crate::specs::Reading::end_format))]
+#[tactic(auto, using(sbpl_fixed::specs::Parts::reads_and_then), unfolding(sbpl_fixed::specs::Formats::reads, crate::specs::Reading::end_format))]
 fn read_end(headings: u32, reader: &mut Reader) -> Result<End, PrimFault>
     requires some { 0 < headings }
     requires few { headings ≤ 64 }
@@ -115,7 +115,7 @@ fn read_count(before: u32, reader: &mut Reader) -> Result<u32, PrimFault>
 }
 
 /// Reads one more pose.
-#[tactic(auto, using(sbpl_fixed::specs::Parts::reads_behind), unfolding(sbpl_fixed::specs::Formats::reads, crate::specs::Reading::pose_turn))]
+#[tactic(auto, using(sbpl_fixed::specs::Parts::reads_and_then), unfolding(sbpl_fixed::specs::Formats::reads, crate::specs::Reading::pose_turn))]
 fn read_next_pose(poses: &mut Vec<Pose>, reader: &mut Reader) -> Result<(), PrimFault>
     ensures read { Gives Memory (λ _. poses.new.items) result reader.new (reads told (pose_turn poses.old.items) reader.old) }
     ensures count { OnOk result (vec_len poses.new ≡ vec_len poses.old + 1) }
@@ -126,7 +126,7 @@ fn read_next_pose(poses: &mut Vec<Pose>, reader: &mut Reader) -> Result<(), Prim
 }
 
 /// Reads `count` more poses.
-#[tactic(auto, using(sbpl_fixed::specs::Parts::reads_behind, sbpl_fixed::specs::Parts::turns_next, sbpl_fixed::specs::Parts::turns_over), unfolding(sbpl_fixed::specs::Formats::reads))]
+#[tactic(auto, using(sbpl_fixed::specs::Parts::reads_and_then, sbpl_fixed::specs::Parts::turns_next, sbpl_fixed::specs::Parts::turns_over), unfolding(sbpl_fixed::specs::Formats::reads))]
 fn read_poses(count: u32, poses: &mut Vec<Pose>, reader: &mut Reader) -> Result<(), PrimFault>
     ensures read { Gives Memory (λ _. poses.new.items) result reader.new (reads told (turns count pose_turn poses.old.items) reader.old) }
     ensures count { OnOk result (vec_len poses.new ≡ vec_len poses.old + count) }
@@ -138,7 +138,7 @@ fn read_poses(count: u32, poses: &mut Vec<Pose>, reader: &mut Reader) -> Result<
 }
 
 /// Reads the poses of a primitive. Answers the last of them again, with its offsets.
-#[tactic(auto, using(sbpl_fixed::specs::Parts::reads_behind), unfolding(sbpl_fixed::specs::Formats::reads, crate::specs::Reading::path_format))]
+#[tactic(auto, using(sbpl_fixed::specs::Parts::reads_and_then), unfolding(sbpl_fixed::specs::Formats::reads, crate::specs::Reading::path_format))]
 fn read_path(
     alloc: Global,
     count: u32,
@@ -183,7 +183,7 @@ fn judge(
 }
 
 /// Reads what stands before the poses of a primitive.
-#[tactic(auto, using(sbpl_fixed::specs::Parts::reads_behind), unfolding(sbpl_fixed::specs::Formats::reads, crate::specs::Reading::front_format))]
+#[tactic(auto, using(sbpl_fixed::specs::Parts::reads_and_then), unfolding(sbpl_fixed::specs::Formats::reads, crate::specs::Reading::front_format))]
 fn read_front(
     headings: u32,
     earlier: &Earlier,
@@ -214,7 +214,7 @@ fn made(start: Start, end: End, mult: u32, poses: Poses) -> Prim
 }
 
 /// Reads one primitive after the earlier ones.
-#[tactic(auto, using(sbpl_fixed::specs::Parts::reads_behind), unfolding(sbpl_fixed::specs::Formats::reads, crate::specs::Reading::prim_format))]
+#[tactic(auto, using(sbpl_fixed::specs::Parts::reads_and_then), unfolding(sbpl_fixed::specs::Formats::reads, crate::specs::Reading::prim_format))]
 fn read_prim(
     alloc: Global,
     cell: i64,
@@ -237,7 +237,7 @@ fn read_prim(
 }
 
 /// Reads one more primitive.
-#[tactic(auto, using(sbpl_fixed::specs::Parts::reads_behind), unfolding(sbpl_fixed::specs::Formats::reads, crate::specs::Reading::prim_turn))]
+#[tactic(auto, using(sbpl_fixed::specs::Parts::reads_and_then), unfolding(sbpl_fixed::specs::Formats::reads, crate::specs::Reading::prim_turn))]
 fn read_next_prim(
     alloc: Global,
     cell: i64,
@@ -293,7 +293,7 @@ fn read_total(reader: &mut Reader) -> Result<u32, PrimFault>
 }
 
 /// Reads what stands before the first primitive. Answers how many there are.
-#[tactic(auto, using(sbpl_fixed::specs::Parts::reads_behind), unfolding(sbpl_fixed::specs::Formats::reads, crate::specs::Reading::head_format))]
+#[tactic(auto, using(sbpl_fixed::specs::Parts::reads_and_then), unfolding(sbpl_fixed::specs::Formats::reads, crate::specs::Reading::head_format))]
 fn read_head(cell: i64, headings: u32, reader: &mut Reader) -> Result<u32, PrimFault>
     ensures read { Gives Memory (λ x. x) result reader.new (reads told (head_format cell headings) reader.old) }
     ensures sizes { OnOk result (AreSizes cell headings) }
@@ -305,7 +305,7 @@ fn read_head(cell: i64, headings: u32, reader: &mut Reader) -> Result<u32, PrimF
 }
 
 /// Reads `total` primitives.
-#[tactic(auto, using(sbpl_fixed::specs::Parts::reads_behind, sbpl_fixed::specs::Parts::turns_next, sbpl_fixed::specs::Parts::turns_over), unfolding(sbpl_fixed::specs::Formats::reads))]
+#[tactic(auto, using(sbpl_fixed::specs::Parts::reads_and_then, sbpl_fixed::specs::Parts::turns_next, sbpl_fixed::specs::Parts::turns_over), unfolding(sbpl_fixed::specs::Formats::reads))]
 fn read_each(
     alloc: Global,
     cell: i64,
@@ -326,7 +326,7 @@ fn read_each(
 }
 
 /// Reads all of a file.
-#[tactic(auto, using(sbpl_fixed::specs::Parts::reads_behind), unfolding(sbpl_fixed::specs::Formats::reads, crate::specs::Reading::prims_format))]
+#[tactic(auto, using(sbpl_fixed::specs::Parts::reads_and_then), unfolding(sbpl_fixed::specs::Formats::reads, crate::specs::Reading::prims_format))]
 pub(crate) fn read_all(
     alloc: Global,
     cell: i64,

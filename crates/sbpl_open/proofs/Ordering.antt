@@ -145,7 +145,7 @@ module _ {len : ℕ} {r r' : ℕ → ℕ} (hole c : ℕ) (but : IsHeapBut len r 
         omega arith;
   }
 
-  pub behind_down : r c ≤ r hole → r' c ≡ r hole → IsNotBefore r' c
-  behind_down lower down some =
+  pub after_down : r c ≤ r hole → r' c ≡ r hole → IsNotBefore r' c
+  after_down lower down some =
       let over : r' (parent c) ≡ r' hole = ap r' child.below in
       omega arith

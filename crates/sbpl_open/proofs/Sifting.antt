@@ -7,7 +7,7 @@ use Rattle.sbpl_open.specs.Heap.{AreAgreed, HasHole, IsNotBefore, IsFirstChild, 
 use Rattle.sbpl_open.proofs.Agreeing.{IsPlaced, IsSwapped, agreed_swapped}
 use Rattle.sbpl_open.proofs.Counting.{states_at_most}
 use Rattle.sbpl_open.proofs.Keeping.{keys_swapped}
-use Rattle.sbpl_open.proofs.Ordering.{heap_up, heap_down, behind_down}
+use Rattle.sbpl_open.proofs.Ordering.{heap_up, heap_down, after_down}
 
 -- a hole that has moved from where it began: the same keys, as many entries and as many states
 pub record IsMoving (heap' : List Entry) (slots' : List ℕ) (hole' : ℕ) (heap : List Entry) (slots : List ℕ) (hole : ℕ) (entry : Entry) : Type 0 where
@@ -178,10 +178,10 @@ module _ {heap' : List Entry} {slots' : List ℕ} {hole' : ℕ} (heap : List Ent
       step_moving heap slots hole c entry stands child.inside (child_apart heap hole c child) moving
       (heap_down hole c stands.ordered (child_filled heap hole c entry child) (rank_first heap slots hole c entry stands child.inside (child_apart heap hole c child)) (rank_others heap slots hole c entry stands child.inside (child_apart heap hole c child)))
 
-  pub moves_behind : IsNotBefore (rank_at (filled (slice_set heap hole (entry_at heap c)) c entry)) c
-  moves_behind =
+  pub moves_after : IsNotBefore (rank_at (filled (slice_set heap hole (entry_at heap c)) c entry)) c
+  moves_after =
       let stands = moving.stands in
       let own = ap rank (filled_own heap hole entry stands.inside) in
       let below = ap rank (filled_other heap hole c entry (child_apart heap hole c child)) in
-      behind_down hole c stands.ordered (child_filled heap hole c entry child) (rank_first heap slots hole c entry stands child.inside (child_apart heap hole c child)) (rank_others heap slots hole c entry stands child.inside (child_apart heap hole c child))
+      after_down hole c stands.ordered (child_filled heap hole c entry child) (rank_first heap slots hole c entry stands child.inside (child_apart heap hole c child)) (rank_others heap slots hole c entry stands child.inside (child_apart heap hole c child))
       (rw (own, below) lower) (rank_second heap slots hole c entry stands child.inside (child_apart heap hole c child))

@@ -21,11 +21,11 @@ own_cell cell offset side a side_is axis = ap (λ z. cell_of z (cell +ℤ (pos 2
 
 -- the own row of a disc
 pub own_row : (cell : ℤ) (radius : ℕ) (p : Pose) (d : Disc) (b : Band) (left right : ℕ) → IsDisc cell radius p d → b.y ≡ d.row.own → b.first +ℤ pos left ≡ d.column.own → b.last ≡ d.column.own +ℤ pos right
-    → IsReach d.column.before d.side (d.radius * d.radius) left → IsReach d.column.behind d.side (d.radius * d.radius) right → IsRow cell radius p d b (d.radius * d.radius) left right 0
-own_row cell radius p d b left right disc at first last before behind = record {
+    → IsReach d.column.before d.side (d.radius * d.radius) left → IsReach d.column.after d.side (d.radius * d.radius) right → IsRow cell radius p d b (d.radius * d.radius) left right 0
+own_row cell radius p d b left right disc at first last before after = record {
   disc = disc;
   before = before;
-  behind = behind;
+  after = after;
   distance = ap (λ z. distance_to_cell cell p.y z) at ∙ distance_own cell p.y d.side d.row disc.side_is disc.row;
   rest = omega arith;
   first = first;
@@ -48,7 +48,7 @@ module _ (cell : ℤ) (radius : ℕ) (p : Pose) (d : Disc) (disc : IsDisc cell r
 
   -- the cells of the own row, of the rows above it and of those below it
   pub disc_added : (b : Band) (left right above below : ℕ) (old first second new : List Band) → IsRow cell radius p d b (d.radius * d.radius) left right 0 → b.y ≡ d.row.own → first ≡ old ++ b ∷ []
-      → IsReach d.row.behind d.side (d.radius * d.radius) above → IsReach d.row.before d.side (d.radius * d.radius) below
+      → IsReach d.row.after d.side (d.radius * d.radius) above → IsReach d.row.before d.side (d.radius * d.radius) below
       → AddsRows cell radius p true d.row.own above first second → AddsRows cell radius p false d.row.own below second new → AddsDisc cell radius p old new
   disc_added b left right above below old first second new row at added reach_above reach_below up down =
       let column = own_cell cell p.x d.side d.column disc.side_is disc.column in

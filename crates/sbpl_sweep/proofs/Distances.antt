@@ -26,9 +26,9 @@ inside_it low high p from to =
     cond-false (int_lt p low) _ _ (is_not_less p low from) ∙ cond-false (int_lt high p) _ _ (is_not_less high p to)
 
 -- a point at the end of an interval or after it
-behind_it : (low high p : ℤ) (d : ℕ) → low ≤ℤ high → p ≡ high +ℤ pos d → distance_to low high p ≡ d
-behind_it low high p zero h e = inside_it low high p (omega (arith, ints)) (omega (arith, ints))
-behind_it low high p (suc d) h e =
+after_it : (low high p : ℤ) (d : ℕ) → low ≤ℤ high → p ≡ high +ℤ pos d → distance_to low high p ≡ d
+after_it low high p zero h e = inside_it low high p (omega (arith, ints)) (omega (arith, ints))
+after_it low high p (suc d) h e =
     let value : unsigned_abs (p -ℤ high) ≡ suc d = omega (arith, ints) in
     cond-false (int_lt p low) _ _ (is_not_less p low (omega (arith, ints))) ∙ cond-true (int_lt high p) _ _ (is_less high p (omega (arith, ints))) ∙ value
 
@@ -62,16 +62,16 @@ module _ (cell offset : ℤ) (side : ℕ) (a : Axis) (side_is : pos side ≡ pos
       let next = scaled side a.own 1 in
       inside_it (pos 2 *ℤ cell *ℤ a.own) (pos 2 *ℤ cell *ℤ (a.own +ℤ pos 1)) (cell +ℤ (pos 2 *ℤ offset)) (rw (← side_is) (omega (arith, ints, axis.start))) (rw (← side_is) (omega (arith, ints, axis.start, axis.whole)))
 
-  pub distance_behind : (n : ℕ) → distance_to_cell cell offset (a.own +ℤ pos (n + 1)) ≡ a.behind + side * n
-  distance_behind n =
+  pub distance_after : (n : ℕ) → distance_to_cell cell offset (a.own +ℤ pos (n + 1)) ≡ a.after + side * n
+  distance_after n =
       let low = scaled side a.own (n + 1) in
-      before_it (pos 2 *ℤ cell *ℤ (a.own +ℤ pos (n + 1))) (pos 2 *ℤ cell *ℤ ((a.own +ℤ pos (n + 1)) +ℤ pos 1)) (cell +ℤ (pos 2 *ℤ offset)) (a.behind + side * n) (omega (arith, axis.some)) (rw (← side_is) (omega (arith, ints, axis.start, axis.whole)))
+      before_it (pos 2 *ℤ cell *ℤ (a.own +ℤ pos (n + 1))) (pos 2 *ℤ cell *ℤ ((a.own +ℤ pos (n + 1)) +ℤ pos 1)) (cell +ℤ (pos 2 *ℤ offset)) (a.after + side * n) (omega (arith, axis.some)) (rw (← side_is) (omega (arith, ints, axis.start, axis.whole)))
 
   pub distance_before : (n : ℕ) → distance_to_cell cell offset (a.own -ℤ pos (n + 1)) ≡ a.before + side * n
   distance_before n =
       let low = scaled_back side a.own (n + 1) in
       let high = scaled side (a.own -ℤ pos (n + 1)) 1 in
-      behind_it (pos 2 *ℤ cell *ℤ (a.own -ℤ pos (n + 1))) (pos 2 *ℤ cell *ℤ ((a.own -ℤ pos (n + 1)) +ℤ pos 1)) (cell +ℤ (pos 2 *ℤ offset)) (a.before + side * n) (rw (← side_is) (omega (arith, ints))) (rw (← side_is) (omega (arith, ints, axis.start, axis.whole)))
+      after_it (pos 2 *ℤ cell *ℤ (a.own -ℤ pos (n + 1))) (pos 2 *ℤ cell *ℤ ((a.own -ℤ pos (n + 1)) +ℤ pos 1)) (cell +ℤ (pos 2 *ℤ offset)) (a.before + side * n) (rw (← side_is) (omega (arith, ints))) (rw (← side_is) (omega (arith, ints, axis.start, axis.whole)))
 
 -- a whole number is another one, or above it, or below it
 by_difference : (x a d : ℤ) → x ≡ a +ℤ d → (x ≡ a) ⊎ (((n : ℕ) × (x ≡ a +ℤ pos (n + 1))) ⊎ ((n : ℕ) × (x ≡ a -ℤ pos (n + 1))))

@@ -80,11 +80,11 @@ module _ (cells : List Cell) (ordered : AreInOrder cells) (last : Cell) (at : sl
   last_is_listed : IsListed cells last.x last.y
   last_is_listed = record { number = length cells - 1; stands = at }
 
-  pub next_behind_last : (b : Band) → GoesOn cells b → last.y ≡ b.y → b.first ≤ℤ last.x → IsNext cells b (last.x +ℤ pos 1)
-  next_behind_last b goes_on row behind = record {
+  pub next_after_last : (b : Band) → GoesOn cells b → last.y ≡ b.y → b.first ≤ℤ last.x → IsNext cells b (last.x +ℤ pos 1)
+  next_after_last b goes_on row after = record {
     from = omega (arith, ints);
     listed = λ x from to. goes_on.filled x last.x (subst (λ z. IsListed cells last.x z) row last_is_listed) from (omega (arith, ints));
-    behind = λ x y l. elim (at_or_before_last x y l) [
+    after = λ x y l. elim (at_or_before_last x y l) [
       | inl same ↦ inr (sym (ap (λ (z : Cell). z.y) same) ∙ row, let e = ap (λ (z : Cell). z.x) same in omega (arith, ints, e))
       | inr (inl less) ↦ inl (omega (arith, ints, less, row))
       | inr (inr less) ↦ inr (less.0 ∙ row, omega (arith, ints, less.1))
@@ -95,7 +95,7 @@ module _ (cells : List Cell) (ordered : AreInOrder cells) (last : Cell) (at : sl
   next_at_start b goes_on apart = record {
     from = omega (arith, ints);
     listed = λ x from to. absurd (omega (arith, ints));
-    behind = λ x y l.
+    after = λ x y l.
         let row = goes_on.rows x y l in
         let last_row = goes_on.rows last.x last.y last_is_listed in
         let close : (last.y ≡ b.y) → last.x <ℤ b.first = λ same. elim (below_or_not last.x b.first) [ inl less_x ↦ less_x | inr more_x ↦ absurd (apart (same, more_x)) ] in
@@ -131,7 +131,7 @@ band_more old middle new b x added to band next = record {
         let from = next.from in
         inr (record { row = same_y; from = omega (arith, ints, from, same_x); to = omega (arith, ints, to, same_x) })
   ];
-  ordered = in_order_push middle new (record { y = b.y; x = x }) added band.ordered next.behind;
+  ordered = in_order_push middle new (record { y = b.y; x = x }) added band.ordered next.after;
 }
 
 pub next_more : (middle new : List Cell) (b : Band) (x : ℤ) → new ≡ middle ++ (record { y = b.y; x = x }) ∷ [] → IsNext middle b x → IsNext new b (x +ℤ pos 1)
@@ -141,8 +141,8 @@ next_more middle new b x added next = record {
     | inl less_u ↦ listed_kept middle new (record { y = b.y; x = x }) u b.y added (next.listed u from (omega (arith, ints)))
     | inr equal ↦ let same : x ≡ u = omega (arith, ints) in subst (λ z. IsListed new z b.y) same (listed_last middle new x b.y added)
   ];
-  behind = λ u v l. elim (listed_from middle new (record { y = b.y; x = x }) u v added l) [
-    | inl before ↦ before_before (record { y = v; x = u }) (record { y = b.y; x = x }) (record { y = b.y; x = x +ℤ pos 1 }) (next.behind u v before) (inr (refl, omega (arith, ints)))
+  after = λ u v l. elim (listed_from middle new (record { y = b.y; x = x }) u v added l) [
+    | inl before ↦ before_before (record { y = v; x = u }) (record { y = b.y; x = x }) (record { y = b.y; x = x +ℤ pos 1 }) (next.after u v before) (inr (refl, omega (arith, ints)))
     | inr same ↦ inr (sym (ap (λ (z : Cell). z.y) same), let e = ap (λ (z : Cell). z.x) same in omega (arith, ints, e))
   ];
 }

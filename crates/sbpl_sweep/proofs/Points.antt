@@ -43,8 +43,8 @@ none_distinct : IsDistinct cell_eq []
 unfolding IsDistinct
 none_distinct = tt
 
-behind_in_order : (c : Cell) (cells : List Cell) → AreInOrder (c ∷ cells) → AreInOrder cells
-behind_in_order c cells h i a b at next =
+after_in_order : (c : Cell) (cells : List Cell) → AreInOrder (c ∷ cells) → AreInOrder cells
+after_in_order c cells h i a b at next =
     let step : suc i + 1 ≡ suc (i + 1) = omega arith in
     h (suc i) a b at (ap (slice_get (c ∷ cells)) step ∙ next)
 
@@ -52,7 +52,7 @@ are_distinct : (cells : List Cell) → AreInOrder cells → IsDistinct cell_eq c
 are_distinct [] h = none_distinct
 are_distinct (c ∷ cs) h =
     IsDistinct-cons cell_eq c cs (all_not_eq c cs (λ i d at. later (c ∷ cs) h 0 (suc i) c d (omega arith) refl at))
-    (are_distinct cs (behind_in_order c cs h))
+    (are_distinct cs (after_in_order c cs h))
 
 -- ---- each is the cell of a pose
 

@@ -16,7 +16,7 @@ use Rattle.sbpl_sweep.specs.Discs.{IsInBounds}
 use Rattle.sbpl_sweep.specs.Widths.{SweepsMoreThan, most_cells}
 use Rattle.sbpl_sweep.specs.Gathered.{AreCovered, CoverTooMany, CoverTheSame, IsStopOf, AreBounded}
 use Rattle.sbpl_sweep.specs.Sweeping.{AreFewSwept, IsSweepStop}
-use Rattle.sbpl_sweep.proofs.Distances.{beside, distance_behind}
+use Rattle.sbpl_sweep.proofs.Distances.{beside, distance_after}
 use Rattle.sbpl_sweep.proofs.DiscsTouched.{own_cell}
 use Rattle.sbpl_sweep.proofs.RowsTouched.{near_by}
 use Rattle.sbpl_sweep.proofs.Steps.{root_lt}
@@ -48,9 +48,9 @@ disc_bounded cell radius p d x y disc bounds (inr near) =
       | inl is ↦ omega (arith, ints, is, high)
       | inr (inr (n, is)) ↦ omega (arith, ints, is, high)
       | inr (inl (n, is)) ↦
-          let away = ap (λ z. distance_to_cell cell p.x z) is ∙ distance_behind cell p.x d.side d.column disc.side_is disc.column n in
-          let at = near_by (d.column.behind + d.side * n) (distance_to_cell cell p.y y) d.radius (distance_to_cell cell p.x x) (distance_to_cell cell p.y y) (2 * radius) (sym away) refl disc.twice near in
-          let less = below_root (d.column.behind + d.side * n) (distance_to_cell cell p.y y) d.radius at in
+          let away = ap (λ z. distance_to_cell cell p.x z) is ∙ distance_after cell p.x d.side d.column disc.side_is disc.column n in
+          let at = near_by (d.column.after + d.side * n) (distance_to_cell cell p.y y) d.radius (distance_to_cell cell p.x x) (distance_to_cell cell p.y y) (2 * radius) (sym away) refl disc.twice near in
+          let less = below_root (d.column.after + d.side * n) (distance_to_cell cell p.y y) d.radius at in
           let times = mul-le-mul_right {m = 1} {n = d.side} n bounds.side.0 in
           let small = bounds.radius in
           let few : n ≤ 2000000000000 = omega (arith, less, times, small) in

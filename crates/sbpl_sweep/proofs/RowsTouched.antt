@@ -9,7 +9,7 @@ use Rattle.sbpl_sweep.specs.declared.disc.Disc.{Disc}
 use Rattle.sbpl_sweep.specs.Sweep.{distance_to_cell}
 use Rattle.sbpl_sweep.specs.Reach.{squared_step, IsReach}
 use Rattle.sbpl_sweep.specs.Bands.{IsIn, IsCovered, IsNear, IsDisc, row_beside, gap_beside, AddsRows}
-use Rattle.sbpl_sweep.proofs.Distances.{beside, distance_own, distance_behind, distance_before}
+use Rattle.sbpl_sweep.proofs.Distances.{beside, distance_own, distance_after, distance_before}
 use Rattle.sbpl_sweep.proofs.Lists.{before_push, at_push, from_push}
 use Rattle.sbpl_sweep.proofs.Steps.{square_le}
 
@@ -46,7 +46,7 @@ near_by a b r c d s same_a same_b same_r h =
 pub record IsRow (cell : ℤ) (radius : ℕ) (p : Pose) (d : Disc) (b : Band) (most left right away : ℕ) : Type 0 where
   pub disc : IsDisc cell radius p d
   pub before : IsReach d.column.before d.side most left
-  pub behind : IsReach d.column.behind d.side most right
+  pub after : IsReach d.column.after d.side most right
   pub distance : distance_to_cell cell p.y b.y ≡ away
   pub rest : most + away * away ≡ d.radius * d.radius
   pub first : b.first +ℤ pos left ≡ d.column.own
@@ -69,7 +69,7 @@ module _ (cell : ℤ) (radius : ℕ) (p : Pose) (d : Disc) (b : Band) (most left
     | inl own ↦ inl own
     | inr (inl (n, is)) ↦
         let within : n < right = omega (arith, ints, row.last, inside.to, is) in
-        inr (near_at x (d.column.behind + d.side * n) (ap (λ z. distance_to_cell cell p.x z) is ∙ distance_behind cell p.x d.side d.column row.disc.side_is row.disc.column n) (row.behind.reached n within))
+        inr (near_at x (d.column.after + d.side * n) (ap (λ z. distance_to_cell cell p.x z) is ∙ distance_after cell p.x d.side d.column row.disc.side_is row.disc.column n) (row.after.reached n within))
     | inr (inr (n, is)) ↦
         let within : n < left = omega (arith, ints, row.first, inside.from, is) in
         inr (near_at x (d.column.before + d.side * n) (ap (λ z. distance_to_cell cell p.x z) is ∙ distance_before cell p.x d.side d.column row.disc.side_is row.disc.column n) (row.before.reached n within))
@@ -82,8 +82,8 @@ module _ (cell : ℤ) (radius : ℕ) (p : Pose) (d : Disc) (b : Band) (most left
   near_in_row x near = elim (beside x d.column.own) [
     | inl own ↦ record { row = refl; from = omega (arith, ints, row.first, own); to = omega (arith, ints, row.last, own) }
     | inr (inl (n, is)) ↦
-        let less = near_from x (d.column.behind + d.side * n) (ap (λ z. distance_to_cell cell p.x z) is ∙ distance_behind cell p.x d.side d.column row.disc.side_is row.disc.column n) near in
-        let within : n < right = elim (cases_lt n right) [ inl less_n ↦ less_n | inr more_n ↦ absurd (let far = row.behind.beyond n more_n in omega (arith, less, far)) ] in
+        let less = near_from x (d.column.after + d.side * n) (ap (λ z. distance_to_cell cell p.x z) is ∙ distance_after cell p.x d.side d.column row.disc.side_is row.disc.column n) near in
+        let within : n < right = elim (cases_lt n right) [ inl less_n ↦ less_n | inr more_n ↦ absurd (let far = row.after.beyond n more_n in omega (arith, less, far)) ] in
         record { row = refl; from = omega (arith, ints, row.first, is); to = omega (arith, ints, row.last, is, within) }
     | inr (inr (n, is)) ↦
         let less = near_from x (d.column.before + d.side * n) (ap (λ z. distance_to_cell cell p.x z) is ∙ distance_before cell p.x d.side d.column row.disc.side_is row.disc.column n) near in
@@ -94,25 +94,25 @@ module _ (cell : ℤ) (radius : ℕ) (p : Pose) (d : Disc) (b : Band) (most left
 -- ---- the rows to one side
 
 pub row_distance : (cell : ℤ) (radius : ℕ) (p : Pose) (d : Disc) → IsDisc cell radius p d → (upward : Bool) (n : ℕ) → distance_to_cell cell p.y (row_beside upward d.row.own n) ≡ gap_beside upward d.row + d.side * n
-row_distance cell radius p d disc true n = distance_behind cell p.y d.side d.row disc.side_is disc.row n
+row_distance cell radius p d disc true n = distance_after cell p.y d.side d.row disc.side_is disc.row n
 row_distance cell radius p d disc false n = distance_before cell p.y d.side d.row disc.side_is disc.row n
 
 -- how far a disc reaches from some row on
 pub record IsNarrowed (d : Disc) (gap n left right : ℕ) : Type 0 where
   pub left_inside : d.column.before + d.side * left ≤ 4000000000000
-  pub right_inside : d.column.behind + d.side * right ≤ 4000000000000
+  pub right_inside : d.column.after + d.side * right ≤ 4000000000000
   pub before : (k : ℕ) → left ≤ k → d.radius * d.radius ≤ squared_step d.column.before d.side k + squared_step gap d.side n
-  pub behind : (k : ℕ) → right ≤ k → d.radius * d.radius ≤ squared_step d.column.behind d.side k + squared_step gap d.side n
+  pub after : (k : ℕ) → right ≤ k → d.radius * d.radius ≤ squared_step d.column.after d.side k + squared_step gap d.side n
 
-pub narrowed_more : (d : Disc) (gap n most left right : ℕ) → most + squared_step gap d.side n ≡ d.radius * d.radius → IsReach d.column.before d.side most left → IsReach d.column.behind d.side most right
-    → d.column.before + d.side * left ≤ 4000000000000 → d.column.behind + d.side * right ≤ 4000000000000 → IsNarrowed d gap (n + 1) left right
-narrowed_more d gap n most left right rest before behind left_inside right_inside =
+pub narrowed_more : (d : Disc) (gap n most left right : ℕ) → most + squared_step gap d.side n ≡ d.radius * d.radius → IsReach d.column.before d.side most left → IsReach d.column.after d.side most right
+    → d.column.before + d.side * left ≤ 4000000000000 → d.column.after + d.side * right ≤ 4000000000000 → IsNarrowed d gap (n + 1) left right
+narrowed_more d gap n most left right rest before after left_inside right_inside =
     let further = square_le (gap + d.side * n) (gap + d.side * (n + 1)) (omega arith) in
     record {
       left_inside = left_inside;
       right_inside = right_inside;
       before = λ k h. let far = before.beyond k h in omega (arith, far, further, rest);
-      behind = λ k h. let far = behind.beyond k h in omega (arith, far, further, rest);
+      after = λ k h. let far = after.beyond k h in omega (arith, far, further, rest);
     }
 
 pub rows_none : (cell : ℤ) (radius : ℕ) (p : Pose) (upward : Bool) (own : ℤ) (old : List Band) → AddsRows cell radius p upward own 0 old old

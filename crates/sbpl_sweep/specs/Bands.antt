@@ -44,7 +44,7 @@ row_beside upward own n = if upward then own +ℤ pos (n + 1) else own -ℤ pos 
 
 -- how far the next row to one side is
 abbrev pub gap_beside : Bool → Axis → ℕ
-gap_beside upward a = if upward then a.behind else a.before
+gap_beside upward a = if upward then a.after else a.before
 
 -- the disc around a pose touches these cells, and they were added to bands
 pub record AddsRows (cell : ℤ) (radius : ℕ) (p : Pose) (upward : Bool) (own : ℤ) (rows : ℕ) (old new : List Band) : Type 0 where

@@ -7,7 +7,7 @@ use Rattle.sbpl_sweep.specs.declared.disc.Disc.{Disc}
 pub record IsAxisInBounds (side : ℕ) (a : Axis) : Type 0 where
   pub own : IsWithin (negsuc 2999999999999) (pos 3000000000000) a.own
   pub before : a.before ≤ side
-  pub behind : a.behind ≤ side
+  pub after : a.after ≤ side
 
 pub record IsInBounds (d : Disc) : Type 0 where
   pub column : IsAxisInBounds d.side d.column

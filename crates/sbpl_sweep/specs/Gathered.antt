@@ -48,7 +48,7 @@ pub record GoesOn (cells : List Cell) (b : Band) : Type 0 where
 pub record IsNext (cells : List Cell) (b : Band) (next : ℤ) : Type 0 where
   pub from : b.first ≤ℤ next
   pub listed : (x : ℤ) → b.first ≤ℤ x → (x +ℤ pos 1) ≤ℤ next → IsListed cells x b.y
-  pub behind : (x y : ℤ) → IsListed cells x y → IsBefore (record { y = y; x = x }) (record { y = b.y; x = next })
+  pub after : (x y : ℤ) → IsListed cells x y → IsBefore (record { y = y; x = x }) (record { y = b.y; x = next })
 
 -- cells of a band from a column on are added, as long as they are not too many
 pub record AddsBand (old : List Cell) (b : Band) (new : List Cell) : Type 0 where

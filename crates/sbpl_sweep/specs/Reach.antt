@@ -16,5 +16,5 @@ pub record IsReach (gap side most count : ℕ) : Type 0 where
 pub record IsAxis (side : ℕ) (at : ℤ) (a : Axis) : Type 0 where
   pub own : a.own ≡ cell_of (pos side) at
   pub start : (pos side *ℤ a.own) +ℤ pos a.before ≡ at
-  pub whole : a.before + a.behind ≡ side
-  pub some : 1 ≤ a.behind
+  pub whole : a.before + a.after ≡ side
+  pub some : 1 ≤ a.after

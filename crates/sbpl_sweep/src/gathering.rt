@@ -13,8 +13,8 @@ use sbpl_fixed::NoMemory;
 use std::alloc::Global;
 
 /// Whether a cell is in a band's row, and not before the band.
-fn is_behind_start(cell: &Cell, band: &Band) -> bool
-    ensures behind { IsTrue result ↔ ((cell.now.y ≡ band.now.y) × (band.now.first ≤ℤ cell.now.x)) }
+fn is_after_start(cell: &Cell, band: &Band) -> bool
+    ensures after { IsTrue result ↔ ((cell.now.y ≡ band.now.y) × (band.now.first ≤ℤ cell.now.x)) }
 {
     cell.y == band.y && cell.x >= band.first
 }
@@ -28,7 +28,7 @@ fn next_column(cells: &[Cell], band: &Band) -> i64
     let Some(last) = cells.last() else {
         return band.first;
     };
-    if is_behind_start(last, band) {
+    if is_after_start(last, band) {
         last.x + 1
     } else {
         band.first

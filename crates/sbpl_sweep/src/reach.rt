@@ -11,7 +11,7 @@ use sbpl_cfg::cell_at;
 pub(crate) struct Axis {
     pub(crate) own: i64,
     pub(crate) before: u64,
-    pub(crate) behind: u64,
+    pub(crate) after: u64,
 }
 
 /// Where a point lies on an axis with cells of this side.
@@ -21,13 +21,13 @@ pub(crate) fn axis_at(side: u64, at: i64) -> Axis
     ensures axis { IsAxis side at result }
     ensures own { IsWithin (negsuc 2999999999999) (pos 3000000000000) result.own }
     ensures before { result.before < side }
-    ensures behind { result.behind ≤ side }
+    ensures after { result.after ≤ side }
 {
     let before = at.rem_euclid(side as i64) as u64;
     Axis {
         own: cell_at(side as i64, at),
         before,
-        behind: side - before,
+        after: side - before,
     }
 }
 

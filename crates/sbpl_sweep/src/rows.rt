@@ -75,7 +75,7 @@ fn band_of(disc: &Disc, y: i64, left: u64, right: u64) -> Band
 fn gap_beside(axis: &Axis, upward: bool) -> u64
     ensures value { result ≡ gap_beside upward axis.now }
 {
-    if upward { axis.behind } else { axis.before }
+    if upward { axis.after } else { axis.before }
 }
 
 /// The row with number `n` beyond the next one, to one side.
@@ -113,9 +113,9 @@ pub(crate) fn push_rows(
     requires bounds { IsInBounds disc.now }
     requires rows { IsReach (gap_beside upward disc.now.row) disc.now.side (disc.now.radius * disc.now.radius) rows }
     requires left { IsReach disc.now.column.before disc.now.side (disc.now.radius * disc.now.radius) left }
-    requires right { IsReach disc.now.column.behind disc.now.side (disc.now.radius * disc.now.radius) right }
+    requires right { IsReach disc.now.column.after disc.now.side (disc.now.radius * disc.now.radius) right }
     requires left_inside { disc.now.column.before + disc.now.side * left ≤ 4 * 10 ^ 12 }
-    requires right_inside { disc.now.column.behind + disc.now.side * right ≤ 4 * 10 ^ 12 }
+    requires right_inside { disc.now.column.after + disc.now.side * right ≤ 4 * 10 ^ 12 }
     requires rows_inside { rows ≤ 4 * 10 ^ 12 }
     ensures rows { (cell : ℤ) (radius : ℕ) (p : Pose) → IsDisc cell radius p disc.now
         → OnOk result (AddsRows cell radius p upward disc.now.row.own rows bands.old.items bands.new.items) }
@@ -124,7 +124,7 @@ pub(crate) fn push_rows(
     for n in 0..rows {
         let most = rest_of_square(disc.radius, gap, disc.side, n);
         left = shrunk(left, disc.column.before, disc.side, most);
-        right = shrunk(right, disc.column.behind, disc.side, most);
+        right = shrunk(right, disc.column.after, disc.side, most);
         let y = row_beside(disc.row.own, upward, n);
         bands.push(band_of(disc, y, left, right))?;
     }
@@ -135,15 +135,15 @@ pub(crate) fn push_rows(
 fn push_cells_of(bands: &mut Vec<Band>, disc: &Disc, left: u64, right: u64) -> Result<(), NoMemory>
     requires bounds { IsInBounds disc.now }
     requires left { IsReach disc.now.column.before disc.now.side (disc.now.radius * disc.now.radius) left }
-    requires right { IsReach disc.now.column.behind disc.now.side (disc.now.radius * disc.now.radius) right }
+    requires right { IsReach disc.now.column.after disc.now.side (disc.now.radius * disc.now.radius) right }
     requires left_inside { disc.now.column.before + disc.now.side * left ≤ 4 * 10 ^ 12 }
-    requires right_inside { disc.now.column.behind + disc.now.side * right ≤ 4 * 10 ^ 12 }
+    requires right_inside { disc.now.column.after + disc.now.side * right ≤ 4 * 10 ^ 12 }
     requires few { (left ≤ 4 * 10 ^ 12) × (right ≤ 4 * 10 ^ 12) }
     ensures cells { (cell : ℤ) (radius : ℕ) (p : Pose) → IsDisc cell radius p disc.now
         → OnOk result (AddsDisc cell radius p bands.old.items bands.new.items) }
 {
     bands.push(band_of(disc, disc.row.own, left, right))?;
-    let above = reach_of(disc.row.behind, disc.side, disc.radius);
+    let above = reach_of(disc.row.after, disc.side, disc.radius);
     push_rows(bands, disc, true, above, left, right)?;
     let below = reach_of(disc.row.before, disc.side, disc.radius);
     push_rows(bands, disc, false, below, left, right)?;
@@ -159,7 +159,7 @@ pub(crate) fn push_disc(bands: &mut Vec<Band>, disc: &Disc) -> Result<(), Stop>
         → IsErrOf result Stop.TooMany → HasWideRow cell radius p }
 {
     let left = reach_of(disc.column.before, disc.side, disc.radius);
-    let right = reach_of(disc.column.behind, disc.side, disc.radius);
+    let right = reach_of(disc.column.after, disc.side, disc.radius);
     if left + right >= MOST_CELLS {
         return Err(Stop::TooMany);
     }

@@ -127,7 +127,7 @@ fn first_of_two(rt: &impl Abort, alloc: Global) -> Result<usize, Fail> {
 }
 
 #[test]
-fn sections_stand_one_behind_another(rt: HostRuntime) -> Result<(), Fail> {
+fn sections_stand_one_after_another(rt: HostRuntime) -> Result<(), Fail> {
     let text = TWO.as_bytes();
     let after = first_of_two(&rt, rt.alloc())?;
     let (second, after) = read_labels(rt.alloc(), text, after, 1, 0)?;
@@ -153,7 +153,7 @@ fn nothing(alloc: Global) -> LabelSet {
 }
 
 #[test]
-fn sections_are_written_one_behind_another(rt: HostRuntime) -> Result<(), Fail> {
+fn sections_are_written_one_after_another(rt: HostRuntime) -> Result<(), Fail> {
     let (first, _) = read_labels(rt.alloc(), TWO.as_bytes(), 0, 0, 1)?;
     let second = nothing(rt.alloc());
     let mut out = Vec::new(rt.alloc());

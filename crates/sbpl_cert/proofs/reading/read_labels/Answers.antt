@@ -1,6 +1,6 @@
 use Rattle.std.proofs.Common.{arith}
 use Rattle.std.proofs.lemmas.Result.{IfOk-weaker}
-use Rattle.sbpl_cert.proofs.ReadLaws.{behind_end_within, found_at, only_at, faulty_at, only_faulty_at, start_within}
+use Rattle.sbpl_cert.proofs.ReadLaws.{after_end_within, found_at, only_at, faulty_at, only_faulty_at, start_within}
 use Rattle.sbpl_cert.proofs.reading.read_labels.Goals as goal
 
 pub returns-clause-given : goal.returns-clause-given
@@ -14,10 +14,10 @@ pub returns-clause-inside : goal.returns-clause-inside
 returns-clause-inside c =
     IfOk-weaker c.read_exactly.result _ _ (λ x w. (omega (arith, c.min.ensures, w.0, w.1), w.1)) c.read_exactly.ensures.inside
 
-pub returns-clause-behind : goal.returns-clause-behind
-returns-clause-behind c =
+pub returns-clause-after : goal.returns-clause-after
+returns-clause-after c =
     let within = start_within c.args.text.now c.args.at c.min.result (omega (arith, c.min.ensures)) in
-    IfOk-weaker c.read_exactly.result _ _ (λ x w. behind_end_within c.args.text.now c.args.at c.min.result x.1 within w) c.read_exactly.ensures.behind
+    IfOk-weaker c.read_exactly.result _ _ (λ x w. after_end_within c.args.text.now c.args.at c.min.result x.1 within w) c.read_exactly.ensures.after
 
 pub returns-clause-found : goal.returns-clause-found
 returns-clause-found c =

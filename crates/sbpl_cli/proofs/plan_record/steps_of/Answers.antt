@@ -2,7 +2,7 @@ use Rattle.std.proofs.Common.{◌≡◌, ℕ, ◌+◌, ◌<◌, ◌≤◌, [], �
 use Rattle.std.proofs.lemmas.List.{drop_all}
 use Rattle.sbpl_cost.specs.Lattices.{network_of}
 use Rattle.sbpl_cli.specs.Headline.{IsPathFrom}
-use Rattle.sbpl_cli.proofs.PathSteps.{Completes, all_done, one_more, path_behind}
+use Rattle.sbpl_cli.proofs.PathSteps.{Completes, all_done, one_more, path_after}
 use Rattle.sbpl_cli.proofs.plan_record.steps_of.Goals as goal
 
 -- what is left begins with the element at hand
@@ -19,7 +19,7 @@ loop-arc-preserved c =
     let left = subst (λ (l : List ℕ). IsPathFrom (network_of w) c.loop-arc.at l) split c.loop-arc.invariant.left in
     let done = subst (λ (l : List ℕ). Completes w c.args.from c.args.arcs.now c.loop-arc.at l c.loop-arc.steps.items) split c.loop-arc.invariant.done in
     record {
-      left = path_behind _ _ _ _ _ left c.step_of-head.ensures.head;
+      left = path_after _ _ _ _ _ left c.step_of-head.ensures.head;
       done = rw c.in_ok-push.ensures.items (one_more w _ _ _ _ _ _ _ _ done c.step_of-head.ensures.head c.step_of-head.ensures.step);
     }
 

@@ -1,4 +1,4 @@
-use Rattle.sbpl_fixed.proofs.Forms.{wholes_have_values, no_others_are_whole, decimals_have_values, no_others_are_decimals, zeros_behind, write_numbers}
+use Rattle.sbpl_fixed.proofs.Forms.{wholes_have_values, no_others_are_whole, decimals_have_values, no_others_are_decimals, zeros_after, write_numbers}
 use Rattle.sbpl_fixed.proofs.number.numbers_are_read_by_parts.Goals as goal
 
 pub returns-clause-wholes : goal.returns-clause-wholes
@@ -14,7 +14,7 @@ pub returns-clause-other_decimals : goal.returns-clause-other_decimals
 returns-clause-other_decimals c = no_others_are_decimals
 
 pub returns-clause-missing : goal.returns-clause-missing
-returns-clause-missing c = zeros_behind
+returns-clause-missing c = zeros_after
 
 pub returns-clause-digits : goal.returns-clause-digits
 returns-clause-digits c = write_numbers

@@ -2,7 +2,7 @@ use Rattle.std.proofs.Common.{rules}
 use Rattle.std.proofs.lemmas.Int.{to_z-of_z}
 use Rattle.std.specs.Prelude.{FitsSigned}
 use Rattle.std.specs.Int.{w64}
-use Rattle.sbpl_fixed.specs.Parts.{reads_behind}
+use Rattle.sbpl_fixed.specs.Parts.{reads_and_then}
 use Rattle.sbpl_fixed.specs.Formats.{reads}
 use Rattle.sbpl_mprim.specs.Reading.{prim_format}
 use Rattle.sbpl_mprim.proofs.reading.read_prim.Goals as goal
@@ -12,11 +12,11 @@ unfolding reads prim_format
 returns-in_err-judge-clause-read c =
     let cell : FitsSigned w64 c.args.cell = c.ranges.cell in
     let h = simp to_z-of_z at (c.in_err-judge.ensures.judged c.read_path.new.reader) in
-    search (rules, reads_behind)
+    search (rules, reads_and_then)
 
 pub returns-clause-read : goal.returns-clause-read
 unfolding reads prim_format
 returns-clause-read c =
     let cell : FitsSigned w64 c.args.cell = c.ranges.cell in
     let h = simp to_z-of_z at (c.in_ok-judge.ensures.judged c.read_path.new.reader) in
-    search (rules, reads_behind)
+    search (rules, reads_and_then)

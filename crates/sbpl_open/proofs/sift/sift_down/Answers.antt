@@ -1,7 +1,7 @@
 use Rattle.std.proofs.Common.{◌≤◌, arith}
 use Rattle.sbpl_open.specs.Entries.{entry_at}
 use Rattle.sbpl_open.specs.Heap.{rank}
-use Rattle.sbpl_open.proofs.Sifting.{child_apart, hole_fits, moves_behind, moves_down, next_known}
+use Rattle.sbpl_open.proofs.Sifting.{child_apart, hole_fits, moves_after, moves_down, next_known}
 use Rattle.sbpl_open.proofs.sift.sift_down.Goals as goal
 
 pub fill-requires-clause-few : goal.fill-requires-clause-few
@@ -23,5 +23,5 @@ loop-below-preserved c =
     let lower : rank (entry_at c.loop-below.heap c.in-Some.below) ≤ rank c.args.entry = omega arith in
     rw (c.fill.ensures.heap, c.fill.ensures.slots) (
       moves_down c.loop-below.heap c.loop-below.slots c.loop-below.hole c.in-Some.below c.args.entry moving child lower,
-      moves_behind c.loop-below.heap c.loop-below.slots c.loop-below.hole c.in-Some.below c.args.entry moving child lower,
+      moves_after c.loop-below.heap c.loop-below.slots c.loop-below.hole c.in-Some.below c.args.entry moving child lower,
     )

@@ -13,7 +13,7 @@ loop-n-init c = record {
     left_inside = c.requires.left_inside;
     right_inside = c.requires.right_inside;
     before = λ k h. let far = c.requires.left.beyond k h in omega (arith, far);
-    behind = λ k h. let far = c.requires.right.beyond k h in omega (arith, far);
+    after = λ k h. let far = c.requires.right.beyond k h in omega (arith, far);
   };
   added = λ cell radius p disc. rows_none cell radius p c.args.upward c.args.disc.now.row.own c.args.bands.now.items;
 }
@@ -27,7 +27,7 @@ shrunk-left-requires-clause-beyond c = λ n h.
 pub shrunk-right-requires-clause-beyond : goal.shrunk-right-requires-clause-beyond
 shrunk-right-requires-clause-beyond c = λ n h.
     let rest = subst (λ g. c.rest_of_square-most.result + squared_step g c.args.disc.now.side c.loop-n.n ≡ c.args.disc.now.radius * c.args.disc.now.radius) c.gap_beside-gap.ensures.value c.rest_of_square-most.ensures.value in
-    let far = c.loop-n.invariant.narrowed.behind n h in
+    let far = c.loop-n.invariant.narrowed.after n h in
     omega (arith, rest, far)
 
 pub band_of-requires-clause-left : goal.band_of-requires-clause-left
@@ -56,7 +56,7 @@ loop-n-preserved c =
           (record {
             disc = disc;
             before = c.shrunk-left.ensures.reach;
-            behind = c.shrunk-right.ensures.reach;
+            after = c.shrunk-right.ensures.reach;
             distance = ap (λ z. distance_to_cell cell p.y z) at ∙ row_distance cell radius p c.args.disc.now disc c.args.upward c.loop-n.n;
             rest = rest;
             first = c.band_of.ensures.first;
