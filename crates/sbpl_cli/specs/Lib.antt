@@ -15,3 +15,4 @@ pub mod Causes
 pub mod Promises
 pub mod Determined
 pub mod Run
+pub mod RunPromises

@@ -1,0 +1,54 @@
+-- What `run` promises, of every desk: how the status and what is written come of the job that the words name and of the files.
+use Rattle.std.specs.Prelude.{◌≡◌, ◌≢◌, ◌⊎◌, ℕ, List, None, Option, Some}
+use Rattle.sbpl_desk.specs.Desk.{DeskState}
+use Rattle.sbpl_cli.specs.Run.{AreGood, ArePrefixes, AreTold, AtJob, CallsFor, CellMap, ChangeFault, CheckJob, DemoJob, EndsWithoutMemory, EnvFault, Environment, Intent, IsCheckedIn, IsCutShort, IsDone, IsFaultFound, IsFirstTooDear, IsFirstTooWide, IsFlawFound, IsHolding, IsNoCheck, IsNoFailure, IsOrFailed, IsOrUnwritten, IsRefused, IsStatus, Job, NoneRose, NoneTooWide, Outcome, PrimFault, Primitives, ReadsFrom, SectionStop, SomeRose, Sources, Tells, TellsBatches, TellsChangeFault, TellsEnvironment, TellsEnvironmentFault, TellsPrimitiveFault, TellsPrimitives, TellsTooMuch, TellsWorld, World, Write, changes_of, checked_status, intent_status, sources_of, words_writes, writes_of}
+use Rattle.sbpl_cli.specs.Writing.{AreAppended, IsCutAt, RunsOutAt, Stays}
+use Rattle.sbpl_cli.specs.declared.section_check.SectionStop.TheVariants as Stops
+use Rattle.sbpl_job.specs.declared.job.Job.TheVariants as Jobs
+
+-- where these are the job that the words name, the desk before and after, and the status that is answered
+pub record RunPromises (named : Option Job) (before after : DeskState) (status : ℕ) : Type 0 where
+  pub statuses : IsStatus status
+  -- 0: the job was done. Plans of the job's files were made, one on the map as it is and one after each batch of changes, which
+  -- keep their promises, and their report, and their labels and traces where they are asked for, were written; or the labels hold;
+  -- or what each primitive costs and sweeps was listed; or plans on an example were made, and a line for each was written.
+  pub done : status ≡ 0 → AtJob named (IsDone before after)
+  -- 1: the job `check` found a first flaw in a section of the labels, after sections that hold, and a line says so.
+  pub flaw : status ≡ 1 → AtJob named (IsFlawFound before after)
+  -- 10: it found a first fault in the text of the labels, after sections that hold, and a line says so.
+  pub fault : status ≡ 10 → AtJob named (IsFaultFound before after)
+  -- 2: the words name no job, and a line says so.
+  pub words : status ≡ 2 → (named ≡ None) × AreAppended before after words_writes
+  -- 3, 4, 5, 6, 8: the job was refused for a cause, a line says which, and nothing else was written.
+  pub environment : status ≡ 3 → AtJob named (IsRefused before after 3)
+  pub primitives : status ≡ 4 → AtJob named (IsRefused before after 4)
+  pub changes : status ≡ 5 → AtJob named (IsRefused before after 5)
+  pub unread : status ≡ 6 → AtJob named (IsRefused before after 6)
+  pub too_long : status ≡ 8 → AtJob named (IsRefused before after 8)
+  -- 7: a write failed, and the writes before it and a prefix of it stand there, on the standard output alone where the job means a refusal.
+  pub write : status ≡ 7 → SomeRose named before after
+  pub cut : status ≡ 7 → AtJob named (IsCutShort before after) ⊎ ((named ≡ None) × IsCutAt before after words_writes)
+  -- 9: memory ran out, and the first few writes stand there, on the standard output alone where the job means a refusal.
+  pub memory : status ≡ 9 → AtJob named (EndsWithoutMemory before after) ⊎ (((named ≡ None) × RunsOutAt before after words_writes) ⊎ Stays before.written after.written)
+  -- Words that name no job are refused, unless a write fails or memory runs out.
+  pub no_job : named ≡ None → IsOrUnwritten 2 status
+  -- A cause that the desk tells is answered, unless the desk fails or memory runs out.
+  pub environment_faulty : (from : Sources) (f : EnvFault) → ReadsFrom named from → TellsEnvironmentFault before.held from f → IsOrFailed 3 status
+  pub environment_long : (from : Sources) → ReadsFrom named from → TellsTooMuch (before.held from.env) → IsOrFailed 8 status
+  pub primitives_long : (from : Sources) (e : Environment) → ReadsFrom named from → TellsEnvironment before.held from e → TellsTooMuch (before.held from.prims) → IsOrFailed 8 status
+  pub primitives_faulty : (from : Sources) (e : Environment) (f : PrimFault) → ReadsFrom named from → TellsEnvironment before.held from e → TellsPrimitiveFault before.held from e f → IsOrFailed 4 status
+  pub too_wide : (from : Sources) (e : Environment) (ps : Primitives) (i : ℕ) → ReadsFrom named from → TellsEnvironment before.held from e → TellsPrimitives before.held from e ps → IsFirstTooWide ps from.radius i → IsOrFailed 4 status
+  pub too_dear : (from : Sources) (e : Environment) (ps : Primitives) (i : ℕ) → ReadsFrom named from → TellsEnvironment before.held from e → TellsPrimitives before.held from e ps → NoneTooWide ps from.radius → IsFirstTooDear e ps.items i → IsOrFailed 4 status
+  pub changes_long : (job : Job) (from : Sources) (m : CellMap) (name : List ℕ) → named ≡ Some job → sources_of job ≡ Some from → AreGood before.held from m → changes_of job ≡ Some name → TellsTooMuch (before.held name) → IsOrFailed 8 status
+  pub changes_faulty : (job : Job) (from : Sources) (m : CellMap) (f : ChangeFault) → named ≡ Some job → sources_of job ≡ Some from → AreGood before.held from m → TellsChangeFault before.held (changes_of job) m f → IsOrFailed 5 status
+  -- Good words and good files are served, unless the desk fails or memory runs out.
+  pub complete : (job : Job) (from : Sources) (m : CellMap) (batches : List (List Write)) → named ≡ Some job → sources_of job ≡ Some from → AreGood before.held from m → TellsBatches before.held (changes_of job) m batches → IsNoCheck job → IsOrFailed 0 status
+  pub demonstrated : (d : DemoJob) → named ≡ Some (Jobs.Demo d) → IsOrUnwritten 0 status
+  -- The job `check` ends as the labels do in the world that the files stand for, unless the desk fails or memory runs out.
+  pub checked : (j : CheckJob) (w : World) (batches : List (List Write)) (text : List ℕ) (goal : ℕ) (os : List Outcome) (end : Option SectionStop) → named ≡ Some (Jobs.Check j) → TellsWorld before.held j.sources w → TellsBatches before.held j.changes w.map batches → Tells (before.held j.labels) text → IsCheckedIn IsHolding w batches text goal os end → end ≢ Some Stops.NoMemory → IsOrFailed (checked_status end) status
+  pub labels_long : (j : CheckJob) (w : World) (batches : List (List Write)) → named ≡ Some (Jobs.Check j) → TellsWorld before.held j.sources w → TellsBatches before.held j.changes w.map batches → TellsTooMuch (before.held j.labels) → IsOrFailed 8 status
+  -- What is written is determined by the words and the files: whatever these call for is written whole, with its status, unless a
+  -- read or a write failed or memory ran out.
+  pub determined : (job : Job) (whole : Intent) → named ≡ Some job → AreTold before.held job → CallsFor before.held job whole → IsNoFailure status → (status ≡ intent_status whole) × AreAppended before after (writes_of job whole)
+  -- And where no read failed, what was written under each name is a prefix of that.
+  pub prefix : (job : Job) (whole : Intent) → named ≡ Some job → AreTold before.held job → NoneRose job before after → CallsFor before.held job whole → ArePrefixes before after (writes_of job whole)
