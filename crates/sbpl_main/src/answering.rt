@@ -49,6 +49,7 @@ fn hint<E: io::Write>(status: u8, err: &mut E)
     }
 }
 
+#[tactic(none)]
 /// Does what the words after the program's name ask for, and answers the program's status: tells help or the version, or does
 /// the job that they name, as `run` does it. Words that name no job are told on `err` how the program is called.
 pub fn answer<D: Desk, E: io::Write>(

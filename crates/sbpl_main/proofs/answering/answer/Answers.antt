@@ -1,0 +1,56 @@
+use Rattle.std.proofs.Common.{◌≡◌, ℕ, None, Option, Some, IsSome, map, string_bytes, rules, inl, inr, refl, sym, ◌∙◌}
+use Rattle.std.proofs.lemmas.Bool.{false≢true}
+use Rattle.sbpl_cli.specs.Run.{IsOrUnwritten, IsStatus}
+use Rattle.sbpl_job.specs.declared.help.Asked.{Asked}
+use Rattle.sbpl_job.specs.Asked.{asked_for}
+use Rattle.sbpl_main.proofs.answering.answer.Goals as goal
+
+-- words that ask for something do not ask for nothing
+not_asked : (asked : Option Asked) (x : Asked) → asked ≡ Some x → asked ≡ None → ⊥
+not_asked asked x is none = let both : Some x ≡ None = sym is ∙ none in cc
+
+none_asked : (asked : Option Asked) → asked ≡ None → IsSome asked → ⊥
+none_asked None is some = false≢true some
+none_asked (Some x) is some = not_asked (Some x) x refl is
+
+-- 0, 7 and 9 are statuses
+told_status : (status : ℕ) → IsOrUnwritten 0 status → IsStatus status
+told_status status (inl is) = rw is refl
+told_status status (inr (inl is)) = rw is refl
+told_status status (inr (inr is)) = rw is refl
+
+pub returns-in-Some-clause-asked : goal.returns-in-Some-clause-asked
+returns-in-Some-clause-asked g c = λ _. c.tell.ensures.told
+
+pub returns-in-Some-clause-unwritten : goal.returns-in-Some-clause-unwritten
+returns-in-Some-clause-unwritten g c = λ _. c.tell.ensures.write
+
+pub returns-in-Some-clause-run : goal.returns-in-Some-clause-run
+returns-in-Some-clause-run g c = λ none. absurd (not_asked _ _ c.in-Some.is (c.read_asked.ensures.asked ∙ none))
+
+pub returns-in-Some-clause-statuses : goal.returns-in-Some-clause-statuses
+returns-in-Some-clause-statuses g c = told_status c.tell.result c.tell.ensures.told
+
+pub returns-in-Some-clause-usage : goal.returns-in-Some-clause-usage
+returns-in-Some-clause-usage g c = search rules
+
+pub returns-in-Some-clause-frame : goal.returns-in-Some-clause-frame
+returns-in-Some-clause-frame g c = rw c.in-Some.ensures.no_job c.tell.ensures.frame
+
+pub returns-in-None-clause-asked : goal.returns-in-None-clause-asked
+returns-in-None-clause-asked g c = λ some. absurd (none_asked _ (sym c.read_asked.ensures.asked ∙ c.in-None.is) some)
+
+pub returns-in-None-clause-unwritten : goal.returns-in-None-clause-unwritten
+returns-in-None-clause-unwritten g c = λ some. absurd (none_asked _ (sym c.read_asked.ensures.asked ∙ c.in-None.is) some)
+
+pub returns-in-None-clause-run : goal.returns-in-None-clause-run
+returns-in-None-clause-run g c = λ _. c.run-status.ensures.promises
+
+pub returns-in-None-clause-statuses : goal.returns-in-None-clause-statuses
+returns-in-None-clause-statuses g c = c.run-status.ensures.promises.statuses
+
+pub returns-in-None-clause-usage : goal.returns-in-None-clause-usage
+returns-in-None-clause-usage g c = c.hint.ensures.usage
+
+pub returns-in-None-clause-frame : goal.returns-in-None-clause-frame
+returns-in-None-clause-frame g c = c.run-status.ensures.frame
