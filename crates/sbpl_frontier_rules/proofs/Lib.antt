@@ -1,0 +1,13 @@
+pub mod Counting
+pub mod Legs
+pub mod First
+pub mod Labelling
+pub mod Opening
+pub mod Posting
+pub mod Replaying
+pub mod Once
+pub mod Walking
+pub mod SettledAtOne
+pub mod Recounting
+pub mod Marking
+pub mod Starting

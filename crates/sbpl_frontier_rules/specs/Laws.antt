@@ -1,0 +1,59 @@
+-- What every list of events keeps.
+use Rattle.std.specs.Prelude.{◌≡◌, ℕ, ◌+◌, ◌<◌, ◌≤◌, true, List}
+use Rattle.sbpl_graph.specs.Certificate.{AreSupported}
+use Rattle.sbpl_graph.specs.Exact.{AreExact}
+use Rattle.sbpl_graph.specs.Laws.{HasGaps, IsConsistent, IsSound}
+use Rattle.sbpl_labels.specs.Counts.{AreCounts, Counts}
+use Rattle.sbpl_labels.specs.Marks.{AreLabels, Marks, states_of, g_of, v_of, back_of}
+use Rattle.sbpl_search.specs.Query.{Query}
+use Rattle.sbpl_search.specs.Ready.{AreReady}
+use Rattle.sbpl_frontier_rules.specs.declared.event.Event.{Event}
+use Rattle.sbpl_frontier_rules.specs.Events.{AreEvents, IsFirst, IsIdle, IsOutOfBudget}
+use Rattle.sbpl_frontier_rules.specs.Frontier.{Frontier, is_opened}
+use Rattle.sbpl_frontier_rules.specs.Journal.{opened_times, openings}
+use Rattle.sbpl_frontier_rules.specs.Kept.{IsKept}
+
+-- the graph keeps its laws, the guide is consistent on it, and the inflation is at least one
+pub record IsLawful (q : Query) : Type 0 where
+  pub sound : IsSound q.network
+  pub gaps : HasGaps q.network
+  pub consistent : IsConsistent q.network q.goal q.guide
+  pub inflation : 1000 ≤ q.eps
+
+-- labels and counts from which a frontier may begin: exact labels none of which is underconsistent, that fit the run's count
+pub record MayBegin (q : Query) (m : Marks) (before : Counts) : Type 0 where
+  pub labels : AreLabels m
+  pub ready : AreReady q.network m before.run
+  pub counts : AreCounts before
+
+-- a frontier that begins with these is kept
+abbrev pub FirstIsKept : Type 0
+FirstIsKept = (q : Query) (m : Marks) (counts : Counts) (f : Frontier) → MayBegin q m counts → IsFirst m counts f → IsKept q f
+
+-- every list of events keeps a frontier
+abbrev pub EventsKeep : Type 0
+EventsKeep = (q : Query) (events : List Event) (old new : Frontier) → IsLawful q → AreEvents q events old new → IsKept q old → IsKept q new
+
+-- labels of a kept frontier with no arc ready or out are exact, and support a bound
+abbrev pub IdleIsExact : Type 0
+IdleIsExact = (q : Query) (f : Frontier) → IsKept q f → IsIdle f
+    → AreExact q.network f.labels.start (g_of f.labels) (v_of f.labels) (back_of f.labels) × AreSupported q.network f.labels.start (g_of f.labels) (v_of f.labels)
+
+-- with inflation one, v = g of each opened state
+abbrev pub SettledAtOne : Type 0
+SettledAtOne = (q : Query) (f : Frontier) → IsLawful q → q.eps ≡ 1000 → IsKept q f → (s : ℕ) → is_opened f s ≡ true → v_of f.labels s ≡ g_of f.labels s
+
+-- what a list of events from the beginning of a pass opened: each state at most once, so no more than there are, and fewer where
+-- one is still open; each is opened at its end, and is counted; the start stays
+pub record OpensOnce (q : Query) (m : Marks) (before : Counts) (events : List Event) (f : Frontier) : Type 0 where
+  pub each : (s : ℕ) → opened_times s events ≤ 1
+  pub few : openings events ≤ states_of m
+  pub unfinished : IsOutOfBudget q f → openings events < states_of m
+  pub opened : (s : ℕ) → 0 < opened_times s events → is_opened f s ≡ true
+  pub counted : f.counts ≡ record before { plan = before.plan + openings events; run = before.run + openings events }
+  pub start : f.labels.start ≡ m.start
+  pub states : states_of f.labels ≡ states_of m
+
+abbrev pub EachOpensOnce : Type 0
+EachOpensOnce = (q : Query) (m : Marks) (before : Counts) (events : List Event) (old new : Frontier) → IsLawful q → MayBegin q m before
+    → IsFirst m before old → AreEvents q events old new → OpensOnce q m before events new
