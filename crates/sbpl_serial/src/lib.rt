@@ -17,6 +17,7 @@ mod steps;
 pub use closed::Closed;
 pub use facts::{exact_where_same, run_is_determined};
 pub use parts::Parts;
+pub use queue::requeue;
 pub use serial::Serial;
 pub use step::Step;
 pub use steps::Steps;

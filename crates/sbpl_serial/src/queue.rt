@@ -57,7 +57,7 @@ pub(crate) fn refill<H: Guide>(
 
 /// Places the state whose labels have changed, if one has: it is in the queue with its present key
 /// where it is open, else it is not there.
-pub(crate) fn requeue<H: Guide>(
+pub fn requeue<H: Guide>(
     queue: &mut Open,
     changed: Option<u32>,
     closed: &Closed,

@@ -1,0 +1,10 @@
+pub mod Cursors
+pub mod Aside
+pub mod Filling
+pub mod Replaying
+pub mod Parting
+pub mod Choosing
+pub mod Answering
+pub mod Finishing
+pub mod Placing
+pub mod Lowering

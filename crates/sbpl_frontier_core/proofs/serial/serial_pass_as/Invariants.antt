@@ -1,0 +1,8 @@
+use Rattle.std.proofs.Common.{◌≡◌, ◌^◌, ◌-◌, []}
+use Rattle.sbpl_frontier_core.proofs.serial.serial_pass_as.Given as goal
+
+abbrev pub invariant-arcs : goal.invariant-arcs
+invariant-arcs g l = l.core.frontier.out ≡ []
+
+abbrev pub decreases-arcs : goal.decreases-arcs
+decreases-arcs g l = 2 ^ 42 - l.core.frontier.next

@@ -1,0 +1,14 @@
+pub mod Nothing
+pub mod Listed
+pub mod Log
+pub mod Logs
+pub mod Cursor
+pub mod Book
+pub mod Clear
+pub mod Answers
+pub mod Waiting
+pub mod Together
+pub mod Choices
+pub mod Given
+pub mod Finished
+pub mod Passes
