@@ -7,7 +7,7 @@ ghost use Rattle.sbpl_labels.specs.Marks.{AreLabels, AreInitial, states_of, g_of
 ghost use Rattle.sbpl_search.specs.Query.{query};
 ghost use Rattle.sbpl_search.specs.Ready.{AreReady, IsStartFresh};
 ghost use Rattle.sbpl_serial.specs.Passed.{IsForwardPass, IsSerialPass};
-ghost use Rattle.sbpl_serial.specs.Serial.{AreParts};
+ghost use Rattle.sbpl_serial.specs.Serial.{AreSerialParts};
 
 use sbpl_fixed::NoMemory;
 use sbpl_graph::{Graph, Guide};
@@ -117,7 +117,7 @@ impl Ara {
         ensures goal { result.goal ≡ self.goal }
         ensures steps { result.steps.items ≡ self.trace }
         ensures queue { result.queue ≡ self.queue }
-        ensures parts { AreParts result.labels result.goal result.closed result.steps result.queue }
+        ensures parts { AreSerialParts result.labels result.goal result.closed result.steps result.queue }
     {
         self.serial.into_parts()
     }

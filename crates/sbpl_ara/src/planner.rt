@@ -24,6 +24,7 @@ impl<G: Graph, H: Guide> Search<G, H> for Ara {
         graph: &G,
         guide: &H,
         eps: u32,
+        _traced: bool,
         budget: &mut Budget,
     ) -> Result<PassEnd, NoMemory> {
         Ok(Ara::pass(self, graph, guide, eps, budget))

@@ -6,17 +6,18 @@ use Rattle.sbpl_desk.specs.declared.desk.WriteStop.{WriteStop}
 use Rattle.sbpl_desk.specs.declared.desk.WriteStop.TheVariants.{NoMemory}
 use Rattle.sbpl_cost.specs.World.{IsWorld, World, over_map}
 use Rattle.sbpl_job.specs.declared.job.Outputs.{Outputs}
+use Rattle.sbpl_job.specs.declared.job.Planner.{Planner}
 use Rattle.sbpl_job.specs.declared.job.SearchJob.{SearchJob}
 use Rattle.sbpl_labels.specs.Counts.{Counts}
 use Rattle.sbpl_map.specs.CellMap.{CellMap}
 use Rattle.sbpl_map.specs.MapAfter.{AreWritten, IsMapAfter}
 use Rattle.sbpl_map.specs.declared.write.Write as change
-use Rattle.sbpl_cli.specs.Asked.{Known}
+use Rattle.sbpl_cli.specs.Asked.{Known, known}
 use Rattle.sbpl_replan.specs.Replanning.{BeginsWith, IsReadyIn, Replanning, StaysTheSame}
 use Rattle.sbpl_cli.specs.declared.record.PlanRecord.{PlanRecord}
 use Rattle.sbpl_cli.specs.Headline.{Carried, IsPlanOf}
 use Rattle.sbpl_cli.specs.Intents.{end_writes, last_write, plans_status}
-use Rattle.sbpl_cli.specs.Planning.{EndsPlan, GoesOnFrom, IsSetFor, carried_of}
+use Rattle.sbpl_cli.specs.Planning.{EndsOnePlan, GoesOnFrom, IsSetFor, carried_of}
 use Rattle.sbpl_cli.specs.Promises.{EndsPlans}
 use Rattle.sbpl_cli.specs.Writing.{AreAppended, DeskState, EndsAs, EndsIn, Write, status_after}
 use Rattle.sbpl_cli.proofs.Writings.{ends_as_after, none_made, status_ends}
@@ -97,7 +98,7 @@ module _ (by : Known) (written_of : PlanRecord → List Write) (w : World) (batc
 
     -- what holds of the plan that is made next
     abbrev pub NextEnds : Result (Unit {0}) WriteStop → Type 0
-    NextEnds result = (before : Option Carried) → GoesOnFrom by.means now start before r → EndsPlan by written_of now how outputs start goal k before (carried_of now s) b c result
+    NextEnds result = (before : Option Carried) → GoesOnFrom by.means now start before r → EndsOnePlan by written_of now how outputs start goal k before (carried_of now s) b c result
 
     -- the next plan was not told
     pub stops : (status : ℕ) (e : WriteStop) → NextEnds (Err e) → status ≡ status_after {T = Unit {0}} 9 (Err e) → EndsPlans by written_of w batches how outputs start goal 0 None a c status
@@ -149,3 +150,10 @@ module _ (by : Known) (written_of : PlanRecord → List Write) (w : World) (batc
       where
         back : over_map next now.map ≡ now
         back = ap (λ (v : World). record v { map = now.map }) others
+
+-- plans by the planner that was asked for
+pub ends_by : {written_of : PlanRecord → List Write} {w : World} {batches : List (List change.Write)} {how : SearchJob} {outputs : Outputs} {start goal : ℕ} {a b : DeskState} {status : ℕ}
+    (p : Planner) → how.planner ≡ p → EndsPlans (known p) written_of w batches how outputs start goal 0 None a b status
+    → EndsPlans (known how.planner) written_of w batches how outputs start goal 0 None a b status
+ends_by {written_of} {w} {batches} {how} {outputs} {start} {goal} {a} {b} {status} p is ends =
+    subst (λ (x : Planner). EndsPlans (known x) written_of w batches how outputs start goal 0 None a b status) (sym is) ends

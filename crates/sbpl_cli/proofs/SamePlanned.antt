@@ -8,6 +8,7 @@ use Rattle.sbpl_cost.specs.World.{World}
 use Rattle.sbpl_job.specs.declared.job.PlanJob.{PlanJob}
 use Rattle.sbpl_job.specs.declared.job.Sources.{Sources}
 use Rattle.sbpl_cli.specs.declared.record.PlanRecord.{PlanRecord}
+use Rattle.sbpl_cli.specs.Asked.{is_determined}
 use Rattle.sbpl_cli.specs.Causes.{ArePlanned, IsReadText, ReadsBatches, ReadsWorld}
 use Rattle.sbpl_cli.specs.Determined.{AreAlikeWorlds, FewAreFirst, RecordsAreOne}
 use Rattle.sbpl_cli.specs.Headline.{ArePlans}
@@ -53,19 +54,19 @@ module _ (clear : TextsAreClear) (held : Told) where
 
   -- records of plans of a job are the first few of any records of all of its plans
   pub few_planned : FewAreFirst → (j : PlanJob) (rs us : List PlanRecord) (all : Bool) → IsSome (held j.sources.env) → IsSome (held j.sources.prims) → IfSome j.changes (λ name. IsSome (held name))
-      → ArePlanned held j rs all → ArePlanned held j us true → (rest : List PlanRecord) × (us ≡ rs ++ rest)
-  few_planned first j rs us all told_env told_prims told_changes x y =
+      → is_determined j.search.planner ≡ true → ArePlanned held j rs all → ArePlanned held j us true → (rest : List PlanRecord) × (us ≡ rs ++ rest)
+  few_planned first j rs us all told_env told_prims told_changes determined x y =
       let alike = one_world j.sources x.world y.world told_env told_prims x.says y.says in
       let course : ReadsBatches held j.changes x.world.map y.batches = subst (λ (m : CellMap). ReadsBatches held j.changes m y.batches) alike.map y.changes in
       let batches : x.batches ≡ y.batches = one_course j.changes x.world.map x.batches y.batches told_changes x.changes course in
       let plans : ArePlans y.world x.batches j.search j.outputs us true = subst (λ (bs : List (List Write)). ArePlans y.world bs j.search j.outputs us true) (sym batches) y.plans in
-      first x.world y.world x.batches j.search j.outputs rs us all alike x.plans plans
+      first x.world y.world x.batches j.search j.outputs rs us all determined alike x.plans plans
 
   pub one_planned : RecordsAreOne → (j : PlanJob) (rs us : List PlanRecord) → IsSome (held j.sources.env) → IsSome (held j.sources.prims) → IfSome j.changes (λ name. IsSome (held name))
-      → ArePlanned held j rs true → ArePlanned held j us true → rs ≡ us
-  one_planned one j rs us told_env told_prims told_changes x y =
+      → is_determined j.search.planner ≡ true → ArePlanned held j rs true → ArePlanned held j us true → rs ≡ us
+  one_planned one j rs us told_env told_prims told_changes determined x y =
       let alike = one_world j.sources x.world y.world told_env told_prims x.says y.says in
       let course : ReadsBatches held j.changes x.world.map y.batches = subst (λ (m : CellMap). ReadsBatches held j.changes m y.batches) alike.map y.changes in
       let batches : x.batches ≡ y.batches = one_course j.changes x.world.map x.batches y.batches told_changes x.changes course in
       let plans : ArePlans y.world x.batches j.search j.outputs us true = subst (λ (bs : List (List Write)). ArePlans y.world bs j.search j.outputs us true) (sym batches) y.plans in
-      one x.world y.world x.batches j.search j.outputs rs us alike x.plans plans
+      one x.world y.world x.batches j.search j.outputs rs us determined alike x.plans plans

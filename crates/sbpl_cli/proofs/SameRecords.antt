@@ -1,6 +1,6 @@
 -- The record of a plan is one, and so are the records of plans in turn.
 use Rattle.std.proofs.Common.{map, ◌≡◌, ℕ, ◌+◌, ◌^◌, ◌<◌, ◌≤◌, ◌⊎◌, Bool, true, false, Option, Some, None, List, [], ◌∷◌, ◌++◌, append-nil, length, inl, inr, refl, sym, ap, subst, ◌∙◌, arith}
-use Rattle.std.proofs.lemmas.Bool.{MatchBool-at_true}
+use Rattle.std.proofs.lemmas.Bool.{MatchBool-at_true, false≢true}
 use Rattle.std.proofs.lemmas.List.{ext_get_or, length-append, nil_from_length}
 use Rattle.std.proofs.lemmas.Option.{same_Some}
 use Rattle.std.specs.Option.{is_some}
@@ -31,8 +31,9 @@ use Rattle.sbpl_job.specs.declared.job.Planner.{Planner}
 use Rattle.sbpl_job.specs.declared.job.Planner.TheVariants as planner
 use Rattle.sbpl_plan.specs.declared.ask.Ask.{Ask}
 use Rattle.sbpl_plan.specs.declared.passes.Pass.{Pass}
-use Rattle.sbpl_plan.specs.declared.result.Outcome as search
-use Rattle.sbpl_plan.specs.declared.result.Outcome.TheVariants as result
+use Rattle.sbpl_plan.specs.declared.result.FoundPath.{FoundPath}
+use Rattle.sbpl_plan.specs.declared.result.Outcome.{Outcome}
+use Rattle.sbpl_plan.specs.declared.result.Outcome.TheVariants as outcome
 use Rattle.sbpl_plan.specs.Asked.{lowered}
 use Rattle.sbpl_plan.specs.Determined.{AreWithin, OutcomesAreOne, PassesAreOne}
 use Rattle.sbpl_plan.specs.Outcomes.{IsResultOf}
@@ -40,10 +41,9 @@ use Rattle.sbpl_plan.specs.Passing.{ArePasses, Inquiry, expansions, query_at}
 use Rattle.sbpl_job.specs.declared.job.Outputs.{Outputs}
 use Rattle.sbpl_job.specs.declared.job.SearchJob.{SearchJob}
 use Rattle.sbpl_cli.specs.declared.record.PathStep.{PathStep}
-use Rattle.sbpl_cli.specs.declared.record.Outcome.{Outcome}
-use Rattle.sbpl_cli.specs.declared.record.Outcome.TheVariants as outcome
+use Rattle.sbpl_cli.specs.declared.record.PathRecord.{PathRecord}
 use Rattle.sbpl_cli.specs.declared.record.PlanRecord.{PlanRecord}
-use Rattle.sbpl_cli.specs.Asked.{Known, ask_of, known}
+use Rattle.sbpl_cli.specs.Asked.{Known, ask_of, is_determined, known}
 use Rattle.sbpl_cli.specs.Headline.{ArePlans, AreRecords, AreSteps, Carried, IsMarked, IsPlanOf, IsSearched, Joins, IsSameResult, expanded_before}
 use Rattle.sbpl_cli.specs.Determined.{FewAreFirst, RecordsAreOne}
 use Rattle.sbpl_cli.specs.Shown.{IsShown, IsThere}
@@ -73,9 +73,9 @@ one_steps e ps sweeps others m same s u at (k ∷ ks) (x ∷ xs) (y ∷ ys) left
 
 -- the outcome that tells a result is one
 one_told : (e : Environment) (ps : Primitives) (sweeps others : Swept) (m : CellMap) → network_of (made e ps sweeps m) ≡ network_of (made e ps others m)
-    → (start goal : ℕ) (r : search.Outcome) (o p : Outcome) → IsSameResult r o → IsSameResult r p
+    → (start goal : ℕ) (r : Outcome FoundPath) (o p : Outcome PathRecord) → IsSameResult r o → IsSameResult r p
     → Joins (made e ps sweeps m) start goal o → Joins (made e ps others m) start goal p → o ≡ p
-one_told e ps sweeps others m same start goal (result.Path arcs cost bound) (outcome.Path x) (outcome.Path y) told also joins joins' =
+one_told e ps sweeps others m same start goal (outcome.Path found) (outcome.Path x) (outcome.Path y) told also joins joins' =
     let way : x.arcs ≡ y.arcs = told.0 ∙ sym also.0 in
     let price : x.cost ≡ y.cost = told.1 ∙ sym also.1 in
     let limit : x.bound ≡ y.bound = told.2 ∙ sym also.2 in
@@ -83,20 +83,20 @@ one_told e ps sweeps others m same start goal (result.Path arcs cost bound) (out
     let own : AreSteps (made e ps others m) start x.arcs y.steps = rw way joins'.steps in
     let steps = one_steps e ps sweeps others m same start start refl x.arcs x.steps y.steps joins.steps own in
     λ i. outcome.Path (record { cost = price i; bound = limit i; start = from i; steps = steps i; arcs = way i })
-one_told e ps sweeps others m same start goal (result.Path arcs cost bound) (outcome.Path x) outcome.NoPath told also joins joins' = absurd also
-one_told e ps sweeps others m same start goal (result.Path arcs cost bound) (outcome.Path x) outcome.Unknown told also joins joins' = absurd also
-one_told e ps sweeps others m same start goal (result.Path arcs cost bound) outcome.NoPath p told also joins joins' = absurd told
-one_told e ps sweeps others m same start goal (result.Path arcs cost bound) outcome.Unknown p told also joins joins' = absurd told
-one_told e ps sweeps others m same start goal result.NoPath (outcome.Path x) p told also joins joins' = absurd told
-one_told e ps sweeps others m same start goal result.NoPath outcome.NoPath (outcome.Path y) told also joins joins' = absurd also
-one_told e ps sweeps others m same start goal result.NoPath outcome.NoPath outcome.NoPath told also joins joins' = refl
-one_told e ps sweeps others m same start goal result.NoPath outcome.NoPath outcome.Unknown told also joins joins' = absurd also
-one_told e ps sweeps others m same start goal result.NoPath outcome.Unknown p told also joins joins' = absurd told
-one_told e ps sweeps others m same start goal result.Unknown (outcome.Path x) p told also joins joins' = absurd told
-one_told e ps sweeps others m same start goal result.Unknown outcome.NoPath p told also joins joins' = absurd told
-one_told e ps sweeps others m same start goal result.Unknown outcome.Unknown (outcome.Path y) told also joins joins' = absurd also
-one_told e ps sweeps others m same start goal result.Unknown outcome.Unknown outcome.NoPath told also joins joins' = absurd also
-one_told e ps sweeps others m same start goal result.Unknown outcome.Unknown outcome.Unknown told also joins joins' = refl
+one_told e ps sweeps others m same start goal (outcome.Path found) (outcome.Path x) outcome.NoPath told also joins joins' = absurd also
+one_told e ps sweeps others m same start goal (outcome.Path found) (outcome.Path x) outcome.Unknown told also joins joins' = absurd also
+one_told e ps sweeps others m same start goal (outcome.Path found) outcome.NoPath p told also joins joins' = absurd told
+one_told e ps sweeps others m same start goal (outcome.Path found) outcome.Unknown p told also joins joins' = absurd told
+one_told e ps sweeps others m same start goal outcome.NoPath (outcome.Path x) p told also joins joins' = absurd told
+one_told e ps sweeps others m same start goal outcome.NoPath outcome.NoPath (outcome.Path y) told also joins joins' = absurd also
+one_told e ps sweeps others m same start goal outcome.NoPath outcome.NoPath outcome.NoPath told also joins joins' = refl
+one_told e ps sweeps others m same start goal outcome.NoPath outcome.NoPath outcome.Unknown told also joins joins' = absurd also
+one_told e ps sweeps others m same start goal outcome.NoPath outcome.Unknown p told also joins joins' = absurd told
+one_told e ps sweeps others m same start goal outcome.Unknown (outcome.Path x) p told also joins joins' = absurd told
+one_told e ps sweeps others m same start goal outcome.Unknown outcome.NoPath p told also joins joins' = absurd told
+one_told e ps sweeps others m same start goal outcome.Unknown outcome.Unknown (outcome.Path y) told also joins joins' = absurd also
+one_told e ps sweeps others m same start goal outcome.Unknown outcome.Unknown outcome.NoPath told also joins joins' = absurd also
+one_told e ps sweeps others m same start goal outcome.Unknown outcome.Unknown outcome.Unknown told also joins joins' = refl
 
 -- ---- the section of final labels
 
@@ -109,7 +109,7 @@ one_low {states} {goal} {g} {v} {h} {h'} {low} {low'} alike a b =
     let down : low' ≤ low = a.greatest low' b.at_goal (λ s inside differ. omega (arith, alike s inside, b.unsettled s inside differ)) in
     omega arith
 
-one_section : {n n' : Network} {h h' : ℕ → ℕ} {start goal plan : ℕ} {m : Marks} {found : search.Outcome} → AreAlikeGuides (states_of m) h h' → (s u : Section)
+one_section : {n n' : Network} {h h' : ℕ → ℕ} {start goal plan : ℕ} {m : Marks} {found : Outcome FoundPath} → AreAlikeGuides (states_of m) h h' → (s u : Section)
     → IsShown n h start goal plan m found s → IsShown n' h' start goal plan m found u → s ≡ u
 one_section {n} {n'} {h} {h'} {start} {goal} {plan} {m} {found} alike s u x y =
     let number : s.plan ≡ u.plan = x.number ∙ sym y.number in
@@ -269,33 +269,34 @@ whole_front rs us rest parted as_many =
     let none : rest ≡ [] = nil_from_length rest (omega arith) in
     sym (parted ∙ ap (λ (l : List PlanRecord). rs ++ l) none ∙ append-nil rs)
 
-first_list : ((p : Planner) → IsPlannerDetermined (known p).means) → InitialLabelsAreOne → OutcomesAreOne → OneMap → AlikeWorldsAreOneGraph → (e : Environment) (ps : Primitives) (sweeps others : Swept) (m : CellMap) → sweeps.radius ≡ others.radius
-    → (batches : List (List Write)) (how : SearchJob) (outputs : Outputs) (rs us : List PlanRecord) (all : Bool) → ArePlans (made e ps sweeps m) batches how outputs rs all → ArePlans (made e ps others m) batches how outputs us true
+first_list : ((p : Planner) → is_determined p ≡ true → IsPlannerDetermined (known p).means) → InitialLabelsAreOne → OutcomesAreOne → OneMap → AlikeWorldsAreOneGraph → (e : Environment) (ps : Primitives) (sweeps others : Swept) (m : CellMap) → sweeps.radius ≡ others.radius
+    → (batches : List (List Write)) (how : SearchJob) (outputs : Outputs) (rs us : List PlanRecord) (all : Bool) → is_determined how.planner ≡ true → ArePlans (made e ps sweeps m) batches how outputs rs all → ArePlans (made e ps others m) batches how outputs us true
     → (rest : List PlanRecord) × (us ≡ rs ++ rest)
-first_list laws initial one_result one_map one_graph e ps sweeps others m radius batches how outputs rs us all left right =
+first_list laws initial one_result one_map one_graph e ps sweeps others m radius batches how outputs rs us all determined left right =
     let starts : left.start ≡ right.start = one_state e e.start left.start right.start left.start_is right.start_is in
     let goals : left.goal ≡ right.goal = one_state e e.end left.goal right.goal left.goal_is right.goal_is in
     let each : AreRecords (known how.planner) (made e ps others m) batches how outputs left.start left.goal 0 None us = rw (starts, goals) right.each in
     let none : AreCarried e ps sweeps others radius None = tt in
     let few = left.few in
     let many = right.all_made refl in
-    one_records (known how.planner) (laws how.planner) initial one_result e ps sweeps others radius one_map one_graph m batches how outputs left.start left.goal rs us 0 None none (omega arith) left.each each
+    one_records (known how.planner) (laws how.planner determined) initial one_result e ps sweeps others radius one_map one_graph m batches how outputs left.start left.goal rs us 0 None none (omega arith) left.each each
 
--- each planner is one of these
-pub of_each : IsPlannerDetermined ara → IsPlannerDetermined adstar → (p : Planner) → IsPlannerDetermined (known p).means
-of_each by_ara by_adstar planner.Ara = by_ara
-of_each by_ara by_adstar planner.AdStar = by_adstar
+-- each planner whose passes are determined is one of these
+pub of_each : IsPlannerDetermined ara → IsPlannerDetermined adstar → (p : Planner) → is_determined p ≡ true → IsPlannerDetermined (known p).means
+of_each by_ara by_adstar planner.Ara determined = by_ara
+of_each by_ara by_adstar planner.AdStar determined = by_adstar
+of_each by_ara by_adstar planner.Epase determined = absurd (false≢true determined)
 
-pub few_are_first : ((p : Planner) → IsPlannerDetermined (known p).means) → InitialLabelsAreOne → OutcomesAreOne → OneMap → AlikeWorldsAreOneGraph → FewAreFirst
-few_are_first laws initial one_result one_map one_graph w v batches how outputs rs us all alike left right =
+pub few_are_first : ((p : Planner) → is_determined p ≡ true → IsPlannerDetermined (known p).means) → InitialLabelsAreOne → OutcomesAreOne → OneMap → AlikeWorldsAreOneGraph → FewAreFirst
+few_are_first laws initial one_result one_map one_graph w v batches how outputs rs us all determined alike left right =
     let env = alike.env in
     let prims = alike.prims in
     let map = alike.map in
     let is : v ≡ made w.env w.prims v.sweeps w.map = λ i. record { env = env i; prims = prims i; sweeps = v.sweeps; map = map i } in
     let own : ArePlans (made w.env w.prims v.sweeps w.map) batches how outputs us true = subst (λ (x : World). ArePlans x batches how outputs us true) is right in
-    first_list laws initial one_result one_map one_graph w.env w.prims w.sweeps v.sweeps w.map (sym alike.radius) batches how outputs rs us all left own
+    first_list laws initial one_result one_map one_graph w.env w.prims w.sweeps v.sweeps w.map (sym alike.radius) batches how outputs rs us all determined left own
 
 pub records_are_one : FewAreFirst → RecordsAreOne
-records_are_one first w v batches how outputs rs us alike left right =
-    let parted = first w v batches how outputs rs us true alike left right in
+records_are_one first w v batches how outputs rs us determined alike left right =
+    let parted = first w v batches how outputs rs us true determined alike left right in
     whole_front rs us parted.0 parted.1 (right.all_made refl ∙ sym (left.all_made refl))

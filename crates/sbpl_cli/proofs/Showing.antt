@@ -10,8 +10,9 @@ use Rattle.sbpl_graph.specs.Path.{IsFreePath}
 use Rattle.sbpl_labels.specs.Marks.{Marks, states_of, g_of, v_of}
 use Rattle.sbpl_plan.specs.Looking.{IsPathFound}
 use Rattle.sbpl_plan.specs.Outcomes.{IsResultOf}
-use Rattle.sbpl_plan.specs.declared.result.Outcome as search
-use Rattle.sbpl_plan.specs.declared.result.Outcome.TheVariants as result
+use Rattle.sbpl_plan.specs.declared.result.FoundPath.{FoundPath}
+use Rattle.sbpl_plan.specs.declared.result.Outcome.{Outcome}
+use Rattle.sbpl_plan.specs.declared.result.Outcome.TheVariants as outcome
 use Rattle.sbpl_cert.specs.Made.{IsOfLabels}
 use Rattle.sbpl_cert.specs.Sections as sections
 use Rattle.sbpl_cert.specs.Sections.{HasArcs, Section, g_at, v_at}
@@ -45,20 +46,20 @@ module _ (n : Network) (sound : IsSound n) (guide : ℕ → ℕ) (goal : ℕ) (m
       let near : g_of m goal < FAR = found.walk.near in
       ⊎_elim (λ (far : g_of m goal ≡ FAR). absurd (omega arith)) (λ (small : g_of m goal < 2 ^ 62). omega arith) (supported.labels goal inside).0
 
-  pub answer_fits : (found : search.Outcome) → IsResultOf n guide goal m found → sections.IsOutcomeInRange (answer_of found)
-  answer_fits (result.Path arcs cost bound) is =
-      let small : cost < 2 ^ 62 = small_cost arcs cost bound is in
-      (small, is.bound_is.at_least_one, small_bound cost is.low bound small is.bound_is)
-  answer_fits result.NoPath is = tt
-  answer_fits result.Unknown is = tt
+  pub answer_fits : (found : Outcome FoundPath) → IsResultOf n guide goal m found → sections.IsOutcomeInRange (answer_of found)
+  answer_fits (outcome.Path p) is =
+      let small : p.cost < 2 ^ 62 = small_cost p.arcs p.cost p.bound is in
+      (small, is.bound_is.at_least_one, small_bound p.cost is.low p.bound small is.bound_is)
+  answer_fits outcome.NoPath is = tt
+  answer_fits outcome.Unknown is = tt
 
-  pub arcs_fit : (found : search.Outcome) → IsResultOf n guide goal m found → HasArcs (answer_of found) (arcs_of found)
-  arcs_fit (result.Path arcs cost bound) is = record {
-    few = let few : length arcs < n.states = is.walk.few in let most : n.states ≤ 2 ^ 23 = sound.few_states in omega arith;
-    small = small_arcs n m.start goal cost arcs sound is.walk.path;
+  pub arcs_fit : (found : Outcome FoundPath) → IsResultOf n guide goal m found → HasArcs (answer_of found) (arcs_of found)
+  arcs_fit (outcome.Path p) is = record {
+    few = let few : length p.arcs < n.states = is.walk.few in let most : n.states ≤ 2 ^ 23 = sound.few_states in omega arith;
+    small = small_arcs n m.start goal p.cost p.arcs sound is.walk.path;
   }
-  arcs_fit result.NoPath is = refl
-  arcs_fit result.Unknown is = refl
+  arcs_fit outcome.NoPath is = refl
+  arcs_fit outcome.Unknown is = refl
 
   -- two lows of the same labels are the same
   one_low : (low less : ℕ) → IsLow (states_of m) goal (g_of m) (v_of m) guide low → IsLow (states_of m) goal (g_of m) (v_of m) guide less → low ≡ less
@@ -67,11 +68,11 @@ module _ (n : Network) (sound : IsSound n) (guide : ℕ → ℕ) (goal : ℕ) (m
       let b : less ≤ low = p.greatest less q.at_goal q.unsettled in
       omega arith
 
-  shows_outcome : (found : search.Outcome) (s : Section) → IsResultOf n guide goal m found → IsOfLabels m guide goal s → ShowsBound n m.start goal s → s.arcs ≡ arcs_of found → ShowsOutcome n m.start goal s (answer_of found)
-  shows_outcome (result.Path arcs cost bound) s is made bounds copied =
+  shows_outcome : (found : Outcome FoundPath) (s : Section) → IsResultOf n guide goal m found → IsOfLabels m guide goal s → ShowsBound n m.start goal s → s.arcs ≡ arcs_of found → ShowsOutcome n m.start goal s (answer_of found)
+  shows_outcome (outcome.Path p) s is made bounds copied =
       let low : s.low ≡ is.low = one_low s.low is.low made.low is.low_is in
-      (subst (λ (l : List ℕ). IsFreePath n m.start l goal cost) (sym copied) is.walk.path, subst (λ (l : ℕ). IsBound cost l bound) (sym low) is.bound_is)
-  shows_outcome result.NoPath s is made bounds copied = record {
+      (subst (λ (l : List ℕ). IsFreePath n m.start l goal p.cost) (sym copied) is.walk.path, subst (λ (l : ℕ). IsBound p.cost l p.bound) (sym low) is.bound_is)
+  shows_outcome outcome.NoPath s is made bounds copied = record {
     supported = bounds.supported;
     goal_is_far = ap (λ (r : Row). r.g) (made.labels.rows goal (rw same inside)) ∙ is.goal_is_far;
     closed = λ u state near.
@@ -81,9 +82,9 @@ module _ (n : Network) (sound : IsSound n) (guide : ℕ → ℕ) (goal : ℕ) (m
         let settled : v_of m u < FAR = is.closed u here (omega arith) in
         omega arith;
   }
-  shows_outcome result.Unknown s is made bounds copied = tt
+  shows_outcome outcome.Unknown s is made bounds copied = tt
 
-  shown_by : (plan : ℕ) (found : search.Outcome) (s : Section) → IsResultOf n guide goal m found → s.plan ≡ plan → s.outcome ≡ answer_of found → s.arcs ≡ arcs_of found → IsOfLabels m guide goal s → ShowsBound n m.start goal s → IsShown n guide m.start goal plan m found s
+  shown_by : (plan : ℕ) (found : Outcome FoundPath) (s : Section) → IsResultOf n guide goal m found → s.plan ≡ plan → s.outcome ≡ answer_of found → s.arcs ≡ arcs_of found → IsOfLabels m guide goal s → ShowsBound n m.start goal s → IsShown n guide m.start goal plan m found s
   shown_by plan found s is number says copied made bounds = record {
     number = number;
     labels = made;
@@ -95,7 +96,7 @@ module _ (n : Network) (sound : IsSound n) (guide : ℕ → ℕ) (goal : ℕ) (m
     };
   }
 
-  pub is_shown : (plan : ℕ) (found : search.Outcome) (said : told.Outcome) (arcs : List ℕ) (r : Result Section NoMemory) → IsResultOf n guide goal m found → said ≡ answer_of found → arcs ≡ arcs_of found
+  pub is_shown : (plan : ℕ) (found : Outcome FoundPath) (said : told.Outcome) (arcs : List ℕ) (r : Result Section NoMemory) → IsResultOf n guide goal m found → said ≡ answer_of found → arcs ≡ arcs_of found
       → IfOk r (λ s. s.plan ≡ plan) → IfOk r (λ s. s.outcome ≡ said) → IfOk r (λ s. s.arcs ≡ arcs) → IfOk r (IsOfLabels m guide goal) → IfOk r (ShowsBound n m.start goal)
       → IfOk r (IsShown n guide m.start goal plan m found)
   is_shown plan found said arcs (Ok s) is same_answer same_arcs number says copied made bounds = shown_by plan found s is number (says ∙ same_answer) (copied ∙ same_arcs) made bounds

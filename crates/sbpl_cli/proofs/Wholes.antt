@@ -15,6 +15,7 @@ use Rattle.sbpl_cli.specs.declared.section_check.SectionStop.{SectionStop}
 use Rattle.sbpl_cli.specs.declared.section_check.SectionStop.TheVariants as section
 use Rattle.sbpl_cli.specs.declared.record.PlanRecord.{PlanRecord}
 use Rattle.sbpl_cli.specs.declared.refusal.Refusal.{Refusal}
+use Rattle.sbpl_cli.specs.Asked.{is_determined}
 use Rattle.sbpl_cli.specs.Causes.{ArePlanned, IsJobCause}
 use Rattle.sbpl_cli.specs.Clear.{SectionsAreClear, TextsAreClear}
 use Rattle.sbpl_cli.specs.Determined.{ArePrefixes, AreTold, CallsFor, FewAreFirst, IsInput, IsNoFailure, IsSource, NoName, NoneRose, RecordsAreOne}
@@ -109,21 +110,21 @@ module _ (clear : TextsAreClear) (sections : SectionsAreClear) (one_map : OneMap
     not_planned r records all (inl x) planned = not_world clear held p.sources plan_env plan_prims planned.world r x planned.says
     not_planned r records all (inr x) planned = not_course clear held p.sources plan_env plan_prims p.changes plan_changes planned.world planned.batches r x planned.says planned.changes
 
-    plans_agree : (rs us : List PlanRecord) (all : Bool) → ArePlanned held p rs all → ArePlanned held p us true → Agrees Failed (job.Plan p) (Planned rs all) (Planned us true)
-    plans_agree rs us true x y =
-        let same = one_planned clear held one p rs us plan_env plan_prims plan_changes x y in
+    plans_agree : (rs us : List PlanRecord) (all : Bool) → is_determined p.search.planner ≡ true → ArePlanned held p rs all → ArePlanned held p us true → Agrees Failed (job.Plan p) (Planned rs all) (Planned us true)
+    plans_agree rs us true determined x y =
+        let same = one_planned clear held one p rs us plan_env plan_prims plan_changes determined x y in
         inr (inl (refl, ap (λ (l : List PlanRecord). plans_writes p.outputs l true) same))
-    plans_agree rs us false x y =
-        let parted = few_planned clear held first p rs us false plan_env plan_prims plan_changes x y in
+    plans_agree rs us false determined x y =
+        let parted = few_planned clear held first p rs us false plan_env plan_prims plan_changes determined x y in
         let few = few_written (section_writes p.outputs) rs parted.0 in
         inr (inr (refl, (few.0, ap (λ (l : List PlanRecord). plans_writes p.outputs l true) parted.1 ∙ few.1)))
 
     plan_agrees : (i whole : Intent) → GivesIntent held Failed (job.Plan p) i → CallsFor held (job.Plan p) whole → Agrees Failed (job.Plan p) i whole
     plan_agrees (Refused r) (Refused u) gives calls = elim (plan_bad Failed r gives) [ inl bad ↦ alike_refusals (job.Plan p) r u (one_plan_bad r u bad (plan_quiet u calls)) | inr out ↦ inl out ]
-    plan_agrees (Refused r) (Planned us all) gives calls = elim (plan_bad Failed r gives) [ inl bad ↦ absurd (not_planned r us true bad calls.1) | inr out ↦ inl out ]
+    plan_agrees (Refused r) (Planned us all) gives calls = elim (plan_bad Failed r gives) [ inl bad ↦ absurd (not_planned r us true bad calls.2) | inr out ↦ inl out ]
     plan_agrees (Planned rs all) (Refused u) gives calls = absurd (not_planned u rs all (plan_quiet u calls) gives)
     plan_agrees (Planned rs all) (Planned us every) gives calls =
-        subst (λ (b : Bool). Agrees Failed (job.Plan p) (Planned rs all) (Planned us b)) (sym calls.0) (plans_agree rs us all gives calls.1)
+        subst (λ (b : Bool). Agrees Failed (job.Plan p) (Planned rs all) (Planned us b)) (sym calls.0) (plans_agree rs us all calls.1 gives calls.2)
     plan_agrees OutOfMemory whole gives calls = inr (inr (refl, (writes_of (job.Plan p) whole, refl)))
     plan_agrees (Refused r) _ gives calls = absurd calls
     plan_agrees (Planned rs all) _ gives calls = absurd calls

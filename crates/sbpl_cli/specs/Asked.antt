@@ -1,11 +1,14 @@
 -- What a job asks of a planner.
+use Rattle.std.specs.Prelude.{Bool, true, false}
 use Rattle.std.specs.Option.{is_some}
 use Rattle.sbpl_search.specs.Meaning.{Meaning}
 use Rattle.sbpl_serial.specs.declared.step.Step.{Step}
 use Rattle.sbpl_cli.specs.declared.record.TraceLine.{TraceLine}
-use Rattle.sbpl_cli.specs.Traces.{line_of}
+use Rattle.sbpl_cli.specs.Traces.{line_of, line_of_event}
 use Rattle.sbpl_ara.specs.Planner.{ara}
 use Rattle.sbpl_adstar.specs.Planner.{adstar}
+use Rattle.sbpl_frontier_rules.specs.declared.event.Event.{Event}
+use Rattle.sbpl_epase.specs.Planner.{epase}
 use Rattle.sbpl_plan.specs.declared.ask.Ask.{Ask}
 use Rattle.sbpl_job.specs.declared.job.Outputs.{Outputs}
 use Rattle.sbpl_job.specs.declared.job.Planner.{Planner}
@@ -16,6 +19,12 @@ use Rattle.sbpl_job.specs.declared.job.SearchJob.{SearchJob}
 abbrev pub ask_of : SearchJob → Outputs → Ask
 ask_of search outputs = record { first = search.first; step = search.step; bound = search.bound; traced = is_some outputs.trace }
 
+-- the passes of a planner are determined by the labels from which they begin: those of a serial search are, and those of one
+-- with workers are not
+abbrev pub is_determined : Planner → Bool
+is_determined planner.Epase = false
+is_determined _ = true
+
 -- a planner as the program knows it: what its passes note, what its calls mean, and how a note is told in a trace
 pub record Known : Type 1 where
   pub Note : Type 0
@@ -25,3 +34,4 @@ pub record Known : Type 1 where
 abbrev pub known : Planner → Known
 known planner.Ara = record { Note = Step; means = ara; line = line_of }
 known planner.AdStar = record { Note = Step; means = adstar; line = line_of }
+known planner.Epase = record { Note = Event; means = epase; line = line_of_event }

@@ -94,7 +94,7 @@ pub record ArePlanned (held : Told) (job : PlanJob) (records : List PlanRecord) 
 
 -- how a demonstration is planned: by Anytime D*, with the inflations 3.000, 2.500 and so on to 1.000
 abbrev pub demo_search : SearchJob
-demo_search = record { planner = planner.AdStar; first = 3000; step = 500; bound = 1000; budget = 2 ^ 30 }
+demo_search = record { planner = planner.AdStar; workers = 1; first = 3000; step = 500; bound = 1000; budget = 2 ^ 30 }
 
 -- what it writes beside its lines: nothing
 abbrev pub no_outputs : Outputs

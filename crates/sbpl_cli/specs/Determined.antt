@@ -10,6 +10,7 @@ use Rattle.sbpl_job.specs.declared.job.SearchJob.{SearchJob}
 use Rattle.sbpl_job.specs.declared.job.Sources.{Sources}
 use Rattle.sbpl_cli.specs.declared.section_check.SectionStop.TheVariants as section
 use Rattle.sbpl_cli.specs.declared.record.PlanRecord.{PlanRecord}
+use Rattle.sbpl_cli.specs.Asked.{is_determined}
 use Rattle.sbpl_cli.specs.Causes.{ArePlanned, IsJobCause, ReadsWorld}
 use Rattle.sbpl_cli.specs.Headline.{ArePlans}
 use Rattle.sbpl_cli.specs.Intents.{Intent, Refused, Planned, Checked, Listed, Demonstrated}
@@ -25,15 +26,16 @@ pub record AreAlikeWorlds (w v : World) : Type 0 where
   pub map : v.map ≡ w.map
   pub radius : v.sweeps.radius ≡ w.sweeps.radius
 
--- all plans in alike worlds, with the same batches and asked the same, have one list of records
+-- all plans in alike worlds, with the same batches and asked the same, by a planner whose passes are determined, have one list of
+-- records
 abbrev pub RecordsAreOne : Type 0
 RecordsAreOne = (w v : World) (batches : List (List change.Write)) (how : SearchJob) (outputs : Outputs) (records others : List PlanRecord)
-    → AreAlikeWorlds w v → ArePlans w batches how outputs records true → ArePlans v batches how outputs others true → records ≡ others
+    → is_determined how.planner ≡ true → AreAlikeWorlds w v → ArePlans w batches how outputs records true → ArePlans v batches how outputs others true → records ≡ others
 
 -- and records of the first few plans are the first few of it
 abbrev pub FewAreFirst : Type 0
 FewAreFirst = (w v : World) (batches : List (List change.Write)) (how : SearchJob) (outputs : Outputs) (few records : List PlanRecord) (all : Bool)
-    → AreAlikeWorlds w v → ArePlans w batches how outputs few all → ArePlans v batches how outputs records true
+    → is_determined how.planner ≡ true → AreAlikeWorlds w v → ArePlans w batches how outputs few all → ArePlans v batches how outputs records true
     → (rest : List PlanRecord) × (records ≡ few ++ rest)
 
 -- ---- what the words and the files call for
@@ -62,10 +64,11 @@ abbrev pub NoName : Names
 NoName name = ⊥
 
 -- What the words and the files call for, where no read fails and memory does not run out: a refusal with its cause, the plans
--- of all maps, the checking of sections to its end, the list of sweeps, or a demonstration of all maps.
+-- of all maps by a planner whose passes are determined, the checking of sections to its end, the list of sweeps, or a
+-- demonstration of all maps. Plans by a planner whose passes are not determined are not called for: each run makes its own.
 abbrev pub CallsFor : Told → Job → Intent → Type 0
 CallsFor held j (Refused r) = IsJobCause held NoName j r
-CallsFor held (job.Plan j) (Planned records all) = (all ≡ true) × ArePlanned held j records true
+CallsFor held (job.Plan j) (Planned records all) = (all ≡ true) × (is_determined j.search.planner ≡ true) × ArePlanned held j records true
 CallsFor held (job.Check j) (Checked goal os end) = (end ≢ Some section.NoMemory) × IsChecked held j goal os end
 CallsFor held (job.Sweep from) (Listed w) = ReadsWorld held from w
 CallsFor held (job.Demo d) (Demonstrated w count records all) = (all ≡ true) × IsDemonstration d w count records true

@@ -14,8 +14,9 @@ use Rattle.sbpl_cost.specs.States.{place_of, state_number}
 use Rattle.sbpl_cost.specs.Lattices.{network_of, arc_primitive}
 use Rattle.sbpl_heur.specs.Bests.{IsBest}
 use Rattle.sbpl_labels.specs.Marks.{Marks, AreInitial}
-use Rattle.sbpl_plan.specs.declared.result.Outcome as search
-use Rattle.sbpl_plan.specs.declared.result.Outcome.TheVariants as result
+use Rattle.sbpl_plan.specs.declared.result.FoundPath.{FoundPath}
+use Rattle.sbpl_plan.specs.declared.result.Outcome.{Outcome}
+use Rattle.sbpl_plan.specs.declared.result.Outcome.TheVariants as outcome
 use Rattle.sbpl_plan.specs.Asked.{most_passes}
 use Rattle.sbpl_plan.specs.Outcomes.{IsResultOf}
 use Rattle.sbpl_plan.specs.Passing.{ArePasses, expansions}
@@ -27,8 +28,6 @@ use Rattle.sbpl_search.specs.Meaning.{Meaning}
 use Rattle.sbpl_plan.specs.declared.passes.Pass.{Pass}
 use Rattle.sbpl_cli.specs.declared.record.PathStep.{PathStep}
 use Rattle.sbpl_cli.specs.declared.record.PathRecord.{PathRecord}
-use Rattle.sbpl_cli.specs.declared.record.Outcome.{Outcome}
-use Rattle.sbpl_cli.specs.declared.record.Outcome.TheVariants as outcome
 use Rattle.sbpl_cli.specs.declared.record.PlanRecord.{PlanRecord}
 use Rattle.sbpl_job.specs.declared.job.Outputs.{Outputs}
 use Rattle.sbpl_job.specs.declared.job.SearchJob.{SearchJob}
@@ -66,31 +65,31 @@ pub record JoinsStates (w : World) (start goal : ℕ) (path : PathRecord) : Type
   pub steps : AreSteps w start path.arcs path.steps
 
 -- joins: where the result is a path, it joins start to goal
-abbrev pub Joins : World → ℕ → ℕ → Outcome → Type 0
+abbrev pub Joins : World → ℕ → ℕ → Outcome PathRecord → Type 0
 Joins w start goal (outcome.Path path) = JoinsStates w start goal path
 Joins w start goal _ = Unit {0}
 
 -- at most the printed bound times: its cost is at most its bound, in thousandths, times that of every free path
-abbrev pub IsWithinBound : World → ℕ → ℕ → Outcome → Type 0
+abbrev pub IsWithinBound : World → ℕ → ℕ → Outcome PathRecord → Type 0
 IsWithinBound w start goal (outcome.Path path) = (arcs : List ℕ) (cost : ℕ) → IsFreePath (network_of w) start arcs goal cost → 1000 * path.cost ≤ path.bound * cost
 IsWithinBound w start goal _ = Unit {0}
 
 -- none: where the result is that there is no path, no free path joins start to goal
-abbrev pub IsNoneThere : World → ℕ → ℕ → Outcome → Type 0
+abbrev pub IsNoneThere : World → ℕ → ℕ → Outcome PathRecord → Type 0
 IsNoneThere w start goal outcome.NoPath = (arcs : List ℕ) (cost : ℕ) → IsFreePath (network_of w) start arcs goal cost → ⊥
 IsNoneThere w start goal _ = Unit {0}
 
 -- the result is known, and its bound is at least one and at most the one asked
-abbrev pub IsKnownWithin : ℕ → Outcome → Type 0
+abbrev pub IsKnownWithin : ℕ → Outcome PathRecord → Type 0
 IsKnownWithin asked (outcome.Path path) = (1000 ≤ path.bound) × (path.bound ≤ asked)
 IsKnownWithin asked outcome.NoPath = Unit {0}
 IsKnownWithin asked outcome.Unknown = ⊥
 
 -- a result is told step by step
-abbrev pub IsSameResult : search.Outcome → Outcome → Type 0
-IsSameResult (result.Path arcs cost bound) (outcome.Path path) = (path.arcs ≡ arcs) × (path.cost ≡ cost) × (path.bound ≡ bound)
-IsSameResult result.NoPath outcome.NoPath = Unit {0}
-IsSameResult result.Unknown outcome.Unknown = Unit {0}
+abbrev pub IsSameResult : Outcome FoundPath → Outcome PathRecord → Type 0
+IsSameResult (outcome.Path found) (outcome.Path path) = (path.arcs ≡ found.arcs) × (path.cost ≡ found.cost) × (path.bound ≡ found.bound)
+IsSameResult outcome.NoPath outcome.NoPath = Unit {0}
+IsSameResult outcome.Unknown outcome.Unknown = Unit {0}
 IsSameResult _ _ = ⊥
 
 -- what is promised of a plan between two states: 'asked' is the bound that was asked, in thousandths
@@ -135,7 +134,7 @@ pub record IsSearched (by : Known) (w : World) (how : SearchJob) (outputs : Outp
   pub notes : List (Pass by.Note)
   pub passes : ArePasses by.means (inquiry w guide goal (ask_of how outputs)) how.first begun notes carried.labels spent
   pub lines : r.passes ≡ map (traced_pass by.line) notes
-  pub result : search.Outcome
+  pub result : Outcome FoundPath
   pub is_result : IsResultOf (network_of w) guide goal carried.labels result
   pub told : IsSameResult result r.outcome
   pub expanded : r.expanded ≡ expansions r.passes

@@ -33,10 +33,10 @@ pub record GoesOnFrom {Note : Type 0} (means : Meaning Note) (w : World) (start 
   pub counted : expanded_before before ≡ r.counts.run
 
 -- what is written of plan k in a world, and whether it was
-abbrev pub EndsPlan : Known → (PlanRecord → List Write) → World → SearchJob → Outputs → (start goal k : ℕ) → Option Carried → Carried → (old new : DeskState) → Result (Unit {0}) WriteStop → Type 0
-EndsPlan by written_of w how outputs start goal k before carried old new (Ok _) =
+abbrev pub EndsOnePlan : Known → (PlanRecord → List Write) → World → SearchJob → Outputs → (start goal k : ℕ) → Option Carried → Carried → (old new : DeskState) → Result (Unit {0}) WriteStop → Type 0
+EndsOnePlan by written_of w how outputs start goal k before carried old new (Ok _) =
     (r : PlanRecord) × IsPlanOf by w how outputs start goal k before carried r × AreAppended old new (written_of r)
-EndsPlan by written_of w how outputs start goal k before carried old new (Err e) =
+EndsOnePlan by written_of w how outputs start goal k before carried old new (Err e) =
     ((e ≡ NoMemory) × Stays old.written new.written)
     ⊎ ((r : PlanRecord) × IsPlanOf by w how outputs start goal k before carried r × EndsIn {T = Unit {0}} old new (written_of r) (Err e))
 

@@ -2,8 +2,9 @@
 use Rattle.std.specs.Prelude.{◌≡◌, ℕ, Bool, true, false, List, [], Option, Some, None}
 use Rattle.sbpl_graph.specs.Network.{Network}
 use Rattle.sbpl_labels.specs.Marks.{Marks}
-use Rattle.sbpl_plan.specs.declared.result.Outcome as search
-use Rattle.sbpl_plan.specs.declared.result.Outcome.TheVariants as result
+use Rattle.sbpl_plan.specs.declared.result.FoundPath.{FoundPath}
+use Rattle.sbpl_plan.specs.declared.result.Outcome.{Outcome}
+use Rattle.sbpl_plan.specs.declared.result.Outcome.TheVariants as outcome
 use Rattle.sbpl_cert.specs.declared.outcome.Outcome as told
 use Rattle.sbpl_cert.specs.declared.outcome.Outcome.TheVariants as answer
 use Rattle.sbpl_cert.specs.Made.{IsOfLabels}
@@ -11,19 +12,19 @@ use Rattle.sbpl_cert.specs.Sections.{Section}
 use Rattle.sbpl_cert.specs.Sound.{ShowsAll}
 
 -- what a section says of a result
-abbrev pub answer_of : search.Outcome → told.Outcome
-answer_of (result.Path arcs cost bound) = answer.Path cost bound
-answer_of result.NoPath = answer.NoPath
-answer_of result.Unknown = answer.Unknown
+abbrev pub answer_of : Outcome FoundPath → told.Outcome
+answer_of (outcome.Path found) = answer.Path found.cost found.bound
+answer_of outcome.NoPath = answer.NoPath
+answer_of outcome.Unknown = answer.Unknown
 
 -- the arcs of the path that a result is, or none
-abbrev pub arcs_of : search.Outcome → List ℕ
-arcs_of (result.Path arcs cost bound) = arcs
+abbrev pub arcs_of : Outcome FoundPath → List ℕ
+arcs_of (outcome.Path found) = found.arcs
 arcs_of _ = []
 
 -- As the written labels show: the section has the plan's number, the final labels with the guide's values, the low that
 -- they give, and the result; and it shows its bound and its result on the graph.
-pub record IsShown (n : Network) (guide : ℕ → ℕ) (start goal : ℕ) (plan : ℕ) (final : Marks) (found : search.Outcome) (s : Section) : Type 0 where
+pub record IsShown (n : Network) (guide : ℕ → ℕ) (start goal : ℕ) (plan : ℕ) (final : Marks) (found : Outcome FoundPath) (s : Section) : Type 0 where
   pub number : s.plan ≡ plan
   pub labels : IsOfLabels final guide goal s
   pub answer : s.outcome ≡ answer_of found

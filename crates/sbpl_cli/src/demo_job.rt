@@ -29,6 +29,7 @@ fn demo_search() -> SearchJob
 {
     SearchJob {
         planner: Planner::AdStar,
+        workers: 1,
         first: 3000,
         step: 500,
         bound: 1000,

@@ -15,17 +15,17 @@ use sbpl_fixed::NoMemory;
 use sbpl_graph::Graph;
 use sbpl_heur::Best;
 use sbpl_labels::Labels;
-use sbpl_plan::Outcome;
+use sbpl_plan::{FoundPath, Outcome};
 use std::alloc::Global;
 
 /// What a section says of a result.
-fn answer_of(found: &Outcome) -> sbpl_cert::Outcome
+fn answer_of(found: &Outcome<FoundPath>) -> sbpl_cert::Outcome
     ensures answer { result ≡ answer_of found.now }
 {
     match found {
-        Outcome::Path { cost, bound, .. } => sbpl_cert::Outcome::Path {
-            cost: *cost,
-            bound: *bound,
+        Outcome::Path(path) => sbpl_cert::Outcome::Path {
+            cost: path.cost,
+            bound: path.bound,
         },
         Outcome::NoPath => sbpl_cert::Outcome::NoPath,
         Outcome::Unknown => sbpl_cert::Outcome::Unknown,
@@ -33,12 +33,12 @@ fn answer_of(found: &Outcome) -> sbpl_cert::Outcome
 }
 
 /// The arcs of the path that a result is, or none.
-fn arcs_of(alloc: Global, found: &Outcome) -> Result<Arcs, NoMemory>
+fn arcs_of(alloc: Global, found: &Outcome<FoundPath>) -> Result<Arcs, NoMemory>
     ensures arcs { IfOk result (λ a. a ≡ arcs_of found.now) }
 {
     let mut copy = Vec::new(alloc);
-    if let Outcome::Path { arcs, .. } = found {
-        copy.extend_from_slice(arcs.as_slice())?;
+    if let Outcome::Path(path) = found {
+        copy.extend_from_slice(path.arcs.as_slice())?;
     }
     Ok(Arcs::of(copy))
 }
@@ -51,7 +51,7 @@ fn make_section(
     labels: &Labels,
     goal: u32,
     plan: u32,
-    found: &Outcome,
+    found: &Outcome<FoundPath>,
 ) -> Result<LabelSet, NoMemory>
     requires states { states_of labels.now ≡ (network_of lattice.now).states }
     requires goal { goal < (network_of lattice.now).states }
@@ -74,7 +74,7 @@ pub(crate) fn labels_of(
     labels: &Labels,
     goal: u32,
     plan: u32,
-    found: &Outcome,
+    found: &Outcome<FoundPath>,
     asked: bool,
 ) -> Result<Option<LabelSet>, NoMemory>
     requires states { states_of labels.now ≡ (network_of lattice.now).states }

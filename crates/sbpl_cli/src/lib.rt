@@ -29,7 +29,7 @@ mod writing;
 
 pub use facts::{records_are_determined, texts_are_clear};
 pub use parts::Steps;
-pub use record::{Outcome, PathRecord, PathStep, PlanRecord, TraceLine};
+pub use record::{PathRecord, PathStep, PlanRecord, TraceLine};
 pub use refusal::{Input, Refusal};
 pub use sbpl_job::{
     CheckJob, Command, DemoJob, Job, JobFault, Name, Outputs, PlanJob, Planner, SearchJob, Setting,

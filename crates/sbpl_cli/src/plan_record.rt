@@ -14,7 +14,7 @@ ghost use Rattle.sbpl_plan.specs.declared.result.Outcome.TheVariants as Results;
 
 use crate::labels::labels_of;
 use crate::parts::Steps;
-use crate::record::{Outcome, PathRecord, PathStep, PlanRecord};
+use crate::record::{PathRecord, PathStep, PlanRecord};
 use crate::trace::{Traced, traced_passes};
 use sbpl_cert::LabelSet;
 use sbpl_cost::Lattice;
@@ -22,7 +22,7 @@ use sbpl_fixed::NoMemory;
 use sbpl_graph::Graph;
 use sbpl_heur::Best;
 use sbpl_job::{Outputs, SearchJob};
-use sbpl_plan::{Arcs, Ask, Planned};
+use sbpl_plan::{Ask, FoundPath, Outcome, Planned};
 use sbpl_replan::Replanner;
 use sbpl_search::Search;
 use std::alloc::Global;
@@ -62,17 +62,16 @@ fn path_of(
     lattice: &Lattice,
     start: u32,
     goal: u32,
-    arcs: Arcs,
-    cost: u64,
-    bound: u128,
+    found: FoundPath,
 ) -> Result<PathRecord, NoMemory>
     requires state { start < (network_of lattice.now).states }
-    requires so { IsTrueOutcome (network_of lattice.now) start goal (Results.Path arcs cost bound) }
+    requires so { IsTrueOutcome (network_of lattice.now) start goal (Results.Path found) }
     ensures joins { IfOk result (JoinsStates lattice.now start goal) }
-    ensures arcs { IfOk result (λ p. p.arcs ≡ arcs) }
-    ensures cost { IfOk result (λ p. p.cost ≡ cost) }
-    ensures bound { IfOk result (λ p. p.bound ≡ bound) }
+    ensures arcs { IfOk result (λ p. p.arcs ≡ found.arcs) }
+    ensures cost { IfOk result (λ p. p.cost ≡ found.cost) }
+    ensures bound { IfOk result (λ p. p.bound ≡ found.bound) }
 {
+    let FoundPath { arcs, cost, bound } = found;
     let steps = steps_of(alloc, lattice, start, arcs.as_slice())?;
     Ok(PathRecord {
         cost,
@@ -89,8 +88,8 @@ fn outcome_of(
     lattice: &Lattice,
     start: u32,
     goal: u32,
-    found: sbpl_plan::Outcome,
-) -> Result<Outcome, NoMemory>
+    found: Outcome<FoundPath>,
+) -> Result<Outcome<PathRecord>, NoMemory>
     requires state { start < (network_of lattice.now).states }
     requires so { IsTrueOutcome (network_of lattice.now) start goal found }
     ensures told { IfOk result (IsSameResult found) }
@@ -100,11 +99,9 @@ fn outcome_of(
     ensures answered { IfOk result (λ o. (asked : ℕ) → Conclusions.IsConclusive asked found → IsKnownWithin asked o) }
 {
     match found {
-        sbpl_plan::Outcome::Path { arcs, cost, bound } => Ok(Outcome::Path(path_of(
-            alloc, lattice, start, goal, arcs, cost, bound,
-        )?)),
-        sbpl_plan::Outcome::NoPath => Ok(Outcome::NoPath),
-        sbpl_plan::Outcome::Unknown => Ok(Outcome::Unknown),
+        Outcome::Path(path) => Ok(Outcome::Path(path_of(alloc, lattice, start, goal, path)?)),
+        Outcome::NoPath => Ok(Outcome::NoPath),
+        Outcome::Unknown => Ok(Outcome::Unknown),
     }
 }
 

@@ -10,7 +10,7 @@ ghost use Rattle.sbpl_labels.specs.Marks.{AreInitial};
 ghost use Rattle.sbpl_search.specs.Ready.{IsStartFresh};
 ghost use Rattle.sbpl_cli.specs.Asked.{known};
 ghost use Rattle.sbpl_cli.specs.Headline.{Carried};
-ghost use Rattle.sbpl_cli.specs.Planning.{EndsPlan, GoesOnFrom, IsSetFor, carried_of};
+ghost use Rattle.sbpl_cli.specs.Planning.{EndsOnePlan, GoesOnFrom, IsSetFor, carried_of};
 ghost use Rattle.sbpl_cli.specs.Promises.{EndsPlans};
 ghost use Rattle.sbpl_cli.specs.Writing.{WritesOnly};
 
@@ -22,6 +22,7 @@ use sbpl_adstar::AdStar;
 use sbpl_ara::Ara;
 use sbpl_cost::{Lattice, lattice_has_its_arcs, lattice_tails_are_in_order};
 use sbpl_desk::{Desk, WriteStop};
+use sbpl_epase::Epase;
 use sbpl_fixed::NoMemory;
 use sbpl_graph::Graph;
 use sbpl_heur::Best;
@@ -53,7 +54,7 @@ where
     requires ready { IsReadyIn S.meaning lattice.now replanner.old }
     requires set { IsSetFor how.now start goal replanner.old }
     ensures ends { (before : Option Carried) → GoesOnFrom S.meaning lattice.now start before replanner.old
-        → EndsPlan (record { Note = S.Note; means = S.meaning; line = S.Note.line }) (T.written telling.now) lattice.now how.now outputs.now start goal plan before (carried_of lattice.now replanner.new) (D.state desk.old) (D.state desk.new) result }
+        → EndsOnePlan (record { Note = S.Note; means = S.meaning; line = S.Note.line }) (T.written telling.now) lattice.now how.now outputs.now start goal plan before (carried_of lattice.now replanner.new) (D.state desk.old) (D.state desk.new) result }
     ensures ready { IfOk result (λ _. IsReadyIn S.meaning lattice.now replanner.new) }
     ensures set { IfOk result (λ _. IsSetFor how.now start goal replanner.new) }
     ensures frame { WritesOnly (T.under telling.now) (D.state desk.old) (D.state desk.new) }
@@ -177,18 +178,34 @@ pub(crate) fn make_plans<D: Desk, T: Telling>(
     ensures ends { EndsPlans (known how.now.planner) (T.written telling.now) lattice.old changes.now how.now outputs.now start goal 0 None (D.state desk.old) (D.state desk.new) result }
     ensures frame { WritesOnly (T.under telling.now) (D.state desk.old) (D.state desk.new) }
 {
-    let Ok(ara) = Ara::open(alloc, lattice.states(), start, goal) else {
-        return 9;
-    };
+    let states = lattice.states();
     match how.planner {
-        Planner::Ara => plan_by(
-            alloc, lattice, changes, ara, how, outputs, start, goal, telling, desk,
-        ),
-        Planner::AdStar => {
-            let search = AdStar::from(ara);
-            plan_by(
+        Planner::Ara => match Ara::open(alloc, states, start, goal) {
+            Ok(search) => plan_by(
                 alloc, lattice, changes, search, how, outputs, start, goal, telling, desk,
-            )
-        }
+            ),
+            Err(NoMemory) => 9,
+        },
+        Planner::AdStar => match Ara::open(alloc, states, start, goal) {
+            Ok(ara) => plan_by(
+                alloc,
+                lattice,
+                changes,
+                AdStar::from(ara),
+                how,
+                outputs,
+                start,
+                goal,
+                telling,
+                desk,
+            ),
+            Err(NoMemory) => 9,
+        },
+        Planner::Epase => match Epase::open(alloc, states, start, goal) {
+            Ok(search) => plan_by(
+                alloc, lattice, changes, search, how, outputs, start, goal, telling, desk,
+            ),
+            Err(NoMemory) => 9,
+        },
     }
 }

@@ -3,7 +3,7 @@
 use crate::parts::Steps;
 use sbpl_cert::LabelSet;
 use sbpl_cfg::Place;
-use sbpl_plan::{Arcs, Passes};
+use sbpl_plan::{Arcs, Outcome, Passes};
 
 /// One step of a path: the primitive's id and the place where it ends.
 #[derive(Clone, Copy, Debug, PartialEq, Eq)]
@@ -19,6 +19,20 @@ pub enum TraceLine {
     Lower(u32),
     /// An underconsistent state was expanded.
     Raise(u32),
+    /// A state was expanded, and its arcs became ready to be evaluated.
+    Open(u32),
+    /// The worker at a seat took arc `arc` of `state`, under a ticket.
+    Take {
+        ticket: u64,
+        seat: u32,
+        state: u32,
+        arc: u32,
+    },
+    /// The arc of a ticket was evaluated: its cost, or `None` where it is not free.
+    Post {
+        ticket: u64,
+        cost: Option<u32>,
+    },
 }
 
 /// A path from the start to the goal.
@@ -36,17 +50,6 @@ pub struct PathRecord {
     pub arcs: Arcs,
 }
 
-/// The result of a plan.
-#[derive(Debug, Drop)]
-pub enum Outcome {
-    /// A path.
-    Path(PathRecord),
-    /// There is no path.
-    NoPath,
-    /// The budget was spent before either was known.
-    Unknown,
-}
-
 /// What a plan did.
 #[derive(Debug, Drop)]
 pub struct PlanRecord {
@@ -59,7 +62,7 @@ pub struct PlanRecord {
     /// Where the last pass was spent, how many states the plan expanded.
     pub spent: Option<u64>,
     /// Its result.
-    pub outcome: Outcome,
+    pub outcome: Outcome<PathRecord>,
     /// The final labels, where they are to be written.
     pub labels: Option<LabelSet>,
 }

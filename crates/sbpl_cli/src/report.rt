@@ -4,11 +4,11 @@ ghost use Rattle.std.specs.Prelude.{◌≡◌, ◌++◌, IfOk, OnOk, flat_map, d
 ghost use Rattle.sbpl_fixed.specs.Printed.{milli_text};
 ghost use Rattle.sbpl_cli.specs.Report.{demo_text, found_text, outcome_line, pass_text, place_text, plan_line, step_text, path_text, outcome_text, spent_text, section_text};
 
-use crate::record::{Outcome, PathRecord, PathStep, PlanRecord, TraceLine};
+use crate::record::{PathRecord, PathStep, PlanRecord, TraceLine};
 use itoa::Buffer;
 use sbpl_cfg::Place;
 use sbpl_fixed::{NoMemory, print_milli};
-use sbpl_plan::{Found, Pass};
+use sbpl_plan::{Found, Outcome, Pass};
 use std::alloc::Global;
 
 /// Appends bytes.
@@ -125,7 +125,7 @@ fn push_path(out: &mut Vec<u8>, path: &PathRecord) -> Result<(), NoMemory>
 }
 
 /// Appends the lines of a result.
-fn push_outcome(out: &mut Vec<u8>, outcome: &Outcome) -> Result<(), NoMemory>
+fn push_outcome(out: &mut Vec<u8>, outcome: &Outcome<PathRecord>) -> Result<(), NoMemory>
     ensures appended { OnOk result (out.new.items ≡ out.old.items ++ outcome_text outcome.now) }
 {
     match outcome {
@@ -170,7 +170,7 @@ pub(crate) fn section_of(alloc: Global, plan: &PlanRecord) -> Result<Vec<u8>, No
 }
 
 /// Appends the result of a plan in one line.
-fn push_outcome_line(out: &mut Vec<u8>, outcome: &Outcome) -> Result<(), NoMemory>
+fn push_outcome_line(out: &mut Vec<u8>, outcome: &Outcome<PathRecord>) -> Result<(), NoMemory>
     ensures appended { OnOk result (out.new.items ≡ out.old.items ++ outcome_line outcome.now) }
 {
     match outcome {

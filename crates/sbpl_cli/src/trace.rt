@@ -1,11 +1,14 @@
 //! The lines of a trace.
 
 ghost use Rattle.std.specs.Prelude.{◌≡◌, ◌++◌, IfOk, OnOk, flat_map, map};
-ghost use Rattle.sbpl_cli.specs.Traces.{line_of, line_text, lines_text, traced_pass, trace_text};
+ghost use Rattle.sbpl_cli.specs.Traces.{cost_text, line_of, line_of_event, line_text, lines_text, traced_pass, trace_text};
+ghost use Rattle.sbpl_cli.specs.Report.{line_feed};
 ghost use Rattle.sbpl_cli.specs.declared.record.TraceLine.{TraceLine};
+ghost use Rattle.sbpl_cli.specs.declared.record.TraceLine.TheVariants as Lines;
 
 use crate::record::{PlanRecord, TraceLine};
 use crate::report::{push_bytes, push_field, push_milli};
+use sbpl_epase::Event;
 use sbpl_fixed::NoMemory;
 use sbpl_plan::{Pass, Passes, Trace};
 use sbpl_serial::Step;
@@ -29,6 +32,28 @@ impl Traced for Step {
             TraceLine::Raise(self.state)
         } else {
             TraceLine::Lower(self.state)
+        }
+    }
+}
+
+impl Traced for Event {
+    ghost line = { λ event. line_of_event event };
+
+    fn line(&self) -> TraceLine {
+        match *self {
+            Event::Opened { state } => TraceLine::Open(state),
+            Event::Taken {
+                ticket,
+                seat,
+                state,
+                arc,
+            } => TraceLine::Take {
+                ticket,
+                seat,
+                state,
+                arc,
+            },
+            Event::Posted { ticket, cost } => TraceLine::Post { ticket, cost },
         }
     }
 }
@@ -71,6 +96,35 @@ pub(crate) fn traced_passes<N: Traced>(
     Ok(Passes::of(traced))
 }
 
+/// Appends the taking of an arc.
+#[tactic(auto, unfolding(crate::specs::Traces::line_text))]
+fn push_take(
+    out: &mut Vec<u8>,
+    ticket: u64,
+    seat: u32,
+    state: u32,
+    arc: u32,
+) -> Result<(), NoMemory>
+    ensures appended { OnOk result (out.new.items ++ line_feed ≡ out.old.items ++ line_text (Lines.Take ticket seat state arc)) }
+{
+    push_field(out, b"take ", ticket)?;
+    push_field(out, b" ", u64::from(seat))?;
+    push_field(out, b" ", u64::from(state))?;
+    push_field(out, b" ", u64::from(arc))
+}
+
+/// Appends the evaluation of the arc of a ticket.
+#[tactic(auto, unfolding(crate::specs::Traces::line_text))]
+fn push_post(out: &mut Vec<u8>, ticket: u64, cost: Option<u32>) -> Result<(), NoMemory>
+    ensures appended { OnOk result (out.new.items ++ line_feed ≡ out.old.items ++ line_text (Lines.Post ticket cost)) }
+{
+    push_field(out, b"post ", ticket)?;
+    match cost {
+        Some(cost) => push_field(out, b" ", u64::from(cost)),
+        None => push_bytes(out, b" -"),
+    }
+}
+
 /// Appends a line.
 #[tactic(auto, unfolding(crate::specs::Traces::line_text))]
 fn push_line(out: &mut Vec<u8>, line: TraceLine) -> Result<(), NoMemory>
@@ -79,6 +133,14 @@ fn push_line(out: &mut Vec<u8>, line: TraceLine) -> Result<(), NoMemory>
     match line {
         TraceLine::Lower(state) => push_field(out, b"lower ", u64::from(state))?,
         TraceLine::Raise(state) => push_field(out, b"raise ", u64::from(state))?,
+        TraceLine::Open(state) => push_field(out, b"open ", u64::from(state))?,
+        TraceLine::Take {
+            ticket,
+            seat,
+            state,
+            arc,
+        } => push_take(out, ticket, seat, state, arc)?,
+        TraceLine::Post { ticket, cost } => push_post(out, ticket, cost)?,
     }
     push_bytes(out, b"\n")
 }

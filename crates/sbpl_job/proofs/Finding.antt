@@ -83,6 +83,7 @@ pub long_at : (c : Command) (s : Setting) → arg_by_long (rules c) (id_of s) �
 long_at command.Plan setting.Changes = refl
 long_at command.Plan setting.Radius = refl
 long_at command.Plan setting.Planner = refl
+long_at command.Plan setting.Workers = refl
 long_at command.Plan setting.First = refl
 long_at command.Plan setting.Step = refl
 long_at command.Plan setting.Bound = refl
@@ -92,6 +93,7 @@ long_at command.Plan setting.Trace = refl
 long_at command.Check setting.Changes = refl
 long_at command.Check setting.Radius = refl
 long_at command.Check setting.Planner = refl
+long_at command.Check setting.Workers = refl
 long_at command.Check setting.First = refl
 long_at command.Check setting.Step = refl
 long_at command.Check setting.Bound = refl
@@ -101,6 +103,7 @@ long_at command.Check setting.Trace = refl
 long_at command.Sweep setting.Changes = refl
 long_at command.Sweep setting.Radius = refl
 long_at command.Sweep setting.Planner = refl
+long_at command.Sweep setting.Workers = refl
 long_at command.Sweep setting.First = refl
 long_at command.Sweep setting.Step = refl
 long_at command.Sweep setting.Bound = refl
@@ -110,6 +113,7 @@ long_at command.Sweep setting.Trace = refl
 long_at command.Demo setting.Changes = refl
 long_at command.Demo setting.Radius = refl
 long_at command.Demo setting.Planner = refl
+long_at command.Demo setting.Workers = refl
 long_at command.Demo setting.First = refl
 long_at command.Demo setting.Step = refl
 long_at command.Demo setting.Bound = refl
@@ -121,6 +125,7 @@ pub option_at : (c : Command) (s : Setting) → arg_by_id (rules c) (id_of s) �
 option_at command.Plan setting.Changes = refl
 option_at command.Plan setting.Radius = refl
 option_at command.Plan setting.Planner = refl
+option_at command.Plan setting.Workers = refl
 option_at command.Plan setting.First = refl
 option_at command.Plan setting.Step = refl
 option_at command.Plan setting.Bound = refl
@@ -130,6 +135,7 @@ option_at command.Plan setting.Trace = refl
 option_at command.Check setting.Changes = refl
 option_at command.Check setting.Radius = refl
 option_at command.Check setting.Planner = refl
+option_at command.Check setting.Workers = refl
 option_at command.Check setting.First = refl
 option_at command.Check setting.Step = refl
 option_at command.Check setting.Bound = refl
@@ -139,6 +145,7 @@ option_at command.Check setting.Trace = refl
 option_at command.Sweep setting.Changes = refl
 option_at command.Sweep setting.Radius = refl
 option_at command.Sweep setting.Planner = refl
+option_at command.Sweep setting.Workers = refl
 option_at command.Sweep setting.First = refl
 option_at command.Sweep setting.Step = refl
 option_at command.Sweep setting.Bound = refl
@@ -148,6 +155,7 @@ option_at command.Sweep setting.Trace = refl
 option_at command.Demo setting.Changes = refl
 option_at command.Demo setting.Radius = refl
 option_at command.Demo setting.Planner = refl
+option_at command.Demo setting.Workers = refl
 option_at command.Demo setting.First = refl
 option_at command.Demo setting.Step = refl
 option_at command.Demo setting.Bound = refl
@@ -247,7 +255,7 @@ told x s t h = bytes_are x (name_of s) h.0 ∙ ap name_of h.1
 -- a word that is a setting's name is that name
 pub is_name : (x : Text) (t : Setting) → setting_named x ≡ Some t → x ≡ name_of t
 is_name x t named =
-    elim (pick (bytes_eq x (name_of setting.Changes)) setting.Changes t _ named) [ inl h ↦ told x setting.Changes t h | inr e0 ↦ elim (pick (bytes_eq x (name_of setting.Radius)) setting.Radius t _ e0) [ inl h ↦ told x setting.Radius t h | inr e1 ↦ elim (pick (bytes_eq x (name_of setting.Planner)) setting.Planner t _ e1) [ inl h ↦ told x setting.Planner t h | inr e2 ↦ elim (pick (bytes_eq x (name_of setting.First)) setting.First t _ e2) [ inl h ↦ told x setting.First t h | inr e3 ↦ elim (pick (bytes_eq x (name_of setting.Step)) setting.Step t _ e3) [ inl h ↦ told x setting.Step t h | inr e4 ↦ elim (pick (bytes_eq x (name_of setting.Bound)) setting.Bound t _ e4) [ inl h ↦ told x setting.Bound t h | inr e5 ↦ elim (pick (bytes_eq x (name_of setting.Budget)) setting.Budget t _ e5) [ inl h ↦ told x setting.Budget t h | inr e6 ↦ elim (pick (bytes_eq x (name_of setting.Labels)) setting.Labels t _ e6) [ inl h ↦ told x setting.Labels t h | inr e7 ↦ elim (pick (bytes_eq x (name_of setting.Trace)) setting.Trace t _ e7) [ inl h ↦ told x setting.Trace t h | inr e8 ↦ absurd (not_none e8) ] ] ] ] ] ] ] ] ]
+    elim (pick (bytes_eq x (name_of setting.Changes)) setting.Changes t _ named) [ inl h ↦ told x setting.Changes t h | inr e0 ↦ elim (pick (bytes_eq x (name_of setting.Radius)) setting.Radius t _ e0) [ inl h ↦ told x setting.Radius t h | inr e1 ↦ elim (pick (bytes_eq x (name_of setting.Planner)) setting.Planner t _ e1) [ inl h ↦ told x setting.Planner t h | inr e2 ↦ elim (pick (bytes_eq x (name_of setting.Workers)) setting.Workers t _ e2) [ inl h ↦ told x setting.Workers t h | inr e3 ↦ elim (pick (bytes_eq x (name_of setting.First)) setting.First t _ e3) [ inl h ↦ told x setting.First t h | inr e4 ↦ elim (pick (bytes_eq x (name_of setting.Step)) setting.Step t _ e4) [ inl h ↦ told x setting.Step t h | inr e5 ↦ elim (pick (bytes_eq x (name_of setting.Bound)) setting.Bound t _ e5) [ inl h ↦ told x setting.Bound t h | inr e6 ↦ elim (pick (bytes_eq x (name_of setting.Budget)) setting.Budget t _ e6) [ inl h ↦ told x setting.Budget t h | inr e7 ↦ elim (pick (bytes_eq x (name_of setting.Labels)) setting.Labels t _ e7) [ inl h ↦ told x setting.Labels t h | inr e8 ↦ elim (pick (bytes_eq x (name_of setting.Trace)) setting.Trace t _ e8) [ inl h ↦ told x setting.Trace t h | inr e9 ↦ absurd (not_none e9) ] ] ] ] ] ] ] ] ] ]
   where
     not_none : None ≡ Some t → ⊥
     not_none e = cc
@@ -256,6 +264,7 @@ long_name : (s : Setting) → long_of (name_of s) ≡ Some (id_of s, None)
 long_name setting.Changes = refl
 long_name setting.Radius = refl
 long_name setting.Planner = refl
+long_name setting.Workers = refl
 long_name setting.First = refl
 long_name setting.Step = refl
 long_name setting.Bound = refl
@@ -267,6 +276,7 @@ not_dashes : (s : Setting) → bytes_eq (name_of s) dashes ≡ false
 not_dashes setting.Changes = refl
 not_dashes setting.Radius = refl
 not_dashes setting.Planner = refl
+not_dashes setting.Workers = refl
 not_dashes setting.First = refl
 not_dashes setting.Step = refl
 not_dashes setting.Bound = refl

@@ -48,6 +48,7 @@ named : (s : Setting) → setting_named (name_of s) ≡ Some s
 named setting.Changes = refl
 named setting.Radius = refl
 named setting.Planner = refl
+named setting.Workers = refl
 named setting.First = refl
 named setting.Step = refl
 named setting.Bound = refl
@@ -94,6 +95,7 @@ split_before : (s : Setting) (value : Word) → before_first is_equals (name_of 
 split_before setting.Changes value = refl
 split_before setting.Radius value = refl
 split_before setting.Planner value = refl
+split_before setting.Workers value = refl
 split_before setting.First value = refl
 split_before setting.Step value = refl
 split_before setting.Bound value = refl
@@ -105,6 +107,7 @@ split_after : (s : Setting) (value : Word) → after_first is_equals (name_of s 
 split_after setting.Changes value = refl
 split_after setting.Radius value = refl
 split_after setting.Planner value = refl
+split_after setting.Workers value = refl
 split_after setting.First value = refl
 split_after setting.Step value = refl
 split_after setting.Bound value = refl
@@ -116,6 +119,7 @@ name_is_whole : (s : Setting) → after_first is_equals (name_of s) ≡ []
 name_is_whole setting.Changes = refl
 name_is_whole setting.Radius = refl
 name_is_whole setting.Planner = refl
+name_is_whole setting.Workers = refl
 name_is_whole setting.First = refl
 name_is_whole setting.Step = refl
 name_is_whole setting.Bound = refl

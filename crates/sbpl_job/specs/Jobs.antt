@@ -1,5 +1,5 @@
 -- The job that a list of words names.
-use Rattle.std.specs.Prelude.{◌^◌, ◌<◌, ◌≤◌, false, ◌/◌, ◌%◌, ◌&&◌, ◌||◌, Bool, ℕ, ℤ, pos, negsuc, nat_eq, nat_le, List, [], ◌∷◌, length, map, String, string_bytes, Option, Some, None, option_map, option_and_then, Result, Ok, Err, codes, if◌then◌else◌}
+use Rattle.std.specs.Prelude.{◌≡◌, ◌^◌, ◌<◌, ◌≤◌, true, false, not, ◌/◌, ◌%◌, ◌&&◌, ◌||◌, Bool, ℕ, ℤ, pos, negsuc, nat_eq, nat_le, List, [], ◌∷◌, length, map, String, string_bytes, Option, Some, None, is_some, option_map, option_and_then, Result, Ok, Err, codes, if◌then◌else◌}
 use Rattle.std.specs.Option.{option_map_or}
 use Rattle.std.specs.Result.{result_ok}
 use Rattle.std.specs.Str.{bytes_eq}
@@ -79,22 +79,45 @@ budget_by (Some text) = budget_in (whole_of text)
 abbrev pub planner_named : List ℕ → Option Planner
 planner_named name =
     if bytes_eq name (codes "ara") then Some planner.Ara
-    else (if bytes_eq name (codes "ad") then Some planner.AdStar else None)
+    else (if bytes_eq name (codes "ad") then Some planner.AdStar
+    else (if bytes_eq name (codes "epase") then Some planner.Epase else None))
 
 -- the planner that is set; Anytime D* where none is set
 abbrev pub planner_by : Option (List ℕ) → Option Planner
 planner_by None = Some planner.AdStar
 planner_by (Some name) = planner_named name
 
+-- the most workers that a job can ask for
+abbrev pub most_workers : ℕ
+most_workers = 1
+
+-- a number of workers, 1 to the most
+abbrev pub workers_in : Result ℤ NumFault → Option ℕ
+workers_in (Ok (pos n)) = if nat_le 1 n && nat_le n most_workers then Some n else None
+workers_in (Ok (negsuc n)) = None
+workers_in (Err fault) = None
+
+-- workers evaluate the edges of a planner: of ePA*SE alone
+abbrev pub has_workers : Planner → Bool
+has_workers planner.Ara = false
+has_workers planner.AdStar = false
+has_workers planner.Epase = true
+
+-- the number of workers that is set, for a planner that has workers; 1 where none is set
+abbrev pub workers_by : Planner → Option (List ℕ) → Option ℕ
+workers_by p None = Some 1
+workers_by p (Some text) = if has_workers p then workers_in (whole_of text) else None
+
 -- how a path is to be searched, by settings
 abbrev pub search_in : Settings → Option SearchJob
 search_in set =
-    option_and_then (λ p. option_and_then (λ first. option_and_then (λ step. option_and_then (λ bound. option_and_then (λ budget.
-    Some (record { planner = p; first = first; step = step; bound = bound; budget = budget }))
+    option_and_then (λ p. option_and_then (λ workers. option_and_then (λ first. option_and_then (λ step. option_and_then (λ bound. option_and_then (λ budget.
+    Some (record { planner = p; workers = workers; first = first; step = step; bound = bound; budget = budget }))
     (budget_by (set setting.Budget)))
     (milli_by 1000 1000 100000 (set setting.Bound)))
     (milli_by 500 1 99000 (set setting.Step)))
     (milli_by 1000 1000 100000 (set setting.First)))
+    (workers_by p (set setting.Workers)))
     (planner_by (set setting.Planner))
 
 -- a name is that of a file that is read: the environment, the primitives, or the changes where there are some
@@ -118,10 +141,21 @@ outputs_in from changes set =
     option_and_then (λ labels. option_and_then (outputs_by labels) (output_by from changes (set setting.Trace)))
     (output_by from changes (set setting.Labels))
 
+-- a planner can be given these changes, if there are some: ePA*SE can't be yet
+abbrev pub takes_changes : Planner → Option (List ℕ) → Bool
+takes_changes planner.Ara changes = true
+takes_changes planner.AdStar changes = true
+takes_changes planner.Epase changes = not (is_some changes)
+
+-- the job `plan` of these parts, where its planner can be given its changes
+abbrev pub plan_by : Sources → Option (List ℕ) → Outputs → SearchJob → Option Job
+plan_by from changes outputs search =
+    if takes_changes search.planner changes then Some (job.Plan (record { sources = from; changes = changes; search = search; outputs = outputs })) else None
+
 -- the job `plan` on these sources, with these changes
 abbrev pub plan_on : Sources → Option (List ℕ) → Settings → Option Job
 plan_on from changes set =
-    option_and_then (λ outputs. option_map (λ search. job.Plan (record { sources = from; changes = changes; search = search; outputs = outputs })) (search_in set))
+    option_and_then (λ outputs. option_and_then (plan_by from changes outputs) (search_in set))
     (outputs_in from changes set)
 
 abbrev pub plan_in : (env prims : List ℕ) → Settings → Option Job
@@ -173,8 +207,11 @@ job_of (word ∷ words) = option_and_then (λ c. option_and_then (job_by c) (par
 abbrev pub job_named : {Z : Type 0} → List (String Z) → Option Job
 job_named words = job_of (map string_bytes words)
 
--- inflations, the bound and the budget lie in their ranges
+-- the workers, the inflations, the bound and the budget lie in their ranges, and a planner without workers has the number 1
 pub record IsSearchJob (s : SearchJob) : Type 0 where
+  pub workers_low : 1 ≤ s.workers
+  pub workers_high : s.workers ≤ most_workers
+  pub no_workers : has_workers s.planner ≡ false → s.workers ≡ 1
   pub first_low : 1000 ≤ s.first
   pub first_high : s.first ≤ 100000
   pub step_low : 1 ≤ s.step

@@ -50,6 +50,7 @@ abbrev pub id_of : Setting → List ℕ
 id_of setting.Changes = codes "changes"
 id_of setting.Radius = codes "radius"
 id_of setting.Planner = codes "planner"
+id_of setting.Workers = codes "workers"
 id_of setting.First = codes "first"
 id_of setting.Step = codes "step"
 id_of setting.Bound = codes "bound"
@@ -67,12 +68,13 @@ setting_named word =
     if bytes_eq word (codes "--changes") then Some setting.Changes
     else (if bytes_eq word (codes "--radius") then Some setting.Radius
     else (if bytes_eq word (codes "--planner") then Some setting.Planner
+    else (if bytes_eq word (codes "--workers") then Some setting.Workers
     else (if bytes_eq word (codes "--first") then Some setting.First
     else (if bytes_eq word (codes "--step") then Some setting.Step
     else (if bytes_eq word (codes "--bound") then Some setting.Bound
     else (if bytes_eq word (codes "--budget") then Some setting.Budget
     else (if bytes_eq word (codes "--labels") then Some setting.Labels
-    else (if bytes_eq word (codes "--trace") then Some setting.Trace else None))))))))
+    else (if bytes_eq word (codes "--trace") then Some setting.Trace else None)))))))))
 
 -- a command takes a setting
 abbrev pub takes : Command → Setting → Bool

@@ -25,12 +25,17 @@ pub enum Planner {
     Ara,
     /// Anytime D*, word `ad`: passes of falling inflation, which repair what they found after changes.
     AdStar,
+    /// ePA*SE, word `epase`: passes of falling inflation whose edges are evaluated by workers, which begin anew after
+    /// changes (Mukherjee, Aine and Likhachev 2022).
+    Epase,
 }
 
 /// How a path is to be searched. Inflations and bounds are in thousandths.
 #[derive(Clone, Copy, Debug, PartialEq, Eq)]
 pub struct SearchJob {
     pub planner: Planner,
+    /// How many workers evaluate edges, 1 to 64; 1 for each planner but `epase`. So far no job has more than 1.
+    pub workers: u32,
     /// The inflation of the first pass, 1000 to 100000.
     pub first: u32,
     /// By how much the inflation falls from pass to pass, 1 to 99000.

@@ -83,17 +83,33 @@ fn with_changes<'a>(alloc: Global, line: clap::Command<'a>) -> Result<clap::Comm
     )
 }
 
-/// How to search: the planner, and the inflations.
-fn with_search<'a>(alloc: Global, line: clap::Command<'a>) -> Result<clap::Command<'a>, AllocError>
-    ensures app { IfOk result (λ l. app_of l ≡ with_rule (with_rule (with_rule (app_of line.entry) (option_rule (codes "planner"))) (option_rule (codes "first"))) (option_rule (codes "step"))) }
+/// The planner, and its workers.
+fn with_planner<'a>(alloc: Global, line: clap::Command<'a>) -> Result<clap::Command<'a>, AllocError>
+    ensures app { IfOk result (λ l. app_of l ≡ with_rule (with_rule (app_of line.entry) (option_rule (codes "planner"))) (option_rule (codes "workers"))) }
 {
     let line = with_option(
         alloc,
         line,
         "planner",
         "P",
-        "how to search: ad or ara [default: ad]",
+        "how to search: ad, ara or, without changes, epase [default: ad]",
     )?;
+    with_option(
+        alloc,
+        line,
+        "workers",
+        "N",
+        "how many workers evaluate edges, for epase alone, and so far only 1 [default: 1]",
+    )
+}
+
+/// The inflations of the passes.
+fn with_inflations<'a>(
+    alloc: Global,
+    line: clap::Command<'a>,
+) -> Result<clap::Command<'a>, AllocError>
+    ensures app { IfOk result (λ l. app_of l ≡ with_rule (with_rule (app_of line.entry) (option_rule (codes "first"))) (option_rule (codes "step"))) }
+{
     let line = with_option(
         alloc,
         line,
@@ -108,6 +124,14 @@ fn with_search<'a>(alloc: Global, line: clap::Command<'a>) -> Result<clap::Comma
         "E",
         "by how much the inflation falls from pass to pass, 0.001 to 99 [default: 0.500]",
     )
+}
+
+/// How to search: the planner, its workers, and the inflations.
+fn with_search<'a>(alloc: Global, line: clap::Command<'a>) -> Result<clap::Command<'a>, AllocError>
+    ensures app { IfOk result (λ l. app_of l ≡ with_rule (with_rule (with_rule (with_rule (app_of line.entry) (option_rule (codes "planner"))) (option_rule (codes "workers"))) (option_rule (codes "first"))) (option_rule (codes "step"))) }
+{
+    let line = with_planner(alloc, line)?;
+    with_inflations(alloc, line)
 }
 
 /// When a plan ends: the bound and the budget.

@@ -1,13 +1,14 @@
 //! Values of settings as numbers, and how a path is to be searched.
 
-ghost use Rattle.std.specs.Prelude.{◌≡◌, ◌≤◌, ◌^◌, IfOk, option_map};
+ghost use Rattle.std.specs.Prelude.{◌≡◌, ◌≤◌, ◌^◌, false, IfOk, Some, option_map};
 ghost use Rattle.sbpl_fixed.specs.Numbers.{nano_of, whole_of};
 ghost use Rattle.sbpl_job.specs.declared.words.Setting.TheVariants as Settings;
 ghost use Rattle.sbpl_job.specs.Found.{set_in};
-ghost use Rattle.sbpl_job.specs.Jobs.{IsSearchJob, budget_by, budget_in, milli_by, milli_from, milli_in, planner_by, planner_named, radius_by, radius_in, search_in};
+ghost use Rattle.sbpl_job.specs.Jobs.{IsSearchJob, budget_by, budget_in, has_workers, milli_by, milli_from, milli_in, most_workers, planner_by, planner_named, radius_by, radius_in, search_in, takes_changes, workers_by, workers_in};
 ghost use Rattle.sbpl_job.specs.Words.{Names, text_of};
 
 use crate::job::{JobFault, Planner, SearchJob};
+use crate::name::Name;
 use clap::ArgMatches;
 use sbpl_fixed::{read_nano, read_whole};
 
@@ -16,6 +17,9 @@ const MOST_RADIUS: i64 = 1_000_000_000_000;
 
 /// The most expansions of a plan.
 const MOST_BUDGET: i64 = 1 << 30;
+
+/// The most workers that a job can ask for: one, as long as there are no threads.
+const MOST_WORKERS: i64 = 1;
 
 /// A radius in decimal metres, as nanometres.
 fn read_radius(metres: &str) -> Result<u64, JobFault>
@@ -115,7 +119,64 @@ fn planner_named(name: &str) -> Result<Planner, JobFault>
     match name {
         "ara" => Ok(Planner::Ara),
         "ad" => Ok(Planner::AdStar),
+        "epase" => Ok(Planner::Epase),
         _ => Err(JobFault::Words),
+    }
+}
+
+/// Whether workers evaluate the edges of a planner.
+fn has_workers(planner: Planner) -> bool
+    ensures workers { result ≡ has_workers planner }
+{
+    match planner {
+        Planner::Ara | Planner::AdStar => false,
+        Planner::Epase => true,
+    }
+}
+
+/// A number of workers, 1 to the most.
+fn read_workers(text: &str) -> Result<u32, JobFault>
+    ensures workers { Names (workers_in (whole_of text.now)) result }
+    ensures range { IfOk result (λ w. (1 ≤ w) × (w ≤ most_workers)) }
+{
+    match read_whole(text.as_bytes()) {
+        Ok(workers) if workers >= 1 && workers <= MOST_WORKERS => Ok(workers as u32),
+        _ => Err(JobFault::Words),
+    }
+}
+
+/// The number of workers that a text gives a planner, which it can do only where the planner has workers.
+fn workers_given(planner: Planner, text: &str) -> Result<u32, JobFault>
+    ensures workers { Names (workers_by planner (Some text.now)) result }
+    ensures range { IfOk result (λ w. (1 ≤ w) × (w ≤ most_workers)) }
+    ensures none { IfOk result (λ w. has_workers planner ≡ false → w ≡ 1) }
+{
+    if has_workers(planner) {
+        read_workers(text)
+    } else {
+        Err(JobFault::Words)
+    }
+}
+
+/// How many workers evaluate the edges of a planner; 1 where it is not given.
+fn workers_of(planner: Planner, matches: &ArgMatches) -> Result<u32, JobFault>
+    ensures workers { Names (workers_by planner (set_in matches.now Settings.Workers)) result }
+    ensures range { IfOk result (λ w. (1 ≤ w) × (w ≤ most_workers)) }
+    ensures none { IfOk result (λ w. has_workers planner ≡ false → w ≡ 1) }
+{
+    match matches.get_str("workers") {
+        None => Ok(1),
+        Some(text) => workers_given(planner, text),
+    }
+}
+
+/// Whether a planner can be given these changes, if there are some: ePA*SE can't be yet.
+pub(crate) fn takes_changes(planner: Planner, changes: &Option<Name>) -> bool
+    ensures takes { result ≡ takes_changes planner changes.now }
+{
+    match planner {
+        Planner::Ara | Planner::AdStar => true,
+        Planner::Epase => changes.is_none(),
     }
 }
 
@@ -125,12 +186,14 @@ pub(crate) fn search_of(matches: &ArgMatches) -> Result<SearchJob, JobFault>
     ensures range { IfOk result IsSearchJob }
 {
     let planner = planner_of(matches)?;
+    let workers = workers_of(planner, matches)?;
     let first = milli_by(matches.get_str("first"), 1000, 1000, 100_000)?;
     let step = milli_by(matches.get_str("step"), 500, 1, 99_000)?;
     let bound = milli_by(matches.get_str("bound"), 1000, 1000, 100_000)?;
     let budget = budget_of(matches)?;
     Ok(SearchJob {
         planner,
+        workers,
         first,
         step,
         bound,

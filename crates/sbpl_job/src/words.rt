@@ -30,6 +30,8 @@ pub enum Setting {
     Radius,
     /// `--planner`: how to search.
     Planner,
+    /// `--workers`: how many workers evaluate edges.
+    Workers,
     /// `--first`: the inflation of the first pass.
     First,
     /// `--step`: by how much the inflation falls from pass to pass.
@@ -62,6 +64,7 @@ fn setting_named(word: &str) -> Option<Setting>
         "--changes" => Some(Setting::Changes),
         "--radius" => Some(Setting::Radius),
         "--planner" => Some(Setting::Planner),
+        "--workers" => Some(Setting::Workers),
         "--first" => Some(Setting::First),
         "--step" => Some(Setting::Step),
         "--bound" => Some(Setting::Bound),

@@ -14,6 +14,7 @@ use Rattle.sbpl_graph.specs.Network.{Network}
 use Rattle.sbpl_plan.specs.declared.ask.Ask.{Ask}
 use Rattle.sbpl_plan.specs.declared.passes.Pass.{Pass}
 use Rattle.sbpl_plan.specs.Asked.{IsAsk, lowered, most_passes}
+use Rattle.sbpl_plan.specs.declared.result.FoundPath.{FoundPath}
 use Rattle.sbpl_plan.specs.declared.result.Outcome.{Outcome}
 use Rattle.sbpl_plan.specs.Iterations.{IsIteration}
 use Rattle.sbpl_plan.specs.OutOfMemory.{IsPartOfPlan, RunsOutOfMemory}
@@ -130,7 +131,7 @@ module _ {Note : Type 0} (means : Meaning Note) (q : Inquiry) (old : State Note)
           }
 
       -- a pass after them that is the last, with the result
-      module _ (o : Outcome) (asked : IsAsk q.ask) (last : EndsPlan q eps new.labels spent p.found) (is : IsResultOf q.network q.guide q.goal new.labels o) (sized : states_of new.labels ≡ q.network.states) where
+      module _ (o : Outcome FoundPath) (asked : IsAsk q.ask) (last : EndsPlan q eps new.labels spent p.found) (is : IsResultOf q.network q.guide q.goal new.labels o) (sized : states_of new.labels ≡ q.network.states) where
         few_passes : length (passes ++ p ∷ []) ≤ most_passes q.ask.step q.ask.first
         few_passes = let sum = so.many in rw (length-append passes (p ∷ [])) (omega arith)
 

@@ -11,6 +11,7 @@ use Rattle.sbpl_labels.specs.CutOff.{IsCutOff}
 use Rattle.sbpl_labels.specs.Marks.{Marks, states_of, g_of, v_of}
 use Rattle.sbpl_plan.specs.declared.found.Found.{Found}
 use Rattle.sbpl_plan.specs.declared.found.Found.TheVariants as found
+use Rattle.sbpl_plan.specs.declared.result.FoundPath.{FoundPath}
 use Rattle.sbpl_plan.specs.declared.result.Outcome.{Outcome}
 use Rattle.sbpl_plan.specs.declared.result.Outcome.TheVariants as outcome
 use Rattle.sbpl_plan.specs.Looking.{IsPathFound, WalkFinds}
@@ -36,41 +37,41 @@ pub cut_or_unknown : (n : Network) (h : ℕ → ℕ) (goal : ℕ) (m : Marks) (o
 cut_or_unknown n h goal m others f finds is not = (not, no_path_found n h goal m others f finds is)
 
 -- the result is true
-pub outcome_is_true : (n : Network) (h : ℕ → ℕ) (goal : ℕ) (m : Marks) (start : ℕ) (o : Outcome) → BoundHolds → NoneHolds → IsSound n → IsConsistent n goal h → states_of m ≡ n.states → AreSupported n m.start (g_of m) (v_of m) → m.start ≡ start → IsResultOf n h goal m o → IsTrueOutcome n start goal o
-outcome_is_true n h goal m start (outcome.Path arcs cost bound) bounds nones sound consistent same supported first path =
+pub outcome_is_true : (n : Network) (h : ℕ → ℕ) (goal : ℕ) (m : Marks) (start : ℕ) (o : Outcome FoundPath) → BoundHolds → NoneHolds → IsSound n → IsConsistent n goal h → states_of m ≡ n.states → AreSupported n m.start (g_of m) (v_of m) → m.start ≡ start → IsResultOf n h goal m o → IsTrueOutcome n start goal o
+outcome_is_true n h goal m start (outcome.Path p) bounds nones sound consistent same supported first path =
     let shows : ShowBound n m.start goal (g_of m) (v_of m) h path.low = record {
       supported = supported;
       consistent = consistent;
       at_goal = path.low_is.at_goal;
       unsettled = λ s inside differ. path.low_is.unsettled s (subst (λ (x : ℕ). s < x) (sym same) inside) differ;
     } in
-    let true_from : IsTrueOutcome n m.start goal (outcome.Path arcs cost bound) = (
+    let true_from : IsTrueOutcome n m.start goal (outcome.Path p) = (
       path.walk.path,
       path.bound_is.at_least_one,
       λ others dear free.
           let least : path.low ≤ dear = bounds n m.start goal path.low (g_of m) (v_of m) h sound shows others dear free in
-          let reaches : 1000 * cost ≤ bound * path.low = path.bound_is.reaches in
-          le_through (1000 * cost) bound path.low dear reaches least,
+          let reaches : 1000 * p.cost ≤ p.bound * path.low = path.bound_is.reaches in
+          le_through (1000 * p.cost) p.bound path.low dear reaches least,
     ) in
-    subst (λ (x : ℕ). IsTrueOutcome n x goal (outcome.Path arcs cost bound)) first true_from
+    subst (λ (x : ℕ). IsTrueOutcome n x goal (outcome.Path p)) first true_from
   where
     le_through : (a b c d : ℕ) → a ≤ b * c → c ≤ d → a ≤ b * d
-    le_through a b c d p q = let more = mul-le-mul_left b q in omega arith
+    le_through a b c d e f = let more = mul-le-mul_left b f in omega arith
 outcome_is_true n h goal m start outcome.NoPath bounds nones sound consistent same supported first cut = λ arcs cost free.
     nones n m.start goal (g_of m) (v_of m) sound (record { supported = supported; goal_is_far = cut.goal_is_far; closed = λ s inside near. cut.closed s (subst (λ (x : ℕ). s < x) (sym same) inside) near }) arcs cost (subst (λ (x : ℕ). IsFreePath n x arcs goal cost) (sym first) free)
 outcome_is_true n h goal m start outcome.Unknown bounds nones sound consistent same supported first unknown = tt
 
 -- where the last pass was not spent, the result is known
-pub outcome_is_known : (q : Inquiry) (eps : ℕ) (m : Marks) (others : List ℕ) (f : Found) (o : Outcome) → 1000 ≤ q.ask.bound → EndsPlan q eps m false f → (eps ≡ 1000 → g_of m q.goal ≡ FAR → IsCutOff (states_of m) q.goal (g_of m) (v_of m)) → (eps ≡ 1000 → IsTight f) → WalkFinds q.network q.guide q.goal m others f → AgreesWithFound f o → IsResultOf q.network q.guide q.goal m o → IsConclusive q.ask.bound o
-outcome_is_known q eps m others (found.Path c b) (outcome.Path arcs cost bound) low last none tight finds agrees is = elim last [
-  | inl enough ↦ let same : bound ≡ b = agrees.1 in omega arith
+pub outcome_is_known : (q : Inquiry) (eps : ℕ) (m : Marks) (others : List ℕ) (f : Found) (o : Outcome FoundPath) → 1000 ≤ q.ask.bound → EndsPlan q eps m false f → (eps ≡ 1000 → g_of m q.goal ≡ FAR → IsCutOff (states_of m) q.goal (g_of m) (v_of m)) → (eps ≡ 1000 → IsTight f) → WalkFinds q.network q.guide q.goal m others f → AgreesWithFound f o → IsResultOf q.network q.guide q.goal m o → IsConclusive q.ask.bound o
+outcome_is_known q eps m others (found.Path c b) (outcome.Path p) low last none tight finds agrees is = elim last [
+  | inl enough ↦ let same : p.bound ≡ b = agrees.1 in omega arith
   | inr (inl cut) ↦ absurd (let near : g_of m q.goal < FAR = finds.walk.near in let far : g_of m q.goal ≡ FAR = cut.goal_is_far in omega arith)
   | inr (inr (inl spent)) ↦ absurd (cc)
-  | inr (inr (inr one)) ↦ let at : b ≡ 1000 = tight one in let same : bound ≡ b = agrees.1 in omega arith
+  | inr (inr (inr one)) ↦ let at : b ≡ 1000 = tight one in let same : p.bound ≡ b = agrees.1 in omega arith
 ]
 outcome_is_known q eps m others (found.Path c b) outcome.NoPath low last none tight finds agrees is = absurd agrees
 outcome_is_known q eps m others (found.Path c b) outcome.Unknown low last none tight finds agrees is = absurd agrees
-outcome_is_known q eps m others found.None (outcome.Path arcs cost bound) low last none tight finds agrees is = absurd agrees
+outcome_is_known q eps m others found.None (outcome.Path p) low last none tight finds agrees is = absurd agrees
 outcome_is_known q eps m others found.None outcome.NoPath low last none tight finds agrees is = tt
 outcome_is_known q eps m others found.None outcome.Unknown low last none tight finds agrees is = elim last [
   | inl enough ↦ enough
@@ -78,7 +79,7 @@ outcome_is_known q eps m others found.None outcome.Unknown low last none tight f
   | inr (inr (inl spent)) ↦ absurd (cc)
   | inr (inr (inr one)) ↦ is.0 (none one finds.0)
 ]
-outcome_is_known q eps m others found.Broken (outcome.Path arcs cost bound) low last none tight finds agrees is = absurd agrees
+outcome_is_known q eps m others found.Broken (outcome.Path p) low last none tight finds agrees is = absurd agrees
 outcome_is_known q eps m others found.Broken outcome.NoPath low last none tight finds agrees is = tt
 outcome_is_known q eps m others found.Broken outcome.Unknown low last none tight finds agrees is = elim last [
   | inl enough ↦ enough

@@ -11,6 +11,7 @@ use Rattle.sbpl_labels.specs.Marks.{Marks, states_of, g_of, v_of, back_of}
 use Rattle.sbpl_graph.specs.declared.TheConstants.{FAR}
 use Rattle.sbpl_plan.specs.declared.found.Found.{Found}
 use Rattle.sbpl_plan.specs.declared.found.Found.TheVariants as found
+use Rattle.sbpl_plan.specs.declared.result.FoundPath.{FoundPath}
 use Rattle.sbpl_plan.specs.declared.result.Outcome.{Outcome}
 use Rattle.sbpl_plan.specs.declared.result.Outcome.TheVariants as outcome
 use Rattle.sbpl_plan.specs.Looking.{IsPathFound, WalkFinds}
@@ -129,22 +130,22 @@ module _ (n : Network) (h : ℕ → ℕ) (goal : ℕ) (m : Marks) (none : back_o
       omega arith
 
   -- the result is one
-  pub one_outcome : (o o' : Outcome) → IsResultOf n h goal m o → IsResultOf n h goal m o' → o ≡ o'
-  one_outcome (outcome.Path arcs cost bound) (outcome.Path arcs' cost' bound') a b =
+  pub one_outcome : (o o' : Outcome FoundPath) → IsResultOf n h goal m o → IsResultOf n h goal m o' → o ≡ o'
+  one_outcome (outcome.Path p) (outcome.Path r) a b =
       let one = one_path a b in
-      λ i. outcome.Path (one.0 i) (one.1 i) (one.2 i)
-  one_outcome (outcome.Path arcs cost bound) outcome.NoPath a b = absurd (cut_no_path b a)
-  one_outcome (outcome.Path arcs cost bound) outcome.Unknown a b = absurd (b.1 arcs cost bound a)
-  one_outcome outcome.NoPath (outcome.Path arcs cost bound) a b = absurd (cut_no_path a b)
+      λ i. outcome.Path (record { arcs = one.0 i; cost = one.1 i; bound = one.2 i })
+  one_outcome (outcome.Path p) outcome.NoPath a b = absurd (cut_no_path b a)
+  one_outcome (outcome.Path p) outcome.Unknown a b = absurd (b.1 p.arcs p.cost p.bound a)
+  one_outcome outcome.NoPath (outcome.Path p) a b = absurd (cut_no_path a b)
   one_outcome outcome.NoPath outcome.NoPath a b = refl
   one_outcome outcome.NoPath outcome.Unknown a b = absurd (b.0 a)
-  one_outcome outcome.Unknown (outcome.Path arcs cost bound) a b = absurd (a.1 arcs cost bound b)
+  one_outcome outcome.Unknown (outcome.Path p) a b = absurd (a.1 p.arcs p.cost p.bound b)
   one_outcome outcome.Unknown outcome.NoPath a b = absurd (a.0 b)
   one_outcome outcome.Unknown outcome.Unknown a b = refl
 
 -- the result by another guide that says the same of each state
-guided_outcome : (n : Network) (h h' : ℕ → ℕ) (goal : ℕ) (m : Marks) (o : Outcome) → AreAlikeGuides (states_of m) h h' → IsResultOf n h goal m o → IsResultOf n h' goal m o
-guided_outcome n h h' goal m (outcome.Path arcs cost bound) alike is = guided_path h' alike is
+guided_outcome : (n : Network) (h h' : ℕ → ℕ) (goal : ℕ) (m : Marks) (o : Outcome FoundPath) → AreAlikeGuides (states_of m) h h' → IsResultOf n h goal m o → IsResultOf n h' goal m o
+guided_outcome n h h' goal m (outcome.Path p) alike is = guided_path h' alike is
 guided_outcome n h h' goal m outcome.NoPath alike is = is
 guided_outcome n h h' goal m outcome.Unknown alike is = (is.0, λ arcs cost bound path. is.1 arcs cost bound (guided_path h (λ s inside. sym (alike s inside)) path))
 

@@ -10,7 +10,7 @@ ghost use Rattle.sbpl_plan.specs.Outcomes.{AgreesWithFound, IsResultOf};
 
 use crate::ask::Ask;
 use crate::found::Found;
-use crate::result::{Arcs, Outcome};
+use crate::result::{Arcs, FoundPath, Outcome};
 use sbpl_labels::Labels;
 
 /// Whether a path with a bound that is good enough was found.
@@ -46,17 +46,22 @@ pub(crate) fn is_last(
 }
 
 /// The result by the final labels, where the last pass found this, with these arcs.
-pub(crate) fn outcome_of(labels: &Labels, goal: u32, found: Found, arcs: Vec<u32>) -> Outcome
+pub(crate) fn outcome_of(
+    labels: &Labels,
+    goal: u32,
+    found: Found,
+    arcs: Vec<u32>,
+) -> Outcome<FoundPath>
     requires goal { goal < states_of labels.now }
     ensures outcome { (n : Network) (h : ℕ → ℕ) → WalkFinds n h goal labels.now arcs.items found → IsResultOf n h goal labels.now result }
     ensures agrees { AgreesWithFound found result }
 {
     match found {
-        Found::Path { cost, bound } => Outcome::Path {
+        Found::Path { cost, bound } => Outcome::Path(FoundPath {
             arcs: Arcs::of(arcs),
             cost,
             bound,
-        },
+        }),
         Found::None | Found::Broken => {
             if labels.shows_none(goal) {
                 Outcome::NoPath

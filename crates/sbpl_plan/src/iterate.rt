@@ -1,6 +1,6 @@
 //! One iteration of a plan: a pass, and the walk along the back arcs that it left.
 
-ghost use Rattle.std.specs.Prelude.{◌≡◌, ◌≤◌, ◌<◌, ◌↔◌, [], IfOk, OnErr, IsTrue, IsFalse, if◌then◌else◌, vec_capacity};
+ghost use Rattle.std.specs.Prelude.{◌≡◌, ◌≤◌, ◌<◌, ◌↔◌, true, [], IfOk, OnErr, IsTrue, IsFalse, if◌then◌else◌, vec_capacity};
 ghost use Rattle.sbpl_labels.specs.declared.pass_end.PassEnd.TheVariants as PassEnd;
 ghost use Rattle.sbpl_labels.specs.Marks.{states_of};
 ghost use Rattle.sbpl_search.specs.Ready.{IsStartFresh};
@@ -18,12 +18,17 @@ use sbpl_search::Search;
 use std::alloc::Global;
 
 /// What a pass did, where it is to be told.
-fn told<N: Copy>(alloc: Global, notes: &[N], traced: bool) -> Result<Trace<N>, NoMemory>
-    ensures told { IfOk result (λ t. t ≡ (if traced then notes.now else [])) }
+fn told<G: Graph, H: Guide, S: Search<G, H>>(
+    alloc: Global,
+    search: &S,
+    traced: bool,
+) -> Result<Trace<S::Note>, NoMemory>
+    requires kept { traced ≡ true → (S.state search.now).kept ≡ true }
+    ensures told { IfOk result (λ t. t ≡ (if traced then (S.state search.now).notes else [])) }
 {
     let mut told = Vec::new(alloc);
     if traced {
-        told.extend_from_slice(notes)?;
+        told.extend_from_slice(search.notes())?;
     }
     Ok(Trace::of(told))
 }
@@ -64,11 +69,11 @@ pub(crate) fn iterate<G: Graph, H: Guide, S: Search<G, H>>(
     ensures memory { OnErr result (RunsOutOfMemory S.meaning (inquiry_of (G.network graph.now) (H.distance guide.now) goal ask.now) eps (S.state search.old) (S.state search.new) budget.old budget.new) }
     ensures room { vec_capacity arcs.new ≡ vec_capacity arcs.old }
 {
-    let end = search.pass(alloc, graph, guide, eps, budget)?;
+    let end = search.pass(alloc, graph, guide, eps, ask.traced, budget)?;
     let spent = is_spent(end);
     let found = look(graph, guide, search, goal, arcs);
     let expanded = search.expanded();
-    let trace = told(alloc, search.notes(), ask.traced)?;
+    let trace = told::<G, H, S>(alloc, search, ask.traced)?;
     let pass = Pass {
         inflation: eps,
         expanded,

@@ -16,4 +16,4 @@ pub use facts::plan_is_determined;
 pub use found::Found;
 pub use make::plan;
 pub use passes::{Pass, Passes, Trace};
-pub use result::{Arcs, Outcome, Planned};
+pub use result::{Arcs, FoundPath, Outcome, Planned};

@@ -6,11 +6,22 @@ use sbpl_list::ListOf;
 /// The arc numbers of a path from the start.
 pub type Arcs = ListOf<u32>;
 
-/// The result of a plan.
+/// A path that a plan found.
 #[derive(Debug, Drop)]
-pub enum Outcome {
-    /// A path by its arc numbers, with its summed cost, and its bound in thousandths.
-    Path { arcs: Arcs, cost: u64, bound: u128 },
+pub struct FoundPath {
+    /// Its arc numbers, from the start.
+    pub arcs: Arcs,
+    /// The sum of their costs.
+    pub cost: u64,
+    /// Its bound, in thousandths.
+    pub bound: u128,
+}
+
+/// The result of a plan, with what is told of its path.
+#[derive(Debug, Drop)]
+pub enum Outcome<P> {
+    /// A path.
+    Path(P),
     /// There is no path.
     NoPath,
     /// The budget was spent before either was known.
@@ -25,5 +36,5 @@ pub struct Planned<N> {
     /// Whether the last pass was spent.
     pub spent: bool,
     /// Its result.
-    pub outcome: Outcome,
+    pub outcome: Outcome<FoundPath>,
 }

@@ -1,6 +1,6 @@
 //! A search that makes passes.
 
-ghost use Rattle.std.specs.Prelude.{◌≡◌, ◌≢◌, ℕ, ◌+◌, ◌^◌, ◌<◌, ◌≤◌, true, IfOk, OnErr};
+ghost use Rattle.std.specs.Prelude.{◌≡◌, ◌≢◌, ℕ, ◌+◌, ◌^◌, ◌<◌, ◌≤◌, true, IfOk, OnErr, OnOk};
 ghost use Rattle.sbpl_graph.specs.Bound.{IsLow};
 ghost use Rattle.sbpl_graph.specs.Network.{Network};
 ghost use Rattle.sbpl_labels.specs.Marks.{AreLabels, Marks, states_of, g_of, v_of};
@@ -30,13 +30,15 @@ pub trait Search<G: Graph, H: Guide> {
     ghost state: { Self → State Self.Note };
 
     /// A pass of this inflation, in thousandths, 1000 to 100000: it goes on until no open key is below the goal's, or until
-    /// the budget is spent. Where memory runs out, the planner's meaning says what is left.
+    /// the budget is spent. What it does is kept where it is to be told. Where memory runs out, the planner's meaning says what
+    /// is left.
     fn pass(
         &mut self,
         alloc: Global,
         graph: &G,
         guide: &H,
         eps: u32,
+        traced: bool,
         budget: &mut Budget,
     ) -> Result<PassEnd, NoMemory>
         requires eps_low { 1000 ≤ eps }
@@ -44,6 +46,7 @@ pub trait Search<G: Graph, H: Guide> {
         requires guide { H.guides guide.now (G.network graph.now) (state self.old).goal }
         requires ready { meaning.ready (G.network graph.now) (state self.old).labels budget.old.run }
         ensures passed { IfOk result (IsPassed meaning (query (G.network graph.now) (H.distance guide.now) eps (state self.old).goal) (state self.old) (state self.new) budget.old budget.new) }
+        ensures kept { traced ≡ true → OnOk result ((state self.new).kept ≡ true) }
         ensures cut { OnErr result (meaning.cut (query (G.network graph.now) (H.distance guide.now) eps (state self.old).goal) (state self.old) (state self.new) budget.old budget.new) };
 
     /// Whether labels are repaired after a change of the graph, for which the touched states are wanted.
@@ -75,8 +78,9 @@ pub trait Search<G: Graph, H: Guide> {
         ensures least { IsLow (states_of (state self.now).labels) (state self.now).goal
             (g_of (state self.now).labels) (v_of (state self.now).labels) (H.distance guide.now) result };
 
-    /// What the last pass did, in order.
+    /// What the last pass did, in order, where it was kept.
     fn notes(&self) -> &[Self::Note]
+        requires kept { (state self.now).kept ≡ true }
         ensures value { result.now ≡ (state self.now).notes };
 
     /// How many states the last pass expanded.

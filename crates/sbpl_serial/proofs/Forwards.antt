@@ -19,7 +19,7 @@ use Rattle.sbpl_labels.specs.declared.pass_end.PassEnd.TheVariants.{Rest, Spent}
 use Rattle.sbpl_search.specs.Query.{Query}
 use Rattle.sbpl_serial.specs.declared.step.Step.{Step}
 use Rattle.sbpl_serial.specs.Passed.{IsSerialPass, IsForwardPass}
-use Rattle.sbpl_serial.specs.Run.{IsOpen, IsOver, IsUnder, IsNext, IsRun, IsExpansion, IsAtRest, LowersHeads, RaisesState, none_closed, closed_with, closed_after}
+use Rattle.sbpl_serial.specs.Run.{IsOpen, IsOver, IsUnder, IsNext, IsSerialRun, IsExpansion, IsAtRest, LowersHeads, RaisesState, none_closed, closed_with, closed_after}
 use Rattle.sbpl_serial.specs.Serial.{SerialState}
 use Rattle.sbpl_serial.specs.Times.{times}
 use Rattle.sbpl_serial.proofs.Counting.{sum_below, sum_less, sum_some}
@@ -112,7 +112,7 @@ record RunsForward (states : ℕ) (closed : ℕ → Bool) (steps : List Step) (n
   total : length steps + sum_below (open_by (closed_after closed steps)) states ≤ sum_below (open_by closed) states
   now : AreForward (closed_after closed steps) new
 
-along : (q : Query) (steps : List Step) (closed : ℕ → Bool) (old new : Marks) → IsRun q closed steps old new → AreForward closed old → RunsForward (states_of old) closed steps new
+along : (q : Query) (steps : List Step) (closed : ℕ → Bool) (old new : Marks) → IsSerialRun q closed steps old new → AreForward closed old → RunsForward (states_of old) closed steps new
 along q [] closed old new run forward = record {
   lowered = All-nil (λ (step : Step). step.raised ≡ false);
   all_fresh = All-nil (λ (step : Step). closed step.state ≡ false);

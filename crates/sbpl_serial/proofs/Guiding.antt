@@ -6,7 +6,7 @@ use Rattle.sbpl_open.specs.KeyOrder.{IsBelow}
 use Rattle.sbpl_serial.specs.declared.step.Step.{Step}
 use Rattle.sbpl_serial.specs.Keys.{key_of}
 use Rattle.sbpl_search.specs.Query.{Query}
-use Rattle.sbpl_serial.specs.Run.{IsNext, IsAtRest, IsRun, IsExpansion, LowersHeads, RaisesState, goal_key_at, closed_with}
+use Rattle.sbpl_serial.specs.Run.{IsNext, IsAtRest, IsSerialRun, IsExpansion, LowersHeads, RaisesState, goal_key_at, closed_with}
 use Rattle.sbpl_serial.specs.Determined.{GuideAtStates}
 
 -- the start, the number of states and the start's back arc stay
@@ -32,7 +32,7 @@ step_placed : (n : Network) (old new : Marks) (x : Step) → IsExpansion n old x
 step_placed n old new x step = step_placed_by n old new x.state x.raised step
 
 -- over a run
-pub run_placed : (q : Query) (closed : ℕ → Bool) (steps : List Step) (old new : Marks) → IsRun q closed steps old new → StaysPlaced old new
+pub run_placed : (q : Query) (closed : ℕ → Bool) (steps : List Step) (old new : Marks) → IsSerialRun q closed steps old new → StaysPlaced old new
 run_placed q closed [] old new run = record { start = ap (λ (m : Marks). m.start) run; states = ap states_of run; no_arc = λ none. rw run none }
 run_placed q closed (x ∷ xs) old new run =
     let first = step_placed q.network old run.0 x run.2 in
@@ -69,8 +69,8 @@ guided_rest q h closed m same rest = record {
       rest.none_below s open_s (key_below (record q { guide = h }) q.guide closed m (λ u inside. sym (same u inside)) s open_s.inside (goal_key_at q m) below);
 }
 
-guided_run : (q : Query) (h : ℕ → ℕ) (steps : List Step) (closed : ℕ → Bool) (old new : Marks) → AgreesAtStates h q.guide old → IsRun q closed steps old new
-    → IsRun (record q { guide = h }) closed steps old new
+guided_run : (q : Query) (h : ℕ → ℕ) (steps : List Step) (closed : ℕ → Bool) (old new : Marks) → AgreesAtStates h q.guide old → IsSerialRun q closed steps old new
+    → IsSerialRun (record q { guide = h }) closed steps old new
 guided_run q h [] closed old new same run = run
 guided_run q h (x ∷ xs) closed old new same run =
     let placed = step_placed q.network old run.0 x run.2 in

@@ -6,7 +6,7 @@ use Rattle.sbpl_labels.specs.Marks.{Marks}
 use Rattle.sbpl_open.specs.KeyOrder.{ComesBefore}
 use Rattle.sbpl_serial.specs.declared.step.Step.{Step}
 use Rattle.sbpl_search.specs.Query.{Query}
-use Rattle.sbpl_serial.specs.Run.{IsNext, IsAtRest, IsRun, key_at, closed_with, closed_after}
+use Rattle.sbpl_serial.specs.Run.{IsNext, IsAtRest, IsSerialRun, key_at, closed_with, closed_after}
 use Rattle.sbpl_serial.specs.Determined.{GoesOn, RunsGoOn, EqualRunsAgree, RestEndsRuns}
 use Rattle.sbpl_serial.proofs.Stepping.{same_step}
 
@@ -25,15 +25,15 @@ same_next {q} {closed} {m} {s} {u} a b =
     (cases_eq s u)
 
 -- the longer of two runs goes on from the shorter
-leads_on : (q : Query) (xs ys : List Step) (closed : ℕ → Bool) (old a b : Marks) → IsRun q closed xs old a → IsRun q closed ys old b
+leads_on : (q : Query) (xs ys : List Step) (closed : ℕ → Bool) (old a b : Marks) → IsSerialRun q closed xs old a → IsSerialRun q closed ys old b
     → length xs ≤ length ys → GoesOn q closed xs ys a b
 leads_on q [] ys closed old a b left right few =
-    let run : IsRun q closed ys a b = rw left right in
+    let run : IsSerialRun q closed ys a b = rw left right in
     record { rest = ys; prefix = refl; further = run }
 leads_on q (x ∷ xs) [] closed old a b left right few = absurd (omega arith)
 leads_on q (x ∷ xs) (y ∷ ys) closed old a b left right few =
     let one = same_step q.network old x y (same_next left.1 right.1) left.2 right.2 in
-    let run : IsRun q (closed_with x closed) ys left.0 b = rw (one.0, one.1) right.3 in
+    let run : IsSerialRun q (closed_with x closed) ys left.0 b = rw (one.0, one.1) right.3 in
     let rest = leads_on q xs ys (closed_with x closed) left.0 a b left.3 run (omega arith) in
     record { rest = rest.rest; prefix = λ i. sym one.0 i ∷ rest.prefix i; further = rest.further }
 
@@ -46,7 +46,7 @@ nothing_added xs ys [] prefix same = refl
 nothing_added xs ys (x ∷ rest) prefix same = absurd (omega (arith, simp length-append at (ap length prefix)))
 
 -- a run of no steps changes nothing
-run_of_none : (q : Query) (closed : ℕ → Bool) (rest : List Step) (a b : Marks) → rest ≡ [] → IsRun q closed rest a b → b ≡ a
+run_of_none : (q : Query) (closed : ℕ → Bool) (rest : List Step) (a b : Marks) → rest ≡ [] → IsSerialRun q closed rest a b → b ≡ a
 run_of_none q closed rest a b none run = rw none at run
 
 pub equal_runs_agree : EqualRunsAgree
@@ -56,7 +56,7 @@ equal_runs_agree q closed old xs ys a b runs same =
     (sym (on.prefix ∙ ap (λ (r : List Step). xs ++ r) none ∙ append-nil xs), sym (run_of_none q (closed_after closed xs) on.rest a b none on.further))
 
 -- where nothing is next a run has no step
-none_at_rest : (q : Query) (closed : ℕ → Bool) (rest : List Step) (a b : Marks) → IsAtRest q closed a → IsRun q closed rest a b → rest ≡ []
+none_at_rest : (q : Query) (closed : ℕ → Bool) (rest : List Step) (a b : Marks) → IsAtRest q closed a → IsSerialRun q closed rest a b → rest ≡ []
 none_at_rest q closed [] a b still run = refl
 none_at_rest q closed (x ∷ rest) a b still run = absurd (still.none_below x.state run.1.is_open run.1.below_goal)
 

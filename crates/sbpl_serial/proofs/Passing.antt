@@ -9,7 +9,7 @@ use Rattle.sbpl_labels.specs.Marks.{Marks, AreLabels, states_of, g_of, v_of, bac
 use Rattle.sbpl_serial.specs.declared.step.Step.{Step}
 use Rattle.sbpl_serial.specs.Queue.{AreQueued}
 use Rattle.sbpl_search.specs.Query.{Query}
-use Rattle.sbpl_serial.specs.Run.{IsOver, IsUnder, IsNext, IsRun, IsExpansion, LowersHeads, RaisesState, none_closed, closed_with, closed_after}
+use Rattle.sbpl_serial.specs.Run.{IsOver, IsUnder, IsNext, IsSerialRun, IsExpansion, LowersHeads, RaisesState, none_closed, closed_with, closed_after}
 use Rattle.sbpl_serial.specs.Serial.{SerialState}
 use Rattle.sbpl_search.specs.Ready.{AreUsable}
 use Rattle.sbpl_serial.proofs.Closing.{closed_after_push}
@@ -29,7 +29,7 @@ pub record IsPassing (q : Query) (old now : SerialState) (before counts : Counts
   pub same_states : states_of now.labels ≡ states_of old.labels
   pub usable : AreUsable q.network now.labels counts.run
   pub counted : counts ≡ record before { plan = before.plan + length now.trace; run = before.run + length now.trace }
-  pub run : IsRun q none_closed now.trace old.labels now.labels
+  pub run : IsSerialRun q none_closed now.trace old.labels now.labels
   pub taken : AreCounted (states_of old.labels) now.trace (closed_by now) (v_of now.labels)
   pub ordered : q.eps ≡ 1000 → AreOrdered q.guide (closed_by now) now.labels
   pub queued : AreQueued q.eps q.guide (closed_by now) now.labels now.queue
@@ -44,8 +44,8 @@ counts_more before counts counts' steps steps' was spent more =
     rw (spent, was, plan, run) refl
 
 -- one more state is taken
-pub run_push : (q : Query) (closed : ℕ → Bool) (steps : List Step) (old m new : Marks) (step : Step) → IsRun q closed steps old m
-    → IsNext q (closed_after closed steps) m step.state → IsExpansion q.network m step new → IsRun q closed (steps ++ step ∷ []) old new
+pub run_push : (q : Query) (closed : ℕ → Bool) (steps : List Step) (old m new : Marks) (step : Step) → IsSerialRun q closed steps old m
+    → IsNext q (closed_after closed steps) m step.state → IsExpansion q.network m step new → IsSerialRun q closed (steps ++ step ∷ []) old new
 run_push q closed [] old m new step is next by = (new, rw (← is) next, rw (← is) by, refl)
 run_push q closed (first ∷ rest) old m new step run next by =
     (run.0, run.1, run.2, run_push q (closed_with first closed) rest run.0 m new step run.3 next by)

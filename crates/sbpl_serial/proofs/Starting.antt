@@ -7,7 +7,7 @@ use Rattle.sbpl_labels.specs.Marks.{Marks, g_of, v_of}
 use Rattle.sbpl_search.specs.Query.{Query}
 use Rattle.sbpl_search.specs.Ready.{IsStartFresh}
 use Rattle.sbpl_serial.specs.declared.step.Step.{Step}
-use Rattle.sbpl_serial.specs.Run.{IsRun, LowersHeads, RaisesState, closed_with}
+use Rattle.sbpl_serial.specs.Run.{IsSerialRun, LowersHeads, RaisesState, closed_with}
 
 -- g of the start is 0, and its v is infinite or 0
 pub record StartsFresh (m : Marks) : Type 0 where
@@ -42,6 +42,6 @@ step_start n old new s true step so = raised_start n old new s step so
 step_start n old new s false step so = lowered_start n old new s step so
 
 -- a run keeps the start fresh
-pub run_start : (q : Query) (closed : ℕ → Bool) (steps : List Step) (old new : Marks) → IsRun q closed steps old new → StartsFresh old → StartsFresh new
+pub run_start : (q : Query) (closed : ℕ → Bool) (steps : List Step) (old new : Marks) → IsSerialRun q closed steps old new → StartsFresh old → StartsFresh new
 run_start q closed [] old new same so = subst (λ (m : Marks). StartsFresh m) (sym same) so
 run_start q closed (step ∷ rest) old new (w, next, one, run) so = run_start q (closed_with step closed) rest w new run (step_start q.network old w step.state step.raised one so)

@@ -14,7 +14,7 @@ use Rattle.sbpl_serial.specs.Serial.{Room, AreWaiting}
 use Rattle.sbpl_serial.proofs.Closing.{closed_after_push}
 use Rattle.sbpl_serial.proofs.Opening.{open_alike}
 use Rattle.sbpl_serial.proofs.Queueing.{among_closed}
-use Rattle.sbpl_serial.specs.Serial.{AreParts}
+use Rattle.sbpl_serial.specs.Serial.{AreSerialParts}
 use Rattle.sbpl_serial.specs.Taken.{step_of}
 use Rattle.sbpl_serial.proofs.Noting.{open_apart}
 
@@ -44,7 +44,7 @@ all_noted {m} {closed} queue queue' steps waiting by_steps kept noted s it =
 pub together_none : {labels : Marks} {goal : ℕ} {closed : List Bool} {steps : Room} {queue : OpenList} → goal < states_of labels
     → length closed ≡ states_of labels → ((s : ℕ) → closed_at closed s ≡ false) → steps.items ≡ []
     → steps.room ≡ 3 * states_of labels → open_list.states_of queue ≡ states_of labels → AreWaiting labels queue none_closed
-    → AreParts labels goal closed steps queue
+    → AreSerialParts labels goal closed steps queue
 together_none {labels} {goal} {closed} {steps} {queue} inside states none empty room queue_states waiting = record {
   goal_inside = inside;
   closed_states = states;
@@ -61,11 +61,11 @@ raised_by_steps closed steps s u = closed_after_push closed steps (step_of s tru
 
 -- one state more is taken
 pub together_more : {labels labels' : Marks} {goal : ℕ} {closed closed' : List Bool} {steps steps' : Room} {queue queue' : OpenList} (s : ℕ) (raised : Bool)
-    → AreParts labels goal closed steps queue → s < states_of labels → states_of labels' ≡ states_of labels
+    → AreSerialParts labels goal closed steps queue → s < states_of labels → states_of labels' ≡ states_of labels
     → length closed' ≡ length closed → ((u : ℕ) → closed_at closed' u ≡ closed_after none_closed (steps.items ++ step_of s raised ∷ []) u)
     → steps'.items ≡ steps.items ++ step_of s raised ∷ [] → steps'.room ≡ steps.room
     → open_list.states_of queue' ≡ states_of labels' → AreWaiting labels' queue' (closed_at closed')
-    → AreParts labels' goal closed' steps' queue'
+    → AreSerialParts labels' goal closed' steps' queue'
 together_more {labels} {labels'} {goal} {closed} {closed'} {steps} {steps'} {queue} {queue'} s raised parts inside same size by_steps pushed room queue_states waiting =
     let known : All (λ (step : Step). step.state < states_of labels') steps.items = rw same parts.steps_inside in
     let within : s < states_of labels' = omega arith in

@@ -1,5 +1,5 @@
 -- What the calls of a serial planner mean.
-use Rattle.std.specs.Prelude.{ℕ, Bool, List, length}
+use Rattle.std.specs.Prelude.{ℕ, Bool, true, List, length}
 use Rattle.sbpl_graph.specs.Network.{Network}
 use Rattle.sbpl_graph.specs.Exact.{AreExact}
 use Rattle.sbpl_labels.specs.Marks.{AreInitial, Marks, g_of, v_of, back_of}
@@ -7,7 +7,7 @@ use Rattle.sbpl_search.specs.Meaning.{Meaning}
 use Rattle.sbpl_search.specs.State.{State}
 use Rattle.sbpl_serial.specs.declared.step.Step.{Step}
 use Rattle.sbpl_serial.specs.Repaired.{AreRepaired}
-use Rattle.sbpl_serial.specs.Run.{IsRun, IsNext, IsAtRest, none_closed, closed_after}
+use Rattle.sbpl_serial.specs.Run.{IsSerialRun, IsNext, IsAtRest, none_closed, closed_after}
 use Rattle.sbpl_serial.specs.Serial.{SerialState}
 use Rattle.sbpl_serial.specs.Times.{times}
 
@@ -16,7 +16,7 @@ use Rattle.sbpl_serial.specs.Times.{times}
 abbrev pub serial : (ready : Network → Marks → ℕ → Type 0) (most : ℕ) (repairs : Bool) (begun : Network → List ℕ → Marks → Marks → Type 0) → Meaning Step
 serial ready most repairs begun = record {
   ready = ready;
-  leads = λ q steps old new. IsRun q none_closed steps old new;
+  leads = λ q steps old new. IsSerialRun q none_closed steps old new;
   rests = λ q steps m. IsAtRest q (closed_after none_closed steps) m;
   goes_on = λ q steps m. (s : ℕ) × IsNext q (closed_after none_closed steps) m s;
   expansions = length;
@@ -36,6 +36,6 @@ pub record AreRepairedFor (n : Network) (touched : List ℕ) (old new : Marks) :
 abbrev pub BeginsAnew : Network → (touched : List ℕ) → (old new : Marks) → Type 0
 BeginsAnew n touched old new = AreInitial new n.states old.start
 
--- the labels, the goal and the trace
+-- the labels, the goal and the trace, which is always kept
 abbrev pub seen : SerialState → State Step
-seen a = record { labels = a.labels; goal = a.goal; notes = a.trace }
+seen a = record { labels = a.labels; goal = a.goal; notes = a.trace; kept = true }

@@ -11,7 +11,7 @@ use Rattle.sbpl_labels.specs.declared.pass_end.PassEnd.{PassEnd}
 use Rattle.sbpl_labels.specs.declared.pass_end.PassEnd.TheVariants.{Rest, Spent}
 use Rattle.sbpl_search.specs.Query.{Query}
 use Rattle.sbpl_search.specs.Ready.{AreUsable, IsStartFresh}
-use Rattle.sbpl_serial.specs.Run.{IsRun, IsNext, IsAtRest, none_closed, closed_after}
+use Rattle.sbpl_serial.specs.Run.{IsSerialRun, IsNext, IsAtRest, none_closed, closed_after}
 use Rattle.sbpl_serial.specs.Serial.{SerialState}
 use Rattle.sbpl_serial.specs.Times.{times}
 
@@ -22,7 +22,7 @@ use Rattle.sbpl_serial.specs.Times.{times}
 -- show that each path costs at least g of the goal. Each expansion is counted. The labels may begin another pass, and support a
 -- bound.
 pub record IsSerialPass (q : Query) (old new : SerialState) (before after : Counts) (end : PassEnd) : Type 0 where
-  pub run : IsRun q none_closed new.trace old.labels new.labels
+  pub run : IsSerialRun q none_closed new.trace old.labels new.labels
   pub thrice : (s : ℕ) → times s new.trace ≤ 3
   pub few : length new.trace ≤ 3 * states_of old.labels
   pub rest : (end ≡ Rest) ↔ IsAtRest q (closed_after none_closed new.trace) new.labels

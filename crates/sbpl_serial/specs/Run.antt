@@ -91,7 +91,7 @@ closed_after closed [] = closed
 closed_after closed (step ∷ rest) = closed_after (closed_with step closed) rest
 
 -- these steps, each of the state that is then next, lead from the old labels to the new ones
-abbrev pub IsRun : Query → (ℕ → Bool) → List Step → Marks → Marks → Type 0
-IsRun q closed [] old new = new ≡ old
-IsRun q closed (step ∷ rest) old new =
-    (w : Marks) × IsNext q closed old step.state × IsExpansion q.network old step w × IsRun q (closed_with step closed) rest w new
+abbrev pub IsSerialRun : Query → (ℕ → Bool) → List Step → Marks → Marks → Type 0
+IsSerialRun q closed [] old new = new ≡ old
+IsSerialRun q closed (step ∷ rest) old new =
+    (w : Marks) × IsNext q closed old step.state × IsExpansion q.network old step w × IsSerialRun q (closed_with step closed) rest w new

@@ -25,7 +25,7 @@ abbrev pub AreWaiting : Marks → OpenList → (ℕ → Bool) → Type 0
 AreWaiting labels queue closed = (s : ℕ) → IsOpen closed labels s → IsSome (open_list.key_at queue s)
 
 -- just those states are closed that the steps have closed, there is room for three steps a state, and each open state is in the queue
-pub record AreParts (labels : Marks) (goal : ℕ) (closed : List Bool) (steps : Room) (queue : OpenList) : Type 0 where
+pub record AreSerialParts (labels : Marks) (goal : ℕ) (closed : List Bool) (steps : Room) (queue : OpenList) : Type 0 where
   pub goal_inside : goal < states_of labels
   pub closed_states : length closed ≡ states_of labels
   pub closed_by_steps : (s : ℕ) → closed_at closed s ≡ closed_after none_closed steps.items s

@@ -17,7 +17,7 @@ ghost use Rattle.sbpl_serial.specs.Keys.{goal_key};
 ghost use Rattle.sbpl_serial.specs.Passed.{IsForwardPass, IsSerialPass};
 ghost use Rattle.sbpl_serial.specs.Queue.{AreQueued, IsFirstBelow};
 ghost use Rattle.sbpl_serial.specs.Run.{none_closed, closed_after, IsOpen, IsOver, IsUnder};
-ghost use Rattle.sbpl_serial.specs.Serial.{AreParts};
+ghost use Rattle.sbpl_serial.specs.Serial.{AreSerialParts};
 ghost use Rattle.sbpl_serial.specs.Taken.{IsTaken};
 
 use crate::expansion::expand;
@@ -48,13 +48,13 @@ pub struct Serial {
 }
 
 impl Model for Serial {
-    ghost use Rattle.sbpl_serial.specs.Serial.{SerialState, AreParts};
+    ghost use Rattle.sbpl_serial.specs.Serial.{SerialState, AreSerialParts};
 
     ghost Value = { SerialState };
 
     ghost view = { λ a. record { labels = a.labels; goal = a.goal; trace = a.steps.items; queue = a.queue } };
 
-    ghost invariant = { λ a. AreParts a.labels a.goal a.closed a.steps a.queue };
+    ghost invariant = { λ a. AreSerialParts a.labels a.goal a.closed a.steps a.queue };
 }
 
 impl Serial {
@@ -108,7 +108,7 @@ impl Serial {
         ensures goal { result.goal ≡ self.goal }
         ensures steps { result.steps.items ≡ self.trace }
         ensures queue { result.queue ≡ self.queue }
-        ensures parts { AreParts result.labels result.goal result.closed result.steps result.queue }
+        ensures parts { AreSerialParts result.labels result.goal result.closed result.steps result.queue }
     {
         let Serial {
             labels,
@@ -129,7 +129,7 @@ impl Serial {
 
     /// The search that has these parts. It takes no memory.
     pub fn from_parts(parts: Parts) -> Serial
-        requires parts { AreParts parts.labels parts.goal parts.closed parts.steps parts.queue }
+        requires parts { AreSerialParts parts.labels parts.goal parts.closed parts.steps parts.queue }
         ensures labels { result.labels ≡ parts.labels }
         ensures goal { result.goal ≡ parts.goal }
         ensures trace { result.trace ≡ parts.steps.items }

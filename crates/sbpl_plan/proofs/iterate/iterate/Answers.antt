@@ -1,4 +1,4 @@
-use Rattle.std.proofs.Common.{refl, ◌∙◌, ap, List, [], if◌then◌else◌}
+use Rattle.std.proofs.Common.{refl, [], if◌then◌else◌}
 use Rattle.sbpl_search.specs.State.{State}
 use Rattle.sbpl_plan.proofs.Iterating.{iteration_of}
 use Rattle.sbpl_plan.proofs.Planning.{on_err, part_of_one}
@@ -9,7 +9,7 @@ pub returns-clause-iteration : goal.returns-clause-iteration
 returns-clause-iteration g c =
     iteration_of g.S.Search.meaning _ _ _ _ _ _ _ _ _ _ (c.is_spent-spent.ensures.spent.0) (c.is_spent-spent.ensures.rest.0) c.requires.fresh
     (g.met.S.Search.usable _ _ _ c.in_ok-end.ensures.passed.ready).states c.in_ok-end.ensures.passed _ _ refl c.expanded-expanded.ensures.value
-    (c.in_ok-trace.ensures.told ∙ ap (λ (notes : List g.row.S-Note.Denot). if c.args.ask.now.traced then notes else []) c.notes.ensures.value)
+    c.in_ok-trace.ensures.told
     _ c.requires.goal c.look-found.ensures.found
 
 pub returns-in_err-trace-clause-memory : goal.returns-in_err-trace-clause-memory

@@ -1,0 +1,34 @@
+-- A search by ePA*SE between its passes.
+use Rattle.std.specs.Prelude.{◌≡◌, ℕ, ◌<◌, Option, Some, None, IsSome, []}
+use Rattle.sbpl_graph.specs.Kept.{NoneUnder}
+use Rattle.sbpl_labels.specs.Marks.{Marks, g_of, states_of, v_of}
+use Rattle.sbpl_search.specs.State.{State}
+use Rattle.sbpl_frontier_rules.specs.declared.event.Event.{Event}
+use Rattle.sbpl_frontier_rules.specs.Journal.{openings}
+use Rattle.sbpl_frontier_core.specs.Log.{Log}
+use Rattle.sbpl_frontier_core.specs.Nothing.{no_marks}
+use Rattle.sbpl_frontier_core.specs.Waiting.{HoldsOver, Waiting}
+
+-- the labels, which are there but within a pass
+abbrev pub labels_in : Option Marks → Marks
+labels_in None = no_marks
+labels_in (Some m) = m
+
+-- the memory of a pass, which is there but within one
+abbrev pub space_in : Option Waiting → Waiting
+space_in None = record { marks = []; queue = record { keys = [] }; expanded = [] }
+space_in (Some space) = space
+
+-- the labels, the goal, the events of the last pass, and whether they were kept
+abbrev pub search_of : Option Marks → ℕ → Log → State Event
+search_of labels goal journal = record { labels = labels_in labels; goal = goal; notes = journal.events; kept = journal.keeps }
+
+-- The labels and the memory of a pass are there. No state is underconsistent, and each overconsistent one is where the next pass
+-- looks for it. The goal is a state, and so many states were expanded in the last pass.
+pub record AreEpaseParts (labels : Option Marks) (space : Option Waiting) (goal : ℕ) (journal : Log) (expanded : ℕ) : Type 0 where
+  pub there : IsSome labels
+  pub room : IsSome space
+  pub over : HoldsOver (space_in space) (labels_in labels)
+  pub none_under : NoneUnder (states_of (labels_in labels)) (g_of (labels_in labels)) (v_of (labels_in labels))
+  pub goal_inside : goal < states_of (labels_in labels)
+  pub counted : expanded ≡ openings journal.events

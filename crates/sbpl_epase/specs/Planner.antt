@@ -1,0 +1,35 @@
+-- What ePA*SE means as a planner.
+use Rattle.std.specs.Prelude.{◌≡◌, ℕ, false, List}
+use Rattle.sbpl_labels.specs.Counts.{Counts}
+use Rattle.sbpl_search.specs.Meaning.{Meaning}
+use Rattle.sbpl_search.specs.Query.{Query}
+use Rattle.sbpl_search.specs.Ready.{AreReady}
+use Rattle.sbpl_search.specs.State.{State}
+use Rattle.sbpl_serial.specs.Meant.{BeginsAnew}
+use Rattle.sbpl_frontier_rules.specs.declared.event.Event.{Event}
+use Rattle.sbpl_frontier_rules.specs.Frontier.{Frontier}
+use Rattle.sbpl_frontier_rules.specs.Journal.{opened_times, openings}
+use Rattle.sbpl_frontier_rules.specs.Passes.{ArePass, LeavesOpen, LeavesRest, Replays}
+
+-- memory ran out after some events, which led to the labels and the counts that there are; an arc may be ready or out
+pub record IsCutAfterEvents (q : Query) (old new : State Event) (before after : Counts) : Type 0 where
+  pub events : List Event
+  pub last : Frontier
+  pub replay : Replays q before events old.labels new.labels last
+  pub counts : after ≡ last.counts
+
+-- a pass begins where no state is underconsistent, is a list of events of a frontier, and opens each state at most once; after a
+-- change of the graph the labels are initial again
+abbrev pub epase : Meaning Event
+epase = record {
+  ready = AreReady;
+  leads = ArePass;
+  rests = LeavesRest;
+  goes_on = LeavesOpen;
+  expansions = openings;
+  times = opened_times;
+  most = 1;
+  repairs = false;
+  begun = BeginsAnew;
+  cut = IsCutAfterEvents;
+}
