@@ -1,9 +1,10 @@
-//! Passes on a graph of six states.
+//! Passes on a graph of six states, by ARA* and by ePA*SE.
 
-ghost use Rattle.std.specs.Prelude.{◌≡◌, ◌<◌};
+ghost use Rattle.std.specs.Prelude.{◌≡◌, ◌<◌, true};
 ghost use Rattle.worked_graphs.specs.Sample.{height, sample};
 
 use sbpl_ara::Ara;
+use sbpl_epase::{Epase, Event};
 use sbpl_graph::{FAR, Graph, Guide};
 use sbpl_labels::{Budget, PassEnd};
 use std::alloc::{AllocError, Global};
@@ -67,7 +68,7 @@ impl Graph for Table {
 }
 
 impl Guide for Table {
-    ghost use Rattle.std.specs.Prelude.{◌≡◌, ◌<◌};
+    ghost use Rattle.std.specs.Prelude.{◌≡◌, ◌<◌, true};
     ghost use Rattle.std.proofs.Common.{arith};
     ghost use Rattle.std.proofs.lemmas.Bool.Decides.{nat_tests};
     ghost use Rattle.worked_graphs.specs.Sample.{height, sample, sample_is_consistent};
@@ -166,6 +167,44 @@ fn falling_inflation(rt: HostRuntime) -> Result<(), Fail> {
 
     assert_eq!(rt; ara.pass(&graph, &graph, 1000, &mut budget), PassEnd::Rest);
     assert!(rt; ara.trace().is_empty());
+    Ok(())
+}
+
+/// The states that the last pass of a search by events opened, in order.
+fn opened(alloc: Global, search: &Epase) -> Result<Vec<u32>, AllocError>
+    requires kept { search.now.kept ≡ true }
+{
+    let mut states = Vec::new(alloc);
+    for event in search.events() {
+        if let Event::Opened { state } = event {
+            states.push(*state)?;
+        }
+    }
+    Ok(states)
+}
+
+/// With one worker each arc is evaluated before the next state is opened, so a pass by events expands what ARA* does.
+#[test]
+fn falling_inflation_by_events(rt: HostRuntime) -> Result<(), Fail> {
+    let graph = detour();
+    let mut budget = Budget::new(10);
+    let mut search = Epase::open(rt.alloc(), 6, 0, 5)?;
+    let end = search.pass(rt.alloc(), &graph, &graph, 3000, true, &mut budget)?;
+    assert_eq!(rt; end, PassEnd::Rest);
+    assert_eq!(rt;
+        opened(rt.alloc(), &search)?.as_slice(),
+        [0, 2, 4].as_slice()
+    );
+    assert_eq!(rt; search.labels().g(5), 10);
+
+    let end = search.pass(rt.alloc(), &graph, &graph, 1000, true, &mut budget)?;
+    assert_eq!(rt; end, PassEnd::Rest);
+    assert_eq!(rt; opened(rt.alloc(), &search)?.as_slice(), [1, 3].as_slice());
+    assert_eq!(rt; (search.labels().g(5), search.expanded()), (7, 2));
+    assert_eq!(rt; (budget.used(), search.low(&graph)), (5, 7));
+
+    search.reset();
+    assert_eq!(rt; (search.labels().g(0), search.labels().g(5)), (0, FAR));
     Ok(())
 }
 

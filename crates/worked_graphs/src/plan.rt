@@ -10,7 +10,7 @@ use sbpl_adstar::AdStar;
 use sbpl_ara::{Ara, Step};
 use sbpl_graph::{Graph, Zero};
 use sbpl_labels::Budget;
-use sbpl_plan::{Ask, Found, Outcome, Planned, plan};
+use sbpl_plan::{Ask, Found, FoundPath, Outcome, Planned, plan};
 use std::alloc::Global;
 use std::process::Abort;
 use std::test::Fail;
@@ -87,9 +87,9 @@ fn only_pass(planned: &Planned<Step>) -> Option<(u32, Found, &[Step])> {
 }
 
 /// The arc numbers of a path, with its cost and its bound.
-fn path(outcome: &Outcome) -> Option<(&[u32], u64, u128)> {
+fn path(outcome: &Outcome<FoundPath>) -> Option<(&[u32], u64, u128)> {
     match outcome {
-        Outcome::Path { arcs, cost, bound } => Some((arcs.as_slice(), *cost, *bound)),
+        Outcome::Path(path) => Some((path.arcs.as_slice(), path.cost, path.bound)),
         Outcome::NoPath | Outcome::Unknown => None,
     }
 }

@@ -25,6 +25,8 @@ plan --first=100 --step 99 e m => plan e m 0 - ad 100000 99000 1000 1073741824 -
 plan e m --budget +4 => plan e m 0 - ad 1000 500 1000 4 - -
 plan e m --budget=007 => plan e m 0 - ad 1000 500 1000 7 - -
 plan e m --budget 1073741824 => plan e m 0 - ad 1000 500 1000 1073741824 - -
+plan e m --planner epase => plan e m 0 - epase 1000 500 1000 1073741824 - -
+plan --workers=1 e m --trace t --planner=epase => plan e m 0 - epase 1000 500 1000 1073741824 - t
 plan --changes c e m => plan e m 0 c ad 1000 500 1000 1073741824 - -
 plan e m --labels=l --trace t => plan e m 0 - ad 1000 500 1000 1073741824 l t
 plan e --changes=c=d --labels c m --trace=d => plan e m 0 c=d ad 1000 500 1000 1073741824 c d
@@ -80,7 +82,11 @@ plan e m --step=99.001
 plan e m --budget 0
 plan e m --budget 1073741825
 plan e m --budget=1.0
-plan e m --planner epase
+plan e m --workers 1
+plan e m --planner ara --workers=1
+plan e m --planner epase --workers 2
+plan e m --planner epase --workers 0
+plan e m --planner epase --changes c
 plan e m --planner=ARA
 plan e m --labels e
 plan e m --trace=m
@@ -143,6 +149,7 @@ fn said_of_plan(alloc: Global, job: &PlanJob) -> Result<String, Fail> {
     let planner = match job.search.planner {
         Planner::Ara => "ara",
         Planner::AdStar => "ad",
+        Planner::Epase => "epase",
     };
     let search = &job.search;
     Ok(format!(in alloc;

@@ -17,7 +17,7 @@ use sbpl_cost::Lattice;
 use sbpl_graph::{Graph, Guide};
 use sbpl_heur::Best;
 use sbpl_map::Write;
-use sbpl_plan::{Ask, Outcome, Planned};
+use sbpl_plan::{Ask, FoundPath, Outcome, Planned};
 use sbpl_replan::Replanner;
 use sbpl_search::Search;
 use sbpl_serial::Step;
@@ -91,9 +91,9 @@ fn change<S: Search<Lattice, Best, Note = Step> + Drop>(
 }
 
 /// The arc numbers of a path, with its cost and its bound.
-fn path(outcome: &Outcome) -> Option<(&[u32], u64, u128)> {
+fn path(outcome: &Outcome<FoundPath>) -> Option<(&[u32], u64, u128)> {
     match outcome {
-        Outcome::Path { arcs, cost, bound } => Some((arcs.as_slice(), *cost, *bound)),
+        Outcome::Path(path) => Some((path.arcs.as_slice(), path.cost, path.bound)),
         Outcome::NoPath | Outcome::Unknown => None,
     }
 }
@@ -308,9 +308,9 @@ fn drawn(word: &mut u64) -> [Write; 60] {
 }
 
 /// What a plan makes known: the cost of its path, or that there is none.
-fn known(outcome: &Outcome) -> Result<Option<u64>, Fail> {
+fn known(outcome: &Outcome<FoundPath>) -> Result<Option<u64>, Fail> {
     match outcome {
-        Outcome::Path { cost, .. } => Ok(Some(*cost)),
+        Outcome::Path(path) => Ok(Some(path.cost)),
         Outcome::NoPath => Ok(None),
         Outcome::Unknown => Err(Fail::new("unknown")),
     }

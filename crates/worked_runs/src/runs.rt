@@ -254,7 +254,7 @@ const SPENT: &str = "plan 0\npass 1.000 expanded 1 none\nspent 1\nunknown\ndone\
 /// Passes of falling inflation, and budgets.
 #[test]
 fn passes(rt: HostRuntime) -> Result<(), Fail> {
-    let rows: [(&[&str], &str); 6] = [
+    let rows: [(&[&str], &str); 7] = [
         (
             &[
                 "plan", "e", "m", "--first", "3.000", "--step", "0.500", "--bound", "1.000",
@@ -279,6 +279,10 @@ fn passes(rt: HostRuntime) -> Result<(), Fail> {
         (&["plan", "e", "m", "--budget", "1"], SPENT_PATH),
         (&["plan", "e", "m", "--bound", "1.0000000001"], AROUND),
         (&["plan", "e", "m", "--budget=+4"], AROUND),
+        (
+            &["plan", "e", "m", "--planner=epase", "--workers=1"],
+            AROUND,
+        ),
     ];
     for (words, report) in rows {
         compare_words(
@@ -357,10 +361,13 @@ fn compare_trace(
     Ok(())
 }
 
-/// The trace of a plan that was spent, and those of passes of falling inflation.
+const EVENTS: &str =
+    "trace plan 0\npass 1.000\nopen 0\ntake 0 0 0 0\npost 0 75\ntake 1 0 0 1\npost 1 150\ntake 2 0 0 2\npost 2 25\nopen 48\ntake 3 0 48 0\npost 3 25\ntake 4 0 48 1\npost 4 50\ntake 5 0 48 3\npost 5 25\nopen 64\ntake 6 0 64 0\npost 6 25\ntake 7 0 64 3\npost 7 75\nopen 80\ntake 8 0 80 3\npost 8 25\nend\n";
+
+/// The trace of a plan that was spent, and those of passes of falling inflation, by each planner.
 #[test]
 fn traces(rt: HostRuntime) -> Result<(), Fail> {
-    let rows: [(&str, &str, &[&str], &str); 2] = [
+    let rows: [(&str, &str, &[&str], &str); 3] = [
         (
             E1,
             F1,
@@ -372,6 +379,12 @@ fn traces(rt: HostRuntime) -> Result<(), Fail> {
             F2,
             &["plan", "e", "m", "--trace", "t"],
             "trace plan 0\npass 1.000\nlower 0\nlower 48\nlower 64\nlower 80\nend\n",
+        ),
+        (
+            E2,
+            F2,
+            &["plan", "e", "m", "--planner", "epase", "--trace", "t"],
+            EVENTS,
         ),
     ];
     for (env, prims, words, trace) in rows {
