@@ -8,7 +8,7 @@ use Rattle.sbpl_open.specs.OpenList.{OpenList}
 use Rattle.sbpl_search.specs.Query.{Query}
 use Rattle.sbpl_frontier_rules.specs.Events.{IsFirst, IsIdle}
 use Rattle.sbpl_frontier_rules.specs.Frontier.{Frontier, is_opened}
-use Rattle.sbpl_frontier_rules.specs.Laws.{EachOpensOnce, EventsKeep, FirstIsKept, IdleIsExact, IsLawful, MayBegin, SettledAtOne}
+use Rattle.sbpl_frontier_rules.specs.Laws.{EachOpensOnce, EventsKeep, FirstIsKept, IdleIsExact, IdleShows, IsLawful, MayBegin, SettledAtOne}
 use Rattle.sbpl_serial.specs.Marked.{closed_at}
 use Rattle.sbpl_frontier_core.specs.Book.{Book}
 use Rattle.sbpl_frontier_core.specs.Finished.{IsFinished, IsGivenUp}
@@ -21,9 +21,9 @@ use Rattle.sbpl_frontier_core.proofs.Parting.{parts_kept}
 
 module _ {q : Query} {opening : Marks} {before : Counts} {keeps : Bool} {f : Frontier} {log : Log} {queue : OpenList} {expanded : List ℕ} {state : ℕ} {aside : Room}
     (here : AreCoreParts q opening before keeps f log queue expanded state aside) (first : FirstIsKept) (each : EventsKeep) (once : EachOpensOnce) where
-  pub finished : IdleIsExact → SettledAtOne → IsIdle f
+  pub finished : IdleIsExact → IdleShows → SettledAtOne → IsIdle f
       → IsFinished q opening before keeps (record { frontier = f; journal = log.events }) f.labels f.counts log
-  finished exact settled idle =
+  finished exact shows settled idle =
       let kept = parts_kept first each here in
       let at = exact q f kept idle in
       record {
@@ -37,7 +37,9 @@ module _ {q : Query} {opening : Marks} {before : Counts} {keeps : Bool} {f : Fro
           ready = record { states = kept.states; exact = at.0; none_under = kept.none_under; fits = kept.fits };
           counts = kept.counts;
         };
+        kept = kept;
         supported = at.1;
+        shows = λ low is. shows q f low here.lawful kept idle is;
         once = once q opening before log.events here.replay.first f here.lawful here.may_begin here.replay.begins here.replay.leads;
         settled = λ one. settled q f here.lawful one kept;
       }

@@ -33,7 +33,7 @@ pub record IsStuck (q : Query) (f : Frontier) : Type 0 where
   pub first : AreFirst q f 64 states
   pub held : All (λ s. IsIndependent q f s → ⊥) states
 
--- no arc is ready and one is out, and the budget is spent or no state may be opened
+-- no arc is ready and one is out, and the budget is spent or none of the 64 least open states is independent
 pub record IsWaiting (q : Query) (f : Frontier) : Type 0 where
   pub none_ready : f.ready ≡ []
   pub some_out : 0 < length f.out

@@ -9,7 +9,7 @@ use Rattle.sbpl_open.specs.KeyOrder.{ComesBefore, IsBelow}
 use Rattle.sbpl_open.specs.OpenList.{OpenList, IsLeast, key_at, states_of}
 use Rattle.sbpl_frontier_rules.specs.declared.leg.Leg.{Leg}
 
--- no way over p can still lower g of s below what the inflation allows
+-- s is clear of p: g of s is not above that of p, or above it by no more than the inflation times the gap from p to s
 abbrev pub IsClear : Network → (eps : ℕ) → Marks → (s p : ℕ) → Type 0
 IsClear n eps m s p = (g_of m s ≤ g_of m p) ⊎ (1000 * (g_of m s - g_of m p) ≤ eps * n.gap p s)
 

@@ -1,8 +1,9 @@
 -- What a pass leaves.
 use Rattle.std.specs.Prelude.{◌≡◌, ℕ, Bool, true}
-use Rattle.sbpl_graph.specs.Certificate.{AreSupported}
+use Rattle.sbpl_graph.specs.Bound.{IsLow}
+use Rattle.sbpl_graph.specs.Certificate.{AreSupported, ShowBound}
 use Rattle.sbpl_labels.specs.Counts.{Counts}
-use Rattle.sbpl_labels.specs.Marks.{Marks, g_of, v_of}
+use Rattle.sbpl_labels.specs.Marks.{Marks, g_of, states_of, v_of}
 use Rattle.sbpl_search.specs.Query.{Query}
 use Rattle.sbpl_frontier_rules.specs.Frontier.{is_opened}
 use Rattle.sbpl_frontier_rules.specs.Kept.{IsKept}
@@ -10,8 +11,8 @@ use Rattle.sbpl_frontier_rules.specs.Laws.{MayBegin, OpensOnce}
 use Rattle.sbpl_frontier_core.specs.Book.{Book, IsReplay}
 use Rattle.sbpl_frontier_core.specs.Log.{Log}
 
--- The labels and the counts are those to which the journal leads. Another pass may begin with them, and they support a bound. No
--- state was opened twice. With inflation one each opened state is settled.
+-- The labels and the counts are those to which the journal leads. Another pass may begin with them, and with their low they show a
+-- bound of every path. No state was opened twice. With inflation one each opened state is settled.
 pub record IsFinished (q : Query) (opening : Marks) (before : Counts) (keeps : Bool) (book : Book) (labels : Marks) (counts : Counts) (log : Log) : Type 0 where
   pub labels_are : labels ≡ book.frontier.labels
   pub counts_are : counts ≡ book.frontier.counts
@@ -19,7 +20,9 @@ pub record IsFinished (q : Query) (opening : Marks) (before : Counts) (keeps : B
   pub keeps_are : log.keeps ≡ keeps
   pub replay : IsReplay q opening before book.journal book.frontier
   pub again : MayBegin q labels counts
+  pub kept : IsKept q book.frontier
   pub supported : AreSupported q.network labels.start (g_of labels) (v_of labels)
+  pub shows : (low : ℕ) → IsLow (states_of labels) q.goal (g_of labels) (v_of labels) q.guide low → ShowBound q.network labels.start q.goal (g_of labels) (v_of labels) q.guide low
   pub once : OpensOnce q opening before book.journal book.frontier
   pub settled : q.eps ≡ 1000 → (s : ℕ) → is_opened book.frontier s ≡ true → v_of labels s ≡ g_of labels s
 

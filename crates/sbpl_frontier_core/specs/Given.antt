@@ -44,7 +44,8 @@ module _ {N : Type 0} {P : Ghosts N} where
   IsSpentAnswer _ = ⊥
 
   -- The call first opens states, which leads to a middle book. It answers NotYet exactly where no arc is then ready, one is out, and
-  -- the budget is spent or no state may be opened; Over exactly at rest; Spent exactly where the budget is spent and a state is left.
+  -- the budget is spent or none of the 64 least open states is independent; Over exactly at rest; Spent exactly where no arc is
+  -- ready or out, the budget is spent, and an open key is below the goal's.
   pub record Answers (q : Query) (seat : ℕ) (old : Book) (answer : Next N P) (new : Book) : Type 0 where
     pub mid : Book
     pub opens : OpensTo q old mid

@@ -23,6 +23,9 @@ pub(crate) fn key_of_goal(labels: &Labels, goal: u32) -> Key
     Key(1000 * u128::from(g), g)
 }
 
+/// How many open states are tried for one that may be opened.
+pub(crate) const MOST_TRIED: usize = 64;
+
 /// The least open state where its key is below the goal's.
 pub(crate) fn least_below(queue: &Open, goal: Key) -> Option<u32>
     ensures least { IsFirstBelow queue.now (goal.0, goal.1) result }
@@ -76,7 +79,7 @@ fn pop_to_clear<G: Graph>(
     ensures leads { PopsTo (G.network graph.now) eps labels.now out.now (goal.0, goal.1) queue.old aside.new.items queue.new result }
     ensures room { vec_capacity aside.new ≡ vec_capacity aside.old }
 {
-    while aside.len() < 64 {
+    while aside.len() < MOST_TRIED {
         let Some((s, key)) = queue.least() else {
             return None
         };

@@ -6,6 +6,7 @@ ghost use Rattle.sbpl_labels.specs.Marks.{states_of};
 ghost use Rattle.sbpl_search.specs.Query.{query};
 ghost use Rattle.sbpl_search.specs.Ready.{AreReady};
 ghost use Rattle.sbpl_frontier_rules.specs.declared.event.Event.TheVariants.{Posted};
+ghost use Rattle.sbpl_frontier_rules.specs.Kept.{IsKept};
 ghost use Rattle.sbpl_frontier_rules.specs.Events.{IsFirst, IsIdle, IsPosting, MayOpen};
 ghost use Rattle.sbpl_frontier_core.specs.Answers.{IsFirstChoice, IsNextOpening, OpensTo};
 ghost use Rattle.sbpl_frontier_core.specs.Book.{IsReplay};
@@ -183,9 +184,8 @@ impl<'g, G: Graph, H: Guide, N: Pass> Core<'g, G, H, N> {
         ensures opened { OnErr result (OpensTo N.query self.old self.new) }
     {
         'openings: loop {
-            match self.take(seat)? {
-                Some(ticket) => return Ok(Next::Job(ticket)),
-                None => {}
+            if let Some(ticket) = self.take(seat)? {
+                return Ok(Next::Job(ticket));
             }
             match self.choose() {
                 Choice::Opens(s) => self.expand(s)?,
@@ -291,8 +291,8 @@ impl<'g, G: Graph, H: Guide, N: Pass> Core<'g, G, H, N> {
         }
     }
 
-    /// Applies the judgement of an arc that is out: where the arc is free and the way over it is cheaper, the label of its head is
-    /// lowered. It takes no memory.
+    /// Applies the judgement of an arc that is out: where the arc is free and the way over it is cheaper, the label of its head,
+    /// which is not the start, is lowered. It takes no memory.
     pub fn apply(&mut self, judged: Judged<N>)
         requires out { Contains self.old.frontier.out
             (record { ticket = judged.number; state = judged.state; arc = judged.arc }) }
@@ -326,20 +326,25 @@ impl<'g, G: Graph, H: Guide, N: Pass> Core<'g, G, H, N> {
         });
     }
 
-    /// The events of the pass in order, where they are kept.
+    /// The events of the pass in order, where they are kept. They lead to the frontier as it is, which is kept whatever results
+    /// are missing.
     pub fn journal(&self) -> Option<&[Event]>
         ensures value { IfSome result (λ events. events.now ≡ self.now.journal) }
         ensures some { IsSome result ↔ IsTrue N.keeps }
         ensures replay { IsReplay N.query N.opening N.counts self.now.journal self.now.frontier }
+        ensures kept { IsKept N.query self.now.frontier }
     {
+        events_keep();
         self.journal.events()
     }
 
-    /// How many arcs are out.
+    /// How many arcs are out of a frontier that is kept, whatever results are missing.
     pub fn out(&self) -> u64
         ensures value { result ≡ length self.now.frontier.out }
         ensures replay { IsReplay N.query N.opening N.counts self.now.journal self.now.frontier }
+        ensures kept { IsKept N.query self.now.frontier }
     {
+        events_keep();
         self.out.len() as u64
     }
 

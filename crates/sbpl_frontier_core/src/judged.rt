@@ -23,6 +23,7 @@ pub fn judge<G: Graph, N: Pass>(ticket: Ticket<N>, graph: &G) -> Judged<N>
     ensures number { result.number ≡ ticket.number }
     ensures state { result.state ≡ ticket.state }
     ensures arc { result.arc ≡ ticket.arc }
+    ensures judged { result.cost ≡ N.query.network.cost ticket.state ticket.arc }
 {
     let Ticket {
         number,

@@ -6,10 +6,10 @@ use crate::{Pass, Ticket};
 pub enum Next<N: Pass> {
     /// An arc to judge.
     Job(Ticket<N>),
-    /// No arc is ready, and nothing may be opened until a judgement comes back.
+    /// No arc is ready and one is out, and the budget is spent or none of the 64 least open states is independent.
     NotYet,
-    /// The pass is at rest: no open key is below the goal's.
+    /// The pass is at rest: no arc is ready or out, and no open key is below the goal's.
     Over,
-    /// The budget is spent, and an open key is below the goal's.
+    /// No arc is ready or out, the budget is spent, and an open key is below the goal's.
     Spent,
 }

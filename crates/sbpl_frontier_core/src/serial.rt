@@ -7,6 +7,7 @@ ghost use Rattle.sbpl_frontier_core.specs.Passes.{IsPassFinished, IsPassGivenUp}
 ghost use Rattle.sbpl_frontier_core.specs.Waiting.{HoldsOver};
 
 use crate::{Core, Journal, Next, Parts, Pass, Space, judge};
+use sbpl_fixed::NoMemory;
 use sbpl_frontier_rules::events_keep;
 use sbpl_graph::{Graph, Guide};
 use sbpl_labels::{Budget, Labels, PassEnd};
@@ -117,7 +118,7 @@ fn serial_pass_as<N: Pass, G: Graph, H: Guide>(
                 return Ok((parts, journal, PassEnd::Spent));
             }
             Ok(Next::NotYet) => unreachable!(),
-            Err(_) => return Err(core.give_up()),
+            Err(NoMemory) => return Err(core.give_up()),
         }
     }
 }

@@ -11,6 +11,7 @@ ghost use Rattle.sbpl_serial.specs.Queue.{AreQueued};
 ghost use Rattle.sbpl_serial.specs.Run.{IsOver, key_at, none_closed};
 ghost use Rattle.sbpl_frontier_core.specs.Waiting.{AreFilled, HoldsOver, Waits};
 
+use crate::clear::MOST_TRIED;
 use crate::low::low_among;
 use sbpl_fixed::NoMemory;
 use sbpl_graph::Guide;
@@ -19,9 +20,6 @@ use sbpl_open::{Entry, Key, Open};
 use sbpl_serial::Closed;
 use std::alloc::Global;
 use std::marker::Model;
-
-/// How many open states are looked at for one that may be opened.
-const MOST: usize = 64;
 
 /// What a pass needs besides labels and a budget: marks of the states that it opens, a queue, room to put entries of the queue
 /// aside, and a list of the states that it expands. Between two passes the queue and the list hold the states that may be open, so
@@ -57,7 +55,7 @@ impl Space {
     {
         let opened = Closed::open(alloc, states)?;
         let queue = Open::new(alloc, states)?;
-        let aside = Vec::with_capacity(alloc, MOST)?;
+        let aside = Vec::with_capacity(alloc, MOST_TRIED)?;
         Ok(Space {
             opened,
             queue,

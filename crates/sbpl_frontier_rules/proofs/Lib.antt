@@ -11,3 +11,4 @@ pub mod SettledAtOne
 pub mod Recounting
 pub mod Marking
 pub mod Starting
+pub mod Showing

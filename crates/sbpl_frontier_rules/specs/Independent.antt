@@ -6,12 +6,13 @@ use Rattle.sbpl_search.specs.Query.{Query}
 use Rattle.sbpl_serial.specs.Run.{IsOpen, key_at}
 use Rattle.sbpl_frontier_rules.specs.Frontier.{Frontier, IsBusy, is_opened}
 
--- no way over p can still lower g of s below what the inflation allows: g of s is not above that of p, or above it by no more than
--- the inflation times the gap from p to s
+-- s is clear of p: g of s is not above that of p, or above it by no more than the inflation times the gap from p to s. Then
+-- whatever path to s over p is still found, g of s is at most the inflation times its cost already
 abbrev pub IsClearOf : Query → Marks → (s p : ℕ) → Type 0
 IsClearOf q m s p = (g_of m s ≤ g_of m p) ⊎ (1000 * (g_of m s - g_of m p) ≤ q.eps * q.network.gap p s)
 
--- a state is open in a frontier
+-- a state is open in a frontier. Where no state is underconsistent, as in every frontier that is kept, these are the
+-- overconsistent states that this pass has not opened
 abbrev pub IsOpenIn : Frontier → ℕ → Type 0
 IsOpenIn f = IsOpen (is_opened f) f.labels
 

@@ -23,9 +23,10 @@ pub record AreBounded (q : Query) (f : Frontier) : Type 0 where
   pub near : (x : ℕ) → is_opened f x ≡ true → v_of f.labels x < FAR
   pub within : (x : ℕ) (arcs : List ℕ) (cost : ℕ) → is_opened f x ≡ true → IsFreePath q.network f.labels.start arcs x cost → 1000 * v_of f.labels x ≤ q.eps * cost
 
--- The labels are those of a search from the start, in which no state is underconsistent: over each free arc that is not due the
--- head has its due, and each finite label has a back arc that supports it. Opened states are bounded. Each due arc is of an opened
--- state, and is due once; tickets that are out differ, and are below the next one. The labels fit the run's count of expansions.
+-- The labels are those of a search from the start, in which no state is underconsistent: over each free arc that is neither ready
+-- nor out g of the head is at most v of the source and the cost, and each finite label has a back arc that supports it. Opened
+-- states are bounded. Each arc that is ready or out is of an opened state, and is so once; tickets that are out differ, and are
+-- below the next one. The labels fit the run's count of expansions.
 pub record IsKept (q : Query) (f : Frontier) : Type 0 where
   pub states : states_of f.labels ≡ q.network.states
   pub marks : length f.opened ≡ q.network.states

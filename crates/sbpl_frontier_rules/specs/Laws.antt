@@ -1,6 +1,7 @@
 -- What every list of events keeps.
 use Rattle.std.specs.Prelude.{◌≡◌, ℕ, ◌+◌, ◌<◌, ◌≤◌, true, List}
-use Rattle.sbpl_graph.specs.Certificate.{AreSupported}
+use Rattle.sbpl_graph.specs.Bound.{IsLow}
+use Rattle.sbpl_graph.specs.Certificate.{AreSupported, ShowBound}
 use Rattle.sbpl_graph.specs.Exact.{AreExact}
 use Rattle.sbpl_graph.specs.Laws.{HasGaps, IsConsistent, IsSound}
 use Rattle.sbpl_labels.specs.Counts.{AreCounts, Counts}
@@ -34,10 +35,16 @@ FirstIsKept = (q : Query) (m : Marks) (counts : Counts) (f : Frontier) → MayBe
 abbrev pub EventsKeep : Type 0
 EventsKeep = (q : Query) (events : List Event) (old new : Frontier) → IsLawful q → AreEvents q events old new → IsKept q old → IsKept q new
 
--- labels of a kept frontier with no arc ready or out are exact, and support a bound
+-- labels of a kept frontier with no arc ready or out are exact: where v of a state is finite, each of its free arcs has given its
+-- head its due
 abbrev pub IdleIsExact : Type 0
 IdleIsExact = (q : Query) (f : Frontier) → IsKept q f → IsIdle f
     → AreExact q.network f.labels.start (g_of f.labels) (v_of f.labels) (back_of f.labels) × AreSupported q.network f.labels.start (g_of f.labels) (v_of f.labels)
+
+-- so with their low they show it as a bound of every path
+abbrev pub IdleShows : Type 0
+IdleShows = (q : Query) (f : Frontier) (low : ℕ) → IsLawful q → IsKept q f → IsIdle f → IsLow (states_of f.labels) q.goal (g_of f.labels) (v_of f.labels) q.guide low
+    → ShowBound q.network f.labels.start q.goal (g_of f.labels) (v_of f.labels) q.guide low
 
 -- with inflation one, v = g of each opened state
 abbrev pub SettledAtOne : Type 0

@@ -1,6 +1,7 @@
 use Rattle.sbpl_frontier_rules.proofs.First.{first_kept, idle_is_exact}
 use Rattle.sbpl_frontier_rules.proofs.Once.{each_opens_once}
 use Rattle.sbpl_frontier_rules.proofs.Replaying.{events_kept}
+use Rattle.sbpl_frontier_rules.proofs.Showing.{idle_shows}
 use Rattle.sbpl_frontier_rules.proofs.Marking.{opened_by_events}
 use Rattle.sbpl_frontier_rules.proofs.Recounting.{counts_are_free}
 use Rattle.sbpl_frontier_rules.proofs.SettledAtOne.{settled_at_one}
@@ -31,3 +32,6 @@ returns-clause-marked c = opened_by_events
 
 pub returns-clause-start : goal.returns-clause-start
 returns-clause-start c = start_stays_fresh
+
+pub returns-clause-shows : goal.returns-clause-shows
+returns-clause-shows c = idle_shows
