@@ -23,7 +23,7 @@ use std::mem;
 /// applied one after another. Its labels are never underconsistent between passes, and initial again after a change of the graph.
 #[derive(Drop)]
 pub struct Epase {
-    /// The labels, and the memory of a pass. They are away only while a pass has them.
+    /// The labels, and the memory of a pass: `None` only within a pass.
     labels: Option<Labels>,
     space: Option<Space>,
     goal: u32,
@@ -91,6 +91,9 @@ impl Epase {
         let _start = labels.start();
         let before = budget.used();
         let space = self.space.take().unwrap();
+        // The events of the pass before are let go before those of this one take memory.
+        self.journal = Journal::open(alloc, false);
+        self.expanded = 0;
         let taken = mem::replace(budget, Budget::new(1));
         let parts = Parts {
             labels,
@@ -149,7 +152,7 @@ impl Epase {
         space.low(self.labels(), guide, self.goal)
     }
 
-    /// What the last pass did, in order, where it was kept.
+    /// What the last pass did, in order, where it was kept; nothing where it ran out of memory, and before the first.
     pub fn events(&self) -> &[Event]
         requires kept { self.now.kept ≡ true }
         ensures value { result.now ≡ self.now.notes }
@@ -157,7 +160,7 @@ impl Epase {
         self.journal.events().unwrap()
     }
 
-    /// How many states the last pass expanded.
+    /// How many states the last pass expanded; none where it ran out of memory, and before the first.
     pub fn expanded(&self) -> u64
         ensures value { result ≡ openings self.now.notes }
     {
