@@ -22,8 +22,9 @@ ask_of search outputs = record { first = search.first; step = search.step; bound
 -- the passes of a planner are determined by the labels from which they begin: those of a serial search are, and those of one
 -- with workers are not
 abbrev pub is_determined : Planner → Bool
+is_determined planner.Ara = true
+is_determined planner.AdStar = true
 is_determined planner.Epase = false
-is_determined _ = true
 
 -- a planner as the program knows it: what its passes note, what its calls mean, and how a note is told in a trace
 pub record Known : Type 1 where

@@ -183,7 +183,7 @@ fn opened(alloc: Global, search: &Epase) -> Result<Vec<u32>, AllocError>
     Ok(states)
 }
 
-/// With one worker each arc is evaluated before the next state is opened, so a pass by events expands what ARA* does.
+/// With one worker each arc is evaluated before the next state is opened: here a pass by events expands what ARA* does.
 #[test]
 fn falling_inflation_by_events(rt: HostRuntime) -> Result<(), Fail> {
     let graph = detour();

@@ -86,6 +86,9 @@ plan e m --workers 1
 plan e m --planner ara --workers=1
 plan e m --planner epase --workers 2
 plan e m --planner epase --workers 0
+plan e m --planner epase --workers=1.0
+plan e m --planner epase --workers 1 --workers 1
+check e m l --workers 1
 plan e m --planner epase --changes c
 plan e m --planner=ARA
 plan e m --labels e

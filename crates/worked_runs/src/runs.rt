@@ -254,7 +254,7 @@ const SPENT: &str = "plan 0\npass 1.000 expanded 1 none\nspent 1\nunknown\ndone\
 /// Passes of falling inflation, and budgets.
 #[test]
 fn passes(rt: HostRuntime) -> Result<(), Fail> {
-    let rows: [(&[&str], &str); 7] = [
+    let rows: [(&[&str], &str); 9] = [
         (
             &[
                 "plan", "e", "m", "--first", "3.000", "--step", "0.500", "--bound", "1.000",
@@ -282,6 +282,14 @@ fn passes(rt: HostRuntime) -> Result<(), Fail> {
         (
             &["plan", "e", "m", "--planner=epase", "--workers=1"],
             AROUND,
+        ),
+        (
+            &["plan", "e", "m", "--planner=epase", "--first", "3"],
+            FALLING,
+        ),
+        (
+            &["plan", "e", "m", "--planner=epase", "--budget", "1"],
+            SPENT_PATH,
         ),
     ];
     for (words, report) in rows {
@@ -894,6 +902,23 @@ fn repaired_outputs(rt: HostRuntime) -> Result<(), Fail> {
         labels.as_slice(),
         &check,
         THREE_HOLD,
+    )
+}
+
+/// The labels that a plan by events leaves hold on its map.
+#[test]
+fn labels_by_events(rt: HostRuntime) -> Result<(), Fail> {
+    let files = [("e", E2), ("m", F2)];
+    let words = ["plan", "e", "m", "--planner=epase", "--labels=l"];
+    let check = ["check", "e", "m", "l"];
+    let labels = labels_of(&rt, rt.alloc(), &files, &words)?;
+    compare_held(
+        &rt,
+        rt.alloc(),
+        &files,
+        labels.as_slice(),
+        &check,
+        "plan 0 path holds\ndone\n",
     )
 }
 
