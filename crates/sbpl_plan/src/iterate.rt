@@ -65,9 +65,11 @@ pub(crate) fn iterate<G: Graph, H: Guide, S: Search<G, H>>(
     requires fresh { IsStartFresh (S.state search.old).labels }
     requires empty { arcs.old.items ≡ [] }
     requires room { states_of (S.state search.old).labels ≤ vec_capacity arcs.old }
+    requires serves { S.serves search.old }
     ensures iteration { IfOk result (λ r. IsIteration S.meaning (inquiry_of (G.network graph.now) (H.distance guide.now) goal ask.now) eps (S.state search.old) (S.state search.new) budget.old budget.new arcs.new.items r.1 r.0) }
     ensures memory { OnErr result (RunsOutOfMemory S.meaning (inquiry_of (G.network graph.now) (H.distance guide.now) goal ask.now) eps (S.state search.old) (S.state search.new) budget.old budget.new) }
     ensures room { vec_capacity arcs.new ≡ vec_capacity arcs.old }
+    ensures serves { S.serves search.new }
 {
     let end = search.pass(alloc, graph, guide, eps, ask.traced, budget)?;
     let spent = is_spent(end);

@@ -37,8 +37,10 @@ pub fn plan<G: Graph, H: Guide, S: Search<G, H>>(
     requires asked { IsAsk ask.now }
     requires ready { S.meaning.ready (G.network graph.now) (S.state search.old).labels budget.old.run }
     requires fresh { IsStartFresh (S.state search.old).labels }
+    requires serves { S.serves search.old }
     ensures planned { IfOk result (IsPlanned S.meaning (inquiry_of (G.network graph.now) (H.distance guide.now) goal ask.now) (S.state search.old) (S.state search.new) budget.old budget.new) }
     ensures memory { OnErr result (RunsOutOfMemory S.meaning (inquiry_of (G.network graph.now) (H.distance guide.now) goal ask.now) ask.now.first (S.state search.old) (S.state search.new) budget.old budget.new) }
+    ensures serves { S.serves search.new }
 {
     bound_holds();
     none_holds();

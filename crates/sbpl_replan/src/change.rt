@@ -39,6 +39,7 @@ pub(crate) fn change<S: Search<Lattice, Best>>(
     ensures start { OnOk result ((S.state search.new).labels.start ≡ (S.state search.old).labels.start) }
     ensures same_goal { OnOk result ((S.state search.new).goal ≡ (S.state search.old).goal) }
     ensures unchanged { OnErr result (search.new ≡ search.old) }
+    ensures serves { S.serves search.old → S.serves search.new }
 {
     exact_where_same();
     if search.repairs() {

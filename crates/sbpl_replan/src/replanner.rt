@@ -41,6 +41,9 @@ impl<S: Search<Lattice, Best> + Drop> Model for Replanner<S> {
     ghost Value = { Replanning S.Note };
 
     ghost view = { λ r. record { search = S.state r.search; goal = r.goal; guide = r.guide; counts = r.budget } };
+
+    // What the search asks of its value for its passes.
+    ghost invariant = { λ r. S.serves r.search };
 }
 
 impl<S: Search<Lattice, Best> + Drop> Replanner<S> {
@@ -57,6 +60,7 @@ impl<S: Search<Lattice, Best> + Drop> Replanner<S> {
         requires to_goal { (S.state search).goal ≡ goal }
         requires labels { S.meaning.ready (network_of lattice.now) (S.state search).labels 0 }
         requires fresh { IsStartFresh (S.state search).labels }
+        requires serves { S.serves search }
         requires some { 1 ≤ budget }
         requires few { budget ≤ 2 ^ 30 }
         ensures ready { IfOk result (IsReadyIn S.meaning lattice.now) }

@@ -1,6 +1,6 @@
 //! A search that makes passes.
 
-ghost use Rattle.std.specs.Prelude.{◌≡◌, ◌≢◌, ℕ, ◌+◌, ◌^◌, ◌<◌, ◌≤◌, true, IfOk, OnErr, OnOk};
+ghost use Rattle.std.specs.Prelude.{◌≡◌, ◌≢◌, ℕ, ◌+◌, ◌^◌, ◌<◌, ◌≤◌, ⊤, true, IfOk, OnErr, OnOk};
 ghost use Rattle.sbpl_graph.specs.Bound.{IsLow};
 ghost use Rattle.sbpl_graph.specs.Network.{Network};
 ghost use Rattle.sbpl_labels.specs.Marks.{AreLabels, Marks, states_of, g_of, v_of};
@@ -29,6 +29,9 @@ pub trait Search<G: Graph, H: Guide> {
     /// The labels, the goal, and what the last pass did.
     ghost state: { Self → State Self.Note };
 
+    /// What a pass asks of the planner's value, as that what it was given can be called.
+    ghost serves: { Self → Type 0 } = { λ _. ⊤ };
+
     /// A pass of this inflation, in thousandths, 1000 to 100000: it goes on until no open key is below the goal's, or until
     /// the budget is spent. What it does is kept where it is to be told. Where memory runs out, the planner's meaning says what
     /// is left.
@@ -45,9 +48,11 @@ pub trait Search<G: Graph, H: Guide> {
         requires eps_high { eps ≤ 100000 }
         requires guide { H.guides guide.now (G.network graph.now) (state self.old).goal }
         requires ready { meaning.ready (G.network graph.now) (state self.old).labels budget.old.run }
+        requires serves { serves self.old }
         ensures passed { IfOk result (IsPassed meaning (query (G.network graph.now) (H.distance guide.now) eps (state self.old).goal) (state self.old) (state self.new) budget.old budget.new) }
         ensures kept { traced ≡ true → OnOk result ((state self.new).kept ≡ true) }
-        ensures cut { OnErr result (meaning.cut (query (G.network graph.now) (H.distance guide.now) eps (state self.old).goal) (state self.old) (state self.new) budget.old budget.new) };
+        ensures cut { OnErr result (meaning.cut (query (G.network graph.now) (H.distance guide.now) eps (state self.old).goal) (state self.old) (state self.new) budget.old budget.new) }
+        ensures serves { serves self.new };
 
     /// Whether labels are repaired after a change of the graph, for which the touched states are wanted.
     fn repairs(&self) -> bool
@@ -63,7 +68,8 @@ pub trait Search<G: Graph, H: Guide> {
         ensures fresh { IsStartFresh (state self.old).labels → IsStartFresh (state self.new).labels }
         ensures start { (state self.new).labels.start ≡ (state self.old).labels.start }
         ensures states { states_of (state self.new).labels ≡ states_of (state self.old).labels }
-        ensures goal { (state self.new).goal ≡ (state self.old).goal };
+        ensures goal { (state self.new).goal ≡ (state self.old).goal }
+        ensures serves { serves self.old → serves self.new };
 
     /// The labels.
     fn labels(&self) -> &Labels

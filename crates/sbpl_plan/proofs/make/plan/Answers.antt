@@ -47,4 +47,5 @@ loop-passes-preserved g c =
       low = omega arith;
       high = omega arith;
       room = rw (c.iterate.ensures.room) (let r = c.loop-passes.invariant.room in let k = c.clear.ensures.capacity in omega arith);
+      serves = c.iterate.ensures.serves;
     }

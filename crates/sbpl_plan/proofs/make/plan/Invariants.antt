@@ -10,6 +10,7 @@ invariant-loop-passes g l = record {
   low : 1000 ≤ l.eps;
   high : l.eps ≤ 100000;
   room : states_of (g.S.Search.state l.fn.search).labels ≤ vec_capacity l.arcs;
+  serves : g.S.Search.serves l.search;
 }
 
 abbrev pub decreases-loop-passes : goal.decreases-loop-passes
