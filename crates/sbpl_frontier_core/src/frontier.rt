@@ -1,11 +1,12 @@
 //! The core of a parallel pass.
 
-ghost use Rattle.std.specs.Prelude.{◌≡◌, ◌<◌, ◌≤◌, ◌↔◌, ◌++◌, [], ◌∷◌, IfErr, IfOk, IfSome, IsSome, IsTrue, OnErr, OnOk, length};
+ghost use Rattle.std.specs.Prelude.{◌≡◌, ◌+◌, ◌<◌, ◌≤◌, ◌↔◌, ◌++◌, [], ◌∷◌, IfErr, IfOk, IfSome, IsSome, IsTrue, OnErr, OnOk, length};
 ghost use Rattle.std.specs.List.{Contains};
 ghost use Rattle.sbpl_labels.specs.Marks.{states_of};
 ghost use Rattle.sbpl_search.specs.Query.{query};
 ghost use Rattle.sbpl_search.specs.Ready.{AreReady};
 ghost use Rattle.sbpl_frontier_rules.specs.declared.event.Event.TheVariants.{Posted};
+ghost use Rattle.sbpl_frontier_rules.specs.Journal.{posts_in, takes_in};
 ghost use Rattle.sbpl_frontier_rules.specs.Kept.{IsKept};
 ghost use Rattle.sbpl_frontier_rules.specs.Events.{IsFirst, IsIdle, IsPosting, MayOpen};
 ghost use Rattle.sbpl_frontier_core.specs.Answers.{IsFirstChoice, IsNextOpening, OpensTo};
@@ -19,7 +20,7 @@ use crate::choice::Choice;
 use crate::clear::{find_clear, key_of_goal, least_below};
 use crate::cursor::first_head;
 use crate::posting::{lower_head, take_back};
-use crate::{Event, Journal, Judged, Leg, Next, Parts, Pass, Space, Ticket};
+use crate::{Event, JournalOf, Judged, Leg, Next, Parts, Pass, Past, Seen, Space, Ticket, Unseen};
 use sbpl_fixed::NoMemory;
 use sbpl_frontier_rules::events_keep;
 use sbpl_graph::{Graph, Guide};
@@ -28,11 +29,15 @@ use sbpl_open::{Entry, Open};
 use sbpl_serial::{Closed, requeue};
 use std::alloc::Global;
 use std::marker::{Model, PhantomData};
+use std::snapshot::Snapshot;
 
 /// The frontier of one pass: labels, the states that are opened, the arcs that are ready and those that are out. It hands out arcs
 /// and applies their judgements, and opens states on the way. (ePA*SE, Mukherjee, Aine and Likhachev 2022.)
+pub type Core<'g, G, H, N> = CoreOf<'g, G, H, N, Unseen>;
+
+/// The same over whatever stands for events that no memory holds.
 #[derive(Drop)]
-pub struct Core<'g, G: Graph, H: Guide, N: Pass> {
+pub struct CoreOf<'g, G: Graph, H: Guide, N: Pass, U: Past> {
     graph: &'g G,
     guide: &'g H,
     goal: u32,
@@ -47,11 +52,11 @@ pub struct Core<'g, G: Graph, H: Guide, N: Pass> {
     out: Vec<Leg>,
     next: u64,
     budget: Budget,
-    journal: Journal,
+    journal: JournalOf<U>,
     of: PhantomData<N>,
 }
 
-impl<'g, G: Graph, H: Guide, N: Pass> Model for Core<'g, G, H, N> {
+impl<'g, G: Graph, H: Guide, N: Pass, U: Past> Model for CoreOf<'g, G, H, N, U> {
     ghost use Rattle.std.specs.Prelude.{◌≡◌, vec_capacity};
     ghost use Rattle.sbpl_frontier_core.specs.Book.{Book, frontier_of};
     ghost use Rattle.sbpl_frontier_core.specs.Together.{AreCoreParts};
@@ -70,7 +75,7 @@ impl<'g, G: Graph, H: Guide, N: Pass> Model for Core<'g, G, H, N> {
         a.journal a.queue a.expanded.items a.state (record { entries = a.aside.items; size = vec_capacity a.aside }) };
 }
 
-impl<'g, G: Graph, H: Guide, N: Pass> Core<'g, G, H, N> {
+impl<'g, G: Graph, H: Guide, N: Pass, U: Past> CoreOf<'g, G, H, N, U> {
     /// The core of a pass of this inflation, in thousandths, from these labels, which are exact and none of which is
     /// underconsistent. The one error is that memory ran out, and then the labels and the budget come back.
     pub fn open(
@@ -82,7 +87,7 @@ impl<'g, G: Graph, H: Guide, N: Pass> Core<'g, G, H, N> {
         eps: u32,
         budget: Budget,
         keeps: bool,
-    ) -> Result<Core<'g, G, H, N>, (Labels, Budget)>
+    ) -> Result<CoreOf<'g, G, H, N, U>, (Labels, Budget)>
         requires query { query (G.network graph.now) (H.distance guide.now) eps goal ≡ N.query }
         requires guide { H.guides guide.now (G.network graph.now) goal }
         requires eps_low { 1000 ≤ eps }
@@ -105,7 +110,7 @@ impl<'g, G: Graph, H: Guide, N: Pass> Core<'g, G, H, N> {
             budget,
             space,
         };
-        match Core::open_parts(alloc, graph, guide, parts, goal, eps, keeps) {
+        match CoreOf::open_parts(alloc, graph, guide, parts, goal, eps, keeps) {
             Ok(core) => Ok(core),
             Err(parts) => Err((parts.labels, parts.budget)),
         }
@@ -120,7 +125,7 @@ impl<'g, G: Graph, H: Guide, N: Pass> Core<'g, G, H, N> {
         goal: u32,
         eps: u32,
         keeps: bool,
-    ) -> Result<Core<'g, G, H, N>, Parts>
+    ) -> Result<CoreOf<'g, G, H, N, U>, Parts>
         requires query { query (G.network graph.now) (H.distance guide.now) eps goal ≡ N.query }
         requires guide { H.guides guide.now (G.network graph.now) goal }
         requires eps_low { 1000 ≤ eps }
@@ -156,7 +161,7 @@ impl<'g, G: Graph, H: Guide, N: Pass> Core<'g, G, H, N> {
             aside,
             expanded,
         } = space;
-        Ok(Core {
+        Ok(CoreOf {
             graph,
             guide,
             goal,
@@ -171,7 +176,7 @@ impl<'g, G: Graph, H: Guide, N: Pass> Core<'g, G, H, N> {
             out: Vec::new(alloc),
             next: 0,
             budget,
-            journal: Journal::open(alloc, keeps),
+            journal: JournalOf::open(alloc, keeps),
             of: PhantomData,
         })
     }
@@ -338,6 +343,19 @@ impl<'g, G: Graph, H: Guide, N: Pass> Core<'g, G, H, N> {
         self.journal.events()
     }
 
+    /// The journal as it is, for contracts alone. Each arc that was handed out is out, or has its judgement in the journal.
+    pub fn seen(&self) -> Seen<N, U>
+        ensures value { result ≡ self.now.journal }
+        ensures replay { IsReplay N.query N.opening N.counts self.now.journal self.now.frontier }
+        ensures back { posts_in self.now.journal + length self.now.frontier.out ≡ takes_in self.now.journal }
+    {
+        events_keep();
+        Seen {
+            journal: Snapshot::of(&self.journal),
+            of: PhantomData,
+        }
+    }
+
     /// How many arcs are out of a frontier that is kept, whatever results are missing.
     pub fn out(&self) -> u64
         ensures value { result ≡ length self.now.frontier.out }
@@ -349,7 +367,7 @@ impl<'g, G: Graph, H: Guide, N: Pass> Core<'g, G, H, N> {
     }
 
     /// The labels, the budget and the journal of a pass in which no arc is ready and none is out. Another pass may begin with them.
-    pub fn finish(self) -> (Labels, Budget, Journal)
+    pub fn finish(self) -> (Labels, Budget, JournalOf<U>)
         requires idle { IsIdle self.frontier }
         ensures finished { IsFinished N.query N.opening N.counts N.keeps self.entry result.0 result.1 result.2 }
     {
@@ -358,13 +376,13 @@ impl<'g, G: Graph, H: Guide, N: Pass> Core<'g, G, H, N> {
     }
 
     /// The same with the memory of the pass, which holds the states that may be open.
-    pub fn finish_parts(self) -> (Parts, Journal)
+    pub fn finish_parts(self) -> (Parts, JournalOf<U>)
         requires idle { IsIdle self.frontier }
         ensures finished { IsFinished N.query N.opening N.counts N.keeps self.entry result.0.labels result.0.budget result.1 }
         ensures over { HoldsOver result.0.space result.0.labels }
     {
         events_keep();
-        let Core {
+        let CoreOf {
             labels,
             opened,
             queue,
@@ -394,7 +412,7 @@ impl<'g, G: Graph, H: Guide, N: Pass> Core<'g, G, H, N> {
         ensures over { HoldsOver result.space result.labels }
     {
         events_keep();
-        let Core {
+        let CoreOf {
             labels,
             opened,
             queue,

@@ -2,37 +2,40 @@
 
 ghost use Rattle.std.specs.Prelude.{◌≡◌, ◌+◌, ◌<◌, ◌≤◌, ◌↔◌, [], ◌∷◌, ◌++◌, IfSome, IsSome, IsTrue, OnOk};
 
-use crate::unseen::Unseen;
+use crate::{Past, Unseen};
 use sbpl_fixed::NoMemory;
 use sbpl_frontier_rules::Event;
 use std::alloc::Global;
 use std::marker::Model;
 
 /// The events of a pass in order. A journal is kept in memory, or contracts alone see it.
+pub type Journal = JournalOf<Unseen>;
+
+/// The same over whatever stands for events that no memory holds.
 #[derive(Drop)]
-pub struct Journal {
-    form: Form,
+pub struct JournalOf<U: Past> {
+    form: Form<U>,
 }
 
 #[derive(Drop)]
-enum Form {
+enum Form<U> {
     Kept(Vec<Event>),
-    Seen(Option<Unseen>),
+    Seen(Option<U>),
 }
 
-impl Model for Journal {
+impl<U: Past> Model for JournalOf<U> {
     ghost use Rattle.sbpl_frontier_core.specs.Log.{Log};
 
     ghost Value = { Log };
 
     ghost use Rattle.sbpl_frontier_core.specs.Logs.{log_of};
 
-    ghost view = { λ a. log_of a.form };
+    ghost view = { λ a. log_of U.items a.form };
 }
 
-impl Journal {
+impl<U: Past> JournalOf<U> {
     /// An empty journal, which is kept or not.
-    pub fn open(alloc: Global, keeps: bool) -> Journal
+    pub fn open(alloc: Global, keeps: bool) -> JournalOf<U>
         ensures empty { result.events ≡ [] }
         ensures keeps { result.keeps ≡ keeps }
     {
@@ -41,7 +44,7 @@ impl Journal {
         } else {
             Form::Seen(None)
         };
-        Journal { form }
+        JournalOf { form }
     }
 
     /// Makes room for this many further events. The one error is that memory ran out, and then nothing changes that contracts see.
@@ -69,7 +72,7 @@ impl Journal {
             Form::Seen(seen) => {
                 let longer = match seen.take() {
                     Some(earlier) => earlier.then(event),
-                    None => Unseen::first(event),
+                    None => U::first(event),
                 };
                 *seen = Some(longer);
             }

@@ -22,4 +22,18 @@ impl<N: Pass> Ticket<N> {
     {
         self.number
     }
+
+    /// The state that its arc leaves.
+    pub fn state(&self) -> u32
+        ensures value { result ≡ self.now.state }
+    {
+        self.state
+    }
+
+    /// The number of its arc there.
+    pub fn arc(&self) -> u32
+        ensures value { result ≡ self.now.arc }
+    {
+        self.arc
+    }
 }

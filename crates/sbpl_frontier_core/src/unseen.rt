@@ -1,14 +1,13 @@
 //! Events that contracts alone see.
 
-ghost use Rattle.std.specs.Prelude.{◌≡◌, [], ◌∷◌, ◌++◌};
-
+use crate::Past;
 use sbpl_frontier_rules::Event;
 use std::marker::Model;
 use std::snapshot::Snapshot;
 
 /// A list of events that has at least one. It takes one byte, however long it is: no program can read it.
 #[derive(Drop)]
-pub(crate) struct Unseen {
+pub struct Unseen {
     before: Option<Snapshot<Unseen>>,
     last: Snapshot<Event>,
 }
@@ -29,21 +28,17 @@ impl Model for Unseen {
     ghost size_decreases = { λ a h. Prim.grind (arith, length-append) };
 }
 
-impl Unseen {
-    /// This event alone.
-    pub(crate) fn first(event: Event) -> Unseen
-        ensures listed { result ≡ event ∷ [] }
-    {
+impl Past for Unseen {
+    ghost items = { λ a. a };
+
+    fn first(event: Event) -> Unseen {
         Unseen {
             before: None,
             last: Snapshot::of(&event),
         }
     }
 
-    /// These events, and this one after them.
-    pub(crate) fn then(self, event: Event) -> Unseen
-        ensures listed { result ≡ self ++ event ∷ [] }
-    {
+    fn then(self, event: Event) -> Unseen {
         Unseen {
             before: Some(Snapshot::of(&self)),
             last: Snapshot::of(&event),

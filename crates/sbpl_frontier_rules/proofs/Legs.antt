@@ -1,5 +1,5 @@
 -- Taking one ticket from those that are out.
-use Rattle.std.proofs.Common.{◌≡◌, ◌≢◌, ℕ, zero, suc, ◌+◌, ◌≤◌, true, false, nat_eq, List, [], ◌∷◌, arith, sym, refl, ap, ◌∙◌}
+use Rattle.std.proofs.Common.{◌≡◌, ◌≢◌, ℕ, zero, suc, ◌+◌, ◌≤◌, true, false, nat_eq, List, [], ◌∷◌, length, arith, sym, refl, ap, ◌∙◌}
 use Rattle.std.specs.List.{AllPairs, Contains}
 use Rattle.std.proofs.lemmas.Bool.{eq-eqb, ne_eqb}
 use Rattle.sbpl_frontier_rules.specs.declared.leg.Leg.{Leg}
@@ -59,3 +59,21 @@ out_has (first ∷ rest) leg (zero, inside, at) =
 out_has (first ∷ rest) leg (suc place, inside, at) =
     let inner : Contains rest leg = (place, omega arith, at) in
     omega (arith, out_has rest leg inner)
+
+-- one arc less is out
+pub fewer_without : (legs : List Leg) (leg : Leg) → AllPairs Differ legs → Contains legs leg → length (without leg.ticket legs) + 1 ≡ length legs
+fewer_without [] leg differ (place, inside, at) = absurd (omega arith)
+fewer_without (first ∷ rest) leg differ (zero, inside, at) =
+    let same : first ≡ leg = at in
+    let test : nat_eq first.ticket leg.ticket ≡ true = eq-eqb first.ticket leg.ticket (ap (λ (l : Leg). l.ticket) same) in
+    let kept : without leg.ticket rest ≡ rest =
+    without_none leg.ticket rest
+    (λ other inner. let apart = differ_head first other rest differ inner in λ e. apart (ap (λ (l : Leg). l.ticket) same ∙ sym e))
+    in
+    rw (test, kept) (omega arith)
+fewer_without (first ∷ rest) leg differ (suc place, inside, at) =
+    let inner : Contains rest leg = (place, omega arith, at) in
+    let apart = differ_head first leg rest differ inner in
+    let test : nat_eq first.ticket leg.ticket ≡ false = ne_eqb first.ticket leg.ticket apart in
+    let fewer = fewer_without rest leg (differ_tail first rest differ) inner in
+    rw test (omega (arith, fewer))

@@ -12,3 +12,4 @@ pub mod Recounting
 pub mod Marking
 pub mod Starting
 pub mod Showing
+pub mod Returning

@@ -1,5 +1,4 @@
 -- What idle labels show.
-use Rattle.std.proofs.Common.{ℕ}
 use Rattle.sbpl_frontier_rules.specs.Laws.{IdleShows}
 use Rattle.sbpl_frontier_rules.proofs.First.{idle_is_exact}
 

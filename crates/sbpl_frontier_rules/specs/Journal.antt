@@ -1,7 +1,7 @@
 -- Counts over a list of events.
 use Rattle.std.specs.Prelude.{ℕ, ◌+◌, cond, nat_eq, List, [], ◌∷◌}
 use Rattle.sbpl_frontier_rules.specs.declared.event.Event.{Event}
-use Rattle.sbpl_frontier_rules.specs.declared.event.Event.TheVariants.{Opened}
+use Rattle.sbpl_frontier_rules.specs.declared.event.Event.TheVariants.{Opened, Taken, Posted}
 
 -- how often an event opens this state
 abbrev pub opens : ℕ → Event → ℕ
@@ -22,3 +22,23 @@ is_opening _ = 0
 abbrev pub openings : List Event → ℕ
 openings [] = 0
 openings (e ∷ rest) = is_opening e + openings rest
+
+-- an event is the handing out of an arc, or not
+abbrev pub is_taking : Event → ℕ
+is_taking (Taken ticket seat state arc) = 1
+is_taking _ = 0
+
+-- how many arcs these events hand out
+abbrev pub takes_in : List Event → ℕ
+takes_in [] = 0
+takes_in (e ∷ rest) = is_taking e + takes_in rest
+
+-- an event is the return of a judgement, or not
+abbrev pub is_posting : Event → ℕ
+is_posting (Posted ticket cost) = 1
+is_posting _ = 0
+
+-- how many judgements these events bring back
+abbrev pub posts_in : List Event → ℕ
+posts_in [] = 0
+posts_in (e ∷ rest) = is_posting e + posts_in rest

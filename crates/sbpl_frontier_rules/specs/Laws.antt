@@ -1,5 +1,5 @@
 -- What every list of events keeps.
-use Rattle.std.specs.Prelude.{◌≡◌, ℕ, ◌+◌, ◌<◌, ◌≤◌, true, List}
+use Rattle.std.specs.Prelude.{◌≡◌, ℕ, ◌+◌, ◌<◌, ◌≤◌, true, List, length}
 use Rattle.sbpl_graph.specs.Bound.{IsLow}
 use Rattle.sbpl_graph.specs.Certificate.{AreSupported, ShowBound}
 use Rattle.sbpl_graph.specs.Exact.{AreExact}
@@ -11,7 +11,7 @@ use Rattle.sbpl_search.specs.Ready.{AreReady}
 use Rattle.sbpl_frontier_rules.specs.declared.event.Event.{Event}
 use Rattle.sbpl_frontier_rules.specs.Events.{AreEvents, IsFirst, IsIdle, IsOutOfBudget}
 use Rattle.sbpl_frontier_rules.specs.Frontier.{Frontier, is_opened}
-use Rattle.sbpl_frontier_rules.specs.Journal.{opened_times, openings}
+use Rattle.sbpl_frontier_rules.specs.Journal.{opened_times, openings, posts_in, takes_in}
 use Rattle.sbpl_frontier_rules.specs.Kept.{IsKept}
 
 -- the graph keeps its laws, the guide is consistent on it, and the inflation is at least one
@@ -64,3 +64,8 @@ pub record OpensOnce (q : Query) (m : Marks) (before : Counts) (events : List Ev
 abbrev pub EachOpensOnce : Type 0
 EachOpensOnce = (q : Query) (m : Marks) (before : Counts) (events : List Event) (old new : Frontier) → IsLawful q → MayBegin q m before
     → IsFirst m before old → AreEvents q events old new → OpensOnce q m before events new
+
+-- of the arcs that were handed out from the beginning of a pass, each is out, or its judgement came back
+abbrev pub TakesComeBack : Type 0
+TakesComeBack = (q : Query) (m : Marks) (before : Counts) (events : List Event) (old new : Frontier) → IsLawful q → MayBegin q m before
+    → IsFirst m before old → AreEvents q events old new → posts_in events + length new.out ≡ takes_in events

@@ -1,6 +1,7 @@
 use Rattle.sbpl_frontier_rules.proofs.First.{first_kept, idle_is_exact}
 use Rattle.sbpl_frontier_rules.proofs.Once.{each_opens_once}
 use Rattle.sbpl_frontier_rules.proofs.Replaying.{events_kept}
+use Rattle.sbpl_frontier_rules.proofs.Returning.{takes_come_back}
 use Rattle.sbpl_frontier_rules.proofs.Showing.{idle_shows}
 use Rattle.sbpl_frontier_rules.proofs.Marking.{opened_by_events}
 use Rattle.sbpl_frontier_rules.proofs.Recounting.{counts_are_free}
@@ -35,3 +36,6 @@ returns-clause-start c = start_stays_fresh
 
 pub returns-clause-shows : goal.returns-clause-shows
 returns-clause-shows c = idle_shows
+
+pub returns-clause-back : goal.returns-clause-back
+returns-clause-back c = takes_come_back opening_bounded

@@ -3,7 +3,7 @@ use Rattle.std.proofs.lemmas.List.Elements.{Contains-push}
 use Rattle.sbpl_frontier_rules.specs.declared.leg.Leg.{Leg}
 use Rattle.sbpl_frontier_rules.specs.Frontier.{without}
 use Rattle.sbpl_frontier_core.proofs.Answering.{none_without, opens_keep}
-use Rattle.sbpl_frontier_core.proofs.serial.serial_pass_as.Goals as goal
+use Rattle.sbpl_frontier_core.proofs.serial.go_on.Goals as goal
 
 pub apply-requires : goal.apply-requires
 apply-requires g c =

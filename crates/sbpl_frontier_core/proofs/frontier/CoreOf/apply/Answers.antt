@@ -4,7 +4,7 @@ use Rattle.sbpl_graph.proofs.Fitting.{fit_more}
 use Rattle.sbpl_frontier_core.proofs.Parting.{head_lowered, parts_kept, parts_posted, posting_of}
 use Rattle.sbpl_frontier_core.proofs.Placing.{relaxed_unplaced}
 use Rattle.sbpl_frontier_core.proofs.Replaying.{opened_out}
-use Rattle.sbpl_frontier_core.proofs.frontier.Core.apply.Goals as goal
+use Rattle.sbpl_frontier_core.proofs.frontier.CoreOf.apply.Goals as goal
 
 pub lower_head-head-requires-clause-state : goal.lower_head-head-requires-clause-state
 lower_head-head-requires-clause-state g c =

@@ -1,5 +1,5 @@
 use Rattle.sbpl_frontier_core.proofs.Finishing.{finished, over_held}
-use Rattle.sbpl_frontier_core.proofs.frontier.Core.finish_parts.Goals as goal
+use Rattle.sbpl_frontier_core.proofs.frontier.CoreOf.finish_parts.Goals as goal
 
 pub returns : goal.returns
 returns g c =

@@ -1,5 +1,5 @@
 use Rattle.std.proofs.Common.{◌≡◌, ◌^◌, ◌-◌, []}
-use Rattle.sbpl_frontier_core.proofs.serial.serial_pass_as.Given as goal
+use Rattle.sbpl_frontier_core.proofs.serial.go_on.Given as goal
 
 abbrev pub invariant-arcs : goal.invariant-arcs
 invariant-arcs g l = l.core.frontier.out ≡ []

@@ -1,6 +1,6 @@
 use Rattle.std.proofs.Common.{◌^◌, ◌-◌}
 use Rattle.sbpl_frontier_core.specs.Answers.{OpensTo}
-use Rattle.sbpl_frontier_core.proofs.frontier.Core.next.Given as goal
+use Rattle.sbpl_frontier_core.proofs.frontier.CoreOf.next.Given as goal
 
 abbrev pub invariant-openings : goal.invariant-openings
 invariant-openings g l = OpensTo g.N.Pass.query l.fn.self l.self

@@ -1,6 +1,6 @@
 use Rattle.std.proofs.Common.{arith, ◌∙◌}
 use Rattle.sbpl_frontier_core.proofs.Parting.{fewer_tickets, parts_taken, taking}
-use Rattle.sbpl_frontier_core.proofs.frontier.Core.take.Goals as goal
+use Rattle.sbpl_frontier_core.proofs.frontier.CoreOf.take.Goals as goal
 
 pub invariant_of-self-2 : goal.invariant_of-self-2
 invariant_of-self-2 g c =

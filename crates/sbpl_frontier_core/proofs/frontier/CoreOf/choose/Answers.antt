@@ -10,8 +10,8 @@ use Rattle.sbpl_frontier_core.specs.Clear.{IsSearched}
 use Rattle.sbpl_frontier_core.proofs.Parting.{parts_kept}
 use Rattle.sbpl_frontier_core.proofs.Choosing.{chosen_from, over_from, spent_from, waits_at_rest, waits_from}
 use Rattle.sbpl_frontier_core.proofs.Replaying.{states_out}
-use Rattle.sbpl_frontier_core.proofs.frontier.Core.choose.Goals as goal
-use Rattle.sbpl_frontier_core.proofs.frontier.Core.choose.Goals.{else-idle, else-idle-2, in-None, in-Some, then-idle, then-idle-2}
+use Rattle.sbpl_frontier_core.proofs.frontier.CoreOf.choose.Goals as goal
+use Rattle.sbpl_frontier_core.proofs.frontier.CoreOf.choose.Goals.{else-idle, else-idle-2, in-None, in-Some, then-idle, then-idle-2}
 
 none_of : (o : Option ℕ) → is_some o ≡ false → o ≡ None
 none_of None is = refl

@@ -1,7 +1,7 @@
 use Rattle.std.proofs.Common.{arith, refl, ◌∙◌}
 use Rattle.sbpl_frontier_core.proofs.Parting.{opening_of, parts_opened}
 use Rattle.sbpl_frontier_core.proofs.Placing.{opened_unplaced}
-use Rattle.sbpl_frontier_core.proofs.frontier.Core.expand.Goals as goal
+use Rattle.sbpl_frontier_core.proofs.frontier.CoreOf.expand.Goals as goal
 
 pub requeue-requires-clause-unplaced : goal.requeue-requires-clause-unplaced
 requeue-requires-clause-unplaced g c =

@@ -1,5 +1,5 @@
 use Rattle.sbpl_frontier_core.proofs.Finishing.{given_up, over_held}
-use Rattle.sbpl_frontier_core.proofs.frontier.Core.give_up.Goals as goal
+use Rattle.sbpl_frontier_core.proofs.frontier.CoreOf.give_up.Goals as goal
 
 pub returns : goal.returns
 returns g c =

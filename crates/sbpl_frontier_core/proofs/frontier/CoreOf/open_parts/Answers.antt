@@ -5,7 +5,7 @@ use Rattle.sbpl_serial.specs.Marked.{closed_at}
 use Rattle.sbpl_serial.specs.Run.{none_closed}
 use Rattle.sbpl_frontier_core.proofs.Cursors.{none_from}
 use Rattle.sbpl_frontier_core.proofs.Parting.{parts_first}
-use Rattle.sbpl_frontier_core.proofs.frontier.Core.open_parts.Goals as goal
+use Rattle.sbpl_frontier_core.proofs.frontier.CoreOf.open_parts.Goals as goal
 
 pub invariant_of-result : goal.invariant_of-result
 invariant_of-result g c =

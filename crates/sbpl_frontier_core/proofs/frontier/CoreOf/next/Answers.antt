@@ -2,7 +2,7 @@ use Rattle.std.proofs.Common.{◌∙◌, subst}
 use Rattle.sbpl_frontier_core.specs.Answers.{IsNextOpening}
 use Rattle.sbpl_frontier_core.specs.Book.{Book}
 use Rattle.sbpl_frontier_core.proofs.Answering.{opens_more}
-use Rattle.sbpl_frontier_core.proofs.frontier.Core.next.Goals as goal
+use Rattle.sbpl_frontier_core.proofs.frontier.CoreOf.next.Goals as goal
 
 pub openings-preserved : goal.openings-preserved
 openings-preserved g c =
