@@ -1,0 +1,19 @@
+//! Claims on the tickets of a parallel search that are out: who keeps them learns from a claim that its ticket is out, of which
+//! state and which arc.
+#![tactic(auto)]
+
+mod claim;
+mod claims;
+mod keeper;
+mod known;
+mod making;
+mod naming;
+mod rule;
+mod steps;
+#[cfg(test)]
+mod tests;
+
+pub use claim::Claim;
+pub use claims::Claims;
+pub use keeper::Keeper;
+pub use naming::Naming;
