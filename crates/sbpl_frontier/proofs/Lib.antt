@@ -1,0 +1,2 @@
+pub mod Tying
+pub mod Summing

@@ -1,0 +1,3 @@
+pub mod Tally
+pub mod Tied
+pub mod Turns

@@ -1,0 +1,31 @@
+-- What a worker is told.
+use Rattle.std.specs.Prelude.{◌≡◌, ◌+◌, List, ⊤}
+use Rattle.sbpl_labels.specs.Counts.{Counts}
+use Rattle.sbpl_labels.specs.Marks.{Marks}
+use Rattle.sbpl_search.specs.Query.{Query}
+use Rattle.sbpl_frontier_rules.specs.declared.event.Event.{Event}
+use Rattle.sbpl_frontier_rules.specs.Events.{IsOutOfBudget, IsRest}
+use Rattle.sbpl_frontier_rules.specs.Frontier.{Frontier}
+use Rattle.sbpl_frontier_core.specs.declared.name.Pass.{Ghosts as PassGhosts}
+use Rattle.sbpl_frontier_core.specs.Answers.{IsWaiting}
+use Rattle.sbpl_frontier_core.specs.Book.{IsReplay}
+use Rattle.sbpl_frontier.specs.declared.turn.Turn.{Turn}
+use Rattle.sbpl_frontier.specs.declared.turn.Turn.TheVariants.{Job, NotYet, Over, Spent}
+use Rattle.sbpl_frontier.specs.Tally.{Tally}
+
+-- these events lead from the beginning of the pass to a frontier of this kind
+abbrev pub LeadsTo : Query → Marks → Counts → List Event → (Frontier → Type 0) → Type 0
+LeadsTo q opening counts events IsSo = (f : Frontier) × IsReplay q opening counts events f × IsSo f
+
+module _ {N : Type 0} {P : PassGhosts N} {U : Type 0} {M : Type 0} where
+  -- a job adds one to what the seat took, and its claim is on its ticket, of the same state and arc; else nothing changes
+  abbrev pub Gives : (old : Tally) → Turn N U M P → (new : Tally) → Type 0
+  Gives old (Job t claim) new = (claim ≡ record { ticket = t.number; state = t.state; arc = t.arc }) × (new ≡ record old { takes = old.takes + 1 })
+  Gives old _ new = new ≡ old
+
+  -- every other answer shows its cause: the journal leads to a frontier at which the core gives this answer
+  abbrev pub Shows : Query → Marks → Counts → Turn N U M P → Type 0
+  Shows q opening counts (Job t claim) = ⊤
+  Shows q opening counts (NotYet seen) = LeadsTo q opening counts seen (IsWaiting q)
+  Shows q opening counts (Over seen) = LeadsTo q opening counts seen (IsRest q)
+  Shows q opening counts (Spent seen) = LeadsTo q opening counts seen (IsOutOfBudget q)

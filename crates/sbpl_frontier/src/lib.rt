@@ -1,0 +1,18 @@
+//! The frontier of a parallel pass, shared by workers: they ask it for arcs behind one lock, judge them with no lock held, and bring
+//! the judgements back.
+#![tactic(auto)]
+
+mod bell;
+mod ledgers;
+mod locked;
+mod seat;
+mod second;
+mod shared;
+mod turn;
+
+pub use sbpl_claims::{Claim, Claims, Naming};
+pub use sbpl_frontier_core::{Seen, Ticket};
+pub use seat::Seat;
+pub use second::Second;
+pub use shared::Shared;
+pub use turn::Turn;
