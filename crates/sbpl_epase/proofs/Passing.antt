@@ -1,31 +1,30 @@
 -- What a pass by events promises of a planner.
-use Rattle.std.proofs.Common.{◌≡◌, ◌≢◌, ℕ, ◌+◌, ◌*◌, ◌^◌, ◌<◌, ◌≤◌, ◌⊎◌, Bool, true, false, nat_lt, Option, Some, None, List, [], ◌∷◌, length, arith, ⊎_elim, inl, inr, refl, sym, ap, subst, ◌∙◌}
-use Rattle.std.proofs.lemmas.Bool.{cases_Bool, cases_eq, cases_lt, false≢true}
+use Rattle.std.proofs.Common.{◌≡◌, ◌≢◌, ℕ, ◌+◌, ◌*◌, ◌^◌, ◌<◌, ◌≤◌, Bool, true, false, nat_lt, List, arith, ⊎_elim, inl, inr, refl, sym, ap, subst, ◌∙◌}
+use Rattle.std.proofs.lemmas.Bool.{cases_Bool, cases_eq, cases_lt}
 use Rattle.std.proofs.lemmas.Bool.Decides.{nat_tests}
 use Rattle.std.proofs.lemmas.List.{get_or_past}
 use Rattle.sbpl_graph.specs.declared.TheConstants.{FAR}
 use Rattle.sbpl_graph.specs.Exact.{AreExact}
-use Rattle.sbpl_graph.specs.Certificate.{AreSupported, IsLabel, ShowBound, ShowNone}
-use Rattle.sbpl_labels.specs.Chain.{chain_at}
-use Rattle.sbpl_labels.specs.Counts.{AreCounts, Counts, IsSpent}
-use Rattle.sbpl_labels.specs.Marks.{Marks, no_row, states_of, g_of, v_of, back_of, row_at}
+use Rattle.sbpl_graph.specs.Certificate.{AreSupported, ShowBound, ShowNone}
+use Rattle.sbpl_labels.specs.Counts.{Counts}
+use Rattle.sbpl_labels.specs.Marks.{Marks, no_row, g_of, v_of, back_of, row_at}
 use Rattle.sbpl_labels.specs.declared.pass_end.PassEnd.{PassEnd}
 use Rattle.sbpl_labels.specs.declared.pass_end.PassEnd.TheVariants.{Rest, Spent}
 use Rattle.sbpl_labels.specs.declared.row.Row.{Row}
 use Rattle.sbpl_open.specs.KeyOrder.{IsBelow}
 use Rattle.sbpl_search.specs.Passed.{IsPassed}
 use Rattle.sbpl_search.specs.Query.{Query}
-use Rattle.sbpl_search.specs.Ready.{AreReady, IsStartFresh}
+use Rattle.sbpl_search.specs.Ready.{IsStartFresh}
 use Rattle.sbpl_search.specs.State.{State}
-use Rattle.sbpl_serial.specs.Keys.{goal_key, over_key}
+use Rattle.sbpl_serial.specs.Keys.{over_key}
 use Rattle.sbpl_serial.specs.Run.{IsAtRest, IsOpen, IsOver, IsUnder, goal_key_at, key_at}
 use Rattle.sbpl_frontier_rules.specs.declared.event.Event.{Event}
 use Rattle.sbpl_frontier_rules.specs.Events.{AreEvents, IsFirst, IsIdle, IsOutOfBudget, IsRest}
 use Rattle.sbpl_frontier_rules.specs.Frontier.{Frontier, is_opened}
-use Rattle.sbpl_frontier_rules.specs.Journal.{opened_times, openings}
+use Rattle.sbpl_frontier_rules.specs.Journal.{openings}
 use Rattle.sbpl_frontier_rules.specs.Kept.{IsKept}
 use Rattle.sbpl_frontier_rules.specs.Laws.{EachOpensOnce, EventsKeep, FirstIsKept, IdleIsExact, IsLawful, MayBegin, OpensOnce, SettledAtOne}
-use Rattle.sbpl_frontier_rules.specs.Passes.{ArePass, CountsAreFree, HasRoom, LeavesOpen, LeavesRest, OpenedByEvents, Replays, StartStaysFresh, counted_with, opened_by}
+use Rattle.sbpl_frontier_rules.specs.Passes.{ArePass, CountsAreFree, OpenedByEvents, StartStaysFresh, counted_with, opened_by}
 use Rattle.sbpl_frontier_core.specs.Log.{Log}
 use Rattle.sbpl_frontier_core.specs.Passes.{EndsSo, IsPassFinished}
 use Rattle.sbpl_epase.specs.Planner.{epase}

@@ -1,2 +1,3 @@
 pub mod Planner
 pub mod Parts
+pub mod Making

@@ -32,3 +32,8 @@ pub record AreEpaseParts (labels : Option Marks) (space : Option Waiting) (goal 
   pub none_under : NoneUnder (states_of (labels_in labels)) (g_of (labels_in labels)) (v_of (labels_in labels))
   pub goal_inside : goal < states_of (labels_in labels)
   pub counted : expanded ≡ openings journal.events
+
+-- a search, and what makes its passes
+pub record Seeker (F : Type 0) : Type 0 where
+  pub make : F
+  pub search : State Event

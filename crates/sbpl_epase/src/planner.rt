@@ -1,21 +1,31 @@
 //! ePA*SE as a planner.
 
+ghost use Rattle.sbpl_epase.specs.Making.{MakesPasses};
 ghost use Rattle.sbpl_epase.specs.Planner.{epase};
 
-use crate::Epase;
+use crate::made::pass_by;
+use crate::{Epase, Passed};
 use sbpl_fixed::NoMemory;
-use sbpl_frontier_core::Event;
+use sbpl_frontier_core::{Event, Journal, Parts};
+use sbpl_frontier_rules::events_keep;
 use sbpl_graph::{Graph, Guide};
 use sbpl_labels::{Budget, Labels, PassEnd};
 use sbpl_search::Search;
 use std::alloc::Global;
+use std::mem;
 
-impl<G: Graph, H: Guide> Search<G, H> for Epase {
+impl<
+    G: Graph,
+    H: Guide,
+    F: Fn(Global, &G, &H, Parts, u32, u32, bool) -> Result<Passed, Parts> + Drop,
+> Search<G, H> for Epase<F> {
     type Note = Event;
 
     ghost meaning = { epase };
 
-    ghost state = { λ search. search };
+    ghost state = { λ planner. planner.search };
+
+    ghost serves = { λ planner. MakesPasses G.network H.distance H.guides F.pre F.post planner.make };
 
     fn pass(
         &mut self,
@@ -26,7 +36,40 @@ impl<G: Graph, H: Guide> Search<G, H> for Epase {
         traced: bool,
         budget: &mut Budget,
     ) -> Result<PassEnd, NoMemory> {
-        Epase::pass(self, alloc, graph, guide, eps, traced, budget)
+        events_keep();
+        let _states = graph.states();
+        let labels = self.labels.take().unwrap();
+        let _start = labels.start();
+        let before = budget.used();
+        let space = self.space.take().unwrap();
+        // The events of the pass before are let go before those of this one take memory.
+        self.journal = Journal::open(alloc, false);
+        self.expanded = 0;
+        let taken = mem::replace(budget, Budget::new(1));
+        let parts = Parts {
+            labels,
+            budget: taken,
+            space,
+        };
+        match pass_by(
+            &self.make, alloc, graph, guide, parts, self.goal, eps, traced,
+        ) {
+            Ok(passed) => {
+                let left = passed.parts;
+                self.labels = Some(left.labels);
+                self.space = Some(left.space);
+                *budget = left.budget;
+                self.journal = passed.journal;
+                self.expanded = budget.used() - before;
+                Ok(passed.end)
+            }
+            Err(left) => {
+                self.labels = Some(left.labels);
+                self.space = Some(left.space);
+                *budget = left.budget;
+                Err(NoMemory)
+            }
+        }
     }
 
     fn repairs(&self) -> bool {

@@ -1,0 +1,9 @@
+//! Worked examples of passes by several workers, as tests and nothing else.
+#![tactic(auto)]
+
+#[cfg(test)]
+mod lattices;
+#[cfg(test)]
+mod passes;
+#[cfg(test)]
+mod watched;

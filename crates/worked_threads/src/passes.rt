@@ -1,0 +1,101 @@
+//! Passes by several workers, with the guide that knows nothing.
+
+ghost use Rattle.std.specs.Prelude.{◌≡◌, ◌<◌, ◌≤◌, true};
+ghost use Rattle.sbpl_search.specs.Query.{query};
+ghost use Rattle.sbpl_search.specs.Ready.{AreReady};
+
+use crate::lattices::made;
+use crate::watched::Watched;
+use sample_files::{E2, F2};
+use sbpl_demo::generate;
+use sbpl_epase::{NoGate, parallel_pass};
+use sbpl_frontier_core::{Core, Pass};
+use sbpl_graph::{Graph, Zero};
+use sbpl_labels::{Budget, Labels};
+use std::alloc::Global;
+use std::marker::Brand;
+use std::sync::Wait;
+use std::test::Fail;
+use std::thread::Threads;
+
+/// The cost that a pass of inflation 1 finds, where its values have a name.
+fn pass_as<N: Pass + Send + Sync, R: Threads + Wait + Sync, G: Graph + Sync>(
+    rt: &R,
+    alloc: Global,
+    graph: &G,
+    labels: Labels,
+    budget: Budget,
+    goal: u32,
+    workers: u32,
+) -> Result<u64, Fail>
+    requires some { 1 ≤ workers }
+    requires few { workers ≤ 64 }
+    requires query { query (G.network graph.now) (λ s. 0) 1000 goal ≡ N.query }
+    requires labels { labels ≡ N.opening }
+    requires budget { budget ≡ N.counts }
+    requires keeps { N.keeps ≡ true }
+    requires goal { goal < (G.network graph.now).states }
+    requires ready { AreReady (G.network graph.now) labels budget.run }
+{
+    let guide = Zero;
+    let opened = Core::<'_, G, Zero, N>::open(
+        alloc, graph, &guide, labels, goal, 1000, budget, true,
+    );
+    let Ok(core) = opened else {
+        return Err(Fail::new("memory"));
+    };
+    let core = parallel_pass(rt, alloc, core, graph, workers, &NoGate)?;
+    let (labels, _budget, _journal) = core.finish();
+    Ok(labels.g(goal))
+}
+
+/// The cost of the way from one state to another that a pass by so many workers finds.
+fn cost_by<R: Threads + Wait + Sync, G: Graph + Sync>(
+    rt: &R,
+    alloc: Global,
+    graph: &G,
+    start: u32,
+    goal: u32,
+    workers: u32,
+) -> Result<u64, Fail>
+    requires some { 1 ≤ workers }
+    requires few { workers ≤ 64 }
+{
+    let states = graph.states();
+    if start >= states || goal >= states {
+        return Err(Fail::new("states"));
+    }
+    let labels = Labels::open(alloc, states, start)?;
+    pass_as::<Brand, R, G>(
+        rt,
+        alloc,
+        graph,
+        labels,
+        Budget::new(1 << 30),
+        goal,
+        workers,
+    )
+}
+
+/// A worker judges an arc while another one is at the first: no lock is held meanwhile.
+#[test]
+fn judged_side_by_side(rt: HostRuntime) -> Result<(), Fail> {
+    let graph = Watched::new(made(rt.alloc(), E2.as_bytes(), F2.as_bytes())?);
+    let cost = cost_by(&rt, rt.alloc(), &graph, 0, 32, 2)?;
+    assert!(rt; graph.has_met(), "one judgement at a time");
+    assert_eq!(rt; cost, 100);
+    Ok(())
+}
+
+/// Eight workers find what one finds, on a drawn map of some sixteen thousand states, time after time.
+#[test]
+fn eight_workers(rt: HostRuntime) -> Result<(), Fail> {
+    let drawn = generate(rt.alloc(), 7, 32, 32)?;
+    let lattice = made(rt.alloc(), drawn.env.as_slice(), drawn.prims.as_slice())?;
+    let (start, goal) = ((32 + 1) * 16, (30 * 32 + 30) * 16);
+    let alone = cost_by(&rt, rt.alloc(), &lattice, start, goal, 1)?;
+    for _ in 0..4 {
+        assert_eq!(rt; cost_by(&rt, rt.alloc(), &lattice, start, goal, 8)?, alone);
+    }
+    Ok(())
+}
