@@ -10,7 +10,7 @@ ghost use Rattle.sbpl_cli.specs.Report.{demo_text};
 ghost use Rattle.sbpl_cli.specs.Writing.{EndsIn, IsOutput, WritesOnly, to_output};
 
 use crate::drawn::draw;
-use crate::plans::make_plans;
+use crate::planners::plans_by_adstar;
 use crate::poses::ends_of;
 use crate::report::demo_line;
 use crate::telling::Lines;
@@ -76,7 +76,7 @@ pub(crate) fn end_demo<D: Desk>(alloc: Global, job: &DemoJob, desk: &mut D) -> u
         labels: None,
         trace: None,
     };
-    make_plans(
+    plans_by_adstar(
         alloc,
         &mut lattice,
         &changes,

@@ -12,6 +12,7 @@ mod lattice;
 mod parts;
 mod plan_job;
 mod plan_record;
+mod planners;
 mod plans;
 mod poses;
 mod record;
@@ -31,6 +32,7 @@ pub use facts::{records_are_determined, texts_are_clear};
 pub use parts::Steps;
 pub use record::{PathRecord, PathStep, PlanRecord, TraceLine};
 pub use refusal::{Input, Refusal};
+pub use sbpl_epase::{Gate, NoGate};
 pub use sbpl_job::{
     CheckJob, Command, DemoJob, Job, JobFault, Name, Outputs, PlanJob, Planner, SearchJob, Setting,
     Sources, read_job,

@@ -8,15 +8,24 @@ ghost use Rattle.sbpl_cli.specs.Promises.{EndsJob};
 ghost use Rattle.sbpl_cli.specs.Writing.{IsOutputOf, ReadsOnly, WritesOnly};
 
 use crate::lattice::read_course;
-use crate::plans::make_plans;
+use crate::planners::make_plans;
 use crate::poses::ends_of;
 use crate::refusal::Stop;
 use sbpl_desk::Desk;
+use sbpl_epase::Gate;
 use sbpl_job::PlanJob;
 use std::alloc::Global;
+use std::sync::Wait;
+use std::thread::Threads;
 
 /// Makes the plans of a job, writes what came of it, and answers the status; or answers why nothing was written.
-pub(crate) fn end_plan<D: Desk>(alloc: Global, job: &PlanJob, desk: &mut D) -> Result<u8, Stop>
+pub(crate) fn end_plan<R: Threads + Wait + Sync, D: Desk, T: Gate + Sync>(
+    rt: &R,
+    alloc: Global,
+    job: &PlanJob,
+    desk: &mut D,
+    gate: &T,
+) -> Result<u8, Stop>
     requires range { IsJob (Jobs.Plan job.now) }
     ensures ends { IfOk result (EndsJob (D.state desk.old) (D.state desk.new) (Jobs.Plan job.now)) }
     ensures stop { IfErr result (JobStopsFor (D.state desk.old) (D.state desk.new) (Jobs.Plan job.now)) }
@@ -26,6 +35,8 @@ pub(crate) fn end_plan<D: Desk>(alloc: Global, job: &PlanJob, desk: &mut D) -> R
     let (mut lattice, changes) = read_course(alloc, &job.sources, &job.changes, desk)?;
     let (start, goal) = ends_of(&lattice);
     Ok(make_plans(
+        rt,
+        gate,
         alloc,
         &mut lattice,
         &changes,

@@ -8,7 +8,6 @@ ghost use Rattle.sbpl_map.specs.ChangeText.{AreOnMap};
 ghost use Rattle.sbpl_replan.specs.Replanning.{IsReadyIn};
 ghost use Rattle.sbpl_labels.specs.Marks.{AreInitial};
 ghost use Rattle.sbpl_search.specs.Ready.{IsStartFresh};
-ghost use Rattle.sbpl_cli.specs.Asked.{known};
 ghost use Rattle.sbpl_cli.specs.Headline.{Carried};
 ghost use Rattle.sbpl_cli.specs.Planning.{EndsOnePlan, GoesOnFrom, IsSetFor, carried_of};
 ghost use Rattle.sbpl_cli.specs.Promises.{EndsPlans};
@@ -18,15 +17,11 @@ use crate::plan_record::make_record;
 use crate::telling::Telling;
 use crate::trace::Traced;
 use crate::writing::{status_after, write_last};
-use sbpl_adstar::AdStar;
-use sbpl_ara::Ara;
 use sbpl_cost::{Lattice, lattice_has_its_arcs, lattice_tails_are_in_order};
 use sbpl_desk::{Desk, WriteStop};
-use sbpl_epase::Epase;
 use sbpl_fixed::NoMemory;
-use sbpl_graph::Graph;
 use sbpl_heur::Best;
-use sbpl_job::{Outputs, Planner, SearchJob};
+use sbpl_job::{Outputs, SearchJob};
 use sbpl_map::{Changes, writes_lead_to_the_next_map};
 use sbpl_replan::Replanner;
 use sbpl_search::Search;
@@ -114,7 +109,7 @@ where
 }
 
 /// Makes and tells the plans on a lattice by a search whose labels are initial, as `go_through` does.
-fn plan_by<D: Desk, T: Telling, S: Search<Lattice, Best> + Drop>(
+pub(crate) fn plan_by<D: Desk, T: Telling, S: Search<Lattice, Best> + Drop>(
     alloc: Global,
     lattice: &mut Lattice,
     changes: &Changes,
@@ -137,6 +132,7 @@ where
     requires ready { S.meaning.ready (network_of lattice.old) (S.state search).labels 0 }
     requires to_goal { (S.state search).goal ≡ goal }
     requires fresh { IsStartFresh (S.state search).labels }
+    requires serves { S.serves search }
     ensures ends { EndsPlans (record { Note = S.Note; means = S.meaning; line = S.Note.line }) (T.written telling.now) lattice.old changes.now how.now outputs.now start goal 0 None (D.state desk.old) (D.state desk.new) result }
     ensures frame { WritesOnly (T.under telling.now) (D.state desk.old) (D.state desk.new) }
 {
@@ -154,58 +150,5 @@ where
             desk,
         ),
         Err(NoMemory) => 9,
-    }
-}
-
-/// Makes and tells the plans on a lattice from a start to a goal, while its map changes batch by batch, writes the last line, and
-/// answers the status.
-pub(crate) fn make_plans<D: Desk, T: Telling>(
-    alloc: Global,
-    lattice: &mut Lattice,
-    changes: &Changes,
-    how: &SearchJob,
-    outputs: &Outputs,
-    start: u32,
-    goal: u32,
-    telling: &T,
-    desk: &mut D,
-) -> u8
-    requires start { start < (network_of lattice.old).states }
-    requires goal { goal < (network_of lattice.old).states }
-    requires search { IsSearchJob how.now }
-    requires kept { IsWorld lattice.old }
-    requires on_map { AreOnMap lattice.old.map changes.now }
-    ensures ends { EndsPlans (known how.now.planner) (T.written telling.now) lattice.old changes.now how.now outputs.now start goal 0 None (D.state desk.old) (D.state desk.new) result }
-    ensures frame { WritesOnly (T.under telling.now) (D.state desk.old) (D.state desk.new) }
-{
-    let states = lattice.states();
-    match how.planner {
-        Planner::Ara => match Ara::open(alloc, states, start, goal) {
-            Ok(search) => plan_by(
-                alloc, lattice, changes, search, how, outputs, start, goal, telling, desk,
-            ),
-            Err(NoMemory) => 9,
-        },
-        Planner::AdStar => match Ara::open(alloc, states, start, goal) {
-            Ok(ara) => plan_by(
-                alloc,
-                lattice,
-                changes,
-                AdStar::from(ara),
-                how,
-                outputs,
-                start,
-                goal,
-                telling,
-                desk,
-            ),
-            Err(NoMemory) => 9,
-        },
-        Planner::Epase => match Epase::open(alloc, states, start, goal) {
-            Ok(search) => plan_by(
-                alloc, lattice, changes, search, how, outputs, start, goal, telling, desk,
-            ),
-            Err(NoMemory) => 9,
-        },
     }
 }

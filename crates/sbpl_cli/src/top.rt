@@ -16,10 +16,13 @@ use crate::sweep_job::end_sweep;
 use crate::writing::{OUTPUT, status_after, write_text};
 use sbpl_cost::alike_worlds_are_one_graph;
 use sbpl_desk::Desk;
+use sbpl_epase::Gate;
 use sbpl_fixed::NoMemory;
 use sbpl_job::{Job, JobFault, read_job};
 use sbpl_map::writes_lead_to_the_next_map;
 use std::alloc::Global;
+use std::sync::Wait;
+use std::thread::Threads;
 
 /// Writes the line of a refusal, and answers the status.
 fn refuse<D: Desk>(alloc: Global, job: &Job, refusal: Refusal, desk: &mut D) -> u8
@@ -33,7 +36,13 @@ fn refuse<D: Desk>(alloc: Global, job: &Job, refusal: Refusal, desk: &mut D) -> 
 }
 
 /// Does a job, writes what came of it, and answers the status; or answers why nothing was written.
-fn do_job<D: Desk>(alloc: Global, job: &Job, desk: &mut D) -> Result<u8, Stop>
+fn do_job<R: Threads + Wait + Sync, D: Desk, T: Gate + Sync>(
+    rt: &R,
+    alloc: Global,
+    job: &Job,
+    desk: &mut D,
+    gate: &T,
+) -> Result<u8, Stop>
     requires range { IsJob job.now }
     ensures ends { IfOk result (EndsJob (D.state desk.old) (D.state desk.new) job.now) }
     ensures stop { IfErr result (JobStopsFor (D.state desk.old) (D.state desk.new) job.now) }
@@ -41,7 +50,7 @@ fn do_job<D: Desk>(alloc: Global, job: &Job, desk: &mut D) -> Result<u8, Stop>
     ensures frame { WritesOnly (MayBeWritten (Some job.now)) (D.state desk.old) (D.state desk.new) }
 {
     match job {
-        Job::Plan(plan) => end_plan(alloc, plan, desk),
+        Job::Plan(plan) => end_plan(rt, alloc, plan, desk, gate),
         Job::Check(check) => check_labels(alloc, check, desk),
         Job::Sweep(from) => end_sweep(alloc, from, desk),
         Job::Demo(job) => Ok(end_demo(alloc, job, desk)),
@@ -57,12 +66,18 @@ fn refuse_words<D: Desk>(desk: &mut D) -> u8
 }
 
 /// Finds the job that the words name, does it or refuses it, writes what came of it, and answers the status.
-fn end_run<D: Desk>(alloc: Global, words: &[String], desk: &mut D) -> u8
+fn end_run<R: Threads + Wait + Sync, D: Desk, T: Gate + Sync>(
+    rt: &R,
+    alloc: Global,
+    words: &[String],
+    desk: &mut D,
+    gate: &T,
+) -> u8
     ensures ends { EndsRun (job_named words.now) (D.state desk.old) (D.state desk.new) result }
     ensures frame { WritesOnly (MayBeWritten (job_named words.now)) (D.state desk.old) (D.state desk.new) }
 {
     match read_job(alloc, words) {
-        Ok(job) => match do_job(alloc, &job, desk) {
+        Ok(job) => match do_job(rt, alloc, &job, desk, gate) {
             Ok(status) => status,
             Err(Stop::Refused(refusal)) => refuse(alloc, &job, refusal, desk),
             Err(Stop::NoMemory) => 9,
@@ -75,8 +90,15 @@ fn end_run<D: Desk>(alloc: Global, words: &[String], desk: &mut D) -> u8
 /// Does the job that the words after the program's name stand for, writes what came of it to the standard output, which has
 /// the name `-`, and answers the status: 0 where the job was done, 1 for labels with a flaw, 2 for words that name no job, 3, 4 and 5 for a fault of the
 /// environment file, of the primitive file and of the change file, 6 for a file that could not be read, 7 for a write that failed, 8 for a file
-/// of more than 2^30 bytes, 9 where memory ran out, and 10 for a fault in the text of labels.
-pub fn run<D: Desk>(alloc: Global, words: &[String], desk: &mut D) -> u8
+/// of more than 2^30 bytes, 9 where memory ran out, and 10 for a fault in the text of labels. Plans by ePA*SE are made by threads,
+/// each of which calls the gate before it evaluates an edge; no other job starts a thread or waits for one.
+pub fn run<R: Threads + Wait + Sync, D: Desk, T: Gate + Sync>(
+    rt: &R,
+    alloc: Global,
+    words: &[String],
+    desk: &mut D,
+    gate: &T,
+) -> u8
     // Every promise, with what each status says.
     ensures promises { RunPromises (job_named words.now) (D.state desk.old) (D.state desk.new) result }
     // Nothing that is held changes, nothing is written under other names than the job's, and no count falls.
@@ -86,5 +108,5 @@ pub fn run<D: Desk>(alloc: Global, words: &[String], desk: &mut D) -> u8
     writes_lead_to_the_next_map();
     alike_worlds_are_one_graph();
     records_are_determined();
-    end_run(alloc, words, desk)
+    end_run(rt, alloc, words, desk, gate)
 }

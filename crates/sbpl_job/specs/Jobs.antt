@@ -89,7 +89,7 @@ planner_by (Some name) = planner_named name
 
 -- the most workers that a job can ask for
 abbrev pub most_workers : ℕ
-most_workers = 1
+most_workers = 64
 
 -- a number of workers, 1 to the most
 abbrev pub workers_in : Result ℤ NumFault → Option ℕ

@@ -34,7 +34,7 @@ pub enum Planner {
 #[derive(Clone, Copy, Debug, PartialEq, Eq)]
 pub struct SearchJob {
     pub planner: Planner,
-    /// How many workers evaluate edges, 1 to 64; 1 for each planner but `epase`. So far no job has more than 1.
+    /// How many workers evaluate edges, 1 to 64; 1 for each planner but `epase`.
     pub workers: u32,
     /// The inflation of the first pass, 1000 to 100000.
     pub first: u32,

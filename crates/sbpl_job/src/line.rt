@@ -99,7 +99,7 @@ fn with_planner<'a>(alloc: Global, line: clap::Command<'a>) -> Result<clap::Comm
         line,
         "workers",
         "N",
-        "how many workers evaluate edges, for epase alone, and so far only 1 [default: 1]",
+        "how many workers evaluate edges, for epase alone, 1 to 64 [default: 1]",
     )
 }
 

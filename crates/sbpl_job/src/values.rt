@@ -18,8 +18,8 @@ const MOST_RADIUS: i64 = 1_000_000_000_000;
 /// The most expansions of a plan.
 const MOST_BUDGET: i64 = 1 << 30;
 
-/// The most workers that a job can ask for: one, as long as there are no threads.
-const MOST_WORKERS: i64 = 1;
+/// The most workers that a job can ask for.
+const MOST_WORKERS: i64 = 64;
 
 /// A radius in decimal metres, as nanometres.
 fn read_radius(metres: &str) -> Result<u64, JobFault>
@@ -134,7 +134,7 @@ fn has_workers(planner: Planner) -> bool
     }
 }
 
-/// A number of workers, 1 to the most.
+/// A number of workers, 1 to 64.
 fn read_workers(text: &str) -> Result<u32, JobFault>
     ensures workers { Names (workers_in (whole_of text.now)) result }
     ensures range { IfOk result (λ w. (1 ≤ w) × (w ≤ most_workers)) }

@@ -8,11 +8,13 @@ ghost use Rattle.sbpl_cli.specs.RunPromises.{RunPromises};
 ghost use Rattle.sbpl_cli.specs.Writing.{IsOutput, WritesOnly, output};
 ghost use Rattle.sbpl_job.specs.Asked.{asked_for};
 
-use sbpl_cli::run;
+use sbpl_cli::{Gate, run};
 use sbpl_desk::{Desk, WriteStop};
 use sbpl_job::{Asked, read_asked, told, usage};
 use std::alloc::Global;
 use std::io;
+use std::sync::Wait;
+use std::thread::Threads;
 
 /// The status for words that name no job.
 const NO_JOB: u8 = 2;
@@ -52,10 +54,12 @@ fn hint<E: io::Write>(status: u8, err: &mut E)
 #[tactic(none)]
 /// Does what the words after the program's name ask for, and answers the program's status: tells help or the version, or does
 /// the job that they name, as `run` does it. Words that name no job are told on `err` how the program is called.
-pub fn answer<D: Desk, E: io::Write>(
+pub fn answer<R: Threads + Wait + Sync, D: Desk, T: Gate + Sync, E: io::Write>(
+    rt: &R,
     alloc: Global,
     words: &[String],
     desk: &mut D,
+    gate: &T,
     err: &mut E,
 ) -> u8
     // Words that ask for help or the version are told it, unless that cannot be written or memory runs out.
@@ -72,7 +76,7 @@ pub fn answer<D: Desk, E: io::Write>(
     match read_asked(words) {
         Some(asked) => tell(alloc, asked, desk),
         None => {
-            let status = run(alloc, words, desk);
+            let status = run(rt, alloc, words, desk, gate);
             hint(status, err);
             status
         }

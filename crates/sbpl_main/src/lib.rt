@@ -6,3 +6,4 @@ mod program;
 
 pub use answering::answer;
 pub use program::start;
+pub use sbpl_cli::{Gate, NoGate};

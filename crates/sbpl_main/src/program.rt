@@ -4,11 +4,15 @@ ghost use Rattle.std.specs.Prelude.{◌≡◌, drop};
 ghost use Rattle.sbpl_cli.specs.Promises.{IsStatus};
 
 use crate::answering::{NO_MEMORY, answer};
+use sbpl_cli::NoGate;
 use sbpl_desk::RealDesk;
+use std::rt::{Env, Files};
+use std::sync::Wait;
+use std::thread::Threads;
 use std::{env, io};
 
 /// The program's words, its name first.
-fn words_of(rt: &HostRuntime) -> io::Result<Vec<String>> {
+fn words_of<R: Env + AllocGlobal>(rt: &R) -> io::Result<Vec<String>> {
     Ok(env::args(rt)?.collect(rt.alloc())?)
 }
 
@@ -23,11 +27,14 @@ fn after_name(words: &[String]) -> &[String]
 }
 
 /// Does what the program's words ask for, at the system's files and standard output, and answers the status, which is one of
-/// those that the help lists.
-pub fn start(rt: HostRuntime) -> u8
+/// those that the help lists. How the program is called is told on `err`.
+pub fn start<R: Env + Files + Print + AllocGlobal + Threads + Wait + Sync, E: io::Write>(
+    rt: &R,
+    err: &mut E,
+) -> u8
     ensures status { IsStatus result }
 {
-    let words = match words_of(&rt) {
+    let words = match words_of(rt) {
         Ok(words) => words,
         Err(error) if error.kind() == io::ErrorKind::OutOfMemory => return NO_MEMORY,
         // A word that isn't text names no job, like no word at all.
@@ -35,9 +42,11 @@ pub fn start(rt: HostRuntime) -> u8
     };
     let mut desk = RealDesk::new(rt);
     answer(
+        rt,
         rt.alloc(),
         after_name(words.as_slice()),
         &mut desk,
-        &mut rt.stderr(),
+        &NoGate,
+        err,
     )
 }

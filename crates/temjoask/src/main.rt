@@ -5,5 +5,5 @@ use sbpl_main::start;
 use std::process::ExitCode;
 
 fn main(rt: HostRuntime) -> ExitCode {
-    ExitCode::from(start(rt))
+    ExitCode::from(start(&rt, &mut rt.stderr()))
 }

@@ -3,7 +3,10 @@
 #![tactic(auto)]
 
 use sbpl_desk::RealDesk;
-use sbpl_main::answer;
+use sbpl_main::{NoGate, answer};
+use std::rt::Files;
+use std::sync::Wait;
+use std::thread::Threads;
 use std::{fs, io};
 
 /// The words of runs that plan for a disc, and of the list of what it sweeps.
@@ -51,7 +54,10 @@ const REFUSALS: [&str; 6] = [
 ];
 
 /// Runs the program on the words of a line, and prints its status, and whether the usage was told beside.
-fn run_line(rt: &HostRuntime, line: &str) -> io::Result<()> {
+fn run_line<R: Files + Print + AllocGlobal + Threads + Wait + Sync>(
+    rt: &R,
+    line: &str,
+) -> io::Result<()> {
     println!(rt; "$ temjoask {line}")?;
     let mut words = Vec::new(rt.alloc());
     for word in line.split(' ') {
@@ -59,7 +65,14 @@ fn run_line(rt: &HostRuntime, line: &str) -> io::Result<()> {
     }
     let mut desk = RealDesk::new(rt);
     let mut error = Vec::new(rt.alloc());
-    let status = answer(rt.alloc(), words.as_slice(), &mut desk, &mut error);
+    let status = answer(
+        rt,
+        rt.alloc(),
+        words.as_slice(),
+        &mut desk,
+        &NoGate,
+        &mut error,
+    );
     let told = if error.is_empty() {
         ""
     } else {
@@ -69,7 +82,10 @@ fn run_line(rt: &HostRuntime, line: &str) -> io::Result<()> {
 }
 
 /// Runs the program on each line in turn.
-fn run_lines(rt: &HostRuntime, lines: &[&str]) -> io::Result<()> {
+fn run_lines<R: Files + Print + AllocGlobal + Threads + Wait + Sync>(
+    rt: &R,
+    lines: &[&str],
+) -> io::Result<()> {
     for line in lines {
         run_line(rt, line)?;
     }
@@ -77,7 +93,7 @@ fn run_lines(rt: &HostRuntime, lines: &[&str]) -> io::Result<()> {
 }
 
 /// Prints what a run wrote to a file.
-fn show(rt: &HostRuntime, name: &str) -> io::Result<()> {
+fn show<R: Files + Print + AllocGlobal>(rt: &R, name: &str) -> io::Result<()> {
     let text = fs::read_to_string(rt, name)?;
     print!(rt; "$ cat {name}\n{text}")
 }

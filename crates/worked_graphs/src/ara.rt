@@ -1,12 +1,15 @@
 //! Passes on a graph of six states, by ARA* and by ePA*SE.
 
 ghost use Rattle.std.specs.Prelude.{◌≡◌, ◌<◌, true};
+ghost use Rattle.sbpl_epase.specs.Making.{CanPass, Leaves};
+ghost use Rattle.sbpl_search.specs.Query.{query};
 ghost use Rattle.worked_graphs.specs.Sample.{height, sample};
 
 use sbpl_ara::Ara;
-use sbpl_epase::{Epase, Event};
+use sbpl_epase::{Epase, Event, NoGate, Parts, parallel_pass_parts};
 use sbpl_graph::{FAR, Graph, Guide};
 use sbpl_labels::{Budget, PassEnd};
+use sbpl_search::Search;
 use std::alloc::{AllocError, Global};
 use std::test::Fail;
 
@@ -171,8 +174,8 @@ fn falling_inflation(rt: HostRuntime) -> Result<(), Fail> {
 }
 
 /// The states that the last pass of a search by events opened, in order.
-fn opened(alloc: Global, search: &Epase) -> Result<Vec<u32>, AllocError>
-    requires kept { search.now.kept ≡ true }
+fn opened<F>(alloc: Global, search: &Epase<F>) -> Result<Vec<u32>, AllocError>
+    requires kept { search.now.search.kept ≡ true }
 {
     let mut states = Vec::new(alloc);
     for event in search.events() {
@@ -188,7 +191,15 @@ fn opened(alloc: Global, search: &Epase) -> Result<Vec<u32>, AllocError>
 fn falling_inflation_by_events(rt: HostRuntime) -> Result<(), Fail> {
     let graph = detour();
     let mut budget = Budget::new(10);
-    let mut search = Epase::open(rt.alloc(), 6, 0, 5)?;
+    let make = move |alloc: Global, graph: &Table, guide: &Table, parts: Parts, goal: u32, eps: u32, keeps: bool|
+        requires can { CanPass (query (sample graph.now.arcs graph.now.heights) (height guide.now.heights) eps goal) ((sample graph.now.arcs graph.now.heights ≡ sample guide.now.arcs guide.now.heights) × (height guide.now.heights goal ≡ 0)) parts }
+        ensures left { Leaves (query (sample graph.now.arcs graph.now.heights) (height guide.now.heights) eps goal) parts keeps result }
+    {
+        parallel_pass_parts(
+            &rt, &NoGate, 1, alloc, graph, guide, parts, goal, eps, keeps,
+        )
+    };
+    let mut search = Epase::open(rt.alloc(), make, 6, 0, 5)?;
     let end = search.pass(rt.alloc(), &graph, &graph, 3000, true, &mut budget)?;
     assert_eq!(rt; end, PassEnd::Rest);
     assert_eq!(rt;

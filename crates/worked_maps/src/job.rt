@@ -7,30 +7,32 @@ use std::alloc::Global;
 use std::test::Fail;
 
 /// Words that name a job, and after the arrow that job as a line: of `plan` its environment, primitives, radius, changes,
-/// planner, first inflation, step, bound, budget, labels and trace; of `check` its environment, primitives, radius, changes
+/// planner, workers, first inflation, step, bound, budget, labels and trace; of `check` its environment, primitives, radius, changes
 /// and labels.
 const JOBS: &str = "\
-plan e m => plan e m 0 - ad 1000 500 1000 1073741824 - -
-plan --radius 0 e m => plan e m 0 - ad 1000 500 1000 1073741824 - -
-plan e --radius=0.000 m => plan e m 0 - ad 1000 500 1000 1073741824 - -
-plan e m --radius +.0125 => plan e m 12500000 - ad 1000 500 1000 1073741824 - -
-plan e m --radius=1000 => plan e m 1000000000000 - ad 1000 500 1000 1073741824 - -
-plan e m --planner ara => plan e m 0 - ara 1000 500 1000 1073741824 - -
-plan --planner=ad e m => plan e m 0 - ad 1000 500 1000 1073741824 - -
-plan e m --bound=1.5 => plan e m 0 - ad 1000 500 1500 1073741824 - -
-plan e m --bound 1.0000000001 => plan e m 0 - ad 1000 500 1000 1073741824 - -
-plan e --bound=100 m => plan e m 0 - ad 1000 500 100000 1073741824 - -
-plan e m --first 3.000 --step=.001 => plan e m 0 - ad 3000 1 1000 1073741824 - -
-plan --first=100 --step 99 e m => plan e m 0 - ad 100000 99000 1000 1073741824 - -
-plan e m --budget +4 => plan e m 0 - ad 1000 500 1000 4 - -
-plan e m --budget=007 => plan e m 0 - ad 1000 500 1000 7 - -
-plan e m --budget 1073741824 => plan e m 0 - ad 1000 500 1000 1073741824 - -
-plan e m --planner epase => plan e m 0 - epase 1000 500 1000 1073741824 - -
-plan --workers=1 e m --trace t --planner=epase => plan e m 0 - epase 1000 500 1000 1073741824 - t
-plan --changes c e m => plan e m 0 c ad 1000 500 1000 1073741824 - -
-plan e m --labels=l --trace t => plan e m 0 - ad 1000 500 1000 1073741824 l t
-plan e --changes=c=d --labels c m --trace=d => plan e m 0 c=d ad 1000 500 1000 1073741824 c d
-plan e e --changes e => plan e e 0 e ad 1000 500 1000 1073741824 - -
+plan e m => plan e m 0 - ad 1 1000 500 1000 1073741824 - -
+plan --radius 0 e m => plan e m 0 - ad 1 1000 500 1000 1073741824 - -
+plan e --radius=0.000 m => plan e m 0 - ad 1 1000 500 1000 1073741824 - -
+plan e m --radius +.0125 => plan e m 12500000 - ad 1 1000 500 1000 1073741824 - -
+plan e m --radius=1000 => plan e m 1000000000000 - ad 1 1000 500 1000 1073741824 - -
+plan e m --planner ara => plan e m 0 - ara 1 1000 500 1000 1073741824 - -
+plan --planner=ad e m => plan e m 0 - ad 1 1000 500 1000 1073741824 - -
+plan e m --bound=1.5 => plan e m 0 - ad 1 1000 500 1500 1073741824 - -
+plan e m --bound 1.0000000001 => plan e m 0 - ad 1 1000 500 1000 1073741824 - -
+plan e --bound=100 m => plan e m 0 - ad 1 1000 500 100000 1073741824 - -
+plan e m --first 3.000 --step=.001 => plan e m 0 - ad 1 3000 1 1000 1073741824 - -
+plan --first=100 --step 99 e m => plan e m 0 - ad 1 100000 99000 1000 1073741824 - -
+plan e m --budget +4 => plan e m 0 - ad 1 1000 500 1000 4 - -
+plan e m --budget=007 => plan e m 0 - ad 1 1000 500 1000 7 - -
+plan e m --budget 1073741824 => plan e m 0 - ad 1 1000 500 1000 1073741824 - -
+plan e m --planner epase => plan e m 0 - epase 1 1000 500 1000 1073741824 - -
+plan --workers=1 e m --trace t --planner=epase => plan e m 0 - epase 1 1000 500 1000 1073741824 - t
+plan e m --planner epase --workers 2 => plan e m 0 - epase 2 1000 500 1000 1073741824 - -
+plan --workers 64 e --planner=epase m --labels=l => plan e m 0 - epase 64 1000 500 1000 1073741824 l -
+plan --changes c e m => plan e m 0 c ad 1 1000 500 1000 1073741824 - -
+plan e m --labels=l --trace t => plan e m 0 - ad 1 1000 500 1000 1073741824 l t
+plan e --changes=c=d --labels c m --trace=d => plan e m 0 c=d ad 1 1000 500 1000 1073741824 c d
+plan e e --changes e => plan e e 0 e ad 1 1000 500 1000 1073741824 - -
 check e m l => check e m 0 - l
 check e --changes c m l => check e m 0 c l
 check --radius=0.5 e --changes=c m l => check e m 500000000 c l
@@ -84,7 +86,8 @@ plan e m --budget 1073741825
 plan e m --budget=1.0
 plan e m --workers 1
 plan e m --planner ara --workers=1
-plan e m --planner epase --workers 2
+plan e m --planner ad --workers 2
+plan e m --planner epase --workers 65
 plan e m --planner epase --workers 0
 plan e m --planner epase --workers=1.0
 plan e m --planner epase --workers 1 --workers 1
@@ -156,9 +159,10 @@ fn said_of_plan(alloc: Global, job: &PlanJob) -> Result<String, Fail> {
     };
     let search = &job.search;
     Ok(format!(in alloc;
-        "plan {} {} {planner} {} {} {} {} {} {}",
+        "plan {} {} {planner} {} {} {} {} {} {} {}",
         from.as_str(),
         or_dash(&job.changes),
+        search.workers,
         search.first,
         search.step,
         search.bound,

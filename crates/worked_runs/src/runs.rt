@@ -1,18 +1,20 @@
 //! The program on small files, over a desk in memory.
 
 use sample_files::{E1, E2, E3, F1, F2, p16, realistic};
-use sbpl_cli::run;
+use sbpl_cli::{Gate, NoGate, run};
 use sbpl_desk::MemoryDesk;
 use std::alloc::Global;
 use std::process::Abort;
+use std::sync::Wait;
 use std::test::Fail;
+use std::thread::Threads;
 
 /// What a file is made of: a text, in which one text is put in place of another.
 type Edited<'a> = (&'a str, &'a str, &'a str);
 
 /// Runs `plan e m` on a desk that holds both files, and compares the status and what is written.
 fn compare(
-    rt: &impl Abort,
+    rt: &(impl Abort + Threads + Wait + Sync),
     alloc: Global,
     env: Edited,
     prims: Edited,
@@ -24,7 +26,7 @@ fn compare(
 
 /// Runs these words on a desk that holds both files, and compares the status and what is written.
 fn compare_words(
-    rt: &impl Abort,
+    rt: &(impl Abort + Threads + Wait + Sync),
     alloc: Global,
     words: &[&str],
     env: Edited,
@@ -41,7 +43,7 @@ fn compare_words(
 }
 
 /// A desk in memory that holds these files by name.
-fn desk_of(alloc: Global, files: &[(&str, &str)]) -> Result<MemoryDesk, Fail> {
+pub(crate) fn desk_of(alloc: Global, files: &[(&str, &str)]) -> Result<MemoryDesk, Fail> {
     let mut desk = MemoryDesk::new(alloc);
     hold_all(&mut desk, files)?;
     Ok(desk)
@@ -57,23 +59,39 @@ fn hold_all(desk: &mut MemoryDesk, files: &[(&str, &str)]) -> Result<(), Fail> {
 
 /// Runs these words on a desk, and compares the status and what is written to standard output.
 fn compare_on(
-    rt: &impl Abort,
+    rt: &(impl Abort + Threads + Wait + Sync),
     alloc: Global,
     words: &[&str],
     desk: &mut MemoryDesk,
     status: u8,
     report: &str,
 ) -> Result<(), Fail> {
-    assert_eq!(rt; status_of(alloc, words, desk)?, status, "{report}");
+    assert_eq!(rt; status_of(rt, alloc, words, desk)?, status, "{report}");
     assert_eq!(rt; desk.written("-"), report.as_bytes());
     Ok(())
 }
 
-/// The status of a run of these words. Nothing is said of it here, so that what the run promises is not gone through at
-/// each call.
-fn status_of(alloc: Global, words: &[&str], desk: &mut MemoryDesk) -> Result<u8, Fail> {
+/// The status of a run of these words.
+fn status_of(
+    rt: &(impl Threads + Wait + Sync),
+    alloc: Global,
+    words: &[&str],
+    desk: &mut MemoryDesk,
+) -> Result<u8, Fail> {
+    status_at(rt, alloc, words, desk, &NoGate)
+}
+
+/// The status of a run of these words, whose workers call a gate. Nothing is said of it here, so that what the run promises is
+/// not gone through at each call.
+pub(crate) fn status_at<R: Threads + Wait + Sync, T: Gate + Sync>(
+    rt: &R,
+    alloc: Global,
+    words: &[&str],
+    desk: &mut MemoryDesk,
+    gate: &T,
+) -> Result<u8, Fail> {
     let words = words_of(alloc, words)?;
-    Ok(run(alloc, words.as_slice(), desk))
+    Ok(run(rt, alloc, words.as_slice(), desk, gate))
 }
 
 fn words_of(alloc: Global, words: &[&str]) -> Result<Vec<String>, Fail> {
@@ -355,14 +373,14 @@ fn outputs(rt: HostRuntime) -> Result<(), Fail> {
 
 /// Plans on a desk with these files, and compares the trace.
 fn compare_trace(
-    rt: &impl Abort,
+    rt: &(impl Abort + Threads + Wait + Sync),
     alloc: Global,
     files: &[(&str, &str)],
     words: &[&str],
     trace: &str,
 ) -> Result<(), Fail> {
     let mut desk = desk_of(alloc, files)?;
-    let status = status_of(alloc, words, &mut desk);
+    let status = status_of(rt, alloc, words, &mut desk);
     assert_eq!(rt; desk.written("t"), trace.as_bytes());
     drop(desk);
     assert_eq!(rt; status?, 0);
@@ -403,7 +421,7 @@ fn traces(rt: HostRuntime) -> Result<(), Fail> {
 
 /// Runs `check e m l` on the corridor and these labels, and compares the status and what is written.
 fn compare_check(
-    rt: &impl Abort,
+    rt: &(impl Abort + Threads + Wait + Sync),
     alloc: Global,
     labels: &str,
     status: u8,
@@ -486,7 +504,7 @@ fn broken_labels(rt: HostRuntime) -> Result<(), Fail> {
 
 /// The labels that a plan for a robot of this radius writes.
 fn labels_for(
-    rt: &impl Abort,
+    rt: &(impl Abort + Threads + Wait + Sync),
     alloc: Global,
     env: &str,
     prims: &str,
@@ -498,7 +516,7 @@ fn labels_for(
 
 /// Checks these labels for a robot of this radius, and compares what the check writes.
 fn compare_for(
-    rt: &impl Abort,
+    rt: &(impl Abort + Threads + Wait + Sync),
     alloc: Global,
     env: &str,
     prims: &str,
@@ -519,7 +537,7 @@ fn compare_for(
 
 /// Plans with labels, checks them, and compares what the check writes.
 fn compare_checked(
-    rt: &impl Abort,
+    rt: &(impl Abort + Threads + Wait + Sync),
     alloc: Global,
     env: Edited,
     prims: &str,
@@ -540,8 +558,8 @@ fn compare_checked(
 }
 
 /// Checks these labels on these files, and compares what the check writes.
-fn compare_held(
-    rt: &impl Abort,
+pub(crate) fn compare_held(
+    rt: &(impl Abort + Threads + Wait + Sync),
     alloc: Global,
     files: &[(&str, &str)],
     labels: &[u8],
@@ -556,13 +574,13 @@ fn compare_held(
 
 /// The labels that a plan on these files writes.
 fn labels_of(
-    rt: &impl Abort,
+    rt: &(impl Abort + Threads + Wait + Sync),
     alloc: Global,
     files: &[(&str, &str)],
     words: &[&str],
 ) -> Result<Vec<u8>, Fail> {
     let mut desk = desk_of(alloc, files)?;
-    let status = status_of(alloc, words, &mut desk);
+    let status = status_of(rt, alloc, words, &mut desk);
     let labels = desk.written("l").to_vec(alloc);
     drop(desk);
     assert_eq!(rt; status?, 0);
@@ -571,7 +589,7 @@ fn labels_of(
 
 /// Checks these labels on a desk, and compares what the check writes.
 fn compare_labels(
-    rt: &impl Abort,
+    rt: &(impl Abort + Threads + Wait + Sync),
     alloc: Global,
     desk: &mut MemoryDesk,
     labels: &[u8],
@@ -751,7 +769,7 @@ fn sweeps(rt: HostRuntime) -> Result<(), Fail> {
 
 /// Plans in the corridor on a desk that fails at one call after seven bytes, and compares the status and what is written.
 fn compare_failing(
-    rt: &impl Abort,
+    rt: &(impl Abort + Threads + Wait + Sync),
     alloc: Global,
     call: u64,
     status: u8,
@@ -788,7 +806,7 @@ fn failures(rt: HostRuntime) -> Result<(), Fail> {
 
 /// Runs these words on a desk with these files, where one name is not held, and where it holds too much.
 fn compare_unread(
-    rt: &impl Abort,
+    rt: &(impl Abort + Threads + Wait + Sync),
     alloc: Global,
     files: &[(&str, &str)],
     words: &[&str],
@@ -829,7 +847,7 @@ const UNCHANGED: &str =
 
 /// Plans on a desk with an environment, primitives and changes, and compares the status and what is written.
 fn compare_changes(
-    rt: &impl Abort,
+    rt: &(impl Abort + Threads + Wait + Sync),
     alloc: Global,
     files: &[(&str, &str)],
     planner: &str,
@@ -947,9 +965,9 @@ fn later_files(rt: HostRuntime) -> Result<(), Fail> {
 }
 
 /// What a demonstration writes.
-fn demonstrated(rt: &impl Abort, alloc: Global) -> Result<Vec<u8>, Fail> {
+fn demonstrated(rt: &(impl Abort + Threads + Wait + Sync), alloc: Global) -> Result<Vec<u8>, Fail> {
     let mut desk = MemoryDesk::new(alloc);
-    let status = status_of(alloc, &["demo", "7", "32", "32"], &mut desk);
+    let status = status_of(rt, alloc, &["demo", "7", "32", "32"], &mut desk);
     let report = desk.written("-").to_vec(alloc);
     drop(desk);
     assert_eq!(rt; status?, 0);

@@ -1,5 +1,6 @@
 use Rattle.std.proofs.Common.{[], ◌∷◌, None, Err, length, refl, subst, false, arith}
 use Rattle.sbpl_job.specs.declared.job.Job.TheVariants as job
+use Rattle.sbpl_job.specs.declared.job.Planner.TheVariants as planner
 use Rattle.sbpl_cli.specs.Asked.{known}
 use Rattle.sbpl_cli.specs.Intents.{Demonstrated, lines_writes}
 use Rattle.sbpl_cli.specs.Causes.{no_outputs}
@@ -35,7 +36,7 @@ returns-in-Err-clause-ends g c =
 
 pub returns-clause-ends : goal.returns-clause-ends
 returns-clause-ends g c =
-    let e = c.make_plans.ensures.ends in
+    let e = c.plans_by_adstar.ensures.ends in
     ended _ (g.D.Desk.state c.args.desk.now) _ (job.Demo c.args.job.now) (Demonstrated c.in-Ok.lattice (length c.in-Ok.changes) e.records e.all) _ (
       c.in-Ok.changes,
       refl,
@@ -47,7 +48,7 @@ returns-clause-ends g c =
           goal = c.ends_of-start.result.1;
           start_is = c.ends_of-start.ensures.start;
           goal_is = c.ends_of-start.ensures.goal;
-          each = subst (λ (how : SearchJob). AreRecords (known how.planner) c.in-Ok.lattice c.in-Ok.changes how no_outputs c.ends_of-start.result.0 c.ends_of-start.result.1 0 None e.records) c.demo_search.ensures.search e.each;
+          each = subst (λ (how : SearchJob). AreRecords (known planner.AdStar) c.in-Ok.lattice c.in-Ok.changes how no_outputs c.ends_of-start.result.0 c.ends_of-start.result.1 0 None e.records) c.demo_search.ensures.search e.each;
           few = let count = e.few in omega arith;
           all_made = λ is. let count = e.all_made is in omega arith;
         };
@@ -55,7 +56,7 @@ returns-clause-ends g c =
     )
     (same_state _)
     (ends_as_after _ _ _ (_ ∷ []) (lines_writes e.records e.all) _ _ c.in_default-write_first.ensures.ends c.write_first.ensures.frame.writes e.ends)
-    (writes_on _ _ _ _ c.write_first.ensures.frame c.make_plans.ensures.frame).others
+    (writes_on _ _ _ _ c.write_first.ensures.frame c.plans_by_adstar.ensures.frame).others
 
 pub returns-clause-frame : goal.returns-clause-frame
-returns-clause-frame g c = writes_on _ _ _ _ c.write_first.ensures.frame c.make_plans.ensures.frame
+returns-clause-frame g c = writes_on _ _ _ _ c.write_first.ensures.frame c.plans_by_adstar.ensures.frame
