@@ -63,6 +63,22 @@ def environment(draws, n):
     return head + "".join(" ".join(map(str, costs[y * n:(y + 1) * n])) + "\n" for y in range(n))
 
 
+def hall(draws, n, radius):
+    """A map of n by n cells for a robot of this radius in cells: pillars in an open hall, and a way from corner to corner."""
+    first, last = radius + 1, n - radius - 2
+    costs = [[0] * n for _ in range(n)]
+    for _ in range(max(1, (n - 2 * radius) // 16)):
+        x, y = first + draws.next() % (last - first), first + draws.next() % (last - first)
+        if min(abs(x - first) + abs(y - first), abs(x - last) + abs(y - last)) > 2 * radius + 4:
+            costs[y][x] = 254
+    center = lambda cell: f"{0.025 * cell + 0.0125:.4f}"
+    head = (f"discretization(cells): {n} {n}\nobsthresh: 254\ncost_inscribed_thresh: 253\n"
+            "cost_possibly_circumscribed_thresh: 128\ncellsize(meters): 0.025\nnominalvel(mpersecs): 1.0\n"
+            f"timetoturn45degsinplace(secs): 2.0\nstart(meters,rads): {center(first)} {center(first)} 0\n"
+            f"end(meters,rads): {center(last)} {center(last)} 0\nenvironment:\n")
+    return head + "".join(" ".join(map(str, line)) + "\n" for line in costs)
+
+
 def changes(draws, n, batches, cells):
     """Batches of drawn writes, none to the start's cell or the end's."""
     lines = []
