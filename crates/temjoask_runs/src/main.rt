@@ -44,10 +44,11 @@ const LABELS: [&str; 4] = [
 const TEXTS: [&str; 3] = ["demo 7 12 8", "sweep --help", "--version"];
 
 /// Those of runs that are refused, and of one that cannot write its labels.
-const REFUSALS: [&str; 6] = [
+const REFUSALS: [&str; 7] = [
     "plan e1.cfg",
     "plan short.cfg f1.mprim",
     "plan e1.cfg free.mprim",
+    "plan --radius 1000 e1.cfg f1.mprim --labels=labels",
     "plan e1.cfg f1.mprim --changes off_the_map",
     "plan none.cfg f1.mprim",
     "plan e1.cfg f1.mprim --labels none/labels",
