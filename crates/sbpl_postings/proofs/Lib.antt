@@ -1,0 +1,4 @@
+mod Counting
+mod Places
+mod Keeping
+mod Sending
