@@ -1,10 +1,10 @@
 //! The workers of a pass.
 
-ghost use Rattle.std.specs.Prelude.{◌≡◌, ◌≤◌, [], All, IfErr, IfOk, sum_by, vec_capacity, vec_len};
+ghost use Rattle.std.specs.Prelude.{◌≡◌, ◌≤◌, [], All, IfErr, IfOk, length, sum_by, vec_capacity, vec_len};
 
 use crate::Gate;
 use crate::worker::{Done, Floor, work};
-use sbpl_frontier::{Seat, Second, Shared};
+use sbpl_frontier::{Lined, Seat, Second, Shared};
 use sbpl_frontier_core::{Pass, Past};
 use sbpl_graph::{Graph, Guide};
 use std::alloc::Global;
@@ -24,18 +24,19 @@ pub(crate) fn run_workers<
     N: Pass + Send + Sync,
     U: Past + Send,
     M: Second + Send + Sync,
+    L: Lined + Send + Sync,
 >(
     rt: &R,
     alloc: Global,
-    shared: &Shared<'g, G, H, N, U, M>,
-    seats: Vec<Seat<M>>,
+    shared: &Shared<'g, G, H, N, U, M, L>,
+    seats: Vec<Seat<N, M, L>>,
     graph: &G,
     gate: &T,
-) -> Result<(Vec<Seat<M>>, bool), Vec<Seat<M>>>
+) -> Result<(Vec<Seat<N, M, L>>, bool), Vec<Seat<N, M, L>>>
     requires graph { G.network graph.now ≡ N.query.network }
-    requires even { All (λ s. s.posts ≡ s.takes) seats.items }
+    requires even { All (λ s. length s.posts ≡ s.takes) seats.items }
     ensures all { IfOk result (λ r. vec_len r.0 ≡ vec_len seats) }
-    ensures even { IfOk result (λ r. sum_by (λ s. s.posts) r.0.items ≡ sum_by (λ s. s.takes) r.0.items) }
+    ensures even { IfOk result (λ r. sum_by (λ s. length s.posts) r.0.items ≡ sum_by (λ s. s.takes) r.0.items) }
     ensures back { IfErr result (λ back. back ≡ seats) }
 {
     let mut places = Vec::new(alloc);
@@ -53,9 +54,9 @@ pub(crate) fn run_workers<
     thread::scope(
         thread::scope_env(),
         rt,
-        move |scope| -> Result<(Vec<Seat<M>>, bool), Vec<Seat<M>>>
-            requires { (G.network floor.now.graph.now ≡ N.query.network) × All (λ s. s.posts ≡ s.takes) seats.items × (places.items ≡ []) × (vec_len seats ≤ vec_capacity places) }
-            ensures { IfOk result (λ r. (vec_len r.0 ≡ vec_len seats) × (sum_by (λ s. s.posts) r.0.items ≡ sum_by (λ s. s.takes) r.0.items)) × IfErr result (λ back. back ≡ seats) }
+        move |scope| -> Result<(Vec<Seat<N, M, L>>, bool), Vec<Seat<N, M, L>>>
+            requires { (G.network floor.now.graph.now ≡ N.query.network) × All (λ s. length s.posts ≡ s.takes) seats.items × (places.items ≡ []) × (vec_len seats ≤ vec_capacity places) }
+            ensures { IfOk result (λ r. (vec_len r.0 ≡ vec_len seats) × (sum_by (λ s. length s.posts) r.0.items ≡ sum_by (λ s. s.takes) r.0.items)) × IfErr result (λ back. back ≡ seats) }
         {
             let mut handles = Vec::new(alloc);
             if handles.reserve(seats.len()).is_err() {
@@ -65,8 +66,8 @@ pub(crate) fn run_workers<
             let mut places = places;
             let mut refused = false;
             'starts: while let Some(seat) = rest.pop() {
-                let job = move || -> Done<M>
-                    requires { (G.network floor.now.graph.now ≡ N.query.network) × (seat.posts ≡ seat.takes) }
+                let job = move || -> Done<N, M, L>
+                    requires { (G.network floor.now.graph.now ≡ N.query.network) × (length seat.posts ≡ seat.takes) }
                 { work(floor, seat) };
                 match scope.spawn(job) {
                     Ok(handle) => handles.push_reserved(handle),

@@ -10,7 +10,7 @@ ghost use Rattle.sbpl_epase.specs.Making.{CanPass, Leaves};
 use crate::crew::run_workers;
 use crate::{Gate, Passed};
 use sbpl_fixed::NoMemory;
-use sbpl_frontier::{Claims, Second, Shared};
+use sbpl_frontier::{Claims, Line, Lined, Second, Shared};
 use sbpl_frontier_core::{Core, CoreOf, Parts, Pass, Past, Unseen, go_on, nothing_begun};
 use sbpl_graph::{Graph, Guide};
 use sbpl_labels::PassEnd;
@@ -86,9 +86,8 @@ fn pass_of<
         Err(NoMemory) => return Err(core),
     };
     let takes = Blank::new(workers as u64);
-    let posts = Blank::new(workers as u64);
     let core = share_as::<Brand, R, T, G, H, N, U>(
-        rt, alloc, core, graph, workers, gate, takes, posts, claims,
+        rt, alloc, core, graph, workers, gate, takes, claims,
     )?;
     go_on(core, graph, gate)
 }
@@ -112,7 +111,6 @@ fn share_as<
     workers: u32,
     gate: &T,
     takes: Blank,
-    posts: Blank,
     claims: Claims,
 ) -> Result<CoreOf<'g, G, H, N, U>, CoreOf<'g, G, H, N, U>>
     requires some { 1 ≤ workers }
@@ -121,12 +119,52 @@ fn share_as<
     requires graph { G.network graph.now ≡ N.query.network }
     requires parts { M.parts ≡ workers }
     requires takes { (takes.name ≡ M.takes) × (takes.parts ≡ M.parts) }
-    requires posts { (posts.name ≡ M.posts) × (posts.parts ≡ M.parts) }
     requires claims { claims ≡ M.table }
     ensures out { IfOk result (λ core. core.frontier.out ≡ []) }
 {
-    let (shared, seats) = Shared::<'g, G, H, N, U, M>::new(
-        alloc, core, workers, takes, posts, claims,
+    let line = match Line::<N, M>::new(alloc, workers) {
+        Ok(line) => line,
+        Err(NoMemory) => return Err(core),
+    };
+    line_as::<Brand, M, R, T, G, H, N, U>(
+        rt, alloc, core, graph, workers, gate, takes, claims, line,
+    )
+}
+
+/// The same, where the line by which judgements come back has a name too.
+fn line_as<
+    'g,
+    L: Lined + Send + Sync,
+    M: Second + Send + Sync,
+    R: Threads + Wait + Sync,
+    T: Gate + Sync,
+    G: Graph + Sync,
+    H: Guide + Sync,
+    N: Pass + Send + Sync,
+    U: Past + Send,
+>(
+    rt: &R,
+    alloc: Global,
+    core: CoreOf<'g, G, H, N, U>,
+    graph: &G,
+    workers: u32,
+    gate: &T,
+    takes: Blank,
+    claims: Claims,
+    line: Line<N, M>,
+) -> Result<CoreOf<'g, G, H, N, U>, CoreOf<'g, G, H, N, U>>
+    requires some { 1 ≤ workers }
+    requires few { workers ≤ 64 }
+    requires empty { core.journal ≡ [] }
+    requires graph { G.network graph.now ≡ N.query.network }
+    requires parts { M.parts ≡ workers }
+    requires takes { (takes.name ≡ M.takes) × (takes.parts ≡ M.parts) }
+    requires claims { claims ≡ M.table }
+    requires line { line ≡ L.line }
+    ensures out { IfOk result (λ core. core.frontier.out ≡ []) }
+{
+    let (shared, seats) = Shared::<'g, G, H, N, U, M, L>::new(
+        alloc, core, workers, takes, line, claims,
     )?;
     match run_workers(rt, alloc, &shared, seats, graph, gate) {
         Ok((seats, refused)) => {

@@ -1,2 +1,4 @@
 pub mod Tying
 pub mod Summing
+pub mod Finishing
+pub mod PairTails

@@ -1,3 +1,5 @@
 pub mod Tally
+pub mod Come
 pub mod Tied
 pub mod Turns
+pub mod Pair

@@ -1,4 +1,4 @@
-//! The two ledgers of a pass.
+//! The ledger of a pass.
 
 use crate::Second;
 use std::marker::PhantomData;
@@ -12,18 +12,6 @@ pub struct TakesOf<M> {
 
 impl<M: Second> Ledger for TakesOf<M> {
     ghost name = { M.takes };
-
-    ghost parts = { M.parts };
-}
-
-/// Counts the judgements that were posted.
-#[derive(Drop)]
-pub struct PostsOf<M> {
-    of: PhantomData<M>,
-}
-
-impl<M: Second> Ledger for PostsOf<M> {
-    ghost name = { M.posts };
 
     ghost parts = { M.parts };
 }

@@ -1,5 +1,5 @@
-//! The frontier of a parallel pass, shared by workers: they ask it for arcs behind one lock, judge them with no lock held, and bring
-//! the judgements back.
+//! The frontier of a parallel pass, shared by workers: they ask it for arcs behind one lock, judge them with no lock held, and put
+//! the judgements into a line, which whoever next holds the lock empties.
 #![tactic(auto)]
 
 mod bell;
@@ -8,10 +8,13 @@ mod locked;
 mod seat;
 mod second;
 mod shared;
+#[cfg(test)]
+mod tests;
 mod turn;
 
 pub use sbpl_claims::{Claim, Claims, Naming};
 pub use sbpl_frontier_core::{Seen, Ticket};
+pub use sbpl_postings::{Line, Lined};
 pub use seat::Seat;
 pub use second::Second;
 pub use shared::Shared;

@@ -1,42 +1,46 @@
 //! What stands behind the lock.
 
-ghost use Rattle.std.specs.Prelude.{◌≡◌, ◌+◌, IfOk, OnErr};
+ghost use Rattle.std.specs.Prelude.{◌≡◌, ◌+◌, ◌<◌, [], ◌++◌, IfOk, IsFalse, OnErr, map, sum_by, vec_len};
+ghost use Rattle.sbpl_postings.specs.Kept.{AreBrought};
+ghost use Rattle.sbpl_frontier.specs.Tally.{sent_in};
 ghost use Rattle.sbpl_frontier.specs.Turns.{Gives, Shows};
 
-use crate::ledgers::{PostsOf, TakesOf};
+use crate::ledgers::TakesOf;
 use crate::{Seat, Second, Turn};
-use sbpl_claims::{Claim, Keeper};
+use sbpl_claims::Keeper;
 use sbpl_fixed::NoMemory;
-use sbpl_frontier_core::{CoreOf, Judged, Next, Pass, Past};
+use sbpl_frontier_core::{CoreOf, Next, Pass, Past};
 use sbpl_graph::{Graph, Guide};
+use sbpl_postings::{Drain, Lined, Queue};
 use std::marker::Model;
-use std::sync::ledger::Book;
+use std::sync::Wait;
+use std::sync::ledger::{Book, Share};
 
-/// A frontier, what its holder knows of the tickets that are out, and the books of the two ledgers. Each of them agrees with the
-/// frontier whenever the lock is free.
+/// A frontier, what its holder knows of the tickets that are out, the book of the ledger, and the right to take judgements out of
+/// the line. Each of them agrees with the frontier whenever the lock is free.
 #[derive(Drop)]
-pub(crate) struct Locked<'g, G: Graph, H: Guide, N: Pass, U: Past, M: Second> {
+pub(crate) struct Locked<'g, G: Graph, H: Guide, N: Pass, U: Past, M: Second, L: Lined> {
     pub(crate) core: CoreOf<'g, G, H, N, U>,
     pub(crate) keeper: Keeper<M>,
     pub(crate) takes: Book<TakesOf<M>>,
-    pub(crate) posts: Book<PostsOf<M>>,
+    pub(crate) drain: Drain<N, M, L>,
 }
 
-impl<'g, G: Graph, H: Guide, N: Pass, U: Past, M: Second> Model for Locked<'g, G, H, N, U, M> {
+impl<'g, G: Graph, H: Guide, N: Pass, U: Past, M: Second, L: Lined> Model
+    for Locked<'g, G, H, N, U, M, L> {
     ghost use Rattle.std.specs.Prelude.{◌<◌};
-    ghost use Rattle.sbpl_frontier_core.specs.Book.{Book as book_of_events};
-    ghost use Rattle.sbpl_frontier.specs.Tied.{AreTied};
+    ghost use Rattle.sbpl_frontier.specs.Tied.{AreTied, Sight};
 
-    ghost Value = { book_of_events };
+    ghost Value = { Sight };
 
-    ghost view = { λ a. a.core };
+    ghost view = { λ a. record { book = a.core; line = a.drain } };
 
-    ghost invariant = { λ a. (0 < M.parts) × AreTied a.core a.keeper a.takes.total a.posts.total };
+    ghost invariant = { λ a. (0 < M.parts) × AreTied a.core a.keeper a.takes.total a.drain };
 }
 
-impl<'g, G: Graph, H: Guide, N: Pass, U: Past, M: Second> Locked<'g, G, H, N, U, M> {
+impl<'g, G: Graph, H: Guide, N: Pass, U: Past, M: Second, L: Lined> Locked<'g, G, H, N, U, M, L> {
     /// What the worker in this seat is to do.
-    pub(crate) fn next(&mut self, seat: &mut Seat<M>) -> Result<Turn<N, U, M>, NoMemory>
+    pub(crate) fn next(&mut self, seat: &mut Seat<N, M, L>) -> Result<Turn<N, U, M>, NoMemory>
         ensures gives { IfOk result (λ turn. Gives seat.old turn seat.new) }
         ensures same { OnErr result (seat.new ≡ seat.old) }
         ensures shows { IfOk result (λ turn. Shows N.query N.opening N.counts turn) }
@@ -53,13 +57,55 @@ impl<'g, G: Graph, H: Guide, N: Pass, U: Past, M: Second> Locked<'g, G, H, N, U,
         }
     }
 
-    /// Applies a judgement, whose ticket is out as the claim shows.
-    pub(crate) fn post(&mut self, seat: &mut Seat<M>, judged: Judged<N>, claim: Claim<M>)
-        requires same { claim ≡ record { ticket = judged.number; state = judged.state; arc = judged.arc } }
-        ensures posted { seat.new ≡ record seat.old { posts = seat.old.posts + 1 } }
+    /// Takes all judgements out of the line that are in it, and applies them.
+    pub(crate) fn receive_all<R: Wait>(&mut self, rt: &R, queue: &Queue<N, M, L>)
+        ensures ended { self.new.line.ended ≡ self.old.line.ended }
+        ensures brought { AreBrought self.new.line [] }
     {
+        'postings: for _ in rt.forever() {
+            if !self.receive(rt, queue) {
+                return;
+            }
+        }
+        unreachable!()
+    }
+
+    /// Takes one judgement out of the line and applies it, whose ticket is out as its claim shows. It answers whether there was one.
+    fn receive<R: Wait>(&mut self, rt: &R, queue: &Queue<N, M, L>) -> bool
+        ensures ended { self.new.line.ended ≡ self.old.line.ended }
+        ensures brought { IsFalse result → AreBrought self.new.line [] }
+    {
+        let Some(posting) = self.drain.pop(rt, queue) else {
+            return false;
+        };
+        let (judged, claim) = posting.open();
         self.keeper.settle(claim);
-        self.posts.add(&mut seat.posts, 1);
         self.core.apply(judged);
+        true
+    }
+
+    /// Takes the seats back, whose workers have ended, with what each put into the line, and gives their shares in one.
+    pub(crate) fn end_all(
+        &mut self,
+        queue: &Queue<N, M, L>,
+        seats: Vec<Seat<N, M, L>>,
+    ) -> Share<TakesOf<M>>
+        requires some { 0 < vec_len seats }
+        ensures ended { self.new.line.ended ≡ map sent_in seats.items ++ self.old.line.ended }
+        ensures takes { result.amount ≡ sum_by (λ s. s.takes) seats.items }
+        ensures parts { result.parts ≡ vec_len seats }
+    {
+        let mut rest = seats;
+        let Seat {
+            mut takes,
+            sender,
+            ..
+        } = rest.pop().unwrap();
+        self.drain.end(queue, sender);
+        'seats: while let Some(seat) = rest.pop() {
+            takes.merge(seat.takes);
+            self.drain.end(queue, seat.sender);
+        }
+        takes
     }
 }

@@ -1,36 +1,39 @@
 //! Seats.
 
-ghost use Rattle.std.specs.Prelude.{◌≡◌, ◌<◌, All, IfOk, sum_by, vec_len};
+ghost use Rattle.std.specs.Prelude.{◌≡◌, ◌<◌, [], All, IfOk, OnOk, sum_by, vec_len};
+ghost use Rattle.sbpl_postings.specs.Steps.{nothing_came};
 ghost use Rattle.sbpl_frontier.specs.Tally.{fresh_seats};
 
 use crate::Second;
-use crate::ledgers::{PostsOf, TakesOf};
+use crate::ledgers::TakesOf;
 use sbpl_fixed::NoMemory;
+use sbpl_frontier_core::Pass;
+use sbpl_postings::{Drain, Lined, Queue, Sender};
 use std::alloc::Global;
 use std::marker::Model;
 use std::sync::ledger::Share;
 
-/// A worker's place at a frontier: its number, and its shares in the ledgers of takes and of posts. Contracts see it as its number,
-/// how many arcs it took, and how many judgements it posted; its shares take no memory.
+/// A worker's place at a frontier: its number, its share in the ledger of takes, and its right to put judgements into the line.
+/// Contracts see it as its number, how many arcs it took, and which judgements it posted; share and right take no memory.
 #[derive(Drop)]
-pub struct Seat<M: Second> {
+pub struct Seat<N: Pass, M: Second, L: Lined> {
     pub(crate) number: u32,
     pub(crate) takes: Share<TakesOf<M>>,
-    pub(crate) posts: Share<PostsOf<M>>,
+    pub(crate) sender: Sender<N, M, L>,
 }
 
-impl<M: Second> Model for Seat<M> {
+impl<N: Pass, M: Second, L: Lined> Model for Seat<N, M, L> {
     ghost use Rattle.std.specs.Prelude.{◌≡◌};
     ghost use Rattle.sbpl_frontier.specs.Tally.{Tally};
 
     ghost Value = { Tally };
 
-    ghost view = { λ a. record { number = a.number; takes = a.takes.amount; posts = a.posts.amount } };
+    ghost view = { λ a. record { number = a.number; takes = a.takes.amount; posts = a.sender.posts } };
 
-    ghost invariant = { λ a. (a.takes.parts ≡ 1) × (a.posts.parts ≡ 1) };
+    ghost invariant = { λ a. (a.takes.parts ≡ 1) × (a.sender.seat ≡ a.number) };
 }
 
-impl<M: Second> Seat<M> {
+impl<N: Pass, M: Second, L: Lined> Seat<N, M, L> {
     /// The seat's number.
     pub fn number(&self) -> u32
         ensures value { result ≡ self.now.number }
@@ -39,48 +42,30 @@ impl<M: Second> Seat<M> {
     }
 }
 
-/// Seats with the numbers from 0 upwards, each with one part of each ledger, which nothing was added to.
-pub(crate) fn deal<M: Second>(
+/// Seats with the numbers from 0 upwards, each with one part of the ledger, which nothing was added to, and a sender, which put
+/// nothing in.
+pub(crate) fn deal<N: Pass, M: Second, L: Lined>(
     alloc: Global,
     seats: u32,
     takes: Share<TakesOf<M>>,
-    posts: Share<PostsOf<M>>,
-) -> Result<Vec<Seat<M>>, NoMemory>
+    queue: &Queue<N, M, L>,
+    drain: &mut Drain<N, M, L>,
+) -> Result<Vec<Seat<N, M, L>>, NoMemory>
     requires takes { (takes.parts ≡ seats) × (takes.amount ≡ 0) }
-    requires posts { (posts.parts ≡ seats) × (posts.amount ≡ 0) }
+    requires drain { drain.old ≡ nothing_came }
     ensures all { IfOk result (λ places. vec_len places ≡ seats) }
     ensures fresh { IfOk result (λ places. places.items ≡ fresh_seats seats) }
-    ensures none { IfOk result (λ places. All (λ s. (s.takes ≡ 0) × (s.posts ≡ 0)) places.items) }
+    ensures none { IfOk result (λ places. All (λ s. (s.takes ≡ 0) × (s.posts ≡ [])) places.items) }
+    ensures came { OnOk result (drain.new.came ≡ []) }
 {
     let mut places = Vec::new(alloc);
-    let (mut takes, mut posts) = (takes, posts);
+    let mut takes = takes;
     for number in 0..seats {
         places.push(Seat {
             number,
             takes: takes.split_off(1, 0),
-            posts: posts.split_off(1, 0),
+            sender: drain.sender(queue),
         })?;
     }
     Ok(places)
-}
-
-/// The shares of all seats in one: they have all parts, and what all seats took and posted.
-pub(crate) fn merged<M: Second>(seats: Vec<Seat<M>>) -> (Share<TakesOf<M>>, Share<PostsOf<M>>)
-    requires some { 0 < vec_len seats }
-    ensures takes { result.0.amount ≡ sum_by (λ s. s.takes) seats.items }
-    ensures takes_parts { result.0.parts ≡ vec_len seats }
-    ensures posts { result.1.amount ≡ sum_by (λ s. s.posts) seats.items }
-    ensures posts_parts { result.1.parts ≡ vec_len seats }
-{
-    let mut rest = seats;
-    let Seat {
-        mut takes,
-        mut posts,
-        ..
-    } = rest.pop().unwrap();
-    'seats: while let Some(seat) = rest.pop() {
-        takes.merge(seat.takes);
-        posts.merge(seat.posts);
-    }
-    (takes, posts)
 }

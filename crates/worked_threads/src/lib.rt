@@ -6,4 +6,6 @@ mod lattices;
 #[cfg(test)]
 mod passes;
 #[cfg(test)]
+mod rows;
+#[cfg(test)]
 mod watched;

@@ -1,5 +1,5 @@
 use Rattle.sbpl_epase.proofs.Summing.{even_from_nothing, sums_even}
-use Rattle.sbpl_epase.proofs.parallel.share_as.Goals as goal
+use Rattle.sbpl_epase.proofs.parallel.line_as.Goals as goal
 
 pub run_workers-requires-clause-even : goal.run_workers-requires-clause-even
 run_workers-requires-clause-even g c κs within = even_from_nothing c.in_ok-shared.seats.items c.in_ok-shared.ensures.none
