@@ -107,7 +107,7 @@ module _ (w : World) (is_world : IsWorld w) where
   }
 
   -- a free arc costs its primitive's cost or more
-  cost_of_free : (s c : ℕ) (p : Primitive) → IsFreeAt w s p c → primitive_cost w.env p ≤ c
+  pub cost_of_free : (s c : ℕ) (p : Primitive) → IsFreeAt w s p c → primitive_cost w.env p ≤ c
   cost_of_free s c p at =
       let some : 1 ≤ at.greatest + 1 = omega arith in
       let whole : primitive_cost w.env p ≤ primitive_cost w.env p * (at.greatest + 1) = le-mul_of_pos_right (primitive_cost w.env p) some in

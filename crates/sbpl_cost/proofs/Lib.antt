@@ -25,3 +25,4 @@ pub mod Views
 pub mod UnreadCosts
 pub mod Ways
 pub mod OrderedTails
+pub mod ArcFloors

@@ -282,6 +282,11 @@ impl Graph for Lattice {
         Some(self.costs[i] * (u32::from(greatest) + 1))
     }
 
+    fn floor(&self, s: u32, k: u32) -> u32 {
+        let _env = self.env();
+        self.cost_of(self.prim_of(s, k))
+    }
+
     fn tail_fan(&self, t: u32) -> u32 {
         self.entering.at(heading_of(&self.env, t) as usize).len() as u32
     }

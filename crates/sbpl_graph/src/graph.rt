@@ -1,6 +1,6 @@
 //! Graphs whose states and arcs are numbers.
 
-ghost use Rattle.std.specs.Prelude.{◌≡◌, ◌^◌, ◌<◌, ◌≤◌, IfSome, IsSome};
+ghost use Rattle.std.specs.Prelude.{◌≡◌, ℕ, ◌^◌, ◌<◌, ◌≤◌, IfSome, IsSome, Some};
 ghost use Rattle.sbpl_graph.specs.Network.{Network};
 ghost use Rattle.sbpl_graph.specs.Laws.{IsSound, HasExactTails, HasGaps};
 
@@ -40,6 +40,17 @@ pub trait Graph {
         ensures positive { IfSome result (λ c. 1 ≤ c) }
         ensures small { IfSome result (λ c. c < 2 ^ 32) }
         ensures headed { IfSome result (λ _. IsSome ((network self.now).head s k)) };
+
+    /// A floor on the cost of arc `k` of `s`: where the arc is free it costs no less. A search asks for it to leave out the judgement
+    /// of an arc that cannot help, so it has to be quick. It is 1 where a graph knows no better.
+    fn floor(&self, s: u32, k: u32) -> u32
+        requires state { s < (network self.now).states }
+        requires number { k < (network self.now).fan s }
+        ensures floor { (c : ℕ) → (network self.now).cost s k ≡ Some c → result ≤ c }
+    {
+        let _states = self.states();
+        1
+    }
 
     /// The number of tails of `t`, at most 4096: with `tail` they are exactly the arcs whose head is
     /// `t`, each once.
