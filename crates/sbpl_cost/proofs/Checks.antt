@@ -12,6 +12,8 @@ use Rattle.sbpl_sweep.specs.Sweep.{IsCentre}
 use Rattle.sbpl_sweep.specs.Centres.{AreCentres, AreSwept}
 use Rattle.sbpl_sweep.specs.ReadTables.{IsAmong}
 use Rattle.sbpl_cost.specs.Checked.{AddsOthers, AreAlong, AreAround}
+use Rattle.sbpl_cost.specs.Strips.{cells_in}
+use Rattle.sbpl_cost.specs.declared.strip.Strip.{Strip}
 use Rattle.sbpl_cost.proofs.Filling.{take_next}
 
 -- one more cell at the end
@@ -94,17 +96,8 @@ along_from cell p end centres cells in_centre are is added =
           ];
     }
 
-pub around_from : (cell : ℤ) (radius : ℕ) (p : Primitive) (centres swept cells : List Cell) → AreCentres cell p.poses centres → AreSwept cell radius p.poses swept
-    → AddsOthers [] swept centres cells → AreAround cell radius p cells
-around_from cell radius p centres swept cells are all added = record {
-  each = λ i c h. elim (added.each c (i, h)) [
-    | inl none ↦ absurd (none-some c none.1)
-    | inr among ↦ all.each among.0 c among.1
-  ];
-  all = λ x y touched.
-      let c : Cell = record { y = y; x = x } in
-      elim (added.all c (all.all x y touched)) [
-        | inl listed ↦ inr listed
-        | inr known ↦ inl (are.each known.0 c known.1)
-      ];
+pub around_from : (cell : ℤ) (radius : ℕ) (p : Primitive) (swept : List Cell) (strips : List Strip) → AreSwept cell radius p.poses swept → cells_in strips ≡ swept → AreAround cell radius p strips
+around_from cell radius p swept strips all same = record {
+  each = λ i c h. all.each i c (subst (λ (cells : List Cell). slice_get cells i ≡ Some c) same h);
+  all = λ x y touched. let there = all.all x y touched in (there.0, subst (λ (cells : List Cell). slice_get cells there.0 ≡ Some (record { y = y; x = x })) (sym same) there.1);
 }

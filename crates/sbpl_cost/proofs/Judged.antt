@@ -8,6 +8,8 @@ use Rattle.sbpl_mprim.specs.Primitives.{IsPrimitive}
 use Rattle.sbpl_sweep.specs.declared.cell.Cell.{Cell}
 use Rattle.sbpl_sweep.specs.Sweep.{IsCentre, IsSwept}
 use Rattle.sbpl_cost.specs.PrimitiveCost.{primitive_cost}
+use Rattle.sbpl_cost.specs.Strips.{cells_in}
+use Rattle.sbpl_cost.specs.declared.strip.Strip.{Strip}
 use Rattle.sbpl_cost.specs.States.{place_of}
 use Rattle.sbpl_cost.specs.Checked.{AreAlong, AreAround, HaveAlong, HaveAround}
 use Rattle.sbpl_cost.specs.World.{World, IsWorld}
@@ -39,21 +41,21 @@ pub near_along : (cell size : ℤ) (headings : ℕ) (p : Primitive) (cells : Lis
     → (i : ℕ) (c : Cell) → slice_get cells i ≡ Some c → IsNear c
 near_along cell size headings p cells in_size good are i c h = swept_within cell size headings 0 p c.x c.y in_size good (omega arith) (inl (are.each i c h))
 
-pub near_around : (cell size : ℤ) (headings radius : ℕ) (p : Primitive) (cells : List Cell) → IsWithin (pos 1) (pos 1000000000000) cell → IsPrimitive size headings p → radius ≤ 10 ^ 12 → AreAround cell radius p cells
-    → (i : ℕ) (c : Cell) → slice_get cells i ≡ Some c → IsNear c
-near_around cell size headings radius p cells in_size good small are i c h = swept_within cell size headings radius p c.x c.y in_size good small (are.each i c h)
+pub near_around : (cell size : ℤ) (headings radius : ℕ) (p : Primitive) (strips : List Strip) → IsWithin (pos 1) (pos 1000000000000) cell → IsPrimitive size headings p → radius ≤ 10 ^ 12 → AreAround cell radius p strips
+    → (i : ℕ) (c : Cell) → slice_get (cells_in strips) i ≡ Some c → IsNear c
+near_around cell size headings radius p strips in_size good small are i c h = swept_within cell size headings radius p c.x c.y in_size good small (are.each i c h)
 
--- the cells that the tables have for a motion are those along it and those around it
-pub record AreRead (w : World) (p : Primitive) (centres beside : List Cell) : Type 0 where
+-- the tables have for a motion the cells along it and those that it sweeps
+pub record AreRead (w : World) (p : Primitive) (centres : List Cell) (beside : List Strip) : Type 0 where
   pub good : IsPrimitive w.env.cell w.env.headings p
   pub along : AreAlong w.env.cell p centres
   pub around : AreAround w.env.cell w.sweeps.radius p beside
 
-module _ (w : World) (is_world : IsWorld w) (s k place : ℕ) (p : Primitive) (f : IsFound w s k place p) (along around : List Cell) (are : AreRead w p along around) where
+module _ (w : World) (is_world : IsWorld w) (s k place : ℕ) (p : Primitive) (f : IsFound w s k place p) (along : List Cell) (around : List Strip) (are : AreRead w p along around) where
   none_where_blocked : (IsFree w s p → ⊥) → None ≡ (network_of w).cost s k
   none_where_blocked blocked = sym ((arc_of w is_world s k place p f).no_cost.1 blocked)
 
-  none_by : IsObstructed w.env w.map (place_of w.env s) along around → None ≡ (network_of w).cost s k
+  none_by : IsObstructed w.env w.map (place_of w.env s) along (cells_in around) → None ≡ (network_of w).cost s k
   none_by (at_source blocked) = none_where_blocked (λ free. blocked free.source)
   none_by (at_centre some) = none_where_blocked (λ free.
       let centre = are.along.each some.number some.cell some.at in
@@ -63,15 +65,12 @@ module _ (w : World) (is_world : IsWorld w) (s k place : ℕ) (p : Primitive) (f
 
   module _ (start greatest : ℕ) (start_is : cost_from w s (pos 0) (pos 0) ≡ Some start) (start_below : start < w.env.obsthresh)
       (rest : IsGreatestBelow w.map along (pos (place_of w.env s).x) (pos (place_of w.env s).y) (min w.env.obsthresh w.env.inscribed) start greatest)
-      (beside : AreBelow w.map around (pos (place_of w.env s).x) (pos (place_of w.env s).y) w.env.obsthresh) where
+      (beside : AreBelow w.map (cells_in around) (pos (place_of w.env s).x) (pos (place_of w.env s).y) w.env.obsthresh) where
     centre_below : (x y : ℤ) → IsCentre w.env.cell p.poses x y → IsSomeAnd (cost_from w s x y) (λ c. c < min w.env.obsthresh w.env.inscribed)
     centre_below x y centre = let there = are.along.all x y centre in rest.below there.0 (record { y = y; x = x }) there.1
 
     swept_below : (x y : ℤ) → IsSwept w.env.cell w.sweeps.radius p.poses x y → IsSomeAnd (cost_from w s x y) (λ c. c < w.env.obsthresh)
-    swept_below x y swept = elim (are.around.all x y swept) [
-      | inl centre ↦ below_left (cost_from w s x y) w.env.obsthresh w.env.inscribed (centre_below x y centre)
-      | inr there ↦ beside there.0 (record { y = y; x = x }) there.1
-    ]
+    swept_below x y swept = let there = are.around.all x y swept in beside there.0 (record { y = y; x = x }) there.1
 
     free : IsFree w s p
     free = record {
@@ -104,17 +103,17 @@ module _ (w : World) (is_world : IsWorld w) (s k place : ℕ) (p : Primitive) (f
         sym (((arc_of w is_world s k place p f).cost cost).1 at)
 
   -- the same, from what the walk over the cells answered
-  pub none_where_obstructed : (source : Place) → source ≡ place_of w.env s → IsObstructed w.env w.map source along around → None ≡ (network_of w).cost s k
-  none_where_obstructed source same obstructed = none_by (subst (λ q. IsObstructed w.env w.map q along around) same obstructed)
+  pub none_where_obstructed : (source : Place) → source ≡ place_of w.env s → IsObstructed w.env w.map source along (cells_in around) → None ≡ (network_of w).cost s k
+  none_where_obstructed source same obstructed = none_by (subst (λ q. IsObstructed w.env w.map q along (cells_in around)) same obstructed)
 
-  pub some_where_passed : (source : Place) (greatest price more : ℕ) → source ≡ place_of w.env s → IsGreatestPassed w.env w.map source along around greatest → price ≡ primitive_cost w.env p → more ≡ greatest
+  pub some_where_passed : (source : Place) (greatest price more : ℕ) → source ≡ place_of w.env s → IsGreatestPassed w.env w.map source along (cells_in around) greatest → price ≡ primitive_cost w.env p → more ≡ greatest
       → Some (price * (more + 1)) ≡ (network_of w).cost s k
   some_where_passed source greatest price more same passed own is =
-      let there = subst (λ q. IsGreatestPassed w.env w.map q along around greatest) same passed in
+      let there = subst (λ q. IsGreatestPassed w.env w.map q along (cells_in around) greatest) same passed in
       some_where_free there.start greatest there.start_is there.start_below there.rest there.beside price (price * (more + 1)) own (ap (λ g. price * (g + 1)) is)
 
 -- what the tables have for the primitive at an index of the file
-pub read_at : (w : World) → IsWorld w → (centres beside : List (List Cell)) (place : ℕ) (p : Primitive) (along around : List Cell) → HaveAlong w.prims centres → HaveAround w.prims w.sweeps.radius beside
+pub read_at : (w : World) → IsWorld w → (centres : List (List Cell)) (beside : List (List Strip)) (place : ℕ) (p : Primitive) (along : List Cell) (around : List Strip) → HaveAlong w.prims centres → HaveAround w.prims w.sweeps.radius beside
     → slice_get w.prims.items place ≡ Some p → slice_get centres place ≡ Some along → slice_get beside place ≡ Some around → AreRead w p along around
 read_at w is_world centres beside place p along around have_along have_around stands at_along at_around =
     let first = have_along place p stands in
@@ -123,5 +122,5 @@ read_at w is_world centres beside place p along around have_along have_around st
     record {
       good = subst (λ n. IsPrimitive w.env.cell n p) is_world.headings (subst (λ z. IsPrimitive z w.prims.headings p) is_world.cell good);
       along = subst (λ z. AreAlong z p along) is_world.cell (subst (λ cells. AreAlong w.prims.cell p cells) (same_Some first.0 along (sym first.1 ∙ at_along)) first.2);
-      around = subst (λ z. AreAround z w.sweeps.radius p around) is_world.cell (subst (λ cells. AreAround w.prims.cell w.sweeps.radius p cells) (same_Some second.0 around (sym second.1 ∙ at_around)) second.2);
+      around = subst (λ z. AreAround z w.sweeps.radius p around) is_world.cell (subst (λ strips. AreAround w.prims.cell w.sweeps.radius p strips) (same_Some second.0 around (sym second.1 ∙ at_around)) second.2);
     }

@@ -50,7 +50,7 @@ some_where_not_none None h = absurd (h refl)
 some_where_not_none (Some x) h = refl
 
 -- what a cost below a threshold says of the cell
-has_cost : (o : Option ℕ) (n : ℕ) → IsSomeAnd o (λ c. c < n) → (c : ℕ) × (o ≡ Some c)
+pub has_cost : (o : Option ℕ) (n : ℕ) → IsSomeAnd o (λ c. c < n) → (c : ℕ) × (o ≡ Some c)
 has_cost None n h = absurd h
 has_cost (Some c) n h = (c, refl)
 

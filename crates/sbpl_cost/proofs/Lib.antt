@@ -26,3 +26,6 @@ pub mod UnreadCosts
 pub mod Ways
 pub mod OrderedTails
 pub mod ArcFloors
+pub mod Stripping
+pub mod Clearing
+pub mod Walling

@@ -1,3 +1,5 @@
+pub mod Strips
+pub mod Walls
 pub mod PrimitiveCost
 pub mod Reading
 pub mod States

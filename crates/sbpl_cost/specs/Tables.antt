@@ -4,6 +4,9 @@ use Rattle.sbpl_cfg.specs.Environment.{Environment}
 use Rattle.sbpl_mprim.specs.declared.prim.Primitive.{Primitive}
 use Rattle.sbpl_mprim.specs.Primitives.{Primitives}
 use Rattle.sbpl_sweep.specs.declared.cell.Cell.{Cell}
+use Rattle.sbpl_bits.specs.Flags.{Flags}
+use Rattle.sbpl_cost.specs.Walls.{AreWalls}
+use Rattle.sbpl_cost.specs.declared.strip.Strip.{Strip}
 use Rattle.sbpl_cost.specs.declared.gaps.Gaps.{Gaps}
 use Rattle.sbpl_cost.specs.declared.fault.LatticeFault.{LatticeFault}
 use Rattle.sbpl_cost.specs.declared.fault.LatticeFault.TheVariants.{TooDear, NoMemory}
@@ -35,7 +38,7 @@ IsCause e prims (TooDear i) = IsFirstTooDear e prims i
 IsCause e prims NoMemory = Unit {0}
 
 -- the tables of a lattice are those of its world
-pub record AreTables (w : World) (starting ending : List (List ℕ)) (counted prices : List ℕ) (centres beside : List (List Cell)) (gaps : Gaps) : Type 0 where
+pub record AreTables (w : World) (starting ending : List (List ℕ)) (counted prices : List ℕ) (centres : List (List Cell)) (beside : List (List Strip)) (obstacles : Flags) (gaps : Gaps) : Type 0 where
   pub world : IsWorld w
   pub leaving : AreLeaving w.prims starting
   pub entering : AreEntering w.prims ending
@@ -43,4 +46,5 @@ pub record AreTables (w : World) (starting ending : List (List ℕ)) (counted pr
   pub costs : prices ≡ map (primitive_cost w.env) w.prims.items
   pub along : HaveAlong w.prims centres
   pub around : HaveAround w.prims w.sweeps.radius beside
+  pub walls : AreWalls w.env.obsthresh w.map.costs obstacles
   pub fractions : AreGaps w.env w.prims.items gaps

@@ -1,11 +1,13 @@
 //! The cells that a motion's judgement reads beside its source cell.
 
-ghost use Rattle.std.specs.Prelude.{◌≡◌, ◌<◌, [], slice_get, Some, IfOk, OnOk};
+ghost use Rattle.std.specs.Prelude.{◌≡◌, ◌<◌, slice_get, Some, IfOk, OnOk};
 ghost use Rattle.sbpl_mprim.specs.Primitives.{IsPrimitive};
-ghost use Rattle.sbpl_sweep.specs.Centres.{AreCentres, AreSwept};
+ghost use Rattle.sbpl_sweep.specs.Centres.{AreCentres};
 ghost use Rattle.sbpl_sweep.specs.Swept.{AreSweepsOf};
-ghost use Rattle.sbpl_cost.specs.Checked.{AddsOthers, AreAlong, AreAround, HaveAlong, HaveAround};
+ghost use Rattle.sbpl_cost.specs.Checked.{AddsOthers, AreAlong, HaveAlong, HaveAround};
 
+use crate::strip::Strip;
+use crate::strips::strips_of;
 use sbpl_fixed::NoMemory;
 use sbpl_mprim::{Prim, Prims};
 use sbpl_runs::Runs;
@@ -42,15 +44,6 @@ fn along_cells(alloc: Global, prim: &Prim, centres: &[Cell]) -> Result<Vec<Cell>
     Ok(cells)
 }
 
-/// The cells that a motion sweeps, save its centre cells.
-fn around_cells(alloc: Global, centres: &[Cell], swept: &[Cell]) -> Result<Vec<Cell>, NoMemory>
-    ensures around { IfOk result (λ v. AddsOthers [] swept.now centres.now v.items) }
-{
-    let mut cells = Vec::new(alloc);
-    push_others(&mut cells, swept, centres)?;
-    Ok(cells)
-}
-
 /// For each primitive the cells along it: its centre cells.
 pub(crate) fn along_table(
     alloc: Global,
@@ -69,19 +62,19 @@ pub(crate) fn along_table(
     Ok(table)
 }
 
-/// For each primitive the cells around it: those that it sweeps, save its centre cells.
+/// For each primitive the cells that it sweeps, as strips.
 pub(crate) fn around_table(
     alloc: Global,
     prims: &Prims,
     sweeps: &Sweeps,
-) -> Result<Runs<Cell>, NoMemory>
+) -> Result<Runs<Strip>, NoMemory>
     requires sweeps { AreSweepsOf prims.now sweeps.now.radius sweeps.now }
     ensures table { IfOk result (λ r. HaveAround prims.now sweeps.now.radius r) }
 {
     let mut table = Runs::new(alloc)?;
     for i in 0..prims.len() {
-        let cells = around_cells(alloc, sweeps.centre(i), sweeps.swept(i))?;
-        table.push(cells.as_slice())?;
+        let strips = strips_of(alloc, sweeps.swept(i))?;
+        table.push(strips.as_slice())?;
     }
     Ok(table)
 }

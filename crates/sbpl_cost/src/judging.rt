@@ -1,10 +1,15 @@
 //! Whether a motion is free on a map, and the greatest cost that it pays.
 
-ghost use Rattle.std.specs.Prelude.{◌≡◌, ℕ, pos, ◌<◌, ◌+ℤ◌, slice_get, Some, IsTrue, false, IfSome, IfNone};
+ghost use Rattle.std.specs.Prelude.{◌≡◌, ℕ, pos, negsuc, ◌^◌, ◌<◌, ◌+ℤ◌, ◌≤ℤ◌, ◌⊎◌, slice_get, Some, IsTrue, false, IfSome, IfNone};
+ghost use Rattle.sbpl_cfg.specs.Environment.{IsWithin};
 ghost use Rattle.sbpl_map.specs.CellMap.{cost_at};
 ghost use Rattle.sbpl_sweep.specs.declared.cell.Cell.{Cell};
+ghost use Rattle.sbpl_cost.specs.Strips.{cells_in, strip_cells};
+ghost use Rattle.sbpl_cost.specs.Walls.{AreWalls};
 ghost use Rattle.sbpl_cost.specs.Judging.{IsNear, IsCellBelow, IsGreatestBelow, IsSomeBlocked, AreBelow, IsGreatestPassed, IsObstructed};
 
+use crate::strip::Strip;
+use sbpl_bits::Bits;
 use sbpl_cfg::{Env, Place};
 use sbpl_map::Map;
 use sbpl_sweep::Cell;
@@ -46,16 +51,49 @@ fn greatest_below(map: &Map, cells: &[Cell], x: u32, y: u32, limit: u8, least: u
     Some(greatest)
 }
 
-/// Whether the cells that lie this far from cell `(x, y)` are all on the map and cost less than a limit.
-fn are_below(map: &Map, cells: &[Cell], x: u32, y: u32, limit: u8) -> bool
-    requires cells { (i : ℕ) (c : Cell) → slice_get cells.now i ≡ Some c → IsNear c }
-    ensures below { IsTrue result → AreBelow map.now cells.now (pos x) (pos y) limit }
-    ensures blocked { result ≡ false → IsSomeBlocked map.now cells.now (pos x) (pos y) limit }
+/// The number of the row or column that lies this far from another, where it fits.
+fn shifted(number: u32, by: i64) -> Option<u32>
+    requires near { IsWithin (negsuc 10000000000000) (pos 10000000000000) by }
+    ensures there { IfSome result (λ n. pos number +ℤ by ≡ pos n) }
+    ensures off { IfNone result (((pos number +ℤ by) ≤ℤ negsuc 0) ⊎ (pos (2 ^ 32) ≤ℤ (pos number +ℤ by))) }
 {
-    for cell in cells {
-        let Some(_) = cost_near(map, *cell, x, y, limit) else {
+    u32::try_from(i64::from(number) + by).ok()
+}
+
+/// Whether the cells of a strip that lie this far from cell `(x, y)` are all on the map and no walls.
+fn is_clear(walls: &Bits, map: &Map, strip: Strip, x: u32, y: u32, limit: u8) -> bool
+    requires walls { AreWalls limit map.now.costs walls.now }
+    requires some { 0 < strip.len }
+    requires from { IsWithin (negsuc 10000000000000) (pos 10000000000000) strip.from }
+    requires y { IsWithin (negsuc 10000000000000) (pos 10000000000000) strip.y }
+    ensures below { IsTrue result → AreBelow map.now (strip_cells strip) (pos x) (pos y) limit }
+    ensures blocked { result ≡ false → IsSomeBlocked map.now (strip_cells strip) (pos x) (pos y) limit }
+{
+    let (width, height) = (map.width() as usize, map.height() as usize);
+    let Some(row) = shifted(y, strip.y) else {
+        return false;
+    };
+    let Some(from) = shifted(x, strip.from) else {
+        return false;
+    };
+    let (row, from, len) = (row as usize, from as usize, strip.len as usize);
+    if row >= height || from + len > width {
+        return false;
+    }
+    walls.none_between(row * width + from, row * width + from + len)
+}
+
+/// Whether the cells of strips that lie this far from cell `(x, y)` are all on the map and no walls.
+fn are_clear(walls: &Bits, map: &Map, strips: &[Strip], x: u32, y: u32, limit: u8) -> bool
+    requires walls { AreWalls limit map.now.costs walls.now }
+    requires cells { (i : ℕ) (c : Cell) → slice_get (cells_in strips.now) i ≡ Some c → IsNear c }
+    ensures below { IsTrue result → AreBelow map.now (cells_in strips.now) (pos x) (pos y) limit }
+    ensures blocked { result ≡ false → IsSomeBlocked map.now (cells_in strips.now) (pos x) (pos y) limit }
+{
+    for strip in strips {
+        if strip.len > 0 && !is_clear(walls, map, *strip, x, y, limit) {
             return false;
-        };
+        }
     }
     true
 }
@@ -69,13 +107,15 @@ pub(crate) fn greatest_paid(
     env: &Env,
     map: &Map,
     source: Place,
+    walls: &Bits,
     along: &[Cell],
-    around: &[Cell],
+    around: &[Strip],
 ) -> Option<u8>
+    requires walls { AreWalls env.now.obsthresh map.now.costs walls.now }
     requires along { (i : ℕ) (c : Cell) → slice_get along.now i ≡ Some c → IsNear c }
-    requires around { (i : ℕ) (c : Cell) → slice_get around.now i ≡ Some c → IsNear c }
-    ensures greatest { IfSome result (IsGreatestPassed env.now map.now source along.now around.now) }
-    ensures blocked { IfNone result (IsObstructed env.now map.now source along.now around.now) }
+    requires around { (i : ℕ) (c : Cell) → slice_get (cells_in around.now) i ≡ Some c → IsNear c }
+    ensures greatest { IfSome result (IsGreatestPassed env.now map.now source along.now (cells_in around.now)) }
+    ensures blocked { IfNone result (IsObstructed env.now map.now source along.now (cells_in around.now)) }
 {
     let limit = env.obsthresh.min(env.inscribed);
     let Some(start) = cost_near(map, HERE, source.x, source.y, env.obsthresh) else {
@@ -84,7 +124,7 @@ pub(crate) fn greatest_paid(
     let Some(greatest) = greatest_below(map, along, source.x, source.y, limit, start) else {
         return None;
     };
-    if are_below(map, around, source.x, source.y, env.obsthresh) {
+    if are_clear(walls, map, around, source.x, source.y, env.obsthresh) {
         Some(greatest)
     } else {
         None

@@ -19,7 +19,10 @@ use crate::gaps::Gaps;
 use crate::judging::greatest_paid;
 use crate::places::{end_state, heading_of, place_at, start_state, state_at, state_count};
 use crate::reading::add_heads;
+use crate::strip::Strip;
 use crate::tables::{entering_table, leaving_table, number_table, primitive_costs};
+use crate::walls::{note_wall, walls_of};
+use sbpl_bits::Bits;
 use sbpl_cfg::{Env, Place};
 use sbpl_fixed::NoMemory;
 use sbpl_graph::Graph;
@@ -49,8 +52,10 @@ pub struct Lattice {
     costs: Vec<u32>,
     /// For each primitive its centre cells.
     along: Runs<Cell>,
-    /// For each primitive the cells that it sweeps, save its centre cells.
-    around: Runs<Cell>,
+    /// For each primitive the cells that it sweeps.
+    around: Runs<Strip>,
+    /// The cells that are obstacles for the robot.
+    walls: Bits,
     /// The least fractions of cost to cells.
     gaps: Gaps,
 }
@@ -63,7 +68,7 @@ impl Model for Lattice {
 
     ghost view = { λ l. record { env = l.env; prims = l.prims; sweeps = l.sweeps; map = l.map } };
 
-    ghost invariant = { λ l. AreTables (record { env = l.env; prims = l.prims; sweeps = l.sweeps; map = l.map }) l.leaving l.entering l.numbers.items l.costs.items l.along l.around l.gaps };
+    ghost invariant = { λ l. AreTables (record { env = l.env; prims = l.prims; sweeps = l.sweeps; map = l.map }) l.leaving l.entering l.numbers.items l.costs.items l.along l.around l.walls l.gaps };
 }
 
 impl Lattice {
@@ -94,6 +99,7 @@ impl Lattice {
         let numbers = number_table(alloc, &prims)?;
         let along = along_table(alloc, &prims, &sweeps)?;
         let around = around_table(alloc, &prims, &sweeps)?;
+        let walls = walls_of(alloc, map.costs(), env.obsthresh)?;
         let gaps = Gaps::new(env, &prims, costs.as_slice());
         Ok(Lattice {
             env: copy_of(env),
@@ -106,6 +112,7 @@ impl Lattice {
             costs,
             along,
             around,
+            walls,
             gaps,
         })
     }
@@ -248,6 +255,7 @@ impl Lattice {
     {
         let was = self.map.set(x, y, c);
         let _width = self.map.width();
+        note_wall(&mut self.walls, &self.map, &self.env, x, y, c);
         was
     }
 }
@@ -276,7 +284,8 @@ impl Graph for Lattice {
         let i = self.leaving_at(source.t, k) as usize;
         let along = self.along.at(i);
         let around = self.around.at(i);
-        let Some(greatest) = greatest_paid(&self.env, &self.map, source, along, around) else {
+        let Some(greatest) = greatest_paid(&self.env, &self.map, source, &self.walls, along, around)
+        else {
             return None;
         };
         Some(self.costs[i] * (u32::from(greatest) + 1))

@@ -11,7 +11,10 @@ mod places;
 mod primitive_cost;
 mod rate;
 mod reading;
+mod strip;
+mod strips;
 mod tables;
+mod walls;
 mod way;
 
 pub use fault::LatticeFault;

@@ -1,5 +1,5 @@
 -- Where the cells of a map stand in its list of costs.
-use Rattle.std.proofs.Common.{◌≡◌, ◌≢◌, ℕ, ℤ, pos, negsuc, ◌+◌, ◌*◌, ◌<◌, ◌&&◌, List, [], ◌∷◌, zero, suc, inl, inr, option_and_then, length, slice_get, set, get_or, Option, Some, None, nat_lt, refl, ap, sym, ◌∙◌, arith}
+use Rattle.std.proofs.Common.{◌≡◌, ◌≢◌, ℕ, ℤ, pos, negsuc, ◌+◌, ◌*◌, ◌<◌, ◌&&◌, List, [], ◌∷◌, zero, suc, inl, inr, option_and_then, length, slice_get, set, get_or, Option, Some, None, IfSome, nat_lt, refl, ap, sym, ◌∙◌, arith}
 use Rattle.std.proofs.lemmas.Bool.Decides.{nat_tests}
 use Rattle.std.proofs.lemmas.Option.{cond_some, none-some, slice_get-get_or}
 use Rattle.std.proofs.lemmas.Nat.{same_from_place, mul-add-lt}
@@ -36,6 +36,10 @@ index_below m x y p kept e =
     let at = stands_at m x y p e in
     let h = mul-add-lt at.row m.width at.column m.height at.high at.right in
     omega (arith, kept.cells, at.index, h)
+
+pub within : (m : CellMap) (x y : ℤ) → IsCellMap m → (o : Option ℕ) → o ≡ index_in m x y → IfSome o (λ i. i < length m.costs)
+within m x y kept None e = tt
+within m x y kept (Some p) e = index_below m x y p kept (sym e)
 
 -- two cells with one index are one cell
 pub one_cell : (m : CellMap) (x y u v : ℤ) (p q : ℕ) → index_in m x y ≡ Some p → index_in m u v ≡ Some q → q ≡ p → (u ≡ x) × (v ≡ y)

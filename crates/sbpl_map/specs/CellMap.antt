@@ -1,5 +1,5 @@
 -- Maps of cell costs.
-use Rattle.std.specs.Prelude.{◌≡◌, ◌≢◌, ℕ, ℤ, pos, negsuc, ◌+◌, ◌*◌, ◌≤◌, ◌≤ℤ◌, ◌<ℤ◌, ◌⊎◌, ◌&&◌, List, length, slice_get, slice_index, Option, Some, None, option_and_then, nat_lt, if◌then◌else◌}
+use Rattle.std.specs.Prelude.{◌≡◌, ◌≢◌, ℕ, ℤ, pos, negsuc, ◌+◌, ◌*◌, ◌≤◌, ◌≤ℤ◌, ◌<ℤ◌, ◌⊎◌, ◌&&◌, List, length, slice_get, slice_index, slice_set, Option, Some, None, option_and_then, nat_lt, if◌then◌else◌}
 
 -- the costs of the cells, row by row from y = 0, with x along a row
 pub record CellMap : Type 0 where
@@ -31,6 +31,11 @@ index_in m (negsuc x) y = None
 -- the cost of cell (x, y), none off the map
 abbrev pub cost_at : CellMap → ℤ → ℤ → Option ℕ
 cost_at m x y = option_and_then (slice_get m.costs) (index_in m x y)
+
+-- the costs with this one at an index, or unchanged where there is none
+abbrev pub costs_with : CellMap → Option ℕ → (cost : ℕ) → List ℕ
+costs_with m (Some i) cost = slice_set m.costs i cost
+costs_with m None cost = m.costs
 
 -- cell (x, y) gets this cost, and nothing else changes
 pub record ChangesCell (old new : CellMap) (x y : ℤ) (cost : ℕ) : Type 0 where

@@ -1,7 +1,7 @@
 //! The costs of the cells, as they are at present.
 
-ghost use Rattle.std.specs.Prelude.{◌≡◌, ◌*◌, ◌<◌, ◌↔◌, length, IsSome, IsOk, IfOk, OnOk, OnErr, Some};
-ghost use Rattle.sbpl_map.specs.CellMap.{cost_at, index_in, IsOnMap, IsCellMap, ChangesCell};
+ghost use Rattle.std.specs.Prelude.{◌≡◌, ◌*◌, ◌<◌, ◌↔◌, length, IfSome, IsSome, IsOk, IfOk, OnOk, OnErr, Some};
+ghost use Rattle.sbpl_map.specs.CellMap.{cost_at, costs_with, index_in, IsOnMap, IsCellMap, ChangesCell};
 
 use crate::off_map::OffMap;
 use sbpl_cfg::{Env, Grid};
@@ -70,7 +70,7 @@ impl Map {
         ensures value { result ≡ cost_at self.now x y }
         ensures on_map { IsSome result ↔ IsOnMap self.now x y }
     {
-        let index = self.index_of(x, y)?;
+        let index = self.index_at(x, y)?;
         Some(self.costs[index])
     }
 
@@ -80,12 +80,13 @@ impl Map {
         ensures on_map { IsOk result ↔ IsOnMap self.old x y }
         ensures old { IfOk result (λ was. cost_at self.old x y ≡ Some was) }
         ensures changes { OnOk result (ChangesCell self.old self.new x y c) }
+        ensures written { self.new.costs ≡ costs_with self.old (index_in self.old x y) c }
         ensures refused { OnErr result (self.new ≡ self.old) }
         ensures width { self.new.width ≡ self.old.width }
         ensures height { self.new.height ≡ self.old.height }
         ensures kept { IsCellMap self.new }
     {
-        let Some(index) = self.index_of(x, y) else {
+        let Some(index) = self.index_at(x, y) else {
             return Err(OffMap);
         };
         let was = self.costs[index];
@@ -93,8 +94,18 @@ impl Map {
         Ok(was)
     }
 
-    /// The index of cell `(x, y)` among the costs.
-    fn index_of(&self, x: i64, y: i64) -> Option<usize>
+    /// The index of cell `(x, y)` among the costs, or `None` exactly off the map.
+    pub fn index_of(&self, x: i64, y: i64) -> Option<usize>
+        ensures value { result ≡ index_in self.now x y }
+        ensures on_map { IsSome result ↔ IsOnMap self.now x y }
+        ensures inside { IfSome result (λ i. i < length self.now.costs) }
+    {
+        let _costs = &self.costs;
+        self.index_at(x, y)
+    }
+
+    /// The index of cell `(x, y)`, row by row.
+    fn index_at(&self, x: i64, y: i64) -> Option<usize>
         ensures value { result ≡ index_in self.now x y }
         ensures on_map { IsSome result ↔ IsOnMap self.now x y }
     {

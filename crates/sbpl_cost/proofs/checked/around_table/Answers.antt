@@ -1,7 +1,7 @@
 use Rattle.std.proofs.Common.{◌≡◌, sym, ◌∙◌, slice_get, Some, arith, subst}
 use Rattle.std.proofs.lemmas.Option.{slice_get_within, same_Some}
 use Rattle.sbpl_mprim.specs.declared.prim.Primitive.{Primitive}
-use Rattle.sbpl_sweep.specs.Centres.{AreCentres, AreSwept}
+use Rattle.sbpl_sweep.specs.Centres.{AreSwept}
 use Rattle.sbpl_cost.specs.Checked.{AreAround}
 use Rattle.sbpl_cost.proofs.Filling.{filled_more}
 use Rattle.sbpl_cost.proofs.Checks.{around_from}
@@ -9,14 +9,12 @@ use Rattle.sbpl_cost.proofs.checked.around_table.Goals as goal
 
 pub loop-i-preserved : goal.loop-i-preserved
 loop-i-preserved c =
-    filled_more (λ k cells. (p : Primitive) → slice_get c.args.prims.now.items k ≡ Some p → AreAround c.args.prims.now.cell c.args.sweeps.now.radius p cells) c.loop-i.table c.push.new.self c.loop-i.i c.as_slice.result.now c.loop-i.invariant c.in_ok-push.ensures.added
+    filled_more (λ k strips. (p : Primitive) → slice_get c.args.prims.now.items k ≡ Some p → AreAround c.args.prims.now.cell c.args.sweeps.now.radius p strips) c.loop-i.table c.push.new.self c.loop-i.i c.as_slice.result.now c.loop-i.invariant c.in_ok-push.ensures.added
     (λ p h.
-    let first = c.requires.sweeps.centres.each c.loop-i.i p h in
     let second = c.requires.sweeps.swept.each c.loop-i.i p h in
-    let centres = subst (λ cells. AreCentres c.args.prims.now.cell p.poses cells) (same_Some first.0 c.centre.result.now (sym first.1 ∙ c.centre.ensures.cells)) first.2 in
     let swept = subst (λ cells. AreSwept c.args.prims.now.cell c.args.sweeps.now.radius p.poses cells) (same_Some second.0 c.swept.result.now (sym second.1 ∙ c.swept.ensures.cells)) second.2 in
-    subst (λ cells. AreAround c.args.prims.now.cell c.args.sweeps.now.radius p cells) (sym c.as_slice.ensures.value)
-    (around_from c.args.prims.now.cell c.args.sweeps.now.radius p c.centre.result.now c.swept.result.now c.in_ok-cells.cells.items centres swept c.in_ok-cells.ensures.around))
+    subst (λ strips. AreAround c.args.prims.now.cell c.args.sweeps.now.radius p strips) (sym c.as_slice.ensures.value)
+    (around_from c.args.prims.now.cell c.args.sweeps.now.radius p c.swept.result.now c.in_ok-strips.strips.items swept c.in_ok-strips.ensures.cells))
 
 pub returns : goal.returns
 returns c = record {

@@ -37,6 +37,7 @@ invariant_of-result c = record {
   costs = c.in_ok-costs.ensures.costs ∙ ap (λ (e : Environment). map (primitive_cost e) c.args.prims.items) (sym c.copy_of.ensures.same);
   along = c.in_ok-along.ensures.table;
   around = c.in_ok-around.ensures.table;
+  walls = search rules;
   fractions = subst (λ (e : Environment). AreGaps e c.args.prims.items c.new-gaps.result) (sym c.copy_of.ensures.same) c.new-gaps.ensures.gaps;
 }
 

@@ -1,8 +1,23 @@
-use Rattle.std.proofs.Common.{w64}
+use Rattle.std.proofs.Common.{w64, sym}
 use Rattle.std.proofs.lemmas.Int.{to_z-of_z}
 use Rattle.std.proofs.lemmas.Result.{on_ok_weaker}
 use Rattle.sbpl_cost.proofs.UnreadCosts.{unread_cost_the_same, still_world, maps_change_costs_alone}
 use Rattle.sbpl_cost.proofs.lattice.Lattice.set.Goals as goal
+
+pub invariant_of-self : goal.invariant_of-self
+invariant_of-self c =
+    let walls = c.note_wall.ensures.kept c.self.inside.map (sym c.set-was.ensures.width) (sym c.set-was.ensures.height) c.set-was.ensures.written c.self.invariant.walls in
+    record {
+      world = still_world _ c.set-was.new.self c.self.invariant.world c.width-width.ensures.kept c.set-was.ensures.width c.set-was.ensures.height;
+      leaving = c.self.invariant.leaving;
+      entering = c.self.invariant.entering;
+      numbers = c.self.invariant.numbers;
+      costs = c.self.invariant.costs;
+      along = c.self.invariant.along;
+      around = c.self.invariant.around;
+      walls = walls;
+      fractions = c.self.invariant.fractions;
+    }
 
 pub returns-clause-on_map : goal.returns-clause-on_map
 returns-clause-on_map c =

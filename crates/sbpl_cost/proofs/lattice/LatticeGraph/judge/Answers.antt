@@ -40,6 +40,7 @@ greatest_paid-requires c =
     let are = read_at _ world c.self.inside.along c.self.inside.around c.leaving_at-i.result found.0 c.at-along.result.now c.at-around.result.now c.self.invariant.along c.self.invariant.around found.1.by.stands
     c.at-along.ensures.list c.at-around.ensures.list in
     record {
+      walls = c.self.invariant.walls;
       along = near_along c.self.inside.env.cell c.self.inside.env.cell c.self.inside.env.headings found.0 c.at-along.result.now world.env.cell are.good are.along;
       around = near_around c.self.inside.env.cell c.self.inside.env.cell c.self.inside.env.headings c.self.inside.sweeps.radius found.0 c.at-around.result.now world.env.cell are.good world.radius are.around;
     }

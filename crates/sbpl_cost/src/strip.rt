@@ -1,0 +1,9 @@
+//! Cells one beside the other.
+
+/// Cells one beside the other in a row, as offsets from the source cell of a motion: as many as `len`, upwards from `from`.
+#[derive(Clone, Copy, Debug, PartialEq, Eq)]
+pub(crate) struct Strip {
+    pub(crate) y: i64,
+    pub(crate) from: i64,
+    pub(crate) len: u32,
+}
