@@ -7,11 +7,11 @@
 //! - *Speed.* Its expansions a second say what the same search costs in ordinary Rust on the same machine.
 //! - *Bytes.* What it prints must be what the proved program prints, byte for byte, on every seed, size and file.
 //!
-//! It knows two commands, with the robot as a point (radius 0) and without a budget:
+//! It knows two commands, without a budget:
 //!
 //! ```text
 //! plain demo SEED W H
-//! plain plan ENV MPRIM [--changes F] [--planner ad|ara] [--first E] [--step E] [--bound B]
+//! plain plan ENV MPRIM [--radius R] [--changes F] [--planner ad|ara] [--first E] [--step E] [--bound B]
 //! ```
 //!
 //! It trusts its input: words and files that the proved program refuses make it panic, or are read as they come.
@@ -19,7 +19,8 @@
 //! All numbers are whole: lengths are nanometres, angles nanoradians, times nanoseconds, speeds nanometres a second,
 //! inflations and bounds thousandths. Labels stand in one flat array, a record for each state. OPEN is the standard
 //! `BinaryHeap` with lazy deletion: a state is pushed again where its key changes, and an entry that is no longer its
-//! state's key is dropped when it is met.
+//! state's key is dropped when it is met. An arc is judged cell by cell, and only where it could help: its head's `g` is
+//! above what the way over it costs at least.
 //!
 //! Build: `rustc -O -C target-cpu=x86-64 --edition 2021 bench/plain/main.rs -o plain`
 
@@ -63,9 +64,11 @@ fn plan(env: &str, primitives: &str, options: &[&str]) {
     let read = |name: &str| std::fs::read_to_string(name).unwrap_or_else(|fault| panic!("{name}: {fault}"));
     let mut settings = Settings { repair: true, first: ONE, step: ONE / 2, bound: ONE };
     let mut batches = Vec::new();
+    let mut radius = 0;
     for option in options.chunks(2) {
         let thousandths = || (nano(option[1]) / 1_000_000) as u64;
         match option[0] {
+            "--radius" => radius = nano(option[1]),
             "--changes" => batches = read_changes(&read(option[1])),
             "--planner" => settings.repair = option[1] == "ad",
             "--first" => settings.first = thousandths(),
@@ -76,7 +79,7 @@ fn plan(env: &str, primitives: &str, options: &[&str]) {
     }
     let env = read_env(Tokens::of(&read(env)));
     let primitives = read_primitives(Tokens::of(&read(primitives)));
-    Problem { env, primitives, batches }.solve(&settings, |number, plan| print!("{}", plan.section(number)));
+    Problem { env, primitives, batches, radius }.solve(&settings, |number, plan| print!("{}", plan.section(number)));
     println!("done");
 }
 
@@ -131,11 +134,13 @@ struct Write {
     cost: u8,
 }
 
-/// All that a run plans on: the first map, the primitives, and batches of writes with a plan after each.
+/// All that a run plans on: the first map, the primitives, batches of writes with a plan after each, and the robot's
+/// radius in nanometres.
 struct Problem {
     env: Env,
     primitives: Vec<Primitive>,
     batches: Vec<Vec<Write>>,
+    radius: i64,
 }
 
 /// How to plan: by repair (Anytime D*) or anew on each map (ARA*), from which inflation by which steps to which bound.
@@ -149,7 +154,7 @@ struct Settings {
 impl Problem {
     /// Makes the plan on the first map and one after each batch, and shows each with its number.
     fn solve(&self, settings: &Settings, show: impl Fn(usize, &Plan)) {
-        let mut planner = Planner::new(&self.env, &self.primitives);
+        let mut planner = Planner::new(&self.env, &self.primitives, self.radius);
         show(0, &planner.plan(settings));
         for (number, batch) in self.batches.iter().enumerate() {
             planner.change(batch, settings.repair);
@@ -185,6 +190,24 @@ impl Primitive {
         let over = move |length: i64| (cell + 2 * length).div_euclid(2 * cell);
         self.way.iter().map(move |point| (over(point.x), over(point.y)))
     }
+}
+
+/// The least distance, in half nanometres, of a number from the cells' row or column `at`, which is as wide as a cell.
+fn apart(number: i64, at: i64, cell: i64) -> i64 {
+    let (low, high) = (2 * cell * at, 2 * cell * (at + 1));
+    (low - number).max(number - high).max(0)
+}
+
+/// The cells that a disc around a point covers in part, where the point is given from the centre of a cell.
+fn disc(point: &Point, radius: i64, cell: i64) -> impl Iterator<Item = (i64, i64)> + '_ {
+    // The cells are squares from their lower corners, the point lies half a cell further.
+    let (x, y) = (2 * point.x + cell, 2 * point.y + cell);
+    let around = move |number: i64| (number - 2 * radius).div_euclid(2 * cell)..=(number + 2 * radius).div_euclid(2 * cell);
+    let covers = move |at_x: i64, at_y: i64| {
+        let (dx, dy) = (i128::from(apart(x, at_x, cell)), i128::from(apart(y, at_y, cell)));
+        dx * dx + dy * dy < 4 * i128::from(radius) * i128::from(radius)
+    };
+    around(y).flat_map(move |at_y| around(x).map(move |at_x| (at_x, at_y))).filter(move |&(at_x, at_y)| covers(at_x, at_y))
 }
 
 /// The distance of two points, rounded up to whole nanometres.
@@ -259,6 +282,8 @@ struct Arc {
     cost: u64,
     /// How far away the end cell and the centre cells stand, each once.
     reads: Box<[isize]>,
+    /// How far away the other cells stand that the robot sweeps, each once.
+    swept: Box<[isize]>,
 }
 
 /// An arc seen from its head.
@@ -270,7 +295,7 @@ struct Tail {
 /// The graph of the planner: states are cells with headings, arcs are primitives over free cells.
 struct Lattice {
     map: Map,
-    /// Sources cost less than this.
+    /// Sources and swept cells cost less than this.
     obstacle: u8,
     /// End cells and centre cells cost less than this.
     blocked: u8,
@@ -279,7 +304,7 @@ struct Lattice {
 }
 
 impl Lattice {
-    fn new(env: &Env, primitives: &[Primitive]) -> Lattice {
+    fn new(env: &Env, primitives: &[Primitive], radius: i64) -> Lattice {
         // An offset that is wider than the map leads off it from everywhere. Cut to the map's width, it still does.
         let cut_x = |dx: i64| dx.clamp(-i64::from(env.width), i64::from(env.width)) as i32;
         let cut_y = |dy: i64| dy.clamp(-i64::from(env.height), i64::from(env.height)) as i32;
@@ -288,20 +313,32 @@ impl Lattice {
             primitive.centres(env.cell).chain([end]).map(|(dx, dy)| (cut_x(dx), cut_y(dy))).collect()
         };
         let reads: Vec<_> = primitives.iter().map(reads).collect();
-        let frame_x = reads.iter().flatten().map(|read| read.0.abs()).max().unwrap_or(0);
-        let frame_y = reads.iter().flatten().map(|read| read.1.abs()).max().unwrap_or(0);
+        let sweeps = |primitive: &Primitive| -> Vec<(i32, i32)> {
+            let cells = primitive.way.iter().flat_map(|point| disc(point, radius, env.cell));
+            cells.map(|(dx, dy)| (cut_x(dx), cut_y(dy))).collect()
+        };
+        let sweeps: Vec<_> = primitives.iter().map(sweeps).collect();
+        let all = || reads.iter().chain(&sweeps).flatten();
+        let frame_x = all().map(|read| read.0.abs()).max().unwrap_or(0);
+        let frame_y = all().map(|read| read.1.abs()).max().unwrap_or(0);
         let map = Map::new(env, frame_x, frame_y);
 
         let mut arcs: [Vec<Arc>; HEADINGS] = Default::default();
         let mut tails: [Vec<Tail>; HEADINGS] = Default::default();
-        for (primitive, reads) in primitives.iter().zip(reads) {
+        let places = |cells: &[(i32, i32)]| {
+            let mut places: Vec<isize> = cells.iter().map(|&(dx, dy)| map.offset(dx, dy)).collect();
+            places.sort_unstable();
+            places.dedup();
+            places
+        };
+        for ((primitive, reads), sweep) in primitives.iter().zip(&reads).zip(&sweeps) {
             let &Primitive { id, from, dx, dy, to, .. } = primitive;
-            let mut reads: Vec<isize> = reads.iter().map(|&(dx, dy)| map.offset(dx, dy)).collect();
-            reads.sort_unstable();
-            reads.dedup();
+            let reads = places(reads);
+            let mut swept = places(sweep);
+            swept.retain(|place| reads.binary_search(place).is_err());
             let cost = primitive.cost(env);
             tails[to].push(Tail { from, arc: arcs[from].len() });
-            arcs[from].push(Arc { id, dx, dy, to, cost, reads: reads.into() });
+            arcs[from].push(Arc { id, dx, dy, to, cost, reads: reads.into(), swept: swept.into() });
         }
         Lattice { map, obstacle: env.obstacle, blocked: env.obstacle.min(env.inscribed), arcs, tails }
     }
@@ -340,6 +377,11 @@ impl Lattice {
             }
             worst = worst.max(cost);
         }
+        for &read in &arc.swept {
+            if self.map.costs[place.wrapping_add_signed(read)] >= self.obstacle {
+                return None;
+            }
+        }
         Some(arc.cost * (1 + u64::from(worst)))
     }
 
@@ -372,7 +414,7 @@ impl Lattice {
         let mut heads = Vec::new();
         for (heading, arcs) in self.arcs.iter().enumerate() {
             for arc in arcs {
-                for read in arc.reads.iter().chain(&[0]) {
+                for read in arc.reads.iter().chain(&arc.swept).chain(&[0]) {
                     let source = self.map.cell(place.wrapping_add_signed(-read));
                     heads.extend(source.and_then(|(x, y)| self.head(Pos { x, y, heading }, arc)));
                 }
@@ -593,6 +635,9 @@ impl Search {
         let (v, pos) = (label.v, lattice.pos(state));
         for (number, arc) in lattice.arcs[pos.heading].iter().enumerate() {
             let Some(head) = lattice.head(pos, arc) else { continue };
+            if v + arc.cost >= self.label(head).g {
+                continue;
+            }
             let Some(cost) = lattice.judge(pos, arc) else { continue };
             let label = &mut self.labels[head as usize];
             if v + cost < label.g && head != self.start {
@@ -626,7 +671,7 @@ impl Search {
         for (pos, number, arc) in lattice.tails(lattice.pos(state)) {
             let source = lattice.state(pos);
             let v = self.label(source).v;
-            let cost = if v < FAR { lattice.judge(pos, arc) } else { None };
+            let cost = if v < FAR && v + arc.cost < g { lattice.judge(pos, arc) } else { None };
             if let Some(sum) = cost.map(|cost| v + cost).filter(|&sum| sum < g) {
                 (g, back) = (sum, Some(Back { source, arc: number as u32 }));
             }
@@ -729,8 +774,8 @@ struct Planner {
 }
 
 impl Planner {
-    fn new(env: &Env, primitives: &[Primitive]) -> Planner {
-        let lattice = Lattice::new(env, primitives);
+    fn new(env: &Env, primitives: &[Primitive], radius: i64) -> Planner {
+        let lattice = Lattice::new(env, primitives, radius);
         let dearest = lattice.arcs.iter().flatten().map(|arc| 256 * arc.cost).max().unwrap_or(0);
         let longest = u128::from(dearest) * lattice.states() as u128;
         assert!(longest * u128::from(HUNDRED) < u128::from(FAR), "primitives too dear for keys of 64 bits");
@@ -855,7 +900,7 @@ fn draw_problem(seed: u64, width: i32, height: i32) -> Problem {
     let [start, goal] = ends.map(|(x, y)| Pos { x, y, heading: 0 });
     let (cell, speed, turn45) = (25_000_000, 1_000_000_000, 2_000_000_000);
     let env = Env { width, height, obstacle: 254, inscribed: 253, cell, speed, turn45, start, goal, costs };
-    Problem { env, primitives: sixteen_headings(), batches }
+    Problem { env, primitives: sixteen_headings(), batches, radius: 0 }
 }
 
 /// For each heading of drawn problems the least way along it, in cells.
