@@ -1,0 +1,504 @@
+"""Readers for the planner's files: environments, motion primitives, changes and reports.
+
+The formats are those of docs/FORMATS.md. Lengths are kept in whole nanometres, times in nanoseconds and angles in
+nanoradians, as the planner reads them. A fault is raised as `BadInput`, which names the file and the line.
+"""
+
+from __future__ import annotations
+
+import argparse
+import math
+import os
+import re
+import sys
+from dataclasses import dataclass, field
+from typing import Callable, NamedTuple
+
+NANO = 10**9
+FULL_TURN = 6_283_185_307
+HEADINGS = 16
+MOST_STATES = 2**23
+MOST_POSES = 200_000
+MOST_NUMBER = 10**18
+
+
+class BadInput(Exception):
+    """A fault of an input, in words for the user."""
+
+
+class Pose(NamedTuple):
+    """A position in nanometres and an angle in nanoradians."""
+
+    x: int
+    y: int
+    theta: int
+
+
+class Place(NamedTuple):
+    """A cell and a heading."""
+
+    x: int
+    y: int
+    t: int
+
+
+@dataclass
+class Environment:
+    """What an environment file says; row 0 of the costs is the lowest."""
+
+    width: int
+    height: int
+    obsthresh: int
+    inscribed: int
+    circumscribed: int
+    cell: int
+    speed: int
+    turn45: int
+    start: Pose
+    end: Pose
+    costs: list[list[int]]
+
+    def place_of(self, pose: Pose) -> Place:
+        """The cell and the heading of a pose."""
+        return Place(pose.x // self.cell, pose.y // self.cell, heading_of(HEADINGS, pose.theta))
+
+    def is_on_map(self, x: int, y: int) -> bool:
+        """Whether the map has this cell."""
+        return 0 <= x < self.width and 0 <= y < self.height
+
+
+@dataclass
+class Primitive:
+    """One motion primitive; its poses are offsets from the centre of the source cell."""
+
+    id: int
+    start: int
+    dx: int
+    dy: int
+    to: int
+    multiplier: int
+    poses: list[Pose]
+
+
+@dataclass
+class Step:
+    """A step of a path: a primitive's id and where it leads."""
+
+    id: int
+    place: Place
+    line: int
+
+
+@dataclass
+class Plan:
+    """One section of a report."""
+
+    number: int
+    line: int
+    result: str = ""
+    cost: int = 0
+    bound: str = ""
+    expanded: int = 0
+    start: Place | None = None
+    steps: list[Step] = field(default_factory=list)
+
+
+def heading_of(headings: int, theta: int) -> int:
+    """The nearest of so many headings to an angle in nanoradians."""
+    return (2 * headings * (theta % FULL_TURN) + FULL_TURN) // (2 * FULL_TURN) % headings
+
+
+def offset_cell(cell: int, offset: int) -> int:
+    """The cell, counted from the source cell, in which an offset from the source cell's centre lies."""
+    return (2 * offset + cell) // (2 * cell)
+
+
+def nano(text: str) -> int | None:
+    """A decimal in billionths, without the digits after the ninth decimal; None for any other text."""
+    found = re.fullmatch(r"([+-]?)([0-9]*)(?:\.([0-9]*))?", text, re.ASCII)
+    if not found or not (found[2] or found[3]):
+        return None
+    if len(found[2]) > 40:
+        return MOST_NUMBER * 10
+    value = int(found[2] or "0") * NANO + int((found[3] or "")[:9].ljust(9, "0"))
+    return -value if found[1] == "-" else value
+
+
+def whole(text: str) -> int | None:
+    """A whole number; None for any other text."""
+    if not re.fullmatch(r"[+-]?[0-9]+", text, re.ASCII):
+        return None
+    return int(text) if len(text) <= 40 else MOST_NUMBER * 10
+
+
+def decimal_text(value: int) -> str:
+    """A number of billionths as a decimal without trailing zeros."""
+    sign, value = ("-" if value < 0 else ""), abs(value)
+    part = f"{value % NANO:09d}".rstrip("0")
+    return f"{sign}{value // NANO}" + (f".{part}" if part else "")
+
+
+def read_bytes(path: str) -> bytes:
+    """A file's bytes."""
+    try:
+        with open(path, "rb") as file:
+            return file.read()
+    except OSError as error:
+        raise BadInput(f"{path}: cannot be read: {error.strerror}") from None
+    except ValueError:
+        raise BadInput(f"{path!r}: cannot be read: no file can have this name") from None
+
+
+def read_lines(path: str) -> list[str]:
+    """A text file's lines. Each byte is taken as one character, so no text is refused for its encoding."""
+    return read_bytes(path).decode("latin-1").split("\n")
+
+
+def write_text(path: str | None, text: str) -> None:
+    """Writes a text to a file, or to standard output where none is named."""
+    try:
+        if path is None:
+            sys.stdout.write(text)
+            sys.stdout.flush()
+        else:
+            with open(path, "w", encoding="utf-8") as file:
+                file.write(text)
+    except BrokenPipeError:
+        os.dup2(os.open(os.devnull, os.O_WRONLY), sys.stdout.fileno())
+    except OSError as error:
+        raise BadInput(f"{path or 'standard output'}: cannot be written: {error.strerror}") from None
+
+
+class Tokens:
+    """The tokens of a file in order, with the line of each."""
+
+    def __init__(self, path: str):
+        self.path = path
+        self.tokens = [(token.decode("latin-1"), number)
+                       for number, line in enumerate(read_bytes(path).split(b"\n"), 1) for token in line.split()]
+        self.next = 0
+        self.line = 1
+
+    def fault(self, text: str) -> BadInput:
+        """A fault at the token that was taken last."""
+        return BadInput(f"{self.path}:{self.line}: {text}")
+
+    def take(self, wanted: str) -> str:
+        """The next token."""
+        if self.next == len(self.tokens):
+            raise self.fault(f"the file ends where {wanted} must stand")
+        token, self.line = self.tokens[self.next]
+        self.next += 1
+        return token
+
+    def word(self, word: str) -> None:
+        """Takes a word that must stand here."""
+        token = self.take(f"'{word}'")
+        if token != word:
+            raise self.fault(f"'{token[:40]}' stands where '{word}' must")
+
+    def number(self, name: str, low: int, high: int, read: Callable[[str], int | None]) -> int:
+        """Takes a number from low to high."""
+        token = self.take(name)
+        value = read(token)
+        if value is None:
+            raise self.fault(f"{name} is '{token[:40]}', which is no {'decimal' if read is nano else 'whole number'}")
+        if not low <= value <= high:
+            show = decimal_text if read is nano else str
+            raise self.fault(f"{name} is {token[:40]}, which is not in {show(low)}..{show(high)}")
+        return value
+
+    def whole(self, name: str, low: int, high: int) -> int:
+        """Takes a whole number from low to high."""
+        return self.number(name, low, high, whole)
+
+    def decimal(self, name: str, low: int, high: int) -> int:
+        """Takes a decimal from low to high billionths."""
+        return self.number(name, low, high, nano)
+
+    def pose(self, name: str, most: int) -> Pose:
+        """Takes x, y and theta; x and y are at most so many nanometres in absolute value."""
+        return Pose(self.decimal(f"x of {name}", -most, most), self.decimal(f"y of {name}", -most, most),
+                    self.decimal(f"theta of {name}", -MOST_NUMBER, MOST_NUMBER))
+
+    def end(self) -> None:
+        """Raises a fault where a token is left."""
+        if self.next < len(self.tokens):
+            token = self.take("the end")
+            raise self.fault(f"'{token[:40]}' stands after the end")
+
+
+def read_environment(path: str) -> Environment:
+    """Reads an environment file."""
+    tokens = Tokens(path)
+    tokens.word("discretization(cells):")
+    width = tokens.whole("the width", 1, 8388608)
+    height = tokens.whole("the height", 1, 8388608)
+    if width * height * HEADINGS > MOST_STATES:
+        raise tokens.fault(f"the map of {width} by {height} cells is too large: at most {MOST_STATES // HEADINGS} cells")
+    thresholds = []
+    for word, low in [("obsthresh:", 0), ("cost_inscribed_thresh:", 0), ("cost_possibly_circumscribed_thresh:", -1)]:
+        tokens.word(word)
+        thresholds.append(tokens.whole(word[:-1], low, 255))
+    scales = []
+    for word in ["cellsize(meters):", "nominalvel(mpersecs):", "timetoturn45degsinplace(secs):"]:
+        tokens.word(word)
+        scales.append(tokens.decimal(word[:-1], 1, 10**12))
+    poses = []
+    for word, name in [("start(meters,rads):", "the start"), ("end(meters,rads):", "the end")]:
+        tokens.word(word)
+        pose = tokens.pose(name, MOST_NUMBER)
+        if not (0 <= pose.x // scales[0] < width and 0 <= pose.y // scales[0] < height):
+            raise tokens.fault(f"{name} lies off the map")
+        poses.append(pose)
+    tokens.word("environment:")
+    costs = [[tokens.whole("a cost", 0, 255) for _ in range(width)] for _ in range(height)]
+    tokens.end()
+    return Environment(width, height, *thresholds, *scales, *poses, costs)
+
+
+def read_primitive(tokens: Tokens, cell: int, headings: int, poses_before: int) -> Primitive:
+    """Reads one primitive of a primitive file."""
+    tokens.word("primID:")
+    number = tokens.whole("the id", 0, 65535)
+    tokens.word("startangle_c:")
+    start = tokens.whole("the start heading", 0, headings - 1)
+    tokens.word("endpose_c:")
+    dx = tokens.whole("dx of the end", -32767, 32767)
+    dy = tokens.whole("dy of the end", -32767, 32767)
+    to = tokens.whole("the end heading", -32767, 32767) % headings
+    tokens.word("additionalactioncostmult:")
+    multiplier = tokens.whole("the multiplier", 0, 16777215)
+    tokens.word("intermediateposes:")
+    count = tokens.whole("the number of poses", 0, MOST_POSES)
+    if count == 0:
+        raise tokens.fault(f"primitive {number} at heading {start} has no pose")
+    if poses_before + count > MOST_POSES:
+        raise tokens.fault(f"the file has more than {MOST_POSES} poses")
+    poses = [tokens.pose("a pose", 10**12) for _ in range(count)]
+    last = poses[-1]
+    name = f"primitive {number} at heading {start}"
+    if (offset_cell(cell, last.x), offset_cell(cell, last.y)) != (dx, dy):
+        raise tokens.fault(f"the last pose of {name} is not in its end cell {dx} {dy}")
+    if heading_of(headings, last.theta) != to:
+        raise tokens.fault(f"the last pose of {name} is not in its end heading {to}")
+    if multiplier == 0 or (start == to and all(pose[:2] == last[:2] for pose in poses)):
+        raise tokens.fault(f"{name} costs nothing: its multiplier is 0, or it neither moves nor turns")
+    return Primitive(number, start, dx, dy, to, multiplier, poses)
+
+
+def read_primitives(path: str, cell: int, headings: int = HEADINGS) -> list[Primitive]:
+    """Reads a primitive file for a cell size in nanometres."""
+    tokens = Tokens(path)
+    tokens.word("resolution_m:")
+    resolution = tokens.decimal("the resolution", 1, 10**12)
+    if resolution != cell:
+        raise tokens.fault(f"the resolution is {decimal_text(resolution)}, and the map's cell size {decimal_text(cell)}")
+    tokens.word("numberofangles:")
+    angles = tokens.whole("the number of angles", 1, 64)
+    if angles != headings:
+        raise tokens.fault(f"there are {angles} headings, and not {headings}")
+    tokens.word("totalnumberofprimitives:")
+    primitives: list[Primitive] = []
+    seen = set()
+    poses = 0
+    for _ in range(tokens.whole("the number of primitives", 0, 4096)):
+        primitive = read_primitive(tokens, cell, headings, poses)
+        poses += len(primitive.poses)
+        if (primitive.start, primitive.id) in seen:
+            raise tokens.fault(f"an earlier primitive at heading {primitive.start} has the id {primitive.id} too")
+        seen.add((primitive.start, primitive.id))
+        primitives.append(primitive)
+    tokens.end()
+    return primitives
+
+
+def read_changes(path: str, environment: Environment) -> list[list[tuple[int, int, int]]]:
+    """Reads a change file; its batches, each a list of x, y and the cost that is written."""
+    batches, batch, unended = [], [], 0
+    for number, line in enumerate(read_lines(path), 1):
+        fields = line.removesuffix("\r").replace("\t", " ").split(" ")
+        fields = [text for text in fields if text]
+        if not fields:
+            continue
+        if fields == ["replan"]:
+            batches.append(batch)
+            batch, unended = [], 0
+            continue
+        if fields[0] != "cell" or len(fields) != 4:
+            raise BadInput(f"{path}:{number}: neither 'cell X Y C' nor 'replan'")
+        values = [whole(text) for text in fields[1:]]
+        if None in values:
+            raise BadInput(f"{path}:{number}: '{fields[1 + values.index(None)][:40]}' is no whole number")
+        x, y, cost = values
+        if not environment.is_on_map(x, y):
+            raise BadInput(f"{path}:{number}: cell {x} {y} is off the map")
+        if not 0 <= cost <= 255:
+            raise BadInput(f"{path}:{number}: the cost {cost} is not in 0..255")
+        batch.append((x, y, cost))
+        unended = number
+    if unended:
+        raise BadInput(f"{path}:{unended}: no 'replan' follows the last write")
+    return batches
+
+
+def apply_batch(costs: list[list[int]], batch: list[tuple[int, int, int]]) -> dict[tuple[int, int], int]:
+    """Writes a batch to a map; the cells that cost something else than before, with their new costs."""
+    before = {(x, y): costs[y][x] for x, y, _ in batch}
+    for x, y, cost in batch:
+        costs[y][x] = cost
+    return {(x, y): costs[y][x] for (x, y), cost in before.items() if costs[y][x] != cost}
+
+
+class ReportReader:
+    """Reads a report of `temjoask plan` line by line."""
+
+    def __init__(self, path: str):
+        self.path = path
+        self.plans: list[Plan] = []
+        self.line = 0
+        self.left = 0
+        self.done = False
+
+    def fault(self, text: str) -> BadInput:
+        """A fault at the present line."""
+        return BadInput(f"{self.path}:{self.line}: {text}")
+
+    def numbers(self, fields: list[str], low: int = 0) -> list[int]:
+        """Whole numbers of a line."""
+        values = [whole(text) for text in fields]
+        if None in values or any(value < low for value in values):
+            raise self.fault(f"'{' '.join(fields)[:60]}' are not the numbers that must stand here")
+        return values
+
+    def place(self, fields: list[str]) -> Place:
+        """A cell and a heading."""
+        place = Place(*self.numbers(fields))
+        if place.t >= HEADINGS:
+            raise self.fault(f"heading {place.t} is not in 0..{HEADINGS - 1}")
+        return place
+
+    def take(self, fields: list[str]) -> None:
+        """Takes one line's fields."""
+        if self.done:
+            raise self.fault("a line stands after 'done'")
+        word, count = fields[0], len(fields)
+        plan = self.plans[-1] if self.plans else None
+        if word == "refused":
+            raise self.fault(f"the planner refused its input, so there is no plan: {' '.join(fields)}")
+        if word in ("plan", "done") and plan and (not plan.result or self.left or
+                                                  plan.result == "path" and plan.start is None):
+            raise self.fault(f"the section of plan {plan.number} is not complete")
+        if word == "plan" and count == 2:
+            number = self.numbers(fields[1:])[0]
+            if number != len(self.plans):
+                raise self.fault(f"plan {number} stands where plan {len(self.plans)} must")
+            self.plans.append(Plan(number, self.line))
+        elif word == "done" and count == 1 and plan:
+            self.done = True
+        elif plan is None:
+            raise self.fault("no report of 'temjoask plan' begins so: 'plan 0' must stand first")
+        elif word == "pass" and count >= 4 and fields[2] == "expanded" and not plan.result:
+            plan.expanded += self.numbers(fields[3:4])[0]
+        elif word == "spent" and count == 2 and not plan.result:
+            self.numbers(fields[1:])
+        elif word in ("nopath", "unknown") and count == 1 and not plan.result:
+            plan.result = word
+        elif word == "path" and count == 6 and fields[2] == "cost" and fields[4] == "bound" and not plan.result:
+            self.left, plan.cost = self.numbers([fields[1], fields[3]])
+            if not re.fullmatch(r"[0-9]+\.[0-9]{3}", fields[5]):
+                raise self.fault(f"'{fields[5][:40]}' is no bound with three decimals")
+            plan.result, plan.bound = "path", fields[5]
+        elif word == "pose" and count == 4 and plan.result == "path" and plan.start is None:
+            plan.start = self.place(fields[1:])
+        elif word == "step" and count == 5 and plan.start is not None and self.left:
+            plan.steps.append(Step(self.numbers(fields[1:2])[0], self.place(fields[2:]), self.line))
+            self.left -= 1
+        else:
+            raise self.fault(f"'{' '.join(fields)[:60]}' does not belong here in a report")
+
+    def read(self) -> list[Plan]:
+        """Reads the file; its plans."""
+        for self.line, line in enumerate(read_lines(self.path), 1):
+            fields = line.split()
+            if fields:
+                self.take(fields)
+        if not self.done:
+            raise self.fault("the report ends without 'done'")
+        return self.plans
+
+
+def read_report(path: str) -> list[Plan]:
+    """Reads a report of `temjoask plan`; its plans in order."""
+    return ReportReader(path).read()
+
+
+def centre_of(cell: int, place: Place) -> tuple[float, float]:
+    """The centre of a cell in metres."""
+    return (2 * place.x + 1) * cell / (2 * NANO), (2 * place.y + 1) * cell / (2 * NANO)
+
+
+def trail(report: str, environment: Environment, primitives: list[Primitive],
+          plan: Plan) -> list[list[tuple[float, float, float]]]:
+    """The poses along each step of a path, in metres and radians from the map's lower left corner.
+
+    The path must lead from the environment's start to its end by the primitives, else the files do not belong together.
+    """
+    table = {(primitive.start, primitive.id): primitive for primitive in primitives}
+    legs, place = [], plan.start
+    if place != environment.place_of(environment.start):
+        raise BadInput(f"{report}:{plan.line}: the path of plan {plan.number} does not begin at the environment's start")
+    for step in plan.steps:
+        primitive = table.get((place.t, step.id))
+        if primitive is None:
+            raise BadInput(f"{report}:{step.line}: no primitive {step.id} starts at heading {place.t}")
+        if Place(place.x + primitive.dx, place.y + primitive.dy, primitive.to) != step.place:
+            raise BadInput(f"{report}:{step.line}: primitive {step.id} at heading {place.t} does not lead there")
+        if not environment.is_on_map(step.place.x, step.place.y):
+            raise BadInput(f"{report}:{step.line}: the step leads off the map")
+        x, y = centre_of(environment.cell, place)
+        legs.append([(x + pose.x / NANO, y + pose.y / NANO, pose.theta / NANO) for pose in primitive.poses])
+        place = step.place
+    if place != environment.place_of(environment.end):
+        raise BadInput(f"{report}:{plan.line}: the path of plan {plan.number} does not end at the environment's end")
+    return legs
+
+
+def heading_angle(heading: int, headings: int = HEADINGS) -> float:
+    """The angle of a heading in radians."""
+    return 2 * math.pi * heading / headings
+
+
+def metres(low: int, high: int) -> Callable[[str], int]:
+    """A reader of a setting: a decimal from low to high billionths."""
+    def read(text: str) -> int:
+        value = nano(text)
+        if value is None or not low <= value <= high:
+            raise argparse.ArgumentTypeError(f"'{text}' is no decimal in {decimal_text(low)}..{decimal_text(high)}")
+        return value
+    return read
+
+
+def number(low: int, high: int) -> Callable[[str], int]:
+    """A reader of a setting: a whole number from low to high."""
+    def read(text: str) -> int:
+        value = whole(text)
+        if value is None or not low <= value <= high:
+            raise argparse.ArgumentTypeError(f"'{text}' is no whole number in {low}..{high}")
+        return value
+    return read
+
+
+def run(main: Callable[[], None]) -> None:
+    """Runs a tool; a fault of its input is told on standard error, with exit status 2."""
+    name = os.path.basename(sys.argv[0])
+    try:
+        main()
+    except BadInput as error:
+        print(f"{name}: {error}", file=sys.stderr)
+        sys.exit(2)
+    except MemoryError:
+        print(f"{name}: out of memory", file=sys.stderr)
+        sys.exit(2)
+    except KeyboardInterrupt:
+        sys.exit(130)
