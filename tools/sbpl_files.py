@@ -469,24 +469,25 @@ def heading_angle(heading: int, headings: int = HEADINGS) -> float:
     return 2 * math.pi * heading / headings
 
 
-def metres(low: int, high: int) -> Callable[[str], int]:
-    """A reader of a setting: a decimal from low to high billionths."""
+def setting(reader: Callable[[str], int | None], shown: Callable[[int], str], kind: str,
+            low: int, high: int) -> Callable[[str], int]:
+    """A reader of a setting that refuses a text of another kind, and a value outside low to high."""
     def read(text: str) -> int:
-        value = nano(text)
+        value = reader(text)
         if value is None or not low <= value <= high:
-            raise argparse.ArgumentTypeError(f"'{text}' is no decimal in {decimal_text(low)}..{decimal_text(high)}")
+            raise argparse.ArgumentTypeError(f"'{text}' is no {kind} in {shown(low)}..{shown(high)}")
         return value
     return read
+
+
+def metres(low: int, high: int) -> Callable[[str], int]:
+    """A reader of a setting: a decimal from low to high billionths."""
+    return setting(nano, decimal_text, "decimal", low, high)
 
 
 def number(low: int, high: int) -> Callable[[str], int]:
     """A reader of a setting: a whole number from low to high."""
-    def read(text: str) -> int:
-        value = whole(text)
-        if value is None or not low <= value <= high:
-            raise argparse.ArgumentTypeError(f"'{text}' is no whole number in {low}..{high}")
-        return value
-    return read
+    return setting(whole, str, "whole number", low, high)
 
 
 def run(main: Callable[[], None]) -> None:
