@@ -2,12 +2,13 @@
 use Rattle.std.proofs.Common.{◌≡◌, ℕ, ◌+◌, ◌<◌, ◌≤◌, Option, Some, None, arith, ⊎_elim, refl, sym, ap, subst, ◌∙◌}
 use Rattle.std.proofs.lemmas.Bool.{cases_lt}
 use Rattle.std.proofs.lemmas.Option.{same_Some}
+use Rattle.sbpl_graph.specs.declared.TheConstants.{FAR}
 use Rattle.sbpl_graph.specs.Network.{Network}
 use Rattle.sbpl_graph.proofs.Keeping.{same_arc}
 use Rattle.sbpl_labels.specs.declared.row.Row.{Row}
 use Rattle.sbpl_labels.specs.Marks.{Marks, ChangesRow, v_of}
 use Rattle.sbpl_labels.specs.Recomputed.{IsWay, IsRecomputed, Recomputes}
-use Rattle.sbpl_labels.specs.Ways.{IsWayAt, IsLesserOf, IsLeastWay, IsLeastBelow}
+use Rattle.sbpl_labels.specs.Ways.{IsLeastWay, IsLeastBelow, limit_of}
 
 module _ (n : Network) (v : ℕ → ℕ) (t : ℕ) where
   -- a tail is at most one way
@@ -60,19 +61,26 @@ module _ (n : Network) (v : ℕ → ℕ) (t : ℕ) where
       first = best.first;
     }
 
-    pub least_more : (best here first : Option ((ℕ × ℕ) × ℕ)) → IsLeastBelow n v t i best → IsWayAt n v t i here
-        → IsLesserOf best here first → IsLeastBelow n v t (i + 1) first
-    least_more None None first least at is =
-        rw is (λ j s k c inside. at_or_below (λ y. IsWay n v t y s k c → ⊥) (λ y. least y s k c) (at s k c) j inside)
-    least_more None (Some ((s, k), g)) first least at is = rw is (i, at.0, way_found least at.1 at.2)
-    least_more (Some ((s, k), g)) None first least at is =
-        rw is (least.0, least.1, way_kept least.2 (λ a l d way. absurd (at a l d way)))
-    least_more (Some ((s, k), g)) (Some ((s', k'), g')) first least at is =
-        ⊎_elim
-        (λ (lower : (g' < g) × (first ≡ Some ((s', k'), g'))). rw lower.1 (i, at.0, way_lower least.2 at.1 at.2 lower.0))
-        (λ (kept : (g ≤ g') × (first ≡ Some ((s, k), g))).
-        rw kept.1 (least.0, least.1, way_kept least.2 (λ a l d way. omega (arith, same_sum at.1 way, at.2, kept.0))))
-        is
+    -- no way over tail i gives less than the least so far
+    pub least_kept : (best : Option ((ℕ × ℕ) × ℕ)) → IsLeastBelow n v t i best
+        → ((a l d : ℕ) → IsWay n v t i a l d → (limit_of best ≤ v a + d) × (v a + d < FAR)) → IsLeastBelow n v t (i + 1) best
+    least_kept None least above =
+        λ j s k c inside.
+        at_or_below (λ y. IsWay n v t y s k c → ⊥) (λ y. least y s k c)
+        (λ way. let over = above s k c way in absurd (omega (arith, over.0, over.1))) j inside
+    least_kept (Some ((s, k), g)) least above = (least.0, least.1, way_kept least.2 (λ a l d way. (above a l d way).0))
+
+    -- the way over tail i does
+    pub least_found : (best : Option ((ℕ × ℕ) × ℕ)) (s k c g : ℕ) → IsLeastBelow n v t i best → IsWay n v t i s k c → g ≡ v s + c → g < limit_of best
+        → IsLeastBelow n v t (i + 1) (Some ((s, k), g))
+    least_found None s k c g least way gives low = (i, c, way_found least way gives)
+    least_found (Some ((s', k'), g')) s k c g least way gives low = (i, c, way_lower least.2 way gives low)
+
+    -- what a way over tail i comes from and costs
+    pub way_over : {s k a l d : ℕ} → n.tail t i ≡ Some (s, k) → IsWay n v t i a l d → (n.cost s k ≡ Some d) × (v a ≡ v s)
+    way_over {s} {k} {a} {l} {d} tail way =
+        let arcs = same_arc a l s k (sym way.tail.tail ∙ tail) in
+        (rw (← arcs.0, ← arcs.1) way.free.cost, rw arcs.0 refl)
 
 -- the least of all ways is what recomputing gives
 recomputed_least : {n : Network} {v : ℕ → ℕ} {t s k g : ℕ} → IsLeastBelow n v t (n.tail_fan t) (Some ((s, k), g))

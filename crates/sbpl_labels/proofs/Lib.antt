@@ -1,4 +1,5 @@
 pub mod Bounds
+pub mod Columns
 pub mod Opened
 pub mod Changes
 pub mod Choosing

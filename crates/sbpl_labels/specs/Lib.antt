@@ -1,5 +1,6 @@
 pub mod Counts
 pub mod Marks
+pub mod Rows
 pub mod CutOff
 pub mod Chain
 pub mod Recomputed

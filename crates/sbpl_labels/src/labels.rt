@@ -16,6 +16,7 @@ ghost use Rattle.sbpl_labels.specs.Walks.{WalkGives};
 ghost use Rattle.sbpl_graph.specs.declared.TheConstants.{FAR};
 
 use crate::row::Row;
+use crate::rows::Rows;
 use crate::walk::Walk;
 use crate::ways::least_way;
 use sbpl_fixed::NoMemory;
@@ -29,7 +30,7 @@ use std::marker::Model;
 #[derive(Drop)]
 pub struct Labels {
     start: u32,
-    rows: Vec<Row>,
+    rows: Rows,
 }
 
 /// The labels of a state that no way is known to.
@@ -39,21 +40,14 @@ const FAR_ROW: Row = Row {
     back: None,
 };
 
-/// The labels of the start before it is expanded.
-const START_ROW: Row = Row {
-    g: 0,
-    v: FAR,
-    back: None,
-};
-
 impl Model for Labels {
     ghost use Rattle.sbpl_labels.specs.Marks.{Marks, AreLabels};
 
     ghost Value = { Marks };
 
-    ghost view = { λ a. record { start = a.start; rows = a.rows.items } };
+    ghost view = { λ a. record { start = a.start; rows = a.rows } };
 
-    ghost invariant = { λ a. AreLabels (record { start = a.start; rows = a.rows.items }) };
+    ghost invariant = { λ a. AreLabels (record { start = a.start; rows = a.rows }) };
 }
 
 impl Labels {
@@ -68,8 +62,8 @@ impl Labels {
         ensures not_under { IfOk result (λ m. NoneUnder states (g_of m) (v_of m)) }
         ensures fits { IfOk result (λ m. (count : ℕ) → FitCount states (g_of m) (v_of m) count) }
     {
-        let mut rows = vec![in alloc; FAR_ROW; states as usize]?;
-        rows[start as usize] = START_ROW;
+        let mut rows = Rows::new(alloc, states as usize, FAR_ROW)?;
+        rows.set_way(start, 0, None);
         Ok(Labels { start, rows })
     }
 
@@ -81,8 +75,8 @@ impl Labels {
         ensures not_under { NoneUnder (states_of self.old) (g_of self.new) (v_of self.new) }
         ensures fits { (count : ℕ) → FitCount (states_of self.old) (g_of self.new) (v_of self.new) count }
     {
-        clear(&mut self.rows);
-        self.rows[self.start as usize] = START_ROW;
+        self.rows.fill(FAR_ROW);
+        self.rows.set_way(self.start, 0, None);
     }
 
     /// The start.
@@ -107,7 +101,7 @@ impl Labels {
         ensures value { result ≡ g_of self.now s }
         ensures label { IsLabel result }
     {
-        self.rows[s as usize].g
+        self.rows.g(s)
     }
 
     /// What that way cost when `s` was last expanded, or infinity where it never was.
@@ -116,7 +110,7 @@ impl Labels {
         ensures value { result ≡ v_of self.now s }
         ensures label { IsLabel result }
     {
-        self.rows[s as usize].v
+        self.rows.v(s)
     }
 
     /// The last arc of that way, as its source and its number there, where one was set.
@@ -124,7 +118,7 @@ impl Labels {
         requires state { s < states_of self.now }
         ensures value { result ≡ back_of self.now s }
     {
-        self.rows[s as usize].back
+        self.rows.back(s)
     }
 
     /// Lowers g of `t` to this value, which comes over arc `k` of `s`, where that is lower, and
@@ -138,10 +132,8 @@ impl Labels {
             (record { g = value; v = v_of self.old t; back = Some (s, k) }) }
         ensures no { g_of self.old t ≤ value → self.new ≡ self.old }
     {
-        let row = &mut self.rows[t as usize];
-        if value < row.g {
-            row.g = value;
-            row.back = Some((s, k));
+        if value < self.rows.g(t) {
+            self.rows.set_way(t, value, Some((s, k)));
             true
         } else {
             false
@@ -155,8 +147,7 @@ impl Labels {
         ensures settled { ChangesRow self.old self.new s
             (record { g = g_of self.old s; v = g_of self.old s; back = back_of self.old s }) }
     {
-        let row = &mut self.rows[s as usize];
-        row.v = row.g;
+        self.rows.set_v(s, self.rows.g(s));
     }
 
     /// Raises the underconsistent `s`: its v becomes infinite.
@@ -166,7 +157,7 @@ impl Labels {
         ensures raised { ChangesRow self.old self.new s
             (record { g = g_of self.old s; v = FAR; back = back_of self.old s }) }
     {
-        self.rows[s as usize].v = FAR;
+        self.rows.set_v(s, FAR);
     }
 
     /// Recomputes `t`: its g becomes the least v + cost over the free arcs into it from states of
@@ -198,9 +189,7 @@ impl Labels {
         requires label { IsLabel g }
         ensures rewritten { ChangesRow self.old self.new t (record { g = g; v = v_of self.old t; back = back }) }
     {
-        let row = &mut self.rows[t as usize];
-        row.g = g;
-        row.back = back;
+        self.rows.set_way(t, g, back);
     }
 
     /// The least of g at the goal and of g + h over all states whose g and v differ, with h by this
@@ -237,7 +226,15 @@ impl Labels {
             → AreSupported n self.now.start (g_of self.now) (v_of self.now)
             → (arcs : List ℕ) (cost : ℕ) → IsFreePath n self.now.start arcs goal cost → ⊥ }
     {
-        self.rows[goal as usize].g == FAR && self.rows.iter().all(|row| row.g >= FAR || row.v < FAR)
+        if self.g(goal) < FAR {
+            return false;
+        }
+        for s in 0..self.count() {
+            if self.g(s) < FAR && self.v(s) == FAR {
+                return false;
+            }
+        }
+        true
     }
 
     /// Follows the back arcs from the goal. There is none exactly where the goal's label is
@@ -272,14 +269,5 @@ impl Labels {
         }
         into.reverse();
         Walk::Path(cost)
-    }
-}
-
-/// Writes infinite labels without a back arc into each row.
-fn clear(rows: &mut [Row])
-    ensures far { (s : ℕ) → s < length rows.old → slice_index_or rows.new s no_row ≡ far_row }
-{
-    for row in rows.iter_mut() {
-        *row = FAR_ROW;
     }
 }

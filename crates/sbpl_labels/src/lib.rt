@@ -6,6 +6,7 @@ mod budget;
 mod labels;
 mod pass_end;
 mod row;
+mod rows;
 mod walk;
 mod ways;
 

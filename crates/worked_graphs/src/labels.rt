@@ -43,9 +43,6 @@ fn recomputed_by_the_first_tail(rt: HostRuntime) -> Result<(), Fail> {
     let tie = Listed {
         arcs: [Some((1, 5)), Some((1, 1)), None],
     };
-    let blocked = Listed {
-        arcs: [None, Some((1, 1)), None],
-    };
     let mut labels = Labels::open(rt.alloc(), 3, 0)?;
     labels.settle(0);
     assert!(rt; labels.lower(1, 1, 0, 4));
@@ -56,12 +53,24 @@ fn recomputed_by_the_first_tail(rt: HostRuntime) -> Result<(), Fail> {
         (5, 4, Some((0, 0)))
     );
     labels.raise(1);
+    assert_eq!(rt; (labels.g(1), labels.v(1)), (5, FAR));
+    Ok(())
+}
+
+#[test]
+fn recomputed_without_a_way(rt: HostRuntime) -> Result<(), Fail> {
+    let blocked = Listed {
+        arcs: [None, Some((1, 1)), None],
+    };
+    let mut labels = Labels::open(rt.alloc(), 3, 0)?;
+    labels.settle(0);
+    assert!(rt; labels.lower(1, 0, 0, 4));
     labels.recompute(&blocked, 1);
-    labels.recompute(&blocked, 0);
     assert_eq!(rt;
         (labels.g(1), labels.v(1), labels.back(1)),
         (FAR, FAR, None)
     );
+    labels.recompute(&blocked, 0);
     assert_eq!(rt; (labels.g(0), labels.v(0)), (0, 0));
     Ok(())
 }
