@@ -1,6 +1,7 @@
 //! A batch of changes is written to the map of a lattice.
 
 ghost use Rattle.std.specs.Prelude.{◌≡◌, ◌↔◌, ◌⊎◌, pos, IsTrue, OnOk, OnErr};
+ghost use Rattle.std.specs.List.Sorted.{IsStrictlyIncreasing};
 ghost use Rattle.sbpl_map.specs.CellMap.{IsOnMap, ChangesCell};
 ghost use Rattle.sbpl_map.specs.MapAfter.{AreWritten};
 ghost use Rattle.sbpl_cost.specs.World.{IsWorld};
@@ -49,8 +50,8 @@ pub fn write_batch(lattice: &mut Lattice, batch: &[Write])
 }
 
 /// Writes a batch to the map of a lattice, in turn, and puts into `touched` the states that a repair has to recompute: the
-/// heads of all arcs that read a cell which costs something else after the batch than before it. A state can be there more
-/// than once, and what was in `touched` before is dropped. All cells of the batch are on the map. After
+/// heads of all arcs that read a cell which costs something else after the batch than before it, each once, upwards. What was
+/// in `touched` before is dropped. All cells of the batch are on the map. After
 /// `NoMemory` the map is the old or the new one, and nothing is said of `touched`.
 pub fn apply(
     alloc: Global,
@@ -63,6 +64,7 @@ pub fn apply(
     ensures others { lattice.new ≡ record lattice.old { map = lattice.new.map } }
     ensures kept { IsWorld lattice.new }
     ensures touched { OnOk result (AreAffected lattice.old lattice.new.map touched.new.items) }
+    ensures once { OnOk result (IsStrictlyIncreasing touched.new.items) }
     ensures same_arcs { OnOk result (KeepArcsElsewhere (network_of lattice.old) (network_of lattice.new) touched.new.items) }
     ensures states { OnOk result (AreStates (network_of lattice.new) touched.new.items) }
     ensures refused { OnErr result ((lattice.new.map ≡ lattice.old.map) ⊎ AreWritten lattice.old.map batch.now lattice.new.map) }

@@ -1,6 +1,8 @@
 //! The heads of the arcs that read cells whose costs changed.
 
-ghost use Rattle.std.specs.Prelude.{◌≡◌, [], OnOk};
+ghost use Rattle.std.specs.Prelude.{◌≡◌, ℕ, [], ◌↔◌, OnOk};
+ghost use Rattle.std.specs.List.{Contains};
+ghost use Rattle.std.specs.List.Sorted.{IsStrictlyIncreasing};
 ghost use Rattle.sbpl_change.specs.Heads.{AddsHeadsOf, AreHeadsOf};
 
 use crate::costs::{Costs, present_cost};
@@ -23,7 +25,16 @@ fn add_heads(
     Ok(())
 }
 
-/// Adds the heads of the arcs that read cells whose costs are not what they were.
+/// Orders a list upwards and leaves each number in it once, so that a state that many arcs lead to is recomputed once.
+fn list_once(states: &mut Vec<u32>)
+    ensures same { (s : ℕ) → Contains states.new.items s ↔ Contains states.old.items s }
+    ensures once { IsStrictlyIncreasing states.new.items }
+{
+    states.sort_unstable();
+    states.dedup();
+}
+
+/// Adds the heads of the arcs that read cells whose costs are not what they were, each once, upwards.
 pub(crate) fn add_changed_heads(
     lattice: &Lattice,
     costs: &Costs,
@@ -31,9 +42,11 @@ pub(crate) fn add_changed_heads(
 ) -> Result<(), NoMemory>
     requires empty { heads.old.items ≡ [] }
     ensures heads { OnOk result (AreHeadsOf lattice.now costs.now heads.new.items) }
+    ensures once { OnOk result (IsStrictlyIncreasing heads.new.items) }
 {
     for (cell, was) in costs {
         add_heads(lattice, cell.0, cell.1, *was, heads)?;
     }
+    list_once(heads);
     Ok(())
 }

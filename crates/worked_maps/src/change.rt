@@ -8,7 +8,7 @@ use sbpl_map::Write;
 use std::alloc::Global;
 use std::test::Fail;
 
-/// The states that a batch touches on a lattice, in order, or `None` where it is not written.
+/// The states that a batch touches on a lattice, each once, upwards, or `None` where it is not written.
 fn touched_on(alloc: Global, lattice: &mut Lattice, batch: &[Write]) -> Option<Vec<u32>> {
     if !are_on_map(lattice, batch) {
         return None;
@@ -17,7 +17,6 @@ fn touched_on(alloc: Global, lattice: &mut Lattice, batch: &[Write]) -> Option<V
     if apply(alloc, lattice, batch, &mut touched).is_err() {
         return None;
     }
-    touched.sort_unstable();
     Some(touched)
 }
 
@@ -37,7 +36,7 @@ fn write(x: u32, y: u32, cost: u8) -> Write {
 }
 
 #[test]
-fn a_corner_touches_four_heads(rt: HostRuntime) -> Result<(), Fail> {
+fn a_corner_touches_two_heads(rt: HostRuntime) -> Result<(), Fail> {
     for batch in [
         [write(2, 1, 100), write(2, 1, 100)],
         [write(2, 1, 0), write(2, 1, 100)],
@@ -46,7 +45,7 @@ fn a_corner_touches_four_heads(rt: HostRuntime) -> Result<(), Fail> {
         let Some(touched) = touched_by(rt.alloc(), &batch) else {
             return Err(Fail::new("not written"));
         };
-        assert_eq!(rt; touched.as_slice(), [32, 80, 80, 80].as_slice());
+        assert_eq!(rt; touched.as_slice(), [32, 80].as_slice());
     }
     Ok(())
 }

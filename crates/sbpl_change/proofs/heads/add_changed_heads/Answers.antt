@@ -24,10 +24,13 @@ loop-cell-preserved c =
     }
 
 pub returns : goal.returns
-returns c = record {
-  heads = record {
-    sound = c.loop-cell.invariant.sound;
-    complete = all_heads c.args.lattice.now c.args.costs.now c.loop-cell.cell-iterator c.loop-cell.heads.items (rest_all deref_pair c.loop-cell.cell-iterator c.next.new.self c.next.result c.in-None.is c.next.ensures.steps) c.loop-cell.invariant.complete;
-    states = c.loop-cell.invariant.states;
-  };
-}
+returns c =
+    let same = c.list_once.ensures.same in
+    record {
+      heads = record {
+        sound = λ t h. c.loop-cell.invariant.sound t ((same t).0 h);
+        complete = λ t head. (same t).1 (all_heads c.args.lattice.now c.args.costs.now c.loop-cell.cell-iterator c.loop-cell.heads.items (rest_all deref_pair c.loop-cell.cell-iterator c.next.new.self c.next.result c.in-None.is c.next.ensures.steps) c.loop-cell.invariant.complete t head);
+        states = λ t h. c.loop-cell.invariant.states t ((same t).0 h);
+      };
+      once = c.list_once.ensures.once;
+    }
