@@ -72,7 +72,7 @@ fn compare_on(
 }
 
 /// The status of a run of these words.
-fn status_of(
+pub(crate) fn status_of(
     rt: &(impl Threads + Wait + Sync),
     alloc: Global,
     words: &[&str],
@@ -125,7 +125,7 @@ const SAME: &str =
 
 const NONE: &str = "plan 0\npass 1.000 expanded 1 none\nnopath\ndone\n";
 
-const CORRIDOR: &str =
+pub(crate) const CORRIDOR: &str =
     "plan 0\npass 1.000 expanded 2 best 50 bound 1.000\npath 2 cost 50 bound 1.000\npose 0 0 0\nstep 0 1 0 0\nstep 0 2 0 0\ndone\n";
 
 const SEVEN: &str =
@@ -834,7 +834,7 @@ fn files(rt: HostRuntime) -> Result<(), Fail> {
 }
 
 /// The map changes at (2, 1), and back.
-const THERE_AND_BACK: &str = "cell 2 1 100\nreplan\ncell 2 1 0\nreplan\n";
+pub(crate) const THERE_AND_BACK: &str = "cell 2 1 100\nreplan\ncell 2 1 0\nreplan\n";
 
 const REPAIRED: &str =
     "plan 0\npass 1.000 expanded 4 best 100 bound 1.000\npath 3 cost 100 bound 1.000\npose 0 0 0\nstep 2 0 1 0\nstep 1 2 1 0\nstep 3 2 0 0\nplan 1\npass 1.000 expanded 1 best 150 bound 1.000\npath 1 cost 150 bound 1.000\npose 0 0 0\nstep 1 2 0 0\nplan 2\npass 1.000 expanded 0 best 100 bound 1.000\npath 4 cost 100 bound 1.000\npose 0 0 0\nstep 2 0 1 0\nstep 0 1 1 0\nstep 0 2 1 0\nstep 3 2 0 0\ndone\n";
