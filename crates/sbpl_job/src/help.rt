@@ -1,4 +1,4 @@
-//! Texts for people: help, the version, and a short usage.
+//! Texts for people: help and the version.
 
 ghost use Rattle.std.specs.Prelude.{◌≡◌, IsSome, None, map, string_bytes};
 ghost use Rattle.sbpl_job.specs.Asked.{asked_for, asked_of};
@@ -55,6 +55,16 @@ Statuses:
   10  the text of labels has a fault
 ";
 
+/// How a command is called, its words left out.
+fn call_of(command: Command) -> &'static str {
+    match command {
+        Command::Plan => "temjoask plan",
+        Command::Check => "temjoask check",
+        Command::Sweep => "temjoask sweep",
+        Command::Demo => "temjoask demo",
+    }
+}
+
 /// An example of a command.
 fn example_of(command: Command) -> &'static str {
     match command {
@@ -101,7 +111,7 @@ pub fn read_asked(words: &[String]) -> Option<Asked>
 
 /// The help of a command: its words and settings, the statuses, and an example.
 fn help_of(alloc: Global, command: Command) -> Result<String, AllocError> {
-    let mut line = line_of(alloc, command)?;
+    let mut line = line_of(alloc, command)?.bin_name(call_of(command))?;
     let mut text = line.render_help()?;
     text.push_str(STATUSES)?;
     text.push_str(example_of(command))?;
@@ -123,9 +133,4 @@ pub fn told(alloc: Global, asked: Asked) -> Result<String, AllocError> {
         Asked::HelpOf(command) => help_of(alloc, command),
         Asked::Version => String::from_str(alloc, VERSION),
     }
-}
-
-/// How the program is called, for words that name no job.
-pub fn usage() -> &'static str {
-    USAGE
 }

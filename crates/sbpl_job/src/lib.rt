@@ -10,9 +10,11 @@ mod name;
 mod read;
 mod values;
 mod words;
+mod wrong;
 
-pub use help::{Asked, read_asked, told, usage};
+pub use help::{Asked, read_asked, told};
 pub use job::{CheckJob, DemoJob, Job, JobFault, Outputs, PlanJob, Planner, SearchJob, Sources};
 pub use name::Name;
 pub use read::read_job;
 pub use words::{Command, Setting, words_part_into_forms};
+pub use wrong::wrong_words;

@@ -200,3 +200,52 @@ pub(crate) fn search_of(matches: &ArgMatches) -> Result<SearchJob, JobFault>
         budget,
     })
 }
+
+/// The setting of the planner, its workers or its budget whose value is wrong, and what the value must be.
+fn wrong_planner(matches: &ArgMatches) -> Option<(&'static str, &'static str)> {
+    let Ok(planner) = planner_of(matches) else {
+        return Some(("planner", "--planner must be ad, ara or epase"));
+    };
+    if workers_of(planner, matches).is_err() {
+        return Some((
+            "workers",
+            "--workers must be a whole number from 1 to 64, and goes with --planner epase",
+        ));
+    }
+    if budget_of(matches).is_err() {
+        return Some((
+            "budget",
+            "--budget must be a whole number from 1 to 1073741824",
+        ));
+    }
+    if has_workers(planner) && matches.get_str("changes").is_some() {
+        return Some((
+            "changes",
+            "--changes does not go with --planner epase so far",
+        ));
+    }
+    None
+}
+
+/// The setting of `plan` whose value is wrong, and what the value must be.
+pub(crate) fn wrong_search(matches: &ArgMatches) -> Option<(&'static str, &'static str)> {
+    if milli_by(matches.get_str("first"), 1000, 1000, 100_000).is_err() {
+        return Some((
+            "first",
+            "--first must be a decimal from 1 to 100, in whole thousandths",
+        ));
+    }
+    if milli_by(matches.get_str("step"), 500, 1, 99_000).is_err() {
+        return Some((
+            "step",
+            "--step must be a decimal from 0.001 to 99, in whole thousandths",
+        ));
+    }
+    if milli_by(matches.get_str("bound"), 1000, 1000, 100_000).is_err() {
+        return Some((
+            "bound",
+            "--bound must be a decimal from 1 to 100, in whole thousandths",
+        ));
+    }
+    wrong_planner(matches)
+}

@@ -1,23 +1,22 @@
 //! What the program does for the words after its name, at any desk.
 
-ghost use Rattle.std.specs.Prelude.{◌≡◌, ◌≢◌, None, IsSome, map, string_bytes};
+ghost use Rattle.std.specs.Prelude.{◌≡◌, false, None, IsSome, map, string_bytes};
 ghost use Rattle.std.specs.Io.KnownBytes.{Keeps};
-ghost use Rattle.sbpl_desk.specs.Desk.{Rose};
+ghost use Rattle.sbpl_desk.specs.Desk.{ReadsOnly, Rose};
 ghost use Rattle.sbpl_cli.specs.Run.{IsOrUnwritten, IsStatus, MayBeWritten, job_named};
 ghost use Rattle.sbpl_cli.specs.RunPromises.{RunPromises};
 ghost use Rattle.sbpl_cli.specs.Writing.{IsOutput, WritesOnly, output};
 ghost use Rattle.sbpl_job.specs.Asked.{asked_for};
+ghost use Rattle.sbpl_message.specs.Reasons.{has_message};
 
 use sbpl_cli::{Gate, run};
 use sbpl_desk::{Desk, WriteStop};
-use sbpl_job::{Asked, read_asked, told, usage};
+use sbpl_job::{Asked, read_asked, told};
+use sbpl_message::message_for;
 use std::alloc::Global;
 use std::io;
 use std::sync::Wait;
 use std::thread::Threads;
-
-/// The status for words that name no job.
-const NO_JOB: u8 = 2;
 
 /// The status for a write that failed.
 const NOT_WRITTEN: u8 = 7;
@@ -41,25 +40,35 @@ fn tell<D: Desk>(alloc: Global, asked: Asked, desk: &mut D) -> u8
     }
 }
 
-/// Tells how the program is called, where the status says that the words name no job.
-fn hint<E: io::Write>(status: u8, err: &mut E)
-    ensures usage { status ≢ 2 → Keeps (E.contents err.old) (E.contents err.new) }
+/// Tells on `err` why a run that ended with this status did not do its job, where the status has a message. The files are read
+/// again at a desk of this call's own.
+fn explain<D: Desk, E: io::Write>(
+    alloc: Global,
+    words: &[String],
+    status: u8,
+    again: &mut D,
+    err: &mut E,
+)
+    ensures quiet { has_message status ≡ false → Keeps (E.contents err.old) (E.contents err.new) }
+    ensures frame { ReadsOnly (D.state again.old) (D.state again.new) }
 {
-    if status == NO_JOB {
+    if let Some(message) = message_for(alloc, words, status, again) {
         // The status says it all where even this cannot be written.
-        let _ = err.write_all(usage().as_bytes());
+        let _ = err.write_all(message.as_slice());
     }
 }
 
 #[tactic(none)]
 /// Does what the words after the program's name ask for, and answers the program's status: tells help or the version, or does
-/// the job that they name, as `run` does it. Words that name no job are told on `err` how the program is called.
+/// the job that they name, as `run` does it. Where the job was not done, a line on `err` says why: which word, which file, or
+/// where in a file and what must stand there. To find that out it reads the files again at the desk `again`, and only then.
 pub fn answer<R: Threads + Wait + Sync, D: Desk, T: Gate + Sync, E: io::Write>(
     rt: &R,
     alloc: Global,
     words: &[String],
     desk: &mut D,
     gate: &T,
+    again: &mut D,
     err: &mut E,
 ) -> u8
     // Words that ask for help or the version are told it, unless that cannot be written or memory runs out.
@@ -68,8 +77,10 @@ pub fn answer<R: Threads + Wait + Sync, D: Desk, T: Gate + Sync, E: io::Write>(
     // All other words get what `run` promises, of this status.
     ensures run { asked_for (map string_bytes words.now) ≡ None → RunPromises (job_named words.now) (D.state desk.old) (D.state desk.new) result }
     ensures statuses { IsStatus result }
-    // How the program is called is told with status 2 alone.
-    ensures usage { result ≢ 2 → Keeps (E.contents err.old) (E.contents err.new) }
+    // A message comes with the statuses 2 to 7 and 10 alone.
+    ensures quiet { has_message result ≡ false → Keeps (E.contents err.old) (E.contents err.new) }
+    // The desk at which files are read again is only read.
+    ensures again { ReadsOnly (D.state again.old) (D.state again.new) }
     // Nothing that is held changes, nothing is written under other names than the job's, and no count falls.
     ensures frame { WritesOnly (MayBeWritten (job_named words.now)) (D.state desk.old) (D.state desk.new) }
 {
@@ -77,7 +88,7 @@ pub fn answer<R: Threads + Wait + Sync, D: Desk, T: Gate + Sync, E: io::Write>(
         Some(asked) => tell(alloc, asked, desk),
         None => {
             let status = run(rt, alloc, words, desk, gate);
-            hint(status, err);
+            explain(alloc, words, status, again, err);
             status
         }
     }

@@ -27,7 +27,7 @@ fn after_name(words: &[String]) -> &[String]
 }
 
 /// Does what the program's words ask for, at the system's files and standard output, and answers the status, which is one of
-/// those that the help lists. How the program is called is told on `err`.
+/// those that the help lists. Where the job was not done, a line on `err` says why.
 pub fn start<R: Env + Files + Print + AllocGlobal + Threads + Wait + Sync, E: io::Write>(
     rt: &R,
     err: &mut E,
@@ -41,12 +41,14 @@ pub fn start<R: Env + Files + Print + AllocGlobal + Threads + Wait + Sync, E: io
         Err(_) => Vec::new(rt.alloc()),
     };
     let mut desk = RealDesk::new(rt);
+    let mut again = RealDesk::new(rt);
     answer(
         rt,
         rt.alloc(),
         after_name(words.as_slice()),
         &mut desk,
         &NoGate,
+        &mut again,
         err,
     )
 }

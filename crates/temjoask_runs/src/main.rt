@@ -44,8 +44,10 @@ const LABELS: [&str; 4] = [
 const TEXTS: [&str; 3] = ["demo 7 12 8", "sweep --help", "--version"];
 
 /// Those of runs that are refused, and of one that cannot write its labels.
-const REFUSALS: [&str; 7] = [
+const REFUSALS: [&str; 9] = [
     "plan e1.cfg",
+    "plan e1.cfg f1.mprim --budgte 5",
+    "plan e1.cfg f1.mprim --budget 0",
     "plan short.cfg f1.mprim",
     "plan e1.cfg free.mprim",
     "plan --radius 1000 e1.cfg f1.mprim --labels=labels",
@@ -54,7 +56,7 @@ const REFUSALS: [&str; 7] = [
     "plan e1.cfg f1.mprim --labels none/labels",
 ];
 
-/// Runs the program on the words of a line, and prints its status, and whether the usage was told beside.
+/// Runs the program on the words of a line, and prints its status, and the message that was told beside it.
 fn run_line<R: Files + Print + AllocGlobal + Threads + Wait + Sync>(
     rt: &R,
     line: &str,
@@ -65,6 +67,7 @@ fn run_line<R: Files + Print + AllocGlobal + Threads + Wait + Sync>(
         words.push(String::from_str(rt.alloc(), word)?)?;
     }
     let mut desk = RealDesk::new(rt);
+    let mut again = RealDesk::new(rt);
     let mut error = Vec::new(rt.alloc());
     let status = answer(
         rt,
@@ -72,14 +75,14 @@ fn run_line<R: Files + Print + AllocGlobal + Threads + Wait + Sync>(
         words.as_slice(),
         &mut desk,
         &NoGate,
+        &mut again,
         &mut error,
     );
-    let told = if error.is_empty() {
-        ""
-    } else {
-        ", with the usage"
-    };
-    println!(rt; "status {status}{told}")
+    println!(rt; "status {status}")?;
+    match str::from_utf8(error.as_slice()) {
+        Ok(message) => print!(rt; "{message}"),
+        Err(_) => println!(rt; "a message that is not text"),
+    }
 }
 
 /// Runs the program on each line in turn.

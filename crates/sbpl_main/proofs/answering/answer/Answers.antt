@@ -1,4 +1,4 @@
-use Rattle.std.proofs.Common.{◌≡◌, ℕ, None, Option, Some, IsSome, map, string_bytes, rules, inl, inr, refl, sym, ◌∙◌}
+use Rattle.std.proofs.Common.{◌≡◌, ℕ, None, Option, Some, IsSome, map, string_bytes, arith, rules, inl, inr, refl, sym, ◌∙◌}
 use Rattle.std.proofs.lemmas.Bool.{false≢true}
 use Rattle.sbpl_cli.specs.Run.{IsOrUnwritten, IsStatus}
 use Rattle.sbpl_job.specs.declared.help.Asked.{Asked}
@@ -31,8 +31,16 @@ returns-in-Some-clause-run g c = λ none. absurd (not_asked _ _ c.in-Some.is (c.
 pub returns-in-Some-clause-statuses : goal.returns-in-Some-clause-statuses
 returns-in-Some-clause-statuses g c = told_status c.tell.result c.tell.ensures.told
 
-pub returns-in-Some-clause-usage : goal.returns-in-Some-clause-usage
-returns-in-Some-clause-usage g c = search rules
+pub returns-in-Some-clause-quiet : goal.returns-in-Some-clause-quiet
+returns-in-Some-clause-quiet g c = search rules
+
+pub returns-in-Some-clause-again : goal.returns-in-Some-clause-again
+returns-in-Some-clause-again g c = record {
+  held = λ name. refl;
+  written = λ name. refl;
+  reads = λ name. omega arith;
+  writes = λ name. omega arith;
+}
 
 pub returns-in-Some-clause-frame : goal.returns-in-Some-clause-frame
 returns-in-Some-clause-frame g c = rw c.in-Some.ensures.no_job c.tell.ensures.frame
@@ -49,8 +57,11 @@ returns-in-None-clause-run g c = λ _. c.run-status.ensures.promises
 pub returns-in-None-clause-statuses : goal.returns-in-None-clause-statuses
 returns-in-None-clause-statuses g c = c.run-status.ensures.promises.statuses
 
-pub returns-in-None-clause-usage : goal.returns-in-None-clause-usage
-returns-in-None-clause-usage g c = c.hint.ensures.usage
+pub returns-in-None-clause-quiet : goal.returns-in-None-clause-quiet
+returns-in-None-clause-quiet g c = c.explain.ensures.quiet
+
+pub returns-in-None-clause-again : goal.returns-in-None-clause-again
+returns-in-None-clause-again g c = c.explain.ensures.frame
 
 pub returns-in-None-clause-frame : goal.returns-in-None-clause-frame
 returns-in-None-clause-frame g c = c.run-status.ensures.frame

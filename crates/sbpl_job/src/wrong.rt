@@ -1,0 +1,105 @@
+//! What is wrong with words that name no job, told in one line.
+
+use crate::demo::{read_extent, read_seed};
+use crate::line::line_of;
+use crate::read::command_named;
+use crate::values::{radius_of, wrong_search};
+use crate::words::{Command, spaced_words};
+use clap::ArgMatches;
+use std::alloc::{AllocError, Global};
+
+/// What `clap` says of words, without its usage, in one line.
+fn one_line(alloc: Global, text: &str) -> Result<String, AllocError> {
+    let mut line = String::new(alloc);
+    for part in text.lines() {
+        let part = part.trim();
+        if part.starts_with("Usage:") {
+            break;
+        }
+        if part.is_empty() {
+            continue;
+        }
+        if !line.is_empty() {
+            line.push_str(if line.as_str().ends_with(':') {
+                " "
+            } else {
+                "; "
+            })?;
+        }
+        line.push_str(part.strip_prefix("error: ").unwrap_or(part))?;
+    }
+    Ok(line)
+}
+
+/// The setting whose value is wrong, and what the value must be.
+fn wrong_value(command: Command, matches: &ArgMatches) -> Option<(&'static str, &'static str)> {
+    if radius_of(matches).is_err() {
+        return Some((
+            "radius",
+            "--radius must be a decimal from 0 to 1000, in metres",
+        ));
+    }
+    match command {
+        Command::Plan => wrong_search(matches),
+        Command::Demo => wrong_demo(matches),
+        Command::Check | Command::Sweep => None,
+    }
+}
+
+/// The word of `demo` that is wrong, and what it must be.
+fn wrong_demo(matches: &ArgMatches) -> Option<(&'static str, &'static str)> {
+    if read_seed(matches.get_str("SEED").unwrap_or("")).is_err() {
+        return Some(("SEED", "SEED must be a whole number from 0 to 2^64 - 1"));
+    }
+    if read_extent(matches.get_str("W").unwrap_or("")).is_err() {
+        return Some(("W", "W must be a whole number from 8 to 512"));
+    }
+    if read_extent(matches.get_str("H").unwrap_or("")).is_err() {
+        return Some(("H", "H must be a whole number from 8 to 512"));
+    }
+    None
+}
+
+/// What is wrong with words that `clap` takes and whose values are right: the files that are written.
+const WRONG_OUTPUTS: &str =
+    "the files of --labels and --trace must differ from each other and from each file that is read";
+
+/// What is wrong with words that `clap` takes.
+fn wrong_in(alloc: Global, command: Command, matches: &ArgMatches) -> Result<String, AllocError> {
+    let Some((id, wanted)) = wrong_value(command, matches) else {
+        return String::from_str(alloc, WRONG_OUTPUTS);
+    };
+    let found = matches.get_str(id).unwrap_or("");
+    format!(in alloc; "{wanted}, found \"{found}\"")
+}
+
+/// What is wrong with the words after a command, in the spaced form.
+fn wrong_after(alloc: Global, command: Command, words: &[&str]) -> Result<String, AllocError> {
+    let line = line_of(alloc, command)?;
+    match line.try_get_matches_from(words) {
+        Ok(matches) => wrong_in(alloc, command, &matches),
+        Err(error) => {
+            let text = format!(in alloc; "{error}")?;
+            one_line(alloc, text.as_str())
+        }
+    }
+}
+
+/// What is wrong with words that name no job, in one line: what `clap` says of them, or which value is out of its range. Of words
+/// that name a job it says nothing of use.
+pub fn wrong_words(alloc: Global, words: &[String]) -> Result<String, AllocError> {
+    let [word, rest @ ..] = words else {
+        return String::from_str(
+            alloc,
+            "a command must stand here: plan, check, sweep or demo",
+        );
+    };
+    let word = word.as_str();
+    let Some(command) = command_named(word) else {
+        return format!(in alloc;
+            "the command must be plan, check, sweep or demo, found \"{word}\""
+        );
+    };
+    let spaced = spaced_words(alloc, command, rest)?;
+    wrong_after(alloc, command, spaced.as_slice())
+}

@@ -1,0 +1,37 @@
+//! Which field of a file stands at a place.
+
+use sbpl_fixed::next_token;
+
+/// Whether a token is a word of a file: it ends with a colon.
+fn is_word(token: &[u8]) -> bool {
+    match token {
+        [.., last] => *last == b':',
+        [] => false,
+    }
+}
+
+/// Whether a word is this one.
+pub(crate) fn is_named(word: &[u8], name: &str) -> bool {
+    word == name.as_bytes()
+}
+
+/// The last word of a text before a place, empty where there is none, and how many tokens stand between it and the place.
+pub(crate) fn word_before(text: &[u8], place: usize) -> (&[u8], usize) {
+    let mut word: &[u8] = &[];
+    let mut after: usize = 0;
+    let mut at = 0;
+    while let Some(token) = next_token(text, at) {
+        if token.from >= place {
+            break;
+        }
+        let bytes = &text[token.from..token.to];
+        if is_word(bytes) {
+            word = bytes;
+            after = 0;
+        } else {
+            after = after.saturating_add(1);
+        }
+        at = token.to;
+    }
+    (word, after)
+}

@@ -1,0 +1,23 @@
+//! Messages for people: where a file has a fault, what must stand there, and what was found.
+#![tactic(auto)]
+
+mod again;
+mod changes;
+mod environment;
+mod field;
+mod labels;
+mod lines;
+mod message;
+mod primitives;
+mod reason;
+#[cfg(test)]
+mod tests;
+mod whole;
+
+pub use changes::changes_message;
+pub use environment::environment_message;
+pub use labels::labels_message;
+pub use lines::line_and_column;
+pub use primitives::primitives_message;
+pub use reason::{has_message, message_for};
+pub use whole::{size_message, unread_message, unwritten_message, words_message};

@@ -1,0 +1,149 @@
+//! The text of a message.
+
+ghost use Rattle.std.specs.Prelude.{◌≡◌, ◌++◌, IfOk, OnOk, decimal, map, take};
+ghost use Rattle.sbpl_message.specs.Lines.{column_of, filled_at, line_of};
+ghost use Rattle.sbpl_message.specs.Messages.{dots, found_text, message_text, plain_text, quoted_text, shown, shown_byte, spot_text};
+
+use crate::lines::{filled_at, line_and_column};
+use itoa::Buffer;
+use sbpl_fixed::NoMemory;
+use std::alloc::{AllocError, Global};
+
+/// How many bytes of what stands in a file a message shows.
+const MOST_SHOWN: usize = 40;
+
+/// Appends bytes.
+fn push_bytes(out: &mut Vec<u8>, bytes: &[u8]) -> Result<(), NoMemory>
+    ensures appended { OnOk result (out.new.items ≡ out.old.items ++ bytes.now) }
+{
+    out.extend_from_slice(bytes)?;
+    Ok(())
+}
+
+/// Appends a whole number.
+fn push_number(out: &mut Vec<u8>, number: usize) -> Result<(), NoMemory>
+    ensures appended { OnOk result (out.new.items ≡ out.old.items ++ decimal number) }
+{
+    out.extend_from_slice(Buffer::new().format(number as u64).as_bytes())?;
+    Ok(())
+}
+
+/// A byte as a message shows it: a byte that a terminal might obey is shown as `?`.
+fn shown_byte(byte: u8) -> u8
+    ensures shown { result ≡ shown_byte byte }
+{
+    if byte > 31 && byte < 127 { byte } else { b'?' }
+}
+
+/// Bytes as a message shows them.
+fn shown_bytes(alloc: Global, bytes: &[u8]) -> Result<Vec<u8>, AllocError>
+    ensures shown { IfOk result (λ v. v.items ≡ map shown_byte bytes.now) }
+{
+    bytes.iter().map(|b| shown_byte(*b)).collect(alloc)
+}
+
+/// What follows the first bytes of what stands in a file: dots, where there are more.
+fn dots(found: &[u8]) -> &'static str
+    ensures dots { result.now ≡ dots found.now }
+{
+    if found.len() > MOST_SHOWN { "..." } else { "" }
+}
+
+/// The first bytes of what stands in a file, as many as a message shows.
+#[tactic(auto, using(std::proofs::lemmas::List::take_min))]
+fn front(found: &[u8]) -> &[u8]
+    ensures front { result.now ≡ take 40 found.now }
+{
+    &found[..MOST_SHOWN.min(found.len())]
+}
+
+/// Appends what stands in a file, as a message shows it.
+#[tactic(auto, unfolding(crate::specs::Messages::shown))]
+fn push_shown(alloc: Global, out: &mut Vec<u8>, found: &[u8]) -> Result<(), NoMemory>
+    ensures appended { OnOk result (out.new.items ≡ out.old.items ++ shown found.now) }
+{
+    let bytes = shown_bytes(alloc, front(found))?;
+    push_bytes(out, bytes.as_slice())?;
+    push_bytes(out, dots(found).as_bytes())
+}
+
+/// Appends where a message belongs.
+#[tactic(auto, unfolding(crate::specs::Messages::spot_text))]
+fn push_spot(out: &mut Vec<u8>, name: &str, line: usize, column: usize) -> Result<(), NoMemory>
+    ensures appended { OnOk result (out.new.items ≡ out.old.items ++ spot_text name.now line column) }
+{
+    push_bytes(out, name.as_bytes())?;
+    push_bytes(out, b":")?;
+    push_number(out, line)?;
+    push_bytes(out, b":")?;
+    push_number(out, column)?;
+    push_bytes(out, b": ")
+}
+
+/// Appends what was found, between quotation marks.
+#[tactic(auto, unfolding(crate::specs::Messages::quoted_text))]
+fn push_quoted(alloc: Global, out: &mut Vec<u8>, found: &[u8]) -> Result<(), NoMemory>
+    ensures appended { OnOk result (out.new.items ≡ out.old.items ++ quoted_text found.now) }
+{
+    push_bytes(out, b", found \"")?;
+    push_shown(alloc, out, found)?;
+    push_bytes(out, b"\"")
+}
+
+/// Appends what was found, or that the file ends where nothing was.
+fn push_found(alloc: Global, out: &mut Vec<u8>, found: &[u8]) -> Result<(), NoMemory>
+    ensures appended { OnOk result (out.new.items ≡ out.old.items ++ found_text found.now) }
+{
+    if found.len() > 0 {
+        push_quoted(alloc, out, found)
+    } else {
+        push_bytes(out, b", but the file ends here")
+    }
+}
+
+/// The message for a line and a column of a file: what must stand there, and what was found.
+#[tactic(auto, unfolding(crate::specs::Messages::message_text))]
+pub(crate) fn message(
+    alloc: Global,
+    name: &str,
+    line: usize,
+    column: usize,
+    wanted: &str,
+    found: &[u8],
+) -> Result<Vec<u8>, NoMemory>
+    ensures text { IfOk result (λ m. m.items ≡ message_text name.now line column wanted.now found.now) }
+{
+    let mut out = Vec::new(alloc);
+    push_spot(&mut out, name, line, column)?;
+    push_bytes(&mut out, wanted.as_bytes())?;
+    push_found(alloc, &mut out, found)?;
+    push_bytes(&mut out, b"\n")?;
+    Ok(out)
+}
+
+/// The message for a place of a text, which shows the token that begins there.
+pub(crate) fn message_at(
+    alloc: Global,
+    name: &str,
+    text: &[u8],
+    place: usize,
+    wanted: &str,
+) -> Result<Vec<u8>, NoMemory>
+    ensures text { IfOk result (λ m. m.items ≡ message_text name.now (line_of text.now place) (column_of text.now place) wanted.now (filled_at text.now place)) }
+{
+    let (line, column) = line_and_column(text, place);
+    message(alloc, name, line, column, wanted, filled_at(text, place))
+}
+
+/// The message on a whole file, or on the program.
+#[tactic(auto, unfolding(crate::specs::Messages::plain_text))]
+pub(crate) fn plain_message(alloc: Global, name: &str, what: &str) -> Result<Vec<u8>, NoMemory>
+    ensures text { IfOk result (λ m. m.items ≡ plain_text name.now what.now) }
+{
+    let mut out = Vec::new(alloc);
+    push_bytes(&mut out, name.as_bytes())?;
+    push_bytes(&mut out, b": ")?;
+    push_bytes(&mut out, what.as_bytes())?;
+    push_bytes(&mut out, b"\n")?;
+    Ok(out)
+}

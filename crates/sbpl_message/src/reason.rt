@@ -1,0 +1,190 @@
+//! The message for a status, which says why a job was not done.
+
+ghost use Rattle.std.specs.Prelude.{◌≡◌, false, IfSome};
+ghost use Rattle.sbpl_desk.specs.Desk.{ReadsOnly};
+ghost use Rattle.sbpl_message.specs.Reasons.{IsOnEnvironment, has_message};
+
+use crate::again::{
+    batches_of, changes_of, environment_of, fails, labels_of, map_of, sources_of, text_of,
+};
+use crate::changes::changes_message;
+use crate::environment::environment_message;
+use crate::labels::labels_message;
+use crate::primitives::primitives_message;
+use crate::whole::{size_message, unread_message, unwritten_message, words_message};
+use sbpl_cert::{LabelFault, read_labels};
+use sbpl_cfg::{EnvFault, read_env};
+use sbpl_desk::Desk;
+use sbpl_fixed::next_token;
+use sbpl_job::{Job, Name, Sources, read_job, wrong_words};
+use sbpl_map::{ChangeFault, Map, read_changes};
+use sbpl_mprim::{PrimFault, read_prims};
+use std::alloc::Global;
+
+/// Whether a status has a message.
+pub fn has_message(status: u8) -> bool
+    ensures has { result ≡ has_message status }
+{
+    status == 2
+        || status == 3
+        || status == 4
+        || status == 5
+        || status == 6
+        || status == 7
+        || status == 10
+}
+
+/// The message on the first fault of the environment file, if it has one.
+fn on_environment<D: Desk>(alloc: Global, from: &Sources, desk: &mut D) -> Option<Vec<u8>>
+    ensures told { IfSome result (λ m. IsOnEnvironment (D.state desk.old) from.now.env m.items) }
+    ensures frame { ReadsOnly (D.state desk.old) (D.state desk.new) }
+{
+    let text = text_of(alloc, &from.env, desk)?;
+    match read_env(alloc, text.as_slice()) {
+        Ok(_) | Err(EnvFault::NoMemory) => None,
+        Err(fault) => {
+            environment_message(alloc, from.env.as_str(), text.as_slice(), &fault).ok()
+        }
+    }
+}
+
+/// The message on the first fault of the primitive file; where it has none, on the size of its primitives.
+fn on_primitives<D: Desk>(alloc: Global, from: &Sources, desk: &mut D) -> Option<Vec<u8>>
+    ensures frame { ReadsOnly (D.state desk.old) (D.state desk.new) }
+{
+    let (env, _) = environment_of(alloc, from, desk)?;
+    let text = text_of(alloc, &from.prims, desk)?;
+    match read_prims(alloc, text.as_slice(), env.cell, env.headings) {
+        Ok(_) => size_message(alloc, from.prims.as_str()).ok(),
+        Err(PrimFault::NoMemory) => None,
+        Err(fault) => {
+            primitives_message(alloc, from.prims.as_str(), text.as_slice(), &fault).ok()
+        }
+    }
+}
+
+/// The message on the first fault of the change file, if it has one.
+fn on_changes<D: Desk>(alloc: Global, from: &Sources, name: &Name, desk: &mut D) -> Option<Vec<u8>>
+    ensures frame { ReadsOnly (D.state desk.old) (D.state desk.new) }
+{
+    let (env, grid) = environment_of(alloc, from, desk)?;
+    let map = Map::new(&env, grid);
+    let text = text_of(alloc, name, desk)?;
+    match read_changes(alloc, text.as_slice(), &map) {
+        Ok(_) | Err(ChangeFault::NoMemory) => None,
+        Err(fault) => changes_message(alloc, name.as_str(), text.as_slice(), &fault).ok(),
+    }
+}
+
+/// The first fault of a text of labels with a section for each plan, if it has one.
+fn fault_of_labels(alloc: Global, text: &[u8], last: u32, states: u32) -> Option<LabelFault> {
+    let mut at = 0;
+    for plan in 0..=last {
+        match read_labels(alloc, text, at, plan, states) {
+            Ok((_, next)) => at = next,
+            Err(fault) => return Some(fault),
+        }
+    }
+    match next_token(text, at) {
+        Some(token) => Some(LabelFault::Trailing(token.from)),
+        None => None,
+    }
+}
+
+/// The message on the first fault of the text of labels, if it has one.
+fn on_labels<D: Desk>(
+    alloc: Global,
+    from: &Sources,
+    changes: Option<&Name>,
+    name: &Name,
+    desk: &mut D,
+) -> Option<Vec<u8>>
+    ensures frame { ReadsOnly (D.state desk.old) (D.state desk.new) }
+{
+    let (env, grid) = environment_of(alloc, from, desk)?;
+    let (map, states) = map_of(&env, grid);
+    let last = batches_of(alloc, changes, &map, desk)?;
+    let text = text_of(alloc, name, desk)?;
+    match fault_of_labels(alloc, text.as_slice(), last, states) {
+        None | Some(LabelFault::NoMemory) => None,
+        Some(fault) => labels_message(alloc, name.as_str(), text.as_slice(), &fault).ok(),
+    }
+}
+
+/// The message for a file that can't be read, if it can't be.
+fn on_read<D: Desk>(alloc: Global, name: Option<&Name>, desk: &mut D) -> Option<Vec<u8>>
+    ensures frame { ReadsOnly (D.state desk.old) (D.state desk.new) }
+{
+    let name = name?;
+    if fails(alloc, name, desk) {
+        unread_message(alloc, name.as_str()).ok()
+    } else {
+        None
+    }
+}
+
+/// The message for the first file of a job that can't be read, if there is one.
+fn on_reads<D: Desk>(alloc: Global, job: &Job, from: &Sources, desk: &mut D) -> Option<Vec<u8>>
+    ensures frame { ReadsOnly (D.state desk.old) (D.state desk.new) }
+{
+    if let Some(message) = on_read(alloc, Some(&from.env), desk) {
+        return Some(message);
+    }
+    if let Some(message) = on_read(alloc, Some(&from.prims), desk) {
+        return Some(message);
+    }
+    if let Some(message) = on_read(alloc, changes_of(job), desk) {
+        return Some(message);
+    }
+    on_read(alloc, labels_of(job), desk)
+}
+
+/// The message for a job that was refused with a status.
+fn on_job<D: Desk>(alloc: Global, job: &Job, status: u8, desk: &mut D) -> Option<Vec<u8>>
+    ensures frame { ReadsOnly (D.state desk.old) (D.state desk.new) }
+{
+    let from = sources_of(job)?;
+    match status {
+        3 => on_environment(alloc, from, desk),
+        4 => on_primitives(alloc, from, desk),
+        5 => on_changes(alloc, from, changes_of(job)?, desk),
+        6 => on_reads(alloc, job, from, desk),
+        10 => on_labels(alloc, from, changes_of(job), labels_of(job)?, desk),
+        _ => None,
+    }
+}
+
+/// The message for words that name no job.
+fn on_words(alloc: Global, words: &[String]) -> Option<Vec<u8>> {
+    match wrong_words(alloc, words) {
+        Ok(what) => words_message(alloc, what.as_str()).ok(),
+        Err(_) => None,
+    }
+}
+
+/// The message for the status with which a run on these words ended: why the words name no job, which file could not be read, that
+/// a write failed, or where a file has its fault and what must stand there. It finds out by reading the files again, in the order
+/// in which the job read them. None for the other statuses, where memory runs out, and where the files have no such fault any more.
+pub fn message_for<D: Desk>(
+    alloc: Global,
+    words: &[String],
+    status: u8,
+    desk: &mut D,
+) -> Option<Vec<u8>>
+    ensures none { has_message status ≡ false → result ≡ None }
+    ensures frame { ReadsOnly (D.state desk.old) (D.state desk.new) }
+{
+    if !has_message(status) {
+        return None;
+    }
+    if status == 2 {
+        return on_words(alloc, words);
+    }
+    if status == 7 {
+        return unwritten_message(alloc).ok();
+    }
+    match read_job(alloc, words) {
+        Ok(job) => on_job(alloc, &job, status, desk),
+        Err(_) => None,
+    }
+}
