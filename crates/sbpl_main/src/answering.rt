@@ -52,7 +52,7 @@ fn explain<D: Desk, E: io::Write>(
     ensures quiet { has_message status ≡ false → Keeps (E.contents err.old) (E.contents err.new) }
     ensures frame { ReadsOnly (D.state again.old) (D.state again.new) }
 {
-    if let Some(message) = message_for(alloc, words, status, again) {
+    if let Ok(Some(message)) = message_for(alloc, words, status, again) {
         // The status says it all where even this cannot be written.
         let _ = err.write_all(message.as_slice());
     }

@@ -1,7 +1,8 @@
 //! The message for a status, which says why a job was not done.
 
-ghost use Rattle.std.specs.Prelude.{◌≡◌, false, IfSome};
+ghost use Rattle.std.specs.Prelude.{◌≡◌, ◌⊎◌, ℕ, List, false, codes, IfOk, IfSome, IsSome, Ok, None};
 ghost use Rattle.sbpl_desk.specs.Desk.{ReadsOnly};
+ghost use Rattle.sbpl_message.specs.Messages.{IsPlainMessage};
 ghost use Rattle.sbpl_message.specs.Reasons.{IsOnEnvironment, has_message};
 
 use crate::again::{
@@ -15,7 +16,7 @@ use crate::whole::{size_message, unread_message, unwritten_message, words_messag
 use sbpl_cert::{LabelFault, read_labels};
 use sbpl_cfg::{EnvFault, read_env};
 use sbpl_desk::Desk;
-use sbpl_fixed::next_token;
+use sbpl_fixed::{NoMemory, next_token};
 use sbpl_job::{Job, Name, Sources, read_job, wrong_words};
 use sbpl_map::{ChangeFault, Map, read_changes};
 use sbpl_mprim::{PrimFault, read_prims};
@@ -141,6 +142,7 @@ fn on_reads<D: Desk>(alloc: Global, job: &Job, from: &Sources, desk: &mut D) -> 
 
 /// The message for a job that was refused with a status.
 fn on_job<D: Desk>(alloc: Global, job: &Job, status: u8, desk: &mut D) -> Option<Vec<u8>>
+    ensures environment { status ≡ 3 → IfSome result (λ m. (name : List ℕ) × IsOnEnvironment (D.state desk.old) name m.items) }
     ensures frame { ReadsOnly (D.state desk.old) (D.state desk.new) }
 {
     let from = sources_of(job)?;
@@ -155,36 +157,41 @@ fn on_job<D: Desk>(alloc: Global, job: &Job, status: u8, desk: &mut D) -> Option
 }
 
 /// The message for words that name no job.
-fn on_words(alloc: Global, words: &[String]) -> Option<Vec<u8>> {
-    match wrong_words(alloc, words) {
-        Ok(what) => words_message(alloc, what.as_str()).ok(),
-        Err(_) => None,
-    }
+fn on_words(alloc: Global, words: &[String]) -> Result<Vec<u8>, NoMemory>
+    ensures message { IfOk result (λ m. IsPlainMessage (codes "temjoask") m.items) }
+{
+    let what = wrong_words(alloc, words)?;
+    words_message(alloc, what.as_str())
 }
 
 /// The message for the status with which a run on these words ended: why the words name no job, which file could not be read, that
 /// a write failed, or where a file has its fault and what must stand there. It finds out by reading the files again, in the order
-/// in which the job read them. None for the other statuses, where memory runs out, and where the files have no such fault any more.
+/// in which the job read them. None for the other statuses, and where the files have no such fault any more; words that name no job
+/// and a failed write always have a message. Where memory runs out, there is no message, or the error says so.
 pub fn message_for<D: Desk>(
     alloc: Global,
     words: &[String],
     status: u8,
     desk: &mut D,
-) -> Option<Vec<u8>>
-    ensures none { has_message status ≡ false → result ≡ None }
+) -> Result<Option<Vec<u8>>, NoMemory>
+    ensures none { has_message status ≡ false → result ≡ Ok None }
+    ensures told { IfOk result (λ m. (status ≡ 2) ⊎ (status ≡ 7) → IfSome m (λ m. IsPlainMessage (codes "temjoask") m.items)) }
+    ensures some { IfOk result (λ m. (status ≡ 2) ⊎ (status ≡ 7) → IsSome m) }
+    ensures environment { IfOk result
+        (λ m. status ≡ 3 → IfSome m (λ m. (name : List ℕ) × IsOnEnvironment (D.state desk.old) name m.items)) }
     ensures frame { ReadsOnly (D.state desk.old) (D.state desk.new) }
 {
     if !has_message(status) {
-        return None;
+        return Ok(None);
     }
     if status == 2 {
-        return on_words(alloc, words);
+        return Ok(Some(on_words(alloc, words)?));
     }
     if status == 7 {
-        return unwritten_message(alloc).ok();
+        return Ok(Some(unwritten_message(alloc)?));
     }
     match read_job(alloc, words) {
-        Ok(job) => on_job(alloc, &job, status, desk),
-        Err(_) => None,
+        Ok(job) => Ok(on_job(alloc, &job, status, desk)),
+        Err(_) => Ok(None),
     }
 }

@@ -156,9 +156,9 @@ fn messages_for_statuses(rt: HostRuntime) -> Result<(), Fail> {
         (7, "temjoask: a write failed"),
     ];
     for (status, begin) in &begins {
-        let message = message_for(rt.alloc(), words.as_slice(), *status, &mut desk).ok_or("none")?;
+        let message = message_for(rt.alloc(), words.as_slice(), *status, &mut desk)?.ok_or("none")?;
         assert!(rt; message.as_slice().starts_with(begin.as_bytes()));
     }
-    assert!(rt; message_for(rt.alloc(), words.as_slice(), 9, &mut desk).is_none());
+    assert!(rt; message_for(rt.alloc(), words.as_slice(), 9, &mut desk)?.is_none());
     Ok(())
 }
