@@ -29,3 +29,4 @@ pub mod ArcFloors
 pub mod Stripping
 pub mod Clearing
 pub mod Walling
+pub mod Reaching

@@ -1,5 +1,5 @@
 -- The bits of the cells after one cost was written.
-use Rattle.std.proofs.Common.{◌≡◌, ◌≢◌, ℕ, ℤ, pos, negsuc, ◌<◌, nat_le, List, length, set, slice_index_or, Some, None, arith, sym, refl, ap, ◌∙◌, subst, inl, inr, ⊎_elim, length-set, get_or-set_other, get_or-set_same}
+use Rattle.std.proofs.Common.{◌≡◌, ◌≢◌, ℕ, ℤ, pos, negsuc, ◌<◌, nat_le, List, length, set, slice_index_or, Some, None, arith, sym, refl, ap, ◌∙◌, subst, inl, inr, length-set, get_or-set_other, get_or-set_same}
 use Rattle.std.proofs.lemmas.Bool.{cases_lt}
 use Rattle.sbpl_bits.specs.Flags.{Flags, is_set}
 use Rattle.sbpl_map.specs.CellMap.{CellMap, costs_with, index_in}

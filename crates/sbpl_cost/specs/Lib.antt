@@ -9,6 +9,7 @@ pub mod Lattices
 pub mod Checked
 pub mod Tables
 pub mod Judging
+pub mod Reaches
 pub mod Gaps
 pub mod Rates
 pub mod Alike

@@ -8,12 +8,14 @@ use Rattle.sbpl_bits.specs.Flags.{Flags}
 use Rattle.sbpl_cost.specs.Walls.{AreWalls}
 use Rattle.sbpl_cost.specs.declared.strip.Strip.{Strip}
 use Rattle.sbpl_cost.specs.declared.gaps.Gaps.{Gaps}
+use Rattle.sbpl_cost.specs.declared.reach.Reach.{Reach}
 use Rattle.sbpl_cost.specs.declared.fault.LatticeFault.{LatticeFault}
 use Rattle.sbpl_cost.specs.declared.fault.LatticeFault.TheVariants.{TooDear, NoMemory}
 use Rattle.sbpl_cost.specs.PrimitiveCost.{primitive_cost, most_cost, IsFirstTooDear}
 use Rattle.sbpl_cost.specs.Lattices.{leaving, entering}
 use Rattle.sbpl_cost.specs.Checked.{HaveAlong, HaveAround}
 use Rattle.sbpl_cost.specs.Rates.{AreGaps}
+use Rattle.sbpl_cost.specs.Reaches.{HaveReaches}
 use Rattle.sbpl_cost.specs.World.{World, IsWorld}
 
 -- each heading has the indices of the primitives that start at it
@@ -38,7 +40,7 @@ IsCause e prims (TooDear i) = IsFirstTooDear e prims i
 IsCause e prims NoMemory = Unit {0}
 
 -- the tables of a lattice are those of its world
-pub record AreTables (w : World) (starting ending : List (List ℕ)) (counted prices : List ℕ) (centres : List (List Cell)) (beside : List (List Strip)) (obstacles : Flags) (gaps : Gaps) : Type 0 where
+pub record AreTables (w : World) (starting ending : List (List ℕ)) (counted prices : List ℕ) (centres : List (List Cell)) (beside : List (List Strip)) (distances : List Reach) (obstacles : Flags) (gaps : Gaps) : Type 0 where
   pub world : IsWorld w
   pub leaving : AreLeaving w.prims starting
   pub entering : AreEntering w.prims ending
@@ -46,5 +48,6 @@ pub record AreTables (w : World) (starting ending : List (List ℕ)) (counted pr
   pub costs : prices ≡ map (primitive_cost w.env) w.prims.items
   pub along : HaveAlong w.prims centres
   pub around : HaveAround w.prims w.sweeps.radius beside
+  pub reaches : HaveReaches w.prims beside distances
   pub walls : AreWalls w.env.obsthresh w.map.costs obstacles
   pub fractions : AreGaps w.env w.prims.items gaps

@@ -1,11 +1,13 @@
 //! The cells that a motion's judgement reads beside its source cell.
 
-ghost use Rattle.std.specs.Prelude.{◌≡◌, ◌<◌, slice_get, Some, IfOk, OnOk};
+ghost use Rattle.std.specs.Prelude.{◌≡◌, ◌<◌, ◌≤◌, ◌^◌, slice_get, Some, IfOk, OnOk};
 ghost use Rattle.sbpl_mprim.specs.Primitives.{IsPrimitive};
 ghost use Rattle.sbpl_sweep.specs.Centres.{AreCentres};
 ghost use Rattle.sbpl_sweep.specs.Swept.{AreSweepsOf};
 ghost use Rattle.sbpl_cost.specs.Checked.{AddsOthers, AreAlong, HaveAlong, HaveAround};
+ghost use Rattle.sbpl_cost.specs.Reaches.{HaveReaches};
 
+use crate::reach::{Reach, reach_of};
 use crate::strip::Strip;
 use crate::strips::strips_of;
 use sbpl_fixed::NoMemory;
@@ -75,6 +77,25 @@ pub(crate) fn around_table(
     for i in 0..prims.len() {
         let strips = strips_of(alloc, sweeps.swept(i))?;
         table.push(strips.as_slice())?;
+    }
+    Ok(table)
+}
+
+/// For each primitive how far the cells lie that it sweeps for a radius in nanometres.
+pub(crate) fn reach_table(
+    alloc: Global,
+    prims: &Prims,
+    radius: u64,
+    around: &Runs<Strip>,
+) -> Result<Vec<Reach>, NoMemory>
+    requires around { HaveAround prims.now radius around.now }
+    requires radius { radius ≤ 10 ^ 12 }
+    ensures table { IfOk result (λ v. HaveReaches prims.now around.now v.items) }
+{
+    let _cell = prims.cell();
+    let mut table = Vec::with_capacity(alloc, prims.len() as usize)?;
+    for i in 0..prims.len() {
+        table.push(reach_of(around.at(i as usize)))?;
     }
     Ok(table)
 }

@@ -2,12 +2,14 @@
 
 ghost use Rattle.std.specs.Prelude.{◌≡◌, ℕ, pos, negsuc, ◌^◌, ◌<◌, ◌+ℤ◌, ◌≤ℤ◌, ◌⊎◌, slice_get, Some, IsTrue, false, IfSome, IfNone};
 ghost use Rattle.sbpl_cfg.specs.Environment.{IsWithin};
-ghost use Rattle.sbpl_map.specs.CellMap.{cost_at};
+ghost use Rattle.sbpl_map.specs.CellMap.{IsOnMap, cost_at};
 ghost use Rattle.sbpl_sweep.specs.declared.cell.Cell.{Cell};
 ghost use Rattle.sbpl_cost.specs.Strips.{cells_in, strip_cells};
+ghost use Rattle.sbpl_cost.specs.Reaches.{AreOnMap, IsReach, LieWithin};
 ghost use Rattle.sbpl_cost.specs.Walls.{AreWalls};
 ghost use Rattle.sbpl_cost.specs.Judging.{IsNear, IsCellBelow, IsGreatestBelow, IsSomeBlocked, AreBelow, IsGreatestPassed, IsObstructed};
 
+use crate::reach::Reach;
 use crate::strip::Strip;
 use sbpl_bits::Bits;
 use sbpl_cfg::{Env, Place};
@@ -84,7 +86,14 @@ fn is_clear(walls: &Bits, map: &Map, strip: Strip, x: u32, y: u32, limit: u8) ->
 }
 
 /// Whether the cells of strips that lie this far from cell `(x, y)` are all on the map and no walls.
-fn are_clear(walls: &Bits, map: &Map, strips: &[Strip], x: u32, y: u32, limit: u8) -> bool
+fn are_on_map_and_clear(
+    walls: &Bits,
+    map: &Map,
+    strips: &[Strip],
+    x: u32,
+    y: u32,
+    limit: u8,
+) -> bool
     requires walls { AreWalls limit map.now.costs walls.now }
     requires cells { (i : ℕ) (c : Cell) → slice_get (cells_in strips.now) i ≡ Some c → IsNear c }
     ensures below { IsTrue result → AreBelow map.now (cells_in strips.now) (pos x) (pos y) limit }
@@ -98,11 +107,78 @@ fn are_clear(walls: &Bits, map: &Map, strips: &[Strip], x: u32, y: u32, limit: u
     true
 }
 
+/// The number of the row or column that lies this far from another, where there is one.
+#[inline]
+fn moved(number: u32, by: i64) -> usize
+    requires near { IsWithin (negsuc 10000000000000) (pos 10000000000000) by }
+    requires there { pos 0 ≤ℤ (pos number +ℤ by) }
+    ensures there { pos number +ℤ by ≡ pos result }
+{
+    (i64::from(number) + by) as usize
+}
+
+/// Whether the cells of a strip that lie this far from cell `(x, y)` are no walls, where they are all on the map.
+#[inline]
+fn is_clear_inside(walls: &Bits, map: &Map, strip: Strip, x: u32, y: u32, limit: u8) -> bool
+    requires walls { AreWalls limit map.now.costs walls.now }
+    requires some { 0 < strip.len }
+    requires near { IsNear (record { y = strip.y; x = strip.from }) }
+    requires first { IsOnMap map.now (pos x +ℤ strip.from) (pos y +ℤ strip.y) }
+    requires last { ((pos x +ℤ strip.from) +ℤ pos strip.len) ≤ℤ pos map.now.width }
+    ensures below { IsTrue result → AreBelow map.now (strip_cells strip) (pos x) (pos y) limit }
+    ensures blocked { result ≡ false → IsSomeBlocked map.now (strip_cells strip) (pos x) (pos y) limit }
+{
+    let at = moved(y, strip.y) * map.width() as usize + moved(x, strip.from);
+    walls.none_between(at, at + strip.len as usize)
+}
+
+/// Whether the cells of strips that lie this far from cell `(x, y)` are no walls, where they are all on the map.
+fn are_clear_inside(walls: &Bits, map: &Map, strips: &[Strip], x: u32, y: u32, limit: u8) -> bool
+    requires walls { AreWalls limit map.now.costs walls.now }
+    requires cells { (i : ℕ) (c : Cell) → slice_get (cells_in strips.now) i ≡ Some c → IsNear c }
+    requires inside { AreOnMap map.now (cells_in strips.now) x y }
+    ensures below { IsTrue result → AreBelow map.now (cells_in strips.now) (pos x) (pos y) limit }
+    ensures blocked { result ≡ false → IsSomeBlocked map.now (cells_in strips.now) (pos x) (pos y) limit }
+{
+    for strip in strips {
+        if strip.len > 0 && !is_clear_inside(walls, map, *strip, x, y, limit) {
+            return false;
+        }
+    }
+    true
+}
+
+/// Whether the cells of strips that lie this far from cell `(x, y)` are all on the map and no walls. They lie within a reach: where
+/// that is on the map as a whole, no strip is tested for the map's edge.
+fn are_clear(
+    walls: &Bits,
+    map: &Map,
+    strips: &[Strip],
+    reach: &Reach,
+    x: u32,
+    y: u32,
+    limit: u8,
+) -> bool
+    requires walls { AreWalls limit map.now.costs walls.now }
+    requires cells { (i : ℕ) (c : Cell) → slice_get (cells_in strips.now) i ≡ Some c → IsNear c }
+    requires reach { IsReach reach.now }
+    requires within { LieWithin reach.now (cells_in strips.now) }
+    ensures below { IsTrue result → AreBelow map.now (cells_in strips.now) (pos x) (pos y) limit }
+    ensures blocked { result ≡ false → IsSomeBlocked map.now (cells_in strips.now) (pos x) (pos y) limit }
+{
+    if reach.is_inside(map, x, y) {
+        are_clear_inside(walls, map, strips, x, y, limit)
+    } else {
+        are_on_map_and_clear(walls, map, strips, x, y, limit)
+    }
+}
+
 /// The source cell of a motion.
 const HERE: Cell = Cell { y: 0, x: 0 };
 
 /// The greatest cost of the source cell of a motion and the cells along it, where the source cell and the cells around
-/// the motion are low enough for the robot, and those along it for the robot and its centre.
+/// the motion are low enough for the robot, and those along it for the robot and its centre. The cells around the motion lie within a
+/// reach.
 pub(crate) fn greatest_paid(
     env: &Env,
     map: &Map,
@@ -110,10 +186,13 @@ pub(crate) fn greatest_paid(
     walls: &Bits,
     along: &[Cell],
     around: &[Strip],
+    reach: &Reach,
 ) -> Option<u8>
     requires walls { AreWalls env.now.obsthresh map.now.costs walls.now }
     requires along { (i : ℕ) (c : Cell) → slice_get along.now i ≡ Some c → IsNear c }
     requires around { (i : ℕ) (c : Cell) → slice_get (cells_in around.now) i ≡ Some c → IsNear c }
+    requires reach { IsReach reach.now }
+    requires within { LieWithin reach.now (cells_in around.now) }
     ensures greatest { IfSome result (IsGreatestPassed env.now map.now source along.now (cells_in around.now)) }
     ensures blocked { IfNone result (IsObstructed env.now map.now source along.now (cells_in around.now)) }
 {
@@ -124,7 +203,7 @@ pub(crate) fn greatest_paid(
     let Some(greatest) = greatest_below(map, along, source.x, source.y, limit, start) else {
         return None;
     };
-    if are_clear(walls, map, around, source.x, source.y, env.obsthresh) {
+    if are_clear(walls, map, around, reach, source.x, source.y, env.obsthresh) {
         Some(greatest)
     } else {
         None

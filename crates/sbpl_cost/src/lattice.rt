@@ -13,15 +13,15 @@ ghost use Rattle.sbpl_cost.specs.Lattices.{network_of, arc_index, leaving, enter
 ghost use Rattle.sbpl_cost.specs.Reading.{head_of_read, AddsHeads, UnreadCostTheSame, DifferInCostsAlone};
 ghost use Rattle.sbpl_cost.specs.Tables.{AreCheap, IsCause};
 
-use crate::checked::{along_table, around_table};
 use crate::fault::LatticeFault;
 use crate::gaps::Gaps;
 use crate::judging::greatest_paid;
 use crate::places::{end_state, heading_of, place_at, start_state, state_at, state_count};
+use crate::reach::Reach;
 use crate::reading::add_heads;
 use crate::strip::Strip;
-use crate::tables::{entering_table, leaving_table, number_table, primitive_costs};
-use crate::walls::{note_wall, walls_of};
+use crate::tables::{Tables, tables_of};
+use crate::walls::note_wall;
 use sbpl_bits::Bits;
 use sbpl_cfg::{Env, Place};
 use sbpl_fixed::NoMemory;
@@ -54,6 +54,8 @@ pub struct Lattice {
     along: Runs<Cell>,
     /// For each primitive the cells that it sweeps.
     around: Runs<Strip>,
+    /// For each primitive how far these lie.
+    reaches: Vec<Reach>,
     /// The cells that are obstacles for the robot.
     walls: Bits,
     /// The least fractions of cost to cells.
@@ -68,7 +70,7 @@ impl Model for Lattice {
 
     ghost view = { λ l. record { env = l.env; prims = l.prims; sweeps = l.sweeps; map = l.map } };
 
-    ghost invariant = { λ l. AreTables (record { env = l.env; prims = l.prims; sweeps = l.sweeps; map = l.map }) l.leaving l.entering l.numbers.items l.costs.items l.along l.around l.walls l.gaps };
+    ghost invariant = { λ l. AreTables (record { env = l.env; prims = l.prims; sweeps = l.sweeps; map = l.map }) l.leaving l.entering l.numbers.items l.costs.items l.along l.around l.reaches.items l.walls l.gaps };
 }
 
 impl Lattice {
@@ -93,25 +95,25 @@ impl Lattice {
         ensures cause { IfErr result (λ e. IsCause env.now prims.items e) }
     {
         let _width = map.width();
-        let costs = primitive_costs(alloc, env, &prims)?;
-        let leaving = leaving_table(alloc, &prims)?;
-        let entering = entering_table(alloc, &prims)?;
-        let numbers = number_table(alloc, &prims)?;
-        let along = along_table(alloc, &prims, &sweeps)?;
-        let around = around_table(alloc, &prims, &sweeps)?;
-        let walls = walls_of(alloc, map.costs(), env.obsthresh)?;
+        let Tables {
+            costs,
+            by_heading,
+            reads,
+            walls,
+        } = tables_of(alloc, env, &prims, &sweeps, map.costs())?;
         let gaps = Gaps::new(env, &prims, costs.as_slice());
         Ok(Lattice {
             env: copy_of(env),
             prims,
             sweeps,
             map,
-            leaving,
-            entering,
-            numbers,
+            leaving: by_heading.leaving,
+            entering: by_heading.entering,
+            numbers: by_heading.numbers,
             costs,
-            along,
-            around,
+            along: reads.along,
+            around: reads.around,
+            reaches: reads.reaches,
             walls,
             gaps,
         })
@@ -284,8 +286,16 @@ impl Graph for Lattice {
         let i = self.leaving_at(source.t, k) as usize;
         let along = self.along.at(i);
         let around = self.around.at(i);
-        let Some(greatest) = greatest_paid(&self.env, &self.map, source, &self.walls, along, around)
-        else {
+        let reach = &self.reaches[i];
+        let Some(greatest) = greatest_paid(
+            &self.env,
+            &self.map,
+            source,
+            &self.walls,
+            along,
+            around,
+            reach,
+        ) else {
             return None;
         };
         Some(self.costs[i] * (u32::from(greatest) + 1))

@@ -10,6 +10,7 @@ mod laws;
 mod places;
 mod primitive_cost;
 mod rate;
+mod reach;
 mod reading;
 mod strip;
 mod strips;

@@ -1,16 +1,26 @@
 //! What a lattice computes once, when it is made.
 
-ghost use Rattle.std.specs.Prelude.{◌≡◌, ◌<◌, map, IfOk, IfErr};
+ghost use Rattle.std.specs.Prelude.{◌≡◌, ◌<◌, ◌≤◌, ◌^◌, map, IfOk, IfErr};
+ghost use Rattle.sbpl_sweep.specs.Swept.{AreSweepsOf};
+ghost use Rattle.sbpl_cost.specs.Checked.{HaveAlong, HaveAround};
 ghost use Rattle.sbpl_cost.specs.PrimitiveCost.{primitive_cost};
 ghost use Rattle.sbpl_cost.specs.Lattices.{leaving, entering};
+ghost use Rattle.sbpl_cost.specs.Reaches.{HaveReaches};
 ghost use Rattle.sbpl_cost.specs.Tables.{AreLeaving, AreEntering, AreNumbers, AreCheap, IsCause};
+ghost use Rattle.sbpl_cost.specs.Walls.{AreWalls};
 
+use crate::checked::{along_table, around_table, reach_table};
 use crate::fault::LatticeFault;
 use crate::primitive_cost::prim_cost;
+use crate::reach::Reach;
+use crate::strip::Strip;
+use crate::walls::walls_of;
+use sbpl_bits::Bits;
 use sbpl_cfg::Env;
 use sbpl_fixed::NoMemory;
 use sbpl_mprim::Prims;
 use sbpl_runs::Runs;
+use sbpl_sweep::{Cell, Sweeps};
 use std::alloc::Global;
 
 /// The indices in the file of the primitives that start at heading `t`.
@@ -102,4 +112,106 @@ pub(crate) fn primitive_costs(
         };
     }
     Ok(costs)
+}
+
+/// The primitives by the headings at which they start and end.
+#[derive(Drop)]
+pub(crate) struct ByHeading {
+    /// For each heading the indices in the file of the primitives that start at it.
+    pub(crate) leaving: Runs<u32>,
+    /// For each heading the indices in the file of the primitives that end at it.
+    pub(crate) entering: Runs<u32>,
+    /// For each primitive its number among those that start at its heading.
+    pub(crate) numbers: Vec<u32>,
+}
+
+/// These primitives by the headings at which they start and end.
+fn by_heading(alloc: Global, prims: &Prims) -> Result<ByHeading, NoMemory>
+    ensures leaving { IfOk result (λ t. AreLeaving prims.now t.leaving) }
+    ensures entering { IfOk result (λ t. AreEntering prims.now t.entering) }
+    ensures numbers { IfOk result (λ t. AreNumbers prims.now.items t.numbers.items) }
+{
+    let leaving = leaving_table(alloc, prims)?;
+    let entering = entering_table(alloc, prims)?;
+    let numbers = number_table(alloc, prims)?;
+    Ok(ByHeading {
+        leaving,
+        entering,
+        numbers,
+    })
+}
+
+/// The cells that judgements read besides the source cell.
+#[derive(Drop)]
+pub(crate) struct Reads {
+    /// For each primitive its centre cells.
+    pub(crate) along: Runs<Cell>,
+    /// For each primitive the cells that it sweeps.
+    pub(crate) around: Runs<Strip>,
+    /// For each primitive how far these lie.
+    pub(crate) reaches: Vec<Reach>,
+}
+
+/// The cells that judgements of these primitives read besides the source cell.
+fn reads_of(alloc: Global, prims: &Prims, sweeps: &Sweeps) -> Result<Reads, NoMemory>
+    requires sweeps { AreSweepsOf prims.now sweeps.now.radius sweeps.now }
+    requires radius { sweeps.now.radius ≤ 10 ^ 12 }
+    ensures along { IfOk result (λ r. HaveAlong prims.now r.along) }
+    ensures around { IfOk result (λ r. HaveAround prims.now sweeps.now.radius r.around) }
+    ensures reaches { IfOk result (λ r. HaveReaches prims.now r.around r.reaches.items) }
+{
+    let along = along_table(alloc, prims, sweeps)?;
+    let around = around_table(alloc, prims, sweeps)?;
+    let reaches = reach_table(alloc, prims, sweeps.radius(), &around)?;
+    Ok(Reads {
+        along,
+        around,
+        reaches,
+    })
+}
+
+/// What a lattice computes once, when it is made.
+#[derive(Drop)]
+pub(crate) struct Tables {
+    /// For each primitive its cost by itself.
+    pub(crate) costs: Vec<u32>,
+    pub(crate) by_heading: ByHeading,
+    pub(crate) reads: Reads,
+    /// The cells that are obstacles for the robot.
+    pub(crate) walls: Bits,
+}
+
+/// What a lattice computes once, when it is made. Its owner holds no large value meanwhile that a failure would drop.
+pub(crate) fn tables_of(
+    alloc: Global,
+    env: &Env,
+    prims: &Prims,
+    sweeps: &Sweeps,
+    cells: &[u8],
+) -> Result<Tables, LatticeFault>
+    requires cell { prims.now.cell ≡ env.now.cell }
+    requires headings { prims.now.headings ≡ env.now.headings }
+    requires sweeps { AreSweepsOf prims.now sweeps.now.radius sweeps.now }
+    requires radius { sweeps.now.radius ≤ 10 ^ 12 }
+    ensures costs { IfOk result (λ t. t.costs.items ≡ map (primitive_cost env.now) prims.now.items) }
+    ensures cheap { IfOk result (λ _. AreCheap env.now prims.now.items) }
+    ensures leaving { IfOk result (λ t. AreLeaving prims.now t.by_heading.leaving) }
+    ensures entering { IfOk result (λ t. AreEntering prims.now t.by_heading.entering) }
+    ensures numbers { IfOk result (λ t. AreNumbers prims.now.items t.by_heading.numbers.items) }
+    ensures along { IfOk result (λ t. HaveAlong prims.now t.reads.along) }
+    ensures around { IfOk result (λ t. HaveAround prims.now sweeps.now.radius t.reads.around) }
+    ensures reaches { IfOk result (λ t. HaveReaches prims.now t.reads.around t.reads.reaches.items) }
+    ensures walls { IfOk result (λ t. AreWalls env.now.obsthresh cells.now t.walls) }
+    ensures cause { IfErr result (λ e. IsCause env.now prims.now.items e) }
+{
+    let costs = primitive_costs(alloc, env, prims)?;
+    let by_heading = by_heading(alloc, prims)?;
+    let reads = reads_of(alloc, prims, sweeps)?;
+    let walls = walls_of(alloc, cells, env.obsthresh)?;
+    Ok(Tables {
+        costs,
+        by_heading,
+        reads,
+        walls,
+    })
 }

@@ -1,4 +1,4 @@
-use Rattle.std.proofs.Common.{rules, ◌≡◌, ℕ, ◌<◌, ◌≤◌, pos, negsuc, ◌+ℤ◌, ◌≤ℤ◌, ◌⊎◌, inl, inr, ⊎_elim, arith, SFits, w64}
+use Rattle.std.proofs.Common.{inl, inr, ⊎_elim, arith, SFits, w64}
 use Rattle.std.proofs.lemmas.Int.{ints, to_z-of_z}
 use Rattle.sbpl_cost.proofs.Clearing.{clear_below, off_first, off_last, off_row, wall_blocks}
 use Rattle.sbpl_cost.proofs.judging.is_clear.Goals.{then-row-height-via-then-row-height, then-row-height-via-else-row-height+then-from-len}

@@ -31,12 +31,13 @@ world c =
 pub invariant_of-result : goal.invariant_of-result
 invariant_of-result c = record {
   world = world c;
-  leaving = c.in_ok-leaving.ensures.table;
-  entering = c.in_ok-entering.ensures.table;
-  numbers = c.in_ok-numbers.ensures.numbers;
+  leaving = c.in_ok-costs.ensures.leaving;
+  entering = c.in_ok-costs.ensures.entering;
+  numbers = c.in_ok-costs.ensures.numbers;
   costs = c.in_ok-costs.ensures.costs ∙ ap (λ (e : Environment). map (primitive_cost e) c.args.prims.items) (sym c.copy_of.ensures.same);
-  along = c.in_ok-along.ensures.table;
-  around = c.in_ok-around.ensures.table;
+  along = c.in_ok-costs.ensures.along;
+  around = c.in_ok-costs.ensures.around;
+  reaches = c.in_ok-costs.ensures.reaches;
   walls = search rules;
   fractions = subst (λ (e : Environment). AreGaps e c.args.prims.items c.new-gaps.result) (sym c.copy_of.ensures.same) c.new-gaps.ensures.gaps;
 }

@@ -15,6 +15,7 @@ invariant_of-self c =
       costs = c.self.invariant.costs;
       along = c.self.invariant.along;
       around = c.self.invariant.around;
+      reaches = c.self.invariant.reaches;
       walls = walls;
       fractions = c.self.invariant.fractions;
     }

@@ -1,4 +1,4 @@
-use Rattle.std.proofs.Common.{◌≡◌, sym, ◌∙◌}
+use Rattle.std.proofs.Common.{sym, ◌∙◌}
 use Rattle.std.proofs.lemmas.Option.{same_Some}
 use Rattle.sbpl_cost.proofs.ArcFloors.{above_floor}
 use Rattle.sbpl_cost.proofs.lattice.LatticeGraph.floor.Goals as goal

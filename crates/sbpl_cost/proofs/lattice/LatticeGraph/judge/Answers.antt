@@ -1,7 +1,9 @@
-use Rattle.std.proofs.Common.{rules, ap, sym, ◌*◌, ◌+◌, ◌<◌, ◌^◌, ◌≡◌, Some}
+use Rattle.std.proofs.Common.{rules, refl, length, ap, sym, subst, ◌∙◌, ◌*◌, ◌+◌, ◌<◌, ◌^◌, ◌≡◌, Some}
 use Rattle.sbpl_graph.specs.Laws.{IsSound}
 use Rattle.sbpl_cost.specs.Lattices.{network_of}
-use Rattle.std.proofs.lemmas.Option.{slice_get_within}
+use Rattle.std.proofs.lemmas.Option.{same_Some, slice_get_read, slice_get_within}
+use Rattle.sbpl_cost.specs.Reaches.{IsReach, LieWithin}
+use Rattle.sbpl_cost.specs.Strips.{cells_in}
 use Rattle.sbpl_cost.proofs.CostTables.{price_of}
 use Rattle.sbpl_cost.proofs.Judged.{read_at, near_along, near_around, none_where_obstructed, some_where_passed}
 use Rattle.sbpl_cost.proofs.LatticeLaws.{sound}
@@ -32,6 +34,14 @@ at-around-requires c =
     let entry = c.self.invariant.around c.leaving_at-i.result found.0 found.1.by.stands in
     record { number = slice_get_within c.self.inside.around c.leaving_at-i.result entry.0 entry.1 }
 
+pub index-reach-requires : goal.index-reach-requires
+index-reach-requires c =
+    let place = rw (← c.self.view_is) at c.leaving_at-i.ensures.place in
+    let found = found_by _ c.args.s c.args.k c.place_at-source.result.t c.leaving_at-i.result c.self.invariant.world (ap (λ q. q.t) c.place_at-source.ensures.value) place in
+    let entry = c.self.invariant.reaches c.leaving_at-i.result found.0 c.at-around.result.now found.1.by.stands c.at-around.ensures.list in
+    let within = slice_get_within c.self.inside.reaches.items c.leaving_at-i.result entry.0 entry.1 in
+    search rules
+
 pub greatest_paid-requires : goal.greatest_paid-requires
 greatest_paid-requires c =
     let world = c.self.invariant.world in
@@ -39,7 +49,13 @@ greatest_paid-requires c =
     let found = found_by _ c.args.s c.args.k c.place_at-source.result.t c.leaving_at-i.result world (ap (λ q. q.t) c.place_at-source.ensures.value) place in
     let are = read_at _ world c.self.inside.along c.self.inside.around c.leaving_at-i.result found.0 c.at-along.result.now c.at-around.result.now c.self.invariant.along c.self.invariant.around found.1.by.stands
     c.at-along.ensures.list c.at-around.ensures.list in
+    let entry = c.self.invariant.reaches c.leaving_at-i.result found.0 c.at-around.result.now found.1.by.stands c.at-around.ensures.list in
+    let within = slice_get_within c.self.inside.reaches.items c.leaving_at-i.result entry.0 entry.1 in
+    let at = slice_get_read c.self.inside.reaches.items (length c.self.inside.reaches.items) c.leaving_at-i.result c.index-reach.result.now refl within c.index-reach.ensures in
+    let same = same_Some entry.0 c.index-reach.result.now (sym entry.1 ∙ at) in
     record {
+      reach = subst IsReach same entry.2;
+      within = subst (λ r. LieWithin r (cells_in c.at-around.result.now)) same entry.3;
       walls = c.self.invariant.walls;
       along = near_along c.self.inside.env.cell c.self.inside.env.cell c.self.inside.env.headings found.0 c.at-along.result.now world.env.cell are.good are.along;
       around = near_around c.self.inside.env.cell c.self.inside.env.cell c.self.inside.env.headings c.self.inside.sweeps.radius found.0 c.at-around.result.now world.env.cell are.good world.radius are.around;
