@@ -1,5 +1,5 @@
 -- The faults of an environment's text are its own: running out of memory is none of them.
-use Rattle.std.proofs.Common.{ℕ, ℤ, List, [], length}
+use Rattle.std.proofs.Common.{ℕ, ℤ, Bool, true, false, List, [], length}
 use Rattle.std.specs.Prelude.{◌≢◌}
 use Rattle.sbpl_fixed.specs.Formats.{done}
 use Rattle.sbpl_fixed.specs.Tokens.{tokens}
@@ -10,7 +10,7 @@ use Rattle.sbpl_cfg.specs.declared.fault.EnvFault.{EnvFault}
 use Rattle.sbpl_cfg.specs.declared.fault.EnvFault.TheVariants.{NoMemory, TooLarge, StartOff, EndOff}
 use Rattle.sbpl_cfg.specs.declared.parts.Header.{Header}
 use Rattle.sbpl_cfg.specs.Faults.{told}
-use Rattle.sbpl_cfg.specs.Format.{whole_format, nano_format, size_format, obsthresh_format, inscribed_format, circumscribed_format, thresholds_format, cell_format, speed_format, turn45_format, rates_format, pose_format, start_pose_format, end_pose_format, start_format, end_format, header_format, ends_format, numbers_format, cost_format, grid_format, environment_format}
+use Rattle.sbpl_cfg.specs.Format.{whole_format, nano_format, extent_format, headings_format, says_headings, size_format, obsthresh_format, inscribed_format, circumscribed_format, thresholds_format, cell_format, speed_format, turn45_format, rates_format, pose_format, start_pose_format, end_pose_format, start_format, end_format, header_format, ends_format, numbers_format, cost_format, grid_format, environment_format}
 use Rattle.sbpl_cfg.specs.Text.{HasFault}
 
 told_spares : (t : TextFault) → told t ≢ NoMemory
@@ -32,14 +32,26 @@ pose_spares : (w : List ℕ) → Spares NoMemory (pose_format w)
 unfolding Spares pose_format
 pose_spares w = λ _ _ _ _ _ _ _ _. tt
 
-size_spares : Spares NoMemory size_format
-unfolding Spares size_format
-size_spares = λ _ _ place _ _ _. wrong_spares NoMemory _ (TooLarge place) (done _) (λ q. cc) tt
+extent_spares : Spares NoMemory extent_format
+unfolding Spares extent_format
+extent_spares = λ _ _ _ _ _ _. tt
 
-header_spares : Spares NoMemory header_format
+headings_spare : (said : Bool) → Spares NoMemory (headings_format said)
+unfolding Spares headings_format
+headings_spare true = whole_spares _ _ _
+headings_spare false = tt
+
+size_spares : (said : Bool) → Spares NoMemory (size_format said)
+unfolding size_format
+size_spares said =
+    and_then_spares NoMemory extent_format _ extent_spares (λ x.
+    and_then_spares NoMemory (headings_format said) _ (headings_spare said) (λ _.
+    wrong_spares NoMemory _ (TooLarge x.place) (done _) (λ q. cc) (done_spares NoMemory _)))
+
+header_spares : (said : Bool) → Spares NoMemory (header_format said)
 unfolding header_format thresholds_format rates_format obsthresh_format inscribed_format circumscribed_format cell_format speed_format turn45_format
-header_spares =
-    and_then_spares NoMemory size_format _ size_spares (λ _.
+header_spares said =
+    and_then_spares NoMemory (size_format said) _ (size_spares said) (λ _.
     and_then_spares NoMemory thresholds_format _
     (and_then_spares NoMemory obsthresh_format _ (whole_spares _ _ _) (λ _. and_then_spares NoMemory inscribed_format _ (whole_spares _ _ _) (λ _. and_then_spares NoMemory circumscribed_format _ (whole_spares _ _ _) (λ _. done_spares NoMemory _))))
     (λ _. and_then_spares NoMemory rates_format _
@@ -60,11 +72,11 @@ grid_spares : (count : ℕ) → Spares NoMemory (grid_format count)
 unfolding Spares grid_format
 grid_spares count = λ _ _. turns_spare NoMemory count cost_format [] cost_spares
 
-environment_spares : Spares NoMemory environment_format
+environment_spares : (said : Bool) → Spares NoMemory (environment_format said)
 unfolding Spares environment_format numbers_format
-environment_spares =
-    and_then_spares NoMemory numbers_format _ (and_then_spares NoMemory header_format _ header_spares (λ h. and_then_spares NoMemory (ends_format h) _ (ends_spare h) (λ _. tt))) (λ e.
+environment_spares said =
+    and_then_spares NoMemory (numbers_format said) _ (and_then_spares NoMemory (header_format said) _ (header_spares said) (λ h. and_then_spares NoMemory (ends_format h) _ (ends_spare h) (λ _. tt))) (λ e.
     and_then_spares NoMemory (grid_format _) _ (grid_spares _) (λ _. tt))
 
 pub no_memory_is_no_fault : (text : List ℕ) (f : EnvFault) → HasFault text f → f ≢ NoMemory
-no_memory_is_no_fault text f h = spared NoMemory told environment_format (length text) (tokens text) f told_spares environment_spares h
+no_memory_is_no_fault text f h = spared NoMemory told (environment_format (says_headings text)) (length text) (tokens text) f told_spares (environment_spares (says_headings text)) h

@@ -2,6 +2,7 @@
 use Rattle.std.proofs.Common.{◌≡◌, ℕ, zero, suc, sub-one, ◌+◌, ◌-◌, ◌<◌, ◌≤◌, List, [], ◌∷◌, ◌++◌, length, map, take, drop, get_or, append_assoc, append-nil, add-one, arith, refl, sym, ◌∙◌, ap}
 use Rattle.std.proofs.Math.Seq.{drop-cons}
 use Rattle.std.proofs.lemmas.List.{drop_all, get_or-take, length-drop, length-map}
+use Rattle.std.proofs.lemmas.List.Concat.{flat_map-append}
 use Rattle.std.specs.Fmt.{decimal}
 use Rattle.sbpl_fixed.specs.Printed.{line_text, lines_text}
 use Rattle.sbpl_cfg.specs.Printed.{grid_lines}
@@ -63,3 +64,13 @@ unfolding grid_lines
 grid_done old out rest height width y done before =
     let none : height - y ≡ 0 = omega arith in
     sym (append-nil out) ∙ (rw none at before)
+
+lines_append : (a b : List (List (List ℕ))) → lines_text (a ++ b) ≡ lines_text a ++ lines_text b
+lines_append a b = flat_map-append line_text a b
+
+-- six runs of lines, one after the other
+pub after_lines : (out : List ℕ) (a : List (List (List ℕ))) (o : List ℕ) (b : List (List (List ℕ))) (p : List ℕ) (c : List (List (List ℕ))) (q : List ℕ)
+    (d : List (List (List ℕ))) (r : List ℕ) (e : List (List (List ℕ))) (s : List ℕ) (f : List (List (List ℕ))) (t : List ℕ)
+    → o ≡ out ++ lines_text a → p ≡ o ++ lines_text b → q ≡ p ++ lines_text c → r ≡ q ++ lines_text d → s ≡ r ++ lines_text e → t ≡ s ++ lines_text f
+    → t ≡ out ++ lines_text (a ++ (b ++ (c ++ (d ++ (e ++ f)))))
+after_lines out a o b p c q d r e s f t h i j k l m = rw (m, l, k, j, i, h, lines_append, lines_append, lines_append, lines_append, lines_append) (simp append_assoc)

@@ -1,8 +1,8 @@
 -- What is printed of an environment is its text.
-use Rattle.std.proofs.Common.{◌≡◌, ℕ, ℤ, pos, negsuc, zero, suc, ◌+◌, ◌*◌, ◌^◌, ◌<◌, ◌≤◌, Bool, true, false, cond, ltb, List, [], ◌∷◌, ◌++◌, length, map, take, drop, Result, Ok, lit<, lit≤, refl, sym, ap, subst, ◌∙◌, append_assoc, arith}
+use Rattle.std.proofs.Common.{◌≡◌, ℕ, ℤ, pos, negsuc, zero, suc, ◌+◌, ◌*◌, ◌^◌, ◌<◌, ◌≤◌, Bool, true, false, cond, ltb, ◌==◌, inl, inr, List, [], ◌∷◌, ◌++◌, length, map, take, drop, Result, Ok, lit<, lit≤, refl, sym, ap, subst, ◌∙◌, append_assoc, arith}
 use Rattle.std.specs.Fmt.{decimal, signed_decimal}
 use Rattle.std.specs.List.{AllByRecursion, list_all}
-use Rattle.std.proofs.lemmas.Bool.{ltb-true}
+use Rattle.std.proofs.lemmas.Bool.{eqb-true, ltb-true}
 use Rattle.sbpl_fixed.specs.declared.fault.NumFault.{NumFault}
 use Rattle.std.specs.Prelude.{take_while}
 use Rattle.std.specs.Int.RustNames.{unsigned_abs}
@@ -13,9 +13,10 @@ use Rattle.sbpl_fixed.specs.Printed.{nano_text, line_text, lines_text}
 use Rattle.sbpl_fixed.specs.ReadBack.{IsWord}
 use Rattle.sbpl_fixed.specs.Tokens.{Piece, is_blank, is_filled, tokens_past}
 use Rattle.sbpl_fixed.proofs.ReadBack.{blanks_part_tokens, nanos_are_read_back, nanos_are_words, wholes_are_read_back, wholes_are_words, words_are_tokens}
-use Rattle.sbpl_cfg.specs.Environment.{Environment, IsEnvironment, IsWithin}
-use Rattle.sbpl_cfg.specs.Printed.{environment_lines, environment_text, grid_lines}
-use Rattle.sbpl_cfg.specs.Text.{AllMean, IsGrid, IsTextOf, number, spelled, words_of}
+use Rattle.sbpl_cfg.specs.Environment.{Environment, IsEnvironment, IsHeadingCount, IsWithin, usual_headings}
+use Rattle.sbpl_cfg.specs.Format.{headings_word}
+use Rattle.sbpl_cfg.specs.Printed.{end_lines, environment_text, grid_lines, rate_lines, size_lines, threshold_lines}
+use Rattle.sbpl_cfg.specs.Text.{AllMean, AreTokensOf, IsGrid, IsTextOf, Said, number, spelled_ends, spelled_grid, spelled_headings, spelled_rates, spelled_size, spelled_thresholds, words_of}
 
 -- ---- the words of lines
 
@@ -136,122 +137,121 @@ shows_coordinate z w = shows_nano z (at_most 999999999999999999 1000000000000000
 shows_natural : (n : ℕ) → n ≤ 8388608 → Shows (pos n) (decimal n) whole_of
 shows_natural n h = shows_whole (pos n) (omega arith)
 
-pub environment_is_printed : (e : Environment) (cells : List ℕ) → IsEnvironment e → IsGrid e cells → IsTextOf (environment_text e cells) e cells
-environment_is_printed e cells k g =
-    let width = shows_natural e.width k.width.1 in
-    let height = shows_natural e.height k.height.1 in
-    let obsthresh = shows_natural e.obsthresh (omega (arith, k.obsthresh)) in
-    let inscribed = shows_natural e.inscribed (omega (arith, k.inscribed)) in
-    let circumscribed = shows_whole e.circumscribed (at_most 0 255 e.circumscribed (lit< tt) (lit≤ tt) k.circumscribed) in
+-- the lines after that of the number of headings
+abbrev last_lines : Environment → List ℕ → List (List (List ℕ))
+last_lines e cells = threshold_lines e ++ (rate_lines e ++ (end_lines e ++ grid_lines e.height e.width cells))
+
+abbrev last_spelled : Environment → List ℕ → List Said
+last_spelled e cells = spelled_thresholds e ++ (spelled_rates e ++ (spelled_ends e ++ spelled_grid cells))
+
+-- lines of words that say this
+record AreSaying (ss : List Said) (ls : List (List (List ℕ))) : Type 0 where
+  pub are_words : AllByRecursion AreWords ls
+  pub mean : AllMean ss (joined ls)
+
+rates_are_printed : (e : Environment) → IsEnvironment e → AreSaying (spelled_rates e) (rate_lines e)
+rates_are_printed e k =
     let cell = shows_rate e.cell k.cell in
     let speed = shows_rate e.speed k.speed in
     let turn45 = shows_rate e.turn45 k.turn45 in
+    record {
+      are_words = (
+        (fixed_word _ refl refl, (cell.is_word, tt)),
+        ((fixed_word _ refl refl, (speed.is_word, tt)), ((fixed_word _ refl refl, (turn45.is_word, tt)), tt)),
+      );
+      mean = (refl, (cell.says, (refl, (speed.says, (refl, (turn45.says, tt))))));
+    }
+
+thresholds_are_printed : (e : Environment) → IsEnvironment e → AreSaying (spelled_thresholds e) (threshold_lines e)
+thresholds_are_printed e k =
+    let obsthresh = shows_natural e.obsthresh (omega (arith, k.obsthresh)) in
+    let inscribed = shows_natural e.inscribed (omega (arith, k.inscribed)) in
+    let circumscribed = shows_whole e.circumscribed (at_most 0 255 e.circumscribed (lit< tt) (lit≤ tt) k.circumscribed) in
+    record {
+      are_words = (
+        (fixed_word _ refl refl, (obsthresh.is_word, tt)),
+        ((fixed_word _ refl refl, (inscribed.is_word, tt)), ((fixed_word _ refl refl, (circumscribed.is_word, tt)), tt)),
+      );
+      mean = (refl, (obsthresh.says, (refl, (inscribed.says, (refl, (circumscribed.says, tt))))));
+    }
+
+ends_are_printed : (e : Environment) (cells : List ℕ) → IsEnvironment e → IsGrid e cells
+    → AreSaying (spelled_ends e ++ spelled_grid cells) (end_lines e ++ grid_lines e.height e.width cells)
+ends_are_printed e cells k g =
     let start_x = shows_coordinate e.start.x k.start_in_range.x in
     let start_y = shows_coordinate e.start.y k.start_in_range.y in
     let start_theta = shows_coordinate e.start.theta k.start_in_range.theta in
     let end_x = shows_coordinate e.end.x k.end_in_range.x in
     let end_y = shows_coordinate e.end.y k.end_in_range.y in
     let end_theta = shows_coordinate e.end.theta k.end_in_range.theta in
-    let all_words : AllByRecursion AreWords (environment_lines e cells) = (
-      (fixed_word _ refl refl, (width.is_word, (height.is_word, tt))),
-      (
-        (fixed_word _ refl refl, (obsthresh.is_word, tt)),
-        (
-          (fixed_word _ refl refl, (inscribed.is_word, tt)),
-          (
-            (fixed_word _ refl refl, (circumscribed.is_word, tt)),
-            (
-              (fixed_word _ refl refl, (cell.is_word, tt)),
-              (
-                (fixed_word _ refl refl, (speed.is_word, tt)),
-                (
-                  (fixed_word _ refl refl, (turn45.is_word, tt)),
-                  (
-                    (fixed_word _ refl refl, (start_x.is_word, (start_y.is_word, (start_theta.is_word, tt)))),
-                    (
-                      (fixed_word _ refl refl, (end_x.is_word, (end_y.is_word, (end_theta.is_word, tt)))),
-                      ((fixed_word _ refl refl, tt), grid_are_words e.height e.width cells g.costs),
-                    ),
-                  ),
-                ),
-              ),
-            ),
-          ),
-        ),
-      ),
-    ) in
     let grid = subst (AllMean (map (λ c. number (pos c)) cells)) (sym (grid_words e.height e.width cells g.size)) (costs_mean cells g.costs) in
     record {
-      tokens = subst (AllMean (spelled e cells)) (sym (lines_words (environment_lines e cells) all_words)) (
-        refl,
+      are_words = (
+        (fixed_word _ refl refl, (start_x.is_word, (start_y.is_word, (start_theta.is_word, tt)))),
         (
-          width.says,
-          (
-            height.says,
-            (
-              refl,
-              (
-                obsthresh.says,
-                (
-                  refl,
-                  (
-                    inscribed.says,
-                    (
-                      refl,
-                      (
-                        circumscribed.says,
-                        (
-                          refl,
-                          (
-                            cell.says,
-                            (
-                              refl,
-                              (
-                                speed.says,
-                                (
-                                  refl,
-                                  (
-                                    turn45.says,
-                                    (
-                                      refl,
-                                      (
-                                        start_x.says,
-                                        (
-                                          start_y.says,
-                                          (
-                                            start_theta.says,
-                                            (
-                                              refl,
-                                              (
-                                                end_x.says,
-                                                (
-                                                  end_y.says,
-                                                  (
-                                                    end_theta.says,
-                                                    (refl, grid),
-                                                  ),
-                                                ),
-                                              ),
-                                            ),
-                                          ),
-                                        ),
-                                      ),
-                                    ),
-                                  ),
-                                ),
-                              ),
-                            ),
-                          ),
-                        ),
-                      ),
-                    ),
-                  ),
-                ),
-              ),
-            ),
-          ),
+          (fixed_word _ refl refl, (end_x.is_word, (end_y.is_word, (end_theta.is_word, tt)))),
+          ((fixed_word _ refl refl, tt), grid_are_words e.height e.width cells g.costs),
         ),
       );
+      mean = (
+        refl,
+        (
+          start_x.says,
+          (start_y.says, (start_theta.says, (refl, (end_x.says, (end_y.says, (end_theta.says, (refl, grid))))))),
+        ),
+      );
+    }
+
+words_append : (a b : List (List (List ℕ))) → AllByRecursion AreWords a → AllByRecursion AreWords b → AllByRecursion AreWords (a ++ b)
+words_append [] b h k = k
+words_append (l ∷ a) b h k = (h.0, words_append a b h.1 k)
+
+joined_append : (a b : List (List (List ℕ))) → joined (a ++ b) ≡ joined a ++ joined b
+joined_append [] b = refl
+joined_append (l ∷ a) b = ap (λ (ws : List (List ℕ)). l ++ ws) (joined_append a b) ∙ sym (append_assoc l (joined a) (joined b))
+
+all_mean_append : (a b : List Said) (ws vs : List (List ℕ)) → AllMean a ws → AllMean b vs → AllMean (a ++ b) (ws ++ vs)
+all_mean_append [] b [] vs h k = k
+all_mean_append [] b (w ∷ ws) vs h k = absurd h
+all_mean_append (s ∷ a) b [] vs h k = absurd h
+all_mean_append (s ∷ a) b (w ∷ ws) vs h k = (h.0, all_mean_append a b ws vs h.1 k)
+
+saying_append : (a b : List Said) (ls ms : List (List (List ℕ))) → AreSaying a ls → AreSaying b ms → AreSaying (a ++ b) (ls ++ ms)
+saying_append a b ls ms h k = record {
+  are_words = words_append ls ms h.are_words k.are_words;
+  mean = subst (AllMean (a ++ b)) (sym (joined_append ls ms)) (all_mean_append a b (joined ls) (joined ms) h.mean k.mean);
+}
+
+-- the words of lines that say a list
+said_by_lines : (ss : List Said) (ls : List (List (List ℕ))) → AreSaying ss ls → AllMean ss (words_of (lines_text ls))
+said_by_lines ss ls h = subst (AllMean ss) (sym (lines_words ls h.are_words)) h.mean
+
+-- with the line of the number of headings, or without it where the number is the usual one
+tokens_are_printed : (usual : Bool) (e : Environment) (cells : List ℕ) → (usual ≡ true → e.headings ≡ usual_headings) → IsHeadingCount e.headings
+    → AreSaying (spelled_size e) (size_lines e) → AreSaying (last_spelled e cells) (last_lines e cells)
+    → AreTokensOf (words_of (lines_text (size_lines e ++ (cond usual [] ((headings_word ∷ decimal e.headings ∷ []) ∷ []) ++ last_lines e cells)))) e cells
+tokens_are_printed true e cells is few size others =
+    inr (is refl, said_by_lines _ _ (saying_append (spelled_size e) (last_spelled e cells) (size_lines e) (last_lines e cells) size others))
+tokens_are_printed false e cells is few size others =
+    let headings = shows_natural e.headings (omega (arith, few.1)) in
+    let line : AreSaying (spelled_headings e.headings) ((headings_word ∷ decimal e.headings ∷ []) ∷ []) =
+    record { are_words = ((fixed_word _ refl refl, (headings.is_word, tt)), tt); mean = (refl, (headings.says, tt)) } in
+    inl (said_by_lines _ _ (saying_append (spelled_size e) (spelled_headings e.headings ++ last_spelled e cells) (size_lines e) _ size
+    (saying_append (spelled_headings e.headings) (last_spelled e cells) _ (last_lines e cells) line others)))
+
+pub environment_is_printed : (e : Environment) (cells : List ℕ) → IsEnvironment e → IsGrid e cells → IsTextOf (environment_text e cells) e cells
+environment_is_printed e cells k g =
+    let width = shows_natural e.width k.width.1 in
+    let height = shows_natural e.height k.height.1 in
+    let size : AreSaying (spelled_size e) (size_lines e) = record {
+      are_words = ((fixed_word _ refl refl, (width.is_word, (height.is_word, tt))), tt);
+      mean = (refl, (width.says, (height.says, tt)));
+    } in
+    let last : AreSaying (last_spelled e cells) (last_lines e cells) =
+    saying_append (spelled_thresholds e) _ (threshold_lines e) _ (thresholds_are_printed e k)
+    (saying_append (spelled_rates e) _ (rate_lines e) _ (rates_are_printed e k) (ends_are_printed e cells k g)) in
+    record {
+      tokens = tokens_are_printed (e.headings == usual_headings) e cells (eqb-true e.headings usual_headings) k.headings size last;
       environment = k;
       grid = g;
     }

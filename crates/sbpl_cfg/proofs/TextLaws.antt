@@ -1,6 +1,6 @@
 -- The format of an environment and its list of tokens say the same.
-use Rattle.std.proofs.Common.{◌≡◌, ℕ, ℤ, pos, negsuc, zero, suc, ◌*◌, ◌≤◌, ◌≤ℤ◌, true, false, ltb, List, [], ◌∷◌, ◌++◌, length, map, codes, Ok, refl, sym, ap, subst, ◌∙◌, append_assoc, append-nil, arith}
-use Rattle.std.specs.Prelude.{int_le, int_lt, nat_abs}
+use Rattle.std.proofs.Common.{◌≡◌, ◌↔◌, ℕ, ℤ, pos, negsuc, zero, suc, ◌*◌, ◌≤◌, ◌≤ℤ◌, Bool, true, false, ltb, lit≤, List, [], ◌∷◌, ◌++◌, length, map, codes, inl, inr, Ok, refl, sym, ap, subst, ◌∙◌, append_assoc, append-nil, arith}
+use Rattle.std.specs.Prelude.{bytes_eq, int_le, int_lt, nat_abs}
 use Rattle.std.specs.List.{AllByRecursion}
 use Rattle.std.proofs.lemmas.Bool.{and_from, and_parts, ltb-false, le-ltb}
 use Rattle.std.proofs.lemmas.Int.{ints}
@@ -10,16 +10,17 @@ use Rattle.sbpl_fixed.specs.Tokens.{Piece}
 use Rattle.sbpl_fixed.specs.declared.placed.Placed.{Placed}
 use Rattle.sbpl_cfg.specs.declared.pose.Pose.{Pose}
 use Rattle.sbpl_cfg.specs.declared.parts.Ends.{Ends}
+use Rattle.sbpl_cfg.specs.declared.parts.Extent.{Extent}
 use Rattle.sbpl_cfg.specs.declared.parts.Header.{Header}
 use Rattle.sbpl_cfg.specs.declared.parts.Rates.{Rates}
 use Rattle.sbpl_cfg.specs.declared.parts.Size.{Size}
 use Rattle.sbpl_cfg.specs.declared.parts.Thresholds.{Thresholds}
-use Rattle.sbpl_cfg.specs.Environment.{Environment, IsEnvironment, IsOnAxis, IsPoseInRange, IsWithin, is_on_axis}
+use Rattle.sbpl_cfg.specs.Environment.{Environment, IsEnvironment, IsHeadingCount, IsOnAxis, IsPoseInRange, IsWithin, is_on_axis, usual_headings}
 use Rattle.sbpl_cfg.specs.Place.{cell_of}
-use Rattle.sbpl_cfg.specs.Format.{whole_format, nano_format, size_format, obsthresh_format, inscribed_format, circumscribed_format, thresholds_format, cell_format, speed_format, turn45_format, rates_format, pose_format, start_pose_format, end_pose_format, start_format, end_format, header_format, ends_format, numbers_format, cost_format, grid_format, environment_format, environment_of, usual_headings, IsHeaderInRange, is_on_map_of}
+use Rattle.sbpl_cfg.specs.Format.{whole_format, nano_format, extent_format, headings_format, size_format, obsthresh_format, inscribed_format, circumscribed_format, thresholds_format, cell_format, speed_format, turn45_format, rates_format, pose_format, start_pose_format, end_pose_format, start_format, end_format, header_format, ends_format, numbers_format, cost_format, grid_format, environment_format, environment_of, headings_word, is_fourth_token, says_headings, IsHeaderInRange, is_on_map_of}
 use Rattle.sbpl_fixed.specs.Meaning.{StandsFor}
 use Rattle.sbpl_fixed.specs.Tokens.{tokens}
-use Rattle.sbpl_cfg.specs.Text.{Said, word, number, nano, IsTextOf, spelled, spelled_grid, spelled_pose}
+use Rattle.sbpl_cfg.specs.Text.{Said, word, number, nano, AllMean, AreTokensOf, LeavesOutUsual, words_of, IsGrid, IsTextOf, spelled, spelled_grid, spelled_headings, spelled_pose}
 use Rattle.sbpl_fixed.specs.Parts.{says_both, says_parts}
 use Rattle.sbpl_cfg.proofs.Items.{Begins, all_begins, append_begins, at_end, begins_all, begins_append, fixed_is, if_right, is_fixed, is_within, unless_wrong, within_is}
 
@@ -67,62 +68,124 @@ natural_is : (k : ℕ) (v : ℤ) → pos k ≤ℤ v → v ≡ pos (nat_abs v)
 natural_is k (pos n) h = refl
 natural_is k (negsuc n) h = absurd (omega (arith, ints))
 
-pub record IsSize (x : Size) : Type 0 where
-  pub width : (1 ≤ x.width) × (x.width ≤ 8388608)
-  pub height : (1 ≤ x.height) × (x.height ≤ 8388608)
-  pub states : x.width * x.height * usual_headings ≤ 8388608
-
-abbrev pub size_words : Size → List Said
-size_words x = word (codes "discretization(cells):") ∷ number (pos x.width) ∷ number (pos x.height) ∷ []
-
-pub size_said : (x : Size) (ts rest : List Piece) → Says size_format ts x rest → Begins (size_words x) ts rest × IsSize x
-unfolding size_format Says
-size_said x [] rest h = absurd h
-size_said x (t ∷ []) rest h = absurd h.2
-size_said x (t ∷ u ∷ []) rest h = absurd h.2.2
-size_said x (t ∷ u ∷ v ∷ ts) rest h =
-    let w = within_is (pos 1) (pos 8388608) h.2.0 (whole_of u.bytes) h.2.1 in
-    let r = within_is (pos 1) (pos 8388608) h.2.2.0 (whole_of v.bytes) h.2.2.1 in
-    let g = unless_wrong _ _ x _ ts rest h.2.2.2 in
-    let width : h.2.0 ≡ pos x.width = natural_is 1 h.2.0 w.between.0 ∙ ap (λ (y : Size). pos y.width) (sym g.1) in
-    let height : h.2.2.0 ≡ pos x.height = natural_is 1 h.2.2.0 r.between.0 ∙ ap (λ (y : Size). pos y.height) (sym g.1) in
-    let states = subst (λ (y : ℤ). nat_abs y * nat_abs h.2.2.0 * usual_headings ≤ 8388608) width (ltb-false _ _ g.0) in
-    let states' = subst (λ (y : ℤ). x.width * nat_abs y * usual_headings ≤ 8388608) height states in
-    let in_width = subst (IsWithin (pos 1) (pos 8388608)) width w.between in
-    let in_height = subst (IsWithin (pos 1) (pos 8388608)) height r.between in (
-      (fixed_is _ t.bytes h.0 h.1, (w.value ∙ ap (λ z. Ok z) width, (r.value ∙ ap (λ z. Ok z) height, g.2))),
-      record {
-        width = (omega (arith, ints, in_width.0), omega (arith, ints, in_width.1));
-        height = (omega (arith, ints, in_height.0), omega (arith, ints, in_height.1));
-        states = states';
-      },
-    )
-
 within_naturals : (low high n : ℕ) → low ≤ n → n ≤ high → IsWithin (pos low) (pos high) (pos n)
 within_naturals low high n h k = (omega (arith, ints), omega (arith, ints))
 
 naturals_within : (low high n : ℕ) → IsWithin (pos low) (pos high) (pos n) → (low ≤ n) × (n ≤ high)
 naturals_within low high n h = let low = h.0 in let high = h.1 in (omega (arith, ints), omega (arith, ints))
 
-pub says_size : (x : Size) (ts rest : List Piece) → Begins (size_words x) ts rest → IsSize x → Says size_format ts x rest
-unfolding size_format Says
-says_size x [] rest h k = absurd h
-says_size x (t ∷ []) rest h k = absurd h.1
-says_size x (t ∷ u ∷ []) rest h k = absurd h.1.1
-says_size x (t ∷ u ∷ v ∷ ts) rest h k =
-    let small : ltb 8388608 (x.width * x.height * usual_headings) ≡ false = le-ltb _ _ k.states in (
-      pos 0,
-      is_fixed _ t.bytes h.0,
-      (
-        pos x.width,
-        is_within (pos 1) (pos 8388608) (pos x.width) (whole_of u.bytes) (record { value = h.1.0; between = within_naturals 1 8388608 x.width k.width.0 k.width.1 }),
-        (
-          pos x.height,
-          is_within (pos 1) (pos 8388608) (pos x.height) (whole_of v.bytes) (record { value = h.1.1.0; between = within_naturals 1 8388608 x.height k.height.0 k.height.1 }),
-          rw small (refl, h.1.1.1),
-        ),
-      ),
+pub record IsExtent (x : Extent) : Type 0 where
+  pub width : (1 ≤ x.width) × (x.width ≤ 8388608)
+  pub height : (1 ≤ x.height) × (x.height ≤ 8388608)
+
+abbrev pub extent_words : Extent → List Said
+extent_words x = word (codes "discretization(cells):") ∷ number (pos x.width) ∷ number (pos x.height) ∷ []
+
+pub extent_said : (p : Placed Extent) (ts rest : List Piece) → Says extent_format ts p rest → Begins (extent_words p.value) ts rest × IsExtent p.value
+unfolding extent_format Says
+extent_said p [] rest h = absurd h
+extent_said p (t ∷ []) rest h = absurd h.2
+extent_said p (t ∷ u ∷ []) rest h = absurd h.2.2
+extent_said p (t ∷ u ∷ v ∷ ts) rest h =
+    let w = within_is (pos 1) (pos 8388608) h.2.0 (whole_of u.bytes) h.2.1 in
+    let r = within_is (pos 1) (pos 8388608) h.2.2.0 (whole_of v.bytes) h.2.2.1 in
+    let g = h.2.2.2 in
+    let width : h.2.0 ≡ pos p.value.width = natural_is 1 h.2.0 w.between.0 ∙ ap (λ (y : Placed Extent). pos y.value.width) (sym g.0) in
+    let height : h.2.2.0 ≡ pos p.value.height = natural_is 1 h.2.2.0 r.between.0 ∙ ap (λ (y : Placed Extent). pos y.value.height) (sym g.0) in (
+      (fixed_is _ t.bytes h.0 h.1, (w.value ∙ ap (λ z. Ok z) width, (r.value ∙ ap (λ z. Ok z) height, g.1))),
+      record {
+        width = naturals_within 1 8388608 p.value.width (subst (IsWithin (pos 1) (pos 8388608)) width w.between);
+        height = naturals_within 1 8388608 p.value.height (subst (IsWithin (pos 1) (pos 8388608)) height r.between);
+      },
     )
+
+pub says_extent : (x : Extent) (ts rest : List Piece) → Begins (extent_words x) ts rest → IsExtent x
+    → (place : ℕ) × Says extent_format ts (record { value = x; place = place }) rest
+unfolding extent_format Says
+says_extent x [] rest h k = absurd h
+says_extent x (t ∷ []) rest h k = absurd h.1
+says_extent x (t ∷ u ∷ []) rest h k = absurd h.1.1
+says_extent x (t ∷ u ∷ v ∷ ts) rest h k = (
+  u.place,
+  (
+    pos 0,
+    is_fixed _ t.bytes h.0,
+    (
+      pos x.width,
+      is_within (pos 1) (pos 8388608) (pos x.width) (whole_of u.bytes) (record { value = h.1.0; between = within_naturals 1 8388608 x.width k.width.0 k.width.1 }),
+      (
+        pos x.height,
+        is_within (pos 1) (pos 8388608) (pos x.height) (whole_of v.bytes) (record { value = h.1.1.0; between = within_naturals 1 8388608 x.height k.height.0 k.height.1 }),
+        (refl, h.1.1.1),
+      ),
+    ),
+  ),
+)
+
+-- the number of headings, which a text says or leaves out
+abbrev pub headings_words : Bool → ℕ → List Said
+headings_words true n = spelled_headings n
+headings_words false n = []
+
+-- it may stand in a file, and where it is left out it is the usual one
+pub record IsCount (said : Bool) (n : ℕ) : Type 0 where
+  pub count : IsHeadingCount n
+  pub usual : said ≡ false → n ≡ usual_headings
+
+pub headings_said : (said : Bool) (z : ℤ) (ts rest : List Piece) → Says (headings_format said) ts z rest
+    → Begins (headings_words said (nat_abs z)) ts rest × IsCount said (nat_abs z)
+unfolding headings_format Says
+headings_said true z ts rest h =
+    let a = whole_said headings_word (pos 4) (pos 64) z ts rest h in
+    let is : z ≡ pos (nat_abs z) = natural_is 4 z a.1.0 in (
+      subst (λ n. Begins (word headings_word ∷ number n ∷ []) ts rest) is a.0,
+      record { count = naturals_within 4 64 (nat_abs z) (subst (IsWithin (pos 4) (pos 64)) is a.1); usual = λ e. absurd cc },
+    )
+headings_said false z ts rest h =
+    let is : nat_abs z ≡ usual_headings = ap nat_abs h.0 in
+    (h.1, record { count = subst IsHeadingCount (sym is) (lit≤ tt, lit≤ tt); usual = λ _. is })
+
+pub says_count : (said : Bool) (n : ℕ) (ts rest : List Piece) → Begins (headings_words said n) ts rest → IsCount said n
+    → Says (headings_format said) ts (pos n) rest
+unfolding headings_format Says
+says_count true n ts rest h k = says_whole headings_word (pos 4) (pos 64) (pos n) ts rest h (within_naturals 4 64 n k.count.0 k.count.1)
+says_count false n ts rest h k = (ap pos (k.usual refl), h)
+
+pub record IsSize (said : Bool) (x : Size) : Type 0 where
+  pub width : (1 ≤ x.width) × (x.width ≤ 8388608)
+  pub height : (1 ≤ x.height) × (x.height ≤ 8388608)
+  pub headings : IsCount said x.headings
+  pub states : x.width * x.height * x.headings ≤ 8388608
+
+abbrev pub extent_of : Size → Extent
+extent_of x = record { width = x.width; height = x.height }
+
+abbrev pub size_words : Bool → Size → List Said
+size_words said x = extent_words (extent_of x) ++ headings_words said x.headings
+
+pub size_said : (said : Bool) (x : Size) (ts rest : List Piece) → Says (size_format said) ts x rest → Begins (size_words said x) ts rest × IsSize said x
+unfolding size_format
+size_said said x ts rest s =
+    let a = says_parts _ _ ts rest x s in
+    let b = says_parts _ _ a.1 rest x a.3 in
+    let e = extent_said a.0 ts a.1 a.2 in
+    let n = headings_said said b.0 a.1 b.1 b.2 in
+    let g = unless_wrong _ _ x _ b.1 rest b.3 in
+    let made : Size = record { width = a.0.value.width; height = a.0.value.height; headings = nat_abs b.0 } in
+    let begins : Begins (size_words said made) ts rest =
+    begins_append (extent_words (extent_of made)) (headings_words said made.headings) ts a.1 rest e.0
+    (subst (λ m. Begins (headings_words said made.headings) a.1 m) (sym g.2) n.0) in
+    let is : IsSize said made = record { width = e.1.width; height = e.1.height; headings = n.1; states = ltb-false _ _ g.0 } in
+    (subst (λ (y : Size). Begins (size_words said y) ts rest) (sym g.1) begins, subst (IsSize said) (sym g.1) is)
+
+pub says_size : (said : Bool) (x : Size) (ts rest : List Piece) → Begins (size_words said x) ts rest → IsSize said x → Says (size_format said) ts x rest
+unfolding size_format Says
+says_size said x ts rest h k =
+    let a = append_begins (extent_words (extent_of x)) (headings_words said x.headings) ts rest h in
+    let e = says_extent (extent_of x) ts a.0 a.1 (record { width = k.width; height = k.height }) in
+    let small : ltb 8388608 (x.width * x.height * x.headings) ≡ false = le-ltb _ _ k.states in
+    says_both extent_format _ ts a.0 rest (record { value = extent_of x; place = e.0 }) x e.1
+    (says_both (headings_format said) _ a.0 rest rest (pos x.headings) x (says_count said x.headings a.0 rest a.2 k.headings) (rw small (refl, refl)))
 
 -- ---- the thresholds
 
@@ -357,32 +420,34 @@ says_ends h x ts rest s good fine =
 
 -- ---- the header
 
-abbrev pub header_words : Header → List Said
-header_words h = size_words h.size ++ (thresholds_words h.thresholds ++ rates_words h.rates)
+abbrev pub header_words : Bool → Header → List Said
+header_words said h = size_words said h.size ++ (thresholds_words h.thresholds ++ rates_words h.rates)
 
-pub header_said : (h : Header) (ts rest : List Piece) → Says header_format ts h rest → Begins (header_words h) ts rest × IsHeaderInRange h
+pub header_said : (said : Bool) (h : Header) (ts rest : List Piece) → Says (header_format said) ts h rest
+    → Begins (header_words said h) ts rest × IsHeaderInRange h × IsCount said h.size.headings
 unfolding header_format Says
-header_said h ts rest s =
+header_said said h ts rest s =
     let a = says_parts _ _ ts rest h s in
     let b = says_parts _ _ a.1 rest h a.3 in
     let c = says_parts _ _ b.1 rest h b.3 in
-    let p = size_said a.0 ts a.1 a.2 in
+    let p = size_said said a.0 ts a.1 a.2 in
     let q = thresholds_said b.0 a.1 b.1 b.2 in
     let r = rates_said c.0 b.1 c.1 c.2 in
     let size : a.0 ≡ h.size = ap (λ (y : Header). y.size) (sym c.3.0) in
     let thresholds : b.0 ≡ h.thresholds = ap (λ (y : Header). y.thresholds) (sym c.3.0) in
     let rates : c.0 ≡ h.rates = ap (λ (y : Header). y.rates) (sym c.3.0) in
-    let is_size = subst IsSize size p.1 in
+    let is_size = subst (IsSize said) size p.1 in
     let are_thresholds = subst AreThresholds thresholds q.1 in
     let are_rates = subst AreRates rates r.1 in (
-      begins_append (size_words h.size) (thresholds_words h.thresholds ++ rates_words h.rates) ts a.1 rest
-          (subst (λ x. Begins (size_words x) ts a.1) size p.0)
+      begins_append (size_words said h.size) (thresholds_words h.thresholds ++ rates_words h.rates) ts a.1 rest
+          (subst (λ x. Begins (size_words said x) ts a.1) size p.0)
           (begins_append (thresholds_words h.thresholds) (rates_words h.rates) a.1 b.1 rest
           (subst (λ x. Begins (thresholds_words x) a.1 b.1) thresholds q.0)
           (subst (λ m. Begins (rates_words h.rates) b.1 m) (sym c.3.1) (subst (λ x. Begins (rates_words x) b.1 c.1) rates r.0))),
       record {
         width = is_size.width;
         height = is_size.height;
+        headings = is_size.headings.count;
         states = is_size.states;
         obsthresh = are_thresholds.obsthresh;
         inscribed = are_thresholds.inscribed;
@@ -391,14 +456,17 @@ header_said h ts rest s =
         speed = are_rates.speed;
         turn45 = are_rates.turn45;
       },
+      is_size.headings,
     )
 
-pub says_header : (h : Header) (ts rest : List Piece) → Begins (header_words h) ts rest → IsHeaderInRange h → Says header_format ts h rest
+pub says_header : (said : Bool) (h : Header) (ts rest : List Piece) → Begins (header_words said h) ts rest → IsHeaderInRange h → IsCount said h.size.headings
+    → Says (header_format said) ts h rest
 unfolding header_format Says
-says_header h ts rest s k =
-    let a = append_begins (size_words h.size) (thresholds_words h.thresholds ++ rates_words h.rates) ts rest s in
+says_header said h ts rest s k n =
+    let a = append_begins (size_words said h.size) (thresholds_words h.thresholds ++ rates_words h.rates) ts rest s in
     let b = append_begins (thresholds_words h.thresholds) (rates_words h.rates) a.0 rest a.2 in
-    says_both size_format _ ts a.0 rest h.size h (says_size h.size ts a.0 a.1 (record { width = k.width; height = k.height; states = k.states }))
+    says_both (size_format said) _ ts a.0 rest h.size h
+    (says_size said h.size ts a.0 a.1 (record { width = k.width; height = k.height; headings = n; states = k.states }))
     (says_both thresholds_format _ a.0 b.0 rest h.thresholds h
     (says_thresholds h.thresholds a.0 b.0 b.1 (record { obsthresh = k.obsthresh; inscribed = k.inscribed; circumscribed = k.circumscribed }))
     (says_both rates_format _ b.0 rest rest h.rates h (says_rates h.rates b.0 rest b.2 (record { cell = k.cell; speed = k.speed; turn45 = k.turn45 })) (refl, refl)))
@@ -433,7 +501,7 @@ environment_is h x k good fine =
       turn45 = k.turn45;
       start_in_range = good.in_range;
       end_in_range = fine.in_range;
-      headings = refl;
+      headings = k.headings;
       states = k.states;
       start_on_map = record { x = on_axis_is h.rates.cell x.start.x h.size.width s.0; y = on_axis_is h.rates.cell x.start.y h.size.height s.1 };
       end_on_map = record { x = on_axis_is h.rates.cell x.end.x h.size.width e.0; y = on_axis_is h.rates.cell x.end.y h.size.height e.1 };
@@ -441,7 +509,7 @@ environment_is h x k good fine =
 
 abbrev pub header_of : Environment → Header
 header_of e = record {
-  size = record { width = e.width; height = e.height };
+  size = record { width = e.width; height = e.height; headings = e.headings };
   thresholds = record { obsthresh = e.obsthresh; inscribed = e.inscribed; circumscribed = e.circumscribed };
   rates = record { cell = e.cell; speed = e.speed; turn45 = e.turn45 };
 }
@@ -450,31 +518,34 @@ abbrev pub ends_of : Environment → Ends
 ends_of e = record { start = e.start; end = e.end }
 
 -- the words before the grid
-abbrev pub numbers_words : Environment → List Said
-numbers_words e = header_words (header_of e) ++ ends_words (ends_of e)
+abbrev pub numbers_words : Bool → Environment → List Said
+numbers_words said e = header_words said (header_of e) ++ ends_words (ends_of e)
 
-pub numbers_said : (e : Environment) (ts rest : List Piece) → Says numbers_format ts e rest → Begins (numbers_words e) ts rest × IsEnvironment e
+pub numbers_said : (said : Bool) (e : Environment) (ts rest : List Piece) → Says (numbers_format said) ts e rest
+    → Begins (numbers_words said e) ts rest × IsEnvironment e × IsCount said e.headings
 unfolding numbers_format Says
-numbers_said e ts rest s =
+numbers_said said e ts rest s =
     let a = says_parts _ _ ts rest e s in
     let b = says_parts _ _ a.1 rest e a.3 in
-    let p = header_said a.0 ts a.1 a.2 in
+    let p = header_said said a.0 ts a.1 a.2 in
     let q = ends_said a.0 b.0 a.1 b.1 b.2 in
     let same : environment_of a.0 b.0 ≡ e = sym b.3.0 in (
-      subst (λ (x : Environment). Begins (numbers_words x) ts rest) same
-          (begins_append (header_words a.0) (ends_words b.0) ts a.1 rest p.0 (subst (λ m. Begins (ends_words b.0) a.1 m) (sym b.3.1) q.0)),
+      subst (λ (x : Environment). Begins (numbers_words said x) ts rest) same
+          (begins_append (header_words said a.0) (ends_words b.0) ts a.1 rest p.0 (subst (λ m. Begins (ends_words b.0) a.1 m) (sym b.3.1) q.0)),
       subst IsEnvironment same (environment_is a.0 b.0 p.1 q.1 q.2),
+      subst (λ (x : Environment). IsCount said x.headings) same p.2,
     )
 
-pub says_numbers : (e : Environment) (ts rest : List Piece) → Begins (numbers_words e) ts rest → IsEnvironment e → Says numbers_format ts e rest
+pub says_numbers : (said : Bool) (e : Environment) (ts rest : List Piece) → Begins (numbers_words said e) ts rest → IsEnvironment e → IsCount said e.headings
+    → Says (numbers_format said) ts e rest
 unfolding numbers_format Says
-says_numbers e ts rest s k =
-    let usual : e.headings ≡ usual_headings = k.headings in
-    let a = append_begins (header_words (header_of e)) (ends_words (ends_of e)) ts rest s in
+says_numbers said e ts rest s k n =
+    let a = append_begins (header_words said (header_of e)) (ends_words (ends_of e)) ts rest s in
     let in_range : IsHeaderInRange (header_of e) = record {
       width = k.width;
       height = k.height;
-      states = subst (λ n. e.width * e.height * n ≤ 8388608) usual k.states;
+      headings = k.headings;
+      states = k.states;
       obsthresh = k.obsthresh;
       inscribed = k.inscribed;
       circumscribed = k.circumscribed;
@@ -490,9 +561,8 @@ says_numbers e ts rest s k =
       in_range = k.end_in_range;
       on_map = and_from (is_on_axis e.cell e.width e.end.x) (is_on_axis e.cell e.height e.end.y) (is_on e.cell e.end.x e.width k.end_on_map.x) (is_on e.cell e.end.y e.height k.end_on_map.y);
     } in
-    let same : e ≡ environment_of (header_of e) (ends_of e) = ap (λ n. record e { headings = n }) usual in
-    says_both header_format _ ts a.0 rest (header_of e) e (says_header (header_of e) ts a.0 a.1 in_range)
-    (says_both (ends_format (header_of e)) _ a.0 rest rest (ends_of e) e (says_ends (header_of e) (ends_of e) a.0 rest a.2 start end) (same, refl))
+    says_both (header_format said) _ ts a.0 rest (header_of e) e (says_header said (header_of e) ts a.0 a.1 in_range n)
+    (says_both (ends_format (header_of e)) _ a.0 rest rest (ends_of e) e (says_ends (header_of e) (ends_of e) a.0 rest a.2 start end) (refl, refl))
 
 -- ---- the grid
 
@@ -588,27 +658,102 @@ says_grid count cells (t ∷ ts) rest h size k =
 
 -- ---- the whole text
 
-pub text_said : (text : List ℕ) (x : Environment × List ℕ) → StandsFor environment_format text x → IsTextOf text x.0 x.1
+-- the words of the file, with the number of headings or without it
+abbrev file_words : Bool → Environment → List ℕ → List Said
+file_words said e cells = numbers_words said e ++ spelled_grid cells
+
+are_tokens : (said : Bool) (e : Environment) (cells : List ℕ) (ts : List Piece) → IsCount said e.headings → Begins (file_words said e cells) ts []
+    → AreTokensOf (map (λ t. t.bytes) ts) e cells
+are_tokens true e cells ts k h = inl (begins_all (spelled (spelled_headings e.headings) e cells) ts h)
+are_tokens false e cells ts k h = inr (k.usual refl, begins_all (spelled [] e cells) ts h)
+
+-- a file with the number of headings says it by its fourth token, and one without it does not
+said_by_fourth : (said : Bool) (e : Environment) (cells : List ℕ) (ts : List Piece) → Begins (file_words said e cells) ts [] → is_fourth_token ts ≡ said
+said_by_fourth true e cells [] h = absurd h
+said_by_fourth true e cells (t ∷ []) h = absurd h.1
+said_by_fourth true e cells (t ∷ u ∷ []) h = absurd h.1.1
+said_by_fourth true e cells (t ∷ u ∷ v ∷ []) h = absurd h.1.1.1
+said_by_fourth true e cells (t ∷ u ∷ v ∷ w ∷ ts) h = ap (λ bytes. bytes_eq bytes headings_word) h.1.1.1.0
+said_by_fourth false e cells [] h = absurd h
+said_by_fourth false e cells (t ∷ []) h = absurd h.1
+said_by_fourth false e cells (t ∷ u ∷ []) h = absurd h.1.1
+said_by_fourth false e cells (t ∷ u ∷ v ∷ []) h = absurd h.1.1.1
+said_by_fourth false e cells (t ∷ u ∷ v ∷ w ∷ ts) h = ap (λ bytes. bytes_eq bytes headings_word) h.1.1.1.0
+
+pub text_said : (text : List ℕ) (x : Environment × List ℕ) → StandsFor (environment_format (says_headings text)) text x → IsTextOf text x.0 x.1
 unfolding environment_format
 text_said text x h =
+    let said = says_headings text in
     let a = says_parts _ _ (tokens text) h.0 x h.1 in
     let b = says_parts _ _ a.1 h.0 x a.3 in
     let z = at_end _ _ x (a.0, b.0) b.1 h.0 b.3 in
-    let p = numbers_said a.0 (tokens text) a.1 a.2 in
+    let p = numbers_said said a.0 (tokens text) a.1 a.2 in
     let q = grid_said (a.0.width * a.0.height) b.0 a.1 b.1 b.2 in
-    let all = begins_append (numbers_words a.0) (spelled_grid b.0) (tokens text) a.1 [] p.0 (subst (λ m. Begins (spelled_grid b.0) a.1 m) z.1 q.0) in
+    let all = begins_append (numbers_words said a.0) (spelled_grid b.0) (tokens text) a.1 [] p.0 (subst (λ m. Begins (spelled_grid b.0) a.1 m) z.1 q.0) in
     subst (λ (y : Environment × List ℕ). IsTextOf text y.0 y.1) (sym z.0) (record {
-      tokens = begins_all (spelled a.0 b.0) (tokens text) all;
+      tokens = are_tokens said a.0 b.0 (tokens text) p.2 all;
       environment = p.1;
       grid = record { size = q.1; costs = q.2 };
     })
 
-pub says_text : (text : List ℕ) (x : Environment × List ℕ) → IsTextOf text x.0 x.1 → StandsFor environment_format text x
+-- tokens that are those of an environment and a grid are what the format says that has these words
+says_file : (said : Bool) (text : List ℕ) (x : Environment × List ℕ) → Begins (file_words said x.0 x.1) (tokens text) [] → IsCount said x.0.headings
+    → IsEnvironment x.0 → IsGrid x.0 x.1 → StandsFor (environment_format said) text x
 unfolding environment_format Says
-says_text text x h =
-    let all = all_begins (spelled x.0 x.1) (tokens text) h.tokens in
-    let a = append_begins (numbers_words x.0) (spelled_grid x.1) (tokens text) [] all in (
+says_file said text x all n e g =
+    let a = append_begins (numbers_words said x.0) (spelled_grid x.1) (tokens text) [] all in (
       [],
-      says_both numbers_format _ (tokens text) a.0 [] x.0 x (says_numbers x.0 (tokens text) a.0 a.1 h.environment)
-          (says_both (grid_format (x.0.width * x.0.height)) _ a.0 [] [] x.1 x (says_grid (x.0.width * x.0.height) x.1 a.0 [] a.2 h.grid.size h.grid.costs) (refl, refl)),
+      says_both (numbers_format said) _ (tokens text) a.0 [] x.0 x (says_numbers said x.0 (tokens text) a.0 a.1 e n)
+          (says_both (grid_format (x.0.width * x.0.height)) _ a.0 [] [] x.1 x (says_grid (x.0.width * x.0.height) x.1 a.0 [] a.2 g.size g.costs) (refl, refl)),
     )
+
+pub says_text : (text : List ℕ) (x : Environment × List ℕ) → IsTextOf text x.0 x.1 → StandsFor (environment_format (says_headings text)) text x
+says_text text x h =
+    let by : (said : Bool) → Begins (file_words said x.0 x.1) (tokens text) [] → IsCount said x.0.headings → StandsFor (environment_format (says_headings text)) text x =
+    λ said all n.
+    subst (λ b. StandsFor (environment_format b) text x) (sym (said_by_fourth said x.0 x.1 (tokens text) all))
+    (says_file said text x all n h.environment h.grid) in
+    elim h.tokens [
+      | inl t ↦ by true (all_begins (spelled (spelled_headings x.0.headings) x.0 x.1) (tokens text) t)
+          (record { count = h.environment.headings; usual = λ e. absurd cc })
+      | inr t ↦ by false (all_begins (spelled [] x.0 x.1) (tokens text) t.1) (record { count = h.environment.headings; usual = λ _. t.0 })
+    ]
+
+-- ---- the usual number of headings
+
+-- which of the two lists a text has is seen at its fourth token
+said_by_tokens : (text : List ℕ) (e : Environment) (cells : List ℕ) → AllMean (spelled (spelled_headings e.headings) e cells) (words_of text)
+    → says_headings text ≡ true
+said_by_tokens text e cells t = said_by_fourth true e cells (tokens text) (all_begins (spelled (spelled_headings e.headings) e cells) (tokens text) t)
+
+pub left_out_is_usual : (text : List ℕ) (e : Environment) (cells : List ℕ) → IsTextOf text e cells → says_headings text ≡ false → e.headings ≡ usual_headings
+left_out_is_usual text e cells h none = elim h.tokens [
+  | inl t ↦ let e = sym none ∙ said_by_tokens text e cells t in absurd cc
+  | inr t ↦ t.0
+]
+
+usual_said : (plain full : List ℕ) (e : Environment) (cells : List ℕ) → LeavesOutUsual plain full → IsTextOf plain e cells → IsTextOf full e cells
+usual_said plain full e cells w h =
+    let usual = left_out_is_usual plain e cells h w.left_out in
+    let tokens : AreTokensOf (words_of full) e cells = elim h.tokens [
+      | inl t ↦ let e = sym w.left_out ∙ said_by_tokens plain e cells t in absurd cc
+      | inr t ↦
+          let m = subst (AllMean (spelled [] e cells)) w.plain_words t.1 in
+          inl (subst (AllMean (spelled (spelled_headings e.headings) e cells)) (sym w.full_words)
+          (m.0, (m.1.0, (m.1.1.0, (refl, (w.usual ∙ ap (λ n. Ok (pos n)) (sym usual), m.1.1.1))))))
+    ] in
+    record { tokens = tokens; environment = h.environment; grid = h.grid }
+
+usual_left_out : (plain full : List ℕ) (e : Environment) (cells : List ℕ) → LeavesOutUsual plain full → IsTextOf full e cells → IsTextOf plain e cells
+usual_left_out plain full e cells w h =
+    let tokens : AreTokensOf (words_of plain) e cells = elim h.tokens [
+      | inl t ↦
+          let m = subst (AllMean (spelled (spelled_headings e.headings) e cells)) w.full_words t in
+          let same : pos usual_headings ≡ pos e.headings = let k = sym w.usual ∙ m.1.1.1.1.0 in cc in
+          inr (sym (ap nat_abs same), subst (AllMean (spelled [] e cells)) (sym w.plain_words) (m.0, (m.1.0, (m.1.1.0, m.1.1.1.1.1))))
+      | inr t ↦ let m = subst (AllMean (spelled [] e cells)) w.full_words t.1 in let e = m.1.1.1.0 in absurd cc
+    ] in
+    record { tokens = tokens; environment = h.environment; grid = h.grid }
+
+pub usual_may_be_left_out : (plain full : List ℕ) (e : Environment) (cells : List ℕ) → LeavesOutUsual plain full → IsTextOf plain e cells ↔ IsTextOf full e cells
+usual_may_be_left_out plain full e cells w = (usual_said plain full e cells w, usual_left_out plain full e cells w)

@@ -24,7 +24,11 @@ IsWithin low high z = (low ≤ℤ z) × (z ≤ℤ high)
 
 -- the numbers of headings that an environment file may have
 abbrev pub IsHeadingCount : ℕ → Type 0
-IsHeadingCount n = n ≡ 16
+IsHeadingCount n = (4 ≤ n) × (n ≤ 64)
+
+-- the number of headings of a file that doesn't say one
+abbrev pub usual_headings : ℕ
+usual_headings = 16
 
 -- a pose of an environment file lies in its ranges
 pub record IsPoseInRange (p : Pose) : Type 0 where

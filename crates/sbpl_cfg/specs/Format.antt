@@ -1,20 +1,35 @@
 -- The environment file: which tokens stand in it, one after another, with their ranges and faults.
-use Rattle.std.specs.Prelude.{ℕ, ℤ, pos, negsuc, nat_abs, ◌*◌, ◌++◌, ◌≤◌, nat_lt, Bool, if◌then◌else◌, List, [], ◌∷◌, codes}
+use Rattle.std.specs.Prelude.{ℕ, ℤ, pos, negsuc, nat_abs, ◌*◌, ◌++◌, ◌≤◌, nat_lt, Bool, false, bytes_eq, if◌then◌else◌, List, [], ◌∷◌, codes}
 use Rattle.sbpl_fixed.specs.Formats.{Format, item, wrong, done, ended, fixed, whole, nano, and_then, turns}
+use Rattle.sbpl_fixed.specs.Tokens.{Piece, tokens}
 use Rattle.sbpl_fixed.specs.declared.placed.Placed.{Placed}
 use Rattle.sbpl_cfg.specs.declared.fault.EnvFault.{EnvFault}
 use Rattle.sbpl_cfg.specs.declared.fault.EnvFault.TheVariants.{TooLarge, StartOff, EndOff}
 use Rattle.sbpl_cfg.specs.declared.pose.Pose.{Pose}
 use Rattle.sbpl_cfg.specs.declared.parts.Ends.{Ends}
+use Rattle.sbpl_cfg.specs.declared.parts.Extent.{Extent}
 use Rattle.sbpl_cfg.specs.declared.parts.Header.{Header}
 use Rattle.sbpl_cfg.specs.declared.parts.Rates.{Rates}
 use Rattle.sbpl_cfg.specs.declared.parts.Size.{Size}
 use Rattle.sbpl_cfg.specs.declared.parts.Thresholds.{Thresholds}
-use Rattle.sbpl_cfg.specs.Environment.{Environment, is_on_map, IsWithin}
+use Rattle.sbpl_cfg.specs.Environment.{Environment, is_on_map, usual_headings, IsHeadingCount, IsWithin}
 
--- the number of headings, where a file doesn't say one
-abbrev pub usual_headings : ℕ
-usual_headings = 16
+-- ---- the word that a file may leave out
+
+-- the word before the number of headings
+abbrev pub headings_word : List ℕ
+headings_word = codes "NumThetaDirs:"
+
+-- whether it is the fourth token, the one after the height
+abbrev pub is_fourth_token : List Piece → Bool
+is_fourth_token (word ∷ width ∷ height ∷ t ∷ ts) = bytes_eq t.bytes headings_word
+is_fourth_token _ = false
+
+-- whether a text says its number of headings
+abbrev pub says_headings : List ℕ → Bool
+says_headings text = is_fourth_token (tokens text)
+
+-- ---- what is read
 
 -- whether a pose is on the map
 abbrev pub is_on_map_of : Header → Pose → Bool
@@ -24,7 +39,8 @@ is_on_map_of h p = is_on_map h.rates.cell h.size.width h.size.height p
 pub record IsHeaderInRange (h : Header) : Type 0 where
   pub width : (1 ≤ h.size.width) × (h.size.width ≤ 8388608)
   pub height : (1 ≤ h.size.height) × (h.size.height ≤ 8388608)
-  pub states : h.size.width * h.size.height * usual_headings ≤ 8388608
+  pub headings : IsHeadingCount h.size.headings
+  pub states : h.size.width * h.size.height * h.size.headings ≤ 8388608
   pub obsthresh : h.thresholds.obsthresh ≤ 255
   pub inscribed : h.thresholds.inscribed ≤ 255
   pub circumscribed : IsWithin (negsuc 0) (pos 255) h.thresholds.circumscribed
@@ -45,8 +61,10 @@ environment_of h ends = record {
   turn45 = h.rates.turn45;
   start = ends.start;
   end = ends.end;
-  headings = usual_headings;
+  headings = h.size.headings;
 }
+
+-- ---- the file's parts
 
 -- a word and a whole number after it
 unfoldable pub whole_format : List ℕ → ℤ → ℤ → Format EnvFault ℤ
@@ -56,14 +74,25 @@ whole_format word low high = item (fixed word) (λ _ _. item (whole low high) (�
 unfoldable pub nano_format : List ℕ → ℤ → ℤ → Format EnvFault ℤ
 nano_format word low high = item (fixed word) (λ _ _. item (nano low high) (λ _ n. done n))
 
--- the map's size; its fault, where there are too many states, is at the width
-unfoldable pub size_format : Format EnvFault Size
-size_format =
+-- cells along x and along y, with the offset of the width
+unfoldable pub extent_format : Format EnvFault (Placed Extent)
+extent_format =
     item (fixed (codes "discretization(cells):")) (λ _ _.
     item (whole (pos 1) (pos 8388608)) (λ place width.
     item (whole (pos 1) (pos 8388608)) (λ _ height.
-    if nat_lt 8388608 (nat_abs width * nat_abs height * usual_headings) then wrong (TooLarge place)
-    else done (record { width = nat_abs width; height = nat_abs height }))))
+    done (record { value = record { width = nat_abs width; height = nat_abs height }; place = place }))))
+
+-- the number of headings, where the file says it
+unfoldable pub headings_format : Bool → Format EnvFault ℤ
+headings_format said = if said then whole_format headings_word (pos 4) (pos 64) else done (pos usual_headings)
+
+-- the lattice's size; its fault, where there are too many states, is at the width
+unfoldable pub size_format : Bool → Format EnvFault Size
+size_format said =
+    and_then extent_format (λ extent.
+    and_then (headings_format said) (λ headings.
+    if nat_lt 8388608 (extent.value.width * extent.value.height * nat_abs headings) then wrong (TooLarge extent.place)
+    else done (record { width = extent.value.width; height = extent.value.height; headings = nat_abs headings })))
 
 unfoldable pub obsthresh_format : Format EnvFault ℤ
 obsthresh_format = whole_format (codes "obsthresh:") (pos 0) (pos 255)
@@ -127,9 +156,9 @@ unfoldable pub end_format : Header → Format EnvFault Pose
 end_format h = and_then end_pose_format (λ p. if is_on_map_of h p.value then done p.value else wrong (EndOff p.place))
 
 -- all but the poses and the costs
-unfoldable pub header_format : Format EnvFault Header
-header_format =
-    and_then size_format (λ size.
+unfoldable pub header_format : Bool → Format EnvFault Header
+header_format said =
+    and_then (size_format said) (λ size.
     and_then thresholds_format (λ thresholds.
     and_then rates_format (λ rates.
     done (record { size = size; thresholds = thresholds; rates = rates }))))
@@ -141,8 +170,8 @@ ends_format h =
     done (record { start = start; end = end })))
 
 -- all numbers but the costs
-unfoldable pub numbers_format : Format EnvFault Environment
-numbers_format = and_then header_format (λ h. and_then (ends_format h) (λ ends. done (environment_of h ends)))
+unfoldable pub numbers_format : Bool → Format EnvFault Environment
+numbers_format said = and_then (header_format said) (λ h. and_then (ends_format h) (λ ends. done (environment_of h ends)))
 
 -- one more cost
 unfoldable pub cost_format : List ℕ → Format EnvFault (List ℕ)
@@ -152,9 +181,9 @@ cost_format cells = item (whole (pos 0) (pos 255)) (λ _ cost. done (cells ++ na
 unfoldable pub grid_format : ℕ → Format EnvFault (List ℕ)
 grid_format count = item (fixed (codes "environment:")) (λ _ _. turns count cost_format [])
 
--- the whole file
-unfoldable pub environment_format : Format EnvFault (Environment × List ℕ)
-environment_format =
-    and_then numbers_format (λ e.
+-- the whole file, with the number of headings or without it
+unfoldable pub environment_format : Bool → Format EnvFault (Environment × List ℕ)
+environment_format said =
+    and_then (numbers_format said) (λ e.
     and_then (grid_format (e.width * e.height)) (λ cells.
     ended (done (e, cells))))

@@ -36,3 +36,7 @@ pub record IsInBin (n t b : ℕ) : Type 0 where
   pub heading : (centre ≡ t) ⊎ (centre ≡ t + n)
   pub from : 2 * full_turn * centre ≤ 2 * n * b + full_turn
   pub to : 2 * n * b < 2 * full_turn * centre + full_turn
+
+-- The angle b of one turn lies halfway between the bins c and c + 1 among n. All is multiplied by 2 * n.
+abbrev pub IsHalfway : ℕ → ℕ → ℕ → Type 0
+IsHalfway n c b = 2 * n * b ≡ 2 * full_turn * c + full_turn

@@ -7,6 +7,12 @@ use std::marker::Model;
 /// The costs of the cells, row by row from `y = 0`, with `x` along a row. Each cost is in 0..255.
 pub type Grid = ListOf<u8>;
 
+/// The number of headings of a file that doesn't say one.
+pub(crate) const USUAL_HEADINGS: u32 = 16;
+
+/// The word before the number of headings.
+pub(crate) const HEADINGS_WORD: &[u8] = b"NumThetaDirs:";
+
 /// The numbers of an environment file. Lengths are nanometres, times nanoseconds, speeds nanometres per second,
 /// angles nanoradians. Its type keeps the ranges of the format, that `width * height * headings` is at most 2^23,
 /// and that the cells of both poses are on the map.
@@ -32,7 +38,7 @@ pub struct Env {
     pub start: Pose,
     /// The pose to reach.
     pub end: Pose,
-    /// The number of headings.
+    /// The number of headings, 4..64.
     pub headings: u32,
 }
 

@@ -2,11 +2,19 @@
 
 use crate::pose::Pose;
 
-/// Cells along x and along y.
+/// The map's size: cells along x and along y.
+#[derive(Clone, Copy, Debug, PartialEq, Eq)]
+pub(crate) struct Extent {
+    pub(crate) width: u32,
+    pub(crate) height: u32,
+}
+
+/// The lattice's size: cells along x and along y, and headings.
 #[derive(Clone, Copy, Debug, PartialEq, Eq)]
 pub(crate) struct Size {
     pub(crate) width: u32,
     pub(crate) height: u32,
+    pub(crate) headings: u32,
 }
 
 /// What costs mean.

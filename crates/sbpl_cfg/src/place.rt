@@ -2,7 +2,7 @@
 
 ghost use Rattle.std.specs.Prelude.{◌≡◌, ◌<◌, ◌↔◌, ℕ, ℤ, pos, ◌<ℤ◌, is_some, IsSome, IfSome};
 ghost use Rattle.sbpl_cfg.specs.Environment.{is_on_axis, is_on_map, IsOnAxis, IsPlaceOf, IsPoseOnMap};
-ghost use Rattle.sbpl_cfg.specs.Place.{cell_of, heading_of, turn_of, IsCellOf, IsInBin, IsTurnOf};
+ghost use Rattle.sbpl_cfg.specs.Place.{cell_of, heading_of, turn_of, IsCellOf, IsHalfway, IsInBin, IsTurnOf};
 
 use crate::env::Env;
 use crate::pose::{Place, Pose};
@@ -20,7 +20,7 @@ pub fn cell_at(size: i64, x: i64) -> i64
 }
 
 /// The heading of an angle in nanoradians, among `headings` equal bins that are centred on the multiples of
-/// `TAU / headings`: the nearest bin. Two are never equally near, since `TAU` is odd.
+/// `TAU / headings`: the nearest bin. Two are never equally near, whatever the number of headings, since `TAU` is odd.
 #[tactic(auto, unfolding(crate::specs::Place::heading_of))]
 pub fn heading_at(headings: u32, angle: i64) -> u32
     requires some { 0 < headings }
@@ -71,10 +71,12 @@ pub fn place_at(env: &Env, p: &Pose) -> Option<Place>
 
 /// What a cell and a heading are, in plain words. Cell `q` of a coordinate is the one with
 /// `q * size <= x < (q + 1) * size`. An angle and its turn, which is in `0..TAU`, differ by whole turns. A heading is that
-/// of the bin whose centre is at most half a bin away.
+/// of the bin whose centre is at most half a bin away. There is one such bin: whatever the number of headings, no angle lies
+/// halfway between two, since a full turn has an odd number of nanoradians.
 pub fn places_in_plain_words()
     ensures cell { (size x q : ℤ) → pos 0 <ℤ size → (cell_of size x ≡ q) ↔ IsCellOf size x q }
     ensures turn { (a : ℤ) → IsTurnOf a (turn_of a) }
     ensures heading { (n t : ℕ) (a : ℤ) → t < n → (heading_of n a ≡ t) ↔ IsInBin n t (turn_of a) }
     ensures some { (n : ℕ) (a : ℤ) → 0 < n → heading_of n a < n }
+    ensures no_tie { (n c b : ℕ) → ¬ IsHalfway n c b }
 {}

@@ -4,9 +4,9 @@ ghost use Rattle.std.specs.Prelude.{◌≡◌, ◌+◌, ◌*◌, ◌<◌, ◌++�
 ghost use Rattle.std.specs.Fmt.{decimal, signed_decimal};
 ghost use Rattle.sbpl_fixed.specs.Printed.{nano_text, line_text, lines_text};
 ghost use Rattle.sbpl_cfg.specs.Environment.{IsPoseInRange};
-ghost use Rattle.sbpl_cfg.specs.Printed.{end_lines, environment_text, grid_lines, pose_words, rate_lines, size_lines};
+ghost use Rattle.sbpl_cfg.specs.Printed.{end_lines, environment_text, grid_lines, heading_lines, pose_words, rate_lines, size_lines, threshold_lines};
 
-use crate::env::{Env, Grid};
+use crate::env::{Env, Grid, HEADINGS_WORD, USUAL_HEADINGS};
 use crate::pose::Pose;
 use sbpl_fixed::{NoMemory, print_nano};
 
@@ -128,12 +128,28 @@ fn put_signed_line(out: &mut Vec<u8>, word: &[u8], n: i16) -> Result<(), NoMemor
     Ok(())
 }
 
-/// The size and the thresholds.
-#[tactic(auto, using(std::proofs::lemmas::List::append_assoc))]
-fn put_sizes(out: &mut Vec<u8>, env: &Env) -> Result<(), NoMemory>
+/// The map's size.
+fn put_size(out: &mut Vec<u8>, env: &Env) -> Result<(), NoMemory>
     ensures ok { OnOk result (out.new.items ≡ out.old.items ++ lines_text (size_lines env.now)) }
 {
-    put_size_line(out, b"discretization(cells):", env.width, env.height)?;
+    put_size_line(out, b"discretization(cells):", env.width, env.height)
+}
+
+/// The number of headings, where it isn't the usual one.
+fn put_headings(out: &mut Vec<u8>, env: &Env) -> Result<(), NoMemory>
+    ensures ok { OnOk result (out.new.items ≡ out.old.items ++ lines_text (heading_lines env.now)) }
+{
+    if env.headings == USUAL_HEADINGS {
+        return Ok(());
+    }
+    put_whole_line(out, HEADINGS_WORD, env.headings)
+}
+
+/// What costs mean.
+#[tactic(auto, using(std::proofs::lemmas::List::append_assoc))]
+fn put_thresholds(out: &mut Vec<u8>, env: &Env) -> Result<(), NoMemory>
+    ensures ok { OnOk result (out.new.items ≡ out.old.items ++ lines_text (threshold_lines env.now)) }
+{
     put_whole_line(out, b"obsthresh:", u32::from(env.obsthresh))?;
     put_whole_line(out, b"cost_inscribed_thresh:", u32::from(env.inscribed))?;
     put_signed_line(
@@ -196,15 +212,18 @@ fn put_all(out: &mut Vec<u8>, env: &Env, cells: &[u8]) -> Result<(), NoMemory>
     requires size { length cells.now ≡ env.now.width * env.now.height }
     ensures ok { OnOk result (out.new.items ≡ out.old.items ++ environment_text env.now cells.now) }
 {
-    put_sizes(out, env)?;
+    put_size(out, env)?;
+    put_headings(out, env)?;
+    put_thresholds(out, env)?;
     put_rates(out, env)?;
     put_ends(out, env)?;
     put_grid(out, env.width, env.height, cells)?;
     Ok(())
 }
 
-/// Appends the text of an environment: a line for each word and what it says, and a line for each row of costs. A grid of
-/// the environment's size is asked for. After `NoMemory` the text is unchanged.
+/// Appends the text of an environment: a line for each word and what it says, and a line for each row of costs. The number
+/// of headings has its line, after that of the size, only where it isn't 16. A grid of the environment's size is asked for.
+/// After `NoMemory` the text is unchanged.
 pub fn print_env(env: &Env, grid: &Grid, out: &mut Vec<u8>) -> Result<(), NoMemory>
     requires size { length grid.now ≡ env.now.width * env.now.height }
     ensures ok { OnOk result (out.new.items ≡ out.old.items ++ environment_text env.now grid.now) }

@@ -1,24 +1,22 @@
 //! An environment file is read.
 
-ghost use Rattle.std.specs.Prelude.{true, ℕ, List, Ok, Err, ◌≡◌, ◌≢◌, ◌*◌, ◌<◌, ◌≤◌, pos, negsuc, ◌≤ℤ◌, ◌<ℤ◌, IfOk, IfErr, length};
+ghost use Rattle.std.specs.Prelude.{true, false, bytes_eq, ℕ, List, Ok, Err, ◌≡◌, ◌≢◌, ◌*◌, ◌<◌, ◌≤◌, pos, negsuc, ◌≤ℤ◌, ◌<ℤ◌, IfOk, IfErr, MatchResult, length};
 ghost use Rattle.sbpl_fixed.specs.Formats.{Answers, Gives, reads};
+ghost use Rattle.sbpl_fixed.specs.Tokens.{tokens};
 ghost use Rattle.sbpl_cfg.specs.declared.fault.EnvFault.{EnvFault};
 ghost use Rattle.sbpl_cfg.specs.declared.fault.EnvFault.TheVariants.{NoMemory};
-ghost use Rattle.sbpl_cfg.specs.Environment.{Environment, IsEnvironment, IsPoseInRange, IsWithin};
+ghost use Rattle.sbpl_cfg.specs.Environment.{Environment, IsEnvironment, IsHeadingCount, IsPoseInRange, IsWithin};
 ghost use Rattle.sbpl_cfg.specs.Faults.{told};
-ghost use Rattle.sbpl_cfg.specs.Format.{cell_format, circumscribed_format, cost_format, end_format, end_pose_format, ends_format, environment_format, environment_of, grid_format, header_format, inscribed_format, is_on_map_of, IsHeaderInRange, nano_format, numbers_format, obsthresh_format, pose_format, rates_format, size_format, speed_format, start_format, start_pose_format, thresholds_format, turn45_format, whole_format};
+ghost use Rattle.sbpl_cfg.specs.Format.{cell_format, circumscribed_format, cost_format, end_format, end_pose_format, ends_format, environment_format, environment_of, extent_format, grid_format, header_format, headings_format, headings_word, inscribed_format, is_fourth_token, is_on_map_of, IsHeaderInRange, nano_format, numbers_format, obsthresh_format, pose_format, rates_format, says_headings, size_format, speed_format, start_format, start_pose_format, thresholds_format, turn45_format, whole_format};
 ghost use Rattle.sbpl_cfg.specs.Text.{HasFault, IsTextOf};
 
-use crate::env::{Env, Grid};
+use crate::env::{Env, Grid, HEADINGS_WORD, USUAL_HEADINGS};
 use crate::fault::EnvFault;
-use crate::parts::{Ends, Header, Rates, Size, Thresholds};
+use crate::parts::{Ends, Extent, Header, Rates, Size, Thresholds};
 use crate::place::is_on_map;
 use crate::pose::Pose;
-use sbpl_fixed::{Placed, Reader};
+use sbpl_fixed::{Placed, Reader, TextFault};
 use std::alloc::Global;
-
-/// The number of headings of a file that doesn't say one.
-const USUAL_HEADINGS: u32 = 16;
 
 /// The most states that a planner takes.
 const MOST_STATES: u64 = 8_388_608;
@@ -59,24 +57,79 @@ fn nano(reader: &mut Reader, word: &[u8], low: i64, high: i64) -> Result<i64, En
     Ok(reader.nano(low, high)?.value)
 }
 
-/// The map's size, which must leave room for the headings.
-#[tactic(auto, unfolding(sbpl_fixed::specs::Formats::reads, crate::specs::Format::size_format))]
-fn size(reader: &mut Reader) -> Result<Size, EnvFault>
-    ensures read { Gives NoMemory (λ x. x) result reader.new (reads told size_format reader.old) }
-    ensures width { IfOk result (λ x. (1 ≤ x.width) × (x.width ≤ 8388608)) }
-    ensures height { IfOk result (λ x. (1 ≤ x.height) × (x.height ≤ 8388608)) }
-    ensures states { IfOk result (λ x. x.width * x.height * 16 ≤ 8388608) }
+/// The fourth token of a text, the one after the height.
+fn fourth_token(text: &[u8]) -> Result<&[u8], TextFault>
+    ensures fourth { MatchResult result
+        (λ bytes. is_fourth_token (tokens text.now) ≡ bytes_eq bytes.now headings_word)
+        (λ _. is_fourth_token (tokens text.now) ≡ false) }
+{
+    let mut reader = Reader::new(text);
+    reader.token()?;
+    reader.token()?;
+    reader.token()?;
+    Ok(reader.token()?.0)
+}
+
+/// Whether a text says its number of headings: whether the word for it is the fourth token.
+fn says_headings(text: &[u8]) -> bool
+    ensures said { result ≡ says_headings text.now }
+{
+    match fourth_token(text) {
+        Ok(bytes) => bytes == HEADINGS_WORD,
+        Err(_) => false,
+    }
+}
+
+/// Cells along x and along y, with the place of the width.
+#[tactic(auto, unfolding(sbpl_fixed::specs::Formats::reads, crate::specs::Format::extent_format))]
+fn extent(reader: &mut Reader) -> Result<Placed<Extent>, EnvFault>
+    ensures read { Gives NoMemory (λ x. x) result reader.new (reads told extent_format reader.old) }
+    ensures width { IfOk result (λ x. (1 ≤ x.value.width) × (x.value.width ≤ 8388608)) }
+    ensures height { IfOk result (λ x. (1 ≤ x.value.height) × (x.value.height ≤ 8388608)) }
 {
     reader.word(b"discretization(cells):")?;
     let width = reader.natural(1, 8_388_608)?;
     let height = reader.natural(1, 8_388_608)?;
-    let cells = u64::from(width.value) * u64::from(height.value);
-    if cells * u64::from(USUAL_HEADINGS) > MOST_STATES {
-        return Err(EnvFault::TooLarge(width.place));
+    Ok(Placed {
+        value: Extent {
+            width: width.value,
+            height: height.value,
+        },
+        place: width.place,
+    })
+}
+
+/// The number of headings, which is read where the text says it.
+#[tactic(auto, unfolding(crate::specs::Format::headings_format, sbpl_fixed::specs::Formats::reads))]
+fn headings(reader: &mut Reader, said: bool) -> Result<u32, EnvFault>
+    ensures read { Gives NoMemory (λ x. pos x) result reader.new (reads told (headings_format said) reader.old) }
+    ensures between { IfOk result IsHeadingCount }
+{
+    if !said {
+        return Ok(USUAL_HEADINGS);
+    }
+    natural(reader, HEADINGS_WORD, 4, 64)
+}
+
+/// The lattice's size, which must leave room for the states.
+#[tactic(auto, using(sbpl_fixed::specs::Parts::reading), unfolding(sbpl_fixed::specs::Formats::reads, crate::specs::Format::size_format))]
+fn size(reader: &mut Reader, said: bool) -> Result<Size, EnvFault>
+    ensures read { Gives NoMemory (λ x. x) result reader.new (reads told (size_format said) reader.old) }
+    ensures width { IfOk result (λ x. (1 ≤ x.width) × (x.width ≤ 8388608)) }
+    ensures height { IfOk result (λ x. (1 ≤ x.height) × (x.height ≤ 8388608)) }
+    ensures headings { IfOk result (λ x. IsHeadingCount x.headings) }
+    ensures states { IfOk result (λ x. x.width * x.height * x.headings ≤ 8388608) }
+{
+    let extent = extent(reader)?;
+    let headings = headings(reader, said)?;
+    let Extent { width, height } = extent.value;
+    if u64::from(width) * u64::from(height) * u64::from(headings) > MOST_STATES {
+        return Err(EnvFault::TooLarge(extent.place));
     }
     Ok(Size {
-        width: width.value,
-        height: height.value,
+        width,
+        height,
+        headings,
     })
 }
 
@@ -245,11 +298,11 @@ fn end(reader: &mut Reader, header: &Header) -> Result<Pose, EnvFault>
 
 /// All but the poses and the costs.
 #[tactic(auto, using(sbpl_fixed::specs::Parts::reading), unfolding(sbpl_fixed::specs::Formats::reads, crate::specs::Format::header_format))]
-fn header(reader: &mut Reader) -> Result<Header, EnvFault>
-    ensures read { Gives NoMemory (λ x. x) result reader.new (reads told header_format reader.old) }
+fn header(reader: &mut Reader, said: bool) -> Result<Header, EnvFault>
+    ensures read { Gives NoMemory (λ x. x) result reader.new (reads told (header_format said) reader.old) }
     ensures in_range { IfOk result IsHeaderInRange }
 {
-    let size = size(reader)?;
+    let size = size(reader, said)?;
     let thresholds = thresholds(reader)?;
     let rates = rates(reader)?;
     Ok(Header {
@@ -288,16 +341,16 @@ fn env_of(header: &Header, ends: &Ends) -> Env
         turn45: header.rates.turn45,
         start: ends.start,
         end: ends.end,
-        headings: USUAL_HEADINGS,
+        headings: header.size.headings,
     }
 }
 
 /// All numbers but the costs.
 #[tactic(auto, using(sbpl_fixed::specs::Parts::reading), unfolding(sbpl_fixed::specs::Formats::reads, crate::specs::Format::numbers_format))]
-fn numbers(reader: &mut Reader) -> Result<Env, EnvFault>
-    ensures read { Gives NoMemory (λ x. x) result reader.new (reads told numbers_format reader.old) }
+fn numbers(reader: &mut Reader, said: bool) -> Result<Env, EnvFault>
+    ensures read { Gives NoMemory (λ x. x) result reader.new (reads told (numbers_format said) reader.old) }
 {
-    let header = header(reader)?;
+    let header = header(reader, said)?;
     let ends = ends(reader, &header)?;
     Ok(env_of(&header, &ends))
 }
@@ -316,21 +369,23 @@ fn costs(alloc: Global, reader: &mut Reader, count: u32) -> Result<Vec<u8>, EnvF
     Ok(costs)
 }
 
-/// The whole file.
+/// The whole file, with the number of headings where the text says it.
 #[tactic(auto, using(sbpl_fixed::specs::Parts::reading), unfolding(sbpl_fixed::specs::Formats::reads, crate::specs::Format::environment_format))]
-fn environment(alloc: Global, reader: &mut Reader) -> Result<(Env, Grid), EnvFault>
-    ensures read { Gives NoMemory (λ x. x) result reader.new (reads told environment_format reader.old) }
+fn environment(alloc: Global, reader: &mut Reader, said: bool) -> Result<(Env, Grid), EnvFault>
+    ensures read { Gives NoMemory (λ x. x) result reader.new (reads told (environment_format said) reader.old) }
 {
-    let env = numbers(reader)?;
+    let env = numbers(reader, said)?;
     let costs = costs(alloc, reader, env.width * env.height)?;
     reader.end()?;
     Ok((env, Grid::of(costs)))
 }
 
 /// Reads an environment file: its tokens, in order, are the words and numbers of `print_env`, parted in any way; a whole
-/// number may have a sign and leading zeros, a decimal any decimals, of which the first nine are read. The ranges are
-/// those of `Env`. A fault is the first one in reading order, with its offset; `TooLarge` comes directly after the height,
-/// `StartOff` and `EndOff` directly after their pose. Memory is taken for the costs alone.
+/// number may have a sign and leading zeros, a decimal any decimals, of which the first nine are read. The word
+/// `NumThetaDirs:` and the number of headings may stand directly after the height; without them there are 16 headings. The
+/// ranges are those of `Env`. A fault is the first one in reading order, with its offset; `TooLarge` comes directly after
+/// the height, or after the number of headings where the text says it, `StartOff` and `EndOff` directly after their pose.
+/// Memory is taken for the costs alone.
 #[tactic(auto, using(sbpl_fixed::proofs::Meaning::answering))]
 pub fn read_env(alloc: Global, text: &[u8]) -> Result<(Env, Grid), EnvFault>
     // What is read is what the text stands for.
@@ -344,5 +399,6 @@ pub fn read_env(alloc: Global, text: &[u8]) -> Result<(Env, Grid), EnvFault>
     ensures only_faulty { (f : EnvFault)
         → HasFault text.now f → Answers NoMemory (λ y. y) result (Err f) }
 {
-    environment(alloc, &mut Reader::new(text))
+    let said = says_headings(text);
+    environment(alloc, &mut Reader::new(text), said)
 }

@@ -16,3 +16,6 @@ returns-clause-heading c n t a small =
 
 pub returns-clause-some : goal.returns-clause-some
 returns-clause-some c = heading_of-lt
+
+pub returns-clause-no_tie : goal.returns-clause-no_tie
+returns-clause-no_tie c n bin b h = omega arith

@@ -4,7 +4,7 @@ use Rattle.sbpl_fixed.proofs.Meaning.{answers_given, found_if_answered, only_if_
 use Rattle.sbpl_cfg.specs.declared.fault.EnvFault.TheVariants.{NoMemory}
 use Rattle.sbpl_cfg.specs.Environment.{Environment}
 use Rattle.sbpl_cfg.specs.Faults.{told}
-use Rattle.sbpl_cfg.specs.Format.{environment_format}
+use Rattle.sbpl_cfg.specs.Format.{environment_format, says_headings}
 use Rattle.sbpl_cfg.proofs.TextLaws.{says_text, text_said}
 use Rattle.sbpl_cfg.proofs.read.read_env.Goals as goal
 
@@ -13,13 +13,13 @@ returns-clause-found c =
     let text = c.args.text.now in
     let view : (Environment × List ℕ) → Environment × List ℕ = λ y. y in
     IfOk-weaker c.environment.result _ _ (λ x h. text_said text x h)
-    (found_if_answered told environment_format text NoMemory view c.environment.result
-    (answers_given told environment_format text NoMemory view c.environment.result c.environment.new.reader (rw c.new.ensures.start at c.environment.ensures.read)))
+    (found_if_answered told (environment_format (says_headings text)) text NoMemory view c.environment.result
+    (answers_given told (environment_format (says_headings text)) text NoMemory view c.environment.result c.environment.new.reader (rw (c.new.ensures.start, c.says_headings-said.ensures.said) at c.environment.ensures.read)))
 
 pub returns-clause-only : goal.returns-clause-only
 returns-clause-only c x h =
     let text = c.args.text.now in
     let view : (Environment × List ℕ) → Environment × List ℕ = λ y. y in
-    only_if_answered told environment_format text NoMemory view c.environment.result
-    (answers_given told environment_format text NoMemory view c.environment.result c.environment.new.reader (rw c.new.ensures.start at c.environment.ensures.read))
+    only_if_answered told (environment_format (says_headings text)) text NoMemory view c.environment.result
+    (answers_given told (environment_format (says_headings text)) text NoMemory view c.environment.result c.environment.new.reader (rw (c.new.ensures.start, c.says_headings-said.ensures.said) at c.environment.ensures.read))
     x (says_text text x h)

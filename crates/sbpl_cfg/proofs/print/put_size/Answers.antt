@@ -1,0 +1,5 @@
+use Rattle.std.proofs.Common.{append-nil}
+use Rattle.sbpl_cfg.proofs.print.put_size.Goals as goal
+
+pub returns : goal.returns
+returns c = rw (← c.env.view_is, append-nil) c.put_size_line.ensures
