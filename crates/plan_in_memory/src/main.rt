@@ -170,8 +170,8 @@ fn plan_and_repair(
     plan(rt, alloc, lattice, plans, trip)
 }
 
-/// Makes a planner on a lattice, and plans. Large values, as a planner and a lattice, are let go by a call of `drop` and not on the
-/// way out, which keeps the proofs short.
+/// Makes a planner on a lattice, and plans. Large values, such as a planner and a lattice, are dropped by a call of `drop` and
+/// not at the end of the function, which keeps the proofs short.
 fn go(rt: &impl Print, alloc: Global, lattice: &mut Lattice) -> anyhow::Result<()> {
     let trip = trip_on(lattice).context("the start or the end is off the map")?;
     let mut plans = planner(alloc, lattice, trip)?;

@@ -33,7 +33,7 @@ impl Model for AdStar {
 }
 
 impl AdStar {
-    /// A search that goes on where this one stands.
+    /// A search by Anytime D* that goes on from a search by ARA*, with its labels, its goal and its trace.
     pub fn from(ara: Ara) -> AdStar
         ensures labels { result.labels ≡ ara.labels }
         ensures goal { result.goal ≡ ara.goal }
@@ -45,7 +45,7 @@ impl AdStar {
 
     /// Repairs the labels after a change of the graph: each touched state is recomputed on the graph as it now is, and every v
     /// stays. The condition is that every other state, but the start, has on this graph the g and the back arc, or none, that
-    /// exact labels ask. A state may be touched twice. No other state is looked at.
+    /// exact labels ask for. A state may be touched twice. No other state is looked at.
     pub fn change<G: Graph>(&mut self, graph: &G, touched: &[u32])
         requires states { states_of self.old.labels ≡ (G.network graph.now).states }
         requires changeable { IsChangeable (G.network graph.now) touched.now self.old.labels }
@@ -63,10 +63,10 @@ impl AdStar {
     /// A pass: open states are expanded, the least key first, until no open key is below the goal's or the budget is spent. Open
     /// are the states with v below g, and those with g below v that this pass has not lowered. A state with g below v is lowered:
     /// its v becomes its g, and each head gets the lesser of its g and the way over it. A state with v below g is raised: its v
-    /// becomes infinite, and each head whose back arc comes from it is recomputed. Of each key the first part is 1000 times v and
-    /// the guide where v is below g, else 1000 g and `eps` times the guide; the second is the lesser of g and v, and of equal keys
-    /// the state of lower number comes first. `eps` is the inflation in thousandths, 1000 to 100000. Each expansion is counted,
-    /// and no state is expanded more than three times.
+    /// becomes infinite, and each head whose back arc comes from it is recomputed. The first part of a key is 1000 (v + h) where
+    /// v is below g, and 1000 g + `eps` h otherwise, with h by the guide; the second is the lesser of g and v. Of equal keys that
+    /// of the state of lower number comes first. `eps` is the inflation in thousandths, 1000 to 100000. Each expansion is
+    /// counted, and no state is expanded more than three times.
     pub fn pass<G: Graph, H: Guide>(
         &mut self,
         graph: &G,

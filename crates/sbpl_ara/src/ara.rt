@@ -62,8 +62,8 @@ impl Ara {
     }
 
     /// A pass: open states are expanded, the least key first, until no open key is below the goal's or the budget is spent. Open
-    /// are the states with g below v that this pass has not expanded; of each key the first part is 1000 g and `eps` times the
-    /// guide, the second is g, and of equal keys the state of lower number comes first. `eps` is the inflation in thousandths,
+    /// are the states with g below v that this pass has not expanded; the first part of a key is 1000 g plus `eps` times the
+    /// guide, the second is g; of equal keys the state of lower number comes first. `eps` is the inflation in thousandths,
     /// 1000 to 100000. Each expansion is counted, and no state is expanded twice. It takes no memory.
     pub fn pass<G: Graph, H: Guide>(
         &mut self,

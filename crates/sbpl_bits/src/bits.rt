@@ -62,7 +62,7 @@ impl Model for Bits {
 }
 
 impl Bits {
-    /// So many flags, none of which is set.
+    /// This many flags, none of which is set.
     pub fn new(alloc: Global, len: usize) -> Result<Bits, NoMemory>
         ensures len { IfOk result (λ b. b.len ≡ len) }
         ensures none { IfOk result (λ b. (i : ℕ) → i < len → is_set b i ≡ false) }

@@ -381,7 +381,7 @@ module _ (numbers : NumbersAreTheirDigits) where
   end_in s [] rest h = absurd h
   end_in s (t ∷ ts) rest h = (pos 0, word_in (codes "end") t.bytes h.0, (refl, h.1))
 
-  -- the tokens of a section, with the last word apart
+  -- the tokens of a section, with the last word by itself
   apart : (s : Section) → spelled s ≡ front s ++ a_word (codes "end") ∷ []
   unfolding spelled
   apart s =

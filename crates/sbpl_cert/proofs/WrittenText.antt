@@ -19,7 +19,7 @@ use Rattle.sbpl_cert.specs.Printed.{label_text, head_line, outcome_line, row_lin
 use Rattle.sbpl_cert.specs.Text.{Saying, a_word, a_label, a_milli, Means, MeansNumber, AreMeant, spelled_head, spelled_outcome, spelled_row, spelled_arc, spelled, AreTokensOf}
 use Rattle.sbpl_cert.proofs.SectionLaws.{meant_both}
 
--- as many words as sayings, each of which says its own
+-- there are as many words as sayings, and each word says the one at its index
 AreWords : List Saying → List (List ℕ) → Type 0
 AreWords [] [] = Unit {0}
 AreWords [] (w ∷ ws) = ⊥

@@ -53,7 +53,7 @@ pub record IsLowOff (n : Network) (goal : ℕ) (s : Section) (state has most : �
   pub has_is : has ≡ s.low
   pub above : most < has
 
--- the arcs before this step are a free path, and the step's arc is none that is free
+-- the arcs before this step are a free path, and from its end the step's arc is not free or does not exist
 pub record IsStepOff (n : Network) (start : ℕ) (s : Section) (step : ℕ) : Type 0 where
   pub cost : ℕ
   pub bound : ℕ

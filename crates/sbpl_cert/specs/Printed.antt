@@ -1,4 +1,4 @@
--- The text of a section. The words of a line are parted by one space, and every line ends with one line feed.
+-- The text of a section. The words of a line are separated by one space, and every line ends with one line feed.
 use Rattle.std.specs.Prelude.{◌≡◌, ℕ, List, [], ◌∷◌, ◌++◌, length, take, map, codes, decimal, if◌then◌else◌, ◌==◌}
 use Rattle.std.specs.List.{flat_map}
 use Rattle.sbpl_graph.specs.declared.TheConstants.{FAR}

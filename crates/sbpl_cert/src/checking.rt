@@ -275,7 +275,7 @@ fn first_flaw<G: Graph>(graph: &G, start: u32, goal: u32, set: &LabelSet) -> Res
 
 /// Checks a section on a graph, whose states its rows are. Flaws are tested in the order of their numbers over the whole
 /// section, and within one number by the least state and then by the least arc or step; the first flaw is answered. Where
-/// there is none, what the section says is so. Nothing is supposed of where its labels came from. It takes no memory.
+/// there is none, what the section says is so. Nothing is assumed of where its labels came from. It takes no memory.
 pub fn check<G: Graph>(graph: &G, start: u32, goal: u32, set: &LabelSet) -> Result<(), Flaw>
     requires start { start < (G.network graph.now).states }
     requires goal { goal < (G.network graph.now).states }

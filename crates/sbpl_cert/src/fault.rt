@@ -1,4 +1,4 @@
-//! Why a text is no section.
+//! Why a text is not a section.
 
 ghost use Rattle.std.specs.Prelude.{◌≡◌};
 ghost use Rattle.sbpl_cert.specs.declared.fault.LabelFault.TheVariants.{NoMemory as Memory};

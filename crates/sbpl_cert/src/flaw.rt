@@ -46,7 +46,7 @@ pub enum Flaw {
     Path {
         step: u32,
     },
-    /// The arcs of the path cost something else.
+    /// The cost of the path is not the sum of its arcs' costs.
     #[error("the path is said to cost {has}, and costs {sum}")]
     Cost {
         has: u64,
@@ -58,7 +58,7 @@ pub enum Flaw {
         has: u128,
         least: Option<u128>,
     },
-    /// The path ends at another state than the goal; or there is said to be no path, and this state of finite g is the
+    /// The path ends at a state other than the goal; or there is said to be no path, and this state of finite g is the
     /// goal or has an infinite v.
     #[error("state {state} speaks against the outcome")]
     Goal {

@@ -292,7 +292,7 @@ fn read_exactly(
 }
 
 /// Reads the section that begins at an offset of a text, and answers the offset after it. Where the text ends before the
-/// offset it has no more tokens. The section must be of this plan and this number of states. Blanks of any kind part its
+/// offset it has no more tokens. The section must be of this plan and this number of states. Any blanks separate its
 /// tokens. Any other text has exactly one first fault in reading order, which is answered with its place. `Trailing` is
 /// never answered, since more sections may follow this one. `NoMemory` says nothing of the text.
 pub fn read_labels(
@@ -315,7 +315,7 @@ pub fn read_labels(
     ensures faulty { IfErr result (λ e. e ≢ Memory → HasFault plan states (start_at text.now at) e) }
     // A first fault is answered, unless memory runs out.
     ensures only_faulty { (e : AFault) → HasFault plan states (start_at text.now at) e → Answers Memory (λ x. x.0) result (Err e) }
-    // All at once, as the format reads.
+    // All of this at once: the answer is what reading by the format gives.
     ensures exact { Answers Memory (λ x. (x.0, start_at text.now x.1)) result (reads told (section_format plan states) (start_at text.now at)) }
 {
     unsigned_numbers_are_their_digits();

@@ -18,7 +18,7 @@ use sbpl_fixed::{
 
 /// For a plan and a number of states, every text from an offset on begins with exactly one section of them or has exactly
 /// one first fault, and never both. Tokens stand for a section where they are its words and numbers in their order, each
-/// in its range; that is just what the format says which gives the faults. What is written of a section stands for it, at
+/// in its range. The format, which gives the faults, says exactly the same. What is written of a section stands for it, at
 /// the beginning of a text or after a blank, whatever follows, so reading gives it back.
 pub fn texts_are_sections_or_faulty()
     ensures format { (plan states : ℕ) (s : Section) (ts rest : List Piece) → plan < 2 ^ 32 → states < 2 ^ 32 → Says (section_format plan states) ts s rest ↔ (IsOf plan states s × AreTokensOf ts s rest) }

@@ -83,7 +83,7 @@ all_begins [] (t ∷ ts) h = absurd h
 all_begins (s ∷ ss) [] h = absurd h
 all_begins (s ∷ ss) (t ∷ ts) h = (h.0, all_begins ss ts h.1)
 
--- ---- tests in mid-format
+-- ---- tests in the middle of a format
 
 pub unless_wrong : {E A : Type 0} (b : Bool) (e : E) (x y : A) (ts rest : List Piece) → Says (cond b (wrong e) (done y)) ts x rest → (b ≡ false) × (x ≡ y) × (rest ≡ ts)
 unfolding Says

@@ -22,7 +22,7 @@ Means (word w) bytes = bytes ≡ w
 Means (number n) bytes = whole_of bytes ≡ Ok n
 Means (nano n) bytes = nano_of bytes ≡ Ok n
 
--- each token says what stands at its index in the list, and there are as many
+-- each token says what stands at its index in the list, and both have the same length
 abbrev pub AllMean : List Said → List (List ℕ) → Type 0
 AllMean [] [] = Unit {0}
 AllMean [] (bytes ∷ others) = ⊥

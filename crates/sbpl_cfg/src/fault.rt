@@ -1,4 +1,4 @@
-//! Why a text is no environment.
+//! Why a text is not an environment.
 
 ghost use Rattle.std.specs.Prelude.{◌≡◌};
 ghost use Rattle.sbpl_cfg.specs.declared.fault.EnvFault.TheVariants.{NoMemory as Memory};

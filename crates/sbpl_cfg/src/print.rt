@@ -229,7 +229,7 @@ pub fn print_env(env: &Env, grid: &Grid, out: &mut Vec<u8>) -> Result<(), NoMemo
     ensures ok { OnOk result (out.new.items ≡ out.old.items ++ environment_text env.now grid.now) }
     ensures err { OnErr result (out.new.items ≡ out.old.items) }
 {
-    // The lines are put together apart, so that the text stays as it is where memory runs out on the way.
+    // The lines are first put together in a text of their own, so that `out` stays as it is where memory runs out on the way.
     let mut lines = Vec::new(*out.allocator());
     put_all(&mut lines, env, grid.as_slice())?;
     out.extend_from_slice(&lines)?;

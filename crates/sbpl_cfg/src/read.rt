@@ -380,12 +380,12 @@ fn environment(alloc: Global, reader: &mut Reader, said: bool) -> Result<(Env, G
     Ok((env, Grid::of(costs)))
 }
 
-/// Reads an environment file: its tokens, in order, are the words and numbers of `print_env`, parted in any way; a whole
+/// Reads an environment file: its tokens, in order, are the words and numbers of `print_env`, separated by any blanks; a whole
 /// number may have a sign and leading zeros, a decimal any decimals, of which the first nine are read. The word
 /// `NumThetaDirs:` and the number of headings may stand directly after the height; without them there are 16 headings. The
 /// ranges are those of `Env`. A fault is the first one in reading order, with its offset; `TooLarge` comes directly after
 /// the height, or after the number of headings where the text says it, `StartOff` and `EndOff` directly after their pose.
-/// Memory is taken for the costs alone.
+/// Only the costs take memory.
 #[tactic(auto, using(sbpl_fixed::proofs::Meaning::answering))]
 pub fn read_env(alloc: Global, text: &[u8]) -> Result<(Env, Grid), EnvFault>
     // What is read is what the text stands for.

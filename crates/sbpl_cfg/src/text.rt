@@ -9,8 +9,8 @@ ghost use Rattle.sbpl_cfg.specs.Printed.{environment_text};
 ghost use Rattle.sbpl_cfg.specs.Text.{HasFault, IsFaulty, IsGrid, IsText, IsTextOf, LeavesOutUsual};
 
 /// Every text stands for exactly one environment with its grid or has exactly one fault, and never both. A text stands for
-/// them where its tokens are the words and numbers of the file in their order, with these values in their ranges; that is
-/// just what the format says which gives the faults. A text without the number of headings has 16 of them, and one that
+/// them where its tokens are the words and numbers of the file in their order, with these values in their ranges. The
+/// format, which gives the faults, says exactly the same. A text without the number of headings has 16 of them, and one that
 /// says 16 stands for the same as without it. What is printed of an environment and its grid stands for them, so reading it
 /// gives them back.
 pub fn texts_are_environments_or_faulty()

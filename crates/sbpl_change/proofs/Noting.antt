@@ -32,7 +32,7 @@ module _ (old new : BTreeMap (ℕ × ℕ) ℕ) (x y cost : ℕ) where
   pub still_noted : Updates cell_cmp old new (x, y) (Some cost) → KeepsNotes old new
   still_noted updates u v h = noted_by u v (is_at (cell_cmp (x, y)) (u, v)) (updates.0 (u, v)) h
 
--- one write more is noted
+-- one more write is noted
 noted_at : (batch : List Write) (new : BTreeMap (ℕ × ℕ) ℕ) (n : ℕ) (d : Write) → n < length batch → IsNoted new (get_or batch n d).x (get_or batch n d).y → (w : Write) → slice_get batch n ≡ Some w → IsNoted new w.x w.y
 noted_at batch new n d within noted w h =
     let same : get_or batch n d ≡ w = get_or_from_slice_get batch n w d h in

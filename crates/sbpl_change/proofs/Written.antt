@@ -1,4 +1,4 @@
--- Cells that cost something else after writes were written to.
+-- Cells whose cost differs after some writes: they were written to.
 use Rattle.std.proofs.Common.{◌≡◌, ◌≢◌, ℕ, zero, suc, ℤ, pos, Bool, true, false, ◌⊎◌, inl, inr, List, [], ◌∷◌, slice_get, Some, refl, ap, sym, ◌∙◌, subst, ◌<ℤ◌}
 use Rattle.std.specs.Ordering.{int_eq}
 use Rattle.std.proofs.lemmas.Bool.Decides.{Decides-int_eq}

@@ -6,7 +6,7 @@ use Rattle.sbpl_map.specs.CellMap.{CellMap, cost_at}
 use Rattle.sbpl_cost.specs.World.{World}
 use Rattle.sbpl_cost.specs.Reading.{IsHeadReading}
 
--- an incoming arc of state t reads a cell that costs something else on the new map
+-- an incoming arc of state t reads a cell that has another cost on the new map
 pub record IsAffected (w : World) (new : CellMap) (t : ℕ) : Type 0 where
   pub x : ℤ
   pub y : ℤ

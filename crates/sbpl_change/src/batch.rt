@@ -50,7 +50,7 @@ pub fn write_batch(lattice: &mut Lattice, batch: &[Write])
 }
 
 /// Writes a batch to the map of a lattice, in turn, and puts into `touched` the states that a repair has to recompute: the
-/// heads of all arcs that read a cell which costs something else after the batch than before it, each once, upwards. What was
+/// heads of all arcs that read a cell whose cost after the batch is not that before it, each once, upwards. What was
 /// in `touched` before is dropped. All cells of the batch are on the map. After
 /// `NoMemory` the map is the old or the new one, and nothing is said of `touched`.
 pub fn apply(

@@ -4,7 +4,7 @@ use crate::Naming;
 use crate::rule::ClaimSeat;
 use std::marker::{Model, PhantomData};
 
-/// Shows the holder of the lock that a ticket is out, of which state and which arc. It cannot be copied; one that is let go is
+/// Shows the holder of the lock that a ticket is out, of which state and which arc. It cannot be copied; one that is dropped is
 /// lost, and its ticket stays out. It takes no memory.
 #[derive(Drop)]
 pub struct Claim<M: Naming> {

@@ -41,7 +41,7 @@ impl<M: Naming> Keeper<M> {
         make_as::<Brand, M>(self, state, arc)
     }
 
-    /// Takes a claim back, which shows that its ticket is out, of its state and its arc. Then it is out no more.
+    /// Takes a claim back, which shows that its ticket is out, of its state and its arc. Then it is no longer out.
     pub fn settle(&mut self, claim: Claim<M>)
         ensures stood { Contains self.old.out claim }
         ensures out { self.new.out ≡ without claim.ticket self.old.out }

@@ -1,5 +1,5 @@
-//! Claims on the tickets of a parallel search that are out: who keeps them learns from a claim that its ticket is out, of which
-//! state and which arc.
+//! Claims on the tickets of a parallel search that are out: whoever keeps them learns from a claim that its ticket is out, of
+//! which state and which arc.
 #![tactic(auto)]
 
 mod claim;

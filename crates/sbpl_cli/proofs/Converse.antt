@@ -126,7 +126,7 @@ failed_read wanted = inr (inl refl)
 pub no_memory : (wanted : ℕ) → IsOrFailed wanted 9
 no_memory wanted = inr (inr (inr refl))
 
--- ---- what was read where a job came so far
+-- ---- what was read where a job got this far
 
 -- the files stand for a world and batches of changes
 pub record ReadsCourse (held : Told) (from : Sources) (changes : Option (List ℕ)) : Type 0 where
@@ -284,7 +284,7 @@ module _ (clear : TextsAreClear) (held : Told) (Failed : Names) (from : Sources)
       by_changes (refusal.Length input.Changes) (w, says, at) = let found = named changes (λ name. IsTooLong (held name)) at in long found.0 found.1 found.2
       by_changes _ p = absurd p
 
-  -- and not even for that, where it stands for batches: then a failed reading alone is left
+  -- and not even for that, where it stands for batches: then only a failed read is left
   pub all_good : (m : CellMap) (changes : Option (List ℕ)) (batches : List (List Write)) (wanted : ℕ) → AreGood held from m → TellsBatches held changes m batches → (r : Refusal) → IsEarlyCause held Failed from changes r → IsOrFailed wanted (refusal_status r)
   all_good m changes batches wanted good told =
       good_refused m changes wanted good

@@ -70,7 +70,7 @@ pub batches_since : (held later : Told) (changes : Option (List ℕ)) (m : CellM
 batches_since held later None m batches stays is = is
 batches_since held later (Some name) m batches stays (text, read, is) = (text, subst (λ (held_bytes : Option (List ℕ)). IsReadText held_bytes text) (stays name) read, is)
 
--- a stop for the change file is one, where a world was read before
+-- a stop for the change file, where a world was read before, is an early stop of the job
 pub course_stop : (s t u : DeskState) (from : Sources) (changes : Option (List ℕ)) (w : World) (e : Stop) → ReadsWorld s.held from w → ReadsOnly s t → ChangesStopFor t u changes w.map e → EarlyStopsFor s u from changes e
 course_stop s t u from changes w stop.NoMemory says same cause = tt
 course_stop s t u from changes w (stop.Refused r) says same cause = inr (by_refusal r cause)

@@ -64,7 +64,7 @@ module _ (by : Known) (written_of : PlanRecord → List Write) (w : World) (batc
     ends = subst (λ (l : List Write). EndsAs a b l 9 status) (sym (append-nil (written_of r ++ []) ∙ append-nil (written_of r))) (status_ends a b (written_of r) 9 status (Err e) ends is);
   }
 
-  -- the plans up to plan k were made and told, on the map after as many batches
+  -- the plans before plan k were made and told, and the map is that after the first k batches
   pub record IsGoing (now : World) (k : ℕ) (r : Replanning by.Note) (a b : DeskState) : Type 0 where
     pub same : now ≡ over_map w now.map
     pub inside : k ≤ length batches

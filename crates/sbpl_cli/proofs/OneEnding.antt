@@ -33,7 +33,7 @@ place_by x y t u v w a b c = cc
 left_by : (end end' : ℕ) (ts us : List Piece) → end ≡ end' → ts ≡ us → ◌≡◌ {A = Left} (record { end = end; tokens = ts }) (record { end = end'; tokens = us })
 left_by end end' ts us a b = cc
 
--- the state of a pose is one
+-- the state of a pose is determined
 pub one_state : (e : Environment) (p : Pose) (s t : ℕ) → IsStateOf e p s → IsStateOf e p t → s ≡ t
 one_state e p s t a b = a.number ∙ ap (λ (q : Place). state_number e q) (one_place a.place b.place a.of_pose b.of_pose) ∙ sym b.number
   where
@@ -43,7 +43,7 @@ one_state e p s t a b = a.number ∙ ap (λ (q : Place). state_number e q) (one_
         let y : q.y ≡ r.y = (let both : pos q.y ≡ pos r.y = i.y ∙ sym j.y in cc) in
         place_by q.x q.y q.t r.x r.y r.t x y (i.t ∙ sym j.t)
 
--- there is one map after as many batches
+-- there is one map after each number of batches
 abbrev pub OneMap : Type 0
 OneMap = (first now other : CellMap) (batches : List (List Write)) (k : ℕ) → IsCellMap now → IsCellMap other → IsMapAfter first batches k now → IsMapAfter first batches k other → now ≡ other
 
@@ -62,7 +62,7 @@ no_memory_left : (a : Option SectionStop) → EndAlike a (Some section.NoMemory)
 no_memory_left a = inr (inr (inr refl))
 
 module _ (clear : SectionsAreClear) (one : OneMap) (c : Case) where
-  -- what is checked at a plan is read of as many states as its graph has
+  -- what is checked at a plan is read for the number of states of the world
   pub readable : (n : Network) (plan : ℕ) (left : Left) (s : Section) (rest : List Piece) → IsGraphAfter c.world c.batches plan n → IsOf plan n.states s → AreTokensOf left.tokens s rest → AreTokens plan (state_count c.world.env) left.tokens
   readable n plan left s rest after of tokens = (s, rest, subst (λ (count : ℕ). IsOf plan count s) (states_after c.world c.batches plan n after) of, tokens)
 
@@ -126,7 +126,7 @@ module _ (clear : SectionsAreClear) (one : OneMap) (c : Case) where
 
 -- ---- alike worlds
 
--- they have the same graphs after as many batches
+-- they have the same graphs after each number of batches
 pub same_graph : AlikeWorldsAreOneGraph → (v w : World) → IsWorld w → v.env ≡ w.env → v.prims ≡ w.prims → v.map ≡ w.map → v.sweeps.radius ≡ w.sweeps.radius → (batches : List (List Write)) (k : ℕ) (n : Network) → IsGraphAfter v batches k n → IsGraphAfter w batches k n
 same_graph alike v w is_world env prims map radius batches k n a =
     let there : IsWorld (record w { map = a.map }) = record {

@@ -136,7 +136,7 @@ labels_cause held Failed j _ c = absurd c
 pub labels_read : (held : Told) (j : CheckJob) → IsSome (held j.labels) → (r : Refusal) (text : List ℕ) → AreBadLabels held j r → IsReadText (held j.labels) text → ⊥
 labels_read held j told r text (w, batches, says, course, (is, long)) read = read_is_short (held j.labels) text told read long
 
--- ---- two of them are one
+-- ---- two of them are the same
 
 module _ (clear : TextsAreClear) (held : Told) where
   module _ (from : Sources) (told_env : IsSome (held from.env)) (told_prims : IsSome (held from.prims)) where

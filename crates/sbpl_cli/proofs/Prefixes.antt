@@ -1,4 +1,4 @@
--- What stands written is a prefix of what the writes in turn give.
+-- What is written is a prefix of what the writes in turn give.
 use Rattle.std.proofs.Common.{◌≡◌, ℕ, List, [], ◌∷◌, ◌++◌, Bool, true, false, if◌then◌else◌, refl, sym, ◌∙◌, ap, append_assoc, append-nil, inl, inr}
 use Rattle.std.specs.Str.{bytes_eq}
 use Rattle.sbpl_cli.specs.Determined.{ArePrefixes}

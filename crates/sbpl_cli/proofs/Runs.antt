@@ -56,7 +56,7 @@ intent_is_status (Checked goal os (Some _)) = refl
 intent_is_status (Demonstrated w count records true) = refl
 intent_is_status _ = refl
 
--- no job means the status of words that name no job, or to that of a failed write
+-- what a job means to do has neither the status of words that name no job nor that of a failed write
 not_intent : (i : Intent) → (intent_status i ≢ 2) × (intent_status i ≢ 7)
 not_intent (Refused (refusal.Environment x)) = (λ h. omega arith, λ h. omega arith)
 not_intent (Refused _) = (λ h. omega arith, λ h. omega arith)

@@ -1,4 +1,4 @@
--- The labels that a plan begins with are one.
+-- The labels that a plan begins with are determined.
 use Rattle.std.proofs.Common.{◌≡◌, ℕ, ◌↔◌, true, Option, Some, None, sym, subst, ◌∙◌}
 use Rattle.std.specs.List.{Contains}
 use Rattle.sbpl_graph.specs.Network.{Network}
@@ -18,7 +18,7 @@ use Rattle.sbpl_replan.specs.Replanning.{BeginsWith}
 use Rattle.sbpl_cli.specs.Headline.{Begins, Carried}
 use Rattle.sbpl_cli.proofs.SameGuide.{made}
 
--- which states a change touches does not hang on the tables of sweeps
+-- which states a change touches does not depend on the tables of sweeps
 touched_on : (e : Environment) (ps : Primitives) (sweeps others : Swept) (m now : CellMap) → network_of (made e ps sweeps m) ≡ network_of (made e ps others m)
     → sweeps.radius ≡ others.radius → (t : ℕ) → IsAffected (made e ps sweeps m) now t → IsAffected (made e ps others m) now t
 touched_on e ps sweeps others m now same radius t is =
@@ -31,7 +31,7 @@ touched_on e ps sweeps others m now same radius t is =
     } in
     record { x = is.x; y = is.y; changed = is.changed; reads = head }
 
--- the labels are one, with one for each state, and the start has no back arc
+-- the labels are the same, with one row for each state, and the start has no back arc
 pub record AreBegun (e : Environment) (a b : Marks) : Type 0 where
   pub same : a ≡ b
   pub states : states_of a ≡ state_count e

@@ -1,4 +1,4 @@
--- The checking of one text is one, as far as memory lasts.
+-- The checking of one text is determined, as far as memory lasts.
 use Rattle.std.proofs.Common.{◌≡◌, ◌≢◌, ℕ, zero, suc, ◌+◌, ◌⊎◌, ◌++◌, Option, Some, None, List, [], ◌∷◌, length, IsSome, IfSome, refl, sym, ap, subst, ◌∙◌, inl, inr}
 use Rattle.sbpl_graph.specs.Network.{Network}
 use Rattle.sbpl_fixed.specs.Formats.{Left, start_at}
@@ -29,7 +29,7 @@ use Rattle.sbpl_cli.specs.Writing as writing
 use Rattle.sbpl_cli.proofs.OneEnding.{OneMap, checked_on, holds_not_stopped, one_graph, one_state, readable, same_graph, same_left, trailing_none}
 use Rattle.sbpl_cli.proofs.SamePlanned.{one_course, one_world, read_once}
 
--- the first checking goes as far as the second: both are one, or memory ran out in it after the first few sections that hold
+-- the first checking goes as far as the second: both are the same, or memory ran out in it after the first few sections that hold
 abbrev pub GoesAsFar : List Outcome → List Outcome → Option SectionStop → Option SectionStop → Type 0
 GoesAsFar os ps a b = ((os ≡ ps) × (a ≡ b)) ⊎ ((a ≡ Some section.NoMemory) × ((rest : List Outcome) × (ps ≡ os ++ rest)))
 

@@ -1,4 +1,4 @@
--- The best heuristic is one, at states.
+-- The best heuristic is determined at states.
 use Rattle.std.proofs.Common.{◌≡◌, ℕ, ◌<◌, ◌≤◌, max, inl, inr, sym, ap, ◌∙◌, arith, List}
 use Rattle.sbpl_graph.specs.Network.{Network}
 use Rattle.sbpl_cfg.specs.Environment.{Environment}
@@ -16,7 +16,7 @@ use Rattle.sbpl_heur.specs.Walks.{IsCellBound}
 abbrev pub made : Environment → Primitives → Swept → CellMap → World
 made e ps sweeps m = record { env = e; prims = ps; sweeps = sweeps; map = m }
 
--- the cell bound is one
+-- the cell bound is determined
 one_cell_bound : (e : Environment) (ps : List Primitive) (m : CellMap) (goal a b c : ℕ) → IsCellBound e ps m goal a b → IsCellBound e ps m goal a c → b ≡ c
 one_cell_bound e ps m goal a b c (inl x) (inl y) =
     let up : b ≤ c = x.least y.cells c y.walk in

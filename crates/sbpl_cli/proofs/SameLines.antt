@@ -1,4 +1,4 @@
--- What is written of a demonstration and of a list of sweeps is one.
+-- What is written of a demonstration and of a list of sweeps is determined.
 use Rattle.std.proofs.Common.{◌≡◌, ℕ, zero, suc, ◌+◌, ◌⊎◌, Bool, true, IsSome, Option, Some, None, List, [], ◌∷◌, length, map, slice_get, ℤ, ◌++◌, inl, inr, refl, sym, ap, subst, ◌∙◌, arith}
 use Rattle.std.proofs.lemmas.Int.{ints}
 use Rattle.std.proofs.lemmas.Option.{none-some, same_Some}
@@ -113,7 +113,7 @@ tail_of : (x y : Cell) (ys : List Cell) (c : Cell) → x ≡ y → (c ≡ x → 
 tail_of x y ys c same apart (inl at) = absurd (apart (sym at ∙ sym same))
 tail_of x y ys c same apart (inr among) = among
 
--- sorted lists with the same cells are one
+-- sorted lists with the same cells are equal
 one_sorted : (xs ys : List Cell) → AreSorted xs → AreSorted ys → ((c : Cell) → IsIn xs c → IsIn ys c) → ((c : Cell) → IsIn ys c → IsIn xs c) → xs ≡ ys
 one_sorted [] [] left right there back = refl
 one_sorted [] (y ∷ ys) left right there back = absurd (none-some y (back y (0, refl)).1)
@@ -150,7 +150,7 @@ module _ (e : Environment) (ps : Primitives) (m : CellMap) (radius : ℕ) (sweep
   one_list_of_sweeps : listing_writes (made e ps sweeps m) ≡ listing_writes (made e ps others m)
   one_list_of_sweeps = λ k. map to_output (map (λ i. one_listing i (slice_get ps.items i) refl k) (range_with_len 0 (length ps.items))) ++ last_write ∷ []
 
--- what is listed of any worlds that the files stand for is one
+-- what is listed is the same for any worlds that the files stand for
 pub one_listed : TextsAreClear → (held : Told) (from : Sources) (w v : World) → IsSome (held from.env) → IsSome (held from.prims) → ReadsWorld held from w → ReadsWorld held from v → listing_writes v ≡ listing_writes w
 one_listed clear held from w v told_env told_prims says also =
     let alike = one_world clear held from w v told_env told_prims says also in

@@ -16,13 +16,13 @@ use Rattle.sbpl_cli.specs.Texts.{IsChangeText, IsEnvironmentText, IsPrimitiveTex
 use Rattle.sbpl_cli.specs.Writing.{Told}
 use Rattle.sbpl_cli.specs.Clear.{TextsAreClear}
 
--- what is read of a file that the desk tells is one
+-- what is read of a file that the desk tells is determined
 pub read_once : (held : Option (List ℕ)) (t u : List ℕ) → IsSome held → IsReadText held t → IsReadText held u → t ≡ u
 read_once None t u told x y = absurd (false≢true told)
 read_once (Some text) t u told x y = x.told ∙ sym y.told
 
 module _ (clear : TextsAreClear) (held : Told) where
-  -- the files stand for one world but for how cells stand in the tables of sweeps
+  -- the files stand for one world except for how cells stand in the tables of sweeps
   pub one_world : (from : Sources) (w v : World) → IsSome (held from.env) → IsSome (held from.prims) → ReadsWorld held from w → ReadsWorld held from v → AreAlikeWorlds w v
   one_world from w v told_env told_prims x y =
       let text : y.environment.text ≡ x.environment.text = read_once (held from.env) y.environment.text x.environment.text told_env y.environment.read x.environment.read in

@@ -1,4 +1,4 @@
--- The record of a plan is one, and so are the records of plans in turn.
+-- The record of a plan is determined, and so are the records of plans in turn.
 use Rattle.std.proofs.Common.{map, ◌≡◌, ℕ, ◌+◌, ◌^◌, ◌<◌, ◌≤◌, ◌⊎◌, Bool, true, false, Option, Some, None, List, [], ◌∷◌, ◌++◌, append-nil, length, inl, inr, refl, sym, ap, subst, ◌∙◌, arith}
 use Rattle.std.proofs.lemmas.Bool.{MatchBool-at_true, false≢true}
 use Rattle.std.proofs.lemmas.List.{ext_get_or, length-append, nil_from_length}
@@ -53,7 +53,7 @@ use Rattle.sbpl_cli.proofs.SameGuide.{made, one_best}
 
 -- ---- what is told
 
--- the steps of the same arcs are one
+-- the steps of the same arcs are the same
 one_steps : (e : Environment) (ps : Primitives) (sweeps others : Swept) (m : CellMap) → network_of (made e ps sweeps m) ≡ network_of (made e ps others m)
     → (s u : ℕ) → s ≡ u → (arcs : List ℕ) (xs ys : List PathStep) → AreSteps (made e ps sweeps m) s arcs xs → AreSteps (made e ps others m) u arcs ys → xs ≡ ys
 one_steps e ps sweeps others m same s u at [] [] [] left right = refl
@@ -71,7 +71,7 @@ one_steps e ps sweeps others m same s u at (k ∷ ks) (x ∷ xs) (y ∷ ys) left
     let rest = one_steps e ps sweeps others m same left.0 own.0 target ks xs ys left.3 own.3 in
     λ i. record { id = id i; place = place i } ∷ rest i
 
--- the outcome that tells a result is one
+-- the outcome that tells a result is determined
 one_told : (e : Environment) (ps : Primitives) (sweeps others : Swept) (m : CellMap) → network_of (made e ps sweeps m) ≡ network_of (made e ps others m)
     → (start goal : ℕ) (r : Outcome FoundPath) (o p : Outcome PathRecord) → IsSameResult r o → IsSameResult r p
     → Joins (made e ps sweeps m) start goal o → Joins (made e ps others m) start goal p → o ≡ p
@@ -132,7 +132,7 @@ one_there false P Q (Some x) p one a b = absurd a
 one_there false P Q None (Some y) one a b = absurd b
 one_there false P Q None None one a b = refl
 
--- what marks a plan as spent is one
+-- what marks a plan as spent is determined
 one_mark : (budget before : ℕ) (spent : Bool) (r u : PlanRecord) → expansions r.passes ≡ expansions u.passes → IsMarked budget before spent r → IsMarked budget before spent u → r.spent ≡ u.spent
 one_mark budget before true r u same a b = a.0 ∙ ap (λ (count : ℕ). Some count) same ∙ sym b.0
 one_mark budget before false r u same a b = a ∙ sym b

@@ -29,7 +29,7 @@ states_after : (w : World) (batches : List (List change.Write)) (k : ℕ) (n : N
 unfolding network_of
 states_after w batches k n is = ap (λ (m : Network). m.states) is.network
 
--- another map has as many states
+-- another map has the same number of states
 pub same_states : (w v : World) → v ≡ record w { map = v.map } → (network_of w).states ≡ (network_of v).states
 unfolding network_of
 same_states w v others = sym (ap (λ (u : World). (network_of u).states) others)

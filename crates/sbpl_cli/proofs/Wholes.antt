@@ -263,7 +263,7 @@ module _ (clear : TextsAreClear) (sections : SectionsAreClear) (one_map : OneMap
     | inr (inr (is, stopped)) ↦ absurd (no_want is)
   ]
 
-  -- and else prefixes of it, where no read failed
+  -- and otherwise prefixes of it, where no read failed
   job_prefix : (j : Job) (whole : Intent) (status : ℕ) → AreTold before.held j → NoneRose j before after → CallsFor before.held j whole → EndsJob before after j status → ArePrefixes before after (writes_of j whole)
   job_prefix j whole status told quiet_reads calls e = elim (agrees clear sections one_map graphs one first before.held (ReadFailed before after) j e.intent whole told e.gives calls) [
     | inl (six, (name, input, rose)) ↦ absurd (quiet_reads name input rose)

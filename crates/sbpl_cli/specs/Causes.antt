@@ -96,7 +96,7 @@ pub record ArePlanned (held : Told) (job : PlanJob) (records : List PlanRecord) 
 abbrev pub demo_search : SearchJob
 demo_search = record { planner = planner.AdStar; workers = 1; first = 3000; step = 500; bound = 1000; budget = 2 ^ 30 }
 
--- what it writes beside its lines: nothing
+-- what it writes besides its lines: nothing
 abbrev pub no_outputs : Outputs
 no_outputs = record { labels = None; trace = None }
 

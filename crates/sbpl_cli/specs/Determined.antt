@@ -19,7 +19,7 @@ use Rattle.sbpl_cli.specs.Writing.{DeskState, IsNamed, Names, ReadFailed, Told, 
 
 -- ---- records of plans
 
--- two worlds are alike but for how the cells stand in their tables of sweeps
+-- two worlds are alike except for how the cells stand in their tables of sweeps
 pub record AreAlikeWorlds (w v : World) : Type 0 where
   pub env : v.env ≡ w.env
   pub prims : v.prims ≡ w.prims

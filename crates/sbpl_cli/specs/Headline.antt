@@ -116,7 +116,7 @@ abbrev pub Begins : {Note : Type 0} → Meaning Note → World → (start : ℕ)
 Begins means w start None m = AreInitial m (network_of w).states start
 Begins means w start (Some b) m = BeginsWith means (over_map w b.map) w b.labels m
 
--- a plan that was spent is marked with its expansions, which are the budget, or else the run's are 2 ^ 30; one that was not is not marked
+-- a plan that was spent is marked with its expansions, which are the budget, or the run's are 2 ^ 30; one that was not is not marked
 abbrev pub IsMarked : (budget before : ℕ) → Bool → PlanRecord → Type 0
 IsMarked budget before spent r = MatchBool spent
     ((r.spent ≡ Some (expansions r.passes)) × ((expansions r.passes ≡ budget) ⊎ (before + expansions r.passes ≡ 2 ^ 30)))
@@ -156,8 +156,8 @@ pub record IsPlanOf (by : Known) (w : World) (how : SearchJob) (outputs : Output
   pub promises : KeepsPromises w start goal how.bound r
   pub searched : IsSearched by w how outputs start goal before carried r
 
--- The records of plans in turn, the first of which is plan k: each is made in the world on the map after as many of the first
--- batches, and goes on from the plan before it.
+-- The records of plans in turn, the first of which is plan k: each is made in the world on the map after as many batches as its
+-- number, and goes on from the plan before it.
 abbrev pub AreRecords : Known → World → List (List Write) → SearchJob → Outputs → (start goal k : ℕ) → Option Carried → List PlanRecord → Type 0
 AreRecords by w batches how outputs start goal k before [] = Unit {0}
 AreRecords by w batches how outputs start goal k before (r ∷ rs) =

@@ -29,7 +29,7 @@ use Rattle.sbpl_cli.specs.Traces.{trace_text}
 use Rattle.sbpl_cli.specs.Verdicts.{flaw_text, holds_text}
 use Rattle.sbpl_cli.specs.Writing.{Write, to_named, to_output}
 
--- the name, if there is one, and else nothing
+-- the name, if there is one, and nothing otherwise
 abbrev pub name_or_nothing : Option (List ℕ) → List ℕ
 name_or_nothing None = []
 name_or_nothing (Some name) = name
@@ -181,7 +181,7 @@ words_writes = to_output words_text ∷ []
 abbrev pub refusal_writes : Job → Refusal → List Write
 refusal_writes j r = to_output (refusal_text j r) ∷ []
 
--- where a job's plans are written beside the report
+-- where a job's plans are written besides the report
 abbrev pub outputs_of : Job → Outputs
 outputs_of (job.Plan j) = j.outputs
 outputs_of _ = record { labels = None; trace = None }

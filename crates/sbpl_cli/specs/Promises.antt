@@ -106,7 +106,7 @@ IsDone before after (job.Check j) = IsJudged before after None j
 IsDone before after (job.Sweep from) = IsListed before after from
 IsDone before after (job.Demo d) = IsDemonstrated before after d
 
--- the job was refused with this status, for a cause, and the line of the refusal was written, and nothing under other names than
+-- the job was refused with this status, for a cause, and the line of the refusal was written, and nothing under names other than
 -- that of the standard output
 pub record IsRefused (before after : DeskState) (status : ℕ) (j : Job) : Type 0 where
   pub refusal : Refusal
@@ -129,14 +129,14 @@ GivesIntent held Failed (job.Sweep from) (Listed w) = ReadsWorld held from w × 
 GivesIntent held Failed (job.Demo d) (Demonstrated w batches records all) = IsDemonstration d w batches records all
 GivesIntent held Failed _ _ = ⊥
 
--- the name is one that a job which means to do this may write under: beside the standard output only where plans were made, and
+-- the name is one that a job which means to do this may write under: besides the standard output only where plans were made, and
 -- none where memory runs out before anything is written
 abbrev pub IsWrittenFor : Job → Intent → Names
 IsWrittenFor j (Planned records all) name = IsOutputOf (outputs_of j) name
 IsWrittenFor j OutOfMemory name = ⊥
 IsWrittenFor j _ name = IsOutput name
 
--- a write of what the job means to do failed: those before it were made, and a prefix of it, and nothing under other names than such
+-- a write of what the job means to do failed: those before it were made, and a prefix of it, and nothing under names other than such
 -- a job's
 pub record IsCutShort (before after : DeskState) (j : Job) : Type 0 where
   pub intent : Intent
@@ -144,7 +144,7 @@ pub record IsCutShort (before after : DeskState) (j : Job) : Type 0 where
   pub cut : IsCutAt before after (writes_of j intent)
   pub others : StaysBut (IsWrittenFor j intent) before.written after.written
 
--- the first few writes of what the job means to do were made, and nothing under other names than such a job's
+-- the first few writes of what the job means to do were made, and nothing under names other than such a job's
 pub record EndsWithoutMemory (before after : DeskState) (j : Job) : Type 0 where
   pub intent : Intent
   pub gives : GivesIntent before.held (ReadFailed before after) j intent
@@ -275,7 +275,7 @@ changes_of (job.Plan j) = j.changes
 changes_of (job.Check j) = j.changes
 changes_of _ = None
 
--- the job is another than `check`
+-- the job is not `check`
 abbrev pub IsNoCheck : Job → Type 0
 IsNoCheck (job.Check j) = ⊥
 IsNoCheck _ = Unit {0}

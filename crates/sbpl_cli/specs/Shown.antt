@@ -31,7 +31,7 @@ pub record IsShown (n : Network) (guide : ℕ → ℕ) (start goal : ℕ) (plan 
   pub arcs : s.arcs ≡ arcs_of found
   pub shows : ShowsAll n start goal s
 
--- something with this property is there where it is asked for, and else nothing is
+-- something with this property is there where it is asked for, and otherwise nothing is
 abbrev pub IsThere : {X : Type 0} → Bool → (X → Type 0) → Option X → Type 0
 IsThere true P (Some x) = P x
 IsThere false P None = Unit {0}

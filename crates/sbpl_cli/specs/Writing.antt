@@ -45,7 +45,7 @@ IsOutputOf o name = IsOutput name ⊎ (IsNamed o.labels name ⊎ IsNamed o.trace
 pub record AreAppended (before after : DeskState) (writes : List Write) : Type 0 where
   pub grown : (name : List ℕ) → Appends (before.written name) (after.written name) (text_under name writes)
 
--- a write failed: those before it were made, and a prefix of its text stands written
+-- a write failed: those before it were made, and a prefix of its text is written
 pub record IsCutAt (before after : DeskState) (writes : List Write) : Type 0 where
   pub first : List Write
   pub cut : Write

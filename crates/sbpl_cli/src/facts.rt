@@ -1,5 +1,5 @@
-//! What the definitions leave open of the readings of files, which is nothing, and of the records of plans by planners whose
-//! passes are determined, which is nothing too.
+//! That the definitions leave nothing open of the readings of files, nor of the records of plans by planners whose
+//! passes are determined.
 
 ghost use Rattle.sbpl_cli.specs.Clear.{SectionsAreClear, TextsAreClear};
 ghost use Rattle.sbpl_cli.specs.Determined.{FewAreFirst, RecordsAreOne};
@@ -28,9 +28,9 @@ pub fn texts_are_clear()
     first_flaws_are_one();
 }
 
-/// The records of all plans by a planner whose passes are determined are determined by the environment, the primitives, the map, the radius and the
-/// batches of changes, and by what is asked: each pass with its expansions, each result with its path, cost
-/// and bound, what was spent, and the final labels. Records of the first few plans are the first of them. It
+/// The records of all plans by a planner whose passes are determined are determined too: by the environment, the primitives,
+/// the map, the radius and the batches of changes, and by what is asked. So are each pass with its expansions, each result with
+/// its path, cost and bound, what was spent, and the final labels. Records of the first few plans are the first of them. It
 /// does nothing.
 pub fn records_are_determined()
     ensures law { RecordsAreOne }

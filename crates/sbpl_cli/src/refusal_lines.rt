@@ -42,7 +42,7 @@ fn push_unread(out: &mut Vec<u8>, why: &[u8], name: &str) -> Result<(), NoMemory
     push_bytes(out, b"\n")
 }
 
-/// The name, if there is one, and else nothing.
+/// The name, if there is one, and nothing otherwise.
 fn name_or_nothing(name: &Option<Name>) -> &str
     ensures name { result.now ≡ name_or_nothing name.now }
 {

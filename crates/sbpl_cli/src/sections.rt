@@ -69,7 +69,7 @@ fn write_trace<D: Desk>(
     }
 }
 
-/// Writes what a plan writes beside the report: its labels and its trace.
+/// Writes what a plan writes besides the report: its labels and its trace.
 fn write_outputs<D: Desk>(
     alloc: Global,
     outputs: &Outputs,

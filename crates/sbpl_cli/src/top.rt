@@ -88,10 +88,11 @@ fn end_run<R: Threads + Wait + Sync, D: Desk, T: Gate + Sync>(
 }
 
 /// Does the job that the words after the program's name stand for, writes what came of it to the standard output, which has
-/// the name `-`, and answers the status: 0 where the job was done, 1 for labels with a flaw, 2 for words that name no job, 3, 4 and 5 for a fault of the
-/// environment file, of the primitive file and of the change file, 6 for a file that could not be read, 7 for a write that failed, 8 for a file
-/// of more than 2^30 bytes, 9 where memory ran out, and 10 for a fault in the text of labels. Plans by ePA*SE are made by threads,
-/// each of which calls the gate before it evaluates an edge; no other job starts a thread or waits for one.
+/// the name `-`, and answers the status: 0 where the job was done, 1 for labels with a flaw, 2 for words that name no job, 3, 4
+/// and 5 for a fault of the environment file, of the primitive file and of the change file, 6 for a file that could not be
+/// read, 7 for a write that failed, 8 for a file of more than 2^30 bytes, 9 where memory ran out, and 10 for a fault in the
+/// text of labels. Plans by ePA*SE are made by threads, each of which calls the gate before it evaluates an edge; no other job
+/// starts a thread or waits for one.
 pub fn run<R: Threads + Wait + Sync, D: Desk, T: Gate + Sync>(
     rt: &R,
     alloc: Global,
@@ -101,7 +102,7 @@ pub fn run<R: Threads + Wait + Sync, D: Desk, T: Gate + Sync>(
 ) -> u8
     // Every promise, with what each status says.
     ensures promises { RunPromises (job_named words.now) (D.state desk.old) (D.state desk.new) result }
-    // Nothing that is held changes, nothing is written under other names than the job's, and no count falls.
+    // Nothing that is held changes, nothing is written under names other than the job's, and no count falls.
     ensures frame { WritesOnly (MayBeWritten (job_named words.now)) (D.state desk.old) (D.state desk.new) }
 {
     texts_are_clear();

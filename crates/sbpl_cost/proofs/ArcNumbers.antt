@@ -46,7 +46,7 @@ module _ (prims : List Primitive) (headings : ℕ) (counts numbers : List ℕ) (
             is ∙ old.counts p.from in_range ∙ ap (λ (r : Primitive). count_by (λ q. q.from == r.from) (take i prims)) (same_Some p q (sym at ∙ there)));
       }
 
--- what is read past no end
+-- inside a list the value that is read does not depend on the default
 pub read_there : (xs : List ℕ) (i n : ℕ) → i < length xs → n ≡ get_or xs i n → n ≡ get_or xs i 0
 read_there xs i n h is = is ∙ get_or_from_slice_get xs i (get_or xs i 0) n (slice_get-get_or xs i 0 h)
 

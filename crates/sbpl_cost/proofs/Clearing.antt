@@ -48,7 +48,7 @@ module _ (m : CellMap) (limit : ℕ) (is_map : IsCellMap m) (x y : ℕ) (strip :
         off (on_map_where_cost m (pos x +ℤ (strip.from +ℤ pos i)) (pos y +ℤ strip.y) cost.0 is_map cost.1).0;
   }
 
-  -- a strip of a row that is none of the map's, from a column that is none, or past the last one
+  -- a strip of a row that is not on the map, from a column that is not, or past the last column
   pub off_row : 0 < strip.len → ((pos y +ℤ strip.y) ≤ℤ negsuc 0) ⊎ (pos m.height ≤ℤ (pos y +ℤ strip.y)) → IsSomeBlocked m (strip_cells strip) (pos x) (pos y) limit
   off_row some off = blocked_off 0 some (λ on. ⊎_elim (λ low. omega (arith, ints, low, on.low)) (λ far. omega (arith, ints, far, on.high)) off)
 

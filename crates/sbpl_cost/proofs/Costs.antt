@@ -10,7 +10,7 @@ use Rattle.sbpl_cost.proofs.Ways.{AreAtOnePoint-none}
 pub product-some : (a b : ℕ) → 0 < a → 0 < b → 0 < a * b
 product-some a b p q = let h = mul-le 1 1 a b p q in omega arith
 
--- a quotient of something, rounded up, is something
+-- the quotient of positive numbers, rounded up, is positive
 pub quotient-some : (a b q : ℕ) → 0 < a → a ≤ q * b → 1 ≤ q
 quotient-some a b q some enough = elim (cases_lt 0 q) [
   | inl lt ↦ lt

@@ -31,7 +31,7 @@ pub indices_no : {X : Type 0} (test : X → Bool) (xs : List X) (i : ℕ) (x : X
     → indices_from test 0 (take (i + 1) xs) ≡ indices_from test 0 (take i xs)
 indices_no test xs i x h fails = indices_more test xs i x h ∙ ap (λ b. indices_from test 0 (take i xs) ++ cond b (i ∷ []) []) fails ∙ append-nil (indices_from test 0 (take i xs))
 
--- each of the first n entries of a table, and no other entry, is there and is as it is to be
+-- a table has n entries, and each is as it has to be
 abbrev pub IsFilled : {X : Type 0} → (ℕ → X → Type 0) → List X → ℕ → Type 0
 IsFilled {X} P table n = (length table ≡ n) × ((k : ℕ) → k < n → (y : X) × (slice_get table k ≡ Some y) × P k y)
 

@@ -52,7 +52,7 @@ floor_where_goes e way n p goes = cond-false _ _ _ (ne_eqb (advance e.headings w
 pub floor_where_not : (e : Environment) (way : Way) (n : ℕ) (p : Primitive) → advance e.headings way p ≡ 0 → floor_by e way n p ≡ None
 floor_where_not e way n p none = cond-true _ _ _ (eq-eqb (advance e.headings way p) 0 none)
 
--- a fraction is at most another that a third is at most
+-- the order of fractions: where each of three is at most the next, the first is at most the last
 fraction_through : (a x c d b y : ℕ) → 1 ≤ d → a * d ≤ c * x → c * y ≤ b * d → a * y ≤ b * x
 fraction_through a x c d b y some one two =
     let first : a * d * y ≤ c * x * y = mul-le-mul_right y one in
@@ -63,7 +63,7 @@ fraction_through a x c d b y some one two =
 times_none : (a x : ℕ) → x ≡ 0 → a * x ≡ 0
 times_none a x h = let z : a * 0 ≡ 0 = omega arith in ap (λ k. a * k) h ∙ z
 
--- nothing costs nothing
+-- a fraction that is 0 has the floor 0
 pub nothing : (n : ℕ) → 0 ≡ n * 0 / 1
 nothing n = let z : n * 0 ≡ 0 = omega arith in sym (ap (λ k. k / 1) z)
 
@@ -131,7 +131,7 @@ module _ (e : Environment) (way : Way) where
       own_cells = refl;
     }
 
-    -- one whose fraction is no lesser
+    -- one whose fraction is not less
     kept : (c d : ℕ) → 1 ≤ advance e.headings way p → c * advance e.headings way p ≤ primitive_cost e p * d → IsRateOf e ps way c d → IsRateOf e (p ∷ ps) way c d
     kept c d goes less rate = record {
       some = rate.some;
@@ -145,7 +145,7 @@ module _ (e : Environment) (way : Way) where
       own_cells = rate.own_cells;
     }
 
-    -- one whose fraction is lesser
+    -- one whose fraction is less
     lowered : (c d : ℕ) → 1 ≤ advance e.headings way p → primitive_cost e p * d ≤ c * advance e.headings way p → IsRateOf e ps way c d → IsRateOf e (p ∷ ps) way (primitive_cost e p) (advance e.headings way p)
     lowered c d goes less rate = record {
       some = goes;

@@ -12,7 +12,7 @@ use Rattle.sbpl_cost.specs.States.{IsPlace}
 use Rattle.sbpl_cost.specs.Gaps.{positive_part, negative_part, advance, way_bound, gap_of, BoundsAreFloors, BoundsMayBeZero}
 use Rattle.sbpl_cost.proofs.Floors.{floor_le, floor_step, floor_of, rate_of, no_floor}
 
--- nothing to go costs nothing
+-- the bound of a way of no cells is 0
 pub bound_of_none : (e : Environment) (ps : List Primitive) (way : Way) → way_bound e ps way 0 ≡ 0
 bound_of_none e ps way =
     let f = floor_of e way ps in
@@ -39,7 +39,7 @@ bound_small e ps way n cheap few =
     let three : n * f.0 / f.1 ≤ n * f.0 = div-le_self (n * f.0) f.1 in
     omega (arith, two, three, f.2.floors n)
 
--- the way round by way of another heading is no shorter
+-- turning by way of another heading is no shorter
 pub gap_by_way : (n a b c : ℕ) → a < n → b < n → c < n → heading_gap n a c ≤ heading_gap n b c + heading_gap n a b
 gap_by_way n a b c below_a below_b below_c = omega arith
 

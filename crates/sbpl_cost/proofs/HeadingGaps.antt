@@ -4,7 +4,7 @@ use Rattle.std.proofs.lemmas.Bool.{cases_lt}
 use Rattle.std.proofs.Math.Nat.{mod-eq_of_lt, add-mod_right}
 use Rattle.sbpl_cost.specs.PrimitiveCost.{heading_gap, IsLeast}
 
--- a heading and fewer bins than a turn has: the sum passes the full turn once or not
+-- a heading plus fewer bins than a full turn passes the full turn at most once
 step-turns : (n a d : ℕ) → a < n → d < n → ((a + d) % n ≡ a + d) ⊎ ((a + d) % n + n ≡ a + d)
 step-turns n a d below few = elim (cases_lt (a + d) n) [
   | inl lt ↦ inl (mod-eq_of_lt lt)
@@ -18,7 +18,7 @@ none_fewer n a b d below_a below_b leads = elim (cases_lt d n) [
   | inr many ↦ (omega arith, omega arith)
 ]
 
--- the sum of a heading and the bins to a heading
+-- where a heading plus some bins is another heading, or that plus a full turn, the bins lead to it
 leads : (n a b d : ℕ) → b < n → (a + d ≡ b) ⊎ (a + d ≡ b + n) → (a + d) % n ≡ b
 leads n a b d below h = elim h [
   | inl e ↦ rw e (mod-eq_of_lt below)
@@ -46,6 +46,6 @@ heading_gap-least n from to below_from below_to = record {
   ];
 }
 
--- headings that differ are a bin or more apart
+-- headings that differ are at least one bin apart
 pub heading_gap-some : (n from to : ℕ) → from < n → to < n → from ≢ to → 0 < heading_gap n from to
 heading_gap-some n from to below_from below_to differ = omega arith

@@ -12,7 +12,7 @@ use Rattle.sbpl_cost.specs.World.{World, IsWorld}
 use Rattle.sbpl_cost.specs.Arc.{column_from, row_from, EndsIn}
 use Rattle.sbpl_cost.specs.Lattices.{head_by}
 
--- there is nothing where nothing could be
+-- an option that can't be Some is None
 pub none_where_nothing : {A : Type 0} (o : Option A) → ((x : A) → o ≡ Some x → ⊥) → o ≡ None
 none_where_nothing None h = refl
 none_where_nothing (Some x) h = absurd (h x refl)

@@ -44,7 +44,7 @@ on_map_where_cost m (pos a) (pos b) c kept h =
 on_map_where_cost m (pos a) (negsuc b) c kept h = absurd (none-some c h)
 on_map_where_cost m (negsuc a) y c kept h = absurd (none-some c h)
 
--- something is there where nothing can't be
+-- an option that can't be None is Some
 some_where_not_none : {A : Type 0} (o : Option A) → (o ≡ None → ⊥) → IsSome o
 some_where_not_none None h = absurd (h refl)
 some_where_not_none (Some x) h = refl

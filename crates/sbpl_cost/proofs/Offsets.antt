@@ -13,7 +13,7 @@ use Rattle.sbpl_mprim.specs.Primitives.{IsPrimitive}
 use Rattle.sbpl_sweep.specs.Sweep.{IsSwept, distance_to_cell}
 use Rattle.sbpl_cost.proofs.Heads.{natural_part}
 
--- a quotient is no further from zero than the number, by more than one
+-- a quotient lies in the range from -(m + 1) to m where the number does
 quotient_within : (z : ℤ) (n m : ℕ) → 1 ≤ n → IsWithin (negsuc m) (pos m) z → IsWithin (negsuc m) (pos m) (int_div_euclid z (pos n))
 quotient_within (pos a) n m some h = let le : a / n ≤ a = div-le_self a n in (omega (arith, ints, h.1), omega (arith, ints, h.1))
 quotient_within (negsuc a) n m some h = let le : a / n ≤ a = div-le_self a n in (omega (arith, ints, h.0), omega (arith, ints, h.0))
@@ -27,7 +27,7 @@ offset_within cell x c h =
     let sum : IsWithin (negsuc 4000000000000) (pos 4000000000000) (cell +ℤ (pos 2 *ℤ x)) = (omega (arith, ints, c.0, c.1, h.0, h.1), omega (arith, ints, c.0, c.1, h.0, h.1)) in
     rw doubled (quotient_within (cell +ℤ (pos 2 *ℤ x)) (2 * side.0) 4000000000000 some sum)
 
--- a number is no further from zero than its product with a positive one
+-- a number is no further from zero than its product with a positive number
 below_product : (a x : ℤ) (most : ℕ) → pos 1 ≤ℤ a → (a *ℤ x) ≤ℤ pos most → x ≤ℤ pos most
 below_product (pos m) (pos n) most some h =
     let positive : 1 ≤ m = omega (arith, ints, some) in

@@ -16,7 +16,7 @@ use Rattle.sbpl_cost.proofs.PlaceLaws.{place_of_state, state_of_place_of, place_
 use Rattle.sbpl_cost.proofs.LatticeLaws.{state_number_below}
 use Rattle.sbpl_cost.proofs.Tails.{pair_made, left_of, right_of}
 
--- nothing was made of nothing alone
+-- mapping a value gives None only for None
 made_of_none : {A B : Type 0} (f : A → B) (o : Option A) → option_map f o ≡ None → o ≡ None
 made_of_none f None h = refl
 made_of_none f (Some x) h = absurd (none-some (f x) (sym h))

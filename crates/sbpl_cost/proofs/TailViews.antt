@@ -52,7 +52,7 @@ gap_is w a b = refl
 pub gap_is_small : (w : World) → IsWorld w → (a b gap : ℕ) → a < (network_of w).states → b < (network_of w).states → gap ≡ (network_of w).gap a b → gap < 2 ^ 55
 gap_is_small w is_world a b gap from to is = omega (arith, is, (gaps w is_world).small a b from to)
 
--- what an answer that is the graph's says
+-- an answer that is the graph's keeps the graph's laws
 pub tail_inside : (w : World) → IsWorld w → (t j : ℕ) → t < (network_of w).states → j < (network_of w).tail_fan t → (o : Option (ℕ × ℕ)) → o ≡ (network_of w).tail t j
     → IfSome o (λ a. (a.0 < (network_of w).states) × (a.1 < (network_of w).fan a.0))
 tail_inside w is_world t j state number None is = tt

@@ -50,7 +50,7 @@ found_prim w s k t place p is_world same h at =
     let found = found_by w s k t place is_world same h in
     subst (λ q. IsFound w s k place q) (same_Some found.0 p (sym found.1.by.stands ∙ at)) found.1
 
--- what an answer that is the graph's says
+-- an answer that is the graph's keeps the graph's laws
 pub head_inside : (w : World) → IsWorld w → (s k : ℕ) → s < (network_of w).states → k < (network_of w).fan s → (o : Option ℕ) → o ≡ (network_of w).head s k → IfSome o (λ t. t < (network_of w).states)
 head_inside w is_world s k state number None is = tt
 head_inside w is_world s k state number (Some t) is = (sound w is_world).head_is_state s k t state number (sym is)

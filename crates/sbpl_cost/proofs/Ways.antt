@@ -21,7 +21,7 @@ pub way_length-cons : (p q : Pose) (rest : List Pose) → way_length (p ∷ q �
 unfolding way_length
 way_length-cons p q rest = sum_by-cons (λ (pair : Pose × Pose). distance pair.0 pair.1) (p, q) (zip (q ∷ rest) rest)
 
--- at one pose or none nothing is gone
+-- along one pose or none the way is 0
 pub way_length-short : (poses : List Pose) → length poses ≤ 1 → way_length poses ≡ 0
 unfolding way_length
 way_length-short [] short = refl
@@ -44,12 +44,12 @@ way_length-drop poses (suc i) r d some within is =
     let q = slice_get-get_or poses (suc i) d within in
     rw e (way_length-on poses i (get_or poses i d) (get_or poses (suc i) d) p q ∙ ap (λ n. n + way_length (drop (suc i) poses)) (sym (rw e at is)))
 
--- numbers whose product with themselves is nothing are nothing
+-- a number whose square is 0 is 0
 no_square : (n : ℕ) → n * n ≤ 0 → n ≡ 0
 no_square zero h = refl
 no_square (suc n) h = absurd (let one : 1 ≤ suc n = omega arith in let s = mul-le-mul one one in omega (arith, s))
 
--- poses that are no way apart are at one point
+-- poses whose distance is 0 are at one point
 at_one_point : (p q : Pose) → distance p q ≡ 0 → (p.x ≡ q.x) × (p.y ≡ q.y)
 at_one_point p q none =
     let enough = (root_above-least (squared_distance p q)).holds in
@@ -67,7 +67,7 @@ all_at x (y ∷ rest) none (suc i) p here =
     let on = all_at y rest (omega arith) i p here in
     (step.0 ∙ on.0, step.1 ∙ on.1)
 
--- where nothing is gone, all poses are at one point
+-- where the way is 0, all poses are at one point
 pub AreAtOnePoint-none : (poses : List Pose) → way_length poses ≡ 0 → AreAtOnePoint poses
 AreAtOnePoint-none [] none = λ p q i j here there. absurd (cc)
 AreAtOnePoint-none (x ∷ rest) none = λ p q i j here there.

@@ -1,4 +1,4 @@
--- The cells that a motion's judgement reads beside its source cell.
+-- The cells that a motion's judgement reads besides its source cell.
 use Rattle.std.specs.Prelude.{◌≡◌, ℕ, ℤ, ◌⊎◌, List, slice_get, Some}
 use Rattle.sbpl_mprim.specs.declared.prim.Primitive.{Primitive}
 use Rattle.sbpl_mprim.specs.Primitives.{Primitives}
@@ -8,7 +8,7 @@ use Rattle.sbpl_cost.specs.declared.strip.Strip.{Strip}
 use Rattle.sbpl_sweep.specs.ReadTables.{IsAmong}
 use Rattle.sbpl_sweep.specs.Sweep.{IsCentre, IsSwept}
 
--- to a list some of these cells were added, among them all that are not known
+-- some of these cells were added to a list, among them all that are not known
 pub record AddsOthers (old cells known new : List Cell) : Type 0 where
   pub kept : (c : Cell) → IsAmong old c → IsAmong new c
   pub each : (c : Cell) → IsAmong new c → IsAmong old c ⊎ IsAmong cells c

@@ -7,17 +7,17 @@ use Rattle.sbpl_cost.specs.declared.way.Way.{Way}
 use Rattle.sbpl_cost.specs.declared.way.Way.TheVariants.{Right, Left, Up, Down, Round}
 use Rattle.sbpl_cost.specs.PrimitiveCost.{primitive_cost, heading_gap}
 
--- how many cells a number of cells goes forwards
+-- the cells that a signed number of cells leads forwards, 0 where it leads backwards
 abbrev pub positive_part : ℤ → ℕ
 positive_part (pos n) = n
 positive_part (negsuc n) = 0
 
--- how many cells a number of cells goes backwards
+-- the cells that a signed number of cells leads backwards, 0 where it leads forwards
 abbrev pub negative_part : ℤ → ℕ
 negative_part (pos n) = 0
 negative_part (negsuc n) = n + 1
 
--- how many cells, or bins of a turn, a primitive goes in a way
+-- how many cells, or bins of a turn, a primitive goes this way
 abbrev pub advance : ℕ → Way → Primitive → ℕ
 advance headings Right p = positive_part p.dx
 advance headings Left p = negative_part p.dx

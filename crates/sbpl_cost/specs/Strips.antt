@@ -3,7 +3,7 @@ use Rattle.std.specs.Prelude.{ℕ, zero, suc, ℤ, pos, ◌+ℤ◌, List, [], �
 use Rattle.sbpl_sweep.specs.declared.cell.Cell.{Cell}
 use Rattle.sbpl_cost.specs.declared.strip.Strip.{Strip}
 
--- so many cells of a row, from a column upwards
+-- this many cells of a row, from a column upwards
 abbrev pub cells_of_row : (y from : ℤ) → ℕ → List Cell
 cells_of_row y from zero = []
 cells_of_row y from (suc count) = cells_of_row y from count ++ (record { y = y; x = from +ℤ pos count }) ∷ []

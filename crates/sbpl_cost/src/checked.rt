@@ -1,4 +1,4 @@
-//! The cells that a motion's judgement reads beside its source cell.
+//! The cells that a motion's judgement reads besides its source cell.
 
 ghost use Rattle.std.specs.Prelude.{◌≡◌, ◌<◌, ◌≤◌, ◌^◌, slice_get, Some, IfOk, OnOk};
 ghost use Rattle.sbpl_mprim.specs.Primitives.{IsPrimitive};

@@ -25,7 +25,7 @@ pub(crate) struct Gaps {
     round: Rate,
 }
 
-/// How many cells a number of cells goes forwards.
+/// The cells that a signed number of cells leads forwards, 0 where it leads backwards.
 fn cells_forward(d: i32) -> u32
     requires range { IsWithin (negsuc 32766) (pos 32767) d }
     ensures cells { result ≡ positive_part d }
@@ -33,7 +33,7 @@ fn cells_forward(d: i32) -> u32
     if d > 0 { d.unsigned_abs() } else { 0 }
 }
 
-/// How many cells a number of cells goes backwards.
+/// The cells that a signed number of cells leads backwards, 0 where it leads forwards.
 fn cells_backward(d: i32) -> u32
     requires range { IsWithin (negsuc 32766) (pos 32767) d }
     ensures cells { result ≡ negative_part d }
@@ -41,7 +41,7 @@ fn cells_backward(d: i32) -> u32
     if d < 0 { d.unsigned_abs() } else { 0 }
 }
 
-/// How many cells, or bins of a turn, a primitive goes in a way.
+/// How many cells, or bins of a turn, a primitive goes this way.
 fn advance(headings: u32, way: Way, prim: &Prim) -> u32
     requires dx { IsWithin (negsuc 32766) (pos 32767) prim.now.dx }
     requires dy { IsWithin (negsuc 32766) (pos 32767) prim.now.dy }

@@ -75,8 +75,8 @@ impl Model for Lattice {
 
 impl Lattice {
     /// The lattice of an environment, its primitives, the sweeps that were made of these, and its map: they belong
-    /// together by cell size, headings and size. `TooDear` names the first primitive, by its index in the file, whose cost by itself is
-    /// above `MOST_COST`, and comes exactly where there is one.
+    /// together by cell size, headings and size. `TooDear` names the first primitive, by its index in the file, whose cost
+    /// by itself is above `MOST_COST`, and comes exactly where there is one.
     pub fn new(
         alloc: Global,
         env: &Env,

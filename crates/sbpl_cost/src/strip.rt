@@ -1,6 +1,6 @@
 //! Cells one beside the other.
 
-/// Cells one beside the other in a row, as offsets from the source cell of a motion: as many as `len`, upwards from `from`.
+/// Cells one beside the other in a row, as offsets from the source cell of a motion: `len` of them, from `from` upwards.
 #[derive(Clone, Copy, Debug, PartialEq, Eq)]
 pub(crate) struct Strip {
     pub(crate) y: i64,

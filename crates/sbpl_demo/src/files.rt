@@ -61,9 +61,9 @@ fn draw_files(alloc: Global, seed: u64, width: u32, height: u32) -> Result<Demo,
 }
 
 /// Draws an environment of `width` by `height` cells, 8..512 each, and three batches of changes of it from a seed. The
-/// primitives are the same for each seed and size. Each of the three texts is read without a fault, the changes on the
-/// map of the environment; of these there are at most 429 bytes. For a robot of radius 0 no primitive is too wide, and none
-/// is too dear in this environment.
+/// primitives are the same for each seed and size. Each of the three texts is read without a fault, that of the changes on the
+/// map of the environment. The text of the changes has at most 429 bytes. For a robot of radius 0 no primitive is too wide, and
+/// none is too dear in this environment.
 #[tactic(auto, using(crate::proofs::Batches::are_three, crate::proofs::Batches::are_short, crate::proofs::Eighty::eighty))]
 pub fn generate(alloc: Global, seed: u64, width: u32, height: u32) -> Result<Demo, NoMemory>
     requires width { (8 ≤ width) × (width ≤ 512) }

@@ -2,7 +2,7 @@
 use Rattle.std.proofs.Common.{◌≡◌, ℕ, ◌-◌, List, ◌++◌, length, take, drop, sym, ap, ◌∙◌, append_assoc, take-append-drop}
 use Rattle.std.proofs.lemmas.List.{take_rest}
 
--- n more of what is left are done
+-- n more of the elements that are left become done
 pub more_done : (all done left : List ℕ) (n : ℕ) → all ≡ done ++ left
     → all ≡ (done ++ take n left) ++ take (length left - n) (drop n left)
 more_done all done left n split =

@@ -5,7 +5,7 @@ use Rattle.sbpl_desk.specs.declared.desk.ReadStop.TheVariants as reads
 use Rattle.sbpl_desk.specs.declared.desk.WriteStop.{WriteStop}
 use Rattle.sbpl_desk.specs.declared.desk.WriteStop.TheVariants as writes
 
--- one more, or the end of the count
+-- one more, unless the count is already the greatest
 abbrev pub risen : ℕ → ℕ
 risen count = min (count + 1) (2 ^ 64 - 1)
 

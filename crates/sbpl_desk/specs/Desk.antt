@@ -1,9 +1,9 @@
 -- What a desk is, and what a call does to what is held and written there and to the counts of what failed.
--- Bytes that a desk doesn't tell are `None`, of which nothing is claimed.
+-- Bytes that a desk doesn't tell are `None`, about which nothing is claimed.
 use Rattle.std.specs.Prelude.{◌≡◌, ◌⊎◌, ◌-◌, ◌^◌, ◌<◌, ◌≤◌, ℕ, List, ◌++◌, length, ⊤, Result, Ok, Err, Option}
 use Rattle.sbpl_desk.specs.declared.desk.ReadStop.{ReadStop}
 use Rattle.sbpl_desk.specs.declared.desk.ReadStop.TheVariants.{Failed, TooLong, NoMemory}
--- Keeps before after: told bytes stay. Appends before after bytes: told bytes grow by these at their end.
+-- `Keeps before after`: told bytes stay. `Appends before after bytes`: told bytes grow by these bytes at their end.
 pub use Rattle.std.specs.Io.KnownBytes.{Keeps, Appends}
 
 -- what each name has, where the desk tells
@@ -30,7 +30,7 @@ pub record DeskState : Type 0 where
 abbrev pub Stays : {A B : Type 0} → (A → B) → (A → B) → Type 0
 Stays before after = (name : _) → after name ≡ before name
 
--- what is written under other names than these stays
+-- what is written under names other than these stays
 abbrev pub StaysBut : Names → Told → Told → Type 0
 StaysBut IsWritten before after = (name : List ℕ) → (IsWritten name → ⊥) → after name ≡ before name
 
@@ -41,7 +41,7 @@ pub record AppendsPrefix (before after : Option (List ℕ)) (bytes : List ℕ) :
   pub whole : bytes ≡ prefix ++ rest
   pub written : Appends before after prefix
 
--- a count rose, or stands at its end
+-- a count rose, or is the greatest that there is
 abbrev pub Rose : ℕ → ℕ → Type 0
 Rose before after = (before < after) ⊎ (after ≡ 2 ^ 64 - 1)
 
@@ -64,7 +64,7 @@ pub record ReadsOnly (before after : DeskState) : Type 0 where
   pub reads : NoneFalls before.read_faults after.read_faults
   pub writes : NoneFalls before.write_faults after.write_faults
 
--- nothing that is held changes, nothing is written but under these names, and no count falls
+-- nothing that is held changes, nothing is written except under these names, and no count falls
 pub record WritesOnly (IsWritten : Names) (before after : DeskState) : Type 0 where
   pub held : Stays before.held after.held
   pub others : StaysBut IsWritten before.written after.written

@@ -26,7 +26,7 @@ text_at texts name = unwrap_or (option_map (λ text. text.items) (get_by_text te
 abbrev pub memory_written : MemoryDesk → List ℕ → List ℕ
 memory_written desk name = text_at desk.written name
 
--- after how many bytes the call with this number fails, and None where it isn't listed
+-- after how many bytes the call with this number fails, None where it isn't listed
 abbrev pub memory_failing : MemoryDesk → ℕ → Option ℕ
 memory_failing desk call = get nat_cmp desk.failing call
 

@@ -108,7 +108,7 @@ impl MemoryDesk {
     }
 }
 
-/// After how many bytes the call that begins now fails, if it does. It is counted.
+/// After how many bytes the call that begins now fails, if it does. The call is counted.
 fn begin_call(calls: &mut u64, failing: &BTreeMap<u64, usize>) -> Option<usize>
     ensures after { result ≡ get nat_cmp failing.now calls.old }
     ensures calls { calls.new ≡ risen calls.old }

@@ -9,12 +9,12 @@ use Rattle.sbpl_frontier_core.specs.Log.{Log}
 use Rattle.sbpl_frontier_core.specs.Nothing.{no_marks}
 use Rattle.sbpl_frontier_core.specs.Waiting.{HoldsOver, Waiting}
 
--- the labels, which are there but within a pass
+-- the labels, which are there except within a pass
 abbrev pub labels_in : Option Marks → Marks
 labels_in None = no_marks
 labels_in (Some m) = m
 
--- the memory of a pass, which is there but within one
+-- the memory of a pass, which is there except within one
 abbrev pub space_in : Option Waiting → Waiting
 space_in None = record { marks = []; queue = record { keys = [] }; expanded = [] }
 space_in (Some space) = space
@@ -24,7 +24,7 @@ abbrev pub search_of : Option Marks → ℕ → Log → State Event
 search_of labels goal journal = record { labels = labels_in labels; goal = goal; notes = journal.events; kept = journal.keeps }
 
 -- The labels and the memory of a pass are there. No state is underconsistent, and each overconsistent one is where the next pass
--- looks for it. The goal is a state, and so many states were expanded in the last pass.
+-- looks for it. The goal is a state, and this many states were expanded in the last pass.
 pub record AreEpaseParts (labels : Option Marks) (space : Option Waiting) (goal : ℕ) (journal : Log) (expanded : ℕ) : Type 0 where
   pub there : IsSome labels
   pub room : IsSome space

@@ -20,9 +20,9 @@ use std::sync::Wait;
 use std::sync::ledger::Blank;
 use std::thread::Threads;
 
-/// Goes on with a core whose journal is empty by 1 to 64 workers, until the pass is at rest or its budget is spent: then no arc is
-/// ready and none is out. Each worker takes arcs, calls the gate, judges with no lock held, and posts. The one error is that memory
-/// ran out, and then the core is given up.
+/// Goes on, by 1 to 64 workers, with a core whose journal is empty, until the pass is at rest or its budget is spent: then no arc
+/// is ready and none is out. Each worker takes arcs, calls the gate, judges with no lock held, and posts. The one error is that
+/// memory ran out, and then the core is given up.
 pub fn parallel_pass<
     'g,
     R: Threads + Wait + Sync,

@@ -42,7 +42,7 @@ impl<
         let _start = labels.start();
         let before = budget.used();
         let space = self.space.take().unwrap();
-        // The events of the pass before are let go before those of this one take memory.
+        // The events of the pass before are dropped before those of this one take memory.
         self.journal = Journal::open(alloc, false);
         self.expanded = 0;
         let taken = mem::replace(budget, Budget::new(1));

@@ -10,7 +10,7 @@ use Rattle.sbpl_fixed.specs.Runs.{TokensGoOn}
 use Rattle.sbpl_fixed.specs.Tokens.{Piece, is_blank, is_filled, is_fresh, tokens_past}
 use Rattle.sbpl_fixed.proofs.Tokens.{skip_filled, past_front, fresh_or_not, first_token}
 
--- where a token of a text that stands at a place stands, and how the text goes on after it
+-- the place of a token in a text that begins at a place, and how the text goes on after it
 pub record IsAfter (place : ℕ) (bs : List ℕ) (t : Piece) (ts : List Piece) : Type 0 where
   pub far : ℕ
   pub here : t.place ≡ place + far

@@ -8,7 +8,7 @@ use Rattle.sbpl_fixed.specs.Meaning.{StandsFor}
 use Rattle.sbpl_fixed.specs.Parts.{says_parts}
 use Rattle.sbpl_fixed.proofs.Spelled.{Expected, Spells, IsSpelled, AllAfter}
 
--- a text that ends after a format stands for what the format says of all its tokens
+-- a text that must end after a format stands for what the format says of all its tokens
 pub whole_said : {E A : Type 0} (f : Format E A) (text : List ℕ) (x : A) → StandsFor (and_then f (λ y. ended (done y))) text x → Says f (tokens text) x []
 unfolding Says
 whole_said {E} {A} f text x h =

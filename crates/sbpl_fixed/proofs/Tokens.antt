@@ -7,7 +7,7 @@ use Rattle.std.proofs.lemmas.List.{drop-drop, length-drop}
 use Rattle.std.proofs.Math.Seq.{drop-length}
 use Rattle.sbpl_fixed.specs.Tokens.{is_blank, is_filled, tokens_past, is_fresh, tokens_from, token_at}
 
--- what comes after the prefix that passes does not begin with what passes
+-- after the longest prefix of bytes that pass a test, the next byte does not pass
 pub past_front : (p : ℕ → Bool) (bs : List ℕ) → prefix_len p (drop (prefix_len p bs) bs) ≡ 0
 past_front p [] = refl
 past_front p (b ∷ bs) =
@@ -36,7 +36,7 @@ skip_blank place (b ∷ bs) =
       | inr e ↦ rw (e, add-zero, e) refl
     ]
 
--- where no filled byte stands first it is the same what stands before
+-- where the first byte is not filled, it does not matter what comes before
 pub fresh_or_not : (fresh : Bool) (place : ℕ) (bs : List ℕ) → prefix_len is_filled bs ≡ 0 → tokens_past fresh place bs ≡ tokens_past true place bs
 fresh_or_not true place bs h = refl
 fresh_or_not false place bs h = skip_filled place bs ∙ rw (h, add-zero) refl
@@ -54,11 +54,11 @@ first_filled place (b ∷ bs) h some =
       | inr e ↦ (rw e (omega arith), first_token place b bs e)
     ]
 
--- amid a token the search goes on after it
+-- inside a token the search goes on after it
 pub amid_token : (text : List ℕ) (at n : ℕ) → is_fresh text at ≡ false → n ≡ prefix_len is_filled (drop at text) → tokens_from text at ≡ tokens_past true (at + n) (drop (at + n) text)
 amid_token text at n amid e = rw (amid, e, ← drop-drop) (skip_filled at (drop at text))
 
--- the search goes on at the first byte that is no blank
+-- the search goes on at the first byte that is not a blank
 after_blanks : (text : List ℕ) (start k : ℕ) → k ≡ prefix_len is_blank (drop start text) → tokens_past true start (drop start text) ≡ tokens_past true (start + k) (drop (start + k) text)
 after_blanks text start k e = rw (e, ← drop-drop) (skip_blank start (drop start text))
 
@@ -67,7 +67,7 @@ pub none_left : (text : List ℕ) (start k : ℕ) → k ≡ prefix_len is_blank 
 unfolding tokens_past
 none_left text start k e end = after_blanks text start k e ∙ rw (end, drop-length) refl
 
--- and else there is one, after the blanks
+-- and otherwise there is one, after the blanks
 pub one_left : (text : List ℕ) (start k n : ℕ) → k ≡ prefix_len is_blank (drop start text) → n ≡ prefix_len is_filled (drop (start + k) text) → start + k < length text
     → (0 < n) × (tokens_past true start (drop start text) ≡ token_at text (start + k) (start + k + n) ∷ tokens_from text (start + k + n))
 one_left text start k n e f some =

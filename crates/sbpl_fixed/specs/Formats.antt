@@ -154,12 +154,12 @@ abbrev pub Steps : {X : Type 0} → (X → ℕ) → (X → ℤ) → Result X Tex
 Steps place value (Ok x) left step = step ≡ Ok (record { place = place x; value = value x; left = left })
 Steps place value (Err t) left step = step ≡ Err t
 
--- What was read, seen by view, is what reading gives, and so is the fault, unless it is `spared`, as running out of memory.
+-- What was read, seen by view, is what reading gives, and so is the fault, unless it is `spared`, such as running out of memory.
 abbrev pub Gives : {X A E : Type 0} → E → (X → A) → Result X E → Left → Result (A × Left) E → Type 0
 Gives spared view (Ok x) left read = read ≡ Ok (view x, left)
 Gives spared view (Err e) left read = e ≢ spared → read ≡ Err e
 
--- The same of a whole text.
+-- The same for a whole text.
 abbrev pub Answers : {X A E : Type 0} → E → (X → A) → Result X E → Result A E → Type 0
 Answers spared view (Ok x) read = read ≡ Ok (view x)
 Answers spared view (Err e) read = e ≢ spared → read ≡ Err e

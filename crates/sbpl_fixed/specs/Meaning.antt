@@ -35,7 +35,7 @@ ReadsFirstFault E A = (tell : TextFault → E) (f : Format E A) (left : Left) (e
 abbrev pub IsSaidOrFaulty : (E A : Type 0) → Type 0
 IsSaidOrFaulty E A = (tell : TextFault → E) (f : Format E A) (left : Left) → IsSaid f left.tokens ⊎ HasFault tell f left
 
--- No text is said to be two values, nor has a fault beside a value, nor two faults.
+-- No text is said to be two values, nor has a fault besides a value, nor two faults.
 abbrev pub IsSaidOnce : (E A : Type 0) → Type 0
 IsSaidOnce E A = (f : Format E A) (tokens : List Piece) (x y : A) (r s : List Piece) → Says f tokens x r → Says f tokens y s → (x ≡ y) × (r ≡ s)
 
@@ -67,7 +67,7 @@ WordsAreMissed = (word bytes : List ℕ) (m : Miss) → (fixed word bytes ≡ Er
 abbrev pub NumbersAreMet : Type 0
 NumbersAreMet = (low high v : ℤ) (r : Result ℤ NumFault) → (within low high r ≡ Ok v) ↔ ((r ≡ Ok v) × (low ≤ℤ v) × (v ≤ℤ high))
 
--- it is missed where it has not the form
+-- it is missed where it does not have the form
 abbrev pub NumbersWithoutForm : Type 0
 NumbersWithoutForm = (low high : ℤ) (r : Result ℤ NumFault) → (within low high r ≡ Err no_number) ↔ (r ≡ Err Form)
 

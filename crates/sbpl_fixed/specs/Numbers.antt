@@ -39,7 +39,7 @@ signed minus n = if minus then neg_ℤ (pos n) else pos n
 abbrev pub sized : Bool → ℕ → Result ℤ NumFault
 sized minus n = if nat_le n most then Ok (signed minus n) else Err Size
 
--- one digit or more, and nothing else
+-- one or more digits and no other byte
 abbrev pub is_whole : List ℕ → Bool
 is_whole body = nat_lt 0 (length body) && all_digits body
 
@@ -62,7 +62,7 @@ decimals_part body = drop (prefix_len is_no_point body + 1) body
 abbrev pub is_decimal : List ℕ → Bool
 is_decimal body = nat_lt 0 (length (whole_part body) + length (decimals_part body)) && (all_digits (whole_part body) && all_digits (decimals_part body))
 
--- the first nine decimals, those that are missing taken as '0'
+-- the first nine decimals; those that are missing count as '0'
 abbrev pub nine_decimals : List ℕ → List ℕ
 nine_decimals ds = map (λ i. slice_index_or ds i 48) (0 ∷ 1 ∷ 2 ∷ 3 ∷ 4 ∷ 5 ∷ 6 ∷ 7 ∷ 8 ∷ [])
 

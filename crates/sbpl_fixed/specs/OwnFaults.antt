@@ -1,4 +1,4 @@
--- The faults that a format tells are its own: one that it never names, as running out of memory, is none of them.
+-- The faults that a format names are its own: one that it never names, such as running out of memory, is none of them.
 use Rattle.std.proofs.Common.{ℕ, zero, suc, ℤ, Bool, true, false, List, [], ◌∷◌, inl, inr, subst, sym}
 use Rattle.std.specs.Prelude.{◌≢◌, if◌then◌else◌}
 use Rattle.sbpl_fixed.specs.Formats.{Format, Item, missed, item, ended, wrong, done, and_then, turns, IsFaulty}

@@ -27,12 +27,12 @@ says_both (ended f) next (t ∷ ts) mid rest y x g h = absurd g
 says_both (wrong e) next ts mid rest y x g h = absurd g
 says_both {A = A} (done z) next ts mid rest y x g h = subst (λ (l : List Piece). Says (next z) l x rest) g.1 (subst (λ (w : A). Says (next w) mid x rest) g.0 h)
 
--- what was read is read on, and a fault stays
+-- reading goes on after what was read, and a fault stays
 abbrev pub read_on : {E A B : Type 0} → Result (A × Left) E → (A → Left → Result (B × Left) E) → Result (B × Left) E
 read_on (Ok x) next = next x.0 x.1
 read_on (Err e) next = Err e
 
--- what comes after a format is read after it
+-- to read a format with another after it is to read the one and then the other
 pub reads_and_then : {E A B : Type 0} (tell : TextFault → E) (f : Format E A) (more : A → Format E B) (left : Left)
     → reads tell (and_then f more) left ≡ read_on (reads tell f left) (λ x rest. reads tell (more x) rest)
 unfolding reads and_then
@@ -51,13 +51,13 @@ reads_and_then tell (ended f) more left =
 reads_and_then tell (wrong e) more left = refl
 reads_and_then tell (done x) more left = refl
 
--- the turns that are left are one and those after it
+-- the rounds that are left are the next one and those after it
 pub turns_next : {E S : Type 0} (count i : ℕ) (step : S → Format E S) (s : S) → i < count → turns (count - i) step s ≡ and_then (step s) (turns (count - (i + 1)) step)
 unfolding turns
 turns_next count i step s lt =
     ap (λ n. turns n step s) (sym (ap suc (ap (λ n. count - n) (add-one i) ∙ sub-suc count i) ∙ suc-pred-eq_of_pos (sub-pos_iff_lt.1 lt)))
 
--- or none
+-- no round is left
 pub turns_over : {E S : Type 0} (count i : ℕ) (step : S → Format E S) (s : S) → count ≤ i → turns (count - i) step s ≡ done s
 unfolding turns
 turns_over count i step s le = ap (λ n. turns n step s) (sub-eq-zero_of_le le)

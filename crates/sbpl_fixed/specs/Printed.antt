@@ -20,7 +20,7 @@ abbrev pub nano_text : ℤ → List ℕ
 nano_text (pos n) = point_text 9 n
 nano_text (negsuc n) = 45 ∷ point_text 9 (n + 1)
 
--- words parted by one space, with a line feed after the last
+-- words separated by one space, with a line feed after the last
 unfoldable pub line_text : List (List ℕ) → List ℕ
 line_text [] = 10 ∷ []
 line_text (w ∷ []) = w ++ 10 ∷ []

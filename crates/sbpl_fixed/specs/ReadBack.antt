@@ -9,7 +9,7 @@ use Rattle.sbpl_fixed.specs.Printed.{milli_text, nano_text}
 abbrev pub NanosAreReadBack : Type 0
 NanosAreReadBack = (value : ℤ) → unsigned_abs value ≤ most → nano_of (nano_text value) ≡ Ok value
 
--- as many billionths
+-- this many billionths
 abbrev pub MillisAreReadBack : Type 0
 MillisAreReadBack = (value : ℕ) → value * 10 ^ 6 ≤ most → nano_of (milli_text value) ≡ Ok (pos (value * 10 ^ 6))
 
@@ -33,10 +33,10 @@ abbrev pub WordsAreTokens : Type 0
 WordsAreTokens = (word : List ℕ) (blank : ℕ) (rest : List ℕ) (place : ℕ) → IsWord word → is_blank blank ≡ true
     → tokens_past true place (word ++ blank ∷ rest) ≡ record { place = place; bytes = word } ∷ tokens_past true (place + length word + 1) rest
 
--- the same of a word at the end of a text
+-- the same for a word at the end of a text
 abbrev pub LastWordsAreTokens : Type 0
 LastWordsAreTokens = (word : List ℕ) (place : ℕ) → IsWord word → tokens_past true place word ≡ record { place = place; bytes = word } ∷ []
 
--- a blank parts tokens, and is none
+-- a blank separates tokens, and is not one
 abbrev pub BlanksPartTokens : Type 0
 BlanksPartTokens = (blank : ℕ) (rest : List ℕ) (place : ℕ) → is_blank blank ≡ true → tokens_past true place (blank ∷ rest) ≡ tokens_past true (place + 1) rest

@@ -1,19 +1,19 @@
--- What a token is, whole: a longest run of bytes that part no words.
+-- What a token is: a longest run of bytes that are not blanks.
 use Rattle.std.specs.Prelude.{◌≡◌, ℕ, ◌+◌, ◌<◌, ◌≤◌, Bool, true, ◌⊎◌, List, [], ◌∷◌, ◌++◌, length}
 use Rattle.std.specs.List.{list_all}
 use Rattle.sbpl_fixed.specs.Tokens.{is_blank, is_filled, tokens_from, Piece}
 
--- a blank stands last, or nothing, and then it is as given
+-- the last byte is a blank; where there is no byte, as given
 abbrev pub ends_blank : Bool → List ℕ → Bool
 ends_blank empty [] = empty
 ends_blank empty (b ∷ bs) = ends_blank (is_blank b) bs
 
--- a blank stands first, or nothing
+-- the first byte is a blank, or there is no byte
 abbrev pub begins_blank : List ℕ → Bool
 begins_blank [] = true
 begins_blank (b ∷ bs) = is_blank b
 
--- A run in a text that stands at a place, with or without a blank before it (fresh): filled bytes, with a blank or
+-- A run in a text that begins at a place, with or without a blank before it (fresh): filled bytes, with a blank or
 -- nothing before them and after them.
 pub record IsRun (fresh : Bool) (place : ℕ) (text : List ℕ) (t : Piece) : Type 0 where
   pub before : List ℕ

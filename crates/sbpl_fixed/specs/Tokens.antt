@@ -1,4 +1,4 @@
--- The tokens of a text: its longest runs of bytes none of which parts words.
+-- The tokens of a text: its longest runs of bytes that are not blanks.
 use Rattle.std.specs.Prelude.{ℕ, ◌+◌, ◌-◌, Bool, true, false, not, ◌||◌, if◌then◌else◌, ◌==◌, List, [], ◌∷◌, take, drop, slice_index, take_while}
 
 -- space, tab, line feed, vertical tab, form feed, carriage return
@@ -13,7 +13,7 @@ pub record Piece : Type 0 where
   pub place : ℕ
   pub bytes : List ℕ
 
--- The tokens that begin in a text that stands at a place. One begins where a filled byte stands first or after a blank (fresh).
+-- The tokens that begin in a text at this place: at each filled byte after a blank, and at a filled first byte where fresh is true.
 unfoldable pub tokens_past : Bool → ℕ → List ℕ → List Piece
 tokens_past fresh place [] = []
 tokens_past fresh place (b ∷ bs) =

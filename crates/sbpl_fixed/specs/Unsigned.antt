@@ -24,7 +24,7 @@ milli_of end text = if is_milli text then below end (number_of (whole_part text)
 
 -- ---- in plain words
 
--- one digit or more, and nothing else
+-- one or more digits and no other byte
 pub record IsDigits (text : List ℕ) : Type 0 where
   pub digits_only : all_digits text ≡ true
   pub some : 0 < length text

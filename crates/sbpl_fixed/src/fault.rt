@@ -1,14 +1,14 @@
-//! Why a text is no number, and the faults of a text of tokens.
+//! Why a text is not a number, and the faults of a text of tokens.
 
 use thiserror::Error;
 
-/// Why a text is no number.
+/// Why a text is not a number.
 #[derive(Clone, Copy, Debug, PartialEq, Eq, Error)]
 pub enum NumFault {
-    /// The text has not the form that is asked for.
+    /// The text does not have the form that is asked for.
     #[error("not a number of the form asked for")]
     Form,
-    /// It has, and the value is too great: above `10^18` in absolute value, or for a number without a sign not below the
+    /// It has the form, but the value is too great: above `10^18` in absolute value, or for a number without a sign not below the
     /// limit that was given.
     #[error("a number too large")]
     Size,

@@ -10,7 +10,7 @@ pub fn reading_is_what_is_said<E, A>()
 {}
 
 /// Which tokens meet an item: a fixed word its own bytes, and a number those that read as one in the range. A token
-/// misses a number as no number where it has not the form, and as out of range otherwise.
+/// misses a number as no number where it does not have the form, and as out of range otherwise.
 pub fn items_in_plain_words()
     ensures word { WordsAreMet }
     ensures other_word { WordsAreMissed }

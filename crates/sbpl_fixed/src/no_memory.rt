@@ -1,4 +1,4 @@
-//! Out of memory, the one answer that nothing is tied to.
+//! Out of memory, the one answer that no contract ties to a cause.
 
 use std::alloc::{AllocError, AllocFailed};
 use thiserror::Error;

@@ -66,7 +66,7 @@ fn sized(minus: bool, number: u64) -> Result<i64, NumFault>
 }
 
 /// Reads a whole number: a plus, a minus or no sign, and one digit or more.
-/// `Form` where the text is none, `Size` where it is one and its absolute value is above `10^18`.
+/// `Form` where the text is not such a number, `Size` where it is one and its absolute value is above `10^18`.
 #[tactic(auto, unfolding(crate::specs::Numbers::whole_of))]
 pub fn read_whole(text: &[u8]) -> Result<i64, NumFault>
     ensures value { result ≡ whole_of text.now }
@@ -122,7 +122,7 @@ fn whole_len(body: &[u8]) -> usize
     body.iter().take_while(|b| **b != b'.').count()
 }
 
-/// A text parted at its first point.
+/// A text split at its first point.
 pub(crate) fn parts(body: &[u8]) -> (&[u8], &[u8])
     ensures whole { result.0.now ≡ whole_part body.now }
     ensures decimals { result.1.now ≡ decimals_part body.now }
@@ -137,7 +137,7 @@ pub(crate) fn parts(body: &[u8]) -> (&[u8], &[u8])
 /// Reads a decimal, in billionths: a plus, a minus or no sign, then digits with at most one point among, before or
 /// after them, and at least one digit. Digits after the ninth decimal are dropped, so that it is cut toward zero (this
 /// project's profile).
-/// `Form` where the text is no decimal, `Size` where it is one and its absolute value in billionths is above `10^18`.
+/// `Form` where the text is not a decimal, `Size` where it is one and its absolute value in billionths is above `10^18`.
 #[tactic(auto, using(crate::proofs::Digits::sized_nano_capped), unfolding(crate::specs::Numbers::nano_of))]
 pub fn read_nano(text: &[u8]) -> Result<i64, NumFault>
     ensures value { result ≡ nano_of text.now }
@@ -151,7 +151,7 @@ pub fn read_nano(text: &[u8]) -> Result<i64, NumFault>
 }
 
 /// What is read as a number: each text of the form asked for, as the value of its sign and its digits, and no other text.
-/// A decimal's value is that of its whole part and its first nine decimals, those that are missing taken as zeros.
+/// A decimal's value is that of its whole part and its first nine decimals, where missing ones count as zeros.
 pub fn numbers_are_read_by_parts()
     ensures wholes { WholesHaveValues }
     ensures other_wholes { NoOthersAreWhole }

@@ -14,7 +14,7 @@ pub struct Token {
     pub to: usize,
 }
 
-/// Space, tab, line feed, vertical tab, form feed and carriage return part tokens.
+/// Space, tab, line feed, vertical tab, form feed and carriage return separate tokens.
 fn is_blank(byte: u8) -> bool
     ensures blank { result ≡ is_blank byte }
 {
@@ -43,7 +43,7 @@ fn is_fresh(text: &[u8], at: usize) -> bool
     at == 0 || is_blank(text[at - 1])
 }
 
-/// Where the search for a token begins: after the token that `at` is amid, if it is.
+/// Where the search for a token begins: after the token that `at` is inside, if there is one.
 fn search_start(text: &[u8], at: usize) -> usize
     requires inside { at ≤ length text.now }
     ensures inside { result ≤ length text.now }

@@ -21,8 +21,8 @@ fn capped_digits(digits: &[u8], cap: u128) -> u128
     value
 }
 
-/// Reads a number without a sign that is below `end`: one digit or more, and nothing else. `Form` where the text is none,
-/// `Size` where it is one and is `end` or more.
+/// Reads a number without a sign that is below `end`: one or more digits and no other byte. `Form` where the text is not such a
+/// number, `Size` where it is one and is `end` or more.
 #[tactic(auto, unfolding(crate::specs::Unsigned::digits_of))]
 pub fn read_digits(text: &[u8], end: u64) -> Result<u64, NumFault>
     ensures value { result ≡ digits_of end text.now }
@@ -39,7 +39,7 @@ pub fn read_digits(text: &[u8], end: u64) -> Result<u64, NumFault>
 }
 
 /// Reads a number of thousandths that is below `end`: one digit or more, a point and three digits. `Form` where the text is
-/// none, `Size` where it is one and its thousandths are `end` or more.
+/// not such a number, `Size` where it is one and its thousandths are `end` or more.
 #[tactic(auto, using(crate::proofs::Digits::three_below), unfolding(crate::specs::Unsigned::milli_of))]
 pub fn read_milli(text: &[u8], end: u128) -> Result<u128, NumFault>
     requires small { end ≤ 2 ^ 100 }

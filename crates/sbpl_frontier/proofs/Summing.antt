@@ -6,7 +6,7 @@ use Rattle.std.proofs.lemmas.List.Sums.{sum_by-append, sum_by-cons}
 use Rattle.sbpl_postings.specs.declared.post.Sent.{Sent}
 use Rattle.sbpl_frontier.specs.Tally.{Tally, fresh, fresh_seats, sent_in}
 
--- ---- one seat more
+-- ---- one more seat
 
 module _ (f : Tally → ℕ) where
   pub sum_then : (xs : List Tally) (x : Tally) → sum_by f (xs ++ x ∷ []) ≡ sum_by f xs + f x
@@ -33,7 +33,7 @@ posts_of seat = length seat.posts
 abbrev pub puts_of : Sent → ℕ
 puts_of sent = length sent.posts
 
--- there is not less of it than these put in
+-- all senders together put in no fewer than these seats
 pub puts_within : (seats : List Tally) (more : List Sent) → sum_by posts_of seats ≤ sum_by puts_of (map sent_in seats ++ more)
 puts_within [] more = omega arith
 puts_within (seat ∷ rest) more =

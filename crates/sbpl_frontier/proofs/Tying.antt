@@ -1,4 +1,4 @@
--- What the events of a call do to what the values behind the lock agree on.
+-- What the events of a call do to what the values under the lock agree on.
 use Rattle.std.proofs.Common.{◌≡◌, ℕ, ◌+◌, Option, List, [], ◌∷◌, ◌++◌, map, length, arith, sym, ap, refl, ◌∙◌, append-nil}
 use Rattle.std.proofs.lemmas.List.{map-append}
 use Rattle.std.proofs.lemmas.List.Elements.{filter-append}

@@ -18,7 +18,7 @@ came_in events = filter comes_back events
 abbrev pub event_of : Post → Event
 event_of post = Posted post.ticket post.cost
 
--- Each judgement that came back was brought by the worker of a seat; and of each of these workers those that came back are those
+-- Each judgement that came back was brought by the worker of a seat; and from each of these workers came just those
 -- that it posted, in its order, whole and once.
 pub record HaveCome (journal : List Event) (seats : List Tally) : Type 0 where
   pub came : List Post

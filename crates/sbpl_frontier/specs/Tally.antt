@@ -13,7 +13,7 @@ pub record Tally : Type 0 where
 abbrev pub fresh : ℕ → Tally
 fresh number = record { number = number; takes = 0; posts = [] }
 
--- so many of them, with the numbers from 0 upwards
+-- this many of them, with the numbers from 0 upwards
 abbrev pub fresh_seats : ℕ → List Tally
 fresh_seats zero = []
 fresh_seats (suc count) = fresh_seats count ++ fresh count ∷ []

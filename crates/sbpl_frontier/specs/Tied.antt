@@ -1,4 +1,4 @@
--- How the values behind the lock agree.
+-- How the values under the lock agree.
 use Rattle.std.specs.Prelude.{◌≡◌, ℕ, map}
 use Rattle.sbpl_claims.specs.Standing.{Standing}
 use Rattle.sbpl_frontier_core.specs.Book.{Book}
@@ -14,7 +14,7 @@ pub record AreTied (b : Book) (k : Standing) (taken : ℕ) (line : Drained) : Ty
   pub takes : takes_in b.journal ≡ taken
   pub posts : came_in b.journal ≡ map event_of line.came
 
--- what contracts see behind the lock: a frontier with its journal, and what came out of the line
+-- what contracts see under the lock: a frontier with its journal, and what came out of the line
 pub record Sight : Type 0 where
   pub book : Book
   pub line : Drained

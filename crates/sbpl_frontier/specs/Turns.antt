@@ -18,7 +18,7 @@ abbrev pub LeadsTo : Query → Marks → Counts → List Event → (Frontier →
 LeadsTo q opening counts events IsSo = (f : Frontier) × IsReplay q opening counts events f × IsSo f
 
 module _ {N : Type 0} {P : PassGhosts N} {U : Type 0} {M : Type 0} where
-  -- a job adds one to what the seat took, and its claim is on its ticket, of the same state and arc; else nothing changes
+  -- a job adds one to what the seat took, and its claim is on its ticket, of the same state and arc; otherwise nothing changes
   abbrev pub Gives : (old : Tally) → Turn N U M P → (new : Tally) → Type 0
   Gives old (Job t claim) new = (claim ≡ record { ticket = t.number; state = t.state; arc = t.arc }) × (new ≡ record old { takes = old.takes + 1 })
   Gives old _ new = new ≡ old

@@ -23,7 +23,7 @@ pub(crate) struct Bell {
 }
 
 impl Bell {
-    /// For so many workers.
+    /// For this many workers.
     pub(crate) fn new(seats: u64) -> Bell {
         Bell {
             seats,

@@ -1,4 +1,4 @@
-//! The frontier of a parallel pass, shared by workers: they ask it for arcs behind one lock, judge them with no lock held, and put
+//! The frontier of a parallel pass, shared by workers: they ask it for arcs under one lock, judge them with no lock held, and put
 //! the judgements into a line, which whoever next holds the lock empties.
 #![tactic(auto)]
 

@@ -1,4 +1,4 @@
-//! What stands behind the lock.
+//! What the lock guards.
 
 ghost use Rattle.std.specs.Prelude.{◌≡◌, ◌+◌, ◌<◌, [], ◌++◌, IfOk, IsFalse, OnErr, map, sum_by, vec_len};
 ghost use Rattle.sbpl_postings.specs.Kept.{AreBrought};

@@ -21,8 +21,8 @@ use std::alloc::Global;
 use std::sync::ledger::Blank;
 use std::sync::{Mutex, Wait};
 
-/// The frontier of one pass, behind a lock, and the line by which judgements come back to it: workers share it by reference. Each
-/// sits in a seat of its own.
+/// The frontier of one pass, guarded by a lock, and the line by which judgements come back to it: workers share it by reference.
+/// Each sits in a seat of its own.
 #[derive(Drop)]
 pub struct Shared<'g, G: Graph, H: Guide, N: Pass, U: Past, M: Second, L: Lined> {
     pub(crate) lock: Mutex<Locked<'g, G, H, N, U, M, L>>,
@@ -149,7 +149,7 @@ impl<'g, G: Graph, H: Guide, N: Pass, U: Past, M: Second, L: Lined> Shared<'g, G
         core
     }
 
-    /// How often a judgement came back so far. It tells `wait` from when on to wait.
+    /// How many judgements came back so far. It tells `wait` from when on to wait.
     pub fn moment(&self) -> u64 {
         self.bell.changes()
     }

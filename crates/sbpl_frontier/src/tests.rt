@@ -62,7 +62,7 @@ impl Graph for Pair {
 /// The frontier of this test.
 type Frontier<'g, N, M, L> = Shared<'g, Pair, Zero, N, Unseen, M, L>;
 
-/// Whether this comes to be before the turns are used up.
+/// Whether this happens before the turns are used up.
 fn comes(posted: &AtomicBool) -> bool {
     for _ in 0..TURNS {
         if posted.load(Ordering::SeqCst) {

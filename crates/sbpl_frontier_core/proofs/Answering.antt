@@ -7,7 +7,7 @@ use Rattle.sbpl_frontier_rules.specs.Frontier.{without}
 use Rattle.sbpl_frontier_core.specs.Answers.{AreOpenings, IsNextOpening, OpensTo}
 use Rattle.sbpl_frontier_core.specs.Book.{Book}
 
--- one state more is opened
+-- one more state is opened
 openings_push : (q : Query) (states : List ℕ) (s : ℕ) (old mid new : Book) → AreOpenings q states old mid → IsNextOpening q mid s new
     → AreOpenings q (states ++ s ∷ []) old new
 openings_push q [] s old mid new before next = (new, subst (λ (b : Book). IsNextOpening q b s new) before next, refl)

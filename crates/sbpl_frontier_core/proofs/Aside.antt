@@ -108,7 +108,7 @@ module _ {n : Network} {eps : ℕ} {m : Marks} {out : List Leg} {goal : ℕ × �
     popped_or_left s key there =
         ⊎_elim inl (λ none. inr (here.aside.others s none ∙ there)) (among_or_not popped s)
 
-    -- clear of the legs and of all popped ones is clear of all that come before, for the first that is left
+    -- the first that is left, where it is clear of the legs and of all popped ones, is clear of all that come before it
     pub clear_in : {s : ℕ} {key : ℕ × ℕ} → IsLeast rest s key → IsClearOfAll n eps m out popped s → IsClearIn n eps m out f s key
     clear_in {s} {key} least clear = record {
       of_legs = clear.of_legs;

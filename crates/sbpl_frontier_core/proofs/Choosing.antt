@@ -125,7 +125,7 @@ module _ (q : Query) (f : Frontier) (queue : OpenList) (queued : AreQueued q.eps
     pub out_busy : (leg : Leg) → Contains f.out leg → IsBusy f leg.state
     out_busy leg among = record { opened = (opened_out leg kept among).opened; arc = leg.arc; due = due_out f leg among }
 
-    -- clear in the queue is independent
+    -- a state that is clear in the queue is independent
     pub clear_independent : (s : ℕ) (key : ℕ × ℕ) → key ≡ key_at q.eps q.guide f.labels s → IsClearIn q.network q.eps f.labels f.out queue s key
         → IsIndependent q f s
     clear_independent s key own clear = record {

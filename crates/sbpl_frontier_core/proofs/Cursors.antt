@@ -52,7 +52,7 @@ module _ (n : Network) (s : ℕ) where
   length_head None k = omega arith
   length_head (Some t) k = omega arith
 
-  -- there are no more than numbers
+  -- there are no more arcs than numbers
   pub few_within : (k count : ℕ) → length (arcs_within n s k count) ≤ count
   few_within k zero = omega arith
   few_within k (suc count) =

@@ -15,7 +15,7 @@ use Rattle.sbpl_frontier_rules.specs.Kept.{IsKept, IsOfOpened}
 use Rattle.sbpl_frontier_rules.specs.Laws.{EventsKeep, FirstIsKept, IsLawful, MayBegin}
 use Rattle.sbpl_frontier_core.specs.Book.{IsReplay}
 
--- one event more
+-- one more event
 pub events_push : (q : Query) (events : List Event) (event : Event) (old mid new : Frontier) → AreEvents q events old mid
     → IsEvent q mid event new → AreEvents q (events ++ event ∷ []) old new
 events_push q [] event old mid new before next = (new, subst (λ (f : Frontier). IsEvent q f event new) before next, refl)

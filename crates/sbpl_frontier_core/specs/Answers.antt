@@ -20,7 +20,7 @@ pub record IsOpenBelow (q : Query) (f : Frontier) (s : ℕ) : Type 0 where
   pub is_open : IsOpenIn f s
   pub below : IsBelow (key_at q.eps q.guide f.labels s) (goal_key_at q f.labels)
 
--- these are the open states below the goal, each once, or as many as this of them that come before all others
+-- these are the open states below the goal, each once, or this many of them that come before all others
 pub record AreFirst (q : Query) (f : Frontier) (most : ℕ) (states : List ℕ) : Type 0 where
   pub are_open : All (IsOpenBelow q f) states
   pub apart : AllPairs (λ s u. s ≢ u) states
@@ -58,6 +58,6 @@ abbrev pub AreOpenings : Query → List ℕ → Book → Book → Type 0
 AreOpenings q [] old new = new ≡ old
 AreOpenings q (s ∷ rest) old new = (mid : Book) × IsNextOpening q old s mid × AreOpenings q rest mid new
 
--- some states are, or none
+-- some states are opened one after another, or none
 abbrev pub OpensTo : Query → Book → Book → Type 0
 OpensTo q old new = (states : List ℕ) × AreOpenings q states old new

@@ -18,7 +18,7 @@ pub record IsHandedOut (seat : ℕ) (old : Book) (number state arc : ℕ) (new :
   pub few : number < 2 ^ 42
 
 module _ {N : Type 0} {P : Ghosts N} where
-  -- a ticket where an arc is ready, else none
+  -- a ticket where an arc is ready, and none otherwise
   abbrev pub IsTaken : (seat : ℕ) → (old : Book) → Option (Ticket N P) → (new : Book) → Type 0
   IsTaken seat old None new = (new ≡ old) × (old.frontier.ready ≡ [])
   IsTaken seat old (Some t) new = IsHandedOut seat old t.number t.state t.arc new

@@ -1,4 +1,4 @@
--- Some value of each kind, where none is meant.
+-- Some value of each kind, where it does not matter which.
 use Rattle.std.specs.Prelude.{None, []}
 use Rattle.sbpl_graph.specs.Network.{Network}
 use Rattle.sbpl_labels.specs.Counts.{Counts}

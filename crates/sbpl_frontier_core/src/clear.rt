@@ -60,7 +60,7 @@ pub(crate) fn find_clear<G: Graph>(
     found
 }
 
-/// Puts states of the queue aside in order, until one below the goal is clear, or 64 are.
+/// Puts states whose keys are below the goal's aside, in order, until one is clear, none is left or 64 are aside.
 fn pop_to_clear<G: Graph>(
     queue: &mut Open,
     aside: &mut Vec<Entry>,

@@ -35,7 +35,7 @@ use std::snapshot::Snapshot;
 /// and applies their judgements, and opens states on the way. (ePA*SE, Mukherjee, Aine and Likhachev 2022.)
 pub type Core<'g, G, H, N> = CoreOf<'g, G, H, N, Unseen>;
 
-/// The same over whatever stands for events that no memory holds.
+/// The same, generic over what stands for events that are not kept in memory.
 #[derive(Drop)]
 pub struct CoreOf<'g, G: Graph, H: Guide, N: Pass, U: Past> {
     graph: &'g G,
@@ -181,9 +181,9 @@ impl<'g, G: Graph, H: Guide, N: Pass, U: Past> CoreOf<'g, G, H, N, U> {
         })
     }
 
-    /// Tells the asker of this number what to do. Where an arc is ready, the one that became so first is handed out. Else states are
-    /// opened until an arc is ready: each time the first independent one among the 64 least open states below the goal's key. Room
-    /// is made for the later judgement. Where memory runs out some states may have been opened, and their arcs are ready.
+    /// Tells the asker of this number what to do. Where an arc is ready, the one that became so first is handed out. Otherwise
+    /// states are opened until an arc is ready: each time the first independent one of the 64 least open states below the goal's
+    /// key. Room is made for the later judgement. If memory runs out, some states may have been opened, with their arcs ready.
     pub fn next(&mut self, seat: u32) -> Result<Next<N>, NoMemory>
         ensures answers { IfOk result (λ answer. Answers N.query seat self.old answer self.new) }
         ensures opened { OnErr result (OpensTo N.query self.old self.new) }

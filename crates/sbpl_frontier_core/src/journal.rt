@@ -11,7 +11,7 @@ use std::marker::Model;
 /// The events of a pass in order. A journal is kept in memory, or contracts alone see it.
 pub type Journal = JournalOf<Unseen>;
 
-/// The same over whatever stands for events that no memory holds.
+/// The same, generic over what stands for events that are not kept in memory.
 #[derive(Drop)]
 pub struct JournalOf<U: Past> {
     form: Form<U>,

@@ -1,4 +1,4 @@
-//! A parallel search's frontier behind the calls of its workers: arcs are handed out, judged and applied, one event after another.
+//! A parallel search's frontier, as its workers call it: arcs are handed out, judged and applied, one event after another.
 #![tactic(auto)]
 
 mod choice;

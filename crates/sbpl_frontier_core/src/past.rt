@@ -1,12 +1,12 @@
-//! What stands for a list of events that no memory holds.
+//! What stands for a list of events that is not kept in memory.
 
 ghost use Rattle.std.specs.Prelude.{◌≡◌, [], ◌∷◌, ◌++◌, List};
 ghost use Rattle.sbpl_frontier_rules.specs.declared.event.Event.{Event};
 
 use sbpl_frontier_rules::Event as AnEvent;
 
-/// What stands for a list of at least one event that no memory holds. A journal, and a core that has one, is generic over it, so
-/// that what threads share is shown to be theirs to share without a look at it.
+/// What stands for a list of at least one event that is not kept in memory. A journal, and a core that has one, is generic over
+/// it, so that the proof that threads may share them need not look into it.
 pub trait Past: Drop {
     /// The events.
     ghost items: { Self → List Event };

@@ -11,7 +11,7 @@ use sbpl_frontier_rules::Leg;
 use sbpl_graph::Graph;
 use sbpl_labels::Labels;
 
-/// Lowers the head of arc `k` of `s`, which costs so much or is not free, where the way over it is cheaper, and answers it.
+/// Lowers the head of arc `k` of `s`, which has this cost or is not free, where the way over it is cheaper, and answers it.
 pub(crate) fn lower_head<G: Graph>(
     labels: &mut Labels,
     graph: &G,

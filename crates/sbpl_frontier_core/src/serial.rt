@@ -11,7 +11,7 @@ use sbpl_frontier_rules::events_keep;
 use sbpl_graph::{Graph, Guide};
 use sbpl_labels::{Budget, Labels, PassEnd};
 
-/// Goes on with a core of which no arc is out, by the caller alone in seat 0, until the pass is at rest or its budget is spent. The
+/// The caller alone, in seat 0, goes on with a core of which no arc is out, until the pass is at rest or its budget is spent. The
 /// one error is that memory ran out, and then the core comes back as it stands.
 pub fn go_on<'g, T: Gate, G: Graph, H: Guide, N: Pass, U: Past>(
     core: CoreOf<'g, G, H, N, U>,

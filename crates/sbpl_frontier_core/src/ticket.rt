@@ -5,7 +5,7 @@ ghost use Rattle.std.specs.Prelude.{◌≡◌, ◌<◌};
 use crate::Pass;
 use std::marker::PhantomData;
 
-/// The right to judge one arc of a state, under a number. It is spent by `judge`, and can neither be copied nor let go.
+/// The right to judge one arc of a state, under a number. It is spent by `judge`, and can neither be copied nor dropped.
 pub struct Ticket<N: Pass> {
     pub(crate) number: u64,
     pub(crate) state: u32,

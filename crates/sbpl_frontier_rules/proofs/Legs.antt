@@ -27,7 +27,7 @@ without_none ticket (leg ∷ rest) other =
     let same : without ticket rest ≡ rest = without_none ticket rest (λ one (place, inside, at). other one (suc place, omega arith, at)) in
     rw (test, same) refl
 
--- the arc of a ticket that is out is out once less
+-- without a ticket that is out, its arc is out one time fewer
 pub out_without : (legs : List Leg) (leg : Leg) → AllPairs Differ legs → Contains legs leg → (s k : ℕ)
     → times_out (without leg.ticket legs) s k + one_at leg.state leg.arc s k ≡ times_out legs s k
 out_without [] leg differ (place, inside, at) s k = absurd (omega arith)
@@ -60,7 +60,7 @@ out_has (first ∷ rest) leg (suc place, inside, at) =
     let inner : Contains rest leg = (place, omega arith, at) in
     omega (arith, out_has rest leg inner)
 
--- one arc less is out
+-- one arc fewer is out
 pub fewer_without : (legs : List Leg) (leg : Leg) → AllPairs Differ legs → Contains legs leg → length (without leg.ticket legs) + 1 ≡ length legs
 fewer_without [] leg differ (place, inside, at) = absurd (omega arith)
 fewer_without (first ∷ rest) leg differ (zero, inside, at) =

@@ -141,7 +141,7 @@ opened_more {q} {s} {rest} {old} {mid} {new} inside opening later =
       states = later.states ∙ opening.settled.states;
     }
 
--- an arc that gives its head its due keeps the start and the states
+-- applying the judgement of an arc keeps the start and the number of states
 relaxed_same : (n : Network) (old new : Marks) (s k : ℕ) (head : Option ℕ) → IsRelaxed n old new s k head
     → (new.start ≡ old.start) × (states_of new ≡ states_of old)
 relaxed_same n old new s k None relaxed = (ap (λ (m : Marks). m.start) relaxed.0, ap states_of relaxed.0)

@@ -32,7 +32,7 @@ opened_still old new s x inside set was =
     (cases_eq x s)
 
 module _ {q : Query} {old new : Frontier} {s : ℕ} (kept : IsKept q old) (opening : IsOpening q old s new) where
-  -- to the arcs that are due come those of s
+  -- the arcs of s are added to those that are due
   due_opened : (a j : ℕ) → times_due new a j ≡ times_due old a j + times_ready (arcs_of q.network s) a j
   due_opened a j =
       let ready : times_ready new.ready a j ≡ times_ready old.ready a j + times_ready (arcs_of q.network s) a j =

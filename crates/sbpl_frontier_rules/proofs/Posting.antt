@@ -37,7 +37,7 @@ bounded_same q old new start same_v opened was =
           omega (arith, same_v x, was.within x arcs cost (still x is) path');
     }
 
--- and so does that each due arc is of an opened state, where no arc becomes due
+-- each due arc is still of an opened state where no arc becomes due
 pub of_opened_same : (n : Network) (old new : Frontier) → new.opened ≡ old.opened → ((s k : ℕ) → times_due new s k ≤ times_due old s k)
     → ((s k : ℕ) → is_due old s k ≡ true → IsOfOpened n old s k) → (s k : ℕ) → is_due new s k ≡ true → IsOfOpened n new s k
 of_opened_same n old new opened fewer each s k due =
@@ -76,7 +76,7 @@ taking_kept {q} {old} {new} {leg} kept taking =
       fits = rw (taking.labels, taking.counts) kept.fits;
     }
 
--- labels after arc k of s has given its head its due
+-- labels after the judgement of arc k of s is applied
 pub record AreRelaxed (n : Network) (old new : Marks) (pending : ℕ → ℕ → Bool) (count : ℕ) : Type 0 where
   pub start : new.start ≡ old.start
   pub states : states_of new ≡ states_of old

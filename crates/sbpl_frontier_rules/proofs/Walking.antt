@@ -83,7 +83,7 @@ module _ (q : Query) (f : Frontier) (s : ℕ) (lawful : IsLawful q) (kept : IsKe
       (cases_lt (1000 * g_of f.labels p + q.eps * q.guide p) (1000 * g_of f.labels s + q.eps * q.guide s))
 
   -- The walk: these arcs lead to p, whose g is finite and bounded by what they cost, and more arcs lead from p to s. Where p is
-  -- busy with the next arc or open, the walk ends there; else the next state has a bounded g too.
+  -- busy with the next arc or open, the walk ends there; otherwise the next state has a bounded g too.
   walk : (arcs : List ℕ) (p spent : ℕ) → p < q.network.states → IsFreePath q.network f.labels.start arcs p spent
       → g_of f.labels p < FAR → 1000 * g_of f.labels p ≤ q.eps * spent
       → (more : List ℕ) (rest : ℕ) → IsFreePath q.network p more s rest → 1000 * g_of f.labels s ≤ q.eps * (spent + rest)

@@ -47,8 +47,8 @@ pub record IsTaking (old : Frontier) (leg : Leg) (new : Frontier) : Type 0 where
   pub opened : new.opened ≡ old.opened
   pub counts : new.counts ≡ old.counts
 
--- the judgement of an arc that is out comes back: where it is free and the way over it is cheaper, the label of its head is lowered,
--- which is not the start's: its g is 0
+-- the judgement of an arc that is out comes back: where it is free and the way over it is cheaper, the label of its head is lowered;
+-- the head is then not the start, whose g is 0
 pub record IsPosting (n : Network) (old : Frontier) (leg : Leg) (cost : Option ℕ) (new : Frontier) : Type 0 where
   pub was_out : Contains old.out leg
   pub judged : cost ≡ n.cost leg.state leg.arc

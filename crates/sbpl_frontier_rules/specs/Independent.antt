@@ -6,8 +6,8 @@ use Rattle.sbpl_search.specs.Query.{Query}
 use Rattle.sbpl_serial.specs.Run.{IsOpen, key_at}
 use Rattle.sbpl_frontier_rules.specs.Frontier.{Frontier, IsBusy, is_opened}
 
--- s is clear of p: g of s is not above that of p, or above it by no more than the inflation times the gap from p to s. Then
--- whatever path to s over p is still found, g of s is at most the inflation times its cost already
+-- s is clear of p: g of s is not above that of p, or above it by no more than the inflation times the gap from p to s. Then,
+-- whatever path to s over p may still be found, g of s is already at most the inflation times its cost
 abbrev pub IsClearOf : Query → Marks → (s p : ℕ) → Type 0
 IsClearOf q m s p = (g_of m s ≤ g_of m p) ⊎ (1000 * (g_of m s - g_of m p) ≤ q.eps * q.network.gap p s)
 

@@ -35,13 +35,13 @@ FirstIsKept = (q : Query) (m : Marks) (counts : Counts) (f : Frontier) → MayBe
 abbrev pub EventsKeep : Type 0
 EventsKeep = (q : Query) (events : List Event) (old new : Frontier) → IsLawful q → AreEvents q events old new → IsKept q old → IsKept q new
 
--- labels of a kept frontier with no arc ready or out are exact: where v of a state is finite, each of its free arcs has given its
--- head its due
+-- labels of a kept frontier with no arc ready or out are exact: where v of a state is finite, over each of its free arcs g of
+-- the head is at most v and the cost
 abbrev pub IdleIsExact : Type 0
 IdleIsExact = (q : Query) (f : Frontier) → IsKept q f → IsIdle f
     → AreExact q.network f.labels.start (g_of f.labels) (v_of f.labels) (back_of f.labels) × AreSupported q.network f.labels.start (g_of f.labels) (v_of f.labels)
 
--- so with their low they show it as a bound of every path
+-- so they show that their low is a lower bound on the cost of every path
 abbrev pub IdleShows : Type 0
 IdleShows = (q : Query) (f : Frontier) (low : ℕ) → IsLawful q → IsKept q f → IsIdle f → IsLow (states_of f.labels) q.goal (g_of f.labels) (v_of f.labels) q.guide low
     → ShowBound q.network f.labels.start q.goal (g_of f.labels) (v_of f.labels) q.guide low
@@ -65,7 +65,7 @@ abbrev pub EachOpensOnce : Type 0
 EachOpensOnce = (q : Query) (m : Marks) (before : Counts) (events : List Event) (old new : Frontier) → IsLawful q → MayBegin q m before
     → IsFirst m before old → AreEvents q events old new → OpensOnce q m before events new
 
--- of the arcs that were handed out from the beginning of a pass, each is out, or its judgement came back
+-- each arc that was handed out since the beginning of a pass is out, or its judgement came back
 abbrev pub TakesComeBack : Type 0
 TakesComeBack = (q : Query) (m : Marks) (before : Counts) (events : List Event) (old new : Frontier) → IsLawful q → MayBegin q m before
     → IsFirst m before old → AreEvents q events old new → posts_in events + length new.out ≡ takes_in events

@@ -15,12 +15,12 @@ use Rattle.sbpl_frontier_rules.specs.Journal.{opened_times, openings}
 abbrev pub opened_by : List Event → ℕ → Bool
 opened_by events s = nat_lt 0 (opened_times s events)
 
--- the plan and the run have so many expansions left
+-- the plan and the run have this many expansions left
 pub record HasRoom (c : Counts) (count : ℕ) : Type 0 where
   pub of_plan : c.plan + count ≤ c.per_plan
   pub of_run : c.run + count ≤ 2 ^ 30
 
--- the counts after so many expansions
+-- the counts after this many expansions
 abbrev pub counted_with : Counts → ℕ → Counts
 counted_with c count = record c { plan = c.plan + count; run = c.run + count }
 
@@ -43,7 +43,7 @@ LeavesRest q events m = IsAtRest q (opened_by events) m
 abbrev pub LeavesOpen : Query → List Event → Marks → Type 0
 LeavesOpen q events m = (s : ℕ) × IsOpen (opened_by events) m s × IsBelow (key_at q.eps q.guide m s) (goal_key_at q m)
 
--- a list of events is one whatever the budget, as long as it leaves room for what they open; only the counts differ
+-- a list of events stays one whatever the budget, as long as it leaves room for what they open; only the counts differ
 abbrev pub CountsAreFree : Type 0
 CountsAreFree = (q : Query) (events : List Event) (old new : Frontier) (counts : Counts) → AreEvents q events old new → HasRoom counts (openings events)
     → AreEvents q events (record old { counts = counts }) (record new { counts = counted_with counts (openings events) })

@@ -8,7 +8,8 @@ ghost use Rattle.sbpl_frontier_rules.specs.Passes.{CountsAreFree, OpenedByEvents
 /// of events keeps it. So at every moment, whatever results are missing, v of each opened state is at most the inflation times
 /// the cost of every free path to it. Where no arc is ready and none is out, the labels are exact, and with their low they show a
 /// bound of every path from the start to the goal. With inflation 1 each opened state has v = g. Each arc that was
-/// handed out is out, or its judgement came back. (ePA*SE, Mukherjee, Aine and Likhachev 2022; the test of independence after PA*SE, Phillips, Likhachev and Koenig 2014.)
+/// handed out is out, or its judgement came back. (ePA*SE, Mukherjee, Aine and Likhachev 2022; the test of independence after
+/// PA*SE, Phillips, Likhachev and Koenig 2014.)
 /// This does nothing when it runs.
 pub fn events_keep()
     ensures first { FirstIsKept }

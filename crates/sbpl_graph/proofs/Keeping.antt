@@ -32,7 +32,7 @@ other_not_pending s k a j other = grind (arith, nat_tests)
 pub before_not_pending : (s k a j : ℕ) → j < k → pending_from s k a j ≡ false
 before_not_pending s k a j before = grind (arith, nat_tests)
 
--- What holds as it stands: arcs stop being pending, and kept labels with none pending are exact.
+-- What holds with no state changed: arcs stop being pending, and kept labels with none pending are exact.
 module _ {n : Network} {start : ℕ} {g v : ℕ → ℕ} {back : ℕ → Option (ℕ × ℕ)} where
   -- arcs stop being pending once they are used
   pub kept_used : {pending : ℕ → ℕ → Bool} (pending' : ℕ → ℕ → Bool) → AreKept n start g v back pending
@@ -48,7 +48,7 @@ module _ {n : Network} {start : ℕ} {g v : ℕ → ℕ} {back : ℕ → Option 
     no_arc_where_far = kept.no_arc_where_far;
   }
 
-  -- arc k of s stops being pending once its head has its due
+  -- arc k of s stops being pending once the label of its head is no greater than the way over it
   pub kept_next : {pending : ℕ → ℕ → Bool} (pending' : ℕ → ℕ → Bool) (s k : ℕ) → AreKept n start g v back pending
       → ((a j : ℕ) → pending' a j ≡ false → (pending a j ≡ false) ⊎ ((a ≡ s) × (j ≡ k)))
       → ((t c : ℕ) → IsFreeArc n s k t c → v s < FAR → g t ≤ v s + c)

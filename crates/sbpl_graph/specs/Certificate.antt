@@ -22,7 +22,7 @@ pub record ShowBound (n : Network) (start goal : ℕ) (g v h : ℕ → ℕ) (low
   pub at_goal : low ≤ g goal
   pub unsettled : (s : ℕ) → s < n.states → v s ≢ g s → low ≤ g s + h s
 
--- labels show that there is no path: the goal is infinite, and every finite state is settled as finite
+-- labels show that there is no path: the goal is infinite, and every state of finite g has a finite v
 pub record ShowNone (n : Network) (start goal : ℕ) (g v : ℕ → ℕ) : Type 0 where
   pub supported : AreSupported n start g v
   pub goal_is_far : g goal ≡ FAR

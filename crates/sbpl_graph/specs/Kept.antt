@@ -9,7 +9,7 @@ pub record SupportsLabel (n : Network) (g v : ℕ → ℕ) (s k t c : ℕ) : Typ
   pub near : v s < FAR
   pub sum : v s + c ≤ g t
 
--- each free arc that is not pending has given its head its due, and each finite label has a back arc that supports it
+-- over each free arc that is not pending g of the head is at most v + cost, and each finite label has a back arc that supports it
 pub record AreKept (n : Network) (start : ℕ) (g v : ℕ → ℕ) (back : ℕ → Option (ℕ × ℕ)) (pending : ℕ → ℕ → Bool) : Type 0 where
   pub from_start : g start ≡ 0
   pub none_at_start : back start ≡ None

@@ -37,6 +37,6 @@ pub record IsConsistent (n : Network) (goal : ℕ) (h : ℕ → ℕ) : Type 0 wh
   pub at_goal : h goal ≡ 0
   pub along : (s k t c : ℕ) → IsFreeArc n s k t c → h s ≤ c + h t
 
--- 0 everywhere is consistent
+-- a guide that is 0 everywhere is consistent
 pub zero_is_consistent : (n : Network) (goal : ℕ) → IsConsistent n goal (λ _. 0)
 zero_is_consistent n goal = record { at_goal = refl; along = λ s k t c arc. omega arith }

@@ -1,7 +1,7 @@
 -- A graph as plain functions, and its free arcs.
 use Rattle.std.specs.Prelude.{◌≡◌, ℕ, ◌<◌, Option, Some}
 
--- states and arcs are numbers; a tail of a state is an arc into it, as source and arc number
+-- states and arcs are numbers; a tail of a state is an incoming arc, as its source and its number there
 pub record Network : Type 0 where
   pub states : ℕ
   pub fan : ℕ → ℕ

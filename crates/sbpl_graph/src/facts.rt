@@ -2,7 +2,7 @@
 
 ghost use Rattle.sbpl_graph.specs.Certificate.{BoundHolds, NoneHolds};
 
-/// Where labels show their bound, every free path from the start to the goal costs at least it. Take
+/// Where labels show their bound, every free path from the start to the goal costs at least that. For the proof take
 /// the first state on the path whose v differs from its g, or the goal.
 pub fn bound_holds()
     ensures every_path { BoundHolds }

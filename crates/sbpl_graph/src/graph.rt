@@ -5,9 +5,9 @@ ghost use Rattle.sbpl_graph.specs.Network.{Network};
 ghost use Rattle.sbpl_graph.specs.Laws.{IsSound, HasExactTails, HasGaps};
 
 /// A directed graph with costs. States are numbers below `states`, and the arcs of a state are
-/// numbers below its fan. An arc has a head, unless it leads off the map, and a cost where it is
-/// free. The tails of a state are the arcs that lead to it. No call takes memory, and the calls
-/// answer alike as long as the graph is not changed.
+/// numbers below its fan, its out-degree. An arc has a head, unless it leads off the map, and a cost where it is
+/// free. The tails of a state are its incoming arcs. No call takes memory, and the calls
+/// give the same answers as long as the graph is not changed.
 pub trait Graph {
     ghost network: { Self → Network };
 
@@ -52,7 +52,7 @@ pub trait Graph {
         1
     }
 
-    /// The number of tails of `t`, at most 4096: with `tail` they are exactly the arcs whose head is
+    /// The number of tails of `t`, its in-degree, at most 4096: with `tail` they are exactly the arcs whose head is
     /// `t`, each once.
     fn tail_fan(&self, t: u32) -> u32
         requires state { t < (network self.now).states }

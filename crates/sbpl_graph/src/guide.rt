@@ -4,7 +4,7 @@ ghost use Rattle.std.specs.Prelude.{◌≡◌, ℕ, ◌^◌, ◌<◌};
 ghost use Rattle.sbpl_graph.specs.Network.{Network};
 ghost use Rattle.sbpl_graph.specs.Laws.{IsConsistent};
 
-/// A lower bound on the cost from each state to a goal, built for one graph and one goal.
+/// A heuristic: a lower bound on the cost from each state to a goal, built for one graph and one goal.
 pub trait Guide {
     ghost distance: { Self → ℕ → ℕ };
 

@@ -1,4 +1,4 @@
--- The laws of the cell graph turned round.
+-- The laws of the reversed cell graph.
 use Rattle.std.proofs.Common.{◌≡◌, ℕ, ◌+◌, ◌*◌, ◌<◌, ◌≤◌, ◌^◌, ◌&&◌, inl, inr, max, List, length, slice_get, slice_index, Option, Some, None, IfSome, get_or, option_and_then, option_map, nat_lt, refl, ap, sym, ◌∙◌, arith, subst}
 use Rattle.std.proofs.Math.Nat.{mul-le-mul}
 use Rattle.std.proofs.lemmas.Bool.{and_from, lt-ltb, le-ltb, cond-true, cond-false, cases_lt}
@@ -13,7 +13,7 @@ use Rattle.sbpl_heur.specs.Boards.{Board, IsBoard, map_of, cell_count, cell_befo
 use Rattle.sbpl_heur.specs.Weights.{IsHopArc}
 use Rattle.sbpl_heur.proofs.Locating.{before_leads, leads_before, after_leads, leads_after}
 
--- what both parts of an answer were
+-- an answer that is computed from another is Some only where the other is
 pub then_some : {X Y : Type 0} (f : X → Option Y) (o : Option X) (y : Y) → option_and_then f o ≡ Some y → (x : X) × (o ≡ Some x) × (f x ≡ Some y)
 then_some f None y is = absurd (none-some y is)
 then_some f (Some x) y is = (x, refl, is)
@@ -42,7 +42,7 @@ pub leads_head : (b : Board) (q k p : ℕ) → LeadsBack b q k p → board_head 
 unfolding board_head
 leads_head b q k p leads = cond-true (nat_lt q (cell_count b)) _ _ (lt-ltb q (cell_count b) leads.inside) ∙ ap (option_and_then (cell_before b.env q)) leads.at ∙ leads.before
 
--- no arc leads from the state that is no cell, and each other arc where its hop leads backwards
+-- no arc leads from the state that is no cell, and each other arc leads where its hop leads backwards
 pub head_past : (b : Board) (q k : ℕ) → q ≡ cell_count b → board_head b q k ≡ None
 unfolding board_head
 head_past b q k past = cond-false (nat_lt q (cell_count b)) _ _ (le-ltb q (cell_count b) (omega arith))
@@ -141,7 +141,7 @@ module _ (b : Board) (is : IsBoard b) where
       let at = before_leads b.env b.costs leads.hop p q leads.before in
       (omega (arith, at.1, is.cells), leads.inside)
 
-  -- an arc of the graph that is free is a hop's arc between its cells, turned round
+  -- an arc of the graph that is free is a hop's arc between its cells, reversed
   pub arc_of_free : (q k p c : ℕ) → IsFreeArc (board_network b) q k p c → IsHopArc b.env (map_of b) b.hops p q k c
   arc_of_free q k p c arc =
       let free = cost_free b q k c arc.cost in

@@ -57,7 +57,7 @@ module _ (b : Board) (is : IsBoard b) (m : Marks) (count : ℕ) (usable : AreUsa
       under_of g v (inr here) there beyond differ = absurd (omega arith)
 
   module _ (start : m.start < cell_count b) (same : (s : ℕ) → s < cell_count b + 1 → v_of m s ≡ g_of m s) where
-    -- a cell that is reached has a walk of that weight, and its label is that of few arcs
+    -- a reached cell has a walk of the weight of its label, and its label is at most 2^32 - 1 times the number of lower labels
     record Reached (a : ℕ) : Type 0 where
       cells : List ℕ
       walk : IsHopWalk b.env (map_of b) b.hops a cells m.start (g_of m a)

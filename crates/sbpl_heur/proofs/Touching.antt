@@ -1,4 +1,4 @@
--- What the cost of a cell bears on.
+-- What the cost of a cell affects.
 use Rattle.std.proofs.Common.{◌≡◌, ◌≢◌, ℕ, ◌+◌, ◌*◌, ◌<◌, ◌≤◌, List, length, slice_get, Some, inl, inr, ap, sym, ◌∙◌, arith, subst}
 use Rattle.std.specs.List.{All, Contains}
 use Rattle.std.proofs.Math.Nat.{mul-le-mul_right}

@@ -21,7 +21,7 @@ pub record IsBest (w : World) (goal : ℕ) (h : ℕ → ℕ) : Type 0 where
   pub bounds : (s : ℕ) → s < state_count w.env → IsCellBound w.env w.prims.items w.map (cell_of w.env goal) (cell_of w.env s) (bound s)
   pub values : (s : ℕ) → s < state_count w.env → h s ≡ max (bound s) ((network_of w).gap s goal)
 
--- what a heuristic keeps: the goal; for each cell the greater of its bound and of the gap to the goal but for the turn; for each heading the gap by turning; and for how many pairs there is room
+-- what a heuristic keeps: the goal; for each cell the greater of its bound and of the gap to the goal without the turn; for each heading the gap by turning; and for how many pairs there is room
 pub record Table : Type 0 where
   pub goal : ℕ
   pub cells : List ℕ

@@ -62,7 +62,7 @@ board_cost b q k = option_and_then (λ h. option_and_then (λ p. step_cost b.env
 unfoldable pub board_tail : Board → ℕ → ℕ → Option (ℕ × ℕ)
 board_tail b p j = if nat_lt p (cell_count b) then option_and_then (λ h. option_map (λ q. (q, j)) (cell_after b.env p h)) (slice_get b.hops j) else None
 
--- the cells as a graph, turned round, with one more state that no arc leads to or from
+-- the cells as a graph, reversed, with one more state that no arc leads to or from
 abbrev pub board_network : Board → Network
 board_network b = record {
   states = cell_count b + 1;

@@ -17,7 +17,7 @@ pub record IsOnePlan (counts : Counts) : Type 0 where
   pub all : counts.plan ≡ counts.run
   pub per_plan : counts.per_plan ≡ 2 ^ 30
 
--- the parts belong together: the search goes from a cell to the state that is none, its labels are exact on the graph, each expansion is counted, and there is room for the states that a cell touches
+-- the parts belong together: the search goes from a cell to the state that is no cell, its labels are exact on the graph, each expansion is counted, and there is room for the states that a cell touches
 pub record AreWalks (b : Board) (search : SerialState) (counts : Counts) (room : ℕ) : Type 0 where
   pub board : IsBoard b
   pub start : search.labels.start < cell_count b

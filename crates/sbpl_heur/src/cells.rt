@@ -12,7 +12,7 @@ use sbpl_graph::Graph;
 use std::alloc::Global;
 use std::marker::Model;
 
-/// The cell graph turned round: arc `k` of a cell leads by hop `k` backwards, to the cell from which that hop leads to
+/// The reversed cell graph: arc `k` of a cell leads by hop `k` backwards, to the cell from which that hop leads to
 /// it. Its states are the cells, row by row, and one more, which no arc leads to or from. It keeps the costs of the
 /// cells that it was made for.
 #[derive(Drop)]
@@ -127,7 +127,7 @@ fn step_cost(env: &Env, hop: &Hop, start: u8, end: u8) -> Option<u32>
     }
 }
 
-/// Whether two environments have maps of one size, with the same thresholds and as many headings.
+/// Whether two environments have maps of one size, with the same thresholds and the same number of headings.
 fn have_same_cells(env: &Env, other: &Env) -> bool
     ensures width { IsTrue result → env.now.width ≡ other.now.width }
     ensures height { IsTrue result → env.now.height ≡ other.now.height }
@@ -252,7 +252,7 @@ impl Cells {
         self.costs[cell as usize] == cost
     }
 
-    /// How many cells cost something else than in a list of all costs.
+    /// How many cells have a cost that differs from that in a list of all costs.
     pub(crate) fn count_changed(&self, costs: &[u8]) -> u32
         requires size { length costs.now ≡ cell_count self.now }
     {

@@ -1,4 +1,4 @@
-//! Guides to a goal on the lattice that are proved consistent.
+//! Heuristics on the lattice that are proved consistent.
 #![tactic(auto)]
 
 mod best;

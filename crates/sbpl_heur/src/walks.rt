@@ -21,7 +21,7 @@ use std::marker::Model;
 /// The most expansions before the labels are opened again.
 const RUN: u64 = 1 << 30;
 
-/// Where more than one cell in this number has changed, the search begins anew.
+/// Where more than one in this number of cells has changed, the search begins anew.
 const FEW: u32 = 64;
 
 /// The least weights of walks from all cells to a goal's cell. They are the labels of a search backwards from that cell

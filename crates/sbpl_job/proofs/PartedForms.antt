@@ -1,4 +1,4 @@
--- Words part into forms.
+-- Words divide into forms.
 use Rattle.std.proofs.Common.{◌≡◌, ◌≢◌, ◌∙◌, ◌<◌, ◌+◌, ◌⊎◌, ℕ, Bool, true, false, not, zero, suc, refl, sym, ap, ap₂, subst, arith, inl, inr, List, [], ◌∷◌, ◌++◌, take, length, get_or, Option, Some, None, option_map, is_some, if◌then◌else◌}
 use Rattle.std.specs.Prelude.{option_and_then}
 use Rattle.std.specs.List.{All, AllPairs, after_first, before_first, flat_map, list_any, position_or_len}
@@ -360,7 +360,7 @@ value_next c s x xs p h =
     let both = chosen (is_plain_word x) (option_map (with_given s x) (parts_after c None xs)) p h in
     (both.0, mapped (with_given s x) (parts_after c None xs) p both.1)
 
--- what awaits after a word that is no value
+-- a word that is no value is the name of a setting, which awaits its value
 bound_by : (c : Command) (xs : List Word) (o : Option Setting) (p : Parts) → option_and_then (λ s. parts_after c (Some s) xs) o ≡ Some p → (s : Setting) × (o ≡ Some s) × (parts_after c (Some s) xs ≡ Some p)
 bound_by c xs (Some s) p h = (s, refl, h)
 bound_by c xs None p h = absurd (none-some p h)

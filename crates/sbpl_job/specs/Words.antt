@@ -1,4 +1,4 @@
--- How the words after a command's name part into plain words and settings with their values.
+-- How the words after a command's name divide into plain words and settings with their values.
 use Rattle.std.specs.Prelude.{◌≡◌, ℕ, Bool, true, false, not, nat_eq, ◌&&◌, ◌||◌, List, [], ◌∷◌, ◌++◌, map, Option, Some, None, is_some, option_map, option_and_then, Result, Ok, Err, codes, if◌then◌else◌}
 use Rattle.std.specs.Str.{bytes_eq}
 use denote.Ref.{Bor}
@@ -91,7 +91,7 @@ setting_of c word = option_and_then (λ s. if takes c s then Some s else None) (
 abbrev pub is_equals : ℕ → Bool
 is_equals b = nat_eq b 61
 
--- a setting's name and its value in one word, parted by the first '='
+-- a setting's name and its value in one word, separated by the first '='
 abbrev pub is_joined : Command → List ℕ → Bool
 is_joined c word = is_some (setting_of c (before_first is_equals word)) && is_plain_word (after_first is_equals word)
 
@@ -110,7 +110,7 @@ spaced c (word ∷ words) = spaced_word c word ++ spaced c words
 abbrev pub is_known : Command → List ℕ → Bool
 is_known c word = is_plain_word word || is_some (setting_of c word)
 
--- How spaced words part, where a setting may await its value: a plain word is that value, or stands by itself; a setting's
+-- How spaced words divide, where a setting may await its value: a plain word is that value, or stands by itself; a setting's
 -- name awaits its value in the next word.
 abbrev pub parts_after : Command → Option Setting → List (List ℕ) → Option Parts
 parts_after c None [] = Some no_parts

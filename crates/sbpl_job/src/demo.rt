@@ -26,7 +26,7 @@ pub(crate) fn read_seed(text: &str) -> Result<u64, JobFault>
     ensures seed { Names (seed_in text.now) result }
     ensures range { IfOk result (λ s. s < 2 ^ 64) }
 {
-    // `parse` passes over a plus, which is no digit.
+    // `parse` passes over a plus, which is not a digit.
     if text.len() > MOST_DIGITS || has_plus(text) {
         return Err(JobFault::Words);
     }

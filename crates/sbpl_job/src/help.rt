@@ -55,7 +55,7 @@ Statuses:
   10  the text of labels has a fault
 ";
 
-/// How a command is called, its words left out.
+/// How a command is called, without its words.
 fn call_of(command: Command) -> &'static str {
     match command {
         Command::Plan => "temjoask plan",

@@ -46,7 +46,7 @@ pub struct SearchJob {
     pub budget: u64,
 }
 
-/// Where a plan is written beside its report. Both differ from the files that are read, and from each other.
+/// Where a plan is written besides its report. Both differ from the files that are read, and from each other.
 #[derive(Debug, Drop)]
 pub struct Outputs {
     /// Where the labels of each plan are written, if they are.
@@ -64,7 +64,7 @@ pub struct PlanJob {
     pub changes: Option<Name>,
     /// How the path is to be searched.
     pub search: SearchJob,
-    /// What is written beside the report.
+    /// What is written besides the report.
     pub outputs: Outputs,
 }
 

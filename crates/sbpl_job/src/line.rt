@@ -154,7 +154,7 @@ fn with_ends<'a>(alloc: Global, line: clap::Command<'a>) -> Result<clap::Command
     )
 }
 
-/// What a plan writes beside its report.
+/// What a plan writes besides its report.
 fn with_outputs<'a>(alloc: Global, line: clap::Command<'a>) -> Result<clap::Command<'a>, AllocError>
     ensures app { IfOk result (λ l. app_of l ≡ with_rule (with_rule (app_of line.entry) (option_rule (codes "labels"))) (option_rule (codes "trace"))) }
 {

@@ -99,7 +99,7 @@ fn setting_of(command: Command, word: &str) -> Option<Setting>
     }
 }
 
-/// The name and the value of a word that holds both, parted by the first `=`.
+/// The name and the value of a word that holds both, separated by the first `=`.
 fn joined_parts(command: Command, word: &str) -> Option<(&str, &str)>
     ensures joined { option_map both_texts result ≡ joined_word command word.now }
 {

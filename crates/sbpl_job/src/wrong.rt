@@ -85,8 +85,8 @@ fn wrong_after(alloc: Global, command: Command, words: &[&str]) -> Result<String
     }
 }
 
-/// What is wrong with words that name no job, in one line: what `clap` says of them, or which value is out of its range. Of words
-/// that name a job it says nothing of use.
+/// What is wrong with words that name no job, in one line: what `clap` says of them, or which value is out of its range. For
+/// words that name a job it says nothing useful.
 pub fn wrong_words(alloc: Global, words: &[String]) -> Result<String, AllocError> {
     let [word, rest @ ..] = words else {
         return String::from_str(

@@ -5,7 +5,7 @@ use Rattle.sbpl_labels.specs.declared.row.Row.{Row}
 use Rattle.sbpl_labels.specs.Marks.{no_row}
 use Rattle.sbpl_labels.specs.Rows.{rows_of, SetsRow}
 
--- as many rows as each column is long
+-- there are as many rows as entries in each column
 pub rows_length : (gs vs : List ℕ) (backs : List (Option (ℕ × ℕ))) → length vs ≡ length gs → length backs ≡ length gs
     → length (rows_of gs vs backs) ≡ length gs
 rows_length [] vs backs as_vs as_backs = refl

@@ -115,7 +115,7 @@ chain_stops back goal place s on none (suc j) u past at =
         nothing_is_none u found)
         (cases_lt place j)
 
--- where a walk stands: what it has gone is a free path to the goal along back arcs, and costs what the labels say
+-- where a walk is: the arcs that it has followed are a free path to the goal along back arcs, and cost what the labels say
 pub record Walking (n : Network) (g v : ℕ → ℕ) (back : ℕ → Option (ℕ × ℕ)) (goal here cost : ℕ) (arcs : List ℕ) : Type 0 where
   pub inside : here < n.states
   pub near : least_of g v here < FAR
@@ -135,7 +135,7 @@ module _ {n : Network} {start : ℕ} {g v : ℕ → ℕ} {back : ℕ → Option 
       (λ (at : here ≡ start). let none : back here ≡ None = rw at exact.none_at_start in some_not_none (sym by ∙ none))
       by
 
-  -- the state that the walk stands at is not underconsistent
+  -- the state that the walk has reached is not underconsistent
   at_end : (i u : ℕ) → i ≡ length arcs → chain_at back goal i ≡ Some u → g u ≤ v u
   at_end i u same on =
       let both : chain_at back goal (length arcs) ≡ Some u = rw same at on in
@@ -161,7 +161,7 @@ module _ {n : Network} {start : ℕ} {g v : ℕ → ℕ} {back : ℕ → Option 
       let more = above_more g (least_of g v s) n.states here walking.inside (omega (arith, found.1.sum)) in
       omega arith
 
-  -- there is room for one arc more
+  -- there is room for one more arc
   pub room_for_one : {s k : ℕ} → back here ≡ Some (s, k) → (c : ℕ) → n.cost s k ≡ Some c → 1 ≤ c → length arcs < n.states
   room_for_one {s} {k} by c price some =
       let counted = counted_next by c price some in

@@ -4,7 +4,7 @@ use Rattle.sbpl_graph.specs.declared.TheConstants.{FAR}
 use Rattle.sbpl_graph.specs.Network.{Network}
 use Rattle.sbpl_graph.specs.Path.{IsFreePath}
 
--- the state that this many back arcs lead to from t, if there are as many
+-- the state that this many back arcs lead to from t, if there are this many
 abbrev pub chain_at : (ℕ → Option (ℕ × ℕ)) → ℕ → ℕ → Option ℕ
 chain_at back t zero = Some t
 chain_at back t (suc i) = option_and_then (λ s. option_map (λ (arc : ℕ × ℕ). arc.0) (back s)) (chain_at back t i)

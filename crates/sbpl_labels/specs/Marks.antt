@@ -13,7 +13,7 @@ pub record Marks : Type 0 where
 abbrev pub no_row : Row
 no_row = record { g = 0; v = 0; back = None }
 
--- the labels of a state that no way is known to
+-- the labels of a state to which no way is known
 abbrev pub far_row : Row
 far_row = record { g = FAR; v = FAR; back = None }
 

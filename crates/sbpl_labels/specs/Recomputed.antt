@@ -18,7 +18,7 @@ pub record IsFirstWay (n : Network) (v : ℕ → ℕ) (t g j s k c : ℕ) : Type
   pub least : (i a l d : ℕ) → IsWay n v t i a l d → g ≤ v a + d
   pub first : (i a l d : ℕ) → i < j → IsWay n v t i a l d → g < v a + d
 
--- g is the least over all ways to t and back the first tail that gives it, or g is infinite where there is no way
+-- g is the least over all ways to t and back is the first tail that gives it, or g is infinite where there is no way
 abbrev pub IsRecomputed : Network → (ℕ → ℕ) → ℕ → ℕ → Option (ℕ × ℕ) → Type 0
 IsRecomputed n v t g None = (g ≡ FAR) × ((j s k c : ℕ) → IsWay n v t j s k c → ⊥)
 IsRecomputed n v t g (Some (s, k)) = (j : ℕ) × (c : ℕ) × IsFirstWay n v t g j s k c

@@ -33,7 +33,7 @@ pub struct Labels {
     rows: Rows,
 }
 
-/// The labels of a state that no way is known to.
+/// The labels of a state to which no way is known.
 const FAR_ROW: Row = Row {
     g: FAR,
     v: FAR,
@@ -122,7 +122,7 @@ impl Labels {
     }
 
     /// Lowers g of `t` to this value, which comes over arc `k` of `s`, where that is lower, and
-    /// answers whether it did. Else nothing changes.
+    /// answers whether it did. Otherwise nothing changes.
     pub fn lower(&mut self, t: u32, s: u32, k: u32, value: u64) -> bool
         requires state { t < states_of self.old }
         requires not_start { t ≢ self.old.start }
@@ -237,9 +237,9 @@ impl Labels {
         true
     }
 
-    /// Follows the back arcs from the goal. There is none exactly where the goal's label is
-    /// infinite. Else the chain is broken at its first underconsistent state, exactly where there is
-    /// one. Else it leads to the start, and `into` holds the arc numbers from there; they are a free
+    /// Follows the back arcs from the goal. No way to the goal is known exactly where its label is
+    /// infinite. Otherwise the answer is the first underconsistent state on the chain of back arcs, exactly
+    /// where there is one. Otherwise the chain leads to the start, and `into` holds the arc numbers from there: a free
     /// path whose summed cost is at most the goal's label. After the other answers `into` is empty.
     /// It takes no memory: `into` has room for as many arcs as there are states, and keeps it.
     pub fn walk<G: Graph>(&self, graph: &G, goal: u32, into: &mut Vec<u32>) -> Walk

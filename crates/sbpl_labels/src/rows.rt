@@ -31,7 +31,7 @@ impl Model for Rows {
 }
 
 impl Rows {
-    /// So many rows, each of which is this one.
+    /// This many rows, each equal to this one.
     pub(crate) fn new(alloc: Global, count: usize, row: Row) -> Result<Rows, NoMemory>
         ensures count { IfOk result (λ rows. length rows ≡ count) }
         ensures rows { IfOk result (λ rows. (s : ℕ) → s < count → slice_index_or rows s no_row ≡ row) }

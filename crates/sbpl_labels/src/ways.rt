@@ -10,7 +10,7 @@ use sbpl_graph::{FAR, Graph};
 /// An arc, as its source and its number there, with the v + cost that it brings to its head.
 type Way = ((u32, u32), u64);
 
-/// The arc over which the least v + cost comes to `t`, as its source and its number there, with that
+/// The arc that gives `t` the least v + cost, as its source and its number there, with that
 /// sum. Of equal sums it is the first tail's. There is none where no free arc comes from a finite v.
 pub(crate) fn least_way<G: Graph>(labels: &Labels, graph: &G, t: u32) -> Option<Way>
     requires states { states_of labels.now ≡ (G.network graph.now).states }
@@ -63,7 +63,7 @@ fn lesser_way<G: Graph>(
     }
 }
 
-/// What a way has to bring less than to be better than this one: infinity where there is none yet.
+/// The sum below which a way is better than this one: infinity where there is none yet.
 fn limit(best: Option<Way>) -> u64
     ensures value { result ≡ limit_of best }
 {

@@ -81,7 +81,7 @@ pub fn answer<R: Threads + Wait + Sync, D: Desk, T: Gate + Sync, E: io::Write>(
     ensures quiet { has_message result ≡ false → Keeps (E.contents err.old) (E.contents err.new) }
     // The desk at which files are read again is only read.
     ensures again { ReadsOnly (D.state again.old) (D.state again.new) }
-    // Nothing that is held changes, nothing is written under other names than the job's, and no count falls.
+    // Nothing that is held changes, nothing is written under names other than the job's, and no count falls.
     ensures frame { WritesOnly (MayBeWritten (job_named words.now)) (D.state desk.old) (D.state desk.new) }
 {
     match read_asked(words) {

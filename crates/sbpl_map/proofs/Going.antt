@@ -1,4 +1,4 @@
--- A line more is read.
+-- One more line is read.
 use Rattle.std.proofs.Common.{◌≡◌, ℕ, ◌+◌, ◌≤◌, List, [], ◌∷◌, length, Result, Ok, Err, sym, ap, arith}
 use Rattle.std.specs.Str.Lines.{lines}
 use Rattle.std.proofs.lemmas.List.{length_push}

@@ -107,7 +107,7 @@ measured_verdict m at x y c =
 
 -- ---- lines
 
--- another count of fields
+-- another number of fields
 other_count : (word : List ℕ) (more : List (List ℕ)) → word ≡ codes "cell" → ((x y c : List ℕ) → more ≢ x ∷ y ∷ c ∷ []) → IsOther (word ∷ more)
 other_count word more e n = record {
   some = λ h. cc;

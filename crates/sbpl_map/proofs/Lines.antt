@@ -32,7 +32,7 @@ onto_first_line : (x : List ℕ) (b : ℕ) (parts : List (List ℕ)) → lines_o
 onto_first_line x b [] = refl
 onto_first_line x b (part ∷ parts) = refl
 
--- a text has one part more than line feeds, so one at least
+-- a text has one more part than line feeds, so at least one
 pub lines_of_parts_after : (x : List ℕ) (bs : List ℕ) → lines_of_parts (x ∷ slice_split (λ b. b == 10) bs) ≡ strip_carriage_return x ∷ lines_of_parts (slice_split (λ b. b == 10) bs)
 lines_of_parts_after x [] = refl
 lines_of_parts_after x (b ∷ bs) =
@@ -56,7 +56,7 @@ pub only_line : (text : List ℕ) → 0 < length text → prefix_len is_in_line 
 only_line [] some h = absurd (omega arith)
 only_line (b ∷ bs) some h = ap lines_of_parts (one_part (b ∷ bs) h) ∙ alone b bs
 
--- and else the first line is what stands before the first line feed
+-- and otherwise the first line is what stands before the first line feed
 pub line_before : (text : List ℕ) (end : ℕ) → end ≡ prefix_len is_in_line text → end < length text → lines text ≡ strip_carriage_return (take end text) ∷ lines (drop (end + 1) text)
 line_before text end e h =
     let there = first_part text (rw e at h) in

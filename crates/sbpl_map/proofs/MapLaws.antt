@@ -10,7 +10,7 @@ use Rattle.sbpl_map.specs.CellMap.{CellMap, IsCellMap, cost_at, ChangesCell}
 use Rattle.sbpl_map.specs.MapAfter.{is_to, found_or, last_cost, first_writes, cost_after, IsMapAfter, AreWritten}
 use Rattle.sbpl_map.specs.declared.write.Write.{Write}
 
--- ---- the last of writes one after another
+-- ---- the last of two lists of writes, one after the other
 
 found_or_assoc : (a b c : Option ℕ) → found_or (found_or a b) c ≡ found_or a (found_or b c)
 found_or_assoc (Some x) b c = refl

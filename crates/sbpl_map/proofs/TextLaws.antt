@@ -54,7 +54,7 @@ record StandFor (m : CellMap) (text_lines : List (List ℕ)) (d : Drafted) (batc
   fits : Fits d.batch left
   whole : batches ≡ d.done ++ joined d.batch left
 
--- the writes that are open stay so
+-- the open batch has writes, and no later line ends it
 record StaysUnended (text_lines : List (List ℕ)) (d : Drafted) (f : ChangeFault) : Type 0 where
   skipped : AllByRecursion (λ l. fields l ≡ []) text_lines
   some : d.batch ≢ []
@@ -173,7 +173,7 @@ said_reads m at line more d s h = rw (judged_is m at (fields line) (Ok s) h) ref
 closed_empty : (d : Drafted) → d.batch ≡ [] → closed d ≡ Ok d.done
 closed_empty d e = rw e refl
 
--- what is left is read after what was
+-- the lines that are left complete what was read before them
 abbrev ReadsLeft : CellMap → ℕ → List (List ℕ) → Type 0
 ReadsLeft m at text_lines = (d : Drafted) (left : List (List Write)) → LinesSay m (lines_with_fields text_lines) (spelled left) → Fits d.batch left → reads_on m at text_lines d ≡ Ok (d.done ++ joined d.batch left)
 

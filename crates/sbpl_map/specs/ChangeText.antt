@@ -46,7 +46,7 @@ LineSays m line Replan = line ≡ replan_line
 abbrev pub lines_with_fields : List (List ℕ) → List (List (List ℕ))
 lines_with_fields text_lines = filter has_some (map fields text_lines)
 
--- each says what stands at its index in the list, and there are as many
+-- each says what stands at its index in the list, and both have the same length
 abbrev pub LinesSay : CellMap → List (List (List ℕ)) → List Said → Type 0
 LinesSay m [] [] = Unit {0}
 LinesSay m [] (said ∷ more) = ⊥

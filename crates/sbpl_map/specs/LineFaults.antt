@@ -21,7 +21,7 @@ pub record IsOther (line : List (List ℕ)) : Type 0 where
   pub no_replan : line ≢ replan_line
   pub no_cell : (x y c : List ℕ) → line ≢ cell_line x y c
 
--- a field is no whole number
+-- a field is not a whole number
 abbrev pub IsNoNumber : List ℕ → Type 0
 IsNoNumber field = whole_of field ≡ Err Form
 
@@ -29,7 +29,7 @@ IsNoNumber field = whole_of field ≡ Err Form
 abbrev pub IsOutside : ℕ → List ℕ → Type 0
 IsOutside high field = (whole_of field ≡ Err Size) ⊎ ((n : ℤ) × (whole_of field ≡ Ok n) × ((n <ℤ pos 0) ⊎ (pos high <ℤ n)))
 
--- one of the three is no whole number
+-- one of the three is not a whole number
 abbrev pub HaveNoNumber : List ℕ → List ℕ → List ℕ → Type 0
 HaveNoNumber x y c = IsNoNumber x ⊎ (IsNoNumber y ⊎ IsNoNumber c)
 
@@ -42,7 +42,7 @@ pub record AreOutside (x y c : List ℕ) : Type 0 where
 abbrev pub AreOffMap : CellMap → List ℕ → List ℕ → List ℕ → Type 0
 AreOffMap m x y c = (w : Write) × GiveWrite x y c w × (IsWriteOnMap m w → ⊥)
 
--- the line with this number has three fields after the word of a cell, of which P holds
+-- the line has three fields after the word of a cell, and P holds of them
 abbrev pub OfCell : List (List ℕ) → (List ℕ → List ℕ → List ℕ → Type 0) → Type 0
 OfCell line P = (x : List ℕ) × (y : List ℕ) × (c : List ℕ) × (line ≡ cell_line x y c) × P x y c
 
@@ -57,7 +57,7 @@ HasLineFault m at line NoMemory = ⊥
 
 -- ---- of a text, by its lines
 
--- no line has a fault: each says something, or nothing for want of fields
+-- no line has a fault: each says something, or nothing because it has no fields
 abbrev pub AreSound : CellMap → List (List ℕ) → Type 0
 AreSound m text_lines = AllByRecursion (λ line. (s : Said) × LineSays m (fields line) s) text_lines
 
@@ -82,7 +82,7 @@ pub record LacksReplan (m : CellMap) (first : ℕ) (text_lines : List (List ℕ)
   pub skipped : AllByRecursion (λ l. fields l ≡ []) after
   pub number : at ≡ first + length before
 
--- The text's fault is that of its first faulty line, and where there is none a cell's line after which no batch ends.
+-- The text's fault is that of its first faulty line; where no line is faulty, that of a cell's line after which no batch ends.
 abbrev pub HasFault : CellMap → List ℕ → ChangeFault → Type 0
 HasFault m text f = IsFirstFault m 1 (lines text) f ⊎ ((at : ℕ) × (f ≡ NoReplan at) × LacksReplan m 1 (lines text) at)
 

@@ -10,7 +10,7 @@ is_to w (pos x) (pos y) = (w.x == x) && (w.y == y)
 is_to w (pos x) (negsuc y) = false
 is_to w (negsuc x) y = false
 
--- what was found, or else the other
+-- what was found, or otherwise the other
 abbrev pub found_or : Option ℕ → Option ℕ → Option ℕ
 found_or (Some c) other = Some c
 found_or None other = other

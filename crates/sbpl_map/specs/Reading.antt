@@ -79,7 +79,7 @@ pub record Drafted : Type 0 where
 abbrev pub nothing_read : Drafted
 nothing_read = record { done = []; batch = []; last = 0 }
 
--- a line more, by what it says
+-- one more line, by what it says
 abbrev pub drafted : Drafted → ℕ → Said → Drafted
 drafted d at Nothing = d
 drafted d at (Cell w) = record { done = d.done; batch = d.batch ++ w ∷ []; last = at }

@@ -5,8 +5,8 @@ ghost use Rattle.sbpl_map.specs.declared.write.Write.{Write};
 ghost use Rattle.sbpl_map.specs.CellMap.{CellMap, ChangesCell, IsCellMap};
 ghost use Rattle.sbpl_map.specs.MapAfter.{AreWritten, IsMapAfter};
 
-/// After no batches the map is that of the file. Where a map is that after some batches, and the writes of the next one
-/// are made on it in turn, what comes out is the map after one batch more. There is just one map after each number of batches.
+/// After no batches the map is that of the file. Where the writes of the next batch are made in turn on the map after some
+/// batches, the result is the map after one more batch. There is just one map after each number of batches.
 pub fn writes_lead_to_the_next_map()
     ensures first { (first : CellMap) (batches : List (List Write)) → IsMapAfter first batches 0 first }
     ensures no_writes { (old : CellMap) → AreWritten old [] old }

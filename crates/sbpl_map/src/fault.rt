@@ -1,4 +1,4 @@
-//! Why a text is no list of changes.
+//! Why a text does not stand for changes.
 
 ghost use Rattle.std.specs.Prelude.{◌≡◌};
 ghost use Rattle.sbpl_map.specs.declared.fault.ChangeFault.TheVariants.{NoMemory as Memory};
@@ -12,7 +12,7 @@ use thiserror::Error;
 /// the faults come in the order of the variants; `NoReplan` comes only where no line is faulty.
 #[derive(Clone, Copy, Debug, PartialEq, Eq, Error)]
 pub enum ChangeFault {
-    /// The first field is neither `cell` nor `replan`, or the count of fields is wrong.
+    /// The first field is neither `cell` nor `replan`, or the number of fields is wrong.
     #[error("neither a cell nor a replan, at line {0}")]
     Word(u64),
     /// A field after `cell` is not a whole number.

@@ -17,7 +17,7 @@ const FARTHEST: u32 = 8_388_607;
 /// The greatest cost.
 const DEAREST: u32 = 255;
 
-/// Whether a text had not the form of a number.
+/// Whether a text does not have the form of a number.
 fn lacks_form(read: Result<i64, NumFault>) -> bool
     ensures form { result ≡ lacks_form read }
 {

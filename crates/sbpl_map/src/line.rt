@@ -37,7 +37,7 @@ pub(crate) fn first_line(text: &[u8]) -> (&[u8], &[u8])
     (without_return(&text[..end]), &text[end + 1..])
 }
 
-/// Spaces and tabs part fields.
+/// Spaces and tabs separate fields.
 fn is_parting(byte: u8) -> bool
     ensures parting { result ≡ is_parting byte }
 {

@@ -48,7 +48,7 @@ impl Draft {
         })
     }
 
-    /// A line more, with its number.
+    /// One more line, with its number.
     fn add(&mut self, number: u64, said: Said) -> Result<(), NoMemory>
         requires few { length self.old.done + 1 < 2 ^ 32 }
         ensures added { OnOk result (self.new ≡ drafted self.old number said) }
@@ -98,7 +98,7 @@ fn changes(alloc: Global, text: &[u8], map: &Map) -> Result<Changes, ChangeFault
 }
 
 /// Reads a change file of at most 2^30 bytes for a map. Its lines end at line feeds, and one carriage return before a line
-/// feed is dropped. The fields of a line are parted by spaces and tabs. `cell X Y C` writes cost C to cell (X, Y), `replan`
+/// feed is dropped. The fields of a line are separated by spaces and tabs. `cell X Y C` writes cost C to cell (X, Y), `replan`
 /// ends a batch, and a line without fields is skipped. A fault is that of the first faulty line; lines are numbered from 1,
 /// skipped ones too.
 pub fn read_changes(alloc: Global, text: &[u8], map: &Map) -> Result<Changes, ChangeFault>

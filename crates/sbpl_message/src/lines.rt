@@ -34,7 +34,7 @@ pub fn line_and_column(text: &[u8], place: usize) -> (usize, usize)
     (line_feeds(before) + 1, last_len(before) + 1)
 }
 
-/// Whether a byte parts tokens.
+/// Whether a byte separates tokens.
 fn is_blank(byte: u8) -> bool
     ensures blank { result ≡ is_blank byte }
 {

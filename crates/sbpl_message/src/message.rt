@@ -28,7 +28,7 @@ fn push_number(out: &mut Vec<u8>, number: usize) -> Result<(), NoMemory>
     Ok(())
 }
 
-/// A byte as a message shows it: a byte that a terminal might obey is shown as `?`.
+/// A byte as a message shows it: a byte that a terminal might act on is shown as `?`.
 fn shown_byte(byte: u8) -> u8
     ensures shown { result ≡ shown_byte byte }
 {

@@ -10,7 +10,7 @@ use sbpl_fixed::NoMemory;
 use sbpl_mprim::PrimFault;
 use std::alloc::Global;
 
-/// What must stand after the words at the head of the file, so many tokens after the word.
+/// What must stand after the words at the head of the file, this many tokens after the word.
 fn wanted_of_head(word: &[u8], after: usize) -> Option<&'static str> {
     if is_named(word, "resolution_m:") {
         return Some(match after {
@@ -79,7 +79,7 @@ fn wanted_of_poses(word: &[u8], after: usize) -> Option<&'static str> {
     None
 }
 
-/// What must stand so many tokens after a word of the file, or at its start where no word stands before.
+/// What must stand this many tokens after a word of the file, or at its start where no word stands before.
 fn wanted_after(word: &[u8], after: usize) -> &'static str {
     wanted_of_head(word, after)
         .or(wanted_of_ends(word, after))
@@ -87,7 +87,7 @@ fn wanted_after(word: &[u8], after: usize) -> &'static str {
         .unwrap_or("resolution_m: must stand here")
 }
 
-/// The word that must stand so many tokens after a word of the file. After the poses of a primitive it is that of the next one.
+/// The word that must stand this many tokens after a word of the file. After the poses of a primitive it is that of the next one.
 fn wanted_word(word: &[u8], after: usize) -> &'static str {
     if is_named(word, "intermediateposes:") && after > 0 {
         "primID: must stand here"

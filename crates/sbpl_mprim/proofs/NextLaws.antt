@@ -12,7 +12,7 @@ use Rattle.sbpl_mprim.specs.Primitives.{ArePrimitives, HaveOwnIds, IsPrimitive, 
 use Rattle.sbpl_mprim.proofs.JudgingLaws.{id_taken, taken}
 use Rattle.sbpl_mprim.proofs.Indices.{all_at, at_all, at_front, at_seam, front_at}
 
--- a primitive may stand after these
+-- a primitive may stand right after these
 pub record IsNext (cell : ℤ) (headings : ℕ) (earlier : List Primitive) (prim : Primitive) : Type 0 where
   pub prim_is : IsPrimitive cell headings prim
   pub own : has_id earlier prim.from prim.id ≡ false
@@ -36,7 +36,7 @@ next_few cell headings earlier (p ∷ ps) few h =
     let more = next_few cell headings (earlier ++ p ∷ []) ps one h.1 in
     rw append_assoc at more
 
--- the id of each is its own among those before it
+-- no primitive has the start heading and the id of one before it
 own_id : (cell : ℤ) (headings : ℕ) (earlier ps : List Primitive) → AreNext cell headings earlier ps → (i j : ℕ) (p q : Primitive) → i < length earlier + j
     → slice_get (earlier ++ ps) i ≡ Some p → slice_get ps j ≡ Some q → p.from ≡ q.from → p.id ≢ q.id
 unfolding AreNext
@@ -54,7 +54,7 @@ own_id cell headings earlier (r ∷ ps) h i (suc j) p q lt e f g k =
 pub next_own : (cell : ℤ) (headings : ℕ) (ps : List Primitive) → AreNext cell headings [] ps → HaveOwnIds ps
 next_own cell headings ps h = λ i j p q lt e f g k. own_id cell headings [] ps h i j p q (omega arith) e f g k
 
--- primitives that stand after none are what a file may give
+-- primitives each of which may stand after those before it are what a file may give
 pub next_are : (cell : ℤ) (headings : ℕ) (ps : List Primitive) → IsWithin (pos 1) (pos 1000000000000) cell → 1 ≤ headings → headings ≤ 64 → length ps ≤ 4096 → AreNext cell headings [] ps
     → ArePrimitives (record { cell = cell; headings = headings; items = ps })
 next_are cell headings ps size some most count h = record {

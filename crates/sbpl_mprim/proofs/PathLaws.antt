@@ -34,7 +34,7 @@ pose_said headings ts p rest range h =
 
 -- ---- several poses
 
--- what a turn said: one pose more
+-- what a round said: one more pose
 pub turn_found : (headings : ℕ) (poses : List Pose) (ts : List Piece) (qs : List Pose) (rest : List Piece) → Says (pose_turn poses) ts qs rest
     → (p : Pose) × (qs ≡ poses ++ p ∷ []) × IsOffsetInRange p × Spells headings (spelled_pose p) ts rest
 unfolding pose_turn
@@ -52,7 +52,7 @@ turn_said headings poses ts p rest range h =
     let b : Says (done (poses ++ a.0.pose ∷ [])) rest (poses ++ p ∷ []) rest = rw a.1 (say_done PrimFault (poses ++ p ∷ []) rest rest refl) in
     says_both pose_format (λ (q : PlacedPose). done (poses ++ q.pose ∷ [])) ts rest rest a.0 (poses ++ p ∷ []) a.2 b
 
--- what some turns said
+-- what some rounds said
 pub record PosesFound (headings count : ℕ) (poses : List Pose) (ts : List Piece) (qs : List Pose) (rest : List Piece) : Type 0 where
   pub more : List Pose
   pub all : qs ≡ poses ++ more

@@ -163,7 +163,7 @@ mult_said headings ts m rest small h =
     say_whole _ headings _ _ (pos m) _ _ us rest (natural_within m 16777215 small) k (λ _ vs l.
     (m, refl, say_done PrimFault m vs rest (none_spelled headings vs rest l))))
 
--- ---- how many poses
+-- ---- the number of poses
 
 pub count_found : (headings before : ℕ) (ts : List Piece) (n : ℕ) (rest : List Piece) → Says (count_format before) ts n rest
     → Spells headings (a_word (codes "intermediateposes:") ∷ a_whole (pos n) ∷ []) ts rest × (1 ≤ n) × (before + n ≤ 200000)

@@ -105,7 +105,7 @@ fixed_ok word bytes e = let t : bytes_eq bytes word ≡ true = (bytes_eq-Decides
 
 -- ---- the first item, when a format says something
 
--- an item said v where it stood, and the format goes on after it; the token's saying goes before what is spelled there
+-- an item said a value, and the format goes on after it; that token's saying comes before those of the tokens that follow
 pub record Found {E A : Type 0} (headings : ℕ) (more : ℕ → ℤ → Format E A) (saying : ℤ → Saying) (range : ℤ → Type 0) (ts : List Piece) (x : A) (rest : List Piece) : Type 0 where
   pub place : ℕ
   pub value : ℤ

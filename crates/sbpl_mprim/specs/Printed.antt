@@ -1,4 +1,4 @@
--- The text of primitives. The words of a line are parted by one space, and every line ends with one line feed.
+-- The text of primitives. The words of a line are separated by one space, and every line ends with one line feed.
 use Rattle.std.specs.Prelude.{◌≡◌, ℕ, ◌≤◌, Some, slice_get, List, [], ◌∷◌, ◌++◌, length, map, codes, decimal}
 use Rattle.std.specs.Fmt.{signed_decimal}
 use Rattle.std.specs.List.{flat_map}

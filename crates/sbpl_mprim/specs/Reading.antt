@@ -31,7 +31,7 @@ path_format count = and_then (turns (count - 1) pose_turn []) (λ poses. and_the
 
 -- ---- one primitive
 
--- the id and the start heading, which no earlier primitive has both
+-- the id and the start heading; no earlier primitive has both
 unfoldable pub start_format : ℕ → List Primitive → Format PrimFault Start
 start_format headings earlier =
     item (fixed (codes "primID:")) (λ _ _. item (whole (pos 0) (pos 65535)) (λ place id.

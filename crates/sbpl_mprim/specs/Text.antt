@@ -29,7 +29,7 @@ Means headings (a_whole n) bytes = whole_of bytes ≡ Ok n
 Means headings (a_nano n) bytes = nano_of bytes ≡ Ok n
 Means headings (a_heading to) bytes = (n : ℤ) × (whole_of bytes ≡ Ok n) × IsWithin (negsuc 32766) (pos 32767) n × (heading_modulo headings n ≡ to)
 
--- as many tokens as sayings, each of which says its own
+-- there are as many tokens as sayings, and each token says the one at its index
 unfoldable pub AreMeant : ℕ → List Saying → List Piece → Type 0
 AreMeant headings [] [] = Unit {0}
 AreMeant headings [] (t ∷ ts) = ⊥
@@ -41,7 +41,7 @@ pub record Shows (headings : ℕ) (s : Saying) (word : List ℕ) : Type 0 where
   pub is_word : IsWord word
   pub means : Means headings s word
 
--- as many words as sayings, each of which says its own
+-- there are as many words as sayings, and each word says the one at its index
 unfoldable pub AreShown : ℕ → List Saying → List (List ℕ) → Type 0
 AreShown headings [] [] = Unit {0}
 AreShown headings [] (w ∷ ws) = ⊥

@@ -1,4 +1,4 @@
-//! Why a text stands for no primitives.
+//! Why a text does not stand for primitives.
 
 ghost use Rattle.std.specs.Prelude.{◌≡◌};
 ghost use Rattle.sbpl_mprim.specs.declared.fault.PrimFault.TheVariants.{NoMemory as Memory};
@@ -8,8 +8,8 @@ use sbpl_fixed::{NoMemory, TextFault};
 use std::alloc::{AllocError, AllocFailed};
 use thiserror::Error;
 
-/// Why a text stands for no primitives: its first fault in reading order, with the offset of the token that is wrong,
-/// that of its first byte. The offset of a missing token is the length of the text.
+/// Why a text does not stand for primitives: its first fault in reading order, with the offset of the first byte of the
+/// token that is wrong. The offset of a missing token is the length of the text.
 #[derive(Clone, Copy, Debug, PartialEq, Eq, Error)]
 pub enum PrimFault {
     /// Another token stands where a fixed word must stand.
@@ -48,7 +48,7 @@ pub enum PrimFault {
     /// The multiplier is 0, or all poses are at one point and the headings are equal. The offset is that of the id.
     #[error("byte {0}: a primitive that costs nothing")]
     ZeroCost(usize),
-    /// The poses read so far and those announced are above 200,000. The offset is that of the number announced.
+    /// The poses read so far and those announced are more than 200,000 together. The offset is that of the number announced.
     #[error("byte {0}: too many poses")]
     TooLarge(usize),
     /// Memory ran out. This says nothing of the text.

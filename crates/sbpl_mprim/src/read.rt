@@ -35,7 +35,7 @@ fn read_file(alloc: Global, text: &[u8], cell: i64, headings: u32) -> Result<Pri
 }
 
 /// Reads a primitive file of SBPL's form, for a cell size in nanometres and a number of headings. Where the format has no
-/// such cell size or no such number of headings, no text stands for primitives. Blanks of any kind part its tokens. `Ok`
+/// such cell size or no such number of headings, no text stands for primitives. Any blanks separate its tokens. `Ok`
 /// has the primitives that the text stands for, in file order. Any other text has exactly one first fault in reading
 /// order, which is answered with its offset. `NoMemory` says nothing of the text.
 pub fn read_prims(alloc: Global, text: &[u8], cell: i64, headings: u32) -> Result<Prims, PrimFault>
@@ -49,7 +49,7 @@ pub fn read_prims(alloc: Global, text: &[u8], cell: i64, headings: u32) -> Resul
     ensures faulty { IfErr result (λ e. e ≢ Memory → HasFault cell headings text.now e) }
     // A first fault is answered, unless memory runs out.
     ensures only_faulty { (e : AFault) → HasFault cell headings text.now e → Answers Memory (λ x. x) result (Err e) }
-    // All at once, as the format reads.
+    // All of this at once: the answer is what reading by the format gives.
     ensures exact { Answers Memory (λ ps. ps.items) result (reads_text told (prims_format cell headings) text.now) }
 {
     read_file(alloc, text, cell, headings)

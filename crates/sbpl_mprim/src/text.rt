@@ -11,8 +11,8 @@ ghost use Rattle.sbpl_mprim.specs.Text.{AreShown, AreSizes, HasFault, IsFaulty, 
 
 /// For a cell size and a number of headings every text stands for exactly one list of primitives or has exactly one fault,
 /// and never both. A text stands for primitives where its tokens are the words and numbers of the file in their order,
-/// with these values, and the primitives are what a file may give; that is just what the format says which gives the
-/// faults. What is printed of primitives stands for them, so reading it gives them back; and so do other lines of words
+/// with these values, and the primitives are what a file may give. The format, which gives the faults, says exactly the
+/// same. What is printed of primitives stands for them, so reading it gives them back; and so do other lines of words
 /// that say the same.
 pub fn texts_are_primitives_or_faulty()
     ensures format { (text : List ℕ) (ps : Primitives) → AreSizes ps.cell ps.headings → StandsFor (prims_format ps.cell ps.headings) text ps.items ↔ IsTextOf text ps }

@@ -168,7 +168,7 @@ agreed_closed {heap} {heap'} {slots} {slots'} gap last agreed longer len before 
       (cases_eq x (state_at heap gap));
 }
 
--- of an empty heap no state is there
+-- in an empty heap there is no state
 pub absent_all : {heap : List Entry} {slots : List ℕ} → AreAgreed heap slots → length heap ≡ 0 → (s : ℕ) → slice_index slots s ≡ 0
 absent_all {heap} {slots} agreed none s =
     ⊎_elim

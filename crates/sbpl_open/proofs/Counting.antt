@@ -6,7 +6,7 @@ use Rattle.sbpl_open.specs.declared.entry.Entry.{Entry}
 use Rattle.sbpl_open.specs.Entries.{state_at}
 use Rattle.sbpl_open.specs.Heap.{AreAgreed}
 
--- 1 where an entry of the table is one of the first j slots, else 0
+-- 1 where an entry of the table is one of the first j slots, and 0 otherwise
 abbrev hit : ℕ → ℕ → ℕ
 hit slot j = if nat_lt 0 slot && nat_le slot j then 1 else 0
 

@@ -65,7 +65,7 @@ hole_pushed {heap} {slots} entry agreed ordered absent known =
       ordered = rw more (heap_pushed ordered (λ i within. ap rank (same i within)));
     }
 
--- the last entry has left the end of the heap, and its state s or that at the gap the table
+-- the last entry leaves the end of the heap, and s, the state at the gap, leaves the table
 module _ (heap : List Entry) (slots : List ℕ) (s gap last : ℕ) (agreed : AreAgreed heap slots)
     (ordered : IsHeap (length heap) (rank_at heap)) (len : length heap ≡ last + 1) (own : state_at heap gap ≡ s) where
   front_len : length (take last heap) ≡ last

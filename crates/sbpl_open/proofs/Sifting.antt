@@ -9,7 +9,7 @@ use Rattle.sbpl_open.proofs.Counting.{states_at_most}
 use Rattle.sbpl_open.proofs.Keeping.{keys_swapped}
 use Rattle.sbpl_open.proofs.Ordering.{heap_up, heap_down, after_down}
 
--- a hole that has moved from where it began: the same keys, as many entries and as many states
+-- a hole that has moved from where it began: the same keys, and the same numbers of entries and of states
 pub record IsMoving (heap' : List Entry) (slots' : List ℕ) (hole' : ℕ) (heap : List Entry) (slots : List ℕ) (hole : ℕ) (entry : Entry) : Type 0 where
   pub len : length heap ≡ length heap'
   pub states : length slots ≡ length slots'
@@ -123,7 +123,7 @@ module _ (heap : List Entry) (slots : List ℕ) (hole next : ℕ) (entry : Entry
   rank_others : (i : ℕ) → i ≢ hole → i ≢ next → rank_at (filled heap_next next entry) i ≡ rank_at (filled heap hole entry) i
   rank_others i not_hole not_next = ap rank (step_swapped.others i not_hole not_next)
 
--- what a hole's number and its entry's state are below
+-- a hole and its entry's state are below the number of states
 pub hole_fits : {heap : List Entry} {slots : List ℕ} {hole : ℕ} {entry : Entry} → HasHole heap slots hole entry → hole < length slots
 hole_fits {heap} {slots} {hole} {entry} stands =
     let len = length_filled heap hole entry in

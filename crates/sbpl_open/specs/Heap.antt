@@ -11,15 +11,15 @@ rank entry = (entry.first * 2 ^ 64 + entry.second) * 2 ^ 32 + entry.state
 abbrev pub rank_at : List Entry → ℕ → ℕ
 rank_at heap i = rank (entry_at heap i)
 
--- the slot above a slot, which is not the first
+-- the slot above a slot that is not the first: its parent
 abbrev pub parent : ℕ → ℕ
 parent i = (i - 1) / 4
 
--- in order: nothing comes before what is above it
+-- in order: no entry comes before what is above it
 pub record IsHeap (len : ℕ) (r : ℕ → ℕ) : Type 0 where
   pub upward : (i : ℕ) → 0 < i → i < len → r (parent i) ≤ r i
 
--- in order but at one slot: what is below it does not come before what is above it
+-- in order except at one slot: what is below it does not come before what is above it
 pub record IsHeapBut (len : ℕ) (r : ℕ → ℕ) (hole : ℕ) : Type 0 where
   pub upward : (i : ℕ) → 0 < i → i < len → i ≢ hole → parent i ≢ hole → r (parent i) ≤ r i
   pub across : (i : ℕ) → 0 < i → i < len → parent i ≡ hole → 0 < hole → r (parent hole) ≤ r i
@@ -40,8 +40,8 @@ abbrev pub IsChild : ℕ → (ℕ → ℕ) → ℕ → Option ℕ → Type 0
 IsChild len r hole child =
     MatchOption child ((i : ℕ) → 0 < i → parent i ≡ hole → len ≤ i) (λ c. IsFirstChild len r hole c)
 
--- the table of slots agrees with the heap: a state's number there is 0 where it is not in the heap, and else one more
--- than its slot
+-- the table of slots agrees with the heap: a state's number there is 0 where it is not in the heap, and otherwise one
+-- more than its slot
 pub record AreAgreed (heap : List Entry) (slots : List ℕ) : Type 0 where
   pub inside : (i : ℕ) → i < length heap → state_at heap i < length slots
   pub placed : (i : ℕ) → i < length heap → slice_index slots (state_at heap i) ≡ i + 1
@@ -71,7 +71,7 @@ filled heap at entry = slice_set heap at entry
 abbrev pub placed_at : List ℕ → ℕ → Entry → List ℕ
 placed_at slots at entry = slice_set slots entry.state (at + 1)
 
--- a slot of the heap stands open for an entry: with it there, the table agrees, and the heap is in order but at that
+-- a slot of the heap stands open for an entry: with it there, the table agrees, and the heap is in order except at that
 -- slot
 pub record HasHole (heap : List Entry) (slots : List ℕ) (hole : ℕ) (entry : Entry) : Type 0 where
   pub inside : hole < length heap

@@ -6,7 +6,7 @@ ghost use Rattle.sbpl_open.specs.Heap.{rank};
 
 use crate::Key;
 
-/// An open state with its key, whose parts stand beside it.
+/// An open state with the two parts of its key.
 #[derive(Clone, Copy, Debug, PartialEq, Eq)]
 pub struct Entry {
     /// The key's first part.

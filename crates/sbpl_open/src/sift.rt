@@ -6,7 +6,7 @@ ghost use Rattle.sbpl_open.specs.Heap.{AreAgreed, HasHole, IsNotBefore, IsChild,
 
 use crate::Entry;
 
-/// Puts the entry into the heap, which is in order but at the hole.
+/// Puts the entry into the heap, which is in order except at the hole.
 pub(crate) fn sift(heap: &mut [Entry], slots: &mut [u32], hole: usize, entry: Entry)
     requires few { length slots.old < 2 ^ 32 }
     requires hole { HasHole heap.old slots.old hole entry }

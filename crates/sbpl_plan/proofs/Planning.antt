@@ -24,7 +24,7 @@ use Rattle.sbpl_plan.specs.Planned.{IsPlanned}
 use Rattle.sbpl_plan.specs.ReadyAfter.{IsReadyAfter}
 use Rattle.sbpl_plan.proofs.Results.{outcome_is_known, outcome_is_true, run_is_spent}
 
--- one pass more
+-- from an inflation there can be at least one more pass than from the next one
 more_passes : (step eps : ℕ) → 1 ≤ step → 1000 ≤ eps → eps ≢ 1000 → 1 + most_passes step (lowered step eps) ≤ most_passes step eps
 more_passes step eps some low other = elim (cases_lt eps (1000 + step)) [
   | inl near ↦
@@ -55,7 +55,7 @@ grows_by_none : (before : Counts) → before ≡ record before { plan = before.p
 grows_by_none before =
     ap (λ (x : ℕ). record before { plan = x }) (sym (add-zero before.plan)) ∙ ap (λ (x : ℕ). record before { plan = before.plan + 0; run = x }) (sym (add-zero before.run))
 
--- one pass more expands at most as many more
+-- one more pass, with at most a given number of expansions
 one_more : (a b c l k s : ℕ) → c ≡ a + b → k ≡ l + 1 → a ≤ l * s → b ≤ s → c ≤ k * s
 one_more a b c l k s sum count most few = rw (count, add-mul l 1 s) (let one : 1 * s ≡ s = omega arith in omega arith)
 

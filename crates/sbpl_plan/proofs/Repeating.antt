@@ -1,4 +1,4 @@
--- The passes of a plan are one.
+-- The passes of a plan are determined.
 use Rattle.std.proofs.Common.{◌≡◌, ℕ, ◌+◌, ◌-◌, ◌^◌, ◌<◌, ◌≤◌, Bool, true, false, if◌then◌else◌, None, List, [], ◌∷◌, min, refl, sym, ap, subst, arith, ⊎_elim, inl, inr, ◌∙◌}
 use Rattle.std.proofs.lemmas.Bool.{false≢true}
 use Rattle.sbpl_labels.specs.Marks.{Marks, states_of, back_of}
@@ -60,7 +60,7 @@ module _ {Note : Type 0} (means : Meaning Note) (laws : AreDetermined means) (q 
       let most' : means.expansions xs ≤ means.expansions ys = laws.longest q old b a ys xs right left ends' in
       as_many (omega arith) false
 
--- two passes that are one
+-- two passes that are the same
 record AreOnePass {Note : Type 0} (p p' : Pass Note) (a b : Marks) (spent spent' : Bool) : Type 0 where
   pass : p ≡ p'
   labels : a ≡ b

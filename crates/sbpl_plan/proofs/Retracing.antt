@@ -1,4 +1,4 @@
--- What labels show is one: the path that back arcs lead along, its cost and its bound.
+-- What labels show is determined: the path that back arcs lead along, its cost and its bound.
 use Rattle.std.proofs.Common.{◌≡◌, ◌≢◌, ℕ, ◌<◌, ◌≤◌, Option, Some, None, List, [], ◌∷◌, length, refl, sym, ap, arith, ⊎_elim, inl, inr, ◌∙◌}
 use Rattle.std.proofs.lemmas.Bool.{cases_eq}
 use Rattle.std.proofs.lemmas.Option.{none-some, same_Some}
@@ -20,14 +20,14 @@ use Rattle.sbpl_search.specs.Determined.{AreAlikeGuides}
 use Rattle.sbpl_plan.specs.Determined.{OutcomesAreOne}
 use Rattle.sbpl_plan.proofs.Results.{no_path_found}
 
--- arcs that are one have one source and one number
+-- arcs that are the same have one source and one number
 same_arc : (a j s k : ℕ) → ◌≡◌ {A = Option (ℕ × ℕ)} (Some (a, j)) (Some (s, k)) → (a ≡ s) × (j ≡ k)
 same_arc a j s k e =
     let inner : ◌≡◌ {A = ℕ × ℕ} (a, j) (s, k) = cc in
     (ap (λ (p : ℕ × ℕ). p.0) inner, ap (λ (p : ℕ × ℕ). p.1) inner)
 
 module _ (back : ℕ → Option (ℕ × ℕ)) (t : ℕ) where
-  -- two ways along back arcs that are as long are one
+  -- two ways along back arcs of the same length are the same
   as_long : (xs ys : List ℕ) (s u : ℕ) → IsBackPath back s xs t → IsBackPath back u ys t → length xs ≡ length ys → (s ≡ u) × (xs ≡ ys)
   as_long [] [] s u left right same = (left ∙ sym right, refl)
   as_long [] (y ∷ ys) s u left right same = absurd (omega arith)
@@ -91,7 +91,7 @@ pub guided_path : {n : Network} {h : ℕ → ℕ} (h' : ℕ → ℕ) {goal : ℕ
 guided_path h' alike path = record { walk = path.walk; low = path.low; low_is = guided_low h' alike path.low_is; bound_is = path.bound_is }
 
 module _ (n : Network) (h : ℕ → ℕ) (goal : ℕ) (m : Marks) (none : back_of m m.start ≡ None) where
-  -- the path that was found is one
+  -- the path that was found is determined
   pub one_path : {arcs arcs' : List ℕ} {cost cost' bound bound' : ℕ} → IsPathFound n h goal m arcs cost bound → IsPathFound n h goal m arcs' cost' bound'
       → (arcs ≡ arcs') × (cost ≡ cost') × (bound ≡ bound')
   one_path {arcs} {arcs'} {cost} {cost'} {bound} {bound'} a b =
@@ -102,7 +102,7 @@ module _ (n : Network) (h : ℕ → ℕ) (goal : ℕ) (m : Marks) (none : back_o
       let bounds : IsBound cost a.low bound' = rw (price, lows) b.bound_is in
       (way, price, one_bound a.bound_is bounds)
 
-  -- what the walk gives is one
+  -- what the walk gives is determined
   pub one_find : (arcs arcs' : List ℕ) (f f' : Found) → WalkFinds n h goal m arcs f → WalkFinds n h goal m arcs' f' → f ≡ f'
   one_find arcs arcs' (found.Path cost bound) (found.Path cost' bound') a b =
       let one = one_path a b in
@@ -129,7 +129,7 @@ module _ (n : Network) (h : ℕ → ℕ) (goal : ℕ) (m : Marks) (none : back_o
       let far : g_of m goal ≡ FAR = cut.goal_is_far in
       omega arith
 
-  -- the result is one
+  -- the result is determined
   pub one_outcome : (o o' : Outcome FoundPath) → IsResultOf n h goal m o → IsResultOf n h goal m o' → o ≡ o'
   one_outcome (outcome.Path p) (outcome.Path r) a b =
       let one = one_path a b in

@@ -23,7 +23,7 @@ pub record AreOnePlan {Note : Type 0} (ps qs : List (Pass Note)) (a b : Marks) (
   pub labels : a ≡ b
   pub both : spent ≡ spent'
 
--- two plans of a planner that begin with the same labels, the start's with no back arc, are one where the guides, the budget and what the run has left are the same
+-- two plans of a planner that begin with the same labels, the start's with no back arc, are the same where the guides, the budget and what the run has left are the same
 abbrev pub PassesAreOne : {Note : Type 0} → Meaning Note → Type 0
 PassesAreOne {Note = Note} means = (q : Inquiry) (h : ℕ → ℕ) (budget before eps : ℕ) (old a b : Marks) (ps qs : List (Pass Note)) (spent spent' : Bool)
     → back_of old old.start ≡ None → AreAlikeGuides (states_of old) q.guide h

@@ -1,4 +1,4 @@
--- What stands where a plan ended out of memory.
+-- What is left where a plan ended out of memory.
 use Rattle.std.specs.Prelude.{ℕ, ◌⊎◌, List}
 use Rattle.sbpl_labels.specs.Counts.{Counts}
 use Rattle.sbpl_search.specs.Meaning.{Meaning}

@@ -1,4 +1,4 @@
-//! What the definitions leave open of a plan, which is nothing.
+//! That the definitions leave nothing of a plan open.
 
 ghost use Rattle.sbpl_plan.specs.Determined.{OutcomesAreOne, PassesAreOne};
 

@@ -33,7 +33,7 @@ of_else seat all p other =
     let none : of seat (p ∷ []) ≡ [] = ap (λ (b : Bool). cond b (p ∷ []) []) (ne_eqb p.seat seat other) in
     filter-append (is_of seat) all (p ∷ []) ∙ ap (λ (ps : List Post). of seat all ++ ps) none ∙ append-nil (of seat all)
 
--- of a seat that nothing is of
+-- where all posts are of other seats, none is of this one
 pub of_none : (seat : ℕ) (all : List Post) → All (λ (p : Post). p.seat ≢ seat) all → of seat all ≡ []
 of_none seat [] none = refl
 of_none seat (p ∷ rest) none =

@@ -1,4 +1,4 @@
--- What whoever takes judgements out of a line knows.
+-- What is known to whoever takes judgements out of a line.
 use Rattle.std.specs.Prelude.{ℕ, List}
 use Rattle.sbpl_postings.specs.declared.post.Post.{Post}
 use Rattle.sbpl_postings.specs.declared.post.Sent.{Sent}

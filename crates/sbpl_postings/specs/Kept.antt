@@ -28,8 +28,8 @@ abbrev pub AreApart : List Sent → Type 0
 AreApart [] = ⊤
 AreApart (sent ∷ rest) = All (λ other. other.seat ≢ sent.seat) rest × AreApart rest
 
--- There is one drain. The seats of senders, those that have ended too, all differ and are below the count of those made. Of each
--- what came out and then what the queue holds is what it put in; and a seat that is not made yet has nothing there.
+-- There is one drain. The seats of senders, those that have ended too, all differ and are below the count of those made. For
+-- each, what came out and then what the queue holds is what it put in; and a seat that is not made yet has put nothing in.
 pub record AreKept (place : ℕ) (now : Drained) (all : List Post) (views : List Known) : Type 0 where
   pub drains : IsDrain views place now
   pub alone : (other : ℕ) (than : Drained) → IsDrain views other than → other ≡ place
@@ -43,7 +43,7 @@ pub record AreKept (place : ℕ) (now : Drained) (all : List Post) (views : List
 abbrev pub IsKept : (items : List Post) → List Known → Type 0
 IsKept items views = (place : ℕ) × (now : Drained) × AreKept place now (now.came ++ items) views
 
--- of each sender that has ended, what came out and then these items is what it had put in; and there is not less of it than they put in
+-- for each sender that has ended, what came out and then these items is what it had put in; together they are no fewer than those put in
 pub record AreBrought (now : Drained) (items : List Post) : Type 0 where
   pub each : All (λ sent. of sent.seat (now.came ++ items) ≡ sent.posts) now.ended
   pub count : sum_by (λ sent. length sent.posts) now.ended ≤ length (now.came ++ items)

@@ -1,4 +1,4 @@
--- What came back of which worker.
+-- What came back from which worker.
 use Rattle.std.specs.Prelude.{ℕ, nat_eq, List}
 use Rattle.std.specs.List.{filter}
 use Rattle.sbpl_frontier_core.specs.declared.name.Pass.{Ghosts as PassGhosts}

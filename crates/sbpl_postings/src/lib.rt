@@ -1,5 +1,5 @@
 //! The line by which judgements come back: workers put them in without waiting for each other, and whoever holds the frontier takes
-//! them out. Of each worker what comes out is what it put in, in its order, whole and once.
+//! them out. For each worker, what comes out is what it put in, in its order, whole and once.
 #![tactic(auto)]
 
 mod drain;

@@ -34,7 +34,7 @@ impl<N: Pass, M: Naming, L: Lined> Model for Queue<N, M, L> {
 }
 
 impl<N: Pass, M: Naming, L: Lined> Queue<N, M, L> {
-    /// Puts a posting of the sender's seat in. Where the queue is full it comes back. It takes no memory and no lock.
+    /// Puts a posting of the sender's seat in. Where the queue is full the posting comes back. It takes no memory and no lock.
     pub fn push<R: Wait>(
         &self,
         rt: &R,

@@ -13,7 +13,7 @@ pub(crate) type Postings<N, M> = RuledArrayQueue<Posting<N, M>, Known, Rule>;
 /// A pass of it.
 pub(crate) type PostingPass<N, M> = PassOf<Posting<N, M>, Known>;
 
-/// Of each sender what was taken out and then what the queue holds is what it put in.
+/// For each sender, what was taken out and then what the queue holds is what it put in.
 pub(crate) struct Rule;
 
 impl<N: Pass, M: Naming> Protocol<Posting<N, M>, Known> for Rule {

@@ -1,4 +1,4 @@
--- Labels before and after a change of the map, and what stands where memory runs out.
+-- Labels before and after a change of the map, and what is left where memory runs out.
 use Rattle.std.proofs.Common.{◌≡◌, ℕ, ◌+◌, ◌^◌, ◌<◌, List, slice_index_or, Result, Ok, Err, refl, sym, ◌∙◌, ap, subst, arith, inl, inr}
 use Rattle.std.specs.Prelude.{OnErr}
 use Rattle.std.proofs.lemmas.List.{get_or_default}
@@ -19,7 +19,7 @@ use Rattle.sbpl_cost.specs.Lattices.{network_of}
 use Rattle.sbpl_heur.specs.Bests.{distance_in}
 use Rattle.sbpl_replan.specs.Replanning.{IsReadyIn, Replanning, StandsOutOfMemory, at_plan, inquiry}
 
--- another map has as many states
+-- another map has the same number of states
 pub same_states : (w v : World) → v ≡ record w { map = v.map } → (network_of v).states ≡ (network_of w).states
 unfolding network_of
 same_states w v others = ap (λ (u : World). (network_of u).states) others
@@ -34,12 +34,12 @@ changeable law n n' m touched same is among kept = record {
       law n n' m.start _ _ _ is.exact t (subst (λ (states : ℕ). t < states) is.states inside) apart (record { kept = arcs.kept; none_new = arcs.none_new });
 }
 
--- what follows where memory ran out
+-- what follows from what holds where memory ran out
 pub on_err_so : {A E : Type 0} (r : Result A E) (P Q : Type 0) → (P → Q) → OnErr r P → OnErr r Q
 on_err_so (Ok x) P Q so h = tt
 on_err_so (Err e) P Q so h = so h
 
--- what stands where memory ran out in a plan
+-- what is left where memory ran out in a plan
 pub stands : {Note : Type 0} (means : Meaning Note) (w : World) (ask : Ask) (r : Replanning Note) (search : State Note) (counts : Counts) → IsReadyIn means w r → AreCounts counts
     → RunsOutOfMemory means (inquiry w (distance_in r.guide) r.goal ask) ask.first r.search search (at_plan r.counts) counts
     → StandsOutOfMemory means w (inquiry w (distance_in r.guide) r.goal ask) r (record r { search = search; counts = counts })

@@ -20,7 +20,7 @@ pub record IsExactAt (n : Network) (v : ℕ → ℕ) (t g : ℕ) (back : Option 
   pub no_arc_where_far : g ≡ FAR → back ≡ None
 
 -- labels that can be repaired for this graph by recomputing the touched states: every other state, but the start, has the g and
--- the back arc, or none, that exact labels ask
+-- the back arc, or none, that exact labels ask for
 pub record IsChangeable (n : Network) (touched : List ℕ) (m : Marks) : Type 0 where
   pub inside : All (λ t. t < states_of m) touched
   pub fits : FitCount (states_of m) (g_of m) (v_of m) (2 ^ 30)

@@ -10,9 +10,9 @@ use Rattle.sbpl_search.specs.Query.{Query}
 abbrev pub AreAlikeGuides : ℕ → (h h' : ℕ → ℕ) → Type 0
 AreAlikeGuides states h h' = (s : ℕ) → s < states → h s ≡ h' s
 
--- Two passes of a query from the same labels that expand as many states did the same and end with the same labels; none expands
--- more than one that rests; after no pass there is both rest and something left to expand. A pass keeps the start, the number of
--- states, and that the start has no back arc. The guide matters at states alone.
+-- Two passes of a query from the same labels that expand the same number of states did the same and end with the same
+-- labels; none expands more than one that rests; after no pass there is both rest and something left to expand. A pass keeps
+-- the start, the number of states, and that the start has no back arc. The guide matters at states alone.
 pub record DeterminesPasses {Note : Type 0} (leads : Query → List Note → Marks → Marks → Type 0) (rests goes_on : Query → List Note → Marks → Type 0) (expansions : List Note → ℕ) : Type 0 where
   pub one : (q : Query) (old a b : Marks) (xs ys : List Note) → leads q xs old a → leads q ys old b → expansions xs ≡ expansions ys → (xs ≡ ys) × (a ≡ b)
   pub longest : (q : Query) (old a b : Marks) (xs ys : List Note) → leads q xs old a → leads q ys old b → rests q xs a → expansions ys ≤ expansions xs
@@ -29,7 +29,7 @@ abbrev pub AreDetermined : {Note : Type 0} → Meaning Note → Type 0
 AreDetermined means = DeterminesPasses means.leads means.rests means.goes_on means.expansions
 
 -- The labels from which the next plan begins are determined by those that the plan before left and, where labels are repaired, by
--- which states were touched. They have one row for each state, and the start keeps that it has no back arc.
+-- which states were touched. They have one row for each state, and the start still has no back arc.
 pub record DeterminesBeginnings (repairs : Bool) (begun : Network → List ℕ → Marks → Marks → Type 0) : Type 0 where
   pub one : (n : Network) (touched others : List ℕ) (old a b : Marks) → (repairs ≡ true → (t : ℕ) → Contains touched t ↔ Contains others t) → begun n touched old a → begun n others old b → a ≡ b
   pub states : (n : Network) (touched : List ℕ) (old new : Marks) → states_of old ≡ n.states → begun n touched old new → states_of new ≡ n.states

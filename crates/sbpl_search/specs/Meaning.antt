@@ -6,7 +6,7 @@ use Rattle.sbpl_labels.specs.Marks.{Marks}
 use Rattle.sbpl_search.specs.Query.{Query}
 use Rattle.sbpl_search.specs.State.{State}
 
--- Of a planner whose passes record such notes:
+-- For a planner whose passes record such notes:
 -- ready: labels from which a pass may begin on a graph, at this count of expansions
 -- leads: a pass that did this leads from the old labels to the new ones
 -- rests, goes_on: after it nothing is left to expand whose key is below the goal's, or something is
@@ -14,7 +14,7 @@ use Rattle.sbpl_search.specs.State.{State}
 -- most: how often a pass takes one state at most
 -- repairs: whether labels are repaired after a change of the graph
 -- begun: the labels from which the next plan begins, once these states were touched by a change to this graph
--- cut: what stands after a pass that ran out of memory
+-- cut: what is left after a pass that ran out of memory
 pub record Meaning (Note : Type 0) : Type 1 where
   pub ready : Network → Marks → ℕ → Type 0
   pub leads : Query → List Note → (old new : Marks) → Type 0

@@ -1,4 +1,4 @@
-//! The seam between planners and all that is built on them: one trait for a search that makes passes.
+//! The interface between planners and all that is built on them: one trait for a search that makes passes.
 #![tactic(auto)]
 
 mod determined;

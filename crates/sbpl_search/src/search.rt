@@ -17,8 +17,8 @@ use sbpl_labels::{Budget, Labels, PassEnd};
 use std::alloc::Global;
 
 /// A search to one goal: labels of all states, and passes that improve them. Each planner implements this, and plans are made
-/// and repaired over it. A planner that needs more than a graph, a guide, an inflation and a budget, as workers, has it in its
-/// value. It may ask more of the graph and the guide than the trait does, as that threads can share them.
+/// and repaired over it. A planner that needs more than a graph, a guide, an inflation and a budget, such as workers, keeps it in
+/// its value. It may ask more of the graph and the guide than the trait does, such as that threads can share them.
 pub trait Search<G: Graph, H: Guide> {
     /// What a pass records of each thing that it does.
     type Note: Copy;
@@ -29,7 +29,7 @@ pub trait Search<G: Graph, H: Guide> {
     /// The labels, the goal, and what the last pass did.
     ghost state: { Self → State Self.Note };
 
-    /// What a pass asks of the planner's value, as that what it was given can be called.
+    /// What a pass asks of the planner's value, such as that it can call what it was given.
     ghost serves: { Self → Type 0 } = { λ _. ⊤ };
 
     /// A pass of this inflation, in thousandths, 1000 to 100000: it goes on until no open key is below the goal's, or until
@@ -59,7 +59,7 @@ pub trait Search<G: Graph, H: Guide> {
         ensures value { result ≡ meaning.repairs };
 
     /// Makes the labels ready for a plan on a graph that has changed: repaired, or initial again. Where they are repaired, all
-    /// states whose incoming arcs have changed are among the touched ones; else these are not looked at. It takes no memory.
+    /// states whose incoming arcs have changed are among the touched ones; otherwise these are not looked at. It takes no memory.
     fn change(&mut self, graph: &G, touched: &[u32])
         requires states { states_of (state self.old).labels ≡ (G.network graph.now).states }
         requires fits { meaning.repairs ≡ true → IsChangeable (G.network graph.now) touched.now (state self.old).labels }

@@ -1,4 +1,4 @@
--- Labels that agree state by state are equal, and what recomputing gives is one.
+-- Labels that agree state by state are equal, and what recomputing gives is determined.
 use Rattle.std.proofs.Common.{◌≡◌, ℕ, ◌<◌, ◌≤◌, Option, Some, None, arith, ⊎_elim, refl, sym, ap, ◌∙◌}
 use Rattle.std.proofs.lemmas.Bool.{cases_lt}
 use Rattle.std.proofs.lemmas.List.{ext_get_or}
@@ -7,7 +7,7 @@ use Rattle.sbpl_labels.specs.declared.row.Row.{Row}
 use Rattle.sbpl_labels.specs.Marks.{Marks, no_row, states_of, g_of, v_of, back_of, row_at}
 use Rattle.sbpl_labels.specs.Recomputed.{IsRecomputed}
 
--- two rows with the same labels are one
+-- two rows with the same labels are equal
 pub same_row : (a b : Row) → a.g ≡ b.g → a.v ≡ b.v → a.back ≡ b.back → a ≡ b
 same_row a b g v back = λ i. record { g = g i; v = v i; back = back i }
 

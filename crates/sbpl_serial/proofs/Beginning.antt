@@ -1,4 +1,4 @@
--- The labels that a plan begins with are one.
+-- The labels that a plan begins with are determined.
 use Rattle.std.proofs.Common.{◌≡◌, ◌≢◌, ℕ, ◌<◌, ◌↔◌, true, false, None, List, ⊎_elim, refl, sym, ap, subst, ◌∙◌}
 use Rattle.std.proofs.lemmas.Bool.{cases_eq}
 use Rattle.std.specs.List.{Contains}
@@ -26,7 +26,7 @@ module _ {a b : Marks} {count first : ℕ} (x : AreInitial a count first) (y : A
         back = x.no_arc s ∙ sym (y.no_arc s);
       }
 
-  -- initial labels are one
+  -- initial labels are determined
   one_initial : a ≡ b
   one_initial = same_marks a b (x.start ∙ sym y.start) (x.states ∙ sym y.states) initial_rows
 
@@ -57,11 +57,11 @@ module _ (n : Network) (touched touched' : List ℕ) (old a b : Marks) (same : (
       (λ (none : Contains touched t → ⊥). agree_by a b t (x.others t none ∙ sym (y.others t (λ among. none ((same t).1 among)))))
       (contains_or_not touched t)
 
-  -- repaired labels are one
+  -- repaired labels are determined
   one_repaired : a ≡ b
   one_repaired = same_marks a b (x.same_start ∙ sym y.same_start) (x.same_states ∙ sym y.same_states) (λ t _. repaired_rows t)
 
--- the start keeps that it has no back arc
+-- the start still has no back arc
 repaired_no_arc : (n : Network) (touched : List ℕ) (old a : Marks) → AreRepaired n touched old a → back_of old old.start ≡ None → back_of a a.start ≡ None
 repaired_no_arc n touched old a x none = rw x.same_start (ap (λ (r : Row). r.back) x.start_row ∙ none)
 

@@ -52,7 +52,7 @@ sum_some f s zero inside = absurd (omega arith)
 sum_some f s (suc n) inside =
     ⊎_elim (λ (at : n ≡ s). rw at (omega arith)) (λ (apart : n ≢ s). omega (arith, sum_some f s n (omega arith))) (cases_eq n s)
 
--- one step more
+-- one more step
 pub times_push : (s : ℕ) (steps : List Step) (step : Step) → times s (steps ++ step ∷ []) ≡ times s steps + cond (nat_eq step.state s) 1 0
 times_push s [] step = omega arith
 times_push s (first ∷ rest) step = omega (arith, times_push s rest step)

@@ -155,7 +155,7 @@ along q (step ∷ rest) closed old new run forward =
       now = later.now;
     }
 
--- each state once is as many as there are states
+-- each state once adds up to the number of states
 sum_ones : (f : ℕ → ℕ) (n : ℕ) → ((s : ℕ) → f s ≤ 1) → sum_below f n ≤ n
 sum_ones f zero few = omega arith
 sum_ones f (suc n) few = omega (arith, sum_ones f n few, few n)

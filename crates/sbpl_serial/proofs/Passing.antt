@@ -125,7 +125,7 @@ closed_other : (raised : Bool) (closed : ℕ → Bool) (s u : ℕ) → u ≢ s �
 closed_other true closed s u apart = refl
 closed_other false closed s u apart = rw (ne_eqb s u (λ e. apart (sym e))) refl
 
--- one step more
+-- one more step
 pub passing_more : {q : Query} {old now now' : SerialState} {before counts counts' : Counts} (s : ℕ) → IsSound q.network
     → IsConsistent q.network q.goal q.guide → AreLabels now.labels → IsPassing q old now before counts
     → IsNext q (closed_by now) now.labels s → (raised : Bool) × IsTaken q.network now now' s raised

@@ -35,7 +35,7 @@ or_false : (b : Bool) → (b || false) ≡ b
 or_false true = refl
 or_false false = refl
 
--- A state more among those that are looked at.
+-- One more state among those that are looked at.
 pub among_push : (steps : List Step) (step : Step) (u : ℕ) → is_among (steps ++ step ∷ []) u ≡ is_among steps u || nat_eq step.state u
 among_push [] step u = grind arith
 among_push (first ∷ rest) step u = grind (arith, among_push rest step u)
@@ -118,7 +118,7 @@ module _ (eps : ℕ) (h : ℕ → ℕ) where
       let by : LowersHead n m m' s k t relaxed.0 = relaxed.1 in
       unplaced closed closed m m' t queued (label_inside m t _ by.lower) by.changed.states by.changed.others (λ u apart. refl)
 
-  -- one state more is given its key
+  -- one more state is given its key
   pub refilled_more : {m : Marks} {f f' : OpenList} (steps : List Step) (step : Step) (key : Option (ℕ × ℕ)) → AreRefilled eps h steps m f
       → IsQueued eps h none_closed m step.state key → ChangesKey f f' step.state key → AreRefilled eps h (steps ++ step ∷ []) m f'
   refilled_more {m} {f} {f'} steps step key here own change = record {

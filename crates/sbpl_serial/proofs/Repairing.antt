@@ -9,11 +9,11 @@ use Rattle.sbpl_labels.specs.Marks.{Marks, states_of, g_of, v_of, back_of, row_a
 use Rattle.sbpl_labels.specs.Recomputed.{IsWay, IsRecomputed, Recomputes}
 use Rattle.sbpl_serial.specs.Repaired.{AreRepaired}
 
--- what is a way by one v is one by another that is alike
+-- what is a way by one v is a way by an equal one
 way_alike : {n : Network} {v v' : ℕ → ℕ} {t j s k c : ℕ} → ((u : ℕ) → v' u ≡ v u) → IsWay n v t j s k c → IsWay n v' t j s k c
 way_alike {s = s} same way = record { tail = way.tail; free = way.free; near = omega (arith, same s, way.near) }
 
--- what is recomputed by one v is so by another that is alike
+-- what is recomputed by one v is recomputed by an equal one
 pub recomputed_alike : (n : Network) (v v' : ℕ → ℕ) (t g : ℕ) (back : Option (ℕ × ℕ)) → ((u : ℕ) → v' u ≡ v u)
     → IsRecomputed n v t g back → IsRecomputed n v' t g back
 recomputed_alike n v v' t g None same is = (is.0, λ j s k c way. is.1 j s k c (way_alike (λ u. sym (same u)) way))

@@ -1,4 +1,4 @@
--- A step is one: what it takes and what it leaves.
+-- A step is determined: what it takes and what it leaves.
 use Rattle.std.proofs.Common.{◌≡◌, ◌≢◌, ℕ, ◌<◌, ◌≤◌, Bool, true, false, MatchBool, Option, Some, None, arith, ⊎_elim, refl, sym, ap, ◌∙◌}
 use Rattle.std.proofs.lemmas.Bool.{cases_lt, cases_eq}
 use Rattle.sbpl_graph.specs.Network.{Network}
@@ -10,7 +10,7 @@ use Rattle.sbpl_serial.specs.Run.{IsExpansion, GetsLesser, LowersHeads, RaisesSt
 use Rattle.sbpl_serial.proofs.Agreeing.{Agree, same_marks, same_recomputed}
 
 module _ {n : Network} {s v t g g1 g2 : ℕ} {back back1 back2 : Option (ℕ × ℕ)} where
-  -- the lesser label is at most each that may stand for it
+  -- of two lesser labels of one state the second is not above the first
   no_less : GetsLesser n s v t g back g1 back1 → GetsLesser n s v t g back g2 back2 → g2 ≤ g1
   no_less a b =
       ⊎_elim
@@ -21,7 +21,7 @@ module _ {n : Network} {s v t g g1 g2 : ℕ} {back back1 back2 : Option (ℕ × 
       (cases_lt g1 g2)
 
 module _ {n : Network} {s v t g g1 g2 : ℕ} {back back1 back2 : Option (ℕ × ℕ)} where
-  -- the lesser label and its arc are one
+  -- the lesser label and its arc are determined
   pub same_lesser : GetsLesser n s v t g back g1 back1 → GetsLesser n s v t g back g2 back2 → (g1 ≡ g2) × (back1 ≡ back2)
   same_lesser a b =
       let down = no_less a b in
@@ -50,7 +50,7 @@ module _ {n : Network} {s v t g g1 g2 : ℕ} {back back1 back2 : Option (ℕ × 
       (cases_lt g1 g)
 
 module _ {n : Network} {old new new' : Marks} {s : ℕ} where
-  -- lowering leaves one row at each state
+  -- lowering determines the row of each state
   lowered_rows : LowersHeads n old new s → LowersHeads n old new' s → (t : ℕ) → Agree new new' t
   lowered_rows a b t = record {
     g = ⊎_elim
@@ -70,7 +70,7 @@ module _ {n : Network} {old new new' : Marks} {s : ℕ} where
   lowered_one : LowersHeads n old new s → LowersHeads n old new' s → new ≡ new'
   lowered_one a b = same_marks new new' (a.same_start ∙ sym b.same_start) (a.same_states ∙ sym b.same_states) (λ t _. lowered_rows a b t)
 
-  -- raising leaves one v at each state
+  -- raising determines v of each state
   raised_v : RaisesState n old new s → RaisesState n old new' s → (t : ℕ) → v_of new t ≡ v_of new' t
   raised_v a b t =
       ⊎_elim
@@ -110,7 +110,7 @@ module _ {n : Network} {old new new' : Marks} {s : ℕ} where
   raised_one a b = same_marks new new' (a.same_start ∙ sym b.same_start) (a.same_states ∙ sym b.same_states) (λ t _. raised_rows a b t (back_of old t) refl)
 
 module _ (n : Network) (old : Marks) (s : ℕ) {new new' : Marks} where
-  -- a state is raised or lowered, and not both, and what is left is one
+  -- a state is raised or lowered, and not both, and the new labels are determined
   pub same_raised : (r r' : Bool) → MatchBool r (RaisesState n old new s) (LowersHeads n old new s) → MatchBool r' (RaisesState n old new' s) (LowersHeads n old new' s)
       → (r ≡ r') × (new ≡ new')
   same_raised true true a b = (refl, raised_one a b)
@@ -118,7 +118,7 @@ module _ (n : Network) (old : Marks) (s : ℕ) {new new' : Marks} where
   same_raised false true a b = absurd (omega (arith, a.over, b.under))
   same_raised false false a b = (refl, lowered_one a b)
 
--- two steps of one state are one
+-- two steps of one state are equal
 pub same_step : (n : Network) (old : Marks) {new new' : Marks} (x y : Step) → x.state ≡ y.state → IsExpansion n old x new → IsExpansion n old y new' → (x ≡ y) × (new ≡ new')
 same_step n old {new} {new'} x y at a b =
     let own : MatchBool y.raised (RaisesState n old new' x.state) (LowersHeads n old new' x.state) = rw at b in

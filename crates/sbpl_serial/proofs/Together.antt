@@ -59,7 +59,7 @@ together_none {labels} {goal} {closed} {steps} {queue} inside states none empty 
 pub raised_by_steps : (closed : ℕ → Bool) (steps : List Step) (s u : ℕ) → closed_after closed (steps ++ step_of s true ∷ []) u ≡ closed_after closed steps u
 raised_by_steps closed steps s u = closed_after_push closed steps (step_of s true) u
 
--- one state more is taken
+-- one more state is taken
 pub together_more : {labels labels' : Marks} {goal : ℕ} {closed closed' : List Bool} {steps steps' : Room} {queue queue' : OpenList} (s : ℕ) (raised : Bool)
     → AreSerialParts labels goal closed steps queue → s < states_of labels → states_of labels' ≡ states_of labels
     → length closed' ≡ length closed → ((u : ℕ) → closed_at closed' u ≡ closed_after none_closed (steps.items ++ step_of s raised ∷ []) u)

@@ -25,7 +25,7 @@ step_back back (Some p) u is = (p, (from_arc (back p) u is).0, refl, (from_arc (
 module _ {q : Query} {closed : ℕ → Bool} {m : Marks} (sound : IsSound q.network) (consistent : IsConsistent q.network q.goal q.guide)
     (exact : AreExact q.network m.start (g_of m) (v_of m) (back_of m)) (states : states_of m ≡ q.network.states)
     (goal : q.goal < states_of m) (rest : IsAtRest q closed m) where
-  -- a state whose v and guide come to no more than g of the goal, and whose v is less, is not underconsistent
+  -- no underconsistent state has a v below g of the goal and v plus its guide at most g of the goal
   not_under : (u : ℕ) → u < states_of m → (IsUnder m u → (v_of m u + q.guide u ≤ g_of m q.goal) × (v_of m u < g_of m q.goal))
       → g_of m u ≤ v_of m u
   not_under u inside near =
@@ -37,7 +37,7 @@ module _ {q : Query} {closed : ℕ → Bool} {m : Marks} (sound : IsSound q.netw
       (λ over. over)
       (cases_lt (v_of m u) (g_of m u))
 
-  -- each state on the chain is not underconsistent, and its g and guide come to no more than g of the goal
+  -- each state on the chain is not underconsistent, and its g plus its guide is at most g of the goal
   on_chain : (i u : ℕ) → chain_at (back_of m) q.goal i ≡ Some u
       → (u < states_of m) × (g_of m u ≤ v_of m u) × (g_of m u + q.guide u ≤ g_of m q.goal)
   on_chain zero u at =

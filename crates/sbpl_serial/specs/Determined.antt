@@ -22,7 +22,7 @@ abbrev pub RunsGoOn : Type 0
 RunsGoOn = (q : Query) (closed : ℕ → Bool) (old : Marks) (xs ys : List Step) (a b : Marks) → AreRuns q closed old xs ys a b
     → length xs ≤ length ys → GoesOn q closed xs ys a b
 
--- two runs of as many steps have the same steps and end with the same labels
+-- two runs of the same number of steps have the same steps and end with the same labels
 abbrev pub EqualRunsAgree : Type 0
 EqualRunsAgree = (q : Query) (closed : ℕ → Bool) (old : Marks) (xs ys : List Step) (a b : Marks) → AreRuns q closed old xs ys a b
     → length xs ≡ length ys → (xs ≡ ys) × (a ≡ b)
@@ -37,7 +37,7 @@ abbrev pub GuideAtStates : Type 0
 GuideAtStates = (q : Query) (h : ℕ → ℕ) (closed : ℕ → Bool) (steps : List Step) (old new : Marks)
     → ((s : ℕ) → s < states_of old → h s ≡ q.guide s) → IsSerialRun q closed steps old new → IsSerialRun (record q { guide = h }) closed steps old new
 
--- initial labels of one number of states and one start are one
+-- initial labels of one number of states and one start are the same
 abbrev pub InitialLabelsAreOne : Type 0
 InitialLabelsAreOne = (a b : Marks) (count first : ℕ) → AreInitial a count first → AreInitial b count first → a ≡ b
 

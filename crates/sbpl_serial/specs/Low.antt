@@ -6,7 +6,7 @@ use Rattle.sbpl_open.specs.OpenList as open_list
 use Rattle.sbpl_serial.specs.declared.step.Step.{Step}
 use Rattle.sbpl_serial.specs.Queue.{is_among}
 
--- low is the least of g of the goal and of g + h over those of these states whose g and v differ, and is no less than what is at most these for all states
+-- low is at most g of the goal and g + h of each of these states whose g and v differ; a number for which this holds over all states is at most low
 pub record IsLowOf (m : Marks) (goal : ℕ) (h : ℕ → ℕ) (among : ℕ → Type 0) (low : ℕ) : Type 0 where
   pub at_goal : low ≤ g_of m goal
   pub unsettled : (s : ℕ) → among s → v_of m s ≢ g_of m s → low ≤ g_of m s + h s

@@ -18,7 +18,7 @@ pub record AreQueued (eps : ℕ) (h : ℕ → ℕ) (closed : ℕ → Bool) (m : 
   pub states : open_list.states_of f ≡ states_of m
   pub each : (s : ℕ) → IsQueued eps h closed m s (open_list.key_at f s)
 
--- so it does but for t
+-- the same for all states but t
 pub record AreQueuedBut (eps : ℕ) (h : ℕ → ℕ) (closed : ℕ → Bool) (m : Marks) (f : OpenList) (t : ℕ) : Type 0 where
   pub inside : t < states_of m
   pub states : open_list.states_of f ≡ states_of m

@@ -7,7 +7,7 @@ use sbpl_fixed::NoMemory;
 use std::alloc::Global;
 use std::marker::Model;
 
-/// The closed ones of a number of states. Each state holds the number of the last pass that closed
+/// Which of a number of states are closed. Each state holds the number of the last pass that closed
 /// it, so that a new pass begins without a look at each state.
 #[derive(Drop)]
 pub struct Closed {
@@ -36,7 +36,7 @@ impl Closed {
         Ok(Closed { marks, pass: 1 })
     }
 
-    /// Opens all states again. But for one call in 2^32 it looks at none of them.
+    /// Opens all states again. Except in one call of 2^32 it looks at none of them.
     pub fn clear(&mut self)
         ensures states { length self.new ≡ length self.old }
         ensures none { (s : ℕ) → closed_at self.new s ≡ false }

@@ -54,8 +54,8 @@ pub(crate) fn expand<G: Graph, H: Guide>(
 }
 
 /// Lowers the head of arc `k` of `s` where the way over this arc is cheaper, and answers it. The arc
-/// is judged only where it could be: a cost is at least the arc's floor, so no arc lowers a g of at
-/// most v of `s` and that floor, and the start has g 0.
+/// is judged only where it could be: a cost is at least the arc's floor, so no arc lowers a g that is at
+/// most v of `s` plus that floor, and the start has g 0.
 fn relax<G: Graph>(labels: &mut Labels, graph: &G, s: u32, k: u32) -> Option<u32>
     requires states { states_of labels.old ≡ (G.network graph.now).states }
     requires state { s < states_of labels.old }

@@ -1,4 +1,4 @@
-//! What the definitions leave open of a serial run, which is nothing but its length, and what a change of the graph leaves exact.
+//! That the definitions leave nothing of a serial run open but its length, and what a change of the graph leaves exact.
 
 ghost use Rattle.std.specs.Prelude.{true, false};
 ghost use Rattle.sbpl_search.specs.Determined.{DeterminesBeginnings};
@@ -7,8 +7,8 @@ ghost use Rattle.sbpl_serial.specs.Meant.{AreRepairedFor, BeginsAnew};
 ghost use Rattle.sbpl_serial.specs.Repaired.{ExactWhereSame};
 
 /// A serial run is determined: of two runs of a query from the same labels the longer goes on from the
-/// shorter, and two of the same length have the same steps and end with the same labels, arc for arc.
-/// No run is longer than one that rests. The guide matters at states alone. Initial labels are one, and
+/// shorter, and two of the same length have the same steps and end with the same labels and back arcs.
+/// No run is longer than one that rests. The guide matters at states alone. Initial labels are determined, and
 /// so are those that the next plan begins with, initial or repaired.
 pub fn run_is_determined()
     ensures longer { RunsGoOn }
@@ -22,7 +22,7 @@ pub fn run_is_determined()
 {}
 
 /// Where labels are exact on one graph, each state but the start that has the same free arcs into it
-/// on another graph, at the same costs, has on that graph what exact labels ask. So a change needs to
+/// on another graph, at the same costs, has on that graph what exact labels ask for. So a change needs to
 /// touch only the heads of arcs whose cost or freedom it alters.
 pub fn exact_where_same()
     ensures every_state { ExactWhereSame }

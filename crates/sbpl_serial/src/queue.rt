@@ -55,8 +55,8 @@ pub(crate) fn refill<H: Guide>(
     }
 }
 
-/// Places the state whose labels have changed, if one has: it is in the queue with its present key
-/// where it is open, else it is not there.
+/// Updates the queue for the state whose labels have changed, if one has: it is then in the queue with its present key
+/// where it is open, and not in the queue where it is not.
 pub fn requeue<H: Guide>(
     queue: &mut Open,
     changed: Option<u32>,

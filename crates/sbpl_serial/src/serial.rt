@@ -35,7 +35,7 @@ use std::alloc::Global;
 use std::marker::Model;
 
 /// A search that expands one open state after another: the labels of all states, the goal, the expansions of the last pass and
-/// the queue that it left. Both serial planners stand on it: ARA* (Likhachev, Gordon and Thrun 2003), whose labels are never
+/// the queue that it left. Both serial planners are built on it: ARA* (Likhachev, Gordon and Thrun 2003), whose labels are never
 /// underconsistent, and Anytime D* (Likhachev, Ferguson, Gordon, Stentz and Thrun 2005), whose labels are repaired after changes
 /// of the graph. All memory is taken when it is opened.
 #[derive(Drop)]
@@ -153,7 +153,7 @@ impl Serial {
 
     /// Repairs the labels after a change of the graph: each touched state is recomputed on the graph as it now is, and every v
     /// stays. The condition is that every other state, but the start, has on this graph the g and the back arc, or none, that
-    /// exact labels ask. A state may be touched twice. No other state is looked at. It takes no memory.
+    /// exact labels ask for. A state may be touched twice. No other state is looked at. It takes no memory.
     pub fn repair<G: Graph>(&mut self, graph: &G, touched: &[u32])
         requires states { states_of self.old.labels ≡ (G.network graph.now).states }
         requires changeable { IsChangeable (G.network graph.now) touched.now self.old.labels }
@@ -174,9 +174,9 @@ impl Serial {
     /// A pass: open states are expanded, the least key first, until no open key is below the goal's or the budget is spent. Open
     /// are the states with v below g, and those with g below v that this pass has not lowered. A state with g below v is lowered:
     /// its v becomes its g, and each head gets the lesser of its g and the way over it. A state with v below g is raised: its v
-    /// becomes infinite, and each head whose back arc comes from it is recomputed. Of each key the first part is 1000 times v and
-    /// the guide where v is below g, else 1000 g and `eps` times the guide; the second is the lesser of g and v, and of equal keys
-    /// the state of lower number comes first. `eps` is the inflation in thousandths, 1000 to 100000. It takes no memory.
+    /// becomes infinite, and each head whose back arc comes from it is recomputed. The first part of a key is 1000 (v + h) where
+    /// v is below g, and 1000 g + `eps` h otherwise, with h by the guide; the second is the lesser of g and v. Of equal keys that
+    /// of the state of lower number comes first. `eps` is the inflation in thousandths, 1000 to 100000. It takes no memory.
     pub fn pass<G: Graph, H: Guide>(
         &mut self,
         graph: &G,

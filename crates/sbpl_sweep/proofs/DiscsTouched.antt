@@ -15,11 +15,11 @@ use Rattle.sbpl_sweep.specs.Bands.{IsIn, IsCovered, IsNear, IsDisc, row_beside, 
 use Rattle.sbpl_sweep.proofs.Distances.{beside, distance_own}
 use Rattle.sbpl_sweep.proofs.RowsTouched.{IsRow, near_by, in_row, near_in_row, covered_kept, covered_last, covered_from, row_distance}
 
--- the own cell of a disc's axis is the cell of the offset
+-- on each axis of a disc its own cell is the one in which the offset lies
 pub own_cell : (cell offset : ℤ) (side : ℕ) (a : Axis) → pos side ≡ pos 2 *ℤ cell → IsAxis side (cell +ℤ (pos 2 *ℤ offset)) a → offset_cell cell offset ≡ a.own
 own_cell cell offset side a side_is axis = ap (λ z. cell_of z (cell +ℤ (pos 2 *ℤ offset))) (sym side_is) ∙ sym axis.own
 
--- the own row of a disc
+-- a disc's own row
 pub own_row : (cell : ℤ) (radius : ℕ) (p : Pose) (d : Disc) (b : Band) (left right : ℕ) → IsDisc cell radius p d → b.y ≡ d.row.own → b.first +ℤ pos left ≡ d.column.own → b.last ≡ d.column.own +ℤ pos right
     → IsReach d.column.before d.side (d.radius * d.radius) left → IsReach d.column.after d.side (d.radius * d.radius) right → IsRow cell radius p d b (d.radius * d.radius) left right 0
 own_row cell radius p d b left right disc at first last before after = record {
@@ -46,7 +46,7 @@ module _ (cell : ℤ) (radius : ℕ) (p : Pose) (d : Disc) (disc : IsDisc cell r
     below_both : (a b r : ℕ) → a * a + b * b < r * r → r * r ≤ b * b → ⊥
     below_both a b r h far = omega arith
 
-  -- the cells of the own row, of the rows above it and of those below it
+  -- the cells of the disc's own row, of the rows above it and of those below it
   pub disc_added : (b : Band) (left right above below : ℕ) (old first second new : List Band) → IsRow cell radius p d b (d.radius * d.radius) left right 0 → b.y ≡ d.row.own → first ≡ old ++ b ∷ []
       → IsReach d.row.after d.side (d.radius * d.radius) above → IsReach d.row.before d.side (d.radius * d.radius) below
       → AddsRows cell radius p true d.row.own above first second → AddsRows cell radius p false d.row.own below second new → AddsDisc cell radius p old new

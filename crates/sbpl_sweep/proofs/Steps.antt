@@ -1,4 +1,4 @@
--- Where a point lies among cells, and which cells beside its own begin near it.
+-- Where a point lies among cells, and which cells beyond its own begin near it.
 use Rattle.std.proofs.Common.{ℕ, ℤ, pos, negsuc, ◌+◌, ◌*◌, ◌/◌, ◌-◌, ◌<◌, ◌≤◌, inl, inr, arith}
 use Rattle.std.proofs.lemmas.Bool.{cases_lt}
 use Rattle.std.proofs.Math.Nat.{div-le_self, mul-le-mul_left, mul-le-mul}
@@ -7,7 +7,7 @@ use Rattle.std.proofs.lemmas.Int.{ints}
 use Rattle.sbpl_cfg.specs.Environment.{IsWithin}
 use Rattle.sbpl_sweep.specs.Reach.{squared_step, IsReach}
 
--- a quotient is no further from zero than the number, by more than one
+-- a quotient lies in the range from -(m + 1) to m + 1 where the number does
 pub quotient_within : (z : ℤ) (n m : ℕ) → 1 ≤ n → IsWithin (negsuc m) (pos (m + 1)) z → IsWithin (negsuc m) (pos (m + 1)) (int_div_euclid z (pos n))
 quotient_within (pos a) n m some h = let le : a / n ≤ a = div-le_self a n in (omega (arith, ints, h.1), omega (arith, ints, h.1))
 quotient_within (negsuc a) n m some h = let le : a / n ≤ a = div-le_self a n in (omega (arith, ints, h.0), omega (arith, ints, h.0))
@@ -22,7 +22,7 @@ square_lt a b h = let le = square_le (a + 1) b (omega arith) in omega (arith, le
 pub root_lt : (a b : ℕ) → a * a < b * b → a < b
 root_lt a b h = elim (cases_lt a b) [ inl less ↦ less | inr more ↦ absurd (let le = square_le b a more in omega (arith, le)) ]
 
--- counted by steps, counted by their squares
+-- a count of cells by their distances is one by the squares of their distances
 pub reach_from : (gap side radius count : ℕ) → ((n : ℕ) → n < count → gap + side * n < radius) → ((n : ℕ) → count ≤ n → radius ≤ gap + side * n) → IsReach gap side (radius * radius) count
 reach_from gap side radius count near far = record {
   reached = λ n h. square_lt (gap + side * n) radius (near n h);

@@ -22,7 +22,7 @@ pub record IsCovered (bands : List Band) (x y : ℤ) : Type 0 where
   pub stands : slice_get bands number ≡ Some band
   pub inside : IsIn band x y
 
--- a pose is nearer to the closed square of cell (x, y) than a radius in nanometres
+-- a pose is nearer to the closed square of cell (x, y) than a radius, in nanometres
 abbrev pub IsNear : ℤ → ℕ → Pose → ℤ → ℤ → Type 0
 IsNear cell radius p x y =
     distance_to_cell cell p.x x * distance_to_cell cell p.x x + distance_to_cell cell p.y y * distance_to_cell cell p.y y < 2 * radius * (2 * radius)

@@ -1,4 +1,4 @@
--- How far a disc reaches beside the cell in which its centre lies. All lengths are half nanometres.
+-- How far a disc reaches beyond the cell in which its centre lies. All lengths are half nanometres.
 use Rattle.std.specs.Prelude.{◌≡◌, ℕ, ℤ, pos, ◌+◌, ◌*◌, ◌<◌, ◌≤◌, ◌+ℤ◌, ◌*ℤ◌}
 use Rattle.sbpl_cfg.specs.Place.{cell_of}
 use Rattle.sbpl_sweep.specs.declared.reach.Axis.{Axis}
@@ -7,7 +7,7 @@ use Rattle.sbpl_sweep.specs.declared.reach.Axis.{Axis}
 abbrev pub squared_step : ℕ → ℕ → ℕ → ℕ
 squared_step gap side n = (gap + side * n) * (gap + side * n)
 
--- this many cells beside the own one begin nearer than the root of a number
+-- this many cells beyond a point's own begin nearer to it than the root of a number, and no others do
 pub record IsReach (gap side most count : ℕ) : Type 0 where
   pub reached : (n : ℕ) → n < count → squared_step gap side n < most
   pub beyond : (n : ℕ) → count ≤ n → most ≤ squared_step gap side n

@@ -1,4 +1,4 @@
-//! How far a disc reaches beside the cell in which its centre lies, in half nanometres.
+//! How far a disc reaches beyond the cell in which its centre lies, in half nanometres.
 
 ghost use Rattle.std.specs.Prelude.{◌≡◌, ◌↔◌, ℕ, pos, negsuc, ◌+◌, ◌*◌, ◌^◌, ◌<◌, ◌≤◌, IsTrue};
 ghost use Rattle.sbpl_cfg.specs.Environment.{IsWithin};
@@ -6,7 +6,7 @@ ghost use Rattle.sbpl_sweep.specs.Reach.{squared_step, IsReach, IsAxis};
 
 use sbpl_cfg::cell_at;
 
-/// Where a point lies on one axis: the cell of which it is, and how far the cell's sides are from it.
+/// Where a point lies on one axis: the cell that it is in, and how far the cell's sides are from it.
 #[derive(Clone, Copy, Debug)]
 pub(crate) struct Axis {
     pub(crate) own: i64,
@@ -40,7 +40,7 @@ fn is_reached(gap: u64, side: u64, n: u64, most: u128) -> bool
     step * step < most
 }
 
-/// How many cells beside the own one begin nearer than `radius`.
+/// How many cells beyond the point's own begin nearer than `radius`.
 pub(crate) fn reach_of(gap: u64, side: u64, radius: u64) -> u64
     requires side { (1 ≤ side) × (side ≤ 2 * 10 ^ 12) }
     requires gap { gap ≤ side }
@@ -55,7 +55,7 @@ pub(crate) fn reach_of(gap: u64, side: u64, radius: u64) -> u64
     (radius - gap).div_ceil(side)
 }
 
-/// How many of `reach` cells beside the own one begin nearer than the root of `most`, where those beyond do not.
+/// How many of `reach` cells beyond the point's own begin nearer than the root of `most`, where those beyond do not.
 pub(crate) fn shrunk(reach: u64, gap: u64, side: u64, most: u128) -> u64
     requires inside { gap + side * reach ≤ 4 * 10 ^ 12 }
     requires beyond { (n : ℕ) → reach ≤ n → most ≤ squared_step gap side n }

@@ -131,7 +131,7 @@ pub(crate) fn push_rows(
     Ok(())
 }
 
-/// Adds the cells that a disc sweeps. In its own row it reaches so far to the left and to the right.
+/// Adds the cells that a disc sweeps. In its own row it reaches this far to the left and to the right.
 fn push_cells_of(bands: &mut Vec<Band>, disc: &Disc, left: u64, right: u64) -> Result<(), NoMemory>
     requires bounds { IsInBounds disc.now }
     requires left { IsReach disc.now.column.before disc.now.side (disc.now.radius * disc.now.radius) left }

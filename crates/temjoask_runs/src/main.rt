@@ -56,7 +56,7 @@ const REFUSALS: [&str; 9] = [
     "plan e1.cfg f1.mprim --labels none/labels",
 ];
 
-/// Runs the program on the words of a line, and prints its status, and the message that was told beside it.
+/// Runs the program on the words of a line, and prints its status, and the message that came with it.
 fn run_line<R: Files + Print + AllocGlobal + Threads + Wait + Sync>(
     rt: &R,
     line: &str,

@@ -52,7 +52,7 @@ fn faults_have_numbers_names_and_places(rt: HostRuntime) -> Result<(), Fail> {
 
 #[test]
 fn a_prefix_of_a_file_is_faulty_where_it_ends(rt: HostRuntime) {
-    // From and to of the fixed words and of the number that is out of range until its last digit.
+    // Where the fixed words begin and end, and the number that is out of range until its last digit.
     let words = [
         (0, 22),
         (27, 37),

@@ -7,7 +7,7 @@ use sbpl_map::{Map, read_changes};
 use sbpl_mprim::read_prims;
 use std::test::Fail;
 
-/// The changes of the seed 2 on 8 by 8 cells, worked out apart. In each of the first two batches a line is left out.
+/// The changes of the seed 2 on 8 by 8 cells, worked out separately. In each of the first two batches a line is left out.
 const CHANGES: &str = "cell 5 1 254
 cell 4 0 254
 cell 3 4 0
@@ -45,7 +45,7 @@ fn seven_gives_the_same_files_each_time(rt: HostRuntime) -> Result<(), Fail> {
     assert_eq!(rt; (env.width, env.height), (32, 32));
     let costs = grid.as_slice();
     assert_eq!(rt; (costs.get(33), costs.get(990)), (Some(&0), Some(&0)));
-    // The first row, worked out apart.
+    // The first row, worked out separately.
     for (x, cost) in costs.iter().take(32).enumerate() {
         let drawn = match x {
             5 | 31 => 20,

@@ -126,7 +126,7 @@ demo 7 8 8.0
 demo 7 8 --radius 8
 demo 7 8 8 --radius 0";
 
-/// The words of a line, which are parted by one blank each; between two blanks stands an empty word.
+/// The words of a line, which are separated by one blank each; between two blanks stands an empty word.
 fn words_of(alloc: Global, line: &str) -> Result<Vec<String>, Fail> {
     let mut words = Vec::new(alloc);
     for word in line.split(' ') {

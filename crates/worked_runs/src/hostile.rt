@@ -1,4 +1,4 @@
-//! Runs at which the outside fails: calls of the desk that fail, files that are cut off, numbers that ask for too much.
+//! Runs in which the outside fails: calls of the desk that fail, files that are cut off, numbers that ask for too much.
 
 use crate::runs::{CORRIDOR, THERE_AND_BACK, desk_of, status_of};
 use sample_files::{E1, E2, F1, F2};
@@ -40,7 +40,7 @@ fn texts_on(alloc: Global, desk: &MemoryDesk) -> Result<Texts, AllocError> {
     })
 }
 
-/// Runs the repair where these calls of the desk fail, each after so many bytes, and answers the status and what is written.
+/// Runs the repair where these calls of the desk fail, each after a number of bytes, and answers the status and what is written.
 fn repair(
     rt: &(impl Abort + Threads + Wait + Sync),
     alloc: Global,

@@ -105,7 +105,7 @@ fn workers(rt: HostRuntime) -> Result<(), Fail> {
     Ok(())
 }
 
-/// A worker judges an arc while another one is at the first.
+/// A worker judges an arc while another one is still judging the first.
 #[test]
 fn judged_side_by_side(rt: HostRuntime) -> Result<(), Fail> {
     let gate = Held::new();

@@ -332,7 +332,7 @@ fn passes(rt: HostRuntime) -> Result<(), Fail> {
     )
 }
 
-/// Appends this number of lines of states that no way is known to.
+/// Appends this number of lines of states to which no way is known.
 fn push_far(text: &mut String, count: u32, line: &str) -> Result<(), Fail> {
     for _ in 0..count {
         text.push_str(line)?;
@@ -643,7 +643,7 @@ fn realistic_map(rt: HostRuntime) -> Result<(), Fail> {
     )
 }
 
-/// Words that name no job. Which words name one is tested beside their reader.
+/// Words that name no job. Which words name one is tested with their reader.
 #[test]
 fn words(rt: HostRuntime) -> Result<(), Fail> {
     let rows: [&[&str]; 3] = [

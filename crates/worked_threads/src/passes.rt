@@ -49,7 +49,7 @@ fn pass_as<N: Pass + Send + Sync, R: Threads + Wait + Sync, G: Graph + Sync>(
     Ok(labels.g(goal))
 }
 
-/// The cost of the way from one state to another that a pass by so many workers finds.
+/// The cost of the way from one state to another that a pass by this many workers finds.
 fn cost_by<R: Threads + Wait + Sync, G: Graph + Sync>(
     rt: &R,
     alloc: Global,
@@ -77,7 +77,7 @@ fn cost_by<R: Threads + Wait + Sync, G: Graph + Sync>(
     )
 }
 
-/// A worker judges an arc while another one is at the first: no lock is held meanwhile.
+/// A worker judges an arc while another one is still judging the first: no lock is held meanwhile.
 #[test]
 fn judged_side_by_side(rt: HostRuntime) -> Result<(), Fail> {
     let graph = Watched::new(made(rt.alloc(), E2.as_bytes(), F2.as_bytes())?);
@@ -87,7 +87,7 @@ fn judged_side_by_side(rt: HostRuntime) -> Result<(), Fail> {
     Ok(())
 }
 
-/// Eight workers find what one finds, on a drawn map of some sixteen thousand states, time after time.
+/// Eight workers find what one finds, on a drawn map of about sixteen thousand states, again and again.
 #[test]
 fn eight_workers(rt: HostRuntime) -> Result<(), Fail> {
     let drawn = generate(rt.alloc(), 7, 32, 32)?;

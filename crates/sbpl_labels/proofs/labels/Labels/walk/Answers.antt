@@ -6,7 +6,7 @@ use Rattle.sbpl_labels.proofs.Walking.{arc_gives, room_for_one, walk_on, walk_fa
 use Rattle.sbpl_labels.proofs.labels.Labels.walk.Goals as goal
 use Rattle.sbpl_labels.proofs.labels.Labels.walk.Goals.{In-Some, After-from-cost}
 
--- the arc that the walk goes on along
+-- the arc that the walk goes on over
 over : (g : _) (c : In-Some g) → g_of c.args.self.now c.loop-into.at ≤ v_of c.args.self.now c.loop-into.at
 over g c = omega arith
 
@@ -27,7 +27,7 @@ unwrap-requires g c =
     let arc = (given g (goal.at.unwrap-requires g c).In-Some).1.free.cost in
     rw (c.judge.ensures.value, arc) refl
 
--- what the walk goes on at
+-- the cost of that arc
 price : (g : _) (c : After-from-cost g) → (g.G.Graph.network c.args.graph.now).cost c.in-Some.s c.in-Some.k ≡ Some c.from-cost.result
 price g c = sym c.judge.ensures.value ∙ c.unwrap.ensures ∙ ap Some (sym c.from-cost.ensures)
 
