@@ -77,19 +77,28 @@ pub(crate) fn environment_of<D: Desk>(
     }
 }
 
-/// The map of an environment, and how many states it has.
-pub(crate) fn map_of(env: &Env, grid: Grid) -> (Map, u32)
-    requires size { length grid ≡ env.now.width * env.now.height }
+/// The map of a job's files, if it can be read, and how many states it has.
+pub(crate) fn map_of<D: Desk>(alloc: Global, from: &Sources, desk: &mut D) -> Option<(Map, u32)>
+    ensures frame { ReadsOnly (D.state desk.old) (D.state desk.new) }
 {
+    let (env, grid) = environment_of(alloc, from, desk)?;
     let states = env
         .width
         .saturating_mul(env.height)
         .saturating_mul(env.headings);
-    (Map::new(env, grid), states)
+    Some((Map::new(&env, grid), states))
+}
+
+/// How many batches of changes a text has, if it stands for changes.
+fn batches_in(alloc: Global, text: &[u8], map: &Map) -> Option<u32>
+    requires short { length text.now ≤ 2 ^ 30 }
+{
+    let changes = read_changes(alloc, text, map).ok()?;
+    Some(changes.batches())
 }
 
 /// How many batches of changes a job makes, if its change file can be read; none where it reads no such file.
-pub(crate) fn batches_of<D: Desk>(
+fn batches_of<D: Desk>(
     alloc: Global,
     changes: Option<&Name>,
     map: &Map,
@@ -101,8 +110,19 @@ pub(crate) fn batches_of<D: Desk>(
         return Some(0);
     };
     let text = text_of(alloc, name, desk)?;
-    match read_changes(alloc, text.as_slice(), map) {
-        Ok(changes) => Some(changes.batches()),
-        Err(_) => None,
-    }
+    batches_in(alloc, text.as_slice(), map)
+}
+
+/// The number of a job's last plan, counted from 0, and how many states each plan has, if the job's files can be read.
+pub(crate) fn plans_of<D: Desk>(
+    alloc: Global,
+    from: &Sources,
+    changes: Option<&Name>,
+    desk: &mut D,
+) -> Option<(u32, u32)>
+    ensures frame { ReadsOnly (D.state desk.old) (D.state desk.new) }
+{
+    let (map, states) = map_of(alloc, from, desk)?;
+    let last = batches_of(alloc, changes, &map, desk)?;
+    Some((last, states))
 }

@@ -1,12 +1,12 @@
 //! The message for a status, which says why a job was not done.
 
-ghost use Rattle.std.specs.Prelude.{◌≡◌, ◌⊎◌, ℕ, List, false, codes, IfOk, IfSome, IsSome, Ok, None};
+ghost use Rattle.std.specs.Prelude.{◌≡◌, ◌⊎◌, ℕ, ◌^◌, ◌≤◌, List, false, codes, length, IfOk, IfSome, IsSome, Ok, None};
 ghost use Rattle.sbpl_desk.specs.Desk.{ReadsOnly};
 ghost use Rattle.sbpl_message.specs.Messages.{IsPlainMessage};
 ghost use Rattle.sbpl_message.specs.Reasons.{IsOnEnvironment, has_message};
 
 use crate::again::{
-    batches_of, changes_of, environment_of, fails, labels_of, map_of, sources_of, text_of,
+    changes_of, environment_of, fails, labels_of, map_of, plans_of, sources_of, text_of,
 };
 use crate::changes::changes_message;
 use crate::environment::environment_message;
@@ -49,18 +49,43 @@ fn on_environment<D: Desk>(alloc: Global, from: &Sources, desk: &mut D) -> Optio
     }
 }
 
+/// The message on the first fault of a text of primitives; where it has none, on the size of its primitives.
+fn in_primitives(
+    alloc: Global,
+    name: &str,
+    text: &[u8],
+    cell: i64,
+    headings: u32,
+) -> Option<Vec<u8>> {
+    match read_prims(alloc, text, cell, headings) {
+        Ok(_) => size_message(alloc, name).ok(),
+        Err(PrimFault::NoMemory) => None,
+        Err(fault) => primitives_message(alloc, name, text, &fault).ok(),
+    }
+}
+
 /// The message on the first fault of the primitive file; where it has none, on the size of its primitives.
 fn on_primitives<D: Desk>(alloc: Global, from: &Sources, desk: &mut D) -> Option<Vec<u8>>
     ensures frame { ReadsOnly (D.state desk.old) (D.state desk.new) }
 {
     let (env, _) = environment_of(alloc, from, desk)?;
     let text = text_of(alloc, &from.prims, desk)?;
-    match read_prims(alloc, text.as_slice(), env.cell, env.headings) {
-        Ok(_) => size_message(alloc, from.prims.as_str()).ok(),
-        Err(PrimFault::NoMemory) => None,
-        Err(fault) => {
-            primitives_message(alloc, from.prims.as_str(), text.as_slice(), &fault).ok()
-        }
+    in_primitives(
+        alloc,
+        from.prims.as_str(),
+        text.as_slice(),
+        env.cell,
+        env.headings,
+    )
+}
+
+/// The message on the first fault of a text of changes, if it has one.
+fn in_changes(alloc: Global, name: &str, text: &[u8], map: &Map) -> Option<Vec<u8>>
+    requires short { length text.now ≤ 2 ^ 30 }
+{
+    match read_changes(alloc, text, map) {
+        Ok(_) | Err(ChangeFault::NoMemory) => None,
+        Err(fault) => changes_message(alloc, name, text, &fault).ok(),
     }
 }
 
@@ -68,13 +93,9 @@ fn on_primitives<D: Desk>(alloc: Global, from: &Sources, desk: &mut D) -> Option
 fn on_changes<D: Desk>(alloc: Global, from: &Sources, name: &Name, desk: &mut D) -> Option<Vec<u8>>
     ensures frame { ReadsOnly (D.state desk.old) (D.state desk.new) }
 {
-    let (env, grid) = environment_of(alloc, from, desk)?;
-    let map = Map::new(&env, grid);
+    let (map, _) = map_of(alloc, from, desk)?;
     let text = text_of(alloc, name, desk)?;
-    match read_changes(alloc, text.as_slice(), &map) {
-        Ok(_) | Err(ChangeFault::NoMemory) => None,
-        Err(fault) => changes_message(alloc, name.as_str(), text.as_slice(), &fault).ok(),
-    }
+    in_changes(alloc, name.as_str(), text.as_slice(), &map)
 }
 
 /// The first fault of a text of labels with a section for each plan, if it has one.
@@ -102,9 +123,7 @@ fn on_labels<D: Desk>(
 ) -> Option<Vec<u8>>
     ensures frame { ReadsOnly (D.state desk.old) (D.state desk.new) }
 {
-    let (env, grid) = environment_of(alloc, from, desk)?;
-    let (map, states) = map_of(&env, grid);
-    let last = batches_of(alloc, changes, &map, desk)?;
+    let (last, states) = plans_of(alloc, from, changes, desk)?;
     let text = text_of(alloc, name, desk)?;
     match fault_of_labels(alloc, text.as_slice(), last, states) {
         None | Some(LabelFault::NoMemory) => None,
@@ -156,6 +175,20 @@ fn on_job<D: Desk>(alloc: Global, job: &Job, status: u8, desk: &mut D) -> Option
     }
 }
 
+/// The message for a job that these words name and that was refused with a status.
+fn on_named_job<D: Desk>(
+    alloc: Global,
+    words: &[String],
+    status: u8,
+    desk: &mut D,
+) -> Option<Vec<u8>>
+    ensures environment { status ≡ 3 → IfSome result (λ m. (name : List ℕ) × IsOnEnvironment (D.state desk.old) name m.items) }
+    ensures frame { ReadsOnly (D.state desk.old) (D.state desk.new) }
+{
+    let job = read_job(alloc, words).ok()?;
+    on_job(alloc, &job, status, desk)
+}
+
 /// The message for words that name no job.
 fn on_words(alloc: Global, words: &[String]) -> Result<Vec<u8>, NoMemory>
     ensures message { IfOk result (λ m. IsPlainMessage (codes "temjoask") m.items) }
@@ -190,8 +223,5 @@ pub fn message_for<D: Desk>(
     if status == 7 {
         return Ok(Some(unwritten_message(alloc)?));
     }
-    match read_job(alloc, words) {
-        Ok(job) => Ok(on_job(alloc, &job, status, desk)),
-        Err(_) => Ok(None),
-    }
+    Ok(on_named_job(alloc, words, status, desk))
 }
