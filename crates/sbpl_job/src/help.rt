@@ -109,10 +109,15 @@ pub fn read_asked(words: &[String]) -> Option<Asked>
     }
 }
 
+/// The words and the settings of a command.
+fn words_of(alloc: Global, command: Command) -> Result<String, AllocError> {
+    let mut line = line_of(alloc, command)?.bin_name(call_of(command))?;
+    line.render_help()
+}
+
 /// The help of a command: its words and settings, the statuses, and an example.
 fn help_of(alloc: Global, command: Command) -> Result<String, AllocError> {
-    let mut line = line_of(alloc, command)?.bin_name(call_of(command))?;
-    let mut text = line.render_help()?;
+    let mut text = words_of(alloc, command)?;
     text.push_str(STATUSES)?;
     text.push_str(example_of(command))?;
     Ok(text)

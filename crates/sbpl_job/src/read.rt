@@ -1,13 +1,13 @@
 //! The job that the words name.
 
-ghost use Rattle.std.specs.Prelude.{◌≡◌, ◌≤◌, ◌^◌, IfOk, option_and_then};
+ghost use Rattle.std.specs.Prelude.{◌≡◌, ◌≤◌, ◌^◌, IfErr, IfOk, None, Some, option_and_then};
 ghost use Rattle.sbpl_job.specs.Found.{job_found, set_in};
-ghost use Rattle.sbpl_job.specs.Jobs.{IsJob, check_in, command_named, demo_in, job_by, job_named, plan_in, plan_on, sweep_in};
+ghost use Rattle.sbpl_job.specs.Jobs.{IsJob, IsSearchJob, check_in, command_named, demo_in, job_by, job_named, plan_in, plan_on, sweep_in};
 ghost use Rattle.sbpl_job.specs.Words.{Names, parts_in, texts};
 
 use crate::demo::{read_extent, read_seed};
 use crate::files::{name_of, outputs_of, sources_of};
-use crate::job::{CheckJob, DemoJob, Job, JobFault, PlanJob, Sources};
+use crate::job::{CheckJob, DemoJob, Job, JobFault, Outputs, PlanJob, SearchJob, Sources};
 use crate::line::find_parts;
 use crate::name::Name;
 use crate::values::{search_of, takes_changes};
@@ -28,6 +28,25 @@ pub(crate) fn command_named(word: &str) -> Option<Command>
     }
 }
 
+/// How the job `plan` on these sources, with these changes, searches, and what it writes.
+fn plan_settings(
+    alloc: Global,
+    from: &Sources,
+    changes: &Option<Name>,
+    matches: &ArgMatches,
+) -> Result<(SearchJob, Outputs), JobFault>
+    ensures job { IfOk result (λ x. plan_on from.now changes.now (set_in matches.now) ≡ Some (Job.Plan (record { sources = from.now; changes = changes.now; search = x.0; outputs = x.1 }))) }
+    ensures none { IfErr result (λ e. e ≡ JobFault.Words → plan_on from.now changes.now (set_in matches.now) ≡ None) }
+    ensures range { IfOk result (λ x. IsSearchJob x.0) }
+{
+    let outputs = outputs_of(alloc, from, changes, matches)?;
+    let search = search_of(matches)?;
+    if !takes_changes(search.planner, changes) {
+        return Err(JobFault::Words);
+    }
+    Ok((search, outputs))
+}
+
 /// The job `plan` on these sources, with these changes.
 fn plan_on(
     alloc: Global,
@@ -39,11 +58,7 @@ fn plan_on(
     ensures job { Names (plan_on sources changes (set_in matches.now)) result }
     ensures range { IfOk result IsJob }
 {
-    let outputs = outputs_of(alloc, &sources, &changes, matches)?;
-    let search = search_of(matches)?;
-    if !takes_changes(search.planner, &changes) {
-        return Err(JobFault::Words);
-    }
+    let (search, outputs) = plan_settings(alloc, &sources, &changes, matches)?;
     Ok(Job::Plan(PlanJob {
         sources,
         changes,
