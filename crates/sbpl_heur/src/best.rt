@@ -88,10 +88,10 @@ impl Best {
         let headings = headings_of(env);
         let room = lattice.prims().len();
         let hops = Vec::with_capacity(alloc, room as usize)?;
-        let costs = lattice.map().costs();
-        let walks = Walks::new(alloc, env, costs, goal / headings, room)?;
         let cells = vec![in alloc; 0; cells_of(env) as usize]?;
         let turns = vec![in alloc; 0; headings as usize]?;
+        let costs = lattice.map().costs();
+        let walks = Walks::new(alloc, env, costs, goal / headings, room)?;
         let mut best = Best {
             goal,
             hops,

@@ -96,10 +96,10 @@ impl Walks {
         ensures board { IfOk result (λ w. w.board ≡ record { env = env.now; costs = costs.now; hops = []; room = room }) }
         ensures start { IfOk result (λ w. w.labels.start ≡ goal) }
     {
+        let touched = Vec::with_capacity(alloc, room as usize + 1)?;
         let cells = Cells::new(alloc, env, costs, room)?;
         let count = cells.count();
         let search = Serial::open(alloc, count + 1, goal, count)?;
-        let touched = Vec::with_capacity(alloc, room as usize + 1)?;
         Ok(Walks {
             cells,
             search,

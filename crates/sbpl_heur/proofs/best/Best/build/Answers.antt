@@ -25,3 +25,26 @@ invariant_of-best c =
     fresh_parts w c.env-env.result.now c.args.goal (vec_capacity c.in_ok-hops.hops) c.cells_of.result c.headings_of-headings.result c.in_ok-walks.walks c.in_ok-cells.cells.items c.in_ok-turns.turns.items world c.env-env.ensures.env
     c.requires.goal c.cells_of.ensures.cells c.headings_of-headings.ensures.value (c.in_ok-cells.ensures.items_if_clones_equal (λ y h. h)) (c.in_ok-turns.ensures.items_if_clones_equal (λ y h. h)) (ap cell_count board ∙ size ∙ sym area ∙ sym c.cells_of.ensures.cells)
     c.in_ok-walks.ensures.start (ap (λ z. z.room) board ∙ sym c.in_ok-hops.ensures.exact)
+
+pub rebuild-requires : goal.rebuild-requires
+rebuild-requires c = record {
+  fits = record {
+    cells = omega (arith, c.in_ok-cells.ensures.len, c.cells_of.ensures.cells, ap (λ e. e.width * e.height) c.env-env.ensures.env);
+    turns = omega (arith, c.in_ok-turns.ensures.len, c.headings_of-headings.ensures.value, ap (λ e. e.headings) c.env-env.ensures.env);
+    prims = omega (arith, c.in_ok-hops.ensures.exact, c.len-room.ensures.count, ap (λ p. length p.items) c.prims.ensures.prims);
+  };
+}
+
+pub returns : goal.returns
+returns c =
+    let made = c.rebuild.ensures in
+    record {
+      best = made.best;
+      guides = made.guides;
+      goal = made.goal;
+      fits = made.fits c.args.lattice.now (record {
+        cells = omega (arith, c.in_ok-cells.ensures.len, c.cells_of.ensures.cells, ap (λ e. e.width * e.height) c.env-env.ensures.env);
+        turns = omega (arith, c.in_ok-turns.ensures.len, c.headings_of-headings.ensures.value, ap (λ e. e.headings) c.env-env.ensures.env);
+        prims = omega (arith, c.in_ok-hops.ensures.exact, c.len-room.ensures.count, ap (λ p. length p.items) c.prims.ensures.prims);
+      });
+    }

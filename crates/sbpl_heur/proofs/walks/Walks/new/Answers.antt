@@ -1,4 +1,4 @@
-use Rattle.std.proofs.Common.{◌≡◌, length, arith, ap, sym, ◌∙◌, subst}
+use Rattle.std.proofs.Common.{◌≡◌, length, arith, ap, sym, ◌∙◌}
 use Rattle.sbpl_heur.specs.Boards.{cell_count, board_network}
 use Rattle.sbpl_heur.proofs.walks.Walks.new.Goals as goal
 
