@@ -1,9 +1,11 @@
 -- How a job ends, from how its reading, its planning and its writing end.
 use Rattle.std.proofs.Common.{ℕ, ◌≤◌, List, Option, Some, None, refl, ◌∙◌, subst, arith, inl, inr}
 use Rattle.std.proofs.lemmas.Bool.{cases_lt}
+use Rattle.sbpl_cfg.specs.Environment.{Environment}
 use Rattle.sbpl_desk.specs.Desk.{NoneFalls, Rose, Stays}
 use Rattle.sbpl_map.specs.CellMap.{CellMap}
 use Rattle.sbpl_map.specs.declared.write.Write.{Write}
+use Rattle.sbpl_mprim.specs.Primitives.{Primitives}
 use Rattle.sbpl_cost.specs.World.{World}
 use Rattle.sbpl_job.specs.declared.job.CheckJob.{CheckJob}
 use Rattle.sbpl_job.specs.declared.job.Job.{Job}
@@ -14,7 +16,7 @@ use Rattle.sbpl_cli.specs.declared.refusal.Refusal.{Refusal}
 use Rattle.sbpl_cli.specs.declared.refusal.Refusal.TheVariants as refusal
 use Rattle.sbpl_cli.specs.declared.refusal.Stop.{Stop}
 use Rattle.sbpl_cli.specs.declared.refusal.Stop.TheVariants as stop
-use Rattle.sbpl_cli.specs.Causes.{AtName, ChangesStopFor, EarlyStopsFor, IsCause, IsChangesCause, IsFaultyChanges, IsJobCause, IsLabelsCause, IsReadText, IsTooLong, ReadsBatches, ReadsWorld}
+use Rattle.sbpl_cli.specs.Causes.{AtName, ChangesStopFor, EarlyStopsFor, IsCause, IsChangesCause, IsFaultyChanges, IsJobCause, IsLabelsCause, IsReadText, IsTooLong, IsUnread, IsWideStop, JobStopsFor, LatticeStopsFor, PrimitivesStopFor, ReadsBatches, ReadsEnvironment, ReadsPrimitives, ReadsWorld}
 use Rattle.sbpl_cli.specs.Intents.{Intent, Refused, OutOfMemory, intent_status, refusal_status, refusal_writes, writes_of}
 use Rattle.sbpl_cli.specs.Promises.{GivesIntent, EndsJob, IsWrittenFor, MayBeWritten}
 use Rattle.sbpl_cli.specs.Writing.{DeskState, EndsAs, IsOutput, Names, ReadFailed, ReadsOnly, StaysBut, Told, WritesOnly}
@@ -65,6 +67,36 @@ module _ (held : Told) (F G : Names) (on : (name : List ℕ) → F name → G na
 
 -- ---- a stop is handed on
 
+-- the primitive file said before what it said later
+pub primitives_before : (held held' : Told) (from : Sources) (e : Environment) (ps : Primitives) → Stays held held' → ReadsPrimitives held' from e ps → ReadsPrimitives held from e ps
+primitives_before held held' from e ps same says = record {
+  text = says.text;
+  read = subst (λ (o : Option (List ℕ)). IsReadText o says.text) (same from.prims) says.read;
+  stands = says.stands;
+}
+
+-- a stop for the primitive file is one, where an environment was read before
+pub primitives_stop : (s t u : DeskState) (from : Sources) (e : Environment) (cells : List ℕ) (x : Stop) → ReadsEnvironment s.held from e cells → ReadsOnly s t → PrimitivesStopFor t u from e x → LatticeStopsFor s u from x
+primitives_stop s t u from e cells stop.NoMemory says same cause = tt
+primitives_stop s t u from e cells (stop.Refused r) says same cause = by_refusal r cause
+  where
+    by_refusal : (r : Refusal) → PrimitivesStopFor t u from e (stop.Refused r) → IsCause s.held (ReadFailed s u) from r
+    by_refusal (refusal.Primitives f) faulty = record {
+      env = e;
+      cells = cells;
+      environment = says;
+      primitives = record { text = faulty.text; read = subst (λ (o : Option (List ℕ)). IsReadText o faulty.text) (same.held from.prims) faulty.read; faulty = faulty.faulty };
+    }
+    by_refusal (refusal.Read input.Primitives) failed = record { env = e; cells = cells; environment = says; holds = failed_since s t u same.reads from.prims failed }
+    by_refusal (refusal.Length input.Primitives) long = record { env = e; cells = cells; environment = says; holds = subst (λ (o : Option (List ℕ)). IsTooLong o) (same.held from.prims) long }
+    by_refusal _ none = absurd none
+
+-- a stop for primitives that are too wide is one, where an environment and these primitives were read before
+pub wide_stop : (s u : DeskState) (from : Sources) (e : Environment) (cells : List ℕ) (ps : Primitives) (x : Stop) → ReadsEnvironment s.held from e cells → ReadsPrimitives s.held from e ps → IsWideStop ps from.radius x → LatticeStopsFor s u from x
+wide_stop s u from e cells ps stop.NoMemory says stand cause = tt
+wide_stop s u from e cells ps (stop.Refused (refusal.TooWide place)) says stand cause = record { env = e; cells = cells; prims = ps; environment = says; primitives = stand; wide = cause }
+wide_stop s u from e cells ps (stop.Refused _) says stand cause = absurd cause
+
 -- what a desk held later it held before
 pub batches_since : (held later : Told) (changes : Option (List ℕ)) (m : CellMap) (batches : List (List Write)) → Stays held later → ReadsBatches later changes m batches → ReadsBatches held changes m batches
 batches_since held later None m batches stays is = is
@@ -82,6 +114,28 @@ course_stop s t u from changes w (stop.Refused r) says same cause = inr (by_refu
     by_refusal (refusal.Length input.Changes) cause =
         (w, says, at_name_on changes (λ name. IsTooLong (t.held name)) (λ name. IsTooLong (s.held name)) (λ name long. subst (λ (o : Option (List ℕ)). IsTooLong o) (same.held name) long) cause)
     by_refusal _ cause = absurd cause
+
+-- a stop for the files of a lattice or for the change file is one of the job `check`
+pub early_stop : (s t : DeskState) (j : CheckJob) (x : Stop) → EarlyStopsFor s t j.sources j.changes x → JobStopsFor s t (job.Check j) x
+early_stop s t j stop.NoMemory cause = tt
+early_stop s t j (stop.Refused r) (inl cause) = inl cause
+early_stop s t j (stop.Refused r) (inr cause) = inr (inl cause)
+
+-- a stop for the file of labels is one of the job `check`, where a world and batches were read before
+pub labels_stop : (s t u : DeskState) (j : CheckJob) (w : World) (batches : List (List Write)) (x : Stop) → ReadsWorld s.held j.sources w → ReadsBatches s.held j.changes w.map batches → ReadsOnly s t → IsUnread t u j.labels input.Labels x → JobStopsFor s u (job.Check j) x
+labels_stop s t u j w batches stop.NoMemory says changes same cause = tt
+labels_stop s t u j w batches (stop.Refused r) says changes same cause = inr (inr (by_refusal r cause))
+  where
+    by_refusal : (r : Refusal) → IsUnread t u j.labels input.Labels (stop.Refused r) → IsLabelsCause s.held (ReadFailed s u) j r
+    by_refusal (refusal.Read input.Labels) (is, failed) = (w, batches, says, changes, failed_since s t u same.reads j.labels failed)
+    by_refusal (refusal.Read input.Environment) (is, failed) = absurd (cc)
+    by_refusal (refusal.Read input.Primitives) (is, failed) = absurd (cc)
+    by_refusal (refusal.Read input.Changes) (is, failed) = absurd (cc)
+    by_refusal (refusal.Length input.Labels) (is, long) = (w, batches, says, changes, subst (λ (o : Option (List ℕ)). IsTooLong o) (same.held j.labels) long)
+    by_refusal (refusal.Length input.Environment) (is, long) = absurd (cc)
+    by_refusal (refusal.Length input.Primitives) (is, long) = absurd (cc)
+    by_refusal (refusal.Length input.Changes) (is, long) = absurd (cc)
+    by_refusal _ none = absurd none
 
 -- ---- the end of a job
 

@@ -1,5 +1,5 @@
 -- The steps of a path, arc by arc.
-use Rattle.std.proofs.Common.{◌≡◌, ℕ, ◌<◌, List, [], ◌∷◌, ◌++◌, Some, IsSome, subst, append_assoc, append-nil}
+use Rattle.std.proofs.Common.{◌≡◌, ℕ, ◌<◌, List, [], ◌∷◌, ◌++◌, Some, IsSome, rules, subst, append_assoc, append-nil}
 use Rattle.sbpl_graph.specs.Network.{Network}
 use Rattle.sbpl_graph.specs.Path.{IsFreePath}
 use Rattle.sbpl_cost.specs.World.{World}
@@ -12,6 +12,11 @@ pub record IsFirstArc (n : Network) (s k : ℕ) : Type 0 where
   pub state : s < n.states
   pub number : k < n.fan s
   pub head : IsSome (n.head s k)
+
+pub first_arc : (n : Network) (s k : ℕ) (ks : List ℕ) → IsPathFrom n s (k ∷ ks) → IsFirstArc n s k
+first_arc n s k ks path =
+    let head : n.head s k ≡ Some path.2.0 = path.2.3.head in
+    record { state = path.2.3.source; number = path.2.3.number; head = search rules }
 
 -- after the first arc the path goes on from its head
 pub path_after : (n : Network) (s k u : ℕ) (ks : List ℕ) → IsPathFrom n s (k ∷ ks) → n.head s k ≡ Some u → IsPathFrom n u ks

@@ -176,7 +176,12 @@ fn read_check<D: Desk>(
     };
     match read_file(alloc, &job.labels, Input::Labels, desk) {
         Ok(text) => Ok((lattice, changes, text)),
-        Err(stop) => Err(stop),
+        Err(stop) => {
+            // Let go by a call: the drop of each field here would make the proof long.
+            drop(lattice);
+            drop(changes);
+            Err(stop)
+        }
     }
 }
 
@@ -191,6 +196,18 @@ pub(crate) fn check_labels<D: Desk>(alloc: Global, job: &CheckJob, desk: &mut D)
     lattice_has_its_arcs();
     let (mut lattice, changes, text) = read_check(alloc, job, desk)?;
     let (start, goal) = ends_of(&lattice);
-    let text = text.as_slice();
-    Ok(check_text(alloc, &mut lattice, &changes, start, goal, text, desk))
+    let status = check_text(
+        alloc,
+        &mut lattice,
+        &changes,
+        start,
+        goal,
+        text.as_slice(),
+        desk,
+    );
+    // Let go by a call: the drop of each field here would make the proof long.
+    drop(lattice);
+    drop(changes);
+    drop(text);
+    Ok(status)
 }

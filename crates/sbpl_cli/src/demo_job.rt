@@ -2,9 +2,12 @@
 
 ghost use Rattle.std.specs.Prelude.{◌≡◌, ◌∷◌, [], length};
 ghost use Rattle.sbpl_cost.specs.Lattices.{network_of};
+ghost use Rattle.sbpl_cost.specs.World.{IsWorld};
+ghost use Rattle.sbpl_demo.specs.Changes.{changes_drawn};
+ghost use Rattle.sbpl_map.specs.ChangeText.{AreOnMap};
 ghost use Rattle.sbpl_job.specs.Jobs.{IsDemoJob};
 ghost use Rattle.sbpl_job.specs.declared.job.Job.TheVariants as Jobs;
-ghost use Rattle.sbpl_cli.specs.Causes.{demo_search};
+ghost use Rattle.sbpl_cli.specs.Causes.{IsDrawn, demo_search};
 ghost use Rattle.sbpl_cli.specs.Promises.{EndsJob};
 ghost use Rattle.sbpl_cli.specs.Report.{demo_text};
 ghost use Rattle.sbpl_cli.specs.Writing.{EndsIn, IsOutput, WritesOnly, to_output};
@@ -59,17 +62,23 @@ fn write_first<D: Desk>(
     }
 }
 
-/// Draws an example, plans on it, writes a line for each plan, and answers the status. Nothing is read from the desk.
-pub(crate) fn end_demo<D: Desk>(alloc: Global, job: &DemoJob, desk: &mut D) -> u8
-    requires range { IsDemoJob job.now }
+/// Plans on an example that was drawn, writes a line for each plan, and answers the status.
+fn demonstrate<D: Desk>(
+    alloc: Global,
+    job: &DemoJob,
+    lattice: &mut Lattice,
+    changes: &Changes,
+    desk: &mut D,
+) -> u8
+    requires drawn { IsDrawn job.now lattice.old }
+    requires changes { changes.now ≡ changes_drawn job.now.width job.now.height job.now.seed }
+    requires kept { IsWorld lattice.old }
+    requires on_map { AreOnMap lattice.old.map changes.now }
     ensures ends { EndsJob (D.state desk.old) (D.state desk.new) (Jobs.Demo job.now) result }
     ensures frame { WritesOnly IsOutput (D.state desk.old) (D.state desk.new) }
 {
-    let Ok((mut lattice, changes)) = draw(alloc, job) else {
-        return 9;
-    };
-    let (start, goal) = ends_of(&lattice);
-    if let Err(stop) = write_first(alloc, &lattice, &changes, desk) {
+    let (start, goal) = ends_of(lattice);
+    if let Err(stop) = write_first(alloc, lattice, changes, desk) {
         return status_after(Err(stop), 9);
     }
     let outputs = Outputs {
@@ -78,8 +87,8 @@ pub(crate) fn end_demo<D: Desk>(alloc: Global, job: &DemoJob, desk: &mut D) -> u
     };
     plans_by_adstar(
         alloc,
-        &mut lattice,
-        &changes,
+        lattice,
+        changes,
         &demo_search(),
         &outputs,
         start,
@@ -87,4 +96,22 @@ pub(crate) fn end_demo<D: Desk>(alloc: Global, job: &DemoJob, desk: &mut D) -> u
         &Lines,
         desk,
     )
+}
+
+/// Draws an example, plans on it, writes a line for each plan, and answers the status. Nothing is read from the desk.
+pub(crate) fn end_demo<D: Desk>(alloc: Global, job: &DemoJob, desk: &mut D) -> u8
+    requires range { IsDemoJob job.now }
+    ensures ends { EndsJob (D.state desk.old) (D.state desk.new) (Jobs.Demo job.now) result }
+    ensures frame { WritesOnly IsOutput (D.state desk.old) (D.state desk.new) }
+{
+    match draw(alloc, job) {
+        Ok((mut lattice, changes)) => {
+            let status = demonstrate(alloc, job, &mut lattice, &changes, desk);
+            // Let go by a call: the drop of each field here would make the proof long.
+            drop(lattice);
+            drop(changes);
+            status
+        }
+        Err(NoMemory) => 9,
+    }
 }

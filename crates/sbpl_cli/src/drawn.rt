@@ -4,6 +4,7 @@ ghost use Rattle.std.specs.Prelude.{◌≡◌, ◌≤◌, ℕ, length, slice_get
 ghost use Rattle.sbpl_cfg.specs.Text.{IsTextOf as IsEnvironmentText};
 ghost use Rattle.sbpl_mprim.specs.Text.{IsTextOf as IsPrimitiveText};
 ghost use Rattle.sbpl_mprim.specs.declared.prim.Primitive.{Primitive};
+ghost use Rattle.sbpl_map.specs.CellMap.{CellMap};
 ghost use Rattle.sbpl_map.specs.ChangeText.{AreOnMap};
 ghost use Rattle.sbpl_map.specs.ChangeText.{IsTextOf as IsChangeText};
 ghost use Rattle.sbpl_sweep.specs.Widths.{NoneTooWide};
@@ -18,7 +19,7 @@ ghost use Rattle.sbpl_cli.specs.Causes.{IsDrawn};
 
 use sbpl_cfg::{Env, EnvFault, Grid, read_env};
 use sbpl_cost::{Lattice, LatticeFault};
-use sbpl_demo::generate;
+use sbpl_demo::{Demo, generate};
 use sbpl_fixed::NoMemory;
 use sbpl_job::DemoJob;
 use sbpl_map::{ChangeFault, Changes, Map, read_changes};
@@ -108,6 +109,46 @@ fn lattice_of(
     }
 }
 
+/// The lattice that the texts of a drawn example stand for.
+fn lattice_from(alloc: Global, demo: &Demo, job: &DemoJob) -> Result<Lattice, NoMemory>
+    requires env { IsEnvironmentText demo.now.env (environment job.now.width job.now.height) (costs job.now.width job.now.height job.now.seed) }
+    requires prims { IsPrimitiveText demo.now.prims primitives }
+    requires narrow { NoneTooWide primitives 0 }
+    requires cheap { (i : ℕ) (p : Primitive) → slice_get primitives.items i ≡ Some p → primitive_cost (environment job.now.width job.now.height) p ≤ most_cost }
+    ensures drawn { IfOk result (IsDrawn job.now) }
+    ensures kept { IfOk result IsWorld }
+{
+    let (env, grid) = env_of(alloc, demo.env.as_slice(), job)?;
+    let prims = prims_of(alloc, demo.prims.as_slice())?;
+    let sweeps = sweeps_of(alloc, &prims)?;
+    let map = Map::new(&env, grid);
+    lattice_of(alloc, &env, prims, sweeps, map, job)
+}
+
+/// The lattice and the batches of changes that the texts of a drawn example stand for.
+fn parts_of(alloc: Global, demo: &Demo, job: &DemoJob) -> Result<(Lattice, Changes), NoMemory>
+    requires env { IsEnvironmentText demo.now.env (environment job.now.width job.now.height) (costs job.now.width job.now.height job.now.seed) }
+    requires prims { IsPrimitiveText demo.now.prims primitives }
+    requires changes { (m : CellMap) → m.width ≡ job.now.width → m.height ≡ job.now.height → IsChangeText m demo.now.changes (changes_drawn job.now.width job.now.height job.now.seed) }
+    requires short { length demo.now.changes ≤ 429 }
+    requires narrow { NoneTooWide primitives 0 }
+    requires cheap { (i : ℕ) (p : Primitive) → slice_get primitives.items i ≡ Some p → primitive_cost (environment job.now.width job.now.height) p ≤ most_cost }
+    ensures drawn { IfOk result (λ x. IsDrawn job.now x.0) }
+    ensures changes { IfOk result (λ x. x.1 ≡ changes_drawn job.now.width job.now.height job.now.seed) }
+    ensures kept { IfOk result (λ x. IsWorld x.0) }
+    ensures on_map { IfOk result (λ x. AreOnMap x.0.map x.1) }
+{
+    let lattice = lattice_from(alloc, demo, job)?;
+    match changes_of(alloc, demo.changes.as_slice(), lattice.map(), job) {
+        Ok(changes) => Ok((lattice, changes)),
+        Err(NoMemory) => {
+            // Let go by a call: the drop of each field here would make the proof long.
+            drop(lattice);
+            Err(NoMemory)
+        }
+    }
+}
+
 /// The lattice and the batches of changes that are drawn from a seed.
 pub(crate) fn draw(alloc: Global, job: &DemoJob) -> Result<(Lattice, Changes), NoMemory>
     requires range { IsDemoJob job.now }
@@ -117,11 +158,5 @@ pub(crate) fn draw(alloc: Global, job: &DemoJob) -> Result<(Lattice, Changes), N
     ensures on_map { IfOk result (λ x. AreOnMap x.0.map x.1) }
 {
     let demo = generate(alloc, job.seed, job.width, job.height)?;
-    let (env, grid) = env_of(alloc, demo.env.as_slice(), job)?;
-    let prims = prims_of(alloc, demo.prims.as_slice())?;
-    let sweeps = sweeps_of(alloc, &prims)?;
-    let map = Map::new(&env, grid);
-    let changes = changes_of(alloc, demo.changes.as_slice(), &map, job)?;
-    let lattice = lattice_of(alloc, &env, prims, sweeps, map, job)?;
-    Ok((lattice, changes))
+    parts_of(alloc, &demo, job)
 }

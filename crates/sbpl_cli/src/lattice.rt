@@ -69,6 +69,10 @@ pub(crate) fn read_course<D: Desk>(
     let lattice = read_lattice(alloc, from, desk)?;
     match read_batches(alloc, changes, lattice.map(), desk) {
         Ok(batches) => Ok((lattice, batches)),
-        Err(stop) => Err(stop),
+        Err(stop) => {
+            // Let go by a call: the drop of each field here would make the proof long.
+            drop(lattice);
+            Err(stop)
+        }
     }
 }

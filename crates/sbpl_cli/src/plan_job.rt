@@ -34,7 +34,7 @@ pub(crate) fn end_plan<R: Threads + Wait + Sync, D: Desk, T: Gate + Sync>(
 {
     let (mut lattice, changes) = read_course(alloc, &job.sources, &job.changes, desk)?;
     let (start, goal) = ends_of(&lattice);
-    Ok(make_plans(
+    let status = make_plans(
         rt,
         gate,
         alloc,
@@ -46,5 +46,9 @@ pub(crate) fn end_plan<R: Threads + Wait + Sync, D: Desk, T: Gate + Sync>(
         goal,
         &job.outputs,
         desk,
-    ))
+    );
+    // Let go by a call: the drop of each field here would make the proof long.
+    drop(lattice);
+    drop(changes);
+    Ok(status)
 }

@@ -63,7 +63,12 @@ pub(crate) fn end_sweep<D: Desk>(alloc: Global, from: &Sources, desk: &mut D) ->
     ensures frame { WritesOnly IsOutput (D.state desk.old) (D.state desk.new) }
 {
     match read_lattice(alloc, from, desk) {
-        Ok(lattice) => Ok(status_after(write_listings(alloc, &lattice, desk), 0)),
+        Ok(lattice) => {
+            let status = status_after(write_listings(alloc, &lattice, desk), 0);
+            // Let go by a call: the drop of each field here would make the proof long.
+            drop(lattice);
+            Ok(status)
+        }
         Err(stop) => Err(stop),
     }
 }

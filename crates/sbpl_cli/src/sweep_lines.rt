@@ -52,13 +52,15 @@ fn push_cells(out: &mut Vec<u8>, word: &[u8], cells: &[Cell]) -> Result<(), NoMe
 }
 
 /// Appends where a primitive leads.
-#[tactic(auto, unfolding(crate::specs::Listing::end_text))]
+#[tactic(auto, unfolding(crate::specs::Listing::end_text, crate::specs::Listing::offset_text))]
 fn push_end(out: &mut Vec<u8>, prim: &Prim) -> Result<(), NoMemory>
     ensures appended { OnOk result (out.new.items ≡ out.old.items ++ end_text prim.now) }
 {
-    push_signed(out, i64::from(prim.dx))?;
-    push_bytes(out, b" ")?;
-    push_signed(out, i64::from(prim.dy))?;
+    let cell = Cell {
+        x: i64::from(prim.dx),
+        y: i64::from(prim.dy),
+    };
+    push_offset(out, cell)?;
     push_field(out, b" ", u64::from(prim.to))
 }
 

@@ -65,6 +65,25 @@ fn refuse_words<D: Desk>(desk: &mut D) -> u8
     status_after(write_text(OUTPUT, b"refused words\n", desk), 2)
 }
 
+/// Does a job or refuses it, writes what came of it, and answers the status.
+fn end_job<R: Threads + Wait + Sync, D: Desk, T: Gate + Sync>(
+    rt: &R,
+    alloc: Global,
+    job: &Job,
+    desk: &mut D,
+    gate: &T,
+) -> u8
+    requires range { IsJob job.now }
+    ensures ends { EndsJob (D.state desk.old) (D.state desk.new) job.now result }
+    ensures frame { WritesOnly (MayBeWritten (Some job.now)) (D.state desk.old) (D.state desk.new) }
+{
+    match do_job(rt, alloc, job, desk, gate) {
+        Ok(status) => status,
+        Err(Stop::Refused(refusal)) => refuse(alloc, job, refusal, desk),
+        Err(Stop::NoMemory) => 9,
+    }
+}
+
 /// Finds the job that the words name, does it or refuses it, writes what came of it, and answers the status.
 fn end_run<R: Threads + Wait + Sync, D: Desk, T: Gate + Sync>(
     rt: &R,
@@ -77,11 +96,12 @@ fn end_run<R: Threads + Wait + Sync, D: Desk, T: Gate + Sync>(
     ensures frame { WritesOnly (MayBeWritten (job_named words.now)) (D.state desk.old) (D.state desk.new) }
 {
     match read_job(alloc, words) {
-        Ok(job) => match do_job(rt, alloc, &job, desk, gate) {
-            Ok(status) => status,
-            Err(Stop::Refused(refusal)) => refuse(alloc, &job, refusal, desk),
-            Err(Stop::NoMemory) => 9,
-        },
+        Ok(job) => {
+            let status = end_job(rt, alloc, &job, desk, gate);
+            // Let go by a call: the drop of each field here would make the proof long.
+            drop(job);
+            status
+        }
         Err(JobFault::Words) => refuse_words(desk),
         Err(JobFault::NoMemory) => 9,
     }

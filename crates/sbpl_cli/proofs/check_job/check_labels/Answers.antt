@@ -10,7 +10,7 @@ pub returns-clause-ends : goal.returns-clause-ends
 returns-clause-ends g c =
     let w = c.in_ok-lattice.lattice in
     let batches = c.in_ok-lattice.changes in
-    let ends = c.check_text.ensures.ends in
+    let ends = c.check_text-status.ensures.ends in
     let case : Case = record { world = w; batches = batches; start = c.ends_of-start.result.0; goal = c.ends_of-start.result.1 } in
     record {
       intent = Checked c.ends_of-start.result.1 ends.outcomes ends.end;
@@ -27,12 +27,12 @@ returns-clause-ends g c =
           start = c.ends_of-start.result.0;
           start_is = c.ends_of-start.ensures.start;
           goal_is = c.ends_of-start.ensures.goal;
-          checked = subst (λ (t : List ℕ). AreChecked IsShownHolding case 0 (suc (length batches)) (start_at t 0) ends.outcomes ends.end) c.as_slice-text.ensures.value ends.checked;
+          checked = subst (λ (t : List ℕ). AreChecked IsShownHolding case 0 (suc (length batches)) (start_at t 0) ends.outcomes ends.end) c.as_slice.ensures.value ends.checked;
         };
       };
       ends = ends_since _ _ _ _ _ _ c.in_ok-lattice.ensures.frame.written c.in_ok-lattice.ensures.frame.writes ends.ends;
-      others = λ name no. c.check_text.ensures.frame.others name no ∙ c.in_ok-lattice.ensures.frame.written name;
+      others = λ name no. c.check_text-status.ensures.frame.others name no ∙ c.in_ok-lattice.ensures.frame.written name;
     }
 
 pub returns-clause-frame : goal.returns-clause-frame
-returns-clause-frame g c = writes_after _ _ _ _ c.in_ok-lattice.ensures.frame c.check_text.ensures.frame
+returns-clause-frame g c = writes_after _ _ _ _ c.in_ok-lattice.ensures.frame c.check_text-status.ensures.frame

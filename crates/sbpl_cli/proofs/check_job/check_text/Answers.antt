@@ -45,7 +45,7 @@ loop-k-preserved g c =
           (goes_on (record { world = w; batches = batches; start = c.args.start; goal = c.args.goal }) _ _ _ k (suc more) here refl refl _ _ _ _ _ _ c.in-Ok.ensures.holds c.check_next.ensures.frame.writes ends);
       far = (let test = c.loop-k-test.true in let count = c.batches-k-end.ensures.value in omega arith);
       map_after = c.writes_lead_to_the_next_map.ensures.next _ _ _ _ _ _ so.map_after c.batch.ensures.writes c.write_batch.ensures.written;
-      other_parts = c.write_batch.ensures.others ∙ ap (λ (v : World). record v { map = c.write_batch.new.lattice.map }) so.other_parts;
+      other_parts = ◌∙◌ {b = record c.loop-k.lattice { map = c.write_batch.new.lattice.map }} c.write_batch.ensures.others (ap (λ (v : World). record v { map = c.write_batch.new.lattice.map }) so.other_parts);
       kept = c.write_batch.ensures.kept;
       inside = c.in-Ok.ensures.inside;
       frame = writes_on _ _ _ _ so.frame c.check_next.ensures.frame;

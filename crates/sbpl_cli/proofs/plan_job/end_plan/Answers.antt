@@ -7,7 +7,7 @@ use Rattle.sbpl_cli.proofs.Frames.{writes_after}
 
 pub returns-clause-ends : goal.returns-clause-ends
 returns-clause-ends g c =
-    let e = c.make_plans.ensures.ends in
+    let e = c.make_plans-status.ensures.ends in
     ended _ (g.D.Desk.state c.read_course.new.desk) _ (job.Plan c.args.job.now) (Planned e.records e.all) _
     (record {
       world = c.in_ok-lattice.lattice;
@@ -24,7 +24,7 @@ returns-clause-ends g c =
         all_made = λ is. let count = e.all_made is in omega arith;
       };
     })
-    c.in_ok-lattice.ensures.frame e.ends c.make_plans.ensures.frame.others
+    c.in_ok-lattice.ensures.frame e.ends c.make_plans-status.ensures.frame.others
 
 pub returns-clause-frame : goal.returns-clause-frame
-returns-clause-frame g c = writes_after _ _ _ _ c.in_ok-lattice.ensures.frame c.make_plans.ensures.frame
+returns-clause-frame g c = writes_after _ _ _ _ c.in_ok-lattice.ensures.frame c.make_plans-status.ensures.frame

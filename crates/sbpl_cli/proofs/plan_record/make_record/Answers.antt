@@ -1,6 +1,7 @@
 use Rattle.std.proofs.Common.{map, arith, ◌≡◌, ℕ, ◌+◌, ◌*◌, ◌^◌, ◌≤◌, length, Bool, true, false, MatchBool, Option, None, Some, Result, Ok, Err, IfOk, refl, sym, ◌∙◌, ap, subst, inl, inr, ◌⊎◌}
 use Rattle.std.proofs.lemmas.List.{length-map}
 use Rattle.std.specs.Option.{is_some}
+use Rattle.std.specs.Result.{IsErr}
 use Rattle.sbpl_cert.specs.Sections.{Section}
 use Rattle.sbpl_fixed.specs.declared.no_memory.NoMemory.{NoMemory}
 use Rattle.sbpl_cost.specs.Lattices.{network_of}
@@ -98,7 +99,7 @@ returns-clause-searched g c = λ before begins counted.
     let new = c.plan.new.self in
     let guide : c.guide.result.now ≡ old.guide = c.guide.ensures.value ∙ c.plan.ensures.guide in
     let rises : new.counts.run ≡ old.counts.run + expansions planned.passes = ap (λ (k : Counts). k.run) made.leaves.counted in
-    let run : new.counts.run ≡ expanded_before before + expansions planned.passes = rises ∙ ap (λ (n : ℕ). n + expansions planned.passes) (sym counted) in
+    let run : new.counts.run ≡ expanded_before before + expansions planned.passes = rises ∙ ap (λ (n : ℕ). n + expansions planned.passes) {y = expanded_before before} (sym counted) in
     let of_plan : new.counts.plan ≡ 0 + expansions planned.passes = ap (λ (k : Counts). k.plan) made.leaves.counted in
     let used : c.expanded-expanded.result ≡ expansions planned.passes = omega (arith, c.expanded-expanded.ensures.value, of_plan) in
     searched_by by c.args.lattice.now old.guide c.args.start c.args.goal c.args.how.now c.args.outputs.now before old.search.labels new.search.labels
@@ -133,3 +134,14 @@ returns-clause-promises g c =
     let bound = ap (λ (a : Ask). a.bound) c.ask_of-ask.ensures.ask in
     promises_by _ _ _ _ _ c.in_ok-planned.planned _ c.record_of.ensures.joins c.record_of.ensures.within_the_bound c.record_of.ensures.none c.record_of.ensures.marked
     (λ is. subst (λ (b : ℕ). search.IsConclusive b c.in_ok-planned.planned.outcome) bound (c.in_ok-planned.ensures.planned.answered is)) c.record_of.ensures.answered
+
+-- what is said of a value holds where there is none
+no_value : {A E : Type 0} (P : A → Type 0) (r : Result A E) → IsErr r → IfOk r P
+no_value P (Ok x) is = absurd (cc)
+no_value P (Err e) is = tt
+
+pub returns-in_err-planned-clause-searched : goal.returns-in_err-planned-clause-searched
+returns-in_err-planned-clause-searched g c = λ before begins counted. no_value _ c.from_residual.result c.from_residual.ensures.0
+
+pub returns-in_err-labels-clause-searched : goal.returns-in_err-labels-clause-searched
+returns-in_err-labels-clause-searched g c = λ before begins counted. no_value _ c.from_residual-in_err-labels.result c.from_residual-in_err-labels.ensures.0

@@ -2,7 +2,7 @@ use Rattle.std.proofs.Common.{◌≡◌, ℕ, ◌+◌, ◌<◌, ◌≤◌, [], �
 use Rattle.std.proofs.lemmas.List.{drop_all}
 use Rattle.sbpl_cost.specs.Lattices.{network_of}
 use Rattle.sbpl_cli.specs.Headline.{IsPathFrom}
-use Rattle.sbpl_cli.proofs.PathSteps.{Completes, all_done, one_more, path_after}
+use Rattle.sbpl_cli.proofs.PathSteps.{Completes, all_done, first_arc, one_more, path_after}
 use Rattle.sbpl_cli.proofs.plan_record.steps_of.Goals as goal
 
 -- what is left begins with the element at hand
@@ -11,6 +11,15 @@ left_is xs i here = rw (add-one, drop-cons xs i 0)
 
 none_left : (xs : List ℕ) (i : ℕ) → length xs ≤ i → drop i xs ≡ []
 none_left xs i past = drop_all i xs past
+
+pub loop-arc-init : goal.loop-arc-init
+loop-arc-init c = record { left = c.requires.path; done = λ others so. rw c.in_ok-steps.ensures.items so }
+
+pub step_of-head-requires : goal.step_of-head-requires
+step_of-head-requires c =
+    let split = left_is c.args.arcs.now c.loop-arc.arc-index c.loop-arc-test.true in
+    let first = first_arc _ _ _ _ (subst (λ (l : List ℕ). IsPathFrom (network_of c.args.lattice.now) c.loop-arc.at l) split c.loop-arc.invariant.left) in
+    record { state = first.state; number = first.number; head = first.head }
 
 pub loop-arc-preserved : goal.loop-arc-preserved
 loop-arc-preserved c =

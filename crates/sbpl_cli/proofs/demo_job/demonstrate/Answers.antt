@@ -8,17 +8,17 @@ use Rattle.sbpl_cli.specs.Headline.{AreRecords}
 use Rattle.sbpl_job.specs.declared.job.SearchJob.{SearchJob}
 use Rattle.sbpl_cli.proofs.Ends.{ended}
 use Rattle.sbpl_cli.proofs.Writings.{ends_as_after, status_ends}
-use Rattle.sbpl_cli.proofs.demo_job.end_demo.Goals as goal
+use Rattle.sbpl_cli.proofs.demo_job.demonstrate.Goals as goal
 use Rattle.sbpl_cli.proofs.Frames.{same_state, writes_on}
 
 pub returns-in-Err-clause-ends : goal.returns-in-Err-clause-ends
 returns-in-Err-clause-ends g c =
-    ended _ (g.D.Desk.state c.args.desk.now) _ (job.Demo c.args.job.now) (Demonstrated c.in-Ok.lattice (length c.in-Ok.changes) [] false) _ (
-      c.in-Ok.changes,
+    ended _ (g.D.Desk.state c.args.desk.now) _ (job.Demo c.args.job.now) (Demonstrated c.args.lattice.now (length c.args.changes.now) [] false) _ (
+      c.args.changes.now,
       refl,
       record {
-        drawn = c.in-Ok.ensures.drawn;
-        changes = c.in-Ok.ensures.changes;
+        drawn = c.requires.drawn;
+        changes = c.requires.changes;
         plans = record {
           start = c.ends_of-start.result.0;
           goal = c.ends_of-start.result.1;
@@ -37,25 +37,25 @@ returns-in-Err-clause-ends g c =
 pub returns-clause-ends : goal.returns-clause-ends
 returns-clause-ends g c =
     let e = c.plans_by_adstar.ensures.ends in
-    ended _ (g.D.Desk.state c.args.desk.now) _ (job.Demo c.args.job.now) (Demonstrated c.in-Ok.lattice (length c.in-Ok.changes) e.records e.all) _ (
-      c.in-Ok.changes,
+    ended _ (g.D.Desk.state c.args.desk.now) _ (job.Demo c.args.job.now) (Demonstrated c.args.lattice.now (length c.args.changes.now) e.records e.all) _ (
+      c.args.changes.now,
       refl,
       record {
-        drawn = c.in-Ok.ensures.drawn;
-        changes = c.in-Ok.ensures.changes;
+        drawn = c.requires.drawn;
+        changes = c.requires.changes;
         plans = record {
           start = c.ends_of-start.result.0;
           goal = c.ends_of-start.result.1;
           start_is = c.ends_of-start.ensures.start;
           goal_is = c.ends_of-start.ensures.goal;
-          each = subst (λ (how : SearchJob). AreRecords (known planner.AdStar) c.in-Ok.lattice c.in-Ok.changes how no_outputs c.ends_of-start.result.0 c.ends_of-start.result.1 0 None e.records) c.demo_search.ensures.search e.each;
+          each = subst (λ (how : SearchJob). AreRecords (known planner.AdStar) c.args.lattice.now c.args.changes.now how no_outputs c.ends_of-start.result.0 c.ends_of-start.result.1 0 None e.records) c.demo_search.ensures.search e.each;
           few = let count = e.few in omega arith;
           all_made = λ is. let count = e.all_made is in omega arith;
         };
       },
     )
     (same_state _)
-    (ends_as_after _ _ _ (_ ∷ []) (lines_writes e.records e.all) _ _ c.in_default-write_first.ensures.ends c.write_first.ensures.frame.writes e.ends)
+    (ends_as_after _ _ _ (_ ∷ []) (lines_writes e.records e.all) _ _ c.in_default.ensures.ends c.write_first.ensures.frame.writes e.ends)
     (writes_on _ _ _ _ c.write_first.ensures.frame c.plans_by_adstar.ensures.frame).others
 
 pub returns-clause-frame : goal.returns-clause-frame
