@@ -8,4 +8,6 @@ mod passes;
 #[cfg(test)]
 mod rows;
 #[cfg(test)]
+mod seats;
+#[cfg(test)]
 mod watched;

@@ -1,0 +1,110 @@
+//! Passes of one plan by workers that come and go.
+
+ghost use Rattle.std.specs.Prelude.{◌≡◌, ◌<◌, ◌≤◌};
+ghost use Rattle.sbpl_cost.specs.Lattices.{network_of};
+ghost use Rattle.sbpl_heur.specs.Bests.{IsGuide, distance_in};
+ghost use Rattle.sbpl_search.specs.Query.{query};
+ghost use Rattle.sbpl_epase.specs.Making.{CanPass, Leaves};
+
+use crate::lattices::made;
+use sample_files::{E2, F2};
+use sbpl_cost::Lattice;
+use sbpl_epase::{Epase, Event, NoGate, Parts, parallel_pass_parts};
+use sbpl_graph::Graph;
+use sbpl_heur::Best;
+use sbpl_labels::Budget;
+use sbpl_plan::{Ask, Outcome, Planned, plan};
+use std::alloc::Global;
+use std::sync::Wait;
+use std::test::Fail;
+use std::thread::Threads;
+
+/// What is asked of a plan whose inflation falls.
+const FALLING: Ask = Ask {
+    first: 3000,
+    step: 500,
+    bound: 1000,
+    traced: false,
+};
+
+/// How many workers make the pass of this inflation, in thousandths.
+fn workers_at(eps: u32) -> u32
+    ensures some { 1 ≤ result }
+    ensures few { result ≤ 64 }
+{
+    match eps {
+        3000 => 1,
+        2500 => 4,
+        2000 => 2,
+        _ => 3,
+    }
+}
+
+/// A plan from the first state to this one, each of whose passes begins with the labels of the pass before.
+fn planned_to<R: Threads + Wait + Sync>(
+    rt: &R,
+    alloc: Global,
+    lattice: &Lattice,
+    best: &Best,
+    goal: u32,
+) -> Result<Planned<Event>, Fail>
+    requires goal { goal < (network_of lattice.now).states }
+    requires guide { IsGuide (network_of lattice.now) goal best.now }
+{
+    let make = move |alloc: Global, graph: &Lattice, guide: &Best, parts: Parts, goal: u32, eps: u32, keeps: bool|
+        requires can { CanPass (query (network_of graph.now) (distance_in guide.now) eps goal) (IsGuide (network_of graph.now) goal guide.now) parts }
+        ensures left { Leaves (query (network_of graph.now) (distance_in guide.now) eps goal) parts keeps result }
+    {
+        parallel_pass_parts(
+            rt,
+            &NoGate,
+            workers_at(eps),
+            alloc,
+            graph,
+            guide,
+            parts,
+            goal,
+            eps,
+            keeps,
+        )
+    };
+    let mut search = Epase::open(alloc, make, lattice.states(), 0, goal)?;
+    let mut budget = Budget::new(1 << 30);
+    Ok(plan(
+        alloc,
+        lattice,
+        best,
+        &mut search,
+        goal,
+        &FALLING,
+        &mut budget,
+    )?)
+}
+
+/// The same on the lattice of two texts, from the first state to the goal in cell `(2, 0)`.
+fn planned<R: Threads + Wait + Sync>(rt: &R, alloc: Global) -> Result<Planned<Event>, Fail> {
+    let lattice = made(alloc, E2.as_bytes(), F2.as_bytes())?;
+    let goal = 32;
+    if goal >= lattice.states() {
+        return Err(Fail::new("states"));
+    }
+    let best = Best::build(alloc, &lattice, goal)?;
+    planned_to(rt, alloc, &lattice, &best, goal)
+}
+
+/// How many passes a plan made, and the cost of its path.
+fn told(planned: &Planned<Event>) -> (usize, Option<u64>) {
+    let cost = match &planned.outcome {
+        Outcome::Path(path) => Some(path.cost),
+        _ => None,
+    };
+    (planned.passes.as_slice().len(), cost)
+}
+
+/// The passes of a plan are made by one, four, two and three workers, and the path of the last one is the best.
+#[test]
+fn workers_come_and_go(rt: HostRuntime) -> Result<(), Fail> {
+    let planned = planned(&rt, rt.alloc())?;
+    assert_eq!(rt; told(&planned), (4, Some(100)));
+    Ok(())
+}
