@@ -35,7 +35,7 @@ is_environment width height a b c d =
       turn45 = (omega (arith, ints), omega (arith, ints));
       start_in_range = in_range 1 1 (omega arith) (omega arith);
       end_in_range = in_range (width - 2) (height - 2) (omega arith) (omega arith);
-      headings = refl;
+      headings = (omega arith, omega arith);
       states = omega (arith, cells);
       start_on_map = record { x = on_axis width 1 (omega arith); y = on_axis height 1 (omega arith) };
       end_on_map = record { x = on_axis width (width - 2) (omega arith); y = on_axis height (height - 2) (omega arith) };
