@@ -32,8 +32,8 @@ use std::fmt::Write as _;
 const FAR: u64 = 1 << 63;
 /// A full turn in nanoradians.
 const TAU: i128 = 6_283_185_307;
-/// The headings of the lattice.
-const HEADINGS: usize = 16;
+/// How many headings there are where an environment file doesn't say it, and in drawn problems.
+const USUAL_HEADINGS: usize = 16;
 /// The inflation and the bound of one.
 const ONE: u64 = 1000;
 /// The greatest inflation.
@@ -52,7 +52,7 @@ fn main() {
 /// Draws a problem from the seed, plans on it, and prints a line for each plan.
 fn demo(seed: u64, width: i32, height: i32) {
     let problem = draw_problem(seed, width, height);
-    let states = problem.env.costs.len() * HEADINGS;
+    let states = problem.env.costs.len() * problem.env.headings;
     println!("demo states {states} primitives {} batches {}", problem.primitives.len(), problem.batches.len());
     let settings = Settings { repair: true, first: 3 * ONE, step: ONE / 2, bound: ONE };
     problem.solve(&settings, |number, plan| print!("{}", plan.line(number)));
@@ -78,7 +78,7 @@ fn plan(env: &str, primitives: &str, options: &[&str]) {
         }
     }
     let env = read_env(Tokens::of(&read(env)));
-    let primitives = read_primitives(Tokens::of(&read(primitives)));
+    let primitives = read_primitives(Tokens::of(&read(primitives)), env.headings);
     Problem { env, primitives, batches, radius }.solve(&settings, |number, plan| print!("{}", plan.section(number)));
     println!("done");
 }
@@ -104,6 +104,7 @@ struct Pos {
 struct Env {
     width: i32,
     height: i32,
+    headings: usize,
     obstacle: u8,
     inscribed: u8,
     cell: i64,
@@ -163,25 +164,25 @@ impl Problem {
     }
 }
 
-/// The heading whose bin is nearest to the angle.
-fn heading_of(angle: i64) -> usize {
-    let n = HEADINGS as i128;
+/// The one of so many headings whose bin is nearest to the angle.
+fn heading_of(headings: usize, angle: i64) -> usize {
+    let n = headings as i128;
     ((2 * n * i128::from(angle).rem_euclid(TAU) + TAU) / (2 * TAU) % n) as usize
 }
 
-/// The least number of bins between two headings, either way around.
-fn turns_between(a: usize, b: usize) -> u64 {
+/// The least number of bins between two of so many headings, either way around.
+fn turns_between(headings: usize, a: usize, b: usize) -> u64 {
     let apart = a.abs_diff(b);
-    apart.min(HEADINGS - apart) as u64
+    apart.min(headings - apart) as u64
 }
 
 impl Primitive {
     /// The milliseconds of the way or of the turn, whichever are more, times the multiplier.
     fn cost(&self, env: &Env) -> u64 {
         let length: u128 = self.way.windows(2).map(|pair| distance(&pair[0], &pair[1])).sum();
-        let turn = 8000 * u128::from(turns_between(self.from, self.to)) * env.turn45 as u128;
+        let turn = 8000 * u128::from(turns_between(env.headings, self.from, self.to)) * env.turn45 as u128;
         let driving = (1000 * length).div_ceil(env.speed as u128);
-        let turning = turn.div_ceil(HEADINGS as u128 * 1_000_000_000);
+        let turning = turn.div_ceil(env.headings as u128 * 1_000_000_000);
         self.multiplier * driving.max(turning) as u64
     }
 
@@ -295,12 +296,14 @@ struct Tail {
 /// The graph of the planner: states are cells with headings, arcs are primitives over free cells.
 struct Lattice {
     map: Map,
+    headings: usize,
     /// Sources and swept cells cost less than this.
     obstacle: u8,
     /// End cells and centre cells cost less than this.
     blocked: u8,
-    arcs: [Vec<Arc>; HEADINGS],
-    tails: [Vec<Tail>; HEADINGS],
+    /// For each heading the arcs that start there, and the tails of those that end there.
+    arcs: Vec<Vec<Arc>>,
+    tails: Vec<Vec<Tail>>,
 }
 
 impl Lattice {
@@ -323,8 +326,9 @@ impl Lattice {
         let frame_y = all().map(|read| read.1.abs()).max().unwrap_or(0);
         let map = Map::new(env, frame_x, frame_y);
 
-        let mut arcs: [Vec<Arc>; HEADINGS] = Default::default();
-        let mut tails: [Vec<Tail>; HEADINGS] = Default::default();
+        let headings = env.headings;
+        let mut arcs: Vec<Vec<Arc>> = (0..headings).map(|_| Vec::new()).collect();
+        let mut tails: Vec<Vec<Tail>> = (0..headings).map(|_| Vec::new()).collect();
         let places = |cells: &[(i32, i32)]| {
             let mut places: Vec<isize> = cells.iter().map(|&(dx, dy)| map.offset(dx, dy)).collect();
             places.sort_unstable();
@@ -340,19 +344,19 @@ impl Lattice {
             tails[to].push(Tail { from, arc: arcs[from].len() });
             arcs[from].push(Arc { id, dx, dy, to, cost, reads: reads.into(), swept: swept.into() });
         }
-        Lattice { map, obstacle: env.obstacle, blocked: env.obstacle.min(env.inscribed), arcs, tails }
+        Lattice { map, headings, obstacle: env.obstacle, blocked: env.obstacle.min(env.inscribed), arcs, tails }
     }
 
     fn states(&self) -> usize {
-        (self.map.width * self.map.height) as usize * HEADINGS
+        (self.map.width * self.map.height) as usize * self.headings
     }
 
     fn state(&self, pos: Pos) -> u32 {
-        (pos.y * self.map.width + pos.x) as u32 * HEADINGS as u32 + pos.heading as u32
+        (pos.y * self.map.width + pos.x) as u32 * self.headings as u32 + pos.heading as u32
     }
 
     fn pos(&self, state: u32) -> Pos {
-        let (cell, heading) = (state / HEADINGS as u32, state as usize % HEADINGS);
+        let (cell, heading) = (state / self.headings as u32, (state % self.headings as u32) as usize);
         let width = self.map.width as u32;
         Pos { x: (cell % width) as i32, y: (cell / width) as i32, heading }
     }
@@ -441,7 +445,7 @@ fn bound_over(units: u64, rate: Option<Rate>) -> u64 {
 /// Lower bounds on the way to the goal: the greater of that of a state's cell and that of its heading.
 struct Guide {
     cells: Vec<u64>,
-    headings: [u64; HEADINGS],
+    headings: Vec<u64>,
 }
 
 impl Guide {
@@ -455,22 +459,24 @@ impl Guide {
         };
         let ways_x = [rate(&|_, arc| arc.dx.into()), rate(&|_, arc| (-arc.dx).into())];
         let ways_y = [rate(&|_, arc| arc.dy.into()), rate(&|_, arc| (-arc.dy).into())];
-        let turns = rate(&|from, arc| turns_between(from, arc.to) as i64);
+        let turns = rate(&|from, arc| turns_between(lattice.headings, from, arc.to) as i64);
         let along = |ways: [Option<Rate>; 2], from: i32, to: i32| {
             bound_over(from.abs_diff(to).into(), ways[usize::from(to < from)])
         };
 
         let mut cells = cell_bounds(lattice, goal);
         for (cell, bound) in cells.iter_mut().enumerate() {
-            let pos = lattice.pos((cell * HEADINGS) as u32);
+            let pos = lattice.pos((cell * lattice.headings) as u32);
             *bound = (*bound).max(along(ways_x, pos.x, goal.x)).max(along(ways_y, pos.y, goal.y));
         }
-        let headings = std::array::from_fn(|heading| bound_over(turns_between(heading, goal.heading), turns));
+        let turned = |heading| turns_between(lattice.headings, heading, goal.heading);
+        let headings = (0..lattice.headings).map(|heading| bound_over(turned(heading), turns)).collect();
         Guide { cells, headings }
     }
 
     fn to_goal(&self, state: u32) -> u64 {
-        self.cells[state as usize / HEADINGS].max(self.headings[state as usize % HEADINGS])
+        let n = self.headings.len() as u32;
+        self.cells[(state / n) as usize].max(self.headings[(state % n) as usize])
     }
 }
 
@@ -899,13 +905,14 @@ fn draw_problem(seed: u64, width: i32, height: i32) -> Problem {
     }
     let [start, goal] = ends.map(|(x, y)| Pos { x, y, heading: 0 });
     let (cell, speed, turn45) = (25_000_000, 1_000_000_000, 2_000_000_000);
-    let env = Env { width, height, obstacle: 254, inscribed: 253, cell, speed, turn45, start, goal, costs };
+    let headings = USUAL_HEADINGS;
+    let env = Env { width, height, headings, obstacle: 254, inscribed: 253, cell, speed, turn45, start, goal, costs };
     Problem { env, primitives: sixteen_headings(), batches, radius: 0 }
 }
 
 /// For each heading of drawn problems the least way along it, in cells.
 #[rustfmt::skip]
-const DIRECTIONS: [(i32, i32); HEADINGS] = [
+const DIRECTIONS: [(i32, i32); USUAL_HEADINGS] = [
     (1, 0), (2, 1), (1, 1), (1, 2), (0, 1), (-1, 2), (-1, 1), (-2, 1),
     (-1, 0), (-2, -1), (-1, -1), (-1, -2), (0, -1), (1, -2), (1, -1), (2, -1),
 ];
@@ -914,7 +921,7 @@ const DIRECTIONS: [(i32, i32); HEADINGS] = [
 fn sixteen_headings() -> Vec<Primitive> {
     let mut primitives = Vec::new();
     for (from, &(ux, uy)) in DIRECTIONS.iter().enumerate() {
-        let (left, right) = ((from + 1) % HEADINGS, (from + HEADINGS - 1) % HEADINGS);
+        let (left, right) = ((from + 1) % USUAL_HEADINGS, (from + USUAL_HEADINGS - 1) % USUAL_HEADINGS);
         let mut add = |id, (dx, dy), to, multiplier| {
             // A ninth part of the way at a time, rounded to tenths of millimetres.
             let along = |cells: i32, part: i64| (500 * i64::from(cells) * part + 9).div_euclid(18) * 100_000;
@@ -958,6 +965,13 @@ impl<'a> Tokens<'a> {
         self.0.next().expect("one more token")
     }
 
+    /// Reads one of two words that must stand here, and answers whether it is the first.
+    fn either(&mut self, word: &str, other: &str) -> bool {
+        let token = self.next();
+        assert!(token == word || token == other);
+        token == word
+    }
+
     /// Reads the fixed word that must stand here.
     fn word(&mut self, word: &str) -> &mut Self {
         assert_eq!(self.next(), word);
@@ -977,42 +991,47 @@ impl<'a> Tokens<'a> {
         (Point { x: self.nano(), y: self.nano() }, self.nano())
     }
 
-    /// Reads a pose as the cell and the heading that it is in.
-    fn pos(&mut self, cell: i64) -> Pos {
+    /// Reads a pose as the cell and the one of so many headings that it is in.
+    fn pos(&mut self, cell: i64, headings: usize) -> Pos {
         let (Point { x, y }, theta) = self.pose();
-        Pos { x: x.div_euclid(cell) as i32, y: y.div_euclid(cell) as i32, heading: heading_of(theta) }
+        Pos { x: x.div_euclid(cell) as i32, y: y.div_euclid(cell) as i32, heading: heading_of(headings, theta) }
     }
 }
 
 fn read_env(mut tokens: Tokens) -> Env {
     let width: i32 = tokens.word("discretization(cells):").whole();
     let height: i32 = tokens.whole();
-    let obstacle = tokens.word("obsthresh:").whole();
+    let mut headings = USUAL_HEADINGS;
+    if tokens.either("NumThetaDirs:", "obsthresh:") {
+        headings = tokens.whole();
+        tokens.word("obsthresh:");
+    }
+    let obstacle = tokens.whole();
     let inscribed = tokens.word("cost_inscribed_thresh:").whole();
     tokens.word("cost_possibly_circumscribed_thresh:").next();
     let cell = tokens.word("cellsize(meters):").nano();
     let speed = tokens.word("nominalvel(mpersecs):").nano();
     let turn45 = tokens.word("timetoturn45degsinplace(secs):").nano();
-    let start = tokens.word("start(meters,rads):").pos(cell);
-    let goal = tokens.word("end(meters,rads):").pos(cell);
+    let start = tokens.word("start(meters,rads):").pos(cell, headings);
+    let goal = tokens.word("end(meters,rads):").pos(cell, headings);
     tokens.word("environment:");
     let costs = (0..width * height).map(|_| tokens.whole()).collect();
-    Env { width, height, obstacle, inscribed, cell, speed, turn45, start, goal, costs }
+    Env { width, height, headings, obstacle, inscribed, cell, speed, turn45, start, goal, costs }
 }
 
-fn read_primitives(mut tokens: Tokens) -> Vec<Primitive> {
+fn read_primitives(mut tokens: Tokens, headings: usize) -> Vec<Primitive> {
     tokens.word("resolution_m:").nano();
-    let headings: usize = tokens.word("numberofangles:").whole();
-    assert_eq!(headings, HEADINGS);
+    let angles: usize = tokens.word("numberofangles:").whole();
+    assert_eq!(angles, headings);
     let count: usize = tokens.word("totalnumberofprimitives:").whole();
-    (0..count).map(|_| read_primitive(&mut tokens)).collect()
+    (0..count).map(|_| read_primitive(&mut tokens, headings)).collect()
 }
 
-fn read_primitive(tokens: &mut Tokens) -> Primitive {
+fn read_primitive(tokens: &mut Tokens, headings: usize) -> Primitive {
     let id = tokens.word("primID:").whole();
     let from = tokens.word("startangle_c:").whole();
     let (dx, dy) = (tokens.word("endpose_c:").whole(), tokens.whole());
-    let to = tokens.whole::<i64>().rem_euclid(HEADINGS as i64) as usize;
+    let to = tokens.whole::<i64>().rem_euclid(headings as i64) as usize;
     let multiplier = tokens.word("additionalactioncostmult:").whole();
     let count: usize = tokens.word("intermediateposes:").whole();
     let way = (0..count).map(|_| tokens.pose().0).collect();
