@@ -16,7 +16,7 @@ from typing import Callable, NamedTuple
 
 NANO = 10**9
 FULL_TURN = 6_283_185_307
-HEADINGS = 16
+USUAL_HEADINGS = 16
 MOST_STATES = 2**23
 MOST_POSES = 200_000
 MOST_NUMBER = 10**18
@@ -48,6 +48,7 @@ class Environment:
 
     width: int
     height: int
+    headings: int
     obsthresh: int
     inscribed: int
     circumscribed: int
@@ -60,7 +61,7 @@ class Environment:
 
     def place_of(self, pose: Pose) -> Place:
         """The cell and the heading of a pose."""
-        return Place(pose.x // self.cell, pose.y // self.cell, heading_of(HEADINGS, pose.theta))
+        return Place(pose.x // self.cell, pose.y // self.cell, heading_of(self.headings, pose.theta))
 
     def is_on_map(self, x: int, y: int) -> bool:
         """Whether the map has this cell."""
@@ -191,6 +192,13 @@ class Tokens:
         self.next += 1
         return token
 
+    def takes(self, word: str) -> bool:
+        """Takes a word where it stands next; whether it does."""
+        if self.next == len(self.tokens) or self.tokens[self.next][0] != word:
+            return False
+        self.word(word)
+        return True
+
     def word(self, word: str) -> None:
         """Takes a word that must stand here."""
         token = self.take(f"'{word}'")
@@ -234,8 +242,10 @@ def read_environment(path: str) -> Environment:
     tokens.word("discretization(cells):")
     width = tokens.whole("the width", 1, 8388608)
     height = tokens.whole("the height", 1, 8388608)
-    if width * height * HEADINGS > MOST_STATES:
-        raise tokens.fault(f"the map of {width} by {height} cells is too large: at most {MOST_STATES // HEADINGS} cells")
+    headings = tokens.whole("the number of headings", 4, 64) if tokens.takes("NumThetaDirs:") else USUAL_HEADINGS
+    if width * height * headings > MOST_STATES:
+        raise tokens.fault(f"the map of {width} by {height} cells is too large: with {headings} headings at most "
+                           f"{MOST_STATES // headings} cells")
     thresholds = []
     for word, low in [("obsthresh:", 0), ("cost_inscribed_thresh:", 0), ("cost_possibly_circumscribed_thresh:", -1)]:
         tokens.word(word)
@@ -254,7 +264,7 @@ def read_environment(path: str) -> Environment:
     tokens.word("environment:")
     costs = [[tokens.whole("a cost", 0, 255) for _ in range(width)] for _ in range(height)]
     tokens.end()
-    return Environment(width, height, *thresholds, *scales, *poses, costs)
+    return Environment(width, height, headings, *thresholds, *scales, *poses, costs)
 
 
 def read_primitive(tokens: Tokens, cell: int, headings: int, poses_before: int) -> Primitive:
@@ -287,8 +297,8 @@ def read_primitive(tokens: Tokens, cell: int, headings: int, poses_before: int) 
     return Primitive(number, start, dx, dy, to, multiplier, poses)
 
 
-def read_primitives(path: str, cell: int, headings: int = HEADINGS) -> list[Primitive]:
-    """Reads a primitive file for a cell size in nanometres."""
+def read_primitives(path: str, cell: int, headings: int = USUAL_HEADINGS) -> list[Primitive]:
+    """Reads a primitive file for a cell size in nanometres and a number of headings."""
     tokens = Tokens(path)
     tokens.word("resolution_m:")
     resolution = tokens.decimal("the resolution", 1, 10**12)
@@ -353,8 +363,9 @@ def apply_batch(costs: list[list[int]], batch: list[tuple[int, int, int]]) -> di
 class ReportReader:
     """Reads a report of `temjoask plan` line by line."""
 
-    def __init__(self, path: str):
+    def __init__(self, path: str, headings: int):
         self.path = path
+        self.headings = headings
         self.plans: list[Plan] = []
         self.line = 0
         self.left = 0
@@ -374,8 +385,8 @@ class ReportReader:
     def place(self, fields: list[str]) -> Place:
         """A cell and a heading."""
         place = Place(*self.numbers(fields))
-        if place.t >= HEADINGS:
-            raise self.fault(f"heading {place.t} is not in 0..{HEADINGS - 1}")
+        if place.t >= self.headings:
+            raise self.fault(f"heading {place.t} is not in 0..{self.headings - 1}")
         return place
 
     def take(self, fields: list[str]) -> None:
@@ -428,9 +439,9 @@ class ReportReader:
         return self.plans
 
 
-def read_report(path: str) -> list[Plan]:
-    """Reads a report of `temjoask plan`; its plans in order."""
-    return ReportReader(path).read()
+def read_report(path: str, headings: int = USUAL_HEADINGS) -> list[Plan]:
+    """Reads a report of `temjoask plan` for a number of headings; its plans in order."""
+    return ReportReader(path, headings).read()
 
 
 def centre_of(cell: int, place: Place) -> tuple[float, float]:
@@ -464,7 +475,7 @@ def trail(report: str, environment: Environment, primitives: list[Primitive],
     return legs
 
 
-def heading_angle(heading: int, headings: int = HEADINGS) -> float:
+def heading_angle(heading: int, headings: int) -> float:
     """The angle of a heading in radians."""
     return 2 * math.pi * heading / headings
 
