@@ -10,15 +10,26 @@ use sbpl_cfg::EnvFault;
 use sbpl_fixed::NoMemory;
 use std::alloc::Global;
 
-/// What must stand after the words of the map's size and of the costs' meaning, this many tokens after the word.
-fn wanted_of_costs(word: &[u8], after: usize) -> Option<&'static str> {
+/// What must stand after the words of the map's size and of the number of headings, this many tokens after the word.
+fn wanted_of_size(word: &[u8], after: usize) -> Option<&'static str> {
     if is_named(word, "discretization(cells):") {
         return Some(match after {
             0 => "the width in cells must be a whole number from 1 to 8388608",
             1 => "the height in cells must be a whole number from 1 to 8388608",
+            _ => "NumThetaDirs: or obsthresh: must stand here",
+        });
+    }
+    if is_named(word, "NumThetaDirs:") {
+        return Some(match after {
+            0 => "NumThetaDirs must be a whole number from 4 to 64",
             _ => "obsthresh: must stand here",
         });
     }
+    None
+}
+
+/// What must stand after the words of the costs' meaning, this many tokens after the word.
+fn wanted_of_costs(word: &[u8], after: usize) -> Option<&'static str> {
     if is_named(word, "obsthresh:") {
         return Some(match after {
             0 => "obsthresh must be a whole number from 0 to 255",
@@ -89,7 +100,8 @@ fn wanted_of_poses(word: &[u8], after: usize) -> Option<&'static str> {
 
 /// What must stand this many tokens after a word of the file, or at its start where no word stands before.
 fn wanted_after(word: &[u8], after: usize) -> &'static str {
-    wanted_of_costs(word, after)
+    wanted_of_size(word, after)
+        .or(wanted_of_costs(word, after))
         .or(wanted_of_rates(word, after))
         .or(wanted_of_poses(word, after))
         .unwrap_or("discretization(cells): must stand here")
@@ -107,7 +119,7 @@ fn wanted(text: &[u8], fault: &EnvFault) -> &'static str {
         }
         EnvFault::Trailing(_) => "the file must end after the cost of the last cell",
         EnvFault::TooLarge(_) =>
-            "width times height must be at most 524288, which with 16 headings is 2^23 states",
+            "width times height times the number of headings must be at most 8388608",
         EnvFault::StartOff(_) => "the start must lie on the map",
         EnvFault::EndOff(_) => "the end must lie on the map",
         EnvFault::NoMemory => "there must be memory",

@@ -101,7 +101,8 @@ fn wanted_of_primitive(fault: &PrimFault) -> &'static str {
     match fault {
         PrimFault::Resolution(_) =>
             "resolution_m must be the cellsize(meters) of the environment file",
-        PrimFault::Angles(_) => "numberofangles must be 16, the number of headings",
+        PrimFault::Angles(_) =>
+            "numberofangles must be the number of headings of the environment file",
         PrimFault::EndCell(_) =>
             "the last pose must lie in the end cell, that of dx and dy of endpose_c",
         PrimFault::EndHeading(_) => "theta of the last pose must round to the heading of endpose_c",

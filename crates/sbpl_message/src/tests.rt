@@ -35,11 +35,11 @@ const HALL_FAULTS: [(EnvFault, &str); 7] = [
     ),
     (
         EnvFault::TooLarge(23),
-        "hall.cfg:1:24: width times height must be at most 524288, which with 16 headings is 2^23 states, found \"3\"\n",
+        "hall.cfg:1:24: width times height times the number of headings must be at most 8388608, found \"3\"\n",
     ),
     (
         EnvFault::Word(27),
-        "hall.cfg:2:1: obsthresh: must stand here, found \"obsthresh:\"\n",
+        "hall.cfg:2:1: NumThetaDirs: or obsthresh: must stand here, found \"obsthresh:\"\n",
     ),
     (
         EnvFault::EndOff(38),
@@ -47,10 +47,29 @@ const HALL_FAULTS: [(EnvFault, &str); 7] = [
     ),
 ];
 
+/// The start of an environment file that says its number of headings.
+const FEW: &str = "discretization(cells): 3 1\nNumThetaDirs: 3\nobstresh: 254\n";
+
+/// Faults of it, and their messages.
+const FEW_FAULTS: [(EnvFault, &str); 2] = [
+    (
+        EnvFault::Range(41),
+        "hall.cfg:2:15: NumThetaDirs must be a whole number from 4 to 64, found \"3\"\n",
+    ),
+    (
+        EnvFault::Word(43),
+        "hall.cfg:3:1: obsthresh: must stand here, found \"obstresh:\"\n",
+    ),
+];
+
 #[test]
 fn faults_of_environments(rt: HostRuntime) -> Result<(), Fail> {
     for (fault, wanted) in &HALL_FAULTS {
         let message = environment_message(rt.alloc(), "hall.cfg", HALL.as_bytes(), fault)?;
+        assert_eq!(rt; message.as_slice(), wanted.as_bytes());
+    }
+    for (fault, wanted) in &FEW_FAULTS {
+        let message = environment_message(rt.alloc(), "hall.cfg", FEW.as_bytes(), fault)?;
         assert_eq!(rt; message.as_slice(), wanted.as_bytes());
     }
     Ok(())
@@ -61,10 +80,14 @@ const ROBOT: &str =
     "resolution_m: 0.1\nnumberofangles: 16\ntotalnumberofprimitives: 2\nprimID: 0\nstartangle_c: 0\nendpose_c: 1 0 0\nadditionalactioncostmult: 1\nintermediateposes: 2\n0 0 0\n0.1 0 x\nprimID: \x1b[2Jabcdefghijklmnopqrstuvwxyzabcdefghijklmnopqrstuvwxyz\n";
 
 /// Faults of it, and their messages.
-const ROBOT_FAULTS: [(PrimFault, &str); 6] = [
+const ROBOT_FAULTS: [(PrimFault, &str); 7] = [
     (
         PrimFault::Resolution(14),
         "robot.mprim:1:15: resolution_m must be the cellsize(meters) of the environment file, found \"0.1\"\n",
+    ),
+    (
+        PrimFault::Angles(34),
+        "robot.mprim:2:17: numberofangles must be the number of headings of the environment file, found \"16\"\n",
     ),
     (
         PrimFault::Number(168),
