@@ -208,10 +208,12 @@ module _ (b : Board) (is : IsBoard b) where
   some_positive q k None is = tt
   some_positive q k (Some c) is = let free = cost_free b q k c (sym is) in (back_cost q k free.0 c free.1).0
 
-  pub few_cells : cell_count b ≤ 524288
+  -- there are four headings or more
+  pub few_cells : cell_count b ≤ 2097152
   few_cells =
-      let count : b.env.width * b.env.height * 16 ≤ 8388608 = subst (λ n. b.env.width * b.env.height * n ≤ 8388608) is.env.headings is.env.states in
-      omega (arith, is.cells, count)
+      let cells : b.env.width * b.env.height ≤ b.env.width * b.env.height = omega arith in
+      let count : b.env.width * b.env.height * 4 ≤ b.env.width * b.env.height * b.env.headings = mul-le-mul cells is.env.headings.0 in
+      omega (arith, is.cells, count, is.env.states)
 
   pub sound : IsSound (board_network b)
   sound = record {

@@ -98,7 +98,7 @@ module _ (b : Board) (is : IsBoard b) (m : Marks) (count : ℕ) (usable : AreUsa
     small a inside near =
         let there = reached (g_of m a) a (omega arith) inside near in
         let most = count_most (g_of m) (g_of m a) (cell_count b + 1) in
-        let few : count_below (g_of m) (g_of m a) (cell_count b + 1) ≤ 524289 = omega (arith, few_cells b is) in
+        let few : count_below (g_of m) (g_of m a) (cell_count b + 1) ≤ 2097153 = omega (arith, few_cells b is) in
         let product = mul-le-mul_right 4294967295 few in
         omega (arith, there.few, product)
 
