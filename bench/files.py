@@ -25,7 +25,7 @@ def units(n):
 
 
 def along(cells, j):
-    """The coordinate of pose j of ten on the way over so many cells."""
+    """The coordinate of pose j of ten on the way over this many cells."""
     way = (2 * 250 * abs(cells) * j + 9) // 18
     return way if cells >= 0 else -way
 
@@ -92,7 +92,7 @@ def changes(draws, n, batches, cells):
 
 
 def long_primitive(poses):
-    """One primitive with so many poses on a half circle of a hundred cells."""
+    """One primitive with this many poses on a half circle of a hundred cells."""
     lines = ["resolution_m: 0.025", "numberofangles: 16", "totalnumberofprimitives: 1", "primID: 0",
              "startangle_c: 0", "endpose_c: 100 0 0", "additionalactioncostmult: 1", f"intermediateposes: {poses}"]
     for j in range(poses):

@@ -105,7 +105,7 @@ class Plan:
 
 
 def heading_of(headings: int, theta: int) -> int:
-    """The nearest of so many headings to an angle in nanoradians."""
+    """The nearest of this many headings to an angle in nanoradians."""
     return (2 * headings * (theta % FULL_TURN) + FULL_TURN) // (2 * FULL_TURN) % headings
 
 
@@ -225,7 +225,7 @@ class Tokens:
         return self.number(name, low, high, nano)
 
     def pose(self, name: str, most: int) -> Pose:
-        """Takes x, y and theta; x and y are at most so many nanometres in absolute value."""
+        """Takes x, y and theta; x and y are at most this many nanometres in absolute value."""
         return Pose(self.decimal(f"x of {name}", -most, most), self.decimal(f"y of {name}", -most, most),
                     self.decimal(f"theta of {name}", -MOST_NUMBER, MOST_NUMBER))
 
@@ -453,7 +453,7 @@ def trail(report: str, environment: Environment, primitives: list[Primitive],
           plan: Plan) -> list[list[tuple[float, float, float]]]:
     """The poses along each step of a path, in metres and radians from the map's lower left corner.
 
-    The path must lead from the environment's start to its end by the primitives, else the files do not belong together.
+    The path must lead from the environment's start to its end by the primitives; otherwise the files do not belong together.
     """
     table = {(primitive.start, primitive.id): primitive for primitive in primitives}
     legs, place = [], plan.start
