@@ -1,8 +1,10 @@
 //! Environment files, read and printed.
 
+use crate::mprim::change_of;
 use sample_files::{E1, E2, E3};
 use sbpl_cfg::{Env, EnvFault, Place, Pose, cell_at, heading_at, place_at, print_env, read_env};
 use std::alloc::{AllocError, Global};
+use std::process::Abort;
 use std::test::Fail;
 
 /// The sample file E1 with another text for its line `at`, counted from 0.
@@ -32,20 +34,34 @@ const FAULTS: &str = "\
 8 end(meters,rads): -0.0001 0.0125 0 => 8 EndOff 245
 8 end(meters,rads): -0.0001 0.0125 x => 2 Number 260";
 
+/// The fault of a file as a line.
+fn fault_in(alloc: Global, file: &[u8]) -> Result<String, Fail> {
+    match read_env(alloc, file) {
+        Ok(_) => Err(Fail::new("no fault")),
+        Err(fault) => Ok(format!(in alloc;
+            "{} {} {}",
+            fault.number(),
+            fault.name(),
+            fault.place()
+        )?),
+    }
+}
+
 /// The fault of E1 with another text for one of its lines, as a line.
 fn fault_of(alloc: Global, change: &str) -> Result<String, Fail> {
-    let (at, text) = change.split_once(' ').ok_or("a line's number")?;
-    let at = at.parse::<usize>().ok().ok_or("a number")?;
+    let (at, text) = change_of(change)?;
     let file = with_line(alloc, at, text)?;
-    let fault = read_env(alloc, file.as_bytes()).err().ok_or("a fault")?;
-    Ok(format!(in alloc; "{} {} {}", fault.number(), fault.name(), fault.place())?)
+    let fault = fault_in(alloc, file.as_bytes());
+    drop(file);
+    fault
 }
 
 #[test]
 fn faults_have_numbers_names_and_places(rt: HostRuntime) -> Result<(), Fail> {
     for row in FAULTS.split('\n') {
         let (change, want) = row.split_once(" => ").ok_or("an arrow")?;
-        assert_eq!(rt; fault_of(rt.alloc(), change)?.as_str(), want, "{row}");
+        let fault = fault_of(rt.alloc(), change)?;
+        assert_eq!(rt; fault.as_str(), want, "{row}");
     }
     Ok(())
 }
@@ -114,9 +130,8 @@ fn numbers_of(env: &Env) -> [i64; 9] {
     ]
 }
 
-#[test]
-fn a_file_says_its_numbers(rt: HostRuntime) -> Result<(), Fail> {
-    let (env, costs, _out) = read_and_printed(rt.alloc(), E3.as_bytes())?;
+/// The numbers of E3, and the places of its poses.
+fn compare_numbers(rt: &impl Abort, env: &Env) {
     let numbers = [
         5,
         3,
@@ -128,7 +143,7 @@ fn a_file_says_its_numbers(rt: HostRuntime) -> Result<(), Fail> {
         1_000_000_000,
         2_000_000_000,
     ];
-    assert_eq!(rt; numbers_of(&env), numbers);
+    assert_eq!(rt; numbers_of(env), numbers);
     let off = Pose {
         x: -1,
         y: 0,
@@ -139,10 +154,17 @@ fn a_file_says_its_numbers(rt: HostRuntime) -> Result<(), Fail> {
         (env.end, Some(Place { x: 3, y: 1, t: 0 })),
         (off, None),
     ] {
-        assert_eq!(rt; place_at(&env, &pose), want);
+        assert_eq!(rt; place_at(env, &pose), want);
     }
-    let grid = [0, 0, 0, 0, 0, 0, 0, 0, 0, 0, 0, 0, 100, 0, 0];
-    assert_eq!(rt; costs.as_slice(), grid.as_slice());
+}
+
+#[test]
+fn a_file_says_its_numbers(rt: HostRuntime) -> Result<(), Fail> {
+    let (env, grid) = read_env(rt.alloc(), E3.as_bytes())?;
+    let costs = [0, 0, 0, 0, 0, 0, 0, 0, 0, 0, 0, 0, 100, 0, 0];
+    assert_eq!(rt; grid.as_slice(), costs.as_slice());
+    drop(grid);
+    compare_numbers(&rt, &env);
     Ok(())
 }
 

@@ -1,8 +1,8 @@
 //! Worked values, and each public call once.
 
 use sbpl_fixed::{
-    NumFault, Placed, Reader, TextFault, Token, ceil_div, ceil_root, items_in_plain_words,
-    next_token, numbers_are_read_by_parts, print_milli, print_nano, printed_numbers_are_read_back,
+    NumFault, Reader, TextFault, Token, ceil_div, ceil_root, items_in_plain_words, next_token,
+    numbers_are_read_by_parts, print_milli, print_nano, printed_numbers_are_read_back,
     printed_words_are_tokens, read_digits, read_milli, read_nano, read_whole,
     reading_is_what_is_said, tokens_are_longest_runs,
 };
@@ -87,40 +87,43 @@ fn numbers_are_printed(rt: HostRuntime) -> Result<(), Fail> {
 
 #[test]
 fn quotients_and_roots_are_rounded_up(rt: HostRuntime) {
-    assert_eq!(rt; ceil_root(1_250_000_000_000_000), 35_355_340);
-    assert_eq!(rt; ceil_root(0), 0);
-    assert_eq!(rt;
-        ceil_root(85_070_591_730_234_615_865_843_651_857_942_052_864),
-        9_223_372_036_854_775_808
-    );
-    assert_eq!(rt; ceil_div(7, 3), 3);
-    assert_eq!(rt; ceil_div(6, 3), 2);
+    for (square, root) in [
+        (1_250_000_000_000_000, 35_355_340),
+        (0, 0),
+        (
+            85_070_591_730_234_615_865_843_651_857_942_052_864,
+            9_223_372_036_854_775_808,
+        ),
+    ] {
+        assert_eq!(rt; ceil_root(square), root, "of {square}");
+    }
+    assert_eq!(rt; (ceil_div(7, 3), ceil_div(6, 3)), (3, 2));
 }
 
 #[test]
 fn a_text_is_read(rt: HostRuntime) -> Result<(), Fail> {
     let mut reader = Reader::new(b"\tsize: 3 -2\x0b0.5\r\nlast 300");
     assert_eq!(rt; reader.word(b"size:")?, 1);
-    assert_eq!(rt; reader.natural(1, 3)?, Placed { value: 3, place: 7 });
-    assert_eq!(rt;
-        reader.whole(-2, 0)?,
-        Placed {
-            value: -2,
-            place: 9
-        }
-    );
-    assert_eq!(rt;
-        reader.nano(0, 500_000_000)?,
-        Placed {
-            value: 500_000_000,
-            place: 12
-        }
-    );
-    assert_eq!(rt; reader.word(b"las"), Err(TextFault::Word(17)));
-    assert_eq!(rt; reader.natural(0, 255), Err(TextFault::Range(22)));
-    assert_eq!(rt; reader.end(), Ok(()));
-    assert_eq!(rt; reader.natural(0, 255), Err(TextFault::Ended(25)));
-    assert_eq!(rt; Reader::new(b" x").end(), Err(TextFault::Trailing(1)));
+    let (natural, whole) = (reader.natural(1, 3)?, reader.whole(-2, 0)?);
+    let nano = reader.nano(0, 500_000_000)?;
+    assert_eq!(rt; (natural.value, natural.place), (3, 7));
+    assert_eq!(rt; (whole.value, whole.place), (-2, 9));
+    assert_eq!(rt; (nano.value, nano.place), (500_000_000, 12));
+    let faults = [
+        reader.word(b"las").err(),
+        reader.natural(0, 255).err(),
+        reader.end().err(),
+        reader.natural(0, 255).err(),
+        Reader::new(b" x").end().err(),
+    ];
+    let want = [
+        Some(TextFault::Word(17)),
+        Some(TextFault::Range(22)),
+        None,
+        Some(TextFault::Ended(25)),
+        Some(TextFault::Trailing(1)),
+    ];
+    assert_eq!(rt; faults, want);
     assert_eq!(rt; next_token(b"ab c", 1), Some(Token { from: 3, to: 4 }));
     Ok(())
 }

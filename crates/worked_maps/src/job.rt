@@ -193,31 +193,60 @@ fn said_of(alloc: Global, job: &Job) -> Result<String, Fail> {
     }
 }
 
+/// A job as a line.
+fn said(alloc: Global, job: Job) -> Result<String, Fail> {
+    let line = said_of(alloc, &job);
+    drop(job);
+    line
+}
+
+/// The job that words name as a line, or that they name none.
+fn said_by(alloc: Global, words: &[String]) -> Result<String, Fail> {
+    match read_job(alloc, words) {
+        Ok(job) => said(alloc, job),
+        Err(JobFault::Words) => Ok(String::from_str(alloc, "no job")?),
+        Err(JobFault::NoMemory) => Err(Fail::new("memory")),
+    }
+}
+
+/// The same of the words of a line.
+fn said_by_line(alloc: Global, line: &str) -> Result<String, Fail> {
+    let words = words_of(alloc, line)?;
+    let said = said_by(alloc, words.as_slice());
+    drop(words);
+    said
+}
+
 #[test]
 fn jobs(rt: HostRuntime) -> Result<(), Fail> {
     for line in JOBS.split('\n') {
-        let (words, said) = line.split_once(" => ").ok_or("an arrow")?;
-        let words = words_of(rt.alloc(), words)?;
-        let job = read_job(rt.alloc(), words.as_slice()).expect(&rt, line);
-        let text = said_of(rt.alloc(), &job)?;
-        assert_eq!(rt; text.as_str(), said, "{line}");
+        let (words, want) = line.split_once(" => ").ok_or("an arrow")?;
+        let said = said_by_line(rt.alloc(), words)?;
+        assert_eq!(rt; said.as_str(), want, "{line}");
     }
-    Ok(())
-}
-
-/// Whether words name no job.
-fn name_none(alloc: Global, words: &[String]) -> bool {
-    matches!(&read_job(alloc, words), Err(JobFault::Words))
-}
-
-#[test]
-fn no_job(rt: HostRuntime) -> Result<(), Fail> {
     for line in NO_JOB.split('\n') {
-        let words = words_of(rt.alloc(), line)?;
-        assert!(rt; name_none(rt.alloc(), words.as_slice()), "{line}");
+        let said = said_by_line(rt.alloc(), line)?;
+        assert_eq!(rt; said.as_str(), "no job", "{line}");
     }
-    assert!(rt; name_none(rt.alloc(), &[]));
+    let said = said_by(rt.alloc(), &[])?;
+    assert_eq!(rt; said.as_str(), "no job");
     Ok(())
+}
+
+/// What the words of a line ask to be told, instead of a job.
+fn asked_by(alloc: Global, line: &str) -> Result<Option<Asked>, Fail> {
+    let words = words_of(alloc, line)?;
+    let asked = read_asked(words.as_slice());
+    drop(words);
+    Ok(asked)
+}
+
+/// Whether the text that is told has this part.
+fn tells(alloc: Global, asked: Asked, part: &str) -> Result<bool, Fail> {
+    let text = told(alloc, asked)?;
+    let has = text.as_str().contains(part);
+    drop(text);
+    Ok(has)
 }
 
 /// Words that ask for help or for the version, and a part of the text that is told.
@@ -252,12 +281,9 @@ fn helps(rt: HostRuntime) -> Result<(), Fail> {
         ("--help plan", None, ""),
     ];
     for (line, asked, part) in rows {
-        let words = words_of(rt.alloc(), line)?;
-        let answer = read_asked(words.as_slice());
-        assert_eq!(rt; answer, asked, "{line}");
-        if let Some(asked) = answer {
-            let text = told(rt.alloc(), asked)?;
-            assert!(rt; text.as_str().contains(part), "{line}");
+        assert_eq!(rt; asked_by(rt.alloc(), line)?, asked, "{line}");
+        if let Some(asked) = asked {
+            assert!(rt; tells(rt.alloc(), asked, part)?, "{line}");
         }
     }
     Ok(())

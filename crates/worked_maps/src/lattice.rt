@@ -1,12 +1,13 @@
 //! Lattices of small files, by hand.
 
-use crate::lattices::{judged, made};
+use crate::lattices::{fault_of, judged, made};
 use sample_files::{E1, E2, E3, F1, F2};
 use sbpl_cfg::Place;
 use sbpl_cost::{Lattice, LatticeFault};
 use sbpl_graph::Graph;
 use sbpl_map::OffMap;
 use std::alloc::{AllocError, Global};
+use std::process::Abort;
 use std::test::Fail;
 
 /// The head and the cost of arc `k` of state `s`.
@@ -56,9 +57,8 @@ fn there_and_back(lattice: &Lattice, s: u32) -> Option<(Place, Option<u32>)> {
     }
 }
 
-#[test]
-fn arcs_in_the_order_of_the_file(rt: HostRuntime) -> Result<(), Fail> {
-    let hall = made(rt.alloc(), E2, F2, 0)?;
+/// Arcs in the order of the file.
+fn compare_arcs(rt: &impl Abort, hall: &Lattice) {
     for (s, k, want) in [
         (0, 0, Some((Some(16), Some(75)))),
         (0, 1, Some((Some(32), Some(150)))),
@@ -67,15 +67,12 @@ fn arcs_in_the_order_of_the_file(rt: HostRuntime) -> Result<(), Fail> {
         (0, 4, None),
         (1, 0, None),
     ] {
-        assert_eq!(rt; arc(&hall, s, k), want, "at arc {k} of {s}");
+        assert_eq!(rt; arc(hall, s, k), want, "at arc {k} of {s}");
     }
-    drop(hall);
-    Ok(())
 }
 
-#[test]
-fn tails_are_the_arcs_that_lead_there(rt: HostRuntime) -> Result<(), Fail> {
-    let hall = made(rt.alloc(), E2, F2, 0)?;
+/// Tails, and the arcs that they name, which lead there.
+fn compare_tails(rt: &impl Abort, hall: &Lattice) {
     for (t, j, want) in [
         (32, 0, Some(Some((16, 0)))),
         (32, 1, Some(Some((0, 1)))),
@@ -84,18 +81,15 @@ fn tails_are_the_arcs_that_lead_there(rt: HostRuntime) -> Result<(), Fail> {
         (32, 4, None),
         (33, 0, None),
     ] {
-        assert_eq!(rt; tail(&hall, t, j), want, "at tail {j} of {t}");
+        assert_eq!(rt; tail(hall, t, j), want, "at tail {j} of {t}");
     }
     for (s, k) in [(16, 0), (0, 1), (80, 3)] {
-        assert_eq!(rt; arc(&hall, s, k).map(|arc| arc.0), Some(Some(32)));
+        assert_eq!(rt; arc(hall, s, k).map(|arc| arc.0), Some(Some(32)));
     }
-    drop(hall);
-    Ok(())
 }
 
-#[test]
-fn gaps_by_the_primitives_alone(rt: HostRuntime) -> Result<(), Fail> {
-    let hall = made(rt.alloc(), E2, F2, 0)?;
+/// Gaps by the primitives alone.
+fn compare_gaps(rt: &impl Abort, hall: &Lattice) {
     for (from, to, want) in [
         (0, 32, Some(50)),
         (48, 32, Some(50)),
@@ -104,17 +98,14 @@ fn gaps_by_the_primitives_alone(rt: HostRuntime) -> Result<(), Fail> {
         (0, 5, Some(0)),
         (0, 96, None),
     ] {
-        assert_eq!(rt; gap(&hall, from, to), want, "from {from} to {to}");
+        assert_eq!(rt; gap(hall, from, to), want, "from {from} to {to}");
     }
-    drop(hall);
-    Ok(())
 }
 
-#[test]
-fn states_and_places(rt: HostRuntime) -> Result<(), Fail> {
-    let hall = made(rt.alloc(), E2, F2, 0)?;
+/// States, their places, and primitives of their arcs.
+fn compare_states(rt: &impl Abort, hall: &Lattice) {
     let place = Place { x: 2, y: 1, t: 3 };
-    assert_eq!(rt; there_and_back(&hall, 83), Some((place, Some(83))));
+    assert_eq!(rt; there_and_back(hall, 83), Some((place, Some(83))));
     for off in [
         Place { x: 3, y: 1, t: 3 },
         Place { x: 2, y: 2, t: 3 },
@@ -122,35 +113,54 @@ fn states_and_places(rt: HostRuntime) -> Result<(), Fail> {
     ] {
         assert_eq!(rt; hall.state_of(&off), None);
     }
-    drop(hall);
-    Ok(())
+    assert_eq!(rt; primitive(hall, 80, 1), Some((1, 1, 50)));
+    assert_eq!(rt; primitive(hall, 81, 0), None);
 }
 
+/// The heads of the arcs that read cell `(x, y)`, after state 7.
+fn heads(alloc: Global, lattice: &Lattice, x: u32, y: u32) -> Result<Vec<u32>, AllocError> {
+    let mut heads = vec![in alloc; 7]?;
+    if let Err(_) = lattice.heads_reading(x, y, &mut heads) {
+        heads.clear();
+    }
+    Ok(heads)
+}
+
+/// The hall, and the four arcs that read its corner.
 #[test]
-fn primitives_of_arcs(rt: HostRuntime) -> Result<(), Fail> {
+fn hall(rt: HostRuntime) -> Result<(), Fail> {
     let hall = made(rt.alloc(), E2, F2, 0)?;
-    assert_eq!(rt; primitive(&hall, 80, 1), Some((1, 1, 50)));
-    assert_eq!(rt; primitive(&hall, 81, 0), None);
+    compare_arcs(&rt, &hall);
+    compare_tails(&rt, &hall);
+    compare_gaps(&rt, &hall);
+    compare_states(&rt, &hall);
+    let heads = heads(rt.alloc(), &hall, 2, 1);
     drop(hall);
+    assert_eq!(rt; heads?.as_slice(), [7, 80, 80, 80, 32].as_slice());
     Ok(())
 }
 
 #[test]
 fn a_dear_primitive_is_named(rt: HostRuntime) -> Result<(), Fail> {
     let text = F1.replacen(rt.alloc(), "mult: 1", "mult: 16777215", 1)?;
-    let dear = judged(rt.alloc(), E1, text.as_str(), 0);
-    assert!(rt; matches!(dear, Some(Err(LatticeFault::TooDear(0)))));
+    let fault = fault_of(rt.alloc(), E1, text.as_str());
+    assert_eq!(rt; fault, Some(LatticeFault::TooDear(0)));
     Ok(())
 }
 
-#[test]
-fn costs_are_written(rt: HostRuntime) -> Result<(), Fail> {
-    let mut corridor = made(rt.alloc(), E1, F1, 0)?;
-    assert_eq!(rt; arc(&corridor, 0, 0), Some((Some(16), Some(25))));
+/// Costs are written to the corridor.
+fn compare_writes(rt: &impl Abort, corridor: &mut Lattice) {
+    assert_eq!(rt; arc(corridor, 0, 0), Some((Some(16), Some(25))));
     assert_eq!(rt; corridor.set(3, 0, 90), Err(OffMap));
     assert_eq!(rt; corridor.set(1, 0, 90), Ok(0));
     assert_eq!(rt; corridor.cell_cost(1, 0), Some(90));
-    assert_eq!(rt; arc(&corridor, 0, 0), Some((Some(16), None)));
+    assert_eq!(rt; arc(corridor, 0, 0), Some((Some(16), None)));
+}
+
+#[test]
+fn corridor(rt: HostRuntime) -> Result<(), Fail> {
+    let mut corridor = made(rt.alloc(), E1, F1, 0)?;
+    compare_writes(&rt, &mut corridor);
     drop(corridor);
     Ok(())
 }
@@ -181,22 +191,4 @@ fn a_disc_must_not_reach_an_obstacle(rt: HostRuntime) {
         let found = beside_pillar(rt.alloc(), radius, cost);
         assert_eq!(rt; found, Some((Some(112), want)), "at {radius}");
     }
-}
-
-/// The heads of the arcs that read cell `(x, y)`, after state 7.
-fn heads(alloc: Global, lattice: &Lattice, x: u32, y: u32) -> Result<Vec<u32>, AllocError> {
-    let mut heads = vec![in alloc; 7]?;
-    if let Err(_) = lattice.heads_reading(x, y, &mut heads) {
-        heads.clear();
-    }
-    Ok(heads)
-}
-
-#[test]
-fn a_corner_is_read_by_four_arcs(rt: HostRuntime) -> Result<(), Fail> {
-    let hall = made(rt.alloc(), E2, F2, 0)?;
-    let heads = heads(rt.alloc(), &hall, 2, 1);
-    drop(hall);
-    assert_eq!(rt; heads?.as_slice(), [7, 80, 80, 80, 32].as_slice());
-    Ok(())
 }

@@ -63,3 +63,8 @@ pub(crate) fn made(alloc: Global, env: &str, prims: &str, radius: u64) -> Result
         _ => Err(Fail::new("lattice")),
     }
 }
+
+/// Why there is no lattice of two texts for a robot of radius 0, if they belong together.
+pub(crate) fn fault_of(alloc: Global, env: &str, prims: &str) -> Option<LatticeFault> {
+    judged(alloc, env, prims, 0)?.err()
+}

@@ -1,9 +1,12 @@
 //! Maps, and the texts of changes to them.
 
+ghost use Rattle.std.specs.Prelude.{◌≤◌, ◌^◌, length};
+
 use sample_files::E1;
 use sbpl_cfg::read_env;
-use sbpl_map::{Map, OffMap, Write, read_changes};
+use sbpl_map::{Changes, Map, OffMap, Write, read_changes};
 use std::alloc::Global;
+use std::process::Abort;
 use std::test::Fail;
 
 /// A map of three cells in a row, all of cost 0, as an environment file gives it.
@@ -17,51 +20,58 @@ fn row_of_three(alloc: Global) -> Result<Map, Fail> {
     }
 }
 
-#[test]
-fn a_text_gives_its_first_fault(rt: HostRuntime) -> Result<(), Fail> {
-    let map = row_of_three(rt.alloc())?;
-    let rows = [
-        ("cell 3 0 1\nreplan\n", 4, "OffMap", 1),
-        ("cell 0 1 1\nreplan\n", 4, "OffMap", 1),
-        ("replan\ncell 1 0 5\n", 5, "NoReplan", 2),
-        ("cell 1 0 5\n\ncell 1 0 6\n \n", 5, "NoReplan", 3),
-        ("cell 1 0 5\ncells 1 0 5", 1, "Word", 2),
-        ("\n\t\n\r\nCell 1 0 5\n", 1, "Word", 4),
-        ("cell 1 0\n", 1, "Word", 1),
-        ("cell 1 0 5 6\n", 1, "Word", 1),
-        ("replan 1\n", 1, "Word", 1),
-        ("replan\r", 1, "Word", 1),
-        ("replan\r\r\n", 1, "Word", 1),
-        ("replan\x0b\n", 1, "Word", 1),
-        ("cell 1\x0c0 5\n", 1, "Word", 1),
-        ("cell 1 0 5.0\n", 2, "Number", 1),
-        ("cell 1 0 5\r", 2, "Number", 1),
-        ("cell 9999999999999999999 - 5\n", 2, "Number", 1),
-        ("cell 9999999999999999999 0 5\n", 3, "Range", 1),
-        ("cell -1 0 5\n", 3, "Range", 1),
-        ("cell 8388608 0 5\n", 3, "Range", 1),
-        ("cell 8388607 0 256\n", 3, "Range", 1),
-        ("cell 8388607 0 255\n", 4, "OffMap", 1),
-    ];
-    for (text, number, name, line) in rows {
-        let fault = read_changes(rt.alloc(), text.as_bytes(), &map)
-            .err()
-            .ok_or(text)?;
-        assert_eq!(rt;
-            (fault.number(), fault.name(), fault.line()),
-            (number, name, line),
-            "{text}"
-        );
+/// Texts of changes, each with `;` after it, and after its arrow the fault: its number, name and line.
+const FAULTS: &str = "\
+cell 3 0 1\nreplan\n => 4 OffMap 1;\
+cell 0 1 1\nreplan\n => 4 OffMap 1;\
+replan\ncell 1 0 5\n => 5 NoReplan 2;\
+cell 1 0 5\n\ncell 1 0 6\n \n => 5 NoReplan 3;\
+cell 1 0 5\ncells 1 0 5 => 1 Word 2;\
+\n\t\n\r\nCell 1 0 5\n => 1 Word 4;\
+cell 1 0\n => 1 Word 1;\
+cell 1 0 5 6\n => 1 Word 1;\
+replan 1\n => 1 Word 1;\
+replan\r => 1 Word 1;\
+replan\r\r\n => 1 Word 1;\
+replan\x0b\n => 1 Word 1;\
+cell 1\x0c0 5\n => 1 Word 1;\
+cell 1 0 5.0\n => 2 Number 1;\
+cell 1 0 5\r => 2 Number 1;\
+cell 9999999999999999999 - 5\n => 2 Number 1;\
+cell 9999999999999999999 0 5\n => 3 Range 1;\
+cell -1 0 5\n => 3 Range 1;\
+cell 8388608 0 5\n => 3 Range 1;\
+cell 8388607 0 256\n => 3 Range 1;\
+cell 8388607 0 255\n => 4 OffMap 1";
+
+/// The fault of a text of changes as a line.
+fn fault_of(alloc: Global, map: &Map, text: &[u8]) -> Result<String, Fail> {
+    if text.len() > 100 {
+        return Err(Fail::new("a long text"));
+    }
+    match read_changes(alloc, text, map) {
+        Ok(_) => Err(Fail::new("no fault")),
+        Err(fault) => Ok(format!(in alloc;
+            "{} {} {}",
+            fault.number(),
+            fault.name(),
+            fault.line()
+        )?),
+    }
+}
+
+/// The first faults of texts for this map.
+fn compare_faults(rt: &impl Abort, alloc: Global, map: &Map) -> Result<(), Fail> {
+    for row in FAULTS.split(';') {
+        let (text, want) = row.split_once(" => ").ok_or("an arrow")?;
+        let fault = fault_of(alloc, map, text.as_bytes())?;
+        assert_eq!(rt; fault.as_str(), want, "{row}");
     }
     Ok(())
 }
 
-#[test]
-fn a_text_gives_its_batches(rt: HostRuntime) -> Result<(), Fail> {
-    let map = row_of_three(rt.alloc())?;
-    let text =
-        "\t cell +02\t000 007 \r\n\n  \t\ncell 0 0 255\nreplan\r\nreplan\ncell 1 -0 0\n replan";
-    let changes = read_changes(rt.alloc(), text.as_bytes(), &map)?;
+/// The batches of a text for the map of three cells in a row.
+fn compare_batches(rt: &impl Abort, changes: &Changes) {
     let first = [
         Write {
             x: 2,
@@ -79,30 +89,72 @@ fn a_text_gives_its_batches(rt: HostRuntime) -> Result<(), Fail> {
         y: 0,
         cost: 0,
     }];
-    let want = [first.as_slice(), [].as_slice(), last.as_slice()];
     assert_eq!(rt; changes.batches(), 3);
-    for i in 0..changes.batches() {
-        assert_eq!(rt; changes.batch(i), want[i as usize], "{i}");
-    }
-    assert_eq!(rt; read_changes(rt.alloc(), b"", &map)?.batches(), 0);
-    assert_eq!(rt; read_changes(rt.alloc(), b" \r\n", &map)?.batches(), 0);
+    assert_eq!(rt; changes.batch(0), first.as_slice());
+    assert!(rt; changes.batch(1).is_empty());
+    assert_eq!(rt; changes.batch(2), last.as_slice());
+}
+
+/// How many batches a text has.
+fn count_of(alloc: Global, map: &Map, text: &[u8]) -> Result<u32, Fail>
+    requires short { length text.now ≤ 2 ^ 30 }
+{
+    let changes = read_changes(alloc, text, map)?;
+    Ok(changes.batches())
+}
+
+/// The batches of texts for this map.
+fn compare_texts(rt: &impl Abort, alloc: Global, map: &Map) -> Result<(), Fail> {
+    let text =
+        "\t cell +02\t000 007 \r\n\n  \t\ncell 0 0 255\nreplan\r\nreplan\ncell 1 -0 0\n replan";
+    let changes = read_changes(alloc, text.as_bytes(), map)?;
+    compare_batches(rt, &changes);
+    drop(changes);
+    assert_eq!(rt; count_of(alloc, map, b"")?, 0);
+    assert_eq!(rt; count_of(alloc, map, b" \r\n")?, 0);
     Ok(())
+}
+
+/// Writes to the cells of this map, and none beside them.
+fn compare_writes(rt: &impl Abort, map: &mut Map) {
+    assert_eq!(rt; (map.width(), map.height()), (3, 1));
+    assert_eq!(rt; (map.set(1, 0, 9), map.set(1, 0, 8)), (Ok(0), Ok(9)));
+    for (x, y, cost) in [
+        (0, 0, Some(0)),
+        (1, 0, Some(8)),
+        (2, 0, Some(0)),
+        (3, 0, None),
+        (0, 1, None),
+        (-1, 0, None),
+        (0, -1, None),
+    ] {
+        assert_eq!(rt; map.cost(x, y), cost, "{x} {y}");
+        if cost.is_none() {
+            assert_eq!(rt; map.set(x, y, 7), Err(OffMap));
+        }
+    }
+}
+
+#[test]
+fn a_text_gives_its_first_fault(rt: HostRuntime) -> Result<(), Fail> {
+    let map = row_of_three(rt.alloc())?;
+    let compared = compare_faults(&rt, rt.alloc(), &map);
+    drop(map);
+    compared
+}
+
+#[test]
+fn a_text_gives_its_batches(rt: HostRuntime) -> Result<(), Fail> {
+    let map = row_of_three(rt.alloc())?;
+    let compared = compare_texts(&rt, rt.alloc(), &map);
+    drop(map);
+    compared
 }
 
 #[test]
 fn a_map_takes_writes_to_its_cells(rt: HostRuntime) -> Result<(), Fail> {
     let mut map = row_of_three(rt.alloc())?;
-    assert_eq!(rt; (map.width(), map.height()), (3, 1));
-    assert_eq!(rt; map.set(1, 0, 9), Ok(0));
-    assert_eq!(rt; map.set(1, 0, 8), Ok(9));
-    let costs = [(0, 0, Some(0)), (1, 0, Some(8)), (2, 0, Some(0))];
-    let off = [(3, 0, None), (0, 1, None), (-1, 0, None), (0, -1, None)];
-    for (x, y, cost) in costs {
-        assert_eq!(rt; map.cost(x, y), cost, "{x} {y}");
-    }
-    for (x, y, cost) in off {
-        assert_eq!(rt; map.cost(x, y), cost, "{x} {y}");
-        assert_eq!(rt; map.set(x, y, 7), Err(OffMap));
-    }
+    compare_writes(&rt, &mut map);
+    drop(map);
     Ok(())
 }

@@ -4,6 +4,7 @@ use sample_files::{F1, F2, p16};
 use sbpl_cfg::Pose;
 use sbpl_mprim::{Poses, Prim, PrimFault, Prims, print_prims, read_prims};
 use std::alloc::{AllocError, Global};
+use std::process::Abort;
 use std::test::Fail;
 
 /// The cell size of the sample files, in nanometres.
@@ -61,27 +62,41 @@ const FAULTS: &str = "\
 9 0.0000 0.0000 6.2832 & 5 endpose_c: 0 0 16 => 12 ZeroCost 74";
 
 /// The number of a line, and the text that it has instead of its own.
-fn change_of(change: &str) -> Result<(usize, &str), Fail> {
+pub(crate) fn change_of(change: &str) -> Result<(usize, &str), Fail> {
     let (at, text) = change.split_once(' ').ok_or("a line's number")?;
     let at = at.parse::<usize>().ok().ok_or("a number")?;
     Ok((at, text))
 }
 
+/// The fault of a file as a line.
+fn fault_in(alloc: Global, file: &[u8]) -> Result<String, Fail> {
+    match read_prims(alloc, file, CELL, 16) {
+        Ok(_) => Err(Fail::new("no fault")),
+        Err(fault) => Ok(format!(in alloc;
+            "{} {} {}",
+            fault.number(),
+            fault.name(),
+            fault.place()
+        )?),
+    }
+}
+
 /// The fault of F1 with other texts for one or two of its lines, as a line.
 fn fault_of(alloc: Global, changes: &str) -> Result<String, Fail> {
     let (first, second) = changes.split_once(" & ").unwrap_or((changes, changes));
-    let file = changed(alloc, change_of(first)?, change_of(second)?, "")?;
-    let fault = read_prims(alloc, file.as_bytes(), CELL, 16)
-        .err()
-        .ok_or("a fault")?;
-    Ok(format!(in alloc; "{} {} {}", fault.number(), fault.name(), fault.place())?)
+    let (first, second) = (change_of(first)?, change_of(second)?);
+    let file = changed(alloc, first, second, "")?;
+    let fault = fault_in(alloc, file.as_bytes());
+    drop(file);
+    fault
 }
 
 #[test]
 fn faults_have_numbers_names_and_places(rt: HostRuntime) -> Result<(), Fail> {
     for row in FAULTS.split('\n') {
         let (changes, want) = row.split_once(" => ").ok_or("an arrow")?;
-        assert_eq!(rt; fault_of(rt.alloc(), changes)?.as_str(), want, "{row}");
+        let fault = fault_of(rt.alloc(), changes)?;
+        assert_eq!(rt; fault.as_str(), want, "{row}");
     }
     Ok(())
 }
@@ -136,35 +151,60 @@ fn read_and_printed(alloc: Global, text: &[u8]) -> Result<(Prims, Vec<u8>), Fail
     Ok((prims, out))
 }
 
-#[test]
-fn a_pose_may_lie_anywhere_in_the_end_cell(rt: HostRuntime) -> Result<(), Fail> {
-    let near = changed(
-        rt.alloc(),
-        (9, "0.0374 -.0125 6.2832"),
-        (5, "endpose_c: 1 0 -32"),
-        "",
-    )?;
-    let prims = read_prims(rt.alloc(), near.as_bytes(), CELL, 16)?;
+/// The first primitive and its poses, of F1 where the last pose lies at the edge of the end cell.
+fn compare_edge(rt: &impl Abort, prims: &Prims) {
     assert!(rt; prims.len() == 1);
     let prim = prims.get(0);
     assert_eq!(rt; numbers_of(prim), (0, 0, 1, 0, 0, 1));
+    let first = Pose {
+        x: 0,
+        y: 0,
+        theta: 0,
+    };
     let last = Pose {
         x: 37_400_000,
         y: -12_500_000,
         theta: 6_283_200_000,
     };
+    assert_eq!(rt; prim.poses.as_slice(), [first, last].as_slice());
+}
+
+#[test]
+fn a_pose_may_lie_anywhere_in_the_end_cell(rt: HostRuntime) -> Result<(), Fail> {
+    let pose = (9, "0.0374 -.0125 6.2832");
+    let end = (5, "endpose_c: 1 0 -32");
+    let near = changed(rt.alloc(), pose, end, "")?;
+    let read = read_prims(rt.alloc(), near.as_bytes(), CELL, 16);
+    drop(near);
+    let prims = read?;
+    compare_edge(&rt, &prims);
+    drop(prims);
+    Ok(())
+}
+
+/// Primitives that were read, and those that were read from what was printed of them.
+fn compare_both(rt: &impl Abort, prims: &Prims, again: &Prims, count: u32) {
     assert_eq!(rt;
-        prim.poses.as_slice(),
-        [
-            Pose {
-                x: 0,
-                y: 0,
-                theta: 0
-            },
-            last
-        ]
-        .as_slice()
+        (prims.len(), prims.cell(), prims.headings(), again.len()),
+        (count, CELL, 16, count)
     );
+    for (p, q) in again.as_slice().iter().zip(prims.as_slice()) {
+        assert_eq!(rt;
+            (numbers_of(p), p.poses.as_slice()),
+            (numbers_of(q), q.poses.as_slice())
+        );
+    }
+}
+
+/// Prints the primitives of a text, and compares them with what is then read.
+fn compare_printed(rt: &impl Abort, alloc: Global, text: &[u8], count: u32) -> Result<(), Fail> {
+    let (prims, out) = read_and_printed(alloc, text)?;
+    let again = read_prims(alloc, &out, CELL, 16);
+    drop(out);
+    match again {
+        Ok(again) => compare_both(rt, &prims, &again, count),
+        Err(_) => return Err(Fail::new("printed")),
+    }
     Ok(())
 }
 
@@ -172,18 +212,7 @@ fn a_pose_may_lie_anywhere_in_the_end_cell(rt: HostRuntime) -> Result<(), Fail> 
 fn what_is_printed_is_read_back(rt: HostRuntime) -> Result<(), Fail> {
     let p16 = p16(rt.alloc())?;
     for (text, count) in [(F1, 1), (F2, 4), (p16.as_str(), 80)] {
-        let (prims, out) = read_and_printed(rt.alloc(), text.as_bytes())?;
-        let (again, _out) = read_and_printed(rt.alloc(), &out)?;
-        assert_eq!(rt;
-            (prims.len(), prims.cell(), prims.headings(), again.len()),
-            (count, CELL, 16, count)
-        );
-        for (p, q) in again.as_slice().iter().zip(prims.as_slice()) {
-            assert_eq!(rt;
-                (numbers_of(p), p.poses.as_slice()),
-                (numbers_of(q), q.poses.as_slice())
-            );
-        }
+        compare_printed(&rt, rt.alloc(), text.as_bytes(), count)?;
     }
     Ok(())
 }
@@ -193,11 +222,8 @@ fn pose_of(prim: &Prim, i: usize) -> Option<(i64, i64, i64)> {
     prim.poses.as_slice().get(i).map(|p| (p.x, p.y, p.theta))
 }
 
-#[test]
-fn a_file_says_its_numbers(rt: HostRuntime) -> Result<(), Fail> {
-    let text = p16(rt.alloc())?;
-    let prims = read_prims(rt.alloc(), text.as_bytes(), CELL, 16)?;
-    // The index, what it says, and its poses 1 and 9.
+/// Primitives of the sample of eighty: the index, what it says, and its poses 1 and 9.
+fn compare_eighty(rt: &impl Abort, prims: &[Prim]) -> Result<(), Fail> {
     let rows = [
         (0, (0, 0, 1, 0, 0, 1), (2_800_000, 0, 0), (25_000_000, 0, 0)),
         (3, (3, 0, 0, 0, 15, 1), (0, 0, 0), (0, 0, -392_700_000)),
@@ -221,7 +247,7 @@ fn a_file_says_its_numbers(rt: HostRuntime) -> Result<(), Fail> {
         ),
     ];
     for (i, says, second, last) in rows {
-        let prim = prims.as_slice().get(i).ok_or("a primitive is missing")?;
+        let prim = prims.get(i).ok_or("a primitive is missing")?;
         assert_eq!(rt; numbers_of(prim), says);
         assert_eq!(rt;
             (pose_of(prim, 1), pose_of(prim, 9), pose_of(prim, 10)),
@@ -229,6 +255,17 @@ fn a_file_says_its_numbers(rt: HostRuntime) -> Result<(), Fail> {
         );
     }
     Ok(())
+}
+
+#[test]
+fn a_file_says_its_numbers(rt: HostRuntime) -> Result<(), Fail> {
+    let text = p16(rt.alloc())?;
+    let read = read_prims(rt.alloc(), text.as_bytes(), CELL, 16);
+    drop(text);
+    let prims = read?;
+    let compared = compare_eighty(&rt, prims.as_slice());
+    drop(prims);
+    compared
 }
 
 #[test]

@@ -148,140 +148,147 @@ fn write(x: u32, y: u32, cost: u8) -> Write {
     Write { x, y, cost }
 }
 
-/// How many states a plan of the hall expands, the arc numbers of its path, and its cost, which is also the g of the goal.
-type Row<'a> = (u64, &'a [u32], u64);
+/// What a plan of the hall is to be, and what is written to the map after it.
+#[derive(Clone, Copy)]
+struct Row<'a> {
+    /// How many states it expands.
+    expanded: u64,
+    /// The states that its only pass lowers, where they are compared.
+    lowered: Option<&'a [u32]>,
+    /// The arc numbers of its path.
+    arcs: &'a [u32],
+    /// The cost of its path, which is also the g of the goal.
+    cost: u64,
+    /// The heuristic at heading 0 of each of the six cells, row by row.
+    guide: [u64; 6],
+    /// The writes after it.
+    then: &'a [Write],
+}
 
-/// Makes the next plan of the hall in one pass, and compares it.
-fn plan_is<S: Search<Lattice, Best, Note = Step> + Drop>(
-    rt: &impl Abort,
+/// Whether a plan is as a row says.
+fn is_as(planned: &Planned<Step>, row: &Row) -> bool {
+    if let Some(states) = row.lowered {
+        if !lowered(planned, states) {
+            return false;
+        }
+    }
+    !planned.spent && path(&planned.outcome) == Some((row.arcs, row.cost, 1000))
+}
+
+/// Makes the next plan of the hall in one pass, and answers whether it is as a row says.
+fn next_is<S: Search<Lattice, Best, Note = Step> + Drop>(
     alloc: Global,
     lattice: &Lattice,
     plans: &mut Replanner<S>,
-    row: Row,
-) -> Result<(), Fail>
+    row: &Row,
+) -> Result<bool, Fail>
     requires ready { IsReadyIn S.meaning lattice.now plans.old }
     ensures ready { OnOk result (IsReadyIn S.meaning lattice.now plans.new) }
 {
-    let plan = plans.plan(alloc, lattice, &AT_ONCE)?;
-    assert_eq!(rt; path(&plan.outcome), Some((row.1, row.2, 1000)));
-    assert!(rt; !plan.spent);
-    drop(plan);
-    assert_eq!(rt; plans.expanded(), row.0);
-    assert_eq!(rt; reached(lattice, plans, 32), Some(row.2));
-    Ok(())
+    let planned = plans.plan(alloc, lattice, &AT_ONCE)?;
+    let is = is_as(&planned, row);
+    drop(planned);
+    Ok(is)
 }
 
-/// Makes three plans of the hall, before a cell is blocked, before it is freed, and after that.
-fn plans_are<S: Search<Lattice, Best, Note = Step> + Drop>(
+/// Makes a plan of the hall for each row, and compares it.
+fn compare_plans<S: Search<Lattice, Best, Note = Step> + Drop>(
     rt: &impl Abort,
     alloc: Global,
     lattice: &mut Lattice,
     plans: &mut Replanner<S>,
-    rows: [Row; 3],
+    rows: &[Row],
 ) -> Result<(), Fail>
     requires ready { IsReadyIn S.meaning lattice.old plans.old }
 {
-    plan_is(rt, alloc, lattice, plans, rows[0])?;
-    change(alloc, lattice, plans, [write(2, 1, 100)].as_slice())?;
-    plan_is(rt, alloc, lattice, plans, rows[1])?;
-    change(alloc, lattice, plans, [write(2, 1, 0)].as_slice())?;
-    plan_is(rt, alloc, lattice, plans, rows[2])
-}
-
-/// The same plans on a lattice that is the hall's, repaired or begun anew.
-fn hall_plans_are(
-    rt: &impl Abort,
-    alloc: Global,
-    lattice: &mut Lattice,
-    repairs: bool,
-    rows: [Row; 3],
-) -> Result<(), Fail> {
-    if repairs {
-        let mut plans = repairing_on(alloc, lattice).ok_or("begun")?;
-        let compared = plans_are(rt, alloc, lattice, &mut plans, rows);
-        drop(plans);
-        compared
-    } else {
-        let mut plans = anew_on(alloc, lattice).ok_or("begun")?;
-        let compared = plans_are(rt, alloc, lattice, &mut plans, rows);
-        drop(plans);
-        compared
-    }
-}
-
-#[test]
-fn hall_repaired_or_begun_anew(rt: HostRuntime) -> Result<(), Fail> {
-    let long = [2, 1, 3].as_slice();
-    let short = [1].as_slice();
-    let other = [2, 0, 0, 3].as_slice();
-    for (repairs, rows) in [
-        (true, [(4, long, 100), (1, short, 150), (0, other, 100)]),
-        (false, [(4, long, 100), (3, short, 150), (4, long, 100)]),
-    ] {
-        let mut hall = made(rt.alloc(), E2, F2, 0)?;
-        let compared = hall_plans_are(&rt, rt.alloc(), &mut hall, repairs, rows);
-        drop(hall);
-        compared?;
+    for row in rows {
+        assert!(rt; next_is(alloc, lattice, plans, row)?, "at {}", row.cost);
+        assert_eq!(rt; plans.expanded(), row.expanded);
+        assert_eq!(rt; reached(lattice, plans, 32), Some(row.cost));
+        assert_eq!(rt; guided(lattice, plans), Some(row.guide));
+        change(alloc, lattice, plans, row.then)?;
     }
     Ok(())
 }
 
-/// Makes the next plan in one pass, and compares the states that it lowered and its path with its cost.
-fn plan_lowers<S: Search<Lattice, Best, Note = Step> + Drop>(
-    rt: &impl Abort,
-    alloc: Global,
-    lattice: &Lattice,
-    plans: &mut Replanner<S>,
-    states: &[u32],
-    want: (&[u32], u64, u128),
-) -> Result<(), Fail>
-    requires ready { IsReadyIn S.meaning lattice.now plans.old }
-    ensures ready { OnOk result (IsReadyIn S.meaning lattice.now plans.new) }
-{
-    let plan = plans.plan(alloc, lattice, &AT_ONCE)?;
-    assert!(rt; lowered(&plan, states));
-    assert_eq!(rt; path(&plan.outcome), Some(want));
-    drop(plan);
-    Ok(())
-}
-
-/// Plans of the hall that are repaired: what is changed back lowers nothing, and a blocked cell lowers one state.
-fn repairs_lower<S: Search<Lattice, Best, Note = Step> + Drop>(
+/// The same of plans that are let go at the end.
+fn compare_all<S: Search<Lattice, Best, Note = Step> + Drop>(
     rt: &impl Abort,
     alloc: Global,
     lattice: &mut Lattice,
-    plans: &mut Replanner<S>,
+    mut plans: Replanner<S>,
+    rows: &[Row],
 ) -> Result<(), Fail>
-    requires ready { IsReadyIn S.meaning lattice.old plans.old }
+    requires ready { IsReadyIn S.meaning lattice.old plans }
 {
-    let long = ([2, 1, 3].as_slice(), 100, 1000);
-    let short = ([1].as_slice(), 150, 1000);
-    plan_lowers(rt, alloc, lattice, plans, [0, 48, 64, 80].as_slice(), long)?;
-    assert_eq!(rt; guided(lattice, plans), Some([50, 75, 0, 75, 50, 25]));
-
-    let back = [write(2, 1, 100), write(2, 1, 0), write(0, 0, 0)];
-    change(alloc, lattice, plans, back.as_slice())?;
-    plan_lowers(rt, alloc, lattice, plans, [].as_slice(), long)?;
-
-    change(alloc, lattice, plans, [write(2, 1, 100)].as_slice())?;
-    plan_lowers(rt, alloc, lattice, plans, [16].as_slice(), short)?;
-    assert_eq!(rt; guided(lattice, plans), Some([50, 75, 0, 75, 150, 150]));
-    assert!(rt; !are_on_map(lattice, [write(3, 0, 1)].as_slice()));
-    Ok(())
-}
-
-/// The same plans on a lattice that is the hall's.
-fn hall_repairs_lower(rt: &impl Abort, alloc: Global, lattice: &mut Lattice) -> Result<(), Fail> {
-    let mut plans = repairing_on(alloc, lattice).ok_or("begun")?;
-    let compared = repairs_lower(rt, alloc, lattice, &mut plans);
+    let compared = compare_plans(rt, alloc, lattice, &mut plans, rows);
     drop(plans);
     compared
 }
 
+/// The plans of the hall, as a cell is blocked and freed, repaired and then begun anew. What is changed back lowers nothing.
+fn compare_hall(rt: &impl Abort, alloc: Global, hall: &mut Lattice) -> Result<(), Fail> {
+    let back = [write(2, 1, 100), write(2, 1, 0), write(0, 0, 0)];
+    let block = [write(2, 1, 100)];
+    let free = [write(2, 1, 0)];
+    let open = Row {
+        expanded: 4,
+        lowered: Some([0, 48, 64, 80].as_slice()),
+        arcs: [2, 1, 3].as_slice(),
+        cost: 100,
+        guide: [50, 75, 0, 75, 50, 25],
+        then: back.as_slice(),
+    };
+    let same = Row {
+        expanded: 0,
+        lowered: Some([].as_slice()),
+        then: block.as_slice(),
+        ..open
+    };
+    let blocked = Row {
+        expanded: 1,
+        lowered: Some([16].as_slice()),
+        arcs: [1].as_slice(),
+        cost: 150,
+        guide: [50, 75, 0, 75, 150, 150],
+        then: free.as_slice(),
+    };
+    let freed = Row {
+        arcs: [2, 0, 0, 3].as_slice(),
+        then: [].as_slice(),
+        ..same
+    };
+    let Some(plans) = repairing_on(alloc, hall) else {
+        return Err(Fail::new("memory"));
+    };
+    compare_all(
+        rt,
+        alloc,
+        hall,
+        plans,
+        [open, same, blocked, freed].as_slice(),
+    )?;
+
+    let before = Row {
+        lowered: None,
+        then: same.then,
+        ..open
+    };
+    let shut = Row {
+        expanded: 3,
+        lowered: None,
+        ..blocked
+    };
+    let Some(plans) = anew_on(alloc, hall) else {
+        return Err(Fail::new("memory"));
+    };
+    compare_all(rt, alloc, hall, plans, [before, shut, before].as_slice())
+}
+
 #[test]
-fn hall_lowers_what_a_change_reaches(rt: HostRuntime) -> Result<(), Fail> {
+fn hall_repaired_or_begun_anew(rt: HostRuntime) -> Result<(), Fail> {
     let mut hall = made(rt.alloc(), E2, F2, 0)?;
-    let compared = hall_repairs_lower(&rt, rt.alloc(), &mut hall);
+    let compared = compare_hall(&rt, rt.alloc(), &mut hall);
     drop(hall);
     compared
 }
@@ -350,6 +357,19 @@ fn thirty_known<S: Search<Lattice, Best, Note = Step> + Drop>(
     Ok(costs)
 }
 
+/// The same of plans that are let go at the end.
+fn all_known<S: Search<Lattice, Best, Note = Step> + Drop>(
+    alloc: Global,
+    lattice: &mut Lattice,
+    mut plans: Replanner<S>,
+) -> Result<[Option<u64>; 30], Fail>
+    requires ready { IsReadyIn S.meaning lattice.old plans }
+{
+    let costs = thirty_known(alloc, lattice, &mut plans);
+    drop(plans);
+    costs
+}
+
 /// The same on a lattice, repaired or begun anew.
 fn thirty_on(
     alloc: Global,
@@ -357,15 +377,15 @@ fn thirty_on(
     repairs: bool,
 ) -> Result<[Option<u64>; 30], Fail> {
     if repairs {
-        let mut plans = repairing_on(alloc, lattice).ok_or("begun")?;
-        let costs = thirty_known(alloc, lattice, &mut plans);
-        drop(plans);
-        costs
+        match repairing_on(alloc, lattice) {
+            Some(plans) => all_known(alloc, lattice, plans),
+            None => Err(Fail::new("memory")),
+        }
     } else {
-        let mut plans = anew_on(alloc, lattice).ok_or("begun")?;
-        let costs = thirty_known(alloc, lattice, &mut plans);
-        drop(plans);
-        costs
+        match anew_on(alloc, lattice) {
+            Some(plans) => all_known(alloc, lattice, plans),
+            None => Err(Fail::new("memory")),
+        }
     }
 }
 
