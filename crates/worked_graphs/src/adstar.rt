@@ -9,6 +9,7 @@ use sbpl_adstar::AdStar;
 use sbpl_ara::Ara;
 use sbpl_graph::{FAR, Zero};
 use sbpl_labels::{Budget, PassEnd};
+use std::process::Abort;
 use std::test::Fail;
 
 /// A way over state 1 that costs 6.
@@ -55,21 +56,47 @@ fn took(search: &AdStar, steps: &[(u32, bool)]) -> bool {
             .all(|(want, step)| *want == (step.state, step.raised))
 }
 
+/// Repairs the labels for this graph, and compares what the pass takes, and the cost of the way.
+fn compare_repair(
+    rt: &impl Abort,
+    search: &mut AdStar,
+    graph: &Listed,
+    budget: &mut Budget,
+    steps: &[(u32, bool)],
+    cost: u64,
+)
+    requires states { states_of search.old.labels ≡ 3 }
+    requires start { search.old.labels.start ≡ 0 }
+    requires fits { FitCount 3 (g_of search.old.labels) (v_of search.old.labels) budget.old.run }
+    ensures states { states_of search.new.labels ≡ 3 }
+    ensures start { search.new.labels.start ≡ 0 }
+    ensures fits { FitCount 3 (g_of search.new.labels) (v_of search.new.labels) budget.new.run }
+{
+    assert_eq!(rt; repair(search, graph, budget), PassEnd::Rest);
+    assert!(rt; took(search, steps));
+    assert_eq!(rt; search.labels().g(2), cost);
+}
+
+/// Repairs for the cheap way, the dear one and the blocked one.
+fn compare_repairs(rt: &impl Abort, search: &mut AdStar, budget: &mut Budget)
+    requires states { states_of search.old.labels ≡ 3 }
+    requires start { search.old.labels.start ≡ 0 }
+    requires fits { FitCount 3 (g_of search.old.labels) (v_of search.old.labels) budget.old.run }
+{
+    let steps = [(0, false), (1, false)];
+    compare_repair(rt, search, &cheap(), budget, steps.as_slice(), 6);
+    let steps = [(1, true), (1, false)];
+    compare_repair(rt, search, &dear(), budget, steps.as_slice(), 8);
+    let steps = [(1, true)];
+    compare_repair(rt, search, &blocked(), budget, steps.as_slice(), FAR);
+    assert!(rt; search.labels().shows_none(2));
+}
+
 #[test]
 fn repaired_after_changes(rt: HostRuntime) -> Result<(), Fail> {
     let mut budget = Budget::new(10);
     let mut search = AdStar::from(Ara::open(rt.alloc(), 3, 0, 2)?);
-    assert_eq!(rt; repair(&mut search, &cheap(), &mut budget), PassEnd::Rest);
-    assert!(rt; took(&search, [(0, false), (1, false)].as_slice()));
-    assert_eq!(rt; search.labels().g(2), 6);
-
-    assert_eq!(rt; repair(&mut search, &dear(), &mut budget), PassEnd::Rest);
-    assert!(rt; took(&search, [(1, true), (1, false)].as_slice()));
-    assert_eq!(rt; search.labels().g(2), 8);
-
-    assert_eq!(rt; repair(&mut search, &blocked(), &mut budget), PassEnd::Rest);
-    assert!(rt; took(&search, [(1, true)].as_slice()));
-    assert_eq!(rt; search.labels().g(2), FAR);
-    assert!(rt; search.labels().shows_none(2));
+    compare_repairs(&rt, &mut search, &mut budget);
+    drop(search);
     Ok(())
 }

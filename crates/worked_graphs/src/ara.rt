@@ -1,16 +1,19 @@
 //! Passes on a graph of six states, by ARA* and by ePA*SE.
 
-ghost use Rattle.std.specs.Prelude.{◌≡◌, ◌<◌, true};
+ghost use Rattle.std.specs.Prelude.{◌≡◌, ◌<◌, ◌≤◌, true};
 ghost use Rattle.sbpl_epase.specs.Making.{CanPass, Leaves};
+ghost use Rattle.sbpl_labels.specs.Marks.{states_of};
 ghost use Rattle.sbpl_search.specs.Query.{query};
+ghost use Rattle.sbpl_search.specs.Ready.{AreReady};
 ghost use Rattle.worked_graphs.specs.Sample.{height, sample};
 
-use sbpl_ara::Ara;
+use sbpl_ara::{self, Ara};
 use sbpl_epase::{Epase, Event, NoGate, Parts, parallel_pass_parts};
 use sbpl_graph::{FAR, Graph, Guide};
 use sbpl_labels::{Budget, PassEnd};
 use sbpl_search::Search;
 use std::alloc::{AllocError, Global};
+use std::process::Abort;
 use std::test::Fail;
 
 /// Two arcs from each state, as head and cost, and how far each state is from the goal at least.
@@ -140,36 +143,76 @@ fn tie() -> Table
     }
 }
 
-/// The states of the last pass in order.
-fn expanded(alloc: Global, ara: &Ara) -> Result<Vec<u32>, AllocError> {
-    ara.trace().iter().map(|step| step.state).collect(alloc)
+/// Whether the last pass expanded just these states, in this order.
+fn expanded(ara: &Ara, states: &[u32]) -> bool {
+    ara.trace().len() == states.len()
+        && states
+            .iter()
+            .zip(ara.trace())
+            .all(|(want, step)| *want == step.state)
 }
 
-#[test]
-fn falling_inflation(rt: HostRuntime) -> Result<(), Fail> {
-    let graph = detour();
-    let mut budget = Budget::new(10);
-    let mut ara = Ara::open(rt.alloc(), 6, 0, 5)?;
-    assert_eq!(rt; ara.pass(&graph, &graph, 3000, &mut budget), PassEnd::Rest);
-    assert_eq!(rt;
-        expanded(rt.alloc(), &ara)?.as_slice(),
-        [0, 2, 4].as_slice()
+/// Makes a pass, and compares its end and the states that it expands.
+fn compare_pass(
+    rt: &impl Abort,
+    graph: &Table,
+    ara: &mut Ara,
+    eps: u32,
+    budget: &mut Budget,
+    end: PassEnd,
+    states: &[u32],
+)
+    requires eps_low { 1000 ≤ eps }
+    requires eps_high { eps ≤ 100000 }
+    requires goal { height graph.now.heights ara.old.goal ≡ 0 }
+    requires ready { AreReady (sample graph.now.arcs graph.now.heights) ara.old.labels budget.old.run }
+    ensures goal { ara.new.goal ≡ ara.old.goal }
+    ensures ready { AreReady (sample graph.now.arcs graph.now.heights) ara.new.labels budget.new.run }
+{
+    assert_eq!(rt; ara.pass(graph, graph, eps, budget), end);
+    assert!(rt; expanded(ara, states), "{states:?}");
+}
+
+/// Passes of falling inflation on the graph with a detour.
+fn compare_falling(rt: &impl Abort, graph: &Table, ara: &mut Ara, budget: &mut Budget)
+    requires goal { height graph.now.heights ara.old.goal ≡ 0 }
+    requires ready { AreReady (sample graph.now.arcs graph.now.heights) ara.old.labels budget.old.run }
+{
+    compare_pass(
+        rt,
+        graph,
+        ara,
+        3000,
+        budget,
+        PassEnd::Rest,
+        [0, 2, 4].as_slice(),
     );
     assert_eq!(rt;
         (ara.labels().g(5), ara.labels().back(5)),
         (10, Some((4, 0)))
     );
-
-    assert_eq!(rt; ara.pass(&graph, &graph, 1000, &mut budget), PassEnd::Rest);
-    assert_eq!(rt; expanded(rt.alloc(), &ara)?.as_slice(), [1, 3].as_slice());
-    assert_eq!(rt;
-        (ara.labels().g(5), ara.labels().back(5)),
-        (7, Some((3, 0)))
+    compare_pass(
+        rt,
+        graph,
+        ara,
+        1000,
+        budget,
+        PassEnd::Rest,
+        [1, 3].as_slice(),
     );
-    assert_eq!(rt; budget.used(), 5);
+    assert_eq!(rt;
+        (ara.labels().g(5), ara.labels().back(5), budget.used()),
+        (7, Some((3, 0)), 5)
+    );
+    compare_pass(rt, graph, ara, 1000, budget, PassEnd::Rest, [].as_slice());
+}
 
-    assert_eq!(rt; ara.pass(&graph, &graph, 1000, &mut budget), PassEnd::Rest);
-    assert!(rt; ara.trace().is_empty());
+#[test]
+fn falling_inflation(rt: HostRuntime) -> Result<(), Fail> {
+    let mut budget = Budget::new(10);
+    let mut ara = Ara::open(rt.alloc(), 6, 0, 5)?;
+    compare_falling(&rt, &detour(), &mut ara, &mut budget);
+    drop(ara);
     Ok(())
 }
 
@@ -184,6 +227,18 @@ fn opened<F>(alloc: Global, search: &Epase<F>) -> Result<Vec<u32>, AllocError>
         }
     }
     Ok(states)
+}
+
+/// Compares the states that the last pass of a search by events opened, and the cost that it found.
+fn compare_opened<F>(rt: &impl Abort, alloc: Global, search: &Epase<F>, states: &[u32], cost: u64)
+    requires kept { search.now.search.kept ≡ true }
+    requires states { 5 < states_of search.now.search.labels }
+{
+    match opened(alloc, search) {
+        Ok(opened) => assert_eq!(rt; opened.as_slice(), states),
+        Err(_) => assert!(rt; false, "memory"),
+    }
+    assert_eq!(rt; search.labels().g(5), cost);
 }
 
 /// With one worker each arc is evaluated before the next state is opened: here a pass by events expands what ARA* does.
@@ -202,62 +257,100 @@ fn falling_inflation_by_events(rt: HostRuntime) -> Result<(), Fail> {
     let mut search = Epase::open(rt.alloc(), make, 6, 0, 5)?;
     let end = search.pass(rt.alloc(), &graph, &graph, 3000, true, &mut budget)?;
     assert_eq!(rt; end, PassEnd::Rest);
-    assert_eq!(rt;
-        opened(rt.alloc(), &search)?.as_slice(),
-        [0, 2, 4].as_slice()
-    );
-    assert_eq!(rt; search.labels().g(5), 10);
+    compare_opened(&rt, rt.alloc(), &search, [0, 2, 4].as_slice(), 10);
 
     let end = search.pass(rt.alloc(), &graph, &graph, 1000, true, &mut budget)?;
     assert_eq!(rt; end, PassEnd::Rest);
-    assert_eq!(rt; opened(rt.alloc(), &search)?.as_slice(), [1, 3].as_slice());
-    assert_eq!(rt; (search.labels().g(5), search.expanded()), (7, 2));
-    assert_eq!(rt; (budget.used(), search.low(&graph)), (5, 7));
-
+    compare_opened(&rt, rt.alloc(), &search, [1, 3].as_slice(), 7);
+    let counts = (search.expanded(), budget.used(), search.low(&graph));
     search.reset();
-    assert_eq!(rt; (search.labels().g(0), search.labels().g(5)), (0, FAR));
+    let reset = (search.labels().g(0), search.labels().g(5));
+    drop(search);
+    assert_eq!(rt; (counts, reset), ((2, 5, 7), (0, FAR)));
     Ok(())
 }
 
-#[test]
-fn equal_keys_and_a_spent_budget(rt: HostRuntime) -> Result<(), Fail> {
-    let graph = tie();
-    let mut budget = Budget::new(2);
-    let mut ara = Ara::open(rt.alloc(), 6, 0, 5)?;
-    assert_eq!(rt; ara.pass(&graph, &graph, 1000, &mut budget), PassEnd::Spent);
-    assert_eq!(rt; expanded(rt.alloc(), &ara)?.as_slice(), [0, 1].as_slice());
-    assert_eq!(rt; ara.pass(&graph, &graph, 1000, &mut budget), PassEnd::Spent);
-    assert!(rt; ara.trace().is_empty());
-
+/// Passes on the graph with a tie, where the budget of the first plan is two expansions.
+fn compare_spent(rt: &impl Abort, graph: &Table, ara: &mut Ara, budget: &mut Budget)
+    requires goal { height graph.now.heights ara.old.goal ≡ 0 }
+    requires ready { AreReady (sample graph.now.arcs graph.now.heights) ara.old.labels budget.old.run }
+{
+    compare_pass(
+        rt,
+        graph,
+        ara,
+        1000,
+        budget,
+        PassEnd::Spent,
+        [0, 1].as_slice(),
+    );
+    compare_pass(rt, graph, ara, 1000, budget, PassEnd::Spent, [].as_slice());
     budget.next_plan();
-    assert_eq!(rt; ara.pass(&graph, &graph, 1000, &mut budget), PassEnd::Rest);
-    assert_eq!(rt; expanded(rt.alloc(), &ara)?.as_slice(), [2, 3].as_slice());
+    compare_pass(
+        rt,
+        graph,
+        ara,
+        1000,
+        budget,
+        PassEnd::Rest,
+        [2, 3].as_slice(),
+    );
     assert_eq!(rt;
         (ara.labels().g(5), ara.labels().back(3)),
         (4, Some((1, 0)))
     );
-
     ara.reset();
     assert!(rt; ara.trace().is_empty());
     assert_eq!(rt;
         (ara.labels().g(0), ara.labels().g(5), ara.labels().v(0)),
         (0, FAR, FAR)
     );
+}
+
+#[test]
+fn equal_keys_and_a_spent_budget(rt: HostRuntime) -> Result<(), Fail> {
+    let mut budget = Budget::new(2);
+    let mut ara = Ara::open(rt.alloc(), 6, 0, 5)?;
+    compare_spent(&rt, &tie(), &mut ara, &mut budget);
+    drop(ara);
     Ok(())
+}
+
+/// A pass on the graph with a tie, where the goal is out of reach.
+fn compare_cut_off(rt: &impl Abort, graph: &Table, ara: &mut Ara, budget: &mut Budget)
+    requires goal { height graph.now.heights ara.old.goal ≡ 0 }
+    requires ready { AreReady (sample graph.now.arcs graph.now.heights) ara.old.labels budget.old.run }
+    ensures states { states_of ara.new.labels ≡ 6 }
+{
+    compare_pass(
+        rt,
+        graph,
+        ara,
+        1000,
+        budget,
+        PassEnd::Rest,
+        [0, 1, 2, 3, 5].as_slice(),
+    );
+    assert_eq!(rt; ara.labels().g(4), FAR);
+    assert!(rt; ara.labels().shows_none(4));
+}
+
+/// The parts of that search.
+fn compare_parts(rt: &impl Abort, parts: &sbpl_ara::Parts)
+    requires states { states_of parts.now.labels ≡ 6 }
+{
+    assert_eq!(rt; parts.steps.as_slice().len(), 5);
+    assert_eq!(rt; (parts.goal, parts.labels.g(4)), (4, FAR));
+    assert!(rt; parts.queue.least().is_none());
 }
 
 #[test]
 fn goal_out_of_reach(rt: HostRuntime) -> Result<(), Fail> {
-    let graph = tie();
     let mut budget = Budget::new(10);
     let mut ara = Ara::open(rt.alloc(), 6, 0, 4)?;
-    assert_eq!(rt; ara.pass(&graph, &graph, 1000, &mut budget), PassEnd::Rest);
-    assert_eq!(rt; ara.labels().g(4), FAR);
-    assert!(rt; ara.labels().shows_none(4));
-
+    compare_cut_off(&rt, &tie(), &mut ara, &mut budget);
     let parts = ara.into_parts();
-    assert_eq!(rt; parts.steps.as_slice().len(), 5);
-    assert_eq!(rt; (parts.goal, parts.labels.g(4)), (4, FAR));
-    assert!(rt; parts.queue.least().is_none());
+    compare_parts(&rt, &parts);
+    drop(parts);
     Ok(())
 }

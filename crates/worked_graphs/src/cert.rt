@@ -43,49 +43,34 @@ fn lattice_text(alloc: Global) -> Result<String, AllocError> {
     Ok(text)
 }
 
-/// What the section of the lattice says.
-fn says_the_lattice(rt: &impl Abort, set: &LabelSet) {
-    assert_eq!(rt; (set.plan, set.low), (0, 50));
+/// Whether a section is that of the lattice: its head, its path, and the labels of four states.
+fn is_the_lattice(set: &LabelSet) -> bool {
     let path = Outcome::Path {
         cost: 50,
         bound: 1000,
     };
-    assert_eq!(rt; set.outcome, path);
-    assert_eq!(rt; set.arcs.as_slice(), [0, 0].as_slice());
+    if set.outcome != path || set.arcs.as_slice() != [0, 0].as_slice() {
+        return false;
+    }
     let rows = set.labels.as_slice();
-    assert!(rt; rows.len() == 48);
-    assert_eq!(rt; rows[0], Row { g: 0, v: 0, h: 50 });
-    assert_eq!(rt;
-        rows[16],
-        Row {
-            g: 25,
-            v: 25,
-            h: 25
+    for (s, g, v, h) in [
+        (0, 0, 0, 50),
+        (16, 25, 25, 25),
+        (32, 50, FAR, 0),
+        (31, FAR, FAR, 25),
+    ] {
+        if rows.get(s) != Some(&Row { g, v, h }) {
+            return false;
         }
-    );
-    assert_eq!(rt;
-        rows[32],
-        Row {
-            g: 50,
-            v: FAR,
-            h: 0
-        }
-    );
-    assert_eq!(rt;
-        rows[31],
-        Row {
-            g: FAR,
-            v: FAR,
-            h: 25
-        }
-    );
+    }
+    (set.plan, set.low, rows.len()) == (0, 50, 48)
 }
 
 /// Reads the section of a text, and writes it again.
 fn read_and_written(rt: &impl Abort, alloc: Global, text: &[u8]) -> Result<(), Fail> {
     let (set, after) = read_labels(alloc, text, 0, 0, 48)?;
     assert_eq!(rt; after + 1, text.len());
-    says_the_lattice(rt, &set);
+    assert!(rt; is_the_lattice(&set));
     let mut out = Vec::new(alloc);
     assert!(rt; write_labels(&set, &mut out).is_ok());
     drop(set);
@@ -166,69 +151,84 @@ fn sections_are_written_one_after_another(rt: HostRuntime) -> Result<(), Fail> {
     Ok(())
 }
 
+/// Lines of the corridor by their numbers, counted from 0, with other texts, and after the arrow the fault: its number, name
+/// and place. The last five rows have two faults: at one number the form comes first, then the range, then the count, and all
+/// before the next token.
+const FAULTS: &str = "\
+0 label 1 plan 0 states 3 low 50 => 1 Word 0
+0 labels 01 plan 0 states 3 low 50 => 1 Word 7
+0 labels 2 plan 0 states 3 low 50 => 1 Word 7
+1 paths 50 1.000 2 0 0 => 1 Word 32
+4 50 - 0 50 - 0 => 1 Word 75
+0 labels 1 plan +0 states 3 low 50 => 2 Number 14
+0 labels 1 plan 0 states 3 low -1 => 2 Number 29
+1 path - 1.000 2 0 0 => 2 Number 37
+1 path 50 .500 2 0 0 => 2 Number 40
+1 path 50 1.00 2 0 0 => 2 Number 40
+1 path 50 1.0000 2 0 0 => 2 Number 40
+2 0 -- 50 => 2 Number 54
+4 50 - - => 2 Number 73
+0 labels 1 plan 0 states 3 low 9223372036854775808 => 3 Range 29
+1 path 4611686018427387904 1.000 2 0 0 => 3 Range 37
+1 path 50 0.500 2 0 0 => 3 Range 40
+1 path 50 1267650600228229401496703205.376 2 0 0 => 3 Range 40
+1 path 50 1.000 8388608 0 0 => 3 Range 46
+1 path 50 1.000 2 4096 0 => 3 Range 48
+2 4611686018427387904 0 50 => 3 Range 52
+2 0 0 36028797018963968 => 3 Range 56
+5  => 4 Ended 76
+0 labels 1 plan 1 states 3 low 50 => 6 Count 14
+0 labels 1 plan 0 states 2 low 50 => 6 Count 23
+0 labels 1 plan 1.0 states x low 50 => 2 Number 14
+0 labels 1 plan 4294967296 states x low 50 => 3 Range 14
+0 labels 1 plan 1 states x low 50 => 6 Count 14
+0 labels 1 plan 0 states 4294967296 low x => 3 Range 23
+0 labels 1 plan 0 states 4 low x => 6 Count 23";
+
+/// The text with another line, which stands after its number.
+fn altered(alloc: Global, change: &str) -> Result<String, Fail> {
+    let (line, other) = change.split_once(' ').ok_or("a line's number")?;
+    let line = line.parse::<usize>().ok().ok_or("a number")?;
+    Ok(with_line(alloc, line, other)?)
+}
+
+/// The fault of a text as a line.
+fn fault_in(alloc: Global, text: &[u8]) -> Result<String, Fail> {
+    match read_labels(alloc, text, 0, 0, 3) {
+        Ok(_) => Err(Fail::new("no fault")),
+        Err(fault) => Ok(format!(in alloc;
+            "{} {} {}",
+            fault.number(),
+            fault.name(),
+            fault.place()
+        )?),
+    }
+}
+
+/// The fault of the text with another line, as a line.
+fn fault_of(alloc: Global, change: &str) -> Result<String, Fail> {
+    let text = altered(alloc, change)?;
+    let fault = fault_in(alloc, text.as_bytes());
+    drop(text);
+    fault
+}
+
 #[test]
 fn altered_texts_are_refused(rt: HostRuntime) -> Result<(), Fail> {
-    let rows = [
-        (0, "label 1 plan 0 states 3 low 50", 1, "Word", 0),
-        (0, "labels 01 plan 0 states 3 low 50", 1, "Word", 7),
-        (0, "labels 2 plan 0 states 3 low 50", 1, "Word", 7),
-        (1, "paths 50 1.000 2 0 0", 1, "Word", 32),
-        (4, "50 - 0\n50 - 0", 1, "Word", 75),
-        (0, "labels 1 plan +0 states 3 low 50", 2, "Number", 14),
-        (0, "labels 1 plan 0 states 3 low -1", 2, "Number", 29),
-        (1, "path - 1.000 2 0 0", 2, "Number", 37),
-        (1, "path 50 .500 2 0 0", 2, "Number", 40),
-        (1, "path 50 1.00 2 0 0", 2, "Number", 40),
-        (1, "path 50 1.0000 2 0 0", 2, "Number", 40),
-        (2, "0 -- 50", 2, "Number", 54),
-        (4, "50 - -", 2, "Number", 73),
-        (
-            0,
-            "labels 1 plan 0 states 3 low 9223372036854775808",
-            3,
-            "Range",
-            29,
-        ),
-        (1, "path 4611686018427387904 1.000 2 0 0", 3, "Range", 37),
-        (1, "path 50 0.500 2 0 0", 3, "Range", 40),
-        (
-            1,
-            "path 50 1267650600228229401496703205.376 2 0 0",
-            3,
-            "Range",
-            40,
-        ),
-        (1, "path 50 1.000 8388608 0 0", 3, "Range", 46),
-        (1, "path 50 1.000 2 4096 0", 3, "Range", 48),
-        (2, "4611686018427387904 0 50", 3, "Range", 52),
-        (2, "0 0 36028797018963968", 3, "Range", 56),
-        (5, "", 4, "Ended", 76),
-        (0, "labels 1 plan 1 states 3 low 50", 6, "Count", 14),
-        (0, "labels 1 plan 0 states 2 low 50", 6, "Count", 23),
-        // At one number the form comes first, then the range, then the count, and all before the next token.
-        (0, "labels 1 plan 1.0 states x low 50", 2, "Number", 14),
-        (
-            0,
-            "labels 1 plan 4294967296 states x low 50",
-            3,
-            "Range",
-            14,
-        ),
-        (0, "labels 1 plan 1 states x low 50", 6, "Count", 14),
-        (0, "labels 1 plan 0 states 4294967296 low x", 3, "Range", 23),
-        (0, "labels 1 plan 0 states 4 low x", 6, "Count", 23),
-    ];
-    for (line, other, number, name, place) in rows {
-        let text = with_line(rt.alloc(), line, other)?;
-        let fault = read_labels(rt.alloc(), text.as_bytes(), 0, 0, 3).err();
-        drop(text);
-        let fault = fault.ok_or(name)?;
-        assert_eq!(rt;
-            (fault.number(), fault.name(), fault.place()),
-            (number, name, place)
-        );
+    for row in FAULTS.split('\n') {
+        let (change, want) = row.split_once(" => ").ok_or("an arrow")?;
+        let fault = fault_of(rt.alloc(), change)?;
+        assert_eq!(rt; fault.as_str(), want, "{row}");
     }
     Ok(())
+}
+
+/// What the check of a text says on this graph.
+fn flaw_on(alloc: Global, graph: &Listed, text: &str) -> Result<Option<Flaw>, Fail> {
+    let (set, _) = read_labels(alloc, text.as_bytes(), 0, 0, 3)?;
+    let flaw = check(graph, 0, 2, &set).err();
+    drop(set);
+    Ok(flaw)
 }
 
 /// What the check of a text says, on a corridor of two arcs of cost 25.
@@ -236,10 +236,7 @@ fn checked(alloc: Global, text: &str) -> Result<Option<Flaw>, Fail> {
     let graph = Listed {
         arcs: [Some((1, 25)), Some((2, 25)), None],
     };
-    let (set, _) = read_labels(alloc, text.as_bytes(), 0, 0, 3)?;
-    let flaw = check(&graph, 0, 2, &set).err();
-    drop(set);
-    Ok(flaw)
+    flaw_on(alloc, &graph, text)
 }
 
 #[test]
@@ -250,93 +247,49 @@ fn leading_zeros_and_other_blanks_are_allowed(rt: HostRuntime) -> Result<(), Fai
     Ok(())
 }
 
+/// Lines of the corridor by their numbers, counted from 0, with other texts, and after the arrow the flaw, or that the section
+/// holds. Infinity is 2^63. A state whose g and v differ limits the low, and one whose labels are equal does not.
+const FLAWS: &str = "\
+0 labels 1 plan 0 states 3 low 50 => holds
+2 1 0 50 => Start { g: 1 }
+3 26 25 25 => Arc { state: 0, arc: 0, has: 26, most: 25 }
+4 50 - 1 => GoalGuide { has: 1 }
+2 0 0 51 => Guide { state: 0, arc: 0, has: 51, most: 50 }
+0 labels 1 plan 0 states 3 low - => Low { state: 2, has: 9223372036854775808, most: 50 }
+2 0 - 49 => Low { state: 0, has: 50, most: 49 }
+2 0 0 49 => holds
+1 path 50 1.000 2 1 0 => Path { step: 0 }
+1 path 50 1.000 3 0 0 0 => Path { step: 2 }
+1 path 51 1.000 2 0 0 => Cost { has: 51, sum: 50 }
+1 path 50 1.001 2 0 0 => Bound { has: 1001, least: Some(1000) }
+0 labels 1 plan 0 states 3 low 40 => Bound { has: 1000, least: Some(1250) }
+0 labels 1 plan 0 states 3 low 0 => Bound { has: 1000, least: None }
+1 path 25 1.000 1 0 => Goal { state: 1 }
+1 nopath => Goal { state: 2 }
+1 unknown => holds";
+
+/// A flaw as a text.
+fn said_of(alloc: Global, flaw: Option<Flaw>) -> Result<String, AllocError> {
+    match flaw {
+        Some(flaw) => format!(in alloc; "{flaw:?}"),
+        None => String::from_str(alloc, "holds"),
+    }
+}
+
+/// The flaw of the text with another line, as a text.
+fn flaw_of(alloc: Global, change: &str) -> Result<String, Fail> {
+    let text = altered(alloc, change)?;
+    let flaw = checked(alloc, text.as_str());
+    drop(text);
+    Ok(said_of(alloc, flaw?)?)
+}
+
 #[test]
 fn flaws_are_found(rt: HostRuntime) -> Result<(), Fail> {
-    let none = None;
-    let rows = [
-        (0, "labels 1 plan 0 states 3 low 50", none),
-        (2, "1 0 50", Some(Flaw::Start { g: 1 })),
-        (
-            3,
-            "26 25 25",
-            Some(Flaw::Arc {
-                state: 0,
-                arc: 0,
-                has: 26,
-                most: 25,
-            }),
-        ),
-        (4, "50 - 1", Some(Flaw::GoalGuide { has: 1 })),
-        (
-            2,
-            "0 0 51",
-            Some(Flaw::Guide {
-                state: 0,
-                arc: 0,
-                has: 51,
-                most: 50,
-            }),
-        ),
-        (
-            0,
-            "labels 1 plan 0 states 3 low -",
-            Some(Flaw::Low {
-                state: 2,
-                has: FAR,
-                most: 50,
-            }),
-        ),
-        // A state whose g and v differ limits the low, and one whose labels are equal does not.
-        (
-            2,
-            "0 - 49",
-            Some(Flaw::Low {
-                state: 0,
-                has: 50,
-                most: 49,
-            }),
-        ),
-        (2, "0 0 49", none),
-        (1, "path 50 1.000 2 1 0", Some(Flaw::Path { step: 0 })),
-        (1, "path 50 1.000 3 0 0 0", Some(Flaw::Path { step: 2 })),
-        (
-            1,
-            "path 51 1.000 2 0 0",
-            Some(Flaw::Cost { has: 51, sum: 50 }),
-        ),
-        (
-            1,
-            "path 50 1.001 2 0 0",
-            Some(Flaw::Bound {
-                has: 1001,
-                least: Some(1000),
-            }),
-        ),
-        (
-            0,
-            "labels 1 plan 0 states 3 low 40",
-            Some(Flaw::Bound {
-                has: 1000,
-                least: Some(1250),
-            }),
-        ),
-        (
-            0,
-            "labels 1 plan 0 states 3 low 0",
-            Some(Flaw::Bound {
-                has: 1000,
-                least: None,
-            }),
-        ),
-        (1, "path 25 1.000 1 0", Some(Flaw::Goal { state: 1 })),
-        (1, "nopath", Some(Flaw::Goal { state: 2 })),
-        (1, "unknown", none),
-    ];
-    for (line, other, flaw) in rows {
-        let text = with_line(rt.alloc(), line, other)?;
-        let found = checked(rt.alloc(), text.as_str());
-        drop(text);
-        assert_eq!(rt; found?, flaw);
+    for row in FLAWS.split('\n') {
+        let (change, want) = row.split_once(" => ").ok_or("an arrow")?;
+        let flaw = flaw_of(rt.alloc(), change)?;
+        assert_eq!(rt; flaw.as_str(), want, "{row}");
     }
     Ok(())
 }
@@ -362,17 +315,21 @@ fn no_path_is_shown(rt: HostRuntime) -> Result<(), Fail> {
     let graph = Listed {
         arcs: [Some((1, 25)), None, None],
     };
-    let rows = [
-        ("0 0 50 25 25 25", None),
-        ("0 0 50 25 - 25", Some(Flaw::Goal { state: 1 })),
-        ("0 - 50 - - 25", Some(Flaw::Goal { state: 0 })),
-    ];
-    for (labels, flaw) in rows {
-        let text = format!(in rt.alloc();
-            "labels 1 plan 0 states 3 low 0 nopath {labels} - - 0 end"
-        )?;
-        let (set, _) = read_labels(rt.alloc(), text.as_bytes(), 0, 0, 3)?;
-        assert_eq!(rt; check(&graph, 0, 2, &set).err(), flaw);
+    for (text, flaw) in [
+        (
+            "labels 1 plan 0 states 3 low 0 nopath 0 0 50 25 25 25 - - 0 end",
+            None,
+        ),
+        (
+            "labels 1 plan 0 states 3 low 0 nopath 0 0 50 25 - 25 - - 0 end",
+            Some(Flaw::Goal { state: 1 }),
+        ),
+        (
+            "labels 1 plan 0 states 3 low 0 nopath 0 - 50 - - 25 - - 0 end",
+            Some(Flaw::Goal { state: 0 }),
+        ),
+    ] {
+        assert_eq!(rt; flaw_on(rt.alloc(), &graph, text)?, flaw, "{text}");
     }
     Ok(())
 }

@@ -1,9 +1,28 @@
 //! Labels on a graph of three states, and what needs no graph.
 
+ghost use Rattle.std.specs.Prelude.{◌≡◌};
+ghost use Rattle.sbpl_labels.specs.Marks.{states_of};
+
 use crate::listed::Listed;
 use sbpl_graph::{FAR, Zero};
 use sbpl_labels::{Budget, Labels, Walk, bound_of};
+use std::process::Abort;
 use std::test::Fail;
+
+/// Labels that are initial again, and show that there is no path once the start is settled.
+fn compare_reset(rt: &impl Abort, labels: &mut Labels)
+    requires states { states_of labels.old ≡ 3 }
+    requires start { labels.old.start ≡ 0 }
+{
+    labels.reset();
+    assert_eq!(rt;
+        (labels.g(1), labels.v(0), labels.back(1)),
+        (FAR, FAR, None)
+    );
+    assert!(rt; !labels.shows_none(1));
+    labels.settle(0);
+    assert!(rt; labels.shows_none(1));
+}
 
 #[test]
 fn labels_of_three_states(rt: HostRuntime) -> Result<(), Fail> {
@@ -27,14 +46,7 @@ fn labels_of_three_states(rt: HostRuntime) -> Result<(), Fail> {
     assert_eq!(rt; labels.low(&Zero, 1), 5);
     assert!(rt; !labels.shows_none(1));
 
-    labels.reset();
-    assert_eq!(rt;
-        (labels.g(1), labels.v(0), labels.back(1)),
-        (FAR, FAR, None)
-    );
-    assert!(rt; !labels.shows_none(1));
-    labels.settle(0);
-    assert!(rt; labels.shows_none(1));
+    compare_reset(&rt, &mut labels);
     Ok(())
 }
 

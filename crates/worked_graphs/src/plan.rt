@@ -10,7 +10,7 @@ use sbpl_adstar::AdStar;
 use sbpl_ara::{Ara, Step};
 use sbpl_graph::{Graph, Zero};
 use sbpl_labels::Budget;
-use sbpl_plan::{Ask, Found, FoundPath, Outcome, Planned, plan};
+use sbpl_plan::{Ask, Found, Outcome, Planned, plan};
 use std::alloc::Global;
 use std::process::Abort;
 use std::test::Fail;
@@ -78,20 +78,60 @@ fn replanned(
     plan(alloc, graph, &Zero, search, 2, &ASK, budget).ok()
 }
 
-/// The inflation of the only pass, what it found, and the states that it expanded.
-fn only_pass(planned: &Planned<Step>) -> Option<(u32, Found, &[Step])> {
-    match planned.passes.as_slice() {
-        [pass] => Some((pass.inflation, pass.found, pass.trace.as_slice())),
-        _ => None,
+/// A plan from state 0 to this goal.
+fn planned_alone(
+    alloc: Global,
+    graph: &Listed,
+    goal: u32,
+    budget: &mut Budget,
+) -> Result<Planned<Step>, Fail>
+    requires goal { goal < 3 }
+{
+    match planned(alloc, graph, goal, budget) {
+        Some((planned, search)) => {
+            drop(search);
+            Ok(planned)
+        }
+        None => Err(Fail::new("memory")),
     }
 }
 
-/// The arc numbers of a path, with its cost and its bound.
-fn path(outcome: &Outcome<FoundPath>) -> Option<(&[u32], u64, u128)> {
-    match outcome {
-        Outcome::Path(path) => Some((path.arcs.as_slice(), path.cost, path.bound)),
-        Outcome::NoPath | Outcome::Unknown => None,
-    }
+/// Compares the only pass of a plan: what it found, and the states that it expanded, raised or not.
+fn compare_pass(rt: &impl Abort, planned: &Planned<Step>, found: Found, steps: &[(u32, bool)]) {
+    let [pass] = planned.passes.as_slice() else {
+        assert!(rt; false, "one pass");
+        return;
+    };
+    assert_eq!(rt; (pass.inflation, pass.found), (3000, found));
+    let trace = pass.trace.as_slice();
+    let same = trace.len() == steps.len()
+        && steps
+            .iter()
+            .zip(trace)
+            .all(|(want, step)| *want == (step.state, step.raised));
+    assert!(rt; same, "{trace:?}");
+}
+
+/// Compares the path of a plan that is not spent: its arc numbers and its cost.
+fn compare_path(rt: &impl Abort, planned: &Planned<Step>, arcs: &[u32], cost: u64) {
+    let Outcome::Path(path) = &planned.outcome else {
+        assert!(rt; false, "no path");
+        return;
+    };
+    assert_eq!(rt; path.arcs.as_slice(), arcs);
+    assert_eq!(rt; (path.cost, path.bound, planned.spent), (cost, 1000, false));
+}
+
+/// Compares a spent plan, of which nothing is known: what its only pass found, which expanded nothing.
+fn compare_unknown(rt: &impl Abort, planned: &Planned<Step>, found: Found) {
+    compare_pass(rt, planned, found, [].as_slice());
+    assert!(rt; matches!(&planned.outcome, Outcome::Unknown));
+    assert!(rt; planned.spent);
+}
+
+/// What a pass finds whose path has the least cost.
+fn least(cost: u64) -> Found {
+    Found::Path { cost, bound: 1000 }
 }
 
 #[test]
@@ -100,21 +140,17 @@ fn one_arc_is_the_path(rt: HostRuntime) -> Result<(), Fail> {
         arcs: [Some((1, 5)), None, None],
     };
     let mut budget = Budget::new(10);
-    let (planned, search) = planned(rt.alloc(), &graph, 1, &mut budget).ok_or("plan")?;
-    drop(search);
-    let found = Found::Path {
-        cost: 5,
-        bound: 1000,
-    };
-    let steps = [Step {
-        state: 0,
-        raised: false,
-    }];
-    assert_eq!(rt; only_pass(&planned), Some((3000, found, steps.as_slice())));
-    assert_eq!(rt; path(&planned.outcome), Some(([0].as_slice(), 5, 1000)));
-    assert_eq!(rt; (planned.spent, budget.used()), (false, 1));
+    let planned = planned_alone(rt.alloc(), &graph, 1, &mut budget)?;
+    compare_pass(&rt, &planned, least(5), [(0, false)].as_slice());
+    compare_path(&rt, &planned, [0].as_slice(), 5);
     drop(planned);
+    assert_eq!(rt; budget.used(), 1);
     Ok(())
+}
+
+/// How many passes a plan has.
+fn count_of(planned: Planned<Step>) -> usize {
+    planned.passes.into_vec().len()
 }
 
 #[test]
@@ -123,13 +159,9 @@ fn no_arc_is_no_path(rt: HostRuntime) -> Result<(), Fail> {
         arcs: [None, None, None],
     };
     let mut budget = Budget::new(10);
-    let (planned, search) = planned(rt.alloc(), &graph, 1, &mut budget).ok_or("plan")?;
-    drop(search);
-    assert!(rt; matches!(&planned.outcome, Outcome::NoPath));
-    assert_eq!(rt;
-        (planned.spent, planned.passes.into_vec().len()),
-        (false, 1)
-    );
+    let planned = planned_alone(rt.alloc(), &graph, 1, &mut budget)?;
+    let none = matches!(&planned.outcome, Outcome::NoPath) && !planned.spent;
+    assert_eq!(rt; (none, count_of(planned)), (true, 1));
     Ok(())
 }
 
@@ -140,14 +172,8 @@ fn nothing_is_known_where_nothing_is_expanded(rt: HostRuntime) -> Result<(), Fai
     };
     let mut budget = Budget::new(1);
     budget.spend();
-    let (planned, search) = planned(rt.alloc(), &graph, 1, &mut budget).ok_or("plan")?;
-    drop(search);
-    assert_eq!(rt;
-        only_pass(&planned),
-        Some((3000, Found::None, [].as_slice()))
-    );
-    assert!(rt; matches!(&planned.outcome, Outcome::Unknown));
-    assert!(rt; planned.spent);
+    let planned = planned_alone(rt.alloc(), &graph, 1, &mut budget)?;
+    compare_unknown(&rt, &planned, Found::None);
     drop(planned);
     Ok(())
 }
@@ -165,49 +191,49 @@ fn dear_and_blocked(
     requires fits { FitCount 3 (g_of search.old.labels) (v_of search.old.labels) budget.old.run }
     requires fresh { IsStartFresh search.old.labels }
 {
-    let dear = replanned(alloc, &way(Some(7)), search, budget).ok_or("replan")?;
-    let found = Found::Path {
-        cost: 8,
-        bound: 1000,
+    let Some(dear) = replanned(alloc, &way(Some(7)), search, budget) else {
+        return Err(Fail::new("memory"));
     };
-    let steps = [true, false].map(|raised| Step { state: 1, raised });
-    assert_eq!(rt; only_pass(&dear), Some((3000, found, steps.as_slice())));
-    assert_eq!(rt; path(&dear.outcome), Some(([0, 0].as_slice(), 8, 1000)));
-    assert_eq!(rt; (dear.spent, budget.used()), (false, 4));
+    compare_pass(rt, &dear, least(8), [(1, true), (1, false)].as_slice());
+    compare_path(rt, &dear, [0, 0].as_slice(), 8);
     drop(dear);
+    assert_eq!(rt; budget.used(), 4);
 
-    let blocked = replanned(alloc, &way(None), search, budget).ok_or("replan")?;
-    assert!(rt; matches!(&blocked.outcome, Outcome::NoPath));
-    assert_eq!(rt; (blocked.spent, budget.used()), (false, 5));
+    let Some(blocked) = replanned(alloc, &way(None), search, budget) else {
+        return Err(Fail::new("memory"));
+    };
+    let none = matches!(&blocked.outcome, Outcome::NoPath) && !blocked.spent;
     drop(blocked);
+    assert_eq!(rt; (none, budget.used()), (true, 5));
     Ok(())
 }
 
 #[test]
 fn replanned_after_changes(rt: HostRuntime) -> Result<(), Fail> {
     let mut budget = Budget::new(10);
-    let (first, mut search) = planned(rt.alloc(), &way(Some(5)), 2, &mut budget).ok_or("plan")?;
-    assert_eq!(rt; path(&first.outcome), Some(([0, 0].as_slice(), 6, 1000)));
+    let Some((first, mut search)) = planned(rt.alloc(), &way(Some(5)), 2, &mut budget) else {
+        return Err(Fail::new("memory"));
+    };
+    compare_path(&rt, &first, [0, 0].as_slice(), 6);
     drop(first);
-    let checked = dear_and_blocked(&rt, rt.alloc(), &mut search, &mut budget);
+    let compared = dear_and_blocked(&rt, rt.alloc(), &mut search, &mut budget);
     drop(search);
-    checked
+    compared
 }
 
 #[test]
 fn a_break_is_no_path_where_nothing_is_repaired(rt: HostRuntime) -> Result<(), Fail> {
     let mut budget = Budget::new(2);
-    let (first, mut search) = planned(rt.alloc(), &way(Some(5)), 2, &mut budget).ok_or("plan")?;
+    let Some((first, mut search)) = planned(rt.alloc(), &way(Some(5)), 2, &mut budget) else {
+        return Err(Fail::new("memory"));
+    };
     drop(first);
     let broken = replanned(rt.alloc(), &way(Some(7)), &mut search, &mut budget);
     drop(search);
-    let broken = broken.ok_or("replan")?;
-    assert_eq!(rt;
-        only_pass(&broken),
-        Some((3000, Found::Broken, [].as_slice()))
-    );
-    assert!(rt; matches!(&broken.outcome, Outcome::Unknown));
-    assert!(rt; broken.spent);
+    let Some(broken) = broken else {
+        return Err(Fail::new("memory"));
+    };
+    compare_unknown(&rt, &broken, Found::Broken);
     drop(broken);
     Ok(())
 }
