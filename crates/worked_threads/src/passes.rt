@@ -7,6 +7,7 @@ ghost use Rattle.sbpl_search.specs.Ready.{AreReady};
 use crate::lattices::made;
 use crate::watched::Watched;
 use sample_files::{E2, F2};
+use sbpl_cost::Lattice;
 use sbpl_demo::generate;
 use sbpl_epase::{NoGate, parallel_pass};
 use sbpl_frontier_core::{Core, Pass};
@@ -14,6 +15,7 @@ use sbpl_graph::{Graph, Zero};
 use sbpl_labels::{Budget, Labels};
 use std::alloc::Global;
 use std::marker::Brand;
+use std::process::Abort;
 use std::sync::Wait;
 use std::test::Fail;
 use std::thread::Threads;
@@ -81,21 +83,42 @@ fn cost_by<R: Threads + Wait + Sync, G: Graph + Sync>(
 #[test]
 fn judged_side_by_side(rt: HostRuntime) -> Result<(), Fail> {
     let graph = Watched::new(made(rt.alloc(), E2.as_bytes(), F2.as_bytes())?);
-    let cost = cost_by(&rt, rt.alloc(), &graph, 0, 32, 2)?;
-    assert!(rt; graph.has_met(), "one judgement at a time");
-    assert_eq!(rt; cost, 100);
+    let cost = cost_by(&rt, rt.alloc(), &graph, 0, 32, 2);
+    let met = graph.has_met();
+    drop(graph);
+    assert!(rt; met, "one judgement at a time");
+    assert_eq!(rt; cost?, 100);
     Ok(())
 }
 
-/// Eight workers find what one finds, on a drawn map of about sixteen thousand states, again and again.
-#[test]
-fn eight_workers(rt: HostRuntime) -> Result<(), Fail> {
-    let drawn = generate(rt.alloc(), 7, 32, 32)?;
-    let lattice = made(rt.alloc(), drawn.env.as_slice(), drawn.prims.as_slice())?;
+/// The lattice of a drawn map of about sixteen thousand states.
+fn drawn(alloc: Global) -> Result<Lattice, Fail> {
+    let files = generate(alloc, 7, 32, 32)?;
+    let lattice = made(alloc, files.env.as_slice(), files.prims.as_slice());
+    drop(files);
+    lattice
+}
+
+/// Eight workers find what one finds, again and again.
+fn compare_eight<R: Abort + Threads + Wait + Sync>(
+    rt: &R,
+    alloc: Global,
+    lattice: &Lattice,
+) -> Result<(), Fail> {
     let (start, goal) = ((32 + 1) * 16, (30 * 32 + 30) * 16);
-    let alone = cost_by(&rt, rt.alloc(), &lattice, start, goal, 1)?;
+    let alone = cost_by(rt, alloc, lattice, start, goal, 1)?;
     for _ in 0..4 {
-        assert_eq!(rt; cost_by(&rt, rt.alloc(), &lattice, start, goal, 8)?, alone);
+        let cost = cost_by(rt, alloc, lattice, start, goal, 8)?;
+        assert_eq!(rt; cost, alone);
     }
     Ok(())
+}
+
+/// The same on a drawn map.
+#[test]
+fn eight_workers(rt: HostRuntime) -> Result<(), Fail> {
+    let lattice = drawn(rt.alloc())?;
+    let compared = compare_eight(&rt, rt.alloc(), &lattice);
+    drop(lattice);
+    compared
 }

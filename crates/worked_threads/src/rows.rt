@@ -137,6 +137,46 @@ fn lined_by<'g, M: Second, N: Pass, R: Wait>(
     finished_by::<Brand, M, N, R>(rt, alloc, core, takes, claims, line, lattice, further)
 }
 
+/// Takes an arc and applies its judgement, and answers of which state it is and its number.
+fn next_arc<'g, N: Pass>(
+    core: &mut Core<'g, Lattice, Best, N>,
+    lattice: &Lattice,
+) -> Result<(u32, u32), Fail>
+    requires graph { network_of lattice.now ≡ N.query.network }
+{
+    match core.next(0) {
+        Ok(Next::Job(ticket)) => {
+            let arc = (ticket.state(), ticket.arc());
+            core.apply(judge(ticket, lattice));
+            Ok(arc)
+        }
+        Ok(Next::NotYet) => Err(Fail::new("not yet")),
+        Ok(Next::Over) => Err(Fail::new("over")),
+        Ok(Next::Spent) => Err(Fail::new("spent")),
+        Err(_) => Err(Fail::new("memory")),
+    }
+}
+
+/// What the journal holds, and the next two arcs, where `further`.
+fn events_in<'g, N: Pass>(
+    alloc: Global,
+    core: &mut Core<'g, Lattice, Best, N>,
+    lattice: &Lattice,
+    further: bool,
+) -> Result<(Vec<Event>, Vec<(u32, u32)>), Fail>
+    requires graph { network_of lattice.now ≡ N.query.network }
+    requires keeps { N.keeps ≡ true }
+{
+    let events = Vec::from_slice(alloc, core.journal().unwrap())?;
+    let mut ready = Vec::with_capacity(alloc, 2)?;
+    if further {
+        for _ in 0..2 {
+            ready.push(next_arc(core, lattice)?)?;
+        }
+    }
+    Ok((events, ready))
+}
+
 /// The journal then, and of which state and which number the next two arcs are, where `further`.
 fn events_by<N: Pass, R: Wait>(
     rt: &R,
@@ -156,32 +196,18 @@ fn events_by<N: Pass, R: Wait>(
     requires goal { goal < (network_of lattice.now).states }
     requires ready { AreReady (network_of lattice.now) labels budget.run }
 {
+    let claims = Claims::new(alloc)?;
     let opened = Core::<'_, Lattice, Best, N>::open(
         alloc, lattice, best, labels, goal, 1000, budget, true,
     );
     let Ok(core) = opened else {
         return Err(Fail::new("memory"));
     };
-    let claims = Claims::new(alloc)?;
     let takes = Blank::new(1);
     let mut core = lined_by::<Brand, N, R>(rt, alloc, core, takes, claims, lattice, further)?;
-    let events = Vec::from_slice(alloc, core.journal().unwrap())?;
-    let mut ready = Vec::with_capacity(alloc, 2)?;
-    if further {
-        for _ in 0..2 {
-            match core.next(0)? {
-                Next::Job(ticket) => {
-                    let arc = (ticket.state(), ticket.arc());
-                    core.apply(judge(ticket, lattice));
-                    ready.push(arc)?;
-                }
-                Next::NotYet => return Err(Fail::new("not yet")),
-                Next::Over => return Err(Fail::new("over")),
-                Next::Spent => return Err(Fail::new("spent")),
-            }
-        }
-    }
-    Ok((events, ready))
+    let events = events_in(alloc, &mut core, lattice, further);
+    drop(core);
+    events
 }
 
 /// Labels to begin with.
@@ -203,9 +229,9 @@ fn events_on<R: Wait>(
     if goal >= lattice.states() {
         return Err(Fail::new("states"));
     }
-    let best = Best::build(alloc, lattice, goal)?;
     let labels = labels_from(alloc, lattice, 0)?;
-    events_by::<Brand, R>(
+    let best = Best::build(alloc, lattice, goal)?;
+    let events = events_by::<Brand, R>(
         rt,
         alloc,
         lattice,
@@ -214,7 +240,9 @@ fn events_on<R: Wait>(
         Budget::new(1 << 30),
         goal,
         further,
-    )
+    );
+    drop(best);
+    events
 }
 
 /// The same on a small map.
@@ -224,7 +252,9 @@ fn events<R: Wait>(
     further: bool,
 ) -> Result<(Vec<Event>, Vec<(u32, u32)>), Fail> {
     let lattice = made(alloc, E2.as_bytes(), F2.as_bytes())?;
-    events_on(rt, alloc, &lattice, further)
+    let events = events_on(rt, alloc, &lattice, further);
+    drop(lattice);
+    events
 }
 
 /// What happens until the third judgement has come back.
