@@ -56,6 +56,22 @@ fn repair(
     Ok((status?, texts?))
 }
 
+/// Runs the repair where these calls of the desk fail, and compares the status and the report.
+fn compare_failing(
+    rt: &(impl Abort + Threads + Wait + Sync),
+    alloc: Global,
+    failing: &[(u64, usize)],
+    status: u8,
+    report: &str,
+) -> Result<(), Fail> {
+    let (found, texts) = repair(rt, alloc, failing)?;
+    let same = texts.report.as_slice() == report.as_bytes();
+    drop(texts);
+    assert_eq!(rt; found, status);
+    assert!(rt; same, "{report}");
+    Ok(())
+}
+
 /// Each read fails in turn.
 #[test]
 fn failing_reads(rt: HostRuntime) -> Result<(), Fail> {
@@ -65,9 +81,44 @@ fn failing_reads(rt: HostRuntime) -> Result<(), Fail> {
         (2, "refused read c\n"),
     ] {
         for after in [0, 3] {
-            let (status, texts) = repair(&rt, rt.alloc(), &[(call, after)])?;
-            assert_eq!(rt; status, 6);
-            assert_eq!(rt; texts.report.as_slice(), line.as_bytes());
+            compare_failing(&rt, rt.alloc(), &[(call, after)], 6, line)?;
+        }
+    }
+    Ok(())
+}
+
+/// Whether what is written is a prefix of the whole.
+fn is_prefix(texts: &Texts, whole: &Texts) -> bool {
+    whole.report.starts_with(texts.report.as_slice())
+        && whole.labels.starts_with(texts.labels.as_slice())
+        && whole.trace.starts_with(texts.trace.as_slice())
+}
+
+/// Runs the repair where this write fails, and compares the status and what is written with the whole.
+fn compare_cut(
+    rt: &(impl Abort + Threads + Wait + Sync),
+    alloc: Global,
+    call: u64,
+    after: usize,
+    whole: &Texts,
+) -> Result<(), Fail> {
+    let (status, texts) = repair(rt, alloc, &[(call, after)])?;
+    let is_prefix = is_prefix(&texts, whole);
+    drop(texts);
+    assert_eq!(rt; status, 7);
+    assert!(rt; is_prefix, "{call} {after}");
+    Ok(())
+}
+
+/// Each write fails in turn, where the whole is what is written otherwise.
+fn compare_each_cut(
+    rt: &(impl Abort + Threads + Wait + Sync),
+    alloc: Global,
+    whole: &Texts,
+) -> Result<(), Fail> {
+    for call in 3..13 {
+        for after in [0, 3] {
+            compare_cut(rt, alloc, call, after, whole)?;
         }
     }
     Ok(())
@@ -77,38 +128,20 @@ fn failing_reads(rt: HostRuntime) -> Result<(), Fail> {
 #[test]
 fn failing_writes(rt: HostRuntime) -> Result<(), Fail> {
     let (status, whole) = repair(&rt, rt.alloc(), &[])?;
+    let compared = compare_each_cut(&rt, rt.alloc(), &whole);
+    drop(whole);
     assert_eq!(rt; status, 0);
-    for call in 3..13 {
-        for after in [0, 3] {
-            let (status, texts) = repair(&rt, rt.alloc(), &[(call, after)])?;
-            assert_eq!(rt; status, 7);
-            assert!(rt;
-                whole.report.starts_with(texts.report.as_slice()),
-                "{call} {after}"
-            );
-            assert!(rt;
-                whole.labels.starts_with(texts.labels.as_slice()),
-                "{call} {after}"
-            );
-            assert!(rt;
-                whole.trace.starts_with(texts.trace.as_slice()),
-                "{call} {after}"
-            );
-        }
-    }
-    Ok(())
+    compared
 }
 
 /// The write of `done` is cut off, and the line of a refusal.
 #[test]
 fn cut_lines(rt: HostRuntime) -> Result<(), Fail> {
     let (status, texts) = repair(&rt, rt.alloc(), &[(12, 3)])?;
-    assert_eq!(rt; status, 7);
-    assert!(rt; texts.report.ends_with(b"\ndon"));
-    let (status, texts) = repair(&rt, rt.alloc(), &[(0, 0), (1, 4)])?;
-    assert_eq!(rt; status, 7);
-    assert_eq!(rt; texts.report.as_slice(), "refu".as_bytes());
-    Ok(())
+    let is_cut = texts.report.ends_with(b"\ndon");
+    drop(texts);
+    assert_eq!(rt; (status, is_cut), (7, true));
+    compare_failing(&rt, rt.alloc(), &[(0, 0), (1, 4)], 7, "refu")
 }
 
 /// The status and the report of a plan on this environment and one primitive.
@@ -125,25 +158,51 @@ fn planned(
     Ok((status?, report?))
 }
 
+/// Plans on this environment and one primitive, and compares the status and the report.
+fn compare_planned(
+    rt: &(impl Abort + Threads + Wait + Sync),
+    alloc: Global,
+    env: &[u8],
+    status: u8,
+    line: &str,
+) -> Result<(), Fail> {
+    let (found, report) = planned(rt, alloc, env)?;
+    let same = report.as_slice() == line.as_bytes();
+    drop(report);
+    assert_eq!(rt; found, status);
+    assert!(rt; same, "{line}");
+    Ok(())
+}
+
+/// The status of a plan on this environment and one primitive.
+fn status_on(
+    rt: &(impl Abort + Threads + Wait + Sync),
+    alloc: Global,
+    env: &[u8],
+) -> Result<u8, Fail> {
+    let (status, report) = planned(rt, alloc, env)?;
+    drop(report);
+    Ok(status)
+}
+
 /// Every prefix of an environment file. The line end after the last cost may be missing.
 #[test]
 fn prefixes(rt: HostRuntime) -> Result<(), Fail> {
-    let lines = [
-        (0, "refused environment 4 Ended 0\n"),
-        (10, "refused environment 1 Word 0\n"),
-        (22, "refused environment 4 Ended 22\n"),
-        (278, "refused environment 4 Ended 278\n"),
-        (279, CORRIDOR),
-        (280, CORRIDOR),
-    ];
-    for len in 0..E1.len() + 1 {
-        let (status, report) = planned(&rt, rt.alloc(), &E1.as_bytes()[..len])?;
+    let env = E1.as_bytes();
+    for len in 0..env.len() + 1 {
+        let status = status_on(&rt, rt.alloc(), &env[..len])?;
         assert_eq!(rt; status, if len < 279 { 3 } else { 0 }, "{len}");
-        for (at, line) in lines {
-            if at == len {
-                assert_eq!(rt; report.as_slice(), line.as_bytes());
-            }
-        }
+    }
+    for (len, status, line) in [
+        (0, 3, "refused environment 4 Ended 0\n"),
+        (10, 3, "refused environment 1 Word 0\n"),
+        (22, 3, "refused environment 4 Ended 22\n"),
+        (278, 3, "refused environment 4 Ended 278\n"),
+        (279, 0, CORRIDOR),
+        (280, 0, CORRIDOR),
+    ] {
+        let prefix = env.get(..len).ok_or("a prefix")?;
+        compare_planned(&rt, rt.alloc(), prefix, status, line)?;
     }
     Ok(())
 }
@@ -152,11 +211,8 @@ fn prefixes(rt: HostRuntime) -> Result<(), Fail> {
 #[test]
 fn large_demands(rt: HostRuntime) -> Result<(), Fail> {
     let env = E1.replacen(rt.alloc(), "3 1", "8388608 8388608", 1)?;
-    let (status, report) = planned(&rt, rt.alloc(), env.as_bytes())?;
-    assert_eq!(rt; status, 3);
-    assert_eq!(rt;
-        report.as_slice(),
-        "refused environment 6 TooLarge 23\n".as_bytes()
-    );
-    Ok(())
+    let line = "refused environment 6 TooLarge 23\n";
+    let compared = compare_planned(&rt, rt.alloc(), env.as_bytes(), 3, line);
+    drop(env);
+    compared
 }

@@ -52,6 +52,16 @@ impl Gate for Held {
     }
 }
 
+/// Whether a report has a path of the least cost from the start on, and its last line.
+fn says_the_path(report: &[u8]) -> bool {
+    match str::from_utf8(report) {
+        Ok(text) => {
+            text.contains(" cost 100 bound 1.000\npose 0 0 0\n") && text.ends_with("\ndone\n")
+        }
+        Err(_) => false,
+    }
+}
+
 /// Plans on the map with a way around by this number of workers, and compares the status, and the cost and the bound in the
 /// report. The labels that were written hold. Which states are expanded depends on the workers, and nothing is said of them.
 fn compare_workers<R: Abort + Threads + Wait + Sync, T: Gate + Sync>(
@@ -74,26 +84,17 @@ fn compare_workers<R: Abort + Threads + Wait + Sync, T: Gate + Sync>(
     ];
     let mut desk = desk_of(alloc, &files)?;
     let status = status_at(rt, alloc, &words, &mut desk, gate);
-    let report = desk.written("-").to_vec(alloc);
+    let says = says_the_path(desk.written("-"));
     let labels = desk.written("l").to_vec(alloc);
     drop(desk);
     assert_eq!(rt; status?, 0, "{workers}");
-    let report = String::from_utf8(report?).map_err(|_| "a text")?;
-    assert!(rt;
-        report
-            .as_str()
-            .contains(" cost 100 bound 1.000\npose 0 0 0\n"),
-        "{workers}"
-    );
-    assert!(rt; report.as_str().ends_with("\ndone\n"), "{workers}");
-    compare_held(
-        rt,
-        alloc,
-        &files,
-        labels?.as_slice(),
-        &["check", "e", "m", "l"],
-        "plan 0 path holds\ndone\n",
-    )
+    assert!(rt; says, "{workers}");
+    let labels = labels?;
+    let check = ["check", "e", "m", "l"];
+    let report = "plan 0 path holds\ndone\n";
+    let compared = compare_held(rt, alloc, &files, labels.as_slice(), &check, report);
+    drop(labels);
+    compared
 }
 
 /// One worker and several find paths of the same cost.

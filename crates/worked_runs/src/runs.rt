@@ -355,19 +355,33 @@ fn corridor_labels(alloc: Global, row: &str) -> Result<String, Fail> {
     Ok(text)
 }
 
+/// Compares the labels and the expansions that are written on a desk.
+fn compare_written(rt: &impl Abort, desk: &MemoryDesk, labels: &[u8], trace: &[u8]) {
+    assert_eq!(rt; desk.written("l"), labels);
+    assert_eq!(rt; desk.written("t"), trace);
+}
+
+/// Plans in the corridor, and compares what is written.
+fn compare_outputs(
+    rt: &(impl Abort + Threads + Wait + Sync),
+    alloc: Global,
+    labels: &[u8],
+) -> Result<(), Fail> {
+    let words = ["plan", "e", "--labels=l", "m", "--trace", "t"];
+    let trace = "trace plan 0\npass 1.000\nlower 0\nlower 16\nend\n";
+    let mut desk = desk_of(alloc, &[("e", E1), ("m", F1)])?;
+    let compared = compare_on(rt, alloc, &words, &mut desk, 0, CORRIDOR);
+    compare_written(rt, &desk, labels, trace.as_bytes());
+    drop(desk);
+    compared
+}
+
 /// A plan writes its labels and its expansions where it is told to.
 #[test]
 fn outputs(rt: HostRuntime) -> Result<(), Fail> {
-    let words = ["plan", "e", "--labels=l", "m", "--trace", "t"];
     let labels = corridor_labels(rt.alloc(), "25 25 25\n")?;
-    let mut desk = desk_of(rt.alloc(), &[("e", E1), ("m", F1)])?;
-    let compared = compare_on(&rt, rt.alloc(), &words, &mut desk, 0, CORRIDOR);
-    assert_eq!(rt; desk.written("l"), labels.as_bytes());
-    assert_eq!(rt;
-        desk.written("t"),
-        b"trace plan 0\npass 1.000\nlower 0\nlower 16\nend\n".as_slice()
-    );
-    drop(desk);
+    let compared = compare_outputs(&rt, rt.alloc(), labels.as_bytes());
+    drop(labels);
     compared
 }
 
@@ -381,8 +395,9 @@ fn compare_trace(
 ) -> Result<(), Fail> {
     let mut desk = desk_of(alloc, files)?;
     let status = status_of(rt, alloc, words, &mut desk);
-    assert_eq!(rt; desk.written("t"), trace.as_bytes());
+    let same = desk.written("t") == trace.as_bytes();
     drop(desk);
+    assert!(rt; same, "{trace}");
     assert_eq!(rt; status?, 0);
     Ok(())
 }
@@ -974,15 +989,20 @@ fn demonstrated(rt: &(impl Abort + Threads + Wait + Sync), alloc: Global) -> Res
     Ok(report?)
 }
 
-/// A demonstration: its first line, four plans, and the last line, the same each time.
-#[test]
-fn demonstration(rt: HostRuntime) -> Result<(), Fail> {
-    let report = demonstrated(&rt, rt.alloc())?;
-    let again = demonstrated(&rt, rt.alloc())?;
-    assert_eq!(rt; report.as_slice(), again.as_slice());
+/// Compares the first line of a demonstration's report, its last one, and how many there are.
+fn compare_demonstrated(rt: &impl Abort, report: &[u8]) {
     assert!(rt; report.starts_with(b"demo states 16384 primitives 80 batches 3\nplan 0 "));
     assert!(rt; report.ends_with(b"\ndone\n"));
     let lines = report.iter().filter(|byte| **byte == b'\n').count();
     assert_eq!(rt; lines, 6);
+}
+
+/// A demonstration: its first line, four plans, and the last line, the same each time.
+#[test]
+fn demonstration(rt: HostRuntime) -> Result<(), Fail> {
+    let report = demonstrated(&rt, rt.alloc())?;
+    compare_demonstrated(&rt, report.as_slice());
+    let again = demonstrated(&rt, rt.alloc())?;
+    assert_eq!(rt; report.as_slice(), again.as_slice());
     Ok(())
 }
