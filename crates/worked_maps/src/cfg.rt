@@ -21,7 +21,17 @@ fn with_line(alloc: Global, at: usize, text: &str) -> Result<String, AllocError>
 const FAULTS: &str = "\
 10 0 0 => 4 Ended 278
 10 0 0 0 5 => 5 Trailing 280
-0 discretization(cells): 3 1 NumThetaDirs: 16 => 1 Word 27
+0 discretization(cells): 3 1 NumThetaDirs 16 => 1 Word 27
+0 discretization(cells): 3 1 NumThetaDirs: 8.0 => 2 Number 41
+0 discretization(cells): 3 1 NumThetaDirs: 3 => 3 Range 41
+0 discretization(cells): 3 1 NumThetaDirs: 65 => 3 Range 41
+0 discretization(cells): 3 1 NumThetaDirs: 8 NumThetaDirs: 8 => 1 Word 43
+0 discretization(cells): 524289 1 NumThetaDirs: 3 => 3 Range 46
+0 discretization(cells): 524289 1 NumThetaDirs: 4 => 4 Ended 301
+0 discretization(cells): 131072 1 NumThetaDirs: 64 => 4 Ended 302
+0 discretization(cells): 131073 1 NumThetaDirs: 64 => 6 TooLarge 23
+1 NumThetaDirs: 8 => 1 Word 43
+2 NumThetaDirs: 8 => 1 Word 42
 0 discretization(cells): 524289 1 => 6 TooLarge 23
 0 discretization(cells): 1 524289 => 6 TooLarge 23
 0 discretization(cells): 8388609 1 => 3 Range 23
@@ -188,19 +198,76 @@ environment:
     Ok(())
 }
 
+/// What is printed of E1 with this number of headings.
+fn printed_with(alloc: Global, headings: u32) -> Result<Vec<u8>, Fail> {
+    let size = format!(in alloc; "discretization(cells): 3 1\nNumThetaDirs: {headings}")?;
+    let file = with_line(alloc, 0, size.as_str())?;
+    let (_env, _costs, out) = read_and_printed(alloc, file.as_bytes())?;
+    Ok(out)
+}
+
+#[test]
+fn headings_are_printed_where_they_are_not_16(rt: HostRuntime) -> Result<(), Fail> {
+    let rows = [
+        (
+            4,
+            "discretization(cells): 3 1\nNumThetaDirs: 4\nobsthresh: 100\n",
+        ),
+        (16, "discretization(cells): 3 1\nobsthresh: 100\n"),
+        (
+            64,
+            "discretization(cells): 3 1\nNumThetaDirs: 64\nobsthresh: 100\n",
+        ),
+    ];
+    for (headings, begin) in rows {
+        let out = printed_with(rt.alloc(), headings)?;
+        assert!(rt; out.as_slice().starts_with(begin.as_bytes()), "{headings}");
+        let (_env, _costs, again) = read_and_printed(rt.alloc(), &out)?;
+        assert_eq!(rt; again.as_slice(), out.as_slice(), "{headings}");
+    }
+    Ok(())
+}
+
+/// The nearest bin, where there are headings.
+fn bin_of(headings: u32, angle: i64) -> Option<u32> {
+    if headings > 0 {
+        Some(heading_at(headings, angle))
+    } else {
+        None
+    }
+}
+
 #[test]
 fn headings_are_nearest_bins(rt: HostRuntime) {
-    // Half a bin of a sixteenth of a turn lies between 196349540 and 196349541 nanoradians.
+    // Half a bin is a full turn of 6283185307 nanoradians over twice the number of headings: of 16 headings it lies between
+    // 196349540 and 196349541 nanoradians, of 4 between 785398163 and 785398164, of 5 between 628318530 and 628318531, of 7
+    // between 448798950 and 448798951, and of 64 between 49087385 and 49087386.
     let rows = [
-        (392_700_000, 1),
-        (-392_700_000, 15),
-        (6_283_200_000, 0),
-        (196_349_541, 1),
-        (196_349_540, 0),
-        (-196_349_541, 15),
+        (16, 392_700_000, 1),
+        (16, -392_700_000, 15),
+        (16, 6_283_200_000, 0),
+        (16, 196_349_541, 1),
+        (16, 196_349_540, 0),
+        (16, -196_349_541, 15),
+        (4, 785_398_163, 0),
+        (4, 785_398_164, 1),
+        (4, -785_398_164, 3),
+        (5, 628_318_530, 0),
+        (5, 628_318_531, 1),
+        (5, -628_318_531, 4),
+        (7, 448_798_950, 0),
+        (7, 448_798_951, 1),
+        (7, -448_798_951, 6),
+        (64, 49_087_385, 0),
+        (64, 49_087_386, 1),
+        (64, -49_087_386, 63),
     ];
-    for (angle, heading) in rows {
-        assert_eq!(rt; heading_at(16, angle), heading, "{angle}");
+    for (headings, angle, heading) in rows {
+        assert_eq!(rt;
+            bin_of(headings, angle),
+            Some(heading),
+            "{headings} {angle}"
+        );
     }
     // Cells are floors, also below zero.
     assert_eq!(rt;
