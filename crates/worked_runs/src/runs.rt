@@ -166,12 +166,7 @@ fn environments(rt: HostRuntime) -> Result<(), Fail> {
             3,
             "refused environment 5 Trailing 280\n",
         ),
-        (
-            "obsthresh",
-            "NumThetaDirs: 16\nobsthresh",
-            3,
-            "refused environment 1 Word 27\n",
-        ),
+        ("obsthresh", "NumThetaDirs: 16\nobsthresh", 0, CORRIDOR),
         (
             "obsthresh: 100",
             "obsthresh: 256",
@@ -636,6 +631,98 @@ fn written_labels(rt: HostRuntime) -> Result<(), Fail> {
     ];
     for (env, old, new, prims, radius, report) in rows {
         compare_checked(&rt, rt.alloc(), (env, old, new), prims, radius, report)?;
+    }
+    Ok(())
+}
+
+/// The corridor with another number of headings, by what stands in place of its size.
+#[test]
+fn other_headings(rt: HostRuntime) -> Result<(), Fail> {
+    let rows = [
+        ("3 1\nNumThetaDirs: 8\n", "8", 0, CORRIDOR),
+        (
+            "3 1\nNumThetaDirs: 8\n",
+            "16",
+            4,
+            "refused primitives 7 Angles 36\n",
+        ),
+        (
+            "3 1\nNumThetaDirs: 3\n",
+            "16",
+            3,
+            "refused environment 3 Range 41\n",
+        ),
+        (
+            "524289 1\nNumThetaDirs: 4\n",
+            "16",
+            3,
+            "refused environment 4 Ended 301\n",
+        ),
+    ];
+    for (size, angles, status, report) in rows {
+        compare(
+            &rt,
+            rt.alloc(),
+            (E1, "3 1\n", size),
+            (F1, "16", angles),
+            status,
+            report,
+        )?;
+    }
+    Ok(())
+}
+
+/// Three cells with eight headings each are 24 states.
+#[test]
+fn states_of_eight_headings(rt: HostRuntime) -> Result<(), Fail> {
+    let env = E1.replacen(rt.alloc(), "3 1\n", "3 1\nNumThetaDirs: 8\n", 1)?;
+    let prims = F1.replacen(rt.alloc(), "16", "8", 1)?;
+    let files = [("e", env.as_str()), ("m", prims.as_str())];
+    let labels = labels_of(
+        &rt,
+        rt.alloc(),
+        files.as_slice(),
+        &["plan", "e", "m", "--labels", "l"],
+    )?;
+    assert!(rt;
+        labels
+            .as_slice()
+            .starts_with(b"labels 1 plan 0 states 24 low 50\n")
+    );
+    Ok(())
+}
+
+/// A turn by one heading takes as long as that heading is wide: 45 degrees take two seconds.
+#[test]
+fn turns_of_other_headings(rt: HostRuntime) -> Result<(), Fail> {
+    let motion =
+        "endpose_c: 0 0 -1\nadditionalactioncostmult: 1\nintermediateposes: 2\n0 0 0\n0 0 ";
+    let rows = [
+        (
+            "8",
+            "-0.7854",
+            "prim 0 0 to 0 0 7 cost 2000\ncentre 0 0\nswept 0 0\ndone\n",
+        ),
+        (
+            "4",
+            "-1.5708",
+            "prim 0 0 to 0 0 3 cost 4000\ncentre 0 0\nswept 0 0\ndone\n",
+        ),
+    ];
+    for (headings, theta, report) in rows {
+        let size = format!(in rt.alloc(); "3 1\nNumThetaDirs: {headings}\n")?;
+        let prims = format!(in rt.alloc();
+            "resolution_m: 0.025\nnumberofangles: {headings}\ntotalnumberofprimitives: 1\nprimID: 0\nstartangle_c: 0\n{motion}{theta}\n"
+        )?;
+        compare_words(
+            &rt,
+            rt.alloc(),
+            &["sweep", "e", "m"],
+            (E1, "3 1\n", size.as_str()),
+            (prims.as_str(), "", ""),
+            0,
+            report,
+        )?;
     }
     Ok(())
 }
