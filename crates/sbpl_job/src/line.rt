@@ -53,7 +53,12 @@ fn with_option<'a>(
 fn with_files<'a>(alloc: Global, line: clap::Command<'a>) -> Result<clap::Command<'a>, AllocError>
     ensures app { IfOk result (λ l. app_of l ≡ with_rule (with_rule (app_of line.entry) (plain_rule (codes "ENV"))) (plain_rule (codes "MPRIM"))) }
 {
-    let line = with_plain(alloc, line, "ENV", "the environment file, SBPL's .cfg")?;
+    let line = with_plain(
+        alloc,
+        line,
+        "ENV",
+        "the environment file, SBPL's .cfg; it has 16 headings, or 4 to 64 by NumThetaDirs:",
+    )?;
     with_plain(alloc, line, "MPRIM", "the primitive file, SBPL's .mprim")
 }
 
