@@ -6,3 +6,4 @@ pub mod Chain
 pub mod Recomputed
 pub mod Walks
 pub mod Ways
+pub mod Cut

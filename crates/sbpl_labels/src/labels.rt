@@ -9,6 +9,7 @@ ghost use Rattle.sbpl_graph.specs.Kept.{NoneUnder};
 ghost use Rattle.sbpl_graph.specs.Laws.{IsSound};
 ghost use Rattle.sbpl_graph.specs.Network.{Network};
 ghost use Rattle.sbpl_graph.specs.Path.{IsFreePath};
+ghost use Rattle.sbpl_labels.specs.Cut.{kept_v};
 ghost use Rattle.sbpl_labels.specs.CutOff.{IsCutOff};
 ghost use Rattle.sbpl_labels.specs.Marks.{Marks, AreLabels, AreInitial, ChangesRow, states_of, g_of, v_of, back_of, no_row, far_row};
 ghost use Rattle.sbpl_labels.specs.Recomputed.{Recomputes};
@@ -213,6 +214,17 @@ impl Labels {
             }
         }
         low
+    }
+
+    /// v of `s` in the labels that are cut to what this low needs: its g where g + h is below the low, with h by this guide, and
+    /// infinite otherwise.
+    pub fn kept_v<H: Guide>(&self, guide: &H, s: u32, low: u64) -> u64
+        requires state { s < states_of self.now }
+        requires known { H.knows guide.now s }
+        ensures value { result ≡ kept_v (g_of self.now) (H.distance guide.now) low s }
+    {
+        let g = self.g(s);
+        if g + guide.to_goal(s) < low { g } else { FAR }
     }
 
     /// Whether the goal's label is infinite and every state of finite g has a finite v. Where it is
