@@ -208,6 +208,23 @@ module _ (b : Board) (is : IsBoard b) where
   some_positive q k None is = tt
   some_positive q k (Some c) is = let free = cost_free b q k c (sym is) in (back_cost q k free.0 c free.1).0
 
+  -- no arc costs less than its hop at the cost of the cell that the arc starts from
+  pub cost_floor : (q k e : ℕ) (h : Hop) → slice_get b.hops k ≡ Some h → slice_index b.costs q ≡ e → (c : ℕ) → board_cost b q k ≡ Some c → h.cost * (e + 1) ≤ c
+  cost_floor q k e h at cost c costs =
+      let free = cost_free b q k c costs in
+      let hop = free.1.leads.hop in
+      let same : h ≡ hop = same_Some h hop (sym at ∙ free.1.leads.at) in
+      let one : hop.cost ≤ hop.cost = omega arith in
+      let more : slice_index b.costs q + 1 ≤ max (slice_index b.costs free.0) (slice_index b.costs q) + 1 = omega arith in
+      let most : hop.cost * (slice_index b.costs q + 1) ≤ hop.cost * (max (slice_index b.costs free.0) (slice_index b.costs q) + 1) = mul-le-mul one more in
+      rw (same, ← cost) (omega (arith, most, free.1.free.product))
+
+  pub floor_fits : (q k e : ℕ) (h : Hop) → slice_get b.hops k ≡ Some h → slice_index b.costs q ≡ e → h.cost * (e + 1) ≤ 16777215 * 256
+  floor_fits q k e h at cost =
+      let byte = is.bytes q in
+      let high : e + 1 ≤ 256 = omega (arith, byte, cost) in
+      mul-le-mul (is.light k h at).1 high
+
   -- there are four headings or more
   pub few_cells : cell_count b ≤ 2097152
   few_cells =

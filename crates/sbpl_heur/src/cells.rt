@@ -318,6 +318,15 @@ impl Graph for Cells {
         )
     }
 
+    /// What the hop costs at the cost of the cell where it ends; the other cell can only make it dearer. It is known without a look
+    /// at that cell.
+    fn floor(&self, s: u32, k: u32) -> u32 {
+        if s == self.count() {
+            return 1;
+        }
+        self.hops[k as usize].cost * (u32::from(self.costs[s as usize]) + 1)
+    }
+
     fn tail_fan(&self, _t: u32) -> u32 {
         self.hops.len() as u32
     }
