@@ -1,4 +1,5 @@
 pub mod Paths
+pub mod Listed
 pub mod Order
 pub mod Kept
 pub mod Lines
@@ -11,3 +12,6 @@ pub mod TextLaws
 pub mod WrittenText
 pub mod MadeRows
 pub mod MadeShows
+pub mod SparseRows
+pub mod CutShows
+pub mod CutRows

@@ -13,25 +13,25 @@ use Rattle.sbpl_cert.specs.declared.outcome.Outcome.{Outcome}
 use Rattle.sbpl_cert.specs.declared.outcome.Outcome.TheVariants as outcome
 use Rattle.sbpl_cert.specs.declared.flaw.Flaw.{Flaw}
 use Rattle.sbpl_cert.specs.declared.flaw.Flaw.TheVariants as flaw
-use Rattle.sbpl_cert.specs.Sections.{Section, IsSection, g_at, v_at, h_at}
+use Rattle.sbpl_cert.specs.Claims.{AreLabelled, Claim}
 use Rattle.sbpl_cert.specs.Sound.{ShowsBound, ShowsOutcome, ShowsAll, IsSo}
 use Rattle.sbpl_cert.specs.Flaws.{HasFlaw, HasNoFlaw, IsFirstFlaw, IsBefore, number_of, turn_of, arc_of, IsArcOff, IsGuideOff, IsLeastBound, IsLimit}
-use Rattle.sbpl_cert.specs.Checking.{IsArcKept, IsFirstArcFlaw, IsGuideKept, IsFirstGuideFlaw, IsLowKept, IsFirstLowFlaw, IsStepFlaw, IsBoundFlaw, IsSettled, IsFirstUnsettledFlaw}
+use Rattle.sbpl_cert.specs.Checking.{AreAllKept, IsSupportFlaw, IsGuideRight, IsGuideOffFirst, IsLowAllowed, IsLowFlaw, IsEndFlaw, IsOutcomeRight, IsOutcomeFlaw, IsArcKept, IsFirstArcFlaw, IsGuideKept, IsFirstGuideFlaw, IsLowKept, IsFirstLowFlaw, IsStepFlaw, IsBoundFlaw, IsSettled, IsFirstUnsettledFlaw}
 use Rattle.sbpl_cert.proofs.Paths.{same_end, same_head, arc_on_path, arc_on_front}
 
 -- no flaw has a smaller number
-abbrev pub Clear : Network → ℕ → ℕ → Section → ℕ → Type 0
+abbrev pub Clear : Network → ℕ → ℕ → Claim → ℕ → Type 0
 Clear n start goal s m = (e : Flaw) → HasFlaw n start goal s e → number_of e < m → ⊥
 
 -- no flaw has this number
-abbrev pub NoneAt : Network → ℕ → ℕ → Section → ℕ → Type 0
+abbrev pub NoneAt : Network → ℕ → ℕ → Claim → ℕ → Type 0
 NoneAt n start goal s m = (e : Flaw) → HasFlaw n start goal s e → number_of e ≡ m → ⊥
 
 -- of two flaws of one number
 abbrev pub IsEarlier : ℕ → Flaw → Flaw → Type 0
 IsEarlier goal e f = (turn_of goal e < turn_of goal f) ⊎ ((turn_of goal e ≡ turn_of goal f) × (arc_of e < arc_of f))
 
-module _ (n : Network) (start goal : ℕ) (s : Section) where
+module _ (n : Network) (start goal : ℕ) (s : Claim) where
   pub clear_more : (m k : ℕ) → k ≡ m + 1 → Clear n start goal s m → NoneAt n start goal s m → Clear n start goal s k
   clear_more m k next clear none e has lt =
       elim (cases_eq (number_of e) m) [ inl same ↦ none e has same | inr other ↦ clear e has (omega arith) ]
@@ -49,26 +49,26 @@ module _ (n : Network) (start goal : ℕ) (s : Section) where
 
   -- ---- none of a number
 
-  arc_off : (u k has most : ℕ) → IsArcOff n s.labels u k has most → IsArcKept n s.labels u k → ⊥
+  arc_off : (u k has most : ℕ) → IsArcOff n s.g s.v u k has most → IsArcKept n s.g s.v u k → ⊥
   arc_off u k has most off kept = let le = kept off.target off.cost off.free off.near in omega arith
 
-  guide_off : (u k has most : ℕ) → IsGuideOff n s.labels u k has most → IsGuideKept n s.labels u k → ⊥
+  guide_off : (u k has most : ℕ) → IsGuideOff n s.h u k has most → IsGuideKept n s.h u k → ⊥
   guide_off u k has most off kept = let le = kept off.target off.cost off.free in omega arith
 
-  pub none_at_start : g_at s.labels start ≡ 0 → NoneAt n start goal s 1
+  pub none_at_start : s.g start ≡ 0 → NoneAt n start goal s 1
   none_at_start zero_is (flaw.Start g) off same = off.some (off.has_is ∙ zero_is)
   none_at_start zero_is _ off same = omega arith
 
-  pub none_at_arcs : ((u k : ℕ) → IsArcKept n s.labels u k) → NoneAt n start goal s 2
+  pub none_at_arcs : ((u k : ℕ) → IsArcKept n s.g s.v u k) → NoneAt n start goal s 2
   none_at_arcs kept (flaw.Arc u k has most) off same = arc_off u k has most off (kept u k)
   none_at_arcs kept _ off same = omega arith
 
-  pub none_at_guide : h_at s.labels goal ≡ 0 → ((u k : ℕ) → IsGuideKept n s.labels u k) → NoneAt n start goal s 3
+  pub none_at_guide : s.h goal ≡ 0 → ((u k : ℕ) → IsGuideKept n s.h u k) → NoneAt n start goal s 3
   none_at_guide zero_is kept (flaw.GoalGuide has) off same = off.some (off.has_is ∙ zero_is)
   none_at_guide zero_is kept (flaw.Guide u k has most) off same = guide_off u k has most off (kept u k)
   none_at_guide zero_is kept _ off same = omega arith
 
-  pub none_at_low : s.low ≤ g_at s.labels goal → ((u : ℕ) → u < n.states → IsLowKept s.labels s.low u) → NoneAt n start goal s 4
+  pub none_at_low : s.low ≤ s.g goal → ((u : ℕ) → u < n.states → IsLowKept s.g s.v s.h s.low u) → NoneAt n start goal s 4
   none_at_low at_goal kept (flaw.Low u has most) off same =
       elim off.limit [
         | inl w ↦ omega (arith, w.1, off.has_is, off.above)
@@ -138,7 +138,7 @@ module _ (n : Network) (start goal : ℕ) (s : Section) where
   none_of_path other clear (flaw.Guide a b c d) off lt = clear (flaw.Guide a b c d) off (omega arith)
   none_of_path other clear (flaw.Low a b c) off lt = clear (flaw.Low a b c) off (omega arith)
 
-  pub none_open : s.outcome ≡ outcome.NoPath → ((u : ℕ) → u < n.states → IsSettled goal s.labels u) → NoneAt n start goal s 8
+  pub none_open : s.outcome ≡ outcome.NoPath → ((u : ℕ) → u < n.states → IsSettled goal s.g s.v u) → NoneAt n start goal s 8
   none_open is settled (flaw.Goal u) off same =
       elim off [
         | inl w ↦ (let said = w.outcome in cc)
@@ -184,50 +184,50 @@ module _ (n : Network) (start goal : ℕ) (s : Section) where
   first_turn : (f : Flaw) → HasFlaw n start goal s f → Clear n start goal s (number_of f) → turn_of goal f ≡ 0 → arc_of f ≡ 0 → IsFirstFlaw n start goal s f
   first_turn f has clear turn arc = first_by f has clear (λ e _ _ before. nothing_earlier e f turn arc before)
 
-  none_before_arc : (u k has most : ℕ) → ((j : ℕ) → j < k → IsArcKept n s.labels u j) → ((v : ℕ) → v < u → (j : ℕ) → IsArcKept n s.labels v j)
+  none_before_arc : (u k has most : ℕ) → ((j : ℕ) → j < k → IsArcKept n s.g s.v u j) → ((v : ℕ) → v < u → (j : ℕ) → IsArcKept n s.g s.v v j)
       → (e : Flaw) → HasFlaw n start goal s e → number_of e ≡ 2 → IsEarlier goal e (flaw.Arc u k has most) → ⊥
   none_before_arc u k has most arcs states (flaw.Arc v j has' most') off same before =
       elim before [
         | inl lt ↦ arc_off v j has' most' off (states v lt j)
-        | inr w ↦ arc_off v j has' most' off (subst (λ (x : ℕ). IsArcKept n s.labels x j) (sym w.0) (arcs j w.1))
+        | inr w ↦ arc_off v j has' most' off (subst (λ (x : ℕ). IsArcKept n s.g s.v x j) (sym w.0) (arcs j w.1))
       ]
   none_before_arc u k has most arcs states _ off same before = omega arith
 
-  pub first_at_arc : (f : Flaw) → Clear n start goal s 2 → IsFirstArcFlaw n s.labels f → IsFirstFlaw n start goal s f
+  pub first_at_arc : (f : Flaw) → Clear n start goal s 2 → IsFirstArcFlaw n s.g s.v f → IsFirstFlaw n start goal s f
   first_at_arc f clear w =
       let u = w.0 in let at = w.1 in let k = at.0 in let off = at.1 in
       let g : Flaw = flaw.Arc u k off.0 off.1 in
       let first : IsFirstFlaw n start goal s g = first_by g off.3 clear (none_before_arc u k off.0 off.1 at.2 w.2) in
       subst (λ (x : Flaw). IsFirstFlaw n start goal s x) (sym off.2) first
 
-  none_before_guide : (u k has most : ℕ) → h_at s.labels goal ≡ 0 → ((j : ℕ) → j < k → IsGuideKept n s.labels u j) → ((v : ℕ) → v < u → (j : ℕ) → IsGuideKept n s.labels v j)
+  none_before_guide : (u k has most : ℕ) → s.h goal ≡ 0 → ((j : ℕ) → j < k → IsGuideKept n s.h u j) → ((v : ℕ) → v < u → (j : ℕ) → IsGuideKept n s.h v j)
       → (e : Flaw) → HasFlaw n start goal s e → number_of e ≡ 3 → IsEarlier goal e (flaw.Guide u k has most) → ⊥
   none_before_guide u k has most zero_is arcs states (flaw.GoalGuide has') off same before = off.some (off.has_is ∙ zero_is)
   none_before_guide u k has most zero_is arcs states (flaw.Guide v j has' most') off same before =
       elim before [
         | inl lt ↦ guide_off v j has' most' off (states v (omega (arith, lt)) j)
-        | inr w ↦ (let at : u ≡ v = omega (arith, w.0) in guide_off v j has' most' off (subst (λ (x : ℕ). IsGuideKept n s.labels x j) at (arcs j w.1)))
+        | inr w ↦ (let at : u ≡ v = omega (arith, w.0) in guide_off v j has' most' off (subst (λ (x : ℕ). IsGuideKept n s.h x j) at (arcs j w.1)))
       ]
   none_before_guide u k has most zero_is arcs states _ off same before = omega arith
 
-  pub first_at_guide : (f : Flaw) → Clear n start goal s 3 → h_at s.labels goal ≡ 0 → IsFirstGuideFlaw n s.labels f → IsFirstFlaw n start goal s f
+  pub first_at_guide : (f : Flaw) → Clear n start goal s 3 → s.h goal ≡ 0 → IsFirstGuideFlaw n s.h f → IsFirstFlaw n start goal s f
   first_at_guide f clear zero_is w =
       let u = w.0 in let at = w.1 in let k = at.0 in let off = at.1 in
       let g : Flaw = flaw.Guide u k off.0 off.1 in
       let first : IsFirstFlaw n start goal s g = first_by g off.3 clear (none_before_guide u k off.0 off.1 zero_is at.2 w.2) in
       subst (λ (x : Flaw). IsFirstFlaw n start goal s x) (sym off.2) first
 
-  pub first_at_goal_low : Clear n start goal s 4 → g_at s.labels goal < s.low → IsFirstFlaw n start goal s (flaw.Low goal s.low (g_at s.labels goal))
+  pub first_at_goal_low : Clear n start goal s 4 → s.g goal < s.low → IsFirstFlaw n start goal s (flaw.Low goal s.low (s.g goal))
   first_at_goal_low clear above =
-      first_turn (flaw.Low goal s.low (g_at s.labels goal)) (record { limit = inl (refl, refl); has_is = refl; above = above }) clear (rw (eq-eqb goal goal refl) refl) refl
+      first_turn (flaw.Low goal s.low (s.g goal)) (record { limit = inl (refl, refl); has_is = refl; above = above }) clear (rw (eq-eqb goal goal refl) refl) refl
 
-  none_before_low : (u most : ℕ) → u ≢ goal → s.low ≤ g_at s.labels goal → ((v : ℕ) → v < u → IsLowKept s.labels s.low v)
+  none_before_low : (u most : ℕ) → u ≢ goal → s.low ≤ s.g goal → ((v : ℕ) → v < u → IsLowKept s.g s.v s.h s.low v)
       → (e : Flaw) → HasFlaw n start goal s e → number_of e ≡ 4 → IsEarlier goal e (flaw.Low u s.low most) → ⊥
   none_before_low u most other at_goal kept (flaw.Low v has' most') off same before =
       elim off.limit [
         | inl w ↦ omega (arith, w.1, off.has_is, off.above)
         | inr w ↦ elim (cases_eq v goal) [
-          | inl here ↦ (let limit : most' ≡ g_at s.labels goal + h_at s.labels goal = w.2 ∙ ap (λ (x : ℕ). g_at s.labels x + h_at s.labels x) here in omega (arith, off.has_is, off.above))
+          | inl here ↦ (let limit : most' ≡ s.g goal + s.h goal = w.2 ∙ ap (λ (x : ℕ). s.g x + s.h x) here in omega (arith, off.has_is, off.above))
           | inr there ↦ (
               let turn : IsEarlier goal (flaw.Low v has' most') (flaw.Low u s.low most) → v < u =
               rw (ne_eqb v goal there, ne_eqb u goal other) (λ b. elim b [ inl lt ↦ omega (arith, lt) | inr q ↦ omega (arith, q.1) ]) in
@@ -237,14 +237,14 @@ module _ (n : Network) (start goal : ℕ) (s : Section) where
       ]
   none_before_low u most other at_goal kept _ off same before = omega arith
 
-  pub first_at_low : (f : Flaw) → length s.labels ≡ n.states → Clear n start goal s 4 → s.low ≤ g_at s.labels goal → IsFirstLowFlaw s.labels s.low f → IsFirstFlaw n start goal s f
-  first_at_low f states clear at_goal w =
+  pub first_at_low : (f : Flaw) → Clear n start goal s 4 → s.low ≤ s.g goal → IsFirstLowFlaw n.states s.g s.v s.h s.low f → IsFirstFlaw n start goal s f
+  first_at_low f clear at_goal w =
       let u = w.0 in
-      let most = g_at s.labels u + h_at s.labels u in
-      let other : u ≢ goal = λ here. let limit : g_at s.labels u ≡ g_at s.labels goal = ap (g_at s.labels) here in omega (arith, w.4) in
+      let most = s.g u + s.h u in
+      let other : u ≢ goal = λ here. let limit : s.g u ≡ s.g goal = ap s.g here in omega (arith, w.4) in
       let g : Flaw = flaw.Low u s.low most in
       let first : IsFirstFlaw n start goal s g =
-      first_by g (record { limit = inr (omega (arith, w.2), w.3, refl); has_is = refl; above = w.4 }) clear (none_before_low u most other at_goal w.5) in
+      first_by g (record { limit = inr (w.2, w.3, refl); has_is = refl; above = w.4 }) clear (none_before_low u most other at_goal w.5) in
       subst (λ (x : Flaw). IsFirstFlaw n start goal s x) (sym w.1) first
 
   -- ---- the first flaw of an outcome
@@ -297,7 +297,7 @@ module _ (n : Network) (start goal : ℕ) (s : Section) where
   first_at_end u c b is clear path bound other =
       first_by (flaw.Goal u) (inl (record { cost = c; bound = b; outcome = is; paid = c; path = path; other = other })) (clear_of_path u c b is clear path bound) (none_before_end u c b is path)
 
-  none_before_open : (u : ℕ) → s.outcome ≡ outcome.NoPath → ((v : ℕ) → v < u → IsSettled goal s.labels v)
+  none_before_open : (u : ℕ) → s.outcome ≡ outcome.NoPath → ((v : ℕ) → v < u → IsSettled goal s.g s.v v)
       → (e : Flaw) → HasFlaw n start goal s e → number_of e ≡ 8 → IsEarlier goal e (flaw.Goal u) → ⊥
   none_before_open u is settled (flaw.Goal v) off same before =
       let lt : v < u = elim before [ inl lt ↦ lt | inr q ↦ omega (arith, q.1) ] in
@@ -307,29 +307,29 @@ module _ (n : Network) (start goal : ℕ) (s : Section) where
       ]
   none_before_open u is settled _ off same before = omega arith
 
-  pub first_at_open : (f : Flaw) → length s.labels ≡ n.states → s.outcome ≡ outcome.NoPath → Clear n start goal s 5 → IsFirstUnsettledFlaw goal s.labels f → IsFirstFlaw n start goal s f
-  first_at_open f states is clear w =
+  pub first_at_open : (f : Flaw) → s.outcome ≡ outcome.NoPath → Clear n start goal s 5 → IsFirstUnsettledFlaw n.states goal s.g s.v f → IsFirstFlaw n start goal s f
+  first_at_open f is clear w =
       let g : Flaw = flaw.Goal w.0 in
       let first : IsFirstFlaw n start goal s g =
-      first_by g (inr (record { outcome = is; inside = omega (arith, w.2); near = w.3; unsettled = w.4 })) (none_of_path (λ c b two. other_than_path c b is two) clear) (none_before_open w.0 is w.5) in
+      first_by g (inr (record { outcome = is; inside = w.2; near = w.3; unsettled = w.4 })) (none_of_path (λ c b two. other_than_path c b is two) clear) (none_before_open w.0 is w.5) in
       subst (λ (x : Flaw). IsFirstFlaw n start goal s x) (sym w.1) first
 
   -- ---- what passed so far
 
-  pub clear_two : g_at s.labels start ≡ 0 → Clear n start goal s 2
+  pub clear_two : s.g start ≡ 0 → Clear n start goal s 2
   clear_two zero_is = clear_more 1 2 refl clear_one (none_at_start zero_is)
 
-  pub clear_three : g_at s.labels start ≡ 0 → ((u k : ℕ) → IsArcKept n s.labels u k) → Clear n start goal s 3
+  pub clear_three : s.g start ≡ 0 → ((u k : ℕ) → IsArcKept n s.g s.v u k) → Clear n start goal s 3
   clear_three zero_is arcs = clear_more 2 3 refl (clear_two zero_is) (none_at_arcs arcs)
 
-  pub clear_four : g_at s.labels start ≡ 0 → ((u k : ℕ) → IsArcKept n s.labels u k) → h_at s.labels goal ≡ 0 → ((u k : ℕ) → IsGuideKept n s.labels u k) → Clear n start goal s 4
+  pub clear_four : s.g start ≡ 0 → ((u k : ℕ) → IsArcKept n s.g s.v u k) → s.h goal ≡ 0 → ((u k : ℕ) → IsGuideKept n s.h u k) → Clear n start goal s 4
   clear_four zero_is arcs none guide = clear_more 3 4 refl (clear_three zero_is arcs) (none_at_guide none guide)
 
-  pub shows_bound : length s.labels ≡ n.states → IsSection s → g_at s.labels start ≡ 0 → ((u k : ℕ) → IsArcKept n s.labels u k) → h_at s.labels goal ≡ 0
-      → ((u k : ℕ) → IsGuideKept n s.labels u k) → s.low ≤ g_at s.labels goal → ((u : ℕ) → u < n.states → IsLowKept s.labels s.low u) → ShowsBound n start goal s
-  shows_bound states section zero_is arcs none guide at_goal low = record {
+  pub shows_bound : AreLabelled n.states s → s.g start ≡ 0 → ((u k : ℕ) → IsArcKept n s.g s.v u k) → s.h goal ≡ 0
+      → ((u k : ℕ) → IsGuideKept n s.h u k) → s.low ≤ s.g goal → ((u : ℕ) → u < n.states → IsLowKept s.g s.v s.h s.low u) → ShowsBound n start goal s
+  shows_bound labelled zero_is arcs none guide at_goal low = record {
     supported = record {
-      labels = λ u inside. let row = section.labels u (omega arith) in (row.g, row.v);
+      labels = labelled;
       from_start = zero_is;
       along = λ u k t c free near. arcs u k t c free near;
     };
@@ -343,14 +343,73 @@ module _ (n : Network) (start goal : ℕ) (s : Section) where
       clear_more 4 5 refl (clear_four b.supported.from_start (λ u k t c free near. b.supported.along u k t c free near) b.consistent.at_goal (λ u k t c free. b.consistent.along u k t c free))
       (none_at_low b.at_goal (λ u inside differ. b.unsettled u inside differ))
 
-  pub shows_none : length s.labels ≡ n.states → goal < n.states → ShowsBound n start goal s → ((u : ℕ) → u < length s.labels → IsSettled goal s.labels u) → ShowNone n start goal (g_at s.labels) (v_at s.labels)
-  shows_none states inside b settled = record {
+  pub shows_none : goal < n.states → ShowsBound n start goal s → ((u : ℕ) → u < n.states → IsSettled goal s.g s.v u) → ShowNone n start goal s.g s.v
+  shows_none inside b settled = record {
     supported = b.supported;
     goal_is_far =
         let label = (b.supported.labels goal inside).0 in
-        elim label [ inl far ↦ far | inr near ↦ absurd ((settled goal (omega arith) (omega (arith, near))).0 refl) ];
-    closed = λ u at near. (settled u (omega arith) near).1;
+        elim label [ inl far ↦ far | inr near ↦ absurd ((settled goal inside (omega (arith, near))).0 refl) ];
+    closed = λ u at near. (settled u at near).1;
   }
+
+  -- ---- the stages of a check
+
+  named : (f e : Flaw) → f ≡ e → IsFirstFlaw n start goal s e → IsFirstFlaw n start goal s f
+  named f e is first = subst (λ (x : Flaw). IsFirstFlaw n start goal s x) (sym is) first
+
+  pub support_flaw : (f : Flaw) → IsSupportFlaw n start s.g s.v f → IsFirstFlaw n start goal s f
+  support_flaw f w = elim w [
+    | inl off ↦ named f (flaw.Start (s.g start)) off.1 (first_turn (flaw.Start (s.g start)) (record { has_is = refl; some = off.0 }) clear_one refl refl)
+    | inr arc ↦ first_at_arc f (clear_two arc.0) arc.1
+  ]
+
+  pub guide_flaw : AreAllKept n start s.g s.v → (f : Flaw) → IsGuideOffFirst n goal s.h f → IsFirstFlaw n start goal s f
+  guide_flaw kept f w = elim w [
+    | inl off ↦
+        named f (flaw.GoalGuide (s.h goal)) off.1 (first_turn (flaw.GoalGuide (s.h goal)) (record { has_is = refl; some = off.0 }) (clear_three kept.0 kept.1) refl refl)
+    | inr arc ↦ first_at_guide f (clear_three kept.0 kept.1) arc.0 arc.1
+  ]
+
+  pub low_flaw : AreAllKept n start s.g s.v → IsGuideRight n goal s.h → (f : Flaw) → IsLowFlaw n.states goal s.g s.v s.h s.low f → IsFirstFlaw n start goal s f
+  low_flaw kept right f w = elim w [
+    | inl off ↦ named f (flaw.Low goal s.low (s.g goal)) off.1 (first_at_goal_low (clear_four kept.0 kept.1 right.0 right.1) off.0)
+    | inr low ↦ first_at_low f (clear_four kept.0 kept.1 right.0 right.1) low.0 low.1
+  ]
+
+  pub bound_shown : AreLabelled n.states s → AreAllKept n start s.g s.v → IsGuideRight n goal s.h → IsLowAllowed n.states goal s.g s.v s.h s.low → ShowsBound n start goal s
+  bound_shown labelled kept right low = shows_bound labelled kept.0 kept.1 right.0 right.1 low.0 low.1
+
+  end_flaw : (c b at paid : ℕ) → s.outcome ≡ outcome.Path c b → Clear n start goal s 5 → IsFreePath n start s.arcs at paid
+      → (f : Flaw) → IsEndFlaw goal c s.low b at paid f → IsFirstFlaw n start goal s f
+  end_flaw c b at paid is clear path f w = elim w [
+    | inl cost ↦ named f (flaw.Cost c paid) cost.1 (first_at_cost at c b paid is clear path cost.0)
+    | inr rest ↦ (
+        let paid_path : IsFreePath n start s.arcs at c = subst (λ x. IsFreePath n start s.arcs at x) rest.0 path in
+        elim rest.1 [
+          | inl bound ↦ first_at_bound f at c b is clear paid_path bound
+          | inr end ↦ named f (flaw.Goal at) end.2 (first_at_end at c b is clear paid_path end.0 end.1)
+        ]
+        )
+  ]
+
+  outcome_flaw : (o : Outcome) → s.outcome ≡ o → ShowsBound n start goal s → (f : Flaw) → IsOutcomeFlaw n start goal s.low s.arcs s.g s.v o f → IsFirstFlaw n start goal s f
+  outcome_flaw (outcome.Path c b) is shown f w = elim w [
+    | inl step ↦ first_at_step f c b is (clear_five shown) step
+    | inr end ↦ end_flaw c b end.0 end.1 is (clear_five shown) end.2 f end.3
+  ]
+  outcome_flaw outcome.NoPath is shown f w = first_at_open f is (clear_five shown) w
+  outcome_flaw outcome.Unknown is shown f w = absurd w
+
+  outcome_shown : (o : Outcome) → goal < n.states → ShowsBound n start goal s → IsOutcomeRight n start goal s.low s.arcs s.g s.v o → ShowsOutcome n start goal s o
+  outcome_shown (outcome.Path c b) inside shown w = w
+  outcome_shown outcome.NoPath inside shown w = shows_none inside shown w
+  outcome_shown outcome.Unknown inside shown w = tt
+
+  pub stages_passed : (r : Result (Unit {0}) Flaw) → goal < n.states → ShowsBound n start goal s
+      → MatchResult r (λ _. IsOutcomeRight n start goal s.low s.arcs s.g s.v s.outcome) (IsOutcomeFlaw n start goal s.low s.arcs s.g s.v s.outcome)
+      → MatchResult r (λ _. ShowsAll n start goal s) (IsFirstFlaw n start goal s)
+  stages_passed (Ok x) inside shown w = record { bound = shown; outcome = outcome_shown s.outcome inside shown w }
+  stages_passed (Err f) inside shown w = outcome_flaw s.outcome refl shown f w
 
   -- ---- sections without a flaw
 
@@ -362,12 +421,12 @@ module _ (n : Network) (start goal : ℕ) (s : Section) where
   shown_as : (o : Outcome) → s.outcome ≡ o → ShowsOutcome n start goal s s.outcome → ShowsOutcome n start goal s o
   shown_as o is shown = subst (λ (x : Outcome). ShowsOutcome n start goal s x) is shown
 
-  no_goal : ShowNone n start goal (g_at s.labels) (v_at s.labels) → (u : ℕ) → u ≡ goal → g_at s.labels u < FAR → ⊥
-  no_goal none u here near = let far : g_at s.labels u ≡ FAR = ap (g_at s.labels) here ∙ none.goal_is_far in omega arith
+  no_goal : ShowNone n start goal s.g s.v → (u : ℕ) → u ≡ goal → s.g u < FAR → ⊥
+  no_goal none u here near = let far : s.g u ≡ FAR = ap s.g here ∙ none.goal_is_far in omega arith
 
   -- what is shown has no flaw
-  pub shown_is_clear : length s.labels ≡ n.states → ShowsAll n start goal s → HasNoFlaw n start goal s
-  shown_is_clear states all =
+  pub shown_is_clear : ShowsAll n start goal s → HasNoFlaw n start goal s
+  shown_is_clear all =
       let clear = clear_five all.bound in
       elim (kind s.outcome) [
         | inl w ↦ (
@@ -388,39 +447,32 @@ module _ (n : Network) (start goal : ℕ) (s : Section) where
   so_as (outcome.Path c b) sound bound none all shown = (
     shown.0,
     λ others dear path.
-        let low = bound n start goal s.low (g_at s.labels) (v_at s.labels) (h_at s.labels) sound all others dear path in
+        let low = bound n start goal s.low s.g s.v s.h sound all others dear path in
         let reaches = shown.1.reaches in
         let more = mul-le-mul_left b low in
         omega (arith, more),
   )
-  so_as outcome.NoPath sound bound none all shown = λ others cost path. none n start goal (g_at s.labels) (v_at s.labels) sound shown others cost path
+  so_as outcome.NoPath sound bound none all shown = λ others cost path. none n start goal s.g s.v sound shown others cost path
   so_as outcome.Unknown sound bound none all shown = tt
 
   pub shown_is_so : IsSound n → BoundHolds → NoneHolds → ShowsAll n start goal s → IsSo n start goal s.arcs s.outcome
   shown_is_so sound bound none all = so_as s.outcome sound bound none all.bound all.outcome
 
-  pub shows_none_all : length s.labels ≡ n.states → goal < n.states → s.outcome ≡ outcome.NoPath → ShowsBound n start goal s
-      → ((u : ℕ) → u < length s.labels → IsSettled goal s.labels u) → ShowsAll n start goal s
-  shows_none_all states inside is b settled = record {
-    bound = b;
-    outcome = subst (λ (x : Outcome). ShowsOutcome n start goal s x) (sym is) (shows_none states inside b settled);
-  }
-
   -- ---- one first flaw
 
-  arcs_agree : (u k a b u' k' a' b' : ℕ) → u ≡ u' → k ≡ k' → IsArcOff n s.labels u k a b → IsArcOff n s.labels u' k' a' b' → (a ≡ a') × (b ≡ b')
+  arcs_agree : (u k a b u' k' a' b' : ℕ) → u ≡ u' → k ≡ k' → IsArcOff n s.g s.v u k a b → IsArcOff n s.g s.v u' k' a' b' → (a ≡ a') × (b ≡ b')
   arcs_agree u k a b u' k' a' b' us ks one two =
       let free : IsFreeArc n u k two.target two.cost = subst (λ (x : ℕ). IsFreeArc n u x two.target two.cost) (sym ks) (subst (λ (x : ℕ). IsFreeArc n x k' two.target two.cost) (sym us) two.free) in
       let heads = same_head n u k one.target two.target one.cost two.cost one.free free in
-      let vs : v_at s.labels u ≡ v_at s.labels u' = ap (v_at s.labels) us in
-      (one.has_is ∙ ap (g_at s.labels) heads.0 ∙ sym two.has_is, omega (arith, one.most_is, two.most_is, heads.1))
+      let vs : s.v u ≡ s.v u' = ap s.v us in
+      (one.has_is ∙ ap s.g heads.0 ∙ sym two.has_is, omega (arith, one.most_is, two.most_is, heads.1))
 
-  guides_agree : (u k a b u' k' a' b' : ℕ) → u ≡ u' → k ≡ k' → IsGuideOff n s.labels u k a b → IsGuideOff n s.labels u' k' a' b' → (a ≡ a') × (b ≡ b')
+  guides_agree : (u k a b u' k' a' b' : ℕ) → u ≡ u' → k ≡ k' → IsGuideOff n s.h u k a b → IsGuideOff n s.h u' k' a' b' → (a ≡ a') × (b ≡ b')
   guides_agree u k a b u' k' a' b' us ks one two =
       let free : IsFreeArc n u k two.target two.cost = subst (λ (x : ℕ). IsFreeArc n u x two.target two.cost) (sym ks) (subst (λ (x : ℕ). IsFreeArc n x k' two.target two.cost) (sym us) two.free) in
       let heads = same_head n u k one.target two.target one.cost two.cost one.free free in
-      let hs : h_at s.labels one.target ≡ h_at s.labels two.target = ap (h_at s.labels) heads.0 in
-      (one.has_is ∙ ap (h_at s.labels) us ∙ sym two.has_is, omega (arith, one.most_is, two.most_is, heads.1))
+      let hs : s.h one.target ≡ s.h two.target = ap s.h heads.0 in
+      (one.has_is ∙ ap s.h us ∙ sym two.has_is, omega (arith, one.most_is, two.most_is, heads.1))
 
   turns_agree : (u v : ℕ) → cond (nat_eq u goal) 0 (u + 1) ≡ cond (nat_eq v goal) 0 (v + 1) → u ≡ v
   turns_agree u v e =
@@ -435,21 +487,21 @@ module _ (n : Network) (start goal : ℕ) (s : Section) where
         ]
       ]
 
-  limit_here : (u most : ℕ) → h_at s.labels goal ≡ 0 → u ≡ goal → IsLimit n goal s.labels u most → most ≡ g_at s.labels goal
+  limit_here : (u most : ℕ) → s.h goal ≡ 0 → u ≡ goal → IsLimit n goal s.g s.v s.h u most → most ≡ s.g goal
   limit_here u most none here w =
       elim w [
         | inl at ↦ at.1
-        | inr off ↦ (let limit : g_at s.labels u + h_at s.labels u ≡ g_at s.labels goal + h_at s.labels goal = ap (λ (x : ℕ). g_at s.labels x + h_at s.labels x) here in omega (arith, off.2))
+        | inr off ↦ (let limit : s.g u + s.h u ≡ s.g goal + s.h goal = ap (λ (x : ℕ). s.g x + s.h x) here in omega (arith, off.2))
       ]
 
-  limit_there : (u most : ℕ) → u ≢ goal → IsLimit n goal s.labels u most → most ≡ g_at s.labels u + h_at s.labels u
+  limit_there : (u most : ℕ) → u ≢ goal → IsLimit n goal s.g s.v s.h u most → most ≡ s.g u + s.h u
   limit_there u most other w = elim w [ inl at ↦ absurd (other at.0) | inr off ↦ off.2 ]
 
-  limits_agree : (u v a b : ℕ) → h_at s.labels goal ≡ 0 → u ≡ v → IsLimit n goal s.labels u a → IsLimit n goal s.labels v b → a ≡ b
+  limits_agree : (u v a b : ℕ) → s.h goal ≡ 0 → u ≡ v → IsLimit n goal s.g s.v s.h u a → IsLimit n goal s.g s.v s.h v b → a ≡ b
   limits_agree u v a b none same one two =
       elim (cases_eq u goal) [
         | inl here ↦ limit_here u a none here one ∙ sym (limit_here v b none (sym same ∙ here) two)
-        | inr off ↦ limit_there u a off one ∙ ap (λ (x : ℕ). g_at s.labels x + h_at s.labels x) same ∙ sym (limit_there v b (λ at. off (same ∙ at)) two)
+        | inr off ↦ limit_there u a off one ∙ ap (λ (x : ℕ). s.g x + s.h x) same ∙ sym (limit_there v b (λ at. off (same ∙ at)) two)
       ]
 
   leasts_agree : (c low : ℕ) (l m : Option ℕ) → IsLeastBound c low l → IsLeastBound c low m → l ≡ m
@@ -457,7 +509,7 @@ module _ (n : Network) (start goal : ℕ) (s : Section) where
   leasts_agree c low None (Some b) one two = bound_is_one c low b None two one
   leasts_agree c low None None one two = refl
 
-  same_flaw : (f e : Flaw) → number_of f ≡ number_of e → turn_of goal f ≡ turn_of goal e → arc_of f ≡ arc_of e → (number_of f ≡ 4 → h_at s.labels goal ≡ 0)
+  same_flaw : (f e : Flaw) → number_of f ≡ number_of e → turn_of goal f ≡ turn_of goal e → arc_of f ≡ arc_of e → (number_of f ≡ 4 → s.h goal ≡ 0)
       → HasFlaw n start goal s f → HasFlaw n start goal s e → f ≡ e
   same_flaw (flaw.Start a) (flaw.Start b) number turn arc none one two = ap flaw.Start (one.has_is ∙ sym two.has_is)
   same_flaw (flaw.Start a) _ number turn arc none one two = absurd (omega arith)
@@ -493,11 +545,11 @@ module _ (n : Network) (start goal : ℕ) (s : Section) where
   same_flaw (flaw.Goal u) (flaw.Goal v) number turn arc none one two = ap flaw.Goal turn
   same_flaw (flaw.Goal u) _ number turn arc none one two = absurd (omega arith)
 
-  guide_is_right : (f : Flaw) → IsFirstFlaw n start goal s f → number_of f ≡ 4 → h_at s.labels goal ≡ 0
+  guide_is_right : (f : Flaw) → IsFirstFlaw n start goal s f → number_of f ≡ 4 → s.h goal ≡ 0
   guide_is_right f one four =
-      elim (cases_eq (h_at s.labels goal) 0) [
+      elim (cases_eq (s.h goal) 0) [
         | inl none ↦ none
-        | inr some ↦ absurd (one.first (flaw.GoalGuide (h_at s.labels goal)) (record { has_is = refl; some = some }) (inl (omega arith)))
+        | inr some ↦ absurd (one.first (flaw.GoalGuide (s.h goal)) (record { has_is = refl; some = some }) (inl (omega arith)))
       ]
 
   -- neither comes before the other only where both are the same
@@ -528,7 +580,7 @@ module _ (n : Network) (start goal : ℕ) (s : Section) where
   only_none (Ok x) w none = refl
   only_none (Err f) w none = absurd (none f w.has)
 
-  pub only_first : (r : Result (Unit {0}) Flaw) → length s.labels ≡ n.states → MatchResult r (λ _. ShowsAll n start goal s) (IsFirstFlaw n start goal s)
+  pub only_first : (r : Result (Unit {0}) Flaw) → MatchResult r (λ _. ShowsAll n start goal s) (IsFirstFlaw n start goal s)
       → (f : Flaw) → IsFirstFlaw n start goal s f → r ≡ Err f
-  only_first (Ok x) states w f first = absurd (shown_is_clear states w f first.has)
-  only_first (Err e) states w f first = ap Err (one_first e f w first)
+  only_first (Ok x) w f first = absurd (shown_is_clear w f first.has)
+  only_first (Err e) w f first = ap Err (one_first e f w first)

@@ -1,60 +1,59 @@
--- Flaws of a section on a graph, and which of them comes first. Infinity counts as 2^63 in each comparison.
+-- Flaws of a claim on a graph, and which of them comes first. Infinity counts as 2^63 in each comparison.
 use Rattle.std.specs.Prelude.{◌≡◌, ◌≢◌, ℕ, ◌+◌, ◌<◌, ◌⊎◌, if◌then◌else◌, ◌==◌, Option, Some, None, List, length, take, slice_index, codes}
 use Rattle.sbpl_graph.specs.declared.TheConstants.{FAR}
 use Rattle.sbpl_graph.specs.Network.{Network, IsFreeArc}
 use Rattle.sbpl_graph.specs.Path.{IsFreePath}
 use Rattle.sbpl_graph.specs.Bound.{IsBound}
 use Rattle.sbpl_cert.specs.declared.outcome.Outcome.TheVariants as outcome
-use Rattle.sbpl_cert.specs.declared.row.Row.{Row}
 use Rattle.sbpl_cert.specs.declared.flaw.Flaw.{Flaw}
 use Rattle.sbpl_cert.specs.declared.flaw.Flaw.TheVariants as flaw
-use Rattle.sbpl_cert.specs.Sections.{Section, g_at, v_at, h_at}
+use Rattle.sbpl_cert.specs.Claims.{Claim}
 
 -- ---- what each flaw says
 
 -- the start's label is this, and not 0
-pub record IsStartOff (labels : List Row) (start has : ℕ) : Type 0 where
-  pub has_is : has ≡ g_at labels start
+pub record IsStartOff (g : ℕ → ℕ) (start has : ℕ) : Type 0 where
+  pub has_is : has ≡ g start
   pub some : has ≢ 0
 
 -- over a free arc from a state of finite v, the head's label is above what the way over the arc costs
-pub record IsArcOff (n : Network) (labels : List Row) (state arc has most : ℕ) : Type 0 where
+pub record IsArcOff (n : Network) (g v : ℕ → ℕ) (state arc has most : ℕ) : Type 0 where
   pub target : ℕ
   pub cost : ℕ
   pub free : IsFreeArc n state arc target cost
-  pub near : v_at labels state < FAR
-  pub has_is : has ≡ g_at labels target
-  pub most_is : most ≡ v_at labels state + cost
+  pub near : v state < FAR
+  pub has_is : has ≡ g target
+  pub most_is : most ≡ v state + cost
   pub above : most < has
 
 -- the guide is this at the goal, and not 0
-pub record IsGoalGuideOff (labels : List Row) (goal has : ℕ) : Type 0 where
-  pub has_is : has ≡ h_at labels goal
+pub record IsGoalGuideOff (h : ℕ → ℕ) (goal has : ℕ) : Type 0 where
+  pub has_is : has ≡ h goal
   pub some : has ≢ 0
 
 -- the guide falls along a free arc by more than the arc costs
-pub record IsGuideOff (n : Network) (labels : List Row) (state arc has most : ℕ) : Type 0 where
+pub record IsGuideOff (n : Network) (h : ℕ → ℕ) (state arc has most : ℕ) : Type 0 where
   pub target : ℕ
   pub cost : ℕ
   pub free : IsFreeArc n state arc target cost
-  pub has_is : has ≡ h_at labels state
-  pub most_is : most ≡ cost + h_at labels target
+  pub has_is : has ≡ h state
+  pub most_is : most ≡ cost + h target
   pub above : most < has
 
 -- a limit of the low at a state: the goal's label, or g + h where g and v differ
-abbrev pub IsLimit : Network → ℕ → List Row → ℕ → ℕ → Type 0
-IsLimit n goal labels state most =
-    ((state ≡ goal) × (most ≡ g_at labels goal))
-    ⊎ ((state < n.states) × (v_at labels state ≢ g_at labels state) × (most ≡ g_at labels state + h_at labels state))
+abbrev pub IsLimit : Network → ℕ → (g v h : ℕ → ℕ) → ℕ → ℕ → Type 0
+IsLimit n goal g v h state most =
+    ((state ≡ goal) × (most ≡ g goal))
+    ⊎ ((state < n.states) × (v state ≢ g state) × (most ≡ g state + h state))
 
 -- the low is above a limit
-pub record IsLowOff (n : Network) (goal : ℕ) (s : Section) (state has most : ℕ) : Type 0 where
-  pub limit : IsLimit n goal s.labels state most
+pub record IsLowOff (n : Network) (goal : ℕ) (s : Claim) (state has most : ℕ) : Type 0 where
+  pub limit : IsLimit n goal s.g s.v s.h state most
   pub has_is : has ≡ s.low
   pub above : most < has
 
 -- the arcs before this step are a free path, and from its end the step's arc is not free or does not exist
-pub record IsStepOff (n : Network) (start : ℕ) (s : Section) (step : ℕ) : Type 0 where
+pub record IsStepOff (n : Network) (start : ℕ) (s : Claim) (step : ℕ) : Type 0 where
   pub cost : ℕ
   pub bound : ℕ
   pub outcome : s.outcome ≡ outcome.Path cost bound
@@ -65,7 +64,7 @@ pub record IsStepOff (n : Network) (start : ℕ) (s : Section) (step : ℕ) : Ty
   pub shut : (t c : ℕ) → IsFreeArc n at (slice_index s.arcs step) t c → ⊥
 
 -- the arcs are a free path of another cost
-pub record IsCostOff (n : Network) (start : ℕ) (s : Section) (has paid : ℕ) : Type 0 where
+pub record IsCostOff (n : Network) (start : ℕ) (s : Claim) (has paid : ℕ) : Type 0 where
   pub bound : ℕ
   pub outcome : s.outcome ≡ outcome.Path has bound
   pub end : ℕ
@@ -78,14 +77,14 @@ IsLeastBound cost low (Some b) = IsBound cost low b
 IsLeastBound cost low None = (0 < cost) × (low ≡ 0)
 
 -- the bound is not that of the cost and the low
-pub record IsBoundOff (s : Section) (has : ℕ) (least : Option ℕ) : Type 0 where
+pub record IsBoundOff (s : Claim) (has : ℕ) (least : Option ℕ) : Type 0 where
   pub cost : ℕ
   pub outcome : s.outcome ≡ outcome.Path cost has
   pub least_is : IsLeastBound cost s.low least
   pub differ : least ≢ Some has
 
 -- the path ends at this state, which is not the goal
-pub record IsEndOff (n : Network) (start goal : ℕ) (s : Section) (state : ℕ) : Type 0 where
+pub record IsEndOff (n : Network) (start goal : ℕ) (s : Claim) (state : ℕ) : Type 0 where
   pub cost : ℕ
   pub bound : ℕ
   pub outcome : s.outcome ≡ outcome.Path cost bound
@@ -94,18 +93,18 @@ pub record IsEndOff (n : Network) (start goal : ℕ) (s : Section) (state : ℕ)
   pub other : state ≢ goal
 
 -- there is said to be no path, and this state of finite g is the goal or has an infinite v
-pub record IsUnsettled (n : Network) (goal : ℕ) (s : Section) (state : ℕ) : Type 0 where
+pub record IsUnsettled (n : Network) (goal : ℕ) (s : Claim) (state : ℕ) : Type 0 where
   pub outcome : s.outcome ≡ outcome.NoPath
   pub inside : state < n.states
-  pub near : g_at s.labels state < FAR
-  pub unsettled : (state ≡ goal) ⊎ (v_at s.labels state ≡ FAR)
+  pub near : s.g state < FAR
+  pub unsettled : (state ≡ goal) ⊎ (s.v state ≡ FAR)
 
 -- the section has this flaw
-abbrev pub HasFlaw : Network → ℕ → ℕ → Section → Flaw → Type 0
-HasFlaw n start goal s (flaw.Start g) = IsStartOff s.labels start g
-HasFlaw n start goal s (flaw.Arc state arc has most) = IsArcOff n s.labels state arc has most
-HasFlaw n start goal s (flaw.GoalGuide has) = IsGoalGuideOff s.labels goal has
-HasFlaw n start goal s (flaw.Guide state arc has most) = IsGuideOff n s.labels state arc has most
+abbrev pub HasFlaw : Network → ℕ → ℕ → Claim → Flaw → Type 0
+HasFlaw n start goal s (flaw.Start g) = IsStartOff s.g start g
+HasFlaw n start goal s (flaw.Arc state arc has most) = IsArcOff n s.g s.v state arc has most
+HasFlaw n start goal s (flaw.GoalGuide has) = IsGoalGuideOff s.h goal has
+HasFlaw n start goal s (flaw.Guide state arc has most) = IsGuideOff n s.h state arc has most
 HasFlaw n start goal s (flaw.Low state has most) = IsLowOff n goal s state has most
 HasFlaw n start goal s (flaw.Path step) = IsStepOff n start s step
 HasFlaw n start goal s (flaw.Cost has paid) = IsCostOff n start s has paid
@@ -157,11 +156,11 @@ IsBefore goal e f =
     ⊎ ((number_of e ≡ number_of f) × ((turn_of goal e < turn_of goal f) ⊎ ((turn_of goal e ≡ turn_of goal f) × (arc_of e < arc_of f))))
 
 -- the section has this flaw, and none that is tested before it
-pub record IsFirstFlaw (n : Network) (start goal : ℕ) (s : Section) (f : Flaw) : Type 0 where
+pub record IsFirstFlaw (n : Network) (start goal : ℕ) (s : Claim) (f : Flaw) : Type 0 where
   pub has : HasFlaw n start goal s f
   pub first : (e : Flaw) → HasFlaw n start goal s e → IsBefore goal e f → ⊥
 
-abbrev pub HasNoFlaw : Network → ℕ → ℕ → Section → Type 0
+abbrev pub HasNoFlaw : Network → ℕ → ℕ → Claim → Type 0
 HasNoFlaw n start goal s = (f : Flaw) → HasFlaw n start goal s f → ⊥
 
 -- ---- what the program prints

@@ -1,4 +1,8 @@
 pub mod Sections
+pub mod Claims
+pub mod Labelling
+pub mod Sparse
+pub mod Cut
 pub mod Made
 pub mod Printed
 pub mod Flaws

@@ -5,6 +5,9 @@ use Rattle.sbpl_graph.specs.Certificate.{IsLabel}
 use Rattle.sbpl_cert.specs.declared.outcome.Outcome.{Outcome}
 use Rattle.sbpl_cert.specs.declared.outcome.Outcome.TheVariants as outcome
 use Rattle.sbpl_cert.specs.declared.row.Row.{Row}
+use Rattle.sbpl_cert.specs.Labelling.{Labelling}
+use Rattle.sbpl_graph.specs.Laws.{IsConsistent}
+use Rattle.sbpl_graph.specs.Network.{Network}
 
 -- the plan's number, the low of the labels, the outcome, the arc numbers of a path from the start, and a row for each state in order
 pub record Section : Type 0 where
@@ -71,3 +74,15 @@ pub record IsSection (s : Section) : Type 0 where
   pub arcs : HasArcs s.outcome s.arcs
   pub states : length s.labels < 2 ^ 32
   pub labels : AreRows s.labels
+
+-- ---- its labels and its guide
+
+-- its labels: each state is listed
+abbrev pub full_labelling : Section → Labelling
+full_labelling s = record { states = length s.labels; count = length s.labels; state = λ i. i; g = g_at s.labels; v = v_at s.labels }
+
+-- its values of a guide are those of a guide to the goal on this graph
+pub record GuidesBy (s : Section) (n : Network) (goal : ℕ) : Type 0 where
+  pub consistent : IsConsistent n goal (h_at s.labels)
+  pub known : (u : ℕ) → u < n.states → u < length s.labels
+  pub small : (u : ℕ) → u < n.states → h_at s.labels u < 2 ^ 55

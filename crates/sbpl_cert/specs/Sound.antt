@@ -1,4 +1,4 @@
--- What a section without a flaw shows, and what is true on the graph then.
+-- What a claim without a flaw shows, and what is true on the graph then.
 use Rattle.std.specs.Prelude.{ℕ, ◌*◌, ◌≤◌, List}
 use Rattle.sbpl_graph.specs.Network.{Network}
 use Rattle.sbpl_graph.specs.Path.{IsFreePath}
@@ -6,20 +6,20 @@ use Rattle.sbpl_graph.specs.Bound.{IsBound}
 use Rattle.sbpl_graph.specs.Certificate.{ShowBound, ShowNone}
 use Rattle.sbpl_cert.specs.declared.outcome.Outcome.{Outcome}
 use Rattle.sbpl_cert.specs.declared.outcome.Outcome.TheVariants as outcome
-use Rattle.sbpl_cert.specs.Sections.{Section, g_at, v_at, h_at}
+use Rattle.sbpl_cert.specs.Claims.{Claim}
 
 -- the labels, the guide and the low show their bound
-abbrev pub ShowsBound : Network → ℕ → ℕ → Section → Type 0
-ShowsBound n start goal s = ShowBound n start goal (g_at s.labels) (v_at s.labels) (h_at s.labels) s.low
+abbrev pub ShowsBound : Network → ℕ → ℕ → Claim → Type 0
+ShowsBound n start goal s = ShowBound n start goal s.g s.v s.h s.low
 
 -- a path is free and has its cost and its bound; for none, the labels show that there is none
-abbrev pub ShowsOutcome : Network → ℕ → ℕ → Section → Outcome → Type 0
+abbrev pub ShowsOutcome : Network → ℕ → ℕ → Claim → Outcome → Type 0
 ShowsOutcome n start goal s (outcome.Path cost bound) = IsFreePath n start s.arcs goal cost × IsBound cost s.low bound
-ShowsOutcome n start goal s outcome.NoPath = ShowNone n start goal (g_at s.labels) (v_at s.labels)
+ShowsOutcome n start goal s outcome.NoPath = ShowNone n start goal s.g s.v
 ShowsOutcome n start goal s outcome.Unknown = Unit {0}
 
--- the section shows what it says
-pub record ShowsAll (n : Network) (start goal : ℕ) (s : Section) : Type 0 where
+-- it shows what it says
+pub record ShowsAll (n : Network) (start goal : ℕ) (s : Claim) : Type 0 where
   pub bound : ShowsBound n start goal s
   pub outcome : ShowsOutcome n start goal s s.outcome
 

@@ -1,7 +1,10 @@
 //! A section of a label text.
 
+use crate::label_table::LabelTable;
 use crate::outcome::Outcome;
 use crate::row::Row;
+use crate::sparse_row::SparseRow;
+use sbpl_graph::Guide;
 use sbpl_list::ListOf;
 use std::marker::Model;
 
@@ -35,4 +38,48 @@ impl Model for LabelSet {
     ghost view = { λ s. record { plan = s.plan; low = s.low; outcome = s.outcome; arcs = s.arcs; labels = s.labels } };
 
     ghost invariant = { λ s. IsSection (record { plan = s.plan; low = s.low; outcome = s.outcome; arcs = s.arcs; labels = s.labels }) };
+}
+
+impl LabelTable for LabelSet {
+    ghost use Rattle.sbpl_cert.specs.Sections.{full_labelling};
+
+    ghost labelling = { full_labelling };
+
+    fn count(&self) -> u32 {
+        self.labels.as_slice().len() as u32
+    }
+
+    fn row(&self, i: u32) -> SparseRow {
+        let row = self.labels.as_slice()[i as usize];
+        SparseRow {
+            state: i,
+            g: row.g,
+            v: row.v,
+        }
+    }
+
+    fn g(&self, s: u32) -> u64 {
+        self.labels.as_slice()[s as usize].g
+    }
+}
+
+impl Guide for LabelSet {
+    ghost use Rattle.std.specs.Prelude.{◌<◌, length};
+    ghost use Rattle.sbpl_cert.specs.Sections.{GuidesBy, h_at};
+
+    ghost distance = { λ s. h_at s.labels };
+
+    ghost knows = { λ s u. u < length s.labels };
+
+    ghost guides = { GuidesBy };
+
+    ghost consistent = { λ s n goal by. by.consistent };
+
+    ghost covered = { λ s n goal u by. by.known u };
+
+    ghost bounded = { λ s n goal u by. by.small u };
+
+    fn to_goal(&self, s: u32) -> u64 {
+        self.labels.as_slice()[s as usize].h
+    }
 }

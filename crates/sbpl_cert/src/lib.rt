@@ -2,18 +2,25 @@
 #![tactic(auto)]
 
 mod checking;
+mod cutting;
+mod facts;
 mod fault;
 mod first;
 mod flaw;
 mod label_set;
+mod label_table;
 mod making;
 mod outcome;
 mod reading;
 mod row;
+mod sparse_row;
+mod sparse_set;
 mod text;
 mod writing;
 
-pub use checking::check;
+pub use checking::{check, check_sparse};
+pub use cutting::cut;
+pub use facts::cut_labels_show;
 pub use fault::LabelFault;
 pub use first::first_flaws_are_one;
 pub use flaw::Flaw;
@@ -22,5 +29,7 @@ pub use making::section_of;
 pub use outcome::Outcome;
 pub use reading::read_labels;
 pub use row::Row;
+pub use sparse_row::SparseRow;
+pub use sparse_set::{SparseRows, SparseSet};
 pub use text::texts_are_sections_or_faulty;
 pub use writing::write_labels;

@@ -5,6 +5,7 @@ ghost use Rattle.sbpl_graph.specs.Certificate.{AreSupported};
 ghost use Rattle.sbpl_graph.specs.Laws.{IsSound};
 ghost use Rattle.sbpl_graph.specs.Network.{Network};
 ghost use Rattle.sbpl_labels.specs.Marks.{states_of, g_of, v_of};
+ghost use Rattle.sbpl_cert.specs.Claims.{claim_of};
 ghost use Rattle.sbpl_cert.specs.Made.{HaveRows, IsOfLabels};
 ghost use Rattle.sbpl_cert.specs.Sections.{AreRows, HasArcs, IsOutcomeInRange, IsRow};
 ghost use Rattle.sbpl_cert.specs.Sound.{ShowsBound};
@@ -73,7 +74,7 @@ pub fn section_of<H: Guide>(
     ensures arcs { IfOk result (λ s. s.arcs ≡ arcs) }
     ensures labels { IfOk result (IsOfLabels labels.now (H.distance guide.now) goal) }
     ensures shows { IfOk result (λ s. (n : Network) → n.states ≡ states_of labels.now → IsSound n → H.guides guide.now n goal
-        → AreSupported n labels.now.start (g_of labels.now) (v_of labels.now) → ShowsBound n labels.now.start goal s) }
+        → AreSupported n labels.now.start (g_of labels.now) (v_of labels.now) → ShowsBound n labels.now.start goal (claim_of s)) }
 {
     let _start = labels.start();
     let low = labels.low(guide, goal);

@@ -9,6 +9,7 @@ use Rattle.sbpl_cfg.specs.Environment.{Environment, IsPlaceOf}
 use Rattle.sbpl_cert.specs.declared.fault.LabelFault.{LabelFault}
 use Rattle.sbpl_cert.specs.declared.flaw.Flaw.{Flaw}
 use Rattle.sbpl_cert.specs.declared.outcome.Outcome.{Outcome}
+use Rattle.sbpl_cert.specs.Claims.{claim_of}
 use Rattle.sbpl_cert.specs.Flaws.{HasNoFlaw}
 use Rattle.sbpl_cert.specs.Sections.{Section}
 use Rattle.sbpl_cert.specs.Text.{AreTokens, AreTokensOf, HasFault, IsOf}
@@ -70,7 +71,7 @@ module _ (clear : SectionsAreClear) (one : OneMap) (c : Case) where
   holds_not_flawed : (n : Network) (plan : ℕ) (left rest : Left) (o : Outcome) (f : Flaw) → IsHolding n c.start c.goal plan left o rest → IsFlawed n c.start c.goal plan left f → ⊥
   holds_not_flawed n plan left rest o f is flawed =
       let same : is.section ≡ flawed.section = (clear.one left.tokens rest.tokens flawed.rest is.section flawed.section is.tokens flawed.tokens).0 in
-      (subst (λ (x : Section). HasNoFlaw n c.start c.goal x) same is.no_flaw) f flawed.first.has
+      (subst (λ (x : Section). HasNoFlaw n c.start c.goal (claim_of x)) same is.no_flaw) f flawed.first.has
 
   stops_alike : (plan : ℕ) (left : Left) (a b : SectionStop) → a ≢ section.NoMemory → IsStoppedIn c plan left a → IsStoppedIn c plan left b → EndAlike (Some a) (Some b)
   stops_alike plan left (section.Flaw f) (section.Flaw g) some p q = inl refl

@@ -7,6 +7,7 @@ use Rattle.sbpl_cfg.specs.Environment.{Environment}
 use Rattle.sbpl_cert.specs.declared.fault.LabelFault.{LabelFault}
 use Rattle.sbpl_cert.specs.declared.flaw.Flaw.{Flaw}
 use Rattle.sbpl_cert.specs.declared.outcome.Outcome.{Outcome}
+use Rattle.sbpl_cert.specs.Claims.{claim_of}
 use Rattle.sbpl_cert.specs.Flaws.{IsFirstFlaw}
 use Rattle.sbpl_cert.specs.Sections.{Section}
 use Rattle.sbpl_cost.specs.Alike.{AlikeWorldsAreOneGraph}
@@ -41,9 +42,9 @@ module _ (clear : SectionsAreClear) (one : OneMap) (c : Case) where
   one_flaw : (n m : Network) (plan : ℕ) (left : Left) (f g : Flaw) → n ≡ m → IsFlawed n c.start c.goal plan left f → IsFlawed m c.start c.goal plan left g → f ≡ g
   one_flaw n m plan left f g same x y =
       let sections : x.section ≡ y.section = (clear.one left.tokens x.rest y.rest x.section y.section x.tokens y.tokens).0 in
-      let there : IsFirstFlaw m c.start c.goal x.section f = subst (λ (o : Network). IsFirstFlaw o c.start c.goal x.section f) same x.first in
-      let own : IsFirstFlaw m c.start c.goal y.section f = subst (λ (s : Section). IsFirstFlaw m c.start c.goal s f) sections there in
-      clear.one_flaw m c.start c.goal y.section f g own y.first
+      let there : IsFirstFlaw m c.start c.goal (claim_of x.section) f = subst (λ (o : Network). IsFirstFlaw o c.start c.goal (claim_of x.section) f) same x.first in
+      let own : IsFirstFlaw m c.start c.goal (claim_of y.section) f = subst (λ (s : Section). IsFirstFlaw m c.start c.goal (claim_of s) f) sections there in
+      clear.one_flaw m c.start c.goal (claim_of y.section) f g own y.first
 
   -- where a section does not hold
   stops_as_far : (plan : ℕ) (left : Left) (s t : SectionStop) → t ≢ section.NoMemory → IsStoppedIn c plan left s → IsStoppedIn c plan left t → GoesAsFar [] [] (Some s) (Some t)

@@ -7,6 +7,7 @@ use Rattle.sbpl_cert.specs.declared.fault.LabelFault.{LabelFault}
 use Rattle.sbpl_cert.specs.declared.fault.LabelFault.TheVariants as fault
 use Rattle.sbpl_cert.specs.declared.flaw.Flaw.{Flaw}
 use Rattle.sbpl_cert.specs.declared.outcome.Outcome.{Outcome}
+use Rattle.sbpl_cert.specs.Claims.{claim_of}
 use Rattle.sbpl_cert.specs.Flaws.{HasNoFlaw, IsFirstFlaw}
 use Rattle.sbpl_cert.specs.Sections.{Section}
 use Rattle.sbpl_cert.specs.Sound.{IsSo, ShowsAll}
@@ -28,12 +29,12 @@ pub record IsHolding (n : Network) (start goal plan : ℕ) (left : Left) (outcom
   pub tokens : AreTokensOf left.tokens section rest.tokens
   pub same_end : rest.end ≡ left.end
   pub says : section.outcome ≡ outcome
-  pub no_flaw : HasNoFlaw n start goal section
+  pub no_flaw : HasNoFlaw n start goal (claim_of section)
 
 -- and what it says is shown, and is so
 pub record IsShownHolding (n : Network) (start goal plan : ℕ) (left : Left) (outcome : Outcome) (rest : Left) : Type 0 where
   pub holds : IsHolding n start goal plan left outcome rest
-  pub shows : ShowsAll n start goal holds.section
+  pub shows : ShowsAll n start goal (claim_of holds.section)
   pub so : IsSo n start goal holds.section.arcs outcome
 
 -- the tokens that are left begin with the section of a plan, whose first flaw on a graph is this
@@ -42,7 +43,7 @@ pub record IsFlawed (n : Network) (start goal plan : ℕ) (left : Left) (flaw : 
   pub rest : List Piece
   pub of : IsOf plan n.states section
   pub tokens : AreTokensOf left.tokens section rest
-  pub first : IsFirstFlaw n start goal section flaw
+  pub first : IsFirstFlaw n start goal (claim_of section) flaw
 
 -- why the section of a plan, with which these tokens should begin, is not read
 abbrev pub IsReadStop : (plan states : ℕ) → Left → SectionStop → Type 0

@@ -12,6 +12,7 @@ use Rattle.sbpl_mprim.specs.declared.fault.PrimFault.{PrimFault}
 use Rattle.sbpl_mprim.specs.Primitives.{Primitives}
 use Rattle.sbpl_cert.specs.declared.fault.LabelFault.{LabelFault}
 use Rattle.sbpl_cert.specs.declared.flaw.Flaw.{Flaw}
+use Rattle.sbpl_cert.specs.Claims.{Claim}
 use Rattle.sbpl_cert.specs.Flaws.{IsFirstFlaw}
 use Rattle.sbpl_cert.specs.Sections.{Section}
 use Rattle.sbpl_cert.specs.Text.{AreTokens, AreTokensOf, HasFault}
@@ -34,4 +35,4 @@ pub record SectionsAreClear : Type 0 where
   pub one : (ts rest more : List Piece) (s u : Section) → AreTokensOf ts s rest → AreTokensOf ts u more → (s ≡ u) × (rest ≡ more)
   pub not_both : (plan states : ℕ) (left : Left) (f : LabelFault) → AreTokens plan states left.tokens → HasFault plan states left f → ⊥
   pub one_fault : (plan states : ℕ) (left : Left) (f g : LabelFault) → HasFault plan states left f → HasFault plan states left g → f ≡ g
-  pub one_flaw : (n : Network) (start goal : ℕ) (s : Section) (f e : Flaw) → IsFirstFlaw n start goal s f → IsFirstFlaw n start goal s e → f ≡ e
+  pub one_flaw : (n : Network) (start goal : ℕ) (s : Claim) (f e : Flaw) → IsFirstFlaw n start goal s f → IsFirstFlaw n start goal s e → f ≡ e

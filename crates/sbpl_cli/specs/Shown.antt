@@ -7,6 +7,7 @@ use Rattle.sbpl_plan.specs.declared.result.Outcome.{Outcome}
 use Rattle.sbpl_plan.specs.declared.result.Outcome.TheVariants as outcome
 use Rattle.sbpl_cert.specs.declared.outcome.Outcome as told
 use Rattle.sbpl_cert.specs.declared.outcome.Outcome.TheVariants as answer
+use Rattle.sbpl_cert.specs.Claims.{claim_of}
 use Rattle.sbpl_cert.specs.Made.{IsOfLabels}
 use Rattle.sbpl_cert.specs.Sections.{Section}
 use Rattle.sbpl_cert.specs.Sound.{ShowsAll}
@@ -29,7 +30,7 @@ pub record IsShown (n : Network) (guide : ℕ → ℕ) (start goal : ℕ) (plan 
   pub labels : IsOfLabels final guide goal s
   pub answer : s.outcome ≡ answer_of found
   pub arcs : s.arcs ≡ arcs_of found
-  pub shows : ShowsAll n start goal s
+  pub shows : ShowsAll n start goal (claim_of s)
 
 -- something with this property is there where it is asked for, and otherwise nothing is
 abbrev pub IsThere : {X : Type 0} → Bool → (X → Type 0) → Option X → Type 0

@@ -2,5 +2,5 @@ use Rattle.std.proofs.Common.{ℕ, ◌<◌}
 use Rattle.sbpl_cert.specs.Checking.{IsSettled}
 use Rattle.sbpl_cert.proofs.checking.check_none.Given as goal
 
-abbrev pub invariant-loop-s : goal.invariant-loop-s
-invariant-loop-s l = (u : ℕ) → u < l.s → IsSettled l.goal l.rows u
+abbrev pub invariant-loop-i : goal.invariant-loop-i
+invariant-loop-i g l = (j : ℕ) → j < l.i → IsSettled l.goal (g.T.LabelTable.labelling l.labels).g (g.T.LabelTable.labelling l.labels).v ((g.T.LabelTable.labelling l.labels).state j)
