@@ -8,7 +8,7 @@ use Rattle.sbpl_fixed.specs.Numbers.{all_digits, is_digit, number_of}
 use Rattle.sbpl_fixed.specs.Unsigned.{below, IsDigits, NumbersAreTheirDigits}
 use Rattle.sbpl_fixed.specs.declared.fault.NumFault.TheVariants.{Form, Size}
 use Rattle.sbpl_fixed.specs.Formats.{Miss, no_word, out_of_range, fixed}
-use Rattle.sbpl_cert.specs.Format.{as_number, digits, label, as_bound, bound, outcome_word}
+use Rattle.sbpl_cert.specs.Format.{as_at_least, as_number, digits, digits_from, label, bound, outcome_word, version_word}
 use Rattle.sbpl_cert.specs.Text.{MeansNumber, Means, a_label, a_milli}
 
 abbrev item_met : ℤ → Result ℤ Miss
@@ -73,15 +73,39 @@ module _ (numbers : NumbersAreTheirDigits) where
             )
       ]
 
+  -- ---- numbers from a limit on
+
+  pub digits_from_out : (least end : ℕ) (bytes : List ℕ) (v : ℤ) → digits_from least end bytes ≡ Ok v
+      → (v ≡ pos (number_of bytes)) × (least ≤ number_of bytes) × (number_of bytes < end) × IsDigits bytes
+  digits_from_out least end bytes v e =
+      elim (numbers.other_digits end bytes) [
+        | inl none ↦ absurd (let missed : as_at_least least (Err Form) ≡ item_met v = sym (ap (as_at_least least) none) ∙ e in cc)
+        | inr is ↦ (
+            let n = number_of bytes in
+            let met : as_at_least least (below end n) ≡ item_met v = sym (ap (as_at_least least) (numbers.digits end bytes is)) ∙ e in
+            elim (cases_lt n end) [
+              | inl lt ↦ elim (cases_lt n least) [
+                | inl low ↦ absurd (let missed : item_missed ≡ item_met v = rw (lt-ltb n end lt, lt-leb least n low) at met in cc)
+                | inr high ↦ (let same : item_met (pos n) ≡ item_met v = rw (lt-ltb n end lt, le-leb least n high) at met in (cc, high, lt, is))
+              ]
+              | inr le ↦ absurd (let missed : item_missed ≡ item_met v = rw (le-ltb n end le) at met in cc)
+            ]
+            )
+      ]
+
+  pub digits_from_in : (least end n : ℕ) (bytes : List ℕ) → MeansNumber n bytes → least ≤ n → n < end → digits_from least end bytes ≡ Ok (pos n)
+  digits_from_in least end n bytes means high lt =
+      ap (as_at_least least) (numbers.digits end bytes means.0) ∙ rw (means.1, lt-ltb n end lt, le-leb least n high) refl
+
   -- ---- bounds
 
   pub bound_out : (bytes : List ℕ) (v : ℤ) → bound bytes ≡ Ok v → (n : ℕ) × (v ≡ pos n) × Means (a_milli n) bytes × (1000 ≤ n) × (n < 2 ^ 100)
   bound_out bytes v e =
       elim (numbers.other_millis (2 ^ 100) bytes) [
-        | inl none ↦ absurd (let missed : as_bound (Err Form) ≡ item_met v = sym (ap as_bound none) ∙ e in cc)
+        | inl none ↦ absurd (let missed : as_at_least 1000 (Err Form) ≡ item_met v = sym (ap (as_at_least 1000) none) ∙ e in cc)
         | inr w ↦ (
             let n = number_of w.0 * 1000 + number_of w.1 in
-            let met : as_bound (below (2 ^ 100) n) ≡ item_met v = sym (ap as_bound (numbers.millis (2 ^ 100) bytes w.0 w.1 w.2)) ∙ e in
+            let met : as_at_least 1000 (below (2 ^ 100) n) ≡ item_met v = sym (ap (as_at_least 1000) (numbers.millis (2 ^ 100) bytes w.0 w.1 w.2)) ∙ e in
             elim (cases_lt n (2 ^ 100)) [
               | inl lt ↦ elim (cases_lt n 1000) [
                 | inl low ↦ absurd (let missed : item_missed ≡ item_met v = rw (lt-ltb n (2 ^ 100) lt, lt-leb 1000 n low) at met in cc)
@@ -94,7 +118,7 @@ module _ (numbers : NumbersAreTheirDigits) where
 
   pub bound_in : (n : ℕ) (bytes : List ℕ) → Means (a_milli n) bytes → 1000 ≤ n → n < 2 ^ 100 → bound bytes ≡ Ok (pos n)
   bound_in n bytes means high lt =
-      ap as_bound (numbers.millis (2 ^ 100) bytes means.0 means.1 means.2) ∙ rw (means.3, lt-ltb n (2 ^ 100) lt, le-leb 1000 n high) refl
+      ap (as_at_least 1000) (numbers.millis (2 ^ 100) bytes means.0 means.1 means.2) ∙ rw (means.3, lt-ltb n (2 ^ 100) lt, le-leb 1000 n high) refl
 
 -- ---- words
 
@@ -106,6 +130,26 @@ word_out word bytes v e = elim (cases_Bool (bytes_eq bytes word)) [
 
 pub word_in : (word bytes : List ℕ) → bytes ≡ word → fixed word bytes ≡ Ok (pos 0)
 word_in word bytes e = rw ((bytes_eq-Decides bytes word).1 e) refl
+
+-- ---- versions
+
+pub version_out : (bytes : List ℕ) (v : ℤ) → version_word bytes ≡ Ok v → ((bytes ≡ codes "1") × (v ≡ pos 1)) ⊎ ((bytes ≡ codes "2") × (v ≡ pos 2))
+version_out bytes v e =
+    let one = bytes_eq-Decides bytes (codes "1") in
+    let two = bytes_eq-Decides bytes (codes "2") in
+    elim (cases_Bool (bytes_eq bytes (codes "1"))) [
+      | inl p ↦ (let met : item_met (pos 1) ≡ item_met v = rw p at e in inl (one.0 p, cc))
+      | inr p ↦ elim (cases_Bool (bytes_eq bytes (codes "2"))) [
+        | inl q ↦ (let met : item_met (pos 2) ≡ item_met v = rw (p, q) at e in inr (two.0 q, cc))
+        | inr q ↦ absurd (let missed : no_outcome ≡ item_met v = rw (p, q) at e in cc)
+      ]
+    ]
+
+pub one_in : (bytes : List ℕ) → bytes ≡ codes "1" → version_word bytes ≡ Ok (pos 1)
+one_in bytes is = rw is refl
+
+pub two_in : (bytes : List ℕ) → bytes ≡ codes "2" → version_word bytes ≡ Ok (pos 2)
+two_in bytes is = rw is refl
 
 -- ---- the words of outcomes
 

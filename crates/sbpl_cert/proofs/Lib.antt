@@ -1,10 +1,13 @@
 pub mod Paths
 pub mod Listed
 pub mod Order
+pub mod Guided
 pub mod Kept
 pub mod Lines
 pub mod ItemLaws
 pub mod Leaves
+pub mod SparseRows
+pub mod UpFrom
 pub mod SectionLaws
 pub mod ReadLaws
 pub mod OwnFaults
@@ -12,6 +15,7 @@ pub mod TextLaws
 pub mod WrittenText
 pub mod MadeRows
 pub mod MadeShows
-pub mod SparseRows
 pub mod CutShows
 pub mod CutRows
+pub mod CutMade
+pub mod CutOne

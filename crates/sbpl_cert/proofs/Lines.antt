@@ -5,8 +5,10 @@ use Rattle.std.specs.List.{flat_map}
 use Rattle.sbpl_fixed.specs.Printed.{milli_text, line_text}
 use Rattle.sbpl_cert.specs.declared.row.Row.{Row}
 use Rattle.sbpl_cert.specs.declared.outcome.Outcome.TheVariants as outcome
-use Rattle.sbpl_cert.specs.Printed.{label_text, outcome_line, row_text, section_text}
-use Rattle.sbpl_cert.specs.Sections.{Section}
+use Rattle.sbpl_cert.specs.Printed.{label_text, outcome_line, row_text, full_text, sparse_row_text, sparse_text}
+use Rattle.sbpl_cert.specs.declared.sparse_row.SparseRow.{SparseRow}
+use Rattle.sbpl_cert.specs.Sections.{FullSection}
+use Rattle.sbpl_cert.specs.Sparse.{SparseSection}
 
 abbrev pub spaced : List ℕ → List ℕ
 spaced ks = flat_map (λ k. 32 ∷ decimal k) ks
@@ -26,9 +28,9 @@ path_line cost bound arcs = ap (λ (x : List ℕ). codes "path " ++ (decimal cos
 abbrev pub head_text : ℕ → ℕ → ℕ → List ℕ
 head_text plan states low = codes "labels 1 plan " ++ (decimal plan ++ (codes " states " ++ (decimal states ++ (codes " low " ++ (label_text low ++ 10 ∷ [])))))
 
-section_is : (s : Section)
-    → section_text s ≡ head_text s.plan (length s.labels) s.low ++ (line_text (outcome_line s.outcome s.arcs) ++ (flat_map row_text s.labels ++ codes "end\n"))
-unfolding section_text line_text
+section_is : (s : FullSection)
+    → full_text s ≡ head_text s.plan (length s.labels) s.low ++ (line_text (outcome_line s.outcome s.arcs) ++ (flat_map row_text s.labels ++ codes "end\n"))
+unfolding full_text line_text
 section_is s = refl
 
 -- parts that were put one after another
@@ -41,11 +43,42 @@ pub six_parts : (old p n m k l q a b c d e f : List ℕ) → a ≡ old ++ p → 
 six_parts old p n m k l q a b c d e f one two three four five six =
     six ∙ rw (five, four, three, two, one) (simp append_assoc)
 
-pub section_grows : (s : Section) (rows : List Row) (arcs old a b c d : List ℕ) → rows ≡ s.labels → arcs ≡ s.arcs → a ≡ old ++ head_text s.plan (length rows) s.low
-    → b ≡ a ++ line_text (outcome_line s.outcome arcs) → c ≡ b ++ flat_map row_text rows → d ≡ c ++ codes "end\n" → d ≡ old ++ section_text s
+pub section_grows : (s : FullSection) (rows : List Row) (arcs old a b c d : List ℕ) → rows ≡ s.labels → arcs ≡ s.arcs → a ≡ old ++ head_text s.plan (length rows) s.low
+    → b ≡ a ++ line_text (outcome_line s.outcome arcs) → c ≡ b ++ flat_map row_text rows → d ≡ c ++ codes "end\n" → d ≡ old ++ full_text s
 section_grows s rows arcs old a b c d labels_is arcs_is one two three four =
     let head = rw labels_is at one in
     let path = rw arcs_is at two in
     let lines = rw labels_is at three in
     four_parts old (head_text s.plan (length s.labels) s.low) (line_text (outcome_line s.outcome s.arcs)) (flat_map row_text s.labels) (codes "end\n") a b c d head path lines four
     ∙ sym (ap (λ (x : List ℕ). old ++ x) (section_is s))
+
+abbrev pub sparse_head_text : ℕ → ℕ → ℕ → ℕ → List ℕ
+sparse_head_text plan states rows low =
+    codes "labels 2 plan " ++ (decimal plan ++ (codes " states " ++ (decimal states ++ (codes " rows " ++ (decimal rows ++ (codes " low " ++ (label_text low ++ 10 ∷ [])))))))
+
+sparse_is : (s : SparseSection)
+    → sparse_text s ≡ sparse_head_text s.plan s.states (length s.rows) s.low ++ (line_text (outcome_line s.outcome s.arcs) ++ (flat_map sparse_row_text s.rows ++ codes "end\n"))
+unfolding sparse_text line_text
+sparse_is s = refl
+
+pub sparse_grows : (s : SparseSection) (rows : List SparseRow) (arcs old a b c d : List ℕ) → rows ≡ s.rows → arcs ≡ s.arcs → a ≡ old ++ sparse_head_text s.plan s.states (length rows) s.low
+    → b ≡ a ++ line_text (outcome_line s.outcome arcs) → c ≡ b ++ flat_map sparse_row_text rows → d ≡ c ++ codes "end\n" → d ≡ old ++ sparse_text s
+sparse_grows s rows arcs old a b c d rows_are arcs_are one two three four =
+    let head = rw rows_are at one in
+    let path = rw arcs_are at two in
+    let lines = rw rows_are at three in
+    four_parts old (sparse_head_text s.plan s.states (length s.rows) s.low) (line_text (outcome_line s.outcome s.arcs)) (flat_map sparse_row_text s.rows) (codes "end\n") a b c d head path lines four
+    ∙ sym (ap (λ (x : List ℕ). old ++ x) (sparse_is s))
+
+five_parts : (old p n m k l a b c d e : List ℕ) → a ≡ old ++ p → b ≡ a ++ n → c ≡ b ++ m → d ≡ c ++ k → e ≡ d ++ l → e ≡ old ++ (p ++ (n ++ (m ++ (k ++ l))))
+five_parts old p n m k l a b c d e one two three four five = five ∙ rw (four, three, two, one) (simp append_assoc)
+
+four_apart : (t p s n x : List ℕ) → (t ++ (p ++ (s ++ n))) ++ x ≡ t ++ (p ++ (s ++ (n ++ x)))
+four_apart t p s n x = simp append_assoc
+
+pub sparse_head_grows : (plan states rows low : ℕ) (old a b c d e : List ℕ) → a ≡ old ++ (codes "labels 2 plan " ++ (decimal plan ++ (codes " states " ++ decimal states)))
+    → b ≡ a ++ codes " rows" → c ≡ b ++ (32 ∷ decimal rows) → d ≡ c ++ codes " low " → e ≡ d ++ (label_text low ++ 10 ∷ []) → e ≡ old ++ sparse_head_text plan states rows low
+sparse_head_grows plan states rows low old a b c d e one two three four five =
+    five_parts old (codes "labels 2 plan " ++ (decimal plan ++ (codes " states " ++ decimal states))) (codes " rows") (32 ∷ decimal rows) (codes " low ") (label_text low ++ 10 ∷ []) a b c d e one two three four five
+    ∙ ap (λ (x : List ℕ). old ++ x)
+    (four_apart (codes "labels 2 plan ") (decimal plan) (codes " states ") (decimal states) (codes " rows" ++ ((32 ∷ decimal rows) ++ (codes " low " ++ (label_text low ++ 10 ∷ [])))))

@@ -1,6 +1,6 @@
 -- Which flaw comes first.
 use Rattle.std.proofs.Common.{◌≡◌, ℕ, ◌+◌, ◌*◌, ◌<◌, ◌≤◌, ◌⊎◌, inl, inr, length, take, refl, sym, ap, subst, ◌∙◌, arith, Option, Some, None, Result, Ok, Err, MatchResult, cond, eq-eqb, nat_eq}
-use Rattle.std.specs.Prelude.{◌≢◌}
+use Rattle.std.specs.Prelude.{◌≢◌, IsTrue}
 use Rattle.std.proofs.lemmas.Bool.{cases_eq, cases_lt, ne_eqb}
 use Rattle.sbpl_graph.specs.declared.TheConstants.{FAR}
 use Rattle.sbpl_graph.specs.Network.{Network, IsFreeArc}
@@ -64,15 +64,15 @@ module _ (n : Network) (start goal : ℕ) (s : Claim) where
   none_at_arcs kept _ off same = omega arith
 
   pub none_at_guide : s.h goal ≡ 0 → ((u k : ℕ) → IsGuideKept n s.h u k) → NoneAt n start goal s 3
-  none_at_guide zero_is kept (flaw.GoalGuide has) off same = off.some (off.has_is ∙ zero_is)
-  none_at_guide zero_is kept (flaw.Guide u k has most) off same = guide_off u k has most off (kept u k)
+  none_at_guide zero_is kept (flaw.GoalGuide has) off same = off.1.some (off.1.has_is ∙ zero_is)
+  none_at_guide zero_is kept (flaw.Guide u k has most) off same = guide_off u k has most off.1 (kept u k)
   none_at_guide zero_is kept _ off same = omega arith
 
   pub none_at_low : s.low ≤ s.g goal → ((u : ℕ) → u < n.states → IsLowKept s.g s.v s.h s.low u) → NoneAt n start goal s 4
   none_at_low at_goal kept (flaw.Low u has most) off same =
       elim off.limit [
         | inl w ↦ omega (arith, w.1, off.has_is, off.above)
-        | inr w ↦ (let le = kept u w.0 w.1 in omega (arith, w.2, off.has_is, off.above))
+        | inr w ↦ (let le = kept u w.1 w.2 in omega (arith, w.3, off.has_is, off.above))
       ]
   none_at_low at_goal kept _ off same = omega arith
 
@@ -202,19 +202,19 @@ module _ (n : Network) (start goal : ℕ) (s : Claim) where
 
   none_before_guide : (u k has most : ℕ) → s.h goal ≡ 0 → ((j : ℕ) → j < k → IsGuideKept n s.h u j) → ((v : ℕ) → v < u → (j : ℕ) → IsGuideKept n s.h v j)
       → (e : Flaw) → HasFlaw n start goal s e → number_of e ≡ 3 → IsEarlier goal e (flaw.Guide u k has most) → ⊥
-  none_before_guide u k has most zero_is arcs states (flaw.GoalGuide has') off same before = off.some (off.has_is ∙ zero_is)
+  none_before_guide u k has most zero_is arcs states (flaw.GoalGuide has') off same before = off.1.some (off.1.has_is ∙ zero_is)
   none_before_guide u k has most zero_is arcs states (flaw.Guide v j has' most') off same before =
       elim before [
-        | inl lt ↦ guide_off v j has' most' off (states v (omega (arith, lt)) j)
-        | inr w ↦ (let at : u ≡ v = omega (arith, w.0) in guide_off v j has' most' off (subst (λ (x : ℕ). IsGuideKept n s.h x j) at (arcs j w.1)))
+        | inl lt ↦ guide_off v j has' most' off.1 (states v (omega (arith, lt)) j)
+        | inr w ↦ (let at : u ≡ v = omega (arith, w.0) in guide_off v j has' most' off.1 (subst (λ (x : ℕ). IsGuideKept n s.h x j) at (arcs j w.1)))
       ]
   none_before_guide u k has most zero_is arcs states _ off same before = omega arith
 
-  pub first_at_guide : (f : Flaw) → Clear n start goal s 3 → s.h goal ≡ 0 → IsFirstGuideFlaw n s.h f → IsFirstFlaw n start goal s f
-  first_at_guide f clear zero_is w =
+  pub first_at_guide : IsTrue s.own → (f : Flaw) → Clear n start goal s 3 → s.h goal ≡ 0 → IsFirstGuideFlaw n s.h f → IsFirstFlaw n start goal s f
+  first_at_guide own f clear zero_is w =
       let u = w.0 in let at = w.1 in let k = at.0 in let off = at.1 in
       let g : Flaw = flaw.Guide u k off.0 off.1 in
-      let first : IsFirstFlaw n start goal s g = first_by g off.3 clear (none_before_guide u k off.0 off.1 zero_is at.2 w.2) in
+      let first : IsFirstFlaw n start goal s g = first_by g (own, off.3) clear (none_before_guide u k off.0 off.1 zero_is at.2 w.2) in
       subst (λ (x : Flaw). IsFirstFlaw n start goal s x) (sym off.2) first
 
   pub first_at_goal_low : Clear n start goal s 4 → s.g goal < s.low → IsFirstFlaw n start goal s (flaw.Low goal s.low (s.g goal))
@@ -226,14 +226,12 @@ module _ (n : Network) (start goal : ℕ) (s : Claim) where
   none_before_low u most other at_goal kept (flaw.Low v has' most') off same before =
       elim off.limit [
         | inl w ↦ omega (arith, w.1, off.has_is, off.above)
-        | inr w ↦ elim (cases_eq v goal) [
-          | inl here ↦ (let limit : most' ≡ s.g goal + s.h goal = w.2 ∙ ap (λ (x : ℕ). s.g x + s.h x) here in omega (arith, off.has_is, off.above))
-          | inr there ↦ (
-              let turn : IsEarlier goal (flaw.Low v has' most') (flaw.Low u s.low most) → v < u =
-              rw (ne_eqb v goal there, ne_eqb u goal other) (λ b. elim b [ inl lt ↦ omega (arith, lt) | inr q ↦ omega (arith, q.1) ]) in
-              let le = kept v (turn before) w.1 in omega (arith, w.2, off.has_is, off.above)
-              )
-        ]
+        | inr w ↦ (
+            let turn : IsEarlier goal (flaw.Low v has' most') (flaw.Low u s.low most) → v < u =
+            rw (ne_eqb v goal w.0, ne_eqb u goal other) (λ b. elim b [ inl lt ↦ omega (arith, lt) | inr q ↦ omega (arith, q.1) ]) in
+            let le = kept v (turn before) w.2 in
+            omega (arith, w.3, off.has_is, off.above)
+            )
       ]
   none_before_low u most other at_goal kept _ off same before = omega arith
 
@@ -244,7 +242,7 @@ module _ (n : Network) (start goal : ℕ) (s : Claim) where
       let other : u ≢ goal = λ here. let limit : s.g u ≡ s.g goal = ap s.g here in omega (arith, w.4) in
       let g : Flaw = flaw.Low u s.low most in
       let first : IsFirstFlaw n start goal s g =
-      first_by g (record { limit = inr (w.2, w.3, refl); has_is = refl; above = w.4 }) clear (none_before_low u most other at_goal w.5) in
+      first_by g (record { limit = inr (other, w.2, w.3, refl); has_is = refl; above = w.4 }) clear (none_before_low u most other at_goal w.5) in
       subst (λ (x : Flaw). IsFirstFlaw n start goal s x) (sym w.1) first
 
   -- ---- the first flaw of an outcome
@@ -363,11 +361,11 @@ module _ (n : Network) (start goal : ℕ) (s : Claim) where
     | inr arc ↦ first_at_arc f (clear_two arc.0) arc.1
   ]
 
-  pub guide_flaw : AreAllKept n start s.g s.v → (f : Flaw) → IsGuideOffFirst n goal s.h f → IsFirstFlaw n start goal s f
-  guide_flaw kept f w = elim w [
+  pub guide_flaw : IsTrue s.own → AreAllKept n start s.g s.v → (f : Flaw) → IsGuideOffFirst n goal s.h f → IsFirstFlaw n start goal s f
+  guide_flaw own kept f w = elim w [
     | inl off ↦
-        named f (flaw.GoalGuide (s.h goal)) off.1 (first_turn (flaw.GoalGuide (s.h goal)) (record { has_is = refl; some = off.0 }) (clear_three kept.0 kept.1) refl refl)
-    | inr arc ↦ first_at_guide f (clear_three kept.0 kept.1) arc.0 arc.1
+        named f (flaw.GoalGuide (s.h goal)) off.1 (first_turn (flaw.GoalGuide (s.h goal)) (own, record { has_is = refl; some = off.0 }) (clear_three kept.0 kept.1) refl refl)
+    | inr arc ↦ first_at_guide own f (clear_three kept.0 kept.1) arc.0 arc.1
   ]
 
   pub low_flaw : AreAllKept n start s.g s.v → IsGuideRight n goal s.h → (f : Flaw) → IsLowFlaw n.states goal s.g s.v s.h s.low f → IsFirstFlaw n start goal s f
@@ -487,20 +485,16 @@ module _ (n : Network) (start goal : ℕ) (s : Claim) where
         ]
       ]
 
-  limit_here : (u most : ℕ) → s.h goal ≡ 0 → u ≡ goal → IsLimit n goal s.g s.v s.h u most → most ≡ s.g goal
-  limit_here u most none here w =
-      elim w [
-        | inl at ↦ at.1
-        | inr off ↦ (let limit : s.g u + s.h u ≡ s.g goal + s.h goal = ap (λ (x : ℕ). s.g x + s.h x) here in omega (arith, off.2))
-      ]
+  limit_here : (u most : ℕ) → u ≡ goal → IsLimit n goal s.g s.v s.h u most → most ≡ s.g goal
+  limit_here u most here w = elim w [ inl at ↦ at.1 | inr off ↦ absurd (off.0 here) ]
 
   limit_there : (u most : ℕ) → u ≢ goal → IsLimit n goal s.g s.v s.h u most → most ≡ s.g u + s.h u
-  limit_there u most other w = elim w [ inl at ↦ absurd (other at.0) | inr off ↦ off.2 ]
+  limit_there u most other w = elim w [ inl at ↦ absurd (other at.0) | inr off ↦ off.3 ]
 
-  limits_agree : (u v a b : ℕ) → s.h goal ≡ 0 → u ≡ v → IsLimit n goal s.g s.v s.h u a → IsLimit n goal s.g s.v s.h v b → a ≡ b
-  limits_agree u v a b none same one two =
+  limits_agree : (u v a b : ℕ) → u ≡ v → IsLimit n goal s.g s.v s.h u a → IsLimit n goal s.g s.v s.h v b → a ≡ b
+  limits_agree u v a b same one two =
       elim (cases_eq u goal) [
-        | inl here ↦ limit_here u a none here one ∙ sym (limit_here v b none (sym same ∙ here) two)
+        | inl here ↦ limit_here u a here one ∙ sym (limit_here v b (sym same ∙ here) two)
         | inr off ↦ limit_there u a off one ∙ ap (λ (x : ℕ). s.g x + s.h x) same ∙ sym (limit_there v b (λ at. off (same ∙ at)) two)
       ]
 
@@ -509,48 +503,41 @@ module _ (n : Network) (start goal : ℕ) (s : Claim) where
   leasts_agree c low None (Some b) one two = bound_is_one c low b None two one
   leasts_agree c low None None one two = refl
 
-  same_flaw : (f e : Flaw) → number_of f ≡ number_of e → turn_of goal f ≡ turn_of goal e → arc_of f ≡ arc_of e → (number_of f ≡ 4 → s.h goal ≡ 0)
+  same_flaw : (f e : Flaw) → number_of f ≡ number_of e → turn_of goal f ≡ turn_of goal e → arc_of f ≡ arc_of e
       → HasFlaw n start goal s f → HasFlaw n start goal s e → f ≡ e
-  same_flaw (flaw.Start a) (flaw.Start b) number turn arc none one two = ap flaw.Start (one.has_is ∙ sym two.has_is)
-  same_flaw (flaw.Start a) _ number turn arc none one two = absurd (omega arith)
-  same_flaw (flaw.Arc u k a b) (flaw.Arc u' k' a' b') number turn arc none one two = let agree = arcs_agree u k a b u' k' a' b' turn arc one two in let as_ = agree.0 in let bs = agree.1 in cc
-  same_flaw (flaw.Arc u k a b) _ number turn arc none one two = absurd (omega arith)
-  same_flaw (flaw.GoalGuide a) (flaw.GoalGuide b) number turn arc none one two = ap flaw.GoalGuide (one.has_is ∙ sym two.has_is)
-  same_flaw (flaw.GoalGuide a) _ number turn arc none one two = absurd (omega arith)
-  same_flaw (flaw.Guide u k a b) (flaw.Guide u' k' a' b') number turn arc none one two =
-      let us : u ≡ u' = omega arith in let agree = guides_agree u k a b u' k' a' b' us arc one two in let as_ = agree.0 in let bs = agree.1 in cc
-  same_flaw (flaw.Guide u k a b) _ number turn arc none one two = absurd (omega arith)
-  same_flaw (flaw.Low u a b) (flaw.Low u' a' b') number turn arc none one two =
+  same_flaw (flaw.Start a) (flaw.Start b) number turn arc one two = ap flaw.Start (one.has_is ∙ sym two.has_is)
+  same_flaw (flaw.Start a) _ number turn arc one two = absurd (omega arith)
+  same_flaw (flaw.Arc u k a b) (flaw.Arc u' k' a' b') number turn arc one two = let agree = arcs_agree u k a b u' k' a' b' turn arc one two in let as_ = agree.0 in let bs = agree.1 in cc
+  same_flaw (flaw.Arc u k a b) _ number turn arc one two = absurd (omega arith)
+  same_flaw (flaw.GoalGuide a) (flaw.GoalGuide b) number turn arc one two = ap flaw.GoalGuide (one.1.has_is ∙ sym two.1.has_is)
+  same_flaw (flaw.GoalGuide a) _ number turn arc one two = absurd (omega arith)
+  same_flaw (flaw.Guide u k a b) (flaw.Guide u' k' a' b') number turn arc one two =
+      let us : u ≡ u' = omega arith in let agree = guides_agree u k a b u' k' a' b' us arc one.1 two.1 in let as_ = agree.0 in let bs = agree.1 in cc
+  same_flaw (flaw.Guide u k a b) _ number turn arc one two = absurd (omega arith)
+  same_flaw (flaw.Low u a b) (flaw.Low u' a' b') number turn arc one two =
       let us = turns_agree u u' turn in
       let lows : a ≡ a' = one.has_is ∙ sym two.has_is in
-      let mosts = limits_agree u u' b b' (none refl) us one.limit two.limit in
+      let mosts = limits_agree u u' b b' us one.limit two.limit in
       cc
-  same_flaw (flaw.Low u a b) _ number turn arc none one two = absurd (omega arith)
-  same_flaw (flaw.Path i) (flaw.Path j) number turn arc none one two = ap flaw.Path turn
-  same_flaw (flaw.Path i) _ number turn arc none one two = absurd (omega arith)
-  same_flaw (flaw.Cost a p) (flaw.Cost b q) number turn arc none one two =
+  same_flaw (flaw.Low u a b) _ number turn arc one two = absurd (omega arith)
+  same_flaw (flaw.Path i) (flaw.Path j) number turn arc one two = ap flaw.Path turn
+  same_flaw (flaw.Path i) _ number turn arc one two = absurd (omega arith)
+  same_flaw (flaw.Cost a p) (flaw.Cost b q) number turn arc one two =
       let said = one.outcome in let said' = two.outcome in
       let costs : a ≡ b = cc in
       let ends = same_end n start s.arcs one.end two.end p q one.path two.path in
       let paids = ends.1 in
       cc
-  same_flaw (flaw.Cost a p) _ number turn arc none one two = absurd (omega arith)
-  same_flaw (flaw.Bound a l) (flaw.Bound b m) number turn arc none one two =
+  same_flaw (flaw.Cost a p) _ number turn arc one two = absurd (omega arith)
+  same_flaw (flaw.Bound a l) (flaw.Bound b m) number turn arc one two =
       let said = one.outcome in let said' = two.outcome in
       let costs : two.cost ≡ one.cost = cc in
       let bounds : a ≡ b = cc in
       let leasts = leasts_agree one.cost s.low l m one.least_is (subst (λ (x : ℕ). IsLeastBound x s.low m) costs two.least_is) in
       cc
-  same_flaw (flaw.Bound a l) _ number turn arc none one two = absurd (omega arith)
-  same_flaw (flaw.Goal u) (flaw.Goal v) number turn arc none one two = ap flaw.Goal turn
-  same_flaw (flaw.Goal u) _ number turn arc none one two = absurd (omega arith)
-
-  guide_is_right : (f : Flaw) → IsFirstFlaw n start goal s f → number_of f ≡ 4 → s.h goal ≡ 0
-  guide_is_right f one four =
-      elim (cases_eq (s.h goal) 0) [
-        | inl none ↦ none
-        | inr some ↦ absurd (one.first (flaw.GoalGuide (s.h goal)) (record { has_is = refl; some = some }) (inl (omega arith)))
-      ]
+  same_flaw (flaw.Bound a l) _ number turn arc one two = absurd (omega arith)
+  same_flaw (flaw.Goal u) (flaw.Goal v) number turn arc one two = ap flaw.Goal turn
+  same_flaw (flaw.Goal u) _ number turn arc one two = absurd (omega arith)
 
   -- neither comes before the other only where both are the same
   pub one_first : (f e : Flaw) → IsFirstFlaw n start goal s f → IsFirstFlaw n start goal s e → f ≡ e
@@ -572,7 +559,7 @@ module _ (n : Network) (start goal : ℕ) (s : Claim) where
         | inl lt ↦ absurd (no (inr (numbers, inr (turns, lt))))
         | inr le ↦ elim (cases_lt (arc_of e) (arc_of f)) [ inl lt ↦ absurd (yes (inr (sym numbers, inr (sym turns, lt)))) | inr ge ↦ omega arith ]
       ] in
-      same_flaw f e numbers turns arcs (guide_is_right f one) one.has two.has
+      same_flaw f e numbers turns arcs one.has two.has
 
   -- ---- what a check answers
 

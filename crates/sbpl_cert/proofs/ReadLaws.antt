@@ -5,7 +5,7 @@ use Rattle.std.proofs.lemmas.Bool.{cases_lt}
 use Rattle.std.proofs.lemmas.List.{drop_all}
 use Rattle.sbpl_fixed.specs.declared.fault.TextFault.{TextFault}
 use Rattle.sbpl_fixed.specs.declared.fault.TextFault.TheVariants.{Ended}
-use Rattle.sbpl_fixed.specs.Formats.{Answers, Left, Met, Miss, fixed, met, next, next_of, reads, start_at, Says}
+use Rattle.sbpl_fixed.specs.Formats.{Answers, Left, Met, Miss, fixed, met, next, next_of, reads, start_at}
 use Rattle.sbpl_fixed.specs.Meaning.{ReadingIsWhatIsSaid}
 use Rattle.sbpl_fixed.specs.Runs.{TokensGoOn}
 use Rattle.sbpl_fixed.specs.Tokens.{Piece, is_fresh, tokens_from, tokens_past}
@@ -13,21 +13,31 @@ use Rattle.sbpl_fixed.specs.Unsigned.{NumbersAreTheirDigits}
 use Rattle.sbpl_cert.specs.declared.fault.LabelFault.{LabelFault}
 use Rattle.sbpl_cert.specs.declared.fault.LabelFault.TheVariants.{NoMemory}
 use Rattle.sbpl_cert.specs.Faults.{told}
-use Rattle.sbpl_cert.specs.Format.{front_format, section_format}
-use Rattle.sbpl_cert.specs.Sections.{Section, IsSection}
+use Rattle.sbpl_cert.specs.Format.{front_format, full_format, section_format, sparse_format}
+use Rattle.sbpl_cert.specs.declared.section.Section.{Section}
+use Rattle.sbpl_cert.specs.Sections.{FullSection, IsFullSection}
+use Rattle.sbpl_cert.specs.Sparse.{IsSparseSection, SparseSection}
+use Rattle.sbpl_cert.specs.Versions.{IsOf}
 use Rattle.sbpl_cert.specs.Text.{AreTokensOf, EndsWith, HasFault, IsAfterEnd, with_rest}
 use Rattle.sbpl_cert.proofs.Leaves.{said_leaves}
 use Rattle.sbpl_cert.proofs.ItemLaws.{word_out}
-use Rattle.sbpl_cert.proofs.SectionLaws.{front_out, section_out, section_in}
+use Rattle.sbpl_cert.proofs.SectionLaws.{full_out, sparse_out, section_out, section_in}
 
 abbrev pub Reading : Type 0
 Reading = ReadingIsWhatIsSaid LabelFault Section
 
--- what was read before the last word keeps its ranges
-pub front_fits : (numbers : NumbersAreTheirDigits) (reading : Reading) (plan states : ℕ) (left rest : Left) (s : Section) → plan < 2 ^ 32 → states < 2 ^ 32 → reads told (front_format plan states) left ≡ Ok (s, rest) → IsSection s
-front_fits numbers reading plan states left rest s p q e =
-    let said = (reading.said told (front_format plan states) left rest s).0 e in
-    (front_out numbers plan states s left.tokens rest.tokens p q said.0).2
+-- what was read between the version and the last word keeps its ranges
+pub full_fits : (numbers : NumbersAreTheirDigits) (reading : ReadingIsWhatIsSaid LabelFault FullSection) (plan states : ℕ) (left rest : Left) (s : FullSection) → plan < 2 ^ 32 → states < 2 ^ 32
+    → reads told (full_format plan states) left ≡ Ok (s, rest) → IsFullSection s
+full_fits numbers reading plan states left rest s p q e =
+    let said = (reading.said told (full_format plan states) left rest s).0 e in
+    (full_out numbers plan states s left.tokens rest.tokens p q said.0).2
+
+pub sparse_fits : (numbers : NumbersAreTheirDigits) (reading : ReadingIsWhatIsSaid LabelFault SparseSection) (plan states : ℕ) (left rest : Left) (s : SparseSection) → plan < 2 ^ 32 → states < 2 ^ 32
+    → reads told (sparse_format plan states) left ≡ Ok (s, rest) → IsSparseSection s
+sparse_fits numbers reading plan states left rest s p q e =
+    let said = (reading.said told (sparse_format plan states) left rest s).0 e in
+    (sparse_out numbers plan states s left.tokens rest.tokens p q said.0).2
 
 abbrev met_record : ℕ → ℤ → Left → Met
 met_record place value left = record { place = place; value = value; left = left }
@@ -76,7 +86,7 @@ abbrev AnswersExactly : ℕ → ℕ → List ℕ → ℕ → Answer → Type 0
 AnswersExactly plan states text at r = Answers {A = Section × Left} NoMemory (λ (x : Section × ℕ). (x.0, start_at text x.1)) r (reads told (section_format plan states) (start_at text at))
 
 pub found_at : (numbers : NumbersAreTheirDigits) (reading : Reading) (plan states : ℕ) (text : List ℕ) (at : ℕ) (r : Answer) → plan < 2 ^ 32 → states < 2 ^ 32 → AnswersExactly plan states text at r
-    → IfOk r (λ x. (x.0.plan ≡ plan) × (length x.0.labels ≡ states) × AreTokensOf (tokens_from text at) x.0 (tokens_from text x.1))
+    → IfOk r (λ x. IsOf plan states x.0 × AreTokensOf (tokens_from text at) x.0 (tokens_from text x.1))
 found_at numbers reading plan states text at (Ok x) p q exact =
     section_out numbers plan states x.0 (tokens_from text at) (tokens_from text x.1) p q ((reading.said told (section_format plan states) (start_at text at) (start_at text x.1) x.0).0 exact).0
 found_at numbers reading plan states text at (Err e) p q exact = tt
@@ -101,24 +111,21 @@ answered s u rest more same rests = ap (λ (x : Section). rest_read x rest) same
 abbrev fault_read : LabelFault → Result (Section × Left) LabelFault
 fault_read e = Err e
 
-reads_said : (numbers : NumbersAreTheirDigits) (reading : Reading) (plan states : ℕ) (text : List ℕ) (at : ℕ) (s : Section) (rest : List Piece) → s.plan ≡ plan → length s.labels ≡ states → AreTokensOf (tokens_from text at) s rest
+reads_said : (numbers : NumbersAreTheirDigits) (reading : Reading) (plan states : ℕ) (text : List ℕ) (at : ℕ) (s : Section) (rest : List Piece) → IsOf plan states s → AreTokensOf (tokens_from text at) s rest
     → reads told (section_format plan states) (start_at text at) ≡ section_read s (record { end = length text; tokens = rest })
-reads_said numbers reading plan states text at s rest p q w =
-    let said = section_in numbers s (tokens_from text at) rest w in
-    let here : Says (section_format plan states) (tokens_from text at) s rest =
-    subst (λ (m : ℕ). Says (section_format plan m) (tokens_from text at) s rest) q (subst (λ (k : ℕ). Says (section_format k (length s.labels)) (tokens_from text at) s rest) p said) in
-    (reading.said told (section_format plan states) (start_at text at) (record { end = length text; tokens = rest }) s).1 (here, refl)
+reads_said numbers reading plan states text at s rest of w =
+    (reading.said told (section_format plan states) (start_at text at) (record { end = length text; tokens = rest }) s).1 (section_in numbers plan states s (tokens_from text at) rest of w, refl)
 
 pub only_at : (numbers : NumbersAreTheirDigits) (reading : Reading) (plan states : ℕ) (text : List ℕ) (at : ℕ) (r : Answer) → AnswersExactly plan states text at r
-    → (s : Section) (rest : List Piece) → s.plan ≡ plan → length s.labels ≡ states → AreTokensOf (tokens_from text at) s rest
+    → (s : Section) (rest : List Piece) → IsOf plan states s → AreTokensOf (tokens_from text at) s rest
     → Answers {A = Section × List Piece} NoMemory (λ (x : Section × ℕ). with_rest x.0 (tokens_from text x.1)) r (Ok (with_rest s rest))
-only_at numbers reading plan states text at (Ok x) exact s rest p q w =
-    let both : section_read s (record { end = length text; tokens = rest }) ≡ section_read x.0 (start_at text x.1) = sym (reads_said numbers reading plan states text at s rest p q w) ∙ exact in
+only_at numbers reading plan states text at (Ok x) exact s rest of w =
+    let both : section_read s (record { end = length text; tokens = rest }) ≡ section_read x.0 (start_at text x.1) = sym (reads_said numbers reading plan states text at s rest of w) ∙ exact in
     let parts = same_read s x.0 (record { end = length text; tokens = rest }) (start_at text x.1) both in
     let rests : rest ≡ tokens_from text x.1 = ap (λ (l : Left). l.tokens) parts.1 in
     answered s x.0 rest (tokens_from text x.1) parts.0 rests
-only_at numbers reading plan states text at (Err e) exact s rest p q w = λ n.
-    let clash : section_read s (record { end = length text; tokens = rest }) ≡ fault_read e = sym (reads_said numbers reading plan states text at s rest p q w) ∙ exact n in
+only_at numbers reading plan states text at (Err e) exact s rest of w = λ n.
+    let clash : section_read s (record { end = length text; tokens = rest }) ≡ fault_read e = sym (reads_said numbers reading plan states text at s rest of w) ∙ exact n in
     absurd cc
 
 pub faulty_at : (reading : Reading) (plan states : ℕ) (text : List ℕ) (at : ℕ) (r : Answer) → AnswersExactly plan states text at r

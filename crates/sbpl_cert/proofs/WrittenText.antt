@@ -14,10 +14,16 @@ use Rattle.sbpl_fixed.specs.Unsigned.{NumbersAreTheirDigits}
 use Rattle.sbpl_cert.specs.declared.outcome.Outcome.{Outcome}
 use Rattle.sbpl_cert.specs.declared.outcome.Outcome.TheVariants as outcome
 use Rattle.sbpl_cert.specs.declared.row.Row.{Row}
-use Rattle.sbpl_cert.specs.Sections.{Section, IsSection, IsRow, AreRows, IsOutcomeInRange, HasArcs}
-use Rattle.sbpl_cert.specs.Printed.{label_text, head_line, outcome_line, row_line, row_text, section_text}
-use Rattle.sbpl_cert.specs.Text.{Saying, a_word, a_label, a_milli, Means, MeansNumber, AreMeant, spelled_head, spelled_outcome, spelled_row, spelled_arc, spelled, AreTokensOf}
+use Rattle.sbpl_cert.specs.declared.sparse_row.SparseRow.{SparseRow}
+use Rattle.sbpl_cert.specs.declared.section.Section.{Section}
+use Rattle.sbpl_cert.specs.declared.section.Section.TheVariants.{Full, Sparse}
+use Rattle.sbpl_cert.specs.Sections.{FullSection, IsFullSection, IsRow, AreRows, IsOutcomeInRange, HasArcs}
+use Rattle.sbpl_cert.specs.Sparse.{IsSparseRow, IsSparseSection, SparseSection, sparse_row_at}
+use Rattle.sbpl_cert.specs.Versions.{IsSection}
+use Rattle.sbpl_cert.specs.Printed.{label_text, head_line, outcome_line, row_line, row_text, full_text, section_text, sparse_head_line, sparse_row_line, sparse_row_text, sparse_text}
+use Rattle.sbpl_cert.specs.Text.{Saying, a_word, a_label, a_milli, Means, MeansNumber, AreMeant, spelled_head, spelled_outcome, spelled_row, spelled_arc, spelled, spelled_full, spelled_sparse, spelled_sparse_head, spelled_sparse_row, AreTokensOf}
 use Rattle.sbpl_cert.proofs.SectionLaws.{meant_both}
+use Rattle.sbpl_cert.proofs.SparseRows.{rows_few}
 
 -- there are as many words as sayings, and each word says the one at its index
 AreWords : List Saying → List (List ℕ) → Type 0
@@ -87,6 +93,27 @@ module _ (numbers : NumbersAreTheirDigits) (words_are_tokens : WordsAreTokens) w
       rw (text, far) (meant_both (spelled_row r) (flat_map spelled_row rows) (tokens_past true place (row_text r ++ (flat_map row_text rows ++ after)))
       (tokens_past true (place + length (row_text r)) (flat_map row_text rows ++ after)) (tokens_past true (place + length (row_text r) + length (flat_map row_text rows)) after) first more)
 
+  sparse_row_words : (states : ℕ) (r : SparseRow) → states < 2 ^ 32 → IsSparseRow states r → AreWords (spelled_sparse_row r) (sparse_row_line r)
+  unfolding AreWords
+  sparse_row_words states r few fits =
+      let s = number_word r.state (omega (arith, few, fits.inside)) in
+      let g = label_word r.g (label_range r.g fits.g) in
+      let v = label_word r.v (label_range r.v fits.v) in
+      (s.0, s.1, (g.0, g.1, (v.0, v.1, tt)))
+
+  sparse_rows_mean : (states : ℕ) (rows : List SparseRow) (place : ℕ) (after : List ℕ) → states < 2 ^ 32 → ((i : ℕ) → i < length rows → IsSparseRow states (sparse_row_at rows i))
+      → AreMeant (flat_map spelled_sparse_row rows) (tokens_past true place (flat_map sparse_row_text rows ++ after)) (tokens_past true (place + length (flat_map sparse_row_text rows)) after)
+  unfolding AreMeant
+  sparse_rows_mean states [] place after few fits = let here : place + 0 ≡ place = omega arith in rw here refl
+  sparse_rows_mean states (r ∷ rows) place after few fits =
+      let text : (sparse_row_text r ++ flat_map sparse_row_text rows) ++ after ≡ sparse_row_text r ++ (flat_map sparse_row_text rows ++ after) = append_assoc (sparse_row_text r) (flat_map sparse_row_text rows) after in
+      let far : place + length (sparse_row_text r ++ flat_map sparse_row_text rows) ≡ place + length (sparse_row_text r) + length (flat_map sparse_row_text rows) =
+      omega (arith, length-append (sparse_row_text r) (flat_map sparse_row_text rows)) in
+      let first = line_means (spelled_sparse_row r) (decimal r.state) (label_text r.g ∷ label_text r.v ∷ []) place (flat_map sparse_row_text rows ++ after) (sparse_row_words states r few (fits 0 (omega arith))) in
+      let more = sparse_rows_mean states rows (place + length (sparse_row_text r)) after few (λ i at. fits (suc i) (omega arith)) in
+      rw (text, far) (meant_both (spelled_sparse_row r) (flat_map spelled_sparse_row rows) (tokens_past true place (sparse_row_text r ++ (flat_map sparse_row_text rows ++ after)))
+      (tokens_past true (place + length (sparse_row_text r)) (flat_map sparse_row_text rows ++ after)) (tokens_past true (place + length (sparse_row_text r) + length (flat_map sparse_row_text rows)) after) first more)
+
   arcs_words : (arcs : List ℕ) → ((i : ℕ) → i < length arcs → get_or arcs i 0 < 4096) → AreWords (flat_map spelled_arc arcs) (map decimal arcs)
   unfolding AreWords
   arcs_words [] small = tt
@@ -111,7 +138,7 @@ module _ (numbers : NumbersAreTheirDigits) (words_are_tokens : WordsAreTokens) w
   lowest_range : (x : ℕ) → (x ≡ FAR) ⊎ (x < 2 ^ 63) → (x ≡ FAR) ⊎ (x < FAR)
   lowest_range x h = h
 
-  head_words : (s : Section) → IsSection s → AreWords (spelled_head s) (head_line s)
+  head_words : (s : FullSection) → IsFullSection s → AreWords (spelled_head s) (head_line s)
   unfolding AreWords
   head_words s fits =
       let p = number_word s.plan (let lt = fits.plan in omega arith) in
@@ -129,6 +156,42 @@ module _ (numbers : NumbersAreTheirDigits) (words_are_tokens : WordsAreTokens) w
               p.0,
               p.1,
               (record { some = omega arith; filled = refl }, refl, (n.0, n.1, (record { some = omega arith; filled = refl }, refl, (l.0, l.1, tt)))),
+            ),
+          ),
+        ),
+      )
+
+  fixed_word : (t : List ℕ) → IsWord t → IsWord t × Means (a_word t) t
+  fixed_word t is = (is, refl)
+
+  sparse_head_words : (s : SparseSection) → IsSparseSection s → AreWords (spelled_sparse_head s) (sparse_head_line s)
+  unfolding AreWords
+  sparse_head_words s fits =
+      let few = rows_few s.states s.rows fits.rows in
+      let p = number_word s.plan (let lt = fits.plan in omega arith) in
+      let n = number_word s.states (let lt = fits.states in omega arith) in
+      let r = number_word (length s.rows) (let lt = fits.states in omega arith) in
+      let l = label_word s.low (lowest_range s.low fits.low) in (
+        record { some = omega arith; filled = refl },
+        refl,
+        (
+          record { some = omega arith; filled = refl },
+          refl,
+          (
+            record { some = omega arith; filled = refl },
+            refl,
+            (
+              p.0,
+              p.1,
+              (
+                record { some = omega arith; filled = refl },
+                refl,
+                (
+                  n.0,
+                  n.1,
+                  (record { some = omega arith; filled = refl }, refl, (r.0, r.1, (record { some = omega arith; filled = refl }, refl, (l.0, l.1, tt)))),
+                ),
+              ),
             ),
           ),
         ),
@@ -152,9 +215,9 @@ module _ (numbers : NumbersAreTheirDigits) (words_are_tokens : WordsAreTokens) w
       let far : place + length (a ++ b) ≡ place + length a + length b = omega (arith, length-append a b) in
       rw (append_assoc a b after, far) (meant_both ss vs (tokens_past true place (a ++ (b ++ after))) (tokens_past true (place + length a) (b ++ after)) (tokens_past true (place + length a + length b) after) one two)
 
-  section_means : (s : Section) (place : ℕ) (after : List ℕ) → IsSection s
-      → AreMeant (spelled s) (tokens_past true place (section_text s ++ after)) (tokens_past true (place + length (section_text s)) after)
-  unfolding section_text spelled
+  section_means : (s : FullSection) (place : ℕ) (after : List ℕ) → IsFullSection s
+      → AreMeant (spelled_full s) (tokens_past true place (full_text s ++ after)) (tokens_past true (place + length (full_text s)) after)
+  unfolding full_text spelled_full
   section_means s place after fits =
       let head = line_text (head_line s) in
       let path = line_text (outcome_line s.outcome s.arcs) in
@@ -167,19 +230,42 @@ module _ (numbers : NumbersAreTheirDigits) (words_are_tokens : WordsAreTokens) w
       (rows_mean s.labels (place + length head + length path) (last_line ++ after) fits.labels)
       (last_means (place + length head + length path + length rows) after)))
 
+  sparse_means : (s : SparseSection) (place : ℕ) (after : List ℕ) → IsSparseSection s
+      → AreMeant (spelled_sparse s) (tokens_past true place (sparse_text s ++ after)) (tokens_past true (place + length (sparse_text s)) after)
+  unfolding sparse_text spelled_sparse
+  sparse_means s place after fits =
+      let head = line_text (sparse_head_line s) in
+      let path = line_text (outcome_line s.outcome s.arcs) in
+      let rows = flat_map sparse_row_text s.rows in
+      both_mean (spelled_sparse_head s) (spelled_outcome s.outcome s.arcs ++ (flat_map spelled_sparse_row s.rows ++ a_word (codes "end") ∷ [])) head (path ++ (rows ++ last_line)) place after
+      (line_means (spelled_sparse_head s) (codes "labels") (codes "2" ∷ codes "plan" ∷ decimal s.plan ∷ codes "states" ∷ decimal s.states ∷ codes "rows" ∷ decimal (length s.rows) ∷ codes "low" ∷ label_text s.low ∷ []) place
+      ((path ++ (rows ++ last_line)) ++ after) (sparse_head_words s fits))
+      (both_mean (spelled_outcome s.outcome s.arcs) (flat_map spelled_sparse_row s.rows ++ a_word (codes "end") ∷ []) path (rows ++ last_line) (place + length head) after
+      (outcome_means s.outcome s.arcs (place + length head) ((rows ++ last_line) ++ after) fits.outcome fits.arcs)
+      (both_mean (flat_map spelled_sparse_row s.rows) (a_word (codes "end") ∷ []) rows last_line (place + length head + length path) after
+      (sparse_rows_mean s.states s.rows (place + length head + length path) (last_line ++ after) fits.states fits.rows.each)
+      (last_means (place + length head + length path + length rows) after)))
+
+  either_means : (s : Section) (place : ℕ) (after : List ℕ) → IsSection s
+      → AreMeant (spelled s) (tokens_past true place (section_text s ++ after)) (tokens_past true (place + length (section_text s)) after)
+  either_means (Full s) place after fits = section_means s place after fits
+  either_means (Sparse s) place after fits = sparse_means s place after fits
+
   -- ---- at an offset
 
   ends_both : (empty : Bool) (xs ys : List ℕ) → ends_blank empty (xs ++ ys) ≡ ends_blank (ends_blank empty xs) ys
   ends_both empty [] ys = refl
   ends_both empty (x ∷ xs) ys = ends_both (is_blank x) xs ys
 
+  -- four texts after one another end as the last of them does
+  parts_end_blank : (empty : Bool) (a b c : List ℕ) → ends_blank empty (a ++ (b ++ (c ++ last_line))) ≡ true
+  parts_end_blank empty a b c =
+      ends_both empty a (b ++ (c ++ last_line)) ∙ ends_both (ends_blank empty a) b (c ++ last_line) ∙ ends_both (ends_blank (ends_blank empty a) b) c last_line
+
   section_ends_blank : (empty : Bool) (s : Section) → ends_blank empty (section_text s) ≡ true
-  unfolding section_text
-  section_ends_blank empty s =
-      let head = line_text (head_line s) in
-      let path = line_text (outcome_line s.outcome s.arcs) in
-      let rows = flat_map row_text s.labels in
-      ends_both empty head (path ++ (rows ++ last_line)) ∙ ends_both (ends_blank empty head) path (rows ++ last_line) ∙ ends_both (ends_blank (ends_blank empty head) path) rows last_line
+  unfolding full_text sparse_text
+  section_ends_blank empty (Full s) = parts_end_blank empty (line_text (head_line s)) (line_text (outcome_line s.outcome s.arcs)) (flat_map row_text s.labels)
+  section_ends_blank empty (Sparse s) = parts_end_blank empty (line_text (sparse_head_line s)) (line_text (outcome_line s.outcome s.arcs)) (flat_map sparse_row_text s.rows)
 
   -- the last of a list that is not empty is a blank, where it ends in one
   last_is_blank : (b : ℕ) (before after : List ℕ) → ends_blank true (b ∷ before) ≡ true → is_blank (get_or ((b ∷ before) ++ after) (length before) 0) ≡ true
@@ -206,4 +292,4 @@ module _ (numbers : NumbersAreTheirDigits) (words_are_tokens : WordsAreTokens) w
       let size : length (before ++ section_text s) ≡ length before + length (section_text s) = length-append before (section_text s) in
       let last : tokens_from (before ++ section_text s ++ after) (length before + length (section_text s)) ≡ tokens_past true (length before + length (section_text s)) after =
       ap (tokens_from (before ++ section_text s ++ after)) (sym size) ∙ tokens_at (before ++ section_text s) after ends ∙ ap (λ (n : ℕ). tokens_past true n after) size in
-      record { tokens = rw (first, last) (section_means s (length before) after fits); fits = fits }
+      record { tokens = rw (first, last) (either_means s (length before) after fits); fits = fits }

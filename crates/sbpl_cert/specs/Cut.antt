@@ -52,3 +52,8 @@ pub record AreCutRows (o : Outcome) (n : Network) (m : Marks) (h : ℕ → ℕ) 
   pub rows_are : AreSparseRows n.states rows
   pub finite : (i : ℕ) → i < length rows → IsFinite (sparse_row_at rows i)
   pub needed : (s : ℕ) → s < n.states → IsNeededAt o n m h low s (g_in rows s) (v_in rows s)
+
+-- these rows are determined: by the labels, the guide's values at the states, and the low
+abbrev pub CutRowsAreOne : Type 0
+CutRowsAreOne = (o : Outcome) (n : Network) (m : Marks) (h k : ℕ → ℕ) (low : ℕ) (rows others : List SparseRow) → ((s : ℕ) → s < n.states → h s ≡ k s)
+    → AreCutRows o n m h low rows → AreCutRows o n m k low others → rows ≡ others

@@ -1,5 +1,5 @@
 -- Flaws of a claim on a graph, and which of them comes first. Infinity counts as 2^63 in each comparison.
-use Rattle.std.specs.Prelude.{◌≡◌, ◌≢◌, ℕ, ◌+◌, ◌<◌, ◌⊎◌, if◌then◌else◌, ◌==◌, Option, Some, None, List, length, take, slice_index, codes}
+use Rattle.std.specs.Prelude.{◌≡◌, ◌≢◌, ℕ, ◌+◌, ◌<◌, ◌⊎◌, if◌then◌else◌, ◌==◌, IsTrue, Option, Some, None, List, length, take, slice_index, codes}
 use Rattle.sbpl_graph.specs.declared.TheConstants.{FAR}
 use Rattle.sbpl_graph.specs.Network.{Network, IsFreeArc}
 use Rattle.sbpl_graph.specs.Path.{IsFreePath}
@@ -40,11 +40,11 @@ pub record IsGuideOff (n : Network) (h : ℕ → ℕ) (state arc has most : ℕ)
   pub most_is : most ≡ cost + h target
   pub above : most < has
 
--- a limit of the low at a state: the goal's label, or g + h where g and v differ
+-- a limit of the low at a state: the goal's label, or g + h at another state whose g and v differ
 abbrev pub IsLimit : Network → ℕ → (g v h : ℕ → ℕ) → ℕ → ℕ → Type 0
 IsLimit n goal g v h state most =
     ((state ≡ goal) × (most ≡ g goal))
-    ⊎ ((state < n.states) × (v state ≢ g state) × (most ≡ g state + h state))
+    ⊎ ((state ≢ goal) × (state < n.states) × (v state ≢ g state) × (most ≡ g state + h state))
 
 -- the low is above a limit
 pub record IsLowOff (n : Network) (goal : ℕ) (s : Claim) (state has most : ℕ) : Type 0 where
@@ -99,12 +99,12 @@ pub record IsUnsettled (n : Network) (goal : ℕ) (s : Claim) (state : ℕ) : Ty
   pub near : s.g state < FAR
   pub unsettled : (state ≡ goal) ⊎ (s.v state ≡ FAR)
 
--- the section has this flaw
+-- The claim has this flaw. Values of a guide are flawed only where they are the section's own.
 abbrev pub HasFlaw : Network → ℕ → ℕ → Claim → Flaw → Type 0
 HasFlaw n start goal s (flaw.Start g) = IsStartOff s.g start g
 HasFlaw n start goal s (flaw.Arc state arc has most) = IsArcOff n s.g s.v state arc has most
-HasFlaw n start goal s (flaw.GoalGuide has) = IsGoalGuideOff s.h goal has
-HasFlaw n start goal s (flaw.Guide state arc has most) = IsGuideOff n s.h state arc has most
+HasFlaw n start goal s (flaw.GoalGuide has) = IsTrue s.own × IsGoalGuideOff s.h goal has
+HasFlaw n start goal s (flaw.Guide state arc has most) = IsTrue s.own × IsGuideOff n s.h state arc has most
 HasFlaw n start goal s (flaw.Low state has most) = IsLowOff n goal s state has most
 HasFlaw n start goal s (flaw.Path step) = IsStepOff n start s step
 HasFlaw n start goal s (flaw.Cost has paid) = IsCostOff n start s has paid
@@ -155,7 +155,7 @@ IsBefore goal e f =
     (number_of e < number_of f)
     ⊎ ((number_of e ≡ number_of f) × ((turn_of goal e < turn_of goal f) ⊎ ((turn_of goal e ≡ turn_of goal f) × (arc_of e < arc_of f))))
 
--- the section has this flaw, and none that is tested before it
+-- the claim has this flaw, and none that is tested before it
 pub record IsFirstFlaw (n : Network) (start goal : ℕ) (s : Claim) (f : Flaw) : Type 0 where
   pub has : HasFlaw n start goal s f
   pub first : (e : Flaw) → HasFlaw n start goal s e → IsBefore goal e f → ⊥

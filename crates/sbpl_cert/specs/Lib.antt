@@ -3,6 +3,7 @@ pub mod Claims
 pub mod Labelling
 pub mod Sparse
 pub mod Cut
+pub mod Versions
 pub mod Made
 pub mod Printed
 pub mod Flaws

@@ -10,7 +10,7 @@ use Rattle.sbpl_graph.specs.Laws.{IsConsistent}
 use Rattle.sbpl_graph.specs.Network.{Network}
 
 -- the plan's number, the low of the labels, the outcome, the arc numbers of a path from the start, and a row for each state in order
-pub record Section : Type 0 where
+pub record FullSection : Type 0 where
   pub plan : ℕ
   pub low : ℕ
   pub outcome : Outcome
@@ -67,7 +67,7 @@ HasArcs outcome.NoPath arcs = arcs ≡ []
 HasArcs outcome.Unknown arcs = arcs ≡ []
 
 -- every value lies in its range
-pub record IsSection (s : Section) : Type 0 where
+pub record IsFullSection (s : FullSection) : Type 0 where
   pub plan : s.plan < 2 ^ 32
   pub low : IsLowest s.low
   pub outcome : IsOutcomeInRange s.outcome
@@ -78,11 +78,11 @@ pub record IsSection (s : Section) : Type 0 where
 -- ---- its labels and its guide
 
 -- its labels: each state is listed
-abbrev pub full_labelling : Section → Labelling
+abbrev pub full_labelling : FullSection → Labelling
 full_labelling s = record { states = length s.labels; count = length s.labels; state = λ i. i; g = g_at s.labels; v = v_at s.labels }
 
 -- its values of a guide are those of a guide to the goal on this graph
-pub record GuidesBy (s : Section) (n : Network) (goal : ℕ) : Type 0 where
+pub record GuidesBy (s : FullSection) (n : Network) (goal : ℕ) : Type 0 where
   pub consistent : IsConsistent n goal (h_at s.labels)
   pub known : (u : ℕ) → u < n.states → u < length s.labels
   pub small : (u : ℕ) → u < n.states → h_at s.labels u < 2 ^ 55

@@ -1,5 +1,5 @@
 -- A section of a label text that leaves out the states of infinite labels, and the guide's values.
-use Rattle.std.specs.Prelude.{◌==◌, if◌then◌else◌, ℕ, ◌^◌, ◌<◌, List, [], ◌∷◌, length, slice_index_or}
+use Rattle.std.specs.Prelude.{◌==◌, if◌then◌else◌, ℕ, ◌^◌, ◌<◌, false, List, [], ◌∷◌, length, slice_index_or}
 use Rattle.sbpl_graph.specs.declared.TheConstants.{FAR}
 use Rattle.sbpl_graph.specs.Certificate.{IsLabel}
 use Rattle.sbpl_cert.specs.declared.outcome.Outcome.{Outcome}
@@ -64,4 +64,4 @@ sparse_labelling s = record { states = s.states; count = length s.rows; state = 
 
 -- what it claims, with h by a guide
 abbrev pub sparse_claim : (h : ℕ → ℕ) → SparseSection → Claim
-sparse_claim h s = record { low = s.low; outcome = s.outcome; arcs = s.arcs; g = g_in s.rows; v = v_in s.rows; h = h }
+sparse_claim h s = record { low = s.low; outcome = s.outcome; arcs = s.arcs; g = g_in s.rows; v = v_in s.rows; h = h; own = false }

@@ -13,7 +13,12 @@ use Rattle.sbpl_cert.specs.declared.outcome.Outcome.TheVariants as outcome
 use Rattle.sbpl_cert.specs.declared.row.Row.{Row}
 use Rattle.sbpl_cert.specs.Faults.{told}
 use Rattle.sbpl_cert.specs.Format.{section_format}
-use Rattle.sbpl_cert.specs.Sections.{Section, IsSection}
+use Rattle.sbpl_cert.specs.declared.sparse_row.SparseRow.{SparseRow}
+use Rattle.sbpl_cert.specs.declared.section.Section.{Section}
+use Rattle.sbpl_cert.specs.declared.section.Section.TheVariants.{Full, Sparse}
+use Rattle.sbpl_cert.specs.Sections.{FullSection}
+use Rattle.sbpl_cert.specs.Sparse.{SparseSection}
+use Rattle.sbpl_cert.specs.Versions.{IsOf, IsSection}
 
 -- what a token says: this word, this number, this label, or this number of thousandths
 pub data Saying : Type 0 where
@@ -39,7 +44,7 @@ AreMeant [] ts rest = rest ≡ ts
 AreMeant (s ∷ ss) [] rest = ⊥
 AreMeant (s ∷ ss) (t ∷ ts) rest = Means s t.bytes × AreMeant ss ts rest
 
-abbrev pub spelled_head : Section → List Saying
+abbrev pub spelled_head : FullSection → List Saying
 spelled_head s =
     a_word (codes "labels") ∷ a_word (codes "1") ∷ a_word (codes "plan") ∷ a_number s.plan ∷ a_word (codes "states") ∷ a_number (length s.labels)
     ∷ a_word (codes "low") ∷ a_label s.low ∷ []
@@ -55,18 +60,31 @@ spelled_outcome outcome.Unknown arcs = a_word (codes "unknown") ∷ []
 abbrev pub spelled_row : Row → List Saying
 spelled_row r = a_label r.g ∷ a_label r.v ∷ a_number r.h ∷ []
 
+-- the tokens of a section in full
+unfoldable pub spelled_full : FullSection → List Saying
+spelled_full s = spelled_head s ++ (spelled_outcome s.outcome s.arcs ++ (flat_map spelled_row s.labels ++ a_word (codes "end") ∷ []))
+
+abbrev pub spelled_sparse_head : SparseSection → List Saying
+spelled_sparse_head s =
+    a_word (codes "labels") ∷ a_word (codes "2") ∷ a_word (codes "plan") ∷ a_number s.plan ∷ a_word (codes "states") ∷ a_number s.states
+    ∷ a_word (codes "rows") ∷ a_number (length s.rows) ∷ a_word (codes "low") ∷ a_label s.low ∷ []
+
+abbrev pub spelled_sparse_row : SparseRow → List Saying
+spelled_sparse_row r = a_number r.state ∷ a_label r.g ∷ a_label r.v ∷ []
+
+-- the tokens of a sparse section
+unfoldable pub spelled_sparse : SparseSection → List Saying
+spelled_sparse s = spelled_sparse_head s ++ (spelled_outcome s.outcome s.arcs ++ (flat_map spelled_sparse_row s.rows ++ a_word (codes "end") ∷ []))
+
 -- the tokens of a section
-unfoldable pub spelled : Section → List Saying
-spelled s = spelled_head s ++ (spelled_outcome s.outcome s.arcs ++ (flat_map spelled_row s.labels ++ a_word (codes "end") ∷ []))
+abbrev pub spelled : Section → List Saying
+spelled (Full s) = spelled_full s
+spelled (Sparse s) = spelled_sparse s
 
 -- the tokens begin with the section's, each value of it in its range, and the rest is left
 pub record AreTokensOf (ts : List Piece) (s : Section) (rest : List Piece) : Type 0 where
   pub tokens : AreMeant (spelled s) ts rest
   pub fits : IsSection s
-
--- a section is of this plan, and of this number of states
-abbrev pub IsOf : ℕ → ℕ → Section → Type 0
-IsOf plan states s = (s.plan ≡ plan) × (length s.labels ≡ states)
 
 -- the tokens begin with some section of the plan, of this number of states
 abbrev pub AreTokens : ℕ → ℕ → List Piece → Type 0

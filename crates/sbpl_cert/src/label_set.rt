@@ -31,13 +31,13 @@ pub struct LabelSet {
 }
 
 impl Model for LabelSet {
-    ghost use Rattle.sbpl_cert.specs.Sections.{Section, IsSection};
+    ghost use Rattle.sbpl_cert.specs.Sections.{FullSection, IsFullSection};
 
-    ghost Value = { Section };
+    ghost Value = { FullSection };
 
     ghost view = { λ s. record { plan = s.plan; low = s.low; outcome = s.outcome; arcs = s.arcs; labels = s.labels } };
 
-    ghost invariant = { λ s. IsSection (record { plan = s.plan; low = s.low; outcome = s.outcome; arcs = s.arcs; labels = s.labels }) };
+    ghost invariant = { λ s. IsFullSection (record { plan = s.plan; low = s.low; outcome = s.outcome; arcs = s.arcs; labels = s.labels }) };
 }
 
 impl LabelTable for LabelSet {

@@ -6,15 +6,18 @@ ghost use Rattle.sbpl_graph.specs.Laws.{IsSound};
 ghost use Rattle.sbpl_graph.specs.Network.{Network};
 ghost use Rattle.sbpl_labels.specs.Marks.{states_of, g_of, v_of};
 ghost use Rattle.sbpl_cert.specs.Claims.{claim_of};
-ghost use Rattle.sbpl_cert.specs.Made.{HaveRows, IsOfLabels};
+ghost use Rattle.sbpl_cert.specs.Made.{HaveRows, IsOfCutLabels, IsOfLabels};
 ghost use Rattle.sbpl_cert.specs.Sections.{AreRows, HasArcs, IsOutcomeInRange, IsRow};
 ghost use Rattle.sbpl_cert.specs.Sound.{ShowsBound};
+ghost use Rattle.sbpl_cert.specs.Sparse.{sparse_claim};
 
+use crate::cutting::cut;
 use crate::label_set::{Arcs, LabelSet, Rows};
 use crate::outcome::Outcome;
 use crate::row::Row;
+use crate::sparse_set::SparseSet;
 use sbpl_fixed::NoMemory;
-use sbpl_graph::Guide;
+use sbpl_graph::{Graph, Guide};
 use sbpl_labels::Labels;
 use std::alloc::Global;
 
@@ -84,5 +87,47 @@ pub fn section_of<H: Guide>(
         outcome,
         arcs,
         labels: rows_of(alloc, states, labels, guide)?,
+    })
+}
+
+/// The sparse section of plan `plan` that ended with these labels, which a search by this guide left: the low that they give, and
+/// rows for the labels that are cut to it, or for all finite labels where there is no path. The outcome and its arcs lie in the
+/// ranges that a section has for them. Where the labels are supported on this graph and the guide was built for it, the section
+/// shows its bound there.
+pub fn sparse_section_of<G: Graph, H: Guide>(
+    alloc: Global,
+    plan: u32,
+    graph: &G,
+    goal: u32,
+    labels: &Labels,
+    guide: &H,
+    outcome: Outcome,
+    arcs: Arcs,
+) -> Result<SparseSet, NoMemory>
+    requires states { states_of labels.now ≡ (G.network graph.now).states }
+    requires goal { goal < states_of labels.now }
+    requires known { (s : ℕ) → s < states_of labels.now → H.knows guide.now s }
+    requires outcome { IsOutcomeInRange outcome }
+    requires arcs { HasArcs outcome arcs }
+    ensures plan { IfOk result (λ s. s.plan ≡ plan) }
+    ensures states { IfOk result (λ s. s.states ≡ states_of labels.now) }
+    ensures outcome { IfOk result (λ s. s.outcome ≡ outcome) }
+    ensures arcs { IfOk result (λ s. s.arcs ≡ arcs) }
+    ensures labels { IfOk result (IsOfCutLabels (G.network graph.now) labels.now (H.distance guide.now) goal) }
+    ensures shows { IfOk result (λ s. H.guides guide.now (G.network graph.now) goal
+        → AreSupported (G.network graph.now) labels.now.start (g_of labels.now) (v_of labels.now)
+        → ShowsBound (G.network graph.now) labels.now.start goal (sparse_claim (H.distance guide.now) s)) }
+{
+    let _start = labels.start();
+    let states = graph.states();
+    let low = labels.low(guide, goal);
+    let rows = cut(alloc, graph, guide, labels, low, &outcome)?;
+    Ok(SparseSet {
+        plan,
+        states,
+        low,
+        outcome,
+        arcs,
+        rows,
     })
 }

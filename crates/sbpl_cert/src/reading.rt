@@ -6,14 +6,18 @@ ghost use Rattle.sbpl_fixed.specs.Tokens.{Piece, tokens_from};
 ghost use Rattle.sbpl_cert.specs.declared.fault.LabelFault.{LabelFault as AFault};
 ghost use Rattle.sbpl_cert.specs.declared.fault.LabelFault.TheVariants.{NoMemory as Memory};
 ghost use Rattle.sbpl_cert.specs.Faults.{told};
-ghost use Rattle.sbpl_cert.specs.Format.{arc_turn, bound, count_format, digits, front_format, head_format, label, low_format, outcome_format, path_format, row_format, row_turn, section_format, title_format};
-ghost use Rattle.sbpl_cert.specs.Sections.{Section};
+ghost use Rattle.sbpl_cert.specs.Format.{arc_turn, bound, count_format, digits, digits_from, front_format, full_format, head_format, label, low_format, outcome_format, path_format, row_format, row_turn, rows_format, section_format, sparse_format, sparse_head_format, sparse_row_format, sparse_turn, title_format, version_word};
+ghost use Rattle.sbpl_cert.specs.declared.section.Section.{Section as ASection};
 ghost use Rattle.sbpl_cert.specs.Text.{AreTokensOf, EndsWith, HasFault, IsAfterEnd, with_rest};
+ghost use Rattle.sbpl_cert.specs.Versions.{IsOf};
 
 use crate::fault::LabelFault;
 use crate::label_set::{Arcs, LabelSet, Rows};
 use crate::outcome::Outcome;
 use crate::row::Row;
+use crate::section::Section;
+use crate::sparse_row::SparseRow;
+use crate::sparse_set::{SparseRows, SparseSet};
 use sbpl_fixed::{
     NumFault, Placed, Reader, TextFault, read_digits, read_milli, reading_is_what_is_said,
     tokens_are_longest_runs, unsigned_numbers_are_their_digits,
@@ -89,13 +93,44 @@ fn next_bound(reader: &mut Reader) -> Result<Placed<u128>, TextFault>
     }
 }
 
+/// The next token, which must be a number without a sign, from `least` to below `end`.
+#[tactic(auto, unfolding(sbpl_fixed::specs::Formats::next))]
+fn next_digits_from(reader: &mut Reader, least: u64, end: u64) -> Result<Placed<u64>, TextFault>
+    ensures read { Steps (λ x. x.place) (λ x. pos x.value) result reader.new (next (digits_from least end) reader.old) }
+    ensures below { IfOk result (λ x. x.value < end) }
+{
+    let (bytes, place) = reader.token()?;
+    match read_digits(bytes, end) {
+        Ok(value) if value >= least => Ok(Placed { value, place }),
+        Ok(_) => Err(TextFault::Range(place)),
+        Err(NumFault::Form) => Err(TextFault::Number(place)),
+        Err(NumFault::Size) => Err(TextFault::Range(place)),
+    }
+}
+
+/// The next token, which must be a version.
+#[tactic(auto, unfolding(sbpl_fixed::specs::Formats::next))]
+fn next_version(reader: &mut Reader) -> Result<Placed<u64>, TextFault>
+    ensures read { Steps (λ x. x.place) (λ x. pos x.value) result reader.new (next version_word reader.old) }
+{
+    let (bytes, place) = reader.token()?;
+    if bytes == b"1".as_slice() {
+        return Ok(Placed { value: 1, place });
+    }
+    if bytes == b"2".as_slice() {
+        return Ok(Placed { value: 2, place });
+    }
+    Err(TextFault::Word(place))
+}
+
+/// Reads the first word, and the version.
 #[tactic(auto, unfolding(sbpl_fixed::specs::Formats::reads, crate::specs::Format::title_format))]
-fn read_title(reader: &mut Reader) -> Result<(), LabelFault>
+fn read_title(reader: &mut Reader) -> Result<u64, LabelFault>
     ensures read { Gives Memory (λ x. x) result reader.new (reads told title_format reader.old) }
 {
     reader.word(b"labels")?;
-    reader.word(b"1")?;
-    Ok(())
+    let version = next_version(reader)?;
+    Ok(version.value)
 }
 
 /// Reads a word, and a number that must be `n`.
@@ -121,15 +156,36 @@ fn read_low(reader: &mut Reader) -> Result<u64, LabelFault>
     Ok(low.value)
 }
 
-/// Reads the first line. Answers the low.
+/// Reads the rest of the first line of a section in full. Answers the low.
 #[tactic(auto, using(sbpl_fixed::specs::Parts::reads_and_then), unfolding(sbpl_fixed::specs::Formats::reads, crate::specs::Format::head_format))]
 fn read_head(plan: u32, states: u32, reader: &mut Reader) -> Result<u64, LabelFault>
     ensures read { Gives Memory (λ x. x) result reader.new (reads told (head_format plan states) reader.old) }
 {
-    read_title(reader)?;
     read_count(b"plan", plan, reader)?;
     read_count(b"states", states, reader)?;
     read_low(reader)
+}
+
+/// Reads how many rows there are.
+#[tactic(auto, unfolding(sbpl_fixed::specs::Formats::reads, crate::specs::Format::rows_format))]
+fn read_row_count(states: u32, reader: &mut Reader) -> Result<u32, LabelFault>
+    ensures read { Gives Memory (λ x. x) result reader.new (reads told (rows_format states) reader.old) }
+{
+    reader.word(b"rows")?;
+    let count = next_digits(reader, u64::from(states) + 1)?;
+    Ok(count.value as u32)
+}
+
+/// Reads the rest of the first line of a sparse section. Answers the number of rows and the low.
+#[tactic(auto, using(sbpl_fixed::specs::Parts::reads_and_then), unfolding(sbpl_fixed::specs::Formats::reads, crate::specs::Format::sparse_head_format))]
+fn read_sparse_head(plan: u32, states: u32, reader: &mut Reader) -> Result<(u32, u64), LabelFault>
+    ensures read { Gives Memory (λ x. x) result reader.new (reads told (sparse_head_format plan states) reader.old) }
+{
+    read_count(b"plan", plan, reader)?;
+    read_count(b"states", states, reader)?;
+    let rows = read_row_count(states, reader)?;
+    let low = read_low(reader)?;
+    Ok((rows, low))
 }
 
 /// Reads one more arc number.
@@ -217,15 +273,59 @@ fn read_rows(count: u32, rows: &mut Vec<Row>, reader: &mut Reader) -> Result<(),
     Ok(())
 }
 
-/// Reads the parts of a section that stand before its last word.
-#[tactic(auto, using(sbpl_fixed::specs::Parts::reads_and_then), unfolding(sbpl_fixed::specs::Formats::reads, crate::specs::Format::front_format))]
-fn read_parts(
+/// Reads the row of a state from `least` to below `states`.
+#[tactic(auto, unfolding(sbpl_fixed::specs::Formats::reads, crate::specs::Format::sparse_row_format))]
+fn read_sparse_row(least: u32, states: u32, reader: &mut Reader) -> Result<SparseRow, LabelFault>
+    ensures read { Gives Memory (λ x. x) result reader.new (reads told (sparse_row_format least states) reader.old) }
+    ensures inside { IfOk result (λ row. row.state < states) }
+{
+    let state = next_digits_from(reader, u64::from(least), u64::from(states))?.value as u32;
+    let g = next_label(reader, LABEL_END)?.value;
+    let v = next_label(reader, LABEL_END)?.value;
+    Ok(SparseRow { state, g, v })
+}
+
+/// Reads one more row, of a state from `least` on. Answers the state after that.
+#[tactic(auto, using(sbpl_fixed::specs::Parts::reads_and_then), unfolding(sbpl_fixed::specs::Formats::reads, crate::specs::Format::sparse_turn))]
+fn read_next_sparse_row(
+    least: u32,
+    states: u32,
+    rows: &mut Vec<SparseRow>,
+    reader: &mut Reader,
+) -> Result<u32, LabelFault>
+    ensures read { Gives Memory (λ next. (next, rows.new.items)) result reader.new (reads told (sparse_turn states (least, rows.old.items)) reader.old) }
+{
+    let row = read_sparse_row(least, states, reader)?;
+    rows.push(row)?;
+    Ok(row.state + 1)
+}
+
+/// Reads this number of further rows, upwards from `least`. Answers the state after the last of them.
+#[tactic(auto, using(sbpl_fixed::specs::Parts::reads_and_then, sbpl_fixed::specs::Parts::turns_next, sbpl_fixed::specs::Parts::turns_over), unfolding(sbpl_fixed::specs::Formats::reads))]
+fn read_sparse_rows(
+    count: u32,
+    mut least: u32,
+    states: u32,
+    rows: &mut Vec<SparseRow>,
+    reader: &mut Reader,
+) -> Result<u32, LabelFault>
+    ensures read { Gives Memory (λ next. (next, rows.new.items)) result reader.new (reads told (turns count (sparse_turn states) (least, rows.old.items)) reader.old) }
+{
+    for _ in 0..count {
+        least = read_next_sparse_row(least, states, rows, reader)?;
+    }
+    Ok(least)
+}
+
+/// Reads the parts of a section in full that stand between its version and its last word.
+#[tactic(auto, using(sbpl_fixed::specs::Parts::reads_and_then), unfolding(sbpl_fixed::specs::Formats::reads, crate::specs::Format::full_format))]
+fn read_full_parts(
     alloc: Global,
     plan: u32,
     states: u32,
     reader: &mut Reader,
 ) -> Result<(u64, Outcome, Arcs, Vec<Row>), LabelFault>
-    ensures read { Gives Memory (λ x. record { plan = plan; low = x.0; outcome = x.1; arcs = x.2; labels = x.3.items }) result reader.new (reads told (front_format plan states) reader.old) }
+    ensures read { Gives Memory (λ x. record { plan = plan; low = x.0; outcome = x.1; arcs = x.2; labels = x.3.items }) result reader.new (reads told (full_format plan states) reader.old) }
 {
     let low = read_head(plan, states, reader)?;
     let (outcome, arcs) = read_outcome(alloc, reader)?;
@@ -234,17 +334,18 @@ fn read_parts(
     Ok((low, outcome, arcs, rows))
 }
 
-fn read_front(
+/// Reads a section in full after its version, up to its last word.
+fn read_full(
     alloc: Global,
     plan: u32,
     states: u32,
     reader: &mut Reader,
 ) -> Result<LabelSet, LabelFault>
-    ensures read { Gives Memory (λ x. x) result reader.new (reads told (front_format plan states) reader.old) }
+    ensures read { Gives Memory (λ x. x) result reader.new (reads told (full_format plan states) reader.old) }
 {
     unsigned_numbers_are_their_digits();
     reading_is_what_is_said::<LabelFault, LabelSet>();
-    let (low, outcome, arcs, rows) = read_parts(alloc, plan, states, reader)?;
+    let (low, outcome, arcs, rows) = read_full_parts(alloc, plan, states, reader)?;
     Ok(LabelSet {
         plan,
         low,
@@ -254,6 +355,63 @@ fn read_front(
     })
 }
 
+/// Reads the parts of a sparse section that stand between its version and its last word.
+#[tactic(auto, using(sbpl_fixed::specs::Parts::reads_and_then), unfolding(sbpl_fixed::specs::Formats::reads, crate::specs::Format::sparse_format))]
+fn read_sparse_parts(
+    alloc: Global,
+    plan: u32,
+    states: u32,
+    reader: &mut Reader,
+) -> Result<(u64, Outcome, Arcs, Vec<SparseRow>), LabelFault>
+    ensures read { Gives Memory (λ x. record { plan = plan; states = states; low = x.0; outcome = x.1; arcs = x.2; rows = x.3.items }) result reader.new (reads told (sparse_format plan states) reader.old) }
+{
+    let (count, low) = read_sparse_head(plan, states, reader)?;
+    let (outcome, arcs) = read_outcome(alloc, reader)?;
+    let mut rows = Vec::with_capacity(alloc, count as usize)?;
+    read_sparse_rows(count, 0, states, &mut rows, reader)?;
+    Ok((low, outcome, arcs, rows))
+}
+
+/// Reads a sparse section after its version, up to its last word.
+fn read_sparse(
+    alloc: Global,
+    plan: u32,
+    states: u32,
+    reader: &mut Reader,
+) -> Result<SparseSet, LabelFault>
+    ensures read { Gives Memory (λ x. x) result reader.new (reads told (sparse_format plan states) reader.old) }
+{
+    unsigned_numbers_are_their_digits();
+    reading_is_what_is_said::<LabelFault, SparseSet>();
+    let (low, outcome, arcs, rows) = read_sparse_parts(alloc, plan, states, reader)?;
+    Ok(SparseSet {
+        plan,
+        states,
+        low,
+        outcome,
+        arcs,
+        rows: SparseRows::of(rows),
+    })
+}
+
+/// Reads a section up to its last word.
+#[tactic(auto, using(sbpl_fixed::specs::Parts::reads_and_then), unfolding(sbpl_fixed::specs::Formats::reads, crate::specs::Format::front_format))]
+fn read_front(
+    alloc: Global,
+    plan: u32,
+    states: u32,
+    reader: &mut Reader,
+) -> Result<Section, LabelFault>
+    ensures read { Gives Memory (λ x. x) result reader.new (reads told (front_format plan states) reader.old) }
+{
+    if read_title(reader)? == 1 {
+        let set = read_full(alloc, plan, states, reader)?;
+        return Ok(Section::Full(set));
+    }
+    let set = read_sparse(alloc, plan, states, reader)?;
+    Ok(Section::Sparse(set))
+}
+
 /// Reads a section, and answers where its last word stands.
 #[tactic(auto, using(sbpl_fixed::specs::Parts::reads_and_then), unfolding(sbpl_fixed::specs::Formats::reads, crate::specs::Format::section_format))]
 fn read_section(
@@ -261,12 +419,12 @@ fn read_section(
     plan: u32,
     states: u32,
     reader: &mut Reader,
-) -> Result<(LabelSet, usize), LabelFault>
+) -> Result<(Section, usize), LabelFault>
     ensures read { Gives Memory (λ x. x.0) result reader.new (reads told (section_format plan states) reader.old) }
     ensures last { IfOk result (λ x. EndsWith reader.old.tokens (record { place = x.1; bytes = codes "end" } ∷ reader.new.tokens)) }
     ensures end { IfOk result (λ _. reader.new.end ≡ reader.old.end) }
 {
-    reading_is_what_is_said::<LabelFault, LabelSet>();
+    reading_is_what_is_said::<LabelFault, Section>();
     let set = read_front(alloc, plan, states, reader)?;
     let place = reader.word(b"end")?;
     Ok((set, place))
@@ -279,7 +437,7 @@ fn read_exactly(
     at: usize,
     plan: u32,
     states: u32,
-) -> Result<(LabelSet, usize), LabelFault>
+) -> Result<(Section, usize), LabelFault>
     requires inside { at ≤ length text.now }
     ensures inside { IfOk result (λ x. (at < x.1) × (x.1 ≤ length text.now)) }
     ensures after { IfOk result (λ x. IsAfterEnd text.now at x.1) }
@@ -291,7 +449,7 @@ fn read_exactly(
     Ok((set, place + LAST_LENGTH))
 }
 
-/// Reads the section that begins at an offset of a text, and answers the offset after it. Where the text ends before the
+/// Reads the section of either version that begins at an offset of a text, and answers the offset after it. Where the text ends before the
 /// offset it has no more tokens. The section must be of this plan and this number of states. Any blanks separate its
 /// tokens. Any other text has exactly one first fault in reading order, which is answered with its place. `Trailing` is
 /// never answered, since more sections may follow this one. `NoMemory` says nothing of the text.
@@ -301,16 +459,16 @@ pub fn read_labels(
     at: usize,
     plan: u32,
     states: u32,
-) -> Result<(LabelSet, usize), LabelFault>
+) -> Result<(Section, usize), LabelFault>
     // It is of the plan and of the number of states that were passed.
-    ensures given { IfOk result (λ x. (x.0.plan ≡ plan) × (length x.0.labels ≡ states)) }
+    ensures given { IfOk result (λ x. IsOf plan states x.0) }
     // The offset that is answered lies after `at` and in the text: right after the section's last word.
     ensures inside { IfOk result (λ x. (at < x.1) × (x.1 ≤ length text.now)) }
     ensures after { IfOk result (λ x. IsAfterEnd text.now at x.1) }
     // The tokens from `at` on stand for what is read, one by one, and then go on from the offset that is answered.
     ensures found { IfOk result (λ x. AreTokensOf (tokens_from text.now at) x.0 (tokens_from text.now x.1)) }
     // What the tokens stand for is read, unless memory runs out.
-    ensures only { (s : Section) (rest : List Piece) → s.plan ≡ plan → length s.labels ≡ states → AreTokensOf (tokens_from text.now at) s rest → Answers Memory (λ x. with_rest x.0 (tokens_from text.now x.1)) result (Ok (with_rest s rest)) }
+    ensures only { (s : ASection) (rest : List Piece) → IsOf plan states s → AreTokensOf (tokens_from text.now at) s rest → Answers Memory (λ x. with_rest x.0 (tokens_from text.now x.1)) result (Ok (with_rest s rest)) }
     // The fault is the first one, where it stands.
     ensures faulty { IfErr result (λ e. e ≢ Memory → HasFault plan states (start_at text.now at) e) }
     // A first fault is answered, unless memory runs out.
@@ -319,6 +477,6 @@ pub fn read_labels(
     ensures exact { Answers Memory (λ x. (x.0, start_at text.now x.1)) result (reads told (section_format plan states) (start_at text.now at)) }
 {
     unsigned_numbers_are_their_digits();
-    reading_is_what_is_said::<LabelFault, LabelSet>();
+    reading_is_what_is_said::<LabelFault, Section>();
     read_exactly(alloc, text, at.min(text.len()), plan, states)
 }

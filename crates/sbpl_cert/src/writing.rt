@@ -3,13 +3,15 @@
 ghost use Rattle.std.specs.Prelude.{◌≡◌, ◌+◌, ◌<◌, ◌≤◌, ◌++◌, ◌∷◌, [], OnOk, OnErr, decimal, codes, length, map, drop};
 ghost use Rattle.std.specs.List.{flat_map};
 ghost use Rattle.sbpl_fixed.specs.Printed.{milli_text, line_text};
-ghost use Rattle.sbpl_cert.specs.Printed.{BeginsWith, head_line, label_text, outcome_line, row_text, section_text};
-ghost use Rattle.sbpl_cert.specs.Sections.{Section};
+ghost use Rattle.sbpl_cert.specs.Printed.{BeginsWith, full_text, label_text, outcome_line, row_text, sparse_row_text, sparse_text};
+ghost use Rattle.sbpl_cert.specs.Sections.{FullSection};
 ghost use Rattle.sbpl_cert.specs.declared.outcome.Outcome.TheVariants as outcome;
 
 use crate::label_set::LabelSet;
 use crate::outcome::Outcome;
 use crate::row::Row;
+use crate::sparse_row::SparseRow;
+use crate::sparse_set::SparseSet;
 use itoa::write_digits;
 use sbpl_fixed::{NoMemory, print_milli};
 use sbpl_graph::FAR;
@@ -179,10 +181,80 @@ fn put_outcome(out: &mut Vec<u8>, outcome: Outcome, arcs: &[u32]) -> Result<(), 
     }
 }
 
+/// Writes the row of a sparse section at the end of the buffer, and answers where it begins.
+#[tactic(auto, using(std::proofs::lemmas::List::append_assoc), unfolding(sbpl_fixed::specs::Printed::line_text))]
+fn sparse_row_before(buffer: &mut [u8], row: SparseRow) -> usize
+    requires size { length buffer.old ≡ 64 }
+    ensures inside { result < length buffer.new }
+    ensures text { drop result buffer.new ≡ sparse_row_text row }
+{
+    let end = buffer.len();
+    let begin = byte_before(buffer, end, b'\n');
+    let begin = label_before(buffer, begin, row.v);
+    let begin = byte_before(buffer, begin, b' ');
+    let begin = label_before(buffer, begin, row.g);
+    let begin = byte_before(buffer, begin, b' ');
+    number_before(buffer, begin, u64::from(row.state))
+}
+
+/// Appends the line of a row of a sparse section.
+fn put_sparse_row(out: &mut Vec<u8>, row: SparseRow) -> Result<(), NoMemory>
+    ensures ok { OnOk result (out.new.items ≡ out.old.items ++ sparse_row_text row) }
+    ensures kept { BeginsWith out.old.items out.new.items }
+{
+    let mut buffer = [0; ROOM];
+    let begin = sparse_row_before(&mut buffer, row);
+    out.extend_from_slice(&buffer[begin..])?;
+    Ok(())
+}
+
+/// Appends the lines of the rows of a sparse section.
+#[tactic(auto, using(crate::proofs::Kept::kept_now, crate::proofs::Kept::kept_after, std::proofs::lemmas::List::append_assoc))]
+fn put_sparse_rows(out: &mut Vec<u8>, rows: &[SparseRow]) -> Result<(), NoMemory>
+    ensures ok { OnOk result (out.new.items ≡ out.old.items ++ flat_map sparse_row_text rows.now) }
+    ensures kept { BeginsWith out.old.items out.new.items }
+{
+    for row in rows {
+        put_sparse_row(out, *row)?;
+    }
+    Ok(())
+}
+
+/// Appends what the first line of a sparse section has of its plan and its number of states.
+#[tactic(auto, using(crate::proofs::Kept::kept_now, crate::proofs::Kept::kept_after, std::proofs::lemmas::List::append_assoc))]
+fn put_sparse_title(out: &mut Vec<u8>, plan: u32, states: u32) -> Result<(), NoMemory>
+    ensures ok { OnOk result (out.new.items ≡ out.old.items ++ (codes "labels 2 plan " ++ (decimal plan ++ (codes " states " ++ decimal states)))) }
+    ensures kept { BeginsWith out.old.items out.new.items }
+{
+    put(out, b"labels 2 plan")?;
+    put_number(out, b' ', u64::from(plan))?;
+    put(out, b" states")?;
+    put_number(out, b' ', u64::from(states))
+}
+
+/// Appends the first line of a sparse section.
+#[tactic(auto, using(crate::proofs::Kept::kept_now, crate::proofs::Kept::kept_after, std::proofs::lemmas::List::append_assoc))]
+fn put_sparse_head(
+    out: &mut Vec<u8>,
+    plan: u32,
+    states: u32,
+    rows: usize,
+    low: u64,
+) -> Result<(), NoMemory>
+    ensures ok { OnOk result (out.new.items ≡ out.old.items ++ (codes "labels 2 plan " ++ (decimal plan ++ (codes " states " ++ (decimal states ++ (codes " rows " ++ (decimal rows ++ (codes " low " ++ (label_text low ++ 10 ∷ []))))))))) }
+    ensures kept { BeginsWith out.old.items out.new.items }
+{
+    put_sparse_title(out, plan, states)?;
+    put(out, b" rows")?;
+    put_number(out, b' ', rows as u64)?;
+    put(out, b" low ")?;
+    put_last_label(out, low)
+}
+
 /// Appends a section.
 #[tactic(auto, using(crate::proofs::Kept::kept_now, crate::proofs::Kept::kept_after, std::proofs::lemmas::List::append_assoc))]
 fn put_section(out: &mut Vec<u8>, set: &LabelSet) -> Result<(), NoMemory>
-    ensures ok { OnOk result (out.new.items ≡ out.old.items ++ section_text set.now) }
+    ensures ok { OnOk result (out.new.items ≡ out.old.items ++ full_text set.now) }
     ensures kept { BeginsWith out.old.items out.new.items }
 {
     let rows = set.labels.as_slice();
@@ -195,11 +267,38 @@ fn put_section(out: &mut Vec<u8>, set: &LabelSet) -> Result<(), NoMemory>
 /// Appends the text of a section: a line with the version, the plan, the number of states and the low; a line with the
 /// outcome; a line for each state; and a last line. `NoMemory` where memory runs out; the text is then unchanged.
 pub fn write_labels(set: &LabelSet, out: &mut Vec<u8>) -> Result<(), NoMemory>
-    ensures ok { OnOk result (out.new.items ≡ out.old.items ++ section_text set.now) }
+    ensures ok { OnOk result (out.new.items ≡ out.old.items ++ full_text set.now) }
     ensures err { OnErr result (out.new.items ≡ out.old.items) }
 {
     let before = out.len();
     let written = put_section(out, set);
+    if written.is_err() {
+        out.truncate(before);
+    }
+    written
+}
+
+/// Appends a sparse section.
+#[tactic(auto, using(crate::proofs::Kept::kept_now, crate::proofs::Kept::kept_after, std::proofs::lemmas::List::append_assoc))]
+fn put_sparse_section(out: &mut Vec<u8>, set: &SparseSet) -> Result<(), NoMemory>
+    ensures ok { OnOk result (out.new.items ≡ out.old.items ++ sparse_text set.now) }
+    ensures kept { BeginsWith out.old.items out.new.items }
+{
+    let rows = set.rows.as_slice();
+    put_sparse_head(out, set.plan, set.states, rows.len(), set.low)?;
+    put_outcome(out, set.outcome, set.arcs.as_slice())?;
+    put_sparse_rows(out, rows)?;
+    put(out, b"end\n")
+}
+
+/// Appends the text of a sparse section: a line with the version, the plan, the number of states, the number of rows and the low; a
+/// line with the outcome; a line for each row; and a last line. `NoMemory` where memory runs out; the text is then unchanged.
+pub fn write_sparse(set: &SparseSet, out: &mut Vec<u8>) -> Result<(), NoMemory>
+    ensures ok { OnOk result (out.new.items ≡ out.old.items ++ sparse_text set.now) }
+    ensures err { OnErr result (out.new.items ≡ out.old.items) }
+{
+    let before = out.len();
+    let written = put_sparse_section(out, set);
     if written.is_err() {
         out.truncate(before);
     }

@@ -1,5 +1,5 @@
 -- The checking of one text ends in one way.
-use Rattle.std.proofs.Common.{◌≡◌, ◌≢◌, ℕ, zero, suc, pos, ◌+◌, List, [], ◌∷◌, Option, Some, None, refl, sym, ◌∙◌, ap, subst, inl, inr}
+use Rattle.std.proofs.Common.{◌≡◌, ◌≢◌, ℕ, zero, suc, pos, ◌+◌, ◌<◌, List, [], ◌∷◌, Option, Some, None, refl, sym, ◌∙◌, ap, subst, inl, inr}
 use Rattle.sbpl_graph.specs.Network.{Network}
 use Rattle.sbpl_fixed.specs.Formats.{Left}
 use Rattle.sbpl_fixed.specs.Tokens.{Piece}
@@ -9,10 +9,11 @@ use Rattle.sbpl_cfg.specs.Environment.{Environment, IsPlaceOf}
 use Rattle.sbpl_cert.specs.declared.fault.LabelFault.{LabelFault}
 use Rattle.sbpl_cert.specs.declared.flaw.Flaw.{Flaw}
 use Rattle.sbpl_cert.specs.declared.outcome.Outcome.{Outcome}
-use Rattle.sbpl_cert.specs.Claims.{claim_of}
 use Rattle.sbpl_cert.specs.Flaws.{HasNoFlaw}
-use Rattle.sbpl_cert.specs.Sections.{Section}
-use Rattle.sbpl_cert.specs.Text.{AreTokens, AreTokensOf, HasFault, IsOf}
+use Rattle.sbpl_cert.specs.declared.section.Section.{Section}
+use Rattle.sbpl_cert.specs.Text.{AreTokens, AreTokensOf, HasFault}
+use Rattle.sbpl_cert.specs.Versions.{IsOf, claim_by}
+use Rattle.sbpl_heur.specs.Bests.{IsBest}
 use Rattle.sbpl_cli.specs.Clear.{SectionsAreClear}
 use Rattle.sbpl_cost.specs.Lattices.{network_of, states_are}
 use Rattle.sbpl_cost.specs.States.{state_count, state_number}
@@ -23,10 +24,11 @@ use Rattle.sbpl_map.specs.MapAfter.{IsMapAfter}
 use Rattle.sbpl_map.specs.declared.write.Write.{Write}
 use Rattle.sbpl_cli.specs.declared.section_check.SectionStop.{SectionStop}
 use Rattle.sbpl_cli.specs.declared.section_check.SectionStop.TheVariants as section
-use Rattle.sbpl_cli.specs.Checked.{AreChecked, Case, IsFlawed, IsGraphAfter, IsHolding, IsShownHolding, IsStoppedIn, IsTrailingAt}
+use Rattle.sbpl_cli.specs.Checked.{AreChecked, Case, Ground, IsFlawed, IsGroundAfter, IsHolding, IsShownHolding, IsStoppedIn, IsTrailingAt}
 use Rattle.sbpl_cli.specs.Headline.{IsStateOf}
 use Rattle.sbpl_cli.specs.Intents.{checked_status}
 use Rattle.sbpl_cli.specs.Promises.{IsOrFailed}
+use Rattle.sbpl_cli.proofs.SameGuide.{best_moved, one_best}
 
 place_by : (x y t u v w : ℕ) → x ≡ u → y ≡ v → t ≡ w → ◌≡◌ {A = Place} (record { x = x; y = y; t = t }) (record { x = u; y = v; t = w })
 place_by x y t u v w a b c = cc
@@ -48,12 +50,23 @@ one_state e p s t a b = a.number ∙ ap (λ (q : Place). state_number e q) (one_
 abbrev pub OneMap : Type 0
 OneMap = (first now other : CellMap) (batches : List (List Write)) (k : ℕ) → IsCellMap now → IsCellMap other → IsMapAfter first batches k now → IsMapAfter first batches k other → now ≡ other
 
--- and one graph
-pub one_graph : OneMap → (w : World) (batches : List (List Write)) (k : ℕ) (n o : Network) → IsGraphAfter w batches k n → IsGraphAfter w batches k o → n ≡ o
-one_graph one w batches k n o a b = a.network ∙ ap (λ (m : CellMap). network_of (record w { map = m })) (one w.map a.map b.map batches k a.is_world.map b.is_world.map a.after b.after) ∙ sym b.network
+states_after : (w : World) (batches : List (List Write)) (k goal : ℕ) (n : Ground) → IsGroundAfter w batches k goal n → n.network.states ≡ state_count w.env
+states_after w batches k goal n a = ap (λ (x : Network). x.states) a.network ∙ states_are (record w { map = a.map })
 
-states_after : (w : World) (batches : List (List Write)) (k : ℕ) (n : Network) → IsGraphAfter w batches k n → n.states ≡ state_count w.env
-states_after w batches k n a = ap (λ (x : Network). x.states) a.network ∙ states_are (record w { map = a.map })
+-- two grounds have one graph, and guides that say the same at its states
+pub record AreOneGround (n o : Ground) : Type 0 where
+  pub network : n.network ≡ o.network
+  pub guide : (u : ℕ) → u < o.network.states → n.guide u ≡ o.guide u
+
+-- and one graph, with one best heuristic
+pub one_ground : OneMap → (w : World) (batches : List (List Write)) (k goal : ℕ) (n o : Ground) → IsGroundAfter w batches k goal n → IsGroundAfter w batches k goal o → AreOneGround n o
+one_ground one w batches k goal n o a b =
+    let maps : a.map ≡ b.map = one w.map a.map b.map batches k a.is_world.map b.is_world.map a.after b.after in
+    let best : IsBest (record w { map = b.map }) goal n.guide = subst (λ (m : CellMap). IsBest (record w { map = m }) goal n.guide) maps a.guide in
+    record {
+      network = a.network ∙ ap (λ (m : CellMap). network_of (record w { map = m })) maps ∙ sym b.network;
+      guide = λ u inside. one_best w.env w.prims w.sweeps w.sweeps b.map goal n.guide o.guide refl best b.guide u (subst (λ (count : ℕ). u < count) (states_after w batches k goal o b) inside);
+    }
 
 -- two ways to end have the same status, unless memory ran out in the second
 abbrev pub EndAlike : Option SectionStop → Option SectionStop → Type 0
@@ -64,14 +77,17 @@ no_memory_left a = inr (inr (inr refl))
 
 module _ (clear : SectionsAreClear) (one : OneMap) (c : Case) where
   -- what is checked at a plan is read for the number of states of the world
-  pub readable : (n : Network) (plan : ℕ) (left : Left) (s : Section) (rest : List Piece) → IsGraphAfter c.world c.batches plan n → IsOf plan n.states s → AreTokensOf left.tokens s rest → AreTokens plan (state_count c.world.env) left.tokens
-  readable n plan left s rest after of tokens = (s, rest, subst (λ (count : ℕ). IsOf plan count s) (states_after c.world c.batches plan n after) of, tokens)
+  pub readable : (n : Ground) (plan : ℕ) (left : Left) (s : Section) (rest : List Piece) → IsGroundAfter c.world c.batches plan c.goal n → IsOf plan n.network.states s → AreTokensOf left.tokens s rest → AreTokens plan (state_count c.world.env) left.tokens
+  readable n plan left s rest after of tokens = (s, rest, subst (λ (count : ℕ). IsOf plan count s) (states_after c.world c.batches plan c.goal n after) of, tokens)
 
   -- a section that holds has no first flaw
-  holds_not_flawed : (n : Network) (plan : ℕ) (left rest : Left) (o : Outcome) (f : Flaw) → IsHolding n c.start c.goal plan left o rest → IsFlawed n c.start c.goal plan left f → ⊥
-  holds_not_flawed n plan left rest o f is flawed =
+  holds_not_flawed : (n o : Ground) (plan : ℕ) (left rest : Left) (outcome : Outcome) (f : Flaw) → AreOneGround n o → IsHolding n c.start c.goal plan left outcome rest
+      → IsFlawed o c.start c.goal plan left f → ⊥
+  holds_not_flawed n o plan left rest outcome f one is flawed =
       let same : is.section ≡ flawed.section = (clear.one left.tokens rest.tokens flawed.rest is.section flawed.section is.tokens flawed.tokens).0 in
-      (subst (λ (x : Section). HasNoFlaw n c.start c.goal (claim_of x)) same is.no_flaw) f flawed.first.has
+      let here : HasNoFlaw o.network c.start c.goal (claim_by n.guide is.section) = subst (λ (m : Network). HasNoFlaw m c.start c.goal (claim_by n.guide is.section)) one.network is.no_flaw in
+      let none : HasNoFlaw o.network c.start c.goal (claim_by n.guide flawed.section) = subst (λ (x : Section). HasNoFlaw o.network c.start c.goal (claim_by n.guide x)) same here in
+      clear.no_flaw o.network c.start c.goal flawed.section n.guide o.guide f one.guide none flawed.first.has
 
   stops_alike : (plan : ℕ) (left : Left) (a b : SectionStop) → a ≢ section.NoMemory → IsStoppedIn c plan left a → IsStoppedIn c plan left b → EndAlike (Some a) (Some b)
   stops_alike plan left (section.Flaw f) (section.Flaw g) some p q = inl refl
@@ -82,10 +98,9 @@ module _ (clear : SectionsAreClear) (one : OneMap) (c : Case) where
   stops_alike plan left a section.NoMemory some p q = no_memory_left (Some a)
 
   -- where a section holds nothing stops there
-  pub holds_not_stopped : (n : Network) (plan : ℕ) (left rest : Left) (o : Outcome) (s : SectionStop) → s ≢ section.NoMemory → IsGraphAfter c.world c.batches plan n → IsHolding n c.start c.goal plan left o rest → IsStoppedIn c plan left s → ⊥
+  pub holds_not_stopped : (n : Ground) (plan : ℕ) (left rest : Left) (o : Outcome) (s : SectionStop) → s ≢ section.NoMemory → IsGroundAfter c.world c.batches plan c.goal n → IsHolding n c.start c.goal plan left o rest → IsStoppedIn c plan left s → ⊥
   holds_not_stopped n plan left rest o (section.Flaw f) some after is (m, later, flawed) =
-      let same = one_graph one c.world c.batches plan m n later after in
-      holds_not_flawed n plan left rest o f is (subst (λ (x : Network). IsFlawed x c.start c.goal plan left f) same flawed)
+      holds_not_flawed n m plan left rest o f (one_ground one c.world c.batches plan c.goal n m after later) is flawed
   holds_not_stopped n plan left rest o (section.Fault f) some after is stops = clear.not_both plan _ left f (readable n plan left is.section rest.tokens after is.of is.tokens) stops.1
   holds_not_stopped n plan left rest o section.NoMemory some after is stops = some refl
 
@@ -128,8 +143,8 @@ module _ (clear : SectionsAreClear) (one : OneMap) (c : Case) where
 -- ---- alike worlds
 
 -- they have the same graphs after each number of batches
-pub same_graph : AlikeWorldsAreOneGraph → (v w : World) → IsWorld w → v.env ≡ w.env → v.prims ≡ w.prims → v.map ≡ w.map → v.sweeps.radius ≡ w.sweeps.radius → (batches : List (List Write)) (k : ℕ) (n : Network) → IsGraphAfter v batches k n → IsGraphAfter w batches k n
-same_graph alike v w is_world env prims map radius batches k n a =
+pub same_graph : AlikeWorldsAreOneGraph → (v w : World) → IsWorld w → v.env ≡ w.env → v.prims ≡ w.prims → v.map ≡ w.map → v.sweeps.radius ≡ w.sweeps.radius → (batches : List (List Write)) (goal k : ℕ) (n : Ground) → IsGroundAfter v batches k goal n → IsGroundAfter w batches k goal n
+same_graph alike v w is_world env prims map radius batches goal k n a =
     let there : IsWorld (record w { map = a.map }) = record {
       env = is_world.env;
       prims = is_world.prims;
@@ -147,11 +162,13 @@ same_graph alike v w is_world env prims map radius batches k n a =
       after = subst (λ (m : CellMap). IsMapAfter m batches k a.map) map a.after;
       is_world = there;
       network = a.network ∙ alike (record w { map = a.map }) (record v { map = a.map }) there a.is_world env prims refl radius;
+      guide = best_moved (record v { map = a.map }) (record w { map = a.map }) goal n.guide env prims refl
+          (alike (record w { map = a.map }) (record v { map = a.map }) there a.is_world env prims refl radius) a.guide;
     }
 
 -- ---- one case and another
 
-module _ (v w : World) (batches : List (List Write)) (start goal : ℕ) (graph : (k : ℕ) (n : Network) → IsGraphAfter v batches k n → IsGraphAfter w batches k n) (env : v.env ≡ w.env) where
+module _ (v w : World) (batches : List (List Write)) (start goal : ℕ) (graph : (k : ℕ) (n : Ground) → IsGroundAfter v batches k goal n → IsGroundAfter w batches k goal n) (env : v.env ≡ w.env) where
   -- what is checked in a world, and shown, is checked in another one that has the same graphs
   pub checked_on : (more plan : ℕ) (left : Left) (os : List Outcome) (end : Option SectionStop)
       → AreChecked IsShownHolding (record { world = v; batches = batches; start = start; goal = goal }) plan more left os end

@@ -456,7 +456,7 @@ module _ (before after : DeskState) where
         let to : goal' ≡ goal = one_state w.env w.env.end goal' goal (subst (λ (e : Environment). IsStateOf e e.end goal') env gives.in_world.goal_is) is.goal_is in
         let there = same_check v batches gives.batches gives.in_world.start is.start goal' goal gives.text text os' end' course from to same_text gives.in_world.checked in
         one_ending sections one (record { world = w; batches = batches; start = is.start; goal = goal }) (suc (length batches)) 0 (start_at text 0) os os' end end' some is.checked
-        (checked_on v w batches is.start goal (same_graph alike v w tells.is_world env prims map radius batches) env (suc (length batches)) 0 (start_at text 0) os' end' there)
+        (checked_on v w batches is.start goal (same_graph alike v w tells.is_world env prims map radius batches goal) env (suc (length batches)) 0 (start_at text 0) os' end' there)
       where
         same_check : (v : World) (bs cs : List (List change.Write)) (s s' g g' : ℕ) (t t' : List ℕ) (os : List Outcome) (end : Option SectionStop) → cs ≡ bs → s ≡ s' → g ≡ g' → t ≡ t'
             → AreChecked IsShownHolding (record { world = v; batches = cs; start = s; goal = g }) 0 (suc (length cs)) (start_at t 0) os end

@@ -7,9 +7,9 @@ use Rattle.sbpl_cfg.specs.Environment.{Environment}
 use Rattle.sbpl_cert.specs.declared.fault.LabelFault.{LabelFault}
 use Rattle.sbpl_cert.specs.declared.flaw.Flaw.{Flaw}
 use Rattle.sbpl_cert.specs.declared.outcome.Outcome.{Outcome}
-use Rattle.sbpl_cert.specs.Claims.{claim_of}
 use Rattle.sbpl_cert.specs.Flaws.{IsFirstFlaw}
-use Rattle.sbpl_cert.specs.Sections.{Section}
+use Rattle.sbpl_cert.specs.declared.section.Section.{Section}
+use Rattle.sbpl_cert.specs.Versions.{claim_by, outcome_of}
 use Rattle.sbpl_cost.specs.Alike.{AlikeWorldsAreOneGraph}
 use Rattle.sbpl_cost.specs.States.{state_count}
 use Rattle.sbpl_cost.specs.World.{World}
@@ -19,7 +19,7 @@ use Rattle.sbpl_job.specs.declared.job.CheckJob.{CheckJob}
 use Rattle.sbpl_cli.specs.declared.section_check.SectionStop.{SectionStop}
 use Rattle.sbpl_cli.specs.declared.section_check.SectionStop.TheVariants as section
 use Rattle.sbpl_cli.specs.Causes.{ReadsBatches}
-use Rattle.sbpl_cli.specs.Checked.{AreChecked, Case, IsFlawed, IsHolding, IsShownHolding, IsStoppedIn, IsTrailingAt}
+use Rattle.sbpl_cli.specs.Checked.{AreChecked, Case, Ground, IsFlawed, IsHolding, IsShownHolding, IsStoppedIn, IsTrailingAt}
 use Rattle.sbpl_cli.specs.Clear.{SectionsAreClear, TextsAreClear}
 use Rattle.sbpl_cli.specs.Headline.{IsStateOf}
 use Rattle.sbpl_cli.specs.Intents.{checked_writes}
@@ -27,7 +27,7 @@ use Rattle.sbpl_cli.specs.Promises.{IsChecked}
 use Rattle.sbpl_cli.specs.Verdicts.{holds_text}
 use Rattle.sbpl_cli.specs.Writing.{Told}
 use Rattle.sbpl_cli.specs.Writing as writing
-use Rattle.sbpl_cli.proofs.OneEnding.{OneMap, checked_on, holds_not_stopped, one_graph, one_state, readable, same_graph, same_left, trailing_none}
+use Rattle.sbpl_cli.proofs.OneEnding.{AreOneGround, OneMap, checked_on, holds_not_stopped, one_ground, one_state, readable, same_graph, same_left, trailing_none}
 use Rattle.sbpl_cli.proofs.SamePlanned.{one_course, one_world, read_once}
 
 -- the first checking goes as far as the second: both are the same, or memory ran out in it after the first few sections that hold
@@ -39,17 +39,17 @@ trailing_one [] f g p q = absurd p
 trailing_one (t ∷ ts) f g p q = p ∙ sym q
 
 module _ (clear : SectionsAreClear) (one : OneMap) (c : Case) where
-  one_flaw : (n m : Network) (plan : ℕ) (left : Left) (f g : Flaw) → n ≡ m → IsFlawed n c.start c.goal plan left f → IsFlawed m c.start c.goal plan left g → f ≡ g
+  one_flaw : (n m : Ground) (plan : ℕ) (left : Left) (f g : Flaw) → AreOneGround n m → IsFlawed n c.start c.goal plan left f → IsFlawed m c.start c.goal plan left g → f ≡ g
   one_flaw n m plan left f g same x y =
       let sections : x.section ≡ y.section = (clear.one left.tokens x.rest y.rest x.section y.section x.tokens y.tokens).0 in
-      let there : IsFirstFlaw m c.start c.goal (claim_of x.section) f = subst (λ (o : Network). IsFirstFlaw o c.start c.goal (claim_of x.section) f) same x.first in
-      let own : IsFirstFlaw m c.start c.goal (claim_of y.section) f = subst (λ (s : Section). IsFirstFlaw m c.start c.goal (claim_of s) f) sections there in
-      clear.one_flaw m c.start c.goal (claim_of y.section) f g own y.first
+      let there : IsFirstFlaw m.network c.start c.goal (claim_by n.guide x.section) f = subst (λ (o : Network). IsFirstFlaw o c.start c.goal (claim_by n.guide x.section) f) same.network x.first in
+      let own : IsFirstFlaw m.network c.start c.goal (claim_by n.guide y.section) f = subst (λ (s : Section). IsFirstFlaw m.network c.start c.goal (claim_by n.guide s) f) sections there in
+      clear.one_flaw m.network c.start c.goal y.section n.guide m.guide f g same.guide own y.first
 
   -- where a section does not hold
   stops_as_far : (plan : ℕ) (left : Left) (s t : SectionStop) → t ≢ section.NoMemory → IsStoppedIn c plan left s → IsStoppedIn c plan left t → GoesAsFar [] [] (Some s) (Some t)
   stops_as_far plan left (section.Flaw f) (section.Flaw g) some (n, after, x) (m, later, y) =
-      let same = one_flaw n m plan left f g (one_graph one c.world c.batches plan n m after later) x y in
+      let same = one_flaw n m plan left f g (one_ground one c.world c.batches plan c.goal n m after later) x y in
       inl (refl, ap (λ (e : Flaw). Some (section.Flaw e)) same)
   stops_as_far plan left (section.Flaw f) (section.Fault g) some (n, after, x) q =
       absurd (clear.not_both plan _ left g (readable clear one c n plan left x.section x.rest after x.of x.tokens) q.1)
@@ -93,7 +93,7 @@ module _ (clear : SectionsAreClear) (one : OneMap) (c : Case) where
   goes_as_far (suc more) plan left (o ∷ os) [] a (Some t) some (n, after, rest, is, p) q = absurd (holds_not_stopped clear one c n plan left rest o t (λ no. some (ap (λ (x : SectionStop). Some x) no)) after is q)
   goes_as_far (suc more) plan left (o ∷ os) (o' ∷ ps) a b some (n, after, rest, is, p) (m, later, carried, also, q) =
       let both = clear.one left.tokens rest.tokens carried.tokens is.section also.section is.tokens also.tokens in
-      let outcome : o ≡ o' = sym is.says ∙ ap (λ (s : Section). s.outcome) both.0 ∙ also.says in
+      let outcome : o ≡ o' = sym is.says ∙ ap outcome_of both.0 ∙ also.says in
       let same : carried ≡ rest = same_left clear one c carried rest (sym both.1) (also.same_end ∙ sym is.same_end) in
       one_more o o' os ps a b outcome (goes_as_far more (plan + 1) rest os ps a b some p (subst (λ (l : Left). AreChecked IsHolding c (plan + 1) more l ps b) same q))
 
@@ -144,6 +144,6 @@ module _ (clear : TextsAreClear) (sections : SectionsAreClear) (one : OneMap) (g
       let to : other ≡ goal = one_state w.env w.env.end other goal (subst (λ (e : Environment). IsStateOf e e.end other) alike.env y.in_world.goal_is) x.in_world.goal_is in
       let there = same_case v x.batches y.batches y.in_world.start x.in_world.start other goal y.text x.text ps b batches from to text y.in_world.checked in
       let c : Case = record { world = w; batches = x.batches; start = x.in_world.start; goal = goal } in
-      let q = checked_on v w x.batches x.in_world.start goal (same_graph graphs v w x.is_world alike.env alike.prims alike.map alike.radius x.batches) alike.env (suc (length x.batches)) 0 (start_at x.text 0) ps b there in
+      let q = checked_on v w x.batches x.in_world.start goal (same_graph graphs v w x.is_world alike.env alike.prims alike.map alike.radius x.batches goal) alike.env (suc (length x.batches)) 0 (start_at x.text 0) ps b there in
       let p = checked_on w w x.batches x.in_world.start goal (λ k n after. after) refl (suc (length x.batches)) 0 (start_at x.text 0) os a x.in_world.checked in
       (sym to, writes_as_far goal 0 os ps a b (goes_as_far sections one c (suc (length x.batches)) 0 (start_at x.text 0) os ps a b some p q))

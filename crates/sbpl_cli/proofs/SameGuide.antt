@@ -1,5 +1,5 @@
 -- The best heuristic is determined at states.
-use Rattle.std.proofs.Common.{◌≡◌, ℕ, ◌<◌, ◌≤◌, max, inl, inr, sym, ap, ◌∙◌, arith, List}
+use Rattle.std.proofs.Common.{◌≡◌, ℕ, ◌<◌, ◌≤◌, max, inl, inr, sym, ap, subst, ◌∙◌, arith, List}
 use Rattle.sbpl_graph.specs.Network.{Network}
 use Rattle.sbpl_cfg.specs.Environment.{Environment}
 use Rattle.sbpl_mprim.specs.Primitives.{Primitives}
@@ -37,3 +37,17 @@ one_best e ps sweeps others m goal h h' same x y s inside =
     let gaps : (network_of (made e ps sweeps m)).gap s goal ≡ (network_of (made e ps others m)).gap s goal = ap (λ (n : Network). n.gap s goal) same in
     let values : max (x.bound s) ((network_of (made e ps sweeps m)).gap s goal) ≡ max (y.bound s) ((network_of (made e ps others m)).gap s goal) = λ i. max (bounds i) (gaps i) in
     x.values s inside ∙ values ∙ sym (y.values s inside)
+
+-- the best heuristic of a world is that of a world with the same environment, primitives, map and graph
+pub best_moved : (v w : World) (goal : ℕ) (h : ℕ → ℕ) → v.env ≡ w.env → v.prims ≡ w.prims → v.map ≡ w.map → network_of v ≡ network_of w → IsBest v goal h → IsBest w goal h
+best_moved v w goal h env prims map same x = record {
+  bound = x.bound;
+  bounds = λ s inside.
+      subst (λ (m : CellMap). IsCellBound w.env w.prims.items m (cell_of w.env goal) (cell_of w.env s) (x.bound s)) map
+      (subst (λ (ps : Primitives). IsCellBound w.env ps.items v.map (cell_of w.env goal) (cell_of w.env s) (x.bound s)) prims
+      (subst (λ (e : Environment). IsCellBound e v.prims.items v.map (cell_of e goal) (cell_of e s) (x.bound s)) env (x.bounds s (in_v s inside))));
+  values = λ s inside. x.values s (in_v s inside) ∙ ap (λ (n : Network). max (x.bound s) (n.gap s goal)) same;
+}
+  where
+    in_v : (s : ℕ) → s < state_count w.env → s < state_count v.env
+    in_v s inside = subst (λ (e : Environment). s < state_count e) (sym env) inside

@@ -16,7 +16,7 @@ use Rattle.sbpl_cost.specs.Alike.{AlikeWorldsAreOneGraph}
 use Rattle.sbpl_cost.specs.Lattices.{network_of}
 use Rattle.sbpl_cost.specs.States.{place_of, state_count}
 use Rattle.sbpl_cost.specs.World.{World}
-use Rattle.sbpl_cert.specs.Sections.{Section, row_at}
+use Rattle.sbpl_cert.specs.Sections.{FullSection, row_at}
 use Rattle.sbpl_cert.specs.Sections as section
 use Rattle.sbpl_cert.specs.declared.row.Row.{Row}
 use Rattle.sbpl_labels.specs.Marks.{Marks, states_of, g_of, v_of, back_of}
@@ -109,7 +109,7 @@ one_low {states} {goal} {g} {v} {h} {h'} {low} {low'} alike a b =
     let down : low' ≤ low = a.greatest low' b.at_goal (λ s inside differ. omega (arith, alike s inside, b.unsettled s inside differ)) in
     omega arith
 
-one_section : {n n' : Network} {h h' : ℕ → ℕ} {start goal plan : ℕ} {m : Marks} {found : Outcome FoundPath} → AreAlikeGuides (states_of m) h h' → (s u : Section)
+one_section : {n n' : Network} {h h' : ℕ → ℕ} {start goal plan : ℕ} {m : Marks} {found : Outcome FoundPath} → AreAlikeGuides (states_of m) h h' → (s u : FullSection)
     → IsShown n h start goal plan m found s → IsShown n' h' start goal plan m found u → s ≡ u
 one_section {n} {n'} {h} {h'} {start} {goal} {plan} {m} {found} alike s u x y =
     let number : s.plan ≡ u.plan = x.number ∙ sym y.number in

@@ -15,7 +15,7 @@ use Rattle.sbpl_plan.specs.declared.result.Outcome.{Outcome}
 use Rattle.sbpl_plan.specs.declared.result.Outcome.TheVariants as outcome
 use Rattle.sbpl_cert.specs.Made.{IsOfLabels}
 use Rattle.sbpl_cert.specs.Sections as sections
-use Rattle.sbpl_cert.specs.Sections.{HasArcs, Section, g_at, v_at}
+use Rattle.sbpl_cert.specs.Sections.{HasArcs, FullSection, g_at, v_at}
 use Rattle.sbpl_cert.specs.Claims.{claim_of}
 use Rattle.sbpl_cert.specs.Sound.{ShowsBound, ShowsOutcome}
 use Rattle.sbpl_cert.specs.declared.outcome.Outcome as told
@@ -69,7 +69,7 @@ module _ (n : Network) (sound : IsSound n) (guide : ℕ → ℕ) (goal : ℕ) (m
       let b : less ≤ low = p.greatest less q.at_goal q.unsettled in
       omega arith
 
-  shows_outcome : (found : Outcome FoundPath) (s : Section) → IsResultOf n guide goal m found → IsOfLabels m guide goal s → ShowsBound n m.start goal (claim_of s) → s.arcs ≡ arcs_of found → ShowsOutcome n m.start goal (claim_of s) (answer_of found)
+  shows_outcome : (found : Outcome FoundPath) (s : FullSection) → IsResultOf n guide goal m found → IsOfLabels m guide goal s → ShowsBound n m.start goal (claim_of s) → s.arcs ≡ arcs_of found → ShowsOutcome n m.start goal (claim_of s) (answer_of found)
   shows_outcome (outcome.Path p) s is made bounds copied =
       let low : s.low ≡ is.low = one_low s.low is.low made.low is.low_is in
       (subst (λ (l : List ℕ). IsFreePath n m.start l goal p.cost) (sym copied) is.walk.path, subst (λ (l : ℕ). IsBound p.cost l p.bound) (sym low) is.bound_is)
@@ -85,7 +85,7 @@ module _ (n : Network) (sound : IsSound n) (guide : ℕ → ℕ) (goal : ℕ) (m
   }
   shows_outcome outcome.Unknown s is made bounds copied = tt
 
-  shown_by : (plan : ℕ) (found : Outcome FoundPath) (s : Section) → IsResultOf n guide goal m found → s.plan ≡ plan → s.outcome ≡ answer_of found → s.arcs ≡ arcs_of found → IsOfLabels m guide goal s → ShowsBound n m.start goal (claim_of s) → IsShown n guide m.start goal plan m found s
+  shown_by : (plan : ℕ) (found : Outcome FoundPath) (s : FullSection) → IsResultOf n guide goal m found → s.plan ≡ plan → s.outcome ≡ answer_of found → s.arcs ≡ arcs_of found → IsOfLabels m guide goal s → ShowsBound n m.start goal (claim_of s) → IsShown n guide m.start goal plan m found s
   shown_by plan found s is number says copied made bounds = record {
     number = number;
     labels = made;
@@ -97,7 +97,7 @@ module _ (n : Network) (sound : IsSound n) (guide : ℕ → ℕ) (goal : ℕ) (m
     };
   }
 
-  pub is_shown : (plan : ℕ) (found : Outcome FoundPath) (said : told.Outcome) (arcs : List ℕ) (r : Result Section NoMemory) → IsResultOf n guide goal m found → said ≡ answer_of found → arcs ≡ arcs_of found
+  pub is_shown : (plan : ℕ) (found : Outcome FoundPath) (said : told.Outcome) (arcs : List ℕ) (r : Result FullSection NoMemory) → IsResultOf n guide goal m found → said ≡ answer_of found → arcs ≡ arcs_of found
       → IfOk r (λ s. s.plan ≡ plan) → IfOk r (λ s. s.outcome ≡ said) → IfOk r (λ s. s.arcs ≡ arcs) → IfOk r (IsOfLabels m guide goal) → IfOk r (λ s. ShowsBound n m.start goal (claim_of s))
       → IfOk r (IsShown n guide m.start goal plan m found)
   is_shown plan found said arcs (Ok s) is same_answer same_arcs number says copied made bounds = shown_by plan found s is number (says ∙ same_answer) (copied ∙ same_arcs) made bounds

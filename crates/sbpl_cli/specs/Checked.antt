@@ -7,11 +7,12 @@ use Rattle.sbpl_cert.specs.declared.fault.LabelFault.{LabelFault}
 use Rattle.sbpl_cert.specs.declared.fault.LabelFault.TheVariants as fault
 use Rattle.sbpl_cert.specs.declared.flaw.Flaw.{Flaw}
 use Rattle.sbpl_cert.specs.declared.outcome.Outcome.{Outcome}
-use Rattle.sbpl_cert.specs.Claims.{claim_of}
 use Rattle.sbpl_cert.specs.Flaws.{HasNoFlaw, IsFirstFlaw}
-use Rattle.sbpl_cert.specs.Sections.{Section}
+use Rattle.sbpl_cert.specs.declared.section.Section.{Section}
 use Rattle.sbpl_cert.specs.Sound.{IsSo, ShowsAll}
-use Rattle.sbpl_cert.specs.Text.{AreTokensOf, HasFault, IsOf}
+use Rattle.sbpl_cert.specs.Text.{AreTokensOf, HasFault}
+use Rattle.sbpl_cert.specs.Versions.{IsOf, arcs_of, claim_by, outcome_of}
+use Rattle.sbpl_heur.specs.Bests.{IsBest, Table, distance_in}
 use Rattle.sbpl_map.specs.CellMap.{CellMap}
 use Rattle.sbpl_map.specs.MapAfter.{IsMapAfter}
 use Rattle.sbpl_map.specs.declared.write.Write.{Write}
@@ -21,29 +22,38 @@ use Rattle.sbpl_cost.specs.World.{IsWorld, World}
 use Rattle.sbpl_cli.specs.declared.section_check.SectionStop.{SectionStop}
 use Rattle.sbpl_cli.specs.declared.section_check.SectionStop.TheVariants as stop
 
+-- a graph, and what a guide says at its states
+pub record Ground : Type 0 where
+  pub network : Network
+  pub guide : ℕ → ℕ
+
+-- the graph of a world, with a heuristic
+abbrev pub ground_of : World → Table → Ground
+ground_of w b = record { network = network_of w; guide = distance_in b }
+
 -- the tokens that are left begin with the section of a plan, which has no flaw on a graph and says this outcome, and then
 -- others are left
-pub record IsHolding (n : Network) (start goal plan : ℕ) (left : Left) (outcome : Outcome) (rest : Left) : Type 0 where
+pub record IsHolding (n : Ground) (start goal plan : ℕ) (left : Left) (outcome : Outcome) (rest : Left) : Type 0 where
   pub section : Section
-  pub of : IsOf plan n.states section
+  pub of : IsOf plan n.network.states section
   pub tokens : AreTokensOf left.tokens section rest.tokens
   pub same_end : rest.end ≡ left.end
-  pub says : section.outcome ≡ outcome
-  pub no_flaw : HasNoFlaw n start goal (claim_of section)
+  pub says : outcome_of section ≡ outcome
+  pub no_flaw : HasNoFlaw n.network start goal (claim_by n.guide section)
 
 -- and what it says is shown, and is so
-pub record IsShownHolding (n : Network) (start goal plan : ℕ) (left : Left) (outcome : Outcome) (rest : Left) : Type 0 where
+pub record IsShownHolding (n : Ground) (start goal plan : ℕ) (left : Left) (outcome : Outcome) (rest : Left) : Type 0 where
   pub holds : IsHolding n start goal plan left outcome rest
-  pub shows : ShowsAll n start goal (claim_of holds.section)
-  pub so : IsSo n start goal holds.section.arcs outcome
+  pub shows : ShowsAll n.network start goal (claim_by n.guide holds.section)
+  pub so : IsSo n.network start goal (arcs_of holds.section) outcome
 
 -- the tokens that are left begin with the section of a plan, whose first flaw on a graph is this
-pub record IsFlawed (n : Network) (start goal plan : ℕ) (left : Left) (flaw : Flaw) : Type 0 where
+pub record IsFlawed (n : Ground) (start goal plan : ℕ) (left : Left) (flaw : Flaw) : Type 0 where
   pub section : Section
   pub rest : List Piece
-  pub of : IsOf plan n.states section
+  pub of : IsOf plan n.network.states section
   pub tokens : AreTokensOf left.tokens section rest
-  pub first : IsFirstFlaw n start goal (claim_of section) flaw
+  pub first : IsFirstFlaw n.network start goal (claim_by n.guide section) flaw
 
 -- why the section of a plan, with which these tokens should begin, is not read
 abbrev pub IsReadStop : (plan states : ℕ) → Left → SectionStop → Type 0
@@ -53,9 +63,9 @@ IsReadStop plan states left stop.NoMemory = Unit {0}
 
 -- why the section of a plan, with which these tokens should begin, does not hold on a graph: it has a first flaw, or the
 -- tokens have a first fault
-abbrev pub IsSectionStop : Network → (start goal plan : ℕ) → Left → SectionStop → Type 0
+abbrev pub IsSectionStop : Ground → (start goal plan : ℕ) → Left → SectionStop → Type 0
 IsSectionStop n start goal plan left (stop.Flaw f) = IsFlawed n start goal plan left f
-IsSectionStop n start goal plan left (stop.Fault f) = (f ≢ fault.NoMemory) × HasFault plan n.states left f
+IsSectionStop n start goal plan left (stop.Fault f) = (f ≢ fault.NoMemory) × HasFault plan n.network.states left f
 IsSectionStop n start goal plan left stop.NoMemory = Unit {0}
 
 -- a token is left after the last section, where none may be, and this is the fault
@@ -69,12 +79,13 @@ IsTrailing ts (stop.Flaw f) = ⊥
 IsTrailing ts (stop.Fault f) = IsTrailingAt ts f
 IsTrailing ts stop.NoMemory = Unit {0}
 
--- the graph of a world on the map after the first k batches
-pub record IsGraphAfter (w : World) (batches : List (List Write)) (k : ℕ) (n : Network) : Type 0 where
+-- the graph of a world on the map after the first k batches, and the best heuristic for a goal on it
+pub record IsGroundAfter (w : World) (batches : List (List Write)) (k goal : ℕ) (n : Ground) : Type 0 where
   pub map : CellMap
   pub after : IsMapAfter w.map batches k map
   pub is_world : IsWorld (record w { map = map })
-  pub network : n ≡ network_of (record w { map = map })
+  pub network : n.network ≡ network_of (record w { map = map })
+  pub guide : IsBest (record w { map = map }) goal n.guide
 
 -- what stays the same while the sections of a text are checked: the world and the batches, and the states of start and goal
 pub record Case : Type 0 where
@@ -85,11 +96,11 @@ pub record Case : Type 0 where
 
 -- what is said of a section that holds: its graph, its plan, the tokens from it on, its outcome, and the tokens after it
 abbrev pub Holding : Type 1
-Holding = Network → (start goal plan : ℕ) → Left → Outcome → Left → Type 0
+Holding = Ground → (start goal plan : ℕ) → Left → Outcome → Left → Type 0
 
 -- the section of a plan does not hold on its graph, or memory ran out
 abbrev pub IsStoppedIn : Case → (plan : ℕ) → Left → SectionStop → Type 0
-IsStoppedIn c plan left (stop.Flaw f) = (n : Network) × IsGraphAfter c.world c.batches plan n × IsFlawed n c.start c.goal plan left f
+IsStoppedIn c plan left (stop.Flaw f) = (n : Ground) × IsGroundAfter c.world c.batches plan c.goal n × IsFlawed n c.start c.goal plan left f
 IsStoppedIn c plan left (stop.Fault f) = (f ≢ fault.NoMemory) × HasFault plan (state_count c.world.env) left f
 IsStoppedIn c plan left stop.NoMemory = Unit {0}
 
@@ -101,6 +112,6 @@ AreChecked Holds c plan zero left [] None = left.tokens ≡ []
 AreChecked Holds c plan zero left [] (Some s) = IsTrailing left.tokens s
 AreChecked Holds c plan (suc more) left [] (Some s) = IsStoppedIn c plan left s
 AreChecked Holds c plan (suc more) left (o ∷ os) end =
-    (n : Network) × IsGraphAfter c.world c.batches plan n
+    (n : Ground) × IsGroundAfter c.world c.batches plan c.goal n
     × (rest : Left) × Holds n c.start c.goal plan left o rest × AreChecked Holds c (plan + 1) more rest os end
 AreChecked Holds c plan _ left _ _ = ⊥

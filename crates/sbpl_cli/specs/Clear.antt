@@ -1,5 +1,5 @@
 -- No text of a file has two readings.
-use Rattle.std.specs.Prelude.{◌≡◌, ℕ, List}
+use Rattle.std.specs.Prelude.{◌≡◌, ℕ, ◌<◌, List}
 use Rattle.sbpl_graph.specs.Network.{Network}
 use Rattle.sbpl_fixed.specs.Formats.{Left}
 use Rattle.sbpl_fixed.specs.Tokens.{Piece}
@@ -12,10 +12,10 @@ use Rattle.sbpl_mprim.specs.declared.fault.PrimFault.{PrimFault}
 use Rattle.sbpl_mprim.specs.Primitives.{Primitives}
 use Rattle.sbpl_cert.specs.declared.fault.LabelFault.{LabelFault}
 use Rattle.sbpl_cert.specs.declared.flaw.Flaw.{Flaw}
-use Rattle.sbpl_cert.specs.Claims.{Claim}
-use Rattle.sbpl_cert.specs.Flaws.{IsFirstFlaw}
-use Rattle.sbpl_cert.specs.Sections.{Section}
+use Rattle.sbpl_cert.specs.declared.section.Section.{Section}
+use Rattle.sbpl_cert.specs.Flaws.{HasFlaw, HasNoFlaw, IsFirstFlaw}
 use Rattle.sbpl_cert.specs.Text.{AreTokens, AreTokensOf, HasFault}
+use Rattle.sbpl_cert.specs.Versions.{claim_by}
 use Rattle.sbpl_cli.specs.Texts.{HasChangeFault, HasEnvironmentFault, HasPrimitiveFault, IsChangeText, IsEnvironmentText, IsPrimitiveText}
 
 -- an environment file, a primitive file or a change file stands for one value or has one first fault, and never both
@@ -30,9 +30,12 @@ pub record TextsAreClear : Type 0 where
   pub change_fault : (m : CellMap) (text : List ℕ) (batches : List (List Write)) (f : ChangeFault) → IsChangeText m text batches → HasChangeFault m text f → ⊥
   pub one_change_fault : (m : CellMap) (text : List ℕ) (f g : ChangeFault) → HasChangeFault m text f → HasChangeFault m text g → f ≡ g
 
--- one section of labels stands in tokens, or they have one first fault, and never both; a section has one first flaw
+-- one section of labels stands in tokens, or they have one first fault, and never both; a section has one first flaw, or none
 pub record SectionsAreClear : Type 0 where
   pub one : (ts rest more : List Piece) (s u : Section) → AreTokensOf ts s rest → AreTokensOf ts u more → (s ≡ u) × (rest ≡ more)
   pub not_both : (plan states : ℕ) (left : Left) (f : LabelFault) → AreTokens plan states left.tokens → HasFault plan states left f → ⊥
   pub one_fault : (plan states : ℕ) (left : Left) (f g : LabelFault) → HasFault plan states left f → HasFault plan states left g → f ≡ g
-  pub one_flaw : (n : Network) (start goal : ℕ) (s : Claim) (f e : Flaw) → IsFirstFlaw n start goal s f → IsFirstFlaw n start goal s e → f ≡ e
+  pub one_flaw : (n : Network) (start goal : ℕ) (s : Section) (h k : ℕ → ℕ) (f e : Flaw) → ((u : ℕ) → u < n.states → h u ≡ k u)
+      → IsFirstFlaw n start goal (claim_by h s) f → IsFirstFlaw n start goal (claim_by k s) e → f ≡ e
+  pub no_flaw : (n : Network) (start goal : ℕ) (s : Section) (h k : ℕ → ℕ) (f : Flaw) → ((u : ℕ) → u < n.states → h u ≡ k u)
+      → HasNoFlaw n start goal (claim_by h s) → HasFlaw n start goal (claim_by k s) f → ⊥

@@ -16,7 +16,7 @@ use Rattle.sbpl_cert.specs.Faults as faults
 use Rattle.sbpl_cert.specs.Printed as labels
 use Rattle.sbpl_cert.specs.declared.fault.LabelFault.{LabelFault}
 use Rattle.sbpl_cert.specs.declared.outcome.Outcome.{Outcome}
-use Rattle.sbpl_cert.specs.Sections.{Section}
+use Rattle.sbpl_cert.specs.Sections.{FullSection}
 use Rattle.sbpl_job.specs.declared.job.Job.{Job}
 use Rattle.sbpl_job.specs.declared.job.Job.TheVariants as job
 use Rattle.sbpl_cli.specs.declared.section_check.SectionStop.{SectionStop}
@@ -104,9 +104,9 @@ abbrev pub last_write : Write
 last_write = to_output done_text
 
 -- the text of the labels of a plan
-abbrev pub labels_text : Option Section → List ℕ
+abbrev pub labels_text : Option FullSection → List ℕ
 labels_text None = []
-labels_text (Some s) = labels.section_text s
+labels_text (Some s) = labels.full_text s
 
 -- the write of a plan's labels, where they are written
 abbrev pub labels_writes : Outputs → PlanRecord → List Write

@@ -9,10 +9,9 @@ use Rattle.sbpl_replan.specs.Replanning.{Replanning}
 use Rattle.sbpl_cli.specs.declared.record.PlanRecord.{PlanRecord}
 use Rattle.sbpl_search.specs.Meaning.{Meaning}
 use Rattle.sbpl_cli.specs.Asked.{Known}
-use Rattle.sbpl_graph.specs.Network.{Network}
 use Rattle.sbpl_fixed.specs.Formats.{Left}
 use Rattle.sbpl_cert.specs.declared.outcome.Outcome.{Outcome}
-use Rattle.sbpl_cli.specs.Checked.{IsShownHolding}
+use Rattle.sbpl_cli.specs.Checked.{Ground, IsShownHolding}
 use Rattle.sbpl_cli.specs.Verdicts.{holds_text}
 use Rattle.sbpl_cli.specs.Headline.{Begins, Carried, IsPlanOf, expanded_before}
 use Rattle.sbpl_cli.specs.Writing.{AreAppended, DeskState, EndsIn, Stays, Write, to_output}
@@ -41,7 +40,7 @@ EndsOnePlan by written_of w how outputs start goal k before carried old new (Err
     ⊎ ((r : PlanRecord) × IsPlanOf by w how outputs start goal k before carried r × EndsIn {T = Unit {0}} old new (written_of r) (Err e))
 
 -- the section of a plan holds on a graph, and a line says so
-pub record HoldsAndPrints (n : Network) (start goal plan : ℕ) (left rest : Left) (before after : DeskState) : Type 0 where
+pub record HoldsAndPrints (n : Ground) (start goal plan : ℕ) (left rest : Left) (before after : DeskState) : Type 0 where
   pub outcome : Outcome
   pub holds : IsShownHolding n start goal plan left outcome rest
   pub line : AreAppended before after (to_output (holds_text plan outcome) ∷ [])

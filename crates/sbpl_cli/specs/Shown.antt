@@ -9,7 +9,7 @@ use Rattle.sbpl_cert.specs.declared.outcome.Outcome as told
 use Rattle.sbpl_cert.specs.declared.outcome.Outcome.TheVariants as answer
 use Rattle.sbpl_cert.specs.Claims.{claim_of}
 use Rattle.sbpl_cert.specs.Made.{IsOfLabels}
-use Rattle.sbpl_cert.specs.Sections.{Section}
+use Rattle.sbpl_cert.specs.Sections.{FullSection}
 use Rattle.sbpl_cert.specs.Sound.{ShowsAll}
 
 -- what a section says of a result
@@ -25,7 +25,7 @@ arcs_of _ = []
 
 -- As the written labels show: the section has the plan's number, the final labels with the guide's values, the low that
 -- they give, and the result; and it shows its bound and its result on the graph.
-pub record IsShown (n : Network) (guide : ℕ → ℕ) (start goal : ℕ) (plan : ℕ) (final : Marks) (found : Outcome FoundPath) (s : Section) : Type 0 where
+pub record IsShown (n : Network) (guide : ℕ → ℕ) (start goal : ℕ) (plan : ℕ) (final : Marks) (found : Outcome FoundPath) (s : FullSection) : Type 0 where
   pub number : s.plan ≡ plan
   pub labels : IsOfLabels final guide goal s
   pub answer : s.outcome ≡ answer_of found

@@ -6,7 +6,8 @@ ghost use Rattle.sbpl_cost.specs.Lattices.{network_of};
 ghost use Rattle.sbpl_cost.specs.World.{IsWorld};
 ghost use Rattle.sbpl_job.specs.declared.job.Job.TheVariants as Jobs;
 ghost use Rattle.sbpl_cli.specs.Causes.{IsCourse, IsReadText, JobStopsFor};
-ghost use Rattle.sbpl_cli.specs.Checked.{Case, IsGraphAfter};
+ghost use Rattle.sbpl_heur.specs.Bests.{Fits, IsBest, IsGuide, distance_in};
+ghost use Rattle.sbpl_cli.specs.Checked.{Case, IsGroundAfter, ground_of};
 ghost use Rattle.sbpl_cli.specs.Planning.{HoldsAndPrints};
 ghost use Rattle.sbpl_map.specs.ChangeText.{AreOnMap};
 ghost use Rattle.sbpl_cli.specs.Intents.{stop_status, stop_writes};
@@ -28,6 +29,7 @@ use sbpl_change::write_batch;
 use sbpl_cost::{Lattice, lattice_has_its_arcs};
 use sbpl_desk::{Desk, WriteStop};
 use sbpl_fixed::{NoMemory, next_token};
+use sbpl_heur::Best;
 use sbpl_job::CheckJob;
 use sbpl_map::{Changes, writes_lead_to_the_next_map};
 use std::alloc::Global;
@@ -99,6 +101,7 @@ fn write_holds<D: Desk>(
 fn check_next<D: Desk>(
     alloc: Global,
     lattice: &Lattice,
+    guide: &Best,
     start: u32,
     goal: u32,
     plan: u32,
@@ -108,14 +111,15 @@ fn check_next<D: Desk>(
 ) -> Result<usize, u8>
     requires start { start < (network_of lattice.now).states }
     requires goal { goal < (network_of lattice.now).states }
+    requires guide { IsGuide (network_of lattice.now) goal guide.now }
     requires at { at ≤ length text.now }
     ensures inside { IfOk result (λ next. next ≤ length text.now) }
-    ensures holds { IfOk result (λ next. HoldsAndPrints (network_of lattice.now) start goal plan (start_at text.now at) (start_at text.now next) (D.state desk.old) (D.state desk.new)) }
-    ensures ends { (c : Case) (more : ℕ) → IsGraphAfter c.world c.batches plan (network_of lattice.now) → c.start ≡ start → c.goal ≡ goal
+    ensures holds { IfOk result (λ next. HoldsAndPrints (ground_of lattice.now guide.now) start goal plan (start_at text.now at) (start_at text.now next) (D.state desk.old) (D.state desk.new)) }
+    ensures ends { (c : Case) (more : ℕ) → IsGroundAfter c.world c.batches plan goal (ground_of lattice.now guide.now) → c.start ≡ start → c.goal ≡ goal
         → IfErr result (EndsSections c plan (suc more) (start_at text.now at) (D.state desk.old) (D.state desk.new)) }
     ensures frame { WritesOnly IsOutput (D.state desk.old) (D.state desk.new) }
 {
-    match check_section(alloc, lattice, start, goal, plan, text, at) {
+    match check_section(alloc, lattice, guide, start, goal, plan, text, at) {
         Ok((outcome, next)) => match write_holds(alloc, plan, &outcome, desk) {
             Ok(()) => Ok(next),
             Err(stop) => Err(status_after(Err(stop), 9)),
@@ -124,8 +128,47 @@ fn check_next<D: Desk>(
     }
 }
 
-/// Checks the sections of a text, one for each map, while batches of changes are written to the map of a lattice; writes what
-/// came of it, and answers the status.
+/// Checks the sections of a text, one for each map, while batches of changes are written to the map of a lattice and the heuristic is
+/// made anew for it; writes what came of it, and answers the status.
+fn check_sections<D: Desk>(
+    alloc: Global,
+    lattice: &mut Lattice,
+    guide: &mut Best,
+    changes: &Changes,
+    start: u32,
+    goal: u32,
+    text: &[u8],
+    desk: &mut D,
+) -> u8
+    requires start { start < (network_of lattice.old).states }
+    requires goal { goal < (network_of lattice.old).states }
+    requires kept { IsWorld lattice.old }
+    requires on_map { AreOnMap lattice.old.map changes.now }
+    requires same_goal { guide.old.goal ≡ goal }
+    requires best { IsBest lattice.old goal (distance_in guide.old) }
+    requires guide { IsGuide (network_of lattice.old) goal guide.old }
+    requires fits { Fits lattice.old guide.old }
+    ensures ends { EndsSections (record { world = lattice.old; batches = changes.now; start = start; goal = goal }) 0 (suc (length changes.now)) (start_at text.now 0) (D.state desk.old) (D.state desk.new) result }
+    ensures frame { WritesOnly IsOutput (D.state desk.old) (D.state desk.new) }
+{
+    writes_lead_to_the_next_map();
+    let mut at = 0;
+    for k in 0..changes.batches() {
+        match check_next(alloc, lattice, guide, start, goal, k, text, at, desk) {
+            Ok(next) => at = next,
+            Err(status) => return status,
+        }
+        write_batch(lattice, changes.batch(k));
+        guide.rebuild(lattice);
+    }
+    let last = changes.batches();
+    match check_next(alloc, lattice, guide, start, goal, last, text, at, desk) {
+        Ok(next) => end_sections(alloc, text, next, desk),
+        Err(status) => status,
+    }
+}
+
+/// Checks the sections of a text on the maps that a lattice has while batches of changes are written, as `check_sections` does.
 fn check_text<D: Desk>(
     alloc: Global,
     lattice: &mut Lattice,
@@ -142,19 +185,11 @@ fn check_text<D: Desk>(
     ensures ends { EndsSections (record { world = lattice.old; batches = changes.now; start = start; goal = goal }) 0 (suc (length changes.now)) (start_at text.now 0) (D.state desk.old) (D.state desk.new) result }
     ensures frame { WritesOnly IsOutput (D.state desk.old) (D.state desk.new) }
 {
-    writes_lead_to_the_next_map();
-    let mut at = 0;
-    for k in 0..changes.batches() {
-        match check_next(alloc, lattice, start, goal, k, text, at, desk) {
-            Ok(next) => at = next,
-            Err(status) => return status,
-        }
-        write_batch(lattice, changes.batch(k));
-    }
-    let last = changes.batches();
-    match check_next(alloc, lattice, start, goal, last, text, at, desk) {
-        Ok(next) => end_sections(alloc, text, next, desk),
-        Err(status) => status,
+    match Best::build(alloc, lattice, goal) {
+        Ok(mut guide) => check_sections(
+            alloc, lattice, &mut guide, changes, start, goal, text, desk,
+        ),
+        Err(NoMemory) => 9,
     }
 }
 

@@ -1,15 +1,20 @@
 //! The section of a plan, read and checked.
 
-ghost use Rattle.std.specs.Prelude.{◌<◌, ◌≤◌, length, IfErr, IfOk};
+ghost use Rattle.std.specs.Prelude.{◌<◌, ◌≤◌, ℕ, length, IfErr, IfOk, OnOk};
 ghost use Rattle.sbpl_fixed.specs.Formats.{start_at};
 ghost use Rattle.sbpl_fixed.specs.Tokens.{tokens_from};
 ghost use Rattle.sbpl_cost.specs.Lattices.{network_of};
-ghost use Rattle.sbpl_cert.specs.Text.{AreTokensOf, IsOf};
-ghost use Rattle.sbpl_cli.specs.Checked.{IsReadStop, IsSectionStop, IsShownHolding};
+ghost use Rattle.sbpl_cert.specs.Flaws.{HasNoFlaw, IsFirstFlaw};
+ghost use Rattle.sbpl_cert.specs.Sound.{IsSo, ShowsAll};
+ghost use Rattle.sbpl_cert.specs.Text.{AreTokensOf};
+ghost use Rattle.sbpl_cert.specs.Versions.{IsOf, arcs_of, claim_by, outcome_of};
+ghost use Rattle.sbpl_heur.specs.Bests.{IsGuide, distance_in};
+ghost use Rattle.sbpl_cli.specs.Checked.{IsReadStop, IsSectionStop, IsShownHolding, ground_of};
 
-use sbpl_cert::{Flaw, LabelFault, LabelSet, Outcome, check, read_labels};
+use sbpl_cert::{Flaw, LabelFault, Outcome, Section, check, check_sparse, read_labels};
 use sbpl_cost::Lattice;
 use sbpl_graph::Graph;
+use sbpl_heur::Best;
 use std::alloc::Global;
 
 /// Why the checking of sections ends before the last line.
@@ -30,7 +35,7 @@ fn read_section(
     at: usize,
     plan: u32,
     states: u32,
-) -> Result<(LabelSet, usize), SectionStop>
+) -> Result<(Section, usize), SectionStop>
     requires at { at ≤ length text.now }
     ensures of { IfOk result (λ x. IsOf plan states x.0) }
     ensures tokens { IfOk result (λ x. AreTokensOf (tokens_from text.now at) x.0 (tokens_from text.now x.1)) }
@@ -44,11 +49,35 @@ fn read_section(
     }
 }
 
+/// Checks a section of either version on the lattice. The heuristic is the best one for the goal.
+fn check_either(
+    lattice: &Lattice,
+    guide: &Best,
+    start: u32,
+    goal: u32,
+    section: &Section,
+) -> Result<(), Flaw>
+    requires start { start < (network_of lattice.now).states }
+    requires goal { goal < (network_of lattice.now).states }
+    requires guide { IsGuide (network_of lattice.now) goal guide.now }
+    requires of { (plan : ℕ) × IsOf plan (network_of lattice.now).states section.now }
+    ensures none { OnOk result (HasNoFlaw (network_of lattice.now) start goal (claim_by (distance_in guide.now) section.now)) }
+    ensures first { IfErr result (IsFirstFlaw (network_of lattice.now) start goal (claim_by (distance_in guide.now) section.now)) }
+    ensures shows { OnOk result (ShowsAll (network_of lattice.now) start goal (claim_by (distance_in guide.now) section.now)) }
+    ensures so { OnOk result (IsSo (network_of lattice.now) start goal (arcs_of section.now) (outcome_of section.now)) }
+{
+    match section {
+        Section::Full(set) => check(lattice, start, goal, set),
+        Section::Sparse(set) => check_sparse(lattice, guide, start, goal, set),
+    }
+}
+
 /// Reads the section of a plan and checks it on the lattice. Answers what the plan answered, and the offset after the
 /// section.
 pub(crate) fn check_section(
     alloc: Global,
     lattice: &Lattice,
+    guide: &Best,
     start: u32,
     goal: u32,
     plan: u32,
@@ -57,14 +86,15 @@ pub(crate) fn check_section(
 ) -> Result<(Outcome, usize), SectionStop>
     requires start { start < (network_of lattice.now).states }
     requires goal { goal < (network_of lattice.now).states }
+    requires guide { IsGuide (network_of lattice.now) goal guide.now }
     requires at { at ≤ length text.now }
-    ensures holds { IfOk result (λ x. IsShownHolding (network_of lattice.now) start goal plan (start_at text.now at) x.0 (start_at text.now x.1)) }
+    ensures holds { IfOk result (λ x. IsShownHolding (ground_of lattice.now guide.now) start goal plan (start_at text.now at) x.0 (start_at text.now x.1)) }
     ensures inside { IfOk result (λ x. x.1 ≤ length text.now) }
-    ensures stop { IfErr result (IsSectionStop (network_of lattice.now) start goal plan (start_at text.now at)) }
+    ensures stop { IfErr result (IsSectionStop (ground_of lattice.now guide.now) start goal plan (start_at text.now at)) }
 {
     let (section, next) = read_section(alloc, text, at, plan, lattice.states())?;
-    match check(lattice, start, goal, &section) {
-        Ok(()) => Ok((section.outcome, next)),
+    match check_either(lattice, guide, start, goal, &section) {
+        Ok(()) => Ok((section.outcome(), next)),
         Err(flaw) => Err(SectionStop::Flaw(flaw)),
     }
 }

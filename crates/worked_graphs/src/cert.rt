@@ -1,10 +1,13 @@
-//! Texts and graphs of three states, and the text of a whole corridor.
+//! Texts of both versions on graphs of three states, and the text of a whole corridor.
+
+ghost use Rattle.std.specs.Prelude.{◌≡◌, ◌≤◌, IfOk, length};
 
 use crate::listed::Listed;
 use sbpl_cert::{
-    Arcs, Flaw, LabelFault, LabelSet, Outcome, Row, Rows, check, read_labels, write_labels,
+    Arcs, Flaw, LabelFault, LabelSet, Outcome, Row, Rows, Section, SparseRow, SparseSet, check,
+    check_sparse, read_labels, write_labels, write_sparse,
 };
-use sbpl_graph::FAR;
+use sbpl_graph::{FAR, Zero};
 use std::alloc::{AllocError, Global};
 use std::process::Abort;
 use std::test::Fail;
@@ -13,10 +16,50 @@ use std::test::Fail;
 const CORRIDOR: &str =
     "labels 1 plan 0 states 3 low 50\npath 50 1.000 2 0 0\n0 0 50\n25 25 25\n50 - 0\nend\n";
 
-/// The text with another line, counted from 0.
-fn with_line(alloc: Global, line: usize, other: &str) -> Result<String, AllocError> {
+/// The same labels in version 2.
+const SPARSE: &str =
+    "labels 2 plan 0 states 3 rows 3 low 50\npath 50 1.000 2 0 0\n0 0 0\n1 25 25\n2 50 -\nend\n";
+
+/// Reads a section, which must be one in full.
+fn read_full(
+    alloc: Global,
+    text: &[u8],
+    at: usize,
+    plan: u32,
+    states: u32,
+) -> Result<(LabelSet, usize), Fail>
+    ensures states { IfOk result (λ x. length x.0.labels ≡ states) }
+    ensures inside { IfOk result (λ x. x.1 ≤ length text.now) }
+{
+    let (section, after) = read_labels(alloc, text, at, plan, states)?;
+    match section {
+        Section::Full(set) => Ok((set, after)),
+        Section::Sparse(_) => Err(Fail::new("a sparse section")),
+    }
+}
+
+/// Reads a section, which must be a sparse one.
+fn read_sparse(
+    alloc: Global,
+    text: &[u8],
+    at: usize,
+    plan: u32,
+    states: u32,
+) -> Result<(SparseSet, usize), Fail>
+    ensures states { IfOk result (λ x. x.0.states ≡ states) }
+    ensures inside { IfOk result (λ x. x.1 ≤ length text.now) }
+{
+    let (section, after) = read_labels(alloc, text, at, plan, states)?;
+    match section {
+        Section::Full(_) => Err(Fail::new("a section in full")),
+        Section::Sparse(set) => Ok((set, after)),
+    }
+}
+
+/// A text with another line, counted from 0.
+fn with_line(alloc: Global, whole: &str, line: usize, other: &str) -> Result<String, AllocError> {
     let mut text = String::new(alloc);
-    for (i, old) in CORRIDOR.lines().enumerate() {
+    for (i, old) in whole.lines().enumerate() {
         text.push_str(if i == line { other } else { old })?;
         text.push_str("\n")?;
     }
@@ -68,7 +111,7 @@ fn is_the_lattice(set: &LabelSet) -> bool {
 
 /// Reads the section of a text, and writes it again.
 fn read_and_written(rt: &impl Abort, alloc: Global, text: &[u8]) -> Result<(), Fail> {
-    let (set, after) = read_labels(alloc, text, 0, 0, 48)?;
+    let (set, after) = read_full(alloc, text, 0, 0, 48)?;
     assert_eq!(rt; after + 1, text.len());
     assert!(rt; is_the_lattice(&set));
     let mut out = Vec::new(alloc);
@@ -99,7 +142,7 @@ end
 
 /// Reads the first of the two, and answers where it ends.
 fn first_of_two(rt: &impl Abort, alloc: Global) -> Result<usize, Fail> {
-    let (first, after) = read_labels(alloc, TWO.as_bytes(), 0, 0, 1)?;
+    let (first, after) = read_full(alloc, TWO.as_bytes(), 0, 0, 1)?;
     assert_eq!(rt; (first.low, after), (FAR, 87));
     let path = Outcome::Path {
         cost: 3,
@@ -115,7 +158,7 @@ fn first_of_two(rt: &impl Abort, alloc: Global) -> Result<usize, Fail> {
 fn sections_stand_one_after_another(rt: HostRuntime) -> Result<(), Fail> {
     let text = TWO.as_bytes();
     let after = first_of_two(&rt, rt.alloc())?;
-    let (second, after) = read_labels(rt.alloc(), text, after, 1, 0)?;
+    let (second, after) = read_full(rt.alloc(), text, after, 1, 0)?;
     assert_eq!(rt; (second.outcome, after + 1), (Outcome::NoPath, text.len()));
     assert!(rt; second.labels.as_slice().is_empty());
     drop(second);
@@ -139,7 +182,7 @@ fn nothing(alloc: Global) -> LabelSet {
 
 #[test]
 fn sections_are_written_one_after_another(rt: HostRuntime) -> Result<(), Fail> {
-    let (first, _) = read_labels(rt.alloc(), TWO.as_bytes(), 0, 0, 1)?;
+    let (first, _) = read_full(rt.alloc(), TWO.as_bytes(), 0, 0, 1)?;
     let second = nothing(rt.alloc());
     let mut out = Vec::new(rt.alloc());
     assert!(rt; write_labels(&first, &mut out).is_ok());
@@ -157,7 +200,8 @@ fn sections_are_written_one_after_another(rt: HostRuntime) -> Result<(), Fail> {
 const FAULTS: &str = "\
 0 label 1 plan 0 states 3 low 50 => 1 Word 0
 0 labels 01 plan 0 states 3 low 50 => 1 Word 7
-0 labels 2 plan 0 states 3 low 50 => 1 Word 7
+0 labels 3 plan 0 states 3 low 50 => 1 Word 7
+0 labels 2 plan 0 states 3 low 50 => 1 Word 25
 1 paths 50 1.000 2 0 0 => 1 Word 32
 4 50 - 0 50 - 0 => 1 Word 75
 0 labels 1 plan +0 states 3 low 50 => 2 Number 14
@@ -185,11 +229,41 @@ const FAULTS: &str = "\
 0 labels 1 plan 0 states 4294967296 low x => 3 Range 23
 0 labels 1 plan 0 states 4 low x => 6 Count 23";
 
-/// The text with another line, which stands after its number.
-fn altered(alloc: Global, change: &str) -> Result<String, Fail> {
+/// Lines of the sparse corridor with other texts, and their faults. Where one row is left out the next token is read in
+/// its place; where there is one too many it stands where the last word must. The last six rows have two faults.
+const SPARSE_FAULTS: &str = "\
+0 labels 3 plan 0 states 3 rows 3 low 50 => 1 Word 7
+0 labels 1 plan 0 states 3 rows 3 low 50 => 1 Word 25
+0 labels 2 plan 0 states 3 low 50 => 1 Word 25
+0 labels 2 plan 0 states 3 rows 2 low 50 => 1 Word 73
+5 fin => 1 Word 80
+0 labels 2 plan 0 states 3 rows - low 50 => 2 Number 30
+2 -0 0 0 => 2 Number 59
+4 2 -- - => 2 Number 75
+4 2 50 => 2 Number 78
+4  => 2 Number 74
+0 labels 2 plan 0 states 3 rows 4 low 50 => 3 Range 30
+0 labels 2 plan 0 states 3 rows 3 low 9223372036854775808 => 3 Range 36
+3 0 25 25 => 3 Range 65
+2 1 0 0 => 3 Range 65
+4 3 50 - => 3 Range 73
+2 4294967296 0 0 => 3 Range 59
+4 2 4611686018427387904 - => 3 Range 75
+5  => 4 Ended 81
+0 labels 2 plan 1 states 3 rows 3 low 50 => 6 Count 14
+0 labels 2 plan 0 states 2 rows 3 low 50 => 6 Count 23
+0 labels 2 plan 0 states 4 rows 5 low 50 => 6 Count 23
+0 labels 2 plan 0 states 3 rows 4.0 low 50 => 2 Number 30
+0 labels 2 plan 0 states 3 rows 4 low x => 3 Range 30
+3 0.0 25 25 => 2 Number 65
+3 0 x 25 => 3 Range 65
+4 3 - x => 3 Range 73";
+
+/// A text with another line, which stands after its number.
+fn altered(alloc: Global, whole: &str, change: &str) -> Result<String, Fail> {
     let (line, other) = change.split_once(' ').ok_or("a line's number")?;
     let line = line.parse::<usize>().ok().ok_or("a number")?;
-    Ok(with_line(alloc, line, other)?)
+    Ok(with_line(alloc, whole, line, other)?)
 }
 
 /// The fault of a text as a line.
@@ -205,27 +279,48 @@ fn fault_in(alloc: Global, text: &[u8]) -> Result<String, Fail> {
     }
 }
 
-/// The fault of the text with another line, as a line.
-fn fault_of(alloc: Global, change: &str) -> Result<String, Fail> {
-    let text = altered(alloc, change)?;
+/// The fault of a text with another line, as a line.
+fn fault_of(alloc: Global, whole: &str, change: &str) -> Result<String, Fail> {
+    let text = altered(alloc, whole, change)?;
     let fault = fault_in(alloc, text.as_bytes());
     drop(text);
     fault
 }
 
+/// A text has the faults of a table.
+fn has_faults(rt: &impl Abort, alloc: Global, whole: &str, table: &str) -> Result<(), Fail> {
+    for row in table.split('\n') {
+        let (change, want) = row.split_once(" => ").ok_or("an arrow")?;
+        let fault = fault_of(alloc, whole, change)?;
+        assert_eq!(rt; fault.as_str(), want, "{row}");
+    }
+    Ok(())
+}
+
 #[test]
 fn altered_texts_are_refused(rt: HostRuntime) -> Result<(), Fail> {
-    for row in FAULTS.split('\n') {
-        let (change, want) = row.split_once(" => ").ok_or("an arrow")?;
-        let fault = fault_of(rt.alloc(), change)?;
-        assert_eq!(rt; fault.as_str(), want, "{row}");
+    has_faults(&rt, rt.alloc(), CORRIDOR, FAULTS)
+}
+
+#[test]
+fn altered_sparse_texts_are_refused(rt: HostRuntime) -> Result<(), Fail> {
+    has_faults(&rt, rt.alloc(), SPARSE, SPARSE_FAULTS)
+}
+
+#[test]
+fn sparse_texts_end_too_early(rt: HostRuntime) -> Result<(), Fail> {
+    // Before the first token, the number of rows, the outcome, the rows, the last row, and the last word.
+    for length in [0, 29, 38, 58, 72, 79] {
+        let text = SPARSE.as_bytes().get(..length).ok_or("a text")?;
+        let fault = read_labels(rt.alloc(), text, 0, 0, 3).err();
+        assert_eq!(rt; fault, Some(LabelFault::Ended(length)));
     }
     Ok(())
 }
 
 /// What the check of a text says on this graph.
 fn flaw_on(alloc: Global, graph: &Listed, text: &str) -> Result<Option<Flaw>, Fail> {
-    let (set, _) = read_labels(alloc, text.as_bytes(), 0, 0, 3)?;
+    let (set, _) = read_full(alloc, text.as_bytes(), 0, 0, 3)?;
     let flaw = check(graph, 0, 2, &set).err();
     drop(set);
     Ok(flaw)
@@ -278,7 +373,7 @@ fn said_of(alloc: Global, flaw: Option<Flaw>) -> Result<String, AllocError> {
 
 /// The flaw of the text with another line, as a text.
 fn flaw_of(alloc: Global, change: &str) -> Result<String, Fail> {
-    let text = altered(alloc, change)?;
+    let text = altered(alloc, CORRIDOR, change)?;
     let flaw = checked(alloc, text.as_str());
     drop(text);
     Ok(said_of(alloc, flaw?)?)
@@ -330,6 +425,169 @@ fn no_path_is_shown(rt: HostRuntime) -> Result<(), Fail> {
         ),
     ] {
         assert_eq!(rt; flaw_on(rt.alloc(), &graph, text)?, flaw, "{text}");
+    }
+    Ok(())
+}
+
+/// Whether a section is that of the sparse corridor.
+fn is_the_corridor(set: &SparseSet) -> bool {
+    let path = Outcome::Path {
+        cost: 50,
+        bound: 1000,
+    };
+    if set.outcome != path || set.arcs.as_slice() != [0, 0].as_slice() {
+        return false;
+    }
+    let rows = set.rows.as_slice();
+    for (i, state, g, v) in [(0, 0, 0, 0), (1, 1, 25, 25), (2, 2, 50, FAR)] {
+        if rows.get(i) != Some(&SparseRow { state, g, v }) {
+            return false;
+        }
+    }
+    (set.plan, set.states, set.low, rows.len()) == (0, 3, 50, 3)
+}
+
+#[test]
+fn a_sparse_section_is_read_and_written(rt: HostRuntime) -> Result<(), Fail> {
+    let (set, after) = read_sparse(rt.alloc(), SPARSE.as_bytes(), 0, 0, 3)?;
+    assert_eq!(rt; after + 1, SPARSE.len());
+    assert!(rt; is_the_corridor(&set));
+    let mut out = Vec::new(rt.alloc());
+    assert!(rt; write_sparse(&set, &mut out).is_ok());
+    drop(set);
+    assert_eq!(rt; out.as_slice(), SPARSE.as_bytes());
+    drop(out);
+    Ok(())
+}
+
+/// A section in full of one state, and a sparse one after it.
+const MIXED: &str = "labels 1 plan 0 states 1 low 0
+unknown
+0 0 0
+end
+labels 2 plan 1 states 1 rows 1 low -
+nopath
+0 0 0
+end
+";
+
+#[test]
+fn versions_stand_one_after_another(rt: HostRuntime) -> Result<(), Fail> {
+    let text = MIXED.as_bytes();
+    let (first, after) = read_full(rt.alloc(), text, 0, 0, 1)?;
+    assert_eq!(rt;
+        (first.outcome, first.low, after),
+        (Outcome::Unknown, 0, 48)
+    );
+    let (second, after) = read_sparse(rt.alloc(), text, after, 1, 1)?;
+    assert_eq!(rt;
+        (second.outcome, second.low, after),
+        (Outcome::NoPath, FAR, 103)
+    );
+    let mut out = Vec::new(rt.alloc());
+    assert!(rt; write_labels(&first, &mut out).is_ok());
+    assert!(rt; write_sparse(&second, &mut out).is_ok());
+    drop(first);
+    drop(second);
+    assert_eq!(rt; out.as_slice(), text);
+    drop(out);
+    Ok(())
+}
+
+/// What the check of a sparse text says on this graph, by the guide that is 0 everywhere.
+fn sparse_flaw_on(alloc: Global, graph: &Listed, text: &str) -> Result<Option<Flaw>, Fail> {
+    let (set, _) = read_sparse(alloc, text.as_bytes(), 0, 0, 3)?;
+    let flaw = check_sparse(graph, &Zero, 0, 2, &set).err();
+    drop(set);
+    Ok(flaw)
+}
+
+/// What the check of a sparse text says, on a corridor of two arcs of cost 25.
+fn sparse_checked(alloc: Global, text: &str) -> Result<Option<Flaw>, Fail> {
+    let graph = Listed {
+        arcs: [Some((1, 25)), Some((2, 25)), None],
+    };
+    sparse_flaw_on(alloc, &graph, text)
+}
+
+/// Lines of the sparse corridor with other texts, and their flaws. A state without a row has infinite labels.
+const SPARSE_FLAWS: &str = "\
+0 labels 2 plan 0 states 3 rows 3 low 50 => holds
+2 0 1 0 => Start { g: 1 }
+2 0 - 0 => Start { g: 9223372036854775808 }
+3 1 26 25 => Arc { state: 0, arc: 0, has: 26, most: 25 }
+4 2 51 - => Arc { state: 1, arc: 0, has: 51, most: 50 }
+0 labels 2 plan 0 states 3 rows 3 low - => Low { state: 2, has: 9223372036854775808, most: 50 }
+3 1 25 - => Low { state: 1, has: 50, most: 25 }
+1 path 50 1.000 2 1 0 => Path { step: 0 }
+1 path 50 1.000 3 0 0 0 => Path { step: 2 }
+1 path 51 1.000 2 0 0 => Cost { has: 51, sum: 50 }
+1 path 50 1.001 2 0 0 => Bound { has: 1001, least: Some(1000) }
+0 labels 2 plan 0 states 3 rows 3 low 40 => Bound { has: 1000, least: Some(1250) }
+0 labels 2 plan 0 states 3 rows 3 low 0 => Bound { has: 1000, least: None }
+1 path 25 1.000 1 0 => Goal { state: 1 }
+1 nopath => Goal { state: 2 }
+1 unknown => holds";
+
+/// The flaw of the sparse text with another line, as a text.
+fn sparse_flaw_of(alloc: Global, change: &str) -> Result<String, Fail> {
+    let text = altered(alloc, SPARSE, change)?;
+    let flaw = sparse_checked(alloc, text.as_str());
+    drop(text);
+    Ok(said_of(alloc, flaw?)?)
+}
+
+#[test]
+fn flaws_of_a_sparse_section_are_found(rt: HostRuntime) -> Result<(), Fail> {
+    for row in SPARSE_FLAWS.split('\n') {
+        let (change, want) = row.split_once(" => ").ok_or("an arrow")?;
+        let flaw = sparse_flaw_of(rt.alloc(), change)?;
+        assert_eq!(rt; flaw.as_str(), want, "{row}");
+    }
+    Ok(())
+}
+
+/// Sparse sections with absent states, and their flaws on the corridor. An arc from a state of finite v needs a finite g where it
+/// leads; one from a state whose v is infinite needs none.
+const ABSENT: &str = "\
+labels 2 plan 0 states 3 rows 1 low 0 unknown 1 25 25 end => Start { g: 9223372036854775808 }
+labels 2 plan 0 states 3 rows 0 low 0 unknown end => Start { g: 9223372036854775808 }
+labels 2 plan 0 states 3 rows 2 low 50 unknown 0 0 0 1 25 25 end => Arc { state: 1, arc: 0, has: 9223372036854775808, most: 50 }
+labels 2 plan 0 states 3 rows 2 low 50 unknown 0 0 0 2 50 - end => Arc { state: 0, arc: 0, has: 9223372036854775808, most: 25 }
+labels 2 plan 0 states 3 rows 2 low 25 path 50 2.000 2 0 0 0 0 0 1 25 - end => holds
+labels\t2 plan 00 states 03\rrows 02 low 00 unknown 00 0 00 01 25 - end => holds";
+
+#[test]
+fn absent_states_have_infinite_labels(rt: HostRuntime) -> Result<(), Fail> {
+    for row in ABSENT.split('\n') {
+        let (text, want) = row.split_once(" => ").ok_or("an arrow")?;
+        let flaw = sparse_checked(rt.alloc(), text)?;
+        let flaw = said_of(rt.alloc(), flaw)?;
+        assert_eq!(rt; flaw.as_str(), want, "{row}");
+    }
+    Ok(())
+}
+
+#[test]
+fn no_path_is_shown_by_a_sparse_section(rt: HostRuntime) -> Result<(), Fail> {
+    let graph = Listed {
+        arcs: [Some((1, 25)), None, None],
+    };
+    for (text, flaw) in [
+        (
+            "labels 2 plan 0 states 3 rows 2 low - nopath 0 0 0 1 25 25 end",
+            None,
+        ),
+        (
+            "labels 2 plan 0 states 3 rows 2 low 0 nopath 0 0 0 1 25 - end",
+            Some(Flaw::Goal { state: 1 }),
+        ),
+        (
+            "labels 2 plan 0 states 3 rows 1 low 0 nopath 0 0 - end",
+            Some(Flaw::Goal { state: 0 }),
+        ),
+    ] {
+        assert_eq!(rt; sparse_flaw_on(rt.alloc(), &graph, text)?, flaw, "{text}");
     }
     Ok(())
 }

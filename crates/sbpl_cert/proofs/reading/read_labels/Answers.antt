@@ -7,7 +7,7 @@ pub returns-clause-given : goal.returns-clause-given
 returns-clause-given c =
     let within = start_within c.args.text.now c.args.at c.min.result (omega (arith, c.min.ensures)) in
     let exact = rw within at c.read_exactly.ensures.exact in
-    IfOk-weaker c.read_exactly.result _ _ (λ x w. (w.0, w.1))
+    IfOk-weaker c.read_exactly.result _ _ (λ x w. w.0)
     (found_at c.unsigned_numbers_are_their_digits.ensures.law c.reading_is_what_is_said.ensures.law c.args.plan c.args.states c.args.text.now c.args.at c.read_exactly.result c.ranges.plan.fits c.ranges.states.fits exact)
 
 pub returns-clause-inside : goal.returns-clause-inside
@@ -23,7 +23,7 @@ pub returns-clause-found : goal.returns-clause-found
 returns-clause-found c =
     let within = start_within c.args.text.now c.args.at c.min.result (omega (arith, c.min.ensures)) in
     let exact = rw within at c.read_exactly.ensures.exact in
-    IfOk-weaker c.read_exactly.result _ _ (λ x w. w.2)
+    IfOk-weaker c.read_exactly.result _ _ (λ x w. w.1)
     (found_at c.unsigned_numbers_are_their_digits.ensures.law c.reading_is_what_is_said.ensures.law c.args.plan c.args.states c.args.text.now c.args.at c.read_exactly.result c.ranges.plan.fits c.ranges.states.fits exact)
 
 pub returns-clause-only : goal.returns-clause-only

@@ -1,11 +1,11 @@
 use Rattle.std.proofs.lemmas.Result.{on_ok_weaker}
-use Rattle.sbpl_cert.specs.Sections.{Section}
+use Rattle.sbpl_cert.specs.Sections.{FullSection}
 use Rattle.sbpl_cert.proofs.Lines.{section_grows}
 use Rattle.sbpl_cert.proofs.writing.put_section.Goals as goal
 
 pub returns-clause-ok : goal.returns-clause-ok
 returns-clause-ok c =
-    let s : Section = record { plan = c.set.inside.plan; low = c.set.inside.low; outcome = c.set.inside.outcome; arcs = c.set.inside.arcs; labels = c.set.inside.labels } in
+    let s : FullSection = record { plan = c.set.inside.plan; low = c.set.inside.low; outcome = c.set.inside.outcome; arcs = c.set.inside.arcs; labels = c.set.inside.labels } in
     rw (← c.set.view_is) (on_ok_weaker c.put.result
     (λ last. section_grows s _ _ _ _ _ _ _ c.as_slice-rows.ensures.items c.as_slice.ensures.items c.in_ok-put_head.ensures.ok c.in_ok-put_outcome.ensures.ok c.in_ok-put_rows.ensures.ok last)
     c.put.ensures.ok)

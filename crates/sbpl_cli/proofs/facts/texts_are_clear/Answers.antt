@@ -11,5 +11,6 @@ returns c = record {
     not_both = c.texts_are_sections_or_faulty.ensures.not_both;
     one_fault = c.texts_are_sections_or_faulty.ensures.one_fault;
     one_flaw = c.first_flaws_are_one.ensures.one;
+    no_flaw = c.first_flaws_are_one.ensures.none;
   };
 }

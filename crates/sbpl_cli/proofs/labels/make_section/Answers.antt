@@ -6,7 +6,7 @@ use Rattle.sbpl_graph.specs.Network.{Network}
 use Rattle.sbpl_cost.specs.Lattices.{network_of}
 use Rattle.sbpl_heur.specs.Bests.{IsGuide, Table, distance_in}
 use Rattle.sbpl_labels.specs.Marks.{Marks, g_of, states_of, v_of}
-use Rattle.sbpl_cert.specs.Sections.{Section}
+use Rattle.sbpl_cert.specs.Sections.{FullSection}
 use Rattle.sbpl_cert.specs.Claims.{claim_of}
 use Rattle.sbpl_cert.specs.Sound.{ShowsBound}
 use Rattle.sbpl_cli.proofs.Showing.{answer_fits, arcs_fit, is_shown}
@@ -21,7 +21,7 @@ section_of-requires-clause-arcs c =
     rw (c.answer_of-answer.ensures.answer, c.in_ok-arcs.ensures.arcs) (arcs_fit (network_of c.args.lattice.now) c.states-states.ensures.sound (distance_in c.args.guide.now) c.args.goal c.args.labels.now c.requires.states c.requires.goal c.requires.supported c.args.found.now c.requires.found)
 
 -- the section shows its bound on the lattice
-bounds_on : (n : Network) (m : Marks) (goal : ℕ) (table : Table) (r : Result Section NoMemory) → n.states ≡ states_of m → IsSound n → IsGuide n goal table → AreSupported n m.start (g_of m) (v_of m)
+bounds_on : (n : Network) (m : Marks) (goal : ℕ) (table : Table) (r : Result FullSection NoMemory) → n.states ≡ states_of m → IsSound n → IsGuide n goal table → AreSupported n m.start (g_of m) (v_of m)
     → IfOk r (λ s. (o : Network) → o.states ≡ states_of m → IsSound o → IsGuide o goal table → AreSupported o m.start (g_of m) (v_of m) → ShowsBound o m.start goal (claim_of s))
     → IfOk r (λ s. ShowsBound n m.start goal (claim_of s))
 bounds_on n m goal table (Ok s) same sound guides supported shows = shows n same sound guides supported

@@ -2,7 +2,7 @@ use Rattle.std.proofs.Common.{map, arith, ◌≡◌, ℕ, ◌+◌, ◌*◌, ◌^
 use Rattle.std.proofs.lemmas.List.{length-map}
 use Rattle.std.specs.Option.{is_some}
 use Rattle.std.specs.Result.{IsErr}
-use Rattle.sbpl_cert.specs.Sections.{Section}
+use Rattle.sbpl_cert.specs.Sections.{FullSection}
 use Rattle.sbpl_fixed.specs.declared.no_memory.NoMemory.{NoMemory}
 use Rattle.sbpl_cost.specs.Lattices.{network_of}
 use Rattle.sbpl_cost.specs.World.{World}
@@ -43,7 +43,7 @@ in_run before rises (inl all) = inl all
 in_run before rises (inr all) = inr (rises ∙ all)
 
 -- what is known of a plan, and of its record, is that it was searched
-module _ (by : Known) (w : World) (guide : Table) (start goal : ℕ) (how : SearchJob) (outputs : Outputs) (before : Option Carried) (begun final : Marks) (per_plan run used : ℕ) (planned : Planned by.Note) (section : Option Section) where
+module _ (by : Known) (w : World) (guide : Table) (start goal : ℕ) (how : SearchJob) (outputs : Outputs) (before : Option Carried) (begun final : Marks) (per_plan run used : ℕ) (planned : Planned by.Note) (section : Option FullSection) where
   searched_by : (asked : Ask) (wanted : Bool) (plan : ℕ) (r : Result PlanRecord NoMemory) → IsBest w goal (distance_in guide) → Begins by.means w start before begun
       → asked ≡ ask_of how outputs → ArePasses by.means (inquiry w (distance_in guide) goal asked) asked.first begun planned.passes final planned.spent
       → IsResultOf (network_of w) (distance_in guide) goal final planned.outcome → per_plan ≡ how.budget → run ≡ expanded_before before + expansions planned.passes → used ≡ expansions planned.passes

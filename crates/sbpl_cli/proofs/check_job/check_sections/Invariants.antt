@@ -1,0 +1,5 @@
+use Rattle.sbpl_cli.proofs.Verifying.{IsCheckedTo}
+use Rattle.sbpl_cli.proofs.check_job.check_sections.Given as goal
+
+abbrev pub invariant-loop-k : goal.invariant-loop-k
+invariant-loop-k g l = IsCheckedTo l.fn.lattice l.lattice l.guide l.changes l.start l.goal l.text l.k l.at (g.D.Desk.state l.fn.desk) (g.D.Desk.state l.desk)

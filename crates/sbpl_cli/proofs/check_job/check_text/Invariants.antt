@@ -1,5 +1,0 @@
-use Rattle.sbpl_cli.proofs.Verifying.{IsCheckedTo}
-use Rattle.sbpl_cli.proofs.check_job.check_text.Given as goal
-
-abbrev pub invariant-loop-k : goal.invariant-loop-k
-invariant-loop-k g l = IsCheckedTo l.fn.lattice l.lattice l.changes l.start l.goal l.text l.k l.at (g.D.Desk.state l.fn.desk) (g.D.Desk.state l.desk)
