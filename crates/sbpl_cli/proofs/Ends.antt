@@ -1,5 +1,5 @@
 -- How a job ends, from how its reading, its planning and its writing end.
-use Rattle.std.proofs.Common.{ℕ, ◌≤◌, List, Option, Some, None, refl, ◌∙◌, subst, arith, inl, inr}
+use Rattle.std.proofs.Common.{◌≡◌, ℕ, ◌≤◌, List, Option, Some, None, refl, ◌∙◌, subst, arith, inl, inr}
 use Rattle.std.proofs.lemmas.Bool.{cases_lt}
 use Rattle.sbpl_cfg.specs.Environment.{Environment}
 use Rattle.sbpl_desk.specs.Desk.{NoneFalls, Rose, Stays}
@@ -40,30 +40,36 @@ at_name_on : (changes : Option (List ℕ)) (P Q : Names) → ((name : List ℕ) 
 at_name_on None P Q on at = at
 at_name_on (Some name) P Q on at = on name at
 
--- ---- a cause stands where more reads failed
+-- ---- a cause stands for other failed reads too
 
-module _ (held : Told) (F G : Names) (on : (name : List ℕ) → F name → G name) where
-  cause_on : (from : Sources) (r : Refusal) → IsCause held F from r → IsCause held G from r
-  cause_on from (refusal.Read input.Environment) cause = on from.env cause
-  cause_on from (refusal.Read input.Primitives) cause = record { env = cause.env; cells = cause.cells; environment = cause.environment; holds = on from.prims cause.holds }
-  cause_on from _ cause = cause
+-- where the refusal is for a failed read, what has failed by the one names has failed by the other
+abbrev pub IsFailedOn : (F G : Names) → Refusal → Type 0
+IsFailedOn F G r = refusal_status r ≡ 6 → (name : List ℕ) → F name → G name
 
-  changes_cause_on : (from : Sources) (changes : Option (List ℕ)) (r : Refusal) → IsChangesCause held F from changes r → IsChangesCause held G from changes r
-  changes_cause_on from changes (refusal.Read input.Changes) (w, says, at) = (w, says, at_name_on changes F G on at)
-  changes_cause_on from changes _ cause = cause
+module _ (held : Told) (F G : Names) where
+  cause_on : (from : Sources) (r : Refusal) → IsFailedOn F G r → IsCause held F from r → IsCause held G from r
+  cause_on from (refusal.Read input.Environment) on cause = on refl from.env cause
+  cause_on from (refusal.Read input.Primitives) on cause =
+      record { env = cause.env; cells = cause.cells; environment = cause.environment; holds = on refl from.prims cause.holds }
+  cause_on from _ on cause = cause
 
-  labels_cause_on : (c : CheckJob) (r : Refusal) → IsLabelsCause held F c r → IsLabelsCause held G c r
-  labels_cause_on c (refusal.Read input.Labels) (w, batches, says, changes, failed) = (w, batches, says, changes, on c.labels failed)
-  labels_cause_on c _ cause = cause
+  changes_cause_on : (from : Sources) (changes : Option (List ℕ)) (r : Refusal) → IsFailedOn F G r
+      → IsChangesCause held F from changes r → IsChangesCause held G from changes r
+  changes_cause_on from changes (refusal.Read input.Changes) on (w, says, at) = (w, says, at_name_on changes F G (on refl) at)
+  changes_cause_on from changes _ on cause = cause
 
-  job_cause_on : (j : Job) (r : Refusal) → IsJobCause held F j r → IsJobCause held G j r
-  job_cause_on (job.Plan p) r (inl cause) = inl (cause_on p.sources r cause)
-  job_cause_on (job.Plan p) r (inr cause) = inr (changes_cause_on p.sources p.changes r cause)
-  job_cause_on (job.Check c) r (inl cause) = inl (cause_on c.sources r cause)
-  job_cause_on (job.Check c) r (inr (inl cause)) = inr (inl (changes_cause_on c.sources c.changes r cause))
-  job_cause_on (job.Check c) r (inr (inr cause)) = inr (inr (labels_cause_on c r cause))
-  job_cause_on (job.Sweep from) r cause = cause_on from r cause
-  job_cause_on (job.Demo d) r cause = cause
+  labels_cause_on : (c : CheckJob) (r : Refusal) → IsFailedOn F G r → IsLabelsCause held F c r → IsLabelsCause held G c r
+  labels_cause_on c (refusal.Read input.Labels) on (w, batches, says, changes, failed) = (w, batches, says, changes, on refl c.labels failed)
+  labels_cause_on c _ on cause = cause
+
+  pub job_cause_on : (j : Job) (r : Refusal) → IsFailedOn F G r → IsJobCause held F j r → IsJobCause held G j r
+  job_cause_on (job.Plan p) r on (inl cause) = inl (cause_on p.sources r on cause)
+  job_cause_on (job.Plan p) r on (inr cause) = inr (changes_cause_on p.sources p.changes r on cause)
+  job_cause_on (job.Check c) r on (inl cause) = inl (cause_on c.sources r on cause)
+  job_cause_on (job.Check c) r on (inr (inl cause)) = inr (inl (changes_cause_on c.sources c.changes r on cause))
+  job_cause_on (job.Check c) r on (inr (inr cause)) = inr (inr (labels_cause_on c r on cause))
+  job_cause_on (job.Sweep from) r on cause = cause_on from r on cause
+  job_cause_on (job.Demo d) r on cause = cause
 
 -- ---- a stop is handed on
 
@@ -151,7 +157,8 @@ ended s t u j i status gives same ends others = record {
 -- the job was refused, and then the line that says so was written
 pub refused : (s t u : DeskState) (j : Job) (r : Refusal) (status : ℕ) → IsJobCause s.held (ReadFailed s t) j r → ReadsOnly s t → EndsAs t u (refusal_writes j r) (refusal_status r) status → WritesOnly IsOutput t u → EndsJob s u j status
 refused s t u j r status cause same ends frame =
-    ended s t u j (Refused r) status (job_cause_on s.held (ReadFailed s t) (ReadFailed s u) (failed_later s t u same.reads frame.reads) j r cause) same ends frame.others
+    let later : IsFailedOn (ReadFailed s t) (ReadFailed s u) r = λ six. failed_later s t u same.reads frame.reads in
+    ended s t u j (Refused r) status (job_cause_on s.held (ReadFailed s t) (ReadFailed s u) j r later cause) same ends frame.others
 
 -- memory ran out before anything was written
 pub memory_ended : (s t : DeskState) (j : Job) → ReadsOnly s t → EndsJob s t j 9

@@ -18,11 +18,12 @@ use Rattle.sbpl_cli.specs.declared.refusal.Refusal.{Refusal}
 use Rattle.sbpl_cli.specs.Asked.{is_determined}
 use Rattle.sbpl_cli.specs.Causes.{ArePlanned, IsJobCause}
 use Rattle.sbpl_cli.specs.Clear.{SectionsAreClear, TextsAreClear}
-use Rattle.sbpl_cli.specs.Determined.{ArePrefixes, AreTold, CallsFor, FewAreFirst, IsInput, IsNoFailure, IsSource, NoName, NoneRose, RecordsAreOne}
+use Rattle.sbpl_cli.specs.Determined.{ArePrefixes, AreTold, CallsFor, FewAreFirst, IsDeterminedJob, IsInput, IsNoFailure, IsSource, NoName, NoneRose, RecordsAreOne}
 use Rattle.sbpl_cli.specs.Intents.{Intent, Refused, Planned, Checked, Listed, Demonstrated, OutOfMemory, checked_status, end_writes, intent_status, lines_writes, plans_writes, refusal_status, section_writes, writes_of}
 use Rattle.sbpl_cli.specs.Promises.{GivesIntent, EndsJob, EndsRun, IsDemonstration, by_job, by_memory, by_words}
 use Rattle.sbpl_cli.specs.Report.{demo_text, plan_line}
 use Rattle.sbpl_cli.specs.Writing.{AreAppended, DeskState, IsNamed, Names, ReadFailed, Told, Write, to_output}
+use Rattle.sbpl_cli.proofs.Ends.{job_cause_on}
 use Rattle.sbpl_cli.proofs.Prefixes.{ends_prefix, made_prefix}
 use Rattle.sbpl_cli.proofs.OneEnding.{OneMap}
 use Rattle.sbpl_cli.proofs.OneRefusal.{AreBadLabels, AreBadSources, IsBadCourse, IsFailedRead, course_cause, labels_cause, labels_read, not_course, not_world, one_bad_course, one_source, source_cause}
@@ -247,6 +248,44 @@ module _ (clear : TextsAreClear) (sections : SectionsAreClear) (one_map : OneMap
   agrees (job.Sweep from) i whole told gives calls = sweep_agrees from told i whole gives calls
   agrees (job.Demo d) i whole told gives calls = demo_agrees d i whole gives calls
 
+-- ---- what is called for
+
+-- where what a job means to do has not the status of a failure, the words and the files call for it
+called_for : (held : Told) (Failed : Names) (j : Job) (i : Intent) → GivesIntent held Failed j i → IsDeterminedJob j
+    → intent_status i ≢ 6 → intent_status i ≢ 9 → CallsFor held j i
+called_for held Failed j (Refused r) gives one six nine = job_cause_on held Failed NoName j r (λ is. absurd (six is)) gives
+called_for held Failed (job.Plan p) (Planned records true) gives one six nine = (refl, one, gives)
+called_for held Failed (job.Plan p) (Planned records false) gives one six nine = absurd (nine refl)
+called_for held Failed (job.Check c) (Checked goal os end) gives one six nine = (λ is. nine (ap checked_status is), gives)
+called_for held Failed (job.Sweep from) (Listed w) gives one six nine = gives.0
+called_for held Failed (job.Demo d) (Demonstrated w count records true) gives one six nine = (refl, gives)
+called_for held Failed (job.Demo d) (Demonstrated w count records false) gives one six nine = absurd (nine refl)
+called_for held Failed j OutOfMemory gives one six nine = absurd (nine refl)
+called_for held Failed _ _ gives one six nine = absurd gives
+
+none_names : (j : Job) → ◌≡◌ {A = Option Job} None (Some j) → ⊥
+none_names j is = cc
+
+module _ (before after : DeskState) where
+  job_called : (j : Job) (status : ℕ) → IsDeterminedJob j → IsNoFailure status → EndsJob before after j status
+      → (whole : Intent) × CallsFor before.held j whole
+  job_called j status one (no_read, no_write, no_want) e = elim e.ends [
+    | inl (is, made) ↦
+        let six : intent_status e.intent ≢ 6 = λ h. no_read (is ∙ h) in
+        let nine : intent_status e.intent ≢ 9 = λ h. no_want (is ∙ h) in
+        (e.intent, called_for before.held (ReadFailed before after) j e.intent e.gives one six nine)
+    | inr (inl (is, cut)) ↦ absurd (no_write is)
+    | inr (inr (is, stopped)) ↦ absurd (no_want is)
+  ]
+
+  pub run_called : (named : Option Job) (status : ℕ) → EndsRun named before after status → (j : Job) → named ≡ Some j
+      → IsDeterminedJob j → IsNoFailure status → (whole : Intent) × CallsFor before.held j whole
+  run_called named status (by_job other at e) j is one free =
+      let same : other ≡ j = same_Some other j (sym at ∙ is) in
+      job_called j status one free (subst (λ (k : Job). EndsJob before after k status) same e)
+  run_called named status (by_words none ends) j is one free = absurd (none_names j (sym none ∙ is))
+  run_called named status (by_memory nine same) j is one (no_read, no_write, no_want) = absurd (no_want nine)
+
 -- ---- a run
 
 module _ (clear : TextsAreClear) (sections : SectionsAreClear) (one_map : OneMap) (graphs : AlikeWorldsAreOneGraph) (one : RecordsAreOne) (first : FewAreFirst) (before after : DeskState) where
@@ -274,9 +313,6 @@ module _ (clear : TextsAreClear) (sections : SectionsAreClear) (one_map : OneMap
       nothing_after : (ws : List Write) → ws ≡ ws ++ []
       nothing_after [] = refl
       nothing_after (w ∷ ws) = ap (λ (l : List Write). w ∷ l) (nothing_after ws)
-
-  none_names : (j : Job) → ◌≡◌ {A = Option Job} None (Some j) → ⊥
-  none_names j is = cc
 
   pub run_whole : (named : Option Job) (status : ℕ) → EndsRun named before after status → (j : Job) (whole : Intent) → named ≡ Some j → AreTold before.held j → CallsFor before.held j whole → IsNoFailure status
       → (status ≡ intent_status whole) × AreAppended before after (writes_of j whole)

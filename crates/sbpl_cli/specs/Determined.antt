@@ -74,6 +74,11 @@ CallsFor held (job.Sweep from) (Listed w) = ReadsWorld held from w
 CallsFor held (job.Demo d) (Demonstrated w count records all) = (all ≡ true) × IsDemonstration d w count records true
 CallsFor held _ _ = ⊥
 
+-- the job makes no plans by a planner whose passes are not determined
+abbrev pub IsDeterminedJob : Job → Type 0
+IsDeterminedJob (job.Plan j) = is_determined j.search.planner ≡ true
+IsDeterminedJob _ = Unit {0}
+
 -- the status says that no read and no write failed, and that memory did not run out
 abbrev pub IsNoFailure : ℕ → Type 0
 IsNoFailure status = (status ≢ 6) × (status ≢ 7) × (status ≢ 9)

@@ -1,7 +1,7 @@
 -- What `run` promises, of every desk: how the status and what is written come of the job that the words name and of the files.
 use Rattle.std.specs.Prelude.{◌≡◌, ◌≢◌, ◌⊎◌, ℕ, List, None, Option, Some}
 use Rattle.sbpl_desk.specs.Desk.{DeskState}
-use Rattle.sbpl_cli.specs.Run.{AreGood, ArePrefixes, AreTold, AtJob, CallsFor, CellMap, ChangeFault, CheckJob, DemoJob, EndsWithoutMemory, EnvFault, Environment, Intent, IsCheckedIn, IsCutShort, IsDone, IsFaultFound, IsFirstTooDear, IsFirstTooWide, IsFlawFound, IsHolding, IsNoCheck, IsNoFailure, IsOrFailed, IsOrUnwritten, IsRefused, IsStatus, Job, NoneRose, NoneTooWide, Outcome, PrimFault, Primitives, ReadsFrom, SectionStop, SomeRose, Sources, Tells, TellsBatches, TellsChangeFault, TellsEnvironment, TellsEnvironmentFault, TellsPrimitiveFault, TellsPrimitives, TellsTooMuch, TellsWorld, World, Write, changes_of, checked_status, intent_status, sources_of, words_writes, writes_of}
+use Rattle.sbpl_cli.specs.Run.{AreGood, ArePrefixes, AreTold, AtJob, CallsFor, CellMap, ChangeFault, CheckJob, DemoJob, EndsWithoutMemory, EnvFault, Environment, Intent, IsCheckedIn, IsCutShort, IsDeterminedJob, IsDone, IsFaultFound, IsFirstTooDear, IsFirstTooWide, IsFlawFound, IsHolding, IsNoCheck, IsNoFailure, IsOrFailed, IsOrUnwritten, IsRefused, IsStatus, Job, NoneRose, NoneTooWide, Outcome, PrimFault, Primitives, ReadsFrom, SectionStop, SomeRose, Sources, Tells, TellsBatches, TellsChangeFault, TellsEnvironment, TellsEnvironmentFault, TellsPrimitiveFault, TellsPrimitives, TellsTooMuch, TellsWorld, World, Write, changes_of, checked_status, intent_status, sources_of, words_writes, writes_of}
 use Rattle.sbpl_cli.specs.Writing.{AreAppended, IsCutAt, RunsOutAt, Stays}
 use Rattle.sbpl_cli.specs.declared.section_check.SectionStop.TheVariants as Stops
 use Rattle.sbpl_job.specs.declared.job.Job.TheVariants as Jobs
@@ -47,6 +47,9 @@ pub record RunPromises (named : Option Job) (before after : DeskState) (status :
   -- The job `check` ends as the labels do in the world that the files stand for, unless the desk fails or memory runs out.
   pub checked : (j : CheckJob) (w : World) (batches : List (List Write)) (text : List ℕ) (goal : ℕ) (os : List Outcome) (end : Option SectionStop) → named ≡ Some (Jobs.Check j) → TellsWorld before.held j.sources w → TellsBatches before.held j.changes w.map batches → Tells (before.held j.labels) text → IsCheckedIn IsHolding w batches text goal os end → end ≢ Some Stops.NoMemory → IsOrFailed (checked_status end) status
   pub labels_long : (j : CheckJob) (w : World) (batches : List (List Write)) → named ≡ Some (Jobs.Check j) → TellsWorld before.held j.sources w → TellsBatches before.held j.changes w.map batches → TellsTooMuch (before.held j.labels) → IsOrFailed 8 status
+  -- Where no read or write failed and memory did not run out, the words and the files call for something, so the next clause never
+  -- stands empty. Plans by a planner whose passes are not determined are not called for.
+  pub called : (job : Job) → named ≡ Some job → IsDeterminedJob job → IsNoFailure status → (whole : Intent) × CallsFor before.held job whole
   -- What is written is determined by the words and the files: whatever these call for is written whole, with its status, unless a
   -- read or a write failed or memory ran out.
   pub determined : (job : Job) (whole : Intent) → named ≡ Some job → AreTold before.held job → CallsFor before.held job whole → IsNoFailure status → (status ≡ intent_status whole) × AreAppended before after (writes_of job whole)

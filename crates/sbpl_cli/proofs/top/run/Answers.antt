@@ -1,6 +1,6 @@
 use Rattle.std.proofs.Common.{arith}
 use Rattle.sbpl_cli.proofs.Runs.{run_changes_faulty, run_changes_long, run_checked, run_complete, run_cut, run_demonstrated, run_done, run_environment_faulty, run_environment_long, run_faulted, run_flawed, run_labels_long, run_no_job, run_primitives_faulty, run_primitives_long, run_refused, run_status, run_stopped, run_too_dear, run_too_wide, run_words, run_write}
-use Rattle.sbpl_cli.proofs.Wholes.{run_prefix, run_whole}
+use Rattle.sbpl_cli.proofs.Wholes.{run_called, run_prefix, run_whole}
 use Rattle.sbpl_cli.proofs.top.run.Goals as goal
 
 pub returns-clause-promises : goal.returns-clause-promises
@@ -32,6 +32,7 @@ returns-clause-promises g c =
       demonstrated = run_demonstrated _ _ _ _ c.end_run.ensures.ends;
       checked = run_checked _ _ _ _ c.texts_are_clear.ensures.files c.texts_are_clear.ensures.sections c.writes_lead_to_the_next_map.ensures.one_map c.alike_worlds_are_one_graph.ensures.law c.end_run.ensures.ends;
       labels_long = run_labels_long _ _ _ _ c.texts_are_clear.ensures.files c.end_run.ensures.ends;
+      called = run_called _ _ _ _ c.end_run.ensures.ends;
       determined = λ j whole is told calls free.
           run_whole c.texts_are_clear.ensures.files c.texts_are_clear.ensures.sections c.writes_lead_to_the_next_map.ensures.one_map c.alike_worlds_are_one_graph.ensures.law c.records_are_determined.ensures.law c.records_are_determined.ensures.few
           _ _ _ _ c.end_run.ensures.ends j whole is told calls free;
