@@ -21,3 +21,4 @@ pub mod SameChecked
 pub mod Prefixes
 pub mod OneRefusal
 pub mod Wholes
+pub mod WriteTexts

@@ -13,6 +13,7 @@ pub mod Headline
 pub mod Planning
 pub mod Causes
 pub mod Promises
+pub mod WriteTexts
 pub mod Determined
 pub mod Run
 pub mod RunPromises

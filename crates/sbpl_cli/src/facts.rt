@@ -1,8 +1,9 @@
 //! That the definitions leave nothing open of the readings of files, nor of the records of plans by planners whose
-//! passes are determined.
+//! passes are determined; and that no write is empty.
 
 ghost use Rattle.sbpl_cli.specs.Clear.{SectionsAreClear, TextsAreClear};
 ghost use Rattle.sbpl_cli.specs.Determined.{FewAreFirst, RecordsAreOne};
+ghost use Rattle.sbpl_cli.specs.WriteTexts.{WritesAreCounted, WritesHaveTexts};
 
 use sbpl_adstar::AdStar;
 use sbpl_ara::Ara;
@@ -42,3 +43,10 @@ pub fn records_are_determined()
     writes_lead_to_the_next_map();
     alike_worlds_are_one_graph();
 }
+
+/// No write of what a job means to do is empty. The writes of all plans are, for each plan, one to the report and one each to the
+/// files of labels and of traces that are named, and then the last one. It does nothing.
+pub fn writes_have_texts()
+    ensures none_empty { WritesHaveTexts }
+    ensures count { WritesAreCounted }
+{}

@@ -28,7 +28,7 @@ mod top;
 mod trace;
 mod writing;
 
-pub use facts::{records_are_determined, texts_are_clear};
+pub use facts::{records_are_determined, texts_are_clear, writes_have_texts};
 pub use parts::Steps;
 pub use record::{PathRecord, PathStep, PlanRecord, TraceLine};
 pub use refusal::{Input, Refusal};
