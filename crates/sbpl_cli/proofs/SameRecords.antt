@@ -13,11 +13,18 @@ use Rattle.sbpl_sweep.specs.Swept.{Swept}
 use Rattle.sbpl_map.specs.CellMap.{CellMap}
 use Rattle.sbpl_map.specs.declared.write.Write.{Write}
 use Rattle.sbpl_cost.specs.Alike.{AlikeWorldsAreOneGraph}
-use Rattle.sbpl_cost.specs.Lattices.{network_of}
+use Rattle.sbpl_cost.specs.Lattices.{network_of, states_are}
 use Rattle.sbpl_cost.specs.States.{place_of, state_count}
 use Rattle.sbpl_cost.specs.World.{World}
 use Rattle.sbpl_cert.specs.Sections.{FullSection, row_at}
 use Rattle.sbpl_cert.specs.Sections as section
+use Rattle.sbpl_cert.specs.Cut.{AreCutRows, CutRowsAreOne}
+use Rattle.sbpl_cert.specs.Sparse.{SparseSection}
+use Rattle.sbpl_cert.specs.declared.outcome.Outcome as told
+use Rattle.sbpl_cert.specs.declared.section.Section.{Section}
+use Rattle.sbpl_cert.specs.declared.section.Section.TheVariants.{Full, Sparse}
+use Rattle.sbpl_job.specs.declared.job.LabelForm.{LabelForm}
+use Rattle.sbpl_job.specs.declared.job.LabelForm.TheVariants as form
 use Rattle.sbpl_cert.specs.declared.row.Row.{Row}
 use Rattle.sbpl_labels.specs.Marks.{Marks, states_of, g_of, v_of, back_of}
 use Rattle.sbpl_search.specs.Determined.{AreAlikeGuides, AreBeginningsDetermined, AreDetermined}
@@ -46,7 +53,7 @@ use Rattle.sbpl_cli.specs.declared.record.PlanRecord.{PlanRecord}
 use Rattle.sbpl_cli.specs.Asked.{Known, ask_of, is_determined, known}
 use Rattle.sbpl_cli.specs.Headline.{ArePlans, AreRecords, AreSteps, Carried, IsMarked, IsPlanOf, IsSearched, Joins, IsSameResult, expanded_before}
 use Rattle.sbpl_cli.specs.Determined.{FewAreFirst, RecordsAreOne}
-use Rattle.sbpl_cli.specs.Shown.{IsShown, IsThere}
+use Rattle.sbpl_cli.specs.Shown.{IsShown, IsShownInFull, IsShownSparsely, IsThere}
 use Rattle.sbpl_cli.proofs.OneEnding.{OneMap, one_state}
 use Rattle.sbpl_cli.proofs.SameBegun.{AreCarried, one_begun}
 use Rattle.sbpl_cli.proofs.SameGuide.{made, one_best}
@@ -109,9 +116,9 @@ one_low {states} {goal} {g} {v} {h} {h'} {low} {low'} alike a b =
     let down : low' ≤ low = a.greatest low' b.at_goal (λ s inside differ. omega (arith, alike s inside, b.unsettled s inside differ)) in
     omega arith
 
-one_section : {n n' : Network} {h h' : ℕ → ℕ} {start goal plan : ℕ} {m : Marks} {found : Outcome FoundPath} → AreAlikeGuides (states_of m) h h' → (s u : FullSection)
-    → IsShown n h start goal plan m found s → IsShown n' h' start goal plan m found u → s ≡ u
-one_section {n} {n'} {h} {h'} {start} {goal} {plan} {m} {found} alike s u x y =
+one_full : {n n' : Network} {h h' : ℕ → ℕ} {start goal plan : ℕ} {m : Marks} {found : Outcome FoundPath} → AreAlikeGuides (states_of m) h h' → (s u : FullSection)
+    → IsShownInFull n h start goal plan m found s → IsShownInFull n' h' start goal plan m found u → s ≡ u
+one_full {n} {n'} {h} {h'} {start} {goal} {plan} {m} {found} alike s u x y =
     let number : s.plan ≡ u.plan = x.number ∙ sym y.number in
     let low : s.low ≡ u.low = one_low alike x.labels.low y.labels.low in
     let answer : s.outcome ≡ u.outcome = x.answer ∙ sym y.answer in
@@ -123,6 +130,29 @@ one_section {n} {n'} {h} {h'} {start} {goal} {plan} {m} {found} alike s u x y =
     one_row (row_at s.labels k) (row_at u.labels k) (g_of m k) (v_of m k) (h k) (h' k) (alike k inside) (x.labels.labels.rows k inside) (y.labels.labels.rows k inside))
     in
     λ i. record { plan = number i; low = low i; outcome = answer i; arcs = arcs i; labels = labels i }
+
+one_sparse : CutRowsAreOne → {n : Network} {h h' : ℕ → ℕ} {start goal plan : ℕ} {m : Marks} {found : Outcome FoundPath} → states_of m ≡ n.states → AreAlikeGuides (states_of m) h h' → (s u : SparseSection)
+    → IsShownSparsely n h start goal plan m found s → IsShownSparsely n h' start goal plan m found u → s ≡ u
+one_sparse cut_one {n} {h} {h'} {start} {goal} {plan} {m} {found} all alike s u x y =
+    let number : s.plan ≡ u.plan = x.number ∙ sym y.number in
+    let states : s.states ≡ u.states = x.states ∙ sym y.states in
+    let low : s.low ≡ u.low = one_low alike x.labels.low y.labels.low in
+    let answer : s.outcome ≡ u.outcome = x.answer ∙ sym y.answer in
+    let arcs : s.arcs ≡ u.arcs = x.arcs ∙ sym y.arcs in
+    let own : AreCutRows s.outcome n m h' s.low u.rows =
+    subst (λ (o : told.Outcome). AreCutRows o n m h' s.low u.rows) (sym answer) (subst (λ (l : ℕ). AreCutRows u.outcome n m h' l u.rows) (sym low) y.labels.rows)
+    in
+    let rows : s.rows ≡ u.rows = cut_one s.outcome n m h h' s.low s.rows u.rows (λ t inside. alike t (subst (λ (count : ℕ). t < count) (sym all) inside)) x.labels.rows own in
+    λ i. record { plan = number i; states = states i; low = low i; outcome = answer i; arcs = arcs i; rows = rows i }
+
+one_section : CutRowsAreOne → (n : Network) (h h' : ℕ → ℕ) (start goal plan : ℕ) (m : Marks) (found : Outcome FoundPath) → states_of m ≡ n.states → AreAlikeGuides (states_of m) h h' → (f : LabelForm) (s u : Section)
+    → IsShown f n h start goal plan m found s → IsShown f n h' start goal plan m found u → s ≡ u
+one_section cut_one n h h' start goal plan m found all alike form.Full (Full s) (Full u) x y = ap (λ (t : FullSection). Full t) (one_full alike s u x y)
+one_section cut_one n h h' start goal plan m found all alike form.Full (Full s) (Sparse u) x y = absurd y
+one_section cut_one n h h' start goal plan m found all alike form.Full (Sparse s) u x y = absurd x
+one_section cut_one n h h' start goal plan m found all alike form.Sparse (Sparse s) (Sparse u) x y = ap (λ (t : SparseSection). Sparse t) (one_sparse cut_one all alike s u x y)
+one_section cut_one n h h' start goal plan m found all alike form.Sparse (Sparse s) (Full u) x y = absurd y
+one_section cut_one n h h' start goal plan m found all alike form.Sparse (Full s) u x y = absurd x
 
 one_there : {X : Type 0} (asked : Bool) (P Q : X → Type 0) (o p : Option X) → ((x y : X) → P x → Q y → x ≡ y) → IsThere asked P o → IsThere asked Q p → o ≡ p
 one_there true P Q None p one a b = absurd a
@@ -192,7 +222,7 @@ pub record IsPlannerDetermined {Note : Type 0} (means : Meaning Note) : Type 0 w
   pub beginnings : AreBeginningsDetermined means
   pub plans : PassesAreOne means
 
-module _ (by : Known) (law : IsPlannerDetermined by.means) (initial : InitialLabelsAreOne) (one_result : OutcomesAreOne) (e : Environment) (ps : Primitives) (sweeps others : Swept)
+module _ (by : Known) (law : IsPlannerDetermined by.means) (initial : InitialLabelsAreOne) (one_result : OutcomesAreOne) (cut_one : CutRowsAreOne) (e : Environment) (ps : Primitives) (sweeps others : Swept)
     (radius : sweeps.radius ≡ others.radius) where
   one_record : (m : CellMap) (how : SearchJob) (outputs : Outputs) (start goal : ℕ) (before : Option Carried) (carried other : Carried) (r u : PlanRecord)
       → network_of (made e ps sweeps m) ≡ network_of (made e ps others m) → AreCarried e ps sweeps others radius before → r.plan ≡ u.plan
@@ -221,10 +251,14 @@ module _ (by : Known) (law : IsPlannerDetermined by.means) (initial : InitialLab
       let expanded : r.expanded ≡ u.expanded = x.expanded ∙ counts ∙ sym y.expanded in
       let marked : IsMarked how.budget (expanded_before before) x.spent u = rw one.both y.marked in
       let spent : r.spent ≡ u.spent = one_mark how.budget (expanded_before before) x.spent r u counts x.marked marked in
-      let shown : IsThere (is_some outputs.labels) (IsShown (network_of (made e ps others m)) y.guide start goal r.plan carried.labels x.result) u.labels = rw (number, one.labels, results) y.labels in
+      let shown : IsThere (is_some outputs.labels) (IsShown outputs.form n y.guide start goal r.plan carried.labels x.result) u.labels =
+      subst (λ (k : Network). IsThere (is_some outputs.labels) (IsShown outputs.form k y.guide start goal r.plan carried.labels x.result) u.labels) (sym same)
+      (rw (number, one.labels, results) y.labels)
+      in
+      let all_states : states_of carried.labels ≡ n.states = states ∙ sym (states_are (made e ps sweeps m)) in
       let labels : r.labels ≡ u.labels =
-      one_there (is_some outputs.labels) (IsShown n x.guide start goal r.plan carried.labels x.result) (IsShown (network_of (made e ps others m)) y.guide start goal r.plan carried.labels x.result) r.labels u.labels
-      (λ s t. one_section at_end s t) x.labels shown
+      one_there (is_some outputs.labels) (IsShown outputs.form n x.guide start goal r.plan carried.labels x.result) (IsShown outputs.form n y.guide start goal r.plan carried.labels x.result) r.labels u.labels
+      (λ s t. one_section cut_one n x.guide y.guide start goal r.plan carried.labels x.result all_states at_end outputs.form s t) x.labels shown
       in
       record {
         record_is = λ i. record { plan = number i; passes = all i; expanded = expanded i; spent = spent i; outcome = outcomes i; labels = labels i };
@@ -269,17 +303,17 @@ whole_front rs us rest parted as_many =
     let none : rest ≡ [] = nil_from_length rest (omega arith) in
     sym (parted ∙ ap (λ (l : List PlanRecord). rs ++ l) none ∙ append-nil rs)
 
-first_list : ((p : Planner) → is_determined p ≡ true → IsPlannerDetermined (known p).means) → InitialLabelsAreOne → OutcomesAreOne → OneMap → AlikeWorldsAreOneGraph → (e : Environment) (ps : Primitives) (sweeps others : Swept) (m : CellMap) → sweeps.radius ≡ others.radius
+first_list : ((p : Planner) → is_determined p ≡ true → IsPlannerDetermined (known p).means) → InitialLabelsAreOne → OutcomesAreOne → CutRowsAreOne → OneMap → AlikeWorldsAreOneGraph → (e : Environment) (ps : Primitives) (sweeps others : Swept) (m : CellMap) → sweeps.radius ≡ others.radius
     → (batches : List (List Write)) (how : SearchJob) (outputs : Outputs) (rs us : List PlanRecord) (all : Bool) → is_determined how.planner ≡ true → ArePlans (made e ps sweeps m) batches how outputs rs all → ArePlans (made e ps others m) batches how outputs us true
     → (rest : List PlanRecord) × (us ≡ rs ++ rest)
-first_list laws initial one_result one_map one_graph e ps sweeps others m radius batches how outputs rs us all determined left right =
+first_list laws initial one_result cut_one one_map one_graph e ps sweeps others m radius batches how outputs rs us all determined left right =
     let starts : left.start ≡ right.start = one_state e e.start left.start right.start left.start_is right.start_is in
     let goals : left.goal ≡ right.goal = one_state e e.end left.goal right.goal left.goal_is right.goal_is in
     let each : AreRecords (known how.planner) (made e ps others m) batches how outputs left.start left.goal 0 None us = rw (starts, goals) right.each in
     let none : AreCarried e ps sweeps others radius None = tt in
     let few = left.few in
     let many = right.all_made refl in
-    one_records (known how.planner) (laws how.planner determined) initial one_result e ps sweeps others radius one_map one_graph m batches how outputs left.start left.goal rs us 0 None none (omega arith) left.each each
+    one_records (known how.planner) (laws how.planner determined) initial one_result cut_one e ps sweeps others radius one_map one_graph m batches how outputs left.start left.goal rs us 0 None none (omega arith) left.each each
 
 -- each planner whose passes are determined is one of these
 pub of_each : IsPlannerDetermined ara → IsPlannerDetermined adstar → (p : Planner) → is_determined p ≡ true → IsPlannerDetermined (known p).means
@@ -287,14 +321,14 @@ of_each by_ara by_adstar planner.Ara determined = by_ara
 of_each by_ara by_adstar planner.AdStar determined = by_adstar
 of_each by_ara by_adstar planner.Epase determined = absurd (false≢true determined)
 
-pub few_are_first : ((p : Planner) → is_determined p ≡ true → IsPlannerDetermined (known p).means) → InitialLabelsAreOne → OutcomesAreOne → OneMap → AlikeWorldsAreOneGraph → FewAreFirst
-few_are_first laws initial one_result one_map one_graph w v batches how outputs rs us all determined alike left right =
+pub few_are_first : ((p : Planner) → is_determined p ≡ true → IsPlannerDetermined (known p).means) → InitialLabelsAreOne → OutcomesAreOne → CutRowsAreOne → OneMap → AlikeWorldsAreOneGraph → FewAreFirst
+few_are_first laws initial one_result cut_one one_map one_graph w v batches how outputs rs us all determined alike left right =
     let env = alike.env in
     let prims = alike.prims in
     let map = alike.map in
     let is : v ≡ made w.env w.prims v.sweeps w.map = λ i. record { env = env i; prims = prims i; sweeps = v.sweeps; map = map i } in
     let own : ArePlans (made w.env w.prims v.sweeps w.map) batches how outputs us true = subst (λ (x : World). ArePlans x batches how outputs us true) is right in
-    first_list laws initial one_result one_map one_graph w.env w.prims w.sweeps v.sweeps w.map (sym alike.radius) batches how outputs rs us all determined left own
+    first_list laws initial one_result cut_one one_map one_graph w.env w.prims w.sweeps v.sweeps w.map (sym alike.radius) batches how outputs rs us all determined left own
 
 pub records_are_one : FewAreFirst → RecordsAreOne
 records_are_one first w v batches how outputs rs us determined alike left right =

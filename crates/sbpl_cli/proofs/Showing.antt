@@ -13,14 +13,16 @@ use Rattle.sbpl_plan.specs.Outcomes.{IsResultOf}
 use Rattle.sbpl_plan.specs.declared.result.FoundPath.{FoundPath}
 use Rattle.sbpl_plan.specs.declared.result.Outcome.{Outcome}
 use Rattle.sbpl_plan.specs.declared.result.Outcome.TheVariants as outcome
-use Rattle.sbpl_cert.specs.Made.{IsOfLabels}
+use Rattle.sbpl_cert.specs.Cut.{IsNeededAt}
+use Rattle.sbpl_cert.specs.Made.{IsOfCutLabels, IsOfLabels}
+use Rattle.sbpl_cert.specs.Sparse.{SparseSection, g_in, sparse_claim, v_in}
 use Rattle.sbpl_cert.specs.Sections as sections
-use Rattle.sbpl_cert.specs.Sections.{HasArcs, FullSection, g_at, v_at}
-use Rattle.sbpl_cert.specs.Claims.{claim_of}
+use Rattle.sbpl_cert.specs.Sections.{HasArcs, FullSection}
+use Rattle.sbpl_cert.specs.Claims.{Claim, claim_of}
 use Rattle.sbpl_cert.specs.Sound.{ShowsBound, ShowsOutcome}
 use Rattle.sbpl_cert.specs.declared.outcome.Outcome as told
 use Rattle.sbpl_cert.specs.declared.row.Row.{Row}
-use Rattle.sbpl_cli.specs.Shown.{IsShown, answer_of, arcs_of}
+use Rattle.sbpl_cli.specs.Shown.{IsShownInFull, IsShownSparsely, answer_of, arcs_of}
 
 -- each arc number of a free path is below the most arcs of a state
 small_arcs : (n : Network) (s t c : ℕ) (arcs : List ℕ) → IsSound n → IsFreePath n s arcs t c → (i : ℕ) → i < length arcs → slice_index arcs i < 4096
@@ -69,36 +71,65 @@ module _ (n : Network) (sound : IsSound n) (guide : ℕ → ℕ) (goal : ℕ) (m
       let b : less ≤ low = p.greatest less q.at_goal q.unsettled in
       omega arith
 
-  shows_outcome : (found : Outcome FoundPath) (s : FullSection) → IsResultOf n guide goal m found → IsOfLabels m guide goal s → ShowsBound n m.start goal (claim_of s) → s.arcs ≡ arcs_of found → ShowsOutcome n m.start goal (claim_of s) (answer_of found)
-  shows_outcome (outcome.Path p) s is made bounds copied =
-      let low : s.low ≡ is.low = one_low s.low is.low made.low is.low_is in
+  -- a claim with the low of these labels, and with the labels themselves where there is no path, shows the result
+  shows_outcome : (found : Outcome FoundPath) (c : Claim) → IsResultOf n guide goal m found → IsLow (states_of m) goal (g_of m) (v_of m) guide c.low
+      → (found ≡ outcome.NoPath → (u : ℕ) → u < states_of m → (c.g u ≡ g_of m u) × (c.v u ≡ v_of m u)) → ShowsBound n m.start goal c → c.arcs ≡ arcs_of found → ShowsOutcome n m.start goal c (answer_of found)
+  shows_outcome (outcome.Path p) c is lowest own bounds copied =
+      let low : c.low ≡ is.low = one_low c.low is.low lowest is.low_is in
       (subst (λ (l : List ℕ). IsFreePath n m.start l goal p.cost) (sym copied) is.walk.path, subst (λ (l : ℕ). IsBound p.cost l p.bound) (sym low) is.bound_is)
-  shows_outcome outcome.NoPath s is made bounds copied = record {
+  shows_outcome outcome.NoPath c is lowest own bounds copied = record {
     supported = bounds.supported;
-    goal_is_far = ap (λ (r : Row). r.g) (made.labels.rows goal (rw same inside)) ∙ is.goal_is_far;
+    goal_is_far = (own refl goal (rw same inside)).0 ∙ is.goal_is_far;
     closed = λ u state near.
         let here : u < states_of m = rw same state in
-        let g : g_at s.labels u ≡ g_of m u = ap (λ (r : Row). r.g) (made.labels.rows u here) in
-        let v : v_at s.labels u ≡ v_of m u = ap (λ (r : Row). r.v) (made.labels.rows u here) in
+        let g : c.g u ≡ g_of m u = (own refl u here).0 in
+        let v : c.v u ≡ v_of m u = (own refl u here).1 in
         let settled : v_of m u < FAR = is.closed u here (omega arith) in
         omega arith;
   }
-  shows_outcome outcome.Unknown s is made bounds copied = tt
+  shows_outcome outcome.Unknown c is lowest own bounds copied = tt
 
-  shown_by : (plan : ℕ) (found : Outcome FoundPath) (s : FullSection) → IsResultOf n guide goal m found → s.plan ≡ plan → s.outcome ≡ answer_of found → s.arcs ≡ arcs_of found → IsOfLabels m guide goal s → ShowsBound n m.start goal (claim_of s) → IsShown n guide m.start goal plan m found s
-  shown_by plan found s is number says copied made bounds = record {
+  -- a section in full
+  in_full : (plan : ℕ) (found : Outcome FoundPath) (s : FullSection) → IsResultOf n guide goal m found → s.plan ≡ plan → s.outcome ≡ answer_of found → s.arcs ≡ arcs_of found → IsOfLabels m guide goal s → ShowsBound n m.start goal (claim_of s)
+      → IsShownInFull n guide m.start goal plan m found s
+  in_full plan found s is number says copied made bounds = record {
     number = number;
     labels = made;
     answer = says;
     arcs = copied;
     shows = record {
       bound = bounds;
-      outcome = subst (λ (o : told.Outcome). ShowsOutcome n m.start goal (claim_of s) o) (sym says) (shows_outcome found s is made bounds copied);
+      outcome = subst (λ (o : told.Outcome). ShowsOutcome n m.start goal (claim_of s) o) (sym says)
+          (shows_outcome found (claim_of s) is made.low (λ none u here. (ap (λ (r : Row). r.g) (made.labels.rows u here), ap (λ (r : Row). r.v) (made.labels.rows u here))) bounds copied);
     };
   }
 
-  pub is_shown : (plan : ℕ) (found : Outcome FoundPath) (said : told.Outcome) (arcs : List ℕ) (r : Result FullSection NoMemory) → IsResultOf n guide goal m found → said ≡ answer_of found → arcs ≡ arcs_of found
+  pub shown_in_full : (plan : ℕ) (found : Outcome FoundPath) (said : told.Outcome) (arcs : List ℕ) (r : Result FullSection NoMemory) → IsResultOf n guide goal m found → said ≡ answer_of found → arcs ≡ arcs_of found
       → IfOk r (λ s. s.plan ≡ plan) → IfOk r (λ s. s.outcome ≡ said) → IfOk r (λ s. s.arcs ≡ arcs) → IfOk r (IsOfLabels m guide goal) → IfOk r (λ s. ShowsBound n m.start goal (claim_of s))
-      → IfOk r (IsShown n guide m.start goal plan m found)
-  is_shown plan found said arcs (Ok s) is same_answer same_arcs number says copied made bounds = shown_by plan found s is number (says ∙ same_answer) (copied ∙ same_arcs) made bounds
-  is_shown plan found said arcs (Err e) is same_answer same_arcs number says copied made bounds = tt
+      → IfOk r (IsShownInFull n guide m.start goal plan m found)
+  shown_in_full plan found said arcs (Ok s) is same_answer same_arcs number says copied made bounds = in_full plan found s is number (says ∙ same_answer) (copied ∙ same_arcs) made bounds
+  shown_in_full plan found said arcs (Err e) is same_answer same_arcs number says copied made bounds = tt
+
+  -- a sparse section
+  sparsely : (plan : ℕ) (found : Outcome FoundPath) (s : SparseSection) → IsResultOf n guide goal m found → s.plan ≡ plan → s.states ≡ states_of m → s.outcome ≡ answer_of found → s.arcs ≡ arcs_of found → IsOfCutLabels n m guide goal s
+      → ShowsBound n m.start goal (sparse_claim guide s) → IsShownSparsely n guide m.start goal plan m found s
+  sparsely plan found s is number states says copied made bounds = record {
+    number = number;
+    states = states;
+    labels = made;
+    answer = says;
+    arcs = copied;
+    shows = record {
+      bound = bounds;
+      outcome = subst (λ (o : told.Outcome). ShowsOutcome n m.start goal (sparse_claim guide s) o) (sym says)
+          (shows_outcome found (sparse_claim guide s) is made.low
+          (λ none u here. subst (λ (o : told.Outcome). IsNeededAt o n m guide s.low u (g_in s.rows u) (v_in s.rows u)) (says ∙ ap answer_of none) (made.rows.needed u (subst (λ (count : ℕ). u < count) same here)))
+          bounds copied);
+    };
+  }
+
+  pub shown_sparsely : (plan : ℕ) (found : Outcome FoundPath) (said : told.Outcome) (arcs : List ℕ) (r : Result SparseSection NoMemory) → IsResultOf n guide goal m found → said ≡ answer_of found → arcs ≡ arcs_of found
+      → IfOk r (λ s. s.plan ≡ plan) → IfOk r (λ s. s.states ≡ states_of m) → IfOk r (λ s. s.outcome ≡ said) → IfOk r (λ s. s.arcs ≡ arcs) → IfOk r (IsOfCutLabels n m guide goal) → IfOk r (λ s. ShowsBound n m.start goal (sparse_claim guide s))
+      → IfOk r (IsShownSparsely n guide m.start goal plan m found)
+  shown_sparsely plan found said arcs (Ok s) is same_answer same_arcs number states says copied made bounds = sparsely plan found s is number states (says ∙ same_answer) (copied ∙ same_arcs) made bounds
+  shown_sparsely plan found said arcs (Err e) is same_answer same_arcs number states says copied made bounds = tt

@@ -12,7 +12,8 @@ use Rattle.sbpl_mprim.specs.declared.prim.Primitive.{Primitive}
 use Rattle.sbpl_sweep.specs.declared.cell.Cell.{Cell}
 use Rattle.sbpl_cert.specs.Printed as labels
 use Rattle.sbpl_cert.specs.declared.outcome.Outcome.{Outcome}
-use Rattle.sbpl_cert.specs.Sections.{FullSection}
+use Rattle.sbpl_cert.specs.declared.section.Section.{Section}
+use Rattle.sbpl_cert.specs.declared.section.Section.TheVariants.{Full, Sparse}
 use Rattle.sbpl_cost.specs.World.{World}
 use Rattle.sbpl_job.specs.declared.job.Job.{Job}
 use Rattle.sbpl_job.specs.declared.job.Job.TheVariants as job
@@ -65,9 +66,10 @@ report_full : (r : PlanRecord) → section_text r ≢ []
 unfolding section_text
 report_full r = not_empty _ _
 
-labels_full : (s : FullSection) → labels.full_text s ≢ []
-unfolding labels.full_text line_text
-labels_full s = not_empty _ _
+labels_full : (s : Section) → labels.section_text s ≢ []
+unfolding labels.full_text labels.sparse_text line_text
+labels_full (Full s) = not_empty _ _
+labels_full (Sparse s) = not_empty _ _
 
 trace_full : (r : PlanRecord) → trace_text r ≢ []
 unfolding trace_text
@@ -122,13 +124,13 @@ named_full None text full = no_writes
 named_full (Some name) text full = one_write _ full
 
 -- where labels are asked for, a record has them
-asked_full : (o : Option (List ℕ)) (P : FullSection → Type 0) (s : Option FullSection) → IsThere (is_some o) P s
+asked_full : (o : Option (List ℕ)) (P : Section → Type 0) (s : Option Section) → IsThere (is_some o) P s
     → NoneEmpty (to_named o (labels_text s))
 asked_full None P s there = no_writes
 asked_full (Some name) P (Some s) there = one_write _ (labels_full s)
 asked_full (Some name) P None there = absurd there
 
-section_full : (o : Outputs) (P : FullSection → Type 0) (r : PlanRecord) → IsThere (is_some o.labels) P r.labels
+section_full : (o : Outputs) (P : Section → Type 0) (r : PlanRecord) → IsThere (is_some o.labels) P r.labels
     → NoneEmpty (section_writes o r)
 section_full o P r there =
     let written = asked_full o.labels P r.labels there in

@@ -27,6 +27,7 @@ use Rattle.sbpl_job.specs.declared.job.Job.{Job}
 use Rattle.sbpl_job.specs.declared.job.Job.TheVariants as job
 use Rattle.sbpl_job.specs.declared.job.CheckJob.{CheckJob}
 use Rattle.sbpl_job.specs.declared.job.DemoJob.{DemoJob}
+use Rattle.sbpl_job.specs.declared.job.LabelForm.TheVariants as form
 use Rattle.sbpl_job.specs.declared.job.Outputs.{Outputs}
 use Rattle.sbpl_job.specs.declared.job.PlanJob.{PlanJob}
 use Rattle.sbpl_job.specs.declared.job.Planner.TheVariants as planner
@@ -98,7 +99,7 @@ demo_search = record { planner = planner.AdStar; workers = 1; first = 3000; step
 
 -- what it writes besides its lines: nothing
 abbrev pub no_outputs : Outputs
-no_outputs = record { labels = None; trace = None }
+no_outputs = record { labels = None; form = form.Sparse; trace = None }
 
 -- the world that is drawn from a seed, for a point
 pub record IsDrawn (job : DemoJob) (w : World) : Type 0 where

@@ -144,7 +144,7 @@ pub record IsSearched (by : Known) (w : World) (how : SearchJob) (outputs : Outp
   pub marked : IsMarked how.budget (expanded_before before) spent r
   pub few : length r.passes ≤ most_passes how.step how.first
   pub ample : spent ≡ true → most_passes how.step how.first * (by.means.most * (network_of w).states) ≤ how.budget → carried.expanded ≡ 2 ^ 30
-  pub labels : IsThere (is_some outputs.labels) (IsShown (network_of w) guide start goal r.plan carried.labels result) r.labels
+  pub labels : IsThere (is_some outputs.labels) (IsShown outputs.form (network_of w) guide start goal r.plan carried.labels result) r.labels
 
 -- the record of plan k in a world, whose graph has just the arcs that the primitives make on its map, in the order of the file
 -- both from a state and into it

@@ -16,11 +16,12 @@ use Rattle.sbpl_cert.specs.Faults as faults
 use Rattle.sbpl_cert.specs.Printed as labels
 use Rattle.sbpl_cert.specs.declared.fault.LabelFault.{LabelFault}
 use Rattle.sbpl_cert.specs.declared.outcome.Outcome.{Outcome}
-use Rattle.sbpl_cert.specs.Sections.{FullSection}
+use Rattle.sbpl_cert.specs.declared.section.Section.{Section}
 use Rattle.sbpl_job.specs.declared.job.Job.{Job}
 use Rattle.sbpl_job.specs.declared.job.Job.TheVariants as job
 use Rattle.sbpl_cli.specs.declared.section_check.SectionStop.{SectionStop}
 use Rattle.sbpl_cli.specs.declared.section_check.SectionStop.TheVariants as stop
+use Rattle.sbpl_job.specs.declared.job.LabelForm.TheVariants as form
 use Rattle.sbpl_job.specs.declared.job.Outputs.{Outputs}
 use Rattle.sbpl_cli.specs.declared.record.PlanRecord.{PlanRecord}
 use Rattle.sbpl_cli.specs.Listing.{listings}
@@ -104,9 +105,9 @@ abbrev pub last_write : Write
 last_write = to_output done_text
 
 -- the text of the labels of a plan
-abbrev pub labels_text : Option FullSection → List ℕ
+abbrev pub labels_text : Option Section → List ℕ
 labels_text None = []
-labels_text (Some s) = labels.full_text s
+labels_text (Some s) = labels.section_text s
 
 -- the write of a plan's labels, where they are written
 abbrev pub labels_writes : Outputs → PlanRecord → List Write
@@ -184,7 +185,7 @@ refusal_writes j r = to_output (refusal_text j r) ∷ []
 -- where a job's plans are written besides the report
 abbrev pub outputs_of : Job → Outputs
 outputs_of (job.Plan j) = j.outputs
-outputs_of _ = record { labels = None; trace = None }
+outputs_of _ = record { labels = None; form = form.Sparse; trace = None }
 
 -- what is to be written
 abbrev pub writes_of : Job → Intent → List Write

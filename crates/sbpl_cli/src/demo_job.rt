@@ -22,7 +22,7 @@ use sbpl_cost::Lattice;
 use sbpl_desk::{Desk, WriteStop};
 use sbpl_fixed::NoMemory;
 use sbpl_graph::Graph;
-use sbpl_job::{DemoJob, Outputs, Planner, SearchJob};
+use sbpl_job::{DemoJob, LabelForm, Outputs, Planner, SearchJob};
 use sbpl_map::Changes;
 use std::alloc::Global;
 
@@ -83,6 +83,7 @@ fn demonstrate<D: Desk>(
     }
     let outputs = Outputs {
         labels: None,
+        form: LabelForm::Sparse,
         trace: None,
     };
     plans_by_adstar(

@@ -7,7 +7,7 @@ ghost use Rattle.sbpl_cli.specs.WriteTexts.{WritesAreCounted, WritesHaveTexts};
 
 use sbpl_adstar::AdStar;
 use sbpl_ara::Ara;
-use sbpl_cert::{first_flaws_are_one, texts_are_sections_or_faulty};
+use sbpl_cert::{cut_rows_are_one, first_flaws_are_one, texts_are_sections_or_faulty};
 use sbpl_cfg::texts_are_environments_or_faulty;
 use sbpl_cost::{Lattice, alike_worlds_are_one_graph};
 use sbpl_heur::Best;
@@ -40,6 +40,7 @@ pub fn records_are_determined()
     run_is_determined();
     plan_is_determined::<Lattice, Best, Ara>();
     plan_is_determined::<Lattice, Best, AdStar>();
+    cut_rows_are_one();
     writes_lead_to_the_next_map();
     alike_worlds_are_one_graph();
 }

@@ -7,13 +7,16 @@ ghost use Rattle.sbpl_heur.specs.Bests.{IsGuide, distance_in};
 ghost use Rattle.sbpl_labels.specs.Marks.{g_of, states_of, v_of};
 ghost use Rattle.sbpl_plan.specs.Outcomes.{IsResultOf};
 ghost use Rattle.sbpl_cli.specs.Intents.{labels_text};
-ghost use Rattle.sbpl_cli.specs.Shown.{IsShown, IsThere, answer_of, arcs_of};
+ghost use Rattle.sbpl_cli.specs.Shown.{IsShown, IsShownInFull, IsShownSparsely, IsThere, answer_of, arcs_of};
 
-use sbpl_cert::{Arcs, LabelSet, section_of, write_labels};
+use sbpl_cert::{
+    Arcs, LabelSet, Section, SparseSet, section_of, sparse_section_of, write_labels, write_sparse,
+};
 use sbpl_cost::Lattice;
 use sbpl_fixed::NoMemory;
 use sbpl_graph::Graph;
 use sbpl_heur::Best;
+use sbpl_job::LabelForm;
 use sbpl_labels::Labels;
 use sbpl_plan::{FoundPath, Outcome};
 use std::alloc::Global;
@@ -43,8 +46,8 @@ fn arcs_of(alloc: Global, found: &Outcome<FoundPath>) -> Result<Arcs, NoMemory>
     Ok(Arcs::of(copy))
 }
 
-/// The section of the labels that the search of plan `plan` left.
-fn make_section(
+/// The section of the labels that the search of plan `plan` left, with a row for each state.
+fn make_full(
     alloc: Global,
     lattice: &Lattice,
     guide: &Best,
@@ -58,12 +61,65 @@ fn make_section(
     requires guides { IsGuide (network_of lattice.now) goal guide.now }
     requires found { IsResultOf (network_of lattice.now) (distance_in guide.now) goal labels.now found.now }
     requires supported { AreSupported (network_of lattice.now) labels.now.start (g_of labels.now) (v_of labels.now) }
-    ensures shown { IfOk result (IsShown (network_of lattice.now) (distance_in guide.now) labels.now.start goal plan labels.now found.now) }
+    ensures shown { IfOk result (IsShownInFull (network_of lattice.now) (distance_in guide.now) labels.now.start goal plan labels.now found.now) }
 {
     let states = lattice.states();
     let arcs = arcs_of(alloc, found)?;
     let answer = answer_of(found);
     section_of(alloc, plan, states, goal, labels, guide, answer, arcs)
+}
+
+/// The section of these labels, with rows for those that it needs.
+fn make_sparse(
+    alloc: Global,
+    lattice: &Lattice,
+    guide: &Best,
+    labels: &Labels,
+    goal: u32,
+    plan: u32,
+    found: &Outcome<FoundPath>,
+) -> Result<SparseSet, NoMemory>
+    requires states { states_of labels.now ≡ (network_of lattice.now).states }
+    requires goal { goal < (network_of lattice.now).states }
+    requires guides { IsGuide (network_of lattice.now) goal guide.now }
+    requires found { IsResultOf (network_of lattice.now) (distance_in guide.now) goal labels.now found.now }
+    requires supported { AreSupported (network_of lattice.now) labels.now.start (g_of labels.now) (v_of labels.now) }
+    ensures shown { IfOk result (IsShownSparsely (network_of lattice.now) (distance_in guide.now) labels.now.start goal plan labels.now found.now) }
+{
+    let _states = lattice.states();
+    let arcs = arcs_of(alloc, found)?;
+    let answer = answer_of(found);
+    sparse_section_of(alloc, plan, lattice, goal, labels, guide, answer, arcs)
+}
+
+/// The section of these labels in a form.
+fn make_section(
+    alloc: Global,
+    lattice: &Lattice,
+    guide: &Best,
+    labels: &Labels,
+    goal: u32,
+    plan: u32,
+    found: &Outcome<FoundPath>,
+    form: LabelForm,
+) -> Result<Section, NoMemory>
+    requires states { states_of labels.now ≡ (network_of lattice.now).states }
+    requires goal { goal < (network_of lattice.now).states }
+    requires guides { IsGuide (network_of lattice.now) goal guide.now }
+    requires found { IsResultOf (network_of lattice.now) (distance_in guide.now) goal labels.now found.now }
+    requires supported { AreSupported (network_of lattice.now) labels.now.start (g_of labels.now) (v_of labels.now) }
+    ensures shown { IfOk result (IsShown form (network_of lattice.now) (distance_in guide.now) labels.now.start goal plan labels.now found.now) }
+{
+    match form {
+        LabelForm::Full => match make_full(alloc, lattice, guide, labels, goal, plan, found) {
+            Ok(set) => Ok(Section::Full(set)),
+            Err(NoMemory) => Err(NoMemory),
+        },
+        LabelForm::Sparse => match make_sparse(alloc, lattice, guide, labels, goal, plan, found) {
+            Ok(set) => Ok(Section::Sparse(set)),
+            Err(NoMemory) => Err(NoMemory),
+        },
+    }
 }
 
 /// That section, where it is asked for.
@@ -76,30 +132,33 @@ pub(crate) fn labels_of(
     plan: u32,
     found: &Outcome<FoundPath>,
     asked: bool,
-) -> Result<Option<LabelSet>, NoMemory>
+    form: LabelForm,
+) -> Result<Option<Section>, NoMemory>
     requires states { states_of labels.now ≡ (network_of lattice.now).states }
     requires goal { goal < (network_of lattice.now).states }
     requires guides { IsGuide (network_of lattice.now) goal guide.now }
     requires found { IsResultOf (network_of lattice.now) (distance_in guide.now) goal labels.now found.now }
     requires supported { AreSupported (network_of lattice.now) labels.now.start (g_of labels.now) (v_of labels.now) }
-    ensures shown { IfOk result (IsThere asked (IsShown (network_of lattice.now) (distance_in guide.now) labels.now.start goal plan labels.now found.now)) }
+    ensures shown { IfOk result (IsThere asked (IsShown form (network_of lattice.now) (distance_in guide.now) labels.now.start goal plan labels.now found.now)) }
 {
     if !asked {
         return Ok(None);
     }
-    match make_section(alloc, lattice, guide, labels, goal, plan, found) {
+    match make_section(alloc, lattice, guide, labels, goal, plan, found, form) {
         Ok(section) => Ok(Some(section)),
         Err(NoMemory) => Err(NoMemory),
     }
 }
 
 /// The text of the labels of a plan.
-pub(crate) fn text_of(alloc: Global, labels: &Option<LabelSet>) -> Result<Vec<u8>, NoMemory>
+pub(crate) fn text_of(alloc: Global, labels: &Option<Section>) -> Result<Vec<u8>, NoMemory>
     ensures text { IfOk result (λ text. text.items ≡ labels_text labels.now) }
 {
     let mut text = Vec::new(alloc);
-    if let Some(section) = labels {
-        write_labels(section, &mut text)?;
+    match labels {
+        Some(Section::Full(set)) => write_labels(set, &mut text)?,
+        Some(Section::Sparse(set)) => write_sparse(set, &mut text)?,
+        None => (),
     }
     Ok(text)
 }

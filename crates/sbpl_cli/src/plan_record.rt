@@ -16,7 +16,7 @@ use crate::labels::labels_of;
 use crate::parts::Steps;
 use crate::record::{PathRecord, PathStep, PlanRecord};
 use crate::trace::{Traced, traced_passes};
-use sbpl_cert::LabelSet;
+use sbpl_cert::Section;
 use sbpl_cost::Lattice;
 use sbpl_fixed::NoMemory;
 use sbpl_graph::Graph;
@@ -133,7 +133,7 @@ fn record_of<N: Traced + Drop>(
     plan: u32,
     planned: Planned<N>,
     expanded: u64,
-    labels: Option<LabelSet>,
+    labels: Option<Section>,
 ) -> Result<PlanRecord, NoMemory>
     requires state { start < (network_of lattice.now).states }
     requires so { IsTrueOutcome (network_of lattice.now) start goal planned.outcome }
@@ -196,6 +196,7 @@ where
         plan,
         &planned.outcome,
         outputs.labels.is_some(),
+        outputs.form,
     )?;
     let expanded = replanner.expanded();
     record_of(alloc, lattice, start, goal, plan, planned, expanded, labels)

@@ -1,7 +1,7 @@
 //! What a plan did: its passes and its result.
 
 use crate::parts::Steps;
-use sbpl_cert::LabelSet;
+use sbpl_cert::Section;
 use sbpl_cfg::Place;
 use sbpl_plan::{Arcs, Outcome, Passes};
 
@@ -63,6 +63,6 @@ pub struct PlanRecord {
     pub spent: Option<u64>,
     /// Its result.
     pub outcome: Outcome<PathRecord>,
-    /// The final labels, where they are to be written.
-    pub labels: Option<LabelSet>,
+    /// The section of the final labels, where they are to be written.
+    pub labels: Option<Section>,
 }

@@ -89,6 +89,7 @@ long_at command.Plan setting.Step = refl
 long_at command.Plan setting.Bound = refl
 long_at command.Plan setting.Budget = refl
 long_at command.Plan setting.Labels = refl
+long_at command.Plan setting.LabelsAs = refl
 long_at command.Plan setting.Trace = refl
 long_at command.Check setting.Changes = refl
 long_at command.Check setting.Radius = refl
@@ -99,6 +100,7 @@ long_at command.Check setting.Step = refl
 long_at command.Check setting.Bound = refl
 long_at command.Check setting.Budget = refl
 long_at command.Check setting.Labels = refl
+long_at command.Check setting.LabelsAs = refl
 long_at command.Check setting.Trace = refl
 long_at command.Sweep setting.Changes = refl
 long_at command.Sweep setting.Radius = refl
@@ -109,6 +111,7 @@ long_at command.Sweep setting.Step = refl
 long_at command.Sweep setting.Bound = refl
 long_at command.Sweep setting.Budget = refl
 long_at command.Sweep setting.Labels = refl
+long_at command.Sweep setting.LabelsAs = refl
 long_at command.Sweep setting.Trace = refl
 long_at command.Demo setting.Changes = refl
 long_at command.Demo setting.Radius = refl
@@ -119,6 +122,7 @@ long_at command.Demo setting.Step = refl
 long_at command.Demo setting.Bound = refl
 long_at command.Demo setting.Budget = refl
 long_at command.Demo setting.Labels = refl
+long_at command.Demo setting.LabelsAs = refl
 long_at command.Demo setting.Trace = refl
 
 pub option_at : (c : Command) (s : Setting) → arg_by_id (rules c) (id_of s) ≡ (if takes c s then Some (option_built s) else None)
@@ -131,6 +135,7 @@ option_at command.Plan setting.Step = refl
 option_at command.Plan setting.Bound = refl
 option_at command.Plan setting.Budget = refl
 option_at command.Plan setting.Labels = refl
+option_at command.Plan setting.LabelsAs = refl
 option_at command.Plan setting.Trace = refl
 option_at command.Check setting.Changes = refl
 option_at command.Check setting.Radius = refl
@@ -141,6 +146,7 @@ option_at command.Check setting.Step = refl
 option_at command.Check setting.Bound = refl
 option_at command.Check setting.Budget = refl
 option_at command.Check setting.Labels = refl
+option_at command.Check setting.LabelsAs = refl
 option_at command.Check setting.Trace = refl
 option_at command.Sweep setting.Changes = refl
 option_at command.Sweep setting.Radius = refl
@@ -151,6 +157,7 @@ option_at command.Sweep setting.Step = refl
 option_at command.Sweep setting.Bound = refl
 option_at command.Sweep setting.Budget = refl
 option_at command.Sweep setting.Labels = refl
+option_at command.Sweep setting.LabelsAs = refl
 option_at command.Sweep setting.Trace = refl
 option_at command.Demo setting.Changes = refl
 option_at command.Demo setting.Radius = refl
@@ -161,6 +168,7 @@ option_at command.Demo setting.Step = refl
 option_at command.Demo setting.Bound = refl
 option_at command.Demo setting.Budget = refl
 option_at command.Demo setting.Labels = refl
+option_at command.Demo setting.LabelsAs = refl
 option_at command.Demo setting.Trace = refl
 
 pub some_is : {X : Type 0} {x y : X} → Some x ≡ Some y → x ≡ y
@@ -255,7 +263,7 @@ told x s t h = bytes_are x (name_of s) h.0 ∙ ap name_of h.1
 -- a word that is a setting's name is that name
 pub is_name : (x : Text) (t : Setting) → setting_named x ≡ Some t → x ≡ name_of t
 is_name x t named =
-    elim (pick (bytes_eq x (name_of setting.Changes)) setting.Changes t _ named) [ inl h ↦ told x setting.Changes t h | inr e0 ↦ elim (pick (bytes_eq x (name_of setting.Radius)) setting.Radius t _ e0) [ inl h ↦ told x setting.Radius t h | inr e1 ↦ elim (pick (bytes_eq x (name_of setting.Planner)) setting.Planner t _ e1) [ inl h ↦ told x setting.Planner t h | inr e2 ↦ elim (pick (bytes_eq x (name_of setting.Workers)) setting.Workers t _ e2) [ inl h ↦ told x setting.Workers t h | inr e3 ↦ elim (pick (bytes_eq x (name_of setting.First)) setting.First t _ e3) [ inl h ↦ told x setting.First t h | inr e4 ↦ elim (pick (bytes_eq x (name_of setting.Step)) setting.Step t _ e4) [ inl h ↦ told x setting.Step t h | inr e5 ↦ elim (pick (bytes_eq x (name_of setting.Bound)) setting.Bound t _ e5) [ inl h ↦ told x setting.Bound t h | inr e6 ↦ elim (pick (bytes_eq x (name_of setting.Budget)) setting.Budget t _ e6) [ inl h ↦ told x setting.Budget t h | inr e7 ↦ elim (pick (bytes_eq x (name_of setting.Labels)) setting.Labels t _ e7) [ inl h ↦ told x setting.Labels t h | inr e8 ↦ elim (pick (bytes_eq x (name_of setting.Trace)) setting.Trace t _ e8) [ inl h ↦ told x setting.Trace t h | inr e9 ↦ absurd (not_none e9) ] ] ] ] ] ] ] ] ] ]
+    elim (pick (bytes_eq x (name_of setting.Changes)) setting.Changes t _ named) [ inl h ↦ told x setting.Changes t h | inr e0 ↦ elim (pick (bytes_eq x (name_of setting.Radius)) setting.Radius t _ e0) [ inl h ↦ told x setting.Radius t h | inr e1 ↦ elim (pick (bytes_eq x (name_of setting.Planner)) setting.Planner t _ e1) [ inl h ↦ told x setting.Planner t h | inr e2 ↦ elim (pick (bytes_eq x (name_of setting.Workers)) setting.Workers t _ e2) [ inl h ↦ told x setting.Workers t h | inr e3 ↦ elim (pick (bytes_eq x (name_of setting.First)) setting.First t _ e3) [ inl h ↦ told x setting.First t h | inr e4 ↦ elim (pick (bytes_eq x (name_of setting.Step)) setting.Step t _ e4) [ inl h ↦ told x setting.Step t h | inr e5 ↦ elim (pick (bytes_eq x (name_of setting.Bound)) setting.Bound t _ e5) [ inl h ↦ told x setting.Bound t h | inr e6 ↦ elim (pick (bytes_eq x (name_of setting.Budget)) setting.Budget t _ e6) [ inl h ↦ told x setting.Budget t h | inr e7 ↦ elim (pick (bytes_eq x (name_of setting.Labels)) setting.Labels t _ e7) [ inl h ↦ told x setting.Labels t h | inr e8 ↦ elim (pick (bytes_eq x (name_of setting.LabelsAs)) setting.LabelsAs t _ e8) [ inl h ↦ told x setting.LabelsAs t h | inr e9 ↦ elim (pick (bytes_eq x (name_of setting.Trace)) setting.Trace t _ e9) [ inl h ↦ told x setting.Trace t h | inr e10 ↦ absurd (not_none e10) ] ] ] ] ] ] ] ] ] ] ]
   where
     not_none : None ≡ Some t → ⊥
     not_none e = cc
@@ -270,6 +278,7 @@ long_name setting.Step = refl
 long_name setting.Bound = refl
 long_name setting.Budget = refl
 long_name setting.Labels = refl
+long_name setting.LabelsAs = refl
 long_name setting.Trace = refl
 
 not_dashes : (s : Setting) → bytes_eq (name_of s) dashes ≡ false
@@ -282,6 +291,7 @@ not_dashes setting.Step = refl
 not_dashes setting.Bound = refl
 not_dashes setting.Budget = refl
 not_dashes setting.Labels = refl
+not_dashes setting.LabelsAs = refl
 not_dashes setting.Trace = refl
 
 pub taken : (c : Command) (s : Setting) (o : Option Setting) → option_and_then (λ t. if takes c t then Some t else None) o ≡ Some s → (o ≡ Some s) × (takes c s ≡ true)

@@ -54,6 +54,7 @@ named setting.Step = refl
 named setting.Bound = refl
 named setting.Budget = refl
 named setting.Labels = refl
+named setting.LabelsAs = refl
 named setting.Trace = refl
 
 same_name : (s t : Setting) → name_of s ≡ name_of t → s ≡ t
@@ -101,6 +102,7 @@ split_before setting.Step value = refl
 split_before setting.Bound value = refl
 split_before setting.Budget value = refl
 split_before setting.Labels value = refl
+split_before setting.LabelsAs value = refl
 split_before setting.Trace value = refl
 
 split_after : (s : Setting) (value : Word) → after_first is_equals (name_of s ++ (61 ∷ value)) ≡ value
@@ -113,6 +115,7 @@ split_after setting.Step value = refl
 split_after setting.Bound value = refl
 split_after setting.Budget value = refl
 split_after setting.Labels value = refl
+split_after setting.LabelsAs value = refl
 split_after setting.Trace value = refl
 
 name_is_whole : (s : Setting) → after_first is_equals (name_of s) ≡ []
@@ -125,6 +128,7 @@ name_is_whole setting.Step = refl
 name_is_whole setting.Bound = refl
 name_is_whole setting.Budget = refl
 name_is_whole setting.Labels = refl
+name_is_whole setting.LabelsAs = refl
 name_is_whole setting.Trace = refl
 
 plain_is_long : (x : Word) → is_plain_word x ≡ true → 0 < length x

@@ -1,10 +1,11 @@
 -- What loops over words keep.
 use Rattle.std.proofs.lemmas.Bool.{and_cases, and_from, and_parts, cases_Bool, or_parts, true≢false}
-use Rattle.std.proofs.Common.{◌≡◌, ◌∙◌, ◌&&◌, ℕ, Bool, true, false, List, [], ◌∷◌, refl, sym, ap, ap₂, inl, inr, Option, Some, None, option_map, is_some, if◌then◌else◌}
+use Rattle.std.proofs.Common.{◌≡◌, ◌∙◌, ◌+◌, ◌&&◌, ℕ, length, arith, Bool, true, false, List, [], ◌∷◌, refl, sym, ap, ap₂, inl, inr, Option, Some, None, option_map, is_some, if◌then◌else◌}
 use Rattle.std.specs.Prelude.{option_and_then}
-use Rattle.std.specs.List.{list_all}
+use Rattle.std.specs.List.{after_first, before_first, list_all, position_or_len}
+use Rattle.std.proofs.lemmas.List.{drop_all}
 use Rattle.sbpl_job.specs.declared.words.Command.{Command}
-use Rattle.sbpl_job.specs.Words.{Parts, are_fit, is_known, is_plain_word, once, parts_after, parts_in, setting_of, stands_once, with_given, with_plain}
+use Rattle.sbpl_job.specs.Words.{Parts, are_fit, is_equals, is_known, is_plain_word, joined_word, once, parts_after, parts_in, setting_of, stands_once, with_given, with_plain}
 use Rattle.sbpl_job.specs.declared.words.Setting.{Setting}
 use Rattle.sbpl_job.specs.Jobs.{job_by}
 
@@ -52,6 +53,17 @@ unknown_is_none (word ∷ words) c None unknown = elim (and_cases (is_known c wo
     either : (b : Bool) → ◌≡◌ {A = Option Parts} (if b then None else None) None
     either true = refl
     either false = refl
+
+-- a word without '=' is no joined one
+pub unjoined : (c : Command) (word : List ℕ) → position_or_len is_equals word ≡ length word → joined_word c word ≡ None
+unjoined c word none =
+    let rest : after_first is_equals word ≡ [] = drop_all (position_or_len is_equals word + 1) word (omega (arith, none)) in
+    ap (λ (l : List ℕ). if is_some (setting_of c (before_first is_equals word)) && is_plain_word l then Some (before_first is_equals word, l) else None) rest
+    ∙ neither (is_some (setting_of c (before_first is_equals word))) (before_first is_equals word)
+  where
+    neither : (b : Bool) (name : List ℕ) → ◌≡◌ {A = Option (List ℕ × List ℕ)} (if b && false then Some (name, []) else None) None
+    neither true name = refl
+    neither false name = refl
 
 -- words that are not fit name no job
 pub unfit_is_none : (c : Command) (words : List (List ℕ)) → are_fit c words ≡ false → option_and_then (job_by c) (parts_in c words) ≡ None

@@ -9,6 +9,8 @@ use Rattle.sbpl_fixed.specs.Unsigned.{digits_of}
 use Rattle.sbpl_job.specs.declared.job.DemoJob.{DemoJob}
 use Rattle.sbpl_job.specs.declared.job.Job.{Job}
 use Rattle.sbpl_job.specs.declared.job.Job.TheVariants as job
+use Rattle.sbpl_job.specs.declared.job.LabelForm.{LabelForm}
+use Rattle.sbpl_job.specs.declared.job.LabelForm.TheVariants as form
 use Rattle.sbpl_job.specs.declared.job.Outputs.{Outputs}
 use Rattle.sbpl_job.specs.declared.job.Planner.{Planner}
 use Rattle.sbpl_job.specs.declared.job.Planner.TheVariants as planner
@@ -129,16 +131,27 @@ abbrev pub output_by : Sources → Option (List ℕ) → Option (List ℕ) → O
 output_by from changes None = Some None
 output_by from changes (Some name) = if is_input from changes name then None else Some (Some name)
 
--- two outputs, which differ where both are set
-abbrev pub outputs_by : (labels trace : Option (List ℕ)) → Option Outputs
-outputs_by None trace = Some (record { labels = None; trace = trace })
-outputs_by (Some labels) None = Some (record { labels = Some labels; trace = None })
-outputs_by (Some labels) (Some trace) = if bytes_eq labels trace then None else Some (record { labels = Some labels; trace = Some trace })
+-- the form of labels of this version
+abbrev pub form_named : List ℕ → Option LabelForm
+form_named version = if bytes_eq version (codes "1") then Some form.Full else (if bytes_eq version (codes "2") then Some form.Sparse else None)
 
--- where a plan's labels and its trace are written
+-- the form of labels that is set, which only goes with labels that are written; sparse where none is set
+abbrev pub form_by : (labels version : Option (List ℕ)) → Option LabelForm
+form_by labels None = Some form.Sparse
+form_by None (Some version) = None
+form_by (Some labels) (Some version) = form_named version
+
+-- two outputs, which differ where both are set
+abbrev pub outputs_by : (labels : Option (List ℕ)) → LabelForm → (trace : Option (List ℕ)) → Option Outputs
+outputs_by None f trace = Some (record { labels = None; form = f; trace = trace })
+outputs_by (Some labels) f None = Some (record { labels = Some labels; form = f; trace = None })
+outputs_by (Some labels) f (Some trace) = if bytes_eq labels trace then None else Some (record { labels = Some labels; form = f; trace = Some trace })
+
+-- where a plan's labels and its trace are written, and in which form the labels are
 abbrev pub outputs_in : Sources → Option (List ℕ) → Settings → Option Outputs
 outputs_in from changes set =
-    option_and_then (λ labels. option_and_then (outputs_by labels) (output_by from changes (set setting.Trace)))
+    option_and_then (λ labels. option_and_then (λ f. option_and_then (outputs_by labels f) (output_by from changes (set setting.Trace)))
+    (form_by labels (set setting.LabelsAs)))
     (output_by from changes (set setting.Labels))
 
 -- a planner can be given these changes, if there are some: ePA*SE can't be yet

@@ -56,6 +56,7 @@ id_of setting.Step = codes "step"
 id_of setting.Bound = codes "bound"
 id_of setting.Budget = codes "budget"
 id_of setting.Labels = codes "labels"
+id_of setting.LabelsAs = codes "labels-as"
 id_of setting.Trace = codes "trace"
 
 -- two settings are the same where their names are
@@ -74,7 +75,8 @@ setting_named word =
     else (if bytes_eq word (codes "--bound") then Some setting.Bound
     else (if bytes_eq word (codes "--budget") then Some setting.Budget
     else (if bytes_eq word (codes "--labels") then Some setting.Labels
-    else (if bytes_eq word (codes "--trace") then Some setting.Trace else None)))))))))
+    else (if bytes_eq word (codes "--labels-as") then Some setting.LabelsAs
+    else (if bytes_eq word (codes "--trace") then Some setting.Trace else None))))))))))
 
 -- a command takes a setting
 abbrev pub takes : Command → Setting → Bool

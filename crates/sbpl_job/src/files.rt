@@ -4,10 +4,10 @@ ghost use Rattle.std.specs.Prelude.{◌≡◌, ◌≤◌, ◌^◌, IfOk, Some, o
 ghost use Rattle.std.specs.Str.{bytes_eq};
 ghost use Rattle.sbpl_job.specs.declared.words.Setting.TheVariants as Settings;
 ghost use Rattle.sbpl_job.specs.Found.{set_in};
-ghost use Rattle.sbpl_job.specs.Jobs.{is_input, output_by, outputs_by, outputs_in, sources_in};
+ghost use Rattle.sbpl_job.specs.Jobs.{form_by, form_named, is_input, output_by, outputs_by, outputs_in, sources_in};
 ghost use Rattle.sbpl_job.specs.Words.{Names, text_of};
 
-use crate::job::{JobFault, Outputs, Sources};
+use crate::job::{JobFault, LabelForm, Outputs, Sources};
 use crate::name::Name;
 use crate::values::radius_of;
 use clap::ArgMatches;
@@ -100,19 +100,50 @@ fn output_of(
     }
 }
 
+/// The form of labels of this version.
+pub(crate) fn form_named(version: &str) -> Result<LabelForm, JobFault>
+    ensures form { Names (form_named version.now) result }
+{
+    match version {
+        "1" => Ok(LabelForm::Full),
+        "2" => Ok(LabelForm::Sparse),
+        _ => Err(JobFault::Words),
+    }
+}
+
+/// The form of labels of the version that this word names, which only goes with labels that are written; sparse where there is
+/// no word.
+fn form_of(labels: &Option<Name>, version: Option<&str>) -> Result<LabelForm, JobFault>
+    ensures form { Names (form_by labels.now (option_map text_of version.entry)) result }
+{
+    match version {
+        None => Ok(LabelForm::Sparse),
+        Some(version) if labels.is_some() => form_named(version),
+        Some(_) => Err(JobFault::Words),
+    }
+}
+
 /// Two outputs, which differ where both are set.
-fn both_outputs(labels: Option<Name>, trace: Option<Name>) -> Result<Outputs, JobFault>
-    ensures outputs { Names (outputs_by labels trace) result }
+fn both_outputs(
+    labels: Option<Name>,
+    form: LabelForm,
+    trace: Option<Name>,
+) -> Result<Outputs, JobFault>
+    ensures outputs { Names (outputs_by labels form trace) result }
 {
     if let (Some(first), Some(second)) = (&labels, &trace) {
         if is_same(first.as_str(), second) {
             return Err(JobFault::Words);
         }
     }
-    Ok(Outputs { labels, trace })
+    Ok(Outputs {
+        labels,
+        form,
+        trace,
+    })
 }
 
-/// Where a plan's labels and its trace are written.
+/// Where a plan's labels and its trace are written, and in which form the labels are.
 pub(crate) fn outputs_of(
     alloc: Global,
     from: &Sources,
@@ -122,6 +153,7 @@ pub(crate) fn outputs_of(
     ensures outputs { Names (outputs_in from.now changes.now (set_in matches.now)) result }
 {
     let labels = output_of(alloc, from, changes, matches.get_str("labels"))?;
+    let form = form_of(&labels, matches.get_str("labels-as"))?;
     let trace = output_of(alloc, from, changes, matches.get_str("trace"))?;
-    both_outputs(labels, trace)
+    both_outputs(labels, form, trace)
 }

@@ -46,11 +46,22 @@ pub struct SearchJob {
     pub budget: u64,
 }
 
+/// In which form labels are written.
+#[derive(Clone, Copy, Debug, PartialEq, Eq)]
+pub enum LabelForm {
+    /// Version 1 of the text: a row for each state.
+    Full,
+    /// Version 2 of the text: rows for the states that the certificate needs.
+    Sparse,
+}
+
 /// Where a plan is written besides its report. Both differ from the files that are read, and from each other.
 #[derive(Debug, Drop)]
 pub struct Outputs {
     /// Where the labels of each plan are written, if they are.
     pub labels: Option<Name>,
+    /// In which form they are written; sparse where nothing else is asked.
+    pub form: LabelForm,
     /// Where the expansions of each plan are written, if they are.
     pub trace: Option<Name>,
 }

@@ -13,7 +13,9 @@ mod words;
 mod wrong;
 
 pub use help::{Asked, read_asked, told};
-pub use job::{CheckJob, DemoJob, Job, JobFault, Outputs, PlanJob, Planner, SearchJob, Sources};
+pub use job::{
+    CheckJob, DemoJob, Job, JobFault, LabelForm, Outputs, PlanJob, Planner, SearchJob, Sources,
+};
 pub use name::Name;
 pub use read::read_job;
 pub use words::{Command, Setting, words_part_into_forms};

@@ -159,9 +159,9 @@ fn with_ends<'a>(alloc: Global, line: clap::Command<'a>) -> Result<clap::Command
     )
 }
 
-/// What a plan writes besides its report.
-fn with_outputs<'a>(alloc: Global, line: clap::Command<'a>) -> Result<clap::Command<'a>, AllocError>
-    ensures app { IfOk result (λ l. app_of l ≡ with_rule (with_rule (app_of line.entry) (option_rule (codes "labels"))) (option_rule (codes "trace"))) }
+/// Where labels are written, and in which form.
+fn with_labels<'a>(alloc: Global, line: clap::Command<'a>) -> Result<clap::Command<'a>, AllocError>
+    ensures app { IfOk result (λ l. app_of l ≡ with_rule (with_rule (app_of line.entry) (option_rule (codes "labels"))) (option_rule (codes "labels-as"))) }
 {
     let line = with_option(
         alloc,
@@ -170,6 +170,20 @@ fn with_outputs<'a>(alloc: Global, line: clap::Command<'a>) -> Result<clap::Comm
         "F",
         "where the labels are written [default: nowhere]",
     )?;
+    with_option(
+        alloc,
+        line,
+        "labels-as",
+        "V",
+        "the version of their text, only with --labels: 1 has a row for each state, 2 for those that are needed [default: 2]",
+    )
+}
+
+/// What a plan writes besides its report.
+fn with_outputs<'a>(alloc: Global, line: clap::Command<'a>) -> Result<clap::Command<'a>, AllocError>
+    ensures app { IfOk result (λ l. app_of l ≡ with_rule (with_rule (with_rule (app_of line.entry) (option_rule (codes "labels"))) (option_rule (codes "labels-as"))) (option_rule (codes "trace"))) }
+{
+    let line = with_labels(alloc, line)?;
     with_option(
         alloc,
         line,

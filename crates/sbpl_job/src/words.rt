@@ -42,6 +42,8 @@ pub enum Setting {
     Budget,
     /// `--labels`: where the labels of each plan are written.
     Labels,
+    /// `--labels-as`: in which form the labels are written.
+    LabelsAs,
     /// `--trace`: where the expansions of each plan are written.
     Trace,
 }
@@ -70,6 +72,7 @@ fn setting_named(word: &str) -> Option<Setting>
         "--bound" => Some(Setting::Bound),
         "--budget" => Some(Setting::Budget),
         "--labels" => Some(Setting::Labels),
+        "--labels-as" => Some(Setting::LabelsAs),
         "--trace" => Some(Setting::Trace),
         _ => None,
     }

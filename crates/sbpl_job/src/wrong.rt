@@ -1,6 +1,7 @@
 //! What is wrong with words that name no job, told in one line.
 
 use crate::demo::{read_extent, read_seed};
+use crate::files::form_named;
 use crate::line::line_of;
 use crate::read::command_named;
 use crate::values::{radius_of, wrong_search};
@@ -40,9 +41,25 @@ fn wrong_value(command: Command, matches: &ArgMatches) -> Option<(&'static str, 
         ));
     }
     match command {
-        Command::Plan => wrong_search(matches),
+        Command::Plan => match wrong_search(matches) {
+            Some(wrong) => Some(wrong),
+            None => wrong_form(matches),
+        },
         Command::Demo => wrong_demo(matches),
         Command::Check | Command::Sweep => None,
+    }
+}
+
+/// The form of labels, where it is wrong or stands without them, and what it must be.
+fn wrong_form(matches: &ArgMatches) -> Option<(&'static str, &'static str)> {
+    let version = matches.get_str("labels-as")?;
+    if matches.get_str("labels").is_some() && form_named(version).is_ok() {
+        None
+    } else {
+        Some((
+            "labels-as",
+            "--labels-as must be 1 or 2, and goes with --labels",
+        ))
     }
 }
 

@@ -12,9 +12,11 @@ use std::alloc::Global;
 /// What must stand at the place of a fault.
 fn wanted(fault: &LabelFault) -> &'static str {
     match fault {
-        LabelFault::Word(_) => "another word, or the version 1, must stand here",
+        LabelFault::Word(_) => "another word, or the version 1 or 2, must stand here",
         LabelFault::Number(_) => "a number must stand here, or - for an infinite label",
-        LabelFault::Range(_) => "the number must lie in its range",
+        LabelFault::Range(_) => {
+            "the number must lie in its range, and the states of the rows of version 2 must go upwards"
+        }
         LabelFault::Ended(_) => "the section must go on, or the next one must follow",
         LabelFault::Trailing(_) => "the file must end after the section of the last plan",
         LabelFault::Count(_) => "the number must be that of the plan, or of the states of the map",

@@ -1,14 +1,15 @@
 //! Lists of words, and the jobs that they name.
 
 use sbpl_job::{
-    Asked, Command, Job, JobFault, Name, PlanJob, Planner, Sources, read_asked, read_job, told,
+    Asked, Command, Job, JobFault, LabelForm, Name, PlanJob, Planner, Sources, read_asked,
+    read_job, told,
 };
 use std::alloc::Global;
 use std::test::Fail;
 
 /// Words that name a job, and after the arrow that job as a line: of `plan` its environment, primitives, radius, changes,
-/// planner, workers, first inflation, step, bound, budget, labels and trace; of `check` its environment, primitives, radius, changes
-/// and labels.
+/// planner, workers, first inflation, step, bound, budget, labels with their form, and trace; of `check` its environment, primitives,
+/// radius, changes and labels.
 const JOBS: &str = "\
 plan e m => plan e m 0 - ad 1 1000 500 1000 1073741824 - -
 plan --radius 0 e m => plan e m 0 - ad 1 1000 500 1000 1073741824 - -
@@ -31,6 +32,8 @@ plan e m --planner epase --workers 2 => plan e m 0 - epase 2 1000 500 1000 10737
 plan --workers 64 e --planner=epase m --labels=l => plan e m 0 - epase 64 1000 500 1000 1073741824 l -
 plan --changes c e m => plan e m 0 c ad 1 1000 500 1000 1073741824 - -
 plan e m --labels=l --trace t => plan e m 0 - ad 1 1000 500 1000 1073741824 l t
+plan e m --labels=l --labels-as 1 => plan e m 0 - ad 1 1000 500 1000 1073741824 l in full -
+plan --labels-as=2 e --trace t m --labels l => plan e m 0 - ad 1 1000 500 1000 1073741824 l t
 plan e --changes=c=d --labels c m --trace=d => plan e m 0 c=d ad 1 1000 500 1000 1073741824 c d
 plan e e --changes e => plan e e 0 e ad 1 1000 500 1000 1073741824 - -
 check e m l => check e m 0 - l
@@ -100,6 +103,12 @@ plan e m --changes c --labels c
 plan --trace=c --changes=c e m
 plan e m --labels x --trace x
 plan e m --labels x --labels y
+plan e m --labels-as 2
+plan e m --trace t --labels-as=1
+plan e m --labels l --labels-as 3
+plan e m --labels l --labels-as=01
+plan e m --labels l --labels-as 2 --labels-as=2
+check e m l --labels-as 2
 plan e m --changes c --changes=d
 plan e --labels=l --changes m --trace=--changes
 check e m
@@ -149,6 +158,14 @@ fn said_of_sources(alloc: Global, from: &Sources) -> Result<String, Fail> {
     Ok(format!(in alloc; "{env} {prims} {}", from.radius)?)
 }
 
+/// Whether labels are written in full, as a part of a line.
+fn said_of_form(form: LabelForm) -> &'static str {
+    match form {
+        LabelForm::Full => " in full",
+        LabelForm::Sparse => "",
+    }
+}
+
 /// The job `plan` as a line: what is read, how it is searched, and what is written.
 fn said_of_plan(alloc: Global, job: &PlanJob) -> Result<String, Fail> {
     let from = said_of_sources(alloc, &job.sources)?;
@@ -159,7 +176,7 @@ fn said_of_plan(alloc: Global, job: &PlanJob) -> Result<String, Fail> {
     };
     let search = &job.search;
     Ok(format!(in alloc;
-        "plan {} {} {planner} {} {} {} {} {} {} {}",
+        "plan {} {} {planner} {} {} {} {} {} {}{} {}",
         from.as_str(),
         or_dash(&job.changes),
         search.workers,
@@ -168,6 +185,7 @@ fn said_of_plan(alloc: Global, job: &PlanJob) -> Result<String, Fail> {
         search.bound,
         search.budget,
         or_dash(&job.outputs.labels),
+        said_of_form(job.outputs.form),
         or_dash(&job.outputs.trace)
     )?)
 }

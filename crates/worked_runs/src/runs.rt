@@ -350,6 +350,14 @@ fn corridor_labels(alloc: Global, row: &str) -> Result<String, Fail> {
     Ok(text)
 }
 
+/// The sparse labels of the corridor.
+const SPARSE_CORRIDOR: &str =
+    "labels 2 plan 0 states 48 rows 1 low 50\npath 50 1.000 2 0 0\n0 0 -\nend\n";
+
+/// The sparse labels on the map with a way around.
+const SPARSE_AROUND: &str =
+    "labels 2 plan 0 states 96 rows 4 low 100\npath 100 1.000 3 2 1 3\n0 0 0\n16 75 -\n32 100 -\n48 25 -\nend\n";
+
 /// Compares the labels and the expansions that are written on a desk.
 fn compare_written(rt: &impl Abort, desk: &MemoryDesk, labels: &[u8], trace: &[u8]) {
     assert_eq!(rt; desk.written("l"), labels);
@@ -360,9 +368,19 @@ fn compare_written(rt: &impl Abort, desk: &MemoryDesk, labels: &[u8], trace: &[u
 fn compare_outputs(
     rt: &(impl Abort + Threads + Wait + Sync),
     alloc: Global,
+    form: &str,
     labels: &[u8],
 ) -> Result<(), Fail> {
-    let words = ["plan", "e", "--labels=l", "m", "--trace", "t"];
+    let words = [
+        "plan",
+        "e",
+        "--labels=l",
+        "m",
+        "--trace",
+        "t",
+        "--labels-as",
+        form,
+    ];
     let trace = "trace plan 0\npass 1.000\nlower 0\nlower 16\nend\n";
     let mut desk = desk_of(alloc, &[("e", E1), ("m", F1)])?;
     let compared = compare_on(rt, alloc, &words, &mut desk, 0, CORRIDOR);
@@ -375,9 +393,10 @@ fn compare_outputs(
 #[test]
 fn outputs(rt: HostRuntime) -> Result<(), Fail> {
     let labels = corridor_labels(rt.alloc(), "25 25 25\n")?;
-    let compared = compare_outputs(&rt, rt.alloc(), labels.as_bytes());
+    let compared = compare_outputs(&rt, rt.alloc(), "1", labels.as_bytes());
     drop(labels);
-    compared
+    compared?;
+    compare_outputs(&rt, rt.alloc(), "2", SPARSE_CORRIDOR.as_bytes())
 }
 
 /// Plans on a desk with these files, and compares the trace.
@@ -483,7 +502,8 @@ fn altered_labels(rt: HostRuntime) -> Result<(), Fail> {
 #[test]
 fn broken_labels(rt: HostRuntime) -> Result<(), Fail> {
     let rows = [
-        ("labels 1", "labels 2", "refused labels 1 Word 7\n"),
+        ("labels 1", "labels 3", "refused labels 1 Word 7\n"),
+        ("labels 1", "labels 2", "refused labels 1 Word 26\n"),
         ("plan 0", "plan +0", "refused labels 2 Number 14\n"),
         (
             "path 50 1.000",
@@ -519,8 +539,19 @@ fn labels_for(
     env: &str,
     prims: &str,
     radius: &str,
+    form: &str,
 ) -> Result<Vec<u8>, Fail> {
-    let words = ["plan", "e", "m", "--radius", radius, "--labels", "l"];
+    let words = [
+        "plan",
+        "e",
+        "m",
+        "--radius",
+        radius,
+        "--labels",
+        "l",
+        "--labels-as",
+        form,
+    ];
     labels_of(rt, alloc, &[("e", env), ("m", prims)], &words)
 }
 
@@ -545,17 +576,18 @@ fn compare_for(
     )
 }
 
-/// Plans with labels, checks them, and compares what the check writes.
+/// Plans with labels in a form, checks them, and compares what the check writes.
 fn compare_checked(
     rt: &(impl Abort + Threads + Wait + Sync),
     alloc: Global,
     env: Edited,
     prims: &str,
     radius: &str,
+    form: &str,
     report: &str,
 ) -> Result<(), Fail> {
     let env = env.0.replacen(alloc, env.1, env.2, 1)?;
-    let labels = labels_for(rt, alloc, env.as_str(), prims, radius)?;
+    let labels = labels_for(rt, alloc, env.as_str(), prims, radius, form)?;
     compare_for(
         rt,
         alloc,
@@ -614,7 +646,7 @@ const HOLDS: &str = "plan 0 path holds\ndone\n";
 
 const NONE_HOLDS: &str = "plan 0 nopath holds\ndone\n";
 
-/// The labels that a plan writes are accepted.
+/// The labels that a plan writes are accepted, in either form.
 #[test]
 fn written_labels(rt: HostRuntime) -> Result<(), Fail> {
     let rows = [
@@ -630,7 +662,10 @@ fn written_labels(rt: HostRuntime) -> Result<(), Fail> {
         (E3, "100 0 0\n", "99 0 0\n", F1, "0.012500001", HOLDS),
     ];
     for (env, old, new, prims, radius, report) in rows {
-        compare_checked(&rt, rt.alloc(), (env, old, new), prims, radius, report)?;
+        for form in ["1", "2"] {
+            let edited = (env, old, new);
+            compare_checked(&rt, rt.alloc(), edited, prims, radius, form, report)?;
+        }
     }
     Ok(())
 }
@@ -687,7 +722,7 @@ fn states_of_eight_headings(rt: HostRuntime) -> Result<(), Fail> {
     assert!(rt;
         labels
             .as_slice()
-            .starts_with(b"labels 1 plan 0 states 24 low 50\n")
+            .starts_with(b"labels 2 plan 0 states 24 rows 1 low 50\n")
     );
     Ok(())
 }
@@ -1023,6 +1058,57 @@ fn repaired_outputs(rt: HostRuntime) -> Result<(), Fail> {
         &check,
         THREE_HOLD,
     )
+}
+
+/// The labels that several passes leave, which are sparse where nothing else is asked, and hold.
+#[test]
+fn labels_of_passes(rt: HostRuntime) -> Result<(), Fail> {
+    let files = [("e", E2), ("m", F2)];
+    let words = ["plan", "e", "m", "--first", "3", "--labels=l"];
+    let check = ["check", "e", "m", "l"];
+    let labels = labels_of(&rt, rt.alloc(), &files, &words)?;
+    let is_sparse = labels.as_slice().starts_with(b"labels 2 ");
+    let compared = compare_held(&rt, rt.alloc(), &files, labels.as_slice(), &check, HOLDS);
+    drop(labels);
+    assert!(rt; is_sparse);
+    compared
+}
+
+/// Runs `check e m l` on the map with a way around and these labels, and compares the status and what is written.
+fn compare_around(
+    rt: &(impl Abort + Threads + Wait + Sync),
+    alloc: Global,
+    labels: &str,
+    status: u8,
+    report: &str,
+) -> Result<(), Fail> {
+    let mut desk = desk_of(alloc, &[("e", E2), ("m", F2), ("l", labels)])?;
+    let words = ["check", "e", "m", "l"];
+    let compared = compare_on(rt, alloc, &words, &mut desk, status, report);
+    drop(desk);
+    compared
+}
+
+/// The sparse labels on the map with a way around, and what is said of them with one part changed.
+#[test]
+fn sparse_labels(rt: HostRuntime) -> Result<(), Fail> {
+    let files = [("e", E2), ("m", F2)];
+    let words = ["plan", "e", "m", "--labels=l"];
+    let labels = labels_of(&rt, rt.alloc(), &files, &words)?;
+    assert_eq!(rt; labels.as_slice(), SPARSE_AROUND.as_bytes());
+    drop(labels);
+    let rows = [
+        ("", "", 0, HOLDS),
+        ("48 25 -", "48 26 -", 1, "flaw 2 Arc plan 0 0 2 26 25\n"),
+        ("low 100", "low 101", 1, "flaw 4 Low plan 0 32 101 100\n"),
+        ("rows 4", "rows 97", 10, "refused labels 3 Range 31\n"),
+        ("48 25", "32 25", 10, "refused labels 3 Range 87\n"),
+    ];
+    for (old, new, status, report) in rows {
+        let altered = SPARSE_AROUND.replacen(rt.alloc(), old, new, 1)?;
+        compare_around(&rt, rt.alloc(), altered.as_str(), status, report)?;
+    }
+    Ok(())
 }
 
 /// The labels that a plan by events leaves hold on its map.

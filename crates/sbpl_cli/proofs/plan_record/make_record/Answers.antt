@@ -2,7 +2,7 @@ use Rattle.std.proofs.Common.{map, arith, ◌≡◌, ℕ, ◌+◌, ◌*◌, ◌^
 use Rattle.std.proofs.lemmas.List.{length-map}
 use Rattle.std.specs.Option.{is_some}
 use Rattle.std.specs.Result.{IsErr}
-use Rattle.sbpl_cert.specs.Sections.{FullSection}
+use Rattle.sbpl_cert.specs.declared.section.Section.{Section}
 use Rattle.sbpl_fixed.specs.declared.no_memory.NoMemory.{NoMemory}
 use Rattle.sbpl_cost.specs.Lattices.{network_of}
 use Rattle.sbpl_cost.specs.World.{World}
@@ -43,7 +43,7 @@ in_run before rises (inl all) = inl all
 in_run before rises (inr all) = inr (rises ∙ all)
 
 -- what is known of a plan, and of its record, is that it was searched
-module _ (by : Known) (w : World) (guide : Table) (start goal : ℕ) (how : SearchJob) (outputs : Outputs) (before : Option Carried) (begun final : Marks) (per_plan run used : ℕ) (planned : Planned by.Note) (section : Option FullSection) where
+module _ (by : Known) (w : World) (guide : Table) (start goal : ℕ) (how : SearchJob) (outputs : Outputs) (before : Option Carried) (begun final : Marks) (per_plan run used : ℕ) (planned : Planned by.Note) (section : Option Section) where
   searched_by : (asked : Ask) (wanted : Bool) (plan : ℕ) (r : Result PlanRecord NoMemory) → IsBest w goal (distance_in guide) → Begins by.means w start before begun
       → asked ≡ ask_of how outputs → ArePasses by.means (inquiry w (distance_in guide) goal asked) asked.first begun planned.passes final planned.spent
       → IsResultOf (network_of w) (distance_in guide) goal final planned.outcome → per_plan ≡ how.budget → run ≡ expanded_before before + expansions planned.passes → used ≡ expansions planned.passes
@@ -51,7 +51,7 @@ module _ (by : Known) (w : World) (guide : Table) (start goal : ℕ) (how : Sear
       → expansions planned.passes ≤ per_plan → run ≤ 2 ^ 30
       → length planned.passes ≤ most_passes asked.step asked.first
       → (planned.spent ≡ true → most_passes asked.step asked.first * (by.means.most * (network_of w).states) ≤ how.budget → run ≡ 2 ^ 30)
-      → wanted ≡ is_some outputs.labels → final.start ≡ start → IsThere wanted (IsShown (network_of w) (distance_in guide) final.start goal plan final planned.outcome) section
+      → wanted ≡ is_some outputs.labels → final.start ≡ start → IsThere wanted (IsShown outputs.form (network_of w) (distance_in guide) final.start goal plan final planned.outcome) section
       → IfOk r (λ x. x.plan ≡ plan) → IfOk r (λ x. x.passes ≡ map (traced_pass by.line) planned.passes) → IfOk r (λ x. x.expanded ≡ used) → IfOk r (λ x. IsSameResult planned.outcome x.outcome) → IfOk r (λ x. x.labels ≡ section)
       → IfOk r (λ x. MatchBool planned.spent (x.spent ≡ Some used) (x.spent ≡ None))
       → IfOk r (IsSearched by w how outputs start goal before (record { map = w.map; labels = final; expanded = run }))
@@ -79,9 +79,9 @@ module _ (by : Known) (w : World) (guide : Table) (start goal : ℕ) (how : Sear
         marked = marked_by planned.spent how.budget (expanded_before before) (expansions planned.passes) used per_plan run x used_is all mark budget counted spent;
         few = rw (copied, length-map planned.passes (traced_pass by.line), sym step, sym first) few;
         ample = rw (sym step, sym first) enough;
-        labels = rw kept (subst (λ (b : Bool). IsThere b (IsShown (network_of w) (distance_in guide) start goal x.plan final planned.outcome) section) asks
-            (subst (λ (k : ℕ). IsThere wanted (IsShown (network_of w) (distance_in guide) start goal k final planned.outcome) section) (sym number)
-            (subst (λ (s : ℕ). IsThere wanted (IsShown (network_of w) (distance_in guide) s goal plan final planned.outcome) section) begins_at shown)));
+        labels = rw kept (subst (λ (b : Bool). IsThere b (IsShown outputs.form (network_of w) (distance_in guide) start goal x.plan final planned.outcome) section) asks
+            (subst (λ (k : ℕ). IsThere wanted (IsShown outputs.form (network_of w) (distance_in guide) start goal k final planned.outcome) section) (sym number)
+            (subst (λ (s : ℕ). IsThere wanted (IsShown outputs.form (network_of w) (distance_in guide) s goal plan final planned.outcome) section) begins_at shown)));
       }
 
 pub labels_of-requires-clause-found : goal.labels_of-requires-clause-found
@@ -110,8 +110,8 @@ returns-clause-searched g c = λ before begins counted.
     set.budget_is run used (λ is. in_run old.counts.run rises (within.used_up is)) within.of_plan c.in_ok-planned.ensures.run made.few
     (λ is ample. made.enough is (omega (arith, ample, set.budget_is)))
     c.is_some.ensures (c.in_ok-planned.ensures.same.start ∙ set.start_is)
-    (subst (λ (m : Marks). IsThere c.is_some.result (IsShown (network_of c.args.lattice.now) (distance_in old.guide) m.start c.args.goal c.args.plan m planned.outcome) c.in_ok-labels.labels) c.labels.ensures.value
-    (subst (λ (t : Table). IsThere c.is_some.result (IsShown (network_of c.args.lattice.now) (distance_in t) c.labels.result.now.start c.args.goal c.args.plan c.labels.result.now planned.outcome) c.in_ok-labels.labels) guide c.in_ok-labels.ensures.shown))
+    (subst (λ (m : Marks). IsThere c.is_some.result (IsShown c.args.outputs.now.form (network_of c.args.lattice.now) (distance_in old.guide) m.start c.args.goal c.args.plan m planned.outcome) c.in_ok-labels.labels) c.labels.ensures.value
+    (subst (λ (t : Table). IsThere c.is_some.result (IsShown c.args.outputs.now.form (network_of c.args.lattice.now) (distance_in t) c.labels.result.now.start c.args.goal c.args.plan c.labels.result.now planned.outcome) c.in_ok-labels.labels) guide c.in_ok-labels.ensures.shown))
     c.record_of.ensures.number c.record_of.ensures.passes c.record_of.ensures.expanded c.record_of.ensures.told c.record_of.ensures.labels c.record_of.ensures.marked
 
 -- a plan that is not marked as spent was not

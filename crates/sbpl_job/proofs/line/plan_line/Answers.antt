@@ -10,7 +10,7 @@ arguments : (a b d e f h : App) → a ≡ bare (codes "plan") → b ≡ with_rul
     → d ≡ with_rule b (option_rule (codes "changes")) → e ≡ with_rule d (option_rule (codes "radius"))
     → f ≡ with_rule (with_rule (with_rule (with_rule e (option_rule (codes "planner"))) (option_rule (codes "workers"))) (option_rule (codes "first"))) (option_rule (codes "step"))
     → h ≡ with_rule (with_rule f (option_rule (codes "bound"))) (option_rule (codes "budget"))
-    → with_rule (with_rule h (option_rule (codes "labels"))) (option_rule (codes "trace")) ≡ app command.Plan
+    → with_rule (with_rule (with_rule h (option_rule (codes "labels"))) (option_rule (codes "labels-as"))) (option_rule (codes "trace")) ≡ app command.Plan
 arguments a b d e f h first second third fourth fifth sixth = rw (sixth, fifth, fourth, third, second, first) refl
 
 pub returns : goal.returns

@@ -6,5 +6,5 @@ use Rattle.sbpl_job.proofs.line.with_outputs.Goals as goal
 
 pub returns : goal.returns
 returns c = record {
-  app = subst (λ (a : App). IfOk c.with_option-2.result (λ l. app_of l ≡ with_rule a (option_rule (codes "trace")))) c.in_ok-line.ensures.app c.with_option-2.ensures.app;
+  app = subst (λ (a : App). IfOk c.with_option.result (λ l. app_of l ≡ with_rule a (option_rule (codes "trace")))) c.in_ok-line.ensures.app c.with_option.ensures.app;
 }

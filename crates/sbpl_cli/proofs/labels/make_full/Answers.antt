@@ -9,8 +9,8 @@ use Rattle.sbpl_labels.specs.Marks.{Marks, g_of, states_of, v_of}
 use Rattle.sbpl_cert.specs.Sections.{FullSection}
 use Rattle.sbpl_cert.specs.Claims.{claim_of}
 use Rattle.sbpl_cert.specs.Sound.{ShowsBound}
-use Rattle.sbpl_cli.proofs.Showing.{answer_fits, arcs_fit, is_shown}
-use Rattle.sbpl_cli.proofs.labels.make_section.Goals as goal
+use Rattle.sbpl_cli.proofs.Showing.{answer_fits, arcs_fit, shown_in_full}
+use Rattle.sbpl_cli.proofs.labels.make_full.Goals as goal
 
 pub section_of-requires-clause-outcome : goal.section_of-requires-clause-outcome
 section_of-requires-clause-outcome c =
@@ -29,7 +29,7 @@ bounds_on n m goal table (Err e) same sound guides supported shows = tt
 
 pub returns : goal.returns
 returns c = record {
-  shown = is_shown (network_of c.args.lattice.now) c.states-states.ensures.sound (distance_in c.args.guide.now) c.args.goal c.args.labels.now c.requires.states c.requires.goal c.requires.supported c.args.plan c.args.found.now _ _ c.section_of.result c.requires.found
+  shown = shown_in_full (network_of c.args.lattice.now) c.states-states.ensures.sound (distance_in c.args.guide.now) c.args.goal c.args.labels.now c.requires.states c.requires.goal c.requires.supported c.args.plan c.args.found.now _ _ c.section_of.result c.requires.found
       c.answer_of-answer.ensures.answer c.in_ok-arcs.ensures.arcs c.section_of.ensures.plan c.section_of.ensures.outcome c.section_of.ensures.arcs c.section_of.ensures.labels
       (bounds_on _ _ _ c.args.guide.now _ (sym c.requires.states) c.states-states.ensures.sound c.requires.guides c.requires.supported c.section_of.ensures.shows);
 }
