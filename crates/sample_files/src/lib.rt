@@ -2,6 +2,8 @@
 //! stands here once.
 #![tactic(auto)]
 
+ghost use Rattle.std.specs.Prelude.{◌<◌};
+
 use std::alloc::{AllocError, Global};
 
 /// Three cells in a row, from the first to the last.
@@ -287,4 +289,15 @@ pub fn car(alloc: Global) -> Result<String, AllocError> {
         put_short(&mut text, 2, heading, (0, 0), heading.wrapping_sub(1))?;
     }
     Ok(text)
+}
+
+/// A number below `limit`, drawn from a word that each draw replaces.
+pub fn draw(word: &mut u64, limit: u32) -> u32
+    requires some { 0 < limit }
+    ensures below { result < limit }
+{
+    *word = word
+        .wrapping_mul(6_364_136_223_846_793_005)
+        .wrapping_add(1_442_695_040_888_963_407);
+    ((*word >> 33) % u64::from(limit)) as u32
 }

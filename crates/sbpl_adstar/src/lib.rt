@@ -2,6 +2,10 @@
 #![tactic(auto)]
 
 mod adstar;
+mod change;
 mod planner;
+mod raiser;
 
 pub use adstar::AdStar;
+pub use change::change_labels;
+pub use raiser::Raiser;

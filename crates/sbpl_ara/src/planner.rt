@@ -50,6 +50,10 @@ impl<G: Graph, H: Guide> Search<G, H> for Ara {
         self.trace()
     }
 
+    fn raised(&self) -> &[u32] {
+        &[]
+    }
+
     fn expanded(&self) -> u64 {
         self.trace().len() as u64
     }

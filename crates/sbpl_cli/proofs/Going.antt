@@ -128,7 +128,7 @@ module _ (by : Known) (written_of : PlanRecord → List Write) (w : World) (batc
     pub changes : (next : World) (t : Replanning by.Note) (batch : List change.Write)
         → ((first m m' : CellMap) (bs : List (List change.Write)) (n : ℕ) (l : List change.Write) → IsMapAfter first bs n m → slice_get bs n ≡ Some l → AreWritten m l m' → IsMapAfter first bs (n + 1) m')
         → NextEnds (Ok tt) → NoneFalls b.write_faults c.write_faults → IsSetFor how start goal s → slice_get batches k ≡ Some batch → AreWritten now.map batch next.map → next ≡ record now { map = next.map } → IsWorld next
-        → BeginsWith by.means now next s.search.labels t.search.labels → IsReadyIn by.means next t → StaysTheSame s t → t.counts ≡ s.counts → IsGoing next (k + 1) t a c
+        → BeginsWith by.means now next s.search.labels t.search.labels t.search.raised → IsReadyIn by.means next t → StaysTheSame s t → t.counts ≡ s.counts → IsGoing next (k + 1) t a c
     changes next t batch law made low set at written others kept begins ready stays counts = record {
       same = others ∙ ap (λ (v : World). record v { map = next.map }) going.same;
       inside = let room = slice_get_within batches k batch at in omega arith;
@@ -142,7 +142,7 @@ module _ (by : Known) (written_of : PlanRecord → List Write) (w : World) (batc
       };
       before = Some (carried_of now s);
       goes_on = record {
-        begins = subst (λ (v : World). BeginsWith by.means v next s.search.labels t.search.labels) (sym back) begins;
+        begins = subst (λ (v : World). BeginsWith by.means v next s.search.labels t.search.labels t.search.raised) (sym back) begins;
         counted = ap (λ (n : Counts). n.run) (sym counts);
       };
       ends = λ d status e. tells d status made low e;

@@ -1,5 +1,5 @@
 -- The labels that a plan begins with are determined.
-use Rattle.std.proofs.Common.{◌≡◌, ℕ, ◌↔◌, true, Option, Some, None, sym, subst, ◌∙◌}
+use Rattle.std.proofs.Common.{◌≡◌, ℕ, ◌↔◌, true, List, [], Option, Some, None, sym, subst, ◌∙◌}
 use Rattle.std.specs.List.{Contains}
 use Rattle.sbpl_graph.specs.Network.{Network}
 use Rattle.sbpl_cfg.specs.Environment.{Environment}
@@ -32,8 +32,9 @@ touched_on e ps sweeps others m now same radius t is =
     record { x = is.x; y = is.y; changed = is.changed; reads = head }
 
 -- the labels are the same, with one row for each state, and the start has no back arc
-pub record AreBegun (e : Environment) (a b : Marks) : Type 0 where
+pub record AreBegun (e : Environment) (a b : Marks) (xs ys : List ℕ) : Type 0 where
   pub same : a ≡ b
+  pub raised : xs ≡ ys
   pub states : states_of a ≡ state_count e
   pub no_arc : back_of a a.start ≡ None
 
@@ -49,31 +50,32 @@ module _ (e : Environment) (ps : Primitives) (sweeps others : Swept) (radius : s
   AreCarried (Some b) = IsCarried b
 
   module _ (initial : InitialLabelsAreOne) where
-    initial_begun : (m : CellMap) (start : ℕ) (a b : Marks) → network_of (made e ps sweeps m) ≡ network_of (made e ps others m)
-        → AreInitial a (network_of (made e ps sweeps m)).states start → AreInitial b (network_of (made e ps others m)).states start → AreBegun e a b
-    initial_begun m start a b same x y =
-        let own : AreInitial b (network_of (made e ps sweeps m)).states start = rw same y in
-        record { same = initial a b _ start x own; states = x.states ∙ states_are (made e ps sweeps m); no_arc = x.no_arc a.start }
+    initial_begun : (m : CellMap) (start : ℕ) (a b : Marks) (xs ys : List ℕ) → network_of (made e ps sweeps m) ≡ network_of (made e ps others m)
+        → AreInitial a (network_of (made e ps sweeps m)).states start × (xs ≡ []) → AreInitial b (network_of (made e ps others m)).states start × (ys ≡ []) → AreBegun e a b xs ys
+    initial_begun m start a b xs ys same x y =
+        let own : AreInitial b (network_of (made e ps sweeps m)).states start = rw same y.0 in
+        record { same = initial a b _ start x.0 own; raised = x.1 ∙ sym y.1; states = x.0.states ∙ states_are (made e ps sweeps m); no_arc = x.0.no_arc a.start }
 
     module _ {Note : Type 0} (means : Meaning Note) (law : AreBeginningsDetermined means) where
-      with_begun : (m : CellMap) (left : Carried) (a b : Marks) → network_of (made e ps sweeps m) ≡ network_of (made e ps others m) → IsCarried left
-          → BeginsWith means (made e ps sweeps left.map) (made e ps sweeps m) left.labels a → BeginsWith means (made e ps others left.map) (made e ps others m) left.labels b
-          → AreBegun e a b
-      with_begun m left a b same carried x y =
+      with_begun : (m : CellMap) (left : Carried) (a b : Marks) (xs ys : List ℕ) → network_of (made e ps sweeps m) ≡ network_of (made e ps others m) → IsCarried left
+          → BeginsWith means (made e ps sweeps left.map) (made e ps sweeps m) left.labels a xs → BeginsWith means (made e ps others left.map) (made e ps others m) left.labels b ys
+          → AreBegun e a b xs ys
+      with_begun m left a b xs ys same carried x y =
           let n : Network = network_of (made e ps sweeps m) in
-          let own : means.begun n y.touched left.labels b = subst (λ (k : Network). means.begun k y.touched left.labels b) (sym same) y.begun in
+          let own : means.begun n y.touched left.labels b ys = subst (λ (k : Network). means.begun k y.touched left.labels b ys) (sym same) y.begun in
           let both : means.repairs ≡ true → (t : ℕ) → Contains x.touched t ↔ Contains y.touched t = λ repairs t. (
             λ among. (y.are_touched repairs t).1 (touched_on e ps sweeps others left.map m carried.graph radius t ((x.are_touched repairs t).0 among)),
             λ among. (x.are_touched repairs t).1 (touched_on e ps others sweeps left.map m (sym carried.graph) (sym radius) t ((y.are_touched repairs t).0 among)),
           ) in
           let all : states_of left.labels ≡ n.states = carried.states ∙ sym (states_are (made e ps sweeps m)) in
           record {
-            same = law.one n x.touched y.touched left.labels a b both x.begun own;
-            states = law.states n x.touched left.labels a all x.begun ∙ states_are (made e ps sweeps m);
-            no_arc = law.no_arc n x.touched left.labels a carried.no_arc x.begun;
+            same = (law.one n x.touched y.touched left.labels a b xs ys both x.begun own).0;
+            raised = (law.one n x.touched y.touched left.labels a b xs ys both x.begun own).1;
+            states = law.states n x.touched left.labels a xs all x.begun ∙ states_are (made e ps sweeps m);
+            no_arc = law.no_arc n x.touched left.labels a xs carried.no_arc x.begun;
           }
 
-      pub one_begun : (m : CellMap) (start : ℕ) (before : Option Carried) (a b : Marks) → network_of (made e ps sweeps m) ≡ network_of (made e ps others m)
-          → AreCarried before → Begins means (made e ps sweeps m) start before a → Begins means (made e ps others m) start before b → AreBegun e a b
-      one_begun m start None a b same carried x y = initial_begun m start a b same x y
-      one_begun m start (Some left) a b same carried x y = with_begun m left a b same carried x y
+      pub one_begun : (m : CellMap) (start : ℕ) (before : Option Carried) (a b : Marks) (xs ys : List ℕ) → network_of (made e ps sweeps m) ≡ network_of (made e ps others m)
+          → AreCarried before → Begins means (made e ps sweeps m) start before a xs → Begins means (made e ps others m) start before b ys → AreBegun e a b xs ys
+      one_begun m start None a b xs ys same carried x y = initial_begun m start a b xs ys same x y
+      one_begun m start (Some left) a b xs ys same carried x y = with_begun m left a b xs ys same carried x y

@@ -1,5 +1,5 @@
 -- The record of a plan is determined, and so are the records of plans in turn.
-use Rattle.std.proofs.Common.{map, ◌≡◌, ℕ, ◌+◌, ◌^◌, ◌<◌, ◌≤◌, ◌⊎◌, Bool, true, false, Option, Some, None, List, [], ◌∷◌, ◌++◌, append-nil, length, inl, inr, refl, sym, ap, subst, ◌∙◌, arith}
+use Rattle.std.proofs.Common.{map, ◌≡◌, ℕ, ◌+◌, ◌^◌, ◌<◌, ◌≤◌, ◌⊎◌, Bool, true, false, if◌then◌else◌, Option, Some, None, List, [], ◌∷◌, ◌++◌, append-nil, length, inl, inr, refl, sym, ap, subst, ◌∙◌, arith}
 use Rattle.std.proofs.lemmas.Bool.{MatchBool-at_true, false≢true}
 use Rattle.std.proofs.lemmas.List.{ext_get_or, length-append, nil_from_length}
 use Rattle.std.proofs.lemmas.Option.{same_Some}
@@ -233,7 +233,7 @@ module _ (by : Known) (law : IsPlannerDetermined by.means) (initial : InitialLab
       let n : Network = network_of (made e ps sweeps m) in
       let ask : Ask = ask_of how outputs in
       let q : Inquiry = record { network = n; guide = x.guide; goal = goal; ask = ask } in
-      let begun = one_begun e ps sweeps others radius initial by.means law.beginnings m start before x.begun y.begun same begins_alike x.begins y.begins in
+      let begun = one_begun e ps sweeps others radius initial by.means law.beginnings m start before x.begun y.begun x.raised y.raised same begins_alike x.begins y.begins in
       let guides : (s : ℕ) → s < state_count e → x.guide s ≡ y.guide s = one_best e ps sweeps others m goal x.guide y.guide same x.is_guide y.is_guide in
       let alike : AreAlikeGuides (states_of x.begun) x.guide y.guide = λ s inside. guides s (subst (λ (count : ℕ). s < count) begun.states inside) in
       let passes : ArePasses by.means (record { network = n; guide = y.guide; goal = goal; ask = ask }) how.first x.begun y.notes other.labels y.spent = rw (same, begun.same) y.passes in
@@ -260,8 +260,9 @@ module _ (by : Known) (law : IsPlannerDetermined by.means) (initial : InitialLab
       one_there (is_some outputs.labels) (IsShown outputs.form n x.guide start goal r.plan carried.labels x.result) (IsShown outputs.form n y.guide start goal r.plan carried.labels x.result) r.labels u.labels
       (λ s t. one_section cut_one n x.guide y.guide start goal r.plan carried.labels x.result all_states at_end outputs.form s t) x.labels shown
       in
+      let raised : r.raised ≡ u.raised = x.raises ∙ ap (λ (l : List ℕ). if is_some outputs.trace then l else []) begun.raised ∙ sym y.raises in
       record {
-        record_is = λ i. record { plan = number i; passes = all i; expanded = expanded i; spent = spent i; outcome = outcomes i; labels = labels i };
+        record_is = λ i. record { plan = number i; raised = raised i; passes = all i; expanded = expanded i; spent = spent i; outcome = outcomes i; labels = labels i };
         labels = one.labels;
         expanded = x.counted ∙ ap (λ (count : ℕ). expanded_before before + count) counts ∙ sym y.counted;
         states = states;

@@ -1,5 +1,5 @@
 -- What a plan's record says of the world that it was planned in.
-use Rattle.std.specs.Prelude.{map, ◌≡◌, ℕ, ◌+◌, ◌*◌, ◌^◌, ◌≤◌, ◌⊎◌, Bool, MatchBool, true, List, [], ◌∷◌, length, Option, Some, None}
+use Rattle.std.specs.Prelude.{map, ◌≡◌, ℕ, ◌+◌, ◌*◌, ◌^◌, ◌≤◌, ◌⊎◌, Bool, MatchBool, true, if◌then◌else◌, List, [], ◌∷◌, length, Option, Some, None}
 use Rattle.std.specs.Option.{is_some}
 use Rattle.sbpl_graph.specs.Network.{Network}
 use Rattle.sbpl_graph.specs.Path.{IsFreePath}
@@ -111,10 +111,11 @@ abbrev pub expanded_before : Option Carried → ℕ
 expanded_before None = 0
 expanded_before (Some b) = b.expanded
 
--- the labels that a plan in a world begins with: initial ones; and after another plan what the planner makes of those that it left
-abbrev pub Begins : {Note : Type 0} → Meaning Note → World → (start : ℕ) → Option Carried → Marks → Type 0
-Begins means w start None m = AreInitial m (network_of w).states start
-Begins means w start (Some b) m = BeginsWith means (over_map w b.map) w b.labels m
+-- the labels that a plan in a world begins with, and the states that were raised for it: initial ones and none; and after another
+-- plan what the planner makes of the labels that it left
+abbrev pub Begins : {Note : Type 0} → Meaning Note → World → (start : ℕ) → Option Carried → Marks → (raised : List ℕ) → Type 0
+Begins means w start None m raised = AreInitial m (network_of w).states start × (raised ≡ [])
+Begins means w start (Some b) m raised = BeginsWith means (over_map w b.map) w b.labels m raised
 
 -- a plan that was spent is marked with its expansions, which are the budget, or the run's are 2 ^ 30; one that was not is not marked
 abbrev pub IsMarked : (budget before : ℕ) → Bool → PlanRecord → Type 0
@@ -122,14 +123,16 @@ IsMarked budget before spent r = MatchBool spent
     ((r.spent ≡ Some (expansions r.passes)) × ((expansions r.passes ≡ budget) ⊎ (before + expansions r.passes ≡ 2 ^ 30)))
     (r.spent ≡ None)
 
--- The record of a search by the best heuristic, from initial or repaired labels: its passes in turn, as few as the step allows,
--- the result by the final labels, and a section of these labels, where they are to be written. A plan expands no more than its
+-- The record of a search by the best heuristic, from initial or repaired labels: the states that were raised before its passes,
+-- where they are to be told; its passes in turn, as few as the step allows; the result by the final labels, and a section of these labels, where they are to be written. A plan expands no more than its
 -- budget, and the run no more than 2 ^ 30. A budget for each state in each pass, as often as the planner may take one, is not spent, unless the run's is.
 pub record IsSearched (by : Known) (w : World) (how : SearchJob) (outputs : Outputs) (start goal : ℕ) (before : Option Carried) (carried : Carried) (r : PlanRecord) : Type 0 where
   pub guide : ℕ → ℕ
   pub is_guide : IsBest w goal guide
   pub begun : Marks
-  pub begins : Begins by.means w start before begun
+  pub raised : List ℕ
+  pub begins : Begins by.means w start before begun raised
+  pub raises : r.raised ≡ (if is_some outputs.trace then raised else [])
   pub spent : Bool
   pub notes : List (Pass by.Note)
   pub passes : ArePasses by.means (inquiry w guide goal (ask_of how outputs)) how.first begun notes carried.labels spent

@@ -28,7 +28,7 @@ carried_of w r = record { map = w.map; labels = r.search.labels; expanded = r.co
 
 -- the next plan in a world goes on from the plans before it
 pub record GoesOnFrom {Note : Type 0} (means : Meaning Note) (w : World) (start : ℕ) (before : Option Carried) (r : Replanning Note) : Type 0 where
-  pub begins : Begins means w start before r.search.labels
+  pub begins : Begins means w start before r.search.labels r.search.raised
   pub counted : expanded_before before ≡ r.counts.run
 
 -- what is written of plan k in a world, and whether it was

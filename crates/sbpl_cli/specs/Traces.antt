@@ -38,10 +38,14 @@ line_text (Take ticket seat s k) =
     codes "take " ++ (decimal ticket ++ (codes " " ++ (decimal seat ++ (codes " " ++ (decimal s ++ (codes " " ++ (decimal k ++ line_feed)))))))
 line_text (Post ticket cost) = codes "post " ++ (decimal ticket ++ (codes " " ++ (cost_text cost ++ line_feed)))
 
+-- the line of a state that was raised before the passes of a plan
+abbrev pub raise_text : ℕ → List ℕ
+raise_text s = line_text (Raise s)
+
 -- the lines of a pass
 unfoldable pub lines_text : Pass TraceLine → List ℕ
 lines_text p = codes "pass " ++ (milli_text p.inflation ++ (line_feed ++ flat_map line_text p.trace))
 
 -- the section of a plan in a trace
 unfoldable pub trace_text : PlanRecord → List ℕ
-trace_text r = codes "trace plan " ++ (decimal r.plan ++ (line_feed ++ (flat_map lines_text r.passes ++ codes "end\n")))
+trace_text r = codes "trace plan " ++ (decimal r.plan ++ (line_feed ++ (flat_map raise_text r.raised ++ (flat_map lines_text r.passes ++ codes "end\n"))))

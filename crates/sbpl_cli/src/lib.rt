@@ -30,7 +30,7 @@ mod writing;
 
 pub use facts::{records_are_determined, texts_are_clear, writes_have_texts};
 pub use parts::Steps;
-pub use record::{PathRecord, PathStep, PlanRecord, TraceLine};
+pub use record::{PathRecord, PathStep, PlanRecord, Raised, TraceLine};
 pub use refusal::{Input, Refusal};
 pub use sbpl_epase::{Gate, NoGate};
 pub use sbpl_job::{

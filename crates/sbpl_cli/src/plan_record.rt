@@ -1,6 +1,6 @@
 //! One plan on a lattice.
 
-ghost use Rattle.std.specs.Prelude.{map, ◌≡◌, ◌<◌, ℕ, IfOk, IsSome, MatchBool, None, Option, Some};
+ghost use Rattle.std.specs.Prelude.{map, [], if◌then◌else◌, ◌≡◌, ◌<◌, ℕ, IfOk, IsSome, MatchBool, None, Option, Some};
 ghost use Rattle.sbpl_cost.specs.Lattices.{network_of};
 ghost use Rattle.sbpl_cli.specs.Headline.{AreSteps, Begins, Carried, IsKnownWithin, IsNoneThere, IsPathFrom, IsSearched, IsPathStep, IsWithinBound, KeepsPromises, Joins, JoinsStates, IsSameResult, expanded_before};
 ghost use Rattle.sbpl_cli.specs.Traces.{traced_pass};
@@ -14,7 +14,7 @@ ghost use Rattle.sbpl_plan.specs.declared.result.Outcome.TheVariants as Results;
 
 use crate::labels::labels_of;
 use crate::parts::Steps;
-use crate::record::{PathRecord, PathStep, PlanRecord};
+use crate::record::{PathRecord, PathStep, PlanRecord, Raised};
 use crate::trace::{Traced, traced_passes};
 use sbpl_cert::Section;
 use sbpl_cost::Lattice;
@@ -117,6 +117,17 @@ fn ask_of(how: &SearchJob, outputs: &Outputs) -> Ask
     }
 }
 
+/// The states that were raised before the passes of a plan, where they are to be told.
+fn raised_of(alloc: Global, raised: &[u32], traced: bool) -> Result<Raised, NoMemory>
+    ensures told { IfOk result (λ r. r ≡ (if traced then raised.now else [])) }
+{
+    let mut told = Vec::new(alloc);
+    if traced {
+        told.extend_from_slice(raised)?;
+    }
+    Ok(Raised::of(told))
+}
+
 /// How many states were expanded, where the last pass was spent.
 fn mark_of(spent: bool, expanded: u64) -> Option<u64>
     ensures mark { MatchBool spent (result ≡ Some expanded) (result ≡ None) }
@@ -134,6 +145,7 @@ fn record_of<N: Traced + Drop>(
     planned: Planned<N>,
     expanded: u64,
     labels: Option<Section>,
+    raised: Raised,
 ) -> Result<PlanRecord, NoMemory>
     requires state { start < (network_of lattice.now).states }
     requires so { IsTrueOutcome (network_of lattice.now) start goal planned.outcome }
@@ -142,6 +154,7 @@ fn record_of<N: Traced + Drop>(
     ensures expanded { IfOk result (λ r. r.expanded ≡ expanded) }
     ensures told { IfOk result (λ r. IsSameResult planned.outcome r.outcome) }
     ensures labels { IfOk result (λ r. r.labels ≡ labels) }
+    ensures raised { IfOk result (λ r. r.raised ≡ raised) }
     ensures marked { IfOk result (λ r. MatchBool planned.spent (r.spent ≡ Some expanded) (r.spent ≡ None)) }
     ensures joins { IfOk result (λ r. Joins lattice.now start goal r.outcome) }
     ensures within_the_bound { IfOk result (λ r. IsWithinBound lattice.now start goal r.outcome) }
@@ -152,6 +165,7 @@ fn record_of<N: Traced + Drop>(
     let outcome = outcome_of(alloc, lattice, start, goal, planned.outcome)?;
     Ok(PlanRecord {
         plan,
+        raised,
         passes,
         expanded,
         spent: mark_of(planned.spent, expanded),
@@ -180,12 +194,13 @@ where
     requires set { IsSetFor how.now start goal replanner.old }
     ensures number { IfOk result (λ r. r.plan ≡ plan) }
     ensures promises { IfOk result (KeepsPromises lattice.now start goal how.now.bound) }
-    ensures searched { (before : Option Carried) → Begins S.meaning lattice.now start before replanner.old.search.labels → expanded_before before ≡ replanner.old.counts.run
+    ensures searched { (before : Option Carried) → Begins S.meaning lattice.now start before replanner.old.search.labels replanner.old.search.raised → expanded_before before ≡ replanner.old.counts.run
         → IfOk result (IsSearched (record { Note = S.Note; means = S.meaning; line = S.Note.line }) lattice.now how.now outputs.now start goal before (carried_of lattice.now replanner.new)) }
     ensures ready { IfOk result (λ _. IsReadyIn S.meaning lattice.now replanner.new) }
     ensures set { IfOk result (λ _. IsSetFor how.now start goal replanner.new) }
 {
     let ask = ask_of(how, outputs);
+    let raised = raised_of(alloc, replanner.raised(), ask.traced)?;
     let planned = replanner.plan(alloc, lattice, &ask)?;
     let labels = labels_of(
         alloc,
@@ -199,5 +214,7 @@ where
         outputs.form,
     )?;
     let expanded = replanner.expanded();
-    record_of(alloc, lattice, start, goal, plan, planned, expanded, labels)
+    record_of(
+        alloc, lattice, start, goal, plan, planned, expanded, labels, raised,
+    )
 }

@@ -1,6 +1,6 @@
 //! The plans of a job: one on the map as it is, and one after each batch of changes.
 
-ghost use Rattle.std.specs.Prelude.{◌≡◌, ◌<◌, IfOk, None, Option};
+ghost use Rattle.std.specs.Prelude.{◌≡◌, ◌<◌, [], IfOk, None, Option};
 ghost use Rattle.sbpl_cost.specs.Lattices.{network_of};
 ghost use Rattle.sbpl_cost.specs.World.{IsWorld};
 ghost use Rattle.sbpl_job.specs.Jobs.{IsSearchJob};
@@ -129,6 +129,7 @@ where
     requires kept { IsWorld lattice.old }
     requires on_map { AreOnMap lattice.old.map changes.now }
     requires initial { AreInitial (S.state search).labels (network_of lattice.old).states start }
+    requires none_raised { (S.state search).raised ≡ [] }
     requires ready { S.meaning.ready (network_of lattice.old) (S.state search).labels 0 }
     requires to_goal { (S.state search).goal ≡ goal }
     requires fresh { IsStartFresh (S.state search).labels }

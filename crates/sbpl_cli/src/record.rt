@@ -3,6 +3,7 @@
 use crate::parts::Steps;
 use sbpl_cert::Section;
 use sbpl_cfg::Place;
+use sbpl_list::ListOf;
 use sbpl_plan::{Arcs, Outcome, Passes};
 
 /// One step of a path: the primitive's id and the place where it ends.
@@ -17,7 +18,7 @@ pub struct PathStep {
 pub enum TraceLine {
     /// An overconsistent state was expanded.
     Lower(u32),
-    /// An underconsistent state was expanded.
+    /// An underconsistent state was raised.
     Raise(u32),
     /// A state was expanded, and its arcs became ready to be evaluated.
     Open(u32),
@@ -50,11 +51,16 @@ pub struct PathRecord {
     pub arcs: Arcs,
 }
 
+/// States that were raised, in order.
+pub type Raised = ListOf<u32>;
+
 /// What a plan did.
 #[derive(Debug, Drop)]
 pub struct PlanRecord {
     /// The plan's number: 0, and one more for each batch of changes.
     pub plan: u32,
+    /// The states that were raised before its passes, in order, where they are to be told.
+    pub raised: Raised,
     /// Its passes in order.
     pub passes: Passes<TraceLine>,
     /// How many states they expanded together.

@@ -1,7 +1,7 @@
 //! The lines of a trace.
 
 ghost use Rattle.std.specs.Prelude.{◌≡◌, ◌++◌, IfOk, OnOk, flat_map, map};
-ghost use Rattle.sbpl_cli.specs.Traces.{cost_text, line_of, line_of_event, line_text, lines_text, traced_pass, trace_text};
+ghost use Rattle.sbpl_cli.specs.Traces.{cost_text, line_of, line_of_event, line_text, lines_text, raise_text, traced_pass, trace_text};
 ghost use Rattle.sbpl_cli.specs.Report.{line_feed};
 ghost use Rattle.sbpl_cli.specs.declared.record.TraceLine.{TraceLine};
 ghost use Rattle.sbpl_cli.specs.declared.record.TraceLine.TheVariants as Lines;
@@ -155,6 +155,16 @@ fn push_lines(out: &mut Vec<u8>, lines: &[TraceLine]) -> Result<(), NoMemory>
     Ok(())
 }
 
+/// Appends the lines of states that were raised before the passes of a plan.
+fn push_raised(out: &mut Vec<u8>, states: &[u32]) -> Result<(), NoMemory>
+    ensures appended { OnOk result (out.new.items ≡ out.old.items ++ flat_map raise_text states.now) }
+{
+    for state in states {
+        push_line(out, TraceLine::Raise(*state))?;
+    }
+    Ok(())
+}
+
 /// Appends the lines of a pass.
 #[tactic(auto, unfolding(crate::specs::Traces::lines_text))]
 fn push_pass(out: &mut Vec<u8>, pass: &Pass<TraceLine>) -> Result<(), NoMemory>
@@ -175,7 +185,7 @@ fn push_passes(out: &mut Vec<u8>, passes: &[Pass<TraceLine>]) -> Result<(), NoMe
     Ok(())
 }
 
-/// The section of a plan in a trace: what its passes did, in order.
+/// The section of a plan in a trace: which states were raised before its passes, and what these did, in order.
 #[tactic(auto, unfolding(crate::specs::Traces::trace_text))]
 pub(crate) fn trace_of(alloc: Global, plan: &PlanRecord) -> Result<Vec<u8>, NoMemory>
     ensures text { IfOk result (λ text. text.items ≡ trace_text plan.now) }
@@ -183,6 +193,7 @@ pub(crate) fn trace_of(alloc: Global, plan: &PlanRecord) -> Result<Vec<u8>, NoMe
     let mut out = Vec::new(alloc);
     push_field(&mut out, b"trace plan ", u64::from(plan.plan))?;
     push_bytes(&mut out, b"\n")?;
+    push_raised(&mut out, plan.raised.as_slice())?;
     push_passes(&mut out, plan.passes.as_slice())?;
     push_bytes(&mut out, b"end\n")?;
     Ok(out)

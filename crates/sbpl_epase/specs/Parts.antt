@@ -1,8 +1,9 @@
 -- A search by ePA*SE between its passes.
-use Rattle.std.specs.Prelude.{◌≡◌, ℕ, ◌<◌, Option, Some, None, IsSome, []}
+use Rattle.std.specs.Prelude.{◌≡◌, ℕ, ◌<◌, ◌≤◌, List, Option, Some, None, IsSome, []}
 use Rattle.sbpl_graph.specs.Kept.{NoneUnder}
 use Rattle.sbpl_labels.specs.Marks.{Marks, g_of, states_of, v_of}
 use Rattle.sbpl_search.specs.State.{State}
+use Rattle.sbpl_adstar.specs.Raised.{Raising}
 use Rattle.sbpl_frontier_rules.specs.declared.event.Event.{Event}
 use Rattle.sbpl_frontier_rules.specs.Journal.{openings}
 use Rattle.sbpl_frontier_core.specs.Log.{Log}
@@ -19,19 +20,20 @@ abbrev pub space_in : Option Waiting → Waiting
 space_in None = record { marks = []; queue = record { keys = [] }; expanded = [] }
 space_in (Some space) = space
 
--- the labels, the goal, the events of the last pass, and whether they were kept
-abbrev pub search_of : Option Marks → ℕ → Log → State Event
-search_of labels goal journal = record { labels = labels_in labels; goal = goal; notes = journal.events; kept = journal.keeps }
+-- the labels, the goal, the events of the last pass, whether they were kept, and the states that were raised last
+abbrev pub search_of : Option Marks → ℕ → Log → (raised : List ℕ) → State Event
+search_of labels goal journal raised = record { labels = labels_in labels; goal = goal; notes = journal.events; kept = journal.keeps; raised = raised }
 
 -- The labels and the memory of a pass are there. No state is underconsistent, and each overconsistent one is where the next pass
--- looks for it. The goal is a state, and this many states were expanded in the last pass.
-pub record AreEpaseParts (labels : Option Marks) (space : Option Waiting) (goal : ℕ) (journal : Log) (expanded : ℕ) : Type 0 where
+-- looks for it. The goal is a state, this many states were expanded in the last pass, and there is room to raise each state once.
+pub record AreEpaseParts (labels : Option Marks) (space : Option Waiting) (goal : ℕ) (journal : Log) (expanded : ℕ) (raiser : Raising) : Type 0 where
   pub there : IsSome labels
   pub room : IsSome space
   pub over : HoldsOver (space_in space) (labels_in labels)
   pub none_under : NoneUnder (states_of (labels_in labels)) (g_of (labels_in labels)) (v_of (labels_in labels))
   pub goal_inside : goal < states_of (labels_in labels)
   pub counted : expanded ≡ openings journal.events
+  pub room_to_raise : states_of (labels_in labels) ≤ raiser.room
 
 -- a search, and what makes its passes
 pub record Seeker (F : Type 0) : Type 0 where

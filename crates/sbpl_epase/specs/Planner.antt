@@ -1,11 +1,14 @@
 -- What ePA*SE means as a planner.
-use Rattle.std.specs.Prelude.{◌≡◌, false, List}
+use Rattle.std.specs.Prelude.{◌≡◌, ℕ, true, List}
+use Rattle.sbpl_graph.specs.Network.{Network}
 use Rattle.sbpl_labels.specs.Counts.{Counts}
+use Rattle.sbpl_labels.specs.Marks.{Marks}
 use Rattle.sbpl_search.specs.Meaning.{Meaning}
 use Rattle.sbpl_search.specs.Query.{Query}
 use Rattle.sbpl_search.specs.Ready.{AreReady}
 use Rattle.sbpl_search.specs.State.{State}
-use Rattle.sbpl_serial.specs.Meant.{BeginsAnew}
+use Rattle.sbpl_serial.specs.Meant.{AreRepairedFor}
+use Rattle.sbpl_adstar.specs.Raised.{IsRaisedBy}
 use Rattle.sbpl_frontier_rules.specs.declared.event.Event.{Event}
 use Rattle.sbpl_frontier_rules.specs.Frontier.{Frontier}
 use Rattle.sbpl_frontier_rules.specs.Journal.{opened_times, openings}
@@ -18,8 +21,15 @@ pub record IsCutAfterEvents (q : Query) (old new : State Event) (before after : 
   pub replay : Replays q before events old.labels new.labels last
   pub counts : after ≡ last.counts
 
+-- a plan begins with labels that are repaired and then raised: the touched states are recomputed, and states are raised in turn until
+-- none is underconsistent
+pub record BeginsRaised (n : Network) (touched : List ℕ) (old new : Marks) (raised : List ℕ) : Type 0 where
+  pub mid : Marks
+  pub repaired : AreRepairedFor n touched old mid
+  pub by_raising : IsRaisedBy n mid raised new
+
 -- a pass begins where no state is underconsistent, is a list of events of a frontier, and opens each state at most once; after a
--- change of the graph the labels are initial again
+-- change of the graph the labels are repaired, and states are raised
 abbrev pub epase : Meaning Event
 epase = record {
   ready = AreReady;
@@ -29,7 +39,7 @@ epase = record {
   expansions = openings;
   times = opened_times;
   most = 1;
-  repairs = false;
-  begun = BeginsAnew;
+  repairs = true;
+  begun = BeginsRaised;
   cut = IsCutAfterEvents;
 }

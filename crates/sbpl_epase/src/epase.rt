@@ -1,22 +1,27 @@
 //! The search of ePA*SE.
 
-ghost use Rattle.std.specs.Prelude.{◌≡◌, ℕ, ◌<◌, true, IfOk};
+ghost use Rattle.std.specs.Prelude.{◌≡◌, ℕ, ◌<◌, true, [], IfOk};
+ghost use Rattle.std.specs.List.Sorted.{IsStrictlyIncreasing};
 ghost use Rattle.sbpl_graph.specs.Network.{Network};
 ghost use Rattle.sbpl_graph.specs.Bound.{IsLow};
 ghost use Rattle.sbpl_labels.specs.Marks.{AreInitial, AreLabels, g_of, states_of, v_of};
 ghost use Rattle.sbpl_frontier_rules.specs.Journal.{openings};
+ghost use Rattle.sbpl_search.specs.Changed.{IsChangeable};
 ghost use Rattle.sbpl_search.specs.Ready.{AreReady, IsStartFresh};
+ghost use Rattle.sbpl_epase.specs.Planner.{BeginsRaised};
 
+use crate::repair::repair;
+use sbpl_adstar::Raiser;
 use sbpl_fixed::NoMemory;
 use sbpl_frontier_core::{Event, Journal, Space};
-use sbpl_graph::Guide;
+use sbpl_graph::{Graph, Guide};
 use sbpl_labels::Labels;
 use std::alloc::Global;
 use std::marker::Model;
 
 /// A search by ePA*SE (Mukherjee, Aine and Likhachev 2022): each of its passes is a frontier, whose arcs are handed out, judged and
-/// applied. It is given what makes a pass, which may be workers. Its labels are never underconsistent between passes, and initial
-/// again after a change of the graph.
+/// applied. It is given what makes a pass, which may be workers. Between passes no state is underconsistent: after a
+/// change of the graph the labels are repaired, and states are raised.
 #[derive(Drop)]
 pub struct Epase<F> {
     /// What makes a pass.
@@ -29,6 +34,8 @@ pub struct Epase<F> {
     pub(crate) journal: Journal,
     /// How many states it expanded.
     pub(crate) expanded: u64,
+    /// The states that were raised after the last change of the graph.
+    pub(crate) raiser: Raiser,
 }
 
 impl<F> Model for Epase<F> {
@@ -36,9 +43,9 @@ impl<F> Model for Epase<F> {
 
     ghost Value = { Seeker F };
 
-    ghost view = { λ a. record { make = a.make; search = search_of a.labels a.goal a.journal } };
+    ghost view = { λ a. record { make = a.make; search = search_of a.labels a.goal a.journal a.raiser.raised } };
 
-    ghost invariant = { λ a. AreEpaseParts a.labels a.space a.goal a.journal a.expanded };
+    ghost invariant = { λ a. AreEpaseParts a.labels a.space a.goal a.journal a.expanded a.raiser };
 }
 
 impl<F> Epase<F> {
@@ -59,10 +66,12 @@ impl<F> Epase<F> {
         ensures ready { IfOk result (λ a. (n : Network) (count : ℕ) → n.states ≡ states → AreReady n a.search.labels count) }
         ensures fresh { IfOk result (λ a. IsStartFresh a.search.labels) }
         ensures goal { IfOk result (λ a. a.search.goal ≡ goal) }
+        ensures none_raised { IfOk result (λ a. a.search.raised ≡ []) }
         ensures make { IfOk result (λ a. a.make ≡ make) }
     {
         let labels = Labels::open(alloc, states, start)?;
         let space = Space::initial(alloc, states, start)?;
+        let raiser = Raiser::new(alloc, states)?;
         Ok(Epase {
             make,
             labels: Some(labels),
@@ -70,6 +79,7 @@ impl<F> Epase<F> {
             goal,
             journal: Journal::open(alloc, false),
             expanded: 0,
+            raiser,
         })
     }
 
@@ -78,12 +88,36 @@ impl<F> Epase<F> {
         ensures opened { AreInitial self.new.search.labels (states_of self.old.search.labels) self.old.search.labels.start }
         ensures ready { (n : Network) (count : ℕ) → n.states ≡ states_of self.old.search.labels → AreReady n self.new.search.labels count }
         ensures fresh { IsStartFresh self.new.search.labels }
+        ensures none_raised { self.new.search.raised ≡ [] }
         ensures goal { self.new.search.goal ≡ self.old.search.goal }
         ensures make { self.new.make ≡ self.old.make }
     {
         if let (Some(labels), Some(space)) = (&mut self.labels, &mut self.space) {
             labels.reset();
             space.restart(labels.start());
+        }
+        self.raiser.clear();
+    }
+
+    /// Makes the labels ready for a plan on a graph that has changed. Each touched state is recomputed on the graph as it now is, and
+    /// then states are raised until none is underconsistent: first the touched ones that are, upwards, and then each state that
+    /// becomes so, as this is seen. The condition is that every other state, but the start, has on this graph the g and the back arc,
+    /// or none, that exact labels ask for. The touched states come upwards, once each. Only these are looked at, and the heads of
+    /// the raised ones. It takes no memory.
+    pub fn change<G: Graph>(&mut self, graph: &G, touched: &[u32])
+        requires states { states_of self.old.search.labels ≡ (G.network graph.now).states }
+        requires changeable { IsChangeable (G.network graph.now) touched.now self.old.search.labels }
+        requires upwards { IsStrictlyIncreasing touched.now }
+        ensures begun { BeginsRaised (G.network graph.now) touched.now self.old.search.labels self.new.search.labels self.new.search.raised }
+        ensures ready { (n : Network) (count : ℕ) → n.states ≡ (G.network graph.now).states → AreReady n self.old.search.labels count → AreReady (G.network graph.now) self.new.search.labels count }
+        ensures fresh { IsStartFresh self.old.search.labels → IsStartFresh self.new.search.labels }
+        ensures start { self.new.search.labels.start ≡ self.old.search.labels.start }
+        ensures same_states { states_of self.new.search.labels ≡ states_of self.old.search.labels }
+        ensures goal { self.new.search.goal ≡ self.old.search.goal }
+        ensures make { self.new.make ≡ self.old.make }
+    {
+        if let (Some(labels), Some(space)) = (&mut self.labels, &mut self.space) {
+            repair(labels, space, &mut self.raiser, graph, touched);
         }
     }
 
@@ -114,6 +148,13 @@ impl<F> Epase<F> {
         ensures value { result.now ≡ self.now.search.notes }
     {
         self.journal.events().unwrap()
+    }
+
+    /// The states that were raised after the last change of the graph, in order; none before the first.
+    pub fn raised(&self) -> &[u32]
+        ensures value { result.now ≡ self.now.search.raised }
+    {
+        self.raiser.raised()
     }
 
     /// How many states the last pass expanded; none where it ran out of memory, and before the first.

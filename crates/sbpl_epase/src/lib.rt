@@ -7,6 +7,7 @@ mod made;
 mod parallel;
 mod passed;
 mod planner;
+mod repair;
 mod worker;
 
 pub use epase::Epase;

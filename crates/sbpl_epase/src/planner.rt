@@ -73,11 +73,11 @@ impl<
     }
 
     fn repairs(&self) -> bool {
-        false
+        true
     }
 
-    fn change(&mut self, _graph: &G, _touched: &[u32]) {
-        self.reset();
+    fn change(&mut self, graph: &G, touched: &[u32]) {
+        Epase::change(self, graph, touched);
     }
 
     fn labels(&self) -> &Labels {
@@ -90,6 +90,10 @@ impl<
 
     fn notes(&self) -> &[Event] {
         self.events()
+    }
+
+    fn raised(&self) -> &[u32] {
+        Epase::raised(self)
     }
 
     fn expanded(&self) -> u64 {

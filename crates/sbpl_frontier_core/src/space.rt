@@ -109,6 +109,21 @@ impl Space {
         self.queue.put(s, Key(0, 0));
     }
 
+    /// Notes that the overconsistent ones of these states may be open.
+    pub fn note_over(&mut self, labels: &Labels, states: &[u32])
+        requires same_states { open_list.states_of self.old.queue ≡ states_of labels.now }
+        requires inside { All (λ s. s < states_of labels.now) states.now }
+        ensures states { open_list.states_of self.new.queue ≡ open_list.states_of self.old.queue }
+        ensures noted { (s : ℕ) → Contains states.now s → IsOver labels.now s → Waits self.new s }
+        ensures kept { (u : ℕ) → Waits self.old u → Waits self.new u }
+    {
+        for s in states {
+            if labels.g(*s) < labels.v(*s) {
+                self.note(*s);
+            }
+        }
+    }
+
     /// The low of labels none of which is underconsistent: the least of g of the goal and of g + h over all states whose g and v
     /// differ, with h by this guide. It looks only at the states that may be open.
     pub fn low<H: Guide>(&self, labels: &Labels, guide: &H, goal: u32) -> u64

@@ -154,21 +154,14 @@ outputs_in from changes set =
     (form_by labels (set setting.LabelsAs)))
     (output_by from changes (set setting.Labels))
 
--- a planner can be given these changes, if there are some: ePA*SE can't be yet
-abbrev pub takes_changes : Planner → Option (List ℕ) → Bool
-takes_changes planner.Ara changes = true
-takes_changes planner.AdStar changes = true
-takes_changes planner.Epase changes = not (is_some changes)
-
--- the job `plan` of these parts, where its planner can be given its changes
-abbrev pub plan_by : Sources → Option (List ℕ) → Outputs → SearchJob → Option Job
-plan_by from changes outputs search =
-    if takes_changes search.planner changes then Some (job.Plan (record { sources = from; changes = changes; search = search; outputs = outputs })) else None
+-- the job `plan` of these parts
+abbrev pub plan_by : Sources → Option (List ℕ) → Outputs → SearchJob → Job
+plan_by from changes outputs search = job.Plan (record { sources = from; changes = changes; search = search; outputs = outputs })
 
 -- the job `plan` on these sources, with these changes
 abbrev pub plan_on : Sources → Option (List ℕ) → Settings → Option Job
 plan_on from changes set =
-    option_and_then (λ outputs. option_and_then (plan_by from changes outputs) (search_in set))
+    option_and_then (λ outputs. option_map (plan_by from changes outputs) (search_in set))
     (outputs_in from changes set)
 
 abbrev pub plan_in : (env prims : List ℕ) → Settings → Option Job

@@ -25,8 +25,8 @@ pub enum Planner {
     Ara,
     /// Anytime D*, word `ad`: passes of falling inflation, which repair what they found after changes.
     AdStar,
-    /// ePA*SE, word `epase`: passes of falling inflation whose edges are evaluated by workers, so far without changes
-    /// (Mukherjee, Aine and Likhachev 2022).
+    /// ePA*SE, word `epase`: passes of falling inflation whose edges are evaluated by workers, which repair what
+    /// they found after changes (Mukherjee, Aine and Likhachev 2022).
     Epase,
 }
 

@@ -97,7 +97,7 @@ fn with_planner<'a>(alloc: Global, line: clap::Command<'a>) -> Result<clap::Comm
         line,
         "planner",
         "P",
-        "how to search: ad, ara or, without changes, epase [default: ad]",
+        "how to search: ad, ara or epase [default: ad]",
     )?;
     with_option(
         alloc,

@@ -10,7 +10,7 @@ use crate::files::{name_of, outputs_of, sources_of};
 use crate::job::{CheckJob, DemoJob, Job, JobFault, Outputs, PlanJob, SearchJob, Sources};
 use crate::line::find_parts;
 use crate::name::Name;
-use crate::values::{search_of, takes_changes};
+use crate::values::search_of;
 use crate::words::{Command, are_fit, spaced_words};
 use clap::ArgMatches;
 use std::alloc::Global;
@@ -41,9 +41,6 @@ fn plan_settings(
 {
     let outputs = outputs_of(alloc, from, changes, matches)?;
     let search = search_of(matches)?;
-    if !takes_changes(search.planner, changes) {
-        return Err(JobFault::Words);
-    }
     Ok((search, outputs))
 }
 

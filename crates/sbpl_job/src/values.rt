@@ -4,7 +4,7 @@ ghost use Rattle.std.specs.Prelude.{◌≡◌, ◌≤◌, ◌^◌, false, IfOk, 
 ghost use Rattle.sbpl_fixed.specs.Numbers.{nano_of, whole_of};
 ghost use Rattle.sbpl_job.specs.declared.words.Setting.TheVariants as Settings;
 ghost use Rattle.sbpl_job.specs.Found.{set_in};
-ghost use Rattle.sbpl_job.specs.Jobs.{IsSearchJob, budget_by, budget_in, has_workers, milli_by, milli_from, milli_in, most_workers, planner_by, planner_named, radius_by, radius_in, search_in, takes_changes, workers_by, workers_in};
+ghost use Rattle.sbpl_job.specs.Jobs.{IsSearchJob, budget_by, budget_in, has_workers, milli_by, milli_from, milli_in, most_workers, planner_by, planner_named, radius_by, radius_in, search_in, workers_by, workers_in};
 ghost use Rattle.sbpl_job.specs.Words.{Names, text_of};
 
 use crate::job::{JobFault, Planner, SearchJob};
@@ -170,16 +170,6 @@ fn workers_of(planner: Planner, matches: &ArgMatches) -> Result<u32, JobFault>
     }
 }
 
-/// Whether a planner can be given these changes, if there are some: ePA*SE can't be yet.
-pub(crate) fn takes_changes(planner: Planner, changes: &Option<Name>) -> bool
-    ensures takes { result ≡ takes_changes planner changes.now }
-{
-    match planner {
-        Planner::Ara | Planner::AdStar => true,
-        Planner::Epase => changes.is_none(),
-    }
-}
-
 /// How the path of the job `plan` is to be searched.
 pub(crate) fn search_of(matches: &ArgMatches) -> Result<SearchJob, JobFault>
     ensures search { Names (search_in (set_in matches.now)) result }
@@ -216,12 +206,6 @@ fn wrong_planner(matches: &ArgMatches) -> Option<(&'static str, &'static str)> {
         return Some((
             "budget",
             "--budget must be a whole number from 1 to 1073741824",
-        ));
-    }
-    if has_workers(planner) && matches.get_str("changes").is_some() {
-        return Some((
-            "changes",
-            "--changes does not go with --planner epase so far",
         ));
     }
     None

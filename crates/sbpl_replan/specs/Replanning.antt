@@ -17,11 +17,13 @@ use Rattle.sbpl_heur.specs.Bests.{Fits, IsBest, IsGuide, Table, distance_in}
 abbrev pub inquiry : World → (ℕ → ℕ) → ℕ → Ask → Inquiry
 inquiry w guide goal ask = inquiry_of (network_of w) guide goal ask
 
--- labels that a plan begins with after a change of the map: what the planner makes of those that the plan before left, once these states were touched; where it repairs labels they are the states that the change touches
-pub record BeginsWith {Note : Type 0} (means : Meaning Note) (old new : World) (left first : Marks) : Type 0 where
+-- labels that a plan begins with after a change of the map, and the states that were raised for it: what the planner makes of the
+-- labels that the plan before left, once these states were touched; where it repairs labels they are the states that the change
+-- touches
+pub record BeginsWith {Note : Type 0} (means : Meaning Note) (old new : World) (left first : Marks) (raised : List ℕ) : Type 0 where
   pub touched : List ℕ
   pub are_touched : means.repairs ≡ true → AreAffected old new.map touched
-  pub begun : means.begun (network_of new) touched left first
+  pub begun : means.begun (network_of new) touched left first raised
 
 -- what goes on from plan to plan: the search, the goal, the heuristic, and the counts of expansions
 pub record Replanning (Note : Type 0) : Type 0 where

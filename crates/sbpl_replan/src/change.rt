@@ -33,7 +33,7 @@ pub(crate) fn change<S: Search<Lattice, Best>>(
     ensures refused { OnErr result ((lattice.new.map ≡ lattice.old.map) ⊎ AreWritten lattice.old.map batch.now lattice.new.map) }
     ensures others { lattice.new ≡ record lattice.old { map = lattice.new.map } }
     ensures kept { IsWorld lattice.new }
-    ensures begun { OnOk result (BeginsWith S.meaning lattice.old lattice.new (S.state search.old).labels (S.state search.new).labels) }
+    ensures begun { OnOk result (BeginsWith S.meaning lattice.old lattice.new (S.state search.old).labels (S.state search.new).labels (S.state search.new).raised) }
     ensures ready { (count : ℕ) → S.meaning.ready (network_of lattice.old) (S.state search.old).labels count → OnOk result (S.meaning.ready (network_of lattice.new) (S.state search.new).labels count) }
     ensures fresh { OnOk result (IsStartFresh (S.state search.new).labels) }
     ensures start { OnOk result ((S.state search.new).labels.start ≡ (S.state search.old).labels.start) }

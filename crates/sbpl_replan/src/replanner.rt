@@ -129,7 +129,7 @@ impl<S: Search<Lattice, Best> + Drop> Replanner<S> {
         ensures others { lattice.new ≡ record lattice.old { map = lattice.new.map } }
         ensures kept { IsWorld lattice.new }
         // The labels are those that the planner makes of the ones that there were.
-        ensures begun { OnOk result (BeginsWith S.meaning lattice.old lattice.new self.old.search.labels self.new.search.labels) }
+        ensures begun { OnOk result (BeginsWith S.meaning lattice.old lattice.new self.old.search.labels self.new.search.labels self.new.search.raised) }
         ensures ready { OnOk result (IsReadyIn S.meaning lattice.new self.new) }
         ensures same { OnOk result (StaysTheSame self.old self.new) }
         ensures counts { self.new.counts ≡ self.old.counts }
@@ -154,6 +154,14 @@ impl<S: Search<Lattice, Best> + Drop> Replanner<S> {
         ensures labels { AreLabels self.now.search.labels }
     {
         self.search.labels()
+    }
+
+    /// The states that were raised when the last change made the labels ready, in order, where the planner raises states outside its
+    /// passes.
+    pub fn raised(&self) -> &[u32]
+        ensures value { result.now ≡ self.now.search.raised }
+    {
+        self.search.raised()
     }
 
     /// How many states the last plan expanded.

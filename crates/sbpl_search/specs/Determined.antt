@@ -28,12 +28,13 @@ pub record DeterminesPasses {Note : Type 0} (leads : Query → List Note → Mar
 abbrev pub AreDetermined : {Note : Type 0} → Meaning Note → Type 0
 AreDetermined means = DeterminesPasses means.leads means.rests means.goes_on means.expansions
 
--- The labels from which the next plan begins are determined by those that the plan before left and, where labels are repaired, by
--- which states were touched. They have one row for each state, and the start still has no back arc.
-pub record DeterminesBeginnings (repairs : Bool) (begun : Network → List ℕ → Marks → Marks → Type 0) : Type 0 where
-  pub one : (n : Network) (touched others : List ℕ) (old a b : Marks) → (repairs ≡ true → (t : ℕ) → Contains touched t ↔ Contains others t) → begun n touched old a → begun n others old b → a ≡ b
-  pub states : (n : Network) (touched : List ℕ) (old new : Marks) → states_of old ≡ n.states → begun n touched old new → states_of new ≡ n.states
-  pub no_arc : (n : Network) (touched : List ℕ) (old new : Marks) → back_of old old.start ≡ None → begun n touched old new → back_of new new.start ≡ None
+-- The labels from which the next plan begins, and the states that are raised for it, are determined by the labels that the plan
+-- before left and, where labels are repaired, by which states were touched. The labels have one row for each state, and the start
+-- still has no back arc.
+pub record DeterminesBeginnings (repairs : Bool) (begun : Network → List ℕ → Marks → Marks → List ℕ → Type 0) : Type 0 where
+  pub one : (n : Network) (touched others : List ℕ) (old a b : Marks) (xs ys : List ℕ) → (repairs ≡ true → (t : ℕ) → Contains touched t ↔ Contains others t) → begun n touched old a xs → begun n others old b ys → (a ≡ b) × (xs ≡ ys)
+  pub states : (n : Network) (touched : List ℕ) (old new : Marks) (raised : List ℕ) → states_of old ≡ n.states → begun n touched old new raised → states_of new ≡ n.states
+  pub no_arc : (n : Network) (touched : List ℕ) (old new : Marks) (raised : List ℕ) → back_of old old.start ≡ None → begun n touched old new raised → back_of new new.start ≡ None
 
 -- so a planner's beginnings are determined
 abbrev pub AreBeginningsDetermined : {Note : Type 0} → Meaning Note → Type 0

@@ -13,7 +13,8 @@ use Rattle.sbpl_search.specs.State.{State}
 -- expansions, times: how many states it expanded, and how often it took one state
 -- most: how often a pass takes one state at most
 -- repairs: whether labels are repaired after a change of the graph
--- begun: the labels from which the next plan begins, once these states were touched by a change to this graph
+-- begun: the labels from which the next plan begins, once these states were touched by a change to this graph, and the states that
+-- were raised for it before its first pass
 -- cut: what is left after a pass that ran out of memory
 pub record Meaning (Note : Type 0) : Type 1 where
   pub ready : Network → Marks → ℕ → Type 0
@@ -24,5 +25,5 @@ pub record Meaning (Note : Type 0) : Type 1 where
   pub times : ℕ → List Note → ℕ
   pub most : ℕ
   pub repairs : Bool
-  pub begun : Network → (touched : List ℕ) → (old new : Marks) → Type 0
+  pub begun : Network → (touched : List ℕ) → (old new : Marks) → (raised : List ℕ) → Type 0
   pub cut : Query → (old new : State Note) → (before after : Counts) → Type 0

@@ -1,6 +1,7 @@
 //! A search that makes passes.
 
 ghost use Rattle.std.specs.Prelude.{◌≡◌, ◌≢◌, ℕ, ◌+◌, ◌^◌, ◌<◌, ◌≤◌, ⊤, true, IfOk, OnErr, OnOk};
+ghost use Rattle.std.specs.List.Sorted.{IsStrictlyIncreasing};
 ghost use Rattle.sbpl_graph.specs.Bound.{IsLow};
 ghost use Rattle.sbpl_graph.specs.Network.{Network};
 ghost use Rattle.sbpl_labels.specs.Marks.{AreLabels, Marks, states_of, g_of, v_of};
@@ -26,7 +27,7 @@ pub trait Search<G: Graph, H: Guide> {
     /// What the planner's calls mean.
     ghost meaning: { Meaning Self.Note };
 
-    /// The labels, the goal, and what the last pass did.
+    /// The labels, the goal, what the last pass did, and the states that were raised for the present plan.
     ghost state: { Self → State Self.Note };
 
     /// What a pass asks of the planner's value, such as that it can call what it was given.
@@ -58,12 +59,14 @@ pub trait Search<G: Graph, H: Guide> {
     fn repairs(&self) -> bool
         ensures value { result ≡ meaning.repairs };
 
-    /// Makes the labels ready for a plan on a graph that has changed: repaired, or initial again. Where they are repaired, all
-    /// states whose incoming arcs have changed are among the touched ones; otherwise these are not looked at. It takes no memory.
+    /// Makes the labels ready for a plan on a graph that has changed: repaired, and raised where the planner wants it, or initial
+    /// again. Where they are repaired, all states whose incoming arcs have changed are among the touched ones, which come upwards
+    /// and once each; otherwise these are not looked at. It takes no memory.
     fn change(&mut self, graph: &G, touched: &[u32])
         requires states { states_of (state self.old).labels ≡ (G.network graph.now).states }
         requires fits { meaning.repairs ≡ true → IsChangeable (G.network graph.now) touched.now (state self.old).labels }
-        ensures begun { meaning.begun (G.network graph.now) touched.now (state self.old).labels (state self.new).labels }
+        requires upwards { meaning.repairs ≡ true → IsStrictlyIncreasing touched.now }
+        ensures begun { meaning.begun (G.network graph.now) touched.now (state self.old).labels (state self.new).labels (state self.new).raised }
         ensures ready { (n : Network) (count : ℕ) → n.states ≡ (G.network graph.now).states → meaning.ready n (state self.old).labels count → meaning.ready (G.network graph.now) (state self.new).labels count }
         ensures fresh { IsStartFresh (state self.old).labels → IsStartFresh (state self.new).labels }
         ensures start { (state self.new).labels.start ≡ (state self.old).labels.start }
@@ -88,6 +91,11 @@ pub trait Search<G: Graph, H: Guide> {
     fn notes(&self) -> &[Self::Note]
         requires kept { (state self.now).kept ≡ true }
         ensures value { result.now ≡ (state self.now).notes };
+
+    /// The states that were raised when the labels were last made ready for a plan, in order: none where a planner raises states in
+    /// its passes alone, and none before the first change.
+    fn raised(&self) -> &[u32]
+        ensures value { result.now ≡ (state self.now).raised };
 
     /// How many states the last pass expanded.
     fn expanded(&self) -> u64

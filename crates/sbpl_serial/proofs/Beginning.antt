@@ -8,7 +8,7 @@ use Rattle.sbpl_labels.specs.Marks.{AreInitial, Marks, states_of, g_of, v_of, ba
 use Rattle.sbpl_labels.specs.Recomputed.{IsRecomputed}
 use Rattle.sbpl_search.specs.Determined.{DeterminesBeginnings}
 use Rattle.sbpl_serial.specs.Determined.{InitialLabelsAreOne}
-use Rattle.sbpl_serial.specs.Meant.{AreRepairedFor, BeginsAnew}
+use Rattle.sbpl_serial.specs.Meant.{BeginsAnew, BeginsRepaired}
 use Rattle.sbpl_serial.specs.Repaired.{AreRepaired}
 use Rattle.sbpl_serial.proofs.Agreeing.{Agree, same_marks, same_recomputed}
 use Rattle.sbpl_serial.proofs.Exactness.{contains_or_not}
@@ -70,14 +70,14 @@ initial_is_one a b count first x y = one_initial x y
 
 pub begun_anew : DeterminesBeginnings false BeginsAnew
 begun_anew = record {
-  one = λ n touched others old a b same x y. one_initial x y;
-  states = λ n touched old new states x. x.states;
-  no_arc = λ n touched old new none x. x.no_arc new.start;
+  one = λ n touched others old a b xs ys same x y. (one_initial x.0 y.0, x.1 ∙ sym y.1);
+  states = λ n touched old new raised states x. x.0.states;
+  no_arc = λ n touched old new raised none x. x.0.no_arc new.start;
 }
 
-pub begun_repaired : DeterminesBeginnings true AreRepairedFor
+pub begun_repaired : DeterminesBeginnings true BeginsRepaired
 begun_repaired = record {
-  one = λ n touched others old a b same x y. one_repaired n touched others old a b (same refl) x.repaired y.repaired;
-  states = λ n touched old new states x. x.repaired.same_states ∙ states;
-  no_arc = λ n touched old new none x. repaired_no_arc n touched old new x.repaired none;
+  one = λ n touched others old a b xs ys same x y. (one_repaired n touched others old a b (same refl) x.0.repaired y.0.repaired, x.1 ∙ sym y.1);
+  states = λ n touched old new raised states x. x.0.repaired.same_states ∙ states;
+  no_arc = λ n touched old new raised none x. repaired_no_arc n touched old new x.0.repaired none;
 }

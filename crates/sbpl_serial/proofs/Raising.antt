@@ -9,12 +9,13 @@ use Rattle.sbpl_graph.specs.Laws.{IsSound, HasExactTails}
 use Rattle.sbpl_graph.specs.Exact.{AreExact}
 use Rattle.sbpl_graph.specs.Fit.{FitCount}
 use Rattle.sbpl_graph.proofs.Keeping.{same_arc}
+use Rattle.sbpl_graph.proofs.Paths.{label_at_most}
 use Rattle.sbpl_labels.specs.declared.row.Row.{Row}
-use Rattle.sbpl_labels.specs.Marks.{Marks, AreLabels, states_of, g_of, v_of, back_of, no_row}
+use Rattle.sbpl_labels.specs.Marks.{Marks, AreLabels, ChangesRow, states_of, g_of, v_of, back_of, no_row}
 use Rattle.sbpl_labels.specs.Recomputed.{IsRecomputed, Recomputes}
 use Rattle.sbpl_serial.specs.Run.{IsUnder, RaisesState}
 use Rattle.sbpl_search.specs.Changed.{IsExactAt}
-use Rattle.sbpl_serial.specs.Raised.{IsReturned}
+use Rattle.sbpl_serial.specs.Raised.{IsRaising, IsReturned, RaisingBegins, RaisingEnds, RaisingGoesOn, RaisingLowersNone}
 use Rattle.sbpl_serial.proofs.Repairing.{recomputed_alike}
 use Rattle.sbpl_serial.proofs.Exactness.{exact_recomputed, exact_everywhere, exact_at}
 
@@ -26,17 +27,6 @@ back_inside m {t} {s} {k} by =
     (λ (past : states_of m ≤ t).
     absurd (none-some (s, k) (sym (ap (λ (r : Row). r.back) (get_or_past m.rows t no_row past)) ∙ by)))
     (cases_lt t (states_of m))
-
--- labels in the middle of the raising of s, before its arc of number i
-pub record IsRaising (n : Network) (old m : Marks) (s i : ℕ) : Type 0 where
-  pub same_start : m.start ≡ old.start
-  pub same_states : states_of m ≡ states_of old
-  pub raised : v_of m s ≡ FAR
-  pub other_v : (u : ℕ) → u ≢ s → v_of m u ≡ v_of old u
-  pub heads : (t k : ℕ) → k < i → back_of old t ≡ Some (s, k) → IsRecomputed n (v_of m) t (g_of m t) (back_of m t)
-  pub other_g : (t : ℕ) → ((k : ℕ) → k < i → back_of old t ≢ Some (s, k)) → g_of m t ≡ g_of old t
-  pub other_back : (t : ℕ) → ((k : ℕ) → k < i → back_of old t ≢ Some (s, k)) → back_of m t ≡ back_of old t
-  pub fits : (count : ℕ) → FitCount n.states (g_of old) (v_of old) count → FitCount n.states (g_of m) (v_of m) count
 
 module _ {n : Network} (old : Marks) (s : ℕ) (exact : AreExact n old.start (g_of old) (v_of old) (back_of old))
     (states : states_of old ≡ n.states) where
@@ -202,3 +192,79 @@ module _ {n : Network} (old : Marks) (s : ℕ) (exact : AreExact n old.start (g_
         exact_everywhere labels (here.same_states ∙ states) sound
         (λ t inside apart.
         raised_at sound tails labels t inside (λ e. apart (e ∙ sym here.same_start)) (back_of old t) refl)
+
+-- ---- raising as a law
+
+-- it begins
+pub raising_begins : RaisingBegins
+raising_begins n old m s by =
+    let same_g : (u : ℕ) → g_of m u ≡ g_of old u =
+    λ u.
+    ⊎_elim
+    (λ (at : u ≡ s). rw at (ap (λ (r : Row). r.g) by.at))
+    (λ (other : u ≢ s). ap (λ (r : Row). r.g) (by.others u other))
+    (cases_eq u s) in
+    let same_back : (u : ℕ) → back_of m u ≡ back_of old u =
+    λ u.
+    ⊎_elim
+    (λ (at : u ≡ s). rw at (ap (λ (r : Row). r.back) by.at))
+    (λ (other : u ≢ s). ap (λ (r : Row). r.back) (by.others u other))
+    (cases_eq u s) in
+    let raised : v_of m s ≡ FAR = ap (λ (r : Row). r.v) by.at in
+    let other_v : (u : ℕ) → u ≢ s → v_of m u ≡ v_of old u = λ u other. ap (λ (r : Row). r.v) (by.others u other) in
+    record {
+      same_start = by.start;
+      same_states = by.states;
+      raised = raised;
+      other_v = other_v;
+      heads = λ t k below own. absurd (omega (arith, below));
+      other_g = λ t others. same_g t;
+      other_back = λ t others. same_back t;
+      fits = λ count fit. record {
+        near_g = λ u inside near. omega (arith, same_g u, fit.near_g u inside (omega (arith, same_g u, near)));
+        near_v = λ u inside near.
+            ⊎_elim
+            (λ (at : u ≡ s). let here : v_of m s < FAR = rw (← at) near in absurd (omega (arith, raised)))
+            (λ (other : u ≢ s). omega (arith, other_v u other, fit.near_v u inside (omega (arith, other_v u other, near))))
+            (cases_eq u s);
+      };
+    }
+
+module _ (n : Network) (old m new : Marks) (s i : ℕ) (states : states_of old ≡ n.states) (labels : AreLabels old)
+    (exact : AreExact n old.start (g_of old) (v_of old) (back_of old)) (here : IsRaising n old m s i) where
+  -- what is recomputed comes from a state other than s, over an arc that was there
+  no_less_than : (t g : ℕ) (back : Option (ℕ × ℕ)) → t < states_of old → IsRecomputed n (v_of m) t g back → g_of old t ≤ g
+  no_less_than t g None inside is = omega (arith, is.0, label_at_most _ (labels.labels t inside).0)
+  no_less_than t g (Some (a, l)) inside is =
+      let way = is.2.way in
+      let other : a ≢ s = λ e. let near_s : v_of m s < FAR = rw (← e) way.near in absurd (omega (arith, here.raised)) in
+      omega (arith, is.2.gives, here.other_v a other, exact.least a l t is.1 way.free (omega (arith, here.other_v a other, way.near)))
+
+  -- the head of an arc that is its back arc had its g until then
+  grown_head : (t : ℕ) → back_of m t ≡ Some (s, i) → Recomputes n m new t → g_of m t ≤ g_of new t
+  grown_head t by recomputes =
+      let had = had_arc old s exact states i here t by (back_of old t) refl in
+      let same = here.other_g t (waiting old s exact states i here t i (omega arith) had) in
+      omega (arith, same, no_less_than t (g_of new t) (back_of new t) (back_inside old had) recomputes.recomputed)
+
+  pub grown : (head : Option ℕ) → IsReturned n m new s i head → (t : ℕ) → g_of m t ≤ g_of new t
+  grown None returned t = let same : new ≡ m = returned.0 in rw same (omega arith)
+  grown (Some u) returned t =
+      ⊎_elim
+      (λ (at : t ≡ u). rw at (grown_head u returned.by returned.recomputes))
+      (λ (other : t ≢ u). omega (arith, ap (λ (r : Row). r.g) (returned.recomputes.others t other)))
+      (cases_eq t u)
+
+-- it goes on
+pub raising_goes_on : RaisingGoesOn
+raising_goes_on n old m new s i head states exact here returned fits = raising_more old s exact states i here head returned fits
+
+pub raising_lowers_none : RaisingLowersNone
+raising_lowers_none n old m new s i head states labels exact here returned = grown n old m new s i states labels exact here head returned
+
+-- and it ends
+pub raising_ends : RaisingEnds
+raising_ends n old new s i sound tails states labels exact here over under = (
+  raises_all old s exact states here over under,
+  exact_raised old s exact states here over sound tails labels,
+)

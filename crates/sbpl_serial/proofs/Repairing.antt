@@ -1,13 +1,17 @@
 -- States are recomputed one after the other.
-use Rattle.std.proofs.Common.{◌≡◌, ◌≢◌, ℕ, ◌+◌, ◌<◌, Option, Some, None, List, length, slice_index, arith, ⊎_elim, sym, ◌∙◌, ap, subst}
+use Rattle.std.proofs.Common.{◌≡◌, ◌≢◌, ℕ, ◌+◌, ◌<◌, ◌⊎◌, Option, Some, None, List, length, slice_index, arith, ⊎_elim, inl, inr, sym, ◌∙◌, ap, subst}
 use Rattle.std.proofs.lemmas.Bool.{cases_eq}
 use Rattle.std.proofs.lemmas.List.{get_or_default}
+use Rattle.std.specs.List.{Contains}
 use Rattle.sbpl_graph.specs.Network.{Network}
 use Rattle.sbpl_graph.specs.Fit.{FitCount}
+use Rattle.sbpl_graph.specs.Kept.{NoneUnder}
 use Rattle.sbpl_labels.specs.declared.row.Row.{Row}
 use Rattle.sbpl_labels.specs.Marks.{Marks, states_of, g_of, v_of, back_of, row_at}
 use Rattle.sbpl_labels.specs.Recomputed.{IsWay, IsRecomputed, Recomputes}
 use Rattle.sbpl_serial.specs.Repaired.{AreRepaired}
+use Rattle.sbpl_serial.specs.Run.{IsOver, IsUnder}
+use Rattle.sbpl_serial.proofs.Exactness.{contains_or_not}
 
 -- what is a way by one v is a way by an equal one
 way_alike : {n : Network} {v v' : ℕ → ℕ} {t j s k c : ℕ} → ((u : ℕ) → v' u ≡ v u) → IsWay n v t j s k c → IsWay n v' t j s k c
@@ -117,3 +121,25 @@ repaired_all {n} {touched} {old} {new} here = record {
       here.others t (λ j below own. none (j, below, get_or_default touched j t 0 below ∙ own));
   start_row = here.start_row;
 }
+
+-- where no state was underconsistent, only touched ones are
+pub only_touched : (n : Network) (touched : List ℕ) (old new : Marks) → AreRepaired n touched old new
+    → NoneUnder (states_of old) (g_of old) (v_of old) → (s : ℕ) → s < states_of old → IsUnder new s → Contains touched s
+only_touched n touched old new repaired none s inside under =
+    ⊎_elim
+    (λ (among : Contains touched s). among)
+    (λ (apart : Contains touched s → ⊥).
+    let same : g_of new s ≡ g_of old s = ap (λ (r : Row). r.g) (repaired.others s apart) in
+    absurd (omega (arith, same, repaired.same_v s, none.at s inside)))
+    (contains_or_not touched s)
+
+-- only touched states become overconsistent
+pub over_or_touched : (n : Network) (touched : List ℕ) (old new : Marks) → AreRepaired n touched old new
+    → (s : ℕ) → IsOver new s → IsOver old s ⊎ Contains touched s
+over_or_touched n touched old new repaired s over =
+    ⊎_elim
+    (λ (among : Contains touched s). inr among)
+    (λ (apart : Contains touched s → ⊥).
+    let same : g_of new s ≡ g_of old s = ap (λ (r : Row). r.g) (repaired.others s apart) in
+    inl (omega (arith, same, repaired.same_v s, over)))
+    (contains_or_not touched s)

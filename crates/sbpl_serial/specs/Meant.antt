@@ -1,5 +1,5 @@
 -- What the calls of a serial planner mean.
-use Rattle.std.specs.Prelude.{ℕ, Bool, true, List, length}
+use Rattle.std.specs.Prelude.{◌≡◌, ℕ, Bool, true, List, [], length}
 use Rattle.sbpl_graph.specs.Network.{Network}
 use Rattle.sbpl_graph.specs.Exact.{AreExact}
 use Rattle.sbpl_labels.specs.Marks.{AreInitial, Marks, g_of, v_of, back_of}
@@ -13,7 +13,7 @@ use Rattle.sbpl_serial.specs.Times.{times}
 
 -- a pass is a serial run, and takes no memory; planners differ in the labels from which a pass may begin, in how often it takes one
 -- state at most, and in whether and how labels go on after a change of the graph
-abbrev pub serial : (ready : Network → Marks → ℕ → Type 0) (most : ℕ) (repairs : Bool) (begun : Network → List ℕ → Marks → Marks → Type 0) → Meaning Step
+abbrev pub serial : (ready : Network → Marks → ℕ → Type 0) (most : ℕ) (repairs : Bool) (begun : Network → List ℕ → Marks → Marks → List ℕ → Type 0) → Meaning Step
 serial ready most repairs begun = record {
   ready = ready;
   leads = λ q steps old new. IsSerialRun q none_closed steps old new;
@@ -32,10 +32,14 @@ pub record AreRepairedFor (n : Network) (touched : List ℕ) (old new : Marks) :
   pub repaired : AreRepaired n touched old new
   pub exact : AreExact n new.start (g_of new) (v_of new) (back_of new)
 
--- initial labels of this graph's size
-abbrev pub BeginsAnew : Network → (touched : List ℕ) → (old new : Marks) → Type 0
-BeginsAnew n touched old new = AreInitial new n.states old.start
+-- a plan begins with initial labels of this graph's size
+abbrev pub BeginsAnew : Network → (touched : List ℕ) → (old new : Marks) → (raised : List ℕ) → Type 0
+BeginsAnew n touched old new raised = AreInitial new n.states old.start × (raised ≡ [])
+
+-- a plan begins with repaired labels, and raises states in its passes alone
+abbrev pub BeginsRepaired : Network → (touched : List ℕ) → (old new : Marks) → (raised : List ℕ) → Type 0
+BeginsRepaired n touched old new raised = AreRepairedFor n touched old new × (raised ≡ [])
 
 -- the labels, the goal and the trace, which is always kept
 abbrev pub seen : SerialState → State Step
-seen a = record { labels = a.labels; goal = a.goal; notes = a.trace; kept = true }
+seen a = record { labels = a.labels; goal = a.goal; notes = a.trace; kept = true; raised = [] }

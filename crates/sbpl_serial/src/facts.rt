@@ -3,7 +3,8 @@
 ghost use Rattle.std.specs.Prelude.{true, false};
 ghost use Rattle.sbpl_search.specs.Determined.{DeterminesBeginnings};
 ghost use Rattle.sbpl_serial.specs.Determined.{EqualRunsAgree, GuideAtStates, RestEndsRuns, RunsGoOn, SerialIsDetermined, InitialLabelsAreOne};
-ghost use Rattle.sbpl_serial.specs.Meant.{AreRepairedFor, BeginsAnew};
+ghost use Rattle.sbpl_serial.specs.Meant.{BeginsAnew, BeginsRepaired};
+ghost use Rattle.sbpl_serial.specs.Raised.{RaisingBegins, RaisingEnds, RaisingGoesOn, RaisingLowersNone};
 ghost use Rattle.sbpl_serial.specs.Repaired.{ExactWhereSame};
 
 /// A serial run is determined: of two runs of a query from the same labels the longer goes on from the
@@ -18,7 +19,7 @@ pub fn run_is_determined()
     ensures determined { SerialIsDetermined }
     ensures initial { InitialLabelsAreOne }
     ensures anew { DeterminesBeginnings false BeginsAnew }
-    ensures repaired { DeterminesBeginnings true AreRepairedFor }
+    ensures repaired { DeterminesBeginnings true BeginsRepaired }
 {}
 
 /// Where labels are exact on one graph, each state but the start that has the same free arcs into it
@@ -26,4 +27,14 @@ pub fn run_is_determined()
 /// touch only the heads of arcs whose cost or freedom it alters.
 pub fn exact_where_same()
     ensures every_state { ExactWhereSame }
+{}
+
+/// Raising goes arc by arc: from exact labels it begins where v of an underconsistent state becomes infinite, it goes on as
+/// each head whose back arc comes from that state is recomputed, by which no g falls, and after the last arc the state is raised and
+/// the labels are exact again.
+pub fn raising_goes_arc_by_arc()
+    ensures begins { RaisingBegins }
+    ensures goes_on { RaisingGoesOn }
+    ensures lowers_none { RaisingLowersNone }
+    ensures ends { RaisingEnds }
 {}

@@ -25,7 +25,7 @@ use crate::low::low_among;
 use crate::note::{note_taken, note_touched};
 use crate::queue::{gather, refill};
 use crate::raise::raise;
-use crate::repair::recompute_all;
+use crate::repair::repair_labels;
 use crate::{Closed, Parts, Step, Steps};
 use sbpl_fixed::NoMemory;
 use sbpl_graph::{Graph, Guide};
@@ -165,10 +165,8 @@ impl Serial {
         ensures goal { self.new.goal ≡ self.old.goal }
         ensures trace { self.new.trace ≡ self.old.trace }
     {
-        let _states = graph.states();
-        recompute_all(&mut self.labels, graph, touched);
+        repair_labels(&mut self.labels, graph, touched);
         note_touched(&mut self.queue, &self.labels, touched);
-        let _start = self.labels.start();
     }
 
     /// A pass: open states are expanded, the least key first, until no open key is below the goal's or the budget is spent. Open

@@ -1,14 +1,18 @@
 //! Repairs on a way of three states.
 
-ghost use Rattle.std.specs.Prelude.{◌≡◌};
+ghost use Rattle.std.specs.Prelude.{◌≡◌, ◌^◌};
 ghost use Rattle.sbpl_graph.specs.Fit.{FitCount};
+ghost use Rattle.sbpl_graph.specs.Kept.{NoneUnder};
 ghost use Rattle.sbpl_labels.specs.Marks.{states_of, g_of, v_of};
 
 use crate::listed::Listed;
-use sbpl_adstar::AdStar;
+use sbpl_adstar::{AdStar, Raiser, change_labels};
 use sbpl_ara::Ara;
+use sbpl_fixed::NoMemory;
 use sbpl_graph::{FAR, Zero};
-use sbpl_labels::{Budget, PassEnd};
+use sbpl_labels::{Budget, Labels, PassEnd};
+use sbpl_serial::Parts;
+use std::alloc::Global;
 use std::process::Abort;
 use std::test::Fail;
 
@@ -98,5 +102,44 @@ fn repaired_after_changes(rt: HostRuntime) -> Result<(), Fail> {
     let mut search = AdStar::from(Ara::open(rt.alloc(), 3, 0, 2)?);
     compare_repairs(&rt, &mut search, &mut budget);
     drop(search);
+    Ok(())
+}
+
+/// Repairs labels for the dear way and raises states: which ones, and what the last state then has.
+fn raise_after(alloc: Global, labels: &mut Labels) -> Result<(bool, u64), NoMemory>
+    requires states { states_of labels.old ≡ 3 }
+    requires start { labels.old.start ≡ 0 }
+    requires fits { FitCount 3 (g_of labels.old) (v_of labels.old) (2 ^ 30) }
+    requires none_under { NoneUnder (states_of labels.old) (g_of labels.old) (v_of labels.old) }
+{
+    let mut raiser = Raiser::new(alloc, 3)?;
+    let graph = dear();
+    let touched = [1, 2];
+    change_labels(labels, &graph, touched.as_slice());
+    raiser.raise_all(&graph, labels, touched.as_slice());
+    let one = raiser.raised() == [1].as_slice();
+    Ok((one, labels.g(2)))
+}
+
+/// A state whose way became dear is raised, and what hangs on it has no way for now.
+#[test]
+fn states_are_raised(rt: HostRuntime) -> Result<(), Fail> {
+    let mut budget = Budget::new(10);
+    let mut search = Ara::open(rt.alloc(), 3, 0, 2)?;
+    let _end = search.pass(&cheap(), &Zero, 1000, &mut budget);
+    let _used = budget.used();
+    let Parts {
+        mut labels,
+        goal: _,
+        closed,
+        steps,
+        queue,
+    } = search.into_parts();
+    let raised = raise_after(rt.alloc(), &mut labels);
+    drop(labels);
+    drop(closed);
+    drop(steps);
+    drop(queue);
+    assert_eq!(rt; raised?, (true, FAR));
     Ok(())
 }

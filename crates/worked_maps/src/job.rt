@@ -29,6 +29,7 @@ plan e m --budget 1073741824 => plan e m 0 - ad 1 1000 500 1000 1073741824 - -
 plan e m --planner epase => plan e m 0 - epase 1 1000 500 1000 1073741824 - -
 plan --workers=1 e m --trace t --planner=epase => plan e m 0 - epase 1 1000 500 1000 1073741824 - t
 plan e m --planner epase --workers 2 => plan e m 0 - epase 2 1000 500 1000 1073741824 - -
+plan e m --planner epase --workers 4 --changes c => plan e m 0 c epase 4 1000 500 1000 1073741824 - -
 plan --workers 64 e --planner=epase m --labels=l => plan e m 0 - epase 64 1000 500 1000 1073741824 l -
 plan --changes c e m => plan e m 0 c ad 1 1000 500 1000 1073741824 - -
 plan e m --labels=l --trace t => plan e m 0 - ad 1 1000 500 1000 1073741824 l t
@@ -95,7 +96,6 @@ plan e m --planner epase --workers 0
 plan e m --planner epase --workers=1.0
 plan e m --planner epase --workers 1 --workers 1
 check e m l --workers 1
-plan e m --planner epase --changes c
 plan e m --planner=ARA
 plan e m --labels e
 plan e m --trace=m

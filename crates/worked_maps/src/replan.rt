@@ -8,7 +8,7 @@ ghost use Rattle.sbpl_replan.specs.Replanning.{IsReadyIn};
 ghost use Rattle.sbpl_search.specs.Ready.{AreReady, IsStartFresh};
 
 use crate::lattices::made;
-use sample_files::{E2, F2, car, field};
+use sample_files::{E2, F2, car, draw, field};
 use sbpl_adstar::AdStar;
 use sbpl_ara::Ara;
 use sbpl_cfg::{Place, place_at};
@@ -291,17 +291,6 @@ fn hall_repaired_or_begun_anew(rt: HostRuntime) -> Result<(), Fail> {
     let compared = compare_hall(&rt, rt.alloc(), &mut hall);
     drop(hall);
     compared
-}
-
-/// A number below `limit`, drawn from a word that each draw replaces.
-fn draw(word: &mut u64, limit: u32) -> u32
-    requires some { 0 < limit }
-    ensures below { result < limit }
-{
-    *word = word
-        .wrapping_mul(6_364_136_223_846_793_005)
-        .wrapping_add(1_442_695_040_888_963_407);
-    ((*word >> 33) % u64::from(limit)) as u32
 }
 
 /// Writes to the field: a third of them make an obstacle, and a third make a cell dear.

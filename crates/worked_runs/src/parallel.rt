@@ -1,9 +1,11 @@
 //! Plans by ePA*SE with several workers, over a desk in memory.
 
-use crate::runs::{compare_held, desk_of, status_at};
-use sample_files::{E2, F2};
+use crate::runs::{
+    EVENTS, THERE_AND_BACK, THREE_HOLD, compare_held, desk_of, labels_of, status_at,
+};
+use sample_files::{E2, F2, car, draw, field};
 use sbpl_cli::{Gate, NoGate};
-use std::alloc::Global;
+use std::alloc::{AllocError, Global};
 use std::hint;
 use std::process::Abort;
 use std::sync::Wait;
@@ -113,4 +115,151 @@ fn judged_side_by_side(rt: HostRuntime) -> Result<(), Fail> {
     let compared = compare_workers(&rt, rt.alloc(), "2", &gate);
     assert!(rt; gate.met.load(Ordering::SeqCst), "one judgement at a time");
     compared
+}
+
+/// The report of the repair of a way, by one worker.
+const REPAIRED: &str =
+    "plan 0\npass 1.000 expanded 4 best 100 bound 1.000\npath 3 cost 100 bound 1.000\npose 0 0 0\nstep 2 0 1 0\nstep 1 2 1 0\nstep 3 2 0 0\nplan 1\npass 1.000 expanded 1 best 150 bound 1.000\npath 1 cost 150 bound 1.000\npose 0 0 0\nstep 1 2 0 0\nplan 2\npass 1.000 expanded 1 best 100 bound 1.000\npath 4 cost 100 bound 1.000\npose 0 0 0\nstep 2 0 1 0\nstep 0 1 1 0\nstep 0 2 1 0\nstep 3 2 0 0\ndone\n";
+
+/// The trace of its plans 1 and 2.
+const REPAIRS: &str =
+    "trace plan 1\nraise 80\npass 1.000\nopen 16\ntake 0 0 16 0\npost 0 75\ntake 1 0 16 2\npost 1 75\nend\ntrace plan 2\npass 1.000\nopen 80\ntake 0 0 80 3\npost 0 25\nend\n";
+
+/// A repair by one worker: its report, and in its trace the state that is raised before the passes of plan 1.
+#[test]
+fn repaired_by_events(rt: HostRuntime) -> Result<(), Fail> {
+    let files = [("e", E2), ("m", F2), ("c", THERE_AND_BACK)];
+    let words = [
+        "plan",
+        "e",
+        "m",
+        "--changes=c",
+        "--planner=epase",
+        "--workers=1",
+        "--trace=t",
+    ];
+    let mut desk = desk_of(rt.alloc(), &files)?;
+    let status = status_at(&rt, rt.alloc(), &words, &mut desk, &NoGate);
+    let report = desk.written("-") == REPAIRED.as_bytes();
+    let first = desk.written("t").starts_with(EVENTS.as_bytes());
+    let rest = desk.written("t").ends_with(REPAIRS.as_bytes());
+    let long = desk.written("t").len();
+    drop(desk);
+    assert_eq!(rt; status?, 0);
+    assert!(rt; report);
+    assert!(rt; first);
+    assert!(rt; rest);
+    assert_eq!(rt; long, EVENTS.len() + REPAIRS.len());
+    Ok(())
+}
+
+/// The cost in the line of a path.
+fn cost_in(line: &str) -> Option<u64> {
+    let (_, rest) = line.split_once(" cost ")?;
+    let (cost, _) = rest.split_once(" ")?;
+    cost.parse().ok()
+}
+
+/// What each plan of a report makes known: the cost of its path, or that there is none.
+fn known_in(alloc: Global, report: &[u8]) -> Result<Vec<Option<u64>>, AllocError> {
+    let text = str::from_utf8(report).unwrap_or("");
+    let mut known = Vec::new(alloc);
+    for line in text.lines() {
+        if line.starts_with("path ") || line == "nopath" {
+            known.push(cost_in(line))?;
+        }
+    }
+    Ok(known)
+}
+
+/// What the plans that these words name make known.
+fn known_by<R: Abort + Threads + Wait + Sync>(
+    rt: &R,
+    alloc: Global,
+    files: &[(&str, &str)],
+    words: &[&str],
+) -> Result<Vec<Option<u64>>, Fail> {
+    let mut desk = desk_of(alloc, files)?;
+    let status = status_at(rt, alloc, words, &mut desk, &NoGate);
+    let known = known_in(alloc, desk.written("-"));
+    drop(desk);
+    assert_eq!(rt; status?, 0);
+    Ok(known?)
+}
+
+/// The costs of a repair by four workers, and its labels, each section of which holds on the map of its plan.
+#[test]
+fn repaired_by_workers(rt: HostRuntime) -> Result<(), Fail> {
+    let files = [("e", E2), ("m", F2), ("c", THERE_AND_BACK)];
+    let words = [
+        "plan",
+        "e",
+        "m",
+        "--changes=c",
+        "--planner=epase",
+        "--workers=4",
+        "--labels=l",
+    ];
+    let known = known_by(&rt, rt.alloc(), &files, &words)?;
+    let right = known.as_slice() == [Some(100), Some(150), Some(100)].as_slice();
+    drop(known);
+    assert!(rt; right);
+    let labels = labels_of(&rt, rt.alloc(), &files, &words)?;
+    let check = ["check", "e", "m", "l", "--changes", "c"];
+    let compared = compare_held(
+        &rt,
+        rt.alloc(),
+        &files,
+        labels.as_slice(),
+        &check,
+        THREE_HOLD,
+    );
+    drop(labels);
+    compared
+}
+
+/// Thirty batches for the field: in each a third of sixty writes make an obstacle, and a third make a cell dear.
+fn thirty_batches(alloc: Global) -> Result<String, Fail> {
+    let mut word = 24;
+    let mut text = String::new(alloc);
+    for _ in 0..30 {
+        for _ in 0..60 {
+            let cost = [0, 20, 254][draw(&mut word, 3) as usize];
+            let x = draw(&mut word, 32);
+            let y = draw(&mut word, 32);
+            let line = format!(in alloc; "cell {x} {y} {cost}\n")?;
+            text.push_str(line.as_str())?;
+        }
+        text.push_str("replan\n")?;
+    }
+    Ok(text)
+}
+
+/// After each of thirty drawn batches, repairing by four workers makes known what planning anew does.
+#[test]
+fn repaired_by_workers_as_begun_anew(rt: HostRuntime) -> Result<(), Fail> {
+    let env = field(rt.alloc())?;
+    let prims = car(rt.alloc())?;
+    let batches = thirty_batches(rt.alloc())?;
+    let files = [
+        ("e", env.as_str()),
+        ("m", prims.as_str()),
+        ("c", batches.as_str()),
+    ];
+    let words = ["plan", "e", "m", "--changes=c", "--planner=ara"];
+    let anew = known_by(&rt, rt.alloc(), &files, &words)?;
+    let words = [
+        "plan",
+        "e",
+        "m",
+        "--changes=c",
+        "--planner=epase",
+        "--workers=4",
+    ];
+    let repaired = known_by(&rt, rt.alloc(), &files, &words)?;
+    assert_eq!(rt; anew.len(), 31);
+    assert!(rt; anew.as_slice() == repaired.as_slice());
+    assert!(rt; anew.iter().any(|cost| cost.is_some()));
+    assert!(rt; anew.iter().any(|cost| cost.is_none()));
+    Ok(())
 }

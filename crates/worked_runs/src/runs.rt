@@ -416,7 +416,7 @@ fn compare_trace(
     Ok(())
 }
 
-const EVENTS: &str =
+pub(crate) const EVENTS: &str =
     "trace plan 0\npass 1.000\nopen 0\ntake 0 0 0 0\npost 0 75\ntake 1 0 0 1\npost 1 150\ntake 2 0 0 2\npost 2 25\nopen 48\ntake 3 0 48 0\npost 3 25\ntake 4 0 48 1\npost 4 50\ntake 5 0 48 3\npost 5 25\nopen 64\ntake 6 0 64 0\npost 6 25\ntake 7 0 64 3\npost 7 75\nopen 80\ntake 8 0 80 3\npost 8 25\nend\n";
 
 /// The trace of a plan that was spent, and those of passes of falling inflation, by each planner.
@@ -615,7 +615,7 @@ pub(crate) fn compare_held(
 }
 
 /// The labels that a plan on these files writes.
-fn labels_of(
+pub(crate) fn labels_of(
     rt: &(impl Abort + Threads + Wait + Sync),
     alloc: Global,
     files: &[(&str, &str)],
@@ -1040,7 +1040,8 @@ fn changes(rt: HostRuntime) -> Result<(), Fail> {
 const REPAIRED_TRACE: &str =
     "trace plan 0\npass 1.000\nlower 0\nlower 48\nlower 64\nlower 80\nend\ntrace plan 1\npass 1.000\nlower 16\nend\ntrace plan 2\npass 1.000\nend\n";
 
-const THREE_HOLD: &str = "plan 0 path holds\nplan 1 path holds\nplan 2 path holds\ndone\n";
+pub(crate) const THREE_HOLD: &str =
+    "plan 0 path holds\nplan 1 path holds\nplan 2 path holds\ndone\n";
 
 /// The trace of a repair, and its labels, each section of which holds on the map of its plan.
 #[test]

@@ -1,4 +1,4 @@
-use Rattle.std.proofs.Common.{map, arith, ◌≡◌, ℕ, ◌+◌, ◌*◌, ◌^◌, ◌≤◌, length, Bool, true, false, MatchBool, Option, None, Some, Result, Ok, Err, IfOk, refl, sym, ◌∙◌, ap, subst, inl, inr, ◌⊎◌}
+use Rattle.std.proofs.Common.{map, arith, ◌≡◌, ℕ, ◌+◌, ◌*◌, ◌^◌, ◌≤◌, length, Bool, true, false, MatchBool, if◌then◌else◌, List, [], Option, None, Some, Result, Ok, Err, IfOk, refl, sym, ◌∙◌, ap, subst, inl, inr, ◌⊎◌}
 use Rattle.std.proofs.lemmas.List.{length-map}
 use Rattle.std.specs.Option.{is_some}
 use Rattle.std.specs.Result.{IsErr}
@@ -43,8 +43,8 @@ in_run before rises (inl all) = inl all
 in_run before rises (inr all) = inr (rises ∙ all)
 
 -- what is known of a plan, and of its record, is that it was searched
-module _ (by : Known) (w : World) (guide : Table) (start goal : ℕ) (how : SearchJob) (outputs : Outputs) (before : Option Carried) (begun final : Marks) (per_plan run used : ℕ) (planned : Planned by.Note) (section : Option Section) where
-  searched_by : (asked : Ask) (wanted : Bool) (plan : ℕ) (r : Result PlanRecord NoMemory) → IsBest w goal (distance_in guide) → Begins by.means w start before begun
+module _ (by : Known) (w : World) (guide : Table) (start goal : ℕ) (how : SearchJob) (outputs : Outputs) (before : Option Carried) (begun final : Marks) (raised : List ℕ) (per_plan run used : ℕ) (planned : Planned by.Note) (section : Option Section) where
+  searched_by : (asked : Ask) (wanted : Bool) (plan : ℕ) (r : Result PlanRecord NoMemory) → IsBest w goal (distance_in guide) → Begins by.means w start before begun raised
       → asked ≡ ask_of how outputs → ArePasses by.means (inquiry w (distance_in guide) goal asked) asked.first begun planned.passes final planned.spent
       → IsResultOf (network_of w) (distance_in guide) goal final planned.outcome → per_plan ≡ how.budget → run ≡ expanded_before before + expansions planned.passes → used ≡ expansions planned.passes
       → (planned.spent ≡ true → (expansions planned.passes ≡ per_plan) ⊎ (run ≡ 2 ^ 30))
@@ -53,10 +53,11 @@ module _ (by : Known) (w : World) (guide : Table) (start goal : ℕ) (how : Sear
       → (planned.spent ≡ true → most_passes asked.step asked.first * (by.means.most * (network_of w).states) ≤ how.budget → run ≡ 2 ^ 30)
       → wanted ≡ is_some outputs.labels → final.start ≡ start → IsThere wanted (IsShown outputs.form (network_of w) (distance_in guide) final.start goal plan final planned.outcome) section
       → IfOk r (λ x. x.plan ≡ plan) → IfOk r (λ x. x.passes ≡ map (traced_pass by.line) planned.passes) → IfOk r (λ x. x.expanded ≡ used) → IfOk r (λ x. IsSameResult planned.outcome x.outcome) → IfOk r (λ x. x.labels ≡ section)
+      → IfOk r (λ x. x.raised ≡ (if asked.traced then raised else []))
       → IfOk r (λ x. MatchBool planned.spent (x.spent ≡ Some used) (x.spent ≡ None))
       → IfOk r (IsSearched by w how outputs start goal before (record { map = w.map; labels = final; expanded = run }))
-  searched_by asked wanted plan (Err e) is_guide begins same passes outcome budget counted used_is spent within within_run few enough asks begins_at shown number copied expanded told kept mark = tt
-  searched_by asked wanted plan (Ok x) is_guide begins same passes outcome budget counted used_is spent within within_run few enough asks begins_at shown number copied expanded told kept mark =
+  searched_by asked wanted plan (Err e) is_guide begins same passes outcome budget counted used_is spent within within_run few enough asks begins_at shown number copied expanded told kept raises mark = tt
+  searched_by asked wanted plan (Ok x) is_guide begins same passes outcome budget counted used_is spent within within_run few enough asks begins_at shown number copied expanded told kept raises mark =
       let step = ap (λ (a : Ask). a.step) same in
       let first = ap (λ (a : Ask). a.first) same in
       let all : expansions x.passes ≡ expansions planned.passes = ap expansions copied ∙ expansions_traced by.line planned.passes in
@@ -64,7 +65,9 @@ module _ (by : Known) (w : World) (guide : Table) (start goal : ℕ) (how : Sear
         guide = distance_in guide;
         is_guide = is_guide;
         begun = begun;
+        raised = raised;
         begins = begins;
+        raises = subst (λ (a : Ask). x.raised ≡ (if a.traced then raised else [])) same raises;
         spent = planned.spent;
         notes = planned.passes;
         passes = subst (λ (a : Ask). ArePasses by.means (inquiry w (distance_in guide) goal a) a.first begun planned.passes final planned.spent) same passes;
@@ -102,7 +105,7 @@ returns-clause-searched g c = λ before begins counted.
     let run : new.counts.run ≡ expanded_before before + expansions planned.passes = rises ∙ ap (λ (n : ℕ). n + expansions planned.passes) {y = expanded_before before} (sym counted) in
     let of_plan : new.counts.plan ≡ 0 + expansions planned.passes = ap (λ (k : Counts). k.plan) made.leaves.counted in
     let used : c.expanded-expanded.result ≡ expansions planned.passes = omega (arith, c.expanded-expanded.ensures.value, of_plan) in
-    searched_by by c.args.lattice.now old.guide c.args.start c.args.goal c.args.how.now c.args.outputs.now before old.search.labels new.search.labels
+    searched_by by c.args.lattice.now old.guide c.args.start c.args.goal c.args.how.now c.args.outputs.now before old.search.labels new.search.labels old.search.raised
     old.counts.per_plan new.counts.run c.expanded-expanded.result planned c.in_ok-labels.labels c.ask_of-ask.result c.is_some.result c.args.plan c.record_of.result
     (subst (λ (t : ℕ). IsBest c.args.lattice.now t (distance_in old.guide)) set.goal_is c.requires.ready.best) begins c.ask_of-ask.ensures.ask
     (subst (λ (t : ℕ). ArePasses means (inquiry c.args.lattice.now (distance_in old.guide) t c.ask_of-ask.result) c.ask_of-ask.result.first old.search.labels planned.passes new.search.labels planned.spent) set.goal_is made.passes)
@@ -112,7 +115,9 @@ returns-clause-searched g c = λ before begins counted.
     c.is_some.ensures (c.in_ok-planned.ensures.same.start ∙ set.start_is)
     (subst (λ (m : Marks). IsThere c.is_some.result (IsShown c.args.outputs.now.form (network_of c.args.lattice.now) (distance_in old.guide) m.start c.args.goal c.args.plan m planned.outcome) c.in_ok-labels.labels) c.labels.ensures.value
     (subst (λ (t : Table). IsThere c.is_some.result (IsShown c.args.outputs.now.form (network_of c.args.lattice.now) (distance_in t) c.labels.result.now.start c.args.goal c.args.plan c.labels.result.now planned.outcome) c.in_ok-labels.labels) guide c.in_ok-labels.ensures.shown))
-    c.record_of.ensures.number c.record_of.ensures.passes c.record_of.ensures.expanded c.record_of.ensures.told c.record_of.ensures.labels c.record_of.ensures.marked
+    c.record_of.ensures.number c.record_of.ensures.passes c.record_of.ensures.expanded c.record_of.ensures.told c.record_of.ensures.labels
+    (subst (λ (l : List ℕ). IfOk c.record_of.result (λ x. x.raised ≡ l)) (c.in_ok-raised.ensures.told ∙ ap (λ (l : List ℕ). if c.ask_of-ask.result.traced then l else []) c.raised.ensures.value) c.record_of.ensures.raised)
+    c.record_of.ensures.marked
 
 -- a plan that is not marked as spent was not
 unmarked : (spent : Bool) (expanded : ℕ) (x : PlanRecord) → MatchBool spent (x.spent ≡ Some expanded) (x.spent ≡ None) → x.spent ≡ None → spent ≡ false
@@ -141,7 +146,10 @@ no_value P (Ok x) is = absurd (cc)
 no_value P (Err e) is = tt
 
 pub returns-in_err-planned-clause-searched : goal.returns-in_err-planned-clause-searched
-returns-in_err-planned-clause-searched g c = λ before begins counted. no_value _ c.from_residual.result c.from_residual.ensures.0
+returns-in_err-planned-clause-searched g c = λ before begins counted. no_value _ c.from_residual-in_err-planned.result c.from_residual-in_err-planned.ensures.0
+
+pub returns-in_err-raised-clause-searched : goal.returns-in_err-raised-clause-searched
+returns-in_err-raised-clause-searched g c = λ before begins counted. no_value _ c.from_residual.result c.from_residual.ensures.0
 
 pub returns-in_err-labels-clause-searched : goal.returns-in_err-labels-clause-searched
 returns-in_err-labels-clause-searched g c = λ before begins counted. no_value _ c.from_residual-in_err-labels.result c.from_residual-in_err-labels.ensures.0

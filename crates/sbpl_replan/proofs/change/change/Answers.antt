@@ -1,4 +1,5 @@
 use Rattle.std.proofs.Common.{◌∙◌, ℕ, List, sym, subst}
+use Rattle.std.specs.List.Sorted.{IsStrictlyIncreasing}
 use Rattle.sbpl_change.specs.Affected.{AreStates, AreAffected, KeepArcsElsewhere}
 use Rattle.sbpl_cost.specs.Lattices.{network_of}
 use Rattle.sbpl_replan.proofs.Changing.{changeable, same_states}
@@ -12,6 +13,9 @@ change-requires-clause-fits g c = λ _.
     changeable c.exact_where_same.ensures.every_state _ _ _ _ (same_states _ _ c.apply.ensures.others) c.requires.usable
     (subst (λ (l : List ℕ). AreStates (network_of c.apply.new.lattice) l) (sym c.as_slice.ensures.value) c.in_ok-apply.ensures.states)
     (subst (λ (l : List ℕ). KeepArcsElsewhere (network_of c.args.lattice.now) (network_of c.apply.new.lattice) l) (sym c.as_slice.ensures.value) c.in_ok-apply.ensures.same_arcs)
+
+pub change-requires-clause-upwards : goal.change-requires-clause-upwards
+change-requires-clause-upwards g c = λ _. subst (λ (l : List ℕ). IsStrictlyIncreasing l) (sym c.as_slice.ensures.value) c.in_ok-apply.ensures.once
 
 pub change-requires-else-repairs-clause-states : goal.change-requires-else-repairs-clause-states
 change-requires-else-repairs-clause-states g c = c.requires.usable.states ∙ sym (same_states _ _ c.write_batch.ensures.others)

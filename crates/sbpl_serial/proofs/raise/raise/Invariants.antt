@@ -1,6 +1,6 @@
 use Rattle.sbpl_serial.specs.Marked.{closed_at}
 use Rattle.sbpl_serial.specs.Queue.{AreQueued}
-use Rattle.sbpl_serial.proofs.Raising.{IsRaising}
+use Rattle.sbpl_serial.specs.Raised.{IsRaising}
 use Rattle.sbpl_serial.proofs.raise.raise.Given as goal
 
 abbrev pub invariant-loop-k : goal.invariant-loop-k
