@@ -4,11 +4,11 @@ use Rattle.std.proofs.lemmas.Bool.{cases_eq}
 use Rattle.std.proofs.lemmas.List.{get_or_default}
 use Rattle.std.proofs.lemmas.List.Elements.{Contains-append_left, Contains-get_or, Contains-push, Contains-push_cases}
 use Rattle.std.proofs.lemmas.List.Kept.{AllPairs-from_increasing}
-use Rattle.std.specs.List.{All, Contains}
+use Rattle.std.specs.List.{All, AllPairs, Contains}
 use Rattle.std.specs.List.Sorted.{IsStrictlyIncreasing}
 use Rattle.sbpl_labels.specs.Marks.{Marks, states_of}
 use Rattle.sbpl_serial.specs.Run.{IsUnder}
-use Rattle.sbpl_adstar.specs.Raised.{AreListed, occurrences}
+use Rattle.sbpl_adstar.specs.Listed.{AreListed}
 use Rattle.sbpl_adstar.proofs.Occurrences.{few, once_push}
 
 -- the list has the underconsistent ones of the first i states, each once
@@ -16,14 +16,14 @@ pub record IsListing (m : Marks) (states : List ℕ) (i : ℕ) (list : List ℕ)
   pub among : (s : ℕ) → Contains list s → (j : ℕ) × (j < i) × (slice_index states j ≡ s)
   pub under : (s : ℕ) → Contains list s → IsUnder m s
   pub all : (j : ℕ) → j < i → IsUnder m (slice_index states j) → Contains list (slice_index states j)
-  pub once : (s : ℕ) → occurrences list s ≤ 1
+  pub once : AllPairs (λ (s t : ℕ). s ≢ t) list
 
 pub listing_none : (m : Marks) (states : List ℕ) → IsListing m states 0 []
 listing_none m states = record {
   among = λ s among. absurd (omega (arith, among.1));
   under = λ s among. absurd (omega (arith, among.1));
   all = λ j before under. absurd (omega (arith, before));
-  once = λ s. omega arith;
+  once = λ a b d before inside. absurd (omega (arith, before, inside));
 }
 
 module _ {m : Marks} {states : List ℕ} {list : List ℕ} (i : ℕ) (here : IsListing m states i list) where
@@ -64,36 +64,30 @@ module _ {m : Marks} {states : List ℕ} {list : List ℕ} (i : ℕ) (here : IsL
         once = once_push list s new here.once;
       }
 
--- all of them
-module _ {m : Marks} {states : List ℕ} {list : List ℕ} (here : IsListing m states (length states) list) where
-  pub listed_inside : All (λ (t : ℕ). t < states_of m) states → (s : ℕ) → Contains list s → s < states_of m
-  listed_inside inside s among =
+  -- each is a state, as those are
+  pub listed_inside : i ≤ length states → All (λ (t : ℕ). t < states_of m) states → (s : ℕ) → Contains list s → s < states_of m
+  listed_inside within inside s among =
       let at = here.among s among in
-      let own : slice_index states at.0 < states_of m = inside at.0 0 at.1 in
+      let own : slice_index states at.0 < states_of m = inside at.0 0 (omega (arith, at.1, within)) in
       subst (λ (t : ℕ). t < states_of m) at.2 own
 
-  pub listing_all : All (λ (t : ℕ). t < states_of m) states → ((s : ℕ) → s < states_of m → IsUnder m s → Contains states s) → AreListed m list
-  listing_all inside under = record {
-    inside = listed_inside inside;
-    all = λ s within own.
-        let at = under s within own in
-        let same : slice_index states at.0 ≡ s = get_or_default states at.0 0 s at.1 ∙ at.2 in
-        subst (Contains list) same (here.all at.0 at.1 (subst (IsUnder m) (sym same) own));
-    only = λ s among. inl (here.under s among);
-    once = here.once;
-  }
+  -- there is room for them
+  pub room_for : i ≤ length states → All (λ (t : ℕ). t < states_of m) states → length list ≤ states_of m
+  room_for within inside = few list (states_of m) (listed_inside within inside) here.once
+
+-- all of them
+pub listing_all : {m : Marks} {states : List ℕ} {list : List ℕ} → IsListing m states (length states) list → All (λ (t : ℕ). t < states_of m) states
+    → ((s : ℕ) → s < states_of m → IsUnder m s → Contains states s) → AreListed m list
+listing_all {m} {states} {list} here inside under = record {
+  inside = listed_inside (length states) here (omega arith) inside;
+  all = λ s within own.
+      let at = under s within own in
+      let same : slice_index states at.0 ≡ s = get_or_default states at.0 0 s at.1 ∙ at.2 in
+      subst (Contains list) same (here.all at.0 at.1 (subst (IsUnder m) (sym same) own));
+  only = λ s among. inl (here.under s among);
+  once = here.once;
+}
 
 -- what holds of what is there holds of each
 pub all_by : (P : ℕ → Type 0) (xs : List ℕ) → ((s : ℕ) → Contains xs s → P s) → All P xs
 all_by P xs each k d inside = each _ (Contains-get_or xs k d inside)
-
--- there is room for them
-pub room_for : {m : Marks} {states : List ℕ} {i : ℕ} {list : List ℕ} → IsListing m states i list → i ≤ length states → All (λ (t : ℕ). t < states_of m) states
-    → length list ≤ states_of m
-room_for {m} {states} {i} {list} here within inside =
-    few list (states_of m)
-    (λ s among.
-    let at = here.among s among in
-    let own : slice_index states at.0 < states_of m = inside at.0 0 (omega (arith, at.1, within)) in
-    subst (λ (t : ℕ). t < states_of m) at.2 own)
-    here.once

@@ -1,11 +1,17 @@
 -- How often numbers stand in a list.
-use Rattle.std.proofs.Common.{◌≡◌, ◌≢◌, ℕ, zero, suc, ◌+◌, ◌<◌, ◌≤◌, cond, nat_eq, List, [], ◌∷◌, ◌++◌, length, slice_index_or, arith, ⊎_elim, refl, eq-eqb}
+use Rattle.std.proofs.Common.{◌≡◌, ◌≢◌, ℕ, zero, suc, ◌+◌, ◌<◌, ◌≤◌, cond, nat_eq, List, [], ◌∷◌, ◌++◌, length, arith, ⊎_elim, refl, sym, ◌∙◌, eq-eqb}
 use Rattle.std.proofs.lemmas.Bool.{cases_eq, ne_eqb}
-use Rattle.std.specs.List.{Contains}
-use Rattle.sbpl_adstar.specs.Raised.{occurrences}
+use Rattle.std.proofs.lemmas.List.{get_or_default}
+use Rattle.std.proofs.lemmas.List.Quantifiers.{all_pairs_push}
+use Rattle.std.specs.List.{AllPairs, Contains}
+
+-- how often a number stands in a list
+abbrev occurrences : List ℕ → ℕ → ℕ
+occurrences [] s = 0
+occurrences (x ∷ xs) s = cond (nat_eq x s) 1 0 + occurrences xs s
 
 -- whether two numbers are equal, as one or none
-abbrev pub one_if : ℕ → ℕ → ℕ
+abbrev one_if : ℕ → ℕ → ℕ
 one_if x s = cond (nat_eq x s) 1 0
 
 one_if_same : (x s : ℕ) → x ≡ s → one_if x s ≡ 1
@@ -13,11 +19,6 @@ one_if_same x s same = rw (eq-eqb x s same) refl
 
 one_if_other : (x s : ℕ) → x ≢ s → one_if x s ≡ 0
 one_if_other x s other = rw (ne_eqb x s other) refl
-
--- one more at the end
-pub occurs_push : (xs : List ℕ) (x s : ℕ) → occurrences (xs ++ x ∷ []) s ≡ occurrences xs s + one_if x s
-occurs_push [] x s = omega arith
-occurs_push (y ∷ ys) x s = omega (arith, occurs_push ys x s)
 
 -- what is not there does not occur
 pub occurs_not : (xs : List ℕ) (s : ℕ) → (Contains xs s → ⊥) → occurrences xs s ≡ 0
@@ -28,47 +29,26 @@ occurs_not (x ∷ xs) s none =
     let rest : occurrences xs s ≡ 0 = occurs_not xs s (λ among. none (suc among.0, omega (arith, among.1), among.2)) in
     omega (arith, first, rest)
 
--- a number that was not there stands there once more
-pub once_push : (xs : List ℕ) (x : ℕ) → (Contains xs x → ⊥) → ((s : ℕ) → occurrences xs s ≤ 1) → (s : ℕ) → occurrences (xs ++ x ∷ []) s ≤ 1
-once_push xs x none once s =
+-- what differs from all later ones occurs once
+occurs_once : (xs : List ℕ) (s : ℕ) → AllPairs (λ (a b : ℕ). a ≢ b) xs → occurrences xs s ≤ 1
+occurs_once [] s apart = omega arith
+occurs_once (x ∷ xs) s apart =
+    let rest : occurrences xs s ≤ 1 = occurs_once xs s (λ i j d before inside. apart (suc i) (suc j) d (omega (arith, before)) (omega (arith, inside))) in
     ⊎_elim
-    (λ (at : x ≡ s). omega (arith, occurs_push xs x s, one_if_same x s at, occurs_not xs s (rw (← at) none)))
-    (λ (other : x ≢ s). omega (arith, occurs_push xs x s, one_if_other x s other, once s))
+    (λ (at : x ≡ s).
+    let none : occurrences xs s ≡ 0 = occurs_not xs s (λ among. apart 0 (suc among.0) s (omega arith) (omega (arith, among.1)) (at ∙ sym among.2)) in
+    omega (arith, one_if_same x s at, none))
+    (λ (other : x ≢ s). omega (arith, one_if_other x s other, rest))
     (cases_eq x s)
 
--- ---- two places
-
-occurs_at : (xs : List ℕ) (i d : ℕ) → i < length xs → 1 ≤ occurrences xs (slice_index_or xs i d)
-occurs_at [] i d inside = absurd (omega arith)
-occurs_at (x ∷ xs) zero d inside = let here : 1 ≤ one_if x x + occurrences xs x = omega (arith, one_if_same x x refl) in here
-occurs_at (x ∷ xs) (suc i) d inside =
-    let s : ℕ = slice_index_or xs i d in
-    let rest : 1 ≤ occurrences xs s = occurs_at xs i d (omega arith) in
-    let here : 1 ≤ one_if x s + occurrences xs s = omega (arith, rest) in
-    here
-
-occurs_twice : (xs : List ℕ) (i j d : ℕ) → i < j → j < length xs → slice_index_or xs i d ≡ slice_index_or xs j d → 2 ≤ occurrences xs (slice_index_or xs j d)
-occurs_twice [] i j d before inside same = absurd (omega arith)
-occurs_twice (x ∷ xs) i zero d before inside same = absurd (omega arith)
-occurs_twice (x ∷ xs) zero (suc j) d before inside same =
-    let s : ℕ = slice_index_or xs j d in
-    let first : one_if x s ≡ 1 = one_if_same x s same in
-    let rest : 1 ≤ occurrences xs s = occurs_at xs j d (omega arith) in
-    let here : 2 ≤ one_if x s + occurrences xs s = omega (arith, first, rest) in
-    here
-occurs_twice (x ∷ xs) (suc i) (suc j) d before inside same =
-    let s : ℕ = slice_index_or xs j d in
-    let rest : 2 ≤ occurrences xs s = occurs_twice xs i j d (omega arith) (omega arith) same in
-    let here : 2 ≤ one_if x s + occurrences xs s = omega (arith, rest) in
-    here
-
--- what stands there once stands at one place
-pub differ : (xs : List ℕ) (i j d : ℕ) → ((s : ℕ) → occurrences xs s ≤ 1) → i < j → j < length xs → slice_index_or xs i d ≢ slice_index_or xs j d
-differ xs i j d once before inside same = omega (arith, occurs_twice xs i j d before inside same, once (slice_index_or xs j d))
+-- a number that was not there differs from each that was
+pub once_push : (xs : List ℕ) (x : ℕ) → (Contains xs x → ⊥) → AllPairs (λ (a b : ℕ). a ≢ b) xs → AllPairs (λ (a b : ℕ). a ≢ b) (xs ++ x ∷ [])
+once_push xs x none once =
+    all_pairs_push (λ (a b : ℕ). a ≢ b) xs x once (λ k d inside same. none (k, inside, get_or_default xs k x d inside ∙ same))
 
 -- ---- how long a list is
 
-abbrev pub sum_below : (ℕ → ℕ) → ℕ → ℕ
+abbrev sum_below : (ℕ → ℕ) → ℕ → ℕ
 sum_below f zero = 0
 sum_below f (suc n) = sum_below f n + f n
 
@@ -102,5 +82,5 @@ sum_most f zero most = omega arith
 sum_most f (suc n) most = omega (arith, sum_most f n most, most n)
 
 -- states that stand there once are no more than there are states
-pub few : (xs : List ℕ) (n : ℕ) → ((s : ℕ) → Contains xs s → s < n) → ((s : ℕ) → occurrences xs s ≤ 1) → length xs ≤ n
-few xs n inside once = omega (arith, sum_length xs n inside, sum_most (occurrences xs) n once)
+pub few : (xs : List ℕ) (n : ℕ) → ((s : ℕ) → Contains xs s → s < n) → AllPairs (λ (a b : ℕ). a ≢ b) xs → length xs ≤ n
+few xs n inside once = omega (arith, sum_length xs n inside, sum_most (occurrences xs) n (λ s. occurs_once xs s once))

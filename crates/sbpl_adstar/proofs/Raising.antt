@@ -3,26 +3,25 @@ use Rattle.std.proofs.Common.{◌≡◌, ◌≢◌, ℕ, ◌+◌, ◌-◌, ◌<�
 use Rattle.std.proofs.lemmas.Bool.{cases_eq, cases_lt}
 use Rattle.std.proofs.lemmas.List.{append-nil, append_assoc, get_or_append_left, get_or-append-add, get_or_default, length-append, take-append-le, take_all, take_more}
 use Rattle.std.proofs.lemmas.List.Elements.{All-append, All-nil, All-weaker, Contains-append_left, Contains-get_or, Contains-push, Contains-push_cases}
-use Rattle.std.proofs.lemmas.Option.{same_Some}
+use Rattle.std.proofs.lemmas.Option.{none-some, same_Some}
 use Rattle.std.specs.List.{All, Contains}
 use Rattle.sbpl_graph.specs.declared.TheConstants.{FAR}
-use Rattle.sbpl_graph.specs.Certificate.{IsLabel}
 use Rattle.sbpl_graph.specs.Kept.{NoneUnder}
 use Rattle.sbpl_graph.specs.Network.{Network}
+use Rattle.sbpl_graph.proofs.Paths.{label_at_most}
 use Rattle.sbpl_labels.specs.declared.row.Row.{Row}
-use Rattle.sbpl_labels.specs.Marks.{Marks, AreLabels, states_of, g_of, v_of}
+use Rattle.sbpl_labels.specs.Marks.{Marks, AreLabels, states_of, g_of, v_of, back_of}
+use Rattle.sbpl_labels.specs.Recomputed.{Recomputes}
 use Rattle.sbpl_search.specs.Ready.{IsStartFresh}
-use Rattle.sbpl_serial.specs.Raised.{ChangesV, IsReturned}
+use Rattle.sbpl_serial.specs.Raised.{ChangesV, IsReturned, ReturnsHead}
 use Rattle.sbpl_serial.specs.Run.{IsOver, IsUnder, RaisesState}
-use Rattle.sbpl_adstar.specs.Raised.{AddsUnder, AreListed, AreRaised}
-use Rattle.sbpl_adstar.proofs.Occurrences.{differ, once_push}
-
-label_most : (x : ℕ) → IsLabel x → x ≤ FAR
-label_most x label = ⊎_elim (λ e. omega arith) (λ small. omega arith) label
+use Rattle.sbpl_adstar.specs.Listed.{AddsUnder, AreListed}
+use Rattle.sbpl_adstar.specs.Raised.{AreRaised}
+use Rattle.sbpl_adstar.proofs.Occurrences.{once_push}
 
 -- a state whose v is infinite is not underconsistent
 far_not_under : (m : Marks) (s : ℕ) → AreLabels m → s < states_of m → v_of m s ≡ FAR → IsUnder m s → ⊥
-far_not_under m s labels inside far under = omega (arith, far, under, label_most (g_of m s) (labels.labels s inside).0)
+far_not_under m s labels inside far under = omega (arith, far, under, label_at_most (g_of m s) (labels.labels s inside).0)
 
 -- ---- v of a listed state becomes infinite
 
@@ -44,7 +43,7 @@ module _ (old m : Marks) (s : ℕ) (by : ChangesV old m s FAR) where
   far = ap (λ (r : Row). r.v) by.at
 
   not_under : AreLabels old → s < states_of old → IsUnder m s → ⊥
-  not_under labels inside under = omega (arith, far, under, ap (λ (r : Row). r.g) by.at, label_most (g_of old s) (labels.labels s inside).0)
+  not_under labels inside under = omega (arith, far, under, ap (λ (r : Row). r.g) by.at, label_at_most (g_of old s) (labels.labels s inside).0)
 
   pub listed_raised : AreLabels old → s < states_of old → (list : List ℕ) → AreListed old list → AreListed m list
   listed_raised labels state list here = record {
@@ -84,6 +83,12 @@ module _ (n : Network) (m new : Marks) (s k : ℕ) where
   returned_g (Some a) returned t is u other =
       let same : t ≡ a = same_Some t a (sym is ∙ returned.head) in
       ap (λ (r : Row). r.g) (returned.recomputes.others u (λ e. other (e ∙ sym same)))
+
+  -- the head of a back arc is recomputed; it is not the start, which has no back arc
+  pub returns_head : (t : ℕ) → AreLabels m → Some t ≡ n.head s k → back_of m t ≡ Some (s, k) → (t ≢ m.start → Recomputes n m new t) → ReturnsHead n m new s k t
+  returns_head t labels is by recomputes =
+      let apart : t ≢ m.start = λ e. none-some (s, k) (sym labels.none_at_start ∙ ap (back_of m) (sym e) ∙ by) in
+      record { head = sym is; by = by; recomputes = recomputes apart }
 
   module _ (head : Option ℕ) (returned : IsReturned n m new s k head) (grows : (u : ℕ) → g_of m u ≤ g_of new u) where
     -- what was underconsistent stays so
@@ -220,13 +225,13 @@ module _ {n : Network} {old m new : Marks} {list longer : List ℕ} (i : ℕ) (h
         ⊎_elim
         (λ (at : j ≡ i). ap (λ (k : ℕ). v_of new (slice_index longer k)) at ∙ ap (v_of new) (front i before) ∙ step.raised)
         (λ (other : j ≢ i).
-        let apart = differ list j i 0 here.listed.once (omega (arith, below, other)) before in
+        let apart = here.listed.once j i 0 (omega (arith, below, other)) before in
         ap (v_of new) (front j (omega (arith, below, before))) ∙ step.other_v (slice_index list j) apart ∙ here.done j (omega (arith, below, other)))
         (cases_eq j i);
     waiting = λ j from inside.
         ⊎_elim
         (λ (within : j < length list).
-        let apart = differ list i j 0 here.listed.once (omega (arith, from)) within in
+        let apart = here.listed.once i j 0 (omega (arith, from)) within in
         subst (IsUnder new) (sym (front j within))
         (others (slice_index list j) (λ e. apart (sym e)) (here.waiting j (omega (arith, from)) within)))
         (λ (past : length list ≤ j). later j past inside)

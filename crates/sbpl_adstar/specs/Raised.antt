@@ -1,17 +1,11 @@
 -- Raising: states whose v is below their g lose it in turn, until there are none.
-use Rattle.std.specs.Prelude.{◌≡◌, ℕ, ◌+◌, ◌<◌, ◌≤◌, ◌⊎◌, cond, nat_eq, List, [], ◌∷◌, ◌++◌}
-use Rattle.std.specs.List.{All, Contains}
-use Rattle.sbpl_graph.specs.declared.TheConstants.{FAR}
+use Rattle.std.specs.Prelude.{◌≡◌, ◌≢◌, ℕ, List, [], ◌∷◌}
+use Rattle.std.specs.List.{AllPairs}
 use Rattle.sbpl_graph.specs.Exact.{AreExact}
 use Rattle.sbpl_graph.specs.Kept.{NoneUnder}
 use Rattle.sbpl_graph.specs.Network.{Network}
 use Rattle.sbpl_labels.specs.Marks.{Marks, states_of, g_of, v_of, back_of}
-use Rattle.sbpl_serial.specs.Run.{IsUnder, RaisesState}
-
--- how often a number stands in a list
-abbrev pub occurrences : List ℕ → ℕ → ℕ
-occurrences [] s = 0
-occurrences (x ∷ xs) s = cond (nat_eq x s) 1 0 + occurrences xs s
+use Rattle.sbpl_serial.specs.Run.{RaisesState}
 
 -- these states are raised in turn: each is underconsistent at its turn, its v becomes infinite, and each state but the start whose
 -- back arc begins at it is recomputed
@@ -22,7 +16,7 @@ AreRaised n old (s ∷ rest) new = (mid : Marks) × RaisesState n old mid s × A
 -- these states are raised in turn, none of them twice; then no state is underconsistent, and the labels are exact
 pub record IsRaisedBy (n : Network) (old : Marks) (raised : List ℕ) (new : Marks) : Type 0 where
   pub in_turn : AreRaised n old raised new
-  pub once : (s : ℕ) → occurrences raised s ≤ 1
+  pub once : AllPairs (λ s t. s ≢ t) raised
   pub none_under : NoneUnder (states_of new) (g_of new) (v_of new)
   pub exact : AreExact n new.start (g_of new) (v_of new) (back_of new)
 
@@ -30,18 +24,3 @@ pub record IsRaisedBy (n : Network) (old : Marks) (raised : List ℕ) (new : Mar
 pub record Raising : Type 0 where
   pub raised : List ℕ
   pub room : ℕ
-
--- ---- a list while states are raised
-
--- the list has each underconsistent state, and otherwise only states whose v is infinite, each once
-pub record AreListed (m : Marks) (list : List ℕ) : Type 0 where
-  pub inside : (s : ℕ) → Contains list s → s < states_of m
-  pub all : (s : ℕ) → s < states_of m → IsUnder m s → Contains list s
-  pub only : (s : ℕ) → Contains list s → IsUnder m s ⊎ (v_of m s ≡ FAR)
-  pub once : (s : ℕ) → occurrences list s ≤ 1
-
--- only underconsistent states were appended
-pub record AddsUnder (m : Marks) (old new : List ℕ) : Type 0 where
-  pub more : List ℕ
-  pub added : new ≡ old ++ more
-  pub under : All (IsUnder m) more

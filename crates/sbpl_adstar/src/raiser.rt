@@ -1,19 +1,20 @@
 //! Underconsistent states are raised before a search that takes none.
 
-ghost use Rattle.std.specs.Prelude.{◌≡◌, ◌≢◌, ℕ, ◌^◌, ◌<◌, ◌≤◌, ◌↔◌, ◌⊎◌, [], IfOk, IsTrue, Option, vec_capacity};
+ghost use Rattle.std.specs.Prelude.{◌≡◌, ◌≢◌, ℕ, ◌^◌, ◌<◌, ◌≤◌, ◌↔◌, ◌⊎◌, [], IfOk, IsTrue, Option, Some, vec_capacity};
 ghost use Rattle.std.specs.List.{All, Contains};
 ghost use Rattle.std.specs.List.Sorted.{IsStrictlyIncreasing};
 ghost use Rattle.sbpl_graph.specs.Fit.{FitCount};
-ghost use Rattle.sbpl_labels.specs.Marks.{Marks, states_of, g_of, v_of};
+ghost use Rattle.sbpl_labels.specs.Marks.{Marks, states_of, g_of, v_of, back_of};
 ghost use Rattle.sbpl_search.specs.Ready.{AreReady, AreUsable, IsStartFresh};
 ghost use Rattle.sbpl_serial.specs.Raised.{IsReturned};
 ghost use Rattle.sbpl_serial.specs.Run.{IsOver, IsUnder, RaisesState};
-ghost use Rattle.sbpl_adstar.specs.Raised.{AddsUnder, AreListed, IsRaisedBy};
+ghost use Rattle.sbpl_adstar.specs.Listed.{AddsUnder, AreListed};
+ghost use Rattle.sbpl_adstar.specs.Raised.{IsRaisedBy};
 
 use sbpl_fixed::NoMemory;
 use sbpl_graph::Graph;
 use sbpl_labels::Labels;
-use sbpl_serial::{raising_goes_arc_by_arc, recompute_head};
+use sbpl_serial::raising_goes_arc_by_arc;
 use std::alloc::Global;
 use std::marker::Model;
 
@@ -166,12 +167,23 @@ fn recompute_listed<G: Graph>(list: &mut Vec<u32>, graph: &G, labels: &mut Label
 {
     let _states = graph.states();
     let _before = labels.start();
-    if let Some(t) = graph.head(s, k) {
-        let was_under = is_under(labels, t);
-        recompute_head(labels, graph, s, k);
-        let _after = labels.start();
-        if !was_under && is_under(labels, t) {
-            list.push_reserved(t);
-        }
+    let Some(t) = graph.head(s, k) else { return };
+    // Most heads do not hang on the arc, so that costs one read.
+    if !hangs_on(labels, t, s, k) {
+        return;
     }
+    let was_under = is_under(labels, t);
+    labels.recompute(graph, t);
+    let _after = labels.start();
+    if !was_under && is_under(labels, t) {
+        list.push_reserved(t);
+    }
+}
+
+/// Whether arc `k` of `s` is the back arc of `t`.
+fn hangs_on(labels: &Labels, t: u32, s: u32, k: u32) -> bool
+    requires state { t < states_of labels.now }
+    ensures back { IsTrue result ↔ (back_of labels.now t ≡ Some (s, k)) }
+{
+    labels.back(t) == Some((s, k))
 }

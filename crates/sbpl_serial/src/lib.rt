@@ -18,7 +18,6 @@ pub use closed::Closed;
 pub use facts::{exact_where_same, raising_goes_arc_by_arc, run_is_determined};
 pub use parts::Parts;
 pub use queue::requeue;
-pub use raise::recompute_head;
 pub use repair::repair_labels;
 pub use serial::Serial;
 pub use step::Step;

@@ -51,8 +51,8 @@ pub(crate) fn raise<G: Graph, H: Guide>(
     let _raised = labels.start();
 }
 
-/// Recomputes the head of arc `k` of `s` where this arc is its back arc, and answers it. It takes no memory.
-pub fn recompute_head<G: Graph>(labels: &mut Labels, graph: &G, s: u32, k: u32) -> Option<u32>
+/// Recomputes the head of arc `k` of `s` where this arc is its back arc, and answers it.
+fn recompute_head<G: Graph>(labels: &mut Labels, graph: &G, s: u32, k: u32) -> Option<u32>
     requires states { states_of labels.old ≡ (G.network graph.now).states }
     requires state { s < states_of labels.old }
     requires number { k < (G.network graph.now).fan s }

@@ -1,4 +1,4 @@
-use Rattle.std.proofs.Common.{◌≡◌, ◌∷◌, [], length, slice_index, arith, refl}
+use Rattle.std.proofs.Common.{◌≡◌, ◌+◌, ◌∷◌, [], length, slice_index, arith, refl}
 use Rattle.std.proofs.lemmas.Bool.{false≢true}
 use Rattle.std.proofs.lemmas.List.{length-append}
 use Rattle.sbpl_serial.specs.Run.{IsUnder}
@@ -10,7 +10,7 @@ pub push_reserved-requires : goal.push_reserved-requires
 push_reserved-requires c =
     let here = c.loop-s.invariant.0 in
     let under : IsUnder c.args.labels.now (slice_index c.args.states.now c.loop-s.s-index) = (c.if-is_under.ensures).under.0 refl in
-    let few = room_for (listing_more c.loop-s.s-index here c.requires.upwards c.loop-s-test.true under) (omega (arith, c.loop-s-test.true)) c.requires.inside in
+    let few = room_for (c.loop-s.s-index + 1) (listing_more c.loop-s.s-index here c.requires.upwards c.loop-s-test.true under) (omega (arith, c.loop-s-test.true)) c.requires.inside in
     omega (arith, few, c.loop-s.list.ok.0, c.loop-s.invariant.1, c.requires.room, length-append c.loop-s.list.items (slice_index c.args.states.now c.loop-s.s-index ∷ []))
 
 pub loop-s-preserved : goal.loop-s-preserved

@@ -2,7 +2,7 @@ use Rattle.std.proofs.Common.{◌≡◌, ◌≢◌, ℕ, ◌≤◌, vec_capacity
 use Rattle.sbpl_labels.specs.Marks.{g_of}
 use Rattle.sbpl_serial.specs.Raised.{IsRaising}
 use Rattle.sbpl_serial.specs.Run.{IsUnder}
-use Rattle.sbpl_adstar.specs.Raised.{AddsUnder, AreListed}
+use Rattle.sbpl_adstar.specs.Listed.{AddsUnder, AreListed}
 use Rattle.sbpl_adstar.proofs.raiser.raise.Given as goal
 
 abbrev pub invariant-loop-k : goal.invariant-loop-k
