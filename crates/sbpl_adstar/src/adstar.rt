@@ -43,6 +43,18 @@ impl AdStar {
         AdStar { serial }
     }
 
+    /// Sets the goal of the passes to come: a state, by its number. It is for a robot that moves while the search goes backwards
+    /// from where the robot is to be: the search's goal is then the state of the robot. All else stays: the labels, what the last
+    /// pass did, and which states are open. So the next pass goes on from these labels. It may have another guide, one to the new
+    /// goal, and gives each open state a new key; `low` is right for the new goal at once. Whether the back arcs lead from the new
+    /// goal to the start is known only after a pass.
+    pub fn aim(&mut self, goal: u32)
+        requires goal { goal < states_of self.old.labels }
+        ensures aimed { self.new ≡ record self.old { goal = goal } }
+    {
+        self.serial.aim(goal);
+    }
+
     /// Repairs the labels after a change of the graph: each touched state is recomputed on the graph as it now is, and every v
     /// stays. The condition is that every other state, but the start, has on this graph the g and the back arc, or none, that
     /// exact labels ask for. A state may be touched twice. No other state is looked at.
@@ -93,7 +105,8 @@ impl AdStar {
     }
 
     /// The lower bound that the labels give: the least of g of the goal and of g + h over all states whose g and v differ, with
-    /// h by this guide. It looks only where such states may be: in the queue and among the expansions of the last pass.
+    /// h by this guide, which may be another than that of the last pass. It looks only where such states may be: in the queue and
+    /// among the expansions of the last pass.
     pub fn low<H: Guide>(&self, guide: &H) -> u64
         requires known { (s : ℕ) → s < states_of self.now.labels → H.knows guide.now s }
         ensures least { IsLow (states_of self.now.labels) self.now.goal (g_of self.now.labels)

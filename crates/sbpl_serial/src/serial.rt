@@ -100,6 +100,18 @@ impl Serial {
         self.queue.put(self.labels.start(), Key(0, 0));
     }
 
+    /// Sets the goal of the passes to come: a state, by its number. All else stays: the labels, the trace of the last pass, and
+    /// the queue, in which each state whose g and v differ is, unless that pass expanded it. So the next pass goes on from these
+    /// labels. It may have another guide, one to the new goal, since a pass gives each open state a new key when it begins; `low` is
+    /// right for the new goal at once. Whether the back arcs lead from the new goal to the start is known only after a pass. It takes
+    /// no memory.
+    pub fn aim(&mut self, goal: u32)
+        requires goal { goal < states_of self.old.labels }
+        ensures aimed { self.new ≡ record self.old { goal = goal } }
+    {
+        self.goal = goal;
+    }
+
     /// The parts of the search, without memory. Each open state is in the queue, the steps have room for three steps a state, and
     /// just those states are closed that the steps have closed.
     pub fn into_parts(self) -> Parts
@@ -214,7 +226,8 @@ impl Serial {
     }
 
     /// The low of the labels: the least of g of the goal and of g + h over all states whose g and v differ, with h by this
-    /// guide. It looks only where such states may be: in the queue and among the expansions of the last pass.
+    /// guide, which may be another than that of the last pass. It looks only where such states may be: in the queue and among the
+    /// expansions of the last pass.
     pub fn low<H: Guide>(&self, guide: &H) -> u64
         requires known { (s : ℕ) → s < states_of self.now.labels → H.knows guide.now s }
         ensures least { IsLow (states_of self.now.labels) self.now.goal (g_of self.now.labels)
