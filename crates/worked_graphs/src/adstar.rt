@@ -1,16 +1,19 @@
-//! Repairs on a way of three states.
+//! Repairs on a way of three states, and a goal that changes.
 
-ghost use Rattle.std.specs.Prelude.{◌≡◌, ◌^◌};
+ghost use Rattle.std.specs.Prelude.{◌≡◌, ◌≤◌, ◌^◌, vec_capacity};
 ghost use Rattle.sbpl_graph.specs.Fit.{FitCount};
 ghost use Rattle.sbpl_graph.specs.Kept.{NoneUnder};
 ghost use Rattle.sbpl_labels.specs.Marks.{states_of, g_of, v_of};
+ghost use Rattle.sbpl_search.specs.Ready.{AreUsable};
+ghost use Rattle.worked_graphs.specs.Sample.{height, sample};
 
+use crate::ara::{Table, detour};
 use crate::listed::Listed;
 use sbpl_adstar::{AdStar, Raiser, change_labels};
 use sbpl_ara::Ara;
 use sbpl_fixed::NoMemory;
 use sbpl_graph::{FAR, Zero};
-use sbpl_labels::{Budget, Labels, PassEnd};
+use sbpl_labels::{Budget, Labels, PassEnd, Walk};
 use sbpl_serial::Parts;
 use std::alloc::Global;
 use std::process::Abort;
@@ -141,5 +144,74 @@ fn states_are_raised(rt: HostRuntime) -> Result<(), Fail> {
     drop(steps);
     drop(queue);
     assert_eq!(rt; raised?, (true, FAR));
+    Ok(())
+}
+
+/// A pass to state 5 by the guide to it, after which state 3 is the goal.
+fn aim_after_a_pass(graph: &Table, search: &mut AdStar, budget: &mut Budget)
+    requires goal { search.old.goal ≡ 5 }
+    requires guide { height graph.now.heights 5 ≡ 0 }
+    requires states { states_of search.old.labels ≡ 6 }
+    requires usable { AreUsable (sample graph.now.arcs graph.now.heights) search.old.labels budget.old.run }
+    ensures goal { search.new.goal ≡ 3 }
+    ensures states { states_of search.new.labels ≡ 6 }
+    ensures usable { AreUsable (sample graph.now.arcs graph.now.heights) search.new.labels budget.new.run }
+{
+    let _end = search.pass(graph, graph, 3000, budget);
+    search.aim(3);
+}
+
+/// Makes a pass to state 3 without a guide, and compares what it takes; then the best way is known.
+fn compare_way(
+    rt: &impl Abort,
+    graph: &Table,
+    search: &mut AdStar,
+    budget: &mut Budget,
+    steps: &[(u32, bool)],
+    arcs: &mut Vec<u32>,
+)
+    requires goal { search.old.goal ≡ 3 }
+    requires states { states_of search.old.labels ≡ 6 }
+    requires usable { AreUsable (sample graph.now.arcs graph.now.heights) search.old.labels budget.old.run }
+    requires room { 6 ≤ vec_capacity arcs.old }
+    ensures room { vec_capacity arcs.new ≡ vec_capacity arcs.old }
+{
+    assert_eq!(rt; search.pass(graph, &Zero, 1000, budget), PassEnd::Rest);
+    assert!(rt; took(search, steps));
+    arcs.clear();
+    let walk = search.labels().walk(graph, 3, arcs);
+    let over_state_1 = arcs.as_slice() == [0, 0].as_slice();
+    assert_eq!(rt; (walk, over_state_1), (Walk::Path(2), true));
+}
+
+/// With another goal a search goes on from its labels, and finds the way that a search from initial labels finds.
+#[test]
+fn aimed_at_another_goal(rt: HostRuntime) -> Result<(), Fail> {
+    let graph = detour();
+    let mut budget = Budget::new(10);
+    let mut arcs = Vec::with_capacity(rt.alloc(), 6)?;
+    let mut search = AdStar::from(Ara::open(rt.alloc(), 6, 0, 5)?);
+    aim_after_a_pass(&graph, &mut search, &mut budget);
+    let steps = [(1, false)];
+    compare_way(
+        &rt,
+        &graph,
+        &mut search,
+        &mut budget,
+        steps.as_slice(),
+        &mut arcs,
+    );
+    drop(search);
+    let mut fresh = AdStar::from(Ara::open(rt.alloc(), 6, 0, 3)?);
+    let steps = [(0, false), (1, false)];
+    compare_way(
+        &rt,
+        &graph,
+        &mut fresh,
+        &mut budget,
+        steps.as_slice(),
+        &mut arcs,
+    );
+    drop(fresh);
     Ok(())
 }

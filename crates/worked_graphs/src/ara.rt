@@ -18,7 +18,7 @@ use std::test::Fail;
 
 /// Two arcs from each state, as head and cost, and how far each state is from the goal at least.
 #[derive(Drop)]
-struct Table {
+pub(crate) struct Table {
     arcs: [(u32, u32); 12],
     heights: [u32; 6],
 }
@@ -97,7 +97,7 @@ impl Guide for Table {
 }
 
 /// A way over states 1 and 3 that costs 7, and one over 2 and 4 that costs 10 but looks better.
-fn detour() -> Table
+pub(crate) fn detour() -> Table
     ensures goal { height result.heights 5 ≡ 0 }
 {
     Table {
