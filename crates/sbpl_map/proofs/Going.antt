@@ -1,45 +1,49 @@
 -- One more line is read.
-use Rattle.std.proofs.Common.{◌≡◌, ℕ, ◌+◌, ◌≤◌, List, [], ◌∷◌, length, Result, Ok, Err, sym, ap, arith}
+use Rattle.std.proofs.Common.{◌≡◌, ℕ, ◌+◌, ◌≤◌, List, [], ◌∷◌, length, Option, Result, Ok, Err, sym, ap, arith}
 use Rattle.std.specs.Str.Lines.{lines}
 use Rattle.std.proofs.lemmas.List.{length_push}
-use Rattle.sbpl_fixed.specs.Formats.{Answers}
 use Rattle.sbpl_map.specs.CellMap.{CellMap}
+use Rattle.sbpl_map.specs.ChangeText.{Given}
 use Rattle.sbpl_map.specs.Fields.{fields}
 use Rattle.sbpl_map.specs.Reading.{judged, Drafted, drafted, closed, then_on, reads_on}
-use Rattle.sbpl_map.specs.declared.write.Write.{Write}
 use Rattle.sbpl_map.specs.declared.said.Said.{Said}
-use Rattle.sbpl_map.specs.declared.said.Said.TheVariants.{Nothing, Cell, Replan}
+use Rattle.sbpl_map.specs.declared.said.Said.TheVariants.{Nothing, Cell, Start, Replan}
 use Rattle.sbpl_map.specs.declared.fault.ChangeFault.{ChangeFault}
-use Rattle.sbpl_map.specs.declared.fault.ChangeFault.TheVariants.{NoMemory}
-
-pub answered : (r read : Result (List (List Write)) ChangeFault) → r ≡ read → Answers NoMemory (λ c. c) r read
-answered (Ok x) read e = sym e
-answered (Err f) read e = λ _. sym e
 
 -- what all lines give, by what the first of those that are left gives
-first_read : (m : CellMap) (at : ℕ) (rest line after : List ℕ) (d : Drafted) (all : Result (List (List Write)) ChangeFault)
-    → reads_on m at (lines rest) d ≡ all → lines rest ≡ line ∷ lines after → then_on (judged m at (fields line)) (λ s. reads_on m (at + 1) (lines after) (drafted d at s)) ≡ all
+first_read : (m : CellMap) (headings : Option ℕ) (at : ℕ) (rest line after : List ℕ) (d : Drafted)
+    (all : Result (List (List Given)) ChangeFault)
+    → reads_on m headings at (lines rest) d ≡ all → lines rest ≡ line ∷ lines after
+    → then_on (judged m headings at (fields line)) (λ s. reads_on m headings (at + 1) (lines after) (drafted d at s))
+    ≡ all
 unfolding reads_on
-first_read m at rest line after d all h e = rw e at h
+first_read m headings at rest line after d all h e = rw e at h
 
-pub goes_on : (m : CellMap) (at : ℕ) (rest line after : List ℕ) (d new : Drafted) (s : Said) (all : Result (List (List Write)) ChangeFault)
-    → reads_on m at (lines rest) d ≡ all → lines rest ≡ line ∷ lines after → judged m at (fields line) ≡ Ok s → new ≡ drafted d at s → reads_on m (at + 1) (lines after) new ≡ all
-goes_on m at rest line after d new s all h e j n =
-    let there = rw j at (first_read m at rest line after d all h e) in
+pub goes_on : (m : CellMap) (headings : Option ℕ) (at : ℕ) (rest line after : List ℕ) (d new : Drafted) (s : Said)
+    (all : Result (List (List Given)) ChangeFault)
+    → reads_on m headings at (lines rest) d ≡ all → lines rest ≡ line ∷ lines after
+    → judged m headings at (fields line) ≡ Ok s → new ≡ drafted d at s
+    → reads_on m headings (at + 1) (lines after) new ≡ all
+goes_on m headings at rest line after d new s all h e j n =
+    let there = rw j at (first_read m headings at rest line after d all h e) in
     rw n there
 
-pub stops : (m : CellMap) (at : ℕ) (rest line after : List ℕ) (d : Drafted) (f : ChangeFault) (all : Result (List (List Write)) ChangeFault)
-    → reads_on m at (lines rest) d ≡ all → lines rest ≡ line ∷ lines after → judged m at (fields line) ≡ Err f → all ≡ Err f
-stops m at rest line after d f all h e j = sym (rw j at (first_read m at rest line after d all h e))
+pub stops : (m : CellMap) (headings : Option ℕ) (at : ℕ) (rest line after : List ℕ) (d : Drafted) (f : ChangeFault)
+    (all : Result (List (List Given)) ChangeFault)
+    → reads_on m headings at (lines rest) d ≡ all → lines rest ≡ line ∷ lines after
+    → judged m headings at (fields line) ≡ Err f → all ≡ Err f
+stops m headings at rest line after d f all h e j = sym (rw j at (first_read m headings at rest line after d all h e))
 
-pub ends : (m : CellMap) (at : ℕ) (rest : List ℕ) (d : Drafted) (all : Result (List (List Write)) ChangeFault)
-    → reads_on m at (lines rest) d ≡ all → length rest ≡ 0 → all ≡ closed d
+pub ends : (m : CellMap) (headings : Option ℕ) (at : ℕ) (rest : List ℕ) (d : Drafted)
+    (all : Result (List (List Given)) ChangeFault)
+    → reads_on m headings at (lines rest) d ≡ all → length rest ≡ 0 → all ≡ closed d
 unfolding reads_on
-ends m at [] d all h none = sym h
-ends m at (b ∷ bs) d all h none = absurd (omega arith)
+ends m headings at [] d all h none = sym h
+ends m headings at (b ∷ bs) d all h none = absurd (omega arith)
 
 -- a line ends one batch at most
 pub grows : (d new : Drafted) (at : ℕ) (s : Said) → new ≡ drafted d at s → length new.done ≤ length d.done + 1
 grows d new at Nothing e = omega (arith, ap (λ (x : Drafted). length x.done) e)
 grows d new at (Cell w) e = omega (arith, ap (λ (x : Drafted). length x.done) e)
+grows d new at (Start p) e = omega (arith, ap (λ (x : Drafted). length x.done) e)
 grows d new at Replan e = omega (arith, ap (λ (x : Drafted). length x.done) e, length_push d.done d.batch)

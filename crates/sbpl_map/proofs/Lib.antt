@@ -1,7 +1,9 @@
 pub mod Cells
 mod Lines
 mod Going
+mod Kept
 mod LineLaws
 mod MapLaws
 mod PrintedText
 mod TextLaws
+mod Texts

@@ -1,47 +1,49 @@
--- What is judged of a line is what it says, or its fault.
+-- What is judged of a line is what it tells, or its fault.
 use Rattle.std.proofs.Common.{◌≡◌, ℕ, ℤ, pos, negsuc, ◌||◌, ◌&&◌, true, false, nat_lt, List, [], ◌∷◌, codes, Option, Some, None, Result, Ok, Err, refl, sym, ap, ◌∙◌, inl, inr, arith}
-use Rattle.std.specs.Prelude.{◌≢◌, ◌<ℤ◌, ◌⊎◌, bytes_eq, nat_le}
-use Rattle.std.proofs.lemmas.Bool.{cases_Bool, false≢true, or_cases, or_parts, or_from, or_left, or_right, and_parts, and_from, leb-true, leb-false, le-leb, lt-leb, ltb-true, lt-ltb, false_from_ne_true}
+use Rattle.std.specs.Prelude.{◌≢◌, ◌<ℤ◌, ◌≤ℤ◌, ◌⊎◌, bytes_eq}
+use Rattle.std.proofs.lemmas.Bool.{cases_Bool, false≢true, or_cases, or_parts, or_from, or_left, or_right, and_parts, and_from, ltb-true, ltb-false, le-ltb, lt-ltb, false_from_ne_true}
 use Rattle.std.proofs.lemmas.Int.{ints}
 use Rattle.std.proofs.lemmas.Slice.Eq.{bytes_eq-Decides}
 use Rattle.sbpl_fixed.specs.Numbers.{whole_of}
 use Rattle.sbpl_fixed.specs.declared.fault.NumFault.{NumFault}
 use Rattle.sbpl_fixed.specs.declared.fault.NumFault.TheVariants.{Form, Size}
 use Rattle.sbpl_map.specs.CellMap.{CellMap}
-use Rattle.sbpl_map.specs.ChangeText.{cell_line, IsNumberUpTo, GiveWrite, IsWriteOnMap, LineSays}
+use Rattle.sbpl_map.specs.ChangeText.{cell_line, start_line, HasThree, IsNoStart, IsNumberBelow, Give, IsCellOnMap, LineTells}
 use Rattle.sbpl_map.specs.LineFaults.{IsOther, IsNoNumber, IsOutside, HaveNoNumber, AreOutside, AreOffMap, HasLineFault}
-use Rattle.sbpl_map.specs.Reading.{lacks_form, in_range, write_on_map, measured, cell_said, three, written, ended, judged}
-use Rattle.sbpl_map.specs.declared.write.Write.{Write}
+use Rattle.sbpl_map.specs.Reading.{Three, lacks_form, in_range, on_map, measured, numbers, cell_said, start_said, started, three, ended, judged}
 use Rattle.sbpl_map.specs.declared.said.Said.{Said}
-use Rattle.sbpl_map.specs.declared.said.Said.TheVariants.{Nothing, Cell, Replan}
+use Rattle.sbpl_map.specs.declared.said.Said.TheVariants.{Nothing, Cell, Start, Replan}
 use Rattle.sbpl_map.specs.declared.fault.ChangeFault.{ChangeFault}
 use Rattle.sbpl_map.specs.declared.fault.ChangeFault.TheVariants.{Word, Number, Range, OffMap, NoReplan, NoMemory}
 
 -- what was judged is true of the line
-abbrev pub Verdict : CellMap → ℕ → List (List ℕ) → Result Said ChangeFault → Type 0
-Verdict m at line (Ok s) = LineSays m line s
-Verdict m at line (Err f) = HasLineFault m at line f
+abbrev pub Verdict : CellMap → Option ℕ → ℕ → List (List ℕ) → Result Said ChangeFault → Type 0
+Verdict m headings at line (Ok s) = LineTells m headings line s
+Verdict m headings at line (Err f) = HasLineFault m headings at line f
 
 -- ---- a number
 
-gives_of : (high : ℕ) (field : List ℕ) (n : ℕ) (r : Result ℤ NumFault) → whole_of field ≡ r → in_range high r ≡ Some n → IsNumberUpTo high field n
-gives_of high field n (Ok (pos k)) e h =
-    elim (cases_Bool (nat_le k high)) [
-      | inl b ↦ let same : Some k ≡ Some n = rw b at h in let one : k ≡ n = grind arith in (e ∙ ap (λ i. Ok (pos i)) one, omega (arith, leb-true k high b))
+gives_of : (limit : ℕ) (field : List ℕ) (n : ℕ) (r : Result ℤ NumFault) → whole_of field ≡ r
+    → in_range limit r ≡ Some n → IsNumberBelow limit field n
+gives_of limit field n (Ok (pos k)) e h =
+    elim (cases_Bool (nat_lt k limit)) [
+      | inl b ↦ let same : Some k ≡ Some n = rw b at h in let one : k ≡ n = grind arith in
+          (e ∙ ap (λ i. Ok (pos i)) one, omega (arith, ltb-true k limit b))
       | inr b ↦ absurd (let none : None ≡ Some n = rw b at h in grind arith)
     ]
-gives_of high field n (Ok (negsuc k)) e h = absurd (grind arith)
-gives_of high field n (Err f) e h = absurd (grind arith)
+gives_of limit field n (Ok (negsuc k)) e h = absurd (grind arith)
+gives_of limit field n (Err f) e h = absurd (grind arith)
 
-outside_of : (high : ℕ) (field : List ℕ) (r : Result ℤ NumFault) → whole_of field ≡ r → in_range high r ≡ None → lacks_form r ≡ false → IsOutside high field
-outside_of high field (Ok (pos k)) e h l =
-    elim (cases_Bool (nat_le k high)) [
+outside_of : (limit : ℕ) (field : List ℕ) (r : Result ℤ NumFault) → whole_of field ≡ r → in_range limit r ≡ None
+    → lacks_form r ≡ false → IsOutside limit field
+outside_of limit field (Ok (pos k)) e h l =
+    elim (cases_Bool (nat_lt k limit)) [
       | inl b ↦ absurd (let none : Some k ≡ None = rw b at h in grind arith)
-      | inr b ↦ inr (pos k, e, inr (let above = leb-false k high b in omega (arith, ints)))
+      | inr b ↦ inr (pos k, e, inr (let above = ltb-false k limit b in omega (arith, ints)))
     ]
-outside_of high field (Ok (negsuc k)) e h l = inr (negsuc k, e, inl (omega (arith, ints)))
-outside_of high field (Err Form) e h l = absurd (false≢true (sym l))
-outside_of high field (Err Size) e h l = inl e
+outside_of limit field (Ok (negsuc k)) e h l = inr (negsuc k, e, inl (omega (arith, ints)))
+outside_of limit field (Err Form) e h l = absurd (false≢true (sym l))
+outside_of limit field (Err Size) e h l = inl e
 
 no_number_of : (field : List ℕ) (r : Result ℤ NumFault) → whole_of field ≡ r → lacks_form r ≡ true → IsNoNumber field
 no_number_of field (Ok n) e l = absurd (false≢true l)
@@ -53,206 +55,402 @@ number_of field l e = absurd (let bad : true ≡ false = rw e at l in false≢tr
 
 -- ---- three numbers
 
-record Ranges (x y c : List ℕ) (ox oy oc : Option ℕ) : Type 0 where
-  column : in_range 8388607 (whole_of x) ≡ ox
-  row : in_range 8388607 (whole_of y) ≡ oy
-  cost : in_range 255 (whole_of c) ≡ oc
+record Ranges (limit : ℕ) (x y z : List ℕ) (ox oy oz : Option ℕ) : Type 0 where
+  column : in_range 8388608 (whole_of x) ≡ ox
+  row : in_range 8388608 (whole_of y) ≡ oy
+  third : in_range limit (whole_of z) ≡ oz
 
-record Forms (x y c : List ℕ) : Type 0 where
+record Forms (x y z : List ℕ) : Type 0 where
   column : lacks_form (whole_of x) ≡ false
   row : lacks_form (whole_of y) ≡ false
-  cost : lacks_form (whole_of c) ≡ false
+  third : lacks_form (whole_of z) ≡ false
 
-numbers : (x y c : List ℕ) → Forms x y c → HaveNoNumber x y c → ⊥
-numbers x y c f h = elim h [
+no_forms : (x y z : List ℕ) → Forms x y z → HaveNoNumber x y z → ⊥
+no_forms x y z f h = elim h [
   | inl a ↦ number_of x f.column a
-  | inr b ↦ elim b [ inl a ↦ number_of y f.row a | inr a ↦ number_of c f.cost a ]
+  | inr b ↦ elim b [ inl a ↦ number_of y f.row a | inr a ↦ number_of z f.third a ]
 ]
 
-on_map_verdict : (m : CellMap) (at : ℕ) (x y c : List ℕ) (ox oy oc : Option ℕ) → Forms x y c → Ranges x y c ox oy oc → Verdict m at (cell_line x y c) (cell_said (write_on_map m at ox oy oc))
-on_map_verdict m at x y c None oy oc f r = (refl, (x, y, c, refl, record { numbers = numbers x y c f; outside = inl (outside_of 8388607 x _ refl r.column f.column) }))
-on_map_verdict m at x y c (Some a) None oc f r = (refl, (x, y, c, refl, record { numbers = numbers x y c f; outside = inr (inl (outside_of 8388607 y _ refl r.row f.row)) }))
-on_map_verdict m at x y c (Some a) (Some b) None f r = (refl, (x, y, c, refl, record { numbers = numbers x y c f; outside = inr (inr (outside_of 255 c _ refl r.cost f.cost)) }))
-on_map_verdict m at x y c (Some a) (Some b) (Some k) f r =
-    let w : Write = record { x = a; y = b; cost = k } in
-    let gives : GiveWrite x y c w = record { column = gives_of 8388607 x a _ refl r.column; row = gives_of 8388607 y b _ refl r.row; cost = gives_of 255 c k _ refl r.cost } in
+-- what was measured is true of the three fields
+abbrev ThreeVerdict : CellMap → ℕ → (limit : ℕ) → List ℕ → List ℕ → List ℕ → Result Three ChangeFault → Type 0
+ThreeVerdict m at limit x y z (Ok n) = Give limit x y z n.0 n.1 n.2 × IsCellOnMap m n.0 n.1
+ThreeVerdict m at limit x y z (Err (Word k)) = ⊥
+ThreeVerdict m at limit x y z (Err (Number k)) = (k ≡ at) × HaveNoNumber x y z
+ThreeVerdict m at limit x y z (Err (Range k)) = (k ≡ at) × AreOutside limit x y z
+ThreeVerdict m at limit x y z (Err (OffMap k)) = (k ≡ at) × AreOffMap m limit x y z
+ThreeVerdict m at limit x y z (Err (NoReplan k)) = ⊥
+ThreeVerdict m at limit x y z (Err NoMemory) = ⊥
+
+tests_of : (m : CellMap) (a b : ℕ) → IsCellOnMap m a b → (nat_lt a m.width && nat_lt b m.height) ≡ true
+tests_of m a b on =
+    and_from (nat_lt a m.width) (nat_lt b m.height) (lt-ltb a m.width on.x) (lt-ltb b m.height on.y)
+
+cell_of_tests : (m : CellMap) (a b : ℕ) → (nat_lt a m.width && nat_lt b m.height) ≡ true → IsCellOnMap m a b
+cell_of_tests m a b e =
+    let both = and_parts (nat_lt a m.width) (nat_lt b m.height) e in
+    record { x = ltb-true a m.width both.0; y = ltb-true b m.height both.1 }
+
+on_map_verdict : (m : CellMap) (at limit : ℕ) (x y z : List ℕ) (ox oy oz : Option ℕ) → Forms x y z
+    → Ranges limit x y z ox oy oz → ThreeVerdict m at limit x y z (on_map m at ox oy oz)
+on_map_verdict m at limit x y z None oy oz f r =
+    (refl, record { numbers = no_forms x y z f; outside = inl (outside_of 8388608 x _ refl r.column f.column) })
+on_map_verdict m at limit x y z (Some a) None oz f r =
+    (refl, record { numbers = no_forms x y z f; outside = inr (inl (outside_of 8388608 y _ refl r.row f.row)) })
+on_map_verdict m at limit x y z (Some a) (Some b) None f r =
+    (refl, record { numbers = no_forms x y z f; outside = inr (inr (outside_of limit z _ refl r.third f.third)) })
+on_map_verdict m at limit x y z (Some a) (Some b) (Some k) f r =
+    let gives : Give limit x y z a b k = record {
+      x_is = gives_of 8388608 x a _ refl r.column;
+      y_is = gives_of 8388608 y b _ refl r.row;
+      z_is = gives_of limit z k _ refl r.third;
+    } in
     elim (cases_Bool (nat_lt a m.width && nat_lt b m.height)) [
-      | inl e ↦ let both = and_parts (nat_lt a m.width) (nat_lt b m.height) e in
-          rw e (x, y, c, refl, gives, record { x = ltb-true a m.width both.0; y = ltb-true b m.height both.1 })
-      | inr e ↦ rw e (refl, (x, y, c, refl, (w, gives, λ on. false≢true (sym e ∙ and_from (nat_lt a m.width) (nat_lt b m.height) (lt-ltb a m.width on.x) (lt-ltb b m.height on.y)))))
+      | inl e ↦ rw e (gives, cell_of_tests m a b e)
+      | inr e ↦ let off = λ (on : IsCellOnMap m a b). false≢true (sym e ∙ tests_of m a b on) in
+          rw e (refl, (a, b, k, gives, off))
     ]
 
-measured_verdict : (m : CellMap) (at : ℕ) (x y c : List ℕ) → Verdict m at (cell_line x y c) (cell_said (measured m at (whole_of x) (whole_of y) (whole_of c)))
-measured_verdict m at x y c =
+measured_verdict : (m : CellMap) (at limit : ℕ) (x y z : List ℕ)
+    → ThreeVerdict m at limit x y z (measured m at limit (whole_of x) (whole_of y) (whole_of z))
+measured_verdict m at limit x y z =
     let lx = lacks_form (whole_of x) in
     let ly = lacks_form (whole_of y) in
-    let lc = lacks_form (whole_of c) in
-    elim (cases_Bool (lx || (ly || lc))) [
+    let lz = lacks_form (whole_of z) in
+    elim (cases_Bool (lx || (ly || lz))) [
       | inl e ↦ rw e (
         refl,
-        (
-          x,
-          y,
-          c,
-          refl,
-          elim (or_cases lx (ly || lc) e) [
-            | inl a ↦ inl (no_number_of x _ refl a)
-            | inr b ↦ inr (elim (or_cases ly lc b) [ inl a ↦ inl (no_number_of y _ refl a) | inr a ↦ inr (no_number_of c _ refl a) ])
-          ],
-        ),
+        elim (or_cases lx (ly || lz) e) [
+          | inl a ↦ inl (no_number_of x _ refl a)
+          | inr b ↦ inr (elim (or_cases ly lz b) [
+            | inl a ↦ inl (no_number_of y _ refl a)
+            | inr a ↦ inr (no_number_of z _ refl a)
+          ])
+        ],
       )
-      | inr e ↦ let one = or_parts lx (ly || lc) e in let two = or_parts ly lc one.1 in
-          rw e (on_map_verdict m at x y c _ _ _ (record { column = one.0; row = two.0; cost = two.1 }) (record { column = refl; row = refl; cost = refl }))
+      | inr e ↦ let one = or_parts lx (ly || lz) e in let two = or_parts ly lz one.1 in
+          let forms : Forms x y z = record { column = one.0; row = two.0; third = two.1 } in
+          rw e (on_map_verdict m at limit x y z _ _ _ forms (record { column = refl; row = refl; third = refl }))
     ]
+
+-- ---- lines of three fields
+
+cell_told : (m : CellMap) (headings : Option ℕ) (at : ℕ) (line : List (List ℕ)) (x y z : List ℕ)
+    (r : Result Three ChangeFault)
+    → line ≡ cell_line x y z → ThreeVerdict m at 256 x y z r → Verdict m headings at line (cell_said r)
+cell_told m headings at line x y z (Ok n) e v = (x, y, z, e, v.0, v.1)
+cell_told m headings at line x y z (Err (Word k)) e v = absurd v
+cell_told m headings at line x y z (Err (Number k)) e v = (v.0, (256, x, y, z, inl (e, refl), v.1))
+cell_told m headings at line x y z (Err (Range k)) e v = (v.0, (256, x, y, z, inl (e, refl), v.1))
+cell_told m headings at line x y z (Err (OffMap k)) e v = (v.0, (256, x, y, z, inl (e, refl), v.1))
+cell_told m headings at line x y z (Err (NoReplan k)) e v = absurd v
+cell_told m headings at line x y z (Err NoMemory) e v = absurd v
+
+start_told : (m : CellMap) (limit at : ℕ) (line : List (List ℕ)) (x y z : List ℕ) (r : Result Three ChangeFault)
+    → line ≡ start_line x y z → ThreeVerdict m at limit x y z r → Verdict m (Some limit) at line (start_said r)
+start_told m limit at line x y z (Ok n) e v = (x, y, z, e, (limit, refl, v.0), v.1)
+start_told m limit at line x y z (Err (Word k)) e v = absurd v
+start_told m limit at line x y z (Err (Number k)) e v = (v.0, (limit, x, y, z, inr (e, refl), v.1))
+start_told m limit at line x y z (Err (Range k)) e v = (v.0, (limit, x, y, z, inr (e, refl), v.1))
+start_told m limit at line x y z (Err (OffMap k)) e v = (v.0, (limit, x, y, z, inr (e, refl), v.1))
+start_told m limit at line x y z (Err (NoReplan k)) e v = absurd v
+start_told m limit at line x y z (Err NoMemory) e v = absurd v
 
 -- ---- lines
 
+abbrev HasNotThree : List (List ℕ) → Type 0
+HasNotThree more = (x y z : List ℕ) → more ≢ x ∷ y ∷ z ∷ []
+
+cell≢start : codes "cell" ≢ codes "start"
+cell≢start h = cc
+
+cell≢replan : codes "cell" ≢ codes "replan"
+cell≢replan h = cc
+
+start≢replan : codes "start" ≢ codes "replan"
+start≢replan h = cc
+
 -- another number of fields
-other_count : (word : List ℕ) (more : List (List ℕ)) → word ≡ codes "cell" → ((x y c : List ℕ) → more ≢ x ∷ y ∷ c ∷ []) → IsOther (word ∷ more)
-other_count word more e n = record {
+other_cell : (headings : Option ℕ) (word : List ℕ) (more : List (List ℕ)) → word ≡ codes "cell" → HasNotThree more
+    → IsOther headings (word ∷ more)
+other_cell headings word more e n = record {
   some = λ h. cc;
-  no_replan = λ h. (let other : word ≡ codes "replan" = cc in let same : codes "cell" ≡ codes "replan" = sym e ∙ other in cc);
-  no_cell = λ x y c h. n x y c cc;
+  no_replan = λ h. (let other : word ≡ codes "replan" = cc in cell≢replan (sym e ∙ other));
+  no_three = λ limit x y z h. elim h [
+    | inl p ↦ (let q = p.0 in n x y z cc)
+    | inr p ↦ (let q = p.0 in let other : word ≡ codes "start" = cc in cell≢start (sym e ∙ other))
+  ];
 }
 
-cell_verdict : (m : CellMap) (at : ℕ) (word : List ℕ) (more : List (List ℕ)) → word ≡ codes "cell" → Verdict m at (word ∷ more) (cell_said (written m at (three more)))
-cell_verdict m at word [] e = (refl, other_count word [] e (λ x y c h. cc))
-cell_verdict m at word (x ∷ []) e = (refl, other_count word (x ∷ []) e (λ _ _ _ h. cc))
-cell_verdict m at word (x ∷ y ∷ []) e = (refl, other_count word (x ∷ y ∷ []) e (λ _ _ _ h. cc))
-cell_verdict m at word (x ∷ y ∷ c ∷ []) e = rw e (measured_verdict m at x y c)
-cell_verdict m at word (x ∷ y ∷ c ∷ d ∷ more) e = (refl, other_count word (x ∷ y ∷ c ∷ d ∷ more) e (λ _ _ _ h. cc))
+other_start : (headings : Option ℕ) (word : List ℕ) (more : List (List ℕ)) → word ≡ codes "start"
+    → ((limit : ℕ) → headings ≡ Some limit → HasNotThree more) → IsOther headings (word ∷ more)
+other_start headings word more e n = record {
+  some = λ h. cc;
+  no_replan = λ h. (let other : word ≡ codes "replan" = cc in start≢replan (sym e ∙ other));
+  no_three = λ limit x y z h. elim h [
+    | inl p ↦ (let q = p.0 in let other : word ≡ codes "cell" = cc in cell≢start (sym other ∙ e))
+    | inr p ↦ (let q = p.0 in n limit p.1 x y z cc)
+  ];
+}
 
-replan_verdict : (m : CellMap) (at : ℕ) (word : List ℕ) (more : List (List ℕ)) → word ≢ codes "cell" → word ≡ codes "replan" → Verdict m at (word ∷ more) (ended at more)
-replan_verdict m at word [] n e = ap (λ w. w ∷ []) e
-replan_verdict m at word (x ∷ more) n e = (refl, record { some = λ h. cc; no_replan = λ h. cc; no_cell = λ _ _ _ h. n cc })
+cell_verdict : (m : CellMap) (headings : Option ℕ) (at : ℕ) (word : List ℕ) (more : List (List ℕ))
+    → word ≡ codes "cell" → Verdict m headings at (word ∷ more) (cell_said (numbers m at 256 (three more)))
+cell_verdict m headings at word [] e = (refl, other_cell headings word [] e (λ _ _ _ h. cc))
+cell_verdict m headings at word (x ∷ []) e = (refl, other_cell headings word (x ∷ []) e (λ _ _ _ h. cc))
+cell_verdict m headings at word (x ∷ y ∷ []) e = (refl, other_cell headings word (x ∷ y ∷ []) e (λ _ _ _ h. cc))
+cell_verdict m headings at word (x ∷ y ∷ z ∷ []) e =
+    let line_is = ap (λ w. w ∷ x ∷ y ∷ z ∷ []) e in
+    cell_told m headings at (word ∷ x ∷ y ∷ z ∷ []) x y z _ line_is (measured_verdict m at 256 x y z)
+cell_verdict m headings at word (x ∷ y ∷ z ∷ d ∷ more) e =
+    (refl, other_cell headings word (x ∷ y ∷ z ∷ d ∷ more) e (λ _ _ _ h. cc))
 
-pub judged_verdict : (m : CellMap) (at : ℕ) (line : List (List ℕ)) → Verdict m at line (judged m at line)
+start_verdict : (m : CellMap) (headings : Option ℕ) (at : ℕ) (word : List ℕ) (more : List (List ℕ))
+    → word ≡ codes "start" → Verdict m headings at (word ∷ more) (started m headings at more)
+start_verdict m None at word more e = (refl, other_start None word more e (λ limit h. absurd cc))
+start_verdict m (Some n) at word [] e = (refl, other_start (Some n) word [] e (λ _ _ _ _ _ h. cc))
+start_verdict m (Some n) at word (x ∷ []) e = (refl, other_start (Some n) word (x ∷ []) e (λ _ _ _ _ _ h. cc))
+start_verdict m (Some n) at word (x ∷ y ∷ []) e = (refl, other_start (Some n) word (x ∷ y ∷ []) e (λ _ _ _ _ _ h. cc))
+start_verdict m (Some n) at word (x ∷ y ∷ z ∷ []) e =
+    start_told m n at (word ∷ x ∷ y ∷ z ∷ []) x y z _ (ap (λ w. w ∷ x ∷ y ∷ z ∷ []) e) (measured_verdict m at n x y z)
+start_verdict m (Some n) at word (x ∷ y ∷ z ∷ d ∷ more) e =
+    (refl, other_start (Some n) word (x ∷ y ∷ z ∷ d ∷ more) e (λ _ _ _ _ _ h. cc))
+
+-- no line of three fields begins with another word
+no_three_of : (headings : Option ℕ) (word : List ℕ) (more : List (List ℕ)) → word ≢ codes "cell"
+    → word ≢ codes "start" → (limit : ℕ) (x y z : List ℕ) → HasThree headings (word ∷ more) limit x y z → ⊥
+no_three_of headings word more c s limit x y z h = elim h [
+  | inl p ↦ (let q = p.0 in c cc)
+  | inr p ↦ (let q = p.0 in s cc)
+]
+
+replan_verdict : (m : CellMap) (headings : Option ℕ) (at : ℕ) (word : List ℕ) (more : List (List ℕ))
+    → word ≢ codes "cell" → word ≢ codes "start" → word ≡ codes "replan"
+    → Verdict m headings at (word ∷ more) (ended at more)
+replan_verdict m headings at word [] c s e = ap (λ w. w ∷ []) e
+replan_verdict m headings at word (x ∷ more) c s e =
+    (refl, record { some = λ h. cc; no_replan = λ h. cc; no_three = no_three_of headings word (x ∷ more) c s })
+
+pub judged_verdict : (m : CellMap) (headings : Option ℕ) (at : ℕ) (line : List (List ℕ))
+    → Verdict m headings at line (judged m headings at line)
 unfolding judged
-judged_verdict m at [] = refl
-judged_verdict m at (word ∷ more) =
+judged_verdict m headings at [] = refl
+judged_verdict m headings at (word ∷ more) =
     let is_cell = bytes_eq-Decides word (codes "cell") in
+    let is_start = bytes_eq-Decides word (codes "start") in
     let is_replan = bytes_eq-Decides word (codes "replan") in
     elim (cases_Bool (bytes_eq word (codes "cell"))) [
-      | inl e ↦ rw e (cell_verdict m at word more (is_cell.0 e))
+      | inl e ↦ rw e (cell_verdict m headings at word more (is_cell.0 e))
       | inr e ↦ let no_cell : word ≢ codes "cell" = λ h. false≢true (sym e ∙ is_cell.1 h) in
-          elim (cases_Bool (bytes_eq word (codes "replan"))) [
-            | inl d ↦ rw (e, d) (replan_verdict m at word more no_cell (is_replan.0 d))
-            | inr d ↦ rw (e, d) (refl, record { some = λ h. cc; no_replan = λ h. false≢true (sym d ∙ is_replan.1 cc); no_cell = λ _ _ _ h. no_cell cc })
+          elim (cases_Bool (bytes_eq word (codes "start"))) [
+            | inl d ↦ rw (e, d) (start_verdict m headings at word more (is_start.0 d))
+            | inr d ↦ let no_start : word ≢ codes "start" = λ h. false≢true (sym d ∙ is_start.1 h) in
+                elim (cases_Bool (bytes_eq word (codes "replan"))) [
+                  | inl k ↦ rw (e, d, k) (replan_verdict m headings at word more no_cell no_start (is_replan.0 k))
+                  | inr k ↦ rw (e, d, k) (
+                    refl,
+                    record {
+                      some = λ h. cc;
+                      no_replan = λ h. false≢true (sym k ∙ is_replan.1 cc);
+                      no_three = no_three_of headings word more no_cell no_start;
+                    },
+                  )
+                ]
           ]
     ]
 
 -- ---- and what is true of a line is judged of it
 
-in_range_given : (high : ℕ) (field : List ℕ) (n : ℕ) → IsNumberUpTo high field n → in_range high (whole_of field) ≡ Some n
-in_range_given high field n g = rw (g.0, le-leb n high g.1) refl
+in_range_given : (limit : ℕ) (field : List ℕ) (n : ℕ) → IsNumberBelow limit field n
+    → in_range limit (whole_of field) ≡ Some n
+in_range_given limit field n g = rw (g.0, lt-ltb n limit g.1) refl
 
-form_given : (high : ℕ) (field : List ℕ) (n : ℕ) → IsNumberUpTo high field n → lacks_form (whole_of field) ≡ false
-form_given high field n g = rw g.0 refl
+form_given : (limit : ℕ) (field : List ℕ) (n : ℕ) → IsNumberBelow limit field n → lacks_form (whole_of field) ≡ false
+form_given limit field n g = rw g.0 refl
 
-form_not_missing : (field : List ℕ) (r : Result ℤ NumFault) → whole_of field ≡ r → (IsNoNumber field → ⊥) → lacks_form r ≡ false
+form_not_missing : (field : List ℕ) (r : Result ℤ NumFault) → whole_of field ≡ r → (IsNoNumber field → ⊥)
+    → lacks_form r ≡ false
 form_not_missing field (Ok n) e h = refl
 form_not_missing field (Err Form) e h = absurd (h e)
 form_not_missing field (Err Size) e h = refl
 
-outside_not_in : (high : ℕ) (r : Result ℤ NumFault) (n : ℤ) → r ≡ Ok n → (n <ℤ pos 0) ⊎ (pos high <ℤ n) → in_range high r ≡ None
-outside_not_in high r (pos k) e o = rw e (rw (lt-leb k high (elim o [ inl a ↦ absurd (omega (arith, ints)) | inr a ↦ omega (arith, ints) ])) refl)
-outside_not_in high r (negsuc k) e o = rw e refl
+outside_not_in : (limit : ℕ) (r : Result ℤ NumFault) (n : ℤ) → r ≡ Ok n → (n <ℤ pos 0) ⊎ (pos limit ≤ℤ n)
+    → in_range limit r ≡ None
+outside_not_in limit r (pos k) e o =
+    rw e (rw (le-ltb k limit (elim o [ inl a ↦ absurd (omega (arith, ints)) | inr a ↦ omega (arith, ints) ])) refl)
+outside_not_in limit r (negsuc k) e o = rw e refl
 
-range_outside : (high : ℕ) (field : List ℕ) → IsOutside high field → in_range high (whole_of field) ≡ None
-range_outside high field o = elim o [
+range_outside : (limit : ℕ) (field : List ℕ) → IsOutside limit field → in_range limit (whole_of field) ≡ None
+range_outside limit field o = elim o [
   | inl e ↦ rw e refl
-  | inr h ↦ outside_not_in high (whole_of field) h.0 h.1 h.2
+  | inr h ↦ outside_not_in limit (whole_of field) h.0 h.1 h.2
 ]
 
-write_outside : (m : CellMap) (at : ℕ) (ox oy oc : Option ℕ) → (ox ≡ None) ⊎ ((oy ≡ None) ⊎ (oc ≡ None)) → write_on_map m at ox oy oc ≡ Err (Range at)
-write_outside m at None oy oc h = refl
-write_outside m at (Some a) None oc h = refl
-write_outside m at (Some a) (Some b) None h = refl
-write_outside m at (Some a) (Some b) (Some k) h = absurd (elim h [
+one_outside : (m : CellMap) (at : ℕ) (ox oy oz : Option ℕ) → (ox ≡ None) ⊎ ((oy ≡ None) ⊎ (oz ≡ None))
+    → on_map m at ox oy oz ≡ Err (Range at)
+one_outside m at None oy oz h = refl
+one_outside m at (Some a) None oz h = refl
+one_outside m at (Some a) (Some b) None h = refl
+one_outside m at (Some a) (Some b) (Some k) h = absurd (elim h [
   | inl e ↦ grind arith
   | inr o ↦ elim o [ inl e ↦ grind arith | inr e ↦ grind arith ]
 ])
 
-no_number_judged : (m : CellMap) (at : ℕ) (x y c : List ℕ) → HaveNoNumber x y c → measured m at (whole_of x) (whole_of y) (whole_of c) ≡ Err (Number at)
-no_number_judged m at x y c h =
+no_number_judged : (m : CellMap) (at limit : ℕ) (x y z : List ℕ) → HaveNoNumber x y z
+    → measured m at limit (whole_of x) (whole_of y) (whole_of z) ≡ Err (Number at)
+no_number_judged m at limit x y z h =
     let lx = lacks_form (whole_of x) in
     let ly = lacks_form (whole_of y) in
-    let lc = lacks_form (whole_of c) in
-    let some : (lx || (ly || lc)) ≡ true = elim h [
-      | inl e ↦ or_left lx (ly || lc) (rw e refl)
-      | inr o ↦ or_right lx (ly || lc) (elim o [ inl e ↦ or_left ly lc (rw e refl) | inr e ↦ or_right ly lc (rw e refl) ])
+    let lz = lacks_form (whole_of z) in
+    let some : (lx || (ly || lz)) ≡ true = elim h [
+      | inl e ↦ or_left lx (ly || lz) (rw e refl)
+      | inr o ↦ or_right lx (ly || lz) (elim o [
+        | inl e ↦ or_left ly lz (rw e refl)
+        | inr e ↦ or_right ly lz (rw e refl)
+      ])
     ] in
     rw some refl
 
-have_forms : (m : CellMap) (at : ℕ) (x y c : List ℕ) → lacks_form (whole_of x) ≡ false → lacks_form (whole_of y) ≡ false → lacks_form (whole_of c) ≡ false
-    → measured m at (whole_of x) (whole_of y) (whole_of c) ≡ write_on_map m at (in_range 8388607 (whole_of x)) (in_range 8388607 (whole_of y)) (in_range 255 (whole_of c))
-have_forms m at x y c fx fy fc =
-    let none = or_from (lacks_form (whole_of x)) (lacks_form (whole_of y) || lacks_form (whole_of c)) fx (or_from (lacks_form (whole_of y)) (lacks_form (whole_of c)) fy fc) in
+have_forms : (m : CellMap) (at limit : ℕ) (x y z : List ℕ) → lacks_form (whole_of x) ≡ false
+    → lacks_form (whole_of y) ≡ false → lacks_form (whole_of z) ≡ false
+    → measured m at limit (whole_of x) (whole_of y) (whole_of z) ≡ on_map m at (in_range 8388608 (whole_of x))
+    (in_range 8388608 (whole_of y)) (in_range limit (whole_of z))
+have_forms m at limit x y z fx fy fz =
+    let last_two = or_from (lacks_form (whole_of y)) (lacks_form (whole_of z)) fy fz in
+    let none = or_from (lacks_form (whole_of x)) (lacks_form (whole_of y) || lacks_form (whole_of z)) fx last_two in
     rw none refl
 
-range_judged : (m : CellMap) (at : ℕ) (x y c : List ℕ) → AreOutside x y c → measured m at (whole_of x) (whole_of y) (whole_of c) ≡ Err (Range at)
-range_judged m at x y c h =
+range_judged : (m : CellMap) (at limit : ℕ) (x y z : List ℕ) → AreOutside limit x y z
+    → measured m at limit (whole_of x) (whole_of y) (whole_of z) ≡ Err (Range at)
+range_judged m at limit x y z h =
     let fx = form_not_missing x _ refl (λ e. h.numbers (inl e)) in
     let fy = form_not_missing y _ refl (λ e. h.numbers (inr (inl e))) in
-    let fc = form_not_missing c _ refl (λ e. h.numbers (inr (inr e))) in
-    have_forms m at x y c fx fy fc ∙ write_outside m at _ _ _ (elim h.outside [
-      | inl o ↦ inl (range_outside 8388607 x o)
-      | inr o ↦ inr (elim o [ inl p ↦ inl (range_outside 8388607 y p) | inr p ↦ inr (range_outside 255 c p) ])
+    let fz = form_not_missing z _ refl (λ e. h.numbers (inr (inr e))) in
+    have_forms m at limit x y z fx fy fz ∙ one_outside m at _ _ _ (elim h.outside [
+      | inl o ↦ inl (range_outside 8388608 x o)
+      | inr o ↦ inr (elim o [ inl p ↦ inl (range_outside 8388608 y p) | inr p ↦ inr (range_outside limit z p) ])
     ])
 
-give_write : (m : CellMap) (at : ℕ) (x y c : List ℕ) (w : Write) → GiveWrite x y c w → measured m at (whole_of x) (whole_of y) (whole_of c) ≡ write_on_map m at (Some w.x) (Some w.y) (Some w.cost)
-give_write m at x y c w g =
-    have_forms m at x y c (form_given 8388607 x w.x g.column) (form_given 8388607 y w.y g.row) (form_given 255 c w.cost g.cost)
-    ∙ rw (in_range_given 8388607 x w.x g.column, in_range_given 8388607 y w.y g.row, in_range_given 255 c w.cost g.cost) refl
+give_judged : (m : CellMap) (at limit : ℕ) (x y z : List ℕ) (a b k : ℕ) → Give limit x y z a b k
+    → measured m at limit (whole_of x) (whole_of y) (whole_of z) ≡ on_map m at (Some a) (Some b) (Some k)
+give_judged m at limit x y z a b k g =
+    let x_form = form_given 8388608 x a g.x_is in
+    let y_form = form_given 8388608 y b g.y_is in
+    have_forms m at limit x y z x_form y_form (form_given limit z k g.z_is)
+    ∙ rw (in_range_given 8388608 x a g.x_is, in_range_given 8388608 y b g.y_is, in_range_given limit z k g.z_is) refl
 
-write_judged : (m : CellMap) (at : ℕ) (x y c : List ℕ) (w : Write) → GiveWrite x y c w → IsWriteOnMap m w → measured m at (whole_of x) (whole_of y) (whole_of c) ≡ Ok w
-write_judged m at x y c w g on = give_write m at x y c w g ∙ rw (and_from (nat_lt w.x m.width) (nat_lt w.y m.height) (lt-ltb w.x m.width on.x) (lt-ltb w.y m.height on.y)) refl
+on_map_judged : (m : CellMap) (at a b k : ℕ) → IsCellOnMap m a b → on_map m at (Some a) (Some b) (Some k) ≡ Ok (a, b, k)
+on_map_judged m at a b k on =
+    rw (and_from (nat_lt a m.width) (nat_lt b m.height) (lt-ltb a m.width on.x) (lt-ltb b m.height on.y)) refl
 
-off_map_judged : (m : CellMap) (at : ℕ) (x y c : List ℕ) → AreOffMap m x y c → measured m at (whole_of x) (whole_of y) (whole_of c) ≡ Err (OffMap at)
-off_map_judged m at x y c h =
-    let w = h.0 in
-    let off = false_from_ne_true (nat_lt w.x m.width && nat_lt w.y m.height) (λ e. let both = and_parts (nat_lt w.x m.width) (nat_lt w.y m.height) e in
-    h.2 (record { x = ltb-true w.x m.width both.0; y = ltb-true w.y m.height both.1 })) in
-    give_write m at x y c w h.1 ∙ rw off refl
+off_map_judged : (m : CellMap) (at limit : ℕ) (x y z : List ℕ) → AreOffMap m limit x y z
+    → measured m at limit (whole_of x) (whole_of y) (whole_of z) ≡ Err (OffMap at)
+off_map_judged m at limit x y z h =
+    let a = h.0 in
+    let b = h.1 in
+    let off = false_from_ne_true (nat_lt a m.width && nat_lt b m.height) (λ e. h.4 (cell_of_tests m a b e)) in
+    give_judged m at limit x y z a b h.2 h.3 ∙ rw off refl
 
-cell_judged : (m : CellMap) (at : ℕ) (line : List (List ℕ)) (x y c : List ℕ) (r : Result Write ChangeFault) → line ≡ cell_line x y c → measured m at (whole_of x) (whole_of y) (whole_of c) ≡ r → judged m at line ≡ cell_said r
+cell_judged : (m : CellMap) (headings : Option ℕ) (at : ℕ) (line : List (List ℕ)) (x y z : List ℕ)
+    (r : Result Three ChangeFault) → line ≡ cell_line x y z
+    → measured m at 256 (whole_of x) (whole_of y) (whole_of z) ≡ r → judged m headings at line ≡ cell_said r
 unfolding judged
-cell_judged m at line x y c r e h = rw e (ap cell_said h)
+cell_judged m headings at line x y z r e h = rw e (ap cell_said h)
 
-few_or_many : (m : CellMap) (at : ℕ) (word : List ℕ) (more : List (List ℕ)) → word ≡ codes "cell" → IsOther (word ∷ more) → written m at (three more) ≡ Err (Word at)
-few_or_many m at word [] e o = refl
-few_or_many m at word (x ∷ []) e o = refl
-few_or_many m at word (x ∷ y ∷ []) e o = refl
-few_or_many m at word (x ∷ y ∷ c ∷ []) e o = absurd (o.no_cell x y c (ap (λ w. w ∷ x ∷ y ∷ c ∷ []) e))
-few_or_many m at word (x ∷ y ∷ c ∷ d ∷ more) e o = refl
-
-not_alone : (at : ℕ) (word : List ℕ) (more : List (List ℕ)) → word ≡ codes "replan" → IsOther (word ∷ more) → ended at more ≡ Err (Word at)
-not_alone at word [] e o = absurd (o.no_replan (ap (λ w. w ∷ []) e))
-not_alone at word (x ∷ more) e o = refl
-
-other_judged : (m : CellMap) (at : ℕ) (line : List (List ℕ)) → IsOther line → judged m at line ≡ Err (Word at)
+start_judged : (m : CellMap) (headings : Option ℕ) (at limit : ℕ) (line : List (List ℕ)) (x y z : List ℕ)
+    (r : Result Three ChangeFault) → line ≡ start_line x y z → headings ≡ Some limit
+    → measured m at limit (whole_of x) (whole_of y) (whole_of z) ≡ r → judged m headings at line ≡ start_said r
 unfolding judged
-other_judged m at [] o = absurd (o.some refl)
-other_judged m at (word ∷ more) o =
+start_judged m headings at limit line x y z r e s h = rw (e, s) (ap start_said h)
+
+-- the fault of the three fields is that of their line
+three_judged : (m : CellMap) (headings : Option ℕ) (at limit : ℕ) (line : List (List ℕ)) (x y z : List ℕ)
+    (f : ChangeFault) → HasThree headings line limit x y z
+    → measured m at limit (whole_of x) (whole_of y) (whole_of z) ≡ Err f → judged m headings at line ≡ Err f
+three_judged m headings at limit line x y z f t h = elim t [
+  | inl p ↦ let here = rw p.1 at h in cell_judged m headings at line x y z (Err f) p.0 here
+  | inr p ↦ start_judged m headings at limit line x y z (Err f) p.0 p.1 h
+]
+
+few_or_many : (m : CellMap) (at limit : ℕ) (more : List (List ℕ)) → HasNotThree more
+    → numbers m at limit (three more) ≡ Err (Word at)
+few_or_many m at limit [] n = refl
+few_or_many m at limit (x ∷ []) n = refl
+few_or_many m at limit (x ∷ y ∷ []) n = refl
+few_or_many m at limit (x ∷ y ∷ z ∷ []) n = absurd (n x y z refl)
+few_or_many m at limit (x ∷ y ∷ z ∷ d ∷ more) n = refl
+
+not_started : (m : CellMap) (headings : Option ℕ) (at : ℕ) (word : List ℕ) (more : List (List ℕ))
+    → word ≡ codes "start" → IsOther headings (word ∷ more) → started m headings at more ≡ Err (Word at)
+not_started m None at word more e o = refl
+not_started m (Some n) at word more e o =
+    ap start_said (few_or_many m at n more (λ x y z h. o.no_three n x y z (inr (cc, refl))))
+
+not_alone : (headings : Option ℕ) (at : ℕ) (word : List ℕ) (more : List (List ℕ)) → word ≡ codes "replan"
+    → IsOther headings (word ∷ more) → ended at more ≡ Err (Word at)
+not_alone headings at word [] e o = absurd (o.no_replan (ap (λ w. w ∷ []) e))
+not_alone headings at word (x ∷ more) e o = refl
+
+other_judged : (m : CellMap) (headings : Option ℕ) (at : ℕ) (line : List (List ℕ)) → IsOther headings line
+    → judged m headings at line ≡ Err (Word at)
+unfolding judged
+other_judged m headings at [] o = absurd (o.some refl)
+other_judged m headings at (word ∷ more) o =
     let is_cell = bytes_eq-Decides word (codes "cell") in
+    let is_start = bytes_eq-Decides word (codes "start") in
     let is_replan = bytes_eq-Decides word (codes "replan") in
     elim (cases_Bool (bytes_eq word (codes "cell"))) [
-      | inl e ↦ rw e (ap cell_said (few_or_many m at word more (is_cell.0 e) o))
-      | inr e ↦ elim (cases_Bool (bytes_eq word (codes "replan"))) [
-        | inl d ↦ rw (e, d) (not_alone at word more (is_replan.0 d) o)
-        | inr d ↦ rw (e, d) refl
+      | inl e ↦ let word_is = is_cell.0 e in
+          rw e (ap cell_said (few_or_many m at 256 more (λ x y z h. o.no_three 256 x y z (inl (cc, refl)))))
+      | inr e ↦ elim (cases_Bool (bytes_eq word (codes "start"))) [
+        | inl d ↦ rw (e, d) (not_started m headings at word more (is_start.0 d) o)
+        | inr d ↦ elim (cases_Bool (bytes_eq word (codes "replan"))) [
+          | inl k ↦ rw (e, d, k) (not_alone headings at word more (is_replan.0 k) o)
+          | inr k ↦ rw (e, d, k) refl
+        ]
       ]
     ]
 
 -- What is true of a line is what is judged of it.
-pub judged_is : (m : CellMap) (at : ℕ) (line : List (List ℕ)) (r : Result Said ChangeFault) → Verdict m at line r → judged m at line ≡ r
+pub judged_is : (m : CellMap) (headings : Option ℕ) (at : ℕ) (line : List (List ℕ)) (r : Result Said ChangeFault)
+    → Verdict m headings at line r → judged m headings at line ≡ r
 unfolding judged
-judged_is m at line (Ok Nothing) h = rw h refl
-judged_is m at line (Ok (Cell w)) h = cell_judged m at line h.0 h.1 h.2 (Ok w) h.3 (write_judged m at h.0 h.1 h.2 w h.4 h.5)
-judged_is m at line (Ok Replan) h = rw h refl
-judged_is m at line (Err (Word n)) h = rw h.0 (other_judged m at line h.1)
-judged_is m at line (Err (Number n)) h = let t = h.1 in rw h.0 (cell_judged m at line t.0 t.1 t.2 (Err (Number at)) t.3 (no_number_judged m at t.0 t.1 t.2 t.4))
-judged_is m at line (Err (Range n)) h = let t = h.1 in rw h.0 (cell_judged m at line t.0 t.1 t.2 (Err (Range at)) t.3 (range_judged m at t.0 t.1 t.2 t.4))
-judged_is m at line (Err (OffMap n)) h = let t = h.1 in rw h.0 (cell_judged m at line t.0 t.1 t.2 (Err (OffMap at)) t.3 (off_map_judged m at t.0 t.1 t.2 t.4))
-judged_is m at line (Err (NoReplan n)) h = absurd h
-judged_is m at line (Err NoMemory) h = absurd h
+judged_is m headings at line (Ok Nothing) h = rw h refl
+judged_is m headings at line (Ok (Cell w)) h =
+    let is = give_judged m at 256 h.0 h.1 h.2 w.x w.y w.cost h.4 ∙ on_map_judged m at w.x w.y w.cost h.5 in
+    cell_judged m headings at line h.0 h.1 h.2 (Ok (w.x, w.y, w.cost)) h.3 is
+judged_is m headings at line (Ok (Start p)) h =
+    let g = h.4 in
+    let is = give_judged m at g.0 h.0 h.1 h.2 p.x p.y p.t g.2 ∙ on_map_judged m at p.x p.y p.t h.5 in
+    start_judged m headings at g.0 line h.0 h.1 h.2 (Ok (p.x, p.y, p.t)) h.3 g.1 is
+judged_is m headings at line (Ok Replan) h = rw h refl
+judged_is m headings at line (Err (Word n)) h = rw h.0 (other_judged m headings at line h.1)
+judged_is m headings at line (Err (Number n)) h =
+    let t = h.1 in
+    let is = no_number_judged m at t.0 t.1 t.2 t.3 t.5 in
+    rw h.0 (three_judged m headings at t.0 line t.1 t.2 t.3 (Number at) t.4 is)
+judged_is m headings at line (Err (Range n)) h =
+    let t = h.1 in
+    let is = range_judged m at t.0 t.1 t.2 t.3 t.5 in
+    rw h.0 (three_judged m headings at t.0 line t.1 t.2 t.3 (Range at) t.4 is)
+judged_is m headings at line (Err (OffMap n)) h =
+    let t = h.1 in
+    let is = off_map_judged m at t.0 t.1 t.2 t.3 t.5 in
+    rw h.0 (three_judged m headings at t.0 line t.1 t.2 t.3 (OffMap at) t.4 is)
+judged_is m headings at line (Err (NoReplan n)) h = absurd h
+judged_is m headings at line (Err NoMemory) h = absurd h
+
+-- ---- a line that is no start's
+
+same_by_word : (m : CellMap) (headings : Option ℕ) (at : ℕ) (word : List ℕ) (more : List (List ℕ))
+    → word ≢ codes "start" → judged m headings at (word ∷ more) ≡ judged m None at (word ∷ more)
+unfolding judged
+same_by_word m headings at word more n =
+    let is_start = bytes_eq-Decides word (codes "start") in
+    let other = false_from_ne_true (bytes_eq word (codes "start")) (λ e. n (is_start.0 e)) in
+    rw other refl
+
+-- is judged alike whether or not a start's could be
+pub judged_alike : (m : CellMap) (headings : Option ℕ) (at : ℕ) (line : List (List ℕ)) → IsNoStart line
+    → judged m headings at line ≡ judged m None at line
+unfolding judged
+judged_alike m headings at [] n = refl
+judged_alike m headings at (word ∷ more) n = same_by_word m headings at word more n

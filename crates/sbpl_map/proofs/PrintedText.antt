@@ -1,5 +1,5 @@
 -- What the plain text of batches stands for.
-use Rattle.std.proofs.Common.{◌≡◌, ℕ, zero, suc, ◌-◌, ◌≤◌, pos, Bool, true, false, List, [], ◌∷◌, ◌++◌, length, refl, ap, ◌∙◌, inl, inr, arith, append_assoc}
+use Rattle.std.proofs.Common.{◌≡◌, ℕ, zero, suc, ◌-◌, ◌<◌, ◌≤◌, pos, Bool, true, false, List, [], ◌∷◌, ◌++◌, length, refl, ap, ◌∙◌, inl, inr, arith, map, None, append_assoc}
 use Rattle.std.specs.Prelude.{decimal, ◌==◌, slice_index}
 use Rattle.std.specs.List.{flat_map, AllByRecursion, list_all, slice_split, onto_first, filter}
 use Rattle.std.specs.Str.Lines.{lines, lines_of_parts, strip_carriage_return}
@@ -9,7 +9,7 @@ use Rattle.sbpl_fixed.specs.Tokens.{is_filled}
 use Rattle.sbpl_fixed.specs.ReadBack.{IsWord}
 use Rattle.sbpl_fixed.proofs.ReadBack.{wholes_are_read_back, wholes_are_words}
 use Rattle.sbpl_map.specs.CellMap.{CellMap}
-use Rattle.sbpl_map.specs.ChangeText.{LinesSay, AreOnMap, IsNumberUpTo, IsTextOf, IsWriteOnMap, LineSays, spelled, spelled_batch, lines_with_fields}
+use Rattle.sbpl_map.specs.ChangeText.{LinesSay, AreOnMap, IsNumberBelow, IsTextOf, IsWriteOnMap, LineTells, spelled, spelled_batch, lines_with_fields}
 use Rattle.sbpl_map.specs.Fields.{fields, has_some, is_parting}
 use Rattle.sbpl_map.specs.Printed.{AreChangesOf, batch_lines, changes_text, write_line}
 use Rattle.sbpl_map.specs.declared.write.Write.{Write}
@@ -130,19 +130,19 @@ lines_are_told (l ∷ ls) h =
 number_is_word : (n : ℕ) → n ≤ 8388608 → IsWord (decimal n)
 number_is_word n h = wholes_are_words (pos n) (omega arith)
 
-gives : (high n : ℕ) → high ≤ 8388608 → n ≤ high → IsNumberUpTo high (decimal n) n
-gives high n k h = (wholes_are_read_back (pos n) (omega arith), h)
+gives : (limit n : ℕ) → limit ≤ 8388608 → n < limit → IsNumberBelow limit (decimal n) n
+gives limit n k h = (wholes_are_read_back (pos n) (omega arith), h)
 
-write_says : (m : CellMap) (w : Write) → m.width ≤ 8388608 → m.height ≤ 8388608 → IsWriteOnMap m w → w.cost ≤ 255 → LineSays m (write_line w) (Cell w)
+write_says : (m : CellMap) (w : Write) → m.width ≤ 8388608 → m.height ≤ 8388608 → IsWriteOnMap m w → w.cost ≤ 255 → LineTells m None (write_line w) (Cell w)
 write_says m w width height on cost = (
   decimal w.x,
   decimal w.y,
   decimal w.cost,
   refl,
   record {
-    column = gives 8388607 w.x (omega arith) (omega (arith, on.x));
-    row = gives 8388607 w.y (omega arith) (omega (arith, on.y));
-    cost = gives 255 w.cost (omega arith) cost;
+    x_is = gives 8388608 w.x (omega arith) (omega (arith, on.x));
+    y_is = gives 8388608 w.y (omega arith) (omega (arith, on.y));
+    z_is = gives 256 w.cost (omega arith) (omega arith);
   },
   on,
 )
@@ -160,7 +160,7 @@ abbrev AreCosts : List Write → Type 0
 AreCosts batch = AllByRecursion (λ w. w.cost ≤ 255) batch
 
 batch_says : (m : CellMap) (batch : List Write) (ls : List (List (List ℕ))) (more : List Said) → m.width ≤ 8388608 → m.height ≤ 8388608
-    → AllByRecursion (λ w. IsWriteOnMap m w) batch → AreCosts batch → LinesSay m ls more → LinesSay m (batch_lines batch ++ ls) (spelled_batch batch ++ more)
+    → AllByRecursion (λ w. IsWriteOnMap m w) batch → AreCosts batch → LinesSay m ls more → LinesSay m (batch_lines batch ++ ls) (spelled_batch (map (λ w. inl w) batch) ++ more)
 batch_says m [] ls more width height on costs h = (refl, h)
 batch_says m (w ∷ ws) ls more width height on costs h = (write_says m w width height on.0 costs.0, batch_says m ws ls more width height on.1 costs.1 h)
 

@@ -1,14 +1,17 @@
 -- What the lines of a text give, read one after another.
-use Rattle.std.specs.Prelude.{ℕ, ℤ, pos, negsuc, ◌+◌, ◌||◌, ◌&&◌, Bool, true, false, if◌then◌else◌, nat_le, nat_lt, bytes_eq, List, [], ◌∷◌, ◌++◌, codes, Option, Some, None, Result, Ok, Err}
+use Rattle.std.proofs.Common.{inl, inr}
+use Rattle.std.specs.Prelude.{ℕ, ℤ, pos, negsuc, ◌+◌, ◌||◌, ◌&&◌, Bool, true, false, if◌then◌else◌, nat_lt, bytes_eq, List, [], ◌∷◌, ◌++◌, map, codes, Option, Some, None, Result, Ok, Err}
 use Rattle.std.specs.Str.Lines.{lines}
+use Rattle.sbpl_cfg.specs.declared.pose.Place.{Place}
 use Rattle.sbpl_fixed.specs.Numbers.{whole_of}
 use Rattle.sbpl_fixed.specs.declared.fault.NumFault.{NumFault}
 use Rattle.sbpl_fixed.specs.declared.fault.NumFault.TheVariants.{Form, Size}
 use Rattle.sbpl_map.specs.CellMap.{CellMap}
+use Rattle.sbpl_map.specs.ChangeText.{Given, place_of, writes_of}
 use Rattle.sbpl_map.specs.Fields.{fields}
 use Rattle.sbpl_map.specs.declared.write.Write.{Write}
 use Rattle.sbpl_map.specs.declared.said.Said.{Said}
-use Rattle.sbpl_map.specs.declared.said.Said.TheVariants.{Nothing, Cell, Replan}
+use Rattle.sbpl_map.specs.declared.said.Said.TheVariants.{Nothing, Cell, Start, Replan}
 use Rattle.sbpl_map.specs.declared.fault.ChangeFault.{ChangeFault}
 use Rattle.sbpl_map.specs.declared.fault.ChangeFault.TheVariants.{Word, Number, Range, OffMap, NoReplan}
 
@@ -19,42 +22,56 @@ lacks_form (Ok _) = false
 lacks_form (Err Form) = true
 lacks_form (Err Size) = false
 
--- the number that was read, where it is one from 0 to high
-abbrev pub in_range : ℕ → Result ℤ NumFault → Option ℕ
-in_range high (Ok (pos n)) = if nat_le n high then Some n else None
-in_range high (Ok (negsuc n)) = None
-in_range high (Err _) = None
+-- the number that was read, where it is one from 0 and below the limit
+abbrev pub in_range : (limit : ℕ) → Result ℤ NumFault → Option ℕ
+in_range limit (Ok (pos n)) = if nat_lt n limit then Some n else None
+in_range limit (Ok (negsuc n)) = None
+in_range limit (Err _) = None
 
--- the write, unless a number was out of range or the cell is off the map
-abbrev pub write_on_map : CellMap → ℕ → Option ℕ → Option ℕ → Option ℕ → Result Write ChangeFault
-write_on_map m at None y c = Err (Range at)
-write_on_map m at (Some x) None c = Err (Range at)
-write_on_map m at (Some x) (Some y) None = Err (Range at)
-write_on_map m at (Some x) (Some y) (Some c) =
-    if nat_lt x m.width && nat_lt y m.height then Ok (record { x = x; y = y; cost = c }) else Err (OffMap at)
+-- a cell and a third number
+abbrev pub Three : Type 0
+Three = ℕ × ℕ × ℕ
 
--- the write that three numbers give
-abbrev pub measured : CellMap → ℕ → Result ℤ NumFault → Result ℤ NumFault → Result ℤ NumFault → Result Write ChangeFault
-measured m at x y c =
-    if lacks_form x || (lacks_form y || lacks_form c) then Err (Number at)
-    else write_on_map m at (in_range 8388607 x) (in_range 8388607 y) (in_range 255 c)
+-- the numbers, unless one was out of range or the cell is off the map
+abbrev pub on_map : CellMap → ℕ → Option ℕ → Option ℕ → Option ℕ → Result Three ChangeFault
+on_map m at None y z = Err (Range at)
+on_map m at (Some x) None z = Err (Range at)
+on_map m at (Some x) (Some y) None = Err (Range at)
+on_map m at (Some x) (Some y) (Some z) =
+    if nat_lt x m.width && nat_lt y m.height then Ok (x, y, z) else Err (OffMap at)
 
-abbrev pub cell_said : Result Write ChangeFault → Result Said ChangeFault
-cell_said (Ok w) = Ok (Cell w)
-cell_said (Err e) = Err e
+-- the numbers, where three were read
+abbrev pub measured : CellMap → ℕ → (limit : ℕ) → Result ℤ NumFault → Result ℤ NumFault → Result ℤ NumFault
+    → Result Three ChangeFault
+measured m at limit x y z =
+    if lacks_form x || (lacks_form y || lacks_form z) then Err (Number at)
+    else on_map m at (in_range 8388608 x) (in_range 8388608 y) (in_range limit z)
 
 -- the fields of a list that has just three
 abbrev pub three : List (List ℕ) → Option (List ℕ × List ℕ × List ℕ)
 three [] = None
 three (x ∷ []) = None
 three (x ∷ y ∷ []) = None
-three (x ∷ y ∷ c ∷ []) = Some (x, y, c)
-three (x ∷ y ∷ c ∷ d ∷ more) = None
+three (x ∷ y ∷ z ∷ []) = Some (x, y, z)
+three (x ∷ y ∷ z ∷ d ∷ more) = None
 
--- the write that the three fields after a cell's word give
-abbrev pub written : CellMap → ℕ → Option (List ℕ × List ℕ × List ℕ) → Result Write ChangeFault
-written m at None = Err (Word at)
-written m at (Some t) = measured m at (whole_of t.0) (whole_of t.1) (whole_of t.2)
+-- the numbers that the three fields after a word give
+abbrev pub numbers : CellMap → ℕ → (limit : ℕ) → Option (List ℕ × List ℕ × List ℕ) → Result Three ChangeFault
+numbers m at limit None = Err (Word at)
+numbers m at limit (Some t) = measured m at limit (whole_of t.0) (whole_of t.1) (whole_of t.2)
+
+abbrev pub cell_said : Result Three ChangeFault → Result Said ChangeFault
+cell_said (Ok n) = Ok (Cell (record { x = n.0; y = n.1; cost = n.2 }))
+cell_said (Err e) = Err e
+
+abbrev pub start_said : Result Three ChangeFault → Result Said ChangeFault
+start_said (Ok n) = Ok (Start (record { x = n.0; y = n.1; t = n.2 }))
+start_said (Err e) = Err e
+
+-- where the robot is, where a line can say so
+abbrev pub started : CellMap → Option ℕ → ℕ → List (List ℕ) → Result Said ChangeFault
+started m None at more = Err (Word at)
+started m (Some headings) at more = start_said (numbers m at headings (three more))
 
 -- the batch ends where nothing stands after its word
 abbrev pub ended : ℕ → List (List ℕ) → Result Said ChangeFault
@@ -62,18 +79,20 @@ ended at [] = Ok Replan
 ended at (x ∷ more) = Err (Word at)
 
 -- what the fields of the line with this number say, or its fault
-unfoldable pub judged : CellMap → ℕ → List (List ℕ) → Result Said ChangeFault
-judged m at [] = Ok Nothing
-judged m at (word ∷ more) =
-    if bytes_eq word (codes "cell") then cell_said (written m at (three more))
-    else (if bytes_eq word (codes "replan") then ended at more else Err (Word at))
+unfoldable pub judged : CellMap → Option ℕ → ℕ → List (List ℕ) → Result Said ChangeFault
+judged m headings at [] = Ok Nothing
+judged m headings at (word ∷ more) =
+    if bytes_eq word (codes "cell") then cell_said (numbers m at 256 (three more))
+    else (if bytes_eq word (codes "start") then started m headings at more
+    else (if bytes_eq word (codes "replan") then ended at more else Err (Word at)))
 
 -- ---- lines
 
--- what was read: whole batches, the writes after the last of them, and the number of the last line of a cell
+-- what was read, as the lines gave it: whole batches, what was given after the last of them, and the number of the last
+-- line that gave something
 pub record Drafted : Type 0 where
-  pub done : List (List Write)
-  pub batch : List Write
+  pub done : List (List Given)
+  pub batch : List Given
   pub last : ℕ
 
 abbrev pub nothing_read : Drafted
@@ -82,15 +101,16 @@ nothing_read = record { done = []; batch = []; last = 0 }
 -- one more line, by what it says
 abbrev pub drafted : Drafted → ℕ → Said → Drafted
 drafted d at Nothing = d
-drafted d at (Cell w) = record { done = d.done; batch = d.batch ++ w ∷ []; last = at }
+drafted d at (Cell w) = record { done = d.done; batch = d.batch ++ inl w ∷ []; last = at }
+drafted d at (Start p) = record { done = d.done; batch = d.batch ++ inr p ∷ []; last = at }
 drafted d at Replan = record { done = d.done ++ d.batch ∷ []; batch = []; last = d.last }
 
--- at the end no writes may be left
-abbrev pub closed_of : List (List Write) → List Write → ℕ → Result (List (List Write)) ChangeFault
+-- at the end nothing may be left
+abbrev pub closed_of : List (List Given) → List Given → ℕ → Result (List (List Given)) ChangeFault
 closed_of done [] last = Ok done
-closed_of done (w ∷ ws) last = Err (NoReplan last)
+closed_of done (g ∷ gs) last = Err (NoReplan last)
 
-abbrev pub closed : Drafted → Result (List (List Write)) ChangeFault
+abbrev pub closed : Drafted → Result (List (List Given)) ChangeFault
 closed d = closed_of d.done d.batch d.last
 
 abbrev pub then_on : {X Y : Type 0} → Result X ChangeFault → (X → Result Y ChangeFault) → Result Y ChangeFault
@@ -98,10 +118,39 @@ then_on (Ok x) more = more x
 then_on (Err e) more = Err e
 
 -- the lines from this number on
-unfoldable pub reads_on : CellMap → ℕ → List (List ℕ) → Drafted → Result (List (List Write)) ChangeFault
-reads_on m at [] d = closed d
-reads_on m at (line ∷ more) d = then_on (judged m at (fields line)) (λ s. reads_on m (at + 1) more (drafted d at s))
+unfoldable pub reads_on : CellMap → Option ℕ → ℕ → List (List ℕ) → Drafted → Result (List (List Given)) ChangeFault
+reads_on m headings at [] d = closed d
+reads_on m headings at (line ∷ more) d =
+    then_on (judged m headings at (fields line)) (λ s. reads_on m headings (at + 1) more (drafted d at s))
 
 -- a whole text
-abbrev pub changes_of : CellMap → List ℕ → Result (List (List Write)) ChangeFault
-changes_of m text = reads_on m 1 (lines text) nothing_read
+abbrev pub told_by : CellMap → Option ℕ → List ℕ → Result (List (List Given)) ChangeFault
+told_by m headings text = reads_on m headings 1 (lines text) nothing_read
+
+-- ---- what is kept of it: the writes of each batch, and where the robot is
+
+pub record Kept : Type 0 where
+  pub batches : List (List Write)
+  pub moves : List (Option Place)
+  pub batch : List Write
+  pub start : Option Place
+  pub last : ℕ
+
+abbrev pub kept_of : Drafted → Kept
+kept_of d = record {
+  batches = map writes_of d.done;
+  moves = map place_of d.done;
+  batch = writes_of d.batch;
+  start = place_of d.batch;
+  last = d.last;
+}
+
+abbrev pub parted : Result (List (List Given)) ChangeFault
+    → Result (List (List Write) × List (Option Place)) ChangeFault
+parted (Ok told) = Ok (map writes_of told, map place_of told)
+parted (Err f) = Err f
+
+-- the batches without the moves
+abbrev pub alone : Result (List (List Write) × List (Option Place)) ChangeFault → Result (List (List Write)) ChangeFault
+alone (Ok x) = Ok x.0
+alone (Err f) = Err f

@@ -9,23 +9,24 @@ use std::alloc::{AllocError, AllocFailed};
 use thiserror::Error;
 
 /// The fault of the first faulty line of a change file, with the line's number. Lines are numbered from 1. Within a line
-/// the faults come in the order of the variants; `NoReplan` comes only where no line is faulty.
+/// the faults come in the order of the variants; `NoReplan` comes only where no line is faulty. Lines of a start stand only in
+/// texts that are read with a number of headings; in others such a line is a fault, `Word`.
 #[derive(Clone, Copy, Debug, PartialEq, Eq, Error)]
 pub enum ChangeFault {
-    /// The first field is neither `cell` nor `replan`, or the number of fields is wrong.
-    #[error("neither a cell nor a replan, at line {0}")]
+    /// The first field is none of `cell`, `start` and `replan`, or the number of fields is wrong.
+    #[error("not a line of a change file, at line {0}")]
     Word(u64),
-    /// A field after `cell` is not a whole number.
+    /// A field after `cell` or `start` is not a whole number.
     #[error("not a whole number, at line {0}")]
     Number(u64),
-    /// x or y is outside 0..8388607, or the cost is outside 0..255.
+    /// x or y is outside 0..8388607, the cost is outside 0..255, or the heading is not below the number of headings.
     #[error("a number outside its range, at line {0}")]
     Range(u64),
     /// The cell is not on the map.
     #[error("a cell off the map, at line {0}")]
     OffMap(u64),
-    /// A cell stands after the last `replan`. The line is that of the last such cell.
-    #[error("no replan after the cell at line {0}")]
+    /// A cell or a start stands after the last `replan`. The line is that of the last of these.
+    #[error("no replan after line {0}")]
     NoReplan(u64),
     /// Memory ran out. This says nothing of the text.
     #[error("out of memory")]

@@ -1,21 +1,22 @@
 //! What a line says.
 
-ghost use Rattle.std.specs.Prelude.{◌≡◌, ◌≤◌, Some, option_map, IfSome};
+ghost use Rattle.std.specs.Prelude.{◌≡◌, ◌<◌, Some, option_map, IfOk, IfSome};
 ghost use Rattle.sbpl_map.specs.Fields.{fields};
-ghost use Rattle.sbpl_map.specs.Reading.{in_range, judged, lacks_form, measured, write_on_map, written, ended, three};
+ghost use Rattle.sbpl_map.specs.Reading.{cell_said, in_range, judged, lacks_form, measured, numbers, on_map, ended, started, three};
 
 use crate::fault::ChangeFault;
 use crate::line::first_field;
 use crate::map::Map;
 use crate::said::Said;
 use crate::write::Write;
+use sbpl_cfg::Place;
 use sbpl_fixed::{NumFault, read_whole};
 
-/// The greatest column and row that a line may name.
-const FARTHEST: u32 = 8_388_607;
+/// A column or a row that a line names is below this.
+const CELLS: u32 = 8_388_608;
 
-/// The greatest cost.
-const DEAREST: u32 = 255;
+/// A cost is below this.
+const COSTS: u32 = 256;
 
 /// Whether a text does not have the form of a number.
 fn lacks_form(read: Result<i64, NumFault>) -> bool
@@ -27,47 +28,56 @@ fn lacks_form(read: Result<i64, NumFault>) -> bool
     }
 }
 
-/// A number that was read, where it lies in `0..=high`.
-fn in_range(read: Result<i64, NumFault>, high: u32) -> Option<u32>
-    ensures value { result ≡ in_range high read }
-    ensures small { IfSome result (λ n. n ≤ high) }
+/// A number that was read, where it lies in `0..limit`.
+fn in_range(read: Result<i64, NumFault>, limit: u32) -> Option<u32>
+    ensures value { result ≡ in_range limit read }
+    ensures small { IfSome result (λ n. n < limit) }
 {
     match read {
-        Ok(n) if 0 <= n && n <= i64::from(high) => Some(n as u32),
+        Ok(n) if 0 <= n && n < i64::from(limit) => Some(n as u32),
         _ => None,
     }
 }
 
-/// A write to a cell, or `OffMap` where the cell is not on the map.
-fn write_on_map(map: &Map, number: u64, x: u32, y: u32, cost: u8) -> Result<Write, ChangeFault>
-    ensures write { result ≡ write_on_map map.now number (Some x) (Some y) (Some cost) }
+/// A cell and a third number, or `OffMap` where the cell is not on the map.
+fn on_map(
+    map: &Map,
+    number: u64,
+    x: u32,
+    y: u32,
+    third: u32,
+) -> Result<(u32, u32, u32), ChangeFault>
+    ensures three { result ≡ on_map map.now number (Some x) (Some y) (Some third) }
+    ensures third { IfOk result (λ n. n.2 ≡ third) }
 {
     if x < map.width() && y < map.height() {
-        Ok(Write { x, y, cost })
+        Ok((x, y, third))
     } else {
         Err(ChangeFault::OffMap(number))
     }
 }
 
-/// The write of three fields: each must be a whole number, then each in its range, and then the cell on the map.
+/// The numbers of three fields: each must be a whole number, then each in its range, and then the cell on the map.
 fn measured(
     map: &Map,
     number: u64,
+    limit: u32,
     x: Result<i64, NumFault>,
     y: Result<i64, NumFault>,
-    cost: Result<i64, NumFault>,
-) -> Result<Write, ChangeFault>
-    ensures write { result ≡ measured map.now number x y cost }
+    third: Result<i64, NumFault>,
+) -> Result<(u32, u32, u32), ChangeFault>
+    ensures three { result ≡ measured map.now number limit x y third }
+    ensures small { IfOk result (λ n. n.2 < limit) }
 {
-    if lacks_form(x) || lacks_form(y) || lacks_form(cost) {
+    if lacks_form(x) || lacks_form(y) || lacks_form(third) {
         return Err(ChangeFault::Number(number));
     }
     match (
-        in_range(x, FARTHEST),
-        in_range(y, FARTHEST),
-        in_range(cost, DEAREST),
+        in_range(x, CELLS),
+        in_range(y, CELLS),
+        in_range(third, limit),
     ) {
-        (Some(x), Some(y), Some(cost)) => write_on_map(map, number, x, y, cost as u8),
+        (Some(x), Some(y), Some(third)) => on_map(map, number, x, y, third),
         _ => Err(ChangeFault::Range(number)),
     }
 }
@@ -78,21 +88,49 @@ fn three_fields(line: &[u8]) -> Option<(&[u8], &[u8], &[u8])>
 {
     let (x, rest) = first_field(line)?;
     let (y, rest) = first_field(rest)?;
-    let (cost, rest) = first_field(rest)?;
+    let (third, rest) = first_field(rest)?;
     match first_field(rest) {
         Some(_) => None,
-        None => Some((x, y, cost)),
+        None => Some((x, y, third)),
+    }
+}
+
+/// The numbers of the fields after a word that wants three: a cell, and a third number below the limit.
+fn numbers(map: &Map, number: u64, limit: u32, line: &[u8]) -> Result<(u32, u32, u32), ChangeFault>
+    ensures three { result ≡ numbers map.now number limit (three (fields line.now)) }
+    ensures small { IfOk result (λ n. n.2 < limit) }
+{
+    match three_fields(line) {
+        Some((x, y, third)) => measured(
+            map,
+            number,
+            limit,
+            read_whole(x),
+            read_whole(y),
+            read_whole(third),
+        ),
+        None => Err(ChangeFault::Word(number)),
     }
 }
 
 /// The write of the fields after the word of a cell.
-fn written(map: &Map, number: u64, line: &[u8]) -> Result<Write, ChangeFault>
-    ensures write { result ≡ written map.now number (three (fields line.now)) }
+fn written(map: &Map, number: u64, line: &[u8]) -> Result<Said, ChangeFault>
+    ensures said { result ≡ cell_said (numbers map.now number 256 (three (fields line.now))) }
 {
-    match three_fields(line) {
-        Some((x, y, cost)) => measured(map, number, read_whole(x), read_whole(y), read_whole(cost)),
-        None => Err(ChangeFault::Word(number)),
-    }
+    let (x, y, cost) = numbers(map, number, COSTS, line)?;
+    let cost = cost as u8;
+    Ok(Said::Cell(Write { x, y, cost }))
+}
+
+/// Where the robot is by the fields after the word of a start, where lines can say so.
+fn started(map: &Map, headings: Option<u32>, number: u64, line: &[u8]) -> Result<Said, ChangeFault>
+    ensures said { result ≡ started map.now headings number (fields line.now) }
+{
+    let Some(headings) = headings else {
+        return Err(ChangeFault::Word(number));
+    };
+    let (x, y, t) = numbers(map, number, headings, line)?;
+    Ok(Said::Start(Place { x, y, t }))
 }
 
 /// The end of a batch, after whose word nothing may stand.
@@ -105,16 +143,23 @@ fn ended(number: u64, line: &[u8]) -> Result<Said, ChangeFault>
     }
 }
 
-/// What the line with this number says, or its fault.
+/// What the line with this number says, or its fault. There are starts only where a number of headings is given.
 #[tactic(auto, unfolding(crate::specs::Reading::judged))]
-pub(crate) fn judged(map: &Map, number: u64, line: &[u8]) -> Result<Said, ChangeFault>
-    ensures said { result ≡ judged map.now number (fields line.now) }
+pub(crate) fn judged(
+    map: &Map,
+    headings: Option<u32>,
+    number: u64,
+    line: &[u8],
+) -> Result<Said, ChangeFault>
+    ensures said { result ≡ judged map.now headings number (fields line.now) }
 {
     let Some((word, rest)) = first_field(line) else {
         return Ok(Said::Nothing);
     };
     if word == b"cell".as_slice() {
-        Ok(Said::Cell(written(map, number, rest)?))
+        written(map, number, rest)
+    } else if word == b"start".as_slice() {
+        started(map, headings, number, rest)
     } else if word == b"replan".as_slice() {
         ended(number, rest)
     } else {

@@ -1,4 +1,4 @@
-//! The map of cell costs, and the lists of changes to it.
+//! The map of cell costs, and what change files say: the lists of changes to it, and where a robot is.
 #![tactic(auto)]
 
 mod after;
@@ -7,6 +7,7 @@ mod fault;
 mod judging;
 mod line;
 mod map;
+mod moves;
 mod off_map;
 mod read;
 mod said;
@@ -17,7 +18,8 @@ pub use after::writes_lead_to_the_next_map;
 pub use changes::Changes;
 pub use fault::ChangeFault;
 pub use map::Map;
+pub use moves::Moves;
 pub use off_map::OffMap;
-pub use read::read_changes;
-pub use text::texts_are_changes_or_faulty;
+pub use read::{read_changes, read_moves};
+pub use text::{texts_are_changes_or_faulty, texts_are_moves_or_faulty};
 pub use write::Write;

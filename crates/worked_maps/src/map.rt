@@ -1,23 +1,28 @@
 //! Maps, and the texts of changes to them.
 
-ghost use Rattle.std.specs.Prelude.{◌≤◌, ◌^◌, length};
+ghost use Rattle.std.specs.Prelude.{◌≡◌, ◌≤◌, ◌^◌, length};
 
-use sample_files::E1;
-use sbpl_cfg::read_env;
-use sbpl_map::{Changes, Map, OffMap, Write, read_changes};
+use sample_files::{E1, E2};
+use sbpl_cfg::{Place, read_env};
+use sbpl_map::{Changes, Map, Moves, OffMap, Write, read_changes, read_moves};
 use std::alloc::Global;
 use std::process::Abort;
 use std::test::Fail;
 
-/// A map of three cells in a row, all of cost 0, as an environment file gives it.
-fn row_of_three(alloc: Global) -> Result<Map, Fail> {
-    let (env, grid) = read_env(alloc, E1.as_bytes())?;
+/// The map of an environment file.
+fn map_of(alloc: Global, text: &str) -> Result<Map, Fail> {
+    let (env, grid) = read_env(alloc, text.as_bytes())?;
     let cells = grid.as_slice().len();
     if cells as u64 == u64::from(env.width) * u64::from(env.height) {
         Ok(Map::new(&env, grid))
     } else {
         Err(Fail::new("size"))
     }
+}
+
+/// A map of three cells in a row, all of cost 0.
+fn row_of_three(alloc: Global) -> Result<Map, Fail> {
+    map_of(alloc, E1)
 }
 
 /// Texts of changes, each with `;` after it, and after its arrow the fault: its number, name and line.
@@ -58,6 +63,74 @@ fn fault_of(alloc: Global, map: &Map, text: &[u8]) -> Result<String, Fail> {
             fault.line()
         )?),
     }
+}
+
+/// Texts that say where a robot is, each with `;` after it, and after its arrow the fault where there are sixteen headings
+/// and the map has two rows of three cells, and the fault where lines cannot say this.
+const START_FAULTS: &str = "\
+start 0 0 16\nreplan\n => 3 Range 1, 1 Word 1;\
+start 0 0 -1\nreplan\n => 3 Range 1, 1 Word 1;\
+start 8388608 0 0\nreplan\n => 3 Range 1, 1 Word 1;\
+start 3 0 0\nreplan\n => 4 OffMap 1, 1 Word 1;\
+start 0 2 16\nreplan\n => 3 Range 1, 1 Word 1;\
+start 0 1\nreplan\n => 1 Word 1, 1 Word 1;\
+start 0 1 0 0\nreplan\n => 1 Word 1, 1 Word 1;\
+starts 0 1 0\nreplan\n => 1 Word 1, 1 Word 1;\
+start a 1 99\nreplan\n => 2 Number 1, 1 Word 1;\
+cell 0 0 1\nreplan\nstart 0 1 0\n => 5 NoReplan 3, 1 Word 3;\
+start 0 1 0\ncell 0 0 1\n => 5 NoReplan 2, 1 Word 1;\
+cell 0 0 256\nstart 0 1 0\n => 3 Range 1, 3 Range 1;\
+cell 0 0 255\n => 5 NoReplan 1, 5 NoReplan 1";
+
+/// The fault of a text that can say where a robot is, with sixteen headings, and the fault where it cannot, as a line.
+fn start_faults_of(alloc: Global, map: &Map, text: &[u8]) -> Result<String, Fail> {
+    let other = fault_of(alloc, map, text)?;
+    if text.len() > 100 {
+        return Err(Fail::new("a long text"));
+    }
+    match read_moves(alloc, text, map, 16) {
+        Ok(_) => Err(Fail::new("no fault")),
+        Err(fault) => Ok(format!(in alloc;
+            "{} {} {}, {}",
+            fault.number(),
+            fault.name(),
+            fault.line(),
+            other.as_str()
+        )?),
+    }
+}
+
+/// The first faults of texts that can say where a robot is.
+fn compare_start_faults(rt: &impl Abort, alloc: Global, map: &Map) -> Result<(), Fail> {
+    for row in START_FAULTS.split(';') {
+        let (text, want) = row.split_once(" => ").ok_or("an arrow")?;
+        let faults = start_faults_of(alloc, map, text.as_bytes())?;
+        assert_eq!(rt; faults.as_str(), want, "{row}");
+    }
+    Ok(())
+}
+
+/// Where a robot is in three batches: by the last line of the first that says so, not said by the second.
+fn compare_places(rt: &impl Abort, changes: &Changes, moves: &Moves)
+    requires each { length moves.now ≡ length changes.now }
+{
+    assert_eq!(rt; changes.batches(), 3);
+    let first = Place { x: 0, y: 1, t: 0 };
+    let last = Place { x: 1, y: 0, t: 15 };
+    assert_eq!(rt;
+        (moves.at(0), moves.at(1), moves.at(2)),
+        (Some(first), None, Some(last))
+    );
+}
+
+/// The moves of a text with sixteen headings.
+fn compare_moves(rt: &impl Abort, alloc: Global, map: &Map) -> Result<(), Fail> {
+    let text =
+        "start 2 1 15\ncell 0 0 7\nstart\t0 1 0\r\nreplan\ncell 0 0 8\nreplan\n start +1 0 015\nreplan";
+    let (changes, moves) = read_moves(alloc, text.as_bytes(), map, 16)?;
+    compare_places(rt, &changes, &moves);
+    drop((changes, moves));
+    Ok(())
 }
 
 /// The first faults of texts for this map.
@@ -147,6 +220,22 @@ fn a_text_gives_its_first_fault(rt: HostRuntime) -> Result<(), Fail> {
 fn a_text_gives_its_batches(rt: HostRuntime) -> Result<(), Fail> {
     let map = row_of_three(rt.alloc())?;
     let compared = compare_texts(&rt, rt.alloc(), &map);
+    drop(map);
+    compared
+}
+
+#[test]
+fn a_text_gives_where_a_robot_is(rt: HostRuntime) -> Result<(), Fail> {
+    let map = map_of(rt.alloc(), E2)?;
+    let compared = compare_moves(&rt, rt.alloc(), &map);
+    drop(map);
+    compared
+}
+
+#[test]
+fn a_text_that_says_where_a_robot_is_gives_its_first_fault(rt: HostRuntime) -> Result<(), Fail> {
+    let map = map_of(rt.alloc(), E2)?;
+    let compared = compare_start_faults(&rt, rt.alloc(), &map);
     drop(map);
     compared
 }
