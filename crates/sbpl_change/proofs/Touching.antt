@@ -10,9 +10,11 @@ use Rattle.sbpl_map.specs.MapAfter.{AreWritten}
 use Rattle.sbpl_map.specs.declared.write.Write.{Write}
 use Rattle.sbpl_cost.specs.World.{IsWorld, World, over_map}
 use Rattle.sbpl_cost.specs.Lattices.{network_of}
-use Rattle.sbpl_cost.specs.Reading.{IsHeadReading, DifferInCostsAlone, UnreadArcsCostTheSame, MapsChangeNoReads}
+use Rattle.sbpl_cost.specs.Ends.{at_end}
+use Rattle.sbpl_cost.specs.Reading.{IsEndReading, DifferInCostsAlone, UnreadArcsCostTheSame, MapsChangeNoReads}
+use Rattle.sbpl_cost.specs.declared.arc_end.ArcEnd.{ArcEnd}
 use Rattle.sbpl_change.specs.Noted.{cell_cmp, AreNoted}
-use Rattle.sbpl_change.specs.Heads.{IsHeadOf, AreHeadsOf}
+use Rattle.sbpl_change.specs.Ends.{IsEndOf, AreEndsOf}
 use Rattle.sbpl_change.specs.Affected.{IsAffected, AreAffected, KeepArcsElsewhere}
 use Rattle.sbpl_change.proofs.Written.{changed_is_written}
 
@@ -36,63 +38,82 @@ same_arc n m s k t rest arc = record {
   head = subst (λ head. head s k ≡ Some t) rest.head arc.head;
 }
 
-module _ (w : World) (m : CellMap) (rest : DifferInCostsAlone (network_of (over_map w m)) (network_of w)) (reads : MapsChangeNoReads) where
-  head_before : (x y : ℤ) (t : ℕ) → IsHeadReading (over_map w m) x y t → IsHeadReading w x y t
-  head_before x y t h = record { source = h.source; number = h.number; arc = same_arc (network_of (over_map w m)) (network_of w) h.source h.number t rest h.arc; reads = (reads w m h.source h.number x y).0 h.reads }
+module _ (end : ArcEnd) (w : World) (m : CellMap) (rest : DifferInCostsAlone (network_of (over_map w m)) (network_of w)) (reads : MapsChangeNoReads) where
+  end_before : (x y : ℤ) (t : ℕ) → IsEndReading end (over_map w m) x y t → IsEndReading end w x y t
+  end_before x y t h = record {
+    source = h.source;
+    number = h.number;
+    head = h.head;
+    arc = same_arc (network_of (over_map w m)) (network_of w) h.source h.number h.head rest h.arc;
+    reads = (reads w m h.source h.number x y).0 h.reads;
+    at = h.at;
+  }
 
   -- the other way round
   rest_back : DifferInCostsAlone (network_of w) (network_of (over_map w m))
   rest_back = record { states = sym rest.states; fan = sym rest.fan; head = sym rest.head; tail_fan = sym rest.tail_fan; tail = sym rest.tail; gap = sym rest.gap }
 
-  head_after : (x y : ℤ) (t : ℕ) → IsHeadReading w x y t → IsHeadReading (over_map w m) x y t
-  head_after x y t h = record { source = h.source; number = h.number; arc = same_arc (network_of w) (network_of (over_map w m)) h.source h.number t rest_back h.arc; reads = (reads w m h.source h.number x y).1 h.reads }
+  end_after : (x y : ℤ) (t : ℕ) → IsEndReading end w x y t → IsEndReading end (over_map w m) x y t
+  end_after x y t h = record {
+    source = h.source;
+    number = h.number;
+    head = h.head;
+    arc = same_arc (network_of w) (network_of (over_map w m)) h.source h.number h.head rest_back h.arc;
+    reads = (reads w m h.source h.number x y).1 h.reads;
+    at = h.at;
+  }
 
-  module _ (batch : List Write) (costs : BTreeMap (ℕ × ℕ) ℕ) (heads : List ℕ) (noted : AreNoted w.map batch costs) (written : AreWritten w.map batch m) (are : AreHeadsOf (over_map w m) costs heads) where
-    touched_by_head : (t : ℕ) → IsHeadOf (over_map w m) costs t → IsAffected w m t
-    touched_by_head t h = record {
+  module _ (batch : List Write) (costs : BTreeMap (ℕ × ℕ) ℕ) (ends : List ℕ) (noted : AreNoted w.map batch costs) (written : AreWritten w.map batch m) (are : AreEndsOf end (over_map w m) costs ends) where
+    touched_by_end : (t : ℕ) → IsEndOf end (over_map w m) costs t → IsAffected end w m t
+    touched_by_end t h = record {
       x = pos h.x;
       y = pos h.y;
-      changed = λ same. h.head.changed (same ∙ noted.sound h.x h.y h.cost h.noted);
-      reads = head_before (pos h.x) (pos h.y) t h.head.reads;
+      changed = λ same. h.at.changed (same ∙ noted.sound h.x h.y h.cost h.noted);
+      reads = end_before (pos h.x) (pos h.y) t h.at.reads;
     }
 
-    head_by_note : (x y t : ℕ) (o : Option ℕ) → get cell_cmp costs (x, y) ≡ o → IsSome o → cost_at m (pos x) (pos y) ≢ cost_at w.map (pos x) (pos y) → IsHeadReading w (pos x) (pos y) t → IsHeadOf (over_map w m) costs t
-    head_by_note x y t None is some changed head = absurd (cc)
-    head_by_note x y t (Some c) is some changed head = record {
+    end_by_note : (x y t : ℕ) (o : Option ℕ) → get cell_cmp costs (x, y) ≡ o → IsSome o → cost_at m (pos x) (pos y) ≢ cost_at w.map (pos x) (pos y) → IsEndReading end w (pos x) (pos y) t → IsEndOf end (over_map w m) costs t
+    end_by_note x y t None is some changed here = absurd (cc)
+    end_by_note x y t (Some c) is some changed here = record {
       x = x;
       y = y;
       cost = c;
       noted = is;
-      head = record { changed = λ same. changed (same ∙ sym (noted.sound x y c is)); reads = head_after (pos x) (pos y) t head };
+      at = record { changed = λ same. changed (same ∙ sym (noted.sound x y c is)); reads = end_after (pos x) (pos y) t here };
     }
 
-    head_by_touched : (t : ℕ) → IsAffected w m t → IsHeadOf (over_map w m) costs t
-    head_by_touched t h =
+    end_by_touched : (t : ℕ) → IsAffected end w m t → IsEndOf end (over_map w m) costs t
+    end_by_touched t h =
         let to = changed_is_written batch w.map m h.x h.y written h.changed in
         let v = to.write in
         let changed : cost_at m (pos v.x) (pos v.y) ≢ cost_at w.map (pos v.x) (pos v.y) = subst (λ y. cost_at m (pos v.x) y ≢ cost_at w.map (pos v.x) y) to.row (subst (λ x. cost_at m x h.y ≢ cost_at w.map x h.y) to.column h.changed) in
-        let head : IsHeadReading w (pos v.x) (pos v.y) t = subst (λ y. IsHeadReading w (pos v.x) y t) to.row (subst (λ x. IsHeadReading w x h.y t) to.column h.reads) in
-        head_by_note v.x v.y t (get cell_cmp costs (v.x, v.y)) refl (noted.complete to.place v to.stands) changed head
+        let here : IsEndReading end w (pos v.x) (pos v.y) t = subst (λ y. IsEndReading end w (pos v.x) y t) to.row (subst (λ x. IsEndReading end w x h.y t) to.column h.reads) in
+        end_by_note v.x v.y t (get cell_cmp costs (v.x, v.y)) refl (noted.complete to.place v to.stands) changed here
 
-    pub heads_are_touched : AreAffected w m heads
-    heads_are_touched t = (λ h. touched_by_head t (are.sound t h), λ h. are.complete t (head_by_touched t h))
+    pub ends_are_touched : AreAffected end w m ends
+    ends_are_touched t = (λ h. touched_by_end t (are.sound t h), λ h. are.complete t (end_by_touched t h))
 
-  module _ (touched : List ℕ) (costs_same : UnreadArcsCostTheSame) (is_world : IsWorld w) (is_other : IsWorld (over_map w m)) (are : AreAffected w m touched) where
-    same_cost : (s k t : ℕ) → IsArc (network_of w) s k t → (Contains touched t → ⊥) → (network_of (over_map w m)).cost s k ≡ (network_of w).cost s k
+  module _ (touched : List ℕ) (costs_same : UnreadArcsCostTheSame) (is_world : IsWorld w) (is_other : IsWorld (over_map w m)) (are : AreAffected end w m touched) where
+    same_cost : (s k t : ℕ) → IsArc (network_of w) s k t → (Contains touched (at_end end (s, t)) → ⊥) → (network_of (over_map w m)).cost s k ≡ (network_of w).cost s k
     same_cost s k t arc none = costs_same w m s k is_world is_other (λ x y read.
         same_unless (cost_at m x y) (cost_at w.map x y) (λ changed.
-        none ((are t).1 (record { x = x; y = y; changed = changed; reads = record { source = s; number = k; arc = arc; reads = read } }))))
+        none ((are (at_end end (s, t))).1 (record {
+          x = x;
+          y = y;
+          changed = changed;
+          reads = record { source = s; number = k; head = t; arc = arc; reads = read; at = refl };
+        }))))
 
-    free_after : (s k t c : ℕ) → (Contains touched t → ⊥) → IsFreeArc (network_of w) s k t c → IsFreeArc (network_of (over_map w m)) s k t c
+    free_after : (s k t c : ℕ) → (Contains touched (at_end end (s, t)) → ⊥) → IsFreeArc (network_of w) s k t c → IsFreeArc (network_of (over_map w m)) s k t c
     free_after s k t c none free =
         let arc : IsArc (network_of w) s k t = record { source = free.source; number = free.number; head = free.head } in
         let there = same_arc (network_of w) (network_of (over_map w m)) s k t rest_back arc in
         record { source = there.source; number = there.number; head = there.head; cost = same_cost s k t arc none ∙ free.cost }
 
-    free_before : (s k t c : ℕ) → (Contains touched t → ⊥) → IsFreeArc (network_of (over_map w m)) s k t c → IsFreeArc (network_of w) s k t c
+    free_before : (s k t c : ℕ) → (Contains touched (at_end end (s, t)) → ⊥) → IsFreeArc (network_of (over_map w m)) s k t c → IsFreeArc (network_of w) s k t c
     free_before s k t c none free =
         let arc = same_arc (network_of (over_map w m)) (network_of w) s k t rest (record { source = free.source; number = free.number; head = free.head }) in
         record { source = arc.source; number = arc.number; head = arc.head; cost = sym (same_cost s k t arc none) ∙ free.cost }
 
-    pub arcs_kept_elsewhere : KeepArcsElsewhere (network_of w) (network_of (over_map w m)) touched
-    arcs_kept_elsewhere t none = record { kept = λ s k c free. free_after s k t c none free; none_new = λ s k c free. free_before s k t c none free }
+    pub arcs_kept_elsewhere : KeepArcsElsewhere end (network_of w) (network_of (over_map w m)) touched
+    arcs_kept_elsewhere s k t c none = (free_after s k t c none, free_before s k t c none)

@@ -1,3 +1,3 @@
 pub mod Noted
-pub mod Heads
+pub mod Ends
 pub mod Affected

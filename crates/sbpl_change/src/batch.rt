@@ -10,8 +10,8 @@ ghost use Rattle.sbpl_change.specs.Noted.{AreOnMap};
 ghost use Rattle.sbpl_change.specs.Affected.{AreAffected, AreStates, KeepArcsElsewhere};
 
 use crate::costs::{present_cost, present_costs};
-use crate::heads::add_changed_heads;
-use sbpl_cost::{Lattice, unread_arcs_cost_the_same};
+use crate::ends::add_changed_ends;
+use sbpl_cost::{ArcEnd, Lattice, unread_arcs_cost_the_same};
 use sbpl_fixed::NoMemory;
 use sbpl_map::{Write, writes_lead_to_the_next_map};
 use std::alloc::Global;
@@ -49,23 +49,25 @@ pub fn write_batch(lattice: &mut Lattice, batch: &[Write])
     let _map = lattice.map();
 }
 
-/// Writes a batch to the map of a lattice, in turn, and puts into `touched` the states that a repair has to recompute: the
-/// heads of all arcs that read a cell whose cost after the batch is not that before it, each once, upwards. What was
+/// Writes a batch to the map of a lattice, in turn, and puts into `touched` the states that a repair has to recompute: those at
+/// this end of all arcs that read a cell whose cost after the batch is not that before it, each once, upwards. A search that goes
+/// along the arcs recomputes their heads, and one that goes against them their sources. What was
 /// in `touched` before is dropped. All cells of the batch are on the map. After
 /// `NoMemory` the map is the old or the new one, and nothing is said of `touched`.
 pub fn apply(
     alloc: Global,
     lattice: &mut Lattice,
     batch: &[Write],
+    end: ArcEnd,
     touched: &mut Vec<u32>,
 ) -> Result<(), NoMemory>
     requires on_map { AreOnMap lattice.old.map batch.now }
     ensures written { OnOk result (AreWritten lattice.old.map batch.now lattice.new.map) }
     ensures others { lattice.new ≡ record lattice.old { map = lattice.new.map } }
     ensures kept { IsWorld lattice.new }
-    ensures touched { OnOk result (AreAffected lattice.old lattice.new.map touched.new.items) }
+    ensures touched { OnOk result (AreAffected end lattice.old lattice.new.map touched.new.items) }
     ensures once { OnOk result (IsStrictlyIncreasing touched.new.items) }
-    ensures same_arcs { OnOk result (KeepArcsElsewhere (network_of lattice.old) (network_of lattice.new) touched.new.items) }
+    ensures same_arcs { OnOk result (KeepArcsElsewhere end (network_of lattice.old) (network_of lattice.new) touched.new.items) }
     ensures states { OnOk result (AreStates (network_of lattice.new) touched.new.items) }
     ensures refused { OnErr result ((lattice.new.map ≡ lattice.old.map) ⊎ AreWritten lattice.old.map batch.now lattice.new.map) }
 {
@@ -74,5 +76,5 @@ pub fn apply(
     touched.clear();
     let costs = present_costs(alloc, lattice, batch)?;
     write_batch(lattice, batch);
-    add_changed_heads(lattice, &costs, touched)
+    add_changed_ends(lattice, &costs, end, touched)
 }

@@ -3,6 +3,6 @@
 
 mod batch;
 mod costs;
-mod heads;
+mod ends;
 
 pub use batch::{apply, are_on_map, write_batch};

@@ -7,7 +7,9 @@ use Rattle.sbpl_mprim.specs.Primitives.{Primitives}
 use Rattle.sbpl_sweep.specs.Swept.{Swept}
 use Rattle.sbpl_map.specs.CellMap.{CellMap}
 use Rattle.sbpl_cost.specs.Lattices.{network_of, states_are}
-use Rattle.sbpl_cost.specs.Reading.{IsHeadReading}
+use Rattle.sbpl_cost.specs.Reading.{IsEndReading}
+use Rattle.sbpl_cost.specs.declared.arc_end.ArcEnd.{ArcEnd}
+use Rattle.sbpl_cost.specs.declared.arc_end.ArcEnd.TheVariants as end
 use Rattle.sbpl_cost.specs.States.{state_count}
 use Rattle.sbpl_change.specs.Affected.{IsAffected}
 use Rattle.sbpl_labels.specs.Marks.{AreInitial, Marks, states_of, back_of}
@@ -19,17 +21,19 @@ use Rattle.sbpl_cli.specs.Headline.{Begins, Carried}
 use Rattle.sbpl_cli.proofs.SameGuide.{made}
 
 -- which states a change touches does not depend on the tables of sweeps
-touched_on : (e : Environment) (ps : Primitives) (sweeps others : Swept) (m now : CellMap) → network_of (made e ps sweeps m) ≡ network_of (made e ps others m)
-    → sweeps.radius ≡ others.radius → (t : ℕ) → IsAffected (made e ps sweeps m) now t → IsAffected (made e ps others m) now t
-touched_on e ps sweeps others m now same radius t is =
+touched_on : (end : ArcEnd) (e : Environment) (ps : Primitives) (sweeps others : Swept) (m now : CellMap) → network_of (made e ps sweeps m) ≡ network_of (made e ps others m)
+    → sweeps.radius ≡ others.radius → (t : ℕ) → IsAffected end (made e ps sweeps m) now t → IsAffected end (made e ps others m) now t
+touched_on end e ps sweeps others m now same radius t is =
     let r = is.reads.reads in
-    let head : IsHeadReading (made e ps others m) is.x is.y t = record {
+    let reading : IsEndReading end (made e ps others m) is.x is.y t = record {
       source = is.reads.source;
       number = is.reads.number;
+      head = is.reads.head;
       arc = rw (← same) is.reads.arc;
       reads = record { index = r.index; prim = r.prim; by = r.by; dx = r.dx; dy = r.dy; column = r.column; row = r.row; read = rw (← radius) r.read };
+      at = is.reads.at;
     } in
-    record { x = is.x; y = is.y; changed = is.changed; reads = head }
+    record { x = is.x; y = is.y; changed = is.changed; reads = reading }
 
 -- the labels are the same, with one row for each state, and the start has no back arc
 pub record AreBegun (e : Environment) (a b : Marks) (xs ys : List ℕ) : Type 0 where
@@ -64,8 +68,8 @@ module _ (e : Environment) (ps : Primitives) (sweeps others : Swept) (radius : s
           let n : Network = network_of (made e ps sweeps m) in
           let own : means.begun n y.touched left.labels b ys = subst (λ (k : Network). means.begun k y.touched left.labels b ys) (sym same) y.begun in
           let both : means.repairs ≡ true → (t : ℕ) → Contains x.touched t ↔ Contains y.touched t = λ repairs t. (
-            λ among. (y.are_touched repairs t).1 (touched_on e ps sweeps others left.map m carried.graph radius t ((x.are_touched repairs t).0 among)),
-            λ among. (x.are_touched repairs t).1 (touched_on e ps others sweeps left.map m (sym carried.graph) (sym radius) t ((y.are_touched repairs t).0 among)),
+            λ among. (y.are_touched repairs t).1 (touched_on end.Head e ps sweeps others left.map m carried.graph radius t ((x.are_touched repairs t).0 among)),
+            λ among. (x.are_touched repairs t).1 (touched_on end.Head e ps others sweeps left.map m (sym carried.graph) (sym radius) t ((y.are_touched repairs t).0 among)),
           ) in
           let all : states_of left.labels ≡ n.states = carried.states ∙ sym (states_are (made e ps sweeps m)) in
           record {

@@ -1,5 +1,5 @@
--- The heads of the arcs that read a cell, by the table of reads.
-use Rattle.std.proofs.Common.{◌≡◌, ℕ, zero, suc, ℤ, pos, negsuc, ◌+◌, ◌<◌, ◌≤◌, ◌==◌, ◌&&◌, ◌+ℤ◌, ◌-ℤ◌, ◌++◌, ◌∷◌, [], ◌⊎◌, inl, inr, List, length, take, count_by, slice_get, Option, Some, None, option_and_then, nat_lt, refl, ap, sym, zero-add, ◌∙◌, arith, subst}
+-- The states at an end of the arcs that read a cell, by the table of reads.
+use Rattle.std.proofs.Common.{◌≡◌, ℕ, zero, suc, ℤ, pos, negsuc, ◌+◌, ◌<◌, ◌≤◌, ◌==◌, ◌&&◌, ◌+ℤ◌, ◌-ℤ◌, ◌++◌, ◌∷◌, [], ◌⊎◌, inl, inr, List, length, take, count_by, slice_get, Option, Some, None, option_and_then, option_map, nat_lt, refl, ap, sym, zero-add, ◌∙◌, arith, subst}
 use Rattle.std.specs.List.{filter_map, cons_option}
 use Rattle.std.proofs.lemmas.Bool.{and_parts, and_from, lt-ltb, ltb-true, cond-true, eq-eqb}
 use Rattle.std.proofs.lemmas.Int.{ints}
@@ -18,10 +18,13 @@ use Rattle.sbpl_cost.specs.States.{IsPlace, place_of, state_number, state_count,
 use Rattle.sbpl_cost.specs.World.{World, IsWorld}
 use Rattle.sbpl_cost.specs.Arc.{IsArcBy}
 use Rattle.sbpl_cost.specs.Lattices.{leaving, arc_index, head_by, network_of}
-use Rattle.sbpl_cost.specs.Reading.{IsHeadReading, AddsHeads, end_of, head_by_offset, head_of_read, AreReadable}
+use Rattle.sbpl_cost.specs.Ends.{at_end}
+use Rattle.sbpl_cost.specs.Reading.{IsEndReading, AddsEnds, end_of, ends_by_offset, ends_from, ends_of_read, end_of_read, AreReadable}
+use Rattle.sbpl_cost.specs.declared.arc_end.ArcEnd.{ArcEnd}
+use Rattle.sbpl_cost.specs.declared.arc_end.ArcEnd.TheVariants as end
 use Rattle.sbpl_cost.proofs.Numbered.{numbered_at}
 use Rattle.sbpl_cost.proofs.Filling.{take_next}
-use Rattle.sbpl_cost.proofs.PlaceLaws.{place_of_state, place_of_state_number}
+use Rattle.sbpl_cost.proofs.PlaceLaws.{place_of_state, place_of_state_number, state_of_place_of}
 use Rattle.sbpl_cost.proofs.LatticeLaws.{sound, state_number_below}
 use Rattle.sbpl_cost.proofs.Arcs.{IsFound}
 use Rattle.sbpl_cost.proofs.Offsets.{swept_within}
@@ -104,12 +107,32 @@ back_by x d a h = omega (arith, ints, h)
 away_by : (x d a : ℤ) → a +ℤ d ≡ x → x -ℤ d ≡ a
 away_by x d a h = omega (arith, ints, h)
 
--- the answer to a read, by its primitive and its source
-pub head_found : (e : Environment) (prims : List Primitive) (x y : ℤ) (r : Read) (p : Primitive) (o : Option Place) (head : Option ℕ) → slice_get prims r.prim ≡ Some p
-    → o ≡ place_on_map e (x -ℤ r.cell.x) (y -ℤ r.cell.y) p.from → head ≡ option_and_then (end_of e p) o → head ≡ head_of_read e prims x y r
-unfolding head_of_read
-head_found e prims x y r p o head at source is =
-    is ∙ ap (λ z. option_and_then (end_of e p) z) source ∙ ap (λ z. option_and_then (head_by_offset e x y r.cell.x r.cell.y) z) (sym at)
+-- what a function gives of the one or the other of what an option has
+mapped : {A B : Type 0} (f : A → B) (o : Option A) (y : B) → option_map f o ≡ Some y → (x : A) × (o ≡ Some x) × (f x ≡ y)
+mapped f None y h = absurd (none-some y h)
+mapped f (Some x) y h = (x, refl, same_Some (f x) y h)
+
+-- the answer to a read, by its primitive, its source and its head
+pub no_source : (end : ArcEnd) (e : Environment) (prims : List Primitive) (x y : ℤ) (r : Read) (p : Primitive) → slice_get prims r.prim ≡ Some p
+    → None ≡ place_on_map e (x -ℤ r.cell.x) (y -ℤ r.cell.y) p.from → None ≡ end_of_read end e prims x y r
+unfolding ends_of_read
+no_source end e prims x y r p at source =
+    ap (λ z. option_map (at_end end) (option_and_then (ends_from e p) z)) source
+    ∙ ap (λ z. option_map (at_end end) (option_and_then (ends_by_offset e x y r.cell.x r.cell.y) z)) (sym at)
+
+module _ (end : ArcEnd) (e : Environment) (prims : List Primitive) (x y : ℤ) (r : Read) (p : Primitive) (q : Place) (at : slice_get prims r.prim ≡ Some p) (source : Some q ≡ place_on_map e (x -ℤ r.cell.x) (y -ℤ r.cell.y) p.from) where
+  by_head : (o : Option ℕ) → end_of e p q ≡ o → option_map (at_end end) (option_map (λ (head : ℕ). (state_number e q, head)) o) ≡ end_of_read end e prims x y r
+  unfolding ends_of_read
+  by_head o head =
+      ap (λ z. option_map (at_end end) (option_map (λ (head : ℕ). (state_number e q, head)) z)) (sym head)
+      ∙ ap (λ z. option_map (at_end end) (option_and_then (ends_from e p) z)) source
+      ∙ ap (λ z. option_map (at_end end) (option_and_then (ends_by_offset e x y r.cell.x r.cell.y) z)) (sym at)
+
+  pub no_head : end_of e p q ≡ None → None ≡ end_of_read end e prims x y r
+  no_head head = by_head None head
+
+  pub ends_found : (t : ℕ) → end_of e p q ≡ Some t → Some (at_end end (state_number e q, t)) ≡ end_of_read end e prims x y r
+  ends_found t head = by_head (Some t) head
 
 module _ (w : World) (is_world : IsWorld w) where
   -- the motion of an arc is in the tables
@@ -160,27 +183,31 @@ module _ (w : World) (is_world : IsWorld w) where
   unfolding network_of
   source_of s k t arc = arc.source
 
-  -- what a read answers is the head of an arc that reads the cell
-  pub answered : (j : ℕ) (r : Read) (x y : ℤ) (t : ℕ) → slice_get w.sweeps.reads j ≡ Some r → head_of_read w.env w.prims.items x y r ≡ Some t → IsHeadReading w x y t
-  unfolding head_of_read
-  answered j r x y t at h =
-      let by = made_of (head_by_offset w.env x y r.cell.x r.cell.y) (slice_get w.prims.items r.prim) t h in
+  -- what a read answers is the end of an arc that reads the cell
+  pub answered : (end : ArcEnd) (j : ℕ) (r : Read) (x y : ℤ) (z : ℕ) → slice_get w.sweeps.reads j ≡ Some r → end_of_read end w.env w.prims.items x y r ≡ Some z → IsEndReading end w x y z
+  unfolding ends_of_read
+  answered end j r x y z at h =
+      let ends = mapped (at_end end) (ends_of_read w.env w.prims.items x y r) z h in
+      let by = made_of (ends_by_offset w.env x y r.cell.x r.cell.y) (slice_get w.prims.items r.prim) ends.0 ends.1 in
       let p = by.0 in
-      let from = made_of (end_of w.env p) (place_on_map w.env (x -ℤ r.cell.x) (y -ℤ r.cell.y) p.from) t by.2 in
+      let from = made_of (ends_from w.env p) (place_on_map w.env (x -ℤ r.cell.x) (y -ℤ r.cell.y) p.from) ends.0 by.2 in
       let source = from.0 in
+      let s = state_number w.env source in
+      let to = mapped (λ (head : ℕ). (s, head)) (end_of w.env p source) ends.0 from.2 in
+      let t = to.0 in
       let lies = place_some w.env (x -ℤ r.cell.x) (y -ℤ r.cell.y) p.from source from.1 in
       let good = is_world.prims.each r.prim p by.1 in
       let on_map : IsPlace w.env source = record { x = lies.right; y = lies.high; t = omega (arith, lies.heading, good.from, is_world.headings) } in
-      let s = state_number w.env source in
       let k = count_by (λ q. q.from == p.from) (take r.prim w.prims.items) in
       let f = arc_from r.prim p source by.1 on_map lies.heading in
       let there = place_of_state_number w.env is_world.env source on_map in
-      let head = arc_head s k r.prim t p f (ap (end_of w.env p) there ∙ from.2) in
+      let head = arc_head s k r.prim t p f (ap (end_of w.env p) there ∙ to.1) in
       let read = is_world.sweeps.reads.each j r at in
       let same = same_Some read.0 p (sym read.1 ∙ by.1) in
       record {
         source = s;
         number = k;
+        head = t;
         arc = is_arc s k r.prim t p (state_number_below w.env source on_map) f head;
         reads = record {
           index = r.prim;
@@ -192,35 +219,46 @@ module _ (w : World) (is_world : IsWorld w) where
           row = ap (λ (q : Place). pos q.y +ℤ r.cell.y) there ∙ back_by y r.cell.y (pos source.y) lies.row;
           read = subst (λ c. IsRead c w.sweeps.radius p r.cell.x r.cell.y) is_world.cell (subst (λ q. IsRead w.prims.cell w.sweeps.radius q r.cell.x r.cell.y) same read.2);
         };
+        at = sym (ap (at_end end) to.2 ∙ ends.2);
       }
 
-  -- the head of an arc that reads the cell is what a read answers
-  pub asked : (x y : ℤ) (t : ℕ) → IsHeadReading w x y t → (j : ℕ) × ((r : Read) × (slice_get w.sweeps.reads j ≡ Some r) × (head_of_read w.env w.prims.items x y r ≡ Some t))
-  unfolding head_of_read
-  asked x y t reading =
+  -- the end of an arc that reads the cell is what a read answers
+  pub asked : (end : ArcEnd) (x y : ℤ) (z : ℕ) → IsEndReading end w x y z → (j : ℕ) × ((r : Read) × (slice_get w.sweeps.reads j ≡ Some r) × (end_of_read end w.env w.prims.items x y r ≡ Some z))
+  unfolding ends_of_read
+  asked end x y z reading =
       let s = reading.source in
       let k = reading.number in
+      let t = reading.head in
       let reads = reading.reads in
       let p = reads.prim in
       let r : Read = record { prim = reads.index; cell = record { y = reads.dy; x = reads.dx } } in
       let at = is_world.sweeps.reads.all reads.index p reads.dx reads.dy reads.by.stands (subst (λ c. IsRead c w.sweeps.radius p reads.dx reads.dy) (sym is_world.cell) reads.read) in
       let source = place_of w.env s in
-      let inside = place_of_state w.env is_world.env s (source_of s k t reading.arc) in
+      let state = source_of s k t reading.arc in
+      let inside = place_of_state w.env is_world.env s state in
       let here = place_at w.env (x -ℤ reads.dx) (y -ℤ reads.dy) p.from source.x source.y (away_by x reads.dx (pos source.x) reads.column) (away_by y reads.dy (pos source.y) reads.row) inside.x inside.y in
       let head = head_arc s k reads.index t p (found_by_arc s k reads.index p reads.by) reading.arc.head in
-      (at.0, (r, at.1, ap (λ o. option_and_then (head_by_offset w.env x y reads.dx reads.dy) o) reads.by.stands ∙ ap (λ o. option_and_then (end_of w.env p) o) here ∙ head))
+      let place : place_on_map w.env (x -ℤ reads.dx) (y -ℤ reads.dy) p.from ≡ Some source = here ∙ ap (λ h. Some (record { x = source.x; y = source.y; t = h })) reads.by.heading in
+      let ends = ends_found end w.env w.prims.items x y r p source reads.by.stands (sym place) t head in
+      let number = state_of_place_of w.env is_world.env s in
+      (at.0, (r, at.1, sym ends ∙ ap (λ n. Some (at_end end (n, t))) number ∙ ap (λ n. Some n) (sym reading.at)))
 
-  pub adds_heads : (x y : ℤ) (old new : List ℕ) → new ≡ old ++ filter_map (head_of_read w.env w.prims.items x y) w.sweeps.reads → AddsHeads w x y old new
-  adds_heads x y old new added =
-      let f : Read → Option ℕ = head_of_read w.env w.prims.items x y in
-      let found : (i t : ℕ) → slice_get (filter_map f w.sweeps.reads) i ≡ Some t → IsHeadReading w x y t = λ i t at.
+  -- the end of an arc is a state
+  end_is_state : (end : ArcEnd) (s k t z : ℕ) → IsArc (network_of w) s k t → z ≡ at_end end (s, t) → z < (network_of w).states
+  end_is_state end.Source s k t z arc is = subst (λ n. n < (network_of w).states) (sym is) arc.source
+  end_is_state end.Head s k t z arc is = subst (λ n. n < (network_of w).states) (sym is) ((sound w is_world).head_is_state s k t arc.source arc.number arc.head)
+
+  pub adds_ends : (end : ArcEnd) (x y : ℤ) (old new : List ℕ) → new ≡ old ++ filter_map (end_of_read end w.env w.prims.items x y) w.sweeps.reads → AddsEnds end w x y old new
+  adds_ends end x y old new added =
+      let f : Read → Option ℕ = end_of_read end w.env w.prims.items x y in
+      let found : (i t : ℕ) → slice_get (filter_map f w.sweeps.reads) i ≡ Some t → IsEndReading end w x y t = λ i t at.
       let from = filtered_from f w.sweeps.reads i t at in
-      answered from.0 from.1.0 x y t from.1.1 from.1.2 in
+      answered end from.0 from.1.0 x y t from.1.1 from.1.2 in
       record {
         added = filter_map f w.sweeps.reads;
         kept = added;
         sound = found;
-        complete = λ t reading. let from = asked x y t reading in filtered_at f w.sweeps.reads from.0 from.1.0 t from.1.1 from.1.2;
-        states = λ i t at. let reading = found i t at in (sound w is_world).head_is_state reading.source reading.number t reading.arc.source reading.arc.number reading.arc.head;
+        complete = λ t reading. let from = asked end x y t reading in filtered_at f w.sweeps.reads from.0 from.1.0 t from.1.1 from.1.2;
+        states = λ i t at. let reading = found i t at in end_is_state end reading.source reading.number reading.head t reading.arc reading.at;
         few = filtered_few f w.sweeps.reads;
       }

@@ -48,6 +48,14 @@ pub axis_step : (d : ℤ) (a b : ℕ) → pos b ≡ pos a +ℤ d → (c : ℕ) �
 axis_step (pos k) a b e c = (omega (arith, ints, e), omega (arith, ints, e))
 axis_step (negsuc k) a b e c = (omega (arith, ints, e), omega (arith, ints, e))
 
+-- the same, seen from another place
+pub axis_back : (d : ℤ) (a b : ℕ) → pos b ≡ pos a +ℤ d → (c : ℕ) → (b - c ≤ a - c + positive_part d) × (c - b ≤ c - a + negative_part d)
+axis_back (pos k) a b e c = (omega (arith, ints, e), omega (arith, ints, e))
+axis_back (negsuc k) a b e c = (omega (arith, ints, e), omega (arith, ints, e))
+
+pub gap_on_way : (n c a b : ℕ) → c < n → a < n → b < n → heading_gap n c b ≤ heading_gap n c a + heading_gap n a b
+gap_on_way n c a b below_c below_a below_b = omega arith
+
 module _ (e : Environment) (ps : List Primitive) where
   pub gap_to_itself : (a : Place) → gap_of e ps a a ≡ 0
   unfolding gap_of
@@ -88,6 +96,23 @@ module _ (e : Environment) (ps : List Primitive) where
       let up = bound_step e ps Up (c.y - a.y) (c.y - b.y) place p at y.0 in
       let down = bound_step e ps Down (a.y - c.y) (b.y - c.y) place p at y.1 in
       let round = bound_step e ps Round (heading_gap e.headings a.t c.t) (heading_gap e.headings b.t c.t) place p at t in
+      omega (arith, right, left, up, down, round)
+
+  -- along a motion from one place to another the gap from a place rises by the primitive's cost at most
+  pub gap_rises : (a b c : Place) (place : ℕ) (p : Primitive) → slice_get ps place ≡ Some p → a.t < e.headings → b.t < e.headings → c.t < e.headings
+      → p.from ≡ a.t → b.t ≡ p.to → pos b.x ≡ pos a.x +ℤ p.dx → pos b.y ≡ pos a.y +ℤ p.dy → gap_of e ps c b ≤ gap_of e ps c a + primitive_cost e p
+  unfolding gap_of
+  gap_rises a b c place p at from_in to_in base_in from to column row =
+      let x = axis_back p.dx a.x b.x column c.x in
+      let y = axis_back p.dy a.y b.y row c.y in
+      let turned : heading_gap e.headings a.t b.t ≡ heading_gap e.headings p.from p.to = ap (λ t. heading_gap e.headings t b.t) (sym from) ∙ ap (heading_gap e.headings p.from) to in
+      let t : heading_gap e.headings c.t b.t ≤ heading_gap e.headings c.t a.t + advance e.headings Round p =
+      subst (λ k. heading_gap e.headings c.t b.t ≤ heading_gap e.headings c.t a.t + k) turned (gap_on_way e.headings c.t a.t b.t base_in from_in to_in) in
+      let right = bound_step e ps Right (b.x - c.x) (a.x - c.x) place p at x.0 in
+      let left = bound_step e ps Left (c.x - b.x) (c.x - a.x) place p at x.1 in
+      let up = bound_step e ps Up (b.y - c.y) (a.y - c.y) place p at y.0 in
+      let down = bound_step e ps Down (c.y - b.y) (c.y - a.y) place p at y.1 in
+      let round = bound_step e ps Round (heading_gap e.headings c.t b.t) (heading_gap e.headings c.t a.t) place p at t in
       omega (arith, right, left, up, down, round)
 
 -- the bound of a way by the least fraction

@@ -6,6 +6,7 @@ use Rattle.std.proofs.lemmas.List.Sums.{count_by-le-length}
 use Rattle.std.proofs.lemmas.Nat.{mul-add-lt}
 use Rattle.std.proofs.lemmas.Option.{get_or_from_slice_get, cond_some, none-some}
 use Rattle.sbpl_graph.specs.Laws.{IsSound, HasGaps}
+use Rattle.sbpl_graph.specs.Network.{IsFreeArc}
 use Rattle.sbpl_cfg.specs.declared.pose.Place.{Place}
 use Rattle.sbpl_cfg.specs.Environment.{Environment}
 use Rattle.sbpl_map.specs.CellMap.{CellMap, IsCellMap, IsOnMap, index_in, cost_at}
@@ -19,7 +20,7 @@ use Rattle.sbpl_cost.specs.Lattices.{network_of}
 use Rattle.sbpl_cost.proofs.Numbered.{length-indices_from}
 use Rattle.sbpl_cost.proofs.Heads.{on_map_at}
 use Rattle.sbpl_cost.proofs.Arcs.{found, arc_of}
-use Rattle.sbpl_cost.proofs.GapLaws.{gap_small, gap_to_itself, gap_along}
+use Rattle.sbpl_cost.proofs.GapLaws.{gap_small, gap_to_itself, gap_along, gap_rises}
 use Rattle.sbpl_cost.proofs.PlaceLaws.{place_of_state, place_of_state_number}
 
 -- a place's state is one of the states
@@ -137,3 +138,22 @@ module _ (w : World) (is_world : IsWorld w) where
         let cost = cost_of_free s c f.1 ((here.cost c).0 arc.cost) in
         omega (arith, low, cost);
   }
+
+  -- along the motion of an arc the gap from a state rises by the primitive's cost at most
+  rise_by_motion : (s k t b place : ℕ) (p : Primitive) → s < state_count w.env → b < state_count w.env → IsLeaving w.prims.items (place_of w.env s).t k place p → EndsIn w s p t
+      → gap_of w.env w.prims.items (place_of w.env b) (place_of w.env t) ≤ gap_of w.env w.prims.items (place_of w.env b) (place_of w.env s) + primitive_cost w.env p
+  rise_by_motion s k t b place p state base by ends =
+      let there : place_of w.env t ≡ ends.place = ap (place_of w.env) ends.number ∙ place_of_state_number w.env is_world.env ends.place ends.on_map in
+      let at = place_of_state w.env is_world.env s state in
+      let from = place_of_state w.env is_world.env b base in
+      let low = gap_rises w.env w.prims.items (place_of w.env s) ends.place (place_of w.env b) place p by.stands at.t ends.on_map.t from.t by.heading ends.heading ends.column ends.row in
+      subst (λ q. gap_of w.env w.prims.items (place_of w.env b) q ≤ gap_of w.env w.prims.items (place_of w.env b) (place_of w.env s) + primitive_cost w.env p) (sym there) low
+
+  pub gaps_rise : (s k t c b : ℕ) → IsFreeArc (network_of w) s k t c → b < (network_of w).states → (network_of w).gap b t ≤ (network_of w).gap b s + c
+  unfolding network_of
+  gaps_rise s k t c b arc base =
+      let f = found w s k is_world arc.number in
+      let here = arc_of w is_world s k f.0 f.1 f.2 in
+      let low = rise_by_motion s k t b f.0 f.1 arc.source base f.2.by ((here.head t).0 arc.head) in
+      let cost = cost_of_free s c f.1 ((here.cost c).0 arc.cost) in
+      omega (arith, low, cost)

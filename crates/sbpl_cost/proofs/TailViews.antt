@@ -9,6 +9,8 @@ use Rattle.sbpl_cost.specs.Gaps.{gap_of}
 use Rattle.sbpl_cost.specs.World.{World, IsWorld}
 use Rattle.sbpl_cost.specs.Lattices.{entering, tail_by, network_of}
 use Rattle.sbpl_cost.specs.Tables.{AreNumbers}
+use Rattle.sbpl_cost.specs.Ends.{heading_at}
+use Rattle.sbpl_cost.specs.declared.arc_end.ArcEnd.{ArcEnd}
 use Rattle.sbpl_cost.proofs.LatticeLaws.{gaps}
 use Rattle.sbpl_cost.proofs.Numbered.{numbered}
 use Rattle.sbpl_cost.proofs.Tails.{tail_is_arc}
@@ -29,9 +31,10 @@ pub tail_below : (w : World) (t j heading : ℕ) → heading ≡ (place_of w.env
 tail_below w t j heading same h = subst (λ n. j < length (entering w.prims.items n)) (sym same) (subst (λ n. j < n) (tail_fan_is w t) h)
 
 -- the number that stands in the table
-pub number_read : (prims : List Primitive) (numbers : List ℕ) (i number : ℕ) (p : Primitive) → AreNumbers prims numbers → slice_get prims i ≡ Some p → number ≡ get_or numbers i number
-    → number ≡ count_by (λ q. q.from == p.from) (take i prims)
-number_read prims numbers i number p are stands is = is ∙ get_or_from_slice_get numbers i (count_by (λ q. q.from == p.from) (take i prims)) number (are i p stands)
+pub number_read : (end : ArcEnd) (prims : List Primitive) (numbers : List ℕ) (i number : ℕ) (p : Primitive) → AreNumbers end prims numbers → slice_get prims i ≡ Some p
+    → number ≡ get_or numbers i number → number ≡ count_by (λ q. heading_at end q == heading_at end p) (take i prims)
+number_read end prims numbers i number p are stands is =
+    is ∙ get_or_from_slice_get numbers i (count_by (λ q. heading_at end q == heading_at end p) (take i prims)) number (are i p stands)
 
 -- the tail that stands at an index of the file
 pub tail_read : (w : World) (t j place : ℕ) (target : Place) (p : Primitive) → target ≡ place_of w.env t → slice_get (entering w.prims.items target.t) j ≡ Some place → slice_get w.prims.items place ≡ Some p

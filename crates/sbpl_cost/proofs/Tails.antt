@@ -1,5 +1,5 @@
 -- The tails of the lattice are its arcs, read from the other end.
-use Rattle.std.proofs.Common.{◌≡◌, ℕ, ℤ, pos, ◌<◌, ◌≤◌, ◌==◌, ◌+ℤ◌, ◌-ℤ◌, List, length, take, count_by, slice_get, Option, Some, None, option_and_then, refl, ap, sym, zero-add, ◌∙◌, arith}
+use Rattle.std.proofs.Common.{◌≡◌, ℕ, ℤ, pos, ◌<◌, ◌≤◌, ◌==◌, ◌+ℤ◌, ◌-ℤ◌, List, length, take, count_by, slice_get, Option, Some, None, option_and_then, refl, ap, sym, zero-add, ◌∙◌, arith, subst}
 use Rattle.std.specs.Option.{option_map}
 use Rattle.std.proofs.lemmas.Bool.{eqb-true, eq-eqb}
 use Rattle.std.proofs.lemmas.Grind.{merely}
@@ -17,7 +17,7 @@ use Rattle.sbpl_cost.proofs.Numbered.{numbered, numbered_at, length-indices_from
 use Rattle.sbpl_cost.proofs.Heads.{state_in_some, state_in_at, ends_in}
 use Rattle.sbpl_cost.proofs.PlaceLaws.{place_of_state, state_of_place_of, place_of_state_number}
 use Rattle.sbpl_cost.proofs.LatticeLaws.{state_number_below}
-use Rattle.sbpl_cost.proofs.Arcs.{found}
+use Rattle.sbpl_cost.proofs.Arcs.{IsFound, found}
 use Rattle.sbpl_cost.proofs.ArcsRead.{made_of}
 
 -- a tail of state t: the primitive that ends at its heading, and the place that it leads from
@@ -138,6 +138,17 @@ module _ (w : World) (is_world : IsWorld w) where
               ∙ ap (λ o. option_map (λ r. (r, count_by (λ q. q.from == p.from) (take i w.prims.items))) o) source ∙ ap pair number;
         },
       )
+
+  -- an arc by the primitive at an index of the file is the tail with the number of this primitive among those that end at its heading
+  pub arc_as_tail : (s k t i j : ℕ) (p : Primitive) → IsFound w s k i p → IsArc (network_of w) s k t → j ≡ count_by (λ q. q.to == p.to) (take i w.prims.items) → IsTail (network_of w) t j s k
+  arc_as_tail s k t i j p f arc is =
+      let at = tail_of_arc t s k arc in
+      let tail = tail_is t at.0 s k at.1.tail in
+      let same : tail.place ≡ i = same_Some tail.place i (sym (tail_place t at.0 s k tail) ∙ f.at) in
+      let item : tail.prim ≡ p = same_Some tail.prim p (sym tail.stands ∙ ap (slice_get w.prims.items) same ∙ f.by.stands) in
+      let to : (place_of w.env t).t ≡ p.to = sym tail.ends ∙ ap (λ (q : Primitive). q.to) item in
+      let number = sym tail.before ∙ ap (λ n. count_by (λ q. q.to == (place_of w.env t).t) (take n w.prims.items)) same ∙ ap (λ h. count_by (λ q. q.to == h) (take i w.prims.items)) to in
+      subst (λ j. IsTail (network_of w) t j s k) (number ∙ sym is) at.1
 
   pub tails_differ : (t i j s k : ℕ) → IsTail (network_of w) t i s k → IsTail (network_of w) t j s k → i ≡ j
   tails_differ t i j s k first second =

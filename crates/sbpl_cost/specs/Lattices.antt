@@ -1,7 +1,7 @@
 -- The lattice of a world, as a graph.
-use Rattle.std.specs.Prelude.{◌≡◌, refl, ℕ, pos, ◌+◌, ◌*◌, ◌-ℤ◌, ◌&&◌, ◌==◌, Bool, false, List, [], ◌∷◌, length, take, map, count_by, slice_get, slice_index_or, Option, Some, None, option_and_then, option_map, unwrap_or, nat_lt, max, if◌then◌else◌}
+use Rattle.std.specs.Prelude.{◌≡◌, refl, ℕ, pos, ◌+◌, ◌*◌, ◌<◌, ◌≤◌, ◌-ℤ◌, ◌&&◌, ◌==◌, Bool, false, List, [], ◌∷◌, length, take, map, count_by, slice_get, slice_index_or, Option, Some, None, option_and_then, option_map, unwrap_or, nat_lt, max, if◌then◌else◌}
 use Rattle.std.specs.List.{list_all}
-use Rattle.sbpl_graph.specs.Network.{Network}
+use Rattle.sbpl_graph.specs.Network.{Network, IsFreeArc}
 use Rattle.sbpl_graph.specs.Laws.{HasExactTails, HasGaps}
 use Rattle.sbpl_mprim.specs.declared.prim.Primitive.{Primitive}
 use Rattle.sbpl_mprim.specs.Primitives.{offset_cell}
@@ -109,3 +109,8 @@ LatticeHasExactTails = (w : World) → IsWorld w → HasExactTails (network_of w
 -- the gaps are lower bounds
 abbrev pub LatticeHasGaps : Type 0
 LatticeHasGaps = (w : World) → IsWorld w → HasGaps (network_of w)
+
+-- the gap from a state to the head of a free arc is at most that to its source and the arc's cost
+abbrev pub LatticeGapsRise : Type 0
+LatticeGapsRise = (w : World) → IsWorld w → (s k t c b : ℕ) → IsFreeArc (network_of w) s k t c → b < (network_of w).states
+    → (network_of w).gap b t ≤ (network_of w).gap b s + c

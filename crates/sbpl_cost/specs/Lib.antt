@@ -1,6 +1,7 @@
 pub mod Strips
 pub mod Walls
 pub mod PrimitiveCost
+pub mod Ends
 pub mod Reading
 pub mod States
 pub mod World

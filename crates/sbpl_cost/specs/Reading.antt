@@ -1,5 +1,5 @@
 -- Which arcs of a lattice read a cell.
-use Rattle.std.specs.Prelude.{◌≡◌, ℕ, ℤ, pos, ◌+ℤ◌, ◌-ℤ◌, ◌<◌, ◌≤◌, ◌↔◌, ◌++◌, List, length, slice_get, Option, Some, option_and_then}
+use Rattle.std.specs.Prelude.{◌≡◌, ℕ, ℤ, pos, ◌+ℤ◌, ◌-ℤ◌, ◌<◌, ◌≤◌, ◌↔◌, ◌++◌, List, length, slice_get, Option, Some, option_and_then, option_map}
 use Rattle.sbpl_graph.specs.Network.{Network, IsArc}
 use Rattle.sbpl_cfg.specs.declared.pose.Place.{Place}
 use Rattle.sbpl_cfg.specs.Environment.{Environment}
@@ -8,10 +8,12 @@ use Rattle.sbpl_sweep.specs.declared.reads.Read.{Read}
 use Rattle.sbpl_sweep.specs.Reads.{IsRead}
 use Rattle.sbpl_map.specs.CellMap.{CellMap, cost_at}
 use Rattle.sbpl_cost.specs.Judging.{IsNear}
-use Rattle.sbpl_cost.specs.States.{place_on_map, state_in}
+use Rattle.sbpl_cost.specs.States.{place_on_map, state_in, state_number}
 use Rattle.sbpl_cost.specs.World.{World, IsWorld, over_map}
 use Rattle.sbpl_cost.specs.Arc.{IsArcBy, column_from, row_from}
 use Rattle.sbpl_cost.specs.Lattices.{network_of}
+use Rattle.sbpl_cost.specs.Ends.{at_end}
+use Rattle.sbpl_cost.specs.declared.arc_end.ArcEnd.{ArcEnd}
 
 -- judging arc k of state s reads cell (x, y): it is the source cell, the end cell, a centre cell or a swept cell
 pub record ReadsCell (w : World) (s k : ℕ) (x y : ℤ) : Type 0 where
@@ -24,35 +26,45 @@ pub record ReadsCell (w : World) (s k : ℕ) (x y : ℤ) : Type 0 where
   pub row : row_from w s dy ≡ y
   pub read : IsRead w.env.cell w.sweeps.radius prim dx dy
 
--- some arc that leads to state t reads cell (x, y)
-pub record IsHeadReading (w : World) (x y : ℤ) (t : ℕ) : Type 0 where
+-- some arc that reads cell (x, y) has state s at this end
+pub record IsEndReading (end : ArcEnd) (w : World) (x y : ℤ) (s : ℕ) : Type 0 where
   pub source : ℕ
   pub number : ℕ
-  pub arc : IsArc (network_of w) source number t
+  pub head : ℕ
+  pub arc : IsArc (network_of w) source number head
   pub reads : ReadsCell w source number x y
+  pub at : s ≡ at_end end (source, head)
 
--- the heads of all arcs that read cell (x, y), and no other states, were appended to a list, no more of them than
+-- the states at this end of all arcs that read cell (x, y), and no other states, were appended to a list, no more of them than
 -- there are pairs of a primitive and a cell that it reads
-pub record AddsHeads (w : World) (x y : ℤ) (old new : List ℕ) : Type 0 where
+pub record AddsEnds (end : ArcEnd) (w : World) (x y : ℤ) (old new : List ℕ) : Type 0 where
   pub added : List ℕ
   pub kept : new ≡ old ++ added
-  pub sound : (i t : ℕ) → slice_get added i ≡ Some t → IsHeadReading w x y t
-  pub complete : (t : ℕ) → IsHeadReading w x y t → (i : ℕ) × (slice_get added i ≡ Some t)
-  pub states : (i t : ℕ) → slice_get added i ≡ Some t → t < (network_of w).states
+  pub sound : (i s : ℕ) → slice_get added i ≡ Some s → IsEndReading end w x y s
+  pub complete : (s : ℕ) → IsEndReading end w x y s → (i : ℕ) × (slice_get added i ≡ Some s)
+  pub states : (i s : ℕ) → slice_get added i ≡ Some s → s < (network_of w).states
   pub few : length added ≤ length w.sweeps.reads
 
 -- the state where the motion by p from a place ends, none off the map
 abbrev pub end_of : Environment → Primitive → Place → Option ℕ
 end_of e p source = state_in e (pos source.x +ℤ p.dx) (pos source.y +ℤ p.dy) p.to
 
--- the head of the arc by p that reads cell (x, y) as this far from its source cell, none where there is no such arc
-abbrev pub head_by_offset : Environment → ℤ → ℤ → ℤ → ℤ → Primitive → Option ℕ
-head_by_offset e x y dx dy p = option_and_then (end_of e p) (place_on_map e (x -ℤ dx) (y -ℤ dy) p.from)
+-- the source and the head of the motion by p from a place, none where it ends off the map
+abbrev pub ends_from : Environment → Primitive → Place → Option (ℕ × ℕ)
+ends_from e p source = option_map (λ head. (state_number e source, head)) (end_of e p source)
 
--- the head of the arc that reads cell (x, y) by a read of the table, which names a primitive and how far a cell that it
+-- the ends of the arc by p that reads cell (x, y) as this far from its source cell, none where there is no such arc
+abbrev pub ends_by_offset : Environment → ℤ → ℤ → ℤ → ℤ → Primitive → Option (ℕ × ℕ)
+ends_by_offset e x y dx dy p = option_and_then (ends_from e p) (place_on_map e (x -ℤ dx) (y -ℤ dy) p.from)
+
+-- the ends of the arc that reads cell (x, y) by a read of the table, which names a primitive and how far a cell that it
 -- reads lies from its source cell; none where there is no such arc, or it ends off the map
-unfoldable pub head_of_read : Environment → List Primitive → ℤ → ℤ → Read → Option ℕ
-head_of_read e prims x y r = option_and_then (head_by_offset e x y r.cell.x r.cell.y) (slice_get prims r.prim)
+unfoldable pub ends_of_read : Environment → List Primitive → ℤ → ℤ → Read → Option (ℕ × ℕ)
+ends_of_read e prims x y r = option_and_then (ends_by_offset e x y r.cell.x r.cell.y) (slice_get prims r.prim)
+
+-- the one or the other of them
+abbrev pub end_of_read : ArcEnd → Environment → List Primitive → ℤ → ℤ → Read → Option ℕ
+end_of_read end e prims x y r = option_map (at_end end) (ends_of_read e prims x y r)
 
 -- each read names a primitive, and its cell is one that a motion can touch
 abbrev pub AreReadable : List Primitive → List Read → Type 0

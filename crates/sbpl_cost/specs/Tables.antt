@@ -16,7 +16,10 @@ use Rattle.sbpl_cost.specs.Lattices.{leaving, entering}
 use Rattle.sbpl_cost.specs.Checked.{HaveAlong, HaveAround}
 use Rattle.sbpl_cost.specs.Rates.{AreGaps}
 use Rattle.sbpl_cost.specs.Reaches.{HaveReaches}
+use Rattle.sbpl_cost.specs.Ends.{heading_at}
 use Rattle.sbpl_cost.specs.World.{World, IsWorld}
+use Rattle.sbpl_cost.specs.declared.arc_end.ArcEnd.{ArcEnd}
+use Rattle.sbpl_cost.specs.declared.arc_end.ArcEnd.TheVariants as end
 
 -- each heading has the indices of the primitives that start at it
 abbrev pub AreLeaving : Primitives → List (List ℕ) → Type 0
@@ -26,9 +29,9 @@ AreLeaving prims table = (t : ℕ) → t < prims.headings → slice_get table t 
 abbrev pub AreEntering : Primitives → List (List ℕ) → Type 0
 AreEntering prims table = (t : ℕ) → t < prims.headings → slice_get table t ≡ Some (entering prims.items t)
 
--- each primitive has its number among those that start at its heading
-abbrev pub AreNumbers : List Primitive → List ℕ → Type 0
-AreNumbers prims numbers = (i : ℕ) (p : Primitive) → slice_get prims i ≡ Some p → slice_get numbers i ≡ Some (count_by (λ q. q.from == p.from) (take i prims))
+-- each primitive has its number among those with its heading at this end
+abbrev pub AreNumbers : ArcEnd → List Primitive → List ℕ → Type 0
+AreNumbers end prims numbers = (i : ℕ) (p : Primitive) → slice_get prims i ≡ Some p → slice_get numbers i ≡ Some (count_by (λ q. heading_at end q == heading_at end p) (take i prims))
 
 -- no primitive is too dear, and each costs something
 abbrev pub AreCheap : Environment → List Primitive → Type 0
@@ -40,11 +43,12 @@ IsCause e prims (TooDear i) = IsFirstTooDear e prims i
 IsCause e prims NoMemory = Unit {0}
 
 -- the tables of a lattice are those of its world
-pub record AreTables (w : World) (starting ending : List (List ℕ)) (counted prices : List ℕ) (centres : List (List Cell)) (beside : List (List Strip)) (distances : List Reach) (obstacles : Flags) (gaps : Gaps) : Type 0 where
+pub record AreTables (w : World) (starting ending : List (List ℕ)) (counted tails prices : List ℕ) (centres : List (List Cell)) (beside : List (List Strip)) (distances : List Reach) (obstacles : Flags) (gaps : Gaps) : Type 0 where
   pub world : IsWorld w
   pub leaving : AreLeaving w.prims starting
   pub entering : AreEntering w.prims ending
-  pub numbers : AreNumbers w.prims.items counted
+  pub numbers : AreNumbers end.Source w.prims.items counted
+  pub tail_numbers : AreNumbers end.Head w.prims.items tails
   pub costs : prices ≡ map (primitive_cost w.env) w.prims.items
   pub along : HaveAlong w.prims centres
   pub around : HaveAround w.prims w.sweeps.radius beside

@@ -2,6 +2,8 @@
 
 ghost use Rattle.std.specs.Prelude.{◌≡◌, pos, ◌^◌, ◌<◌, ◌≤◌, ◌↔◌, ◌++◌, length, slice_get, Some, IsSome, IfSome, IsOk, IfOk, IfErr, OnOk, OnErr};
 ghost use Rattle.std.specs.List.{filter_map};
+ghost use Rattle.std.specs.Option.{option_map};
+ghost use Rattle.sbpl_graph.specs.Laws.{IsTail};
 ghost use Rattle.sbpl_mprim.specs.declared.prim.Primitive.{Primitive};
 ghost use Rattle.sbpl_sweep.specs.Swept.{AreSweepsOf};
 ghost use Rattle.sbpl_map.specs.CellMap.{cost_at, IsOnMap, ChangesCell};
@@ -10,15 +12,17 @@ ghost use Rattle.sbpl_cost.specs.States.{IsPlace, place_of, state_number};
 ghost use Rattle.sbpl_cost.specs.World.{World, IsWorld};
 ghost use Rattle.sbpl_cost.specs.Arc.{IsArcBy};
 ghost use Rattle.sbpl_cost.specs.Lattices.{network_of, arc_index, leaving, entering};
-ghost use Rattle.sbpl_cost.specs.Reading.{head_of_read, AddsHeads, UnreadCostTheSame, DifferInCostsAlone};
+ghost use Rattle.sbpl_cost.specs.Reading.{end_of_read, AddsEnds, UnreadCostTheSame, DifferInCostsAlone};
 ghost use Rattle.sbpl_cost.specs.Tables.{AreCheap, IsCause};
+ghost use Rattle.sbpl_cost.specs.declared.arc_end.ArcEnd.TheVariants as Ends;
 
+use crate::arc_end::ArcEnd;
 use crate::fault::LatticeFault;
 use crate::gaps::Gaps;
 use crate::judging::greatest_paid;
 use crate::places::{end_state, heading_of, place_at, start_state, state_at, state_count};
 use crate::reach::Reach;
-use crate::reading::add_heads;
+use crate::reading::add_ends;
 use crate::strip::Strip;
 use crate::tables::{Tables, tables_of};
 use crate::walls::note_wall;
@@ -35,7 +39,7 @@ use std::marker::Model;
 
 /// SBPL's lattice over a map. A state is a cell with a heading; its arcs are the primitives that start at its heading,
 /// in the order of the file. The present map decides which arcs are free and what they cost. `new` takes memory, and
-/// `heads_reading` for the list that it adds to.
+/// `ends_reading` for the list that it adds to.
 #[derive(Drop)]
 pub struct Lattice {
     env: Env,
@@ -48,6 +52,8 @@ pub struct Lattice {
     entering: Runs<u32>,
     /// For each primitive its number among those that start at its heading.
     numbers: Vec<u32>,
+    /// For each primitive its number among those that end at its heading.
+    tail_numbers: Vec<u32>,
     /// For each primitive its cost by itself.
     costs: Vec<u32>,
     /// For each primitive its centre cells.
@@ -70,7 +76,7 @@ impl Model for Lattice {
 
     ghost view = { λ l. record { env = l.env; prims = l.prims; sweeps = l.sweeps; map = l.map } };
 
-    ghost invariant = { λ l. AreTables (record { env = l.env; prims = l.prims; sweeps = l.sweeps; map = l.map }) l.leaving l.entering l.numbers.items l.costs.items l.along l.around l.reaches.items l.walls l.gaps };
+    ghost invariant = { λ l. AreTables (record { env = l.env; prims = l.prims; sweeps = l.sweeps; map = l.map }) l.leaving l.entering l.numbers.items l.tail_numbers.items l.costs.items l.along l.around l.reaches.items l.walls l.gaps };
 }
 
 impl Lattice {
@@ -110,6 +116,7 @@ impl Lattice {
             leaving: by_heading.leaving,
             entering: by_heading.entering,
             numbers: by_heading.numbers,
+            tail_numbers: by_heading.tail_numbers,
             costs,
             along: reads.along,
             around: reads.around,
@@ -204,6 +211,22 @@ impl Lattice {
         self.entering.at(t as usize)[j as usize]
     }
 
+    /// Arc `k` of state `s` as a tail: the state that it leads to, and its number among the tails of that state. `None` comes
+    /// exactly where it leads to no state.
+    pub fn as_tail(&self, s: u32, k: u32) -> Option<(u32, u32)>
+        requires state { s < (network_of self.now).states }
+        requires number { k < (network_of self.now).fan s }
+        ensures head { (network_of self.now).head s k ≡ option_map (λ a. a.0) result }
+        ensures tail { IfSome result (λ a. IsTail (network_of self.now) a.0 a.1 s k) }
+    {
+        let source = place_at(&self.env, s);
+        let i = self.leaving_at(source.t, k);
+        let Some(head) = end_state(&self.env, source, self.prims.get(i)) else {
+            return None;
+        };
+        Some((head, self.tail_numbers[i as usize]))
+    }
+
     /// The id of the primitive at index `i` of the file.
     pub fn prim_id(&self, i: u32) -> u32
         requires place { i < length self.now.prims.items }
@@ -230,16 +253,38 @@ impl Lattice {
         self.map.cost(x, y)
     }
 
-    /// Adds to a list the heads of all arcs with a head whose judgement reads cell `(x, y)`, which may be off the map: for
-    /// each pair of a primitive and a cell that it reads, in the order of the table of reads, the head of its arc that reads
-    /// `(x, y)` as that cell, where there is one. So a state can be added more than once. After `NoMemory` the list is
-    /// unchanged.
+    /// Adds to a list the heads of all arcs with a head whose judgement reads cell `(x, y)`, as `ends_reading` does.
     pub fn heads_reading(&self, x: u32, y: u32, into: &mut Vec<u32>) -> Result<(), NoMemory>
-        ensures heads { OnOk result (AddsHeads self.now (pos x) (pos y) into.old.items into.new.items) }
-        ensures listed { OnOk result (into.new.items ≡ into.old.items ++ filter_map (head_of_read self.now.env self.now.prims.items (pos x) (pos y)) self.now.sweeps.reads) }
+        ensures heads { OnOk result (AddsEnds Ends.Head self.now (pos x) (pos y) into.old.items into.new.items) }
         ensures memory { OnErr result (into.new.items ≡ into.old.items) }
     {
-        add_heads(&self.env, &self.prims, self.sweeps.reads(), x, y, into)?;
+        self.ends_reading(x, y, ArcEnd::Head, into)
+    }
+
+    /// Adds to a list the sources of all arcs with a head whose judgement reads cell `(x, y)`, as `ends_reading` does.
+    pub fn tails_reading(&self, x: u32, y: u32, into: &mut Vec<u32>) -> Result<(), NoMemory>
+        ensures sources { OnOk result (AddsEnds Ends.Source self.now (pos x) (pos y) into.old.items into.new.items) }
+        ensures memory { OnErr result (into.new.items ≡ into.old.items) }
+    {
+        self.ends_reading(x, y, ArcEnd::Source, into)
+    }
+
+    /// Adds to a list the states at one end of all arcs with a head whose judgement reads cell `(x, y)`, which may be off the
+    /// map: for each pair of a primitive and a cell that it reads, in the order of the table of reads, the state at that end of
+    /// its arc that reads `(x, y)` as that cell, where there is one. So a state can be added more than once. After `NoMemory`
+    /// the list is unchanged.
+    pub fn ends_reading(
+        &self,
+        x: u32,
+        y: u32,
+        end: ArcEnd,
+        into: &mut Vec<u32>,
+    ) -> Result<(), NoMemory>
+        ensures ends { OnOk result (AddsEnds end self.now (pos x) (pos y) into.old.items into.new.items) }
+        ensures listed { OnOk result (into.new.items ≡ into.old.items ++ filter_map (end_of_read end self.now.env self.now.prims.items (pos x) (pos y)) self.now.sweeps.reads) }
+        ensures memory { OnErr result (into.new.items ≡ into.old.items) }
+    {
+        add_ends(&self.env, &self.prims, self.sweeps.reads(), x, y, end, into)?;
         Ok(())
     }
 

@@ -2,7 +2,7 @@
 
 ghost use Rattle.sbpl_cost.specs.Alike.{AlikeWorldsAreOneGraph};
 ghost use Rattle.sbpl_cost.specs.Gaps.{BoundsAreFloors, BoundsMayBeZero};
-ghost use Rattle.sbpl_cost.specs.Lattices.{LatticeHasItsArcs, LatticeHasExactTails, LatticeHasGaps};
+ghost use Rattle.sbpl_cost.specs.Lattices.{LatticeHasItsArcs, LatticeGapsRise, LatticeHasExactTails, LatticeHasGaps};
 ghost use Rattle.sbpl_cost.specs.Reading.{UnreadArcsCostTheSame, MapsChangeCostsAlone, MapsChangeNoReads};
 ghost use Rattle.sbpl_cost.specs.TailOrder.{LatticeTailsAreInOrder};
 
@@ -17,6 +17,12 @@ pub fn lattice_has_its_arcs()
 pub fn lattice_has_its_tails()
     ensures tails { LatticeHasExactTails }
     ensures gaps { LatticeHasGaps }
+{}
+
+/// Along a free arc the gap from any state rises by the arc's cost at most: what `HasGaps` says of the way to a state, this says of
+/// the way from one. It does nothing.
+pub fn gaps_rise_along_arcs()
+    ensures law { LatticeGapsRise }
 {}
 
 /// The tails of each state of the lattice stand in the order of the file: tail j is the arc by the j-th primitive that ends

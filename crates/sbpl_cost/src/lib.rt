@@ -1,6 +1,7 @@
 //! Costs of primitives, and the lattice as a graph.
 #![tactic(auto)]
 
+mod arc_end;
 mod checked;
 mod fault;
 mod gaps;
@@ -18,10 +19,11 @@ mod tables;
 mod walls;
 mod way;
 
+pub use arc_end::ArcEnd;
 pub use fault::LatticeFault;
 pub use lattice::Lattice;
 pub use laws::{
-    alike_worlds_are_one_graph, gaps_are_floors, lattice_has_its_arcs, lattice_has_its_tails,
-    lattice_tails_are_in_order, unread_arcs_cost_the_same,
+    alike_worlds_are_one_graph, gaps_are_floors, gaps_rise_along_arcs, lattice_has_its_arcs,
+    lattice_has_its_tails, lattice_tails_are_in_order, unread_arcs_cost_the_same,
 };
 pub use primitive_cost::{MOST_COST, cost_parts_are_least, prim_cost};

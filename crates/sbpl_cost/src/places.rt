@@ -14,7 +14,7 @@ pub(crate) fn state_count(env: &Env) -> u32
 }
 
 /// The number of the state of cell `(x, y)` with heading `t`.
-fn number_of(env: &Env, x: u32, y: u32, t: u32) -> u32
+pub(crate) fn number_of(env: &Env, x: u32, y: u32, t: u32) -> u32
     requires x { x < env.now.width }
     requires y { y < env.now.height }
     requires t { t < env.now.headings }

@@ -8,7 +8,9 @@ ghost use Rattle.sbpl_cost.specs.Lattices.{leaving, entering};
 ghost use Rattle.sbpl_cost.specs.Reaches.{HaveReaches};
 ghost use Rattle.sbpl_cost.specs.Tables.{AreLeaving, AreEntering, AreNumbers, AreCheap, IsCause};
 ghost use Rattle.sbpl_cost.specs.Walls.{AreWalls};
+ghost use Rattle.sbpl_cost.specs.declared.arc_end.ArcEnd.TheVariants as Ends;
 
+use crate::arc_end::{ArcEnd, heading_at};
 use crate::checked::{along_table, around_table, reach_table};
 use crate::fault::LatticeFault;
 use crate::primitive_cost::prim_cost;
@@ -73,14 +75,14 @@ pub(crate) fn entering_table(alloc: Global, prims: &Prims) -> Result<Runs<u32>, 
     Ok(table)
 }
 
-/// For each primitive its number among those that start at its heading.
-pub(crate) fn number_table(alloc: Global, prims: &Prims) -> Result<Vec<u32>, NoMemory>
-    ensures numbers { IfOk result (λ v. AreNumbers prims.now.items v.items) }
+/// For each primitive its number among those with its heading at this end.
+pub(crate) fn number_table(alloc: Global, prims: &Prims, end: ArcEnd) -> Result<Vec<u32>, NoMemory>
+    ensures numbers { IfOk result (λ v. AreNumbers end prims.now.items v.items) }
 {
     let mut counts: Vec<u32> = vec![in alloc; 0; prims.headings() as usize]?;
     let mut numbers = Vec::new(alloc);
     for i in 0..prims.len() {
-        let heading = prims.get(i).from as usize;
+        let heading = heading_at(end, prims.get(i)) as usize;
         let number = counts[heading];
         numbers.push(number)?;
         counts[heading] = number + 1;
@@ -123,21 +125,26 @@ pub(crate) struct ByHeading {
     pub(crate) entering: Runs<u32>,
     /// For each primitive its number among those that start at its heading.
     pub(crate) numbers: Vec<u32>,
+    /// For each primitive its number among those that end at its heading.
+    pub(crate) tail_numbers: Vec<u32>,
 }
 
 /// These primitives by the headings at which they start and end.
 fn by_heading(alloc: Global, prims: &Prims) -> Result<ByHeading, NoMemory>
     ensures leaving { IfOk result (λ t. AreLeaving prims.now t.leaving) }
     ensures entering { IfOk result (λ t. AreEntering prims.now t.entering) }
-    ensures numbers { IfOk result (λ t. AreNumbers prims.now.items t.numbers.items) }
+    ensures numbers { IfOk result (λ t. AreNumbers Ends.Source prims.now.items t.numbers.items) }
+    ensures tail_numbers { IfOk result (λ t. AreNumbers Ends.Head prims.now.items t.tail_numbers.items) }
 {
     let leaving = leaving_table(alloc, prims)?;
     let entering = entering_table(alloc, prims)?;
-    let numbers = number_table(alloc, prims)?;
+    let numbers = number_table(alloc, prims, ArcEnd::Source)?;
+    let tail_numbers = number_table(alloc, prims, ArcEnd::Head)?;
     Ok(ByHeading {
         leaving,
         entering,
         numbers,
+        tail_numbers,
     })
 }
 
@@ -197,7 +204,8 @@ pub(crate) fn tables_of(
     ensures cheap { IfOk result (λ _. AreCheap env.now prims.now.items) }
     ensures leaving { IfOk result (λ t. AreLeaving prims.now t.by_heading.leaving) }
     ensures entering { IfOk result (λ t. AreEntering prims.now t.by_heading.entering) }
-    ensures numbers { IfOk result (λ t. AreNumbers prims.now.items t.by_heading.numbers.items) }
+    ensures numbers { IfOk result (λ t. AreNumbers Ends.Source prims.now.items t.by_heading.numbers.items) }
+    ensures tail_numbers { IfOk result (λ t. AreNumbers Ends.Head prims.now.items t.by_heading.tail_numbers.items) }
     ensures along { IfOk result (λ t. HaveAlong prims.now t.reads.along) }
     ensures around { IfOk result (λ t. HaveAround prims.now sweeps.now.radius t.reads.around) }
     ensures reaches { IfOk result (λ t. HaveReaches prims.now t.reads.around t.reads.reaches.items) }

@@ -15,6 +15,7 @@ use Rattle.sbpl_plan.specs.OutOfMemory.{RunsOutOfMemory}
 use Rattle.sbpl_plan.specs.Passing.{expansions}
 use Rattle.sbpl_change.specs.Affected.{AreStates, KeepArcsElsewhere}
 use Rattle.sbpl_cost.specs.World.{World}
+use Rattle.sbpl_cost.specs.declared.arc_end.ArcEnd.TheVariants as end
 use Rattle.sbpl_cost.specs.Lattices.{network_of}
 use Rattle.sbpl_heur.specs.Bests.{distance_in}
 use Rattle.sbpl_replan.specs.Replanning.{IsReadyIn, Replanning, StandsOutOfMemory, at_plan, inquiry}
@@ -25,13 +26,13 @@ unfolding network_of
 same_states w v others = ap (λ (u : World). (network_of u).states) others
 
 -- labels that are exact on one graph can be repaired for another that keeps the arcs into each state that is not touched
-pub changeable : ExactWhereSame → (n n' : Network) (m : Marks) (touched : List ℕ) → n'.states ≡ n.states → AreUsable n m (2 ^ 30) → AreStates n' touched → KeepArcsElsewhere n n' touched → IsChangeable n' touched m
+pub changeable : ExactWhereSame → (n n' : Network) (m : Marks) (touched : List ℕ) → n'.states ≡ n.states → AreUsable n m (2 ^ 30) → AreStates n' touched → KeepArcsElsewhere end.Head n n' touched → IsChangeable n' touched m
 changeable law n n' m touched same is among kept = record {
   inside = λ k d here. subst (λ (states : ℕ). slice_index_or touched k d < states) (same ∙ sym is.states) (among (slice_index_or touched k d) (k, here, get_or_default touched k (slice_index_or touched k d) d here));
   fits = rw is.states is.fits;
   untouched = λ t inside apart none.
-      let arcs = kept t none in
-      law n n' m.start _ _ _ is.exact t (subst (λ (states : ℕ). t < states) is.states inside) apart (record { kept = arcs.kept; none_new = arcs.none_new });
+      law n n' m.start _ _ _ is.exact t (subst (λ (states : ℕ). t < states) is.states inside) apart
+      (record { kept = λ s k c free. (kept s k t c none).0 free; none_new = λ s k c free. (kept s k t c none).1 free });
 }
 
 -- what follows from what holds where memory ran out

@@ -10,6 +10,7 @@ use Rattle.sbpl_plan.specs.OutOfMemory.{IsCutAfterPart, IsPartOfPlan}
 use Rattle.sbpl_plan.specs.Passing.{Inquiry, expansions, inquiry_of}
 use Rattle.sbpl_change.specs.Affected.{AreAffected}
 use Rattle.sbpl_cost.specs.World.{World}
+use Rattle.sbpl_cost.specs.declared.arc_end.ArcEnd.TheVariants as end
 use Rattle.sbpl_cost.specs.Lattices.{network_of}
 use Rattle.sbpl_heur.specs.Bests.{Fits, IsBest, IsGuide, Table, distance_in}
 
@@ -22,7 +23,7 @@ inquiry w guide goal ask = inquiry_of (network_of w) guide goal ask
 -- touches
 pub record BeginsWith {Note : Type 0} (means : Meaning Note) (old new : World) (left first : Marks) (raised : List ℕ) : Type 0 where
   pub touched : List ℕ
-  pub are_touched : means.repairs ≡ true → AreAffected old new.map touched
+  pub are_touched : means.repairs ≡ true → AreAffected end.Head old new.map touched
   pub begun : means.begun (network_of new) touched left first raised
 
 -- what goes on from plan to plan: the search, the goal, the heuristic, and the counts of expansions

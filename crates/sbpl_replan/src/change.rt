@@ -9,7 +9,7 @@ ghost use Rattle.sbpl_map.specs.MapAfter.{AreWritten};
 ghost use Rattle.sbpl_replan.specs.Replanning.{BeginsWith};
 
 use sbpl_change::{apply, write_batch};
-use sbpl_cost::Lattice;
+use sbpl_cost::{ArcEnd, Lattice};
 use sbpl_fixed::NoMemory;
 use sbpl_heur::Best;
 use sbpl_map::Write;
@@ -43,7 +43,7 @@ pub(crate) fn change<S: Search<Lattice, Best>>(
 {
     exact_where_same();
     if search.repairs() {
-        apply(alloc, lattice, batch, touched)?;
+        apply(alloc, lattice, batch, ArcEnd::Head, touched)?;
         search.change(lattice, touched.as_slice());
     } else {
         write_batch(lattice, batch);

@@ -28,6 +28,15 @@ fn tail(lattice: &Lattice, t: u32, j: u32) -> Option<Option<(u32, u32)>> {
     }
 }
 
+/// Arc `k` of state `s` as a tail.
+fn as_tail(lattice: &Lattice, s: u32, k: u32) -> Option<Option<(u32, u32)>> {
+    if s < lattice.states() && k < lattice.fan(s) {
+        Some(lattice.as_tail(s, k))
+    } else {
+        None
+    }
+}
+
 /// The lower bound on the cost of each way from one state to another.
 fn gap(lattice: &Lattice, from: u32, to: u32) -> Option<u64> {
     if from < lattice.states() && to < lattice.states() {
@@ -86,6 +95,14 @@ fn compare_tails(rt: &impl Abort, hall: &Lattice) {
     for (s, k) in [(16, 0), (0, 1), (80, 3)] {
         assert_eq!(rt; arc(hall, s, k).map(|arc| arc.0), Some(Some(32)));
     }
+    for (s, k, want) in [
+        (16, 0, Some(Some((32, 0)))),
+        (0, 1, Some(Some((32, 1)))),
+        (80, 3, Some(Some((32, 3)))),
+        (0, 3, Some(None)),
+    ] {
+        assert_eq!(rt; as_tail(hall, s, k), want, "at arc {k} of {s}");
+    }
 }
 
 /// Gaps by the primitives alone.
@@ -126,6 +143,15 @@ fn heads(alloc: Global, lattice: &Lattice, x: u32, y: u32) -> Result<Vec<u32>, A
     Ok(heads)
 }
 
+/// The sources of the arcs that read cell `(x, y)`, after state 7.
+fn sources(alloc: Global, lattice: &Lattice, x: u32, y: u32) -> Result<Vec<u32>, AllocError> {
+    let mut sources = vec![in alloc; 7]?;
+    if let Err(_) = lattice.tails_reading(x, y, &mut sources) {
+        sources.clear();
+    }
+    Ok(sources)
+}
+
 /// The hall, and the four arcs that read its corner.
 #[test]
 fn hall(rt: HostRuntime) -> Result<(), Fail> {
@@ -135,8 +161,10 @@ fn hall(rt: HostRuntime) -> Result<(), Fail> {
     compare_gaps(&rt, &hall);
     compare_states(&rt, &hall);
     let heads = heads(rt.alloc(), &hall, 2, 1);
+    let sources = sources(rt.alloc(), &hall, 2, 1);
     drop(hall);
     assert_eq!(rt; heads?.as_slice(), [7, 80, 80, 80, 32].as_slice());
+    assert_eq!(rt; sources?.as_slice(), [7, 64, 48, 32, 80].as_slice());
     Ok(())
 }
 

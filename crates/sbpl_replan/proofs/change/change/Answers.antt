@@ -2,6 +2,7 @@ use Rattle.std.proofs.Common.{◌∙◌, ℕ, List, sym, subst}
 use Rattle.std.specs.List.Sorted.{IsStrictlyIncreasing}
 use Rattle.sbpl_change.specs.Affected.{AreStates, AreAffected, KeepArcsElsewhere}
 use Rattle.sbpl_cost.specs.Lattices.{network_of}
+use Rattle.sbpl_cost.specs.declared.arc_end.ArcEnd.TheVariants as end
 use Rattle.sbpl_replan.proofs.Changing.{changeable, same_states}
 use Rattle.sbpl_replan.proofs.change.change.Goals as goal
 
@@ -12,7 +13,7 @@ pub change-requires-clause-fits : goal.change-requires-clause-fits
 change-requires-clause-fits g c = λ _.
     changeable c.exact_where_same.ensures.every_state _ _ _ _ (same_states _ _ c.apply.ensures.others) c.requires.usable
     (subst (λ (l : List ℕ). AreStates (network_of c.apply.new.lattice) l) (sym c.as_slice.ensures.value) c.in_ok-apply.ensures.states)
-    (subst (λ (l : List ℕ). KeepArcsElsewhere (network_of c.args.lattice.now) (network_of c.apply.new.lattice) l) (sym c.as_slice.ensures.value) c.in_ok-apply.ensures.same_arcs)
+    (subst (λ (l : List ℕ). KeepArcsElsewhere end.Head (network_of c.args.lattice.now) (network_of c.apply.new.lattice) l) (sym c.as_slice.ensures.value) c.in_ok-apply.ensures.same_arcs)
 
 pub change-requires-clause-upwards : goal.change-requires-clause-upwards
 change-requires-clause-upwards g c = λ _. subst (λ (l : List ℕ). IsStrictlyIncreasing l) (sym c.as_slice.ensures.value) c.in_ok-apply.ensures.once
@@ -23,7 +24,7 @@ change-requires-else-repairs-clause-states g c = c.requires.usable.states ∙ sy
 pub returns-in_ok-apply-clause-begun : goal.returns-in_ok-apply-clause-begun
 returns-in_ok-apply-clause-begun g c = record {
   touched = c.as_slice.result.now;
-  are_touched = λ _. subst (λ (l : List ℕ). AreAffected c.args.lattice.now c.apply.new.lattice.map l) (sym c.as_slice.ensures.value) c.in_ok-apply.ensures.touched;
+  are_touched = λ _. subst (λ (l : List ℕ). AreAffected end.Head c.args.lattice.now c.apply.new.lattice.map l) (sym c.as_slice.ensures.value) c.in_ok-apply.ensures.touched;
   begun = c.change.ensures.begun;
 }
 

@@ -34,6 +34,7 @@ invariant_of-result c = record {
   leaving = c.in_ok-costs.ensures.leaving;
   entering = c.in_ok-costs.ensures.entering;
   numbers = c.in_ok-costs.ensures.numbers;
+  tail_numbers = c.in_ok-costs.ensures.tail_numbers;
   costs = c.in_ok-costs.ensures.costs ∙ ap (λ (e : Environment). map (primitive_cost e) c.args.prims.items) (sym c.copy_of.ensures.same);
   along = c.in_ok-costs.ensures.along;
   around = c.in_ok-costs.ensures.around;

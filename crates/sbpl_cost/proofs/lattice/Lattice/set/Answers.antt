@@ -12,6 +12,7 @@ invariant_of-self c =
       leaving = c.self.invariant.leaving;
       entering = c.self.invariant.entering;
       numbers = c.self.invariant.numbers;
+      tail_numbers = c.self.invariant.tail_numbers;
       costs = c.self.invariant.costs;
       along = c.self.invariant.along;
       around = c.self.invariant.around;

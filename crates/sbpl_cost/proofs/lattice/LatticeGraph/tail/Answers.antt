@@ -1,5 +1,6 @@
 use Rattle.std.proofs.Common.{arith, ap, refl}
 use Rattle.std.proofs.lemmas.Option.{slice_get_within}
+use Rattle.sbpl_cost.specs.declared.arc_end.ArcEnd.TheVariants as end
 use Rattle.sbpl_cost.proofs.Views.{state_below}
 use Rattle.sbpl_cost.proofs.TailViews.{tail_below, tail_read, tail_inside, number_read}
 use Rattle.sbpl_cost.proofs.lattice.LatticeGraph.tail.Goals as goal
@@ -31,7 +32,7 @@ pub returns : goal.returns
 returns c =
     let world = c.self.invariant.world in
     let place = rw (← c.self.view_is) at c.entering_at-i.ensures.place in
-    let number = number_read c.self.inside.prims.items c.self.inside.numbers.items c.entering_at-i.result c.index.result.now c.get.result.now c.self.invariant.numbers c.get.ensures.prim c.index.ensures in
+    let number = number_read end.Source c.self.inside.prims.items c.self.inside.numbers.items c.entering_at-i.result c.index.result.now c.get.result.now c.self.invariant.numbers c.get.ensures.prim c.index.ensures in
     let is = tail_read _ c.args.t c.args.j c.entering_at-i.result c.place_at-target.result c.get.result.now c.place_at-target.ensures.value place c.get.ensures.prim c.index.result.now number _ c.in-Some.ensures.value in
     let state = rw (← c.self.view_is) at c.requires.state in
     let inside = rw (← c.self.view_is) at c.requires.number in

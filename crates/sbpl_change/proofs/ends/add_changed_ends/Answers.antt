@@ -3,8 +3,8 @@ use Rattle.std.specs.BTreeMap.{get}
 use Rattle.std.specs.Map.Iter.{deref_pair}
 use Rattle.std.proofs.lemmas.Map.Iter.{btree_map_turn, rest_more, rest_all}
 use Rattle.sbpl_change.specs.Noted.{cell_cmp}
-use Rattle.sbpl_change.proofs.Adding.{cells_total, still_sound, still_complete, still_states, all_heads}
-use Rattle.sbpl_change.proofs.heads.add_changed_heads.Goals as goal
+use Rattle.sbpl_change.proofs.Adding.{cells_total, still_sound, still_complete, still_states, all_ends}
+use Rattle.sbpl_change.proofs.ends.add_changed_ends.Goals as goal
 
 pub loop-cell-preserved : goal.loop-cell-preserved
 loop-cell-preserved c =
@@ -16,20 +16,20 @@ loop-cell-preserved c =
     let turn = btree_map_turn deref_pair c.loop-cell.yielded c.into_iter-cell-iterator.result c.loop-cell.cell-iterator c.next.new.self c.next.result (c.in-Some.cell, c.in-Some.was) c.loop-cell.yielded_by c.in-Some.is c.next.ensures.steps cells_total costs (search rules) (search rules) in
     let noted : get cell_cmp costs (x, y) ≡ Some was = turn.1 in
     let left : c.loop-cell.cell-iterator ≡ ((x, y), was) ∷ c.next.new.self = rest_more deref_pair c.loop-cell.cell-iterator c.next.new.self c.next.result (c.in-Some.cell, c.in-Some.was) c.in-Some.is c.next.ensures.steps in
-    let adds = c.in_ok-add_heads.ensures.added in
+    let adds = c.in_ok-add_ends.ensures.added in
     record {
-      sound = still_sound w costs x y was noted c.loop-cell.heads.items c.add_heads.new.heads.items adds c.loop-cell.invariant.sound;
-      complete = still_complete w costs x y was noted c.loop-cell.heads.items c.add_heads.new.heads.items adds c.loop-cell.cell-iterator c.next.new.self left c.loop-cell.invariant.complete;
-      states = still_states w costs x y was noted c.loop-cell.heads.items c.add_heads.new.heads.items adds c.loop-cell.invariant.states;
+      sound = still_sound c.args.end w costs x y was noted c.loop-cell.ends.items c.add_ends.new.ends.items adds c.loop-cell.invariant.sound;
+      complete = still_complete c.args.end w costs x y was noted c.loop-cell.ends.items c.add_ends.new.ends.items adds c.loop-cell.cell-iterator c.next.new.self left c.loop-cell.invariant.complete;
+      states = still_states c.args.end w costs x y was noted c.loop-cell.ends.items c.add_ends.new.ends.items adds c.loop-cell.invariant.states;
     }
 
 pub returns : goal.returns
 returns c =
     let same = c.list_once.ensures.same in
     record {
-      heads = record {
+      ends = record {
         sound = λ t h. c.loop-cell.invariant.sound t ((same t).0 h);
-        complete = λ t head. (same t).1 (all_heads c.args.lattice.now c.args.costs.now c.loop-cell.cell-iterator c.loop-cell.heads.items (rest_all deref_pair c.loop-cell.cell-iterator c.next.new.self c.next.result c.in-None.is c.next.ensures.steps) c.loop-cell.invariant.complete t head);
+        complete = λ t head. (same t).1 (all_ends c.args.end c.args.lattice.now c.args.costs.now c.loop-cell.cell-iterator c.loop-cell.ends.items (rest_all deref_pair c.loop-cell.cell-iterator c.next.new.self c.next.result c.in-None.is c.next.ensures.steps) c.loop-cell.invariant.complete t head);
         states = λ t h. c.loop-cell.invariant.states t ((same t).0 h);
       };
       once = c.list_once.ensures.once;
