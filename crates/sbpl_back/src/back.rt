@@ -1,0 +1,85 @@
+//! The reversed graph of a lattice.
+
+ghost use Rattle.std.specs.Prelude.{◌≡◌};
+
+use sbpl_cost::{Lattice, lattice_has_its_tails};
+use sbpl_graph::Graph;
+use std::marker::Model;
+
+/// The reversed graph of a lattice: arc `j` of a state is its tail `j` in the lattice, which leads to the tail's source and is free
+/// and costs where the lattice's arc is and does. Tail `k` of a state is its arc `k` in the lattice. Gaps are 0: a search over this
+/// graph takes `FromStart`. No call takes memory.
+pub struct Back<'a> {
+    lattice: &'a Lattice,
+}
+
+impl<'a> Model for Back<'a> {
+    ghost use Rattle.sbpl_cost.specs.World.{World};
+
+    ghost Value = { World };
+
+    ghost view = { λ b. b.lattice.now };
+}
+
+impl<'a> Back<'a> {
+    /// The reversed graph of this lattice.
+    pub fn new(lattice: &'a Lattice) -> Back<'a>
+        ensures lattice { result ≡ lattice.now }
+    {
+        Back { lattice }
+    }
+}
+
+impl<'a> Graph for Back<'a> {
+    ghost use Rattle.sbpl_cost.specs.Lattices.{network_of};
+    ghost use Rattle.sbpl_back.specs.Reversed.{reversed};
+
+    ghost network = { λ w. reversed (network_of w) };
+
+    fn states(&self) -> u32 {
+        self.lattice.states()
+    }
+
+    fn fan(&self, s: u32) -> u32 {
+        let _states = self.lattice.states();
+        self.lattice.tail_fan(s)
+    }
+
+    fn head(&self, s: u32, k: u32) -> Option<u32> {
+        let _states = self.lattice.states();
+        let Some((source, _number)) = self.lattice.tail(s, k) else {
+            return None;
+        };
+        Some(source)
+    }
+
+    fn judge(&self, s: u32, k: u32) -> Option<u32> {
+        let _states = self.lattice.states();
+        let Some((source, number)) = self.lattice.tail(s, k) else {
+            return None;
+        };
+        self.lattice.judge(source, number)
+    }
+
+    fn floor(&self, s: u32, k: u32) -> u32 {
+        let _states = self.lattice.states();
+        let Some((source, number)) = self.lattice.tail(s, k) else {
+            return 1;
+        };
+        self.lattice.floor(source, number)
+    }
+
+    fn tail_fan(&self, t: u32) -> u32 {
+        let _states = self.lattice.states();
+        self.lattice.fan(t)
+    }
+
+    fn tail(&self, t: u32, j: u32) -> Option<(u32, u32)> {
+        let _states = self.lattice.states();
+        self.lattice.as_tail(t, j)
+    }
+
+    fn gap(&self, _a: u32, _b: u32) -> u64 {
+        0
+    }
+}
