@@ -1,5 +1,5 @@
 -- The job that a list of words names.
-use Rattle.std.specs.Prelude.{◌≡◌, ◌^◌, ◌<◌, ◌≤◌, true, false, not, ◌/◌, ◌%◌, ◌&&◌, ◌||◌, Bool, ℕ, ℤ, pos, negsuc, nat_eq, nat_le, List, [], ◌∷◌, length, map, String, string_bytes, Option, Some, None, is_some, option_map, option_and_then, Result, Ok, Err, codes, if◌then◌else◌}
+use Rattle.std.specs.Prelude.{◌≡◌, ◌^◌, ◌<◌, ◌≤◌, true, false, ◌/◌, ◌%◌, ◌&&◌, ◌||◌, Bool, ℕ, ℤ, pos, negsuc, nat_eq, nat_le, List, [], ◌∷◌, length, map, String, string_bytes, Option, Some, None, option_map, option_and_then, Result, Ok, Err, codes, if◌then◌else◌}
 use Rattle.std.specs.Option.{option_map_or}
 use Rattle.std.specs.Result.{result_ok}
 use Rattle.std.specs.Str.{bytes_eq}

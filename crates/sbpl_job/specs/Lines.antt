@@ -1,7 +1,8 @@
 -- The command line of each command, as it is given to clap.
-use Rattle.std.specs.Prelude.{ℕ, zero, suc, true, List, [], ◌∷◌, Option, Some, None, codes}
+use Rattle.std.specs.Prelude.{◌≡◌, ℕ, zero, suc, true, List, [], ◌∷◌, Option, Some, None, Result, IfOk, codes}
 use Rattle.clap.specs.Walk.{Rule, Text}
-use Rattle.clap.specs.Simple.{App, Shape, filled_from, new_rule, new_shape}
+use Rattle.clap.specs.Simple.{App, Shape, app_of, filled_from, new_rule, new_shape}
+use Rattle.clap.specs.declared.builder.command.Command.{Command as Built}
 use Rattle.sbpl_job.specs.declared.words.Command.{Command}
 use Rattle.sbpl_job.specs.declared.words.Command.TheVariants as command
 
@@ -50,6 +51,10 @@ bare_shape word = record (new_shape word) { no_binary_name = true; disable_help_
 
 abbrev pub bare : Text → App
 bare word = record { top = bare_shape word; subs = [] }
+
+-- what was made is this line, if there was memory for it
+abbrev pub IsLine : {E : Type 0} → Result Built E → App → Type 0
+IsLine line a = IfOk line (λ l. app_of l ≡ a)
 
 -- the line of a command
 abbrev pub app : Command → App

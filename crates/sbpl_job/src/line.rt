@@ -1,12 +1,12 @@
 //! The command line of each command, as it is given to `clap`, and what `clap` finds in it.
 
-ghost use Rattle.std.specs.Prelude.{◌≡◌, ◌↔◌, true, codes, IfOk};
-ghost use Rattle.clap.specs.Simple.{app_of, with_rule};
+ghost use Rattle.std.specs.Prelude.{◌≡◌, ◌↔◌, true, codes};
+ghost use Rattle.clap.specs.Simple.{App, with_rule};
 ghost use Rattle.clap.specs.Values.{kind_of};
 ghost use Rattle.clap.specs.Walk.{rule_of};
 ghost use Rattle.clap.specs.declared.error.kind.ErrorKind.TheVariants.{OutOfMemory};
 ghost use Rattle.sbpl_job.specs.Found.{FindsParts};
-ghost use Rattle.sbpl_job.specs.Lines.{app, bare, option_rule, plain_rule};
+ghost use Rattle.sbpl_job.specs.Lines.{IsLine, app, bare, option_rule, plain_rule};
 ghost use Rattle.sbpl_job.specs.Words.{are_fit, texts};
 
 use crate::job::JobFault;
@@ -15,56 +15,57 @@ use clap::error::ErrorKind;
 use clap::{Arg, ArgMatches, Error};
 use std::alloc::{AllocError, Global};
 
-/// A line without arguments, which knows no name of a program and no help.
-fn bare<'a>(alloc: Global, word: &'a str) -> clap::Command<'a>
-    ensures app { app_of result ≡ bare word.now }
+/// A command line, if there was memory for it. Each call below passes on a line that lacked memory, so that a line is dropped in two
+/// functions alone.
+type Line<'a> = Result<clap::Command<'a>, AllocError>;
+
+/// A line without arguments, which knows no name of a program and no help, of a command that does this.
+fn bare<'a>(alloc: Global, word: &'a str, about: &'a str) -> Line<'a>
+    ensures app { IsLine result (bare word.now) }
 {
-    clap::Command::new(alloc, word)
+    let line = clap::Command::new(alloc, word)
         .no_binary_name(true)
         .disable_help_flag(true)
+        .about(about);
+    Ok(line)
 }
 
 /// The line with a plain word that must stand.
-fn with_plain<'a>(
-    alloc: Global,
-    line: clap::Command<'a>,
-    id: &'a str,
-    help: &'a str,
-) -> Result<clap::Command<'a>, AllocError>
-    ensures app { IfOk result (λ l. app_of l ≡ with_rule (app_of line.entry) (plain_rule id.now)) }
+fn with_plain<'a>(alloc: Global, line: Line<'a>, id: &'a str, help: &'a str) -> Line<'a>
+    ensures app { (a : App) → IsLine line.entry a → IsLine result (with_rule a (plain_rule id.now)) }
 {
-    line.arg(Arg::new(alloc, id).required(true).help(help))
+    line?.arg(Arg::new(alloc, id).required(true).help(help))
 }
 
 /// The line with a setting, whose value has a name.
 fn with_option<'a>(
     alloc: Global,
-    line: clap::Command<'a>,
+    line: Line<'a>,
     id: &'a str,
     value: &'a str,
     help: &'a str,
-) -> Result<clap::Command<'a>, AllocError>
-    ensures app { IfOk result (λ l. app_of l ≡ with_rule (app_of line.entry) (option_rule id.now)) }
+) -> Line<'a>
+    ensures app { (a : App) → IsLine line.entry a → IsLine result (with_rule a (option_rule id.now)) }
 {
-    line.arg(Arg::new(alloc, id).long(id).value_name(value).help(help))
+    line?.arg(Arg::new(alloc, id).long(id).value_name(value).help(help))
 }
 
 /// The files that a lattice is made of.
-fn with_files<'a>(alloc: Global, line: clap::Command<'a>) -> Result<clap::Command<'a>, AllocError>
-    ensures app { IfOk result (λ l. app_of l ≡ with_rule (with_rule (app_of line.entry) (plain_rule (codes "ENV"))) (plain_rule (codes "MPRIM"))) }
+fn with_files<'a>(alloc: Global, line: Line<'a>) -> Line<'a>
+    ensures app { (a : App) → IsLine line.entry a → IsLine result (with_rule (with_rule a (plain_rule (codes "ENV"))) (plain_rule (codes "MPRIM"))) }
 {
     let line = with_plain(
         alloc,
         line,
         "ENV",
         "the environment file, SBPL's .cfg; it has 16 headings, or 4 to 64 by NumThetaDirs:",
-    )?;
+    );
     with_plain(alloc, line, "MPRIM", "the primitive file, SBPL's .mprim")
 }
 
 /// The setting of the radius.
-fn with_radius<'a>(alloc: Global, line: clap::Command<'a>) -> Result<clap::Command<'a>, AllocError>
-    ensures app { IfOk result (λ l. app_of l ≡ with_rule (app_of line.entry) (option_rule (codes "radius"))) }
+fn with_radius<'a>(alloc: Global, line: Line<'a>) -> Line<'a>
+    ensures app { (a : App) → IsLine line.entry a → IsLine result (with_rule a (option_rule (codes "radius"))) }
 {
     with_option(
         alloc,
@@ -76,8 +77,8 @@ fn with_radius<'a>(alloc: Global, line: clap::Command<'a>) -> Result<clap::Comma
 }
 
 /// The setting of the change file.
-fn with_changes<'a>(alloc: Global, line: clap::Command<'a>) -> Result<clap::Command<'a>, AllocError>
-    ensures app { IfOk result (λ l. app_of l ≡ with_rule (app_of line.entry) (option_rule (codes "changes"))) }
+fn with_changes<'a>(alloc: Global, line: Line<'a>) -> Line<'a>
+    ensures app { (a : App) → IsLine line.entry a → IsLine result (with_rule a (option_rule (codes "changes"))) }
 {
     with_option(
         alloc,
@@ -89,8 +90,8 @@ fn with_changes<'a>(alloc: Global, line: clap::Command<'a>) -> Result<clap::Comm
 }
 
 /// The planner, and its workers.
-fn with_planner<'a>(alloc: Global, line: clap::Command<'a>) -> Result<clap::Command<'a>, AllocError>
-    ensures app { IfOk result (λ l. app_of l ≡ with_rule (with_rule (app_of line.entry) (option_rule (codes "planner"))) (option_rule (codes "workers"))) }
+fn with_planner<'a>(alloc: Global, line: Line<'a>) -> Line<'a>
+    ensures app { (a : App) → IsLine line.entry a → IsLine result (with_rule (with_rule a (option_rule (codes "planner"))) (option_rule (codes "workers"))) }
 {
     let line = with_option(
         alloc,
@@ -98,7 +99,7 @@ fn with_planner<'a>(alloc: Global, line: clap::Command<'a>) -> Result<clap::Comm
         "planner",
         "P",
         "how to search: ad, ara or epase [default: ad]",
-    )?;
+    );
     with_option(
         alloc,
         line,
@@ -109,11 +110,8 @@ fn with_planner<'a>(alloc: Global, line: clap::Command<'a>) -> Result<clap::Comm
 }
 
 /// The inflations of the passes.
-fn with_inflations<'a>(
-    alloc: Global,
-    line: clap::Command<'a>,
-) -> Result<clap::Command<'a>, AllocError>
-    ensures app { IfOk result (λ l. app_of l ≡ with_rule (with_rule (app_of line.entry) (option_rule (codes "first"))) (option_rule (codes "step"))) }
+fn with_inflations<'a>(alloc: Global, line: Line<'a>) -> Line<'a>
+    ensures app { (a : App) → IsLine line.entry a → IsLine result (with_rule (with_rule a (option_rule (codes "first"))) (option_rule (codes "step"))) }
 {
     let line = with_option(
         alloc,
@@ -121,7 +119,7 @@ fn with_inflations<'a>(
         "first",
         "E",
         "the inflation of the first pass, 1 to 100 [default: 1.000]",
-    )?;
+    );
     with_option(
         alloc,
         line,
@@ -132,16 +130,16 @@ fn with_inflations<'a>(
 }
 
 /// How to search: the planner, its workers, and the inflations.
-fn with_search<'a>(alloc: Global, line: clap::Command<'a>) -> Result<clap::Command<'a>, AllocError>
-    ensures app { IfOk result (λ l. app_of l ≡ with_rule (with_rule (with_rule (with_rule (app_of line.entry) (option_rule (codes "planner"))) (option_rule (codes "workers"))) (option_rule (codes "first"))) (option_rule (codes "step"))) }
+fn with_search<'a>(alloc: Global, line: Line<'a>) -> Line<'a>
+    ensures app { (a : App) → IsLine line.entry a → IsLine result (with_rule (with_rule (with_rule (with_rule a (option_rule (codes "planner"))) (option_rule (codes "workers"))) (option_rule (codes "first"))) (option_rule (codes "step"))) }
 {
-    let line = with_planner(alloc, line)?;
+    let line = with_planner(alloc, line);
     with_inflations(alloc, line)
 }
 
 /// When a plan ends: the bound and the budget.
-fn with_ends<'a>(alloc: Global, line: clap::Command<'a>) -> Result<clap::Command<'a>, AllocError>
-    ensures app { IfOk result (λ l. app_of l ≡ with_rule (with_rule (app_of line.entry) (option_rule (codes "bound"))) (option_rule (codes "budget"))) }
+fn with_ends<'a>(alloc: Global, line: Line<'a>) -> Line<'a>
+    ensures app { (a : App) → IsLine line.entry a → IsLine result (with_rule (with_rule a (option_rule (codes "bound"))) (option_rule (codes "budget"))) }
 {
     let line = with_option(
         alloc,
@@ -149,7 +147,7 @@ fn with_ends<'a>(alloc: Global, line: clap::Command<'a>) -> Result<clap::Command
         "bound",
         "B",
         "the bound that is good enough, 1 to 100 [default: 1.000]",
-    )?;
+    );
     with_option(
         alloc,
         line,
@@ -160,8 +158,8 @@ fn with_ends<'a>(alloc: Global, line: clap::Command<'a>) -> Result<clap::Command
 }
 
 /// Where labels are written, and in which form.
-fn with_labels<'a>(alloc: Global, line: clap::Command<'a>) -> Result<clap::Command<'a>, AllocError>
-    ensures app { IfOk result (λ l. app_of l ≡ with_rule (with_rule (app_of line.entry) (option_rule (codes "labels"))) (option_rule (codes "labels-as"))) }
+fn with_labels<'a>(alloc: Global, line: Line<'a>) -> Line<'a>
+    ensures app { (a : App) → IsLine line.entry a → IsLine result (with_rule (with_rule a (option_rule (codes "labels"))) (option_rule (codes "labels-as"))) }
 {
     let line = with_option(
         alloc,
@@ -169,7 +167,7 @@ fn with_labels<'a>(alloc: Global, line: clap::Command<'a>) -> Result<clap::Comma
         "labels",
         "F",
         "where the labels are written [default: nowhere]",
-    )?;
+    );
     with_option(
         alloc,
         line,
@@ -180,10 +178,10 @@ fn with_labels<'a>(alloc: Global, line: clap::Command<'a>) -> Result<clap::Comma
 }
 
 /// What a plan writes besides its report.
-fn with_outputs<'a>(alloc: Global, line: clap::Command<'a>) -> Result<clap::Command<'a>, AllocError>
-    ensures app { IfOk result (λ l. app_of l ≡ with_rule (with_rule (with_rule (app_of line.entry) (option_rule (codes "labels"))) (option_rule (codes "labels-as"))) (option_rule (codes "trace"))) }
+fn with_outputs<'a>(alloc: Global, line: Line<'a>) -> Line<'a>
+    ensures app { (a : App) → IsLine line.entry a → IsLine result (with_rule (with_rule (with_rule a (option_rule (codes "labels"))) (option_rule (codes "labels-as"))) (option_rule (codes "trace"))) }
 {
-    let line = with_labels(alloc, line)?;
+    let line = with_labels(alloc, line);
     with_option(
         alloc,
         line,
@@ -194,60 +192,68 @@ fn with_outputs<'a>(alloc: Global, line: clap::Command<'a>) -> Result<clap::Comm
 }
 
 /// The line of the command `plan`.
-fn plan_line<'a>(alloc: Global) -> Result<clap::Command<'a>, AllocError>
-    ensures app { IfOk result (λ l. app_of l ≡ app Command.Plan) }
+fn plan_line<'a>(alloc: Global) -> Line<'a>
+    ensures app { IsLine result (app Command.Plan) }
 {
-    let line = bare(alloc, "plan").about(
+    let line = bare(
+        alloc,
+        "plan",
         "Plans on SBPL's state lattice, and again after each batch of changes.",
     );
-    let line = with_files(alloc, line)?;
-    let line = with_changes(alloc, line)?;
-    let line = with_radius(alloc, line)?;
-    let line = with_search(alloc, line)?;
-    let line = with_ends(alloc, line)?;
+    let line = with_files(alloc, line);
+    let line = with_changes(alloc, line);
+    let line = with_radius(alloc, line);
+    let line = with_search(alloc, line);
+    let line = with_ends(alloc, line);
     with_outputs(alloc, line)
 }
 
 /// The line of the command `check`.
-fn check_line<'a>(alloc: Global) -> Result<clap::Command<'a>, AllocError>
-    ensures app { IfOk result (λ l. app_of l ≡ app Command.Check) }
+fn check_line<'a>(alloc: Global) -> Line<'a>
+    ensures app { IsLine result (app Command.Check) }
 {
-    let line = bare(alloc, "check").about("Checks the labels that a plan wrote.");
-    let line = with_files(alloc, line)?;
-    let line = with_plain(alloc, line, "LABELS", "the file of labels")?;
-    let line = with_changes(alloc, line)?;
+    let line = bare(alloc, "check", "Checks the labels that a plan wrote.");
+    let line = with_files(alloc, line);
+    let line = with_plain(alloc, line, "LABELS", "the file of labels");
+    let line = with_changes(alloc, line);
     with_radius(alloc, line)
 }
 
 /// The line of the command `sweep`.
-fn sweep_line<'a>(alloc: Global) -> Result<clap::Command<'a>, AllocError>
-    ensures app { IfOk result (λ l. app_of l ≡ app Command.Sweep) }
+fn sweep_line<'a>(alloc: Global) -> Line<'a>
+    ensures app { IsLine result (app Command.Sweep) }
 {
-    let line = bare(alloc, "sweep").about(
+    let line = bare(
+        alloc,
+        "sweep",
         "Lists what each primitive costs, and the cells that it sweeps.",
     );
-    let line = with_files(alloc, line)?;
+    let line = with_files(alloc, line);
     with_radius(alloc, line)
 }
 
 /// The line of the command `demo`.
-fn demo_line<'a>(alloc: Global) -> Result<clap::Command<'a>, AllocError>
-    ensures app { IfOk result (λ l. app_of l ≡ app Command.Demo) }
+fn demo_line<'a>(alloc: Global) -> Line<'a>
+    ensures app { IsLine result (app Command.Demo) }
 {
-    let line = bare(alloc, "demo").about("Plans on an example that is drawn from a seed.");
+    let line = bare(
+        alloc,
+        "demo",
+        "Plans on an example that is drawn from a seed.",
+    );
     let line = with_plain(
         alloc,
         line,
         "SEED",
         "what the example is drawn from, 0 to 2^64 - 1",
-    )?;
-    let line = with_plain(alloc, line, "W", "how many cells the map is wide, 8 to 512")?;
+    );
+    let line = with_plain(alloc, line, "W", "how many cells the map is wide, 8 to 512");
     with_plain(alloc, line, "H", "how many cells the map is high, 8 to 512")
 }
 
 /// The line of a command.
-pub(crate) fn line_of<'a>(alloc: Global, command: Command) -> Result<clap::Command<'a>, AllocError>
-    ensures app { IfOk result (λ l. app_of l ≡ app command) }
+pub(crate) fn line_of<'a>(alloc: Global, command: Command) -> Line<'a>
+    ensures app { IsLine result (app command) }
 {
     match command {
         Command::Plan => plan_line(alloc),

@@ -1,10 +1,4 @@
-use Rattle.std.proofs.Common.{◌≡◌, codes, subst}
-use Rattle.std.specs.Prelude.{IfOk}
-use Rattle.clap.specs.Simple.{App, app_of, with_rule}
-use Rattle.sbpl_job.specs.Lines.{plain_rule}
 use Rattle.sbpl_job.proofs.line.with_files.Goals as goal
 
 pub returns : goal.returns
-returns c = record {
-  app = subst (λ (a : App). IfOk c.with_plain-2.result (λ l. app_of l ≡ with_rule a (plain_rule (codes "MPRIM")))) c.in_ok-line.ensures.app c.with_plain-2.ensures.app;
-}
+returns c = record { app = λ a is. c.with_plain.ensures.app _ (c.with_plain-line.ensures.app a is) }

@@ -1,10 +1,4 @@
-use Rattle.std.proofs.Common.{◌≡◌, codes, subst}
-use Rattle.std.specs.Prelude.{IfOk}
-use Rattle.clap.specs.Simple.{App, app_of, with_rule}
-use Rattle.sbpl_job.specs.Lines.{option_rule}
 use Rattle.sbpl_job.proofs.line.with_search.Goals as goal
 
 pub returns : goal.returns
-returns c = record {
-  app = subst (λ (a : App). IfOk c.with_inflations.result (λ l. app_of l ≡ with_rule (with_rule a (option_rule (codes "first"))) (option_rule (codes "step")))) c.in_ok-line.ensures.app c.with_inflations.ensures.app;
-}
+returns c = record { app = λ a is. c.with_inflations.ensures.app _ (c.with_planner-line.ensures.app a is) }
