@@ -1,0 +1,13 @@
+-- What is left to read, after one more round of those that a format takes.
+use Rattle.std.proofs.Common.{◌≡◌, ℕ, ◌+◌, ◌-◌, ◌<◌, Result, Ok, sym, ap, ◌∙◌}
+use Rattle.sbpl_fixed.specs.Formats.{Format, Left, reads, turns}
+use Rattle.sbpl_fixed.specs.Parts.{read_on, reads_and_then, turns_next}
+use Rattle.sbpl_fixed.specs.declared.fault.TextFault.{TextFault}
+
+pub round : {E S : Type 0} (tell : TextFault → E) (count i : ℕ) (step : S → Format E S) (s next : S) (left rest : Left) (all : Result (S × Left) E) → i < count
+    → reads tell (turns (count - i) step s) left ≡ all → reads tell (step s) left ≡ Ok (next, rest)
+    → reads tell (turns (count - (i + 1)) step next) rest ≡ all
+round tell count i step s next left rest all lt whole one =
+    sym (ap (λ r. read_on r (λ x rest. reads tell (turns (count - (i + 1)) step x) rest)) one)
+    ∙ sym (reads_and_then tell (step s) (turns (count - (i + 1)) step) left)
+    ∙ sym (ap (λ f. reads tell f left) (turns_next count i step s lt)) ∙ whole
