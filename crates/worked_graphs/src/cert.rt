@@ -109,16 +109,25 @@ fn is_the_lattice(set: &LabelSet) -> bool {
     (set.plan, set.low, rows.len()) == (0, 50, 48)
 }
 
+/// Whether a section is written as this text.
+fn is_written(alloc: Global, set: &LabelSet, text: &[u8]) -> bool {
+    let mut out = Vec::new(alloc);
+    write_labels(set, &mut out).is_ok() && out.as_slice() == text
+}
+
+/// Whether a sparse section is written as this text.
+fn is_written_sparse(alloc: Global, set: &SparseSet, text: &[u8]) -> bool {
+    let mut out = Vec::new(alloc);
+    write_sparse(set, &mut out).is_ok() && out.as_slice() == text
+}
+
 /// Reads the section of a text, and writes it again.
 fn read_and_written(rt: &impl Abort, alloc: Global, text: &[u8]) -> Result<(), Fail> {
     let (set, after) = read_full(alloc, text, 0, 0, 48)?;
-    assert_eq!(rt; after + 1, text.len());
-    assert!(rt; is_the_lattice(&set));
-    let mut out = Vec::new(alloc);
-    assert!(rt; write_labels(&set, &mut out).is_ok());
+    let is = is_the_lattice(&set);
+    let written = is_written(alloc, &set, text);
     drop(set);
-    assert_eq!(rt; out.as_slice(), text);
-    drop(out);
+    assert_eq!(rt; (is, written, after + 1), (true, true, text.len()));
     Ok(())
 }
 
@@ -140,28 +149,38 @@ nopath
 end
 ";
 
-/// Reads the first of the two, and answers where it ends.
-fn first_of_two(rt: &impl Abort, alloc: Global) -> Result<usize, Fail> {
-    let (first, after) = read_full(alloc, TWO.as_bytes(), 0, 0, 1)?;
-    assert_eq!(rt; (first.low, after), (FAR, 87));
+/// Whether a section is the first of the two.
+fn is_the_first(set: &LabelSet) -> bool {
     let path = Outcome::Path {
         cost: 3,
         bound: 1_267_650_600_228_229_401_496_703_205_375,
     };
-    assert_eq!(rt; first.outcome, path);
-    assert_eq!(rt; first.arcs.as_slice(), [4095].as_slice());
+    set.outcome == path && set.low == FAR && set.arcs.as_slice() == [4095].as_slice()
+}
+
+/// Reads the first of the two, and answers whether it is as it should be, and where it ends.
+fn first_of_two(alloc: Global) -> Result<(bool, usize), Fail> {
+    let (first, after) = read_full(alloc, TWO.as_bytes(), 0, 0, 1)?;
+    let is = is_the_first(&first);
     drop(first);
-    Ok(after)
+    Ok((is, after))
+}
+
+/// Reads the second of the two from where the first one ends, and answers whether it is as it should be, and where it ends.
+fn second_of_two(alloc: Global, at: usize) -> Result<(bool, usize), Fail> {
+    let (second, after) = read_full(alloc, TWO.as_bytes(), at, 1, 0)?;
+    let is = second.outcome == Outcome::NoPath && second.labels.as_slice().is_empty();
+    drop(second);
+    Ok((is, after))
 }
 
 #[test]
 fn sections_stand_one_after_another(rt: HostRuntime) -> Result<(), Fail> {
     let text = TWO.as_bytes();
-    let after = first_of_two(&rt, rt.alloc())?;
-    let (second, after) = read_full(rt.alloc(), text, after, 1, 0)?;
-    assert_eq!(rt; (second.outcome, after + 1), (Outcome::NoPath, text.len()));
-    assert!(rt; second.labels.as_slice().is_empty());
-    drop(second);
+    let (is, after) = first_of_two(rt.alloc())?;
+    assert_eq!(rt; (is, after), (true, 87));
+    let (is, after) = second_of_two(rt.alloc(), after)?;
+    assert_eq!(rt; (is, after), (true, text.len() - 1));
     for at in [after, text.len(), usize::MAX] {
         let more = read_labels(rt.alloc(), text, at, 2, 0).err();
         assert_eq!(rt; more, Some(LabelFault::Ended(text.len())));
@@ -180,17 +199,22 @@ fn nothing(alloc: Global) -> LabelSet {
     }
 }
 
+/// Whether two sections are written as this text, the second after the first.
+fn are_written(alloc: Global, first: &LabelSet, second: &LabelSet, text: &[u8]) -> bool {
+    let mut out = Vec::new(alloc);
+    write_labels(first, &mut out).is_ok()
+        && write_labels(second, &mut out).is_ok()
+        && out.as_slice() == text
+}
+
 #[test]
 fn sections_are_written_one_after_another(rt: HostRuntime) -> Result<(), Fail> {
     let (first, _) = read_full(rt.alloc(), TWO.as_bytes(), 0, 0, 1)?;
     let second = nothing(rt.alloc());
-    let mut out = Vec::new(rt.alloc());
-    assert!(rt; write_labels(&first, &mut out).is_ok());
-    assert!(rt; write_labels(&second, &mut out).is_ok());
+    let written = are_written(rt.alloc(), &first, &second, TWO.as_bytes());
     drop(first);
     drop(second);
-    assert_eq!(rt; out.as_slice(), TWO.as_bytes());
-    drop(out);
+    assert!(rt; written);
     Ok(())
 }
 
@@ -287,12 +311,19 @@ fn fault_of(alloc: Global, whole: &str, change: &str) -> Result<String, Fail> {
     fault
 }
 
+/// Whether a text with another line has the fault that a row says.
+fn has_fault(alloc: Global, whole: &str, row: &str) -> Result<bool, Fail> {
+    let (change, want) = row.split_once(" => ").ok_or("an arrow")?;
+    let fault = fault_of(alloc, whole, change)?;
+    let same = fault.as_str() == want;
+    drop(fault);
+    Ok(same)
+}
+
 /// A text has the faults of a table.
 fn has_faults(rt: &impl Abort, alloc: Global, whole: &str, table: &str) -> Result<(), Fail> {
     for row in table.split('\n') {
-        let (change, want) = row.split_once(" => ").ok_or("an arrow")?;
-        let fault = fault_of(alloc, whole, change)?;
-        assert_eq!(rt; fault.as_str(), want, "{row}");
+        assert!(rt; has_fault(alloc, whole, row)?, "{row}");
     }
     Ok(())
 }
@@ -371,22 +402,67 @@ fn said_of(alloc: Global, flaw: Option<Flaw>) -> Result<String, AllocError> {
     }
 }
 
-/// The flaw of the text with another line, as a text.
-fn flaw_of(alloc: Global, change: &str) -> Result<String, Fail> {
+/// The flaw of the text with another line.
+fn flaw_of(alloc: Global, change: &str) -> Result<Option<Flaw>, Fail> {
     let text = altered(alloc, CORRIDOR, change)?;
     let flaw = checked(alloc, text.as_str());
     drop(text);
-    Ok(said_of(alloc, flaw?)?)
+    flaw
+}
+
+/// A graph of three states on which no way leads to the last.
+fn parted() -> Listed {
+    Listed {
+        arcs: [Some((1, 25)), None, None],
+    }
+}
+
+/// What stands before the arrows of a table of flaws.
+#[derive(Clone, Copy)]
+enum Given {
+    /// A line of the corridor's text.
+    Line,
+    /// A line of its sparse text.
+    SparseLine,
+    /// A whole sparse text, for the corridor.
+    Sparse,
+    /// A whole text, for the graph without a way to the goal.
+    Parted,
+    /// A whole sparse text, for that graph.
+    SparseParted,
+}
+
+/// The flaw of what is given.
+fn flaw_given(alloc: Global, given: Given, text: &str) -> Result<Option<Flaw>, Fail> {
+    match given {
+        Given::Line => flaw_of(alloc, text),
+        Given::SparseLine => sparse_flaw_of(alloc, text),
+        Given::Sparse => sparse_checked(alloc, text),
+        Given::Parted => flaw_on(alloc, &parted(), text),
+        Given::SparseParted => sparse_flaw_on(alloc, &parted(), text),
+    }
+}
+
+/// Whether a row says the flaw of what is given.
+fn has_flaw(alloc: Global, given: Given, row: &str) -> Result<bool, Fail> {
+    let (text, want) = row.split_once(" => ").ok_or("an arrow")?;
+    let told = said_of(alloc, flaw_given(alloc, given, text)?)?;
+    let same = told.as_str() == want;
+    drop(told);
+    Ok(same)
+}
+
+/// The flaws are those of a table.
+fn has_flaws(rt: &impl Abort, alloc: Global, given: Given, table: &str) -> Result<(), Fail> {
+    for row in table.split('\n') {
+        assert!(rt; has_flaw(alloc, given, row)?, "{row}");
+    }
+    Ok(())
 }
 
 #[test]
 fn flaws_are_found(rt: HostRuntime) -> Result<(), Fail> {
-    for row in FLAWS.split('\n') {
-        let (change, want) = row.split_once(" => ").ok_or("an arrow")?;
-        let flaw = flaw_of(rt.alloc(), change)?;
-        assert_eq!(rt; flaw.as_str(), want, "{row}");
-    }
-    Ok(())
+    has_flaws(&rt, rt.alloc(), Given::Line, FLAWS)
 }
 
 #[test]
@@ -405,28 +481,15 @@ fn the_first_flaw_is_answered(rt: HostRuntime) -> Result<(), Fail> {
     Ok(())
 }
 
+/// Texts, and after the arrow the flaw on a graph on which no way leads to the goal.
+const NO_PATH: &str = "\
+labels 1 plan 0 states 3 low 0 nopath 0 0 50 25 25 25 - - 0 end => holds
+labels 1 plan 0 states 3 low 0 nopath 0 0 50 25 - 25 - - 0 end => Goal { state: 1 }
+labels 1 plan 0 states 3 low 0 nopath 0 - 50 - - 25 - - 0 end => Goal { state: 0 }";
+
 #[test]
 fn no_path_is_shown(rt: HostRuntime) -> Result<(), Fail> {
-    let graph = Listed {
-        arcs: [Some((1, 25)), None, None],
-    };
-    for (text, flaw) in [
-        (
-            "labels 1 plan 0 states 3 low 0 nopath 0 0 50 25 25 25 - - 0 end",
-            None,
-        ),
-        (
-            "labels 1 plan 0 states 3 low 0 nopath 0 0 50 25 - 25 - - 0 end",
-            Some(Flaw::Goal { state: 1 }),
-        ),
-        (
-            "labels 1 plan 0 states 3 low 0 nopath 0 - 50 - - 25 - - 0 end",
-            Some(Flaw::Goal { state: 0 }),
-        ),
-    ] {
-        assert_eq!(rt; flaw_on(rt.alloc(), &graph, text)?, flaw, "{text}");
-    }
-    Ok(())
+    has_flaws(&rt, rt.alloc(), Given::Parted, NO_PATH)
 }
 
 /// Whether a section is that of the sparse corridor.
@@ -450,13 +513,10 @@ fn is_the_corridor(set: &SparseSet) -> bool {
 #[test]
 fn a_sparse_section_is_read_and_written(rt: HostRuntime) -> Result<(), Fail> {
     let (set, after) = read_sparse(rt.alloc(), SPARSE.as_bytes(), 0, 0, 3)?;
-    assert_eq!(rt; after + 1, SPARSE.len());
-    assert!(rt; is_the_corridor(&set));
-    let mut out = Vec::new(rt.alloc());
-    assert!(rt; write_sparse(&set, &mut out).is_ok());
+    let is = is_the_corridor(&set);
+    let written = is_written_sparse(rt.alloc(), &set, SPARSE.as_bytes());
     drop(set);
-    assert_eq!(rt; out.as_slice(), SPARSE.as_bytes());
-    drop(out);
+    assert_eq!(rt; (is, written, after + 1), (true, true, SPARSE.len()));
     Ok(())
 }
 
@@ -471,26 +531,25 @@ nopath
 end
 ";
 
+/// Whether a section in full and a sparse one are written as this text, one after the other.
+fn are_both_written(alloc: Global, first: &LabelSet, second: &SparseSet, text: &[u8]) -> bool {
+    let mut out = Vec::new(alloc);
+    write_labels(first, &mut out).is_ok()
+        && write_sparse(second, &mut out).is_ok()
+        && out.as_slice() == text
+}
+
 #[test]
 fn versions_stand_one_after_another(rt: HostRuntime) -> Result<(), Fail> {
     let text = MIXED.as_bytes();
-    let (first, after) = read_full(rt.alloc(), text, 0, 0, 1)?;
-    assert_eq!(rt;
-        (first.outcome, first.low, after),
-        (Outcome::Unknown, 0, 48)
-    );
-    let (second, after) = read_sparse(rt.alloc(), text, after, 1, 1)?;
-    assert_eq!(rt;
-        (second.outcome, second.low, after),
-        (Outcome::NoPath, FAR, 103)
-    );
-    let mut out = Vec::new(rt.alloc());
-    assert!(rt; write_labels(&first, &mut out).is_ok());
-    assert!(rt; write_sparse(&second, &mut out).is_ok());
+    let (first, middle) = read_full(rt.alloc(), text, 0, 0, 1)?;
+    let (second, after) = read_sparse(rt.alloc(), text, middle, 1, 1)?;
+    let says = (first.outcome, first.low, second.outcome, second.low);
+    let written = are_both_written(rt.alloc(), &first, &second, text);
     drop(first);
     drop(second);
-    assert_eq!(rt; out.as_slice(), text);
-    drop(out);
+    assert_eq!(rt; says, (Outcome::Unknown, 0, Outcome::NoPath, FAR));
+    assert_eq!(rt; (middle, after, written), (48, 103, true));
     Ok(())
 }
 
@@ -529,22 +588,17 @@ const SPARSE_FLAWS: &str = "\
 1 nopath => Goal { state: 2 }
 1 unknown => holds";
 
-/// The flaw of the sparse text with another line, as a text.
-fn sparse_flaw_of(alloc: Global, change: &str) -> Result<String, Fail> {
+/// The flaw of the sparse text with another line.
+fn sparse_flaw_of(alloc: Global, change: &str) -> Result<Option<Flaw>, Fail> {
     let text = altered(alloc, SPARSE, change)?;
     let flaw = sparse_checked(alloc, text.as_str());
     drop(text);
-    Ok(said_of(alloc, flaw?)?)
+    flaw
 }
 
 #[test]
 fn flaws_of_a_sparse_section_are_found(rt: HostRuntime) -> Result<(), Fail> {
-    for row in SPARSE_FLAWS.split('\n') {
-        let (change, want) = row.split_once(" => ").ok_or("an arrow")?;
-        let flaw = sparse_flaw_of(rt.alloc(), change)?;
-        assert_eq!(rt; flaw.as_str(), want, "{row}");
-    }
-    Ok(())
+    has_flaws(&rt, rt.alloc(), Given::SparseLine, SPARSE_FLAWS)
 }
 
 /// Sparse sections with absent states, and their flaws on the corridor. An arc from a state of finite v needs a finite g where it
@@ -559,35 +613,16 @@ labels\t2 plan 00 states 03\rrows 02 low 00 unknown 00 0 00 01 25 - end => holds
 
 #[test]
 fn absent_states_have_infinite_labels(rt: HostRuntime) -> Result<(), Fail> {
-    for row in ABSENT.split('\n') {
-        let (text, want) = row.split_once(" => ").ok_or("an arrow")?;
-        let flaw = sparse_checked(rt.alloc(), text)?;
-        let flaw = said_of(rt.alloc(), flaw)?;
-        assert_eq!(rt; flaw.as_str(), want, "{row}");
-    }
-    Ok(())
+    has_flaws(&rt, rt.alloc(), Given::Sparse, ABSENT)
 }
+
+/// Sparse texts, and after the arrow the flaw on a graph on which no way leads to the goal.
+const SPARSE_NO_PATH: &str = "\
+labels 2 plan 0 states 3 rows 2 low - nopath 0 0 0 1 25 25 end => holds
+labels 2 plan 0 states 3 rows 2 low 0 nopath 0 0 0 1 25 - end => Goal { state: 1 }
+labels 2 plan 0 states 3 rows 1 low 0 nopath 0 0 - end => Goal { state: 0 }";
 
 #[test]
 fn no_path_is_shown_by_a_sparse_section(rt: HostRuntime) -> Result<(), Fail> {
-    let graph = Listed {
-        arcs: [Some((1, 25)), None, None],
-    };
-    for (text, flaw) in [
-        (
-            "labels 2 plan 0 states 3 rows 2 low - nopath 0 0 0 1 25 25 end",
-            None,
-        ),
-        (
-            "labels 2 plan 0 states 3 rows 2 low 0 nopath 0 0 0 1 25 - end",
-            Some(Flaw::Goal { state: 1 }),
-        ),
-        (
-            "labels 2 plan 0 states 3 rows 1 low 0 nopath 0 0 - end",
-            Some(Flaw::Goal { state: 0 }),
-        ),
-    ] {
-        assert_eq!(rt; sparse_flaw_on(rt.alloc(), &graph, text)?, flaw, "{text}");
-    }
-    Ok(())
+    has_flaws(&rt, rt.alloc(), Given::SparseParted, SPARSE_NO_PATH)
 }

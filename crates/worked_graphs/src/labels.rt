@@ -32,21 +32,22 @@ fn labels_of_three_states(rt: HostRuntime) -> Result<(), Fail> {
     let mut arcs = Vec::with_capacity(rt.alloc(), 3)?;
     let mut labels = Labels::open(rt.alloc(), 3, 0)?;
     assert_eq!(rt; labels.walk(&graph, 1, &mut arcs), Walk::None);
-    assert_eq!(rt; labels.low(&Zero, 1), 0);
+    let before = labels.low(&Zero, 1);
 
     labels.settle(0);
     assert!(rt; labels.lower(1, 0, 0, 5));
     assert!(rt; !labels.lower(1, 0, 1, 5));
-    assert_eq!(rt;
-        (labels.start(), labels.g(1), labels.v(0), labels.back(1)),
-        (0, 5, 0, Some((0, 0)))
-    );
-    assert_eq!(rt; labels.walk(&graph, 1, &mut arcs), Walk::Path(5));
-    assert_eq!(rt; arcs.as_slice(), [0].as_slice());
-    assert_eq!(rt; labels.low(&Zero, 1), 5);
-    assert!(rt; !labels.shows_none(1));
-
+    let has = (labels.start(), labels.g(1), labels.v(0), labels.back(1));
+    let walk = labels.walk(&graph, 1, &mut arcs);
+    let is_along = arcs.as_slice() == [0].as_slice();
+    let after = (labels.low(&Zero, 1), labels.shows_none(1));
     compare_reset(&rt, &mut labels);
+
+    drop(labels);
+    drop(arcs);
+    assert_eq!(rt; has, (0, 5, 0, Some((0, 0))));
+    assert_eq!(rt; (walk, is_along), (Walk::Path(5), true));
+    assert_eq!(rt; (before, after), (0, (5, false)));
     Ok(())
 }
 
