@@ -40,17 +40,3 @@ impl<T> ListOf<T> {
         self.items
     }
 }
-
-#[cfg(test)]
-mod tests {
-    use super::*;
-    use std::test::Fail;
-
-    #[test]
-    fn gives_its_items_back(rt: HostRuntime) -> Result<(), Fail> {
-        let list = ListOf::of(vec![in rt.alloc(); 3u8, 1, 2]?);
-        assert_eq!(rt; list.as_slice(), [3, 1, 2].as_slice());
-        assert_eq!(rt; list.into_vec().as_slice(), [3, 1, 2].as_slice());
-        Ok(())
-    }
-}

@@ -10,8 +10,6 @@ mod lines;
 mod message;
 mod primitives;
 mod reason;
-#[cfg(test)]
-mod tests;
 mod whole;
 
 pub use changes::changes_message;

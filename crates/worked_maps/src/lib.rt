@@ -1,11 +1,9 @@
-//! Worked examples of the crates that read files and plan on maps, as tests and nothing else. They stand here, in one crate,
+//! Worked examples of the crates that sweep, change and plan on maps, as tests and nothing else. They stand here, in one crate,
 //! since a crate with tests is proved twice.
 #![tactic(auto)]
 
 #[cfg(test)]
 mod back;
-#[cfg(test)]
-mod cfg;
 #[cfg(test)]
 mod change;
 #[cfg(test)]
@@ -13,21 +11,13 @@ mod cost;
 #[cfg(test)]
 mod demo;
 #[cfg(test)]
-mod desk;
-#[cfg(test)]
-mod fixed;
-#[cfg(test)]
 mod heur;
-#[cfg(test)]
-mod job;
 #[cfg(test)]
 mod lattice;
 #[cfg(test)]
 mod lattices;
 #[cfg(test)]
 mod map;
-#[cfg(test)]
-mod mprim;
 #[cfg(test)]
 mod replan;
 #[cfg(test)]

@@ -100,22 +100,36 @@ fn quotients_and_roots_are_rounded_up(rt: HostRuntime) {
     assert_eq!(rt; (ceil_div(7, 3), ceil_div(6, 3)), (3, 2));
 }
 
-#[test]
-fn a_text_is_read(rt: HostRuntime) -> Result<(), Fail> {
-    let mut reader = Reader::new(b"\tsize: 3 -2\x0b0.5\r\nlast 300");
-    assert_eq!(rt; reader.word(b"size:")?, 1);
-    let (natural, whole) = (reader.natural(1, 3)?, reader.whole(-2, 0)?);
+/// A word, a natural number, a whole one and a decimal are read, each with its place.
+fn values_in(reader: &mut Reader) -> Result<[(i64, usize); 4], TextFault> {
+    let word = reader.word(b"size:")?;
+    let natural = reader.natural(1, 3)?;
+    let whole = reader.whole(-2, 0)?;
     let nano = reader.nano(0, 500_000_000)?;
-    assert_eq!(rt; (natural.value, natural.place), (3, 7));
-    assert_eq!(rt; (whole.value, whole.place), (-2, 9));
-    assert_eq!(rt; (nano.value, nano.place), (500_000_000, 12));
-    let faults = [
+    Ok([
+        (0, word),
+        (i64::from(natural.value), natural.place),
+        (i64::from(whole.value), whole.place),
+        (nano.value, nano.place),
+    ])
+}
+
+/// What is wrong with the rest of the text.
+fn faults_in(reader: &mut Reader) -> [Option<TextFault>; 5] {
+    [
         reader.word(b"las").err(),
         reader.natural(0, 255).err(),
         reader.end().err(),
         reader.natural(0, 255).err(),
         Reader::new(b" x").end().err(),
-    ];
+    ]
+}
+
+#[test]
+fn a_text_is_read(rt: HostRuntime) -> Result<(), Fail> {
+    let mut reader = Reader::new(b"\tsize: 3 -2\x0b0.5\r\nlast 300");
+    let values = values_in(&mut reader)?;
+    assert_eq!(rt; values, [(0, 1), (3, 7), (-2, 9), (500_000_000, 12)]);
     let want = [
         Some(TextFault::Word(17)),
         Some(TextFault::Range(22)),
@@ -123,7 +137,7 @@ fn a_text_is_read(rt: HostRuntime) -> Result<(), Fail> {
         Some(TextFault::Ended(25)),
         Some(TextFault::Trailing(1)),
     ];
-    assert_eq!(rt; faults, want);
+    assert_eq!(rt; faults_in(&mut reader), want);
     assert_eq!(rt; next_token(b"ab c", 1), Some(Token { from: 3, to: 4 }));
     Ok(())
 }

@@ -235,19 +235,33 @@ fn said_by_line(alloc: Global, line: &str) -> Result<String, Fail> {
     said
 }
 
+/// Whether the words of a line name this job.
+fn names(alloc: Global, line: &str, want: &str) -> Result<bool, Fail> {
+    let said = said_by_line(alloc, line)?;
+    let same = said.as_str() == want;
+    drop(said);
+    Ok(same)
+}
+
 #[test]
 fn jobs(rt: HostRuntime) -> Result<(), Fail> {
     for line in JOBS.split('\n') {
         let (words, want) = line.split_once(" => ").ok_or("an arrow")?;
-        let said = said_by_line(rt.alloc(), words)?;
-        assert_eq!(rt; said.as_str(), want, "{line}");
+        assert!(rt; names(rt.alloc(), words, want)?, "{line}");
     }
     for line in NO_JOB.split('\n') {
-        let said = said_by_line(rt.alloc(), line)?;
-        assert_eq!(rt; said.as_str(), "no job", "{line}");
+        assert!(rt; names(rt.alloc(), line, "no job")?, "{line}");
     }
+    Ok(())
+}
+
+/// No words name no job.
+#[test]
+fn no_words(rt: HostRuntime) -> Result<(), Fail> {
     let said = said_by(rt.alloc(), &[])?;
-    assert_eq!(rt; said.as_str(), "no job");
+    let same = said.as_str() == "no job";
+    drop(said);
+    assert!(rt; same);
     Ok(())
 }
 
