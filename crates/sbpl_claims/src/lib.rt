@@ -10,8 +10,6 @@ mod making;
 mod naming;
 mod rule;
 mod steps;
-#[cfg(test)]
-mod tests;
 
 pub use claim::Claim;
 pub use claims::Claims;

@@ -1,4 +1,3 @@
 pub mod Tying
 pub mod Summing
 pub mod Finishing
-pub mod PairTails

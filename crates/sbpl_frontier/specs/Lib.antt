@@ -2,4 +2,3 @@ pub mod Tally
 pub mod Come
 pub mod Tied
 pub mod Turns
-pub mod Pair

@@ -8,8 +8,6 @@ mod locked;
 mod seat;
 mod second;
 mod shared;
-#[cfg(test)]
-mod tests;
 mod turn;
 
 pub use sbpl_claims::{Claim, Claims, Naming};

@@ -25,7 +25,7 @@ use std::sync::{Mutex, Wait};
 /// Each sits in a seat of its own.
 #[derive(Drop)]
 pub struct Shared<'g, G: Graph, H: Guide, N: Pass, U: Past, M: Second, L: Lined> {
-    pub(crate) lock: Mutex<Locked<'g, G, H, N, U, M, L>>,
+    lock: Mutex<Locked<'g, G, H, N, U, M, L>>,
     queue: Queue<N, M, L>,
     bell: Bell,
 }
