@@ -1,6 +1,7 @@
-use Rattle.std.proofs.Common.{◌≡◌, ◌+◌, ◌∙◌, ◌-◌, length, slice_index, arith}
+use Rattle.std.proofs.Common.{◌≡◌, ℕ, ◌+◌, ◌∙◌, ◌-◌, length, slice_index, subst, arith}
 use Rattle.std.proofs.lemmas.List.{get_or_read, with_items_is}
 use Rattle.sbpl_open.specs.Entries.{entry_at, no_entry}
+use Rattle.sbpl_open.specs.Heap.{IsHeap, rank_at}
 use Rattle.sbpl_open.proofs.Agreeing.{place_at}
 use Rattle.sbpl_open.proofs.Ending.{agreed_leaving, hole_closing, keys_closing, keys_leaving}
 use Rattle.sbpl_open.proofs.Keeping.{changes_then}
@@ -54,3 +55,11 @@ returns-else-gap-last-clause-keys c =
     let len : length heap ≡ last + 1 = omega (arith, c.len-last.ensures, slot.0) in
     rw c.truncate.ensures.items
     (keys_leaving heap c.args.slots.now c.args.s (slice_index c.args.slots.now c.args.s - 1) last c.requires.agreed c.requires.ordered len slot.1 c.if-gap-last.false slot.0)
+
+pub returns-then-gap-last-clause-agreed : goal.returns-then-gap-last-clause-agreed
+returns-then-gap-last-clause-agreed c = rw (with_items_is c.truncate.new.self c.sift.new.heap (omega arith)) c.sift.ensures.agreed
+
+pub returns-then-gap-last-clause-ordered : goal.returns-then-gap-last-clause-ordered
+returns-then-gap-last-clause-ordered c =
+    let same : length c.deref_mut.result.now ≡ length c.sift.new.heap = omega arith in
+    rw (with_items_is c.truncate.new.self c.sift.new.heap (omega arith)) (subst (λ (n : ℕ). IsHeap n (rank_at c.sift.new.heap)) same c.sift.ensures.ordered)

@@ -25,3 +25,15 @@ loop-below-preserved c =
       moves_down c.loop-below.heap c.loop-below.slots c.loop-below.hole c.in-Some.below c.args.entry moving child lower,
       moves_after c.loop-below.heap c.loop-below.slots c.loop-below.hole c.in-Some.below c.args.entry moving child lower,
     )
+
+pub returns-then-not-comes_before-clause-hole : goal.returns-then-not-comes_before-clause-hole
+returns-then-not-comes_before-clause-hole c = c.loop-below.invariant.0.stands
+
+pub returns-then-not-comes_before-clause-keys : goal.returns-then-not-comes_before-clause-keys
+returns-then-not-comes_before-clause-keys c = c.loop-below.invariant.0.keys
+
+pub returns-in_default-clause-hole : goal.returns-in_default-clause-hole
+returns-in_default-clause-hole c = c.loop-below.invariant.0.stands
+
+pub returns-in_default-clause-keys : goal.returns-in_default-clause-keys
+returns-in_default-clause-keys c = c.loop-below.invariant.0.keys
