@@ -9,6 +9,7 @@ use std::marker::Model;
 /// The reversed graph of a lattice: arc `j` of a state is its tail `j` in the lattice, which leads to the tail's source and is free
 /// and costs where the lattice's arc is and does. Tail `k` of a state is its arc `k` in the lattice. Gaps are 0: a search over this
 /// graph takes `FromStart`. No call takes memory.
+#[derive(Drop)]
 pub struct Back<'a> {
     lattice: &'a Lattice,
 }

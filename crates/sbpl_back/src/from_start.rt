@@ -11,6 +11,7 @@ use std::marker::Model;
 
 /// For the reversed graph of a lattice, the guide to the state where a robot is: at each state the lattice's gap from there to it.
 /// No call takes memory.
+#[derive(Drop)]
 pub struct FromStart<'a> {
     lattice: &'a Lattice,
     start: u32,
