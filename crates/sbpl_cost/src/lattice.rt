@@ -256,6 +256,7 @@ impl Lattice {
     /// Adds to a list the heads of all arcs with a head whose judgement reads cell `(x, y)`, as `ends_reading` does.
     pub fn heads_reading(&self, x: u32, y: u32, into: &mut Vec<u32>) -> Result<(), NoMemory>
         ensures heads { OnOk result (AddsEnds Ends.Head self.now (pos x) (pos y) into.old.items into.new.items) }
+        ensures listed { OnOk result (into.new.items ≡ into.old.items ++ filter_map (end_of_read Ends.Head self.now.env self.now.prims.items (pos x) (pos y)) self.now.sweeps.reads) }
         ensures memory { OnErr result (into.new.items ≡ into.old.items) }
     {
         self.ends_reading(x, y, ArcEnd::Head, into)
@@ -264,6 +265,7 @@ impl Lattice {
     /// Adds to a list the sources of all arcs with a head whose judgement reads cell `(x, y)`, as `ends_reading` does.
     pub fn tails_reading(&self, x: u32, y: u32, into: &mut Vec<u32>) -> Result<(), NoMemory>
         ensures sources { OnOk result (AddsEnds Ends.Source self.now (pos x) (pos y) into.old.items into.new.items) }
+        ensures listed { OnOk result (into.new.items ≡ into.old.items ++ filter_map (end_of_read Ends.Source self.now.env self.now.prims.items (pos x) (pos y)) self.now.sweeps.reads) }
         ensures memory { OnErr result (into.new.items ≡ into.old.items) }
     {
         self.ends_reading(x, y, ArcEnd::Source, into)
