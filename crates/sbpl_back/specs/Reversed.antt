@@ -1,5 +1,5 @@
 -- The reversed graph of a graph.
-use Rattle.std.specs.Prelude.{◌≡◌, refl, ℕ, ◌<◌, ◌&&◌, ◌==◌, Bool, false, List, [], ◌∷◌, ◌++◌, Option, Some, None, option_and_then}
+use Rattle.std.specs.Prelude.{◌≡◌, ℕ, ◌<◌, ◌&&◌, ◌==◌, Bool, false, List, [], ◌∷◌, ◌++◌, Option, Some, None, option_and_then}
 use Rattle.std.specs.List.{find, range_with_len}
 use Rattle.std.specs.Option.{option_map}
 use Rattle.sbpl_graph.specs.Laws.{HasExactTails, HasGaps, IsSound}
@@ -52,6 +52,3 @@ pub record KeepsLaws (n : Network) : Type 0 where
 
 abbrev pub ReversedKeepsLaws : Type 0
 ReversedKeepsLaws = (n : Network) → IsSound n → HasExactTails n → KeepsLaws (reversed n)
-
-pub same_states : (n : Network) → (reversed n).states ≡ n.states
-same_states n = refl

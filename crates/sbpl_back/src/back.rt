@@ -15,11 +15,15 @@ pub struct Back<'a> {
 }
 
 impl<'a> Model for Back<'a> {
+    ghost use Rattle.sbpl_cost.specs.Lattices.{network_of};
     ghost use Rattle.sbpl_cost.specs.World.{World};
+    ghost use Rattle.sbpl_graph.specs.Laws.{HasExactTails};
 
     ghost Value = { World };
 
     ghost view = { λ b. b.lattice.now };
+
+    ghost invariant = { λ b. HasExactTails (network_of b.lattice.now) };
 }
 
 impl<'a> Back<'a> {
@@ -27,6 +31,8 @@ impl<'a> Back<'a> {
     pub fn new(lattice: &'a Lattice) -> Back<'a>
         ensures lattice { result ≡ lattice.now }
     {
+        // Its tails are its arcs, each once: a call that asks for an arc as a tail need not learn it.
+        let _states = lattice.states();
         Back { lattice }
     }
 }
@@ -42,12 +48,10 @@ impl<'a> Graph for Back<'a> {
     }
 
     fn fan(&self, s: u32) -> u32 {
-        let _states = self.lattice.states();
         self.lattice.tail_fan(s)
     }
 
     fn head(&self, s: u32, k: u32) -> Option<u32> {
-        let _states = self.lattice.states();
         let Some((source, _number)) = self.lattice.tail(s, k) else {
             return None;
         };
@@ -55,7 +59,6 @@ impl<'a> Graph for Back<'a> {
     }
 
     fn judge(&self, s: u32, k: u32) -> Option<u32> {
-        let _states = self.lattice.states();
         let Some((source, number)) = self.lattice.tail(s, k) else {
             return None;
         };
@@ -63,7 +66,6 @@ impl<'a> Graph for Back<'a> {
     }
 
     fn floor(&self, s: u32, k: u32) -> u32 {
-        let _states = self.lattice.states();
         let Some((source, number)) = self.lattice.tail(s, k) else {
             return 1;
         };
@@ -71,12 +73,10 @@ impl<'a> Graph for Back<'a> {
     }
 
     fn tail_fan(&self, t: u32) -> u32 {
-        let _states = self.lattice.states();
         self.lattice.fan(t)
     }
 
     fn tail(&self, t: u32, j: u32) -> Option<(u32, u32)> {
-        let _states = self.lattice.states();
         self.lattice.as_tail(t, j)
     }
 
