@@ -1,3 +1,4 @@
 mod Finding
 mod Turning
 mod Guiding
+mod Walking

@@ -2,8 +2,8 @@
 use Rattle.std.specs.Prelude.{◌≡◌, ℕ, ◌<◌, ◌&&◌, ◌==◌, Bool, false, List, [], ◌∷◌, ◌++◌, Option, Some, None, option_and_then}
 use Rattle.std.specs.List.{find, range_with_len}
 use Rattle.std.specs.Option.{option_map}
-use Rattle.sbpl_graph.specs.Laws.{HasExactTails, HasGaps, IsSound}
-use Rattle.sbpl_graph.specs.Network.{Network}
+use Rattle.sbpl_graph.specs.Laws.{HasExactTails, HasGaps, IsSound, IsTail}
+use Rattle.sbpl_graph.specs.Network.{Network, IsFreeArc}
 use Rattle.sbpl_graph.specs.Path.{IsFreePath}
 
 -- a tail is arc k of state s
@@ -34,6 +34,11 @@ abbrev pub AreTurned : Network → (t : ℕ) → (turned : List ℕ) → (s : �
 AreTurned n t [] s arcs = (t ≡ s) × (arcs ≡ [])
 AreTurned n t (j ∷ js) s arcs = (u : ℕ) × (k : ℕ) × (before : List ℕ) × (n.tail t j ≡ Some (u, k)) × AreTurned n u js s before × (arcs ≡ before ++ k ∷ [])
 
+-- These arcs are a path of the reversed graph from t to s, turned round, and a free path of the graph from s to t that costs c.
+pub record IsPathTurned (n : Network) (t : ℕ) (path : List ℕ) (s c : ℕ) (arcs : List ℕ) : Type 0 where
+  pub turned : AreTurned n t path s arcs
+  pub free : IsFreePath n s arcs t c
+
 -- a free path of the reversed graph is one of the graph, turned round, at the same cost
 abbrev pub PathsTurnRound : Type 0
 PathsTurnRound = (n : Network) (t s c : ℕ) (turned : List ℕ) → HasExactTails n → t < n.states → IsFreePath (reversed n) t turned s c
@@ -43,6 +48,18 @@ PathsTurnRound = (n : Network) (t s c : ℕ) (turned : List ℕ) → HasExactTai
 abbrev pub PathsTurnBack : Type 0
 PathsTurnBack = (n : Network) (s t c : ℕ) (arcs : List ℕ) → IsSound n → HasExactTails n → IsFreePath n s arcs t c
     → (turned : List ℕ) × AreTurned n t turned s arcs × IsFreePath (reversed n) t turned s c
+
+-- arcs have one way to be turned round
+abbrev pub PathsTurnOnce : Type 0
+PathsTurnOnce = (n : Network) (t s : ℕ) (turned arcs others : List ℕ) → AreTurned n t turned s arcs → AreTurned n t turned s others → arcs ≡ others
+
+-- a free arc of the reversed graph is one of the graph, turned round, at the same cost; and where a tail is a free arc of the graph, it
+-- is one of the reversed graph
+abbrev pub ArcsTurnRound : Type 0
+ArcsTurnRound = (n : Network) (t j s c : ℕ) → HasExactTails n → IsFreeArc (reversed n) t j s c → (k : ℕ) × IsTail n t j s k × IsFreeArc n s k t c
+
+abbrev pub ArcsTurnBack : Type 0
+ArcsTurnBack = (n : Network) (t j s k c : ℕ) → HasExactTails n → IsTail n t j s k → IsFreeArc n s k t c → IsFreeArc (reversed n) t j s c
 
 -- the reversed graph of one that keeps the laws of graphs keeps them
 pub record KeepsLaws (n : Network) : Type 0 where

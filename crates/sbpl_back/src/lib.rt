@@ -4,7 +4,9 @@
 mod back;
 mod from_start;
 mod laws;
+mod turned;
 
 pub use back::Back;
 pub use from_start::FromStart;
-pub use laws::paths_turn_round;
+pub use laws::{arcs_turn_round, paths_turn_round};
+pub use turned::turned_round;
