@@ -6,7 +6,7 @@ ghost use Rattle.sbpl_adstar.specs.Planner.{adstar};
 ghost use Rattle.sbpl_cost.specs.Lattices.{network_of};
 ghost use Rattle.sbpl_graph.specs.Path.{IsFreePath};
 ghost use Rattle.sbpl_plan.specs.Outcomes.{IsTrueOutcome};
-ghost use Rattle.sbpl_replan.specs.Replanning.{IsReadyIn, StaysTheSame};
+ghost use Rattle.sbpl_replan.specs.Replanning.{IsReadyIn, StaysTheSame, standing_of};
 
 mod room;
 
@@ -21,7 +21,7 @@ use sbpl_fixed::NoMemory;
 use sbpl_graph::Graph;
 use sbpl_map::Write;
 use sbpl_plan::{Ask, FoundPath, Outcome};
-use sbpl_replan::Replanner;
+use sbpl_replan::{Replan, Replanner};
 use std::alloc::Global;
 use std::io;
 
@@ -60,7 +60,7 @@ fn planner(alloc: Global, lattice: &Lattice, trip: Trip) -> Result<Replanner<AdS
     requires goal { trip.goal < (network_of lattice.now).states }
     ensures ready { IfOk result (IsReadyIn adstar lattice.now) }
     ensures start { IfOk result (λ plans. plans.search.labels.start ≡ trip.start) }
-    ensures goal { IfOk result (λ plans. plans.goal ≡ trip.goal) }
+    ensures goal { IfOk result (λ plans. plans.search.goal ≡ trip.goal) }
 {
     let search = Ara::open(alloc, lattice.states(), trip.start, trip.goal)?;
     Replanner::new(alloc, lattice, AdStar::from(search), trip.goal, BUDGET)
@@ -118,9 +118,9 @@ fn plan(
 ) -> anyhow::Result<()>
     requires ready { IsReadyIn adstar lattice.now plans.old }
     requires start { plans.old.search.labels.start ≡ trip.start }
-    requires goal { plans.old.goal ≡ trip.goal }
+    requires goal { plans.old.search.goal ≡ trip.goal }
     ensures ready { OnOk result (IsReadyIn adstar lattice.now plans.new) }
-    ensures same { OnOk result (StaysTheSame plans.old plans.new) }
+    ensures same { OnOk result (StaysTheSame (standing_of plans.old) (standing_of plans.new)) }
 {
     let planned = plans.plan(alloc, lattice, &ASK)?;
     let shown = show(rt, lattice, trip, &planned.outcome);
@@ -137,7 +137,7 @@ fn change(
 ) -> anyhow::Result<()>
     requires ready { IsReadyIn adstar lattice.old plans.old }
     ensures ready { OnOk result (IsReadyIn adstar lattice.new plans.new) }
-    ensures same { OnOk result (StaysTheSame plans.old plans.new) }
+    ensures same { OnOk result (StaysTheSame (standing_of plans.old) (standing_of plans.new)) }
 {
     if !are_on_map(lattice, writes) {
         anyhow::bail!("a cell off the map");
@@ -155,7 +155,7 @@ fn plan_and_repair(
 ) -> anyhow::Result<()>
     requires ready { IsReadyIn adstar lattice.old plans.old }
     requires start { plans.old.search.labels.start ≡ trip.start }
-    requires goal { plans.old.goal ≡ trip.goal }
+    requires goal { plans.old.search.goal ≡ trip.goal }
 {
     println!(rt; "both doors are open")?;
     plan(rt, alloc, lattice, plans, trip)?;

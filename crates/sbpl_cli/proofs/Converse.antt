@@ -1,5 +1,5 @@
 -- Which status follows from what a desk tells of the files.
-use Rattle.std.proofs.Common.{◌≡◌, ℕ, ◌^◌, ◌<◌, ◌≤◌, ◌⊎◌, List, [], Option, Some, None, length, sym, ◌∙◌, ap, refl, subst, arith, inl, inr}
+use Rattle.std.proofs.Common.{◌≡◌, ℕ, ◌^◌, ◌<◌, ◌≤◌, ◌⊎◌, Bool, false, List, [], Option, Some, None, length, sym, ◌∙◌, ap, refl, subst, arith, inl, inr}
 use Rattle.sbpl_cfg.specs.declared.fault.EnvFault.{EnvFault}
 use Rattle.sbpl_cfg.specs.Environment.{Environment}
 use Rattle.sbpl_mprim.specs.declared.fault.PrimFault.{PrimFault}
@@ -9,7 +9,6 @@ use Rattle.sbpl_cost.specs.PrimitiveCost.{IsFirstTooDear, most_cost, primitive_c
 use Rattle.sbpl_cost.specs.World.{World}
 use Rattle.sbpl_map.specs.CellMap.{CellMap}
 use Rattle.sbpl_map.specs.declared.fault.ChangeFault.{ChangeFault}
-use Rattle.sbpl_map.specs.declared.write.Write.{Write}
 use Rattle.sbpl_job.specs.declared.job.CheckJob.{CheckJob}
 use Rattle.sbpl_job.specs.declared.job.Job.{Job}
 use Rattle.sbpl_job.specs.declared.job.Job.TheVariants as job
@@ -17,10 +16,12 @@ use Rattle.sbpl_job.specs.declared.job.Sources.{Sources}
 use Rattle.sbpl_cli.specs.declared.refusal.Input.TheVariants as input
 use Rattle.sbpl_cli.specs.declared.refusal.Refusal.{Refusal}
 use Rattle.sbpl_cli.specs.declared.refusal.Refusal.TheVariants as refusal
-use Rattle.sbpl_cli.specs.Causes.{AtName, IsCause, IsChangesCause, IsEarlyCause, IsFaultyChanges, IsFaultyFor, IsJobCause, IsLabelsCause, IsReadText, IsTooLong, NoneTooDear, ReadsBatches, ReadsEnvironment, ReadsPrimitives, ReadsWorld}
+use Rattle.sbpl_cli.specs.Causes.{AtName, IsCause, IsChangesCause, IsEarlyCause, IsFaultyChanges, IsFaultyFor, IsJobCause, IsLabelsCause, IsReadText, IsTooLong, NoneTooDear, ReadsCourse, ReadsEnvironment, ReadsPrimitives, ReadsWorld, scope_of}
+use Rattle.sbpl_cli.specs.declared.course.Course.{Course}
+use Rattle.sbpl_job.specs.Jobs.{may_move, moves_in}
 use Rattle.sbpl_cli.specs.Intents.{Intent, Refused, Planned, Checked, Listed, Demonstrated, OutOfMemory, intent_status, refusal_status}
-use Rattle.sbpl_cli.specs.Promises.{AreGood, GivesIntent, IsNoCheck, IsOrFailed, Tells, TellsBatches, TellsChangeFault, TellsEnvironment, TellsEnvironmentFault, TellsMap, TellsPrimitiveFault, TellsPrimitives, TellsTooMuch, TellsWorld, changes_of, sources_of}
-use Rattle.sbpl_cli.specs.Texts.{HasChangeFault, HasEnvironmentFault, HasPrimitiveFault, IsChangeText, IsEnvironmentText, IsPrimitiveText}
+use Rattle.sbpl_cli.specs.Promises.{AreGood, GivesIntent, IsNoCheck, IsOrFailed, Tells, TellsChangeFault, TellsCourse, TellsEnvironment, TellsEnvironmentFault, TellsPrimitiveFault, TellsPrimitives, TellsScope, TellsTooMuch, TellsWorld, changes_of, sources_of}
+use Rattle.sbpl_cli.specs.Texts.{HasChangeFault, HasEnvironmentFault, HasPrimitiveFault, IsChangeText, IsEnvironmentText, IsPrimitiveText, Scope, scope_for, still}
 use Rattle.sbpl_cli.specs.Writing.{Names, Told}
 use Rattle.sbpl_cli.specs.Clear.{TextsAreClear}
 
@@ -56,11 +57,13 @@ not_said_long held from e cells much says = too_much_not_read _ says.text much s
 pub same_environment : TextsAreClear → (held : Told) (from : Sources) (e d : Environment) (cells : List ℕ) → TellsEnvironment held from e → ReadsEnvironment held from d cells → d ≡ e
 same_environment clear held from e d cells (text, others, tells, stands) says = (clear.environment text d e cells others (said_text held from d cells text tells says) stands).0
 
--- the map of a world that was read is the one that is told
-pub same_map : TextsAreClear → (held : Told) (from : Sources) (m : CellMap) (w : World) → TellsMap held from m → ReadsWorld held from w → w.map ≡ m
-same_map clear held from m w (text, e, cells, tells, stands, is) says =
+-- the scope that a world which was read gives a change file is the one that is told
+pub same_scope : TextsAreClear → (held : Told) (from : Sources) (moving : Bool) (s : Scope) (w : World) → TellsScope held from moving s → ReadsWorld held from w → scope_of moving w ≡ s
+same_scope clear held from moving s w (text, e, cells, tells, stands, is) says =
     let both = clear.environment text w.env e says.cells cells (said_text held from w.env says.cells text tells says.environment) stands in
-    says.map ∙ ap (λ (d : Environment). record { width = d.width; height = d.height; costs = says.cells }) both.0 ∙ ap (λ (l : List ℕ). record { width = e.width; height = e.height; costs = l }) both.1 ∙ sym is
+    ap (λ (m : CellMap). scope_for moving w.env m) says.map
+    ∙ ap (λ (d : Environment). scope_for moving d (record { width = d.width; height = d.height; costs = says.cells })) both.0
+    ∙ ap (λ (l : List ℕ). scope_for moving e (record { width = e.width; height = e.height; costs = l })) both.1 ∙ sym is
 
 -- where an environment is told, no fault of it was read
 not_faulty : TextsAreClear → (held : Told) (from : Sources) (e : Environment) (f : EnvFault) (t : List ℕ) → TellsEnvironment held from e → IsReadText (held from.env) t → HasEnvironmentFault t f → ⊥
@@ -94,19 +97,19 @@ same_primitives clear held from env d cells ps qs told (text, tells, stands) fir
     let same : d ≡ env = same_environment clear held from env d cells told first in
     clear.primitives text env qs ps (subst (λ x. IsPrimitiveText x text qs) same (said_primitives held from d qs text tells second)) stands
 
--- where batches are told, no fault of the changes was read
-batches_not_faulty : TextsAreClear → (held : Told) (name : List ℕ) (m : CellMap) (batches : List (List Write)) (f : ChangeFault) → TellsBatches held (Some name) m batches → IsFaultyChanges held name m f → ⊥
-batches_not_faulty clear held name m batches f (text, tells, stands) faulty =
-    clear.change_fault m text batches f stands (subst (λ t. HasChangeFault m t f) (told_is _ text faulty.text tells.held_bytes faulty.read) faulty.faulty)
+-- where a course is told, no fault of the changes was read
+course_not_faulty : TextsAreClear → (held : Told) (name : List ℕ) (s : Scope) (c : Course) (f : ChangeFault) → TellsCourse held (Some name) s c → IsFaultyChanges held name s f → ⊥
+course_not_faulty clear held name s c f (text, tells, stands) faulty =
+    clear.change_fault s text c f stands (subst (λ t. HasChangeFault s t f) (told_is _ text faulty.text tells.held_bytes faulty.read) faulty.faulty)
 
-batches_not_long : (held : Told) (name : List ℕ) (m : CellMap) (batches : List (List Write)) → TellsBatches held (Some name) m batches → IsTooLong (held name) → ⊥
-batches_not_long held name m batches (text, tells, stands) long = too_long_not_short _ text tells long
+course_not_long : (held : Told) (name : List ℕ) (s : Scope) (c : Course) → TellsCourse held (Some name) s c → IsTooLong (held name) → ⊥
+course_not_long held name s c (text, tells, stands) long = too_long_not_short _ text tells long
 
--- the batches that were read are those that are told
-pub same_batches : TextsAreClear → (held : Told) (changes : Option (List ℕ)) (m : CellMap) (batches others : List (List Write)) → TellsBatches held changes m batches → ReadsBatches held changes m others → others ≡ batches
-same_batches clear held None m batches others told says = says ∙ sym told
-same_batches clear held (Some name) m batches others (text, tells, stands) (t, read, also) =
-    clear.changes m text others batches (subst (λ u. IsChangeText m u others) (told_is _ text t tells.held_bytes read) also) stands
+-- the course that was read is the one that is told
+pub same_course : TextsAreClear → (held : Told) (changes : Option (List ℕ)) (s : Scope) (c d : Course) → TellsCourse held changes s c → ReadsCourse held changes s d → d ≡ c
+same_course clear held None s c d told says = says ∙ sym told
+same_course clear held (Some name) s c d (text, tells, stands) (t, read, also) =
+    clear.changes s text d c (subst (λ u. IsChangeText s u d) (told_is _ text t tells.held_bytes read) also) stands
 
 -- where no primitive is too dear, the first one that is has no place
 pub none_is_first : (e : Environment) (ps : Primitives) (i : ℕ) → NoneTooDear e ps → IsFirstTooDear e ps.items i → ⊥
@@ -128,54 +131,54 @@ no_memory wanted = inr (inr (inr refl))
 
 -- ---- what was read where a job got this far
 
--- the files stand for a world and batches of changes
-pub record ReadsCourse (held : Told) (from : Sources) (changes : Option (List ℕ)) : Type 0 where
+-- the files stand for a world and a course
+pub record HasRead (held : Told) (from : Sources) (changes : Option (List ℕ)) (moving : Bool) : Type 0 where
   pub world : World
-  pub batches : List (List Write)
+  pub course : Course
   pub says : ReadsWorld held from world
-  pub course : ReadsBatches held changes world.map batches
+  pub stands : ReadsCourse held changes (scope_of moving world) course
 
 same_sources : (s t : Sources) → ◌≡◌ {A = Option Sources} (Some s) (Some t) → s ≡ t
 same_sources s t is = cc
 
-course_from : (held : Told) (s t : Sources) (changes : Option (List ℕ)) → ◌≡◌ {A = Option Sources} (Some s) (Some t) → ReadsCourse held s changes → ReadsCourse held t changes
-course_from held s t changes is c = subst (λ (u : Sources). ReadsCourse held u changes) (same_sources s t is) c
+course_from : (held : Told) (s t : Sources) (changes : Option (List ℕ)) (moving : Bool) → ◌≡◌ {A = Option Sources} (Some s) (Some t) → HasRead held s changes moving → HasRead held t changes moving
+course_from held s t changes moving is c = subst (λ (u : Sources). HasRead held u changes moving) (same_sources s t is) c
 
 -- the file of labels is tried after the others
-labels_course : (held : Told) (Failed : Names) (c : CheckJob) (r : Refusal) → IsLabelsCause held Failed c r → ReadsCourse held c.sources c.changes
-labels_course held Failed c (refusal.Read input.Labels) (w, batches, says, changes, at) = record { world = w; batches = batches; says = says; course = changes }
-labels_course held Failed c (refusal.Length input.Labels) (w, batches, says, changes, at) = record { world = w; batches = batches; says = says; course = changes }
+labels_course : (held : Told) (Failed : Names) (c : CheckJob) (r : Refusal) → IsLabelsCause held Failed c r → HasRead held c.sources c.changes c.back
+labels_course held Failed c (refusal.Read input.Labels) (w, course, says, changes, at) = record { world = w; course = course; says = says; stands = changes }
+labels_course held Failed c (refusal.Length input.Labels) (w, course, says, changes, at) = record { world = w; course = course; says = says; stands = changes }
 labels_course held Failed c _ cause = absurd cause
 
 -- a file of labels was not read: the reading failed, or it is too long
 pub labels_refused : (held : Told) (Failed : Names) (c : CheckJob) (wanted : ℕ) (r : Refusal) → (IsTooLong (held c.labels) → IsOrFailed wanted 8) → IsLabelsCause held Failed c r → IsOrFailed wanted (refusal_status r)
 labels_refused held Failed c wanted (refusal.Read x) long cause = failed_read wanted
-labels_refused held Failed c wanted (refusal.Length input.Labels) long (w, batches, says, changes, at) = long at
+labels_refused held Failed c wanted (refusal.Length input.Labels) long (w, course, says, changes, at) = long at
 labels_refused held Failed c wanted _ long cause = absurd cause
 
 -- the change file is tried where the others stand for a world
-pub changes_world : (held : Told) (Failed : Names) (from : Sources) (changes : Option (List ℕ)) (r : Refusal) → IsChangesCause held Failed from changes r → (w : World) × ReadsWorld held from w
-changes_world held Failed from changes (refusal.Changes x) (w, says, at) = (w, says)
-changes_world held Failed from changes (refusal.Read input.Changes) (w, says, at) = (w, says)
-changes_world held Failed from changes (refusal.Length input.Changes) (w, says, at) = (w, says)
-changes_world held Failed from changes _ cause = absurd cause
+pub changes_world : (held : Told) (Failed : Names) (from : Sources) (changes : Option (List ℕ)) (moving : Bool) (r : Refusal) → IsChangesCause held Failed from changes moving r → (w : World) × ReadsWorld held from w
+changes_world held Failed from changes moving (refusal.Changes x) (w, says, at) = (w, says)
+changes_world held Failed from changes moving (refusal.Read input.Changes) (w, says, at) = (w, says)
+changes_world held Failed from changes moving (refusal.Length input.Changes) (w, says, at) = (w, says)
+changes_world held Failed from changes moving _ cause = absurd cause
 
 -- a job is refused for the files of its lattice or its change file; or it is `check`, and they were read
-pub cause_of : (held : Told) (Failed : Names) (j : Job) (from : Sources) (r : Refusal) → sources_of j ≡ Some from → IsJobCause held Failed j r → IsEarlyCause held Failed from (changes_of j) r ⊎ (ReadsCourse held from (changes_of j) × (IsNoCheck j → ⊥))
-cause_of held Failed (job.Plan p) from r is cause = inl (subst (λ (s : Sources). IsEarlyCause held Failed s p.changes r) (same_sources p.sources from is) cause)
-cause_of held Failed (job.Check c) from r is (inl cause) = inl (subst (λ (s : Sources). IsEarlyCause held Failed s c.changes r) (same_sources c.sources from is) (inl cause))
-cause_of held Failed (job.Check c) from r is (inr (inl cause)) = inl (subst (λ (s : Sources). IsEarlyCause held Failed s c.changes r) (same_sources c.sources from is) (inr cause))
-cause_of held Failed (job.Check c) from r is (inr (inr cause)) = inr (course_from held c.sources from c.changes is (labels_course held Failed c r cause), λ none. none)
+pub cause_of : (held : Told) (Failed : Names) (j : Job) (from : Sources) (r : Refusal) → sources_of j ≡ Some from → IsJobCause held Failed j r → IsEarlyCause held Failed from (changes_of j) (moves_in j) r ⊎ (HasRead held from (changes_of j) (moves_in j) × (IsNoCheck j → ⊥))
+cause_of held Failed (job.Plan p) from r is cause = inl (subst (λ (s : Sources). IsEarlyCause held Failed s p.changes (may_move p.search.planner) r) (same_sources p.sources from is) cause)
+cause_of held Failed (job.Check c) from r is (inl cause) = inl (subst (λ (s : Sources). IsEarlyCause held Failed s c.changes c.back r) (same_sources c.sources from is) (inl cause))
+cause_of held Failed (job.Check c) from r is (inr (inl cause)) = inl (subst (λ (s : Sources). IsEarlyCause held Failed s c.changes c.back r) (same_sources c.sources from is) (inr cause))
+cause_of held Failed (job.Check c) from r is (inr (inr cause)) = inr (course_from held c.sources from c.changes c.back is (labels_course held Failed c r cause), λ none. none)
 cause_of held Failed (job.Sweep s) from r is cause = inl (inl (subst (λ (t : Sources). IsCause held Failed t r) (same_sources s from is) cause))
 cause_of held Failed (job.Demo d) from r is cause = absurd cause
 
--- A job whose files stand for no world and batches of changes means nothing but a refusal, or memory runs out.
-pub by_intent : (held : Told) (Failed : Names) (wanted : ℕ) (j : Job) (from : Sources) (i : Intent) → sources_of j ≡ Some from → ((r : Refusal) → IsJobCause held Failed j r → IsOrFailed wanted (refusal_status r)) → (ReadsCourse held from (changes_of j) → ⊥) → GivesIntent held Failed j i → IsOrFailed wanted (intent_status i)
+-- A job whose files stand for no world and course means nothing but a refusal, or memory runs out.
+pub by_intent : (held : Told) (Failed : Names) (wanted : ℕ) (j : Job) (from : Sources) (i : Intent) → sources_of j ≡ Some from → ((r : Refusal) → IsJobCause held Failed j r → IsOrFailed wanted (refusal_status r)) → (HasRead held from (changes_of j) (moves_in j) → ⊥) → GivesIntent held Failed j i → IsOrFailed wanted (intent_status i)
 by_intent held Failed wanted j from (Refused r) is refused none gives = refused r gives
 by_intent held Failed wanted j from OutOfMemory is refused none gives = no_memory wanted
-by_intent held Failed wanted (job.Plan p) from (Planned records all) is refused none gives = absurd (none (course_from held p.sources from p.changes is (record { world = gives.world; batches = gives.batches; says = gives.says; course = gives.changes })))
-by_intent held Failed wanted (job.Check c) from (Checked goal os end) is refused none gives = absurd (none (course_from held c.sources from c.changes is (record { world = gives.world; batches = gives.batches; says = gives.says; course = gives.changes })))
-by_intent held Failed wanted (job.Sweep s) from (Listed w) is refused none gives = absurd (none (course_from held s from None is (record { world = w; batches = []; says = gives.0; course = refl })))
+by_intent held Failed wanted (job.Plan p) from (Planned records all) is refused none gives = absurd (none (course_from held p.sources from p.changes (may_move p.search.planner) is (record { world = gives.world; course = gives.course; says = gives.says; stands = gives.changes })))
+by_intent held Failed wanted (job.Check c) from (Checked goals os end) is refused none gives = absurd (none (course_from held c.sources from c.changes c.back is (record { world = gives.world; course = gives.course; says = gives.says; stands = gives.changes })))
+by_intent held Failed wanted (job.Sweep s) from (Listed w) is refused none gives = absurd (none (course_from held s from None false is (record { world = w; course = still []; says = gives.0; stands = refl })))
 by_intent held Failed wanted (job.Demo d) from (Demonstrated w count records all) is refused none gives = cc
 by_intent held Failed wanted _ from _ is refused none gives = absurd gives
 
@@ -271,62 +274,62 @@ module _ (clear : TextsAreClear) (held : Told) (Failed : Names) (from : Sources)
       none_is_first env ps i (subst (λ (e : Environment). NoneTooDear e ps) like (subst (λ (qs : Primitives). NoneTooDear w.env qs) same p.cheap)) dear
 
   -- good files of a lattice are refused for the change file alone
-  pub good_refused : (m : CellMap) (changes : Option (List ℕ)) (wanted : ℕ) → AreGood held from m → ((name : List ℕ) (f : ChangeFault) → changes ≡ Some name → IsFaultyChanges held name m f → IsOrFailed wanted 5) → ((name : List ℕ) → changes ≡ Some name → IsTooLong (held name) → IsOrFailed wanted 8) → (r : Refusal) → IsEarlyCause held Failed from changes r → IsOrFailed wanted (refusal_status r)
-  good_refused m changes wanted good faulty long r (inl cause) =
+  pub good_refused : (moving : Bool) (s : Scope) (changes : Option (List ℕ)) (wanted : ℕ) → AreGood held from moving s → ((name : List ℕ) (f : ChangeFault) → changes ≡ Some name → IsFaultyChanges held name s f → IsOrFailed wanted 5) → ((name : List ℕ) → changes ≡ Some name → IsTooLong (held name) → IsOrFailed wanted 8) → (r : Refusal) → IsEarlyCause held Failed from changes moving r → IsOrFailed wanted (refusal_status r)
+  good_refused moving s changes wanted good faulty long r (inl cause) =
       primitives_good good.env good.prims good.environment good.primitives wanted (λ k h. absurd (none_is_widest good.prims from.radius k good.narrow h)) (λ k n h. absurd (none_is_first good.env good.prims k good.cheap h)) r cause
-  good_refused m changes wanted good faulty long r (inr cause) = by_changes r cause
+  good_refused moving s changes wanted good faulty long r (inr cause) = by_changes r cause
     where
-      by_changes : (r : Refusal) → IsChangesCause held Failed from changes r → IsOrFailed wanted (refusal_status r)
+      by_changes : (r : Refusal) → IsChangesCause held Failed from changes moving r → IsOrFailed wanted (refusal_status r)
       by_changes (refusal.Changes x) (w, says, at) =
-          let found = named changes (λ name. IsFaultyChanges held name w.map x) at in
-          faulty found.0 x found.1 (subst (λ (n : CellMap). IsFaultyChanges held found.0 n x) (same_map clear held from m w good.map says) found.2)
+          let found = named changes (λ name. IsFaultyChanges held name (scope_of moving w) x) at in
+          faulty found.0 x found.1 (subst (λ (t : Scope). IsFaultyChanges held found.0 t x) (same_scope clear held from moving s w good.scope says) found.2)
       by_changes (refusal.Read x) p = failed_read wanted
       by_changes (refusal.Length input.Changes) (w, says, at) = let found = named changes (λ name. IsTooLong (held name)) at in long found.0 found.1 found.2
       by_changes _ p = absurd p
 
-  -- and not even for that, where it stands for batches: then only a failed read is left
-  pub all_good : (m : CellMap) (changes : Option (List ℕ)) (batches : List (List Write)) (wanted : ℕ) → AreGood held from m → TellsBatches held changes m batches → (r : Refusal) → IsEarlyCause held Failed from changes r → IsOrFailed wanted (refusal_status r)
-  all_good m changes batches wanted good told =
-      good_refused m changes wanted good
-      (λ name f is faulty. absurd (batches_not_faulty clear held name m batches f (subst (λ (o : Option (List ℕ)). TellsBatches held o m batches) is told) faulty))
-      (λ name is long. absurd (batches_not_long held name m batches (subst (λ (o : Option (List ℕ)). TellsBatches held o m batches) is told) long))
+  -- and not even for that, where it stands for a course: then only a failed read is left
+  pub all_good : (moving : Bool) (s : Scope) (changes : Option (List ℕ)) (c : Course) (wanted : ℕ) → AreGood held from moving s → TellsCourse held changes s c → (r : Refusal) → IsEarlyCause held Failed from changes moving r → IsOrFailed wanted (refusal_status r)
+  all_good moving s changes c wanted good told =
+      good_refused moving s changes wanted good
+      (λ name f is faulty. absurd (course_not_faulty clear held name s c f (subst (λ (o : Option (List ℕ)). TellsCourse held o s c) is told) faulty))
+      (λ name is long. absurd (course_not_long held name s c (subst (λ (o : Option (List ℕ)). TellsCourse held o s c) is told) long))
 
   -- a change file that is too long
-  pub changes_long : (m : CellMap) (changes : Option (List ℕ)) (name : List ℕ) → AreGood held from m → changes ≡ Some name → TellsTooMuch (held name) → (r : Refusal) → IsEarlyCause held Failed from changes r → IsOrFailed 8 (refusal_status r)
-  changes_long m changes name good is much =
-      good_refused m changes 8 good
+  pub changes_long : (moving : Bool) (s : Scope) (changes : Option (List ℕ)) (name : List ℕ) → AreGood held from moving s → changes ≡ Some name → TellsTooMuch (held name) → (r : Refusal) → IsEarlyCause held Failed from changes moving r → IsOrFailed 8 (refusal_status r)
+  changes_long moving s changes name good is much =
+      good_refused moving s changes 8 good
       (λ other f also faulty. absurd (too_much_not_read (held name) faulty.text much (subst (λ (n : List ℕ). IsReadText (held n) faulty.text) (same_name other name (sym also ∙ is)) faulty.read)))
       (λ other also long. inl refl)
 
-  pub changes_long_none : (changes : Option (List ℕ)) (name : List ℕ) → changes ≡ Some name → TellsTooMuch (held name) → ReadsCourse held from changes → ⊥
-  changes_long_none changes name is much c =
-      let said = subst (λ (o : Option (List ℕ)). ReadsBatches held o c.world.map c.batches) is c.course in
+  pub changes_long_none : (moving : Bool) (changes : Option (List ℕ)) (name : List ℕ) → changes ≡ Some name → TellsTooMuch (held name) → HasRead held from changes moving → ⊥
+  changes_long_none moving changes name is much c =
+      let said = subst (λ (o : Option (List ℕ)). ReadsCourse held o (scope_of moving c.world) c.course) is c.stands in
       too_much_not_read (held name) said.0 much said.1
 
   -- a faulty change file
-  pub changes_faulty : (m : CellMap) (changes : Option (List ℕ)) (f : ChangeFault) → AreGood held from m → TellsChangeFault held changes m f → (r : Refusal) → IsEarlyCause held Failed from changes r → IsOrFailed 5 (refusal_status r)
-  changes_faulty m changes f good (name, text, is, tells, faulty) =
-      good_refused m changes 5 good
+  pub changes_faulty : (moving : Bool) (s : Scope) (changes : Option (List ℕ)) (f : ChangeFault) → AreGood held from moving s → TellsChangeFault held changes s f → (r : Refusal) → IsEarlyCause held Failed from changes moving r → IsOrFailed 5 (refusal_status r)
+  changes_faulty moving s changes f good (name, text, is, tells, faulty) =
+      good_refused moving s changes 5 good
       (λ other g also p. inl refl)
       (λ other also long. absurd (too_long_not_short (held name) text tells (subst (λ (n : List ℕ). IsTooLong (held n)) (same_name other name (sym also ∙ is)) long)))
 
-  pub changes_faulty_none : (m : CellMap) (changes : Option (List ℕ)) (f : ChangeFault) → AreGood held from m → TellsChangeFault held changes m f → ReadsCourse held from changes → ⊥
-  changes_faulty_none m changes f good (name, text, is, tells, faulty) c =
-      let said = subst (λ (o : Option (List ℕ)). ReadsBatches held o c.world.map c.batches) is c.course in
-      let here : IsChangeText c.world.map text c.batches = subst (λ (t : List ℕ). IsChangeText c.world.map t c.batches) (told_is (held name) text said.0 tells.held_bytes said.1) said.2 in
-      clear.change_fault m text c.batches f (subst (λ (n : CellMap). IsChangeText n text c.batches) (same_map clear held from m c.world good.map c.says) here) faulty
+  pub changes_faulty_none : (moving : Bool) (s : Scope) (changes : Option (List ℕ)) (f : ChangeFault) → AreGood held from moving s → TellsChangeFault held changes s f → HasRead held from changes moving → ⊥
+  changes_faulty_none moving s changes f good (name, text, is, tells, faulty) c =
+      let said = subst (λ (o : Option (List ℕ)). ReadsCourse held o (scope_of moving c.world) c.course) is c.stands in
+      let here : IsChangeText (scope_of moving c.world) text c.course = subst (λ (t : List ℕ). IsChangeText (scope_of moving c.world) t c.course) (told_is (held name) text said.0 tells.held_bytes said.1) said.2 in
+      clear.change_fault s text c.course f (subst (λ (t : Scope). IsChangeText t text c.course) (same_scope clear held from moving s c.world good.scope c.says) here) faulty
 
   -- files that stand for a world are good ones
-  pub world_good : (w : World) → TellsWorld held from w → AreGood held from w.map
-  world_good w tells = record {
+  pub world_good : (moving : Bool) (w : World) → TellsWorld held from w → AreGood held from moving (scope_of moving w)
+  world_good moving w tells = record {
     env = w.env;
     prims = w.prims;
     environment = tells.environment;
     primitives = tells.primitives;
     narrow = tells.says.narrow;
     cheap = tells.says.cheap;
-    map = by_text tells.environment;
+    scope = by_text tells.environment;
   }
     where
-      by_text : TellsEnvironment held from w.env → TellsMap held from w.map
-      by_text (text, cells, told, stands) = (text, w.env, tells.says.cells, told, said_text held from w.env tells.says.cells text told tells.says.environment, tells.says.map)
+      by_text : TellsEnvironment held from w.env → TellsScope held from moving (scope_of moving w)
+      by_text (text, cells, told, stands) = (text, w.env, tells.says.cells, told, said_text held from w.env tells.says.cells text told tells.says.environment, ap (λ (m : CellMap). scope_for moving w.env m) tells.says.map)

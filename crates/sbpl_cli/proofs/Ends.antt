@@ -1,10 +1,8 @@
 -- How a job ends, from how its reading, its planning and its writing end.
-use Rattle.std.proofs.Common.{◌≡◌, ℕ, ◌≤◌, List, Option, Some, None, refl, ◌∙◌, subst, arith, inl, inr}
+use Rattle.std.proofs.Common.{◌≡◌, ℕ, ◌≤◌, Bool, List, Option, Some, None, refl, ◌∙◌, subst, arith, inl, inr}
 use Rattle.std.proofs.lemmas.Bool.{cases_lt}
 use Rattle.sbpl_cfg.specs.Environment.{Environment}
 use Rattle.sbpl_desk.specs.Desk.{NoneFalls, Rose, Stays}
-use Rattle.sbpl_map.specs.CellMap.{CellMap}
-use Rattle.sbpl_map.specs.declared.write.Write.{Write}
 use Rattle.sbpl_mprim.specs.Primitives.{Primitives}
 use Rattle.sbpl_cost.specs.World.{World}
 use Rattle.sbpl_job.specs.declared.job.CheckJob.{CheckJob}
@@ -16,7 +14,10 @@ use Rattle.sbpl_cli.specs.declared.refusal.Refusal.{Refusal}
 use Rattle.sbpl_cli.specs.declared.refusal.Refusal.TheVariants as refusal
 use Rattle.sbpl_cli.specs.declared.refusal.Stop.{Stop}
 use Rattle.sbpl_cli.specs.declared.refusal.Stop.TheVariants as stop
-use Rattle.sbpl_cli.specs.Causes.{AtName, ChangesStopFor, EarlyStopsFor, IsCause, IsChangesCause, IsFaultyChanges, IsJobCause, IsLabelsCause, IsReadText, IsTooLong, IsUnread, IsWideStop, JobStopsFor, LatticeStopsFor, PrimitivesStopFor, ReadsBatches, ReadsEnvironment, ReadsPrimitives, ReadsWorld}
+use Rattle.sbpl_cli.specs.Causes.{AtName, ChangesStopFor, EarlyStopsFor, IsCause, IsChangesCause, IsFaultyChanges, IsJobCause, IsLabelsCause, IsReadText, IsTooLong, IsUnread, IsWideStop, JobStopsFor, LatticeStopsFor, PrimitivesStopFor, ReadsCourse, ReadsEnvironment, ReadsPrimitives, ReadsWorld, scope_of}
+use Rattle.sbpl_cli.specs.Texts.{Scope}
+use Rattle.sbpl_cli.specs.declared.course.Course.{Course}
+use Rattle.sbpl_job.specs.Jobs.{may_move}
 use Rattle.sbpl_cli.specs.Intents.{Intent, Refused, OutOfMemory, intent_status, refusal_status, refusal_writes, writes_of}
 use Rattle.sbpl_cli.specs.Promises.{GivesIntent, EndsJob, IsWrittenFor, MayBeWritten}
 use Rattle.sbpl_cli.specs.Writing.{DeskState, EndsAs, IsOutput, Names, ReadFailed, ReadsOnly, StaysBut, Told, WritesOnly}
@@ -53,10 +54,10 @@ module _ (held : Told) (F G : Names) where
       record { env = cause.env; cells = cause.cells; environment = cause.environment; holds = on refl from.prims cause.holds }
   cause_on from _ on cause = cause
 
-  changes_cause_on : (from : Sources) (changes : Option (List ℕ)) (r : Refusal) → IsFailedOn F G r
-      → IsChangesCause held F from changes r → IsChangesCause held G from changes r
-  changes_cause_on from changes (refusal.Read input.Changes) on (w, says, at) = (w, says, at_name_on changes F G (on refl) at)
-  changes_cause_on from changes _ on cause = cause
+  changes_cause_on : (from : Sources) (changes : Option (List ℕ)) (moving : Bool) (r : Refusal) → IsFailedOn F G r
+      → IsChangesCause held F from changes moving r → IsChangesCause held G from changes moving r
+  changes_cause_on from changes moving (refusal.Read input.Changes) on (w, says, at) = (w, says, at_name_on changes F G (on refl) at)
+  changes_cause_on from changes moving _ on cause = cause
 
   labels_cause_on : (c : CheckJob) (r : Refusal) → IsFailedOn F G r → IsLabelsCause held F c r → IsLabelsCause held G c r
   labels_cause_on c (refusal.Read input.Labels) on (w, batches, says, changes, failed) = (w, batches, says, changes, on refl c.labels failed)
@@ -64,9 +65,9 @@ module _ (held : Told) (F G : Names) where
 
   pub job_cause_on : (j : Job) (r : Refusal) → IsFailedOn F G r → IsJobCause held F j r → IsJobCause held G j r
   job_cause_on (job.Plan p) r on (inl cause) = inl (cause_on p.sources r on cause)
-  job_cause_on (job.Plan p) r on (inr cause) = inr (changes_cause_on p.sources p.changes r on cause)
+  job_cause_on (job.Plan p) r on (inr cause) = inr (changes_cause_on p.sources p.changes (may_move p.search.planner) r on cause)
   job_cause_on (job.Check c) r on (inl cause) = inl (cause_on c.sources r on cause)
-  job_cause_on (job.Check c) r on (inr (inl cause)) = inr (inl (changes_cause_on c.sources c.changes r on cause))
+  job_cause_on (job.Check c) r on (inr (inl cause)) = inr (inl (changes_cause_on c.sources c.changes c.back r on cause))
   job_cause_on (job.Check c) r on (inr (inr cause)) = inr (inr (labels_cause_on c r on cause))
   job_cause_on (job.Sweep from) r on cause = cause_on from r on cause
   job_cause_on (job.Demo d) r on cause = cause
@@ -104,40 +105,40 @@ wide_stop s u from e cells ps (stop.Refused (refusal.TooWide place)) says stand 
 wide_stop s u from e cells ps (stop.Refused _) says stand cause = absurd cause
 
 -- what a desk held later it held before
-pub batches_since : (held later : Told) (changes : Option (List ℕ)) (m : CellMap) (batches : List (List Write)) → Stays held later → ReadsBatches later changes m batches → ReadsBatches held changes m batches
-batches_since held later None m batches stays is = is
-batches_since held later (Some name) m batches stays (text, read, is) = (text, subst (λ (held_bytes : Option (List ℕ)). IsReadText held_bytes text) (stays name) read, is)
+pub course_since : (held later : Told) (changes : Option (List ℕ)) (s : Scope) (c : Course) → Stays held later → ReadsCourse later changes s c → ReadsCourse held changes s c
+course_since held later None s c stays is = is
+course_since held later (Some name) s c stays (text, read, is) = (text, subst (λ (held_bytes : Option (List ℕ)). IsReadText held_bytes text) (stays name) read, is)
 
 -- a stop for the change file, where a world was read before, is an early stop of the job
-pub course_stop : (s t u : DeskState) (from : Sources) (changes : Option (List ℕ)) (w : World) (e : Stop) → ReadsWorld s.held from w → ReadsOnly s t → ChangesStopFor t u changes w.map e → EarlyStopsFor s u from changes e
-course_stop s t u from changes w stop.NoMemory says same cause = tt
-course_stop s t u from changes w (stop.Refused r) says same cause = inr (by_refusal r cause)
+pub course_stop : (s t u : DeskState) (from : Sources) (changes : Option (List ℕ)) (moving : Bool) (w : World) (e : Stop) → ReadsWorld s.held from w → ReadsOnly s t → ChangesStopFor t u changes (scope_of moving w) e → EarlyStopsFor s u from changes moving e
+course_stop s t u from changes moving w stop.NoMemory says same cause = tt
+course_stop s t u from changes moving w (stop.Refused r) says same cause = inr (by_refusal r cause)
   where
-    by_refusal : (r : Refusal) → ChangesStopFor t u changes w.map (stop.Refused r) → IsChangesCause s.held (ReadFailed s u) from changes r
+    by_refusal : (r : Refusal) → ChangesStopFor t u changes (scope_of moving w) (stop.Refused r) → IsChangesCause s.held (ReadFailed s u) from changes moving r
     by_refusal (refusal.Changes x) cause =
-        (w, says, at_name_on changes (λ name. IsFaultyChanges t.held name w.map x) (λ name. IsFaultyChanges s.held name w.map x) (λ name faulty. record { text = faulty.text; read = subst (λ (o : Option (List ℕ)). IsReadText o faulty.text) (same.held name) faulty.read; faulty = faulty.faulty }) cause)
+        (w, says, at_name_on changes (λ name. IsFaultyChanges t.held name (scope_of moving w) x) (λ name. IsFaultyChanges s.held name (scope_of moving w) x) (λ name faulty. record { text = faulty.text; read = subst (λ (o : Option (List ℕ)). IsReadText o faulty.text) (same.held name) faulty.read; faulty = faulty.faulty }) cause)
     by_refusal (refusal.Read input.Changes) cause = (w, says, at_name_on changes (ReadFailed t u) (ReadFailed s u) (failed_since s t u same.reads) cause)
     by_refusal (refusal.Length input.Changes) cause =
         (w, says, at_name_on changes (λ name. IsTooLong (t.held name)) (λ name. IsTooLong (s.held name)) (λ name long. subst (λ (o : Option (List ℕ)). IsTooLong o) (same.held name) long) cause)
     by_refusal _ cause = absurd cause
 
 -- a stop for the files of a lattice or for the change file is one of the job `check`
-pub early_stop : (s t : DeskState) (j : CheckJob) (x : Stop) → EarlyStopsFor s t j.sources j.changes x → JobStopsFor s t (job.Check j) x
+pub early_stop : (s t : DeskState) (j : CheckJob) (x : Stop) → EarlyStopsFor s t j.sources j.changes j.back x → JobStopsFor s t (job.Check j) x
 early_stop s t j stop.NoMemory cause = tt
 early_stop s t j (stop.Refused r) (inl cause) = inl cause
 early_stop s t j (stop.Refused r) (inr cause) = inr (inl cause)
 
--- a stop for the file of labels is one of the job `check`, where a world and batches were read before
-pub labels_stop : (s t u : DeskState) (j : CheckJob) (w : World) (batches : List (List Write)) (x : Stop) → ReadsWorld s.held j.sources w → ReadsBatches s.held j.changes w.map batches → ReadsOnly s t → IsUnread t u j.labels input.Labels x → JobStopsFor s u (job.Check j) x
-labels_stop s t u j w batches stop.NoMemory says changes same cause = tt
-labels_stop s t u j w batches (stop.Refused r) says changes same cause = inr (inr (by_refusal r cause))
+-- a stop for the file of labels is one of the job `check`, where a world and a course were read before
+pub labels_stop : (s t u : DeskState) (j : CheckJob) (w : World) (c : Course) (x : Stop) → ReadsWorld s.held j.sources w → ReadsCourse s.held j.changes (scope_of j.back w) c → ReadsOnly s t → IsUnread t u j.labels input.Labels x → JobStopsFor s u (job.Check j) x
+labels_stop s t u j w c stop.NoMemory says changes same cause = tt
+labels_stop s t u j w c (stop.Refused r) says changes same cause = inr (inr (by_refusal r cause))
   where
     by_refusal : (r : Refusal) → IsUnread t u j.labels input.Labels (stop.Refused r) → IsLabelsCause s.held (ReadFailed s u) j r
-    by_refusal (refusal.Read input.Labels) (is, failed) = (w, batches, says, changes, failed_since s t u same.reads j.labels failed)
+    by_refusal (refusal.Read input.Labels) (is, failed) = (w, c, says, changes, failed_since s t u same.reads j.labels failed)
     by_refusal (refusal.Read input.Environment) (is, failed) = absurd (cc)
     by_refusal (refusal.Read input.Primitives) (is, failed) = absurd (cc)
     by_refusal (refusal.Read input.Changes) (is, failed) = absurd (cc)
-    by_refusal (refusal.Length input.Labels) (is, long) = (w, batches, says, changes, subst (λ (o : Option (List ℕ)). IsTooLong o) (same.held j.labels) long)
+    by_refusal (refusal.Length input.Labels) (is, long) = (w, c, says, changes, subst (λ (o : Option (List ℕ)). IsTooLong o) (same.held j.labels) long)
     by_refusal (refusal.Length input.Environment) (is, long) = absurd (cc)
     by_refusal (refusal.Length input.Primitives) (is, long) = absurd (cc)
     by_refusal (refusal.Length input.Changes) (is, long) = absurd (cc)

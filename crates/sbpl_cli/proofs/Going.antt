@@ -9,11 +9,12 @@ use Rattle.sbpl_job.specs.declared.job.Outputs.{Outputs}
 use Rattle.sbpl_job.specs.declared.job.Planner.{Planner}
 use Rattle.sbpl_job.specs.declared.job.SearchJob.{SearchJob}
 use Rattle.sbpl_labels.specs.Counts.{Counts}
+use Rattle.sbpl_labels.specs.Marks.{Marks}
 use Rattle.sbpl_map.specs.CellMap.{CellMap}
 use Rattle.sbpl_map.specs.MapAfter.{AreWritten, IsMapAfter}
 use Rattle.sbpl_map.specs.declared.write.Write as change
 use Rattle.sbpl_cli.specs.Asked.{Known, known}
-use Rattle.sbpl_replan.specs.Replanning.{BeginsWith, IsReadyIn, Replanning, StaysTheSame}
+use Rattle.sbpl_replan.specs.Replanning.{BeginsWith, Follows, Standing, StaysTheSame}
 use Rattle.sbpl_cli.specs.declared.record.PlanRecord.{PlanRecord}
 use Rattle.sbpl_cli.specs.Headline.{Carried, IsPlanOf}
 use Rattle.sbpl_cli.specs.Intents.{end_writes, last_write, plans_status}
@@ -24,10 +25,10 @@ use Rattle.sbpl_cli.proofs.Writings.{ends_as_after, none_made, status_ends}
 
 -- ---- plans in turn
 
-module _ (by : Known) (written_of : PlanRecord → List Write) (w : World) (batches : List (List change.Write)) (how : SearchJob) (outputs : Outputs) (start goal : ℕ) where
+module _ (by : Known) (written_of : PlanRecord → List Write) (w : World) (batches : List (List change.Write)) (how : SearchJob) (outputs : Outputs) (starts : ℕ → ℕ) (goal : ℕ) where
   -- plan k was made and told, and then the others ended so
-  one_more : (k : ℕ) (before : Option Carried) (carried : Carried) (r : PlanRecord) (a b c : DeskState) (status : ℕ) → IsMapAfter w.map batches k carried.map → IsPlanOf by (over_map w carried.map) how outputs start goal k before carried r
-      → AreAppended a b (written_of r) → NoneFalls a.write_faults b.write_faults → EndsPlans by written_of w batches how outputs start goal (k + 1) (Some carried) b c status → EndsPlans by written_of w batches how outputs start goal k before a c status
+  one_more : (k : ℕ) (before : Option Carried) (carried : Carried) (r : PlanRecord) (a b c : DeskState) (status : ℕ) → IsMapAfter w.map batches k carried.map → IsPlanOf by (over_map w carried.map) how outputs (starts k) goal k before carried r
+      → AreAppended a b (written_of r) → NoneFalls a.write_faults b.write_faults → EndsPlans by written_of w batches how outputs starts goal (k + 1) (Some carried) b c status → EndsPlans by written_of w batches how outputs starts goal k before a c status
   one_more k before carried r a b c status after plan made low e = record {
     records = r ∷ e.records;
     all = e.all;
@@ -38,7 +39,7 @@ module _ (by : Known) (written_of : PlanRecord → List Write) (w : World) (batc
   }
 
   -- memory ran out before plan k was made
-  pub no_more : (k : ℕ) (before : Option Carried) (a b : DeskState) → k ≤ length batches + 1 → Stays a.written b.written → EndsPlans by written_of w batches how outputs start goal k before a b 9
+  pub no_more : (k : ℕ) (before : Option Carried) (a b : DeskState) → k ≤ length batches + 1 → Stays a.written b.written → EndsPlans by written_of w batches how outputs starts goal k before a b 9
   no_more k before a b inside same = record {
     records = [];
     all = false;
@@ -49,12 +50,12 @@ module _ (by : Known) (written_of : PlanRecord → List Write) (w : World) (batc
   }
 
   -- plan k was the last, and so was the last line
-  all_told : (k : ℕ) (before : Option Carried) (a b : DeskState) (status : ℕ) → k ≡ length batches + 1 → EndsAs a b (last_write ∷ []) 0 status → EndsPlans by written_of w batches how outputs start goal k before a b status
+  all_told : (k : ℕ) (before : Option Carried) (a b : DeskState) (status : ℕ) → k ≡ length batches + 1 → EndsAs a b (last_write ∷ []) 0 status → EndsPlans by written_of w batches how outputs starts goal k before a b status
   all_told k before a b status last ends = record { records = []; all = true; each = tt; few = omega arith; all_made = λ is. omega arith; ends = ends }
 
   -- plan k was made, but was not told
-  untold : (k : ℕ) (before : Option Carried) (carried : Carried) (r : PlanRecord) (a b : DeskState) (status : ℕ) (e : WriteStop) → k ≤ length batches → IsMapAfter w.map batches k carried.map → IsPlanOf by (over_map w carried.map) how outputs start goal k before carried r
-      → EndsIn {T = Unit {0}} a b (written_of r) (Err e) → status ≡ status_after {T = Unit {0}} 9 (Err e) → EndsPlans by written_of w batches how outputs start goal k before a b status
+  untold : (k : ℕ) (before : Option Carried) (carried : Carried) (r : PlanRecord) (a b : DeskState) (status : ℕ) (e : WriteStop) → k ≤ length batches → IsMapAfter w.map batches k carried.map → IsPlanOf by (over_map w carried.map) how outputs (starts k) goal k before carried r
+      → EndsIn {T = Unit {0}} a b (written_of r) (Err e) → status ≡ status_after {T = Unit {0}} 9 (Err e) → EndsPlans by written_of w batches how outputs starts goal k before a b status
   untold k before carried r a b status e inside after plan ends is = record {
     records = r ∷ [];
     all = false;
@@ -65,45 +66,46 @@ module _ (by : Known) (written_of : PlanRecord → List Write) (w : World) (batc
   }
 
   -- the plans before plan k were made and told, and the map is that after the first k batches
-  pub record IsGoing (now : World) (k : ℕ) (r : Replanning by.Note) (a b : DeskState) : Type 0 where
+  pub record IsGoing (now : World) (k start : ℕ) (r : Standing by.Note) (a b : DeskState) : Type 0 where
     pub same : now ≡ over_map w now.map
     pub inside : k ≤ length batches
     pub after : IsMapAfter w.map batches k now.map
     pub kept : IsWorld now
-    pub ready : IsReadyIn by.means now r
-    pub set : IsSetFor how start goal r
+    pub start_is : start ≡ starts k
+    pub set : IsSetFor by.direction how start goal r
     pub before : Option Carried
-    pub goes_on : GoesOnFrom by.means now start before r
-    pub ends : (c : DeskState) (status : ℕ) → EndsPlans by written_of w batches how outputs start goal k before b c status → EndsPlans by written_of w batches how outputs start goal 0 None a c status
+    pub goes_on : GoesOnFrom by.means by.direction now (by.direction.from start goal) before r
+    pub ends : (c : DeskState) (status : ℕ) → EndsPlans by written_of w batches how outputs starts goal k before b c status → EndsPlans by written_of w batches how outputs starts goal 0 None a c status
 
-  pub sets_out : (r : Replanning by.Note) (a : DeskState) → IsMapAfter w.map batches 0 w.map → IsWorld w → IsReadyIn by.means w r → IsSetFor how start goal r → GoesOnFrom by.means w start None r → IsGoing w 0 r a a
-  sets_out r a first kept ready set begun = record {
+  pub sets_out : (start : ℕ) (r : Standing by.Note) (a : DeskState) → IsMapAfter w.map batches 0 w.map → IsWorld w → start ≡ starts 0 → IsSetFor by.direction how start goal r → GoesOnFrom by.means by.direction w (by.direction.from start goal) None r → IsGoing w 0 start r a a
+  sets_out start r a first kept start_is set begun = record {
     same = refl;
     inside = omega arith;
     after = first;
     kept = kept;
-    ready = ready;
+    start_is = start_is;
     set = set;
     before = None;
     goes_on = begun;
     ends = λ c status e. e;
   }
 
-  pub at_last : (now : World) (k n : ℕ) (r : Replanning by.Note) (a b : DeskState) → k ≡ n → IsGoing now k r a b → IsGoing now n r a b
-  at_last now k n r a b same going = subst (λ (i : ℕ). IsGoing now i r a b) same going
+  pub at_last : (now : World) (k n start : ℕ) (r : Standing by.Note) (a b : DeskState) → k ≡ n → IsGoing now k start r a b → IsGoing now n start r a b
+  at_last now k n start r a b same going = subst (λ (i : ℕ). IsGoing now i start r a b) same going
 
-  module _ (now : World) (k : ℕ) (r s : Replanning by.Note) (a b c : DeskState) (going : IsGoing now k r a b) where
-    on_that : (before : Option Carried) (p : PlanRecord) → IsPlanOf by now how outputs start goal k before (carried_of now s) p → IsPlanOf by (over_map w now.map) how outputs start goal k before (carried_of now s) p
-    on_that before p plan = subst (λ (v : World). IsPlanOf by v how outputs start goal k before (carried_of now s) p) going.same plan
+  module _ (now : World) (k start : ℕ) (r s : Standing by.Note) (a b c : DeskState) (going : IsGoing now k start r a b) where
+    on_that : (before : Option Carried) (p : PlanRecord) → IsPlanOf by now how outputs start goal k before (carried_of now s) p → IsPlanOf by (over_map w now.map) how outputs (starts k) goal k before (carried_of now s) p
+    on_that before p plan = subst (λ (x : ℕ). IsPlanOf by (over_map w now.map) how outputs x goal k before (carried_of now s) p) going.start_is
+        (subst (λ (v : World). IsPlanOf by v how outputs start goal k before (carried_of now s) p) going.same plan)
 
     -- what holds of the plan that is made next
     abbrev pub NextEnds : Result (Unit {0}) WriteStop → Type 0
-    NextEnds result = (before : Option Carried) → GoesOnFrom by.means now start before r → EndsOnePlan by written_of now how outputs start goal k before (carried_of now s) b c result
+    NextEnds result = (before : Option Carried) → GoesOnFrom by.means by.direction now (by.direction.from start goal) before r → EndsOnePlan by written_of now how outputs start goal k before (carried_of now s) b c result
 
     -- the next plan was not told
-    pub stops : (status : ℕ) (e : WriteStop) → NextEnds (Err e) → status ≡ status_after {T = Unit {0}} 9 (Err e) → EndsPlans by written_of w batches how outputs start goal 0 None a c status
+    pub stops : (status : ℕ) (e : WriteStop) → NextEnds (Err e) → status ≡ status_after {T = Unit {0}} 9 (Err e) → EndsPlans by written_of w batches how outputs starts goal 0 None a c status
     stops status e made is = going.ends c status (elim (made going.before going.goes_on) [
-      | inl (out, same) ↦ subst (λ (n : ℕ). EndsPlans by written_of w batches how outputs start goal k going.before b c n) (sym (is ∙ nine out)) (no_more k going.before b c (let room = going.inside in omega arith) same)
+      | inl (out, same) ↦ subst (λ (n : ℕ). EndsPlans by written_of w batches how outputs starts goal k going.before b c n) (sym (is ∙ nine out)) (no_more k going.before b c (let room = going.inside in omega arith) same)
       | inr (p, plan, ends) ↦ untold k going.before (carried_of now s) p b c status e going.inside going.after (on_that going.before p plan) ends is
     ])
       where
@@ -111,39 +113,41 @@ module _ (by : Known) (written_of : PlanRecord → List Write) (w : World) (batc
         nine out = rw out refl
 
     -- it was told, and then the others ended so
-    pub tells : (d : DeskState) (status : ℕ) → NextEnds (Ok tt) → NoneFalls b.write_faults c.write_faults → EndsPlans by written_of w batches how outputs start goal (k + 1) (Some (carried_of now s)) c d status → EndsPlans by written_of w batches how outputs start goal 0 None a d status
+    pub tells : (d : DeskState) (status : ℕ) → NextEnds (Ok tt) → NoneFalls b.write_faults c.write_faults → EndsPlans by written_of w batches how outputs starts goal (k + 1) (Some (carried_of now s)) c d status → EndsPlans by written_of w batches how outputs starts goal 0 None a d status
     tells d status made low e =
         let told = made going.before going.goes_on in
         going.ends d status (one_more k going.before (carried_of now s) told.0 b c d status going.after (on_that going.before told.0 told.1) told.2 low e)
 
     -- it was the last, and the last line was written
-    pub tells_last : (d : DeskState) (status : ℕ) → NextEnds (Ok tt) → NoneFalls b.write_faults c.write_faults → k ≡ length batches → EndsAs c d (last_write ∷ []) 0 status → EndsPlans by written_of w batches how outputs start goal 0 None a d status
+    pub tells_last : (d : DeskState) (status : ℕ) → NextEnds (Ok tt) → NoneFalls b.write_faults c.write_faults → k ≡ length batches → EndsAs c d (last_write ∷ []) 0 status → EndsPlans by written_of w batches how outputs starts goal 0 None a d status
     tells_last d status made low last ends = tells d status made low (all_told (k + 1) (Some (carried_of now s)) c d status (omega arith) ends)
 
     -- it was told, and memory ran out while the map was changed
-    pub tells_no_more : NextEnds (Ok tt) → NoneFalls b.write_faults c.write_faults → EndsPlans by written_of w batches how outputs start goal 0 None a c 9
+    pub tells_no_more : NextEnds (Ok tt) → NoneFalls b.write_faults c.write_faults → EndsPlans by written_of w batches how outputs starts goal 0 None a c 9
     tells_no_more made low = tells c 9 made low (no_more (k + 1) (Some (carried_of now s)) c c (let room = going.inside in omega arith) (λ name. refl))
 
-    -- it was told, and then the map was changed
-    pub changes : (next : World) (t : Replanning by.Note) (batch : List change.Write)
+    -- it was told, then the map was changed, and then the start moved
+    pub changes : (next : World) (next_start : ℕ) (t u : Standing by.Note) (batch : List change.Write)
         → ((first m m' : CellMap) (bs : List (List change.Write)) (n : ℕ) (l : List change.Write) → IsMapAfter first bs n m → slice_get bs n ≡ Some l → AreWritten m l m' → IsMapAfter first bs (n + 1) m')
-        → NextEnds (Ok tt) → NoneFalls b.write_faults c.write_faults → IsSetFor how start goal s → slice_get batches k ≡ Some batch → AreWritten now.map batch next.map → next ≡ record now { map = next.map } → IsWorld next
-        → BeginsWith by.means now next s.search.labels t.search.labels t.search.raised → IsReadyIn by.means next t → StaysTheSame s t → t.counts ≡ s.counts → IsGoing next (k + 1) t a c
-    changes next t batch law made low set at written others kept begins ready stays counts = record {
+        → NextEnds (Ok tt) → NoneFalls b.write_faults c.write_faults → IsSetFor by.direction how start goal s → slice_get batches k ≡ Some batch → AreWritten now.map batch next.map → next ≡ record now { map = next.map } → IsWorld next
+        → BeginsWith by.means by.direction now next s.search.labels t.search.labels t.search.raised → StaysTheSame s t → t.counts ≡ s.counts
+        → next_start ≡ starts (k + 1) → (by.direction.moves ≡ false → next_start ≡ start) → Follows by.direction next_start t u → IsGoing next (k + 1) next_start u a c
+    changes next next_start t u batch law made low set at written others kept begins stays counts start_is still follows = record {
       same = others ∙ ap (λ (v : World). record v { map = next.map }) going.same;
       inside = let room = slice_get_within batches k batch at in omega arith;
       after = law w.map now.map next.map batches k batch going.after at written;
       kept = kept;
-      ready = ready;
+      start_is = start_is;
       set = record {
-        start_is = stays.start ∙ set.start_is;
-        goal_is = stays.goal ∙ set.goal_is;
-        budget_is = stays.per_plan ∙ set.budget_is;
+        between = follows.between start goal still (record { from = stays.start ∙ set.between.from; to = stays.goal ∙ set.between.to });
+        budget_is = ap (λ (n : Counts). n.per_plan) follows.counts ∙ stays.per_plan ∙ set.budget_is;
       };
       before = Some (carried_of now s);
       goes_on = record {
-        begins = subst (λ (v : World). BeginsWith by.means v next s.search.labels t.search.labels t.search.raised) (sym back) begins;
-        counted = ap (λ (n : Counts). n.run) (sym counts);
+        begins = subst (λ (v : World). BeginsWith by.means by.direction v next s.search.labels u.search.labels u.search.raised) (sym back)
+            (subst (λ (l : List ℕ). BeginsWith by.means by.direction now next s.search.labels u.search.labels l) (sym follows.raised)
+            (subst (λ (m : Marks). BeginsWith by.means by.direction now next s.search.labels m t.search.raised) (sym follows.labels) begins));
+        counted = ap (λ (n : Counts). n.run) (sym counts ∙ sym follows.counts);
       };
       ends = λ d status e. tells d status made low e;
     }
@@ -152,8 +156,8 @@ module _ (by : Known) (written_of : PlanRecord → List Write) (w : World) (batc
         back = ap (λ (v : World). record v { map = now.map }) others
 
 -- plans by the planner that was asked for
-pub ends_by : {written_of : PlanRecord → List Write} {w : World} {batches : List (List change.Write)} {how : SearchJob} {outputs : Outputs} {start goal : ℕ} {a b : DeskState} {status : ℕ}
-    (p : Planner) → how.planner ≡ p → EndsPlans (known p) written_of w batches how outputs start goal 0 None a b status
-    → EndsPlans (known how.planner) written_of w batches how outputs start goal 0 None a b status
-ends_by {written_of} {w} {batches} {how} {outputs} {start} {goal} {a} {b} {status} p is ends =
-    subst (λ (x : Planner). EndsPlans (known x) written_of w batches how outputs start goal 0 None a b status) (sym is) ends
+pub ends_by : {written_of : PlanRecord → List Write} {w : World} {batches : List (List change.Write)} {how : SearchJob} {outputs : Outputs} {starts : ℕ → ℕ} {goal : ℕ} {a b : DeskState} {status : ℕ}
+    (p : Planner) → how.planner ≡ p → EndsPlans (known p) written_of w batches how outputs starts goal 0 None a b status
+    → EndsPlans (known how.planner) written_of w batches how outputs starts goal 0 None a b status
+ends_by {written_of} {w} {batches} {how} {outputs} {starts} {goal} {a} {b} {status} p is ends =
+    subst (λ (x : Planner). EndsPlans (known x) written_of w batches how outputs starts goal 0 None a b status) (sym is) ends

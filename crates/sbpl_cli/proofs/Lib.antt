@@ -13,6 +13,8 @@ pub mod OneEnding
 pub mod Going
 pub mod Drawings
 pub mod SameGuide
+pub mod Directions
+pub mod Moving
 pub mod SameBegun
 pub mod SameRecords
 pub mod SamePlanned

@@ -8,7 +8,7 @@ use Rattle.sbpl_map.specs.ChangeText.{AreOnMap, IsWriteOnMap}
 use Rattle.sbpl_change.specs.Noted as batch
 
 -- what holds of each element of a list holds of the one at a place
-at_place : {A : Type 0} (P : A → Type 0) (xs : List A) → AllByRecursion P xs → (i : ℕ) (x : A) → slice_get xs i ≡ Some x → P x
+pub at_place : {A : Type 0} (P : A → Type 0) (xs : List A) → AllByRecursion P xs → (i : ℕ) (x : A) → slice_get xs i ≡ Some x → P x
 at_place P [] all i x is = absurd cc
 at_place {A} P (y ∷ ys) all zero x is = let same : y ≡ x = cc in subst P same all.0
 at_place P (y ∷ ys) all (suc i) x is = at_place P ys all.1 i x is

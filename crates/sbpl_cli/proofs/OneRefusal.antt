@@ -1,5 +1,5 @@
 -- The files of a job call for one refusal, or for none.
-use Rattle.std.proofs.Common.{◌≡◌, ◌⊎◌, ℕ, ◌^◌, ◌<◌, ◌≤◌, Option, Some, None, List, IsSome, IfSome, length, refl, sym, ap, subst, ◌∙◌, arith, inl, inr}
+use Rattle.std.proofs.Common.{◌≡◌, ◌⊎◌, ℕ, ◌^◌, ◌<◌, ◌≤◌, Bool, Option, Some, None, List, IsSome, IfSome, length, refl, sym, ap, subst, ◌∙◌, arith, inl, inr}
 use Rattle.std.proofs.lemmas.Bool.{cases_lt, false≢true}
 use Rattle.sbpl_cfg.specs.declared.fault.EnvFault.{EnvFault}
 use Rattle.sbpl_cfg.specs.Environment.{Environment}
@@ -9,22 +9,21 @@ use Rattle.sbpl_mprim.specs.Primitives.{Primitives}
 use Rattle.sbpl_sweep.specs.Widths.{IsFirstTooWide, NoneTooWide}
 use Rattle.sbpl_cost.specs.PrimitiveCost.{IsFirstTooDear, most_cost, primitive_cost}
 use Rattle.sbpl_cost.specs.World.{World}
-use Rattle.sbpl_map.specs.CellMap.{CellMap}
 use Rattle.sbpl_map.specs.declared.fault.ChangeFault.{ChangeFault}
-use Rattle.sbpl_map.specs.declared.write.Write.{Write}
 use Rattle.sbpl_job.specs.declared.job.CheckJob.{CheckJob}
 use Rattle.sbpl_job.specs.declared.job.Sources.{Sources}
 use Rattle.sbpl_cli.specs.declared.refusal.Input.{Input}
 use Rattle.sbpl_cli.specs.declared.refusal.Input.TheVariants as input
 use Rattle.sbpl_cli.specs.declared.refusal.Refusal.{Refusal}
 use Rattle.sbpl_cli.specs.declared.refusal.Refusal.TheVariants as refusal
-use Rattle.sbpl_cli.specs.Causes.{AtName, IsCause, IsChangesCause, IsFaultyChanges, IsFaultyEnvironment, IsFaultyFor, IsLabelsCause, IsReadText, IsTooLong, ReadsBatches, ReadsEnvironment, ReadsPrimitives, ReadsWorld}
+use Rattle.sbpl_cli.specs.Causes.{AtName, IsCause, IsChangesCause, IsFaultyChanges, IsFaultyEnvironment, IsFaultyFor, IsLabelsCause, IsReadText, IsTooLong, ReadsCourse, ReadsEnvironment, ReadsPrimitives, ReadsWorld, scope_of}
+use Rattle.sbpl_cli.specs.declared.course.Course.{Course}
 use Rattle.sbpl_cli.specs.Clear.{TextsAreClear}
 use Rattle.sbpl_cli.specs.Determined.{IsSource}
-use Rattle.sbpl_cli.specs.Texts.{HasChangeFault, HasEnvironmentFault, HasPrimitiveFault, IsChangeText, IsEnvironmentText, IsPrimitiveText}
+use Rattle.sbpl_cli.specs.Texts.{HasChangeFault, HasEnvironmentFault, HasPrimitiveFault, IsChangeText, IsEnvironmentText, IsPrimitiveText, Scope}
 use Rattle.sbpl_cli.specs.Writing.{IsNamed, Names, Told}
 use Rattle.sbpl_cli.proofs.Converse.{none_is_first, none_is_widest}
-use Rattle.sbpl_cli.proofs.SamePlanned.{one_world, read_once}
+use Rattle.sbpl_cli.proofs.SamePlanned.{alike_scopes, one_world, read_once}
 
 -- a file that was read is not too long
 read_is_short : (held : Option (List ℕ)) (text : List ℕ) → IsSome held → IsReadText held text → IsTooLong held → ⊥
@@ -77,19 +76,19 @@ IsSecondBad held from e r = AreBadPrimitives held from e r ⊎ ((ps : Primitives
 abbrev pub AreBadSources : Told → Sources → Refusal → Type 0
 AreBadSources held from r = IsBadEnvironment held from r ⊎ ((e : Environment) × (cells : List ℕ) × ReadsEnvironment held from e cells × IsSecondBad held from e r)
 
--- the change file is faulty or too long, on this map
-abbrev AreBadChanges : Told → CellMap → Refusal → List ℕ → Type 0
-AreBadChanges held m r name =
-    ((f : ChangeFault) × (r ≡ refusal.Changes f) × IsFaultyChanges held name m f)
+-- the change file is faulty or too long
+abbrev AreBadChanges : Told → Scope → Refusal → List ℕ → Type 0
+AreBadChanges held s r name =
+    ((f : ChangeFault) × (r ≡ refusal.Changes f) × IsFaultyChanges held name s f)
     ⊎ ((r ≡ refusal.Length input.Changes) × IsTooLong (held name))
 
-abbrev pub IsBadCourse : Told → Sources → Option (List ℕ) → Refusal → Type 0
-IsBadCourse held from changes r = (w : World) × ReadsWorld held from w × AtName changes (AreBadChanges held w.map r)
+abbrev pub IsBadCourse : Told → Sources → Option (List ℕ) → (moving : Bool) → Refusal → Type 0
+IsBadCourse held from changes moving r = (w : World) × ReadsWorld held from w × AtName changes (AreBadChanges held (scope_of moving w) r)
 
 -- the file of labels is too long
 abbrev pub AreBadLabels : Told → CheckJob → Refusal → Type 0
 AreBadLabels held j r =
-    (w : World) × (batches : List (List Write)) × ReadsWorld held j.sources w × ReadsBatches held j.changes w.map batches
+    (w : World) × (c : Course) × ReadsWorld held j.sources w × ReadsCourse held j.changes (scope_of j.back w) c
     × ((r ≡ refusal.Length input.Labels) × IsTooLong (held j.labels))
 
 -- a read of a file with this property failed, and this says so
@@ -117,15 +116,15 @@ source_cause held Failed from (refusal.Length input.Environment) c = inl (inl (i
 source_cause held Failed from (refusal.Length input.Primitives) c = inl (inr (c.env, c.cells, c.environment, inl (inr (refl, c.holds))))
 source_cause held Failed from _ c = absurd c
 
-pub course_cause : (held : Told) (Failed : Names) (from : Sources) (changes : Option (List ℕ)) (r : Refusal) → IsChangesCause held Failed from changes r → IsBadCourse held from changes r ⊎ IsFailedRead (IsNamed changes) Failed r
-course_cause held Failed from changes (refusal.Changes x) (w, says, at) =
-    inl (w, says, at_name_on changes (λ name. IsFaultyChanges held name w.map x) (AreBadChanges held w.map (refusal.Changes x)) (λ name faulty. inl (x, refl, faulty)) at)
-course_cause held Failed from changes (refusal.Read input.Changes) (w, says, at) =
+pub course_cause : (held : Told) (Failed : Names) (from : Sources) (changes : Option (List ℕ)) (moving : Bool) (r : Refusal) → IsChangesCause held Failed from changes moving r → IsBadCourse held from changes moving r ⊎ IsFailedRead (IsNamed changes) Failed r
+course_cause held Failed from changes moving (refusal.Changes x) (w, says, at) =
+    inl (w, says, at_name_on changes (λ name. IsFaultyChanges held name (scope_of moving w) x) (AreBadChanges held (scope_of moving w) (refusal.Changes x)) (λ name faulty. inl (x, refl, faulty)) at)
+course_cause held Failed from changes moving (refusal.Read input.Changes) (w, says, at) =
     let found = named_at changes Failed at in
     inr (input.Changes, refl, (found.0, found.1, found.2))
-course_cause held Failed from changes (refusal.Length input.Changes) (w, says, at) =
-    inl (w, says, at_name_on changes (λ name. IsTooLong (held name)) (AreBadChanges held w.map (refusal.Length input.Changes)) (λ name long. inr (refl, long)) at)
-course_cause held Failed from changes _ c = absurd c
+course_cause held Failed from changes moving (refusal.Length input.Changes) (w, says, at) =
+    inl (w, says, at_name_on changes (λ name. IsTooLong (held name)) (AreBadChanges held (scope_of moving w) (refusal.Length input.Changes)) (λ name long. inr (refl, long)) at)
+course_cause held Failed from changes moving _ c = absurd c
 
 pub labels_cause : (held : Told) (Failed : Names) (j : CheckJob) (r : Refusal) → IsLabelsCause held Failed j r → AreBadLabels held j r ⊎ IsFailedRead (λ name. name ≡ j.labels) Failed r
 labels_cause held Failed j (refusal.Read input.Labels) (w, batches, says, changes, rose) = inr (input.Labels, refl, (j.labels, refl, rose))
@@ -227,39 +226,39 @@ module _ (clear : TextsAreClear) (held : Told) where
     not_world w r (inl x) says = not_environment r w.env says.cells x says.environment
     not_world w r (inr (e, cells, also, x)) says = second_world w e r says (same_said e w.env cells says.cells also says.environment) x
 
-    -- the changes, on the map of the world that the files stand for
+    -- the changes, in the world that the files stand for
 
-    module _ (changes : Option (List ℕ)) (told_changes : IfSome changes (λ name. IsSome (held name))) where
-      one_changes : (m : CellMap) (r u : Refusal) (name : List ℕ) → IsSome (held name) → AreBadChanges held m r name → AreBadChanges held m u name → r ≡ u
-      one_changes m r u name told (inl (f, is, x)) (inl (g, also, y)) =
+    module _ (changes : Option (List ℕ)) (moving : Bool) (told_changes : IfSome changes (λ name. IsSome (held name))) where
+      one_changes : (s : Scope) (r u : Refusal) (name : List ℕ) → IsSome (held name) → AreBadChanges held s r name → AreBadChanges held s u name → r ≡ u
+      one_changes s r u name told (inl (f, is, x)) (inl (g, also, y)) =
           let text : y.text ≡ x.text = read_once (held name) y.text x.text told y.read x.read in
-          let own : HasChangeFault m x.text g = subst (λ (t : List ℕ). HasChangeFault m t g) text y.faulty in
-          is ∙ ap (λ (c : ChangeFault). refusal.Changes c) (clear.one_change_fault m x.text f g x.faulty own) ∙ sym also
-      one_changes m r u name told (inl (f, is, x)) (inr (also, long)) = absurd (read_is_short (held name) x.text told x.read long)
-      one_changes m r u name told (inr (is, long)) (inl (g, also, y)) = absurd (read_is_short (held name) y.text told y.read long)
-      one_changes m r u name told (inr (is, long)) (inr (also, too)) = is ∙ sym also
+          let own : HasChangeFault s x.text g = subst (λ (t : List ℕ). HasChangeFault s t g) text y.faulty in
+          is ∙ ap (λ (c : ChangeFault). refusal.Changes c) (clear.one_change_fault s x.text f g x.faulty own) ∙ sym also
+      one_changes s r u name told (inl (f, is, x)) (inr (also, long)) = absurd (read_is_short (held name) x.text told x.read long)
+      one_changes s r u name told (inr (is, long)) (inl (g, also, y)) = absurd (read_is_short (held name) y.text told y.read long)
+      one_changes s r u name told (inr (is, long)) (inr (also, too)) = is ∙ sym also
 
-      not_changes : (m : CellMap) (r : Refusal) (batches : List (List Write)) (name : List ℕ) → IsSome (held name) → AreBadChanges held m r name → ReadsBatches held (Some name) m batches → ⊥
-      not_changes m r batches name told (inl (f, is, x)) (t, read, stands) =
+      not_changes : (s : Scope) (r : Refusal) (c : Course) (name : List ℕ) → IsSome (held name) → AreBadChanges held s r name → ReadsCourse held (Some name) s c → ⊥
+      not_changes s r c name told (inl (f, is, x)) (t, read, stands) =
           let text : t ≡ x.text = read_once (held name) t x.text told read x.read in
-          let own : IsChangeText m x.text batches = subst (λ (l : List ℕ). IsChangeText m l batches) text stands in
-          clear.change_fault m x.text batches f own x.faulty
-      not_changes m r batches name told (inr (is, long)) (t, read, stands) = read_is_short (held name) t told read long
+          let own : IsChangeText s x.text c = subst (λ (l : List ℕ). IsChangeText s l c) text stands in
+          clear.change_fault s x.text c f own x.faulty
+      not_changes s r c name told (inr (is, long)) (t, read, stands) = read_is_short (held name) t told read long
 
-      at_course : (m : CellMap) (o : Option (List ℕ)) (r u : Refusal) → IfSome o (λ name. IsSome (held name)) → AtName o (AreBadChanges held m r) → AtName o (AreBadChanges held m u) → r ≡ u
-      at_course m None r u told x y = absurd x
-      at_course m (Some name) r u told x y = one_changes m r u name told x y
+      at_course : (s : Scope) (o : Option (List ℕ)) (r u : Refusal) → IfSome o (λ name. IsSome (held name)) → AtName o (AreBadChanges held s r) → AtName o (AreBadChanges held s u) → r ≡ u
+      at_course s None r u told x y = absurd x
+      at_course s (Some name) r u told x y = one_changes s r u name told x y
 
-      off_course : (m : CellMap) (o : Option (List ℕ)) (r : Refusal) (batches : List (List Write)) → IfSome o (λ name. IsSome (held name)) → AtName o (AreBadChanges held m r) → ReadsBatches held o m batches → ⊥
-      off_course m None r batches told x says = x
-      off_course m (Some name) r batches told x says = not_changes m r batches name told x says
+      off_course : (s : Scope) (o : Option (List ℕ)) (r : Refusal) (c : Course) → IfSome o (λ name. IsSome (held name)) → AtName o (AreBadChanges held s r) → ReadsCourse held o s c → ⊥
+      off_course s None r c told x says = x
+      off_course s (Some name) r c told x says = not_changes s r c name told x says
 
-      pub one_bad_course : (r u : Refusal) → IsBadCourse held from changes r → IsBadCourse held from changes u → r ≡ u
+      pub one_bad_course : (r u : Refusal) → IsBadCourse held from changes moving r → IsBadCourse held from changes moving u → r ≡ u
       one_bad_course r u (w, says, x) (v, also, y) =
           let alike = one_world clear held from w v told_env told_prims says also in
-          at_course w.map changes r u told_changes x (subst (λ (m : CellMap). AtName changes (AreBadChanges held m u)) alike.map y)
+          at_course (scope_of moving w) changes r u told_changes x (subst (λ (s : Scope). AtName changes (AreBadChanges held s u)) (alike_scopes moving w v alike) y)
 
-      pub not_course : (w : World) (batches : List (List Write)) (r : Refusal) → IsBadCourse held from changes r → ReadsWorld held from w → ReadsBatches held changes w.map batches → ⊥
-      not_course w batches r (v, also, x) says course =
+      pub not_course : (w : World) (c : Course) (r : Refusal) → IsBadCourse held from changes moving r → ReadsWorld held from w → ReadsCourse held changes (scope_of moving w) c → ⊥
+      not_course w c r (v, also, x) says course =
           let alike = one_world clear held from w v told_env told_prims says also in
-          off_course w.map changes r batches told_changes (subst (λ (m : CellMap). AtName changes (AreBadChanges held m r)) alike.map x) course
+          off_course (scope_of moving w) changes r c told_changes (subst (λ (s : Scope). AtName changes (AreBadChanges held s r)) (alike_scopes moving w v alike) x) course

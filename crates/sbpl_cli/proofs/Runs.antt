@@ -1,5 +1,5 @@
 -- What holds of a run by how it ends.
-use Rattle.std.proofs.Common.{◌≡◌, ◌≢◌, ℕ, suc, ◌+◌, ◌⊎◌, ◌≤◌, append_assoc, append-nil, Bool, true, false, List, [], ◌∷◌, ◌++◌, flat_map, length, map, Option, Some, None, sym, ◌∙◌, refl, subst, arith, inl, inr}
+use Rattle.std.proofs.Common.{◌≡◌, ◌≢◌, ℕ, suc, ◌+◌, ◌⊎◌, ◌≤◌, append_assoc, append-nil, Bool, true, false, List, [], ◌∷◌, ◌++◌, flat_map, length, map, Option, Some, None, sym, ◌∙◌, ap, refl, subst, arith, inl, inr}
 use Rattle.std.specs.List.{AllByRecursion}
 use Rattle.sbpl_cfg.specs.declared.fault.EnvFault.{EnvFault}
 use Rattle.sbpl_cfg.specs.Environment.{Environment}
@@ -11,9 +11,7 @@ use Rattle.sbpl_cost.specs.PrimitiveCost.{IsFirstTooDear}
 use Rattle.sbpl_cost.specs.Alike.{AlikeWorldsAreOneGraph}
 use Rattle.sbpl_cost.specs.World.{World}
 use Rattle.sbpl_fixed.specs.Formats.{start_at}
-use Rattle.sbpl_map.specs.CellMap.{CellMap}
 use Rattle.sbpl_map.specs.declared.fault.ChangeFault.{ChangeFault}
-use Rattle.sbpl_map.specs.declared.write.Write as change
 use Rattle.sbpl_cert.specs.declared.outcome.Outcome.{Outcome}
 use Rattle.sbpl_cli.specs.declared.section_check.SectionStop.{SectionStop}
 use Rattle.sbpl_cli.specs.declared.section_check.SectionStop.TheVariants as section
@@ -23,22 +21,25 @@ use Rattle.sbpl_job.specs.declared.job.Job.{Job}
 use Rattle.sbpl_job.specs.declared.job.Job.TheVariants as job
 use Rattle.sbpl_job.specs.declared.job.Outputs.{Outputs}
 use Rattle.sbpl_job.specs.declared.job.Sources.{Sources}
-use Rattle.sbpl_cli.specs.Checked.{AreChecked, IsHolding, IsShownHolding}
-use Rattle.sbpl_cli.specs.Headline.{IsStateOf}
+use Rattle.sbpl_cli.specs.Checked.{IsHolding, case_of}
+use Rattle.sbpl_cli.specs.Headline.{IsStateOf, start_after}
 use Rattle.sbpl_cli.specs.declared.record.PlanRecord.{PlanRecord}
 use Rattle.sbpl_cli.specs.declared.refusal.Refusal.{Refusal}
 use Rattle.sbpl_cli.specs.declared.refusal.Refusal.TheVariants as refusal
-use Rattle.sbpl_cli.specs.Causes.{IsCause, IsEarlyCause, IsJobCause, IsTooLong, ReadsBatches, ReadsWorld}
+use Rattle.sbpl_cli.specs.Causes.{IsCause, IsEarlyCause, IsJobCause, IsTooLong, ReadsCourse, ReadsWorld, scope_of}
+use Rattle.sbpl_cli.specs.Texts.{Scope}
+use Rattle.sbpl_cli.specs.declared.course.Course.{Course}
+use Rattle.sbpl_job.specs.Jobs.{moves_in}
 use Rattle.sbpl_cli.specs.Intents.{Intent, Refused, Planned, Checked, Listed, Demonstrated, OutOfMemory, checked_status, checked_writes, demo_writes, end_writes, intent_status, labels_text, labels_writes, last_write, lines_writes, plans_status, plans_writes, refusal_status, section_writes, stop_writes, trace_writes, words_writes, writes_of}
 use Rattle.sbpl_cli.specs.Listing.{listings}
-use Rattle.sbpl_cli.specs.Promises.{AreGood, AtJob, GivesIntent, EndsJob, EndsRun, by_job, by_words, by_memory, IsCutShort, IsCheckedIn, IsDone, IsFaultFound, IsFlawFound, IsNoCheck, IsOrFailed, IsOrUnwritten, IsRefused, IsStatus, EndsWithoutMemory, IsWrittenFor, MayBeWritten, SomeRose, Tells, TellsBatches, TellsChangeFault, TellsEnvironment, TellsEnvironmentFault, TellsPrimitiveFault, TellsPrimitives, TellsTooMuch, TellsWorld, changes_of, sources_of}
+use Rattle.sbpl_cli.specs.Promises.{AreGood, AtJob, GivesIntent, EndsJob, EndsRun, by_job, by_words, by_memory, IsCutShort, IsCheckedIn, IsDone, IsFaultFound, IsFlawFound, IsNoCheck, IsOrFailed, IsOrUnwritten, IsRefused, IsStatus, EndsWithoutMemory, IsWrittenFor, MayBeWritten, SomeRose, Tells, TellsChangeFault, TellsCourse, TellsEnvironment, TellsEnvironmentFault, TellsPrimitiveFault, TellsPrimitives, TellsTooMuch, TellsWorld, changes_of, sources_of}
 use Rattle.sbpl_cli.specs.Traces.{trace_text}
 use Rattle.sbpl_cli.specs.Writing.{AreAppended, DeskState, EndsAs, IsCutAt, IsNamed, IsOutput, IsOutputOf, RunsOutAt, Names, ReadFailed, StaysBut, Told, Write, output, to_named, to_output}
 use Rattle.sbpl_cli.proofs.Ends.{plain_is}
 use Rattle.sbpl_cli.specs.Clear.{TextsAreClear}
 use Rattle.sbpl_cli.specs.Clear.{SectionsAreClear}
-use Rattle.sbpl_cli.proofs.OneEnding.{OneMap, checked_on, one_ending, one_state, same_graph}
-use Rattle.sbpl_cli.proofs.Converse.{ReadsCourse, all_good, by_intent, cause_of, changes_faulty, changes_faulty_none, changes_long, changes_long_none, changes_world, environment_faulty, environment_faulty_none, environment_long, environment_long_none, labels_refused, no_memory, primitives_faulty, primitives_faulty_none, primitives_good, primitives_long, primitives_long_none, same_batches, same_environment, same_map, same_primitives, told_is, too_dear_none, too_long_not_short, too_much_not_read, too_wide_none, world_good}
+use Rattle.sbpl_cli.proofs.OneEnding.{OneMap, checked_on, one_ending, one_state, same_case, same_graph}
+use Rattle.sbpl_cli.proofs.Converse.{HasRead, all_good, by_intent, cause_of, changes_faulty, changes_faulty_none, changes_long, changes_long_none, changes_world, environment_faulty, environment_faulty_none, environment_long, environment_long_none, labels_refused, no_memory, primitives_faulty, primitives_faulty_none, primitives_good, primitives_long, primitives_long_none, same_course, same_environment, same_primitives, same_scope, told_is, too_dear_none, too_long_not_short, too_much_not_read, too_wide_none, world_good}
 
 -- ---- statuses
 
@@ -111,10 +112,10 @@ stop_under goal plan (section.Flaw x) = (refl, tt)
 stop_under goal plan (section.Fault x) = (refl, tt)
 stop_under goal plan section.NoMemory = tt
 
-checked_under : (goal plan : ℕ) (os : List Outcome) (end : Option SectionStop) → AreUnder IsOutput (checked_writes goal plan os end)
-checked_under goal plan [] None = (refl, tt)
-checked_under goal plan [] (Some e) = stop_under goal plan e
-checked_under goal plan (o ∷ os) end = (refl, checked_under goal (plan + 1) os end)
+checked_under : (goals : ℕ → ℕ) (plan : ℕ) (os : List Outcome) (end : Option SectionStop) → AreUnder IsOutput (checked_writes goals plan os end)
+checked_under goals plan [] None = (refl, tt)
+checked_under goals plan [] (Some e) = stop_under (goals plan) plan e
+checked_under goals plan (o ∷ os) end = (refl, checked_under goals (plan + 1) os end)
 
 -- what a job means to do is written so: plans are made by the job `plan` alone
 writes_under : (held : Told) (Failed : Names) (j : Job) (i : Intent) → GivesIntent held Failed j i → AreUnder (MayBeWritten (Some j)) (writes_of j i)
@@ -145,7 +146,7 @@ module _ (before after : DeskState) where
 
   done_by : (j : Job) (i : Intent) → GivesIntent held Failed j i → 0 ≡ intent_status i → AreAppended before after (writes_of j i) → IsDone before after j
   done_by (job.Plan p) (Planned records true) gives zero made = record { records = records; planned = gives; report = made }
-  done_by (job.Check c) (Checked goal os None) gives zero made = record { goal = goal; outcomes = os; checked = gives; lines = made }
+  done_by (job.Check c) (Checked goal os None) gives zero made = record { goals = goal; outcomes = os; checked = gives; lines = made }
   done_by (job.Sweep from) (Listed w) gives zero made = record { world = w; says = gives.0; is_world = gives.1; lines = made }
   done_by (job.Demo d) (Demonstrated w count records true) (batches, is, planned) zero made =
       record { world = w; batches = batches; records = records; planned = planned; lines = subst (λ (n : ℕ). AreAppended before after (demo_writes w n records true)) is made }
@@ -187,7 +188,7 @@ module _ (before after : DeskState) where
 
   -- the job found a flaw
   flawed_by : (j : Job) (i : Intent) → GivesIntent held Failed j i → 1 ≡ intent_status i → AreAppended before after (writes_of j i) → IsFlawFound before after j
-  flawed_by (job.Check c) (Checked goal os (Some (section.Flaw x))) gives one made = (x, record { goal = goal; outcomes = os; checked = gives; lines = made })
+  flawed_by (job.Check c) (Checked goal os (Some (section.Flaw x))) gives one made = (x, record { goals = goal; outcomes = os; checked = gives; lines = made })
   flawed_by j (Refused (refusal.Environment x)) gives one made = absurd (omega arith)
   flawed_by j (Refused _) gives one made = absurd (omega arith)
   flawed_by j (Planned records true) gives one made = absurd (omega arith)
@@ -207,7 +208,7 @@ module _ (before after : DeskState) where
 
   -- the job found a fault in the text of labels
   faulted_by : (j : Job) (i : Intent) → GivesIntent held Failed j i → 10 ≡ intent_status i → AreAppended before after (writes_of j i) → IsFaultFound before after j
-  faulted_by (job.Check c) (Checked goal os (Some (section.Fault x))) gives ten made = (x, record { goal = goal; outcomes = os; checked = gives; lines = made })
+  faulted_by (job.Check c) (Checked goal os (Some (section.Fault x))) gives ten made = (x, record { goals = goal; outcomes = os; checked = gives; lines = made })
   faulted_by j (Refused (refusal.Environment x)) gives ten made = absurd (omega arith)
   faulted_by j (Refused _) gives ten made = absurd (omega arith)
   faulted_by j (Planned records true) gives ten made = absurd (omega arith)
@@ -340,8 +341,8 @@ module _ (before after : DeskState) where
     by_each j wanted (by_words is ends) names each = absurd (cc)
     by_each j wanted (by_memory at same) names each = inr (inr (inr at))
 
-    -- where the files stand for no world and batches, a job is refused for one of them, or memory runs out
-    by_early : (j : Job) (from : Sources) (wanted : ℕ) → EndsRun named before after status → named ≡ Some j → sources_of j ≡ Some from → ((r : Refusal) → IsEarlyCause held Failed from (changes_of j) r → IsOrFailed wanted (refusal_status r)) → (ReadsCourse held from (changes_of j) → ⊥) → IsOrFailed wanted status
+    -- where the files stand for no world and course, a job is refused for one of them, or memory runs out
+    by_early : (j : Job) (from : Sources) (wanted : ℕ) → EndsRun named before after status → named ≡ Some j → sources_of j ≡ Some from → ((r : Refusal) → IsEarlyCause held Failed from (changes_of j) (moves_in j) r → IsOrFailed wanted (refusal_status r)) → (HasRead held from (changes_of j) (moves_in j) → ⊥) → IsOrFailed wanted status
     by_early j from wanted ends names is refused none = by_each j wanted ends names (λ i gives. by_intent held Failed wanted j from i is by_cause none gives)
       where
         by_cause : (r : Refusal) → IsJobCause held Failed j r → IsOrFailed wanted (refusal_status r)
@@ -351,9 +352,9 @@ module _ (before after : DeskState) where
     by_none : (j : Job) (from : Sources) (wanted : ℕ) → EndsRun named before after status → named ≡ Some j → sources_of j ≡ Some from → ((r : Refusal) → IsCause held Failed from r → IsOrFailed wanted (refusal_status r)) → ((w : World) → ReadsWorld held from w → ⊥) → IsOrFailed wanted status
     by_none j from wanted ends names is refused none = by_early j from wanted ends names is by_cause (λ c. none c.world c.says)
       where
-        by_cause : (r : Refusal) → IsEarlyCause held Failed from (changes_of j) r → IsOrFailed wanted (refusal_status r)
+        by_cause : (r : Refusal) → IsEarlyCause held Failed from (changes_of j) (moves_in j) r → IsOrFailed wanted (refusal_status r)
         by_cause r (inl cause) = refused r cause
-        by_cause r (inr cause) = let found = changes_world held Failed from (changes_of j) r cause in absurd (none found.0 found.1)
+        by_cause r (inr cause) = let found = changes_world held Failed from (changes_of j) (moves_in j) r cause in absurd (none found.0 found.1)
 
     pub run_environment_faulty : TextsAreClear → EndsRun named before after status → (j : Job) (from : Sources) (f : EnvFault) → named ≡ Some j → sources_of j ≡ Some from → TellsEnvironmentFault held from f → IsOrFailed 3 status
     run_environment_faulty clear ends j from f names is tells = by_none j from 3 ends names is (environment_faulty clear held Failed from f tells) (environment_faulty_none clear held Failed from f tells)
@@ -377,15 +378,15 @@ module _ (before after : DeskState) where
         (primitives_good clear held Failed from env ps told tells 4 (λ k h. inl refl) (λ k n h. inl refl))
         (too_dear_none clear held Failed from env ps i told tells dear)
 
-    pub run_changes_long : TextsAreClear → EndsRun named before after status → (j : Job) (from : Sources) (m : CellMap) (name : List ℕ) → named ≡ Some j → sources_of j ≡ Some from → AreGood held from m → changes_of j ≡ Some name → TellsTooMuch (held name) → IsOrFailed 8 status
-    run_changes_long clear ends j from m name names is good file much = by_early j from 8 ends names is
-        (changes_long clear held Failed from m (changes_of j) name good file much)
-        (changes_long_none clear held Failed from (changes_of j) name file much)
+    pub run_changes_long : TextsAreClear → EndsRun named before after status → (j : Job) (from : Sources) (s : Scope) (name : List ℕ) → named ≡ Some j → sources_of j ≡ Some from → AreGood held from (moves_in j) s → changes_of j ≡ Some name → TellsTooMuch (held name) → IsOrFailed 8 status
+    run_changes_long clear ends j from s name names is good file much = by_early j from 8 ends names is
+        (changes_long clear held Failed from (moves_in j) s (changes_of j) name good file much)
+        (changes_long_none clear held Failed from (moves_in j) (changes_of j) name file much)
 
-    pub run_changes_faulty : TextsAreClear → EndsRun named before after status → (j : Job) (from : Sources) (m : CellMap) (f : ChangeFault) → named ≡ Some j → sources_of j ≡ Some from → AreGood held from m → TellsChangeFault held (changes_of j) m f → IsOrFailed 5 status
-    run_changes_faulty clear ends j from m f names is good tells = by_early j from 5 ends names is
-        (changes_faulty clear held Failed from m (changes_of j) f good tells)
-        (changes_faulty_none clear held Failed from m (changes_of j) f good tells)
+    pub run_changes_faulty : TextsAreClear → EndsRun named before after status → (j : Job) (from : Sources) (s : Scope) (f : ChangeFault) → named ≡ Some j → sources_of j ≡ Some from → AreGood held from (moves_in j) s → TellsChangeFault held (changes_of j) s f → IsOrFailed 5 status
+    run_changes_faulty clear ends j from s f names is good tells = by_early j from 5 ends names is
+        (changes_faulty clear held Failed from (moves_in j) s (changes_of j) f good tells)
+        (changes_faulty_none clear held Failed from (moves_in j) s (changes_of j) f good tells)
 
     -- plans are made, all of them or until memory runs out
     planned_status : (all : Bool) → IsOrFailed 0 (plans_status all)
@@ -402,11 +403,11 @@ module _ (before after : DeskState) where
     served (job.Check c) (Checked goal os end) plain refused gives = absurd plain
     served _ (Checked goal os end) plain refused gives = absurd gives
 
-    pub run_complete : TextsAreClear → EndsRun named before after status → (j : Job) (from : Sources) (m : CellMap) (batches : List (List change.Write)) → named ≡ Some j → sources_of j ≡ Some from → AreGood held from m → TellsBatches held (changes_of j) m batches → IsNoCheck j → IsOrFailed 0 status
-    run_complete clear ends j from m batches names is good told plain = by_each j 0 ends names (λ i gives. served j i plain by_cause gives)
+    pub run_complete : TextsAreClear → EndsRun named before after status → (j : Job) (from : Sources) (s : Scope) (c : Course) → named ≡ Some j → sources_of j ≡ Some from → AreGood held from (moves_in j) s → TellsCourse held (changes_of j) s c → IsNoCheck j → IsOrFailed 0 status
+    run_complete clear ends j from s c names is good told plain = by_each j 0 ends names (λ i gives. served j i plain by_cause gives)
       where
         by_cause : (r : Refusal) → IsJobCause held Failed j r → IsOrFailed 0 (refusal_status r)
-        by_cause r cause = elim (cause_of held Failed j from r is cause) [ inl early ↦ all_good clear held Failed from m (changes_of j) batches 0 good told r early | inr (course, checks) ↦ absurd (checks plain) ]
+        by_cause r cause = elim (cause_of held Failed j from r is cause) [ inl early ↦ all_good clear held Failed from (moves_in j) s (changes_of j) c 0 good told r early | inr (course, checks) ↦ absurd (checks plain) ]
 
     -- a demonstration is refused for nothing
     demonstrated : (d : DemoJob) (i : Intent) → GivesIntent held Failed (job.Demo d) i → (intent_status i ≡ 0) ⊎ (intent_status i ≡ 9)
@@ -429,55 +430,49 @@ module _ (before after : DeskState) where
     run_demonstrated (by_words is ends) d names = absurd (cc)
     run_demonstrated (by_memory at same) d names = inr (inr at)
 
-    -- where the files stand for a world and batches, a check is refused for its file of labels alone
-    check_refused : TextsAreClear → (c : CheckJob) (w : World) (batches : List (List change.Write)) (wanted : ℕ) → TellsWorld held c.sources w → TellsBatches held c.changes w.map batches → (IsTooLong (held c.labels) → IsOrFailed wanted 8) → (r : Refusal) → IsJobCause held Failed (job.Check c) r → IsOrFailed wanted (refusal_status r)
-    check_refused clear c w batches wanted tells told long r (inl cause) = all_good clear held Failed c.sources w.map c.changes batches wanted (world_good clear held Failed c.sources w tells) told r (inl cause)
-    check_refused clear c w batches wanted tells told long r (inr (inl cause)) = all_good clear held Failed c.sources w.map c.changes batches wanted (world_good clear held Failed c.sources w tells) told r (inr cause)
-    check_refused clear c w batches wanted tells told long r (inr (inr cause)) = labels_refused held Failed c wanted r long cause
+    -- where the files stand for a world and a course, a check is refused for its file of labels alone
+    check_refused : TextsAreClear → (c : CheckJob) (w : World) (course : Course) (wanted : ℕ) → TellsWorld held c.sources w → TellsCourse held c.changes (scope_of c.back w) course → (IsTooLong (held c.labels) → IsOrFailed wanted 8) → (r : Refusal) → IsJobCause held Failed (job.Check c) r → IsOrFailed wanted (refusal_status r)
+    check_refused clear c w course wanted tells told long r (inl cause) = all_good clear held Failed c.sources c.back (scope_of c.back w) c.changes course wanted (world_good clear held Failed c.sources c.back w tells) told r (inl cause)
+    check_refused clear c w course wanted tells told long r (inr (inl cause)) = all_good clear held Failed c.sources c.back (scope_of c.back w) c.changes course wanted (world_good clear held Failed c.sources c.back w tells) told r (inr cause)
+    check_refused clear c w course wanted tells told long r (inr (inr cause)) = labels_refused held Failed c wanted r long cause
 
     -- how a check ends
-    checked_alike : TextsAreClear → SectionsAreClear → OneMap → AlikeWorldsAreOneGraph → (c : CheckJob) (w : World) (batches : List (List change.Write)) (text : List ℕ) (goal : ℕ) (os : List Outcome) (end : Option SectionStop) → end ≢ Some section.NoMemory → TellsWorld held c.sources w → TellsBatches held c.changes w.map batches → Tells (held c.labels) text → IsCheckedIn IsHolding w batches text goal os end
+    checked_alike : TextsAreClear → SectionsAreClear → OneMap → AlikeWorldsAreOneGraph → (c : CheckJob) (w : World) (course : Course) (text : List ℕ) (goals : ℕ → ℕ) (os : List Outcome) (end : Option SectionStop) → end ≢ Some section.NoMemory → TellsWorld held c.sources w → TellsCourse held c.changes (scope_of c.back w) course → Tells (held c.labels) text → IsCheckedIn IsHolding w course c.back text goals os end
         → ((r : Refusal) → IsJobCause held Failed (job.Check c) r → IsOrFailed (checked_status end) (refusal_status r)) → (i : Intent) → GivesIntent held Failed (job.Check c) i → IsOrFailed (checked_status end) (intent_status i)
-    checked_alike clear sections one alike c w batches text goal os end some tells told held_text is refused (Refused r) gives = refused r gives
-    checked_alike clear sections one alike c w batches text goal os end some tells told held_text is refused (Planned records all) gives = absurd gives
-    checked_alike clear sections one alike c w batches text goal os end some tells told held_text is refused (Listed v) gives = absurd gives
-    checked_alike clear sections one alike c w batches text goal os end some tells told held_text is refused (Demonstrated v count records all) gives = absurd gives
-    checked_alike clear sections one alike c w batches text goal os end some tells told held_text is refused OutOfMemory gives = no_memory (checked_status end)
-    checked_alike clear sections one alike c w batches text goal os end some tells told held_text is refused (Checked goal' os' end') gives =
+    checked_alike clear sections one alike c w course text goals os end some tells told held_text is refused (Refused r) gives = refused r gives
+    checked_alike clear sections one alike c w course text goals os end some tells told held_text is refused (Planned records all) gives = absurd gives
+    checked_alike clear sections one alike c w course text goals os end some tells told held_text is refused (Listed v) gives = absurd gives
+    checked_alike clear sections one alike c w course text goals os end some tells told held_text is refused (Demonstrated v count records all) gives = absurd gives
+    checked_alike clear sections one alike c w course text goals os end some tells told held_text is refused OutOfMemory gives = no_memory (checked_status end)
+    checked_alike clear sections one alike c w course text goals os end some tells told held_text is refused (Checked goal' os' end') gives =
         let v = gives.world in
-        let good = world_good clear held Failed c.sources w tells in
+        let good = world_good clear held Failed c.sources c.back w tells in
         let env = same_environment clear held c.sources w.env v.env gives.says.cells tells.environment gives.says.environment in
         let prims = same_primitives clear held c.sources w.env v.env gives.says.cells w.prims v.prims tells.environment tells.primitives gives.says.environment gives.says.primitives in
-        let map = same_map clear held c.sources w.map v good.map gives.says in
+        let scope = same_scope clear held c.sources c.back (scope_of c.back w) v good.scope gives.says in
+        let map = ap (λ (s : Scope). s.map) scope in
         let radius = gives.says.sweeps.radius_is ∙ sym tells.says.sweeps.radius_is in
-        let course : gives.batches ≡ batches = same_batches clear held c.changes w.map batches gives.batches told (subst (λ (m : CellMap). ReadsBatches held c.changes m gives.batches) map gives.changes) in
+        let same : gives.course ≡ course = same_course clear held c.changes (scope_of c.back w) course gives.course told (subst (λ (s : Scope). ReadsCourse held c.changes s gives.course) scope gives.changes) in
         let same_text : gives.text ≡ text = told_is (held c.labels) text gives.text held_text.held_bytes gives.read in
         let from : gives.in_world.start ≡ is.start = one_state w.env w.env.start gives.in_world.start is.start (subst (λ (e : Environment). IsStateOf e e.start gives.in_world.start) env gives.in_world.start_is) is.start_is in
-        let to : goal' ≡ goal = one_state w.env w.env.end goal' goal (subst (λ (e : Environment). IsStateOf e e.end goal') env gives.in_world.goal_is) is.goal_is in
-        let there = same_check v batches gives.batches gives.in_world.start is.start goal' goal gives.text text os' end' course from to same_text gives.in_world.checked in
-        one_ending sections one (record { world = w; batches = batches; start = is.start; goal = goal }) (suc (length batches)) 0 (start_at text 0) os os' end end' some is.checked
-        (checked_on v w batches is.start goal (same_graph alike v w tells.is_world env prims map radius batches goal) env (suc (length batches)) 0 (start_at text 0) os' end' there)
-      where
-        same_check : (v : World) (bs cs : List (List change.Write)) (s s' g g' : ℕ) (t t' : List ℕ) (os : List Outcome) (end : Option SectionStop) → cs ≡ bs → s ≡ s' → g ≡ g' → t ≡ t'
-            → AreChecked IsShownHolding (record { world = v; batches = cs; start = s; goal = g }) 0 (suc (length cs)) (start_at t 0) os end
-            → AreChecked IsShownHolding (record { world = v; batches = bs; start = s'; goal = g' }) 0 (suc (length bs)) (start_at t' 0) os end
-        same_check v bs cs s s' g g' t t' os end course from to text checked =
-            subst (λ (l : List (List change.Write)). AreChecked IsShownHolding (record { world = v; batches = l; start = s'; goal = g' }) 0 (suc (length l)) (start_at t' 0) os end) course
-            (subst (λ (x : ℕ). AreChecked IsShownHolding (record { world = v; batches = cs; start = x; goal = g' }) 0 (suc (length cs)) (start_at t' 0) os end) from
-            (subst (λ (x : ℕ). AreChecked IsShownHolding (record { world = v; batches = cs; start = s; goal = x }) 0 (suc (length cs)) (start_at t' 0) os end) to
-            (subst (λ (x : List ℕ). AreChecked IsShownHolding (record { world = v; batches = cs; start = s; goal = g }) 0 (suc (length cs)) (start_at x 0) os end) text checked)))
+        let to : gives.in_world.goal ≡ is.goal = one_state w.env w.env.end gives.in_world.goal is.goal (subst (λ (e : Environment). IsStateOf e e.end gives.in_world.goal) env gives.in_world.goal_is) is.goal_is in
+        let mine : ℕ → ℕ = start_after w.env is.start course.moves in
+        let starts : start_after v.env gives.in_world.start gives.course.moves ≡ mine = λ i. start_after (env i) (from i) (same i).moves in
+        let there = same_case v course.batches gives.course.batches (start_after v.env gives.in_world.start gives.course.moves) mine gives.in_world.goal is.goal c.back gives.text text os' end' (ap (λ (x : Course). x.batches) same) starts to same_text gives.in_world.checked in
+        one_ending sections one (case_of w course is.start is.goal c.back) (suc (length course.batches)) 0 (start_at text 0) os os' end end' some is.checked
+        (checked_on v w course.batches mine is.goal c.back (same_graph alike v w tells.is_world env prims map radius course.batches mine is.goal c.back) env (suc (length course.batches)) 0 (start_at text 0) os' end' there)
 
-    pub run_checked : TextsAreClear → SectionsAreClear → OneMap → AlikeWorldsAreOneGraph → EndsRun named before after status → (c : CheckJob) (w : World) (batches : List (List change.Write)) (text : List ℕ) (goal : ℕ) (os : List Outcome) (end : Option SectionStop) → named ≡ Some (job.Check c) → TellsWorld held c.sources w → TellsBatches held c.changes w.map batches → Tells (held c.labels) text → IsCheckedIn IsHolding w batches text goal os end → end ≢ Some section.NoMemory → IsOrFailed (checked_status end) status
-    run_checked clear sections one alike ends c w batches text goal os end names tells told held_text is some =
-        let refused = check_refused clear c w batches (checked_status end) tells told (λ long. absurd (too_long_not_short (held c.labels) text held_text long)) in
-        by_each (job.Check c) (checked_status end) ends names (checked_alike clear sections one alike c w batches text goal os end some tells told held_text is refused)
+    pub run_checked : TextsAreClear → SectionsAreClear → OneMap → AlikeWorldsAreOneGraph → EndsRun named before after status → (c : CheckJob) (w : World) (course : Course) (text : List ℕ) (goals : ℕ → ℕ) (os : List Outcome) (end : Option SectionStop) → named ≡ Some (job.Check c) → TellsWorld held c.sources w → TellsCourse held c.changes (scope_of c.back w) course → Tells (held c.labels) text → IsCheckedIn IsHolding w course c.back text goals os end → end ≢ Some section.NoMemory → IsOrFailed (checked_status end) status
+    run_checked clear sections one alike ends c w course text goals os end names tells told held_text is some =
+        let refused = check_refused clear c w course (checked_status end) tells told (λ long. absurd (too_long_not_short (held c.labels) text held_text long)) in
+        by_each (job.Check c) (checked_status end) ends names (checked_alike clear sections one alike c w course text goals os end some tells told held_text is refused)
 
     -- a file of labels that is too long
-    pub run_labels_long : TextsAreClear → EndsRun named before after status → (c : CheckJob) (w : World) (batches : List (List change.Write)) → named ≡ Some (job.Check c) → TellsWorld held c.sources w → TellsBatches held c.changes w.map batches → TellsTooMuch (held c.labels) → IsOrFailed 8 status
-    run_labels_long clear ends c w batches names tells told much = by_each (job.Check c) 8 ends names long_by
+    pub run_labels_long : TextsAreClear → EndsRun named before after status → (c : CheckJob) (w : World) (course : Course) → named ≡ Some (job.Check c) → TellsWorld held c.sources w → TellsCourse held c.changes (scope_of c.back w) course → TellsTooMuch (held c.labels) → IsOrFailed 8 status
+    run_labels_long clear ends c w course names tells told much = by_each (job.Check c) 8 ends names long_by
       where
         long_by : (i : Intent) → GivesIntent held Failed (job.Check c) i → IsOrFailed 8 (intent_status i)
-        long_by (Refused r) gives = check_refused clear c w batches 8 tells told (λ long. inl refl) r gives
+        long_by (Refused r) gives = check_refused clear c w course 8 tells told (λ long. inl refl) r gives
         long_by (Checked goal os end) gives = absurd (too_much_not_read (held c.labels) gives.text much gives.read)
         long_by OutOfMemory gives = no_memory 8
         long_by _ gives = absurd gives

@@ -9,14 +9,15 @@ use Rattle.sbpl_map.specs.CellMap.{CellMap}
 use Rattle.sbpl_cost.specs.Lattices.{network_of, states_are}
 use Rattle.sbpl_cost.specs.Reading.{IsEndReading}
 use Rattle.sbpl_cost.specs.declared.arc_end.ArcEnd.{ArcEnd}
-use Rattle.sbpl_cost.specs.declared.arc_end.ArcEnd.TheVariants as end
 use Rattle.sbpl_cost.specs.States.{state_count}
 use Rattle.sbpl_change.specs.Affected.{IsAffected}
 use Rattle.sbpl_labels.specs.Marks.{AreInitial, Marks, states_of, back_of}
 use Rattle.sbpl_search.specs.Determined.{AreBeginningsDetermined}
 use Rattle.sbpl_search.specs.Meaning.{Meaning}
 use Rattle.sbpl_serial.specs.Determined.{InitialLabelsAreOne}
+use Rattle.sbpl_replan.specs.Directions.{Direction}
 use Rattle.sbpl_replan.specs.Replanning.{BeginsWith}
+use Rattle.sbpl_cli.proofs.Directions.{IsAlike}
 use Rattle.sbpl_cli.specs.Headline.{Begins, Carried}
 use Rattle.sbpl_cli.proofs.SameGuide.{made}
 
@@ -60,26 +61,26 @@ module _ (e : Environment) (ps : Primitives) (sweeps others : Swept) (radius : s
         let own : AreInitial b (network_of (made e ps sweeps m)).states start = rw same y.0 in
         record { same = initial a b _ start x.0 own; raised = x.1 ∙ sym y.1; states = x.0.states ∙ states_are (made e ps sweeps m); no_arc = x.0.no_arc a.start }
 
-    module _ {Note : Type 0} (means : Meaning Note) (law : AreBeginningsDetermined means) where
+    module _ {Note : Type 0} (means : Meaning Note) (law : AreBeginningsDetermined means) (d : Direction) (alike : IsAlike d) where
       with_begun : (m : CellMap) (left : Carried) (a b : Marks) (xs ys : List ℕ) → network_of (made e ps sweeps m) ≡ network_of (made e ps others m) → IsCarried left
-          → BeginsWith means (made e ps sweeps left.map) (made e ps sweeps m) left.labels a xs → BeginsWith means (made e ps others left.map) (made e ps others m) left.labels b ys
+          → BeginsWith means d (made e ps sweeps left.map) (made e ps sweeps m) left.labels a xs → BeginsWith means d (made e ps others left.map) (made e ps others m) left.labels b ys
           → AreBegun e a b xs ys
       with_begun m left a b xs ys same carried x y =
-          let n : Network = network_of (made e ps sweeps m) in
-          let own : means.begun n y.touched left.labels b ys = subst (λ (k : Network). means.begun k y.touched left.labels b ys) (sym same) y.begun in
+          let n : Network = d.network (made e ps sweeps m) in
+          let own : means.begun n y.touched left.labels b ys = subst (λ (k : Network). means.begun k y.touched left.labels b ys) (sym (alike.network (made e ps sweeps m) (made e ps others m) same)) y.begun in
           let both : means.repairs ≡ true → (t : ℕ) → Contains x.touched t ↔ Contains y.touched t = λ repairs t. (
-            λ among. (y.are_touched repairs t).1 (touched_on end.Head e ps sweeps others left.map m carried.graph radius t ((x.are_touched repairs t).0 among)),
-            λ among. (x.are_touched repairs t).1 (touched_on end.Head e ps others sweeps left.map m (sym carried.graph) (sym radius) t ((y.are_touched repairs t).0 among)),
+            λ among. (y.are_touched repairs t).1 (touched_on d.touched e ps sweeps others left.map m carried.graph radius t ((x.are_touched repairs t).0 among)),
+            λ among. (x.are_touched repairs t).1 (touched_on d.touched e ps others sweeps left.map m (sym carried.graph) (sym radius) t ((y.are_touched repairs t).0 among)),
           ) in
-          let all : states_of left.labels ≡ n.states = carried.states ∙ sym (states_are (made e ps sweeps m)) in
+          let all : states_of left.labels ≡ n.states = carried.states ∙ sym (alike.states (made e ps sweeps m)) in
           record {
             same = (law.one n x.touched y.touched left.labels a b xs ys both x.begun own).0;
             raised = (law.one n x.touched y.touched left.labels a b xs ys both x.begun own).1;
-            states = law.states n x.touched left.labels a xs all x.begun ∙ states_are (made e ps sweeps m);
+            states = law.states n x.touched left.labels a xs all x.begun ∙ alike.states (made e ps sweeps m);
             no_arc = law.no_arc n x.touched left.labels a xs carried.no_arc x.begun;
           }
 
-      pub one_begun : (m : CellMap) (start : ℕ) (before : Option Carried) (a b : Marks) (xs ys : List ℕ) → network_of (made e ps sweeps m) ≡ network_of (made e ps others m)
-          → AreCarried before → Begins means (made e ps sweeps m) start before a xs → Begins means (made e ps others m) start before b ys → AreBegun e a b xs ys
-      one_begun m start None a b xs ys same carried x y = initial_begun m start a b xs ys same x y
-      one_begun m start (Some left) a b xs ys same carried x y = with_begun m left a b xs ys same carried x y
+      pub one_begun : (m : CellMap) (from : ℕ) (before : Option Carried) (a b : Marks) (xs ys : List ℕ) → network_of (made e ps sweeps m) ≡ network_of (made e ps others m)
+          → AreCarried before → Begins means d (made e ps sweeps m) from before a xs → Begins means d (made e ps others m) from before b ys → AreBegun e a b xs ys
+      one_begun m from None a b xs ys same carried x y = initial_begun m from a b xs ys same x y
+      one_begun m from (Some left) a b xs ys same carried x y = with_begun m left a b xs ys same carried x y

@@ -1,5 +1,5 @@
 -- The checking of one text is determined, as far as memory lasts.
-use Rattle.std.proofs.Common.{◌≡◌, ◌≢◌, ℕ, zero, suc, ◌+◌, ◌⊎◌, ◌++◌, Option, Some, None, List, [], ◌∷◌, length, IsSome, IfSome, refl, sym, ap, subst, ◌∙◌, inl, inr}
+use Rattle.std.proofs.Common.{◌≡◌, ◌≢◌, ℕ, zero, suc, ◌+◌, ◌⊎◌, ◌++◌, Bool, Option, Some, None, List, [], ◌∷◌, length, IsSome, IfSome, refl, sym, ap, subst, ◌∙◌, inl, inr}
 use Rattle.sbpl_graph.specs.Network.{Network}
 use Rattle.sbpl_fixed.specs.Formats.{Left, start_at}
 use Rattle.sbpl_fixed.specs.Tokens.{Piece}
@@ -13,22 +13,24 @@ use Rattle.sbpl_cert.specs.Versions.{claim_by, outcome_of}
 use Rattle.sbpl_cost.specs.Alike.{AlikeWorldsAreOneGraph}
 use Rattle.sbpl_cost.specs.States.{state_count}
 use Rattle.sbpl_cost.specs.World.{World}
-use Rattle.sbpl_map.specs.CellMap.{CellMap}
 use Rattle.sbpl_map.specs.declared.write.Write.{Write}
 use Rattle.sbpl_job.specs.declared.job.CheckJob.{CheckJob}
 use Rattle.sbpl_cli.specs.declared.section_check.SectionStop.{SectionStop}
 use Rattle.sbpl_cli.specs.declared.section_check.SectionStop.TheVariants as section
-use Rattle.sbpl_cli.specs.Causes.{ReadsBatches}
-use Rattle.sbpl_cli.specs.Checked.{AreChecked, Case, Ground, IsFlawed, IsHolding, IsShownHolding, IsStoppedIn, IsTrailingAt}
+use Rattle.sbpl_cli.specs.Asked.{checked_direction}
+use Rattle.sbpl_cli.specs.Causes.{ReadsCourse, scope_of}
+use Rattle.sbpl_cli.specs.Texts.{Scope}
+use Rattle.sbpl_cli.specs.declared.course.Course.{Course}
+use Rattle.sbpl_cli.specs.Checked.{AreChecked, Case, Ground, IsFlawed, IsHolding, IsShownHolding, IsStoppedIn, IsTrailingAt, case_of, from_in, to_in}
 use Rattle.sbpl_cli.specs.Clear.{SectionsAreClear, TextsAreClear}
-use Rattle.sbpl_cli.specs.Headline.{IsStateOf}
+use Rattle.sbpl_cli.specs.Headline.{IsStateOf, start_after}
 use Rattle.sbpl_cli.specs.Intents.{checked_writes}
 use Rattle.sbpl_cli.specs.Promises.{IsChecked}
 use Rattle.sbpl_cli.specs.Verdicts.{holds_text}
 use Rattle.sbpl_cli.specs.Writing.{Told}
 use Rattle.sbpl_cli.specs.Writing as writing
-use Rattle.sbpl_cli.proofs.OneEnding.{AreOneGround, OneMap, checked_on, holds_not_stopped, one_ground, one_state, readable, same_graph, same_left, trailing_none}
-use Rattle.sbpl_cli.proofs.SamePlanned.{one_course, one_world, read_once}
+use Rattle.sbpl_cli.proofs.OneEnding.{AreOneGround, OneMap, case_in, checked_on, holds_not_stopped, one_ground, one_state, readable, same_case, same_graph, same_left, trailing_none}
+use Rattle.sbpl_cli.proofs.SamePlanned.{alike_scopes, one_course, one_world, read_once}
 
 -- the first checking goes as far as the second: both are the same, or memory ran out in it after the first few sections that hold
 abbrev pub GoesAsFar : List Outcome → List Outcome → Option SectionStop → Option SectionStop → Type 0
@@ -39,17 +41,17 @@ trailing_one [] f g p q = absurd p
 trailing_one (t ∷ ts) f g p q = p ∙ sym q
 
 module _ (clear : SectionsAreClear) (one : OneMap) (c : Case) where
-  one_flaw : (n m : Ground) (plan : ℕ) (left : Left) (f g : Flaw) → AreOneGround n m → IsFlawed n c.start c.goal plan left f → IsFlawed m c.start c.goal plan left g → f ≡ g
+  one_flaw : (n m : Ground) (plan : ℕ) (left : Left) (f g : Flaw) → AreOneGround n m → IsFlawed n (from_in c plan) (to_in c plan) plan left f → IsFlawed m (from_in c plan) (to_in c plan) plan left g → f ≡ g
   one_flaw n m plan left f g same x y =
       let sections : x.section ≡ y.section = (clear.one left.tokens x.rest y.rest x.section y.section x.tokens y.tokens).0 in
-      let there : IsFirstFlaw m.network c.start c.goal (claim_by n.guide x.section) f = subst (λ (o : Network). IsFirstFlaw o c.start c.goal (claim_by n.guide x.section) f) same.network x.first in
-      let own : IsFirstFlaw m.network c.start c.goal (claim_by n.guide y.section) f = subst (λ (s : Section). IsFirstFlaw m.network c.start c.goal (claim_by n.guide s) f) sections there in
-      clear.one_flaw m.network c.start c.goal y.section n.guide m.guide f g same.guide own y.first
+      let there : IsFirstFlaw m.network (from_in c plan) (to_in c plan) (claim_by n.guide x.section) f = subst (λ (o : Network). IsFirstFlaw o (from_in c plan) (to_in c plan) (claim_by n.guide x.section) f) same.network x.first in
+      let own : IsFirstFlaw m.network (from_in c plan) (to_in c plan) (claim_by n.guide y.section) f = subst (λ (s : Section). IsFirstFlaw m.network (from_in c plan) (to_in c plan) (claim_by n.guide s) f) sections there in
+      clear.one_flaw m.network (from_in c plan) (to_in c plan) y.section n.guide m.guide f g same.guide own y.first
 
   -- where a section does not hold
   stops_as_far : (plan : ℕ) (left : Left) (s t : SectionStop) → t ≢ section.NoMemory → IsStoppedIn c plan left s → IsStoppedIn c plan left t → GoesAsFar [] [] (Some s) (Some t)
   stops_as_far plan left (section.Flaw f) (section.Flaw g) some (n, after, x) (m, later, y) =
-      let same = one_flaw n m plan left f g (one_ground one c.world c.batches plan c.goal n m after later) x y in
+      let same = one_flaw n m plan left f g (one_ground one c plan n m after later) x y in
       inl (refl, ap (λ (e : Flaw). Some (section.Flaw e)) same)
   stops_as_far plan left (section.Flaw f) (section.Fault g) some (n, after, x) q =
       absurd (clear.not_both plan _ left g (readable clear one c n plan left x.section x.rest after x.of x.tokens) q.1)
@@ -100,50 +102,46 @@ module _ (clear : SectionsAreClear) (one : OneMap) (c : Case) where
 -- ---- the writes
 
 -- of a checking that ran out of memory they are the first few
-few_checked : (goal plan : ℕ) (os rest : List Outcome) (b : Option SectionStop) → (later : List writing.Write) × (checked_writes goal plan (os ++ rest) b ≡ checked_writes goal plan os (Some section.NoMemory) ++ later)
-few_checked goal plan [] rest b = (checked_writes goal plan rest b, refl)
-few_checked goal plan (o ∷ os) rest b =
-    let further = few_checked goal (plan + 1) os rest b in
+few_checked : (goals : ℕ → ℕ) (plan : ℕ) (os rest : List Outcome) (b : Option SectionStop) → (later : List writing.Write) × (checked_writes goals plan (os ++ rest) b ≡ checked_writes goals plan os (Some section.NoMemory) ++ later)
+few_checked goals plan [] rest b = (checked_writes goals plan rest b, refl)
+few_checked goals plan (o ∷ os) rest b =
+    let further = few_checked goals (plan + 1) os rest b in
     (further.0, ap (λ (ws : List writing.Write). writing.to_output (holds_text plan o) ∷ ws) further.1)
 
 -- what is written of one checking, and of another that goes as far
-abbrev pub WritesAsFar : (goal plan : ℕ) → List Outcome → List Outcome → Option SectionStop → Option SectionStop → Type 0
-WritesAsFar goal plan os ps a b =
-    ((checked_writes goal plan os a ≡ checked_writes goal plan ps b) × (a ≡ b))
-    ⊎ ((a ≡ Some section.NoMemory) × ((later : List writing.Write) × (checked_writes goal plan ps b ≡ checked_writes goal plan os a ++ later)))
+abbrev pub WritesAsFar : (goals : ℕ → ℕ) → (plan : ℕ) → List Outcome → List Outcome → Option SectionStop → Option SectionStop → Type 0
+WritesAsFar goals plan os ps a b =
+    ((checked_writes goals plan os a ≡ checked_writes goals plan ps b) × (a ≡ b))
+    ⊎ ((a ≡ Some section.NoMemory) × ((later : List writing.Write) × (checked_writes goals plan ps b ≡ checked_writes goals plan os a ++ later)))
 
-writes_as_far : (goal plan : ℕ) (os ps : List Outcome) (a b : Option SectionStop) → GoesAsFar os ps a b → WritesAsFar goal plan os ps a b
-writes_as_far goal plan os ps a b (inl (outcomes, ends)) = inl (λ i. checked_writes goal plan (outcomes i) (ends i), ends)
-writes_as_far goal plan os ps a b (inr (out, (rest, parted))) =
-    let few = few_checked goal plan os rest b in
-    let own : checked_writes goal plan os (Some section.NoMemory) ≡ checked_writes goal plan os a = ap (λ (e : Option SectionStop). checked_writes goal plan os e) (sym out) in
-    inr (out, (few.0, ap (λ (l : List Outcome). checked_writes goal plan l b) parted ∙ few.1 ∙ ap (λ (ws : List writing.Write). ws ++ few.0) own))
+writes_as_far : (goals : ℕ → ℕ) (plan : ℕ) (os ps : List Outcome) (a b : Option SectionStop) → GoesAsFar os ps a b → WritesAsFar goals plan os ps a b
+writes_as_far goals plan os ps a b (inl (outcomes, ends)) = inl (λ i. checked_writes goals plan (outcomes i) (ends i), ends)
+writes_as_far goals plan os ps a b (inr (out, (rest, parted))) =
+    let few = few_checked goals plan os rest b in
+    let own : checked_writes goals plan os (Some section.NoMemory) ≡ checked_writes goals plan os a = ap (λ (e : Option SectionStop). checked_writes goals plan os e) (sym out) in
+    inr (out, (few.0, ap (λ (l : List Outcome). checked_writes goals plan l b) parted ∙ few.1 ∙ ap (λ (ws : List writing.Write). ws ++ few.0) own))
 
 -- ---- the labels of a job
 
 module _ (clear : TextsAreClear) (sections : SectionsAreClear) (one : OneMap) (graphs : AlikeWorldsAreOneGraph) (held : Told) where
-  same_case : (v : World) (bs cs : List (List Write)) (s s' g g' : ℕ) (t t' : List ℕ) (os : List Outcome) (end : Option SectionStop) → cs ≡ bs → s ≡ s' → g ≡ g' → t ≡ t'
-      → AreChecked IsShownHolding (record { world = v; batches = cs; start = s; goal = g }) 0 (suc (length cs)) (start_at t 0) os end
-      → AreChecked IsShownHolding (record { world = v; batches = bs; start = s'; goal = g' }) 0 (suc (length bs)) (start_at t' 0) os end
-  same_case v bs cs s s' g g' t t' os end course from to text checked =
-      subst (λ (l : List (List Write)). AreChecked IsShownHolding (record { world = v; batches = l; start = s'; goal = g' }) 0 (suc (length l)) (start_at t' 0) os end) course
-      (subst (λ (x : ℕ). AreChecked IsShownHolding (record { world = v; batches = cs; start = x; goal = g' }) 0 (suc (length cs)) (start_at t' 0) os end) from
-      (subst (λ (x : ℕ). AreChecked IsShownHolding (record { world = v; batches = cs; start = s; goal = x }) 0 (suc (length cs)) (start_at t' 0) os end) to
-      (subst (λ (x : List ℕ). AreChecked IsShownHolding (record { world = v; batches = cs; start = s; goal = g }) 0 (suc (length cs)) (start_at x 0) os end) text checked)))
-
-  pub check_as_far : (j : CheckJob) (goal other : ℕ) (os ps : List Outcome) (a b : Option SectionStop) → IsSome (held j.sources.env) → IsSome (held j.sources.prims) → IfSome j.changes (λ name. IsSome (held name)) → IsSome (held j.labels)
-      → b ≢ Some section.NoMemory → IsChecked held j goal os a → IsChecked held j other ps b → (goal ≡ other) × WritesAsFar goal 0 os ps a b
-  check_as_far j goal other os ps a b told_env told_prims told_changes told_labels some x y =
+  pub check_as_far : (j : CheckJob) (goals others : ℕ → ℕ) (os ps : List Outcome) (a b : Option SectionStop) → IsSome (held j.sources.env) → IsSome (held j.sources.prims) → IfSome j.changes (λ name. IsSome (held name)) → IsSome (held j.labels)
+      → b ≢ Some section.NoMemory → IsChecked held j goals os a → IsChecked held j others ps b → (goals ≡ others) × WritesAsFar goals 0 os ps a b
+  check_as_far j goals others os ps a b told_env told_prims told_changes told_labels some x y =
       let w = x.world in
       let v = y.world in
       let alike = one_world clear held j.sources w v told_env told_prims x.says y.says in
-      let course : ReadsBatches held j.changes w.map y.batches = subst (λ (m : CellMap). ReadsBatches held j.changes m y.batches) alike.map y.changes in
-      let batches : y.batches ≡ x.batches = sym (one_course clear held j.changes w.map x.batches y.batches told_changes x.changes course) in
+      let read : ReadsCourse held j.changes (scope_of j.back w) y.course = subst (λ (s : Scope). ReadsCourse held j.changes s y.course) (alike_scopes j.back w v alike) y.changes in
+      let course : y.course ≡ x.course = sym (one_course clear held j.changes (scope_of j.back w) x.course y.course told_changes x.changes read) in
       let text : y.text ≡ x.text = read_once (held j.labels) y.text x.text told_labels y.read x.read in
       let from : y.in_world.start ≡ x.in_world.start = one_state w.env w.env.start y.in_world.start x.in_world.start (subst (λ (e : Environment). IsStateOf e e.start y.in_world.start) alike.env y.in_world.start_is) x.in_world.start_is in
-      let to : other ≡ goal = one_state w.env w.env.end other goal (subst (λ (e : Environment). IsStateOf e e.end other) alike.env y.in_world.goal_is) x.in_world.goal_is in
-      let there = same_case v x.batches y.batches y.in_world.start x.in_world.start other goal y.text x.text ps b batches from to text y.in_world.checked in
-      let c : Case = record { world = w; batches = x.batches; start = x.in_world.start; goal = goal } in
-      let q = checked_on v w x.batches x.in_world.start goal (same_graph graphs v w x.is_world alike.env alike.prims alike.map alike.radius x.batches goal) alike.env (suc (length x.batches)) 0 (start_at x.text 0) ps b there in
-      let p = checked_on w w x.batches x.in_world.start goal (λ k n after. after) refl (suc (length x.batches)) 0 (start_at x.text 0) os a x.in_world.checked in
-      (sym to, writes_as_far goal 0 os ps a b (goes_as_far sections one c (suc (length x.batches)) 0 (start_at x.text 0) os ps a b some p q))
+      let to : y.in_world.goal ≡ x.in_world.goal = one_state w.env w.env.end y.in_world.goal x.in_world.goal (subst (λ (e : Environment). IsStateOf e e.end y.in_world.goal) alike.env y.in_world.goal_is) x.in_world.goal_is in
+      let env = alike.env in
+      let starts : start_after v.env y.in_world.start y.course.moves ≡ start_after w.env x.in_world.start x.course.moves = λ i. start_after (env i) (from i) (course i).moves in
+      let batches : y.course.batches ≡ x.course.batches = ap (λ (c : Course). c.batches) course in
+      let mine : ℕ → ℕ = start_after w.env x.in_world.start x.course.moves in
+      let there = same_case v x.course.batches y.course.batches (start_after v.env y.in_world.start y.course.moves) mine y.in_world.goal x.in_world.goal j.back y.text x.text ps b batches starts to text y.in_world.checked in
+      let c : Case = case_in w x.course.batches mine x.in_world.goal j.back in
+      let q = checked_on v w x.course.batches mine x.in_world.goal j.back (same_graph graphs v w x.is_world alike.env alike.prims alike.map alike.radius x.course.batches mine x.in_world.goal j.back) alike.env (suc (length x.course.batches)) 0 (start_at x.text 0) ps b there in
+      let p = checked_on w w x.course.batches mine x.in_world.goal j.back (λ k n after. after) refl (suc (length x.course.batches)) 0 (start_at x.text 0) os a x.in_world.checked in
+      let same : to_in (case_of v y.course y.in_world.start y.in_world.goal j.back) ≡ to_in (case_of w x.course x.in_world.start x.in_world.goal j.back) = λ i k. (checked_direction j.back).to (starts i k) (to i) in
+      (x.in_world.goals_are ∙ sym same ∙ sym y.in_world.goals_are, writes_as_far goals 0 os ps a b (goes_as_far sections one c (suc (length x.course.batches)) 0 (start_at x.text 0) os ps a b some p q))

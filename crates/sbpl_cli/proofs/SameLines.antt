@@ -21,6 +21,7 @@ use Rattle.sbpl_cli.specs.declared.record.PlanRecord.{PlanRecord}
 use Rattle.sbpl_cli.specs.Causes.{AreDemonstrated, IsDrawn, ReadsWorld, demo_search, no_outputs}
 use Rattle.sbpl_cli.specs.Determined.{AreAlikeWorlds, FewAreFirst, RecordsAreOne}
 use Rattle.sbpl_cli.specs.Headline.{ArePlans}
+use Rattle.sbpl_cli.specs.Texts.{still}
 use Rattle.sbpl_cli.specs.Intents.{last_write, listing_writes}
 use Rattle.sbpl_cli.specs.Listing.{listing_at, listing_by}
 use Rattle.sbpl_cli.specs.Report.{demo_text}
@@ -44,14 +45,14 @@ pub few_demonstrated : FewAreFirst → (d : DemoJob) (w v : World) (bs cs : List
     → (rest : List PlanRecord) × (us ≡ rs ++ rest)
 few_demonstrated first d w v bs cs rs us all x y =
     let course : bs ≡ cs = x.changes ∙ sym y.changes in
-    let plans : ArePlans w cs demo_search no_outputs rs all = subst (λ (l : List (List change.Write)). ArePlans w l demo_search no_outputs rs all) course x.plans in
-    first w v cs demo_search no_outputs rs us all refl (same_drawn d w v x.drawn y.drawn) plans y.plans
+    let plans : ArePlans w (still cs) demo_search no_outputs rs all = subst (λ (l : List (List change.Write)). ArePlans w (still l) demo_search no_outputs rs all) course x.plans in
+    first w v (still cs) demo_search no_outputs rs us all refl (same_drawn d w v x.drawn y.drawn) plans y.plans
 
 pub one_demonstrated : RecordsAreOne → (d : DemoJob) (w v : World) (bs cs : List (List change.Write)) (rs us : List PlanRecord) → AreDemonstrated d w bs rs true → AreDemonstrated d v cs us true → rs ≡ us
 one_demonstrated one d w v bs cs rs us x y =
     let course : bs ≡ cs = x.changes ∙ sym y.changes in
-    let plans : ArePlans w cs demo_search no_outputs rs true = subst (λ (l : List (List change.Write)). ArePlans w l demo_search no_outputs rs true) course x.plans in
-    one w v cs demo_search no_outputs rs us refl (same_drawn d w v x.drawn y.drawn) plans y.plans
+    let plans : ArePlans w (still cs) demo_search no_outputs rs true = subst (λ (l : List (List change.Write)). ArePlans w (still l) demo_search no_outputs rs true) course x.plans in
+    one w v (still cs) demo_search no_outputs rs us refl (same_drawn d w v x.drawn y.drawn) plans y.plans
 
 -- so is its first line
 pub one_first_line : (d : DemoJob) (w v : World) (count count' : ℕ) (bs cs : List (List change.Write)) (rs us : List PlanRecord) (all all' : Bool) → count ≡ length bs → count' ≡ length cs

@@ -3,16 +3,17 @@ use Rattle.std.proofs.Common.{◌≡◌, ℕ, Bool, true, Option, Some, None, Li
 use Rattle.std.proofs.lemmas.Bool.{false≢true}
 use Rattle.sbpl_cfg.specs.Environment.{Environment}
 use Rattle.sbpl_map.specs.CellMap.{CellMap}
-use Rattle.sbpl_map.specs.declared.write.Write.{Write}
 use Rattle.sbpl_cost.specs.World.{World}
 use Rattle.sbpl_job.specs.declared.job.PlanJob.{PlanJob}
 use Rattle.sbpl_job.specs.declared.job.Sources.{Sources}
 use Rattle.sbpl_cli.specs.declared.record.PlanRecord.{PlanRecord}
 use Rattle.sbpl_cli.specs.Asked.{is_determined}
-use Rattle.sbpl_cli.specs.Causes.{ArePlanned, IsReadText, ReadsBatches, ReadsWorld}
+use Rattle.sbpl_cli.specs.Causes.{ArePlanned, IsReadText, ReadsCourse, ReadsWorld, scope_of}
+use Rattle.sbpl_cli.specs.declared.course.Course.{Course}
+use Rattle.sbpl_job.specs.Jobs.{may_move}
 use Rattle.sbpl_cli.specs.Determined.{AreAlikeWorlds, FewAreFirst, RecordsAreOne}
 use Rattle.sbpl_cli.specs.Headline.{ArePlans}
-use Rattle.sbpl_cli.specs.Texts.{IsChangeText, IsEnvironmentText, IsPrimitiveText}
+use Rattle.sbpl_cli.specs.Texts.{IsChangeText, IsEnvironmentText, IsPrimitiveText, Scope, scope_for}
 use Rattle.sbpl_cli.specs.Writing.{Told}
 use Rattle.sbpl_cli.specs.Clear.{TextsAreClear}
 
@@ -20,6 +21,13 @@ use Rattle.sbpl_cli.specs.Clear.{TextsAreClear}
 pub read_once : (held : Option (List ℕ)) (t u : List ℕ) → IsSome held → IsReadText held t → IsReadText held u → t ≡ u
 read_once None t u told x y = absurd (false≢true told)
 read_once (Some text) t u told x y = x.told ∙ sym y.told
+
+-- alike worlds give a change file one scope
+pub alike_scopes : (moving : Bool) (w v : World) → AreAlikeWorlds w v → scope_of moving v ≡ scope_of moving w
+alike_scopes moving w v alike =
+    let env = alike.env in
+    let map = alike.map in
+    λ i. scope_for moving (env i) (map i)
 
 module _ (clear : TextsAreClear) (held : Told) where
   -- the files stand for one world except for how cells stand in the tables of sweeps
@@ -43,30 +51,32 @@ module _ (clear : TextsAreClear) (held : Told) where
         radius = y.sweeps.radius_is ∙ sym x.sweeps.radius_is;
       }
 
-  -- and for one list of batches of changes
-  pub one_course : (changes : Option (List ℕ)) (m : CellMap) (batches others : List (List Write)) → IfSome changes (λ name. IsSome (held name))
-      → ReadsBatches held changes m batches → ReadsBatches held changes m others → batches ≡ others
-  one_course None m batches others told x y = x ∙ sym y
-  one_course (Some name) m batches others told x y =
+  -- and for one course
+  pub one_course : (changes : Option (List ℕ)) (s : Scope) (c d : Course) → IfSome changes (λ name. IsSome (held name))
+      → ReadsCourse held changes s c → ReadsCourse held changes s d → c ≡ d
+  one_course None s c d told x y = x ∙ sym y
+  one_course (Some name) s c d told x y =
       let text : y.0 ≡ x.0 = read_once (held name) y.0 x.0 told y.1 x.1 in
-      let own : IsChangeText m x.0 others = subst (λ (t : List ℕ). IsChangeText m t others) text y.2 in
-      clear.changes m x.0 batches others x.2 own
+      let own : IsChangeText s x.0 d = subst (λ (t : List ℕ). IsChangeText s t d) text y.2 in
+      clear.changes s x.0 c d x.2 own
 
   -- records of plans of a job are the first few of any records of all of its plans
   pub few_planned : FewAreFirst → (j : PlanJob) (rs us : List PlanRecord) (all : Bool) → IsSome (held j.sources.env) → IsSome (held j.sources.prims) → IfSome j.changes (λ name. IsSome (held name))
       → is_determined j.search.planner ≡ true → ArePlanned held j rs all → ArePlanned held j us true → (rest : List PlanRecord) × (us ≡ rs ++ rest)
   few_planned first j rs us all told_env told_prims told_changes determined x y =
       let alike = one_world j.sources x.world y.world told_env told_prims x.says y.says in
-      let course : ReadsBatches held j.changes x.world.map y.batches = subst (λ (m : CellMap). ReadsBatches held j.changes m y.batches) alike.map y.changes in
-      let batches : x.batches ≡ y.batches = one_course j.changes x.world.map x.batches y.batches told_changes x.changes course in
-      let plans : ArePlans y.world x.batches j.search j.outputs us true = subst (λ (bs : List (List Write)). ArePlans y.world bs j.search j.outputs us true) (sym batches) y.plans in
-      first x.world y.world x.batches j.search j.outputs rs us all determined alike x.plans plans
+      let moving = may_move j.search.planner in
+      let read : ReadsCourse held j.changes (scope_of moving x.world) y.course = subst (λ (s : Scope). ReadsCourse held j.changes s y.course) (alike_scopes moving x.world y.world alike) y.changes in
+      let course : x.course ≡ y.course = one_course j.changes (scope_of moving x.world) x.course y.course told_changes x.changes read in
+      let plans : ArePlans y.world x.course j.search j.outputs us true = subst (λ (c : Course). ArePlans y.world c j.search j.outputs us true) (sym course) y.plans in
+      first x.world y.world x.course j.search j.outputs rs us all determined alike x.plans plans
 
   pub one_planned : RecordsAreOne → (j : PlanJob) (rs us : List PlanRecord) → IsSome (held j.sources.env) → IsSome (held j.sources.prims) → IfSome j.changes (λ name. IsSome (held name))
       → is_determined j.search.planner ≡ true → ArePlanned held j rs true → ArePlanned held j us true → rs ≡ us
   one_planned one j rs us told_env told_prims told_changes determined x y =
       let alike = one_world j.sources x.world y.world told_env told_prims x.says y.says in
-      let course : ReadsBatches held j.changes x.world.map y.batches = subst (λ (m : CellMap). ReadsBatches held j.changes m y.batches) alike.map y.changes in
-      let batches : x.batches ≡ y.batches = one_course j.changes x.world.map x.batches y.batches told_changes x.changes course in
-      let plans : ArePlans y.world x.batches j.search j.outputs us true = subst (λ (bs : List (List Write)). ArePlans y.world bs j.search j.outputs us true) (sym batches) y.plans in
-      one x.world y.world x.batches j.search j.outputs rs us determined alike x.plans plans
+      let moving = may_move j.search.planner in
+      let read : ReadsCourse held j.changes (scope_of moving x.world) y.course = subst (λ (s : Scope). ReadsCourse held j.changes s y.course) (alike_scopes moving x.world y.world alike) y.changes in
+      let course : x.course ≡ y.course = one_course j.changes (scope_of moving x.world) x.course y.course told_changes x.changes read in
+      let plans : ArePlans y.world x.course j.search j.outputs us true = subst (λ (c : Course). ArePlans y.world c j.search j.outputs us true) (sym course) y.plans in
+      one x.world y.world x.course j.search j.outputs rs us determined alike x.plans plans

@@ -51,12 +51,15 @@ use Rattle.sbpl_cli.specs.declared.record.PathStep.{PathStep}
 use Rattle.sbpl_cli.specs.declared.record.PathRecord.{PathRecord}
 use Rattle.sbpl_cli.specs.declared.record.PlanRecord.{PlanRecord}
 use Rattle.sbpl_cli.specs.Asked.{Known, ask_of, is_determined, known}
-use Rattle.sbpl_cli.specs.Headline.{ArePlans, AreRecords, AreSteps, Carried, IsMarked, IsPlanOf, IsSearched, Joins, IsSameResult, expanded_before}
+use Rattle.sbpl_cli.specs.Headline.{ArePlans, AreRecords, AreSteps, Carried, IsMarked, IsPlanOf, IsSearched, IsTurned, Joins, IsSameResult, expanded_before, start_after}
+use Rattle.sbpl_cli.specs.declared.course.Course.{Course}
+use Rattle.sbpl_back.specs.Reversed.{PathsTurnOnce}
+use Rattle.sbpl_cli.proofs.Directions.{IsAlike, LeadsOnce, alike_known, leads_known}
 use Rattle.sbpl_cli.specs.Determined.{FewAreFirst, RecordsAreOne}
 use Rattle.sbpl_cli.specs.Shown.{IsShown, IsShownInFull, IsShownSparsely, IsThere}
 use Rattle.sbpl_cli.proofs.OneEnding.{OneMap, one_state}
 use Rattle.sbpl_cli.proofs.SameBegun.{AreCarried, one_begun}
-use Rattle.sbpl_cli.proofs.SameGuide.{made, one_best}
+use Rattle.sbpl_cli.proofs.SameGuide.{made}
 
 -- ---- what is told
 
@@ -104,6 +107,28 @@ one_told e ps sweeps others m same start goal outcome.Unknown outcome.NoPath p t
 one_told e ps sweeps others m same start goal outcome.Unknown outcome.Unknown (outcome.Path y) told also joins joins' = absurd also
 one_told e ps sweeps others m same start goal outcome.Unknown outcome.Unknown outcome.NoPath told also joins joins' = absurd also
 one_told e ps sweeps others m same start goal outcome.Unknown outcome.Unknown outcome.Unknown told also joins joins' = refl
+
+-- a result that a found one leads to is determined
+one_turned : {leads other : List ℕ → List ℕ → Type 0} → ((f a b : List ℕ) → leads f a → other f b → a ≡ b) → (f p q : Outcome FoundPath) → IsTurned leads f p → IsTurned other f q → p ≡ q
+one_turned one (outcome.Path f) (outcome.Path p) (outcome.Path q) x y =
+    let arcs : p.arcs ≡ q.arcs = one f.arcs p.arcs q.arcs x.0 y.0 in
+    let cost : p.cost ≡ q.cost = x.1 ∙ sym y.1 in
+    let bound : p.bound ≡ q.bound = x.2 ∙ sym y.2 in
+    λ i. outcome.Path (record { arcs = arcs i; cost = cost i; bound = bound i })
+one_turned one outcome.NoPath outcome.NoPath outcome.NoPath x y = refl
+one_turned one outcome.Unknown outcome.Unknown outcome.Unknown x y = refl
+one_turned one (outcome.Path f) (outcome.Path p) outcome.NoPath x y = absurd y
+one_turned one (outcome.Path f) (outcome.Path p) outcome.Unknown x y = absurd y
+one_turned one (outcome.Path f) outcome.NoPath q x y = absurd x
+one_turned one (outcome.Path f) outcome.Unknown q x y = absurd x
+one_turned one outcome.NoPath (outcome.Path p) q x y = absurd x
+one_turned one outcome.NoPath outcome.Unknown q x y = absurd x
+one_turned one outcome.NoPath outcome.NoPath (outcome.Path q) x y = absurd y
+one_turned one outcome.NoPath outcome.NoPath outcome.Unknown x y = absurd y
+one_turned one outcome.Unknown (outcome.Path p) q x y = absurd x
+one_turned one outcome.Unknown outcome.NoPath q x y = absurd x
+one_turned one outcome.Unknown outcome.Unknown (outcome.Path q) x y = absurd y
+one_turned one outcome.Unknown outcome.Unknown outcome.NoPath x y = absurd y
 
 -- ---- the section of final labels
 
@@ -222,7 +247,7 @@ pub record IsPlannerDetermined {Note : Type 0} (means : Meaning Note) : Type 0 w
   pub beginnings : AreBeginningsDetermined means
   pub plans : PassesAreOne means
 
-module _ (by : Known) (law : IsPlannerDetermined by.means) (initial : InitialLabelsAreOne) (one_result : OutcomesAreOne) (cut_one : CutRowsAreOne) (e : Environment) (ps : Primitives) (sweeps others : Swept)
+module _ (by : Known) (law : IsPlannerDetermined by.means) (alike_in : IsAlike by.direction) (leads_once : LeadsOnce by.direction) (initial : InitialLabelsAreOne) (one_result : OutcomesAreOne) (cut_one : CutRowsAreOne) (e : Environment) (ps : Primitives) (sweeps others : Swept)
     (radius : sweeps.radius ≡ others.radius) where
   one_record : (m : CellMap) (how : SearchJob) (outputs : Outputs) (start goal : ℕ) (before : Option Carried) (carried other : Carried) (r u : PlanRecord)
       → network_of (made e ps sweeps m) ≡ network_of (made e ps others m) → AreCarried e ps sweeps others radius before → r.plan ≡ u.plan
@@ -230,35 +255,40 @@ module _ (by : Known) (law : IsPlannerDetermined by.means) (initial : InitialLab
       → IsSearched by (made e ps sweeps m) how outputs start goal before carried r → IsSearched by (made e ps others m) how outputs start goal before other u
       → AreOneRecord e carried other r u
   one_record m how outputs start goal before carried other r u same begins_alike number joins joins' x y =
-      let n : Network = network_of (made e ps sweeps m) in
+      let n : Network = by.direction.network (made e ps sweeps m) in
+      let one_network : by.direction.network (made e ps sweeps m) ≡ by.direction.network (made e ps others m) = alike_in.network (made e ps sweeps m) (made e ps others m) same in
+      let from : ℕ = by.direction.from start goal in
+      let to : ℕ = by.direction.to start goal in
       let ask : Ask = ask_of how outputs in
-      let q : Inquiry = record { network = n; guide = x.guide; goal = goal; ask = ask } in
-      let begun = one_begun e ps sweeps others radius initial by.means law.beginnings m start before x.begun y.begun x.raised y.raised same begins_alike x.begins y.begins in
-      let guides : (s : ℕ) → s < state_count e → x.guide s ≡ y.guide s = one_best e ps sweeps others m goal x.guide y.guide same x.is_guide y.is_guide in
+      let q : Inquiry = record { network = n; guide = x.guide; goal = to; ask = ask } in
+      let begun = one_begun e ps sweeps others radius initial by.means law.beginnings by.direction alike_in m from before x.begun y.begun x.raised y.raised same begins_alike x.begins y.begins in
+      let guides : (s : ℕ) → s < state_count e → x.guide s ≡ y.guide s = alike_in.guides e ps sweeps others m start goal x.guide y.guide same x.is_guide y.is_guide in
       let alike : AreAlikeGuides (states_of x.begun) x.guide y.guide = λ s inside. guides s (subst (λ (count : ℕ). s < count) begun.states inside) in
-      let passes : ArePasses by.means (record { network = n; guide = y.guide; goal = goal; ask = ask }) how.first x.begun y.notes other.labels y.spent = rw (same, begun.same) y.passes in
+      let passes : ArePasses by.means (record { network = n; guide = y.guide; goal = to; ask = ask }) how.first x.begun y.notes other.labels y.spent = rw (one_network, begun.same) y.passes in
       let one = law.plans q y.guide how.budget (expanded_before before) how.first x.begun carried.labels other.labels x.notes y.notes x.spent y.spent begun.no_arc alike x.passes passes (within_room x) (within_room y) in
       let placed = passes_placed by.means law.passes q x.notes how.first x.begun carried.labels x.spent x.passes in
       let no_arc : back_of carried.labels carried.labels.start ≡ None = placed.no_arc begun.no_arc in
       let states : states_of carried.labels ≡ state_count e = placed.states ∙ begun.states in
       let at_end : AreAlikeGuides (states_of carried.labels) x.guide y.guide = λ s inside. guides s (subst (λ (count : ℕ). s < count) states inside) in
-      let is_result : IsResultOf n y.guide goal carried.labels y.result = rw (same, one.labels) y.is_result in
-      let results : x.result ≡ y.result = one_result n x.guide y.guide goal carried.labels x.result y.result no_arc at_end x.is_result is_result in
-      let told : IsSameResult x.result u.outcome = rw results y.told in
-      let outcomes : r.outcome ≡ u.outcome = one_told e ps sweeps others m same start goal x.result r.outcome u.outcome x.told told joins joins' in
+      let is_result : IsResultOf n y.guide to carried.labels y.found = rw (one_network, one.labels) y.is_result in
+      let results : x.found ≡ y.found = one_result n x.guide y.guide to carried.labels x.found y.found no_arc at_end x.is_result is_result in
+      let turned : IsTurned (by.direction.leads (made e ps others m) start goal) x.found y.told.result = rw results y.told.turned in
+      let paths : x.told.result ≡ y.told.result = one_turned (λ f a b. leads_once (made e ps sweeps m) (made e ps others m) start goal f a b same) x.found x.told.result y.told.result x.told.turned turned in
+      let told : IsSameResult x.told.result u.outcome = rw paths y.told.same in
+      let outcomes : r.outcome ≡ u.outcome = one_told e ps sweeps others m same start goal x.told.result r.outcome u.outcome x.told.same told joins joins' in
       let all : r.passes ≡ u.passes = x.lines ∙ ap (map (traced_pass by.line)) one.passes ∙ sym y.lines in
       let counts : expansions r.passes ≡ expansions u.passes = ap expansions all in
       let expanded : r.expanded ≡ u.expanded = x.expanded ∙ counts ∙ sym y.expanded in
       let marked : IsMarked how.budget (expanded_before before) x.spent u = rw one.both y.marked in
       let spent : r.spent ≡ u.spent = one_mark how.budget (expanded_before before) x.spent r u counts x.marked marked in
-      let shown : IsThere (is_some outputs.labels) (IsShown outputs.form n y.guide start goal r.plan carried.labels x.result) u.labels =
-      subst (λ (k : Network). IsThere (is_some outputs.labels) (IsShown outputs.form k y.guide start goal r.plan carried.labels x.result) u.labels) (sym same)
+      let shown : IsThere (is_some outputs.labels) (IsShown outputs.form n y.guide from to r.plan carried.labels x.found) u.labels =
+      subst (λ (k : Network). IsThere (is_some outputs.labels) (IsShown outputs.form k y.guide from to r.plan carried.labels x.found) u.labels) (sym one_network)
       (rw (number, one.labels, results) y.labels)
       in
-      let all_states : states_of carried.labels ≡ n.states = states ∙ sym (states_are (made e ps sweeps m)) in
+      let all_states : states_of carried.labels ≡ n.states = states ∙ sym (alike_in.states (made e ps sweeps m)) in
       let labels : r.labels ≡ u.labels =
-      one_there (is_some outputs.labels) (IsShown outputs.form n x.guide start goal r.plan carried.labels x.result) (IsShown outputs.form n y.guide start goal r.plan carried.labels x.result) r.labels u.labels
-      (λ s t. one_section cut_one n x.guide y.guide start goal r.plan carried.labels x.result all_states at_end outputs.form s t) x.labels shown
+      one_there (is_some outputs.labels) (IsShown outputs.form n x.guide from to r.plan carried.labels x.found) (IsShown outputs.form n y.guide from to r.plan carried.labels x.found) r.labels u.labels
+      (λ s t. one_section cut_one n x.guide y.guide from to r.plan carried.labels x.found all_states at_end outputs.form s t) x.labels shown
       in
       let raised : r.raised ≡ u.raised = x.raises ∙ ap (λ (l : List ℕ). if is_some outputs.trace then l else []) begun.raised ∙ sym y.raises in
       record {
@@ -271,10 +301,10 @@ module _ (by : Known) (law : IsPlannerDetermined by.means) (initial : InitialLab
 
   -- ---- plans in turn
 
-  module _ (one_map : OneMap) (one_graph : AlikeWorldsAreOneGraph) (first : CellMap) (batches : List (List Write)) (how : SearchJob) (outputs : Outputs) (start goal : ℕ) where
+  module _ (one_map : OneMap) (one_graph : AlikeWorldsAreOneGraph) (first : CellMap) (batches : List (List Write)) (how : SearchJob) (outputs : Outputs) (starts : ℕ → ℕ) (goal : ℕ) where
     -- records of plans from one on are the first of any others from it on that are no fewer
     pub one_records : (rs us : List PlanRecord) (k : ℕ) (before : Option Carried) → AreCarried e ps sweeps others radius before → length rs ≤ length us
-        → AreRecords by (made e ps sweeps first) batches how outputs start goal k before rs → AreRecords by (made e ps others first) batches how outputs start goal k before us
+        → AreRecords by (made e ps sweeps first) batches how outputs starts goal k before rs → AreRecords by (made e ps others first) batches how outputs starts goal k before us
         → (rest : List PlanRecord) × (us ≡ rs ++ rest)
     one_records [] us k before begins_alike no_fewer left right = (us, refl)
     one_records (r ∷ rs) [] k before begins_alike no_fewer left right = absurd (omega arith)
@@ -282,14 +312,14 @@ module _ (by : Known) (law : IsPlannerDetermined by.means) (initial : InitialLab
         let carried : Carried = left.0 in
         let other : Carried = right.0 in
         let maps : carried.map ≡ other.map = one_map first carried.map other.map batches k left.2.is_world.map right.2.is_world.map left.1 right.1 in
-        let plan : IsPlanOf by (made e ps others carried.map) how outputs start goal k before other u = rw maps right.2 in
+        let plan : IsPlanOf by (made e ps others carried.map) how outputs (starts k) goal k before other u = rw maps right.2 in
         let same : network_of (made e ps sweeps carried.map) ≡ network_of (made e ps others carried.map) =
         one_graph (made e ps others carried.map) (made e ps sweeps carried.map) plan.is_world left.2.is_world refl refl refl radius
         in
-        let one = one_record carried.map how outputs start goal before carried other r u same begins_alike (left.2.number ∙ sym plan.number) left.2.promises.joins plan.promises.joins left.2.searched plan.searched in
+        let one = one_record carried.map how outputs (starts k) goal before carried other r u same begins_alike (left.2.number ∙ sym plan.number) left.2.promises.joins plan.promises.joins left.2.searched plan.searched in
         let both : carried ≡ other = λ i. record { map = maps i; labels = one.labels i; expanded = one.expanded i } in
         let later : AreCarried e ps sweeps others radius (Some carried) = record { states = one.states; no_arc = one.no_arc; graph = same } in
-        let further : AreRecords by (made e ps others first) batches how outputs start goal (k + 1) (Some carried) us = rw both right.3 in
+        let further : AreRecords by (made e ps others first) batches how outputs starts goal (k + 1) (Some carried) us = rw both right.3 in
         let after_them = one_records rs us (k + 1) (Some carried) later (omega arith) left.3 further in
         let same_record : u ≡ r = sym one.record_is in
         let same_rest : us ≡ rs ++ after_them.0 = after_them.1 in
@@ -304,34 +334,35 @@ whole_front rs us rest parted as_many =
     let none : rest ≡ [] = nil_from_length rest (omega arith) in
     sym (parted ∙ ap (λ (l : List PlanRecord). rs ++ l) none ∙ append-nil rs)
 
-first_list : ((p : Planner) → is_determined p ≡ true → IsPlannerDetermined (known p).means) → InitialLabelsAreOne → OutcomesAreOne → CutRowsAreOne → OneMap → AlikeWorldsAreOneGraph → (e : Environment) (ps : Primitives) (sweeps others : Swept) (m : CellMap) → sweeps.radius ≡ others.radius
-    → (batches : List (List Write)) (how : SearchJob) (outputs : Outputs) (rs us : List PlanRecord) (all : Bool) → is_determined how.planner ≡ true → ArePlans (made e ps sweeps m) batches how outputs rs all → ArePlans (made e ps others m) batches how outputs us true
+first_list : ((p : Planner) → is_determined p ≡ true → IsPlannerDetermined (known p).means) → PathsTurnOnce → InitialLabelsAreOne → OutcomesAreOne → CutRowsAreOne → OneMap → AlikeWorldsAreOneGraph → (e : Environment) (ps : Primitives) (sweeps others : Swept) (m : CellMap) → sweeps.radius ≡ others.radius
+    → (course : Course) (how : SearchJob) (outputs : Outputs) (rs us : List PlanRecord) (all : Bool) → is_determined how.planner ≡ true → ArePlans (made e ps sweeps m) course how outputs rs all → ArePlans (made e ps others m) course how outputs us true
     → (rest : List PlanRecord) × (us ≡ rs ++ rest)
-first_list laws initial one_result cut_one one_map one_graph e ps sweeps others m radius batches how outputs rs us all determined left right =
+first_list laws once initial one_result cut_one one_map one_graph e ps sweeps others m radius course how outputs rs us all determined left right =
     let starts : left.start ≡ right.start = one_state e e.start left.start right.start left.start_is right.start_is in
     let goals : left.goal ≡ right.goal = one_state e e.end left.goal right.goal left.goal_is right.goal_is in
-    let each : AreRecords (known how.planner) (made e ps others m) batches how outputs left.start left.goal 0 None us = rw (starts, goals) right.each in
+    let each : AreRecords (known how.planner) (made e ps others m) course.batches how outputs (start_after e left.start course.moves) left.goal 0 None us = rw (starts, goals) right.each in
     let none : AreCarried e ps sweeps others radius None = tt in
     let few = left.few in
     let many = right.all_made refl in
-    one_records (known how.planner) (laws how.planner determined) initial one_result cut_one e ps sweeps others radius one_map one_graph m batches how outputs left.start left.goal rs us 0 None none (omega arith) left.each each
+    one_records (known how.planner) (laws how.planner determined) (alike_known how.planner) (leads_known once how.planner) initial one_result cut_one e ps sweeps others radius one_map one_graph m course.batches how outputs (start_after e left.start course.moves) left.goal rs us 0 None none (omega arith) left.each each
 
 -- each planner whose passes are determined is one of these
 pub of_each : IsPlannerDetermined ara → IsPlannerDetermined adstar → (p : Planner) → is_determined p ≡ true → IsPlannerDetermined (known p).means
 of_each by_ara by_adstar planner.Ara determined = by_ara
 of_each by_ara by_adstar planner.AdStar determined = by_adstar
+of_each by_ara by_adstar planner.Back determined = by_adstar
 of_each by_ara by_adstar planner.Epase determined = absurd (false≢true determined)
 
-pub few_are_first : ((p : Planner) → is_determined p ≡ true → IsPlannerDetermined (known p).means) → InitialLabelsAreOne → OutcomesAreOne → CutRowsAreOne → OneMap → AlikeWorldsAreOneGraph → FewAreFirst
-few_are_first laws initial one_result cut_one one_map one_graph w v batches how outputs rs us all determined alike left right =
+pub few_are_first : ((p : Planner) → is_determined p ≡ true → IsPlannerDetermined (known p).means) → PathsTurnOnce → InitialLabelsAreOne → OutcomesAreOne → CutRowsAreOne → OneMap → AlikeWorldsAreOneGraph → FewAreFirst
+few_are_first laws once initial one_result cut_one one_map one_graph w v course how outputs rs us all determined alike left right =
     let env = alike.env in
     let prims = alike.prims in
     let map = alike.map in
     let is : v ≡ made w.env w.prims v.sweeps w.map = λ i. record { env = env i; prims = prims i; sweeps = v.sweeps; map = map i } in
-    let own : ArePlans (made w.env w.prims v.sweeps w.map) batches how outputs us true = subst (λ (x : World). ArePlans x batches how outputs us true) is right in
-    first_list laws initial one_result cut_one one_map one_graph w.env w.prims w.sweeps v.sweeps w.map (sym alike.radius) batches how outputs rs us all determined left own
+    let own : ArePlans (made w.env w.prims v.sweeps w.map) course how outputs us true = subst (λ (x : World). ArePlans x course how outputs us true) is right in
+    first_list laws once initial one_result cut_one one_map one_graph w.env w.prims w.sweeps v.sweeps w.map (sym alike.radius) course how outputs rs us all determined left own
 
 pub records_are_one : FewAreFirst → RecordsAreOne
-records_are_one first w v batches how outputs rs us determined alike left right =
-    let parted = first w v batches how outputs rs us true determined alike left right in
+records_are_one first w v course how outputs rs us determined alike left right =
+    let parted = first w v course how outputs rs us true determined alike left right in
     whole_front rs us parted.0 parted.1 (right.all_made refl ∙ sym (left.all_made refl))

@@ -9,6 +9,7 @@ use Rattle.sbpl_job.specs.declared.job.CheckJob.{CheckJob}
 use Rattle.sbpl_job.specs.declared.job.DemoJob.{DemoJob}
 use Rattle.sbpl_job.specs.declared.job.Job.{Job}
 use Rattle.sbpl_job.specs.declared.job.Job.TheVariants as job
+use Rattle.sbpl_job.specs.Jobs.{may_move}
 use Rattle.sbpl_job.specs.declared.job.PlanJob.{PlanJob}
 use Rattle.sbpl_job.specs.declared.job.Sources.{Sources}
 use Rattle.sbpl_cli.specs.declared.section_check.SectionStop.{SectionStop}
@@ -92,11 +93,11 @@ module _ (clear : TextsAreClear) (sections : SectionsAreClear) (one_map : OneMap
 
     -- a cause, with counts
     abbrev IsPlanBad : Refusal → Type 0
-    IsPlanBad r = AreBadSources held p.sources r ⊎ IsBadCourse held p.sources p.changes r
+    IsPlanBad r = AreBadSources held p.sources r ⊎ IsBadCourse held p.sources p.changes (may_move p.search.planner) r
 
     plan_bad : (F : Names) (r : Refusal) → IsJobCause held F (job.Plan p) r → IsPlanBad r ⊎ HasFailedRead F (job.Plan p) (Refused r)
     plan_bad F r (inl c) = elim (source_cause held F p.sources r c) [ inl bad ↦ inl (inl bad) | inr out ↦ inr (unread F (job.Plan p) (IsSource p.sources) r (λ name is. inl is) out) ]
-    plan_bad F r (inr c) = elim (course_cause held F p.sources p.changes r c) [ inl bad ↦ inl (inr bad) | inr out ↦ inr (unread F (job.Plan p) (IsNamed p.changes) r (λ name is. inr is) out) ]
+    plan_bad F r (inr c) = elim (course_cause held F p.sources p.changes (may_move p.search.planner) r c) [ inl bad ↦ inl (inr bad) | inr out ↦ inr (unread F (job.Plan p) (IsNamed p.changes) r (λ name is. inr is) out) ]
 
     plan_quiet : (r : Refusal) → IsJobCause held NoName (job.Plan p) r → IsPlanBad r
     plan_quiet r c = elim (plan_bad NoName r c) [ inl bad ↦ bad | inr (six, (name, is, failed)) ↦ absurd failed ]
@@ -105,11 +106,11 @@ module _ (clear : TextsAreClear) (sections : SectionsAreClear) (one_map : OneMap
     one_plan_bad r u (inl x) (inl y) = one_source clear held p.sources plan_env plan_prims r u x y
     one_plan_bad r u (inl x) (inr y) = absurd (not_world clear held p.sources plan_env plan_prims y.0 r x y.1)
     one_plan_bad r u (inr x) (inl y) = absurd (not_world clear held p.sources plan_env plan_prims x.0 u y x.1)
-    one_plan_bad r u (inr x) (inr y) = one_bad_course clear held p.sources plan_env plan_prims p.changes plan_changes r u x y
+    one_plan_bad r u (inr x) (inr y) = one_bad_course clear held p.sources plan_env plan_prims p.changes (may_move p.search.planner) plan_changes r u x y
 
     not_planned : (r : Refusal) (records : List PlanRecord) (all : Bool) → IsPlanBad r → ArePlanned held p records all → ⊥
     not_planned r records all (inl x) planned = not_world clear held p.sources plan_env plan_prims planned.world r x planned.says
-    not_planned r records all (inr x) planned = not_course clear held p.sources plan_env plan_prims p.changes plan_changes planned.world planned.batches r x planned.says planned.changes
+    not_planned r records all (inr x) planned = not_course clear held p.sources plan_env plan_prims p.changes (may_move p.search.planner) plan_changes planned.world planned.course r x planned.says planned.changes
 
     plans_agree : (rs us : List PlanRecord) (all : Bool) → is_determined p.search.planner ≡ true → ArePlanned held p rs all → ArePlanned held p us true → Agrees Failed (job.Plan p) (Planned rs all) (Planned us true)
     plans_agree rs us true determined x y =
@@ -147,11 +148,11 @@ module _ (clear : TextsAreClear) (sections : SectionsAreClear) (one_map : OneMap
     check_labels = told c.labels (inr (inr refl))
 
     abbrev IsCheckBad : Refusal → Type 0
-    IsCheckBad r = AreBadSources held c.sources r ⊎ (IsBadCourse held c.sources c.changes r ⊎ AreBadLabels held c r)
+    IsCheckBad r = AreBadSources held c.sources r ⊎ (IsBadCourse held c.sources c.changes c.back r ⊎ AreBadLabels held c r)
 
     check_bad : (F : Names) (r : Refusal) → IsJobCause held F (job.Check c) r → IsCheckBad r ⊎ HasFailedRead F (job.Check c) (Refused r)
     check_bad F r (inl x) = elim (source_cause held F c.sources r x) [ inl bad ↦ inl (inl bad) | inr out ↦ inr (unread F (job.Check c) (IsSource c.sources) r (λ name is. inl is) out) ]
-    check_bad F r (inr (inl x)) = elim (course_cause held F c.sources c.changes r x) [ inl bad ↦ inl (inr (inl bad)) | inr out ↦ inr (unread F (job.Check c) (IsNamed c.changes) r (λ name is. inr (inl is)) out) ]
+    check_bad F r (inr (inl x)) = elim (course_cause held F c.sources c.changes c.back r x) [ inl bad ↦ inl (inr (inl bad)) | inr out ↦ inr (unread F (job.Check c) (IsNamed c.changes) r (λ name is. inr (inl is)) out) ]
     check_bad F r (inr (inr x)) = elim (labels_cause held F c r x) [ inl bad ↦ inl (inr (inr bad)) | inr out ↦ inr (unread F (job.Check c) (λ name. name ≡ c.labels) r (λ name is. inr (inr is)) out) ]
 
     check_quiet : (r : Refusal) → IsJobCause held NoName (job.Check c) r → IsCheckBad r
@@ -163,21 +164,21 @@ module _ (clear : TextsAreClear) (sections : SectionsAreClear) (one_map : OneMap
     one_check_bad r u (inl x) (inr (inr y)) = absurd (not_world clear held c.sources check_env check_prims y.0 r x y.2)
     one_check_bad r u (inr (inl x)) (inl y) = absurd (not_world clear held c.sources check_env check_prims x.0 u y x.1)
     one_check_bad r u (inr (inr x)) (inl y) = absurd (not_world clear held c.sources check_env check_prims x.0 u y x.2)
-    one_check_bad r u (inr (inl x)) (inr (inl y)) = one_bad_course clear held c.sources check_env check_prims c.changes check_changes r u x y
-    one_check_bad r u (inr (inl x)) (inr (inr (w, batches, says, course, y))) = absurd (not_course clear held c.sources check_env check_prims c.changes check_changes w batches r x says course)
-    one_check_bad r u (inr (inr (w, batches, says, course, x))) (inr (inl y)) = absurd (not_course clear held c.sources check_env check_prims c.changes check_changes w batches u y says course)
+    one_check_bad r u (inr (inl x)) (inr (inl y)) = one_bad_course clear held c.sources check_env check_prims c.changes c.back check_changes r u x y
+    one_check_bad r u (inr (inl x)) (inr (inr (w, batches, says, course, y))) = absurd (not_course clear held c.sources check_env check_prims c.changes c.back check_changes w batches r x says course)
+    one_check_bad r u (inr (inr (w, batches, says, course, x))) (inr (inl y)) = absurd (not_course clear held c.sources check_env check_prims c.changes c.back check_changes w batches u y says course)
     one_check_bad r u (inr (inr (w, batches, says, course, x))) (inr (inr (v, others, also, too, y))) = x.0 ∙ sym y.0
 
-    not_checked : (r : Refusal) (goal : ℕ) (os : List Outcome) (end : Option SectionStop) → IsCheckBad r → GivesIntent held Failed (job.Check c) (Checked goal os end) → ⊥
+    not_checked : (r : Refusal) (goals : ℕ → ℕ) (os : List Outcome) (end : Option SectionStop) → IsCheckBad r → GivesIntent held Failed (job.Check c) (Checked goals os end) → ⊥
     not_checked r goal os end (inl x) checked = not_world clear held c.sources check_env check_prims checked.world r x checked.says
-    not_checked r goal os end (inr (inl x)) checked = not_course clear held c.sources check_env check_prims c.changes check_changes checked.world checked.batches r x checked.says checked.changes
+    not_checked r goal os end (inr (inl x)) checked = not_course clear held c.sources check_env check_prims c.changes c.back check_changes checked.world checked.course r x checked.says checked.changes
     not_checked r goal os end (inr (inr x)) checked = labels_read held c check_labels r checked.text x checked.read
 
-    checks_agree : (goal other : ℕ) (os ps : List Outcome) (a b : Option SectionStop) → b ≢ Some section.NoMemory → GivesIntent held Failed (job.Check c) (Checked goal os a) → GivesIntent held Failed (job.Check c) (Checked other ps b)
+    checks_agree : (goal other : ℕ → ℕ) (os ps : List Outcome) (a b : Option SectionStop) → b ≢ Some section.NoMemory → GivesIntent held Failed (job.Check c) (Checked goal os a) → GivesIntent held Failed (job.Check c) (Checked other ps b)
         → Agrees Failed (job.Check c) (Checked goal os a) (Checked other ps b)
     checks_agree goal other os ps a b some x y =
         let far = check_as_far clear sections one_map graphs held c goal other os ps a b check_env check_prims check_changes check_labels some x y in
-        subst (λ (s : ℕ). Agrees Failed (job.Check c) (Checked goal os a) (Checked s ps b)) far.0
+        subst (λ (s : ℕ → ℕ). Agrees Failed (job.Check c) (Checked goal os a) (Checked s ps b)) far.0
         (elim far.1 [
           | inl (writes, ends) ↦ inr (inl (ap checked_status ends, writes))
           | inr (out, later) ↦ inr (inr (ap checked_status out, later))

@@ -28,7 +28,7 @@ use Rattle.sbpl_cli.specs.declared.section_check.SectionStop.{SectionStop}
 use Rattle.sbpl_cli.specs.declared.section_check.SectionStop.TheVariants as section
 use Rattle.sbpl_cli.specs.Asked.{Known}
 use Rattle.sbpl_cli.specs.Causes.{ReadsWorld}
-use Rattle.sbpl_cli.specs.Headline.{AreRecords, Carried}
+use Rattle.sbpl_cli.specs.Headline.{AreRecords, Carried, start_after}
 use Rattle.sbpl_cli.specs.Intents.{Intent, Refused, Planned, Checked, Listed, Demonstrated, OutOfMemory, checked_writes, end_writes, fault_text, labels_text, labels_writes, last_write, refusal_text, section_writes, stop_writes, trace_writes, unread_text, writes_of}
 use Rattle.sbpl_cli.specs.Listing.{listing_at, listing_text, listings, prim_text}
 use Rattle.sbpl_cli.specs.Promises.{GivesIntent}
@@ -137,8 +137,8 @@ section_full o P r there =
     let traced = named_full o.trace (trace_text r) (trace_full r) in
     one_more (to_output (section_text r)) _ (report_full r) (both (labels_writes o r) (trace_writes o r) written traced)
 
-module _ (by : Known) (w : World) (batches : List (List change.Write)) (how : SearchJob) (o : Outputs) (start goal : ℕ) where
-  records_full : (k : ℕ) (before : Option Carried) (rs : List PlanRecord) → AreRecords by w batches how o start goal k before rs
+module _ (by : Known) (w : World) (batches : List (List change.Write)) (how : SearchJob) (o : Outputs) (starts : ℕ → ℕ) (goal : ℕ) where
+  records_full : (k : ℕ) (before : Option Carried) (rs : List PlanRecord) → AreRecords by w batches how o starts goal k before rs
       → NoneEmpty (flat_map (section_writes o) rs)
   records_full k before [] each = no_writes
   records_full k before (r ∷ rs) (carried, after, is, rest) =
@@ -154,10 +154,10 @@ stop_full goal plan (section.Flaw f) = one_write _ (flaw_full goal plan f)
 stop_full goal plan (section.Fault f) = one_write _ (fault_full _ _ _ _)
 stop_full goal plan section.NoMemory = no_writes
 
-checked_full : (goal plan : ℕ) (os : List Outcome) (end : Option SectionStop) → NoneEmpty (checked_writes goal plan os end)
-checked_full goal plan [] None = last_full
-checked_full goal plan [] (Some e) = stop_full goal plan e
-checked_full goal plan (o ∷ os) end = one_more _ _ (holds_full plan o) (checked_full goal (plan + 1) os end)
+checked_full : (goals : ℕ → ℕ) (plan : ℕ) (os : List Outcome) (end : Option SectionStop) → NoneEmpty (checked_writes goals plan os end)
+checked_full goals plan [] None = last_full
+checked_full goals plan [] (Some e) = stop_full (goals plan) plan e
+checked_full goals plan (o ∷ os) end = one_more _ _ (holds_full plan o) (checked_full goals (plan + 1) os end)
 
 -- ---- a list of sweeps
 
@@ -203,9 +203,9 @@ intent_full held Failed j (Refused r) gives = one_write _ (refusal_full j r)
 intent_full held Failed j OutOfMemory gives = no_writes
 intent_full held Failed (job.Plan p) (Planned records all) gives =
     let plans = gives.plans in
-    let sections = records_full _ gives.world gives.batches p.search p.outputs plans.start plans.goal 0 None records plans.each in
+    let sections = records_full _ gives.world gives.course.batches p.search p.outputs (start_after gives.world.env plans.start gives.course.moves) plans.goal 0 None records plans.each in
     both _ _ sections (end_full all)
-intent_full held Failed (job.Check c) (Checked goal os end) gives = checked_full goal 0 os end
+intent_full held Failed (job.Check c) (Checked goals os end) gives = checked_full goals 0 os end
 intent_full held Failed (job.Sweep from) (Listed w) gives = both _ _ (listed_full held from w gives.0) last_full
 intent_full held Failed (job.Demo d) (Demonstrated w count records all) gives =
     one_more _ _ (demo_full _ _ _) (both _ _ (lines_full records) (end_full all))

@@ -14,6 +14,7 @@ use Rattle.sbpl_job.specs.declared.job.Outputs.{Outputs}
 use Rattle.sbpl_job.specs.declared.job.Planner.{Planner}
 use Rattle.sbpl_job.specs.declared.job.Planner.TheVariants as planner
 use Rattle.sbpl_job.specs.declared.job.SearchJob.{SearchJob}
+use Rattle.sbpl_replan.specs.Directions.{Direction, backwards, forwards}
 
 -- what a plan is asked for
 abbrev pub ask_of : SearchJob → Outputs → Ask
@@ -24,15 +25,24 @@ ask_of search outputs = record { first = search.first; step = search.step; bound
 abbrev pub is_determined : Planner → Bool
 is_determined planner.Ara = true
 is_determined planner.AdStar = true
+is_determined planner.Back = true
 is_determined planner.Epase = false
 
--- a planner as the program knows it: what its passes note, what its calls mean, and how a note is told in a trace
+-- a planner as the program knows it: what its passes note, what its calls mean, how a note is told in a trace, and in which direction
+-- it searches
 pub record Known : Type 1 where
   pub Note : Type 0
   pub means : Meaning Note
   pub line : Note → TraceLine
+  pub direction : Direction
 
 abbrev pub known : Planner → Known
-known planner.Ara = record { Note = Step; means = ara; line = line_of }
-known planner.AdStar = record { Note = Step; means = adstar; line = line_of }
-known planner.Epase = record { Note = Event; means = epase; line = line_of_event }
+known planner.Ara = record { Note = Step; means = ara; line = line_of; direction = forwards }
+known planner.AdStar = record { Note = Step; means = adstar; line = line_of; direction = forwards }
+known planner.Back = record { Note = Step; means = adstar; line = line_of; direction = backwards }
+known planner.Epase = record { Note = Event; means = epase; line = line_of_event; direction = forwards }
+
+-- the direction in which labels are checked: that of the planner `back`, or that of the others
+abbrev pub checked_direction : (back : Bool) → Direction
+checked_direction true = backwards
+checked_direction false = forwards

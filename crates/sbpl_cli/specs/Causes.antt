@@ -1,15 +1,15 @@
 -- What the files that a lattice is made of say, and why a job on it is refused. `Reads..`: what a job read, which is what the desk
 -- holds as far as it tells. That the desk tells it is `Tells..` of Promises.
-use Rattle.std.specs.Prelude.{◌≡◌, ℕ, ◌^◌, ◌<◌, ◌≤◌, ◌⊎◌, Bool, List, [], length, slice_get, Option, Some, None, IfSome}
+use Rattle.std.specs.Prelude.{◌≡◌, ℕ, ◌^◌, ◌<◌, ◌≤◌, ◌⊎◌, Bool, false, List, [], length, slice_get, Option, Some, None, IfSome}
 use Rattle.sbpl_cfg.specs.declared.fault.EnvFault.{EnvFault}
 use Rattle.sbpl_cfg.specs.Environment.{Environment}
+use Rattle.sbpl_cfg.specs.declared.pose.Place.{Place}
 use Rattle.sbpl_mprim.specs.declared.fault.PrimFault.{PrimFault}
 use Rattle.sbpl_mprim.specs.declared.prim.Primitive.{Primitive}
 use Rattle.sbpl_mprim.specs.Primitives.{Primitives}
 use Rattle.sbpl_sweep.specs.Swept.{AreSweepsOf}
 use Rattle.sbpl_sweep.specs.Widths.{IsFirstTooWide, NoneTooWide}
-use Rattle.sbpl_map.specs.CellMap.{CellMap}
-use Rattle.sbpl_map.specs.ChangeText.{AreOnMap}
+use Rattle.sbpl_map.specs.ChangeText.{AreOnMap, ArePlacesOnMap}
 use Rattle.sbpl_map.specs.declared.fault.ChangeFault.{ChangeFault}
 use Rattle.sbpl_map.specs.declared.write.Write.{Write}
 use Rattle.sbpl_demo.specs.Changes.{changes_drawn}
@@ -25,6 +25,7 @@ use Rattle.sbpl_cli.specs.declared.refusal.Stop.{Stop}
 use Rattle.sbpl_cli.specs.declared.refusal.Stop.TheVariants as stop
 use Rattle.sbpl_job.specs.declared.job.Job.{Job}
 use Rattle.sbpl_job.specs.declared.job.Job.TheVariants as job
+use Rattle.sbpl_job.specs.Jobs.{may_move}
 use Rattle.sbpl_job.specs.declared.job.CheckJob.{CheckJob}
 use Rattle.sbpl_job.specs.declared.job.DemoJob.{DemoJob}
 use Rattle.sbpl_job.specs.declared.job.LabelForm.TheVariants as form
@@ -36,7 +37,8 @@ use Rattle.sbpl_job.specs.declared.job.Sources.{Sources}
 use Rattle.sbpl_cli.specs.declared.record.PlanRecord.{PlanRecord}
 use Rattle.sbpl_cli.specs.Headline.{ArePlans}
 use Rattle.sbpl_cli.specs.Writing.{DeskState, Names, ReadFailed, Told}
-use Rattle.sbpl_cli.specs.Texts.{IsEnvironmentText, HasEnvironmentFault, IsPrimitiveText, HasPrimitiveFault, IsChangeText, HasChangeFault}
+use Rattle.sbpl_cli.specs.declared.course.Course.{Course}
+use Rattle.sbpl_cli.specs.Texts.{IsEnvironmentText, HasEnvironmentFault, IsPrimitiveText, HasPrimitiveFault, IsChangeText, HasChangeFault, Scope, scope_for, still}
 
 -- these bytes were read of a file: the held ones, where the desk tells them, and at most 2 ^ 30
 pub record IsReadText (held : Option (List ℕ)) (text : List ℕ) : Type 0 where
@@ -73,25 +75,40 @@ pub record ReadsWorld (held : Told) (from : Sources) (w : World) : Type 0 where
   pub map : w.map ≡ record { width = w.env.width; height = w.env.height; costs = cells }
   pub cheap : NoneTooDear w.env w.prims
 
--- the change file stands for batches of changes, of this map; where there is none, there are no batches
-abbrev pub ReadsBatches : Told → Option (List ℕ) → CellMap → List (List Write) → Type 0
-ReadsBatches held None m batches = batches ≡ []
-ReadsBatches held (Some name) m batches = (text : List ℕ) × IsReadText (held name) text × IsChangeText m text batches
+-- what the change file of a job is read for in a world, under a planner with which the robot moves or not
+abbrev pub scope_of : (moving : Bool) → World → Scope
+scope_of moving w = scope_for moving w.env w.map
 
--- a lattice and batches of changes that were read: the files stand for them
-pub record IsCourse (held : Told) (from : Sources) (changes : Option (List ℕ)) (w : World) (batches : List (List Write)) : Type 0 where
+-- the change file stands for a course; where there is none, there are no batches
+abbrev pub ReadsCourse : Told → Option (List ℕ) → Scope → Course → Type 0
+ReadsCourse held None s c = c ≡ still []
+ReadsCourse held (Some name) s c = (text : List ℕ) × IsReadText (held name) text × IsChangeText s text c
+
+-- where the robot is, if that is said: on the map of a world, with one of its headings, a place or none for each batch
+pub record AreMovesIn (w : World) (batches : List (List Write)) (moves : List (Option Place)) : Type 0 where
+  pub places : ArePlacesOnMap w.map w.env.headings moves
+  pub each : length moves ≡ length batches
+
+-- the batches of a course are on the map of a world, and the robot too, which stays where it may not move
+pub record IsCourseIn (moving : Bool) (w : World) (c : Course) : Type 0 where
+  pub on_map : AreOnMap w.map c.batches
+  pub moves : IfSome c.moves (AreMovesIn w c.batches)
+  pub stays : moving ≡ false → c.moves ≡ None
+
+-- a lattice and a course that were read: the files stand for them
+pub record AreRead (held : Told) (from : Sources) (changes : Option (List ℕ)) (moving : Bool) (w : World) (c : Course) : Type 0 where
   pub says : ReadsWorld held from w
   pub is_world : IsWorld w
-  pub batches_are : ReadsBatches held changes w.map batches
-  pub on_map : AreOnMap w.map batches
+  pub course_is : ReadsCourse held changes (scope_of moving w) c
+  pub in_world : IsCourseIn moving w c
 
--- The files stand for a world and batches of changes, and these are records of plans in it: all of them, or the first few.
+-- The files stand for a world and a course, and these are records of plans in it: all of them, or the first few.
 pub record ArePlanned (held : Told) (job : PlanJob) (records : List PlanRecord) (all : Bool) : Type 0 where
   pub world : World
-  pub batches : List (List Write)
+  pub course : Course
   pub says : ReadsWorld held job.sources world
-  pub changes : ReadsBatches held job.changes world.map batches
-  pub plans : ArePlans world batches job.search job.outputs records all
+  pub changes : ReadsCourse held job.changes (scope_of (may_move job.search.planner) world) course
+  pub plans : ArePlans world course job.search job.outputs records all
 
 -- how a demonstration is planned: by Anytime D*, with the inflations 3.000, 2.500 and so on to 1.000
 abbrev pub demo_search : SearchJob
@@ -112,7 +129,7 @@ pub record IsDrawn (job : DemoJob) (w : World) : Type 0 where
 pub record AreDemonstrated (job : DemoJob) (world : World) (batches : List (List Write)) (records : List PlanRecord) (all : Bool) : Type 0 where
   pub drawn : IsDrawn job world
   pub changes : batches ≡ changes_drawn job.width job.height job.seed
-  pub plans : ArePlans world batches demo_search no_outputs records all
+  pub plans : ArePlans world (still batches) demo_search no_outputs records all
 
 -- the environment file has this first fault
 pub record IsFaultyEnvironment (held : Told) (from : Sources) (f : EnvFault) : Type 0 where
@@ -172,31 +189,31 @@ IsCause held Failed from (refusal.Length input.Environment) = IsTooLong (held fr
 IsCause held Failed from (refusal.Length input.Primitives) = IsSecond held from (IsTooLong (held from.prims))
 IsCause held Failed from _ = ⊥
 
--- the text of the change file has this first fault, on a map
-pub record IsFaultyChanges (held : Told) (name : List ℕ) (m : CellMap) (f : ChangeFault) : Type 0 where
+-- the text of the change file has this first fault
+pub record IsFaultyChanges (held : Told) (name : List ℕ) (s : Scope) (f : ChangeFault) : Type 0 where
   pub text : List ℕ
   pub read : IsReadText (held name) text
-  pub faulty : HasChangeFault m text f
+  pub faulty : HasChangeFault s text f
 
 -- there is such a name, and this holds of it
 abbrev pub AtName : Option (List ℕ) → (List ℕ → Type 0) → Type 0
 AtName None P = ⊥
 AtName (Some name) P = P name
 
--- the files stand for a world, and this holds of the change file and the map
-abbrev pub AtChanges : Told → Sources → Option (List ℕ) → (List ℕ → CellMap → Type 0) → Type 0
-AtChanges held from changes P = (w : World) × ReadsWorld held from w × AtName changes (λ name. P name w.map)
+-- the files stand for a world, and this holds of the change file and of what it is read for
+abbrev pub AtChanges : Told → Sources → Option (List ℕ) → (moving : Bool) → (List ℕ → Scope → Type 0) → Type 0
+AtChanges held from changes moving P = (w : World) × ReadsWorld held from w × AtName changes (λ name. P name (scope_of moving w))
 
 -- why a job is refused for its change file, once its lattice was made
-abbrev pub IsChangesCause : Told → Names → Sources → Option (List ℕ) → Refusal → Type 0
-IsChangesCause held Failed from changes (refusal.Changes f) = AtChanges held from changes (λ name m. IsFaultyChanges held name m f)
-IsChangesCause held Failed from changes (refusal.Read input.Changes) = AtChanges held from changes (λ name m. Failed name)
-IsChangesCause held Failed from changes (refusal.Length input.Changes) = AtChanges held from changes (λ name m. IsTooLong (held name))
-IsChangesCause held Failed from changes _ = ⊥
+abbrev pub IsChangesCause : Told → Names → Sources → Option (List ℕ) → (moving : Bool) → Refusal → Type 0
+IsChangesCause held Failed from changes moving (refusal.Changes f) = AtChanges held from changes moving (λ name s. IsFaultyChanges held name s f)
+IsChangesCause held Failed from changes moving (refusal.Read input.Changes) = AtChanges held from changes moving (λ name s. Failed name)
+IsChangesCause held Failed from changes moving (refusal.Length input.Changes) = AtChanges held from changes moving (λ name s. IsTooLong (held name))
+IsChangesCause held Failed from changes moving _ = ⊥
 
--- the files stand for a world and batches of changes, and this holds of the file of labels that the job `check` reads
+-- the files stand for a world and a course, and this holds of the file of labels that the job `check` reads
 abbrev pub AtLabels : Told → CheckJob → (List ℕ → Type 0) → Type 0
-AtLabels held j P = (w : World) × (batches : List (List Write)) × ReadsWorld held j.sources w × ReadsBatches held j.changes w.map batches × P j.labels
+AtLabels held j P = (w : World) × (c : Course) × ReadsWorld held j.sources w × ReadsCourse held j.changes (scope_of j.back w) c × P j.labels
 
 -- why the job `check` is refused for its file of labels: it was not read
 abbrev pub IsLabelsCause : Told → Names → CheckJob → Refusal → Type 0
@@ -206,14 +223,14 @@ IsLabelsCause held Failed j _ = ⊥
 
 -- why a job is refused: for the files of its lattice, for its change file, or for its file of labels
 abbrev pub IsJobCause : Told → Names → Job → Refusal → Type 0
-IsJobCause held Failed (job.Plan j) r = IsCause held Failed j.sources r ⊎ IsChangesCause held Failed j.sources j.changes r
-IsJobCause held Failed (job.Check j) r = IsCause held Failed j.sources r ⊎ (IsChangesCause held Failed j.sources j.changes r ⊎ IsLabelsCause held Failed j r)
+IsJobCause held Failed (job.Plan j) r = IsCause held Failed j.sources r ⊎ IsChangesCause held Failed j.sources j.changes (may_move j.search.planner) r
+IsJobCause held Failed (job.Check j) r = IsCause held Failed j.sources r ⊎ (IsChangesCause held Failed j.sources j.changes j.back r ⊎ IsLabelsCause held Failed j r)
 IsJobCause held Failed (job.Sweep from) r = IsCause held Failed from r
 IsJobCause held Failed (job.Demo d) r = ⊥
 
 -- why the files of a lattice or the change file were refused
-abbrev pub IsEarlyCause : Told → Names → Sources → Option (List ℕ) → Refusal → Type 0
-IsEarlyCause held Failed from changes r = IsCause held Failed from r ⊎ IsChangesCause held Failed from changes r
+abbrev pub IsEarlyCause : Told → Names → Sources → Option (List ℕ) → (moving : Bool) → Refusal → Type 0
+IsEarlyCause held Failed from changes moving r = IsCause held Failed from r ⊎ IsChangesCause held Failed from changes moving r
 
 -- a refusal with a cause; or memory ran out
 abbrev pub StopsFor : (Refusal → Type 0) → Stop → Type 0
@@ -229,8 +246,8 @@ abbrev pub LatticeStopsFor : (before after : DeskState) → Sources → Stop →
 LatticeStopsFor before after from s = StopsFor (IsCause before.held (ReadFailed before after) from) s
 
 -- why no lattice with its changes was read
-abbrev pub EarlyStopsFor : (before after : DeskState) → Sources → Option (List ℕ) → Stop → Type 0
-EarlyStopsFor before after from changes s = StopsFor (IsEarlyCause before.held (ReadFailed before after) from changes) s
+abbrev pub EarlyStopsFor : (before after : DeskState) → Sources → Option (List ℕ) → (moving : Bool) → Stop → Type 0
+EarlyStopsFor before after from changes moving s = StopsFor (IsEarlyCause before.held (ReadFailed before after) from changes moving) s
 
 -- why the file of a name was not read
 abbrev pub IsUnread : (before after : DeskState) → List ℕ → Input → Stop → Type 0
@@ -265,16 +282,16 @@ IsWideStop prims radius (stop.Refused (refusal.TooWide place)) = IsFirstTooWide 
 IsWideStop prims radius (stop.Refused _) = ⊥
 IsWideStop prims radius stop.NoMemory = Unit {0}
 
--- why the text of a change file was refused, on a map
-abbrev pub IsChangesRefused : CellMap → List ℕ → Stop → Type 0
-IsChangesRefused m text (stop.Refused (refusal.Changes f)) = HasChangeFault m text f
-IsChangesRefused m text (stop.Refused _) = ⊥
-IsChangesRefused m text stop.NoMemory = Unit {0}
+-- why the text of a change file was refused
+abbrev pub IsChangesRefused : Scope → List ℕ → Stop → Type 0
+IsChangesRefused s text (stop.Refused (refusal.Changes f)) = HasChangeFault s text f
+IsChangesRefused s text (stop.Refused _) = ⊥
+IsChangesRefused s text stop.NoMemory = Unit {0}
 
--- why no batches of changes of a map were read
-abbrev pub ChangesStopFor : (before after : DeskState) → Option (List ℕ) → CellMap → Stop → Type 0
-ChangesStopFor before after changes m (stop.Refused (refusal.Changes f)) = AtName changes (λ name. IsFaultyChanges before.held name m f)
-ChangesStopFor before after changes m (stop.Refused (refusal.Read input.Changes)) = AtName changes (ReadFailed before after)
-ChangesStopFor before after changes m (stop.Refused (refusal.Length input.Changes)) = AtName changes (λ name. IsTooLong (before.held name))
-ChangesStopFor before after changes m (stop.Refused _) = ⊥
-ChangesStopFor before after changes m stop.NoMemory = Unit {0}
+-- why no course was read
+abbrev pub ChangesStopFor : (before after : DeskState) → Option (List ℕ) → Scope → Stop → Type 0
+ChangesStopFor before after changes s (stop.Refused (refusal.Changes f)) = AtName changes (λ name. IsFaultyChanges before.held name s f)
+ChangesStopFor before after changes s (stop.Refused (refusal.Read input.Changes)) = AtName changes (ReadFailed before after)
+ChangesStopFor before after changes s (stop.Refused (refusal.Length input.Changes)) = AtName changes (λ name. IsTooLong (before.held name))
+ChangesStopFor before after changes s (stop.Refused _) = ⊥
+ChangesStopFor before after changes s stop.NoMemory = Unit {0}

@@ -1,5 +1,5 @@
 -- How the sections of a label text are checked, one for each plan.
-use Rattle.std.specs.Prelude.{◌≡◌, ◌≢◌, ℕ, zero, suc, ◌+◌, List, [], ◌∷◌, Option, Some, None}
+use Rattle.std.specs.Prelude.{◌≡◌, ◌≢◌, ℕ, zero, suc, ◌+◌, Bool, List, [], ◌∷◌, Option, Some, None}
 use Rattle.sbpl_graph.specs.Network.{Network}
 use Rattle.sbpl_fixed.specs.Formats.{Left}
 use Rattle.sbpl_fixed.specs.Tokens.{Piece}
@@ -12,13 +12,14 @@ use Rattle.sbpl_cert.specs.declared.section.Section.{Section}
 use Rattle.sbpl_cert.specs.Sound.{IsSo, ShowsAll}
 use Rattle.sbpl_cert.specs.Text.{AreTokensOf, HasFault}
 use Rattle.sbpl_cert.specs.Versions.{IsOf, arcs_of, claim_by, outcome_of}
-use Rattle.sbpl_heur.specs.Bests.{IsBest, Table, distance_in}
 use Rattle.sbpl_map.specs.CellMap.{CellMap}
 use Rattle.sbpl_map.specs.MapAfter.{IsMapAfter}
 use Rattle.sbpl_map.specs.declared.write.Write.{Write}
-use Rattle.sbpl_cost.specs.Lattices.{network_of}
 use Rattle.sbpl_cost.specs.States.{state_count}
-use Rattle.sbpl_cost.specs.World.{IsWorld, World}
+use Rattle.sbpl_cost.specs.World.{IsWorld, World, over_map}
+use Rattle.sbpl_cli.specs.Asked.{checked_direction}
+use Rattle.sbpl_cli.specs.Headline.{start_after}
+use Rattle.sbpl_cli.specs.declared.course.Course.{Course}
 use Rattle.sbpl_cli.specs.declared.section_check.SectionStop.{SectionStop}
 use Rattle.sbpl_cli.specs.declared.section_check.SectionStop.TheVariants as stop
 
@@ -27,9 +28,8 @@ pub record Ground : Type 0 where
   pub network : Network
   pub guide : ℕ → ℕ
 
--- the graph of a world, with a heuristic
-abbrev pub ground_of : World → Table → Ground
-ground_of w b = record { network = network_of w; guide = distance_in b }
+abbrev pub ground : Network → (ℕ → ℕ) → Ground
+ground n guide = record { network = n; guide = guide }
 
 -- the tokens that are left begin with the section of a plan, which has no flaw on a graph and says this outcome, and then
 -- others are left
@@ -79,20 +79,33 @@ IsTrailing ts (stop.Flaw f) = ⊥
 IsTrailing ts (stop.Fault f) = IsTrailingAt ts f
 IsTrailing ts stop.NoMemory = Unit {0}
 
--- the graph of a world on the map after the first k batches, and the best heuristic for a goal on it
-pub record IsGroundAfter (w : World) (batches : List (List Write)) (k goal : ℕ) (n : Ground) : Type 0 where
-  pub map : CellMap
-  pub after : IsMapAfter w.map batches k map
-  pub is_world : IsWorld (record w { map = map })
-  pub network : n.network ≡ network_of (record w { map = map })
-  pub guide : IsBest (record w { map = map }) goal n.guide
-
--- what stays the same while the sections of a text are checked: the world and the batches, and the states of start and goal
+-- what stays the same while the sections of a text are checked: the world and the batches, the start of each plan and the goal, and
+-- whether the labels are those of the planner `back`
 pub record Case : Type 0 where
   pub world : World
   pub batches : List (List Write)
-  pub start : ℕ
+  pub starts : ℕ → ℕ
   pub goal : ℕ
+  pub back : Bool
+
+-- the case of a world and a course, between these states
+abbrev pub case_of : World → Course → (start goal : ℕ) → (back : Bool) → Case
+case_of w course start goal back = record { world = w; batches = course.batches; starts = start_after w.env start course.moves; goal = goal; back = back }
+
+-- the state from which the search of plan k goes, and the one to which
+abbrev pub from_in : Case → ℕ → ℕ
+from_in c k = (checked_direction c.back).from (c.starts k) c.goal
+
+abbrev pub to_in : Case → ℕ → ℕ
+to_in c k = (checked_direction c.back).to (c.starts k) c.goal
+
+-- the graph over which plan k is searched, on the map after the first k batches, and what guides it
+pub record IsGroundAfter (c : Case) (k : ℕ) (n : Ground) : Type 0 where
+  pub map : CellMap
+  pub after : IsMapAfter c.world.map c.batches k map
+  pub is_world : IsWorld (over_map c.world map)
+  pub network : n.network ≡ (checked_direction c.back).network (over_map c.world map)
+  pub guide : (checked_direction c.back).guides (over_map c.world map) (c.starts k) c.goal n.guide
 
 -- what is said of a section that holds: its graph, its plan, the tokens from it on, its outcome, and the tokens after it
 abbrev pub Holding : Type 1
@@ -100,7 +113,7 @@ Holding = Ground → (start goal plan : ℕ) → Left → Outcome → Left → T
 
 -- the section of a plan does not hold on its graph, or memory ran out
 abbrev pub IsStoppedIn : Case → (plan : ℕ) → Left → SectionStop → Type 0
-IsStoppedIn c plan left (stop.Flaw f) = (n : Ground) × IsGroundAfter c.world c.batches plan c.goal n × IsFlawed n c.start c.goal plan left f
+IsStoppedIn c plan left (stop.Flaw f) = (n : Ground) × IsGroundAfter c plan n × IsFlawed n (from_in c plan) (to_in c plan) plan left f
 IsStoppedIn c plan left (stop.Fault f) = (f ≢ fault.NoMemory) × HasFault plan (state_count c.world.env) left f
 IsStoppedIn c plan left stop.NoMemory = Unit {0}
 
@@ -112,6 +125,6 @@ AreChecked Holds c plan zero left [] None = left.tokens ≡ []
 AreChecked Holds c plan zero left [] (Some s) = IsTrailing left.tokens s
 AreChecked Holds c plan (suc more) left [] (Some s) = IsStoppedIn c plan left s
 AreChecked Holds c plan (suc more) left (o ∷ os) end =
-    (n : Ground) × IsGroundAfter c.world c.batches plan c.goal n
-    × (rest : Left) × Holds n c.start c.goal plan left o rest × AreChecked Holds c (plan + 1) more rest os end
+    (n : Ground) × IsGroundAfter c plan n
+    × (rest : Left) × Holds n (from_in c plan) (to_in c plan) plan left o rest × AreChecked Holds c (plan + 1) more rest os end
 AreChecked Holds c plan _ left _ _ = ⊥

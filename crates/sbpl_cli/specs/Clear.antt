@@ -5,9 +5,7 @@ use Rattle.sbpl_fixed.specs.Formats.{Left}
 use Rattle.sbpl_fixed.specs.Tokens.{Piece}
 use Rattle.sbpl_cfg.specs.declared.fault.EnvFault.{EnvFault}
 use Rattle.sbpl_cfg.specs.Environment.{Environment}
-use Rattle.sbpl_map.specs.CellMap.{CellMap}
 use Rattle.sbpl_map.specs.declared.fault.ChangeFault.{ChangeFault}
-use Rattle.sbpl_map.specs.declared.write.Write.{Write}
 use Rattle.sbpl_mprim.specs.declared.fault.PrimFault.{PrimFault}
 use Rattle.sbpl_mprim.specs.Primitives.{Primitives}
 use Rattle.sbpl_cert.specs.declared.fault.LabelFault.{LabelFault}
@@ -16,7 +14,8 @@ use Rattle.sbpl_cert.specs.declared.section.Section.{Section}
 use Rattle.sbpl_cert.specs.Flaws.{HasFlaw, HasNoFlaw, IsFirstFlaw}
 use Rattle.sbpl_cert.specs.Text.{AreTokens, AreTokensOf, HasFault}
 use Rattle.sbpl_cert.specs.Versions.{claim_by}
-use Rattle.sbpl_cli.specs.Texts.{HasChangeFault, HasEnvironmentFault, HasPrimitiveFault, IsChangeText, IsEnvironmentText, IsPrimitiveText}
+use Rattle.sbpl_cli.specs.declared.course.Course.{Course}
+use Rattle.sbpl_cli.specs.Texts.{HasChangeFault, HasEnvironmentFault, HasPrimitiveFault, IsChangeText, IsEnvironmentText, IsPrimitiveText, Scope}
 
 -- an environment file, a primitive file or a change file stands for one value or has one first fault, and never both
 pub record TextsAreClear : Type 0 where
@@ -26,9 +25,9 @@ pub record TextsAreClear : Type 0 where
   pub primitives : (text : List ℕ) (e : Environment) (ps qs : Primitives) → IsPrimitiveText e text ps → IsPrimitiveText e text qs → ps ≡ qs
   pub primitive_fault : (text : List ℕ) (e : Environment) (ps : Primitives) (f : PrimFault) → IsPrimitiveText e text ps → HasPrimitiveFault e text f → ⊥
   pub one_primitive_fault : (text : List ℕ) (e : Environment) (f g : PrimFault) → HasPrimitiveFault e text f → HasPrimitiveFault e text g → f ≡ g
-  pub changes : (m : CellMap) (text : List ℕ) (batches others : List (List Write)) → IsChangeText m text batches → IsChangeText m text others → batches ≡ others
-  pub change_fault : (m : CellMap) (text : List ℕ) (batches : List (List Write)) (f : ChangeFault) → IsChangeText m text batches → HasChangeFault m text f → ⊥
-  pub one_change_fault : (m : CellMap) (text : List ℕ) (f g : ChangeFault) → HasChangeFault m text f → HasChangeFault m text g → f ≡ g
+  pub changes : (s : Scope) (text : List ℕ) (c d : Course) → IsChangeText s text c → IsChangeText s text d → c ≡ d
+  pub change_fault : (s : Scope) (text : List ℕ) (c : Course) (f : ChangeFault) → IsChangeText s text c → HasChangeFault s text f → ⊥
+  pub one_change_fault : (s : Scope) (text : List ℕ) (f g : ChangeFault) → HasChangeFault s text f → HasChangeFault s text g → f ≡ g
 
 -- one section of labels stands in tokens, or they have one first fault, and never both; a section has one first flaw, or none
 pub record SectionsAreClear : Type 0 where

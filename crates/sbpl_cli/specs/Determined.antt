@@ -2,7 +2,6 @@
 use Rattle.std.specs.Prelude.{◌≡◌, ◌≢◌, ◌⊎◌, ◌++◌, ℕ, Bool, true, IsSome, List, Some}
 use Rattle.sbpl_desk.specs.Desk.{AppendsPrefix}
 use Rattle.sbpl_cost.specs.World.{World}
-use Rattle.sbpl_map.specs.declared.write.Write as change
 use Rattle.sbpl_job.specs.declared.job.Job.{Job}
 use Rattle.sbpl_job.specs.declared.job.Job.TheVariants as job
 use Rattle.sbpl_job.specs.declared.job.Outputs.{Outputs}
@@ -15,6 +14,7 @@ use Rattle.sbpl_cli.specs.Causes.{ArePlanned, IsJobCause, ReadsWorld}
 use Rattle.sbpl_cli.specs.Headline.{ArePlans}
 use Rattle.sbpl_cli.specs.Intents.{Intent, Refused, Planned, Checked, Listed, Demonstrated}
 use Rattle.sbpl_cli.specs.Promises.{IsChecked, IsDemonstration}
+use Rattle.sbpl_cli.specs.declared.course.Course.{Course}
 use Rattle.sbpl_cli.specs.Writing.{DeskState, IsNamed, Names, ReadFailed, Told, Write, text_under}
 
 -- ---- records of plans
@@ -26,16 +26,16 @@ pub record AreAlikeWorlds (w v : World) : Type 0 where
   pub map : v.map ≡ w.map
   pub radius : v.sweeps.radius ≡ w.sweeps.radius
 
--- all plans in alike worlds, with the same batches and asked the same, by a planner whose passes are determined, have one list of
+-- all plans in alike worlds, over the same course and asked the same, by a planner whose passes are determined, have one list of
 -- records
 abbrev pub RecordsAreOne : Type 0
-RecordsAreOne = (w v : World) (batches : List (List change.Write)) (how : SearchJob) (outputs : Outputs) (records others : List PlanRecord)
-    → is_determined how.planner ≡ true → AreAlikeWorlds w v → ArePlans w batches how outputs records true → ArePlans v batches how outputs others true → records ≡ others
+RecordsAreOne = (w v : World) (course : Course) (how : SearchJob) (outputs : Outputs) (records others : List PlanRecord)
+    → is_determined how.planner ≡ true → AreAlikeWorlds w v → ArePlans w course how outputs records true → ArePlans v course how outputs others true → records ≡ others
 
 -- and records of the first few plans are the first few of it
 abbrev pub FewAreFirst : Type 0
-FewAreFirst = (w v : World) (batches : List (List change.Write)) (how : SearchJob) (outputs : Outputs) (few records : List PlanRecord) (all : Bool)
-    → is_determined how.planner ≡ true → AreAlikeWorlds w v → ArePlans w batches how outputs few all → ArePlans v batches how outputs records true
+FewAreFirst = (w v : World) (course : Course) (how : SearchJob) (outputs : Outputs) (few records : List PlanRecord) (all : Bool)
+    → is_determined how.planner ≡ true → AreAlikeWorlds w v → ArePlans w course how outputs few all → ArePlans v course how outputs records true
     → (rest : List PlanRecord) × (records ≡ few ++ rest)
 
 -- ---- what the words and the files call for
@@ -69,7 +69,7 @@ NoName name = ⊥
 abbrev pub CallsFor : Told → Job → Intent → Type 0
 CallsFor held j (Refused r) = IsJobCause held NoName j r
 CallsFor held (job.Plan j) (Planned records all) = (all ≡ true) × (is_determined j.search.planner ≡ true) × ArePlanned held j records true
-CallsFor held (job.Check j) (Checked goal os end) = (end ≢ Some section.NoMemory) × IsChecked held j goal os end
+CallsFor held (job.Check j) (Checked goals os end) = (end ≢ Some section.NoMemory) × IsChecked held j goals os end
 CallsFor held (job.Sweep from) (Listed w) = ReadsWorld held from w
 CallsFor held (job.Demo d) (Demonstrated w count records all) = (all ≡ true) × IsDemonstration d w count records true
 CallsFor held _ _ = ⊥

@@ -1,5 +1,6 @@
 -- What a plan's record says of the world that it was planned in.
-use Rattle.std.specs.Prelude.{map, ◌≡◌, ℕ, ◌+◌, ◌*◌, ◌^◌, ◌≤◌, ◌⊎◌, Bool, MatchBool, true, if◌then◌else◌, List, [], ◌∷◌, length, Option, Some, None}
+use Rattle.std.specs.Prelude.{map, take, option_map, unwrap_or, ◌≡◌, ℕ, ◌+◌, ◌*◌, ◌^◌, ◌≤◌, ◌⊎◌, Bool, MatchBool, true, if◌then◌else◌, List, [], ◌∷◌, length, Option, Some, None}
+use Rattle.std.specs.List.{filter_map, last_or}
 use Rattle.std.specs.Option.{is_some}
 use Rattle.sbpl_graph.specs.Network.{Network}
 use Rattle.sbpl_graph.specs.Path.{IsFreePath}
@@ -12,18 +13,18 @@ use Rattle.sbpl_cost.specs.TailOrder.{HasLatticeTails}
 use Rattle.sbpl_cost.specs.World.{IsWorld, World, over_map}
 use Rattle.sbpl_cost.specs.States.{place_of, state_number}
 use Rattle.sbpl_cost.specs.Lattices.{network_of, arc_primitive}
-use Rattle.sbpl_heur.specs.Bests.{IsBest}
 use Rattle.sbpl_labels.specs.Marks.{Marks, AreInitial}
 use Rattle.sbpl_plan.specs.declared.result.FoundPath.{FoundPath}
 use Rattle.sbpl_plan.specs.declared.result.Outcome.{Outcome}
 use Rattle.sbpl_plan.specs.declared.result.Outcome.TheVariants as outcome
 use Rattle.sbpl_plan.specs.Asked.{most_passes}
 use Rattle.sbpl_plan.specs.Outcomes.{IsResultOf}
-use Rattle.sbpl_plan.specs.Passing.{ArePasses, expansions}
+use Rattle.sbpl_plan.specs.Passing.{ArePasses, expansions, inquiry_of}
 use Rattle.sbpl_map.specs.CellMap.{CellMap}
 use Rattle.sbpl_map.specs.MapAfter.{IsMapAfter}
 use Rattle.sbpl_map.specs.declared.write.Write.{Write}
-use Rattle.sbpl_replan.specs.Replanning.{BeginsWith, inquiry}
+use Rattle.sbpl_replan.specs.Directions.{Direction}
+use Rattle.sbpl_replan.specs.Replanning.{BeginsWith}
 use Rattle.sbpl_search.specs.Meaning.{Meaning}
 use Rattle.sbpl_plan.specs.declared.passes.Pass.{Pass}
 use Rattle.sbpl_cli.specs.declared.record.PathStep.{PathStep}
@@ -34,12 +35,18 @@ use Rattle.sbpl_job.specs.declared.job.SearchJob.{SearchJob}
 use Rattle.sbpl_cli.specs.Asked.{Known, ask_of, known}
 use Rattle.sbpl_cli.specs.Traces.{traced_pass}
 use Rattle.sbpl_cli.specs.Shown.{IsShown, IsThere}
+use Rattle.sbpl_cli.specs.declared.course.Course.{Course}
 
 -- the state of a pose: that of its cell and heading
 pub record IsStateOf (e : Environment) (p : Pose) (s : ℕ) : Type 0 where
   pub place : Place
   pub of_pose : IsPlaceOf e p place
   pub number : s ≡ state_number e place
+
+-- the start of plan k: the state of the place that the first k batches give last, and that of the file where they give none
+abbrev pub start_after : Environment → (start : ℕ) → (moves : Option (List (Option Place))) → (k : ℕ) → ℕ
+start_after e start None k = start
+start_after e start (Some moves) k = unwrap_or (last_or None (filter_map (option_map (state_number e)) (take k moves))) start
 
 -- arc k of state s, which leads to t, is this step: it has the id of the arc's primitive and the place of t
 pub record IsPathStep (w : World) (s k t : ℕ) (step : PathStep) : Type 0 where
@@ -85,12 +92,26 @@ IsKnownWithin asked (outcome.Path path) = (1000 ≤ path.bound) × (path.bound �
 IsKnownWithin asked outcome.NoPath = Unit {0}
 IsKnownWithin asked outcome.Unknown = ⊥
 
+-- a result on the lattice is the one that a search found in its direction: the one path is what the other leads to, at the same cost
+-- and with the same bound
+abbrev pub IsTurned : (leads : (found path : List ℕ) → Type 0) → (found result : Outcome FoundPath) → Type 0
+IsTurned leads (outcome.Path f) (outcome.Path p) = leads f.arcs p.arcs × (p.cost ≡ f.cost) × (p.bound ≡ f.bound)
+IsTurned leads outcome.NoPath outcome.NoPath = Unit {0}
+IsTurned leads outcome.Unknown outcome.Unknown = Unit {0}
+IsTurned leads _ _ = ⊥
+
 -- a result is told step by step
 abbrev pub IsSameResult : Outcome FoundPath → Outcome PathRecord → Type 0
 IsSameResult (outcome.Path found) (outcome.Path path) = (path.arcs ≡ found.arcs) × (path.cost ≡ found.cost) × (path.bound ≡ found.bound)
 IsSameResult outcome.NoPath outcome.NoPath = Unit {0}
 IsSameResult outcome.Unknown outcome.Unknown = Unit {0}
 IsSameResult _ _ = ⊥
+
+-- a result is told step by step as the search found it, with the path of the lattice that its path leads to
+pub record IsToldOf (leads : (found path : List ℕ) → Type 0) (found : Outcome FoundPath) (told : Outcome PathRecord) : Type 0 where
+  pub result : Outcome FoundPath
+  pub turned : IsTurned leads found result
+  pub same : IsSameResult result told
 
 -- what is promised of a plan between two states: 'asked' is the bound that was asked, in thousandths
 pub record KeepsPromises (w : World) (start goal asked : ℕ) (r : PlanRecord) : Type 0 where
@@ -111,11 +132,11 @@ abbrev pub expanded_before : Option Carried → ℕ
 expanded_before None = 0
 expanded_before (Some b) = b.expanded
 
--- the labels that a plan in a world begins with, and the states that were raised for it: initial ones and none; and after another
--- plan what the planner makes of the labels that it left
-abbrev pub Begins : {Note : Type 0} → Meaning Note → World → (start : ℕ) → Option Carried → Marks → (raised : List ℕ) → Type 0
-Begins means w start None m raised = AreInitial m (network_of w).states start × (raised ≡ [])
-Begins means w start (Some b) m raised = BeginsWith means (over_map w b.map) w b.labels m raised
+-- the labels that a plan in a world begins with, and the states that were raised for it: initial ones, with the state from which the
+-- search goes as their start, and none; and after another plan what the planner makes of the labels that it left
+abbrev pub Begins : {Note : Type 0} → Meaning Note → Direction → World → (from : ℕ) → Option Carried → Marks → (raised : List ℕ) → Type 0
+Begins means d w from None m raised = AreInitial m (network_of w).states from × (raised ≡ [])
+Begins means d w from (Some b) m raised = BeginsWith means d (over_map w b.map) w b.labels m raised
 
 -- a plan that was spent is marked with its expansions, which are the budget, or the run's are 2 ^ 30; one that was not is not marked
 abbrev pub IsMarked : (budget before : ℕ) → Bool → PlanRecord → Type 0
@@ -123,31 +144,32 @@ IsMarked budget before spent r = MatchBool spent
     ((r.spent ≡ Some (expansions r.passes)) × ((expansions r.passes ≡ budget) ⊎ (before + expansions r.passes ≡ 2 ^ 30)))
     (r.spent ≡ None)
 
--- The record of a search by the best heuristic, from initial or repaired labels: the states that were raised before its passes,
--- where they are to be told; its passes in turn, as few as the step allows; the result by the final labels, and a section of these labels, where they are to be written. A plan expands no more than its
--- budget, and the run no more than 2 ^ 30. A budget for each state in each pass, as often as the planner may take one, is not spent, unless the run's is.
+-- The record of a search, in the planner's direction and guided as that says, from initial or repaired labels: the states that were
+-- raised before its passes, where they are to be told; its passes in turn, as few as the step allows; the result by the final labels,
+-- and a section of these labels, where they are to be written. A plan expands no more than its budget, and the run no more than 2 ^ 30.
+-- A budget for each state in each pass, as often as the planner may take one, is not spent, unless the run's is.
 pub record IsSearched (by : Known) (w : World) (how : SearchJob) (outputs : Outputs) (start goal : ℕ) (before : Option Carried) (carried : Carried) (r : PlanRecord) : Type 0 where
   pub guide : ℕ → ℕ
-  pub is_guide : IsBest w goal guide
+  pub is_guide : by.direction.guides w start goal guide
   pub begun : Marks
   pub raised : List ℕ
-  pub begins : Begins by.means w start before begun raised
+  pub begins : Begins by.means by.direction w (by.direction.from start goal) before begun raised
   pub raises : r.raised ≡ (if is_some outputs.trace then raised else [])
   pub spent : Bool
   pub notes : List (Pass by.Note)
-  pub passes : ArePasses by.means (inquiry w guide goal (ask_of how outputs)) how.first begun notes carried.labels spent
+  pub passes : ArePasses by.means (inquiry_of (by.direction.network w) guide (by.direction.to start goal) (ask_of how outputs)) how.first begun notes carried.labels spent
   pub lines : r.passes ≡ map (traced_pass by.line) notes
-  pub result : Outcome FoundPath
-  pub is_result : IsResultOf (network_of w) guide goal carried.labels result
-  pub told : IsSameResult result r.outcome
+  pub found : Outcome FoundPath
+  pub is_result : IsResultOf (by.direction.network w) guide (by.direction.to start goal) carried.labels found
+  pub told : IsToldOf (by.direction.leads w start goal) found r.outcome
   pub expanded : r.expanded ≡ expansions r.passes
   pub counted : carried.expanded ≡ expanded_before before + expansions r.passes
   pub within_budget : r.expanded ≤ how.budget
   pub within_run : carried.expanded ≤ 2 ^ 30
   pub marked : IsMarked how.budget (expanded_before before) spent r
   pub few : length r.passes ≤ most_passes how.step how.first
-  pub ample : spent ≡ true → most_passes how.step how.first * (by.means.most * (network_of w).states) ≤ how.budget → carried.expanded ≡ 2 ^ 30
-  pub labels : IsThere (is_some outputs.labels) (IsShown outputs.form (network_of w) guide start goal r.plan carried.labels result) r.labels
+  pub ample : spent ≡ true → most_passes how.step how.first * (by.means.most * (by.direction.network w).states) ≤ how.budget → carried.expanded ≡ 2 ^ 30
+  pub labels : IsThere (is_some outputs.labels) (IsShown outputs.form (by.direction.network w) guide (by.direction.from start goal) (by.direction.to start goal) r.plan carried.labels found) r.labels
 
 -- the record of plan k in a world, whose graph has just the arcs that the primitives make on its map, in the order of the file
 -- both from a state and into it
@@ -160,21 +182,21 @@ pub record IsPlanOf (by : Known) (w : World) (how : SearchJob) (outputs : Output
   pub searched : IsSearched by w how outputs start goal before carried r
 
 -- The records of plans in turn, the first of which is plan k: each is made in the world on the map after as many batches as its
--- number, and goes on from the plan before it.
-abbrev pub AreRecords : Known → World → List (List Write) → SearchJob → Outputs → (start goal k : ℕ) → Option Carried → List PlanRecord → Type 0
-AreRecords by w batches how outputs start goal k before [] = Unit {0}
-AreRecords by w batches how outputs start goal k before (r ∷ rs) =
+-- number, from its own start, and goes on from the plan before it.
+abbrev pub AreRecords : Known → World → List (List Write) → SearchJob → Outputs → (starts : ℕ → ℕ) → (goal k : ℕ) → Option Carried → List PlanRecord → Type 0
+AreRecords by w batches how outputs starts goal k before [] = Unit {0}
+AreRecords by w batches how outputs starts goal k before (r ∷ rs) =
     (carried : Carried) × IsMapAfter w.map batches k carried.map
-    × IsPlanOf by (over_map w carried.map) how outputs start goal k before carried r
-    × AreRecords by w batches how outputs start goal (k + 1) (Some carried) rs
+    × IsPlanOf by (over_map w carried.map) how outputs (starts k) goal k before carried r
+    × AreRecords by w batches how outputs starts goal (k + 1) (Some carried) rs
 
--- These are records of plans in a world, from the start of its environment to its end: of plan 0 on the map as it is, and then
--- of one plan after each batch of changes. They are all of them, or the first few.
-pub record ArePlans (w : World) (batches : List (List Write)) (how : SearchJob) (outputs : Outputs) (records : List PlanRecord) (all : Bool) : Type 0 where
+-- These are records of plans in a world, from the start of its environment, or where the robot was last said to be, to its end: of
+-- plan 0 on the map as it is, and then of one plan after each batch of changes. They are all of them, or the first few.
+pub record ArePlans (w : World) (course : Course) (how : SearchJob) (outputs : Outputs) (records : List PlanRecord) (all : Bool) : Type 0 where
   pub start : ℕ
   pub goal : ℕ
   pub start_is : IsStateOf w.env w.env.start start
   pub goal_is : IsStateOf w.env w.env.end goal
-  pub each : AreRecords (known how.planner) w batches how outputs start goal 0 None records
-  pub few : length records ≤ length batches + 1
-  pub all_made : all ≡ true → length records ≡ length batches + 1
+  pub each : AreRecords (known how.planner) w course.batches how outputs (start_after w.env start course.moves) goal 0 None records
+  pub few : length records ≤ length course.batches + 1
+  pub all_made : all ≡ true → length records ≡ length course.batches + 1

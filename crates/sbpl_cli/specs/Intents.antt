@@ -89,13 +89,13 @@ refusal_text j (refusal.Changes f) = fault_text (codes "changes") (changes.numbe
 refusal_text j (refusal.Read i) = unread_text (codes "read") (input_name j i)
 refusal_text j (refusal.Length i) = unread_text (codes "length") (input_name j i)
 
--- What a job means to do: it is refused; plans were made, all or the first few; sections of labels for this goal were checked, of
--- which those with these outcomes hold, and then it ended so; the sweeps of a world are listed; plans of a demonstration were made
+-- What a job means to do: it is refused; plans were made, all or the first few; sections of labels were checked, of searches to these
+-- goals, of which those with these outcomes hold, and then it ended so; the sweeps of a world are listed; plans of a demonstration were made
 -- in a world with this number of batches of changes, all or the first few; or memory runs out before anything is written.
 pub data Intent : Type 0 where
   Refused : Refusal → Intent
   Planned : List PlanRecord → (all : Bool) → Intent
-  Checked : (goal : ℕ) → List Outcome → Option SectionStop → Intent
+  Checked : (goals : ℕ → ℕ) → List Outcome → Option SectionStop → Intent
   Listed : World → Intent
   Demonstrated : World → (batches : ℕ) → List PlanRecord → (all : Bool) → Intent
   OutOfMemory : Intent
@@ -159,11 +159,11 @@ stop_status (stop.Flaw f) = 1
 stop_status (stop.Fault f) = 10
 stop_status stop.NoMemory = 9
 
--- the writes of a check: a line for each section that holds, and then the last line, or why it ends
-abbrev pub checked_writes : (goal plan : ℕ) → List Outcome → Option SectionStop → List Write
-checked_writes goal plan [] None = last_write ∷ []
-checked_writes goal plan [] (Some s) = stop_writes goal plan s
-checked_writes goal plan (o ∷ os) end = to_output (holds_text plan o) ∷ checked_writes goal (plan + 1) os end
+-- the writes of a check, of searches to these goals: a line for each section that holds, and then the last line, or why it ends
+abbrev pub checked_writes : (goals : ℕ → ℕ) → (plan : ℕ) → List Outcome → Option SectionStop → List Write
+checked_writes goals plan [] None = last_write ∷ []
+checked_writes goals plan [] (Some s) = stop_writes (goals plan) plan s
+checked_writes goals plan (o ∷ os) end = to_output (holds_text plan o) ∷ checked_writes goals (plan + 1) os end
 
 -- the status of a check
 abbrev pub checked_status : Option SectionStop → ℕ
@@ -191,7 +191,7 @@ outputs_of _ = record { labels = None; form = form.Sparse; trace = None }
 abbrev pub writes_of : Job → Intent → List Write
 writes_of j (Refused r) = refusal_writes j r
 writes_of j (Planned records all) = plans_writes (outputs_of j) records all
-writes_of j (Checked goal os end) = checked_writes goal 0 os end
+writes_of j (Checked goals os end) = checked_writes goals 0 os end
 writes_of j (Listed w) = listing_writes w
 writes_of j (Demonstrated w batches records all) = demo_writes w batches records all
 writes_of j OutOfMemory = []
@@ -200,7 +200,7 @@ writes_of j OutOfMemory = []
 abbrev pub intent_status : Intent → ℕ
 intent_status (Refused r) = refusal_status r
 intent_status (Planned records all) = plans_status all
-intent_status (Checked goal os end) = checked_status end
+intent_status (Checked goals os end) = checked_status end
 intent_status (Listed w) = 0
 intent_status (Demonstrated w batches records all) = plans_status all
 intent_status OutOfMemory = 9

@@ -4,6 +4,7 @@ pub mod Report
 pub mod Traces
 pub mod Verdicts
 pub mod Checked
+pub mod Searched
 pub mod Listing
 pub mod Intents
 pub mod Texts

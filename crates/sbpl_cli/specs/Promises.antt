@@ -7,7 +7,6 @@ use Rattle.sbpl_mprim.specs.declared.fault.PrimFault.{PrimFault}
 use Rattle.sbpl_mprim.specs.Primitives.{Primitives}
 use Rattle.sbpl_fixed.specs.Formats.{Left, start_at}
 use Rattle.sbpl_cost.specs.Lattices.{LatticeHasItsArcs}
-use Rattle.sbpl_map.specs.CellMap.{CellMap}
 use Rattle.sbpl_map.specs.declared.fault.ChangeFault.{ChangeFault}
 use Rattle.sbpl_map.specs.declared.write.Write as change
 use Rattle.sbpl_cost.specs.World.{IsWorld, World}
@@ -15,10 +14,11 @@ use Rattle.sbpl_cert.specs.declared.fault.LabelFault.{LabelFault}
 use Rattle.sbpl_cert.specs.declared.flaw.Flaw.{Flaw}
 use Rattle.sbpl_cert.specs.declared.outcome.Outcome.{Outcome}
 use Rattle.sbpl_cli.specs.Asked.{Known}
+use Rattle.sbpl_job.specs.Jobs.{moves_in}
 use Rattle.sbpl_cli.specs.declared.section_check.SectionStop.{SectionStop}
 use Rattle.sbpl_cli.specs.declared.section_check.SectionStop.TheVariants as section
 use Rattle.sbpl_job.specs.declared.job.CheckJob.{CheckJob}
-use Rattle.sbpl_cli.specs.Checked.{AreChecked, Case, Holding, IsShownHolding}
+use Rattle.sbpl_cli.specs.Checked.{AreChecked, Case, Holding, IsShownHolding, case_of, to_in}
 use Rattle.sbpl_cli.specs.Headline.{AreRecords, Carried, IsStateOf}
 use Rattle.sbpl_job.specs.declared.job.Job.{Job}
 use Rattle.sbpl_job.specs.declared.job.Job.TheVariants as job
@@ -29,10 +29,11 @@ use Rattle.sbpl_job.specs.declared.job.SearchJob.{SearchJob}
 use Rattle.sbpl_job.specs.declared.job.Sources.{Sources}
 use Rattle.sbpl_cli.specs.declared.record.PlanRecord.{PlanRecord}
 use Rattle.sbpl_cli.specs.declared.refusal.Refusal.{Refusal}
-use Rattle.sbpl_cli.specs.Causes.{AreDemonstrated, ArePlanned, IsJobCause, IsReadText, NoneTooDear, ReadsBatches, ReadsWorld}
+use Rattle.sbpl_cli.specs.Causes.{AreDemonstrated, ArePlanned, IsJobCause, IsReadText, NoneTooDear, ReadsCourse, ReadsWorld, scope_of}
 use Rattle.sbpl_sweep.specs.Widths.{NoneTooWide}
 use Rattle.sbpl_cli.specs.Intents.{Intent, Refused, Planned, Checked, Listed, Demonstrated, OutOfMemory, checked_status, checked_writes, demo_writes, end_writes, intent_status, listing_writes, outputs_of, plans_status, plans_writes, refusal_status, refusal_writes, statuses, words_writes, writes_of}
-use Rattle.sbpl_cli.specs.Texts.{HasChangeFault, HasEnvironmentFault, HasPrimitiveFault, IsChangeText, IsEnvironmentText, IsPrimitiveText}
+use Rattle.sbpl_cli.specs.declared.course.Course.{Course}
+use Rattle.sbpl_cli.specs.Texts.{HasChangeFault, HasEnvironmentFault, HasPrimitiveFault, IsChangeText, IsEnvironmentText, IsPrimitiveText, Scope, scope_for, still}
 use Rattle.sbpl_cli.specs.Writing.{AreAppended, DeskState, EndsAs, IsCutAt, IsOutput, IsOutputOf, RunsOutAt, Names, ReadFailed, Stays, StaysBut, Told, Write, WriteFailed}
 
 -- the words name this job, of which P holds
@@ -61,33 +62,35 @@ pub record IsListed (before after : DeskState) (from : Sources) : Type 0 where
   pub is_world : IsWorld world
   pub lines : AreAppended before after (listing_writes world)
 
--- In a world with batches of changes the text of a file of labels, for this goal, is checked: sections with these outcomes hold,
--- and it ends so.
-pub record IsCheckedIn (Holds : Holding) (w : World) (batches : List (List change.Write)) (text : List ℕ) (goal : ℕ) (os : List Outcome) (end : Option SectionStop) : Type 0 where
+-- In a world and over a course the text of a file of labels, of the planner `back` or of another one, is checked: sections with these
+-- outcomes, of searches to these goals, hold, and it ends so.
+pub record IsCheckedIn (Holds : Holding) (w : World) (course : Course) (back : Bool) (text : List ℕ) (goals : ℕ → ℕ) (os : List Outcome) (end : Option SectionStop) : Type 0 where
   pub start : ℕ
+  pub goal : ℕ
   pub start_is : IsStateOf w.env w.env.start start
   pub goal_is : IsStateOf w.env w.env.end goal
-  pub checked : AreChecked Holds (record { world = w; batches = batches; start = start; goal = goal }) 0 (suc (length batches)) (start_at text 0) os end
+  pub goals_are : goals ≡ to_in (case_of w course start goal back)
+  pub checked : AreChecked Holds (case_of w course start goal back) 0 (suc (length course.batches)) (start_at text 0) os end
 
--- The files stand for a world and batches of changes, and in it the file of labels is checked so. What its sections that hold
--- say is shown, and is so, on graphs which have just the arcs that the primitives make on the map.
-pub record IsChecked (held : Told) (j : CheckJob) (goal : ℕ) (os : List Outcome) (end : Option SectionStop) : Type 0 where
+-- The files stand for a world and a course, and in it the file of labels is checked so. What its sections that hold say is shown, and is
+-- so, on graphs which have just the arcs that the primitives make on the map, read backwards for the planner `back`.
+pub record IsChecked (held : Told) (j : CheckJob) (goals : ℕ → ℕ) (os : List Outcome) (end : Option SectionStop) : Type 0 where
   pub world : World
-  pub batches : List (List change.Write)
+  pub course : Course
   pub says : ReadsWorld held j.sources world
-  pub changes : ReadsBatches held j.changes world.map batches
+  pub changes : ReadsCourse held j.changes (scope_of j.back world) course
   pub arcs : LatticeHasItsArcs
   pub is_world : IsWorld world
   pub text : List ℕ
   pub read : IsReadText (held j.labels) text
-  pub in_world : IsCheckedIn IsShownHolding world batches text goal os end
+  pub in_world : IsCheckedIn IsShownHolding world course j.back text goals os end
 
 -- sections of labels were checked, which ended so, and their lines were written
 pub record IsJudged (before after : DeskState) (end : Option SectionStop) (j : CheckJob) : Type 0 where
-  pub goal : ℕ
+  pub goals : ℕ → ℕ
   pub outcomes : List Outcome
-  pub checked : IsChecked before.held j goal outcomes end
-  pub lines : AreAppended before after (checked_writes goal 0 outcomes end)
+  pub checked : IsChecked before.held j goals outcomes end
+  pub lines : AreAppended before after (checked_writes goals 0 outcomes end)
 
 -- the job `check` found this flaw, and said so
 abbrev pub IsFlawFound : (before after : DeskState) → Job → Type 0
@@ -124,7 +127,7 @@ abbrev pub GivesIntent : Told → Names → Job → Intent → Type 0
 GivesIntent held Failed j (Refused r) = IsJobCause held Failed j r
 GivesIntent held Failed j OutOfMemory = Unit {0}
 GivesIntent held Failed (job.Plan j) (Planned records all) = ArePlanned held j records all
-GivesIntent held Failed (job.Check j) (Checked goal os end) = IsChecked held j goal os end
+GivesIntent held Failed (job.Check j) (Checked goals os end) = IsChecked held j goals os end
 GivesIntent held Failed (job.Sweep from) (Listed w) = ReadsWorld held from w × IsWorld w
 GivesIntent held Failed (job.Demo d) (Demonstrated w batches records all) = IsDemonstration d w batches records all
 GivesIntent held Failed _ _ = ⊥
@@ -163,13 +166,13 @@ pub record EndsSections (c : Case) (plan more : ℕ) (left : Left) (before after
   pub outcomes : List Outcome
   pub end : Option SectionStop
   pub checked : AreChecked IsShownHolding c plan more left outcomes end
-  pub ends : EndsAs before after (checked_writes c.goal plan outcomes end) (checked_status end) status
+  pub ends : EndsAs before after (checked_writes (to_in c) plan outcomes end) (checked_status end) status
 
 -- how the making of plans, the first of which is plan k, ends by the program's status; what is written of a plan is given
-pub record EndsPlans (by : Known) (written_of : PlanRecord → List Write) (w : World) (batches : List (List change.Write)) (how : SearchJob) (outputs : Outputs) (start goal k : ℕ) (left : Option Carried) (before after : DeskState) (status : ℕ) : Type 0 where
+pub record EndsPlans (by : Known) (written_of : PlanRecord → List Write) (w : World) (batches : List (List change.Write)) (how : SearchJob) (outputs : Outputs) (starts : ℕ → ℕ) (goal k : ℕ) (left : Option Carried) (before after : DeskState) (status : ℕ) : Type 0 where
   pub records : List PlanRecord
   pub all : Bool
-  pub each : AreRecords by w batches how outputs start goal k left records
+  pub each : AreRecords by w batches how outputs starts goal k left records
   pub few : k + length records ≤ length batches + 1
   pub all_made : all ≡ true → k + length records ≡ length batches + 1
   pub ends : EndsAs before after (flat_map written_of records ++ end_writes all) (plans_status all) status
@@ -228,18 +231,18 @@ TellsPrimitiveFault held from e f = (text : List ℕ) × Tells (held from.prims)
 abbrev pub TellsPrimitives : Told → Sources → Environment → Primitives → Type 0
 TellsPrimitives held from e ps = (text : List ℕ) × Tells (held from.prims) text × IsPrimitiveText e text ps
 
--- the desk tells that the environment file has this map
-abbrev pub TellsMap : Told → Sources → CellMap → Type 0
-TellsMap held from m = (text : List ℕ) × (e : Environment) × (cells : List ℕ) × Tells (held from.env) text × IsEnvironmentText text e cells × (m ≡ record { width = e.width; height = e.height; costs = cells })
+-- the desk tells that the environment file gives a change file this scope, where the robot moves or not
+abbrev pub TellsScope : Told → Sources → (moving : Bool) → Scope → Type 0
+TellsScope held from moving s = (text : List ℕ) × (e : Environment) × (cells : List ℕ) × Tells (held from.env) text × IsEnvironmentText text e cells × (s ≡ scope_for moving e (record { width = e.width; height = e.height; costs = cells }))
 
--- the desk tells that the change file has this first fault, on a map
-abbrev pub TellsChangeFault : Told → Option (List ℕ) → CellMap → ChangeFault → Type 0
-TellsChangeFault held changes m f = (name : List ℕ) × (text : List ℕ) × (changes ≡ Some name) × Tells (held name) text × HasChangeFault m text f
+-- the desk tells that the change file has this first fault
+abbrev pub TellsChangeFault : Told → Option (List ℕ) → Scope → ChangeFault → Type 0
+TellsChangeFault held changes s f = (name : List ℕ) × (text : List ℕ) × (changes ≡ Some name) × Tells (held name) text × HasChangeFault s text f
 
--- the desk tells that the change file stands for batches of changes, on a map; where there is none, there are no batches
-abbrev pub TellsBatches : Told → Option (List ℕ) → CellMap → List (List change.Write) → Type 0
-TellsBatches held None m batches = batches ≡ []
-TellsBatches held (Some name) m batches = (text : List ℕ) × Tells (held name) text × IsChangeText m text batches
+-- the desk tells that the change file stands for a course; where there is none, there are no batches
+abbrev pub TellsCourse : Told → Option (List ℕ) → Scope → Course → Type 0
+TellsCourse held None s c = c ≡ still []
+TellsCourse held (Some name) s c = (text : List ℕ) × Tells (held name) text × IsChangeText s text c
 
 -- the desk tells that the files stand for this world
 pub record TellsWorld (held : Told) (from : Sources) (w : World) : Type 0 where
@@ -248,15 +251,16 @@ pub record TellsWorld (held : Told) (from : Sources) (w : World) : Type 0 where
   pub says : ReadsWorld held from w
   pub is_world : IsWorld w
 
--- the desk tells that the files stand for an environment with this map and for primitives, of which none is too wide or too dear
-pub record AreGood (held : Told) (from : Sources) (m : CellMap) : Type 0 where
+-- the desk tells that the files stand for an environment, which gives a change file this scope, and for primitives, of which none is
+-- too wide or too dear
+pub record AreGood (held : Told) (from : Sources) (moving : Bool) (s : Scope) : Type 0 where
   pub env : Environment
   pub prims : Primitives
   pub environment : TellsEnvironment held from env
   pub primitives : TellsPrimitives held from env prims
   pub narrow : NoneTooWide prims from.radius
   pub cheap : NoneTooDear env prims
-  pub map : TellsMap held from m
+  pub scope : TellsScope held from moving s
 
 -- the files of the job's lattice, if it reads any
 abbrev pub sources_of : Job → Option Sources

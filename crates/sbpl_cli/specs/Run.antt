@@ -2,21 +2,22 @@
 pub use Rattle.sbpl_cert.specs.declared.outcome.Outcome.{Outcome}
 pub use Rattle.sbpl_cfg.specs.Environment.{Environment}
 pub use Rattle.sbpl_cfg.specs.declared.fault.EnvFault.{EnvFault}
+pub use Rattle.sbpl_cli.specs.Causes.{scope_of}
 pub use Rattle.sbpl_cli.specs.Checked.{IsHolding}
 pub use Rattle.sbpl_cli.specs.Determined.{ArePrefixes, AreTold, CallsFor, IsDeterminedJob, IsNoFailure, NoneRose}
 pub use Rattle.sbpl_cli.specs.Intents.{Intent, checked_status, intent_status, refusal_status, refusal_writes, words_writes, writes_of}
-pub use Rattle.sbpl_cli.specs.Promises.{AreGood, ReadsFrom, AtJob, EndsJob, EndsRun, IsCutShort, IsCheckedIn, IsDone, IsFaultFound, IsFlawFound, IsNoCheck, IsOrFailed, IsOrUnwritten, IsRefused, IsStatus, EndsWithoutMemory, MayBeWritten, SomeRose, Tells, TellsBatches, TellsChangeFault, TellsEnvironment, TellsEnvironmentFault, TellsPrimitiveFault, TellsPrimitives, TellsTooMuch, TellsWorld, changes_of, sources_of}
+pub use Rattle.sbpl_cli.specs.Promises.{AreGood, ReadsFrom, AtJob, EndsJob, EndsRun, IsCutShort, IsCheckedIn, IsDone, IsFaultFound, IsFlawFound, IsNoCheck, IsOrFailed, IsOrUnwritten, IsRefused, IsStatus, EndsWithoutMemory, MayBeWritten, SomeRose, Tells, TellsChangeFault, TellsCourse, TellsEnvironment, TellsEnvironmentFault, TellsPrimitiveFault, TellsPrimitives, TellsTooMuch, TellsWorld, changes_of, sources_of}
+pub use Rattle.sbpl_cli.specs.declared.course.Course.{Course}
+pub use Rattle.sbpl_cli.specs.Texts.{Scope}
 pub use Rattle.sbpl_cli.specs.declared.section_check.SectionStop.{SectionStop}
 pub use Rattle.sbpl_cost.specs.PrimitiveCost.{IsFirstTooDear}
 pub use Rattle.sbpl_cost.specs.World.{World}
-pub use Rattle.sbpl_job.specs.Jobs.{IsJob, job_named}
+pub use Rattle.sbpl_job.specs.Jobs.{IsJob, job_named, moves_in}
 pub use Rattle.sbpl_job.specs.declared.job.CheckJob.{CheckJob}
 pub use Rattle.sbpl_job.specs.declared.job.DemoJob.{DemoJob}
 pub use Rattle.sbpl_job.specs.declared.job.Job.{Job}
 pub use Rattle.sbpl_job.specs.declared.job.Sources.{Sources}
-pub use Rattle.sbpl_map.specs.CellMap.{CellMap}
 pub use Rattle.sbpl_map.specs.declared.fault.ChangeFault.{ChangeFault}
-pub use Rattle.sbpl_map.specs.declared.write.Write.{Write}
 pub use Rattle.sbpl_mprim.specs.Primitives.{Primitives}
 pub use Rattle.sbpl_mprim.specs.declared.fault.PrimFault.{PrimFault}
 pub use Rattle.sbpl_sweep.specs.Widths.{IsFirstTooWide, NoneTooWide}

@@ -1,7 +1,7 @@
 -- What `run` promises, of every desk: how the status and what is written come of the job that the words name and of the files.
 use Rattle.std.specs.Prelude.{◌≡◌, ◌≢◌, ◌⊎◌, ℕ, List, None, Option, Some}
 use Rattle.sbpl_desk.specs.Desk.{DeskState}
-use Rattle.sbpl_cli.specs.Run.{AreGood, ArePrefixes, AreTold, AtJob, CallsFor, CellMap, ChangeFault, CheckJob, DemoJob, EndsWithoutMemory, EnvFault, Environment, Intent, IsCheckedIn, IsCutShort, IsDeterminedJob, IsDone, IsFaultFound, IsFirstTooDear, IsFirstTooWide, IsFlawFound, IsHolding, IsNoCheck, IsNoFailure, IsOrFailed, IsOrUnwritten, IsRefused, IsStatus, Job, NoneRose, NoneTooWide, Outcome, PrimFault, Primitives, ReadsFrom, SectionStop, SomeRose, Sources, Tells, TellsBatches, TellsChangeFault, TellsEnvironment, TellsEnvironmentFault, TellsPrimitiveFault, TellsPrimitives, TellsTooMuch, TellsWorld, World, Write, changes_of, checked_status, intent_status, sources_of, words_writes, writes_of}
+use Rattle.sbpl_cli.specs.Run.{AreGood, ArePrefixes, AreTold, AtJob, CallsFor, ChangeFault, CheckJob, Course, DemoJob, EndsWithoutMemory, EnvFault, Environment, Intent, IsCheckedIn, IsCutShort, IsDeterminedJob, IsDone, IsFaultFound, IsFirstTooDear, IsFirstTooWide, IsFlawFound, IsHolding, IsNoCheck, IsNoFailure, IsOrFailed, IsOrUnwritten, IsRefused, IsStatus, Job, NoneRose, NoneTooWide, Outcome, PrimFault, Primitives, ReadsFrom, Scope, SectionStop, SomeRose, Sources, Tells, TellsChangeFault, TellsCourse, TellsEnvironment, TellsEnvironmentFault, TellsPrimitiveFault, TellsPrimitives, TellsTooMuch, TellsWorld, World, changes_of, checked_status, intent_status, moves_in, scope_of, sources_of, words_writes, writes_of}
 use Rattle.sbpl_cli.specs.Writing.{AreAppended, IsCutAt, RunsOutAt, Stays}
 use Rattle.sbpl_cli.specs.declared.section_check.SectionStop.TheVariants as Stops
 use Rattle.sbpl_job.specs.declared.job.Job.TheVariants as Jobs
@@ -39,14 +39,14 @@ pub record RunPromises (named : Option Job) (before after : DeskState) (status :
   pub primitives_faulty : (from : Sources) (e : Environment) (f : PrimFault) → ReadsFrom named from → TellsEnvironment before.held from e → TellsPrimitiveFault before.held from e f → IsOrFailed 4 status
   pub too_wide : (from : Sources) (e : Environment) (ps : Primitives) (i : ℕ) → ReadsFrom named from → TellsEnvironment before.held from e → TellsPrimitives before.held from e ps → IsFirstTooWide ps from.radius i → IsOrFailed 4 status
   pub too_dear : (from : Sources) (e : Environment) (ps : Primitives) (i : ℕ) → ReadsFrom named from → TellsEnvironment before.held from e → TellsPrimitives before.held from e ps → NoneTooWide ps from.radius → IsFirstTooDear e ps.items i → IsOrFailed 4 status
-  pub changes_long : (job : Job) (from : Sources) (m : CellMap) (name : List ℕ) → named ≡ Some job → sources_of job ≡ Some from → AreGood before.held from m → changes_of job ≡ Some name → TellsTooMuch (before.held name) → IsOrFailed 8 status
-  pub changes_faulty : (job : Job) (from : Sources) (m : CellMap) (f : ChangeFault) → named ≡ Some job → sources_of job ≡ Some from → AreGood before.held from m → TellsChangeFault before.held (changes_of job) m f → IsOrFailed 5 status
+  pub changes_long : (job : Job) (from : Sources) (s : Scope) (name : List ℕ) → named ≡ Some job → sources_of job ≡ Some from → AreGood before.held from (moves_in job) s → changes_of job ≡ Some name → TellsTooMuch (before.held name) → IsOrFailed 8 status
+  pub changes_faulty : (job : Job) (from : Sources) (s : Scope) (f : ChangeFault) → named ≡ Some job → sources_of job ≡ Some from → AreGood before.held from (moves_in job) s → TellsChangeFault before.held (changes_of job) s f → IsOrFailed 5 status
   -- Good words and good files are served, unless the desk fails or memory runs out.
-  pub complete : (job : Job) (from : Sources) (m : CellMap) (batches : List (List Write)) → named ≡ Some job → sources_of job ≡ Some from → AreGood before.held from m → TellsBatches before.held (changes_of job) m batches → IsNoCheck job → IsOrFailed 0 status
+  pub complete : (job : Job) (from : Sources) (s : Scope) (c : Course) → named ≡ Some job → sources_of job ≡ Some from → AreGood before.held from (moves_in job) s → TellsCourse before.held (changes_of job) s c → IsNoCheck job → IsOrFailed 0 status
   pub demonstrated : (d : DemoJob) → named ≡ Some (Jobs.Demo d) → IsOrUnwritten 0 status
   -- The job `check` ends as the labels do in the world that the files stand for, unless the desk fails or memory runs out.
-  pub checked : (j : CheckJob) (w : World) (batches : List (List Write)) (text : List ℕ) (goal : ℕ) (os : List Outcome) (end : Option SectionStop) → named ≡ Some (Jobs.Check j) → TellsWorld before.held j.sources w → TellsBatches before.held j.changes w.map batches → Tells (before.held j.labels) text → IsCheckedIn IsHolding w batches text goal os end → end ≢ Some Stops.NoMemory → IsOrFailed (checked_status end) status
-  pub labels_long : (j : CheckJob) (w : World) (batches : List (List Write)) → named ≡ Some (Jobs.Check j) → TellsWorld before.held j.sources w → TellsBatches before.held j.changes w.map batches → TellsTooMuch (before.held j.labels) → IsOrFailed 8 status
+  pub checked : (j : CheckJob) (w : World) (c : Course) (text : List ℕ) (goals : ℕ → ℕ) (os : List Outcome) (end : Option SectionStop) → named ≡ Some (Jobs.Check j) → TellsWorld before.held j.sources w → TellsCourse before.held j.changes (scope_of j.back w) c → Tells (before.held j.labels) text → IsCheckedIn IsHolding w c j.back text goals os end → end ≢ Some Stops.NoMemory → IsOrFailed (checked_status end) status
+  pub labels_long : (j : CheckJob) (w : World) (c : Course) → named ≡ Some (Jobs.Check j) → TellsWorld before.held j.sources w → TellsCourse before.held j.changes (scope_of j.back w) c → TellsTooMuch (before.held j.labels) → IsOrFailed 8 status
   -- Where no read or write failed and memory did not run out, the words and the files call for something, so the next clause never
   -- stands empty. Plans by a planner whose passes are not determined are not called for.
   pub called : (job : Job) → named ≡ Some job → IsDeterminedJob job → IsNoFailure status → (whole : Intent) × CallsFor before.held job whole

@@ -1,17 +1,18 @@
 //! The job `demo`: plans on an example that is drawn from a seed.
 
-ghost use Rattle.std.specs.Prelude.{◌≡◌, ◌∷◌, [], length};
+ghost use Rattle.std.specs.Prelude.{◌≡◌, ◌∷◌, [], false, length};
 ghost use Rattle.sbpl_cost.specs.Lattices.{network_of};
 ghost use Rattle.sbpl_cost.specs.World.{IsWorld};
 ghost use Rattle.sbpl_demo.specs.Changes.{changes_drawn};
-ghost use Rattle.sbpl_map.specs.ChangeText.{AreOnMap};
 ghost use Rattle.sbpl_job.specs.Jobs.{IsDemoJob};
 ghost use Rattle.sbpl_job.specs.declared.job.Job.TheVariants as Jobs;
-ghost use Rattle.sbpl_cli.specs.Causes.{IsDrawn, demo_search};
+ghost use Rattle.sbpl_cli.specs.Causes.{IsCourseIn, IsDrawn, demo_search};
 ghost use Rattle.sbpl_cli.specs.Promises.{EndsJob};
 ghost use Rattle.sbpl_cli.specs.Report.{demo_text};
+ghost use Rattle.sbpl_cli.specs.Texts.{still};
 ghost use Rattle.sbpl_cli.specs.Writing.{EndsIn, IsOutput, WritesOnly, to_output};
 
+use crate::course::Course;
 use crate::drawn::draw;
 use crate::planners::plans_by_adstar;
 use crate::poses::ends_of;
@@ -67,18 +68,18 @@ fn demonstrate<D: Desk>(
     alloc: Global,
     job: &DemoJob,
     lattice: &mut Lattice,
-    changes: &Changes,
+    course: &Course,
     desk: &mut D,
 ) -> u8
     requires drawn { IsDrawn job.now lattice.old }
-    requires changes { changes.now ≡ changes_drawn job.now.width job.now.height job.now.seed }
+    requires course { course.now ≡ still (changes_drawn job.now.width job.now.height job.now.seed) }
     requires kept { IsWorld lattice.old }
-    requires on_map { AreOnMap lattice.old.map changes.now }
+    requires in_world { IsCourseIn false lattice.old course.now }
     ensures ends { EndsJob (D.state desk.old) (D.state desk.new) (Jobs.Demo job.now) result }
     ensures frame { WritesOnly IsOutput (D.state desk.old) (D.state desk.new) }
 {
     let (start, goal) = ends_of(lattice);
-    if let Err(stop) = write_first(alloc, lattice, changes, desk) {
+    if let Err(stop) = write_first(alloc, lattice, &course.batches, desk) {
         return status_after(Err(stop), 9);
     }
     let outputs = Outputs {
@@ -89,7 +90,7 @@ fn demonstrate<D: Desk>(
     plans_by_adstar(
         alloc,
         lattice,
-        changes,
+        course,
         &demo_search(),
         &outputs,
         start,
@@ -106,11 +107,15 @@ pub(crate) fn end_demo<D: Desk>(alloc: Global, job: &DemoJob, desk: &mut D) -> u
     ensures frame { WritesOnly IsOutput (D.state desk.old) (D.state desk.new) }
 {
     match draw(alloc, job) {
-        Ok((mut lattice, changes)) => {
-            let status = demonstrate(alloc, job, &mut lattice, &changes, desk);
+        Ok((mut lattice, batches)) => {
+            let course = Course {
+                batches,
+                moves: None,
+            };
+            let status = demonstrate(alloc, job, &mut lattice, &course, desk);
             // Let go by a call: the drop of each field here would make the proof long.
             drop(lattice);
-            drop(changes);
+            drop(course);
             status
         }
         Err(NoMemory) => 9,

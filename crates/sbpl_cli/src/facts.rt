@@ -7,11 +7,14 @@ ghost use Rattle.sbpl_cli.specs.WriteTexts.{WritesAreCounted, WritesHaveTexts};
 
 use sbpl_adstar::AdStar;
 use sbpl_ara::Ara;
+use sbpl_back::paths_turn_round;
 use sbpl_cert::{cut_rows_are_one, first_flaws_are_one, texts_are_sections_or_faulty};
 use sbpl_cfg::texts_are_environments_or_faulty;
 use sbpl_cost::{Lattice, alike_worlds_are_one_graph};
 use sbpl_heur::Best;
-use sbpl_map::{texts_are_changes_or_faulty, writes_lead_to_the_next_map};
+use sbpl_map::{
+    texts_are_changes_or_faulty, texts_are_moves_or_faulty, writes_lead_to_the_next_map,
+};
 use sbpl_mprim::texts_are_primitives_or_faulty;
 use sbpl_plan::plan_is_determined;
 use sbpl_serial::run_is_determined;
@@ -25,6 +28,7 @@ pub fn texts_are_clear()
     texts_are_environments_or_faulty();
     texts_are_primitives_or_faulty();
     texts_are_changes_or_faulty();
+    texts_are_moves_or_faulty();
     texts_are_sections_or_faulty();
     first_flaws_are_one();
 }
@@ -43,6 +47,7 @@ pub fn records_are_determined()
     cut_rows_are_one();
     writes_lead_to_the_next_map();
     alike_worlds_are_one_graph();
+    paths_turn_round();
 }
 
 /// No write of what a job means to do is empty. The writes of all plans are, for each plan, one to the report and one each to the

@@ -1,17 +1,19 @@
 //! The files that a lattice is made of and the change file, read and judged.
 
-ghost use Rattle.std.specs.Prelude.{◌≡◌, ◌≤◌, ◌^◌, [], length, IfOk, IfErr};
-ghost use Rattle.sbpl_cli.specs.Causes.{ChangesStopFor, IsChangesRefused, IsEnvironmentRefused, IsPrimitivesRefused, IsReadText, IsUnread, LatticeStopsFor, PrimitivesStopFor, ReadsBatches, ReadsEnvironment, ReadsPrimitives};
-ghost use Rattle.sbpl_cli.specs.Texts.{IsChangeText, IsEnvironmentText, IsPrimitiveText};
-ghost use Rattle.sbpl_map.specs.ChangeText.{AreOnMap};
+ghost use Rattle.std.specs.Prelude.{◌≡◌, ◌≢◌, ◌≤◌, ◌^◌, [], false, true, List, ℕ, length, IfOk, IfErr};
+ghost use Rattle.sbpl_cli.specs.Causes.{ChangesStopFor, IsChangesRefused, IsEnvironmentRefused, IsPrimitivesRefused, IsReadText, IsUnread, LatticeStopsFor, PrimitivesStopFor, IsCourseIn, ReadsCourse, ReadsEnvironment, ReadsPrimitives, scope_of};
+ghost use Rattle.sbpl_cli.specs.Texts.{HasChangeFault, IsChangeText, IsEnvironmentText, IsPrimitiveText, Scope};
+ghost use Rattle.sbpl_map.specs.declared.fault.ChangeFault.TheVariants as ChangeFaults;
 ghost use Rattle.sbpl_cli.specs.Writing.{ReadsOnly};
 
+use crate::course::Course;
 use crate::refusal::{Input, Refusal, Stop};
 use sbpl_cfg::{Env, EnvFault, Grid, read_env};
+use sbpl_cost::Lattice;
 use sbpl_desk::{Desk, ReadStop};
 use sbpl_fixed::NoMemory;
 use sbpl_job::{Name, Sources};
-use sbpl_map::{ChangeFault, Changes, Map, read_changes};
+use sbpl_map::{ChangeFault, Changes, Map, read_changes, read_moves};
 use sbpl_mprim::{PrimFault, Prims, read_prims};
 use std::alloc::Global;
 
@@ -88,17 +90,45 @@ pub(crate) fn read_primitives<D: Desk>(
     judge_primitives(alloc, text.as_slice(), env)
 }
 
-/// The batches of changes that a text stands for, of this map.
-fn judge_changes(alloc: Global, text: &[u8], map: &Map) -> Result<Changes, Stop>
-    requires short { length text.now ≤ 2 ^ 30 }
-    ensures stands { IfOk result (IsChangeText map.now text.now) }
-    ensures on_map { IfOk result (AreOnMap map.now) }
-    ensures stop { IfErr result (IsChangesRefused map.now text.now) }
+/// Why a change file with this fault is refused, or that memory ran out.
+fn stop_for(fault: ChangeFault) -> Stop
+    ensures stop { (s : Scope) (text : List ℕ) → (fault ≢ ChangeFaults.NoMemory → HasChangeFault s text fault) → IsChangesRefused s text result }
 {
-    match read_changes(alloc, text, map) {
-        Ok(changes) => Ok(changes),
-        Err(ChangeFault::NoMemory) => Err(Stop::NoMemory),
-        Err(fault) => Err(Stop::Refused(Refusal::Changes(fault))),
+    match fault {
+        ChangeFault::NoMemory => Stop::NoMemory,
+        fault => Stop::Refused(Refusal::Changes(fault)),
+    }
+}
+
+/// The course that a text stands for, in which the robot stays where it is.
+fn judge_still(alloc: Global, text: &[u8], lattice: &Lattice) -> Result<Course, Stop>
+    requires short { length text.now ≤ 2 ^ 30 }
+    ensures stands { IfOk result (IsChangeText (scope_of false lattice.now) text.now) }
+    ensures in_world { IfOk result (IsCourseIn false lattice.now) }
+    ensures stop { IfErr result (IsChangesRefused (scope_of false lattice.now) text.now) }
+{
+    match read_changes(alloc, text, lattice.map()) {
+        Ok(batches) => Ok(Course {
+            batches,
+            moves: None,
+        }),
+        Err(fault) => Err(stop_for(fault)),
+    }
+}
+
+/// The course that a text stands for, whose lines can say where the robot is.
+fn judge_moving(alloc: Global, text: &[u8], lattice: &Lattice) -> Result<Course, Stop>
+    requires short { length text.now ≤ 2 ^ 30 }
+    ensures stands { IfOk result (IsChangeText (scope_of true lattice.now) text.now) }
+    ensures in_world { IfOk result (IsCourseIn true lattice.now) }
+    ensures stop { IfErr result (IsChangesRefused (scope_of true lattice.now) text.now) }
+{
+    match read_moves(alloc, text, lattice.map(), lattice.env().headings) {
+        Ok((batches, moves)) => Ok(Course {
+            batches,
+            moves: Some(moves),
+        }),
+        Err(fault) => Err(stop_for(fault)),
     }
 }
 
@@ -112,24 +142,33 @@ fn no_changes(alloc: Global, map: &Map) -> Result<Changes, NoMemory>
     }
 }
 
-/// The batches of the change file, of this map; none where there is no such file.
-pub(crate) fn read_batches<D: Desk>(
+/// The course of the change file on a lattice; one without batches where there is no such file. Lines of the file can say where the
+/// robot is where it may move.
+pub(crate) fn read_change_file<D: Desk>(
     alloc: Global,
     changes: &Option<Name>,
-    map: &Map,
+    moving: bool,
+    lattice: &Lattice,
     desk: &mut D,
-) -> Result<Changes, Stop>
-    ensures says { IfOk result (ReadsBatches (D.state desk.old).held changes.now map.now) }
-    ensures on_map { IfOk result (AreOnMap map.now) }
-    ensures stop { IfErr result (ChangesStopFor (D.state desk.old) (D.state desk.new) changes.now map.now) }
+) -> Result<Course, Stop>
+    ensures says { IfOk result (ReadsCourse (D.state desk.old).held changes.now (scope_of moving lattice.now)) }
+    ensures in_world { IfOk result (IsCourseIn moving lattice.now) }
+    ensures stop { IfErr result (ChangesStopFor (D.state desk.old) (D.state desk.new) changes.now (scope_of moving lattice.now)) }
     ensures frame { ReadsOnly (D.state desk.old) (D.state desk.new) }
 {
     let Some(name) = changes else {
-        return match no_changes(alloc, map) {
-            Ok(changes) => Ok(changes),
+        return match no_changes(alloc, lattice.map()) {
+            Ok(batches) => Ok(Course {
+                batches,
+                moves: None,
+            }),
             Err(NoMemory) => Err(Stop::NoMemory),
         };
     };
     let text = read_file(alloc, name, Input::Changes, desk)?;
-    judge_changes(alloc, text.as_slice(), map)
+    if moving {
+        judge_moving(alloc, text.as_slice(), lattice)
+    } else {
+        judge_still(alloc, text.as_slice(), lattice)
+    }
 }

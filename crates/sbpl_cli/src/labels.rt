@@ -1,9 +1,7 @@
 //! The section of labels that a plan writes.
 
 ghost use Rattle.std.specs.Prelude.{◌≡◌, ◌<◌, IfOk};
-ghost use Rattle.sbpl_cost.specs.Lattices.{network_of};
 ghost use Rattle.sbpl_graph.specs.Certificate.{AreSupported};
-ghost use Rattle.sbpl_heur.specs.Bests.{IsGuide, distance_in};
 ghost use Rattle.sbpl_labels.specs.Marks.{g_of, states_of, v_of};
 ghost use Rattle.sbpl_plan.specs.Outcomes.{IsResultOf};
 ghost use Rattle.sbpl_cli.specs.Intents.{labels_text};
@@ -12,10 +10,8 @@ ghost use Rattle.sbpl_cli.specs.Shown.{IsShown, IsShownInFull, IsShownSparsely, 
 use sbpl_cert::{
     Arcs, LabelSet, Section, SparseSet, section_of, sparse_section_of, write_labels, write_sparse,
 };
-use sbpl_cost::Lattice;
 use sbpl_fixed::NoMemory;
-use sbpl_graph::Graph;
-use sbpl_heur::Best;
+use sbpl_graph::{Graph, Guide};
 use sbpl_job::LabelForm;
 use sbpl_labels::Labels;
 use sbpl_plan::{FoundPath, Outcome};
@@ -47,75 +43,75 @@ fn arcs_of(alloc: Global, found: &Outcome<FoundPath>) -> Result<Arcs, NoMemory>
 }
 
 /// The section of the labels that the search of plan `plan` left, with a row for each state.
-fn make_full(
+fn make_full<G: Graph, H: Guide>(
     alloc: Global,
-    lattice: &Lattice,
-    guide: &Best,
+    graph: &G,
+    guide: &H,
     labels: &Labels,
     goal: u32,
     plan: u32,
     found: &Outcome<FoundPath>,
 ) -> Result<LabelSet, NoMemory>
-    requires states { states_of labels.now ≡ (network_of lattice.now).states }
-    requires goal { goal < (network_of lattice.now).states }
-    requires guides { IsGuide (network_of lattice.now) goal guide.now }
-    requires found { IsResultOf (network_of lattice.now) (distance_in guide.now) goal labels.now found.now }
-    requires supported { AreSupported (network_of lattice.now) labels.now.start (g_of labels.now) (v_of labels.now) }
-    ensures shown { IfOk result (IsShownInFull (network_of lattice.now) (distance_in guide.now) labels.now.start goal plan labels.now found.now) }
+    requires states { states_of labels.now ≡ (G.network graph.now).states }
+    requires goal { goal < (G.network graph.now).states }
+    requires guides { H.guides guide.now (G.network graph.now) goal }
+    requires found { IsResultOf (G.network graph.now) (H.distance guide.now) goal labels.now found.now }
+    requires supported { AreSupported (G.network graph.now) labels.now.start (g_of labels.now) (v_of labels.now) }
+    ensures shown { IfOk result (IsShownInFull (G.network graph.now) (H.distance guide.now) labels.now.start goal plan labels.now found.now) }
 {
-    let states = lattice.states();
+    let states = graph.states();
     let arcs = arcs_of(alloc, found)?;
     let answer = answer_of(found);
     section_of(alloc, plan, states, goal, labels, guide, answer, arcs)
 }
 
 /// The section of these labels, with rows for those that it needs.
-fn make_sparse(
+fn make_sparse<G: Graph, H: Guide>(
     alloc: Global,
-    lattice: &Lattice,
-    guide: &Best,
+    graph: &G,
+    guide: &H,
     labels: &Labels,
     goal: u32,
     plan: u32,
     found: &Outcome<FoundPath>,
 ) -> Result<SparseSet, NoMemory>
-    requires states { states_of labels.now ≡ (network_of lattice.now).states }
-    requires goal { goal < (network_of lattice.now).states }
-    requires guides { IsGuide (network_of lattice.now) goal guide.now }
-    requires found { IsResultOf (network_of lattice.now) (distance_in guide.now) goal labels.now found.now }
-    requires supported { AreSupported (network_of lattice.now) labels.now.start (g_of labels.now) (v_of labels.now) }
-    ensures shown { IfOk result (IsShownSparsely (network_of lattice.now) (distance_in guide.now) labels.now.start goal plan labels.now found.now) }
+    requires states { states_of labels.now ≡ (G.network graph.now).states }
+    requires goal { goal < (G.network graph.now).states }
+    requires guides { H.guides guide.now (G.network graph.now) goal }
+    requires found { IsResultOf (G.network graph.now) (H.distance guide.now) goal labels.now found.now }
+    requires supported { AreSupported (G.network graph.now) labels.now.start (g_of labels.now) (v_of labels.now) }
+    ensures shown { IfOk result (IsShownSparsely (G.network graph.now) (H.distance guide.now) labels.now.start goal plan labels.now found.now) }
 {
-    let _states = lattice.states();
+    let _states = graph.states();
     let arcs = arcs_of(alloc, found)?;
     let answer = answer_of(found);
-    sparse_section_of(alloc, plan, lattice, goal, labels, guide, answer, arcs)
+    sparse_section_of(alloc, plan, graph, goal, labels, guide, answer, arcs)
 }
 
 /// The section of these labels in a form.
-fn make_section(
+fn make_section<G: Graph, H: Guide>(
     alloc: Global,
-    lattice: &Lattice,
-    guide: &Best,
+    graph: &G,
+    guide: &H,
     labels: &Labels,
     goal: u32,
     plan: u32,
     found: &Outcome<FoundPath>,
     form: LabelForm,
 ) -> Result<Section, NoMemory>
-    requires states { states_of labels.now ≡ (network_of lattice.now).states }
-    requires goal { goal < (network_of lattice.now).states }
-    requires guides { IsGuide (network_of lattice.now) goal guide.now }
-    requires found { IsResultOf (network_of lattice.now) (distance_in guide.now) goal labels.now found.now }
-    requires supported { AreSupported (network_of lattice.now) labels.now.start (g_of labels.now) (v_of labels.now) }
-    ensures shown { IfOk result (IsShown form (network_of lattice.now) (distance_in guide.now) labels.now.start goal plan labels.now found.now) }
+    requires states { states_of labels.now ≡ (G.network graph.now).states }
+    requires goal { goal < (G.network graph.now).states }
+    requires guides { H.guides guide.now (G.network graph.now) goal }
+    requires found { IsResultOf (G.network graph.now) (H.distance guide.now) goal labels.now found.now }
+    requires supported { AreSupported (G.network graph.now) labels.now.start (g_of labels.now) (v_of labels.now) }
+    ensures shown { IfOk result (IsShown form (G.network graph.now) (H.distance guide.now) labels.now.start goal plan labels.now found.now) }
 {
     match form {
-        LabelForm::Full => match make_full(alloc, lattice, guide, labels, goal, plan, found) {
+        LabelForm::Full => match make_full(alloc, graph, guide, labels, goal, plan, found) {
             Ok(set) => Ok(Section::Full(set)),
             Err(NoMemory) => Err(NoMemory),
         },
-        LabelForm::Sparse => match make_sparse(alloc, lattice, guide, labels, goal, plan, found) {
+        LabelForm::Sparse => match make_sparse(alloc, graph, guide, labels, goal, plan, found) {
             Ok(set) => Ok(Section::Sparse(set)),
             Err(NoMemory) => Err(NoMemory),
         },
@@ -123,10 +119,10 @@ fn make_section(
 }
 
 /// That section, where it is asked for.
-pub(crate) fn labels_of(
+pub(crate) fn labels_of<G: Graph, H: Guide>(
     alloc: Global,
-    lattice: &Lattice,
-    guide: &Best,
+    graph: &G,
+    guide: &H,
     labels: &Labels,
     goal: u32,
     plan: u32,
@@ -134,17 +130,17 @@ pub(crate) fn labels_of(
     asked: bool,
     form: LabelForm,
 ) -> Result<Option<Section>, NoMemory>
-    requires states { states_of labels.now ≡ (network_of lattice.now).states }
-    requires goal { goal < (network_of lattice.now).states }
-    requires guides { IsGuide (network_of lattice.now) goal guide.now }
-    requires found { IsResultOf (network_of lattice.now) (distance_in guide.now) goal labels.now found.now }
-    requires supported { AreSupported (network_of lattice.now) labels.now.start (g_of labels.now) (v_of labels.now) }
-    ensures shown { IfOk result (IsThere asked (IsShown form (network_of lattice.now) (distance_in guide.now) labels.now.start goal plan labels.now found.now)) }
+    requires states { states_of labels.now ≡ (G.network graph.now).states }
+    requires goal { goal < (G.network graph.now).states }
+    requires guides { H.guides guide.now (G.network graph.now) goal }
+    requires found { IsResultOf (G.network graph.now) (H.distance guide.now) goal labels.now found.now }
+    requires supported { AreSupported (G.network graph.now) labels.now.start (g_of labels.now) (v_of labels.now) }
+    ensures shown { IfOk result (IsThere asked (IsShown form (G.network graph.now) (H.distance guide.now) labels.now.start goal plan labels.now found.now)) }
 {
     if !asked {
         return Ok(None);
     }
-    match make_section(alloc, lattice, guide, labels, goal, plan, found, form) {
+    match make_section(alloc, graph, guide, labels, goal, plan, found, form) {
         Ok(section) => Ok(Some(section)),
         Err(NoMemory) => Err(NoMemory),
     }

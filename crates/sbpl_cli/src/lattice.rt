@@ -4,15 +4,16 @@ ghost use Rattle.std.specs.Prelude.{◌≤◌, ◌^◌, IfErr, IfOk};
 ghost use Rattle.sbpl_cost.specs.World.{IsWorld};
 ghost use Rattle.sbpl_sweep.specs.Swept.{AreSweepsOf};
 ghost use Rattle.sbpl_sweep.specs.Widths.{NoneTooWide};
-ghost use Rattle.sbpl_cli.specs.Causes.{EarlyStopsFor, IsCourse, IsWideStop, LatticeStopsFor, ReadsWorld};
+ghost use Rattle.sbpl_cli.specs.Causes.{AreRead, EarlyStopsFor, IsWideStop, LatticeStopsFor, ReadsWorld};
 ghost use Rattle.sbpl_cli.specs.Writing.{ReadsOnly};
 
-use crate::files::{read_batches, read_environment, read_primitives};
+use crate::course::Course;
+use crate::files::{read_change_file, read_environment, read_primitives};
 use crate::refusal::{Refusal, Stop};
 use sbpl_cost::{Lattice, LatticeFault};
 use sbpl_desk::Desk;
 use sbpl_job::{Name, Sources};
-use sbpl_map::{Changes, Map};
+use sbpl_map::Map;
 use sbpl_mprim::Prims;
 use sbpl_sweep::{SweepFault, Sweeps};
 use std::alloc::Global;
@@ -54,21 +55,22 @@ pub(crate) fn read_lattice<D: Desk>(
     }
 }
 
-/// The lattice of a job's files, and the batches of its change file.
+/// The lattice of a job's files, and the course of its change file.
 pub(crate) fn read_course<D: Desk>(
     alloc: Global,
     from: &Sources,
     changes: &Option<Name>,
+    moving: bool,
     desk: &mut D,
-) -> Result<(Lattice, Changes), Stop>
+) -> Result<(Lattice, Course), Stop>
     requires range { from.now.radius ≤ 10 ^ 12 }
-    ensures course { IfOk result (λ x. IsCourse (D.state desk.old).held from.now changes.now x.0 x.1) }
-    ensures stop { IfErr result (EarlyStopsFor (D.state desk.old) (D.state desk.new) from.now changes.now) }
+    ensures course { IfOk result (λ x. AreRead (D.state desk.old).held from.now changes.now moving x.0 x.1) }
+    ensures stop { IfErr result (EarlyStopsFor (D.state desk.old) (D.state desk.new) from.now changes.now moving) }
     ensures frame { ReadsOnly (D.state desk.old) (D.state desk.new) }
 {
     let lattice = read_lattice(alloc, from, desk)?;
-    match read_batches(alloc, changes, lattice.map(), desk) {
-        Ok(batches) => Ok((lattice, batches)),
+    match read_change_file(alloc, changes, moving, &lattice, desk) {
+        Ok(course) => Ok((lattice, course)),
         Err(stop) => {
             // Let go by a call: the drop of each field here would make the proof long.
             drop(lattice);

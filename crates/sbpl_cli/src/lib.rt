@@ -3,6 +3,7 @@
 
 mod check_job;
 mod check_lines;
+mod course;
 mod demo_job;
 mod drawn;
 mod facts;
@@ -16,6 +17,7 @@ mod planners;
 mod plans;
 mod poses;
 mod record;
+mod recorded;
 mod refusal;
 mod refusal_lines;
 mod report;
@@ -28,6 +30,7 @@ mod top;
 mod trace;
 mod writing;
 
+pub use course::Course;
 pub use facts::{records_are_determined, texts_are_clear, writes_have_texts};
 pub use parts::Steps;
 pub use record::{PathRecord, PathStep, PlanRecord, Raised, TraceLine};

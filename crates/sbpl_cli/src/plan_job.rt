@@ -32,14 +32,15 @@ pub(crate) fn end_plan<R: Threads + Wait + Sync, D: Desk, T: Gate + Sync>(
     ensures unwritten { OnErr result (ReadsOnly (D.state desk.old) (D.state desk.new)) }
     ensures frame { WritesOnly (IsOutputOf job.now.outputs) (D.state desk.old) (D.state desk.new) }
 {
-    let (mut lattice, changes) = read_course(alloc, &job.sources, &job.changes, desk)?;
+    let moving = job.search.planner.may_move();
+    let (mut lattice, course) = read_course(alloc, &job.sources, &job.changes, moving, desk)?;
     let (start, goal) = ends_of(&lattice);
     let status = make_plans(
         rt,
         gate,
         alloc,
         &mut lattice,
-        &changes,
+        &course,
         &job.search,
         &job.outputs,
         start,
@@ -49,6 +50,6 @@ pub(crate) fn end_plan<R: Threads + Wait + Sync, D: Desk, T: Gate + Sync>(
     );
     // Let go by a call: the drop of each field here would make the proof long.
     drop(lattice);
-    drop(changes);
+    drop(course);
     Ok(status)
 }

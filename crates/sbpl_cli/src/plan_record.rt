@@ -2,29 +2,25 @@
 
 ghost use Rattle.std.specs.Prelude.{map, [], if◌then◌else◌, ◌≡◌, ◌<◌, ℕ, IfOk, IsSome, MatchBool, None, Option, Some};
 ghost use Rattle.sbpl_cost.specs.Lattices.{network_of};
-ghost use Rattle.sbpl_cli.specs.Headline.{AreSteps, Begins, Carried, IsKnownWithin, IsNoneThere, IsPathFrom, IsSearched, IsPathStep, IsWithinBound, KeepsPromises, Joins, JoinsStates, IsSameResult, expanded_before};
+ghost use Rattle.sbpl_cli.specs.Headline.{AreSteps, Carried, IsKnownWithin, IsNoneThere, IsPathFrom, IsSearched, IsPathStep, IsWithinBound, KeepsPromises, Joins, JoinsStates, IsSameResult, IsToldOf};
 ghost use Rattle.sbpl_cli.specs.Traces.{traced_pass};
-ghost use Rattle.sbpl_cli.specs.Planning.{IsSetFor, carried_of};
+ghost use Rattle.sbpl_cli.specs.Planning.{GoesOnFrom, IsSetFor, carried_of};
 ghost use Rattle.sbpl_job.specs.Jobs.{IsSearchJob};
 ghost use Rattle.sbpl_cli.specs.Asked.{ask_of};
 ghost use Rattle.sbpl_plan.specs.Outcomes.{IsTrueOutcome};
 ghost use Rattle.sbpl_plan.specs.Outcomes as Conclusions;
-ghost use Rattle.sbpl_replan.specs.Replanning.{IsReadyIn};
 ghost use Rattle.sbpl_plan.specs.declared.result.Outcome.TheVariants as Results;
 
-use crate::labels::labels_of;
 use crate::parts::Steps;
 use crate::record::{PathRecord, PathStep, PlanRecord, Raised};
+use crate::recorded::Recorded;
 use crate::trace::{Traced, traced_passes};
 use sbpl_cert::Section;
 use sbpl_cost::Lattice;
 use sbpl_fixed::NoMemory;
 use sbpl_graph::Graph;
-use sbpl_heur::Best;
 use sbpl_job::{Outputs, SearchJob};
 use sbpl_plan::{Ask, FoundPath, Outcome, Planned};
-use sbpl_replan::Replanner;
-use sbpl_search::Search;
 use std::alloc::Global;
 
 /// The state that an arc leads to, and the step that it is.
@@ -136,23 +132,26 @@ fn mark_of(spent: bool, expanded: u64) -> Option<u64>
 }
 
 /// The record of plan `plan`, which expanded this number of states.
-fn record_of<N: Traced + Drop>(
+fn record_of<R: Recorded>(
     alloc: Global,
     lattice: &Lattice,
     start: u32,
     goal: u32,
     plan: u32,
-    planned: Planned<N>,
+    planned: Planned<R::Note>,
     expanded: u64,
     labels: Option<Section>,
     raised: Raised,
 ) -> Result<PlanRecord, NoMemory>
-    requires state { start < (network_of lattice.now).states }
-    requires so { IsTrueOutcome (network_of lattice.now) start goal planned.outcome }
+where
+    R::Note: Traced,
+    requires start { start < (network_of lattice.now).states }
+    requires goal { goal < (network_of lattice.now).states }
+    requires so { IsTrueOutcome (R.direction.network lattice.now) (R.direction.from start goal) (R.direction.to start goal) planned.outcome }
     ensures number { IfOk result (λ r. r.plan ≡ plan) }
-    ensures passes { IfOk result (λ r. r.passes ≡ map (traced_pass N.line) planned.passes) }
+    ensures passes { IfOk result (λ r. r.passes ≡ map (traced_pass R.Note.line) planned.passes) }
     ensures expanded { IfOk result (λ r. r.expanded ≡ expanded) }
-    ensures told { IfOk result (λ r. IsSameResult planned.outcome r.outcome) }
+    ensures told { IfOk result (λ r. IsToldOf (R.direction.leads lattice.now start goal) planned.outcome r.outcome) }
     ensures labels { IfOk result (λ r. r.labels ≡ labels) }
     ensures raised { IfOk result (λ r. r.raised ≡ raised) }
     ensures marked { IfOk result (λ r. MatchBool planned.spent (r.spent ≡ Some expanded) (r.spent ≡ None)) }
@@ -162,7 +161,8 @@ fn record_of<N: Traced + Drop>(
     ensures answered { IfOk result (λ r. (asked : ℕ) → Conclusions.IsConclusive asked planned.outcome → IsKnownWithin asked r.outcome) }
 {
     let passes = traced_passes(alloc, planned.passes.as_slice())?;
-    let outcome = outcome_of(alloc, lattice, start, goal, planned.outcome)?;
+    let found = R::turn(alloc, lattice, start, goal, planned.outcome)?;
+    let outcome = outcome_of(alloc, lattice, start, goal, found)?;
     Ok(PlanRecord {
         plan,
         raised,
@@ -175,10 +175,10 @@ fn record_of<N: Traced + Drop>(
 }
 
 /// Makes plan `plan` on the present map of a lattice, and its record.
-pub(crate) fn make_record<S: Search<Lattice, Best> + Drop>(
+pub(crate) fn make_record<R: Recorded>(
     alloc: Global,
     lattice: &Lattice,
-    replanner: &mut Replanner<S>,
+    replanner: &mut R,
     how: &SearchJob,
     outputs: &Outputs,
     start: u32,
@@ -186,27 +186,26 @@ pub(crate) fn make_record<S: Search<Lattice, Best> + Drop>(
     plan: u32,
 ) -> Result<PlanRecord, NoMemory>
 where
-    S::Note: Traced,
+    R::Note: Traced,
     requires start { start < (network_of lattice.now).states }
     requires goal { goal < (network_of lattice.now).states }
     requires search { IsSearchJob how.now }
-    requires ready { IsReadyIn S.meaning lattice.now replanner.old }
-    requires set { IsSetFor how.now start goal replanner.old }
+    requires ready { R.ready replanner.old lattice.now }
+    requires set { IsSetFor R.direction how.now start goal (R.standing replanner.old) }
     ensures number { IfOk result (λ r. r.plan ≡ plan) }
     ensures promises { IfOk result (KeepsPromises lattice.now start goal how.now.bound) }
-    ensures searched { (before : Option Carried) → Begins S.meaning lattice.now start before replanner.old.search.labels replanner.old.search.raised → expanded_before before ≡ replanner.old.counts.run
-        → IfOk result (IsSearched (record { Note = S.Note; means = S.meaning; line = S.Note.line }) lattice.now how.now outputs.now start goal before (carried_of lattice.now replanner.new)) }
-    ensures ready { IfOk result (λ _. IsReadyIn S.meaning lattice.now replanner.new) }
-    ensures set { IfOk result (λ _. IsSetFor how.now start goal replanner.new) }
+    ensures searched { (before : Option Carried) → GoesOnFrom R.meaning R.direction lattice.now (R.direction.from start goal) before (R.standing replanner.old)
+        → IfOk result (IsSearched (record { Note = R.Note; means = R.meaning; line = R.Note.line; direction = R.direction }) lattice.now how.now outputs.now start goal before (carried_of lattice.now (R.standing replanner.new))) }
+    ensures ready { IfOk result (λ _. R.ready replanner.new lattice.now) }
+    ensures set { IfOk result (λ _. IsSetFor R.direction how.now start goal (R.standing replanner.new)) }
 {
     let ask = ask_of(how, outputs);
     let raised = raised_of(alloc, replanner.raised(), ask.traced)?;
     let planned = replanner.plan(alloc, lattice, &ask)?;
-    let labels = labels_of(
+    let labels = replanner.section(
         alloc,
         lattice,
-        replanner.guide(),
-        replanner.labels(),
+        start,
         goal,
         plan,
         &planned.outcome,
@@ -214,7 +213,7 @@ where
         outputs.form,
     )?;
     let expanded = replanner.expanded();
-    record_of(
+    record_of::<R>(
         alloc, lattice, start, goal, plan, planned, expanded, labels, raised,
     )
 }

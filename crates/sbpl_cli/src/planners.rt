@@ -1,20 +1,26 @@
 //! The planners: the plans of a job by the one that it asks for.
 
-ghost use Rattle.std.specs.Prelude.{◌≡◌, ◌<◌, ◌≤◌, None};
+ghost use Rattle.std.specs.Prelude.{◌≡◌, ◌<◌, ◌≤◌, [], false, true, None};
 ghost use Rattle.sbpl_cost.specs.Lattices.{network_of};
 ghost use Rattle.sbpl_cost.specs.World.{IsWorld};
 ghost use Rattle.sbpl_epase.specs.Making.{CanPass, Leaves};
 ghost use Rattle.sbpl_heur.specs.Bests.{IsGuide, distance_in};
-ghost use Rattle.sbpl_job.specs.Jobs.{IsSearchJob};
+ghost use Rattle.sbpl_job.specs.Jobs.{IsSearchJob, may_move};
+ghost use Rattle.sbpl_labels.specs.Marks.{AreInitial};
+ghost use Rattle.sbpl_search.specs.Ready.{IsStartFresh};
+ghost use Rattle.sbpl_replan.specs.Directions.{forwards};
 ghost use Rattle.sbpl_job.specs.declared.job.Planner.TheVariants as Planners;
-ghost use Rattle.sbpl_map.specs.ChangeText.{AreOnMap};
 ghost use Rattle.sbpl_search.specs.Query.{query};
 ghost use Rattle.sbpl_cli.specs.Asked.{known};
+ghost use Rattle.sbpl_cli.specs.Causes.{IsCourseIn};
+ghost use Rattle.sbpl_cli.specs.Headline.{start_after};
 ghost use Rattle.sbpl_cli.specs.Promises.{EndsPlans};
 ghost use Rattle.sbpl_cli.specs.Writing.{WritesOnly};
 
-use crate::plans::plan_by;
+use crate::course::Course;
+use crate::plans::go_through;
 use crate::telling::Telling;
+use crate::trace::Traced;
 use sbpl_adstar::AdStar;
 use sbpl_ara::Ara;
 use sbpl_cost::Lattice;
@@ -24,16 +30,63 @@ use sbpl_fixed::NoMemory;
 use sbpl_graph::Graph;
 use sbpl_heur::Best;
 use sbpl_job::{Outputs, Planner, SearchJob};
-use sbpl_map::Changes;
+use sbpl_replan::{BackReplanner, Replanner};
+use sbpl_search::Search;
 use std::alloc::Global;
 use std::sync::Wait;
 use std::thread::Threads;
+
+/// Makes and tells the plans on a lattice from its start by a search whose labels are initial, as `make_plans` does.
+fn plans_by<D: Desk, T: Telling, S: Search<Lattice, Best> + Drop>(
+    alloc: Global,
+    lattice: &mut Lattice,
+    course: &Course,
+    search: S,
+    how: &SearchJob,
+    outputs: &Outputs,
+    start: u32,
+    goal: u32,
+    telling: &T,
+    desk: &mut D,
+) -> u8
+where
+    S::Note: Traced,
+    requires start { start < (network_of lattice.old).states }
+    requires goal { goal < (network_of lattice.old).states }
+    requires search { IsSearchJob how.now }
+    requires kept { IsWorld lattice.old }
+    requires course { IsCourseIn false lattice.old course.now }
+    requires initial { AreInitial (S.state search).labels (network_of lattice.old).states start }
+    requires none_raised { (S.state search).raised ≡ [] }
+    requires ready { S.meaning.ready (network_of lattice.old) (S.state search).labels 0 }
+    requires to_goal { (S.state search).goal ≡ goal }
+    requires fresh { IsStartFresh (S.state search).labels }
+    requires serves { S.serves search }
+    ensures ends { EndsPlans (record { Note = S.Note; means = S.meaning; line = S.Note.line; direction = forwards }) (T.written telling.now) lattice.old course.now.batches how.now outputs.now (start_after lattice.old.env start course.now.moves) goal 0 None (D.state desk.old) (D.state desk.new) result }
+    ensures frame { WritesOnly (T.under telling.now) (D.state desk.old) (D.state desk.new) }
+{
+    match Replanner::new(alloc, lattice, search, goal, how.budget) {
+        Ok(mut replanner) => go_through(
+            alloc,
+            lattice,
+            course,
+            &mut replanner,
+            how,
+            outputs,
+            start,
+            goal,
+            telling,
+            desk,
+        ),
+        Err(NoMemory) => 9,
+    }
+}
 
 /// Makes and tells the plans on a lattice by ARA*, as `make_plans` does.
 fn plans_by_ara<D: Desk, T: Telling>(
     alloc: Global,
     lattice: &mut Lattice,
-    changes: &Changes,
+    course: &Course,
     how: &SearchJob,
     outputs: &Outputs,
     start: u32,
@@ -45,13 +98,13 @@ fn plans_by_ara<D: Desk, T: Telling>(
     requires goal { goal < (network_of lattice.old).states }
     requires search { IsSearchJob how.now }
     requires kept { IsWorld lattice.old }
-    requires on_map { AreOnMap lattice.old.map changes.now }
-    ensures ends { EndsPlans (known Planners.Ara) (T.written telling.now) lattice.old changes.now how.now outputs.now start goal 0 None (D.state desk.old) (D.state desk.new) result }
+    requires course { IsCourseIn false lattice.old course.now }
+    ensures ends { EndsPlans (known Planners.Ara) (T.written telling.now) lattice.old course.now.batches how.now outputs.now (start_after lattice.old.env start course.now.moves) goal 0 None (D.state desk.old) (D.state desk.new) result }
     ensures frame { WritesOnly (T.under telling.now) (D.state desk.old) (D.state desk.new) }
 {
     match Ara::open(alloc, lattice.states(), start, goal) {
-        Ok(search) => plan_by(
-            alloc, lattice, changes, search, how, outputs, start, goal, telling, desk,
+        Ok(search) => plans_by(
+            alloc, lattice, course, search, how, outputs, start, goal, telling, desk,
         ),
         Err(NoMemory) => 9,
     }
@@ -61,7 +114,7 @@ fn plans_by_ara<D: Desk, T: Telling>(
 pub(crate) fn plans_by_adstar<D: Desk, T: Telling>(
     alloc: Global,
     lattice: &mut Lattice,
-    changes: &Changes,
+    course: &Course,
     how: &SearchJob,
     outputs: &Outputs,
     start: u32,
@@ -73,15 +126,15 @@ pub(crate) fn plans_by_adstar<D: Desk, T: Telling>(
     requires goal { goal < (network_of lattice.old).states }
     requires search { IsSearchJob how.now }
     requires kept { IsWorld lattice.old }
-    requires on_map { AreOnMap lattice.old.map changes.now }
-    ensures ends { EndsPlans (known Planners.AdStar) (T.written telling.now) lattice.old changes.now how.now outputs.now start goal 0 None (D.state desk.old) (D.state desk.new) result }
+    requires course { IsCourseIn false lattice.old course.now }
+    ensures ends { EndsPlans (known Planners.AdStar) (T.written telling.now) lattice.old course.now.batches how.now outputs.now (start_after lattice.old.env start course.now.moves) goal 0 None (D.state desk.old) (D.state desk.new) result }
     ensures frame { WritesOnly (T.under telling.now) (D.state desk.old) (D.state desk.new) }
 {
     match Ara::open(alloc, lattice.states(), start, goal) {
-        Ok(ara) => plan_by(
+        Ok(ara) => plans_by(
             alloc,
             lattice,
-            changes,
+            course,
             AdStar::from(ara),
             how,
             outputs,
@@ -94,13 +147,11 @@ pub(crate) fn plans_by_adstar<D: Desk, T: Telling>(
     }
 }
 
-/// Makes and tells the plans on a lattice by ePA*SE with the workers of the job, as `make_plans` does.
-fn plans_by_epase<R: Threads + Wait + Sync, G: Gate + Sync, D: Desk, T: Telling>(
-    rt: &R,
-    gate: &G,
+/// Makes and tells the plans on a lattice by Anytime D* from the goal to where the robot is, as `make_plans` does.
+fn plans_by_back<D: Desk, T: Telling>(
     alloc: Global,
     lattice: &mut Lattice,
-    changes: &Changes,
+    course: &Course,
     how: &SearchJob,
     outputs: &Outputs,
     start: u32,
@@ -112,8 +163,51 @@ fn plans_by_epase<R: Threads + Wait + Sync, G: Gate + Sync, D: Desk, T: Telling>
     requires goal { goal < (network_of lattice.old).states }
     requires search { IsSearchJob how.now }
     requires kept { IsWorld lattice.old }
-    requires on_map { AreOnMap lattice.old.map changes.now }
-    ensures ends { EndsPlans (known Planners.Epase) (T.written telling.now) lattice.old changes.now how.now outputs.now start goal 0 None (D.state desk.old) (D.state desk.new) result }
+    requires course { IsCourseIn true lattice.old course.now }
+    ensures ends { EndsPlans (known Planners.Back) (T.written telling.now) lattice.old course.now.batches how.now outputs.now (start_after lattice.old.env start course.now.moves) goal 0 None (D.state desk.old) (D.state desk.new) result }
+    ensures frame { WritesOnly (T.under telling.now) (D.state desk.old) (D.state desk.new) }
+{
+    match Ara::open(alloc, lattice.states(), goal, start) {
+        Ok(ara) => {
+            let search = AdStar::from(ara);
+            let mut replanner = BackReplanner::new(alloc, lattice, search, start, how.budget);
+            go_through(
+                alloc,
+                lattice,
+                course,
+                &mut replanner,
+                how,
+                outputs,
+                start,
+                goal,
+                telling,
+                desk,
+            )
+        }
+        Err(NoMemory) => 9,
+    }
+}
+
+/// Makes and tells the plans on a lattice by ePA*SE with the workers of the job, as `make_plans` does.
+fn plans_by_epase<R: Threads + Wait + Sync, G: Gate + Sync, D: Desk, T: Telling>(
+    rt: &R,
+    gate: &G,
+    alloc: Global,
+    lattice: &mut Lattice,
+    course: &Course,
+    how: &SearchJob,
+    outputs: &Outputs,
+    start: u32,
+    goal: u32,
+    telling: &T,
+    desk: &mut D,
+) -> u8
+    requires start { start < (network_of lattice.old).states }
+    requires goal { goal < (network_of lattice.old).states }
+    requires search { IsSearchJob how.now }
+    requires kept { IsWorld lattice.old }
+    requires course { IsCourseIn false lattice.old course.now }
+    ensures ends { EndsPlans (known Planners.Epase) (T.written telling.now) lattice.old course.now.batches how.now outputs.now (start_after lattice.old.env start course.now.moves) goal 0 None (D.state desk.old) (D.state desk.new) result }
     ensures frame { WritesOnly (T.under telling.now) (D.state desk.old) (D.state desk.new) }
 {
     let workers = how.workers;
@@ -128,8 +222,8 @@ fn plans_by_epase<R: Threads + Wait + Sync, G: Gate + Sync, D: Desk, T: Telling>
         )
     };
     match Epase::open(alloc, make, lattice.states(), start, goal) {
-        Ok(search) => plan_by(
-            alloc, lattice, changes, search, how, outputs, start, goal, telling, desk,
+        Ok(search) => plans_by(
+            alloc, lattice, course, search, how, outputs, start, goal, telling, desk,
         ),
         Err(NoMemory) => 9,
     }
@@ -142,7 +236,7 @@ pub(crate) fn make_plans<R: Threads + Wait + Sync, G: Gate + Sync, D: Desk, T: T
     gate: &G,
     alloc: Global,
     lattice: &mut Lattice,
-    changes: &Changes,
+    course: &Course,
     how: &SearchJob,
     outputs: &Outputs,
     start: u32,
@@ -154,19 +248,22 @@ pub(crate) fn make_plans<R: Threads + Wait + Sync, G: Gate + Sync, D: Desk, T: T
     requires goal { goal < (network_of lattice.old).states }
     requires search { IsSearchJob how.now }
     requires kept { IsWorld lattice.old }
-    requires on_map { AreOnMap lattice.old.map changes.now }
-    ensures ends { EndsPlans (known how.now.planner) (T.written telling.now) lattice.old changes.now how.now outputs.now start goal 0 None (D.state desk.old) (D.state desk.new) result }
+    requires course { IsCourseIn (may_move how.now.planner) lattice.old course.now }
+    ensures ends { EndsPlans (known how.now.planner) (T.written telling.now) lattice.old course.now.batches how.now outputs.now (start_after lattice.old.env start course.now.moves) goal 0 None (D.state desk.old) (D.state desk.new) result }
     ensures frame { WritesOnly (T.under telling.now) (D.state desk.old) (D.state desk.new) }
 {
     match how.planner {
         Planner::Ara => plans_by_ara(
-            alloc, lattice, changes, how, outputs, start, goal, telling, desk,
+            alloc, lattice, course, how, outputs, start, goal, telling, desk,
         ),
         Planner::AdStar => plans_by_adstar(
-            alloc, lattice, changes, how, outputs, start, goal, telling, desk,
+            alloc, lattice, course, how, outputs, start, goal, telling, desk,
+        ),
+        Planner::Back => plans_by_back(
+            alloc, lattice, course, how, outputs, start, goal, telling, desk,
         ),
         Planner::Epase => plans_by_epase(
-            rt, gate, alloc, lattice, changes, how, outputs, start, goal, telling, desk,
+            rt, gate, alloc, lattice, course, how, outputs, start, goal, telling, desk,
         ),
     }
 }

@@ -3,18 +3,14 @@
 ghost use Rattle.std.specs.Prelude.{◌<◌, ◌≤◌, ℕ, length, IfErr, IfOk, OnOk};
 ghost use Rattle.sbpl_fixed.specs.Formats.{start_at};
 ghost use Rattle.sbpl_fixed.specs.Tokens.{tokens_from};
-ghost use Rattle.sbpl_cost.specs.Lattices.{network_of};
 ghost use Rattle.sbpl_cert.specs.Flaws.{HasNoFlaw, IsFirstFlaw};
 ghost use Rattle.sbpl_cert.specs.Sound.{IsSo, ShowsAll};
 ghost use Rattle.sbpl_cert.specs.Text.{AreTokensOf};
 ghost use Rattle.sbpl_cert.specs.Versions.{IsOf, arcs_of, claim_by, outcome_of};
-ghost use Rattle.sbpl_heur.specs.Bests.{IsGuide, distance_in};
-ghost use Rattle.sbpl_cli.specs.Checked.{IsReadStop, IsSectionStop, IsShownHolding, ground_of};
+ghost use Rattle.sbpl_cli.specs.Checked.{IsReadStop, IsSectionStop, IsShownHolding, ground};
 
 use sbpl_cert::{Flaw, LabelFault, Outcome, Section, check, check_sparse, read_labels};
-use sbpl_cost::Lattice;
-use sbpl_graph::Graph;
-use sbpl_heur::Best;
+use sbpl_graph::{Graph, Guide};
 use std::alloc::Global;
 
 /// Why the checking of sections ends before the last line.
@@ -49,51 +45,51 @@ fn read_section(
     }
 }
 
-/// Checks a section of either version on the lattice. The heuristic is the best one for the goal.
-fn check_either(
-    lattice: &Lattice,
-    guide: &Best,
+/// Checks a section of either version on a graph, with a guide to the goal.
+fn check_either<G: Graph, H: Guide>(
+    graph: &G,
+    guide: &H,
     start: u32,
     goal: u32,
     section: &Section,
 ) -> Result<(), Flaw>
-    requires start { start < (network_of lattice.now).states }
-    requires goal { goal < (network_of lattice.now).states }
-    requires guide { IsGuide (network_of lattice.now) goal guide.now }
-    requires of { (plan : ℕ) × IsOf plan (network_of lattice.now).states section.now }
-    ensures none { OnOk result (HasNoFlaw (network_of lattice.now) start goal (claim_by (distance_in guide.now) section.now)) }
-    ensures first { IfErr result (IsFirstFlaw (network_of lattice.now) start goal (claim_by (distance_in guide.now) section.now)) }
-    ensures shows { OnOk result (ShowsAll (network_of lattice.now) start goal (claim_by (distance_in guide.now) section.now)) }
-    ensures so { OnOk result (IsSo (network_of lattice.now) start goal (arcs_of section.now) (outcome_of section.now)) }
+    requires start { start < (G.network graph.now).states }
+    requires goal { goal < (G.network graph.now).states }
+    requires guide { H.guides guide.now (G.network graph.now) goal }
+    requires of { (plan : ℕ) × IsOf plan (G.network graph.now).states section.now }
+    ensures none { OnOk result (HasNoFlaw (G.network graph.now) start goal (claim_by (H.distance guide.now) section.now)) }
+    ensures first { IfErr result (IsFirstFlaw (G.network graph.now) start goal (claim_by (H.distance guide.now) section.now)) }
+    ensures shows { OnOk result (ShowsAll (G.network graph.now) start goal (claim_by (H.distance guide.now) section.now)) }
+    ensures so { OnOk result (IsSo (G.network graph.now) start goal (arcs_of section.now) (outcome_of section.now)) }
 {
     match section {
-        Section::Full(set) => check(lattice, start, goal, set),
-        Section::Sparse(set) => check_sparse(lattice, guide, start, goal, set),
+        Section::Full(set) => check(graph, start, goal, set),
+        Section::Sparse(set) => check_sparse(graph, guide, start, goal, set),
     }
 }
 
-/// Reads the section of a plan and checks it on the lattice. Answers what the plan answered, and the offset after the
+/// Reads the section of a plan and checks it on a graph, with a guide to the goal. Answers what the plan answered, and the offset after the
 /// section.
-pub(crate) fn check_section(
+pub(crate) fn check_section<G: Graph, H: Guide>(
     alloc: Global,
-    lattice: &Lattice,
-    guide: &Best,
+    graph: &G,
+    guide: &H,
     start: u32,
     goal: u32,
     plan: u32,
     text: &[u8],
     at: usize,
 ) -> Result<(Outcome, usize), SectionStop>
-    requires start { start < (network_of lattice.now).states }
-    requires goal { goal < (network_of lattice.now).states }
-    requires guide { IsGuide (network_of lattice.now) goal guide.now }
+    requires start { start < (G.network graph.now).states }
+    requires goal { goal < (G.network graph.now).states }
+    requires guide { H.guides guide.now (G.network graph.now) goal }
     requires at { at ≤ length text.now }
-    ensures holds { IfOk result (λ x. IsShownHolding (ground_of lattice.now guide.now) start goal plan (start_at text.now at) x.0 (start_at text.now x.1)) }
+    ensures holds { IfOk result (λ x. IsShownHolding (ground (G.network graph.now) (H.distance guide.now)) start goal plan (start_at text.now at) x.0 (start_at text.now x.1)) }
     ensures inside { IfOk result (λ x. x.1 ≤ length text.now) }
-    ensures stop { IfErr result (IsSectionStop (ground_of lattice.now guide.now) start goal plan (start_at text.now at)) }
+    ensures stop { IfErr result (IsSectionStop (ground (G.network graph.now) (H.distance guide.now)) start goal plan (start_at text.now at)) }
 {
-    let (section, next) = read_section(alloc, text, at, plan, lattice.states())?;
-    match check_either(lattice, guide, start, goal, &section) {
+    let (section, next) = read_section(alloc, text, at, plan, graph.states())?;
+    match check_either(graph, guide, start, goal, &section) {
         Ok(()) => Ok((section.outcome(), next)),
         Err(flaw) => Err(SectionStop::Flaw(flaw)),
     }

@@ -82,7 +82,8 @@ abbrev pub planner_named : List ℕ → Option Planner
 planner_named name =
     if bytes_eq name (codes "ara") then Some planner.Ara
     else (if bytes_eq name (codes "ad") then Some planner.AdStar
-    else (if bytes_eq name (codes "epase") then Some planner.Epase else None))
+    else (if bytes_eq name (codes "back") then Some planner.Back
+    else (if bytes_eq name (codes "epase") then Some planner.Epase else None)))
 
 -- the planner that is set; Anytime D* where none is set
 abbrev pub planner_by : Option (List ℕ) → Option Planner
@@ -101,9 +102,13 @@ workers_in (Err fault) = None
 
 -- workers evaluate the edges of a planner: of ePA*SE alone
 abbrev pub has_workers : Planner → Bool
-has_workers planner.Ara = false
-has_workers planner.AdStar = false
 has_workers planner.Epase = true
+has_workers _ = false
+
+-- lines of the change file can say where the robot is: under this planner it may move
+abbrev pub may_move : Planner → Bool
+may_move planner.Back = true
+may_move _ = false
 
 -- the number of workers that is set, for a planner that has workers; 1 where none is set
 abbrev pub workers_by : Planner → Option (List ℕ) → Option ℕ
@@ -168,10 +173,16 @@ abbrev pub plan_in : (env prims : List ℕ) → Settings → Option Job
 plan_in env prims set =
     option_and_then (λ from. plan_on from (set setting.Changes) set) (sources_in env prims set)
 
+-- whether labels are those of the planner `back`: where it is set, and not where none is; no other can be set
+abbrev pub back_by : Option (List ℕ) → Option Bool
+back_by None = Some false
+back_by (Some name) = if bytes_eq name (codes "back") then Some true else None
+
 -- the job `check`
 abbrev pub check_in : (env prims labels : List ℕ) → Settings → Option Job
 check_in env prims labels set =
-    option_map (λ from. job.Check (record { sources = from; changes = set setting.Changes; labels = labels })) (sources_in env prims set)
+    option_and_then (λ back. option_map (λ from. job.Check (record { sources = from; changes = set setting.Changes; labels = labels; back = back })) (sources_in env prims set))
+    (back_by (set setting.Planner))
 
 -- the job `sweep`
 abbrev pub sweep_in : (env prims : List ℕ) → Settings → Option Job
@@ -212,6 +223,12 @@ job_of (word ∷ words) = option_and_then (λ c. option_and_then (job_by c) (par
 -- the job that the program's words name
 abbrev pub job_named : {Z : Type 0} → List (String Z) → Option Job
 job_named words = job_of (map string_bytes words)
+
+-- lines of the change file can say where the robot is: under the planner of this job it may move
+abbrev pub moves_in : Job → Bool
+moves_in (job.Plan plan) = may_move plan.search.planner
+moves_in (job.Check check) = check.back
+moves_in _ = false
 
 -- the workers, the inflations, the bound and the budget lie in their ranges, and a planner without workers has the number 1
 pub record IsSearchJob (s : SearchJob) : Type 0 where

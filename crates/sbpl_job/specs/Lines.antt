@@ -35,7 +35,8 @@ abbrev pub arguments : Command → List Rule
 arguments command.Plan = plain_rule (codes "ENV") ∷ (plain_rule (codes "MPRIM") ∷ (option_rule (codes "changes") ∷ (option_rule (codes "radius") ∷ (option_rule (codes "planner")
     ∷ (option_rule (codes "workers") ∷ (option_rule (codes "first") ∷ (option_rule (codes "step") ∷ (option_rule (codes "bound") ∷ (option_rule (codes "budget") ∷ (option_rule (codes "labels")
     ∷ (option_rule (codes "labels-as") ∷ (option_rule (codes "trace") ∷ []))))))))))))
-arguments command.Check = plain_rule (codes "ENV") ∷ (plain_rule (codes "MPRIM") ∷ (plain_rule (codes "LABELS") ∷ (option_rule (codes "changes") ∷ (option_rule (codes "radius") ∷ []))))
+arguments command.Check = plain_rule (codes "ENV") ∷ (plain_rule (codes "MPRIM") ∷ (plain_rule (codes "LABELS") ∷ (option_rule (codes "changes") ∷ (option_rule (codes "radius")
+    ∷ (option_rule (codes "planner") ∷ [])))))
 arguments command.Sweep = plain_rule (codes "ENV") ∷ (plain_rule (codes "MPRIM") ∷ (option_rule (codes "radius") ∷ []))
 arguments command.Demo = plain_rule (codes "SEED") ∷ (plain_rule (codes "W") ∷ (plain_rule (codes "H") ∷ []))
 

@@ -81,7 +81,7 @@ setting_named word =
 -- a command takes a setting
 abbrev pub takes : Command → Setting → Bool
 takes command.Plan s = true
-takes command.Check s = is_setting s setting.Changes || is_setting s setting.Radius
+takes command.Check s = is_setting s setting.Changes || is_setting s setting.Radius || is_setting s setting.Planner
 takes command.Sweep s = is_setting s setting.Radius
 takes command.Demo s = false
 

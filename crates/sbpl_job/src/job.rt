@@ -2,6 +2,7 @@
 
 ghost use Rattle.std.specs.Prelude.{◌≡◌};
 ghost use Rattle.sbpl_job.specs.declared.job.JobFault.TheVariants.{NoMemory};
+ghost use Rattle.sbpl_job.specs.Jobs.{may_move, moves_in};
 
 use crate::name::Name;
 use std::alloc::{AllocError, AllocFailed};
@@ -25,9 +26,24 @@ pub enum Planner {
     Ara,
     /// Anytime D*, word `ad`: passes of falling inflation, which repair what they found after changes.
     AdStar,
+    /// Anytime D* from the goal backwards to a start that may move, word `back`: its labels stay of use when the robot has
+    /// moved.
+    Back,
     /// ePA*SE, word `epase`: passes of falling inflation whose edges are evaluated by workers, which repair what
     /// they found after changes (Mukherjee, Aine and Likhachev 2022).
     Epase,
+}
+
+impl Planner {
+    /// Whether the robot may move between plans: then lines of the change file can say where it is.
+    pub fn may_move(self) -> bool
+        ensures value { result ≡ may_move self }
+    {
+        match self {
+            Planner::Back => true,
+            Planner::Ara | Planner::AdStar | Planner::Epase => false,
+        }
+    }
 }
 
 /// How a path is to be searched. Inflations and bounds are in thousandths.
@@ -88,6 +104,8 @@ pub struct CheckJob {
     pub changes: Option<Name>,
     /// The file of labels.
     pub labels: Name,
+    /// Whether the labels are those of the planner `back`.
+    pub back: bool,
 }
 
 /// The job `demo`: plan on an example that is drawn from a seed.
@@ -112,6 +130,19 @@ pub enum Job {
     Sweep(Sources),
     /// Plan on an example that is drawn from a seed.
     Demo(DemoJob),
+}
+
+impl Job {
+    /// Whether lines of the job's change file can say where the robot is.
+    pub fn may_move(&self) -> bool
+        ensures value { result ≡ moves_in self.now }
+    {
+        match self {
+            Job::Plan(plan) => plan.search.planner.may_move(),
+            Job::Check(check) => check.back,
+            Job::Sweep(_) | Job::Demo(_) => false,
+        }
+    }
 }
 
 /// Why there is no job.

@@ -98,7 +98,7 @@ fn with_planner<'a>(alloc: Global, line: Line<'a>) -> Line<'a>
         line,
         "planner",
         "P",
-        "how to search: ad, ara or epase [default: ad]",
+        "how to search: ad, ara, back or epase [default: ad]",
     );
     with_option(
         alloc,
@@ -106,6 +106,19 @@ fn with_planner<'a>(alloc: Global, line: Line<'a>) -> Line<'a>
         "workers",
         "N",
         "how many workers evaluate edges, for epase alone, 1 to 64 [default: 1]",
+    )
+}
+
+/// The planner whose labels are checked, where it is `back`.
+fn with_back<'a>(alloc: Global, line: Line<'a>) -> Line<'a>
+    ensures app { (a : App) → IsLine line.entry a → IsLine result (with_rule a (option_rule (codes "planner"))) }
+{
+    with_option(
+        alloc,
+        line,
+        "planner",
+        "P",
+        "back: the labels are those of the planner back [default: those of another]",
     )
 }
 
@@ -216,7 +229,8 @@ fn check_line<'a>(alloc: Global) -> Line<'a>
     let line = with_files(alloc, line);
     let line = with_plain(alloc, line, "LABELS", "the file of labels");
     let line = with_changes(alloc, line);
-    with_radius(alloc, line)
+    let line = with_radius(alloc, line);
+    with_back(alloc, line)
 }
 
 /// The line of the command `sweep`.

@@ -10,7 +10,7 @@ use crate::files::{name_of, outputs_of, sources_of};
 use crate::job::{CheckJob, DemoJob, Job, JobFault, Outputs, PlanJob, SearchJob, Sources};
 use crate::line::find_parts;
 use crate::name::Name;
-use crate::values::search_of;
+use crate::values::{back_of, search_of};
 use crate::words::{Command, are_fit, spaced_words};
 use clap::ArgMatches;
 use std::alloc::Global;
@@ -85,10 +85,12 @@ fn check_of(
     ensures job { Names (check_in env.now prims.now labels.now (set_in matches.now)) result }
     ensures range { IfOk result IsJob }
 {
+    let back = back_of(matches)?;
     Ok(Job::Check(CheckJob {
         sources: sources_of(alloc, env, prims, matches)?,
         changes: name_of(alloc, matches.get_str("changes"))?,
         labels: Name::of(alloc, labels)?,
+        back,
     }))
 }
 

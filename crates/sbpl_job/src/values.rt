@@ -4,7 +4,7 @@ ghost use Rattle.std.specs.Prelude.{◌≡◌, ◌≤◌, ◌^◌, false, IfOk, 
 ghost use Rattle.sbpl_fixed.specs.Numbers.{nano_of, whole_of};
 ghost use Rattle.sbpl_job.specs.declared.words.Setting.TheVariants as Settings;
 ghost use Rattle.sbpl_job.specs.Found.{set_in};
-ghost use Rattle.sbpl_job.specs.Jobs.{IsSearchJob, budget_by, budget_in, has_workers, milli_by, milli_from, milli_in, most_workers, planner_by, planner_named, radius_by, radius_in, search_in, workers_by, workers_in};
+ghost use Rattle.sbpl_job.specs.Jobs.{IsSearchJob, back_by, budget_by, budget_in, has_workers, milli_by, milli_from, milli_in, most_workers, planner_by, planner_named, radius_by, radius_in, search_in, workers_by, workers_in};
 ghost use Rattle.sbpl_job.specs.Words.{Names, text_of};
 
 use crate::job::{JobFault, Planner, SearchJob};
@@ -119,6 +119,7 @@ fn planner_named(name: &str) -> Result<Planner, JobFault>
     match name {
         "ara" => Ok(Planner::Ara),
         "ad" => Ok(Planner::AdStar),
+        "back" => Ok(Planner::Back),
         "epase" => Ok(Planner::Epase),
         _ => Err(JobFault::Words),
     }
@@ -129,8 +130,8 @@ fn has_workers(planner: Planner) -> bool
     ensures workers { result ≡ has_workers planner }
 {
     match planner {
-        Planner::Ara | Planner::AdStar => false,
         Planner::Epase => true,
+        Planner::Ara | Planner::AdStar | Planner::Back => false,
     }
 }
 
@@ -170,6 +171,17 @@ fn workers_of(planner: Planner, matches: &ArgMatches) -> Result<u32, JobFault>
     }
 }
 
+/// Whether the labels of `check` are those of the planner `back`, the only one that can be set there.
+pub(crate) fn back_of(matches: &ArgMatches) -> Result<bool, JobFault>
+    ensures back { Names (back_by (set_in matches.now Settings.Planner)) result }
+{
+    match matches.get_str("planner") {
+        None => Ok(false),
+        Some("back") => Ok(true),
+        Some(_) => Err(JobFault::Words),
+    }
+}
+
 /// How the path of the job `plan` is to be searched.
 pub(crate) fn search_of(matches: &ArgMatches) -> Result<SearchJob, JobFault>
     ensures search { Names (search_in (set_in matches.now)) result }
@@ -194,7 +206,7 @@ pub(crate) fn search_of(matches: &ArgMatches) -> Result<SearchJob, JobFault>
 /// The setting of the planner, its workers or its budget whose value is wrong, and what the value must be.
 fn wrong_planner(matches: &ArgMatches) -> Option<(&'static str, &'static str)> {
     let Ok(planner) = planner_of(matches) else {
-        return Some(("planner", "--planner must be ad, ara or epase"));
+        return Some(("planner", "--planner must be ad, ara, back or epase"));
     };
     if workers_of(planner, matches).is_err() {
         return Some((
@@ -207,6 +219,14 @@ fn wrong_planner(matches: &ArgMatches) -> Option<(&'static str, &'static str)> {
             "budget",
             "--budget must be a whole number from 1 to 1073741824",
         ));
+    }
+    None
+}
+
+/// The planner of `check`, where it is wrong, and what it must be.
+pub(crate) fn wrong_back(matches: &ArgMatches) -> Option<(&'static str, &'static str)> {
+    if back_of(matches).is_err() {
+        return Some(("planner", "--planner must be back"));
     }
     None
 }

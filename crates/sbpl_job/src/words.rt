@@ -28,7 +28,7 @@ pub enum Setting {
     Changes,
     /// `--radius`: the radius of the robot.
     Radius,
-    /// `--planner`: how to search.
+    /// `--planner`: how to search; of `check`, which planner wrote the labels.
     Planner,
     /// `--workers`: how many workers evaluate edges.
     Workers,
@@ -84,7 +84,10 @@ fn takes(command: Command, setting: Setting) -> bool
 {
     match command {
         Command::Plan => true,
-        Command::Check => matches!(setting, Setting::Changes | Setting::Radius),
+        Command::Check => matches!(
+            setting,
+            Setting::Changes | Setting::Radius | Setting::Planner
+        ),
         Command::Sweep => matches!(setting, Setting::Radius),
         Command::Demo => false,
     }

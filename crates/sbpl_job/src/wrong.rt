@@ -4,7 +4,7 @@ use crate::demo::{read_extent, read_seed};
 use crate::files::form_named;
 use crate::line::line_of;
 use crate::read::command_named;
-use crate::values::{radius_of, wrong_search};
+use crate::values::{radius_of, wrong_back, wrong_search};
 use crate::words::{Command, spaced_words};
 use clap::ArgMatches;
 use std::alloc::{AllocError, Global};
@@ -45,8 +45,9 @@ fn wrong_value(command: Command, matches: &ArgMatches) -> Option<(&'static str, 
             Some(wrong) => Some(wrong),
             None => wrong_form(matches),
         },
+        Command::Check => wrong_back(matches),
         Command::Demo => wrong_demo(matches),
-        Command::Check | Command::Sweep => None,
+        Command::Sweep => None,
     }
 }
 

@@ -1,13 +1,16 @@
 //! Files that are read again, once a job was refused, to find out why.
 
-ghost use Rattle.std.specs.Prelude.{◌≡◌, ◌*◌, ◌≤◌, ◌^◌, IfSome, length, vec_len};
+ghost use Rattle.std.specs.Prelude.{◌≡◌, ◌≢◌, ◌*◌, ◌≤◌, ◌^◌, IfErr, IfSome, Some, None, if◌then◌else◌, length, vec_len};
 ghost use Rattle.sbpl_desk.specs.Desk.{ReadsOnly};
+ghost use Rattle.sbpl_job.specs.Jobs.{moves_in};
+ghost use Rattle.sbpl_map.specs.LineFaults.{HasTextFault};
+ghost use Rattle.sbpl_map.specs.declared.fault.ChangeFault.TheVariants.{NoMemory as Memory};
 ghost use Rattle.sbpl_message.specs.Reasons.{IsHeld};
 
 use sbpl_cfg::{Env, Grid, read_env};
 use sbpl_desk::{Desk, ReadStop};
 use sbpl_job::{Job, Name, Sources};
-use sbpl_map::{Map, read_changes};
+use sbpl_map::{ChangeFault, Changes, Map, read_changes, read_moves};
 use std::alloc::Global;
 
 /// The files of a job's lattice, if it reads any.
@@ -35,6 +38,13 @@ pub(crate) fn labels_of(job: &Job) -> Option<&Name> {
         Job::Check(check) => Some(&check.labels),
         Job::Plan(_) | Job::Sweep(_) | Job::Demo(_) => None,
     }
+}
+
+/// The number of headings, where a line of the job's change file can say where the robot is.
+pub(crate) fn headings_for(job: &Job, headings: u32) -> Option<u32>
+    ensures headings { result ≡ (if moves_in job.now then Some headings else None) }
+{
+    if job.may_move() { Some(headings) } else { None }
 }
 
 /// The bytes of a file, if it can be read.
@@ -77,8 +87,12 @@ pub(crate) fn environment_of<D: Desk>(
     }
 }
 
-/// The map of a job's files, if it can be read, and how many states it has.
-pub(crate) fn map_of<D: Desk>(alloc: Global, from: &Sources, desk: &mut D) -> Option<(Map, u32)>
+/// The map of a job's files, if it can be read, how many states it has, and how many headings.
+pub(crate) fn map_of<D: Desk>(
+    alloc: Global,
+    from: &Sources,
+    desk: &mut D,
+) -> Option<(Map, u32, u32)>
     ensures frame { ReadsOnly (D.state desk.old) (D.state desk.new) }
 {
     let (env, grid) = environment_of(alloc, from, desk)?;
@@ -86,14 +100,33 @@ pub(crate) fn map_of<D: Desk>(alloc: Global, from: &Sources, desk: &mut D) -> Op
         .width
         .saturating_mul(env.height)
         .saturating_mul(env.headings);
-    Some((Map::new(&env, grid), states))
+    Some((Map::new(&env, grid), states, env.headings))
+}
+
+/// The batches of changes of a text, or its fault. Where a number of headings is given, lines can say where the robot is.
+pub(crate) fn changes_in(
+    alloc: Global,
+    text: &[u8],
+    map: &Map,
+    headings: Option<u32>,
+) -> Result<Changes, ChangeFault>
+    requires short { length text.now ≤ 2 ^ 30 }
+    ensures faulty { IfErr result (λ f. f ≢ Memory → HasTextFault map.now headings text.now f) }
+{
+    match headings {
+        None => read_changes(alloc, text, map),
+        Some(headings) => {
+            let (changes, _moves) = read_moves(alloc, text, map, headings)?;
+            Ok(changes)
+        }
+    }
 }
 
 /// How many batches of changes a text has, if it stands for changes.
-fn batches_in(alloc: Global, text: &[u8], map: &Map) -> Option<u32>
+fn batches_in(alloc: Global, text: &[u8], map: &Map, headings: Option<u32>) -> Option<u32>
     requires short { length text.now ≤ 2 ^ 30 }
 {
-    let changes = read_changes(alloc, text, map).ok()?;
+    let changes = changes_in(alloc, text, map, headings).ok()?;
     Some(changes.batches())
 }
 
@@ -102,6 +135,7 @@ fn batches_of<D: Desk>(
     alloc: Global,
     changes: Option<&Name>,
     map: &Map,
+    headings: Option<u32>,
     desk: &mut D,
 ) -> Option<u32>
     ensures frame { ReadsOnly (D.state desk.old) (D.state desk.new) }
@@ -110,19 +144,20 @@ fn batches_of<D: Desk>(
         return Some(0);
     };
     let text = text_of(alloc, name, desk)?;
-    batches_in(alloc, text.as_slice(), map)
+    batches_in(alloc, text.as_slice(), map, headings)
 }
 
 /// The number of a job's last plan, counted from 0, and how many states each plan has, if the job's files can be read.
 pub(crate) fn plans_of<D: Desk>(
     alloc: Global,
+    job: &Job,
     from: &Sources,
-    changes: Option<&Name>,
     desk: &mut D,
 ) -> Option<(u32, u32)>
     ensures frame { ReadsOnly (D.state desk.old) (D.state desk.new) }
 {
-    let (map, states) = map_of(alloc, from, desk)?;
-    let last = batches_of(alloc, changes, &map, desk)?;
+    let (map, states, headings) = map_of(alloc, from, desk)?;
+    let headings = headings_for(job, headings);
+    let last = batches_of(alloc, changes_of(job), &map, headings, desk)?;
     Some((last, states))
 }

@@ -47,12 +47,35 @@ fn wanted(fault: &ChangeFault) -> &'static str {
     }
 }
 
+/// What the line of a start must be that has a fault.
+fn wanted_of_start(fault: &ChangeFault) -> &'static str {
+    match fault {
+        ChangeFault::Number(_) => "X, Y and T of a start must be whole numbers",
+        ChangeFault::Range(_) =>
+            "X and Y of a start must be from 0 to 8388607, and T below the number of headings",
+        ChangeFault::OffMap(_) => "the start must lie on the map",
+        ChangeFault::NoReplan(_) => "the line \"replan\" must come after the last start",
+        _ => wanted(fault),
+    }
+}
+
+/// What a line must be that has a fault, where lines can say where a robot is.
+fn wanted_with_starts(line: &[u8], fault: &ChangeFault) -> &'static str {
+    match fault {
+        ChangeFault::Word(_) =>
+            "a line must be \"cell X Y C\", \"start X Y T\" or \"replan\", or have no fields",
+        _ if line.starts_with(b"start") => wanted_of_start(fault),
+        _ => wanted(fault),
+    }
+}
+
 /// The message of a fault of a change file: on which line it is, at which column the line's first field begins, what the line must
-/// be, and what was found.
+/// be, and what was found. `moves` says whether lines can say where a robot is.
 pub fn changes_message(
     alloc: Global,
     name: &str,
     text: &[u8],
+    moves: bool,
     fault: &ChangeFault,
 ) -> Result<Vec<u8>, NoMemory>
     // It has the line of the fault.
@@ -60,14 +83,12 @@ pub fn changes_message(
 {
     let line = line_at(text, fault.line());
     let blanks = indent(line);
-    let wanted = wanted(fault);
-    let message = message(
-        alloc,
-        name,
-        fault.line() as usize,
-        blanks + 1,
-        wanted,
-        &line[blanks..],
-    )?;
+    let line = &line[blanks..];
+    let wanted = if moves {
+        wanted_with_starts(line, fault)
+    } else {
+        wanted(fault)
+    };
+    let message = message(alloc, name, fault.line() as usize, blanks + 1, wanted, line)?;
     Ok(message)
 }

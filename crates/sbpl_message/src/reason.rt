@@ -6,7 +6,8 @@ ghost use Rattle.sbpl_message.specs.Messages.{IsPlainMessage};
 ghost use Rattle.sbpl_message.specs.Reasons.{IsOnEnvironment, has_message};
 
 use crate::again::{
-    changes_of, environment_of, fails, labels_of, map_of, plans_of, sources_of, text_of,
+    changes_in, changes_of, environment_of, fails, headings_for, labels_of, map_of, plans_of,
+    sources_of, text_of,
 };
 use crate::changes::changes_message;
 use crate::environment::environment_message;
@@ -18,7 +19,7 @@ use sbpl_cfg::{EnvFault, read_env};
 use sbpl_desk::Desk;
 use sbpl_fixed::{NoMemory, next_token};
 use sbpl_job::{Job, Name, Sources, read_job, wrong_words};
-use sbpl_map::{ChangeFault, Map, read_changes};
+use sbpl_map::{ChangeFault, Map};
 use sbpl_mprim::{PrimFault, read_prims};
 use std::alloc::Global;
 
@@ -79,23 +80,42 @@ fn on_primitives<D: Desk>(alloc: Global, from: &Sources, desk: &mut D) -> Option
     )
 }
 
-/// The message on the first fault of a text of changes, if it has one.
-fn in_changes(alloc: Global, name: &str, text: &[u8], map: &Map) -> Option<Vec<u8>>
+/// The message on the first fault of a text of changes, if it has one. Where a number of headings is given, lines can say
+/// where the robot is.
+fn in_changes(
+    alloc: Global,
+    name: &str,
+    text: &[u8],
+    map: &Map,
+    headings: Option<u32>,
+) -> Option<Vec<u8>>
     requires short { length text.now ≤ 2 ^ 30 }
 {
-    match read_changes(alloc, text, map) {
+    match changes_in(alloc, text, map, headings) {
         Ok(_) | Err(ChangeFault::NoMemory) => None,
-        Err(fault) => changes_message(alloc, name, text, &fault).ok(),
+        Err(fault) => changes_message(alloc, name, text, headings.is_some(), &fault).ok(),
     }
 }
 
 /// The message on the first fault of the change file, if it has one.
-fn on_changes<D: Desk>(alloc: Global, from: &Sources, name: &Name, desk: &mut D) -> Option<Vec<u8>>
+fn on_changes<D: Desk>(
+    alloc: Global,
+    job: &Job,
+    from: &Sources,
+    name: &Name,
+    desk: &mut D,
+) -> Option<Vec<u8>>
     ensures frame { ReadsOnly (D.state desk.old) (D.state desk.new) }
 {
-    let (map, _) = map_of(alloc, from, desk)?;
+    let (map, _, headings) = map_of(alloc, from, desk)?;
     let text = text_of(alloc, name, desk)?;
-    in_changes(alloc, name.as_str(), text.as_slice(), &map)
+    in_changes(
+        alloc,
+        name.as_str(),
+        text.as_slice(),
+        &map,
+        headings_for(job, headings),
+    )
 }
 
 /// The first fault of a text of labels with a section for each plan, if it has one.
@@ -116,14 +136,14 @@ fn fault_of_labels(alloc: Global, text: &[u8], last: u32, states: u32) -> Option
 /// The message on the first fault of the text of labels, if it has one.
 fn on_labels<D: Desk>(
     alloc: Global,
+    job: &Job,
     from: &Sources,
-    changes: Option<&Name>,
     name: &Name,
     desk: &mut D,
 ) -> Option<Vec<u8>>
     ensures frame { ReadsOnly (D.state desk.old) (D.state desk.new) }
 {
-    let (last, states) = plans_of(alloc, from, changes, desk)?;
+    let (last, states) = plans_of(alloc, job, from, desk)?;
     let text = text_of(alloc, name, desk)?;
     match fault_of_labels(alloc, text.as_slice(), last, states) {
         None | Some(LabelFault::NoMemory) => None,
@@ -168,9 +188,9 @@ fn on_job<D: Desk>(alloc: Global, job: &Job, status: u8, desk: &mut D) -> Option
     match status {
         3 => on_environment(alloc, from, desk),
         4 => on_primitives(alloc, from, desk),
-        5 => on_changes(alloc, from, changes_of(job)?, desk),
+        5 => on_changes(alloc, job, from, changes_of(job)?, desk),
         6 => on_reads(alloc, job, from, desk),
-        10 => on_labels(alloc, from, changes_of(job), labels_of(job)?, desk),
+        10 => on_labels(alloc, job, from, labels_of(job)?, desk),
         _ => None,
     }
 }

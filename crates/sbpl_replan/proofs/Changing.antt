@@ -1,29 +1,39 @@
 -- Labels before and after a change of the map, and what is left where memory runs out.
-use Rattle.std.proofs.Common.{◌≡◌, ℕ, ◌+◌, ◌^◌, ◌<◌, List, slice_index_or, Result, Ok, Err, refl, sym, ◌∙◌, ap, subst, arith, inl, inr}
+use Rattle.std.proofs.Common.{◌≡◌, ℕ, ◌+◌, ◌^◌, ◌<◌, List, slice_index_or, Result, Ok, Err, Some, refl, sym, ◌∙◌, ap, subst, arith, inl, inr}
 use Rattle.std.specs.Prelude.{OnErr}
+use Rattle.std.specs.List.{Contains}
 use Rattle.std.proofs.lemmas.List.{get_or_default}
-use Rattle.sbpl_graph.specs.Network.{Network}
+use Rattle.sbpl_graph.specs.Network.{IsFreeArc, Network}
 use Rattle.sbpl_labels.specs.Counts.{AreCounts, Counts}
 use Rattle.sbpl_labels.specs.Marks.{Marks}
 use Rattle.sbpl_search.specs.Changed.{IsChangeable}
 use Rattle.sbpl_search.specs.Meaning.{Meaning}
-use Rattle.sbpl_search.specs.Ready.{AreUsable}
+use Rattle.sbpl_search.specs.Ready.{AreUsable, IsStartFresh}
 use Rattle.sbpl_search.specs.State.{State}
 use Rattle.sbpl_serial.specs.Repaired.{ExactWhereSame}
 use Rattle.sbpl_plan.specs.declared.ask.Ask.{Ask}
 use Rattle.sbpl_plan.specs.OutOfMemory.{RunsOutOfMemory}
-use Rattle.sbpl_plan.specs.Passing.{expansions}
+use Rattle.sbpl_plan.specs.Passing.{Inquiry, expansions, inquiry_of}
 use Rattle.sbpl_change.specs.Affected.{AreStates, KeepArcsElsewhere}
+use Rattle.sbpl_back.specs.Reversed.{ArcsTurnBack, ArcsTurnRound, reversed}
+use Rattle.sbpl_back.specs.Starts.{StartIn, from_start}
+use Rattle.sbpl_replan.specs.Directions.{backwards}
+use Rattle.sbpl_cost.specs.Reading.{DifferInCostsAlone, MapsChangeCostsAlone}
 use Rattle.sbpl_cost.specs.World.{World}
 use Rattle.sbpl_cost.specs.declared.arc_end.ArcEnd.TheVariants as end
 use Rattle.sbpl_cost.specs.Lattices.{network_of}
-use Rattle.sbpl_heur.specs.Bests.{distance_in}
-use Rattle.sbpl_replan.specs.Replanning.{IsReadyIn, Replanning, StandsOutOfMemory, at_plan, inquiry}
+use Rattle.sbpl_graph.specs.Laws.{HasExactTails}
+use Rattle.sbpl_replan.specs.Replanning.{IsReadyBack, IsReadyIn, Replanning, Standing, StandsOutOfMemory, at_plan, gap_from, inquiry, standing_of}
+use Rattle.sbpl_serial.specs.declared.step.Step.{Step}
 
 -- another map has the same number of states
 pub same_states : (w v : World) → v ≡ record w { map = v.map } → (network_of v).states ≡ (network_of w).states
 unfolding network_of
 same_states w v others = ap (λ (u : World). (network_of u).states) others
+
+-- and a graph that differs in what arcs cost alone
+pub differ : MapsChangeCostsAlone → (w v : World) → v ≡ record w { map = v.map } → DifferInCostsAlone (network_of v) (network_of w)
+differ law w v others = subst (λ (u : World). DifferInCostsAlone (network_of u) (network_of w)) (sym others) (law w v.map)
 
 -- labels that are exact on one graph can be repaired for another that keeps the arcs into each state that is not touched
 pub changeable : ExactWhereSame → (n n' : Network) (m : Marks) (touched : List ℕ) → n'.states ≡ n.states → AreUsable n m (2 ^ 30) → AreStates n' touched → KeepArcsElsewhere end.Head n n' touched → IsChangeable n' touched m
@@ -35,30 +45,76 @@ changeable law n n' m touched same is among kept = record {
       (record { kept = λ s k c free. (kept s k t c none).0 free; none_new = λ s k c free. (kept s k t c none).1 free });
 }
 
+-- a free arc of the one reversed graph is one of the other, where the tails are the same and the arc stays free at its cost
+turned_arc : ArcsTurnRound → ArcsTurnBack → (n n' : Network) → HasExactTails n → HasExactTails n' → n'.tail_fan ≡ n.tail_fan → n'.tail ≡ n.tail → n'.states ≡ n.states
+    → (s j t c : ℕ) → ((k : ℕ) → IsFreeArc n t k s c → IsFreeArc n' t k s c) → IsFreeArc (reversed n) s j t c → IsFreeArc (reversed n') s j t c
+turned_arc round back n n' tails tails' fans same states s j t c stays free =
+    let at = round n s j t c tails free in
+    back n' s j t at.0 c tails' (record {
+      target = subst (λ (x : ℕ). s < x) (sym states) at.1.target;
+      number = subst (λ (f : ℕ → ℕ). j < f s) (sym fans) at.1.number;
+      tail = ap (λ (f : ℕ → ℕ → _). f s j) same ∙ at.1.tail;
+    }) (stays at.0 at.2)
+
+-- and so it is over the reversed graph, where the arcs from each state that is not touched are kept
+pub changeable_back : ExactWhereSame → ArcsTurnRound → ArcsTurnBack → (n n' : Network) (m : Marks) (touched : List ℕ) → HasExactTails n → HasExactTails n' → DifferInCostsAlone n' n
+    → AreUsable (reversed n) m (2 ^ 30) → AreStates n' touched → KeepArcsElsewhere end.Source n n' touched → IsChangeable (reversed n') touched m
+changeable_back law round back n n' m touched tails tails' differ is among kept = record {
+  inside = λ k d here. subst (λ (x : ℕ). slice_index_or touched k d < x) (differ.states ∙ sym is.states) (among (slice_index_or touched k d) (k, here, get_or_default touched k (slice_index_or touched k d) d here));
+  fits = rw is.states is.fits;
+  untouched = λ t inside apart none.
+      law (reversed n) (reversed n') m.start _ _ _ is.exact t (subst (λ (x : ℕ). t < x) is.states inside) apart
+      (record {
+        kept = λ s j c free. turned_arc round back n n' tails tails' differ.tail_fan differ.tail differ.states s j t c (λ k arc. (kept t k s c none).0 arc) free;
+        none_new = λ s j c free. turned_arc round back n' n tails' tails (sym differ.tail_fan) (sym differ.tail) (sym differ.states) s j t c (λ k arc. (kept t k s c none).1 arc) free;
+      });
+}
+
 -- what follows from what holds where memory ran out
 pub on_err_so : {A E : Type 0} (r : Result A E) (P Q : Type 0) → (P → Q) → OnErr r P → OnErr r Q
 on_err_so (Ok x) P Q so h = tt
 on_err_so (Err e) P Q so h = so h
 
 -- what is left where memory ran out in a plan
-pub stands : {Note : Type 0} (means : Meaning Note) (w : World) (ask : Ask) (r : Replanning Note) (search : State Note) (counts : Counts) → IsReadyIn means w r → AreCounts counts
-    → RunsOutOfMemory means (inquiry w (distance_in r.guide) r.goal ask) ask.first r.search search (at_plan r.counts) counts
-    → StandsOutOfMemory means w (inquiry w (distance_in r.guide) r.goal ask) r (record r { search = search; counts = counts })
-stands means w ask r search counts ready are (inl part) = inl (record {
+pub stands : {Note : Type 0} (means : Meaning Note) (q : Inquiry) (Ready : Type 0) (old new : Standing Note) → AreCounts new.counts
+    → (means.ready q.network new.search.labels new.counts.run → new.search.goal ≡ old.search.goal → IsStartFresh new.search.labels → Ready)
+    → RunsOutOfMemory means q q.ask.first old.search new.search (at_plan old.counts) new.counts
+    → StandsOutOfMemory means q Ready old new
+stands means q Ready old new are again (inl part) = inl (record {
   part = part;
   within =
-      let used : counts.plan ≡ 0 + expansions part.passes = ap (λ (c : Counts). c.plan) part.leaves.counted in
-      let budget : counts.per_plan ≡ r.counts.per_plan = ap (λ (c : Counts). c.per_plan) part.leaves.counted in
+      let used : new.counts.plan ≡ 0 + expansions part.passes = ap (λ (c : Counts). c.plan) part.leaves.counted in
+      let budget : new.counts.per_plan ≡ old.counts.per_plan = ap (λ (c : Counts). c.per_plan) part.leaves.counted in
       omega (arith, are.within_plan);
-  ready = record {
-    to_goal = part.leaves.same_goal ∙ ready.to_goal;
-    guides_to_goal = ready.guides_to_goal;
-    best = ready.best;
-    guides = ready.guides;
-    fits = ready.fits;
-    labels = part.leaves.ready;
-    fresh = part.leaves.fresh;
-  };
-  same = record { start = part.leaves.start; goal = refl; per_plan = ap (λ (c : Counts). c.per_plan) part.leaves.counted };
+  ready = again part.leaves.ready part.leaves.same_goal part.leaves.fresh;
+  same = record { start = part.leaves.start; goal = part.leaves.same_goal; per_plan = ap (λ (c : Counts). c.per_plan) part.leaves.counted };
 })
-stands means w ask r search counts ready are (inr cut) = inr cut
+stands means q Ready old new are again (inr cut) = inr cut
+
+-- another plan may begin where the search went on to the same goal on the same map
+pub ready_again : {Note : Type 0} (means : Meaning Note) (w : World) (r : Replanning Note) (search : State Note) (counts : Counts) → IsReadyIn means w r
+    → means.ready (network_of w) search.labels counts.run → search.goal ≡ r.search.goal → IsStartFresh search.labels → IsReadyIn means w (record r { search = search; counts = counts })
+ready_again means w r search counts ready labels same fresh = record {
+  to_goal = same ∙ ready.to_goal;
+  guides_to_goal = ready.guides_to_goal;
+  best = ready.best;
+  guides = ready.guides;
+  fits = ready.fits;
+  labels = labels;
+  fresh = fresh;
+}
+
+pub ready_again_back : (w : World) (s : Standing Step) (search : State Step) (counts : Counts) → IsReadyBack w s
+    → AreUsable (reversed (network_of w)) search.labels counts.run → search.goal ≡ s.search.goal → IsStartFresh search.labels → IsReadyBack w (record { search = search; counts = counts })
+ready_again_back w s search counts ready labels same fresh = record {
+  goal = subst (λ (t : ℕ). t < (network_of w).states) (sym same) ready.goal;
+  labels = labels;
+  fresh = fresh;
+}
+
+-- what stays the same over a plan backwards
+pub back_inquiry : (w b : World) (f : StartIn) (s : Standing Step) (start : ℕ) (ask : Ask) → b ≡ w → f ≡ record { world = w; start = start } → s.search.goal ≡ start
+    → inquiry_of (reversed (network_of b)) (from_start f) start ask ≡ inquiry backwards w (gap_from s w) s ask
+back_inquiry w b f s start ask b_is f_is start_is =
+    let guide : from_start f ≡ gap_from s w = ap from_start f_is ∙ (λ i t. (network_of w).gap ((sym start_is) i) t) in
+    λ i. inquiry_of (reversed (network_of (b_is i))) (guide i) ((sym start_is) i) ask

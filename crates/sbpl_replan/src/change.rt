@@ -1,16 +1,23 @@
 //! A batch of changes, and the labels of a search.
 
-ghost use Rattle.std.specs.Prelude.{◌≡◌, ◌^◌, ◌⊎◌, ℕ, OnErr, OnOk};
+ghost use Rattle.std.specs.Prelude.{◌≡◌, ◌^◌, ◌⊎◌, [], ℕ, OnErr, OnOk};
 ghost use Rattle.sbpl_search.specs.Ready.{AreUsable, IsStartFresh};
 ghost use Rattle.sbpl_change.specs.Noted.{AreOnMap};
 ghost use Rattle.sbpl_cost.specs.World.{IsWorld};
 ghost use Rattle.sbpl_cost.specs.Lattices.{network_of};
 ghost use Rattle.sbpl_map.specs.MapAfter.{AreWritten};
+ghost use Rattle.sbpl_adstar.specs.Planner.{adstar};
+ghost use Rattle.sbpl_back.specs.Reversed.{reversed};
+ghost use Rattle.sbpl_replan.specs.Directions.{backwards, forwards};
 ghost use Rattle.sbpl_replan.specs.Replanning.{BeginsWith};
+ghost use Rattle.sbpl_serial.specs.Meant.{seen};
 
+use sbpl_adstar::AdStar;
+use sbpl_back::{Back, FromStart, arcs_turn_round};
 use sbpl_change::{apply, write_batch};
-use sbpl_cost::{ArcEnd, Lattice};
+use sbpl_cost::{ArcEnd, Lattice, unread_arcs_cost_the_same};
 use sbpl_fixed::NoMemory;
+use sbpl_graph::Graph;
 use sbpl_heur::Best;
 use sbpl_map::Write;
 use sbpl_search::Search;
@@ -33,7 +40,7 @@ pub(crate) fn change<S: Search<Lattice, Best>>(
     ensures refused { OnErr result ((lattice.new.map ≡ lattice.old.map) ⊎ AreWritten lattice.old.map batch.now lattice.new.map) }
     ensures others { lattice.new ≡ record lattice.old { map = lattice.new.map } }
     ensures kept { IsWorld lattice.new }
-    ensures begun { OnOk result (BeginsWith S.meaning lattice.old lattice.new (S.state search.old).labels (S.state search.new).labels (S.state search.new).raised) }
+    ensures begun { OnOk result (BeginsWith S.meaning forwards lattice.old lattice.new (S.state search.old).labels (S.state search.new).labels (S.state search.new).raised) }
     ensures ready { (count : ℕ) → S.meaning.ready (network_of lattice.old) (S.state search.old).labels count → OnOk result (S.meaning.ready (network_of lattice.new) (S.state search.new).labels count) }
     ensures fresh { OnOk result (IsStartFresh (S.state search.new).labels) }
     ensures start { OnOk result ((S.state search.new).labels.start ≡ (S.state search.old).labels.start) }
@@ -49,5 +56,38 @@ pub(crate) fn change<S: Search<Lattice, Best>>(
         write_batch(lattice, batch);
         search.change(lattice, &[]);
     }
+    Ok(())
+}
+
+/// The same for a search from the goal over the reversed graph, whose labels are recomputed at the sources of arcs.
+pub(crate) fn change_back(
+    alloc: Global,
+    lattice: &mut Lattice,
+    batch: &[Write],
+    search: &mut AdStar,
+    touched: &mut Vec<u32>,
+) -> Result<(), NoMemory>
+    requires on_map { AreOnMap lattice.old.map batch.now }
+    requires usable { AreUsable (reversed (network_of lattice.old)) search.old.labels (2 ^ 30) }
+    requires fresh { IsStartFresh search.old.labels }
+    ensures written { OnOk result (AreWritten lattice.old.map batch.now lattice.new.map) }
+    ensures refused { OnErr result ((lattice.new.map ≡ lattice.old.map) ⊎ AreWritten lattice.old.map batch.now lattice.new.map) }
+    ensures others { lattice.new ≡ record lattice.old { map = lattice.new.map } }
+    ensures kept { IsWorld lattice.new }
+    ensures begun { OnOk result (BeginsWith adstar backwards lattice.old lattice.new search.old.labels search.new.labels []) }
+    ensures ready { (count : ℕ) → AreUsable (reversed (network_of lattice.old)) search.old.labels count → OnOk result (AreUsable (reversed (network_of lattice.new)) search.new.labels count) }
+    ensures fresh { OnOk result (IsStartFresh search.new.labels) }
+    ensures start { OnOk result (search.new.labels.start ≡ search.old.labels.start) }
+    ensures same_goal { search.new.goal ≡ search.old.goal }
+    ensures unchanged { OnErr result (search.new ≡ search.old) }
+{
+    exact_where_same();
+    arcs_turn_round();
+    unread_arcs_cost_the_same();
+    let _before = lattice.states();
+    apply(alloc, lattice, batch, ArcEnd::Source, touched)?;
+    let _after = lattice.states();
+    let back = Back::new(lattice);
+    <AdStar as Search<Back, FromStart>>::change(search, &back, touched.as_slice());
     Ok(())
 }

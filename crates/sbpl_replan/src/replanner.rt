@@ -1,18 +1,12 @@
-//! Plans one after another.
+//! Plans from the start to the goal.
 
-ghost use Rattle.std.specs.Prelude.{◌≡◌, ◌^◌, ◌≤◌, ◌<◌, ◌⊎◌, ℕ, IfOk, OnErr, OnOk};
+ghost use Rattle.std.specs.Prelude.{◌≡◌, ◌^◌, ◌≤◌, ◌<◌, IfOk};
 ghost use Rattle.sbpl_labels.specs.Marks.{AreLabels};
 ghost use Rattle.sbpl_search.specs.Ready.{IsStartFresh};
-ghost use Rattle.sbpl_plan.specs.Asked.{IsAsk};
-ghost use Rattle.sbpl_plan.specs.Determined.{AreWithin};
-ghost use Rattle.sbpl_plan.specs.Planned.{IsPlanned};
-ghost use Rattle.sbpl_change.specs.Noted.{AreOnMap};
-ghost use Rattle.sbpl_cost.specs.World.{IsWorld};
 ghost use Rattle.sbpl_cost.specs.Lattices.{network_of};
-ghost use Rattle.sbpl_heur.specs.Bests.{distance_in};
-ghost use Rattle.sbpl_map.specs.MapAfter.{AreWritten};
-ghost use Rattle.sbpl_replan.specs.Replanning.{BeginsWith, IsReadyIn, StandsOutOfMemory, StaysTheSame, at_plan, inquiry};
+ghost use Rattle.sbpl_replan.specs.Replanning.{IsReadyIn};
 
+use crate::Replan;
 use crate::change::change;
 use sbpl_cost::Lattice;
 use sbpl_fixed::NoMemory;
@@ -24,7 +18,7 @@ use sbpl_search::Search;
 use std::alloc::Global;
 use std::marker::Model;
 
-/// Plans on a lattice from a start to a goal by one search, one after another, while batches of changes are written to its map.
+/// Plans on a lattice from a start to a goal by one search, one after another, by the best heuristic.
 #[derive(Drop)]
 pub struct Replanner<S: Search<Lattice, Best> + Drop> {
     goal: u32,
@@ -78,69 +72,6 @@ impl<S: Search<Lattice, Best> + Drop> Replanner<S> {
         })
     }
 
-    /// Makes a plan on the present map of the lattice: passes with the inflation `ask.first`, then `ask.step` less each
-    /// time and never below 1.000, until one finds a path whose bound is at most `ask.bound`, shows that there is no path,
-    /// is spent, or has inflation 1.000. After `NoMemory` another plan may be made on the map, from the labels that the
-    /// passes so far left, unless memory ran out within a pass.
-    pub fn plan(
-        &mut self,
-        alloc: Global,
-        lattice: &Lattice,
-        ask: &Ask,
-    ) -> Result<Planned<S::Note>, NoMemory>
-        requires ready { IsReadyIn S.meaning lattice.now self.old }
-        requires asked { IsAsk ask.now }
-        ensures planned { IfOk result (IsPlanned S.meaning (inquiry lattice.now (distance_in self.old.guide) self.old.goal ask.now) self.old.search self.new.search (at_plan self.old.counts) self.new.counts) }
-        // No expansion is beyond the budget or the run's 2^30, and a plan is spent only where the one or the other is used up.
-        ensures within { IfOk result (λ r. AreWithin self.old.counts.per_plan self.old.counts.run r.passes r.spent) }
-        ensures run { self.new.counts.run ≤ 2 ^ 30 }
-        // Another plan may begin, and the map may change.
-        ensures ready { IfOk result (λ _. IsReadyIn S.meaning lattice.now self.new) }
-        ensures same { IfOk result (λ _. StaysTheSame self.old self.new) }
-        ensures guide { self.new.guide ≡ self.old.guide }
-        ensures memory { OnErr result (StandsOutOfMemory S.meaning lattice.now (inquiry lattice.now (distance_in self.old.guide) self.old.goal ask.now) self.old self.new) }
-    {
-        self.budget.next_plan();
-        let planned = plan(
-            alloc,
-            lattice,
-            &self.guide,
-            &mut self.search,
-            self.goal,
-            ask,
-            &mut self.budget,
-        );
-        let _counts = self.budget.used();
-        planned
-    }
-
-    /// Writes a batch to the map of the lattice, and makes the heuristic and the labels ready for a plan on it. All cells of
-    /// the batch are on the map. After `NoMemory` the map is the old or the new one, and nothing else has changed.
-    pub fn change(
-        &mut self,
-        alloc: Global,
-        lattice: &mut Lattice,
-        batch: &[Write],
-    ) -> Result<(), NoMemory>
-        requires ready { IsReadyIn S.meaning lattice.old self.old }
-        requires on_map { AreOnMap lattice.old.map batch.now }
-        ensures written { OnOk result (AreWritten lattice.old.map batch.now lattice.new.map) }
-        ensures refused { OnErr result ((lattice.new.map ≡ lattice.old.map) ⊎ AreWritten lattice.old.map batch.now lattice.new.map) }
-        ensures others { lattice.new ≡ record lattice.old { map = lattice.new.map } }
-        ensures kept { IsWorld lattice.new }
-        // The labels are those that the planner makes of the ones that there were.
-        ensures begun { OnOk result (BeginsWith S.meaning lattice.old lattice.new self.old.search.labels self.new.search.labels self.new.search.raised) }
-        ensures ready { OnOk result (IsReadyIn S.meaning lattice.new self.new) }
-        ensures same { OnOk result (StaysTheSame self.old self.new) }
-        ensures counts { self.new.counts ≡ self.old.counts }
-        ensures unchanged { OnErr result (self.new ≡ self.old) }
-    {
-        let _used = self.budget.used();
-        change(alloc, lattice, batch, &mut self.search, &mut self.touched)?;
-        self.guide.rebuild(lattice);
-        Ok(())
-    }
-
     /// The heuristic for the present map.
     pub fn guide(&self) -> &Best
         ensures value { result.now ≡ self.now.guide }
@@ -155,19 +86,68 @@ impl<S: Search<Lattice, Best> + Drop> Replanner<S> {
     {
         self.search.labels()
     }
+}
 
-    /// The states that were raised when the last change made the labels ready, in order, where the planner raises states outside its
-    /// passes.
-    pub fn raised(&self) -> &[u32]
-        ensures value { result.now ≡ self.now.search.raised }
-    {
+impl<S: Search<Lattice, Best> + Drop> Replan for Replanner<S> {
+    ghost use Rattle.sbpl_heur.specs.Bests.{distance_in};
+    ghost use Rattle.sbpl_replan.specs.Directions.{forwards};
+    ghost use Rattle.sbpl_replan.specs.Replanning.{IsReadyIn, is_guided, standing_of};
+
+    type Note = S::Note;
+
+    ghost meaning = { S.meaning };
+
+    ghost direction = { forwards };
+
+    ghost standing = { standing_of };
+
+    ghost ready = { λ r w. IsReadyIn S.meaning w r };
+
+    ghost guide = { λ r w s. distance_in r.guide s };
+
+    ghost sized = { λ r w ready. (S.usable (network_of w) r.search.labels r.counts.run ready.labels).states };
+
+    ghost guided = { is_guided S.meaning };
+
+    fn plan(
+        &mut self,
+        alloc: Global,
+        lattice: &Lattice,
+        ask: &Ask,
+    ) -> Result<Planned<S::Note>, NoMemory> {
+        self.budget.next_plan();
+        let planned = plan(
+            alloc,
+            lattice,
+            &self.guide,
+            &mut self.search,
+            self.goal,
+            ask,
+            &mut self.budget,
+        );
+        let _counts = self.budget.used();
+        planned
+    }
+
+    fn change(
+        &mut self,
+        alloc: Global,
+        lattice: &mut Lattice,
+        batch: &[Write],
+    ) -> Result<(), NoMemory> {
+        let _used = self.budget.used();
+        change(alloc, lattice, batch, &mut self.search, &mut self.touched)?;
+        self.guide.rebuild(lattice);
+        Ok(())
+    }
+
+    fn follow(&mut self, _start: u32) {}
+
+    fn raised(&self) -> &[u32] {
         self.search.raised()
     }
 
-    /// How many states the last plan expanded.
-    pub fn expanded(&self) -> u64
-        ensures value { result ≡ self.now.counts.plan }
-    {
+    fn expanded(&self) -> u64 {
         self.budget.used()
     }
 }

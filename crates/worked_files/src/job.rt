@@ -9,7 +9,7 @@ use std::test::Fail;
 
 /// Words that name a job, and after the arrow that job as a line: of `plan` its environment, primitives, radius, changes,
 /// planner, workers, first inflation, step, bound, budget, labels with their form, and trace; of `check` its environment, primitives,
-/// radius, changes and labels.
+/// radius, changes, labels and `back`; and `moves` where the robot may move.
 const JOBS: &str = "\
 plan e m => plan e m 0 - ad 1 1000 500 1000 1073741824 - -
 plan --radius 0 e m => plan e m 0 - ad 1 1000 500 1000 1073741824 - -
@@ -31,6 +31,7 @@ plan --workers=1 e m --trace t --planner=epase => plan e m 0 - epase 1 1000 500 
 plan e m --planner epase --workers 2 => plan e m 0 - epase 2 1000 500 1000 1073741824 - -
 plan e m --planner epase --workers 4 --changes c => plan e m 0 c epase 4 1000 500 1000 1073741824 - -
 plan --workers 64 e --planner=epase m --labels=l => plan e m 0 - epase 64 1000 500 1000 1073741824 l -
+plan --planner back e m --labels l => plan e m 0 - back 1 1000 500 1000 1073741824 l - moves
 plan --changes c e m => plan e m 0 c ad 1 1000 500 1000 1073741824 - -
 plan e m --labels=l --trace t => plan e m 0 - ad 1 1000 500 1000 1073741824 l t
 plan e m --labels=l --labels-as 1 => plan e m 0 - ad 1 1000 500 1000 1073741824 l in full -
@@ -41,6 +42,7 @@ check e m l => check e m 0 - l
 check e --changes c m l => check e m 0 c l
 check --radius=0.5 e --changes=c m l => check e m 500000000 c l
 check e m e --changes m => check e m 0 m e
+check e --planner=back m l --changes c => check e m 0 c l back moves
 sweep e m => sweep e m 0
 sweep --radius=0.012500001 e m => sweep e m 12500001
 demo 7 32 32 => demo 7 32 32
@@ -91,6 +93,7 @@ plan e m --budget=1.0
 plan e m --workers 1
 plan e m --planner ara --workers=1
 plan e m --planner ad --workers 2
+plan e m --planner back --workers 1
 plan e m --planner epase --workers 65
 plan e m --planner epase --workers 0
 plan e m --planner epase --workers=1.0
@@ -114,6 +117,8 @@ plan e --labels=l --changes m --trace=--changes
 check e m
 check e m l x
 check e m l --planner ara
+check e m l --planner=Back
+check e m l --planner back --planner back
 check e m l --labels x
 check e m l --changes=
 check e m l --changes c --changes c
@@ -121,6 +126,7 @@ sweep e
 sweep e m l
 sweep e m --labels l
 sweep e m --changes c
+sweep e m --planner back
 demo 7 8
 demo 7 8 513
 demo 7 7 8
@@ -136,7 +142,7 @@ demo 7 8 --radius 8
 demo 7 8 8 --radius 0";
 
 /// The words of a line, which are separated by one blank each; between two blanks stands an empty word.
-fn words_of(alloc: Global, line: &str) -> Result<Vec<String>, Fail> {
+pub(crate) fn words_of(alloc: Global, line: &str) -> Result<Vec<String>, Fail> {
     let mut words = Vec::new(alloc);
     for word in line.split(' ') {
         words.push(String::from_str(alloc, word)?)?;
@@ -172,6 +178,7 @@ fn said_of_plan(alloc: Global, job: &PlanJob) -> Result<String, Fail> {
     let planner = match job.search.planner {
         Planner::Ara => "ara",
         Planner::AdStar => "ad",
+        Planner::Back => "back",
         Planner::Epase => "epase",
     };
     let search = &job.search;
@@ -197,10 +204,11 @@ fn said_of(alloc: Global, job: &Job) -> Result<String, Fail> {
         Job::Check(job) => {
             let from = said_of_sources(alloc, &job.sources)?;
             Ok(format!(in alloc;
-                "check {} {} {}",
+                "check {} {} {}{}",
                 from.as_str(),
                 or_dash(&job.changes),
-                job.labels.as_str()
+                job.labels.as_str(),
+                if job.back { " back" } else { "" }
             )?)
         }
         Job::Sweep(from) => {
@@ -211,11 +219,14 @@ fn said_of(alloc: Global, job: &Job) -> Result<String, Fail> {
     }
 }
 
-/// A job as a line.
+/// A job as a line, which says too whether the robot may move.
 fn said(alloc: Global, job: Job) -> Result<String, Fail> {
     let line = said_of(alloc, &job);
+    let moves = if job.may_move() { " moves" } else { "" };
     drop(job);
-    line
+    let mut line = line?;
+    line.push_str(moves)?;
+    Ok(line)
 }
 
 /// The job that words name as a line, or that they name none.
@@ -297,6 +308,11 @@ fn helps(rt: HostRuntime) -> Result<(), Fail> {
             "check --help",
             Some(Asked::HelpOf(Command::Check)),
             "<LABELS>",
+        ),
+        (
+            "check --help",
+            Some(Asked::HelpOf(Command::Check)),
+            "back: the labels are those of the planner back",
         ),
         (
             "sweep --help",

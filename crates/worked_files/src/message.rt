@@ -1,5 +1,7 @@
 //! Messages of faults, as tables.
 
+use crate::job::words_of;
+use sample_files::E2;
 use sbpl_cert::LabelFault;
 use sbpl_cfg::EnvFault;
 use sbpl_desk::MemoryDesk;
@@ -144,8 +146,8 @@ const JAM: &str = "cell 1 1 254\nreplan\n  cell 1 1\ncell 9 9 0\n";
 
 /// Whether the faults of changes have their messages.
 fn tells_changes(alloc: Global) -> bool {
-    let word = changes_message(alloc, "jam", JAM.as_bytes(), &ChangeFault::Word(3));
-    let off = changes_message(alloc, "jam", JAM.as_bytes(), &ChangeFault::OffMap(4));
+    let word = changes_message(alloc, "jam", JAM.as_bytes(), false, &ChangeFault::Word(3));
+    let off = changes_message(alloc, "jam", JAM.as_bytes(), true, &ChangeFault::OffMap(4));
     let word = is_said(
         word,
         "jam:3:3: a line must be \"cell X Y C\" or \"replan\", or have no fields, found \"cell 1 1\"\n",
@@ -177,15 +179,6 @@ fn other_messages(rt: HostRuntime) {
     assert!(rt; begins(unwritten, "temjoask: a write failed"));
     let words = words_message(rt.alloc(), "no such setting");
     assert!(rt; is_said(words, "temjoask: no such setting\n"));
-}
-
-/// The words of a job that reads two files.
-fn words_of_sweep(alloc: Global) -> Result<Vec<String>, Fail> {
-    let mut words = Vec::new(alloc);
-    for word in ["sweep", "hall.cfg", "robot.mprim"] {
-        words.push(String::from_str(alloc, word)?)?;
-    }
-    Ok(words)
 }
 
 /// A status, and how its message begins.
@@ -229,9 +222,113 @@ fn compare_statuses(
 fn messages_for_statuses(rt: HostRuntime) -> Result<(), Fail> {
     let mut desk = MemoryDesk::new(rt.alloc());
     desk.hold("hall.cfg", HALL.as_bytes())?;
-    let words = words_of_sweep(rt.alloc())?;
+    let words = words_of(rt.alloc(), "sweep hall.cfg robot.mprim")?;
     let compared = compare_statuses(&rt, rt.alloc(), words.as_slice(), &mut desk);
     drop(words);
+    drop(desk);
+    compared
+}
+
+/// Words, a change file for a map of three by two cells with sixteen headings, a status, and its message; an empty one where the
+/// file has no fault.
+const MOVES: [(&str, &str, u8, &str); 10] = [
+    (
+        "plan e m --changes c --planner back",
+        "replan\n\tstart 3 0 0\nreplan\n",
+        5,
+        "c:2:2: the start must lie on the map, found \"start 3 0 0\"\n",
+    ),
+    (
+        "check e m l --changes c --planner back",
+        "start 0 0 16\nreplan\n",
+        5,
+        "c:1:1: X and Y of a start must be from 0 to 8388607, and T below the number of headings, found \"start 0 0 16\"\n",
+    ),
+    (
+        "plan e m --changes c --planner back",
+        "start 0 1.5 0\n",
+        5,
+        "c:1:1: X, Y and T of a start must be whole numbers, found \"start 0 1.5 0\"\n",
+    ),
+    (
+        "plan e m --changes c --planner back",
+        "start 0 0\n",
+        5,
+        "c:1:1: a line must be \"cell X Y C\", \"start X Y T\" or \"replan\", or have no fields, found \"start 0 0\"\n",
+    ),
+    (
+        "plan e m --changes c --planner back",
+        "replan\nstart 0 0 0\n",
+        5,
+        "c:2:1: the line \"replan\" must come after the last start, found \"start 0 0 0\"\n",
+    ),
+    (
+        "plan e m --changes c --planner back",
+        "cell 0 0 256\n",
+        5,
+        "c:1:1: X and Y of a cell must be from 0 to 8388607, and C from 0 to 255, found \"cell 0 0 256\"\n",
+    ),
+    (
+        "plan e m --changes c --planner back",
+        "start 2 1 15\nreplan\n",
+        5,
+        "",
+    ),
+    (
+        "plan e m --changes c --planner ad",
+        "start 2 1 15\nreplan\n",
+        5,
+        "c:1:1: a line must be \"cell X Y C\" or \"replan\", or have no fields, found \"start 2 1 15\"\n",
+    ),
+    (
+        "check e m l --changes c --planner back",
+        "start 2 1 15\nreplan\n",
+        10,
+        "l:2:1: the section must go on, or the next one must follow, but the file ends here\n",
+    ),
+    (
+        "check e m l --changes c --planner ara",
+        "replan\n",
+        2,
+        "temjoask: --planner must be back, found \"ara\"\n",
+    ),
+];
+
+/// Whether this is the message for a status.
+fn tells_of_moves(
+    alloc: Global,
+    line: &str,
+    status: u8,
+    desk: &mut MemoryDesk,
+    wanted: &str,
+) -> Result<bool, Fail> {
+    let words = words_of(alloc, line)?;
+    let message = message_for(alloc, words.as_slice(), status, desk);
+    drop(words);
+    match message? {
+        Some(message) => Ok(message.as_slice() == wanted.as_bytes()),
+        None => Ok(wanted.is_empty()),
+    }
+}
+
+/// Compares the messages where the robot may move, and where it may not.
+fn compare_moves(rt: &impl Abort, alloc: Global, desk: &mut MemoryDesk) -> Result<(), Fail> {
+    for (line, changes, status, wanted) in &MOVES {
+        desk.hold("c", changes.as_bytes())?;
+        assert!(rt;
+            tells_of_moves(alloc, line, *status, desk, wanted)?,
+            "{line}"
+        );
+    }
+    Ok(())
+}
+
+#[test]
+fn messages_on_moves(rt: HostRuntime) -> Result<(), Fail> {
+    let mut desk = MemoryDesk::new(rt.alloc());
+    desk.hold("e", E2.as_bytes())?;
+    desk.hold("l", b"labels 2\n")?;
+    let compared = compare_moves(&rt, rt.alloc(), &mut desk);
     drop(desk);
     compared
 }

@@ -1,6 +1,6 @@
-use Rattle.std.proofs.Common.{List, ℕ, suc, length, subst, ◌∙◌}
+use Rattle.std.proofs.Common.{List, ℕ, suc, length, refl, subst, ◌∙◌}
 use Rattle.sbpl_fixed.specs.Formats.{start_at}
-use Rattle.sbpl_cli.specs.Checked.{AreChecked, Case, IsShownHolding}
+use Rattle.sbpl_cli.specs.Checked.{AreChecked, Case, IsShownHolding, case_of, to_in}
 use Rattle.sbpl_cli.specs.Intents.{Checked}
 use Rattle.sbpl_cli.proofs.Frames.{writes_after}
 use Rattle.sbpl_cli.proofs.Writings.{ends_since}
@@ -9,25 +9,27 @@ use Rattle.sbpl_cli.proofs.check_job.check_labels.Goals as goal
 pub returns-clause-ends : goal.returns-clause-ends
 returns-clause-ends g c =
     let w = c.in_ok-lattice.lattice in
-    let batches = c.in_ok-lattice.changes in
+    let course = c.in_ok-lattice.course in
     let ends = c.check_text-status.ensures.ends in
-    let case : Case = record { world = w; batches = batches; start = c.ends_of-start.result.0; goal = c.ends_of-start.result.1 } in
+    let case : Case = case_of w course c.ends_of-start.result.0 c.ends_of-start.result.1 c.args.job.now.back in
     record {
-      intent = Checked c.ends_of-start.result.1 ends.outcomes ends.end;
+      intent = Checked (to_in case) ends.outcomes ends.end;
       gives = record {
         world = w;
-        batches = batches;
+        course = course;
         says = c.in_ok-lattice.ensures.course.says;
-        changes = c.in_ok-lattice.ensures.course.batches_are;
+        changes = c.in_ok-lattice.ensures.course.course_is;
         arcs = c.lattice_has_its_arcs.ensures.law;
         is_world = c.in_ok-lattice.ensures.course.is_world;
         text = c.in_ok-lattice.text.items;
         read = c.in_ok-lattice.ensures.text;
         in_world = record {
           start = c.ends_of-start.result.0;
+          goal = c.ends_of-start.result.1;
           start_is = c.ends_of-start.ensures.start;
           goal_is = c.ends_of-start.ensures.goal;
-          checked = subst (λ (t : List ℕ). AreChecked IsShownHolding case 0 (suc (length batches)) (start_at t 0) ends.outcomes ends.end) c.as_slice.ensures.value ends.checked;
+          goals_are = refl;
+          checked = subst (λ (t : List ℕ). AreChecked IsShownHolding case 0 (suc (length course.batches)) (start_at t 0) ends.outcomes ends.end) c.as_slice.ensures.value ends.checked;
         };
       };
       ends = ends_since _ _ _ _ _ _ c.in_ok-lattice.ensures.frame.written c.in_ok-lattice.ensures.frame.writes ends.ends;

@@ -10,7 +10,7 @@ returns-in-Err-clause-stop g c = early_stop (g.D.Desk.state c.args.desk.now) (g.
 pub returns-in-Err-read_file-clause-stop : goal.returns-in-Err-read_file-clause-stop
 returns-in-Err-read_file-clause-stop g c =
     let course = c.in-Ok.ensures.course in
-    labels_stop (g.D.Desk.state c.args.desk.now) (g.D.Desk.state c.read_course.new.desk) (g.D.Desk.state c.read_file.new.desk) c.args.job.now c.in-Ok.course.0 c.in-Ok.course.1 c.in-Err-read_file.stop course.says course.batches_are c.in-Ok.ensures.frame c.in-Err-read_file.ensures.stop
+    labels_stop (g.D.Desk.state c.args.desk.now) (g.D.Desk.state c.read_course.new.desk) (g.D.Desk.state c.read_file.new.desk) c.args.job.now c.in-Ok.read.0 c.in-Ok.read.1 c.in-Err-read_file.stop course.says course.course_is c.in-Ok.ensures.frame c.in-Err-read_file.ensures.stop
 
 pub returns-in-Err-read_file-clause-frame : goal.returns-in-Err-read_file-clause-frame
 returns-in-Err-read_file-clause-frame g c = reads_on _ _ _ c.in-Ok.ensures.frame c.read_file.ensures.frame

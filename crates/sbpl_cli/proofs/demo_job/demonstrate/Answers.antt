@@ -1,10 +1,12 @@
-use Rattle.std.proofs.Common.{[], ◌∷◌, None, Err, length, refl, subst, false, arith}
+use Rattle.std.proofs.Common.{[], ◌∷◌, List, Option, None, Err, length, refl, ap, subst, false, arith}
+use Rattle.sbpl_cfg.specs.declared.pose.Place.{Place}
+use Rattle.sbpl_cli.specs.declared.course.Course.{Course}
 use Rattle.sbpl_job.specs.declared.job.Job.TheVariants as job
 use Rattle.sbpl_job.specs.declared.job.Planner.TheVariants as planner
 use Rattle.sbpl_cli.specs.Asked.{known}
 use Rattle.sbpl_cli.specs.Intents.{Demonstrated, lines_writes}
 use Rattle.sbpl_cli.specs.Causes.{no_outputs}
-use Rattle.sbpl_cli.specs.Headline.{AreRecords}
+use Rattle.sbpl_cli.specs.Headline.{AreRecords, start_after}
 use Rattle.sbpl_job.specs.declared.job.SearchJob.{SearchJob}
 use Rattle.sbpl_cli.proofs.Ends.{ended}
 use Rattle.sbpl_cli.proofs.Writings.{ends_as_after, status_ends}
@@ -13,12 +15,12 @@ use Rattle.sbpl_cli.proofs.Frames.{same_state, writes_on}
 
 pub returns-in-Err-clause-ends : goal.returns-in-Err-clause-ends
 returns-in-Err-clause-ends g c =
-    ended _ (g.D.Desk.state c.args.desk.now) _ (job.Demo c.args.job.now) (Demonstrated c.args.lattice.now (length c.args.changes.now) [] false) _ (
-      c.args.changes.now,
+    ended _ (g.D.Desk.state c.args.desk.now) _ (job.Demo c.args.job.now) (Demonstrated c.args.lattice.now (length c.args.course.now.batches) [] false) _ (
+      c.args.course.now.batches,
       refl,
       record {
         drawn = c.requires.drawn;
-        changes = c.requires.changes;
+        changes = ap (λ (x : Course). x.batches) c.requires.course;
         plans = record {
           start = c.ends_of-start.result.0;
           goal = c.ends_of-start.result.1;
@@ -37,18 +39,19 @@ returns-in-Err-clause-ends g c =
 pub returns-clause-ends : goal.returns-clause-ends
 returns-clause-ends g c =
     let e = c.plans_by_adstar.ensures.ends in
-    ended _ (g.D.Desk.state c.args.desk.now) _ (job.Demo c.args.job.now) (Demonstrated c.args.lattice.now (length c.args.changes.now) e.records e.all) _ (
-      c.args.changes.now,
+    ended _ (g.D.Desk.state c.args.desk.now) _ (job.Demo c.args.job.now) (Demonstrated c.args.lattice.now (length c.args.course.now.batches) e.records e.all) _ (
+      c.args.course.now.batches,
       refl,
       record {
         drawn = c.requires.drawn;
-        changes = c.requires.changes;
+        changes = ap (λ (x : Course). x.batches) c.requires.course;
         plans = record {
           start = c.ends_of-start.result.0;
           goal = c.ends_of-start.result.1;
           start_is = c.ends_of-start.ensures.start;
           goal_is = c.ends_of-start.ensures.goal;
-          each = subst (λ (how : SearchJob). AreRecords (known planner.AdStar) c.args.lattice.now c.args.changes.now how no_outputs c.ends_of-start.result.0 c.ends_of-start.result.1 0 None e.records) c.demo_search.ensures.search e.each;
+          each = subst (λ (how : SearchJob). AreRecords (known planner.AdStar) c.args.lattice.now c.args.course.now.batches how no_outputs (λ k. c.ends_of-start.result.0) c.ends_of-start.result.1 0 None e.records) c.demo_search.ensures.search
+              (subst (λ (o : Option (List (Option Place))). AreRecords (known planner.AdStar) c.args.lattice.now c.args.course.now.batches c.demo_search.result no_outputs (start_after c.args.lattice.now.env c.ends_of-start.result.0 o) c.ends_of-start.result.1 0 None e.records) (ap (λ (x : Course). x.moves) c.requires.course) e.each);
           few = let count = e.few in omega arith;
           all_made = λ is. let count = e.all_made is in omega arith;
         };

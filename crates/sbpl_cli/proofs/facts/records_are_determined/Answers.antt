@@ -8,5 +8,5 @@ returns c =
     let run = c.run_is_determined.ensures in
     let by_ara : IsPlannerDetermined ara = record { passes = run.determined; beginnings = run.anew; plans = c.plan_is_determined.ensures.passes } in
     let by_adstar : IsPlannerDetermined adstar = record { passes = run.determined; beginnings = run.repaired; plans = c.plan_is_determined-2.ensures.passes } in
-    let first = few_are_first (of_each by_ara by_adstar) run.initial c.plan_is_determined.ensures.outcome c.cut_rows_are_one.ensures.one c.writes_lead_to_the_next_map.ensures.one_map c.alike_worlds_are_one_graph.ensures.law in
+    let first = few_are_first (of_each by_ara by_adstar) c.paths_turn_round.ensures.once run.initial c.plan_is_determined.ensures.outcome c.cut_rows_are_one.ensures.one c.writes_lead_to_the_next_map.ensures.one_map c.alike_worlds_are_one_graph.ensures.law in
     record { law = records_are_one first; few = first }

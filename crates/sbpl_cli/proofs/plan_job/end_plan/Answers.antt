@@ -1,7 +1,8 @@
 use Rattle.sbpl_job.specs.declared.job.Job.TheVariants as job
 use Rattle.sbpl_cli.specs.Intents.{Planned}
 use Rattle.sbpl_cli.proofs.Ends.{ended}
-use Rattle.std.proofs.Common.{arith}
+use Rattle.std.proofs.Common.{Bool, subst, arith}
+use Rattle.sbpl_cli.specs.Causes.{ReadsCourse, scope_of}
 use Rattle.sbpl_cli.proofs.plan_job.end_plan.Goals as goal
 use Rattle.sbpl_cli.proofs.Frames.{writes_after}
 
@@ -11,9 +12,9 @@ returns-clause-ends g c =
     ended _ (g.D.Desk.state c.read_course.new.desk) _ (job.Plan c.args.job.now) (Planned e.records e.all) _
     (record {
       world = c.in_ok-lattice.lattice;
-      batches = c.in_ok-lattice.changes;
+      course = c.in_ok-lattice.course;
       says = c.in_ok-lattice.ensures.course.says;
-      changes = c.in_ok-lattice.ensures.course.batches_are;
+      changes = subst (λ (b : Bool). ReadsCourse (g.D.Desk.state c.args.desk.now).held c.args.job.now.changes (scope_of b c.in_ok-lattice.lattice) c.in_ok-lattice.course) c.may_move-moving.ensures.value c.in_ok-lattice.ensures.course.course_is;
       plans = record {
         start = c.ends_of-start.result.0;
         goal = c.ends_of-start.result.1;

@@ -6,7 +6,6 @@ use Rattle.sbpl_cert.specs.declared.section.Section.{Section}
 use Rattle.sbpl_fixed.specs.declared.no_memory.NoMemory.{NoMemory}
 use Rattle.sbpl_cost.specs.Lattices.{network_of}
 use Rattle.sbpl_cost.specs.World.{World}
-use Rattle.sbpl_heur.specs.Bests.{IsBest, Table, distance_in}
 use Rattle.sbpl_job.specs.declared.job.Outputs.{Outputs}
 use Rattle.sbpl_job.specs.declared.job.SearchJob.{SearchJob}
 use Rattle.sbpl_labels.specs.Counts.{Counts}
@@ -14,15 +13,16 @@ use Rattle.sbpl_labels.specs.Marks.{Marks}
 use Rattle.sbpl_plan.specs.declared.ask.Ask.{Ask}
 use Rattle.sbpl_plan.specs.declared.result.Planned.{Planned}
 use Rattle.sbpl_plan.specs.Outcomes as search
-use Rattle.sbpl_plan.specs.Outcomes.{IsResultOf}
+use Rattle.sbpl_plan.specs.Outcomes.{IsResultOf, IsTrueOutcome}
 use Rattle.sbpl_plan.specs.Asked.{most_passes}
-use Rattle.sbpl_plan.specs.Passing.{ArePasses, expansions}
-use Rattle.sbpl_replan.specs.Replanning.{inquiry}
+use Rattle.sbpl_plan.specs.Passing.{ArePasses, expansions, inquiry_of}
+use Rattle.sbpl_replan.specs.Directions.{Direction}
+use Rattle.sbpl_replan.specs.Replanning.{GoesBetween, Standing, StaysTheSame}
 use Rattle.sbpl_cli.specs.Traces.{traced_pass}
 use Rattle.sbpl_cli.proofs.SameRecords.{expansions_traced}
 use Rattle.sbpl_cli.specs.declared.record.PlanRecord.{PlanRecord}
 use Rattle.sbpl_cli.specs.Asked.{Known, ask_of}
-use Rattle.sbpl_cli.specs.Headline.{Begins, Carried, IsKnownWithin, IsMarked, IsNoneThere, IsSearched, IsWithinBound, Joins, KeepsPromises, IsSameResult, expanded_before}
+use Rattle.sbpl_cli.specs.Headline.{Begins, Carried, IsKnownWithin, IsMarked, IsNoneThere, IsSearched, IsToldOf, IsWithinBound, Joins, KeepsPromises, expanded_before}
 use Rattle.sbpl_cli.specs.Shown.{IsShown, IsThere}
 use Rattle.sbpl_cli.proofs.plan_record.make_record.Goals as goal
 
@@ -43,26 +43,26 @@ in_run before rises (inl all) = inl all
 in_run before rises (inr all) = inr (rises ∙ all)
 
 -- what is known of a plan, and of its record, is that it was searched
-module _ (by : Known) (w : World) (guide : Table) (start goal : ℕ) (how : SearchJob) (outputs : Outputs) (before : Option Carried) (begun final : Marks) (raised : List ℕ) (per_plan run used : ℕ) (planned : Planned by.Note) (section : Option Section) where
-  searched_by : (asked : Ask) (wanted : Bool) (plan : ℕ) (r : Result PlanRecord NoMemory) → IsBest w goal (distance_in guide) → Begins by.means w start before begun raised
-      → asked ≡ ask_of how outputs → ArePasses by.means (inquiry w (distance_in guide) goal asked) asked.first begun planned.passes final planned.spent
-      → IsResultOf (network_of w) (distance_in guide) goal final planned.outcome → per_plan ≡ how.budget → run ≡ expanded_before before + expansions planned.passes → used ≡ expansions planned.passes
+module _ (by : Known) (w : World) (guide : ℕ → ℕ) (start goal : ℕ) (how : SearchJob) (outputs : Outputs) (before : Option Carried) (begun final : Marks) (raised : List ℕ) (per_plan run used : ℕ) (planned : Planned by.Note) (section : Option Section) where
+  searched_by : (asked : Ask) (wanted : Bool) (plan : ℕ) (r : Result PlanRecord NoMemory) → by.direction.guides w start goal guide → Begins by.means by.direction w (by.direction.from start goal) before begun raised
+      → asked ≡ ask_of how outputs → ArePasses by.means (inquiry_of (by.direction.network w) guide (by.direction.to start goal) asked) asked.first begun planned.passes final planned.spent
+      → IsResultOf (by.direction.network w) guide (by.direction.to start goal) final planned.outcome → per_plan ≡ how.budget → run ≡ expanded_before before + expansions planned.passes → used ≡ expansions planned.passes
       → (planned.spent ≡ true → (expansions planned.passes ≡ per_plan) ⊎ (run ≡ 2 ^ 30))
       → expansions planned.passes ≤ per_plan → run ≤ 2 ^ 30
       → length planned.passes ≤ most_passes asked.step asked.first
-      → (planned.spent ≡ true → most_passes asked.step asked.first * (by.means.most * (network_of w).states) ≤ how.budget → run ≡ 2 ^ 30)
-      → wanted ≡ is_some outputs.labels → final.start ≡ start → IsThere wanted (IsShown outputs.form (network_of w) (distance_in guide) final.start goal plan final planned.outcome) section
-      → IfOk r (λ x. x.plan ≡ plan) → IfOk r (λ x. x.passes ≡ map (traced_pass by.line) planned.passes) → IfOk r (λ x. x.expanded ≡ used) → IfOk r (λ x. IsSameResult planned.outcome x.outcome) → IfOk r (λ x. x.labels ≡ section)
+      → (planned.spent ≡ true → most_passes asked.step asked.first * (by.means.most * (by.direction.network w).states) ≤ how.budget → run ≡ 2 ^ 30)
+      → wanted ≡ is_some outputs.labels → IsThere wanted (IsShown outputs.form (by.direction.network w) guide (by.direction.from start goal) (by.direction.to start goal) plan final planned.outcome) section
+      → IfOk r (λ x. x.plan ≡ plan) → IfOk r (λ x. x.passes ≡ map (traced_pass by.line) planned.passes) → IfOk r (λ x. x.expanded ≡ used) → IfOk r (λ x. IsToldOf (by.direction.leads w start goal) planned.outcome x.outcome) → IfOk r (λ x. x.labels ≡ section)
       → IfOk r (λ x. x.raised ≡ (if asked.traced then raised else []))
       → IfOk r (λ x. MatchBool planned.spent (x.spent ≡ Some used) (x.spent ≡ None))
       → IfOk r (IsSearched by w how outputs start goal before (record { map = w.map; labels = final; expanded = run }))
-  searched_by asked wanted plan (Err e) is_guide begins same passes outcome budget counted used_is spent within within_run few enough asks begins_at shown number copied expanded told kept raises mark = tt
-  searched_by asked wanted plan (Ok x) is_guide begins same passes outcome budget counted used_is spent within within_run few enough asks begins_at shown number copied expanded told kept raises mark =
+  searched_by asked wanted plan (Err e) is_guide begins same passes outcome budget counted used_is spent within within_run few enough asks shown number copied expanded told kept raises mark = tt
+  searched_by asked wanted plan (Ok x) is_guide begins same passes outcome budget counted used_is spent within within_run few enough asks shown number copied expanded told kept raises mark =
       let step = ap (λ (a : Ask). a.step) same in
       let first = ap (λ (a : Ask). a.first) same in
       let all : expansions x.passes ≡ expansions planned.passes = ap expansions copied ∙ expansions_traced by.line planned.passes in
       record {
-        guide = distance_in guide;
+        guide = guide;
         is_guide = is_guide;
         begun = begun;
         raised = raised;
@@ -70,9 +70,9 @@ module _ (by : Known) (w : World) (guide : Table) (start goal : ℕ) (how : Sear
         raises = subst (λ (a : Ask). x.raised ≡ (if a.traced then raised else [])) same raises;
         spent = planned.spent;
         notes = planned.passes;
-        passes = subst (λ (a : Ask). ArePasses by.means (inquiry w (distance_in guide) goal a) a.first begun planned.passes final planned.spent) same passes;
+        passes = subst (λ (a : Ask). ArePasses by.means (inquiry_of (by.direction.network w) guide (by.direction.to start goal) a) a.first begun planned.passes final planned.spent) same passes;
         lines = copied;
-        result = planned.outcome;
+        found = planned.outcome;
         is_result = outcome;
         told = told;
         expanded = expanded ∙ used_is ∙ sym all;
@@ -82,39 +82,61 @@ module _ (by : Known) (w : World) (guide : Table) (start goal : ℕ) (how : Sear
         marked = marked_by planned.spent how.budget (expanded_before before) (expansions planned.passes) used per_plan run x used_is all mark budget counted spent;
         few = rw (copied, length-map planned.passes (traced_pass by.line), sym step, sym first) few;
         ample = rw (sym step, sym first) enough;
-        labels = rw kept (subst (λ (b : Bool). IsThere b (IsShown outputs.form (network_of w) (distance_in guide) start goal x.plan final planned.outcome) section) asks
-            (subst (λ (k : ℕ). IsThere wanted (IsShown outputs.form (network_of w) (distance_in guide) start goal k final planned.outcome) section) (sym number)
-            (subst (λ (s : ℕ). IsThere wanted (IsShown outputs.form (network_of w) (distance_in guide) s goal plan final planned.outcome) section) begins_at shown)));
+        labels = rw kept (subst (λ (b : Bool). IsThere b (IsShown outputs.form (by.direction.network w) guide (by.direction.from start goal) (by.direction.to start goal) x.plan final planned.outcome) section) asks
+            (subst (λ (k : ℕ). IsThere wanted (IsShown outputs.form (by.direction.network w) guide (by.direction.from start goal) (by.direction.to start goal) k final planned.outcome) section) (sym number) shown));
       }
 
-pub labels_of-requires-clause-found : goal.labels_of-requires-clause-found
-labels_of-requires-clause-found g c = rw (c.guide.ensures.value, c.labels.ensures.value, c.plan.ensures.guide, sym c.requires.set.goal_is) c.in_ok-planned.ensures.planned.outcome
+-- after a plan it goes between the same states
+between_after : {Note : Type 0} (d : Direction) (start goal : ℕ) (old new : Standing Note) → GoesBetween d start goal old → StaysTheSame old new → GoesBetween d start goal new
+between_after d start goal old new between same = record { from = same.start ∙ between.from; to = same.goal ∙ between.to }
+
+pub section-requires-clause-between : goal.section-requires-clause-between
+section-requires-clause-between g c = between_after _ _ _ _ _ c.requires.set.between c.in_ok-planned.ensures.same
+
+pub section-requires-clause-found : goal.section-requires-clause-found
+section-requires-clause-found g c =
+    let d = g.R.Replan.direction in
+    let w = c.args.lattice.now in
+    let made = c.in_ok-planned.ensures.planned in
+    let labels = (g.R.Replan.standing c.plan.new.self).search.labels in
+    subst (λ (h : ℕ → ℕ). IsResultOf (d.network w) h (d.to c.args.start c.args.goal) labels c.in_ok-planned.planned.outcome) (sym c.plan.ensures.guide)
+    (subst (λ (t : ℕ). IsResultOf (d.network w) (g.R.Replan.guide c.args.replanner.now w) t labels c.in_ok-planned.planned.outcome) c.requires.set.between.to made.outcome)
+
+pub record_of-requires-clause-so : goal.record_of-requires-clause-so
+record_of-requires-clause-so g c =
+    let d = g.R.Replan.direction in
+    let w = c.args.lattice.now in
+    let made = c.in_ok-planned.ensures.planned in
+    subst (λ (s : ℕ). IsTrueOutcome (d.network w) s (d.to c.args.start c.args.goal) c.in_ok-planned.planned.outcome) c.requires.set.between.from
+    (subst (λ (t : ℕ). IsTrueOutcome (d.network w) (g.R.Replan.standing c.args.replanner.now).search.labels.start t c.in_ok-planned.planned.outcome) c.requires.set.between.to made.so)
 
 pub returns-clause-searched : goal.returns-clause-searched
-returns-clause-searched g c = λ before begins counted.
-    let means = g.S.Search.meaning in
-    let by : Known = record { Note = g.row.S-Note.Denot; means = means; line = g.S.Note.Traced.line } in
+returns-clause-searched g c = λ before goes.
+    let d = g.R.Replan.direction in
+    let w = c.args.lattice.now in
+    let means = g.R.Replan.meaning in
+    let by : Known = record { Note = g.row.R-Note.Denot; means = means; line = g.R.Note.Traced.line; direction = d } in
     let set = c.requires.set in
     let planned = c.in_ok-planned.planned in
     let made = c.in_ok-planned.ensures.planned in
     let within = c.in_ok-planned.ensures.within in
-    let old = c.args.replanner.now in
-    let new = c.plan.new.self in
-    let guide : c.guide.result.now ≡ old.guide = c.guide.ensures.value ∙ c.plan.ensures.guide in
+    let old = g.R.Replan.standing c.args.replanner.now in
+    let new = g.R.Replan.standing c.plan.new.self in
+    let guide = g.R.Replan.guide c.args.replanner.now w in
+    let to = d.to c.args.start c.args.goal in
     let rises : new.counts.run ≡ old.counts.run + expansions planned.passes = ap (λ (k : Counts). k.run) made.leaves.counted in
-    let run : new.counts.run ≡ expanded_before before + expansions planned.passes = rises ∙ ap (λ (n : ℕ). n + expansions planned.passes) {y = expanded_before before} (sym counted) in
+    let run : new.counts.run ≡ expanded_before before + expansions planned.passes = rises ∙ ap (λ (n : ℕ). n + expansions planned.passes) {y = expanded_before before} (sym goes.counted) in
     let of_plan : new.counts.plan ≡ 0 + expansions planned.passes = ap (λ (k : Counts). k.plan) made.leaves.counted in
     let used : c.expanded-expanded.result ≡ expansions planned.passes = omega (arith, c.expanded-expanded.ensures.value, of_plan) in
-    searched_by by c.args.lattice.now old.guide c.args.start c.args.goal c.args.how.now c.args.outputs.now before old.search.labels new.search.labels old.search.raised
+    searched_by by w guide c.args.start c.args.goal c.args.how.now c.args.outputs.now before old.search.labels new.search.labels old.search.raised
     old.counts.per_plan new.counts.run c.expanded-expanded.result planned c.in_ok-labels.labels c.ask_of-ask.result c.is_some.result c.args.plan c.record_of.result
-    (subst (λ (t : ℕ). IsBest c.args.lattice.now t (distance_in old.guide)) set.goal_is c.requires.ready.best) begins c.ask_of-ask.ensures.ask
-    (subst (λ (t : ℕ). ArePasses means (inquiry c.args.lattice.now (distance_in old.guide) t c.ask_of-ask.result) c.ask_of-ask.result.first old.search.labels planned.passes new.search.labels planned.spent) set.goal_is made.passes)
-    (subst (λ (t : ℕ). IsResultOf (network_of c.args.lattice.now) (distance_in old.guide) t new.search.labels planned.outcome) set.goal_is made.outcome)
+    (g.met.R.Replan.guided c.args.replanner.now w c.args.start c.args.goal c.requires.ready set.between) goes.begins c.ask_of-ask.ensures.ask
+    (subst (λ (t : ℕ). ArePasses means (inquiry_of (d.network w) guide t c.ask_of-ask.result) c.ask_of-ask.result.first old.search.labels planned.passes new.search.labels planned.spent) set.between.to made.passes)
+    (subst (λ (t : ℕ). IsResultOf (d.network w) guide t new.search.labels planned.outcome) set.between.to made.outcome)
     set.budget_is run used (λ is. in_run old.counts.run rises (within.used_up is)) within.of_plan c.in_ok-planned.ensures.run made.few
     (λ is ample. made.enough is (omega (arith, ample, set.budget_is)))
-    c.is_some.ensures (c.in_ok-planned.ensures.same.start ∙ set.start_is)
-    (subst (λ (m : Marks). IsThere c.is_some.result (IsShown c.args.outputs.now.form (network_of c.args.lattice.now) (distance_in old.guide) m.start c.args.goal c.args.plan m planned.outcome) c.in_ok-labels.labels) c.labels.ensures.value
-    (subst (λ (t : Table). IsThere c.is_some.result (IsShown c.args.outputs.now.form (network_of c.args.lattice.now) (distance_in t) c.labels.result.now.start c.args.goal c.args.plan c.labels.result.now planned.outcome) c.in_ok-labels.labels) guide c.in_ok-labels.ensures.shown))
+    c.is_some.ensures
+    (subst (λ (h : ℕ → ℕ). IsThere c.is_some.result (IsShown c.args.outputs.now.form (d.network w) h (d.from c.args.start c.args.goal) to c.args.plan new.search.labels planned.outcome) c.in_ok-labels.labels) c.plan.ensures.guide c.in_ok-labels.ensures.shown)
     c.record_of.ensures.number c.record_of.ensures.passes c.record_of.ensures.expanded c.record_of.ensures.told c.record_of.ensures.labels
     (subst (λ (l : List ℕ). IfOk c.record_of.result (λ x. x.raised ≡ l)) (c.in_ok-raised.ensures.told ∙ ap (λ (l : List ℕ). if c.ask_of-ask.result.traced then l else []) c.raised.ensures.value) c.record_of.ensures.raised)
     c.record_of.ensures.marked
@@ -146,10 +168,10 @@ no_value P (Ok x) is = absurd (cc)
 no_value P (Err e) is = tt
 
 pub returns-in_err-planned-clause-searched : goal.returns-in_err-planned-clause-searched
-returns-in_err-planned-clause-searched g c = λ before begins counted. no_value _ c.from_residual-in_err-planned.result c.from_residual-in_err-planned.ensures.0
+returns-in_err-planned-clause-searched g c = λ before goes. no_value _ c.from_residual-in_err-planned.result c.from_residual-in_err-planned.ensures.0
 
 pub returns-in_err-raised-clause-searched : goal.returns-in_err-raised-clause-searched
-returns-in_err-raised-clause-searched g c = λ before begins counted. no_value _ c.from_residual.result c.from_residual.ensures.0
+returns-in_err-raised-clause-searched g c = λ before goes. no_value _ c.from_residual.result c.from_residual.ensures.0
 
 pub returns-in_err-labels-clause-searched : goal.returns-in_err-labels-clause-searched
-returns-in_err-labels-clause-searched g c = λ before begins counted. no_value _ c.from_residual-in_err-labels.result c.from_residual-in_err-labels.ensures.0
+returns-in_err-labels-clause-searched g c = λ before goes. no_value _ c.from_residual-in_err-labels.result c.from_residual-in_err-labels.ensures.0

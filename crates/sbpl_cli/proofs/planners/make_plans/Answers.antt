@@ -8,5 +8,8 @@ returns-in-Ara-clause-ends g c = ends_by planner.Ara c.in-Ara.is c.plans_by_ara.
 pub returns-in-AdStar-clause-ends : goal.returns-in-AdStar-clause-ends
 returns-in-AdStar-clause-ends g c = ends_by planner.AdStar c.in-AdStar.is c.plans_by_adstar.ensures.ends
 
+pub returns-in-Back-clause-ends : goal.returns-in-Back-clause-ends
+returns-in-Back-clause-ends g c = ends_by planner.Back c.in-Back.is c.plans_by_back.ensures.ends
+
 pub returns-in-Epase-clause-ends : goal.returns-in-Epase-clause-ends
 returns-in-Epase-clause-ends g c = ends_by planner.Epase c.in-Epase.is c.plans_by_epase.ensures.ends

@@ -1,10 +1,15 @@
+use Rattle.std.proofs.Common.{◌<◌}
+use Rattle.sbpl_cost.specs.Lattices.{network_of}
+use Rattle.sbpl_cli.specs.Headline.{start_after}
 use Rattle.sbpl_cli.specs.Writing.{WritesOnly}
 use Rattle.sbpl_cli.proofs.Going.{IsGoing}
 use Rattle.sbpl_cli.proofs.plans.go_through.Given as goal
 
--- the plans so far were made and told, and the map is that after this number of batches
+-- the plans so far were made and told, the map is that after this number of batches, and the start is a state
 abbrev pub invariant-loop-k : goal.invariant-loop-k
 invariant-loop-k g l = record {
-  going : IsGoing (record { Note = g.row.S-Note.Denot; means = g.S.Search.meaning; line = g.S.Note.Traced.line }) (g.T.Telling.written l.fn.telling) l.fn.lattice l.fn.changes l.fn.how l.fn.outputs l.fn.start l.fn.goal l.lattice l.k l.replanner (g.D.Desk.state l.fn.desk) (g.D.Desk.state l.desk);
+  going : IsGoing (record { Note = g.row.R-Note.Denot; means = g.R.Replan.meaning; line = g.R.Note.Traced.line; direction = g.R.Replan.direction }) (g.T.Telling.written l.fn.telling) l.fn.lattice l.fn.course.batches l.fn.how l.fn.outputs (start_after l.fn.lattice.env l.fn.start l.fn.course.moves) l.fn.goal l.lattice l.k l.start (g.R.Replan.standing l.replanner) (g.D.Desk.state l.fn.desk) (g.D.Desk.state l.desk);
+  ready : g.R.Replan.ready l.replanner l.lattice;
+  inside : l.start < (network_of l.lattice).states;
   frame : WritesOnly (g.T.Telling.under l.fn.telling) (g.D.Desk.state l.fn.desk) (g.D.Desk.state l.desk);
 }

@@ -1,0 +1,42 @@
+use Rattle.std.proofs.Common.{ℕ, sym, subst}
+use Rattle.std.specs.Prelude.{IfOk, OnErr}
+use Rattle.sbpl_plan.specs.Planned.{IsPlanned}
+use Rattle.sbpl_cost.specs.Lattices.{network_of}
+use Rattle.sbpl_heur.specs.Bests.{distance_in}
+use Rattle.sbpl_labels.specs.Counts.{Counts}
+use Rattle.sbpl_plan.specs.OutOfMemory.{RunsOutOfMemory}
+use Rattle.sbpl_plan.specs.Passing.{inquiry_of}
+use Rattle.sbpl_replan.specs.Directions.{forwards}
+use Rattle.sbpl_replan.specs.Replanning.{IsReadyIn, Replanning, StandsOutOfMemory, at_plan, inquiry, standing_of}
+use Rattle.sbpl_replan.proofs.Changing.{on_err_so, ready_again, stands}
+use Rattle.sbpl_replan.proofs.replanner.ReplannerReplan.plan.Goals as goal
+
+pub returns-clause-planned : goal.returns-clause-planned
+returns-clause-planned g c =
+    let means = g.S.Search.meaning in
+    let w = c.args.lattice.now in
+    let ask = c.args.ask.now in
+    let result = c.plan-planned.result in
+    let new = g.S.Search.state c.plan-planned.new.search in
+    let old : Replanning g.row.S-Note.Denot = record { search = g.S.Search.state c.self.inside.search; goal = c.self.inside.goal; guide = c.self.inside.guide; counts = c.self.inside.budget } in
+    subst (λ (r : Replanning g.row.S-Note.Denot). IsReadyIn means w r → IfOk result (IsPlanned means (inquiry forwards w (distance_in r.guide) (standing_of r) ask) r.search new (at_plan r.counts) c.plan-planned.new.budget)) c.self.view_is
+    (λ ready. subst (λ (t : ℕ). IfOk result (IsPlanned means (inquiry_of (network_of w) (distance_in old.guide) t ask) old.search new (at_plan old.counts) c.plan-planned.new.budget)) (sym ready.to_goal)
+    (subst (λ (before : Counts). IfOk result (IsPlanned means (inquiry_of (network_of w) (distance_in old.guide) old.goal ask) old.search new before c.plan-planned.new.budget)) c.next_plan.ensures.begun c.plan-planned.ensures.planned))
+    c.requires.ready
+
+pub returns-clause-memory : goal.returns-clause-memory
+returns-clause-memory g c =
+    let means = g.S.Search.meaning in
+    let w = c.args.lattice.now in
+    let ask = c.args.ask.now in
+    let result = c.plan-planned.result in
+    let guide = c.self.inside.guide in
+    let old : Replanning g.row.S-Note.Denot = record { search = g.S.Search.state c.self.inside.search; goal = c.self.inside.goal; guide = guide; counts = c.self.inside.budget } in
+    let new : Replanning g.row.S-Note.Denot = record { search = g.S.Search.state c.plan-planned.new.search; goal = c.self.inside.goal; guide = guide; counts = c.plan-planned.new.budget } in
+    subst (λ (r : Replanning g.row.S-Note.Denot). IsReadyIn means w r → OnErr result (StandsOutOfMemory means (inquiry forwards w (distance_in r.guide) (standing_of r) ask) (IsReadyIn means w new) (standing_of r) (standing_of new))) c.self.view_is
+    (λ ready. on_err_so result _ _
+    (λ runs. stands means (inquiry forwards w (distance_in guide) (standing_of old) ask) (IsReadyIn means w new) (standing_of old) (standing_of new) c.used-counts.ensures.counts (λ labels same fresh. ready_again means w old new.search new.counts ready labels same fresh)
+    (subst (λ (t : ℕ). RunsOutOfMemory means (inquiry_of (network_of w) (distance_in guide) t ask) ask.first old.search new.search (at_plan old.counts) new.counts) (sym ready.to_goal)
+    (subst (λ (before : Counts). RunsOutOfMemory means (inquiry_of (network_of w) (distance_in guide) c.self.inside.goal ask) ask.first old.search new.search before new.counts) c.next_plan.ensures.begun runs)))
+    c.plan-planned.ensures.memory)
+    c.requires.ready

@@ -1,0 +1,53 @@
+-- The way in which plans are searched: from the start to the goal, or from the goal to the start.
+use Rattle.std.specs.Prelude.{◌≡◌, ℕ, ◌<◌, Bool, true, false, List}
+use Rattle.sbpl_graph.specs.Network.{Network}
+use Rattle.sbpl_back.specs.Reversed.{AreTurned, reversed}
+use Rattle.sbpl_cost.specs.Lattices.{network_of}
+use Rattle.sbpl_cost.specs.World.{World}
+use Rattle.sbpl_cost.specs.declared.arc_end.ArcEnd.{ArcEnd}
+use Rattle.sbpl_cost.specs.declared.arc_end.ArcEnd.TheVariants as end
+use Rattle.sbpl_heur.specs.Bests.{IsBest}
+
+-- network: the graph of a world over which the search goes
+-- from, to: of the start and the goal of a plan, the state from which the search goes, which is the start of its labels, and the state
+-- to which it goes
+-- guides: what the search is guided by in a world, for a start and a goal
+-- touched: the end of the arcs that read a changed cell at which labels are recomputed
+-- moves: whether the start may be another one for each plan
+-- leads: these arcs are the path that the search found, from the start of the plan to its goal
+pub record Direction : Type 1 where
+  pub network : World → Network
+  pub from : (start goal : ℕ) → ℕ
+  pub to : (start goal : ℕ) → ℕ
+  pub guides : World → (start goal : ℕ) → (guide : ℕ → ℕ) → Type 0
+  pub touched : ArcEnd
+  pub moves : Bool
+  pub leads : World → (start goal : ℕ) → (found path : List ℕ) → Type 0
+
+-- from the start over the lattice, by the best heuristic
+abbrev pub forwards : Direction
+forwards = record {
+  network = network_of;
+  from = λ start goal. start;
+  to = λ start goal. goal;
+  guides = λ w start goal guide. IsBest w goal guide;
+  touched = end.Head;
+  moves = false;
+  leads = λ w start goal found path. path ≡ found;
+}
+
+-- at each state the guide says the gap from the start
+abbrev pub IsGapFrom : World → (start : ℕ) → (guide : ℕ → ℕ) → Type 0
+IsGapFrom w start guide = (s : ℕ) → s < (network_of w).states → guide s ≡ (network_of w).gap start s
+
+-- from the goal over the reversed graph of the lattice, by the gap from the start, which may move
+abbrev pub backwards : Direction
+backwards = record {
+  network = λ w. reversed (network_of w);
+  from = λ start goal. goal;
+  to = λ start goal. start;
+  guides = λ w start goal guide. IsGapFrom w start guide;
+  touched = end.Source;
+  moves = true;
+  leads = λ w start goal found path. AreTurned (network_of w) goal found start path;
+}
