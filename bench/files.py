@@ -91,6 +91,21 @@ def changes(draws, n, batches, cells):
     return "\n".join(lines) + "\n"
 
 
+def moved(text, legs):
+    """An environment in which a robot has driven these legs, each of which ended at a place, while a cell closed."""
+    lines = text.splitlines()
+    first = lines.index("environment:") + 1
+    for place, (x, y) in legs:
+        costs = lines[first + y].split()
+        costs[x] = "254"
+        lines[first + y] = " ".join(costs)
+    if legs:
+        x, y, t = legs[-1][0]
+        at = next(i for i, line in enumerate(lines) if line.startswith("start"))
+        lines[at] = f"start(meters,rads): {0.025 * x + 0.0125:.4f} {0.025 * y + 0.0125:.4f} {units(ANGLES[t])}"
+    return "\n".join(lines) + "\n"
+
+
 def long_primitive(poses):
     """One primitive with this many poses on a half circle of a hundred cells."""
     lines = ["resolution_m: 0.025", "numberofangles: 16", "totalnumberofprimitives: 1", "primID: 0",

@@ -323,9 +323,10 @@ def read_primitives(path: str, cell: int, headings: int = USUAL_HEADINGS) -> lis
     return primitives
 
 
-def read_changes(path: str, environment: Environment) -> list[list[tuple[int, int, int]]]:
-    """Reads a change file; its batches, each a list of x, y and the cost that is written."""
-    batches, batch, unended = [], [], 0
+def read_changes(path: str, environment: Environment) -> tuple[list[list[tuple[int, int, int]]], list[Place]]:
+    """Reads a change file; its batches, each a list of x, y and the cost that is written, and where each plan begins."""
+    place = environment.place_of(environment.start)
+    batches, batch, places, unended = [], [], [place], 0
     for number, line in enumerate(read_lines(path), 1):
         fields = line.removesuffix("\r").replace("\t", " ").split(" ")
         fields = [text for text in fields if text]
@@ -333,23 +334,28 @@ def read_changes(path: str, environment: Environment) -> list[list[tuple[int, in
             continue
         if fields == ["replan"]:
             batches.append(batch)
+            places.append(place)
             batch, unended = [], 0
             continue
-        if fields[0] != "cell" or len(fields) != 4:
-            raise BadInput(f"{path}:{number}: neither 'cell X Y C' nor 'replan'")
+        if fields[0] not in ("cell", "start") or len(fields) != 4:
+            raise BadInput(f"{path}:{number}: neither 'cell X Y C' nor 'start X Y T' nor 'replan'")
         values = [whole(text) for text in fields[1:]]
         if None in values:
             raise BadInput(f"{path}:{number}: '{fields[1 + values.index(None)][:40]}' is no whole number")
-        x, y, cost = values
+        x, y, last = values
         if not environment.is_on_map(x, y):
-            raise BadInput(f"{path}:{number}: cell {x} {y} is off the map")
-        if not 0 <= cost <= 255:
-            raise BadInput(f"{path}:{number}: the cost {cost} is not in 0..255")
-        batch.append((x, y, cost))
+            raise BadInput(f"{path}:{number}: {fields[0]} {x} {y} is off the map")
+        kind, most = ("cost", 255) if fields[0] == "cell" else ("heading", environment.headings - 1)
+        if not 0 <= last <= most:
+            raise BadInput(f"{path}:{number}: the {kind} {last} is not in 0..{most}")
+        if fields[0] == "cell":
+            batch.append((x, y, last))
+        else:
+            place = Place(x, y, last)
         unended = number
     if unended:
-        raise BadInput(f"{path}:{unended}: no 'replan' follows the last write")
-    return batches
+        raise BadInput(f"{path}:{unended}: no 'replan' follows the last line")
+    return batches, places
 
 
 def apply_batch(costs: list[list[int]], batch: list[tuple[int, int, int]]) -> dict[tuple[int, int], int]:
@@ -450,15 +456,16 @@ def centre_of(cell: int, place: Place) -> tuple[float, float]:
 
 
 def trail(report: str, environment: Environment, primitives: list[Primitive],
-          plan: Plan) -> list[list[tuple[float, float, float]]]:
+          plan: Plan, start: Place | None) -> list[list[tuple[float, float, float]]]:
     """The poses along each step of a path, in metres and radians from the map's lower left corner.
 
-    The path must lead from the environment's start to its end by the primitives; otherwise the files do not belong together.
+    The path must lead by the primitives from this start, where it is known, to the environment's end; otherwise the files do
+    not belong together.
     """
     table = {(primitive.start, primitive.id): primitive for primitive in primitives}
     legs, place = [], plan.start
-    if place != environment.place_of(environment.start):
-        raise BadInput(f"{report}:{plan.line}: the path of plan {plan.number} does not begin at the environment's start")
+    if start not in (None, place):
+        raise BadInput(f"{report}:{plan.line}: the path of plan {plan.number} does not begin at {start.x} {start.y} {start.t}")
     for step in plan.steps:
         primitive = table.get((place.t, step.id))
         if primitive is None:

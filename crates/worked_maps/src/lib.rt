@@ -19,6 +19,8 @@ mod lattices;
 #[cfg(test)]
 mod map;
 #[cfg(test)]
+mod moving;
+#[cfg(test)]
 mod replan;
 #[cfg(test)]
 mod sweep;

@@ -18,7 +18,7 @@ use sbpl_graph::{Graph, Guide};
 use sbpl_heur::Best;
 use sbpl_map::Write;
 use sbpl_plan::{Ask, FoundPath, Outcome, Planned};
-use sbpl_replan::Replanner;
+use sbpl_replan::{Replan, Replanner};
 use sbpl_search::Search;
 use sbpl_serial::Step;
 use std::alloc::Global;

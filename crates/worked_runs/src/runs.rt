@@ -58,7 +58,7 @@ fn hold_all(desk: &mut MemoryDesk, files: &[(&str, &str)]) -> Result<(), Fail> {
 }
 
 /// Runs these words on a desk, and compares the status and what is written to standard output.
-fn compare_on(
+pub(crate) fn compare_on(
     rt: &(impl Abort + Threads + Wait + Sync),
     alloc: Global,
     words: &[&str],
@@ -983,7 +983,7 @@ const UNCHANGED: &str =
     "plan 0\npass 1.000 expanded 4 best 100 bound 1.000\npath 3 cost 100 bound 1.000\npose 0 0 0\nstep 2 0 1 0\nstep 1 2 1 0\nstep 3 2 0 0\nplan 1\npass 1.000 expanded 0 best 100 bound 1.000\npath 3 cost 100 bound 1.000\npose 0 0 0\nstep 2 0 1 0\nstep 1 2 1 0\nstep 3 2 0 0\ndone\n";
 
 /// Plans on a desk with an environment, primitives and changes, and compares the status and what is written.
-fn compare_changes(
+pub(crate) fn compare_changes(
     rt: &(impl Abort + Threads + Wait + Sync),
     alloc: Global,
     files: &[(&str, &str)],
