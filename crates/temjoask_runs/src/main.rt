@@ -1,5 +1,12 @@
-//! Runs of the program, one after another, each on words of its own. It is here to be tested: after what each run writes stands
-//! its status.
+//! Runs of the program, one after another, as the file `session` has them. It is here to be tested: each line of the session
+//! is printed, and after it what its run writes, and the run's status.
+//!
+//! A line of a session is one of these; `\n` in it stands for the end of a line.
+//!
+//! - `$ temjoask WORDS` runs the program on these words.
+//! - `$ cat NAME` prints a file.
+//! - `$ edit NAME: OLD -> NEW` writes the file `edited`, which is the file of that name with one text in place of another, once.
+//! - Any other line says what the runs after it show.
 #![tactic(auto)]
 
 use sbpl_desk::RealDesk;
@@ -9,59 +16,11 @@ use std::sync::Wait;
 use std::thread::Threads;
 use std::{fs, io};
 
-/// The words of runs that plan for a disc, and of the list of what it sweeps.
-const DISCS: [&str; 3] = [
-    "plan e3.cfg f1.mprim --radius 0.0125",
-    "plan e3.cfg f1.mprim --radius=0.012500001",
-    "sweep e1.cfg f1.mprim --radius 0.012500001",
-];
-
-/// Those of runs with settings of the search.
-const SEARCHES: [&str; 5] = [
-    "plan e2.cfg f2.mprim --first 3.000 --step 0.500 --bound 1.000",
-    "plan --first=3 --step=1 e2.cfg --planner ara f2.mprim",
-    "plan e2.cfg f2.mprim --first 3 --bound=1.5",
-    "plan e1.cfg f1.mprim --budget 1",
-    "plan e2.cfg f2.mprim --budget 1",
-];
-
-/// Those of runs on a map that changes. The labels that one writes are checked by the next.
-const CHANGES: [&str; 3] = [
-    "plan e2.cfg f2.mprim --changes there_and_back --labels labels --trace trace",
-    "check e2.cfg f2.mprim labels --changes there_and_back",
-    "plan e2.cfg f2.mprim --changes there_and_back --planner ara",
-];
-
-/// Those of runs that write labels anew, and check them.
-const LABELS: [&str; 4] = [
-    "plan e1.cfg f1.mprim --labels labels --trace trace",
-    "check e1.cfg f1.mprim labels",
-    "check e1.cfg f1.mprim flawed.labels",
-    "check e1.cfg f1.mprim ended.labels",
-];
-
-/// Those of a demonstration, and of runs that tell help and the version.
-const TEXTS: [&str; 3] = ["demo 7 12 8", "sweep --help", "--version"];
-
-/// Those of runs that are refused, and of one that cannot write its labels.
-const REFUSALS: [&str; 9] = [
-    "plan e1.cfg",
-    "plan e1.cfg f1.mprim --budgte 5",
-    "plan e1.cfg f1.mprim --budget 0",
-    "plan short.cfg f1.mprim",
-    "plan e1.cfg free.mprim",
-    "plan --radius 1000 e1.cfg f1.mprim --labels=labels",
-    "plan e1.cfg f1.mprim --changes off_the_map",
-    "plan none.cfg f1.mprim",
-    "plan e1.cfg f1.mprim --labels none/labels",
-];
-
 /// Runs the program on the words of a line, and prints its status, and the message that came with it.
 fn run_line<R: Files + Print + AllocGlobal + Threads + Wait + Sync>(
     rt: &R,
     line: &str,
 ) -> io::Result<()> {
-    println!(rt; "$ temjoask {line}")?;
     let mut words = Vec::new(rt.alloc());
     for word in line.split(' ') {
         words.push(String::from_str(rt.alloc(), word)?)?;
@@ -85,31 +44,57 @@ fn run_line<R: Files + Print + AllocGlobal + Threads + Wait + Sync>(
     }
 }
 
-/// Runs the program on each line in turn.
-fn run_lines<R: Files + Print + AllocGlobal + Threads + Wait + Sync>(
-    rt: &R,
-    lines: &[&str],
-) -> io::Result<()> {
-    for line in lines {
-        run_line(rt, line)?;
-    }
-    Ok(())
-}
-
-/// Prints what a run wrote to a file.
+/// Prints what a file holds.
 fn show<R: Files + Print + AllocGlobal>(rt: &R, name: &str) -> io::Result<()> {
     let text = fs::read_to_string(rt, name)?;
-    print!(rt; "$ cat {name}\n{text}")
+    print!(rt; "{text}")
+}
+
+/// Writes `edited`: the file of this name with one text in place of another.
+fn edit<R: Files + Print + AllocGlobal>(
+    rt: &R,
+    name: &str,
+    old: &str,
+    new: &str,
+) -> io::Result<()> {
+    let text = fs::read_to_string(rt, name)?;
+    let edited = text.replacen(rt.alloc(), old, new, 1)?;
+    drop(text);
+    fs::write(rt, "edited", edited)
+}
+
+/// Does what an edit says, as in `NAME: OLD -> NEW`.
+fn edit_line<R: Files + Print + AllocGlobal>(rt: &R, line: &str) -> io::Result<()> {
+    if let Some((name, change)) = line.split_once(": ") {
+        if let Some((old, new)) = change.split_once(" -> ") {
+            return edit(rt, name, old, new);
+        }
+    }
+    println!(rt; "no such edit")
+}
+
+/// Prints a line of a session, and does what it says.
+fn play_line<R: Files + Print + AllocGlobal + Threads + Wait + Sync>(
+    rt: &R,
+    line: &str,
+) -> io::Result<()> {
+    println!(rt; "{line}")?;
+    if let Some(words) = line.strip_prefix("$ temjoask ") {
+        run_line(rt, words)
+    } else if let Some(name) = line.strip_prefix("$ cat ") {
+        show(rt, name)
+    } else if let Some(change) = line.strip_prefix("$ edit ") {
+        let change = change.replace(rt.alloc(), "\\n", "\n")?;
+        edit_line(rt, change.as_str())
+    } else {
+        Ok(())
+    }
 }
 
 fn main(rt: HostRuntime) -> io::Result<()> {
-    run_lines(&rt, &DISCS)?;
-    run_lines(&rt, &SEARCHES)?;
-    run_lines(&rt, &CHANGES)?;
-    show(&rt, "trace")?;
-    run_lines(&rt, &LABELS)?;
-    show(&rt, "labels")?;
-    show(&rt, "trace")?;
-    run_lines(&rt, &TEXTS)?;
-    run_lines(&rt, &REFUSALS)
+    let session = fs::read_to_string(&rt, "session")?;
+    for line in session.lines() {
+        play_line(&rt, line)?;
+    }
+    Ok(())
 }

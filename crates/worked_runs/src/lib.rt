@@ -4,8 +4,6 @@
 #[cfg(test)]
 mod hostile;
 #[cfg(test)]
-mod moving;
-#[cfg(test)]
 mod parallel;
 #[cfg(test)]
 mod runs;

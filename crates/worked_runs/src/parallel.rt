@@ -1,8 +1,6 @@
 //! Plans by ePA*SE with several workers, over a desk in memory.
 
-use crate::runs::{
-    EVENTS, THERE_AND_BACK, THREE_HOLD, compare_held, desk_of, labels_of, status_at,
-};
+use crate::runs::{THERE_AND_BACK, THREE_HOLD, compare_held, desk_of, labels_of, status_at};
 use sample_files::{E2, F2, car, draw, field};
 use sbpl_cli::{Gate, NoGate};
 use std::alloc::{AllocError, Global};
@@ -115,42 +113,6 @@ fn judged_side_by_side(rt: HostRuntime) -> Result<(), Fail> {
     let compared = compare_workers(&rt, rt.alloc(), "2", &gate);
     assert!(rt; gate.met.load(Ordering::SeqCst), "one judgement at a time");
     compared
-}
-
-/// The report of the repair of a way, by one worker.
-const REPAIRED: &str =
-    "plan 0\npass 1.000 expanded 4 best 100 bound 1.000\npath 3 cost 100 bound 1.000\npose 0 0 0\nstep 2 0 1 0\nstep 1 2 1 0\nstep 3 2 0 0\nplan 1\npass 1.000 expanded 1 best 150 bound 1.000\npath 1 cost 150 bound 1.000\npose 0 0 0\nstep 1 2 0 0\nplan 2\npass 1.000 expanded 1 best 100 bound 1.000\npath 4 cost 100 bound 1.000\npose 0 0 0\nstep 2 0 1 0\nstep 0 1 1 0\nstep 0 2 1 0\nstep 3 2 0 0\ndone\n";
-
-/// The trace of its plans 1 and 2.
-const REPAIRS: &str =
-    "trace plan 1\nraise 80\npass 1.000\nopen 16\ntake 0 0 16 0\npost 0 75\ntake 1 0 16 2\npost 1 75\nend\ntrace plan 2\npass 1.000\nopen 80\ntake 0 0 80 3\npost 0 25\nend\n";
-
-/// A repair by one worker: its report, and in its trace the state that is raised before the passes of plan 1.
-#[test]
-fn repaired_by_events(rt: HostRuntime) -> Result<(), Fail> {
-    let files = [("e", E2), ("m", F2), ("c", THERE_AND_BACK)];
-    let words = [
-        "plan",
-        "e",
-        "m",
-        "--changes=c",
-        "--planner=epase",
-        "--workers=1",
-        "--trace=t",
-    ];
-    let mut desk = desk_of(rt.alloc(), &files)?;
-    let status = status_at(&rt, rt.alloc(), &words, &mut desk, &NoGate);
-    let report = desk.written("-") == REPAIRED.as_bytes();
-    let first = desk.written("t").starts_with(EVENTS.as_bytes());
-    let rest = desk.written("t").ends_with(REPAIRS.as_bytes());
-    let long = desk.written("t").len();
-    drop(desk);
-    assert_eq!(rt; status?, 0);
-    assert!(rt; report);
-    assert!(rt; first);
-    assert!(rt; rest);
-    assert_eq!(rt; long, EVENTS.len() + REPAIRS.len());
-    Ok(())
 }
 
 /// The cost in the line of a path.
