@@ -3,14 +3,14 @@
 use crate::pose::Pose;
 
 /// The map's size: cells along x and along y.
-#[derive(Clone, Copy, Debug, PartialEq, Eq)]
+#[derive(Clone, Copy)]
 pub(crate) struct Extent {
     pub(crate) width: u32,
     pub(crate) height: u32,
 }
 
 /// The lattice's size: cells along x and along y, and headings.
-#[derive(Clone, Copy, Debug, PartialEq, Eq)]
+#[derive(Clone, Copy)]
 pub(crate) struct Size {
     pub(crate) width: u32,
     pub(crate) height: u32,
@@ -18,7 +18,7 @@ pub(crate) struct Size {
 }
 
 /// What costs mean.
-#[derive(Clone, Copy, Debug, PartialEq, Eq)]
+#[derive(Clone, Copy)]
 pub(crate) struct Thresholds {
     pub(crate) obsthresh: u8,
     pub(crate) inscribed: u8,
@@ -26,7 +26,7 @@ pub(crate) struct Thresholds {
 }
 
 /// The side of a cell in nanometres, the speed in nanometres per second and the time to turn by 45 degrees in nanoseconds.
-#[derive(Clone, Copy, Debug, PartialEq, Eq)]
+#[derive(Clone, Copy)]
 pub(crate) struct Rates {
     pub(crate) cell: i64,
     pub(crate) speed: i64,
@@ -34,7 +34,7 @@ pub(crate) struct Rates {
 }
 
 /// All but the poses and the costs.
-#[derive(Clone, Copy, Debug, PartialEq, Eq)]
+#[derive(Clone, Copy)]
 pub(crate) struct Header {
     pub(crate) size: Size,
     pub(crate) thresholds: Thresholds,
@@ -42,7 +42,7 @@ pub(crate) struct Header {
 }
 
 /// The start and the end.
-#[derive(Clone, Copy, Debug, PartialEq, Eq)]
+#[derive(Clone, Copy)]
 pub(crate) struct Ends {
     pub(crate) start: Pose,
     pub(crate) end: Pose,

@@ -1,5 +1,5 @@
 -- What the directions in which plans are searched leave open in worlds with one graph: nothing that is seen.
-use Rattle.std.proofs.Common.{◌≡◌, ℕ, ◌<◌, Bool, true, false, List, refl, sym, ◌∙◌, ap, subst}
+use Rattle.std.proofs.Common.{◌≡◌, ℕ, ◌<◌, Bool, true, false, List, sym, ◌∙◌, ap, subst}
 use Rattle.sbpl_graph.specs.Network.{Network}
 use Rattle.sbpl_back.specs.Reversed.{AreTurned, PathsTurnOnce, reversed}
 use Rattle.sbpl_cfg.specs.Environment.{Environment}

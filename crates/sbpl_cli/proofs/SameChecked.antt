@@ -1,5 +1,5 @@
 -- The checking of one text is determined, as far as memory lasts.
-use Rattle.std.proofs.Common.{◌≡◌, ◌≢◌, ℕ, zero, suc, ◌+◌, ◌⊎◌, ◌++◌, Bool, Option, Some, None, List, [], ◌∷◌, length, IsSome, IfSome, refl, sym, ap, subst, ◌∙◌, inl, inr}
+use Rattle.std.proofs.Common.{◌≡◌, ◌≢◌, ℕ, zero, suc, ◌+◌, ◌⊎◌, ◌++◌, Option, Some, None, List, [], ◌∷◌, length, IsSome, IfSome, refl, sym, ap, subst, ◌∙◌, inl, inr}
 use Rattle.sbpl_graph.specs.Network.{Network}
 use Rattle.sbpl_fixed.specs.Formats.{Left, start_at}
 use Rattle.sbpl_fixed.specs.Tokens.{Piece}
@@ -12,8 +12,6 @@ use Rattle.sbpl_cert.specs.declared.section.Section.{Section}
 use Rattle.sbpl_cert.specs.Versions.{claim_by, outcome_of}
 use Rattle.sbpl_cost.specs.Alike.{AlikeWorldsAreOneGraph}
 use Rattle.sbpl_cost.specs.States.{state_count}
-use Rattle.sbpl_cost.specs.World.{World}
-use Rattle.sbpl_map.specs.declared.write.Write.{Write}
 use Rattle.sbpl_job.specs.declared.job.CheckJob.{CheckJob}
 use Rattle.sbpl_cli.specs.declared.section_check.SectionStop.{SectionStop}
 use Rattle.sbpl_cli.specs.declared.section_check.SectionStop.TheVariants as section
@@ -21,7 +19,7 @@ use Rattle.sbpl_cli.specs.Asked.{checked_direction}
 use Rattle.sbpl_cli.specs.Causes.{ReadsCourse, scope_of}
 use Rattle.sbpl_cli.specs.Texts.{Scope}
 use Rattle.sbpl_cli.specs.declared.course.Course.{Course}
-use Rattle.sbpl_cli.specs.Checked.{AreChecked, Case, Ground, IsFlawed, IsHolding, IsShownHolding, IsStoppedIn, IsTrailingAt, case_of, from_in, to_in}
+use Rattle.sbpl_cli.specs.Checked.{AreChecked, Case, Ground, IsFlawed, IsHolding, IsStoppedIn, IsTrailingAt, case_of, from_in, to_in}
 use Rattle.sbpl_cli.specs.Clear.{SectionsAreClear, TextsAreClear}
 use Rattle.sbpl_cli.specs.Headline.{IsStateOf, start_after}
 use Rattle.sbpl_cli.specs.Intents.{checked_writes}

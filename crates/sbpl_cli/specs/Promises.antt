@@ -14,7 +14,6 @@ use Rattle.sbpl_cert.specs.declared.fault.LabelFault.{LabelFault}
 use Rattle.sbpl_cert.specs.declared.flaw.Flaw.{Flaw}
 use Rattle.sbpl_cert.specs.declared.outcome.Outcome.{Outcome}
 use Rattle.sbpl_cli.specs.Asked.{Known}
-use Rattle.sbpl_job.specs.Jobs.{moves_in}
 use Rattle.sbpl_cli.specs.declared.section_check.SectionStop.{SectionStop}
 use Rattle.sbpl_cli.specs.declared.section_check.SectionStop.TheVariants as section
 use Rattle.sbpl_job.specs.declared.job.CheckJob.{CheckJob}

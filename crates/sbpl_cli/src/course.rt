@@ -7,7 +7,7 @@ use sbpl_cfg::Place;
 use sbpl_map::{Changes, Moves};
 
 /// Batches of writes to the map, and where the robot is from each batch on, if the file can say that.
-#[derive(Debug, Drop)]
+#[derive(Drop)]
 pub struct Course {
     /// The batches in order.
     pub batches: Changes,

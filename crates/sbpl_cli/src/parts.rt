@@ -7,7 +7,7 @@ use crate::record::PathStep;
 use std::marker::Model;
 
 /// The steps of a path, seen as a list.
-#[derive(Debug, Drop)]
+#[derive(Drop)]
 pub struct Steps {
     items: Vec<PathStep>,
 }

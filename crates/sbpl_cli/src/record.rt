@@ -7,14 +7,14 @@ use sbpl_list::ListOf;
 use sbpl_plan::{Arcs, Outcome, Passes};
 
 /// One step of a path: the primitive's id and the place where it ends.
-#[derive(Clone, Copy, Debug, PartialEq, Eq)]
+#[derive(Clone, Copy)]
 pub struct PathStep {
     pub id: u32,
     pub place: Place,
 }
 
 /// A line of a trace: one thing that a planner noted.
-#[derive(Clone, Copy, Debug, PartialEq, Eq)]
+#[derive(Clone, Copy)]
 pub enum TraceLine {
     /// An overconsistent state was expanded.
     Lower(u32),
@@ -37,7 +37,7 @@ pub enum TraceLine {
 }
 
 /// A path from the start to the goal.
-#[derive(Debug, Drop)]
+#[derive(Drop)]
 pub struct PathRecord {
     /// The summed cost of its arcs.
     pub cost: u64,
@@ -55,7 +55,7 @@ pub struct PathRecord {
 pub type Raised = ListOf<u32>;
 
 /// What a plan did.
-#[derive(Debug, Drop)]
+#[derive(Drop)]
 pub struct PlanRecord {
     /// The plan's number: 0, and one more for each batch of changes.
     pub plan: u32,

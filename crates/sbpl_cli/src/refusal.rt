@@ -8,7 +8,7 @@ use sbpl_map::ChangeFault;
 use sbpl_mprim::PrimFault;
 
 /// A file that a job reads.
-#[derive(Clone, Copy, Debug, PartialEq, Eq)]
+#[derive(Clone, Copy)]
 pub enum Input {
     Environment,
     Primitives,
@@ -17,7 +17,7 @@ pub enum Input {
 }
 
 /// Why a job is refused, once the words have named it.
-#[derive(Clone, Copy, Debug, PartialEq, Eq)]
+#[derive(Clone, Copy)]
 pub enum Refusal {
     /// The environment file has a fault.
     Environment(EnvFault),
@@ -51,7 +51,7 @@ impl Refusal {
 }
 
 /// Why a job stopped before anything was written.
-#[derive(Clone, Copy, Debug, PartialEq, Eq)]
+#[derive(Clone, Copy)]
 pub enum Stop {
     /// The job is refused.
     Refused(Refusal),

@@ -14,7 +14,7 @@ use sbpl_graph::{Graph, Guide};
 use std::alloc::Global;
 
 /// Why the checking of sections ends before the last line.
-#[derive(Clone, Copy, Debug, PartialEq, Eq)]
+#[derive(Clone, Copy)]
 pub enum SectionStop {
     /// A section has this first flaw.
     Flaw(Flaw),

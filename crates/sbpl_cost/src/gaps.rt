@@ -16,7 +16,7 @@ use sbpl_cfg::{Env, Place};
 use sbpl_mprim::{Prim, Prims};
 
 /// The least fractions of cost to cells of the primitives that go each way.
-#[derive(Clone, Copy, Debug)]
+#[derive(Clone, Copy)]
 pub(crate) struct Gaps {
     right: Rate,
     left: Rate,

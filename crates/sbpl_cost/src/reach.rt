@@ -10,7 +10,7 @@ use crate::strip::Strip;
 use sbpl_map::Map;
 
 /// How far cells lie from the source cell of a motion at most, in columns and in rows, to either side.
-#[derive(Clone, Copy, Debug, PartialEq, Eq)]
+#[derive(Clone, Copy)]
 pub(crate) struct Reach {
     pub(crate) columns: u64,
     pub(crate) rows: u64,

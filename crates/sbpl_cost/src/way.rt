@@ -1,7 +1,7 @@
 //! The ways in which a motion can get nearer to a goal.
 
 /// A way to go: along an axis of the map, or round to another heading.
-#[derive(Clone, Copy, Debug, PartialEq, Eq)]
+#[derive(Clone, Copy)]
 pub(crate) enum Way {
     Right,
     Left,

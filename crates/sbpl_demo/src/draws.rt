@@ -4,7 +4,7 @@ ghost use Rattle.std.specs.Prelude.{◌≡◌, ◌/◌, ◌^◌, ◌<◌};
 ghost use Rattle.sbpl_demo.specs.Generator.{next_word, shown};
 
 /// The generator: a word of 64 bits, which each draw replaces.
-#[derive(Debug, Drop)]
+#[derive(Drop)]
 pub(crate) struct Draws {
     word: u64,
 }

@@ -17,14 +17,14 @@ totalnumberofprimitives: 80
 ";
 
 /// A step in cells.
-#[derive(Clone, Copy, Debug)]
+#[derive(Clone, Copy)]
 struct Way {
     x: i32,
     y: i32,
 }
 
 /// A primitive: its number, its heading, the cell and the heading that it goes to, and how dear it is.
-#[derive(Clone, Copy, Debug)]
+#[derive(Clone, Copy)]
 struct Motion {
     id: u32,
     from: u32,

@@ -7,7 +7,7 @@ ghost use Rattle.sbpl_sweep.specs.Reach.{squared_step, IsReach, IsAxis};
 use sbpl_cfg::cell_at;
 
 /// Where a point lies on one axis: the cell that it is in, and how far the cell's sides are from it.
-#[derive(Clone, Copy, Debug)]
+#[derive(Clone, Copy)]
 pub(crate) struct Axis {
     pub(crate) own: i64,
     pub(crate) before: u64,

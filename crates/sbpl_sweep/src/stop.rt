@@ -3,7 +3,7 @@
 use sbpl_fixed::NoMemory;
 
 /// Why the cells of a motion are not listed.
-#[derive(Clone, Copy, Debug)]
+#[derive(Clone, Copy)]
 pub(crate) enum Stop {
     /// They are more than a motion may sweep.
     TooMany,

@@ -1,7 +1,6 @@
 use Rattle.std.proofs.Common.{◌≡◌, ◌+◌, ◌-◌, ◌<◌, ℕ, suc, length, Option, sym, ◌∙◌, ap, subst, arith}
 use Rattle.sbpl_fixed.specs.Formats.{start_at}
 use Rattle.sbpl_cfg.specs.Environment.{Environment}
-use Rattle.sbpl_cost.specs.Lattices.{network_of}
 use Rattle.sbpl_cost.specs.World.{World}
 use Rattle.sbpl_cli.specs.Checked.{Case, case_of}
 use Rattle.sbpl_cfg.specs.declared.pose.Place.{Place}

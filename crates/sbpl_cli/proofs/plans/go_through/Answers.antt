@@ -1,9 +1,8 @@
-use Rattle.std.proofs.Common.{◌≡◌, ◌<◌, ◌+◌, ℕ, length, false, Option, sym, subst, ap, ◌∙◌, arith}
+use Rattle.std.proofs.Common.{◌≡◌, ◌<◌, ℕ, length, Option, sym, subst, ap, ◌∙◌, arith}
 use Rattle.sbpl_cfg.specs.Environment.{Environment}
 use Rattle.sbpl_cfg.specs.declared.pose.Place.{Place}
 use Rattle.sbpl_cost.specs.World.{World}
 use Rattle.sbpl_map.specs.ChangeText.{IsPlaceOnMap}
-use Rattle.sbpl_cli.specs.Headline.{start_after}
 use Rattle.sbpl_cli.proofs.Going.{at_last, changes, sets_out, stops, tells_last, tells_no_more}
 use Rattle.sbpl_cli.proofs.Moving.{move_on_map, next_is, start_first, stays_put, within}
 use Rattle.sbpl_cli.proofs.OnMaps.{batch_on_map}

@@ -1,4 +1,4 @@
-use Rattle.std.proofs.Common.{◌≡◌, ℕ, sym, subst}
+use Rattle.std.proofs.Common.{ℕ, sym, subst}
 use Rattle.sbpl_back.specs.Reversed.{reversed}
 use Rattle.sbpl_back.specs.Starts.{StartIn, from_start}
 use Rattle.sbpl_cost.specs.Lattices.{network_of}
