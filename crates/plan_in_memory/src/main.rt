@@ -20,7 +20,7 @@ use sbpl_cost::Lattice;
 use sbpl_fixed::NoMemory;
 use sbpl_graph::Graph;
 use sbpl_map::Write;
-use sbpl_plan::{Ask, FoundPath, Outcome};
+use sbpl_plan::{Ask, FoundPath, Nobody, Outcome};
 use sbpl_replan::{Replan, Replanner};
 use std::alloc::Global;
 use std::io;
@@ -122,7 +122,7 @@ fn plan(
     ensures ready { OnOk result (IsReadyIn adstar lattice.now plans.new) }
     ensures same { OnOk result (StaysTheSame (standing_of plans.old) (standing_of plans.new)) }
 {
-    let planned = plans.plan(alloc, lattice, &ASK)?;
+    let planned = plans.plan(alloc, lattice, &ASK, &mut Nobody)?;
     let shown = show(rt, lattice, trip, &planned.outcome);
     drop(planned);
     Ok(shown?)

@@ -20,7 +20,7 @@ use sbpl_cost::Lattice;
 use sbpl_fixed::NoMemory;
 use sbpl_graph::Graph;
 use sbpl_job::{Outputs, SearchJob};
-use sbpl_plan::{Ask, FoundPath, Outcome, Planned};
+use sbpl_plan::{Ask, FoundPath, Nobody, Outcome, Planned};
 use std::alloc::Global;
 
 /// The state that an arc leads to, and the step that it is.
@@ -201,7 +201,7 @@ where
 {
     let ask = ask_of(how, outputs);
     let raised = raised_of(alloc, replanner.raised(), ask.traced)?;
-    let planned = replanner.plan(alloc, lattice, &ask)?;
+    let planned = replanner.plan(alloc, lattice, &ask, &mut Nobody)?;
     let labels = replanner.section(
         alloc,
         lattice,

@@ -4,3 +4,4 @@ pub mod Results
 pub mod Retracing
 pub mod Repeating
 pub mod Iterating
+pub mod Observing

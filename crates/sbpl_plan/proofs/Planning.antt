@@ -101,9 +101,10 @@ module _ {Note : Type 0} (means : Meaning Note) (q : Inquiry) (old : State Note)
   }
 
   module _ (now new : State Note) (mid after : Counts) (passes : List (Pass Note)) (eps : ℕ) (so : AreGoingOn means q old now before mid passes eps) where
-    part_after : IsPartOfPlan means q eps now new mid after → IsPartOfPlan means q q.ask.first old new before after
-    part_after part = record {
+    part_after : (Later Told : List (Pass Note) → Type 0) → ((ps : List (Pass Note)) → Later ps → Told (passes ++ ps)) → IsPartOfPlan means q eps now new mid after Later → IsPartOfPlan means q q.ask.first old new before after Told
+    part_after Later Told tells part = record {
       passes = passes ++ part.passes;
+      told = tells part.passes part.told;
       made = so.prefix part.passes new.labels part.made;
       leaves = ready_twice means q.network _ _ _ old now new before mid after (expansions_of_both passes part.passes) so.leaves part.leaves;
     }
@@ -168,23 +169,35 @@ pub on_err : {A E : Type 0} (r : Result A E) (P : Type 0) → P → OnErr r P
 on_err (Ok x) P h = tt
 on_err (Err e) P h = h
 
+-- before the first pass no part of a plan was made
+pub part_of_none : {Note : Type 0} (means : Meaning Note) (q : Inquiry) (eps : ℕ) (old : State Note) (before : Counts) (Told : List (Pass Note) → Type 0)
+    → Told [] → means.ready q.network old.labels before.run → IsStartFresh old.labels → IsPartOfPlan means q eps old old before before Told
+part_of_none means q eps old before Told told ready fresh = record {
+  passes = [];
+  told = told;
+  made = refl;
+  leaves = record { counted = grows_by_none before; ready = ready; fresh = fresh; start = refl; states = refl; same_goal = refl };
+}
+
 -- an iteration is a part of a plan
-pub part_of_one : {Note : Type 0} (means : Meaning Note) (q : Inquiry) (eps : ℕ) (old new : State Note) (before after : Counts) (arcs : List ℕ) (spent : Bool) (p : Pass Note)
-    → IsIteration means q eps old new before after arcs spent p → IsPartOfPlan means q eps old new before after
-part_of_one means q eps old new before after arcs spent p t = record {
+pub part_of_one : {Note : Type 0} (means : Meaning Note) (q : Inquiry) (eps : ℕ) (old new : State Note) (before after : Counts) (arcs : List ℕ) (spent : Bool) (p : Pass Note) (Told : List (Pass Note) → Type 0)
+    → Told (p ∷ []) → IsIteration means q eps old new before after arcs spent p → IsPartOfPlan means q eps old new before after Told
+part_of_one means q eps old new before after arcs spent p Told told t = record {
   passes = p ∷ [];
+  told = told;
   made = inl (refl, (spent, t.pass));
   leaves = subst (λ (n : ℕ). IsReadyAfter means q.network n old new before after) (sym (add-zero p.expanded)) t.leaves;
 }
 
 -- memory runs out after passes that were made
 pub runs_out_after : {Note : Type 0} (means : Meaning Note) (q : Inquiry) (old now new : State Note) (before mid after : Counts) (passes : List (Pass Note)) (eps : ℕ)
-    → AreGoingOn means q old now before mid passes eps → RunsOutOfMemory means q eps now new mid after → RunsOutOfMemory means q q.ask.first old new before after
-runs_out_after means q old now new before mid after passes eps so (inl part) = inl (part_after means q old before now new mid after passes eps so part)
-runs_out_after means q old now new before mid after passes eps so (inr cut) = inr (record {
+    (Later Told : List (Pass Note) → Type 0) → ((ps : List (Pass Note)) → Later ps → Told (passes ++ ps))
+    → AreGoingOn means q old now before mid passes eps → RunsOutOfMemory means q eps now new mid after Later → RunsOutOfMemory means q q.ask.first old new before after Told
+runs_out_after means q old now new before mid after passes eps Later Told tells so (inl part) = inl (part_after means q old before now new mid after passes eps so Later Told tells part)
+runs_out_after means q old now new before mid after passes eps Later Told tells so (inr cut) = inr (record {
   mid = cut.mid;
   between = cut.between;
-  part = part_after means q old before now cut.mid mid cut.between passes eps so cut.part;
+  part = part_after means q old before now cut.mid mid cut.between passes eps so Later Told tells cut.part;
   inflation = cut.inflation;
   cut = cut.cut;
 })

@@ -17,3 +17,7 @@ lowered step eps = max 1000 (eps - step)
 -- how many passes there can be from this inflation on
 abbrev pub most_passes : (step eps : ℕ) → ℕ
 most_passes step eps = (eps - 1000 + (step - 1)) / step + 1
+
+-- no plan makes more passes: the first inflation is at most 100.000, and falls by at least 0.001
+abbrev pub MOST_PASSES : ℕ
+MOST_PASSES = 99001

@@ -6,4 +6,5 @@ pub mod ReadyAfter
 pub mod Iterations
 pub mod Planned
 pub mod OutOfMemory
+pub mod Observed
 pub mod Determined

@@ -8,6 +8,7 @@ mod found;
 mod iterate;
 mod look;
 mod make;
+mod observer;
 mod passes;
 mod result;
 
@@ -15,5 +16,6 @@ pub use ask::Ask;
 pub use facts::plan_is_determined;
 pub use found::Found;
 pub use make::plan;
+pub use observer::{Nobody, Observer};
 pub use passes::{Pass, Passes, Trace};
 pub use result::{Arcs, FoundPath, Outcome, Planned};

@@ -12,6 +12,7 @@ use Rattle.sbpl_search.specs.Ready.{AreUsable, IsStartFresh}
 use Rattle.sbpl_search.specs.State.{State}
 use Rattle.sbpl_serial.specs.Repaired.{ExactWhereSame}
 use Rattle.sbpl_plan.specs.declared.ask.Ask.{Ask}
+use Rattle.sbpl_plan.specs.declared.passes.Pass.{Pass}
 use Rattle.sbpl_plan.specs.OutOfMemory.{RunsOutOfMemory}
 use Rattle.sbpl_plan.specs.Passing.{Inquiry, expansions, inquiry_of}
 use Rattle.sbpl_change.specs.Affected.{AreStates, KeepArcsElsewhere}
@@ -76,11 +77,11 @@ on_err_so (Ok x) P Q so h = tt
 on_err_so (Err e) P Q so h = so h
 
 -- what is left where memory ran out in a plan
-pub stands : {Note : Type 0} (means : Meaning Note) (q : Inquiry) (Ready : Type 0) (old new : Standing Note) → AreCounts new.counts
+pub stands : {Note : Type 0} (means : Meaning Note) (q : Inquiry) (Ready : Type 0) (Told : List (Pass Note) → Type 0) (old new : Standing Note) → AreCounts new.counts
     → (means.ready q.network new.search.labels new.counts.run → new.search.goal ≡ old.search.goal → IsStartFresh new.search.labels → Ready)
-    → RunsOutOfMemory means q q.ask.first old.search new.search (at_plan old.counts) new.counts
-    → StandsOutOfMemory means q Ready old new
-stands means q Ready old new are again (inl part) = inl (record {
+    → RunsOutOfMemory means q q.ask.first old.search new.search (at_plan old.counts) new.counts Told
+    → StandsOutOfMemory means q Ready Told old new
+stands means q Ready Told old new are again (inl part) = inl (record {
   part = part;
   within =
       let used : new.counts.plan ≡ 0 + expansions part.passes = ap (λ (c : Counts). c.plan) part.leaves.counted in
@@ -89,7 +90,7 @@ stands means q Ready old new are again (inl part) = inl (record {
   ready = again part.leaves.ready part.leaves.same_goal part.leaves.fresh;
   same = record { start = part.leaves.start; goal = part.leaves.same_goal; per_plan = ap (λ (c : Counts). c.per_plan) part.leaves.counted };
 })
-stands means q Ready old new are again (inr cut) = inr cut
+stands means q Ready Told old new are again (inr cut) = inr cut
 
 -- another plan may begin where the search went on to the same goal on the same map
 pub ready_again : {Note : Type 0} (means : Meaning Note) (w : World) (r : Replanning Note) (search : State Note) (counts : Counts) → IsReadyIn means w r

@@ -8,6 +8,7 @@ use Rattle.sbpl_search.specs.Ready.{AreUsable, IsStartFresh}
 use Rattle.sbpl_search.specs.State.{State}
 use Rattle.sbpl_serial.specs.declared.step.Step.{Step}
 use Rattle.sbpl_plan.specs.declared.ask.Ask.{Ask}
+use Rattle.sbpl_plan.specs.declared.passes.Pass.{Pass}
 use Rattle.sbpl_plan.specs.OutOfMemory.{IsCutAfterPart, IsPartOfPlan}
 use Rattle.sbpl_plan.specs.Passing.{Inquiry, expansions, inquiry_of}
 use Rattle.sbpl_change.specs.Affected.{AreAffected}
@@ -61,15 +62,15 @@ pub record Follows {Note : Type 0} (d : Direction) (next : ℕ) (old new : Stand
 
 -- Memory ran out after a part of a plan, whose expansions are counted and none of which is beyond the budget; another plan may begin,
 -- where `Ready` says so.
-pub record IsCutPlan {Note : Type 0} (means : Meaning Note) (q : Inquiry) (Ready : Type 0) (old new : Standing Note) : Type 0 where
-  pub part : IsPartOfPlan means q q.ask.first old.search new.search (at_plan old.counts) new.counts
+pub record IsCutPlan {Note : Type 0} (means : Meaning Note) (q : Inquiry) (Ready : Type 0) (Told : List (Pass Note) → Type 0) (old new : Standing Note) : Type 0 where
+  pub part : IsPartOfPlan means q q.ask.first old.search new.search (at_plan old.counts) new.counts Told
   pub within : expansions part.passes ≤ old.counts.per_plan
   pub ready : Ready
   pub same : StaysTheSame old new
 
 -- memory ran out after a part of a plan, or in the pass after it
-abbrev pub StandsOutOfMemory : {Note : Type 0} → Meaning Note → Inquiry → Type 0 → (old new : Standing Note) → Type 0
-StandsOutOfMemory means q Ready old new = IsCutPlan means q Ready old new ⊎ IsCutAfterPart means q q.ask.first old.search new.search (at_plan old.counts) new.counts
+abbrev pub StandsOutOfMemory : {Note : Type 0} → Meaning Note → Inquiry → (Ready : Type 0) → (Told : List (Pass Note) → Type 0) → (old new : Standing Note) → Type 0
+StandsOutOfMemory means q Ready Told old new = IsCutPlan means q Ready Told old new ⊎ IsCutAfterPart means q q.ask.first old.search new.search (at_plan old.counts) new.counts Told
 
 -- ---- forwards
 

@@ -16,7 +16,7 @@ use sbpl_cost::Lattice;
 use sbpl_fixed::NoMemory;
 use sbpl_labels::{Budget, Labels};
 use sbpl_map::Write;
-use sbpl_plan::{Ask, Planned, plan};
+use sbpl_plan::{Ask, Observer, Planned, plan};
 use sbpl_serial::Step;
 use std::alloc::Global;
 use std::marker::Model;
@@ -104,11 +104,12 @@ impl Replan for BackReplanner {
 
     ghost guided = { is_guided_back };
 
-    fn plan(
+    fn plan<O: Observer>(
         &mut self,
         alloc: Global,
         lattice: &Lattice,
         ask: &Ask,
+        observer: &mut O,
     ) -> Result<Planned<Step>, NoMemory> {
         self.budget.next_plan();
         let back = Back::new(lattice);
@@ -121,6 +122,7 @@ impl Replan for BackReplanner {
             self.start,
             ask,
             &mut self.budget,
+            observer,
         );
         let _counts = self.budget.used();
         planned

@@ -1,13 +1,14 @@
 //! Plans one after another, by one planner.
 
-ghost use Rattle.std.specs.Prelude.{◌≡◌, ◌≤◌, ◌<◌, ◌^◌, ◌⊎◌, ℕ, IfOk, OnErr, OnOk};
+ghost use Rattle.std.specs.Prelude.{◌≡◌, ◌+◌, ◌≤◌, ◌<◌, ◌^◌, ◌⊎◌, ℕ, IfOk, OnErr, OnOk};
 ghost use Rattle.sbpl_change.specs.Noted.{AreOnMap};
 ghost use Rattle.sbpl_cost.specs.Lattices.{network_of};
 ghost use Rattle.sbpl_cost.specs.World.{IsWorld, World};
 ghost use Rattle.sbpl_labels.specs.Marks.{states_of};
 ghost use Rattle.sbpl_map.specs.MapAfter.{AreWritten};
-ghost use Rattle.sbpl_plan.specs.Asked.{IsAsk};
+ghost use Rattle.sbpl_plan.specs.Asked.{IsAsk, MOST_PASSES};
 ghost use Rattle.sbpl_plan.specs.Determined.{AreWithin};
+ghost use Rattle.sbpl_plan.specs.Observed.{AreTold};
 ghost use Rattle.sbpl_plan.specs.Planned.{IsPlanned};
 ghost use Rattle.sbpl_replan.specs.Directions.{Direction};
 ghost use Rattle.sbpl_replan.specs.Replanning.{BeginsWith, Follows, GoesBetween, Standing, StandsOutOfMemory, StaysTheSame, at_plan, inquiry};
@@ -16,7 +17,7 @@ ghost use Rattle.sbpl_search.specs.Meaning.{Meaning};
 use sbpl_cost::Lattice;
 use sbpl_fixed::NoMemory;
 use sbpl_map::Write;
-use sbpl_plan::{Ask, Planned};
+use sbpl_plan::{Ask, Observer, Planned};
 use std::alloc::Global;
 
 /// Plans on a lattice by one search, one after another, while batches of changes are written to its map, in one direction: from
@@ -42,16 +43,18 @@ pub trait Replan {
 
     /// Makes a plan on the present map of the lattice: passes with the inflation `ask.first`, then `ask.step` less each
     /// time and never below 1.000, until one finds a path whose bound is at most `ask.bound`, shows that there is no path,
-    /// is spent, or has inflation 1.000. After `NoMemory` another plan may be made on the map, from the labels that the
+    /// is spent, or has inflation 1.000. The observer is told of each path as soon as the walk of a pass has given it. After `NoMemory` another plan may be made on the map, from the labels that the
     /// passes so far left, unless memory ran out within a pass.
-    fn plan(
+    fn plan<O: Observer>(
         &mut self,
         alloc: Global,
         lattice: &Lattice,
         ask: &Ask,
+        observer: &mut O,
     ) -> Result<Planned<Self::Note>, NoMemory>
         requires ready { ready self.old lattice.now }
         requires asked { IsAsk ask.now }
+        requires observed { MOST_PASSES ≤ O.room observer.old }
         ensures planned { IfOk result (IsPlanned meaning (inquiry direction lattice.now (guide self.old lattice.now) (standing self.old) ask.now) (standing self.old).search (standing self.new).search (at_plan (standing self.old).counts) (standing self.new).counts) }
         // No expansion is beyond the budget or the run's 2^30, and a plan is spent only where the one or the other is used up.
         ensures within { IfOk result (λ r. AreWithin (standing self.old).counts.per_plan (standing self.old).counts.run r.passes r.spent) }
@@ -60,7 +63,10 @@ pub trait Replan {
         ensures ready { IfOk result (λ _. ready self.new lattice.now) }
         ensures same { IfOk result (λ _. StaysTheSame (standing self.old) (standing self.new)) }
         ensures guide { guide self.new lattice.now ≡ guide self.old lattice.now }
-        ensures memory { OnErr result (StandsOutOfMemory meaning (inquiry direction lattice.now (guide self.old lattice.now) (standing self.old) ask.now) (ready self.new lattice.now) (standing self.old) (standing self.new)) };
+        ensures memory { OnErr result (StandsOutOfMemory meaning (inquiry direction lattice.now (guide self.old lattice.now) (standing self.old) ask.now) (ready self.new lattice.now) (λ ps. AreTold O.told 0 ps observer.old observer.new) (standing self.old) (standing self.new)) }
+        // The observer was told of each path that a pass found, as soon as it was found.
+        ensures told { IfOk result (λ r. AreTold O.told 0 r.passes observer.old observer.new) }
+        ensures observed { O.room observer.old ≤ O.room observer.new + MOST_PASSES };
 
     /// Writes a batch to the map of the lattice, and makes the labels, and what guides the search, ready for a plan on it. All cells
     /// of the batch are on the map. After `NoMemory` the map is the old or the new one, and nothing else has changed.

@@ -13,7 +13,7 @@ use sbpl_fixed::NoMemory;
 use sbpl_heur::Best;
 use sbpl_labels::{Budget, Labels};
 use sbpl_map::Write;
-use sbpl_plan::{Ask, Planned, plan};
+use sbpl_plan::{Ask, Observer, Planned, plan};
 use sbpl_search::Search;
 use std::alloc::Global;
 use std::marker::Model;
@@ -109,11 +109,12 @@ impl<S: Search<Lattice, Best> + Drop> Replan for Replanner<S> {
 
     ghost guided = { is_guided S.meaning };
 
-    fn plan(
+    fn plan<O: Observer>(
         &mut self,
         alloc: Global,
         lattice: &Lattice,
         ask: &Ask,
+        observer: &mut O,
     ) -> Result<Planned<S::Note>, NoMemory> {
         self.budget.next_plan();
         let planned = plan(
@@ -124,6 +125,7 @@ impl<S: Search<Lattice, Best> + Drop> Replan for Replanner<S> {
             self.goal,
             ask,
             &mut self.budget,
+            observer,
         );
         let _counts = self.budget.used();
         planned

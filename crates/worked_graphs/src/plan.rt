@@ -10,7 +10,7 @@ use sbpl_adstar::AdStar;
 use sbpl_ara::{Ara, Step};
 use sbpl_graph::{Graph, Zero};
 use sbpl_labels::Budget;
-use sbpl_plan::{Ask, Found, Outcome, Planned, plan};
+use sbpl_plan::{Ask, Found, Nobody, Outcome, Planned, plan};
 use std::alloc::Global;
 use std::process::Abort;
 use std::test::Fail;
@@ -50,7 +50,17 @@ fn planned(
     let Ok(mut ara) = Ara::open(alloc, 3, 0, goal) else {
         return None;
     };
-    let planned = plan(alloc, graph, &Zero, &mut ara, goal, &ASK, budget).ok()?;
+    let planned = plan(
+        alloc,
+        graph,
+        &Zero,
+        &mut ara,
+        goal,
+        &ASK,
+        budget,
+        &mut Nobody,
+    )
+    .ok()?;
     Some((planned, AdStar::from(ara)))
 }
 
@@ -75,7 +85,7 @@ fn replanned(
     let _used = budget.used();
     let _states = graph.states();
     search.change(graph, [1, 2].as_slice());
-    plan(alloc, graph, &Zero, search, 2, &ASK, budget).ok()
+    plan(alloc, graph, &Zero, search, 2, &ASK, budget, &mut Nobody).ok()
 }
 
 /// A plan from state 0 to this goal.

@@ -17,7 +17,7 @@ use sbpl_cost::Lattice;
 use sbpl_fixed::NoMemory;
 use sbpl_graph::Graph;
 use sbpl_map::Write;
-use sbpl_plan::{Ask, FoundPath, Outcome};
+use sbpl_plan::{Ask, FoundPath, Nobody, Outcome};
 use sbpl_replan::{BackReplanner, Replan};
 use std::alloc::Global;
 use std::process::Abort;
@@ -77,7 +77,7 @@ fn next_is(
     ensures ready { OnOk result (IsReadyBack lattice.now plans.new) }
 {
     let from = plans.labels().start();
-    let planned = plans.plan(alloc, lattice, &AT_ONCE)?;
+    let planned = plans.plan(alloc, lattice, &AT_ONCE, &mut Nobody)?;
     let is = is_path(alloc, lattice, from, &planned.outcome, arcs, cost);
     drop(planned);
     Ok(is? && plans.expanded() == expanded)

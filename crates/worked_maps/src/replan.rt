@@ -17,7 +17,7 @@ use sbpl_cost::Lattice;
 use sbpl_graph::{Graph, Guide};
 use sbpl_heur::Best;
 use sbpl_map::Write;
-use sbpl_plan::{Ask, FoundPath, Outcome, Planned};
+use sbpl_plan::{Ask, FoundPath, Nobody, Outcome, Planned};
 use sbpl_replan::{Replan, Replanner};
 use sbpl_search::Search;
 use sbpl_serial::Step;
@@ -185,7 +185,7 @@ fn next_is<S: Search<Lattice, Best, Note = Step> + Drop>(
     requires ready { IsReadyIn S.meaning lattice.now plans.old }
     ensures ready { OnOk result (IsReadyIn S.meaning lattice.now plans.new) }
 {
-    let planned = plans.plan(alloc, lattice, &AT_ONCE)?;
+    let planned = plans.plan(alloc, lattice, &AT_ONCE, &mut Nobody)?;
     let is = is_as(&planned, row);
     drop(planned);
     Ok(is)
@@ -323,7 +323,7 @@ fn known_after<S: Search<Lattice, Best, Note = Step> + Drop>(
     ensures ready { OnOk result (IsReadyIn S.meaning lattice.new plans.new) }
 {
     change(alloc, lattice, plans, batch)?;
-    let planned = plans.plan(alloc, lattice, &FALLING)?;
+    let planned = plans.plan(alloc, lattice, &FALLING, &mut Nobody)?;
     let cost = known(&planned.outcome);
     drop(planned);
     cost

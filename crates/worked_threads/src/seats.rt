@@ -13,7 +13,7 @@ use sbpl_epase::{Epase, Event, NoGate, Parts, parallel_pass_parts};
 use sbpl_graph::Graph;
 use sbpl_heur::Best;
 use sbpl_labels::Budget;
-use sbpl_plan::{Ask, Outcome, Planned, plan};
+use sbpl_plan::{Ask, Nobody, Outcome, Planned, plan};
 use std::alloc::Global;
 use std::sync::Wait;
 use std::test::Fail;
@@ -78,6 +78,7 @@ fn planned_to<R: Threads + Wait + Sync>(
         goal,
         &FALLING,
         &mut budget,
+        &mut Nobody,
     )?)
 }
 

@@ -1,22 +1,31 @@
-use Rattle.std.proofs.Common.{◌∙◌, ℕ, List, inl, sym, subst, arith}
+use Rattle.std.proofs.Common.{◌∙◌, ◌∷◌, [], ℕ, List, refl, inl, sym, subst, arith, length-append}
 use Rattle.sbpl_labels.specs.Marks.{Marks}
 use Rattle.sbpl_plan.specs.declared.passes.Pass.{Pass}
 use Rattle.sbpl_plan.specs.Asked.{lowered}
 use Rattle.sbpl_plan.specs.Looking.{WalkFinds}
 use Rattle.sbpl_plan.specs.Outcomes.{IsResultOf}
+use Rattle.sbpl_plan.specs.Observed.{AreTold}
+use Rattle.sbpl_plan.proofs.Observing.{told_on}
 use Rattle.sbpl_plan.specs.Passing.{EndsPlan, Inquiry, inquiry_of}
 use Rattle.sbpl_plan.specs.Planned.{IsPlanned}
-use Rattle.sbpl_plan.proofs.Planning.{AreGoingOn, goes_on, on_err, part_of_one, planned_of, runs_out_after}
+use Rattle.sbpl_plan.proofs.Planning.{AreGoingOn, goes_on, on_err, part_of_none, part_of_one, planned_of, runs_out_after}
 use Rattle.sbpl_plan.proofs.make.plan.Goals as goal
 
 pub returns-in_err-pass-clause-memory : goal.returns-in_err-pass-clause-memory
 returns-in_err-pass-clause-memory g c =
-    on_err c.from_residual-in_err-pass.result _ (runs_out_after g.S.Search.meaning _ _ _ _ _ _ _ _ _ c.loop-passes.invariant.going_on c.in_err-pass.ensures.memory)
+    on_err c.from_residual-in_err-pass.result _ (runs_out_after g.S.Search.meaning _ _ _ _ _ _ _ _ _
+    (λ ps. AreTold g.O.Observer.told c.loop-passes.number ps c.loop-passes.observer c.iterate.new.observer) (λ ps. AreTold g.O.Observer.told 0 ps c.args.observer.now c.iterate.new.observer)
+    (λ ps later. told_on g.O.Observer.told _ ps _ _ _ c.loop-passes.invariant.told (subst (λ (n : ℕ). AreTold g.O.Observer.told n ps c.loop-passes.observer c.iterate.new.observer) c.loop-passes.invariant.number later))
+    c.loop-passes.invariant.going_on c.in_err-pass.ensures.memory)
 
 pub returns-in_err-push-clause-memory : goal.returns-in_err-push-clause-memory
 returns-in_err-push-clause-memory g c =
     on_err c.from_residual-in_err-push.result _
-    (runs_out_after g.S.Search.meaning _ _ _ _ _ _ _ _ _ c.loop-passes.invariant.going_on (inl (part_of_one g.S.Search.meaning _ _ _ _ _ _ _ _ _ c.in_ok-pass.ensures.iteration)))
+    (runs_out_after g.S.Search.meaning _ _ _ _ _ _ _ _ _
+    (λ ps. AreTold g.O.Observer.told c.loop-passes.number ps c.loop-passes.observer c.iterate.new.observer) (λ ps. AreTold g.O.Observer.told 0 ps c.args.observer.now c.iterate.new.observer)
+    (λ ps later. told_on g.O.Observer.told _ ps _ _ _ c.loop-passes.invariant.told (subst (λ (n : ℕ). AreTold g.O.Observer.told n ps c.loop-passes.observer c.iterate.new.observer) c.loop-passes.invariant.number later))
+    c.loop-passes.invariant.going_on
+    (inl (part_of_one g.S.Search.meaning _ _ _ _ _ _ _ _ _ _ (c.iterate.new.observer, c.in_ok-pass.ensures.told, refl) c.in_ok-pass.ensures.iteration)))
 
 pub returns-then-is_last-clause-planned : goal.returns-then-is_last-clause-planned
 returns-then-is_last-clause-planned g c =
@@ -48,4 +57,19 @@ loop-passes-preserved g c =
       high = omega arith;
       room = rw (c.iterate.ensures.room) (let r = c.loop-passes.invariant.room in let k = c.clear.ensures.capacity in omega arith);
       serves = c.iterate.ensures.serves;
+      number = let was = c.loop-passes.invariant.number in rw (c.in_ok-push.ensures.items, length-append c.loop-passes.passes.items (c.in_ok-pass.pass ∷ [])) (omega arith);
+      told = subst (λ (ps : List (Pass g.row.S-Note.Denot)). AreTold g.O.Observer.told 0 ps c.args.observer.now c.iterate.new.observer) (sym c.in_ok-push.ensures.items)
+          (told_on g.O.Observer.told _ (c.in_ok-pass.pass ∷ []) _ _ _ c.loop-passes.invariant.told
+          (subst (λ (n : ℕ). AreTold g.O.Observer.told n (c.in_ok-pass.pass ∷ []) c.loop-passes.observer c.iterate.new.observer) c.loop-passes.invariant.number (c.iterate.new.observer, c.in_ok-pass.ensures.told, refl)));
+      observed = let was = c.loop-passes.invariant.observed in let one = c.iterate.ensures.observed in rw (c.in_ok-push.ensures.items, length-append c.loop-passes.passes.items (c.in_ok-pass.pass ∷ [])) (omega arith);
     }
+
+pub returns-in_err-arcs-clause-memory : goal.returns-in_err-arcs-clause-memory
+returns-in_err-arcs-clause-memory g c =
+    on_err c.from_residual.result _ (inl (part_of_none g.S.Search.meaning _ _ _ _ _ refl c.requires.ready c.requires.fresh))
+
+pub returns-then-is_last-clause-told : goal.returns-then-is_last-clause-told
+returns-then-is_last-clause-told g c =
+    subst (λ (ps : List (Pass g.row.S-Note.Denot)). AreTold g.O.Observer.told 0 ps c.args.observer.now c.iterate.new.observer) (sym (c.of.ensures.items ∙ c.in_ok-push.ensures.items))
+    (told_on g.O.Observer.told _ (c.in_ok-pass.pass ∷ []) _ _ _ c.loop-passes.invariant.told
+    (subst (λ (n : ℕ). AreTold g.O.Observer.told n (c.in_ok-pass.pass ∷ []) c.loop-passes.observer c.iterate.new.observer) c.loop-passes.invariant.number (c.iterate.new.observer, c.in_ok-pass.ensures.told, refl)))

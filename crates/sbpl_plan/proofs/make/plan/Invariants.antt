@@ -1,5 +1,6 @@
-use Rattle.std.proofs.Common.{◌≤◌, vec_capacity}
+use Rattle.std.proofs.Common.{◌≡◌, ◌+◌, ◌≤◌, length, vec_capacity}
 use Rattle.sbpl_labels.specs.Marks.{states_of}
+use Rattle.sbpl_plan.specs.Observed.{AreTold}
 use Rattle.sbpl_plan.specs.Passing.{inquiry_of}
 use Rattle.sbpl_plan.proofs.Planning.{AreGoingOn}
 use Rattle.sbpl_plan.proofs.make.plan.Given as goal
@@ -11,6 +12,9 @@ invariant-loop-passes g l = record {
   high : l.eps ≤ 100000;
   room : states_of (g.S.Search.state l.fn.search).labels ≤ vec_capacity l.arcs;
   serves : g.S.Search.serves l.search;
+  number : l.number ≡ length l.passes.items;
+  told : AreTold g.O.Observer.told 0 l.passes.items l.fn.observer l.observer;
+  observed : g.O.Observer.room l.fn.observer ≤ g.O.Observer.room l.observer + length l.passes.items;
 }
 
 abbrev pub decreases-loop-passes : goal.decreases-loop-passes

@@ -1,6 +1,8 @@
-use Rattle.std.proofs.Common.{subst}
+use Rattle.std.proofs.Common.{List, subst}
 use Rattle.std.specs.Prelude.{IfOk, OnErr}
 use Rattle.sbpl_labels.specs.Counts.{Counts}
+use Rattle.sbpl_plan.specs.declared.passes.Pass.{Pass}
+use Rattle.sbpl_plan.specs.Observed.{AreTold}
 use Rattle.sbpl_plan.specs.OutOfMemory.{RunsOutOfMemory}
 use Rattle.sbpl_plan.specs.Passing.{Inquiry, inquiry_of}
 use Rattle.sbpl_plan.specs.Planned.{IsPlanned}
@@ -16,7 +18,7 @@ use Rattle.sbpl_replan.proofs.Changing.{back_inquiry, on_err_so, ready_again_bac
 use Rattle.sbpl_replan.proofs.back_replanner.BackReplannerReplan.plan.Goals as goal
 
 pub returns-clause-planned : goal.returns-clause-planned
-returns-clause-planned c =
+returns-clause-planned g c =
     let w = c.args.lattice.now in
     let ask = c.args.ask.now in
     let result = c.plan-planned.result in
@@ -27,16 +29,17 @@ returns-clause-planned c =
     (subst (λ (before : Counts). IfOk result (IsPlanned adstar (inquiry_of (reversed (network_of c.new-back.result)) (from_start c.new-guide.result) c.self.inside.start ask) old.search search before c.plan-planned.new.budget)) c.next_plan.ensures.begun c.plan-planned.ensures.planned))
 
 pub returns-clause-memory : goal.returns-clause-memory
-returns-clause-memory c =
+returns-clause-memory g c =
     let w = c.args.lattice.now in
     let ask = c.args.ask.now in
     let result = c.plan-planned.result in
     let new : Standing Step = record { search = seen c.plan-planned.new.search; counts = c.plan-planned.new.budget } in
     let old : Standing Step = record { search = seen c.self.inside.search; counts = c.self.inside.budget } in
-    subst (λ (s : Standing Step). IsReadyBack w s → OnErr result (StandsOutOfMemory adstar (inquiry backwards w (gap_from s w) s ask) (IsReadyBack w new) s new)) c.self.view_is
+    let Told : List (Pass Step) → Type 0 = (λ ps. AreTold g.O.Observer.told 0 ps c.args.observer.now c.plan-planned.new.observer) in
+    subst (λ (s : Standing Step). IsReadyBack w s → OnErr result (StandsOutOfMemory adstar (inquiry backwards w (gap_from s w) s ask) (IsReadyBack w new) Told s new)) c.self.view_is
     (λ ready. on_err_so result _ _
-    (λ runs. stands adstar (inquiry backwards w (gap_from old w) old ask) (IsReadyBack w new) old new c.used-counts.ensures.counts (λ labels same fresh. ready_again_back w old new.search new.counts ready labels same fresh)
-    (subst (λ (q : Inquiry). RunsOutOfMemory adstar q ask.first old.search new.search (at_plan old.counts) new.counts) (back_inquiry w c.new-back.result c.new-guide.result old c.self.inside.start ask c.new-back.ensures.lattice c.new-guide.ensures.made c.self.invariant)
-    (subst (λ (before : Counts). RunsOutOfMemory adstar (inquiry_of (reversed (network_of c.new-back.result)) (from_start c.new-guide.result) c.self.inside.start ask) ask.first old.search new.search before new.counts) c.next_plan.ensures.begun runs)))
+    (λ runs. stands adstar (inquiry backwards w (gap_from old w) old ask) (IsReadyBack w new) Told old new c.used-counts.ensures.counts (λ labels same fresh. ready_again_back w old new.search new.counts ready labels same fresh)
+    (subst (λ (q : Inquiry). RunsOutOfMemory adstar q ask.first old.search new.search (at_plan old.counts) new.counts Told) (back_inquiry w c.new-back.result c.new-guide.result old c.self.inside.start ask c.new-back.ensures.lattice c.new-guide.ensures.made c.self.invariant)
+    (subst (λ (before : Counts). RunsOutOfMemory adstar (inquiry_of (reversed (network_of c.new-back.result)) (from_start c.new-guide.result) c.self.inside.start ask) ask.first old.search new.search before new.counts Told) c.next_plan.ensures.begun runs)))
     c.plan-planned.ensures.memory)
     c.requires.ready

@@ -1,9 +1,11 @@
-use Rattle.std.proofs.Common.{ℕ, sym, subst}
+use Rattle.std.proofs.Common.{ℕ, List, sym, subst}
 use Rattle.std.specs.Prelude.{IfOk, OnErr}
 use Rattle.sbpl_plan.specs.Planned.{IsPlanned}
 use Rattle.sbpl_cost.specs.Lattices.{network_of}
 use Rattle.sbpl_heur.specs.Bests.{distance_in}
 use Rattle.sbpl_labels.specs.Counts.{Counts}
+use Rattle.sbpl_plan.specs.declared.passes.Pass.{Pass}
+use Rattle.sbpl_plan.specs.Observed.{AreTold}
 use Rattle.sbpl_plan.specs.OutOfMemory.{RunsOutOfMemory}
 use Rattle.sbpl_plan.specs.Passing.{inquiry_of}
 use Rattle.sbpl_replan.specs.Directions.{forwards}
@@ -33,10 +35,11 @@ returns-clause-memory g c =
     let guide = c.self.inside.guide in
     let old : Replanning g.row.S-Note.Denot = record { search = g.S.Search.state c.self.inside.search; goal = c.self.inside.goal; guide = guide; counts = c.self.inside.budget } in
     let new : Replanning g.row.S-Note.Denot = record { search = g.S.Search.state c.plan-planned.new.search; goal = c.self.inside.goal; guide = guide; counts = c.plan-planned.new.budget } in
-    subst (λ (r : Replanning g.row.S-Note.Denot). IsReadyIn means w r → OnErr result (StandsOutOfMemory means (inquiry forwards w (distance_in r.guide) (standing_of r) ask) (IsReadyIn means w new) (standing_of r) (standing_of new))) c.self.view_is
+    let Told : List (Pass g.row.S-Note.Denot) → Type 0 = (λ ps. AreTold g.O.Observer.told 0 ps c.args.observer.now c.plan-planned.new.observer) in
+    subst (λ (r : Replanning g.row.S-Note.Denot). IsReadyIn means w r → OnErr result (StandsOutOfMemory means (inquiry forwards w (distance_in r.guide) (standing_of r) ask) (IsReadyIn means w new) Told (standing_of r) (standing_of new))) c.self.view_is
     (λ ready. on_err_so result _ _
-    (λ runs. stands means (inquiry forwards w (distance_in guide) (standing_of old) ask) (IsReadyIn means w new) (standing_of old) (standing_of new) c.used-counts.ensures.counts (λ labels same fresh. ready_again means w old new.search new.counts ready labels same fresh)
-    (subst (λ (t : ℕ). RunsOutOfMemory means (inquiry_of (network_of w) (distance_in guide) t ask) ask.first old.search new.search (at_plan old.counts) new.counts) (sym ready.to_goal)
-    (subst (λ (before : Counts). RunsOutOfMemory means (inquiry_of (network_of w) (distance_in guide) c.self.inside.goal ask) ask.first old.search new.search before new.counts) c.next_plan.ensures.begun runs)))
+    (λ runs. stands means (inquiry forwards w (distance_in guide) (standing_of old) ask) (IsReadyIn means w new) Told (standing_of old) (standing_of new) c.used-counts.ensures.counts (λ labels same fresh. ready_again means w old new.search new.counts ready labels same fresh)
+    (subst (λ (t : ℕ). RunsOutOfMemory means (inquiry_of (network_of w) (distance_in guide) t ask) ask.first old.search new.search (at_plan old.counts) new.counts Told) (sym ready.to_goal)
+    (subst (λ (before : Counts). RunsOutOfMemory means (inquiry_of (network_of w) (distance_in guide) c.self.inside.goal ask) ask.first old.search new.search before new.counts Told) c.next_plan.ensures.begun runs)))
     c.plan-planned.ensures.memory)
     c.requires.ready

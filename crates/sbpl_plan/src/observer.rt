@@ -1,0 +1,34 @@
+//! Who is told of paths while a plan is made.
+
+ghost use Rattle.std.specs.Prelude.{◌≤◌, ◌<◌, ◌+◌, ◌^◌, ℕ};
+
+/// Someone who is told of each path as soon as the walk of a pass has given it, while the planner works on.
+pub trait Observer {
+    /// An observer is told of the path of a pass, by the pass's number, the path's cost and its bound, and becomes another.
+    ghost told: { Self → ℕ → ℕ → ℕ → Self → Type 0 };
+
+    /// Of how many more paths it can be told. A plan tells at most 99,001: one for each pass, since the first inflation is at most
+    /// 100.000 and falls by at least 0.001.
+    ghost room: { Self → ℕ };
+
+    /// Tells of the path that the walk of this pass gave: its cost, and its bound in thousandths. The first pass of a plan is 0.
+    fn path_found(&mut self, pass: u32, cost: u64, bound: u128)
+        requires room { 1 ≤ room self.old }
+        requires bound { bound < 2 ^ 100 }
+        ensures told { told self.old pass cost bound self.new }
+        ensures room { room self.old ≤ room self.new + 1 };
+}
+
+/// An observer that is told everything and does nothing.
+#[derive(Clone, Copy, Debug, Default)]
+pub struct Nobody;
+
+impl Observer for Nobody {
+    ghost use Rattle.std.specs.Prelude.{◌^◌};
+
+    ghost told = { λ old pass cost bound new. Unit {0} };
+
+    ghost room = { λ a. 2 ^ 32 };
+
+    fn path_found(&mut self, _pass: u32, _cost: u64, _bound: u128) {}
+}
