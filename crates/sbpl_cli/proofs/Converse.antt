@@ -176,10 +176,10 @@ cause_of held Failed (job.Demo d) from r is cause = absurd cause
 pub by_intent : (held : Told) (Failed : Names) (wanted : ℕ) (j : Job) (from : Sources) (i : Intent) → sources_of j ≡ Some from → ((r : Refusal) → IsJobCause held Failed j r → IsOrFailed wanted (refusal_status r)) → (HasRead held from (changes_of j) (moves_in j) → ⊥) → GivesIntent held Failed j i → IsOrFailed wanted (intent_status i)
 by_intent held Failed wanted j from (Refused r) is refused none gives = refused r gives
 by_intent held Failed wanted j from OutOfMemory is refused none gives = no_memory wanted
-by_intent held Failed wanted (job.Plan p) from (Planned records all) is refused none gives = absurd (none (course_from held p.sources from p.changes (may_move p.search.planner) is (record { world = gives.world; course = gives.course; says = gives.says; stands = gives.changes })))
+by_intent held Failed wanted (job.Plan p) from (Planned records all log broken) is refused none gives = absurd (none (course_from held p.sources from p.changes (may_move p.search.planner) is (record { world = gives.world; course = gives.course; says = gives.says; stands = gives.changes })))
 by_intent held Failed wanted (job.Check c) from (Checked goals os end) is refused none gives = absurd (none (course_from held c.sources from c.changes c.back is (record { world = gives.world; course = gives.course; says = gives.says; stands = gives.changes })))
 by_intent held Failed wanted (job.Sweep s) from (Listed w) is refused none gives = absurd (none (course_from held s from None false is (record { world = w; course = still []; says = gives.0; stands = refl })))
-by_intent held Failed wanted (job.Demo d) from (Demonstrated w count records all) is refused none gives = cc
+by_intent held Failed wanted (job.Demo d) from (Demonstrated w count records all log broken) is refused none gives = cc
 by_intent held Failed wanted _ from _ is refused none gives = absurd gives
 
 same_name : (a b : List ℕ) → ◌≡◌ {A = Option (List ℕ)} (Some a) (Some b) → a ≡ b

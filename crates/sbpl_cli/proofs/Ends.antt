@@ -18,7 +18,8 @@ use Rattle.sbpl_cli.specs.Causes.{AtName, ChangesStopFor, EarlyStopsFor, IsCause
 use Rattle.sbpl_cli.specs.Texts.{Scope}
 use Rattle.sbpl_cli.specs.declared.course.Course.{Course}
 use Rattle.sbpl_job.specs.Jobs.{may_move}
-use Rattle.sbpl_cli.specs.Intents.{Intent, Refused, OutOfMemory, intent_status, refusal_status, refusal_writes, writes_of}
+use Rattle.sbpl_cli.specs.Intents.{BeginsAfter, published_by, Intent, Refused, OutOfMemory, intent_status, refusal_status, refusal_writes, writes_of}
+use Rattle.sbpl_cli.specs.Published.{Entry}
 use Rattle.sbpl_cli.specs.Promises.{GivesIntent, EndsJob, IsWrittenFor, MayBeWritten}
 use Rattle.sbpl_cli.specs.Writing.{DeskState, EndsAs, IsOutput, Names, ReadFailed, ReadsOnly, StaysBut, Told, WritesOnly}
 use Rattle.sbpl_cli.proofs.Writings.{ends_since, none_made, rose_since}
@@ -147,23 +148,25 @@ labels_stop s t u j w c (stop.Refused r) says changes same cause = inr (inr (by_
 -- ---- the end of a job
 
 -- the job means to do this, and then its writes were made
-pub ended : (s t u : DeskState) (j : Job) (i : Intent) (status : ℕ) → GivesIntent s.held (ReadFailed s u) j i → ReadsOnly s t → EndsAs t u (writes_of j i) (intent_status i) status → StaysBut (IsWrittenFor j i) t.written u.written → EndsJob s u j status
-ended s t u j i status gives same ends others = record {
+pub ended : (s t u : DeskState) (old new : List Entry) (j : Job) (i : Intent) (status : ℕ) → BeginsAfter i old → new ≡ published_by i old → GivesIntent s.held (ReadFailed s u) j i → ReadsOnly s t → EndsAs t u (writes_of j i) (intent_status i) status → StaysBut (IsWrittenFor j i) t.written u.written → EndsJob s u old new j status
+ended s t u old new j i status begins published gives same ends others = record {
   intent = i;
   gives = gives;
   ends = ends_since s t u _ _ status same.written same.writes ends;
   others = λ name other. others name other ∙ same.written name;
+  begins = begins;
+  published = published;
 }
 
 -- the job was refused, and then the line that says so was written
-pub refused : (s t u : DeskState) (j : Job) (r : Refusal) (status : ℕ) → IsJobCause s.held (ReadFailed s t) j r → ReadsOnly s t → EndsAs t u (refusal_writes j r) (refusal_status r) status → WritesOnly IsOutput t u → EndsJob s u j status
-refused s t u j r status cause same ends frame =
+pub refused : (s t u : DeskState) (old new : List Entry) (j : Job) (r : Refusal) (status : ℕ) → new ≡ old → IsJobCause s.held (ReadFailed s t) j r → ReadsOnly s t → EndsAs t u (refusal_writes j r) (refusal_status r) status → WritesOnly IsOutput t u → EndsJob s u old new j status
+refused s t u old new j r status stays cause same ends frame =
     let later : IsFailedOn (ReadFailed s t) (ReadFailed s u) r = λ six. failed_later s t u same.reads frame.reads in
-    ended s t u j (Refused r) status (job_cause_on s.held (ReadFailed s t) (ReadFailed s u) j r later cause) same ends frame.others
+    ended s t u old new j (Refused r) status tt stays (job_cause_on s.held (ReadFailed s t) (ReadFailed s u) j r later cause) same ends frame.others
 
 -- memory ran out before anything was written
-pub memory_ended : (s t : DeskState) (j : Job) → ReadsOnly s t → EndsJob s t j 9
-memory_ended s t j same = record { intent = OutOfMemory; gives = tt; ends = inl (refl, none_made s t same.written); others = λ name none. same.written name }
+pub memory_ended : (s t : DeskState) (old new : List Entry) (j : Job) → new ≡ old → ReadsOnly s t → EndsJob s t old new j 9
+memory_ended s t old new j stays same = record { intent = OutOfMemory; gives = tt; ends = inl (refl, none_made s t same.written); others = λ name none. same.written name; begins = tt; published = stays }
 
 -- the standard output is a name that each job may write under
 pub plain_is : (j : Job) (name : List ℕ) → IsOutput name → MayBeWritten (Some j) name

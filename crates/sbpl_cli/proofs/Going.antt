@@ -1,5 +1,5 @@
 -- How the making of plans goes on from one to the next.
-use Rattle.std.proofs.Common.{◌≡◌, ℕ, ◌+◌, ◌≤◌, true, false, List, [], ◌∷◌, ◌++◌, flat_map, length, slice_get, Option, Some, None, Result, Ok, Err, refl, sym, ◌∙◌, ap, subst, append_assoc, append-nil, arith, inl, inr}
+use Rattle.std.proofs.Common.{◌≡◌, ◌⊎◌, ℕ, suc, add-zero, ◌+◌, ◌≤◌, true, false, List, [], ◌∷◌, ◌++◌, flat_map, length, slice_get, Option, Some, None, Result, Ok, Err, refl, sym, ◌∙◌, ap, subst, append_assoc, append-nil, arith, inl, inr}
 use Rattle.std.proofs.lemmas.Option.{slice_get_within}
 use Rattle.sbpl_desk.specs.Desk.{NoneFalls, Stays}
 use Rattle.sbpl_desk.specs.declared.desk.WriteStop.{WriteStop}
@@ -16,7 +16,9 @@ use Rattle.sbpl_map.specs.declared.write.Write as change
 use Rattle.sbpl_cli.specs.Asked.{Known, known}
 use Rattle.sbpl_replan.specs.Replanning.{BeginsWith, Follows, Standing, StaysTheSame}
 use Rattle.sbpl_cli.specs.declared.record.PlanRecord.{PlanRecord}
-use Rattle.sbpl_cli.specs.Headline.{Carried, IsPlanOf}
+use Rattle.sbpl_plan.specs.declared.found.Found.{Found}
+use Rattle.sbpl_cli.specs.Headline.{Carried, IsBrokenIn, IsBrokenOff, IsPlanOf}
+use Rattle.sbpl_cli.specs.Published.{Entry, with_paths, with_plan, with_plans}
 use Rattle.sbpl_cli.specs.Intents.{end_writes, last_write, plans_status}
 use Rattle.sbpl_cli.specs.Planning.{EndsOnePlan, GoesOnFrom, IsSetFor, carried_of}
 use Rattle.sbpl_cli.specs.Promises.{EndsPlans}
@@ -26,47 +28,82 @@ use Rattle.sbpl_cli.proofs.Writings.{ends_as_after, none_made, status_ends}
 -- ---- plans in turn
 
 module _ (by : Known) (written_of : PlanRecord → List Write) (w : World) (batches : List (List change.Write)) (how : SearchJob) (outputs : Outputs) (starts : ℕ → ℕ) (goal : ℕ) where
-  -- plan k was made and told, and then the others ended so
-  one_more : (k : ℕ) (before : Option Carried) (carried : Carried) (r : PlanRecord) (a b c : DeskState) (status : ℕ) → IsMapAfter w.map batches k carried.map → IsPlanOf by (over_map w carried.map) how outputs (starts k) goal k before carried r
-      → AreAppended a b (written_of r) → NoneFalls a.write_faults b.write_faults → EndsPlans by written_of w batches how outputs starts goal (k + 1) (Some carried) b c status → EndsPlans by written_of w batches how outputs starts goal k before a c status
-  one_more k before carried r a b c status after plan made low e = record {
-    records = r ∷ e.records;
-    all = e.all;
-    each = (carried, after, plan, e.each);
-    few = let rest = e.few in omega arith;
-    all_made = λ is. let rest = e.all_made is in omega arith;
-    ends = rw (append_assoc (written_of r) (flat_map written_of e.records) (end_writes e.all)) (ends_as_after a b c (written_of r) (flat_map written_of e.records ++ end_writes e.all) (plans_status e.all) status made low e.ends);
-  }
+  -- how the plans from plan k on end, where these entries were published before and after
+  abbrev Ends : (k : ℕ) (log shown : List Entry) → Option Carried → (a b : DeskState) → (status : ℕ) → Type 0
+  Ends k log shown before a b status = EndsPlans by written_of w batches how outputs starts goal k log shown before a b status
 
-  -- memory ran out before plan k was made
-  pub no_more : (k : ℕ) (before : Option Carried) (a b : DeskState) → k ≤ length batches + 1 → Stays a.written b.written → EndsPlans by written_of w batches how outputs starts goal k before a b 9
-  no_more k before a b inside same = record {
+  -- plan k was made and told, and then the others ended so
+  one_more : (k : ℕ) (log shown : List Entry) (before : Option Carried) (carried : Carried) (r : PlanRecord) (a b c : DeskState) (status : ℕ) → IsMapAfter w.map batches k carried.map → IsPlanOf by (over_map w carried.map) how outputs (starts k) goal k log before carried r
+      → AreAppended a b (written_of r) → NoneFalls a.write_faults b.write_faults → Ends (k + 1) (with_plan log r) shown (Some carried) b c status → Ends k log shown before a c status
+  one_more k log shown before carried r a b c status after plan made low e =
+      let count : k + 1 + length e.records ≡ k + suc (length e.records) = omega arith in
+      record {
+        records = r ∷ e.records;
+        all = e.all;
+        broken = e.broken;
+        each = (carried, after, plan, e.each);
+        broken_in = subst (λ (n : ℕ). IsBrokenIn by w batches how outputs starts goal n e.broken) count e.broken_in;
+        none_broken = e.none_broken;
+        shown_is = e.shown_is ∙ ap (λ (n : ℕ). with_paths (with_plans (with_plan log r) e.records) n 0 e.broken) count;
+        few = let rest = e.few in omega arith;
+        all_made = λ is. let rest = e.all_made is in omega arith;
+        ends = rw (append_assoc (written_of r) (flat_map written_of e.records) (end_writes e.all)) (ends_as_after a b c (written_of r) (flat_map written_of e.records ++ end_writes e.all) (plans_status e.all) status made low e.ends);
+      }
+
+  -- memory ran out before plan k was made, or in it
+  pub breaks_off : (k : ℕ) (log shown : List Entry) (before : Option Carried) (found : List Found) (a b : DeskState) → k ≤ length batches + 1 → IsBrokenIn by w batches how outputs starts goal k found → shown ≡ with_paths log k 0 found
+      → Stays a.written b.written → Ends k log shown before a b 9
+  breaks_off k log shown before found a b inside broken shown_is same = record {
     records = [];
     all = false;
+    broken = found;
     each = tt;
+    broken_in = subst (λ (n : ℕ). IsBrokenIn by w batches how outputs starts goal n found) (sym (add-zero k)) broken;
+    none_broken = λ is. absurd (cc);
+    shown_is = shown_is ∙ ap (λ (n : ℕ). with_paths log n 0 found) (sym (add-zero k));
     few = omega arith;
     all_made = λ is. absurd (cc);
     ends = inl (refl, none_made a b same);
   }
 
+  -- memory ran out before plan k was begun
+  pub no_more : (k : ℕ) (log : List Entry) (before : Option Carried) (a b : DeskState) → k ≤ length batches + 1 → Stays a.written b.written → Ends k log log before a b 9
+  no_more k log before a b inside same = breaks_off k log log before [] a b inside (inl refl) refl same
+
   -- plan k was the last, and so was the last line
-  all_told : (k : ℕ) (before : Option Carried) (a b : DeskState) (status : ℕ) → k ≡ length batches + 1 → EndsAs a b (last_write ∷ []) 0 status → EndsPlans by written_of w batches how outputs starts goal k before a b status
-  all_told k before a b status last ends = record { records = []; all = true; each = tt; few = omega arith; all_made = λ is. omega arith; ends = ends }
+  all_told : (k : ℕ) (log : List Entry) (before : Option Carried) (a b : DeskState) (status : ℕ) → k ≡ length batches + 1 → EndsAs a b (last_write ∷ []) 0 status → Ends k log log before a b status
+  all_told k log before a b status last ends = record {
+    records = [];
+    all = true;
+    broken = [];
+    each = tt;
+    broken_in = inl refl;
+    none_broken = λ is. refl;
+    shown_is = refl;
+    few = omega arith;
+    all_made = λ is. omega arith;
+    ends = ends;
+  }
 
   -- plan k was made, but was not told
-  untold : (k : ℕ) (before : Option Carried) (carried : Carried) (r : PlanRecord) (a b : DeskState) (status : ℕ) (e : WriteStop) → k ≤ length batches → IsMapAfter w.map batches k carried.map → IsPlanOf by (over_map w carried.map) how outputs (starts k) goal k before carried r
-      → EndsIn {T = Unit {0}} a b (written_of r) (Err e) → status ≡ status_after {T = Unit {0}} 9 (Err e) → EndsPlans by written_of w batches how outputs starts goal k before a b status
-  untold k before carried r a b status e inside after plan ends is = record {
+  untold : (k : ℕ) (log : List Entry) (before : Option Carried) (carried : Carried) (r : PlanRecord) (a b : DeskState) (status : ℕ) (e : WriteStop) → k ≤ length batches → IsMapAfter w.map batches k carried.map → IsPlanOf by (over_map w carried.map) how outputs (starts k) goal k log before carried r
+      → EndsIn {T = Unit {0}} a b (written_of r) (Err e) → status ≡ status_after {T = Unit {0}} 9 (Err e) → Ends k log (with_plan log r) before a b status
+  untold k log before carried r a b status e inside after plan ends is = record {
     records = r ∷ [];
     all = false;
+    broken = [];
     each = (carried, after, plan, tt);
+    broken_in = inl refl;
+    none_broken = λ no_way. refl;
+    shown_is = refl;
     few = omega arith;
     all_made = λ no_way. absurd (cc);
     ends = subst (λ (l : List Write). EndsAs a b l 9 status) (sym (append-nil (written_of r ++ []) ∙ append-nil (written_of r))) (status_ends a b (written_of r) 9 status (Err e) ends is);
   }
 
-  -- the plans before plan k were made and told, and the map is that after the first k batches
-  pub record IsGoing (now : World) (k start : ℕ) (r : Standing by.Note) (a b : DeskState) : Type 0 where
+  -- the plans before plan k were made and told, and the map is that after the first k batches; these entries were published before the first
+  -- of them, and these after the last
+  pub record IsGoing (now : World) (k start : ℕ) (first log : List Entry) (r : Standing by.Note) (a b : DeskState) : Type 0 where
     pub same : now ≡ over_map w now.map
     pub inside : k ≤ length batches
     pub after : IsMapAfter w.map batches k now.map
@@ -75,10 +112,10 @@ module _ (by : Known) (written_of : PlanRecord → List Write) (w : World) (batc
     pub set : IsSetFor by.direction how start goal r
     pub before : Option Carried
     pub goes_on : GoesOnFrom by.means by.direction now (by.direction.from start goal) before r
-    pub ends : (c : DeskState) (status : ℕ) → EndsPlans by written_of w batches how outputs starts goal k before b c status → EndsPlans by written_of w batches how outputs starts goal 0 None a c status
+    pub ends : (c : DeskState) (status : ℕ) (shown : List Entry) → Ends k log shown before b c status → Ends 0 first shown None a c status
 
-  pub sets_out : (start : ℕ) (r : Standing by.Note) (a : DeskState) → IsMapAfter w.map batches 0 w.map → IsWorld w → start ≡ starts 0 → IsSetFor by.direction how start goal r → GoesOnFrom by.means by.direction w (by.direction.from start goal) None r → IsGoing w 0 start r a a
-  sets_out start r a first kept start_is set begun = record {
+  pub sets_out : (start : ℕ) (log : List Entry) (r : Standing by.Note) (a : DeskState) → IsMapAfter w.map batches 0 w.map → IsWorld w → start ≡ starts 0 → IsSetFor by.direction how start goal r → GoesOnFrom by.means by.direction w (by.direction.from start goal) None r → IsGoing w 0 start log log r a a
+  sets_out start log r a first kept start_is set begun = record {
     same = refl;
     inside = omega arith;
     after = first;
@@ -87,51 +124,67 @@ module _ (by : Known) (written_of : PlanRecord → List Write) (w : World) (batc
     set = set;
     before = None;
     goes_on = begun;
-    ends = λ c status e. e;
+    ends = λ c status shown e. e;
   }
 
-  pub at_last : (now : World) (k n start : ℕ) (r : Standing by.Note) (a b : DeskState) → k ≡ n → IsGoing now k start r a b → IsGoing now n start r a b
-  at_last now k n start r a b same going = subst (λ (i : ℕ). IsGoing now i start r a b) same going
+  pub at_last : (now : World) (k n start : ℕ) (first log : List Entry) (r : Standing by.Note) (a b : DeskState) → k ≡ n → IsGoing now k start first log r a b → IsGoing now n start first log r a b
+  at_last now k n start first log r a b same going = subst (λ (i : ℕ). IsGoing now i start first log r a b) same going
 
-  module _ (now : World) (k start : ℕ) (r s : Standing by.Note) (a b c : DeskState) (going : IsGoing now k start r a b) where
-    on_that : (before : Option Carried) (p : PlanRecord) → IsPlanOf by now how outputs start goal k before (carried_of now s) p → IsPlanOf by (over_map w now.map) how outputs (starts k) goal k before (carried_of now s) p
-    on_that before p plan = subst (λ (x : ℕ). IsPlanOf by (over_map w now.map) how outputs x goal k before (carried_of now s) p) going.start_is
-        (subst (λ (v : World). IsPlanOf by v how outputs start goal k before (carried_of now s) p) going.same plan)
+  module _ (now : World) (k start : ℕ) (first log shown : List Entry) (r s : Standing by.Note) (a b c : DeskState) (going : IsGoing now k start first log r a b) where
+    on_that : (before : Option Carried) (p : PlanRecord) → IsPlanOf by now how outputs start goal k log before (carried_of now s) p → IsPlanOf by (over_map w now.map) how outputs (starts k) goal k log before (carried_of now s) p
+    on_that before p plan = subst (λ (x : ℕ). IsPlanOf by (over_map w now.map) how outputs x goal k log before (carried_of now s) p) going.start_is
+        (subst (λ (v : World). IsPlanOf by v how outputs start goal k log before (carried_of now s) p) going.same plan)
+
+    broken_on_that : (before : Option Carried) (found : List Found) → (found ≡ []) ⊎ IsBrokenOff by now how outputs start goal before found → IsBrokenIn by w batches how outputs starts goal k found
+    broken_on_that before found (inl none) = inl none
+    broken_on_that before found (inr broken) = inr (
+      now.map,
+      before,
+      going.after,
+      subst (λ (x : ℕ). IsBrokenOff by (over_map w now.map) how outputs x goal before found) going.start_is
+          (subst (λ (v : World). IsBrokenOff by v how outputs start goal before found) going.same broken),
+    )
 
     -- what holds of the plan that is made next
     abbrev pub NextEnds : Result (Unit {0}) WriteStop → Type 0
-    NextEnds result = (before : Option Carried) → GoesOnFrom by.means by.direction now (by.direction.from start goal) before r → EndsOnePlan by written_of now how outputs start goal k before (carried_of now s) b c result
+    NextEnds result = (before : Option Carried) → GoesOnFrom by.means by.direction now (by.direction.from start goal) before r → EndsOnePlan by written_of now how outputs start goal k log shown before (carried_of now s) b c result
 
     -- the next plan was not told
-    pub stops : (status : ℕ) (e : WriteStop) → NextEnds (Err e) → status ≡ status_after {T = Unit {0}} 9 (Err e) → EndsPlans by written_of w batches how outputs starts goal 0 None a c status
-    stops status e made is = going.ends c status (elim (made going.before going.goes_on) [
-      | inl (out, same) ↦ subst (λ (n : ℕ). EndsPlans by written_of w batches how outputs starts goal k going.before b c n) (sym (is ∙ nine out)) (no_more k going.before b c (let room = going.inside in omega arith) same)
-      | inr (p, plan, ends) ↦ untold k going.before (carried_of now s) p b c status e going.inside going.after (on_that going.before p plan) ends is
+    pub stops : (status : ℕ) (e : WriteStop) → NextEnds (Err e) → status ≡ status_after {T = Unit {0}} 9 (Err e) → Ends 0 first shown None a c status
+    stops status e made is = going.ends c status shown (elim (made going.before going.goes_on) [
+      | inl (out, same, part) ↦
+          subst (λ (n : ℕ). Ends k log shown going.before b c n) (sym (is ∙ nine out))
+          (breaks_off k log shown going.before part.found b c (let room = going.inside in omega arith) (broken_on_that going.before part.found part.broken) part.shown_is same)
+      | inr (p, made_so, ends) ↦
+          subst (λ (l : List Entry). Ends k log l going.before b c status) (sym made_so.shown_is)
+          (untold k log going.before (carried_of now s) p b c status e going.inside going.after (on_that going.before p made_so.plan) ends is)
     ])
       where
         nine : e ≡ NoMemory → status_after {T = Unit {0}} 9 (Err e) ≡ 9
         nine out = rw out refl
 
     -- it was told, and then the others ended so
-    pub tells : (d : DeskState) (status : ℕ) → NextEnds (Ok tt) → NoneFalls b.write_faults c.write_faults → EndsPlans by written_of w batches how outputs starts goal (k + 1) (Some (carried_of now s)) c d status → EndsPlans by written_of w batches how outputs starts goal 0 None a d status
-    tells d status made low e =
+    pub tells : (d : DeskState) (status : ℕ) (later : List Entry) → NextEnds (Ok tt) → NoneFalls b.write_faults c.write_faults → Ends (k + 1) shown later (Some (carried_of now s)) c d status → Ends 0 first later None a d status
+    tells d status later made low e =
         let told = made going.before going.goes_on in
-        going.ends d status (one_more k going.before (carried_of now s) told.0 b c d status going.after (on_that going.before told.0 told.1) told.2 low e)
+        going.ends d status later
+        (one_more k log later going.before (carried_of now s) told.0 b c d status going.after (on_that going.before told.0 told.1.plan) told.2 low
+        (subst (λ (l : List Entry). Ends (k + 1) l later (Some (carried_of now s)) c d status) told.1.shown_is e))
 
     -- it was the last, and the last line was written
-    pub tells_last : (d : DeskState) (status : ℕ) → NextEnds (Ok tt) → NoneFalls b.write_faults c.write_faults → k ≡ length batches → EndsAs c d (last_write ∷ []) 0 status → EndsPlans by written_of w batches how outputs starts goal 0 None a d status
-    tells_last d status made low last ends = tells d status made low (all_told (k + 1) (Some (carried_of now s)) c d status (omega arith) ends)
+    pub tells_last : (d : DeskState) (status : ℕ) → NextEnds (Ok tt) → NoneFalls b.write_faults c.write_faults → k ≡ length batches → EndsAs c d (last_write ∷ []) 0 status → Ends 0 first shown None a d status
+    tells_last d status made low last ends = tells d status shown made low (all_told (k + 1) shown (Some (carried_of now s)) c d status (omega arith) ends)
 
     -- it was told, and memory ran out while the map was changed
-    pub tells_no_more : NextEnds (Ok tt) → NoneFalls b.write_faults c.write_faults → EndsPlans by written_of w batches how outputs starts goal 0 None a c 9
-    tells_no_more made low = tells c 9 made low (no_more (k + 1) (Some (carried_of now s)) c c (let room = going.inside in omega arith) (λ name. refl))
+    pub tells_no_more : NextEnds (Ok tt) → NoneFalls b.write_faults c.write_faults → Ends 0 first shown None a c 9
+    tells_no_more made low = tells c 9 shown made low (no_more (k + 1) shown (Some (carried_of now s)) c c (let room = going.inside in omega arith) (λ name. refl))
 
     -- it was told, then the map was changed, and then the start moved
     pub changes : (next : World) (next_start : ℕ) (t u : Standing by.Note) (batch : List change.Write)
         → ((first m m' : CellMap) (bs : List (List change.Write)) (n : ℕ) (l : List change.Write) → IsMapAfter first bs n m → slice_get bs n ≡ Some l → AreWritten m l m' → IsMapAfter first bs (n + 1) m')
         → NextEnds (Ok tt) → NoneFalls b.write_faults c.write_faults → IsSetFor by.direction how start goal s → slice_get batches k ≡ Some batch → AreWritten now.map batch next.map → next ≡ record now { map = next.map } → IsWorld next
         → BeginsWith by.means by.direction now next s.search.labels t.search.labels t.search.raised → StaysTheSame s t → t.counts ≡ s.counts
-        → next_start ≡ starts (k + 1) → (by.direction.moves ≡ false → next_start ≡ start) → Follows by.direction next_start t u → IsGoing next (k + 1) next_start u a c
+        → next_start ≡ starts (k + 1) → (by.direction.moves ≡ false → next_start ≡ start) → Follows by.direction next_start t u → IsGoing next (k + 1) next_start first shown u a c
     changes next next_start t u batch law made low set at written others kept begins stays counts start_is still follows = record {
       same = others ∙ ap (λ (v : World). record v { map = next.map }) going.same;
       inside = let room = slice_get_within batches k batch at in omega arith;
@@ -149,15 +202,15 @@ module _ (by : Known) (written_of : PlanRecord → List Write) (w : World) (batc
             (subst (λ (m : Marks). BeginsWith by.means by.direction now next s.search.labels m t.search.raised) (sym follows.labels) begins));
         counted = ap (λ (n : Counts). n.run) (sym counts ∙ sym follows.counts);
       };
-      ends = λ d status e. tells d status made low e;
+      ends = λ d status later e. tells d status later made low e;
     }
       where
         back : over_map next now.map ≡ now
         back = ap (λ (v : World). record v { map = now.map }) others
 
 -- plans by the planner that was asked for
-pub ends_by : {written_of : PlanRecord → List Write} {w : World} {batches : List (List change.Write)} {how : SearchJob} {outputs : Outputs} {starts : ℕ → ℕ} {goal : ℕ} {a b : DeskState} {status : ℕ}
-    (p : Planner) → how.planner ≡ p → EndsPlans (known p) written_of w batches how outputs starts goal 0 None a b status
-    → EndsPlans (known how.planner) written_of w batches how outputs starts goal 0 None a b status
-ends_by {written_of} {w} {batches} {how} {outputs} {starts} {goal} {a} {b} {status} p is ends =
-    subst (λ (x : Planner). EndsPlans (known x) written_of w batches how outputs starts goal 0 None a b status) (sym is) ends
+pub ends_by : {written_of : PlanRecord → List Write} {w : World} {batches : List (List change.Write)} {how : SearchJob} {outputs : Outputs} {starts : ℕ → ℕ} {goal : ℕ} {log shown : List Entry} {a b : DeskState} {status : ℕ}
+    (p : Planner) → how.planner ≡ p → EndsPlans (known p) written_of w batches how outputs starts goal 0 log shown None a b status
+    → EndsPlans (known how.planner) written_of w batches how outputs starts goal 0 log shown None a b status
+ends_by {written_of} {w} {batches} {how} {outputs} {starts} {goal} {log} {shown} {a} {b} {status} p is ends =
+    subst (λ (x : Planner). EndsPlans (known x) written_of w batches how outputs starts goal 0 log shown None a b status) (sym is) ends

@@ -24,3 +24,5 @@ pub mod Prefixes
 pub mod OneRefusal
 pub mod Wholes
 pub mod WriteTexts
+pub mod Founds
+pub mod Promising

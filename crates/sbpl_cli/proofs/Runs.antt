@@ -26,12 +26,15 @@ use Rattle.sbpl_cli.specs.Headline.{IsStateOf, start_after}
 use Rattle.sbpl_cli.specs.declared.record.PlanRecord.{PlanRecord}
 use Rattle.sbpl_cli.specs.declared.refusal.Refusal.{Refusal}
 use Rattle.sbpl_cli.specs.declared.refusal.Refusal.TheVariants as refusal
-use Rattle.sbpl_cli.specs.Causes.{IsCause, IsEarlyCause, IsJobCause, IsTooLong, ReadsCourse, ReadsWorld, scope_of}
+use Rattle.sbpl_cli.specs.Causes.{AreDemonstrated, ArePlanned, IsCause, IsEarlyCause, IsJobCause, IsTooLong, ReadsCourse, ReadsWorld, scope_of}
 use Rattle.sbpl_cli.specs.Texts.{Scope}
 use Rattle.sbpl_cli.specs.declared.course.Course.{Course}
 use Rattle.sbpl_job.specs.Jobs.{moves_in}
-use Rattle.sbpl_cli.specs.Intents.{Intent, Refused, Planned, Checked, Listed, Demonstrated, OutOfMemory, checked_status, checked_writes, demo_writes, end_writes, intent_status, labels_text, labels_writes, last_write, lines_writes, plans_status, plans_writes, refusal_status, section_writes, stop_writes, trace_writes, words_writes, writes_of}
+use Rattle.sbpl_cli.specs.Intents.{BeginsAfter, Intent, Refused, Planned, Checked, Listed, Demonstrated, OutOfMemory, checked_status, checked_writes, demo_writes, end_writes, incumbent_writes, intent_status, labels_text, labels_writes, last_write, lines_writes, plans_status, plans_writes, refusal_status, section_writes, stop_writes, trace_writes, words_writes, writes_of}
+use Rattle.sbpl_plan.specs.declared.found.Found.{Found}
 use Rattle.sbpl_cli.specs.Listing.{listings}
+use Rattle.sbpl_cli.specs.Published.{Entry}
+use Rattle.sbpl_cli.specs.Report.{incumbent_text}
 use Rattle.sbpl_cli.specs.Promises.{AreGood, AtJob, GivesIntent, EndsJob, EndsRun, by_job, by_words, by_memory, IsCutShort, IsCheckedIn, IsDone, IsFaultFound, IsFlawFound, IsNoCheck, IsOrFailed, IsOrUnwritten, IsRefused, IsStatus, EndsWithoutMemory, IsWrittenFor, MayBeWritten, SomeRose, Tells, TellsChangeFault, TellsCourse, TellsEnvironment, TellsEnvironmentFault, TellsPrimitiveFault, TellsPrimitives, TellsTooMuch, TellsWorld, changes_of, sources_of}
 use Rattle.sbpl_cli.specs.Traces.{trace_text}
 use Rattle.sbpl_cli.specs.Writing.{AreAppended, DeskState, EndsAs, IsCutAt, IsNamed, IsOutput, IsOutputOf, RunsOutAt, Names, ReadFailed, StaysBut, Told, Write, output, to_named, to_output}
@@ -50,22 +53,22 @@ is_status s k has is = subst (λ (n : ℕ). IsStatus n) (sym is) has
 intent_is_status : (i : Intent) → IsStatus (intent_status i)
 intent_is_status (Refused (refusal.Environment x)) = refl
 intent_is_status (Refused _) = refl
-intent_is_status (Planned records true) = refl
+intent_is_status (Planned records true log broken) = refl
 intent_is_status (Checked goal os None) = refl
 intent_is_status (Checked goal os (Some (section.Flaw x))) = refl
 intent_is_status (Checked goal os (Some _)) = refl
-intent_is_status (Demonstrated w count records true) = refl
+intent_is_status (Demonstrated w count records true log broken) = refl
 intent_is_status _ = refl
 
 -- what a job means to do has neither the status of words that name no job nor that of a failed write
 not_intent : (i : Intent) → (intent_status i ≢ 2) × (intent_status i ≢ 7)
 not_intent (Refused (refusal.Environment x)) = (λ h. omega arith, λ h. omega arith)
 not_intent (Refused _) = (λ h. omega arith, λ h. omega arith)
-not_intent (Planned records true) = (λ h. omega arith, λ h. omega arith)
+not_intent (Planned records true log broken) = (λ h. omega arith, λ h. omega arith)
 not_intent (Checked goal os None) = (λ h. omega arith, λ h. omega arith)
 not_intent (Checked goal os (Some (section.Flaw x))) = (λ h. omega arith, λ h. omega arith)
 not_intent (Checked goal os (Some _)) = (λ h. omega arith, λ h. omega arith)
-not_intent (Demonstrated w count records true) = (λ h. omega arith, λ h. omega arith)
+not_intent (Demonstrated w count records true log broken) = (λ h. omega arith, λ h. omega arith)
 not_intent _ = (λ h. omega arith, λ h. omega arith)
 
 -- ---- writes go under names that the job may write under
@@ -94,8 +97,9 @@ end_under IsWritten false may = tt
 section_under : (o : Outputs) (r : PlanRecord) → AreUnder (IsOutputOf o) (section_writes o r)
 section_under o r =
     let labels = named_under (IsOutputOf o) o.labels (labels_text r.labels) (λ name is. inr (inl is)) in
-    let trace = named_under (IsOutputOf o) o.trace (trace_text r) (λ name is. inr (inr is)) in
-    (inl refl, under_both (IsOutputOf o) (labels_writes o r) (trace_writes o r) labels trace)
+    let trace = named_under (IsOutputOf o) o.trace (trace_text r) (λ name is. inr (inr (inl is))) in
+    let incumbent = named_under (IsOutputOf o) o.incumbent (incumbent_text r.incumbent) (λ name is. inr (inr (inr is))) in
+    (inl refl, under_both (IsOutputOf o) (labels_writes o r) (trace_writes o r ++ incumbent_writes o r) labels (under_both (IsOutputOf o) (trace_writes o r) (incumbent_writes o r) trace incumbent))
 
 plans_under : (o : Outputs) (records : List PlanRecord) (all : Bool) → AreUnder (IsOutputOf o) (plans_writes o records all)
 plans_under o [] all = end_under (IsOutputOf o) all (λ name is. inl is)
@@ -121,10 +125,10 @@ checked_under goals plan (o ∷ os) end = (refl, checked_under goals (plan + 1) 
 writes_under : (held : Told) (Failed : Names) (j : Job) (i : Intent) → GivesIntent held Failed j i → AreUnder (MayBeWritten (Some j)) (writes_of j i)
 writes_under held Failed j (Refused r) gives = (plain_is j output refl, tt)
 writes_under held Failed j OutOfMemory gives = tt
-writes_under held Failed (job.Plan p) (Planned records all) gives = plans_under p.outputs records all
+writes_under held Failed (job.Plan p) (Planned records all log broken) gives = plans_under p.outputs records all
 writes_under held Failed (job.Check c) (Checked goal os end) gives = checked_under goal 0 os end
 writes_under held Failed (job.Sweep from) (Listed w) gives = under_both IsOutput (map to_output (listings w)) (last_write ∷ []) (listed_under (listings w)) (refl, tt)
-writes_under held Failed (job.Demo d) (Demonstrated w count records all) gives = (refl, lines_under records all)
+writes_under held Failed (job.Demo d) (Demonstrated w count records all log broken) gives = (refl, lines_under records all)
 writes_under held Failed _ _ gives = absurd gives
 
 one_of_all : (IsWritten : List ℕ → Type 0) (first : List Write) (w : Write) (rest : List Write) → AreUnder IsWritten (first ++ w ∷ rest) → IsWritten w.name
@@ -137,31 +141,31 @@ cut_rose named before after ws all cut =
 
 -- ---- a job
 
-module _ (before after : DeskState) where
+module _ (before after : DeskState) (old new : List Entry) where
   abbrev held : Told
   held = before.held
 
   abbrev Failed : Names
   Failed = ReadFailed before after
 
-  done_by : (j : Job) (i : Intent) → GivesIntent held Failed j i → 0 ≡ intent_status i → AreAppended before after (writes_of j i) → IsDone before after j
-  done_by (job.Plan p) (Planned records true) gives zero made = record { records = records; planned = gives; report = made }
-  done_by (job.Check c) (Checked goal os None) gives zero made = record { goals = goal; outcomes = os; checked = gives; lines = made }
-  done_by (job.Sweep from) (Listed w) gives zero made = record { world = w; says = gives.0; is_world = gives.1; lines = made }
-  done_by (job.Demo d) (Demonstrated w count records true) (batches, is, planned) zero made =
-      record { world = w; batches = batches; records = records; planned = planned; lines = subst (λ (n : ℕ). AreAppended before after (demo_writes w n records true)) is made }
-  done_by j (Refused (refusal.Environment x)) gives zero made = absurd (omega arith)
-  done_by j (Refused _) gives zero made = absurd (omega arith)
-  done_by j OutOfMemory gives zero made = absurd (omega arith)
-  done_by (job.Plan p) (Planned records false) gives zero made = absurd (omega arith)
-  done_by (job.Check c) (Checked goal os (Some (section.Flaw x))) gives zero made = absurd (omega arith)
-  done_by (job.Check c) (Checked goal os (Some _)) gives zero made = absurd (omega arith)
-  done_by (job.Demo d) (Demonstrated w count records false) gives zero made = absurd (omega arith)
-  done_by _ _ gives zero made = absurd gives
+  done_by : (j : Job) (i : Intent) → GivesIntent held Failed j i → BeginsAfter i old → 0 ≡ intent_status i → AreAppended before after (writes_of j i) → IsDone before after old j
+  done_by (job.Plan p) (Planned records true log broken) gives begins zero made = record { records = records; planned = subst (λ (l : List Entry). ArePlanned held p records true l []) begins (subst (λ (b : List Found). ArePlanned held p records true log b) (gives.plans.none_broken refl) gives); report = made }
+  done_by (job.Check c) (Checked goal os None) gives begins zero made = record { goals = goal; outcomes = os; checked = gives; lines = made }
+  done_by (job.Sweep from) (Listed w) gives begins zero made = record { world = w; says = gives.0; is_world = gives.1; lines = made }
+  done_by (job.Demo d) (Demonstrated w count records true log broken) (batches, is, planned) begins zero made =
+      record { world = w; batches = batches; records = records; planned = subst (λ (l : List Entry). AreDemonstrated d w batches records true l []) begins (subst (λ (b : List Found). AreDemonstrated d w batches records true log b) (planned.plans.none_broken refl) planned); lines = subst (λ (n : ℕ). AreAppended before after (demo_writes w n records true)) is made }
+  done_by j (Refused (refusal.Environment x)) gives begins zero made = absurd (omega arith)
+  done_by j (Refused _) gives begins zero made = absurd (omega arith)
+  done_by j OutOfMemory gives begins zero made = absurd (omega arith)
+  done_by (job.Plan p) (Planned records false log broken) gives begins zero made = absurd (omega arith)
+  done_by (job.Check c) (Checked goal os (Some (section.Flaw x))) gives begins zero made = absurd (omega arith)
+  done_by (job.Check c) (Checked goal os (Some _)) gives begins zero made = absurd (omega arith)
+  done_by (job.Demo d) (Demonstrated w count records false log broken) gives begins zero made = absurd (omega arith)
+  done_by _ _ gives begins zero made = absurd gives
 
-  job_done : (j : Job) (status : ℕ) → EndsJob before after j status → status ≡ 0 → IsDone before after j
+  job_done : (j : Job) (status : ℕ) → EndsJob before after old new j status → status ≡ 0 → IsDone before after old j
   job_done j status e zero = elim e.ends [
-    | inl (is, made) ↦ done_by j e.intent e.gives (sym zero ∙ is) made
+    | inl (is, made) ↦ done_by j e.intent e.gives e.begins (sym zero ∙ is) made
     | inr (inl (is, cut)) ↦ absurd (omega arith)
     | inr (inr (is, stopped)) ↦ absurd (omega arith)
   ]
@@ -172,14 +176,14 @@ module _ (before after : DeskState) where
 
   refused_by : (j : Job) (i : Intent) (status : ℕ) → GivesIntent held Failed j i → intent_status i ≡ status → 3 ≤ status → status ≤ 8 → AreAppended before after (writes_of j i) → StaysBut (IsWrittenFor j i) before.written after.written → IsRefused before after status j
   refused_by j (Refused r) status gives is low high made others = record { refusal = r; has_status = is; cause = gives; line = made; others = others }
-  refused_by j (Planned records true) status gives is low high made others = absurd (omega arith)
+  refused_by j (Planned records true log broken) status gives is low high made others = absurd (omega arith)
   refused_by j (Checked goal os None) status gives is low high made others = absurd (omega arith)
   refused_by j (Checked goal os (Some (section.Flaw x))) status gives is low high made others = absurd (omega arith)
   refused_by j (Checked goal os (Some _)) status gives is low high made others = absurd (omega arith)
-  refused_by j (Demonstrated w count records true) status gives is low high made others = absurd (omega arith)
+  refused_by j (Demonstrated w count records true log broken) status gives is low high made others = absurd (omega arith)
   refused_by j _ status gives is low high made others = absurd (omega arith)
 
-  job_refused : (j : Job) (status wanted : ℕ) → EndsJob before after j status → status ≡ wanted → IsRefusing wanted → IsRefused before after wanted j
+  job_refused : (j : Job) (status wanted : ℕ) → EndsJob before after old new j status → status ≡ wanted → IsRefusing wanted → IsRefused before after wanted j
   job_refused j status wanted e at (low, high, seven) = elim e.ends [
     | inl (is, made) ↦ refused_by j e.intent wanted e.gives (sym is ∙ at) low high made e.others
     | inr (inl (is, cut)) ↦ absurd (seven (sym at ∙ is))
@@ -191,15 +195,15 @@ module _ (before after : DeskState) where
   flawed_by (job.Check c) (Checked goal os (Some (section.Flaw x))) gives one made = (x, record { goals = goal; outcomes = os; checked = gives; lines = made })
   flawed_by j (Refused (refusal.Environment x)) gives one made = absurd (omega arith)
   flawed_by j (Refused _) gives one made = absurd (omega arith)
-  flawed_by j (Planned records true) gives one made = absurd (omega arith)
+  flawed_by j (Planned records true log broken) gives one made = absurd (omega arith)
   flawed_by j (Checked goal os None) gives one made = absurd (omega arith)
   flawed_by j (Checked goal os (Some (section.Fault x))) gives one made = absurd (omega arith)
   flawed_by j (Checked goal os (Some section.NoMemory)) gives one made = absurd (omega arith)
-  flawed_by j (Demonstrated w count records true) gives one made = absurd (omega arith)
+  flawed_by j (Demonstrated w count records true log broken) gives one made = absurd (omega arith)
   flawed_by _ (Checked goal os end) gives one made = absurd gives
   flawed_by j _ gives one made = absurd (omega arith)
 
-  job_flawed : (j : Job) (status : ℕ) → EndsJob before after j status → status ≡ 1 → IsFlawFound before after j
+  job_flawed : (j : Job) (status : ℕ) → EndsJob before after old new j status → status ≡ 1 → IsFlawFound before after j
   job_flawed j status e one = elim e.ends [
     | inl (is, made) ↦ flawed_by j e.intent e.gives (sym one ∙ is) made
     | inr (inl (is, cut)) ↦ absurd (omega arith)
@@ -211,25 +215,25 @@ module _ (before after : DeskState) where
   faulted_by (job.Check c) (Checked goal os (Some (section.Fault x))) gives ten made = (x, record { goals = goal; outcomes = os; checked = gives; lines = made })
   faulted_by j (Refused (refusal.Environment x)) gives ten made = absurd (omega arith)
   faulted_by j (Refused _) gives ten made = absurd (omega arith)
-  faulted_by j (Planned records true) gives ten made = absurd (omega arith)
+  faulted_by j (Planned records true log broken) gives ten made = absurd (omega arith)
   faulted_by j (Checked goal os None) gives ten made = absurd (omega arith)
   faulted_by j (Checked goal os (Some (section.Flaw x))) gives ten made = absurd (omega arith)
   faulted_by j (Checked goal os (Some section.NoMemory)) gives ten made = absurd (omega arith)
-  faulted_by j (Demonstrated w count records true) gives ten made = absurd (omega arith)
+  faulted_by j (Demonstrated w count records true log broken) gives ten made = absurd (omega arith)
   faulted_by _ (Checked goal os end) gives ten made = absurd gives
   faulted_by j _ gives ten made = absurd (omega arith)
 
-  job_faulted : (j : Job) (status : ℕ) → EndsJob before after j status → status ≡ 10 → IsFaultFound before after j
+  job_faulted : (j : Job) (status : ℕ) → EndsJob before after old new j status → status ≡ 10 → IsFaultFound before after j
   job_faulted j status e ten = elim e.ends [
     | inl (is, made) ↦ faulted_by j e.intent e.gives (sym ten ∙ is) made
     | inr (inl (is, cut)) ↦ absurd (omega arith)
     | inr (inr (is, stopped)) ↦ absurd (omega arith)
   ]
 
-  job_cut : (j : Job) (status : ℕ) → EndsJob before after j status → status ≡ 7 → IsCutShort before after j
+  job_cut : (j : Job) (status : ℕ) → EndsJob before after old new j status → status ≡ 7 → IsCutShort before after old j
   job_cut j status e seven = elim e.ends [
     | inl (is, made) ↦ absurd ((not_intent e.intent).1 (sym is ∙ seven))
-    | inr (inl (is, cut)) ↦ record { intent = e.intent; gives = e.gives; cut = cut; others = e.others }
+    | inr (inl (is, cut)) ↦ record { intent = e.intent; gives = e.gives; begins = e.begins; cut = cut; others = e.others }
     | inr (inr (is, stopped)) ↦ absurd (omega arith)
   ]
 
@@ -237,14 +241,14 @@ module _ (before after : DeskState) where
   all_made : (ws : List Write) → AreAppended before after ws → RunsOutAt before after ws
   all_made ws made = record { first = ws; rest = []; whole = sym (append-nil ws); made = made }
 
-  job_stopped : (j : Job) (status : ℕ) → EndsJob before after j status → status ≡ 9 → EndsWithoutMemory before after j
+  job_stopped : (j : Job) (status : ℕ) → EndsJob before after old new j status → status ≡ 9 → EndsWithoutMemory before after old j
   job_stopped j status e nine = elim e.ends [
-    | inl (is, made) ↦ record { intent = e.intent; gives = e.gives; stopped = all_made (writes_of j e.intent) made; others = e.others }
+    | inl (is, made) ↦ record { intent = e.intent; gives = e.gives; begins = e.begins; stopped = all_made (writes_of j e.intent) made; others = e.others }
     | inr (inl (is, cut)) ↦ absurd (omega arith)
-    | inr (inr (is, stopped)) ↦ record { intent = e.intent; gives = e.gives; stopped = stopped; others = e.others }
+    | inr (inr (is, stopped)) ↦ record { intent = e.intent; gives = e.gives; begins = e.begins; stopped = stopped; others = e.others }
   ]
 
-  job_not_words : (j : Job) (status : ℕ) → EndsJob before after j status → status ≡ 2 → ⊥
+  job_not_words : (j : Job) (status : ℕ) → EndsJob before after old new j status → status ≡ 2 → ⊥
   job_not_words j status e two = elim e.ends [
     | inl (is, made) ↦ (not_intent e.intent).0 (sym is ∙ two)
     | inr (inl (is, cut)) ↦ omega arith
@@ -252,7 +256,7 @@ module _ (before after : DeskState) where
   ]
 
   -- a job's status is that of what it means to do, unless a write failed or memory ran out
-  job_status : (j : Job) (status wanted : ℕ) → EndsJob before after j status → ((i : Intent) → GivesIntent held Failed j i → IsOrFailed wanted (intent_status i)) → IsOrFailed wanted status
+  job_status : (j : Job) (status wanted : ℕ) → EndsJob before after old new j status → ((i : Intent) → GivesIntent held Failed j i → IsOrFailed wanted (intent_status i)) → IsOrFailed wanted status
   job_status j status wanted e each = elim e.ends [
     | inl (is, made) ↦ subst (λ s. IsOrFailed wanted s) (sym is) (each e.intent e.gives)
     | inr (inl (is, cut)) ↦ inr (inr (inl is))
@@ -262,16 +266,16 @@ module _ (before after : DeskState) where
   -- ---- a run
 
   module _ (named : Option Job) (status : ℕ) where
-    pub run_status : EndsRun named before after status → IsStatus status
+    pub run_status : EndsRun named before after old new status → IsStatus status
     run_status (by_job j is e) = elim e.ends [
       | inl (at, made) ↦ is_status status (intent_status e.intent) (intent_is_status e.intent) at
       | inr (inl (at, cut)) ↦ is_status status 7 refl at
       | inr (inr (at, stopped)) ↦ is_status status 9 refl at
     ]
-    run_status (by_words is (inl (at, made))) = is_status status 2 refl at
-    run_status (by_words is (inr (inl (at, cut)))) = is_status status 7 refl at
-    run_status (by_words is (inr (inr (at, stopped)))) = is_status status 9 refl at
-    run_status (by_memory at same) = is_status status 9 refl at
+    run_status (by_words is (inl (at, made)) stays) = is_status status 2 refl at
+    run_status (by_words is (inr (inl (at, cut))) stays) = is_status status 7 refl at
+    run_status (by_words is (inr (inr (at, stopped))) stays) = is_status status 9 refl at
+    run_status (by_memory at same stays) = is_status status 9 refl at
 
     words_statuses : EndsAs before after words_writes 2 status → (status ≡ 2) ⊎ ((status ≡ 7) ⊎ (status ≡ 9))
     words_statuses (inl (at, made)) = inl at
@@ -281,109 +285,115 @@ module _ (before after : DeskState) where
     not_by_words : EndsAs before after words_writes 2 status → status ≢ 2 → status ≢ 7 → status ≢ 9 → ⊥
     not_by_words ends a b c = elim (words_statuses ends) [ inl two ↦ a two | inr (inl seven) ↦ b seven | inr (inr nine) ↦ c nine ]
 
-    pub run_done : EndsRun named before after status → status ≡ 0 → AtJob named (IsDone before after)
+    pub run_done : EndsRun named before after old new status → status ≡ 0 → AtJob named (IsDone before after old)
     run_done (by_job j is e) zero = (j, is, job_done j status e zero)
-    run_done (by_words is ends) zero = absurd (not_by_words ends (λ h. omega arith) (λ h. omega arith) (λ h. omega arith))
-    run_done (by_memory at same) zero = absurd (omega arith)
+    run_done (by_words is ends stays) zero = absurd (not_by_words ends (λ h. omega arith) (λ h. omega arith) (λ h. omega arith))
+    run_done (by_memory at same stays) zero = absurd (omega arith)
 
-    pub run_words : EndsRun named before after status → status ≡ 2 → (named ≡ None) × AreAppended before after words_writes
+    pub run_words : EndsRun named before after old new status → status ≡ 2 → (named ≡ None) × AreAppended before after words_writes
     run_words (by_job j is e) two = absurd (job_not_words j status e two)
-    run_words (by_words is (inl (at, made))) two = (is, made)
-    run_words (by_words is (inr (inl (at, cut)))) two = absurd (omega arith)
-    run_words (by_words is (inr (inr (at, stopped)))) two = absurd (omega arith)
-    run_words (by_memory at same) two = absurd (omega arith)
+    run_words (by_words is (inl (at, made)) stays) two = (is, made)
+    run_words (by_words is (inr (inl (at, cut))) stays) two = absurd (omega arith)
+    run_words (by_words is (inr (inr (at, stopped))) stays) two = absurd (omega arith)
+    run_words (by_memory at same stays) two = absurd (omega arith)
 
-    pub run_refused : (wanted : ℕ) → EndsRun named before after status → status ≡ wanted → IsRefusing wanted → AtJob named (IsRefused before after wanted)
+    pub run_refused : (wanted : ℕ) → EndsRun named before after old new status → status ≡ wanted → IsRefusing wanted → AtJob named (IsRefused before after wanted)
     run_refused wanted (by_job j is e) at other = (j, is, job_refused j status wanted e at other)
-    run_refused wanted (by_words is ends) at (low, high, seven) = absurd (not_by_words ends (λ h. omega arith) (λ h. seven (sym at ∙ h)) (λ h. omega arith))
-    run_refused wanted (by_memory nine same) at (low, high, seven) = absurd (omega arith)
+    run_refused wanted (by_words is ends stays) at (low, high, seven) = absurd (not_by_words ends (λ h. omega arith) (λ h. seven (sym at ∙ h)) (λ h. omega arith))
+    run_refused wanted (by_memory nine same stays) at (low, high, seven) = absurd (omega arith)
 
-    pub run_flawed : EndsRun named before after status → status ≡ 1 → AtJob named (IsFlawFound before after)
+    pub run_flawed : EndsRun named before after old new status → status ≡ 1 → AtJob named (IsFlawFound before after)
     run_flawed (by_job j is e) one = (j, is, job_flawed j status e one)
-    run_flawed (by_words is ends) one = absurd (not_by_words ends (λ h. omega arith) (λ h. omega arith) (λ h. omega arith))
-    run_flawed (by_memory at same) one = absurd (omega arith)
+    run_flawed (by_words is ends stays) one = absurd (not_by_words ends (λ h. omega arith) (λ h. omega arith) (λ h. omega arith))
+    run_flawed (by_memory at same stays) one = absurd (omega arith)
 
-    pub run_faulted : EndsRun named before after status → status ≡ 10 → AtJob named (IsFaultFound before after)
+    pub run_faulted : EndsRun named before after old new status → status ≡ 10 → AtJob named (IsFaultFound before after)
     run_faulted (by_job j is e) ten = (j, is, job_faulted j status e ten)
-    run_faulted (by_words is ends) ten = absurd (not_by_words ends (λ h. omega arith) (λ h. omega arith) (λ h. omega arith))
-    run_faulted (by_memory at same) ten = absurd (omega arith)
+    run_faulted (by_words is ends stays) ten = absurd (not_by_words ends (λ h. omega arith) (λ h. omega arith) (λ h. omega arith))
+    run_faulted (by_memory at same stays) ten = absurd (omega arith)
 
-    pub run_cut : EndsRun named before after status → status ≡ 7 → AtJob named (IsCutShort before after) ⊎ ((named ≡ None) × IsCutAt before after words_writes)
+    pub run_cut : EndsRun named before after old new status → status ≡ 7 → AtJob named (IsCutShort before after old) ⊎ ((named ≡ None) × IsCutAt before after words_writes)
     run_cut (by_job j is e) seven = inl (j, is, job_cut j status e seven)
-    run_cut (by_words is (inl (at, made))) seven = absurd (omega arith)
-    run_cut (by_words is (inr (inl (at, cut)))) seven = inr (is, cut)
-    run_cut (by_words is (inr (inr (at, stopped)))) seven = absurd (omega arith)
-    run_cut (by_memory at same) seven = absurd (omega arith)
+    run_cut (by_words is (inl (at, made)) stays) seven = absurd (omega arith)
+    run_cut (by_words is (inr (inl (at, cut))) stays) seven = inr (is, cut)
+    run_cut (by_words is (inr (inr (at, stopped))) stays) seven = absurd (omega arith)
+    run_cut (by_memory at same stays) seven = absurd (omega arith)
 
-    pub run_write : EndsRun named before after status → status ≡ 7 → SomeRose named before after
+    pub run_write : EndsRun named before after old new status → status ≡ 7 → SomeRose named before after
     run_write ends seven = elim (run_cut ends seven) [
       | inl (j, is, cut) ↦ subst (λ (o : Option Job). SomeRose o before after) (sym is) (cut_rose (Some j) before after _ (writes_under held Failed j cut.intent cut.gives) cut.cut)
       | inr (is, cut) ↦ subst (λ (o : Option Job). SomeRose o before after) (sym is) (cut_rose None before after words_writes (refl, tt) cut)
     ]
 
-    pub run_stopped : EndsRun named before after status → status ≡ 9 → AtJob named (EndsWithoutMemory before after) ⊎ (((named ≡ None) × RunsOutAt before after words_writes) ⊎ Stays before.written after.written)
+    pub run_stopped : EndsRun named before after old new status → status ≡ 9 → AtJob named (EndsWithoutMemory before after old) ⊎ (((named ≡ None) × RunsOutAt before after words_writes) ⊎ Stays before.written after.written)
     run_stopped (by_job j is e) nine = inl (j, is, job_stopped j status e nine)
-    run_stopped (by_words is (inl (at, made))) nine = absurd (omega arith)
-    run_stopped (by_words is (inr (inl (at, cut)))) nine = absurd (omega arith)
-    run_stopped (by_words is (inr (inr (at, stopped)))) nine = inr (inl (is, stopped))
-    run_stopped (by_memory at same) nine = inr (inr same)
+    run_stopped (by_words is (inl (at, made)) stays) nine = absurd (omega arith)
+    run_stopped (by_words is (inr (inl (at, cut))) stays) nine = absurd (omega arith)
+    run_stopped (by_words is (inr (inr (at, stopped))) stays) nine = inr (inl (is, stopped))
+    run_stopped (by_memory at same stays) nine = inr (inr same)
 
-    pub run_no_job : EndsRun named before after status → named ≡ None → IsOrUnwritten 2 status
+    -- what was published grew by the entries of the job's plans, or stays
+    pub run_published : EndsRun named before after old new status → AtJob named (λ j. EndsJob before after old new j status) ⊎ (((named ≡ None) ⊎ (status ≡ 9)) × (new ≡ old))
+    run_published (by_job j is e) = inl (j, is, e)
+    run_published (by_words is ends stays) = inr (inl is, stays)
+    run_published (by_memory at same stays) = inr (inr at, stays)
+
+    pub run_no_job : EndsRun named before after old new status → named ≡ None → IsOrUnwritten 2 status
     run_no_job (by_job j is e) none = absurd (cc)
-    run_no_job (by_words is ends) none = words_statuses ends
-    run_no_job (by_memory at same) none = inr (inr at)
+    run_no_job (by_words is ends stays) none = words_statuses ends
+    run_no_job (by_memory at same stays) none = inr (inr at)
 
     -- where the words name a job, what holds of each way that it can come holds of the run
-    by_each : (j : Job) (wanted : ℕ) → EndsRun named before after status → named ≡ Some j → ((i : Intent) → GivesIntent held Failed j i → IsOrFailed wanted (intent_status i)) → IsOrFailed wanted status
+    by_each : (j : Job) (wanted : ℕ) → EndsRun named before after old new status → named ≡ Some j → ((i : Intent) → GivesIntent held Failed j i → IsOrFailed wanted (intent_status i)) → IsOrFailed wanted status
     by_each j wanted (by_job other is e) names each =
         let same : other ≡ j = cc in
-        job_status j status wanted (subst (λ k. EndsJob before after k status) same e) each
-    by_each j wanted (by_words is ends) names each = absurd (cc)
-    by_each j wanted (by_memory at same) names each = inr (inr (inr at))
+        job_status j status wanted (subst (λ k. EndsJob before after old new k status) same e) each
+    by_each j wanted (by_words is ends stays) names each = absurd (cc)
+    by_each j wanted (by_memory at same stays) names each = inr (inr (inr at))
 
     -- where the files stand for no world and course, a job is refused for one of them, or memory runs out
-    by_early : (j : Job) (from : Sources) (wanted : ℕ) → EndsRun named before after status → named ≡ Some j → sources_of j ≡ Some from → ((r : Refusal) → IsEarlyCause held Failed from (changes_of j) (moves_in j) r → IsOrFailed wanted (refusal_status r)) → (HasRead held from (changes_of j) (moves_in j) → ⊥) → IsOrFailed wanted status
+    by_early : (j : Job) (from : Sources) (wanted : ℕ) → EndsRun named before after old new status → named ≡ Some j → sources_of j ≡ Some from → ((r : Refusal) → IsEarlyCause held Failed from (changes_of j) (moves_in j) r → IsOrFailed wanted (refusal_status r)) → (HasRead held from (changes_of j) (moves_in j) → ⊥) → IsOrFailed wanted status
     by_early j from wanted ends names is refused none = by_each j wanted ends names (λ i gives. by_intent held Failed wanted j from i is by_cause none gives)
       where
         by_cause : (r : Refusal) → IsJobCause held Failed j r → IsOrFailed wanted (refusal_status r)
         by_cause r cause = elim (cause_of held Failed j from r is cause) [ inl early ↦ refused r early | inr (course, checks) ↦ absurd (none course) ]
 
     -- and where they stand for no world, for a file of the lattice
-    by_none : (j : Job) (from : Sources) (wanted : ℕ) → EndsRun named before after status → named ≡ Some j → sources_of j ≡ Some from → ((r : Refusal) → IsCause held Failed from r → IsOrFailed wanted (refusal_status r)) → ((w : World) → ReadsWorld held from w → ⊥) → IsOrFailed wanted status
+    by_none : (j : Job) (from : Sources) (wanted : ℕ) → EndsRun named before after old new status → named ≡ Some j → sources_of j ≡ Some from → ((r : Refusal) → IsCause held Failed from r → IsOrFailed wanted (refusal_status r)) → ((w : World) → ReadsWorld held from w → ⊥) → IsOrFailed wanted status
     by_none j from wanted ends names is refused none = by_early j from wanted ends names is by_cause (λ c. none c.world c.says)
       where
         by_cause : (r : Refusal) → IsEarlyCause held Failed from (changes_of j) (moves_in j) r → IsOrFailed wanted (refusal_status r)
         by_cause r (inl cause) = refused r cause
         by_cause r (inr cause) = let found = changes_world held Failed from (changes_of j) (moves_in j) r cause in absurd (none found.0 found.1)
 
-    pub run_environment_faulty : TextsAreClear → EndsRun named before after status → (j : Job) (from : Sources) (f : EnvFault) → named ≡ Some j → sources_of j ≡ Some from → TellsEnvironmentFault held from f → IsOrFailed 3 status
+    pub run_environment_faulty : TextsAreClear → EndsRun named before after old new status → (j : Job) (from : Sources) (f : EnvFault) → named ≡ Some j → sources_of j ≡ Some from → TellsEnvironmentFault held from f → IsOrFailed 3 status
     run_environment_faulty clear ends j from f names is tells = by_none j from 3 ends names is (environment_faulty clear held Failed from f tells) (environment_faulty_none clear held Failed from f tells)
 
-    pub run_environment_long : TextsAreClear → EndsRun named before after status → (j : Job) (from : Sources) → named ≡ Some j → sources_of j ≡ Some from → TellsTooMuch (held from.env) → IsOrFailed 8 status
+    pub run_environment_long : TextsAreClear → EndsRun named before after old new status → (j : Job) (from : Sources) → named ≡ Some j → sources_of j ≡ Some from → TellsTooMuch (held from.env) → IsOrFailed 8 status
     run_environment_long clear ends j from names is much = by_none j from 8 ends names is (environment_long clear held Failed from much) (environment_long_none clear held Failed from much)
 
-    pub run_primitives_long : TextsAreClear → EndsRun named before after status → (j : Job) (from : Sources) (env : Environment) → named ≡ Some j → sources_of j ≡ Some from → TellsEnvironment held from env → TellsTooMuch (held from.prims) → IsOrFailed 8 status
+    pub run_primitives_long : TextsAreClear → EndsRun named before after old new status → (j : Job) (from : Sources) (env : Environment) → named ≡ Some j → sources_of j ≡ Some from → TellsEnvironment held from env → TellsTooMuch (held from.prims) → IsOrFailed 8 status
     run_primitives_long clear ends j from env names is told much = by_none j from 8 ends names is (primitives_long clear held Failed from env told much) (primitives_long_none clear held Failed from env told much)
 
-    pub run_primitives_faulty : TextsAreClear → EndsRun named before after status → (j : Job) (from : Sources) (env : Environment) (f : PrimFault) → named ≡ Some j → sources_of j ≡ Some from → TellsEnvironment held from env → TellsPrimitiveFault held from env f → IsOrFailed 4 status
+    pub run_primitives_faulty : TextsAreClear → EndsRun named before after old new status → (j : Job) (from : Sources) (env : Environment) (f : PrimFault) → named ≡ Some j → sources_of j ≡ Some from → TellsEnvironment held from env → TellsPrimitiveFault held from env f → IsOrFailed 4 status
     run_primitives_faulty clear ends j from env f names is told tells = by_none j from 4 ends names is (primitives_faulty clear held Failed from env f told tells) (primitives_faulty_none clear held Failed from env f told tells)
 
-    pub run_too_wide : TextsAreClear → EndsRun named before after status → (j : Job) (from : Sources) (env : Environment) (ps : Primitives) (i : ℕ) → named ≡ Some j → sources_of j ≡ Some from → TellsEnvironment held from env → TellsPrimitives held from env ps → IsFirstTooWide ps from.radius i → IsOrFailed 4 status
+    pub run_too_wide : TextsAreClear → EndsRun named before after old new status → (j : Job) (from : Sources) (env : Environment) (ps : Primitives) (i : ℕ) → named ≡ Some j → sources_of j ≡ Some from → TellsEnvironment held from env → TellsPrimitives held from env ps → IsFirstTooWide ps from.radius i → IsOrFailed 4 status
     run_too_wide clear ends j from env ps i names is told tells wide = by_none j from 4 ends names is
         (primitives_good clear held Failed from env ps told tells 4 (λ k h. inl refl) (λ k n h. inl refl))
         (too_wide_none clear held Failed from env ps i told tells wide)
 
-    pub run_too_dear : TextsAreClear → EndsRun named before after status → (j : Job) (from : Sources) (env : Environment) (ps : Primitives) (i : ℕ) → named ≡ Some j → sources_of j ≡ Some from → TellsEnvironment held from env → TellsPrimitives held from env ps → NoneTooWide ps from.radius → IsFirstTooDear env ps.items i → IsOrFailed 4 status
+    pub run_too_dear : TextsAreClear → EndsRun named before after old new status → (j : Job) (from : Sources) (env : Environment) (ps : Primitives) (i : ℕ) → named ≡ Some j → sources_of j ≡ Some from → TellsEnvironment held from env → TellsPrimitives held from env ps → NoneTooWide ps from.radius → IsFirstTooDear env ps.items i → IsOrFailed 4 status
     run_too_dear clear ends j from env ps i names is told tells narrow dear = by_none j from 4 ends names is
         (primitives_good clear held Failed from env ps told tells 4 (λ k h. inl refl) (λ k n h. inl refl))
         (too_dear_none clear held Failed from env ps i told tells dear)
 
-    pub run_changes_long : TextsAreClear → EndsRun named before after status → (j : Job) (from : Sources) (s : Scope) (name : List ℕ) → named ≡ Some j → sources_of j ≡ Some from → AreGood held from (moves_in j) s → changes_of j ≡ Some name → TellsTooMuch (held name) → IsOrFailed 8 status
+    pub run_changes_long : TextsAreClear → EndsRun named before after old new status → (j : Job) (from : Sources) (s : Scope) (name : List ℕ) → named ≡ Some j → sources_of j ≡ Some from → AreGood held from (moves_in j) s → changes_of j ≡ Some name → TellsTooMuch (held name) → IsOrFailed 8 status
     run_changes_long clear ends j from s name names is good file much = by_early j from 8 ends names is
         (changes_long clear held Failed from (moves_in j) s (changes_of j) name good file much)
         (changes_long_none clear held Failed from (moves_in j) (changes_of j) name file much)
 
-    pub run_changes_faulty : TextsAreClear → EndsRun named before after status → (j : Job) (from : Sources) (s : Scope) (f : ChangeFault) → named ≡ Some j → sources_of j ≡ Some from → AreGood held from (moves_in j) s → TellsChangeFault held (changes_of j) s f → IsOrFailed 5 status
+    pub run_changes_faulty : TextsAreClear → EndsRun named before after old new status → (j : Job) (from : Sources) (s : Scope) (f : ChangeFault) → named ≡ Some j → sources_of j ≡ Some from → AreGood held from (moves_in j) s → TellsChangeFault held (changes_of j) s f → IsOrFailed 5 status
     run_changes_faulty clear ends j from s f names is good tells = by_early j from 5 ends names is
         (changes_faulty clear held Failed from (moves_in j) s (changes_of j) f good tells)
         (changes_faulty_none clear held Failed from (moves_in j) s (changes_of j) f good tells)
@@ -396,14 +406,14 @@ module _ (before after : DeskState) where
     -- a job that reads no labels and is done has the status 0
     served : (j : Job) (i : Intent) → IsNoCheck j → ((r : Refusal) → IsJobCause held Failed j r → IsOrFailed 0 (refusal_status r)) → GivesIntent held Failed j i → IsOrFailed 0 (intent_status i)
     served j (Refused r) plain refused gives = refused r gives
-    served j (Planned records all) plain refused gives = planned_status all
-    served j (Demonstrated w count records all) plain refused gives = planned_status all
+    served j (Planned records all log broken) plain refused gives = planned_status all
+    served j (Demonstrated w count records all log broken) plain refused gives = planned_status all
     served j (Listed w) plain refused gives = inl refl
     served j OutOfMemory plain refused gives = no_memory 0
     served (job.Check c) (Checked goal os end) plain refused gives = absurd plain
     served _ (Checked goal os end) plain refused gives = absurd gives
 
-    pub run_complete : TextsAreClear → EndsRun named before after status → (j : Job) (from : Sources) (s : Scope) (c : Course) → named ≡ Some j → sources_of j ≡ Some from → AreGood held from (moves_in j) s → TellsCourse held (changes_of j) s c → IsNoCheck j → IsOrFailed 0 status
+    pub run_complete : TextsAreClear → EndsRun named before after old new status → (j : Job) (from : Sources) (s : Scope) (c : Course) → named ≡ Some j → sources_of j ≡ Some from → AreGood held from (moves_in j) s → TellsCourse held (changes_of j) s c → IsNoCheck j → IsOrFailed 0 status
     run_complete clear ends j from s c names is good told plain = by_each j 0 ends names (λ i gives. served j i plain by_cause gives)
       where
         by_cause : (r : Refusal) → IsJobCause held Failed j r → IsOrFailed 0 (refusal_status r)
@@ -411,24 +421,24 @@ module _ (before after : DeskState) where
 
     -- a demonstration is refused for nothing
     demonstrated : (d : DemoJob) (i : Intent) → GivesIntent held Failed (job.Demo d) i → (intent_status i ≡ 0) ⊎ (intent_status i ≡ 9)
-    demonstrated d (Demonstrated w count records true) gives = inl refl
-    demonstrated d (Demonstrated w count records false) gives = inr refl
+    demonstrated d (Demonstrated w count records true log broken) gives = inl refl
+    demonstrated d (Demonstrated w count records false log broken) gives = inr refl
     demonstrated d OutOfMemory gives = inr refl
     demonstrated d _ gives = absurd gives
 
-    pub run_demonstrated : EndsRun named before after status → (d : DemoJob) → named ≡ Some (job.Demo d) → IsOrUnwritten 0 status
+    pub run_demonstrated : EndsRun named before after old new status → (d : DemoJob) → named ≡ Some (job.Demo d) → IsOrUnwritten 0 status
     run_demonstrated (by_job other is e) d names =
         let same : other ≡ job.Demo d = cc in
-        by_ends (subst (λ (k : Job). EndsJob before after k status) same e)
+        by_ends (subst (λ (k : Job). EndsJob before after old new k status) same e)
       where
-        by_ends : EndsJob before after (job.Demo d) status → IsOrUnwritten 0 status
+        by_ends : EndsJob before after old new (job.Demo d) status → IsOrUnwritten 0 status
         by_ends ended = elim ended.ends [
           | inl (at, made) ↦ elim (demonstrated d ended.intent ended.gives) [ inl zero ↦ inl (at ∙ zero) | inr nine ↦ inr (inr (at ∙ nine)) ]
           | inr (inl (at, cut)) ↦ inr (inl at)
           | inr (inr (at, stopped)) ↦ inr (inr at)
         ]
-    run_demonstrated (by_words is ends) d names = absurd (cc)
-    run_demonstrated (by_memory at same) d names = inr (inr at)
+    run_demonstrated (by_words is ends stays) d names = absurd (cc)
+    run_demonstrated (by_memory at same stays) d names = inr (inr at)
 
     -- where the files stand for a world and a course, a check is refused for its file of labels alone
     check_refused : TextsAreClear → (c : CheckJob) (w : World) (course : Course) (wanted : ℕ) → TellsWorld held c.sources w → TellsCourse held c.changes (scope_of c.back w) course → (IsTooLong (held c.labels) → IsOrFailed wanted 8) → (r : Refusal) → IsJobCause held Failed (job.Check c) r → IsOrFailed wanted (refusal_status r)
@@ -440,9 +450,9 @@ module _ (before after : DeskState) where
     checked_alike : TextsAreClear → SectionsAreClear → OneMap → AlikeWorldsAreOneGraph → (c : CheckJob) (w : World) (course : Course) (text : List ℕ) (goals : ℕ → ℕ) (os : List Outcome) (end : Option SectionStop) → end ≢ Some section.NoMemory → TellsWorld held c.sources w → TellsCourse held c.changes (scope_of c.back w) course → Tells (held c.labels) text → IsCheckedIn IsHolding w course c.back text goals os end
         → ((r : Refusal) → IsJobCause held Failed (job.Check c) r → IsOrFailed (checked_status end) (refusal_status r)) → (i : Intent) → GivesIntent held Failed (job.Check c) i → IsOrFailed (checked_status end) (intent_status i)
     checked_alike clear sections one alike c w course text goals os end some tells told held_text is refused (Refused r) gives = refused r gives
-    checked_alike clear sections one alike c w course text goals os end some tells told held_text is refused (Planned records all) gives = absurd gives
+    checked_alike clear sections one alike c w course text goals os end some tells told held_text is refused (Planned records all log broken) gives = absurd gives
     checked_alike clear sections one alike c w course text goals os end some tells told held_text is refused (Listed v) gives = absurd gives
-    checked_alike clear sections one alike c w course text goals os end some tells told held_text is refused (Demonstrated v count records all) gives = absurd gives
+    checked_alike clear sections one alike c w course text goals os end some tells told held_text is refused (Demonstrated v count records all log broken) gives = absurd gives
     checked_alike clear sections one alike c w course text goals os end some tells told held_text is refused OutOfMemory gives = no_memory (checked_status end)
     checked_alike clear sections one alike c w course text goals os end some tells told held_text is refused (Checked goal' os' end') gives =
         let v = gives.world in
@@ -462,13 +472,13 @@ module _ (before after : DeskState) where
         one_ending sections one (case_of w course is.start is.goal c.back) (suc (length course.batches)) 0 (start_at text 0) os os' end end' some is.checked
         (checked_on v w course.batches mine is.goal c.back (same_graph alike v w tells.is_world env prims map radius course.batches mine is.goal c.back) env (suc (length course.batches)) 0 (start_at text 0) os' end' there)
 
-    pub run_checked : TextsAreClear → SectionsAreClear → OneMap → AlikeWorldsAreOneGraph → EndsRun named before after status → (c : CheckJob) (w : World) (course : Course) (text : List ℕ) (goals : ℕ → ℕ) (os : List Outcome) (end : Option SectionStop) → named ≡ Some (job.Check c) → TellsWorld held c.sources w → TellsCourse held c.changes (scope_of c.back w) course → Tells (held c.labels) text → IsCheckedIn IsHolding w course c.back text goals os end → end ≢ Some section.NoMemory → IsOrFailed (checked_status end) status
+    pub run_checked : TextsAreClear → SectionsAreClear → OneMap → AlikeWorldsAreOneGraph → EndsRun named before after old new status → (c : CheckJob) (w : World) (course : Course) (text : List ℕ) (goals : ℕ → ℕ) (os : List Outcome) (end : Option SectionStop) → named ≡ Some (job.Check c) → TellsWorld held c.sources w → TellsCourse held c.changes (scope_of c.back w) course → Tells (held c.labels) text → IsCheckedIn IsHolding w course c.back text goals os end → end ≢ Some section.NoMemory → IsOrFailed (checked_status end) status
     run_checked clear sections one alike ends c w course text goals os end names tells told held_text is some =
         let refused = check_refused clear c w course (checked_status end) tells told (λ long. absurd (too_long_not_short (held c.labels) text held_text long)) in
         by_each (job.Check c) (checked_status end) ends names (checked_alike clear sections one alike c w course text goals os end some tells told held_text is refused)
 
     -- a file of labels that is too long
-    pub run_labels_long : TextsAreClear → EndsRun named before after status → (c : CheckJob) (w : World) (course : Course) → named ≡ Some (job.Check c) → TellsWorld held c.sources w → TellsCourse held c.changes (scope_of c.back w) course → TellsTooMuch (held c.labels) → IsOrFailed 8 status
+    pub run_labels_long : TextsAreClear → EndsRun named before after old new status → (c : CheckJob) (w : World) (course : Course) → named ≡ Some (job.Check c) → TellsWorld held c.sources w → TellsCourse held c.changes (scope_of c.back w) course → TellsTooMuch (held c.labels) → IsOrFailed 8 status
     run_labels_long clear ends c w course names tells told much = by_each (job.Check c) 8 ends names long_by
       where
         long_by : (i : Intent) → GivesIntent held Failed (job.Check c) i → IsOrFailed 8 (intent_status i)

@@ -20,7 +20,9 @@ use Rattle.sbpl_job.specs.declared.job.Sources.{Sources}
 use Rattle.sbpl_cli.specs.declared.record.PlanRecord.{PlanRecord}
 use Rattle.sbpl_cli.specs.Causes.{AreDemonstrated, IsDrawn, ReadsWorld, demo_search, no_outputs}
 use Rattle.sbpl_cli.specs.Determined.{AreAlikeWorlds, FewAreFirst, RecordsAreOne}
+use Rattle.sbpl_plan.specs.declared.found.Found.{Found}
 use Rattle.sbpl_cli.specs.Headline.{ArePlans}
+use Rattle.sbpl_cli.specs.Published.{Entry}
 use Rattle.sbpl_cli.specs.Texts.{still}
 use Rattle.sbpl_cli.specs.Intents.{last_write, listing_writes}
 use Rattle.sbpl_cli.specs.Listing.{listing_at, listing_by}
@@ -41,24 +43,24 @@ same_drawn d w v x y = record {
 }
 
 -- the world and the batches are those that are drawn: records of its plans are the first few of any records of all of them
-pub few_demonstrated : FewAreFirst → (d : DemoJob) (w v : World) (bs cs : List (List change.Write)) (rs us : List PlanRecord) (all : Bool) → AreDemonstrated d w bs rs all → AreDemonstrated d v cs us true
+pub few_demonstrated : FewAreFirst → (d : DemoJob) (w v : World) (bs cs : List (List change.Write)) (log : List Entry) (rs us : List PlanRecord) (all : Bool) (broken also : List Found) → AreDemonstrated d w bs rs all log broken → AreDemonstrated d v cs us true log also
     → (rest : List PlanRecord) × (us ≡ rs ++ rest)
-few_demonstrated first d w v bs cs rs us all x y =
+few_demonstrated first d w v bs cs log rs us all broken also x y =
     let course : bs ≡ cs = x.changes ∙ sym y.changes in
-    let plans : ArePlans w (still cs) demo_search no_outputs rs all = subst (λ (l : List (List change.Write)). ArePlans w (still l) demo_search no_outputs rs all) course x.plans in
-    first w v (still cs) demo_search no_outputs rs us all refl (same_drawn d w v x.drawn y.drawn) plans y.plans
+    let plans : ArePlans w (still cs) demo_search no_outputs rs all log broken = subst (λ (l : List (List change.Write)). ArePlans w (still l) demo_search no_outputs rs all log broken) course x.plans in
+    first w v (still cs) demo_search no_outputs log rs us all broken also refl (same_drawn d w v x.drawn y.drawn) plans y.plans
 
-pub one_demonstrated : RecordsAreOne → (d : DemoJob) (w v : World) (bs cs : List (List change.Write)) (rs us : List PlanRecord) → AreDemonstrated d w bs rs true → AreDemonstrated d v cs us true → rs ≡ us
-one_demonstrated one d w v bs cs rs us x y =
+pub one_demonstrated : RecordsAreOne → (d : DemoJob) (w v : World) (bs cs : List (List change.Write)) (log : List Entry) (rs us : List PlanRecord) (broken also : List Found) → AreDemonstrated d w bs rs true log broken → AreDemonstrated d v cs us true log also → rs ≡ us
+one_demonstrated one d w v bs cs log rs us broken also x y =
     let course : bs ≡ cs = x.changes ∙ sym y.changes in
-    let plans : ArePlans w (still cs) demo_search no_outputs rs true = subst (λ (l : List (List change.Write)). ArePlans w (still l) demo_search no_outputs rs true) course x.plans in
-    one w v (still cs) demo_search no_outputs rs us refl (same_drawn d w v x.drawn y.drawn) plans y.plans
+    let plans : ArePlans w (still cs) demo_search no_outputs rs true log broken = subst (λ (l : List (List change.Write)). ArePlans w (still l) demo_search no_outputs rs true log broken) course x.plans in
+    one w v (still cs) demo_search no_outputs log rs us broken also refl (same_drawn d w v x.drawn y.drawn) plans y.plans
 
 -- so is its first line
-pub one_first_line : (d : DemoJob) (w v : World) (count count' : ℕ) (bs cs : List (List change.Write)) (rs us : List PlanRecord) (all all' : Bool) → count ≡ length bs → count' ≡ length cs
-    → AreDemonstrated d w bs rs all → AreDemonstrated d v cs us all'
+pub one_first_line : (d : DemoJob) (w v : World) (count count' : ℕ) (bs cs : List (List change.Write)) (rs us : List PlanRecord) (all all' : Bool) (log : List Entry) (broken more : List Found) → count ≡ length bs → count' ≡ length cs
+    → AreDemonstrated d w bs rs all log broken → AreDemonstrated d v cs us all' log more
     → demo_text (network_of w).states (length w.prims.items) count ≡ demo_text (network_of v).states (length v.prims.items) count'
-one_first_line d w v count count' bs cs rs us all all' is also x y =
+one_first_line d w v count count' bs cs rs us all all' log broken more is also x y =
     let alike = same_drawn d w v x.drawn y.drawn in
     let states : (network_of w).states ≡ (network_of v).states = states_are w ∙ ap (λ (e : Environment). state_count e) (sym alike.env) ∙ sym (states_are v) in
     let prims : w.prims ≡ v.prims = sym alike.prims in

@@ -56,6 +56,8 @@ use Rattle.sbpl_cli.specs.declared.course.Course.{Course}
 use Rattle.sbpl_back.specs.Reversed.{PathsTurnOnce}
 use Rattle.sbpl_cli.proofs.Directions.{IsAlike, LeadsOnce, alike_known, leads_known}
 use Rattle.sbpl_cli.specs.Determined.{FewAreFirst, RecordsAreOne}
+use Rattle.sbpl_plan.specs.declared.found.Found.{Found}
+use Rattle.sbpl_cli.specs.Published.{Entry, founds, newest, with_paths, with_plan}
 use Rattle.sbpl_cli.specs.Shown.{IsShown, IsShownInFull, IsShownSparsely, IsThere}
 use Rattle.sbpl_cli.proofs.OneEnding.{OneMap, one_state}
 use Rattle.sbpl_cli.proofs.SameBegun.{AreCarried, one_begun}
@@ -249,12 +251,13 @@ pub record IsPlannerDetermined {Note : Type 0} (means : Meaning Note) : Type 0 w
 
 module _ (by : Known) (law : IsPlannerDetermined by.means) (alike_in : IsAlike by.direction) (leads_once : LeadsOnce by.direction) (initial : InitialLabelsAreOne) (one_result : OutcomesAreOne) (cut_one : CutRowsAreOne) (e : Environment) (ps : Primitives) (sweeps others : Swept)
     (radius : sweeps.radius ≡ others.radius) where
-  one_record : (m : CellMap) (how : SearchJob) (outputs : Outputs) (start goal : ℕ) (before : Option Carried) (carried other : Carried) (r u : PlanRecord)
+  one_record : (m : CellMap) (how : SearchJob) (outputs : Outputs) (start goal : ℕ) (log : List Entry) (before : Option Carried) (carried other : Carried) (r u : PlanRecord)
       → network_of (made e ps sweeps m) ≡ network_of (made e ps others m) → AreCarried e ps sweeps others radius before → r.plan ≡ u.plan
       → Joins (made e ps sweeps m) start goal r.outcome → Joins (made e ps others m) start goal u.outcome
       → IsSearched by (made e ps sweeps m) how outputs start goal before carried r → IsSearched by (made e ps others m) how outputs start goal before other u
+      → r.incumbent ≡ newest (with_plan log r) → u.incumbent ≡ newest (with_plan log u)
       → AreOneRecord e carried other r u
-  one_record m how outputs start goal before carried other r u same begins_alike number joins joins' x y =
+  one_record m how outputs start goal log before carried other r u same begins_alike number joins joins' x y newest_is newest_is' =
       let n : Network = by.direction.network (made e ps sweeps m) in
       let one_network : by.direction.network (made e ps sweeps m) ≡ by.direction.network (made e ps others m) = alike_in.network (made e ps sweeps m) (made e ps others m) same in
       let from : ℕ = by.direction.from start goal in
@@ -291,8 +294,10 @@ module _ (by : Known) (law : IsPlannerDetermined by.means) (alike_in : IsAlike b
       (λ s t. one_section cut_one n x.guide y.guide from to r.plan carried.labels x.found all_states at_end outputs.form s t) x.labels shown
       in
       let raised : r.raised ≡ u.raised = x.raises ∙ ap (λ (l : List ℕ). if is_some outputs.trace then l else []) begun.raised ∙ sym y.raises in
+      let after : newest (with_plan log r) ≡ newest (with_plan log u) = λ i. newest (with_paths log (number i) 0 (founds (all i))) in
+      let incumbent : r.incumbent ≡ u.incumbent = newest_is ∙ after ∙ sym newest_is' in
       record {
-        record_is = λ i. record { plan = number i; raised = raised i; passes = all i; expanded = expanded i; spent = spent i; outcome = outcomes i; labels = labels i };
+        record_is = λ i. record { plan = number i; raised = raised i; passes = all i; expanded = expanded i; spent = spent i; outcome = outcomes i; labels = labels i; incumbent = incumbent i };
         labels = one.labels;
         expanded = x.counted ∙ ap (λ (count : ℕ). expanded_before before + count) counts ∙ sym y.counted;
         states = states;
@@ -303,24 +308,26 @@ module _ (by : Known) (law : IsPlannerDetermined by.means) (alike_in : IsAlike b
 
   module _ (one_map : OneMap) (one_graph : AlikeWorldsAreOneGraph) (first : CellMap) (batches : List (List Write)) (how : SearchJob) (outputs : Outputs) (starts : ℕ → ℕ) (goal : ℕ) where
     -- records of plans from one on are the first of any others from it on that are no fewer
-    pub one_records : (rs us : List PlanRecord) (k : ℕ) (before : Option Carried) → AreCarried e ps sweeps others radius before → length rs ≤ length us
-        → AreRecords by (made e ps sweeps first) batches how outputs starts goal k before rs → AreRecords by (made e ps others first) batches how outputs starts goal k before us
+    pub one_records : (rs us : List PlanRecord) (k : ℕ) (log : List Entry) (before : Option Carried) → AreCarried e ps sweeps others radius before → length rs ≤ length us
+        → AreRecords by (made e ps sweeps first) batches how outputs starts goal k log before rs → AreRecords by (made e ps others first) batches how outputs starts goal k log before us
         → (rest : List PlanRecord) × (us ≡ rs ++ rest)
-    one_records [] us k before begins_alike no_fewer left right = (us, refl)
-    one_records (r ∷ rs) [] k before begins_alike no_fewer left right = absurd (omega arith)
-    one_records (r ∷ rs) (u ∷ us) k before begins_alike no_fewer left right =
+    one_records [] us k log before begins_alike no_fewer left right = (us, refl)
+    one_records (r ∷ rs) [] k log before begins_alike no_fewer left right = absurd (omega arith)
+    one_records (r ∷ rs) (u ∷ us) k log before begins_alike no_fewer left right =
         let carried : Carried = left.0 in
         let other : Carried = right.0 in
         let maps : carried.map ≡ other.map = one_map first carried.map other.map batches k left.2.is_world.map right.2.is_world.map left.1 right.1 in
-        let plan : IsPlanOf by (made e ps others carried.map) how outputs (starts k) goal k before other u = rw maps right.2 in
+        let plan : IsPlanOf by (made e ps others carried.map) how outputs (starts k) goal k log before other u = rw maps right.2 in
         let same : network_of (made e ps sweeps carried.map) ≡ network_of (made e ps others carried.map) =
         one_graph (made e ps others carried.map) (made e ps sweeps carried.map) plan.is_world left.2.is_world refl refl refl radius
         in
-        let one = one_record carried.map how outputs (starts k) goal before carried other r u same begins_alike (left.2.number ∙ sym plan.number) left.2.promises.joins plan.promises.joins left.2.searched plan.searched in
+        let one = one_record carried.map how outputs (starts k) goal log before carried other r u same begins_alike (left.2.number ∙ sym plan.number) left.2.promises.joins plan.promises.joins left.2.searched plan.searched left.2.incumbent plan.incumbent in
         let both : carried ≡ other = λ i. record { map = maps i; labels = one.labels i; expanded = one.expanded i } in
         let later : AreCarried e ps sweeps others radius (Some carried) = record { states = one.states; no_arc = one.no_arc; graph = same } in
-        let further : AreRecords by (made e ps others first) batches how outputs starts goal (k + 1) (Some carried) us = rw both right.3 in
-        let after_them = one_records rs us (k + 1) (Some carried) later (omega arith) left.3 further in
+        let further : AreRecords by (made e ps others first) batches how outputs starts goal (k + 1) (with_plan log r) (Some carried) us =
+        subst (λ (x : PlanRecord). AreRecords by (made e ps others first) batches how outputs starts goal (k + 1) (with_plan log x) (Some carried) us) (sym one.record_is) (rw both right.3)
+        in
+        let after_them = one_records rs us (k + 1) (with_plan log r) (Some carried) later (omega arith) left.3 further in
         let same_record : u ≡ r = sym one.record_is in
         let same_rest : us ≡ rs ++ after_them.0 = after_them.1 in
         (after_them.0, λ i. same_record i ∷ same_rest i)
@@ -335,16 +342,16 @@ whole_front rs us rest parted as_many =
     sym (parted ∙ ap (λ (l : List PlanRecord). rs ++ l) none ∙ append-nil rs)
 
 first_list : ((p : Planner) → is_determined p ≡ true → IsPlannerDetermined (known p).means) → PathsTurnOnce → InitialLabelsAreOne → OutcomesAreOne → CutRowsAreOne → OneMap → AlikeWorldsAreOneGraph → (e : Environment) (ps : Primitives) (sweeps others : Swept) (m : CellMap) → sweeps.radius ≡ others.radius
-    → (course : Course) (how : SearchJob) (outputs : Outputs) (rs us : List PlanRecord) (all : Bool) → is_determined how.planner ≡ true → ArePlans (made e ps sweeps m) course how outputs rs all → ArePlans (made e ps others m) course how outputs us true
+    → (course : Course) (how : SearchJob) (outputs : Outputs) (log : List Entry) (rs us : List PlanRecord) (all : Bool) (broken also : List Found) → is_determined how.planner ≡ true → ArePlans (made e ps sweeps m) course how outputs rs all log broken → ArePlans (made e ps others m) course how outputs us true log also
     → (rest : List PlanRecord) × (us ≡ rs ++ rest)
-first_list laws once initial one_result cut_one one_map one_graph e ps sweeps others m radius course how outputs rs us all determined left right =
+first_list laws once initial one_result cut_one one_map one_graph e ps sweeps others m radius course how outputs log rs us all broken also determined left right =
     let starts : left.start ≡ right.start = one_state e e.start left.start right.start left.start_is right.start_is in
     let goals : left.goal ≡ right.goal = one_state e e.end left.goal right.goal left.goal_is right.goal_is in
-    let each : AreRecords (known how.planner) (made e ps others m) course.batches how outputs (start_after e left.start course.moves) left.goal 0 None us = rw (starts, goals) right.each in
+    let each : AreRecords (known how.planner) (made e ps others m) course.batches how outputs (start_after e left.start course.moves) left.goal 0 log None us = rw (starts, goals) right.each in
     let none : AreCarried e ps sweeps others radius None = tt in
     let few = left.few in
     let many = right.all_made refl in
-    one_records (known how.planner) (laws how.planner determined) (alike_known how.planner) (leads_known once how.planner) initial one_result cut_one e ps sweeps others radius one_map one_graph m course.batches how outputs (start_after e left.start course.moves) left.goal rs us 0 None none (omega arith) left.each each
+    one_records (known how.planner) (laws how.planner determined) (alike_known how.planner) (leads_known once how.planner) initial one_result cut_one e ps sweeps others radius one_map one_graph m course.batches how outputs (start_after e left.start course.moves) left.goal rs us 0 log None none (omega arith) left.each each
 
 -- each planner whose passes are determined is one of these
 pub of_each : IsPlannerDetermined ara → IsPlannerDetermined adstar → (p : Planner) → is_determined p ≡ true → IsPlannerDetermined (known p).means
@@ -354,15 +361,15 @@ of_each by_ara by_adstar planner.Back determined = by_adstar
 of_each by_ara by_adstar planner.Epase determined = absurd (false≢true determined)
 
 pub few_are_first : ((p : Planner) → is_determined p ≡ true → IsPlannerDetermined (known p).means) → PathsTurnOnce → InitialLabelsAreOne → OutcomesAreOne → CutRowsAreOne → OneMap → AlikeWorldsAreOneGraph → FewAreFirst
-few_are_first laws once initial one_result cut_one one_map one_graph w v course how outputs rs us all determined alike left right =
+few_are_first laws once initial one_result cut_one one_map one_graph w v course how outputs log rs us all broken also determined alike left right =
     let env = alike.env in
     let prims = alike.prims in
     let map = alike.map in
     let is : v ≡ made w.env w.prims v.sweeps w.map = λ i. record { env = env i; prims = prims i; sweeps = v.sweeps; map = map i } in
-    let own : ArePlans (made w.env w.prims v.sweeps w.map) course how outputs us true = subst (λ (x : World). ArePlans x course how outputs us true) is right in
-    first_list laws once initial one_result cut_one one_map one_graph w.env w.prims w.sweeps v.sweeps w.map (sym alike.radius) course how outputs rs us all determined left own
+    let own : ArePlans (made w.env w.prims v.sweeps w.map) course how outputs us true log also = subst (λ (x : World). ArePlans x course how outputs us true log also) is right in
+    first_list laws once initial one_result cut_one one_map one_graph w.env w.prims w.sweeps v.sweeps w.map (sym alike.radius) course how outputs log rs us all broken also determined left own
 
 pub records_are_one : FewAreFirst → RecordsAreOne
-records_are_one first w v course how outputs rs us determined alike left right =
-    let parted = first w v course how outputs rs us true determined alike left right in
+records_are_one first w v course how outputs log rs us broken also determined alike left right =
+    let parted = first w v course how outputs log rs us true broken also determined alike left right in
     whole_front rs us parted.0 parted.1 (right.all_made refl ∙ sym (left.all_made refl))

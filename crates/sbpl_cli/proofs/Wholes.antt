@@ -20,8 +20,10 @@ use Rattle.sbpl_cli.specs.Asked.{is_determined}
 use Rattle.sbpl_cli.specs.Causes.{ArePlanned, IsJobCause}
 use Rattle.sbpl_cli.specs.Clear.{SectionsAreClear, TextsAreClear}
 use Rattle.sbpl_cli.specs.Determined.{ArePrefixes, AreTold, CallsFor, FewAreFirst, IsDeterminedJob, IsInput, IsNoFailure, IsSource, NoName, NoneRose, RecordsAreOne}
-use Rattle.sbpl_cli.specs.Intents.{Intent, Refused, Planned, Checked, Listed, Demonstrated, OutOfMemory, checked_status, end_writes, intent_status, lines_writes, plans_writes, refusal_status, section_writes, writes_of}
+use Rattle.sbpl_cli.specs.Intents.{BeginsAfter, Intent, Refused, Planned, Checked, Listed, Demonstrated, OutOfMemory, checked_status, end_writes, intent_status, lines_writes, plans_writes, refusal_status, section_writes, writes_of}
 use Rattle.sbpl_cli.specs.Promises.{GivesIntent, EndsJob, EndsRun, IsDemonstration, by_job, by_memory, by_words}
+use Rattle.sbpl_plan.specs.declared.found.Found.{Found}
+use Rattle.sbpl_cli.specs.Published.{Entry}
 use Rattle.sbpl_cli.specs.Report.{demo_text, plan_line}
 use Rattle.sbpl_cli.specs.Writing.{AreAppended, DeskState, IsNamed, Names, ReadFailed, Told, Write, to_output}
 use Rattle.sbpl_cli.proofs.Ends.{job_cause_on}
@@ -70,7 +72,7 @@ unread Failed j IsOne r input (i, is, (name, one, rose)) = (ap (λ (x : Refusal)
 
 -- ---- the jobs
 
-module _ (clear : TextsAreClear) (sections : SectionsAreClear) (one_map : OneMap) (graphs : AlikeWorldsAreOneGraph) (one : RecordsAreOne) (first : FewAreFirst) (held : Told) (Failed : Names) where
+module _ (clear : TextsAreClear) (sections : SectionsAreClear) (one_map : OneMap) (graphs : AlikeWorldsAreOneGraph) (one : RecordsAreOne) (first : FewAreFirst) (held : Told) (Failed : Names) (log : List Entry) where
   alike_refusals : (j : Job) (r u : Refusal) → r ≡ u → Agrees Failed j (Refused r) (Refused u)
   alike_refusals j r u same = inr (inl (ap (λ (x : Refusal). refusal_status x) same, ap (λ (x : Refusal). writes_of j (Refused x)) same))
 
@@ -108,29 +110,31 @@ module _ (clear : TextsAreClear) (sections : SectionsAreClear) (one_map : OneMap
     one_plan_bad r u (inr x) (inl y) = absurd (not_world clear held p.sources plan_env plan_prims x.0 u y x.1)
     one_plan_bad r u (inr x) (inr y) = one_bad_course clear held p.sources plan_env plan_prims p.changes (may_move p.search.planner) plan_changes r u x y
 
-    not_planned : (r : Refusal) (records : List PlanRecord) (all : Bool) → IsPlanBad r → ArePlanned held p records all → ⊥
-    not_planned r records all (inl x) planned = not_world clear held p.sources plan_env plan_prims planned.world r x planned.says
-    not_planned r records all (inr x) planned = not_course clear held p.sources plan_env plan_prims p.changes (may_move p.search.planner) plan_changes planned.world planned.course r x planned.says planned.changes
+    not_planned : (r : Refusal) (records : List PlanRecord) (all : Bool) (own : List Entry) (broken : List Found) → IsPlanBad r → ArePlanned held p records all own broken → ⊥
+    not_planned r records all own broken (inl x) planned = not_world clear held p.sources plan_env plan_prims planned.world r x planned.says
+    not_planned r records all own broken (inr x) planned = not_course clear held p.sources plan_env plan_prims p.changes (may_move p.search.planner) plan_changes planned.world planned.course r x planned.says planned.changes
 
-    plans_agree : (rs us : List PlanRecord) (all : Bool) → is_determined p.search.planner ≡ true → ArePlanned held p rs all → ArePlanned held p us true → Agrees Failed (job.Plan p) (Planned rs all) (Planned us true)
-    plans_agree rs us true determined x y =
-        let same = one_planned clear held one p rs us plan_env plan_prims plan_changes determined x y in
+    plans_agree : (rs us : List PlanRecord) (all : Bool) (own other : List Entry) (broken also : List Found) → is_determined p.search.planner ≡ true → ArePlanned held p rs all log broken → ArePlanned held p us true log also
+        → Agrees Failed (job.Plan p) (Planned rs all own broken) (Planned us true other also)
+    plans_agree rs us true own other broken also determined x y =
+        let same = one_planned clear held one p log rs us broken also plan_env plan_prims plan_changes determined x y in
         inr (inl (refl, ap (λ (l : List PlanRecord). plans_writes p.outputs l true) same))
-    plans_agree rs us false determined x y =
-        let parted = few_planned clear held first p rs us false plan_env plan_prims plan_changes determined x y in
+    plans_agree rs us false own other broken also determined x y =
+        let parted = few_planned clear held first p log rs us false broken also plan_env plan_prims plan_changes determined x y in
         let few = few_written (section_writes p.outputs) rs parted.0 in
         inr (inr (refl, (few.0, ap (λ (l : List PlanRecord). plans_writes p.outputs l true) parted.1 ∙ few.1)))
 
-    plan_agrees : (i whole : Intent) → GivesIntent held Failed (job.Plan p) i → CallsFor held (job.Plan p) whole → Agrees Failed (job.Plan p) i whole
-    plan_agrees (Refused r) (Refused u) gives calls = elim (plan_bad Failed r gives) [ inl bad ↦ alike_refusals (job.Plan p) r u (one_plan_bad r u bad (plan_quiet u calls)) | inr out ↦ inl out ]
-    plan_agrees (Refused r) (Planned us all) gives calls = elim (plan_bad Failed r gives) [ inl bad ↦ absurd (not_planned r us true bad calls.2) | inr out ↦ inl out ]
-    plan_agrees (Planned rs all) (Refused u) gives calls = absurd (not_planned u rs all (plan_quiet u calls) gives)
-    plan_agrees (Planned rs all) (Planned us every) gives calls =
-        subst (λ (b : Bool). Agrees Failed (job.Plan p) (Planned rs all) (Planned us b)) (sym calls.0) (plans_agree rs us all calls.1 gives calls.2)
-    plan_agrees OutOfMemory whole gives calls = inr (inr (refl, (writes_of (job.Plan p) whole, refl)))
-    plan_agrees (Refused r) _ gives calls = absurd calls
-    plan_agrees (Planned rs all) _ gives calls = absurd calls
-    plan_agrees _ whole gives calls = absurd gives
+    plan_agrees : (i whole : Intent) → GivesIntent held Failed (job.Plan p) i → BeginsAfter i log → CallsFor held log (job.Plan p) whole → Agrees Failed (job.Plan p) i whole
+    plan_agrees (Refused r) (Refused u) gives begins calls = elim (plan_bad Failed r gives) [ inl bad ↦ alike_refusals (job.Plan p) r u (one_plan_bad r u bad (plan_quiet u calls)) | inr out ↦ inl out ]
+    plan_agrees (Refused r) (Planned us all other also) gives begins calls = elim (plan_bad Failed r gives) [ inl bad ↦ absurd (not_planned r us true log also bad calls.3) | inr out ↦ inl out ]
+    plan_agrees (Planned rs all own broken) (Refused u) gives begins calls = absurd (not_planned u rs all own broken (plan_quiet u calls) gives)
+    plan_agrees (Planned rs all own broken) (Planned us every other also) gives begins calls =
+        subst (λ (b : Bool). Agrees Failed (job.Plan p) (Planned rs all own broken) (Planned us b other also)) (sym calls.0)
+        (plans_agree rs us all own other broken also calls.1 (subst (λ (l : List Entry). ArePlanned held p rs all l broken) begins gives) calls.3)
+    plan_agrees OutOfMemory whole gives begins calls = inr (inr (refl, (writes_of (job.Plan p) whole, refl)))
+    plan_agrees (Refused r) _ gives begins calls = absurd calls
+    plan_agrees (Planned rs all own broken) _ gives begins calls = absurd calls
+    plan_agrees _ whole gives begins calls = absurd gives
 
   -- ---- check
 
@@ -184,7 +188,7 @@ module _ (clear : TextsAreClear) (sections : SectionsAreClear) (one_map : OneMap
           | inr (out, later) ↦ inr (inr (ap checked_status out, later))
         ])
 
-    check_agrees : (i whole : Intent) → GivesIntent held Failed (job.Check c) i → CallsFor held (job.Check c) whole → Agrees Failed (job.Check c) i whole
+    check_agrees : (i whole : Intent) → GivesIntent held Failed (job.Check c) i → CallsFor held log (job.Check c) whole → Agrees Failed (job.Check c) i whole
     check_agrees (Refused r) (Refused u) gives calls = elim (check_bad Failed r gives) [ inl bad ↦ alike_refusals (job.Check c) r u (one_check_bad r u bad (check_quiet u calls)) | inr out ↦ inl out ]
     check_agrees (Refused r) (Checked goal os end) gives calls = elim (check_bad Failed r gives) [ inl bad ↦ absurd (not_checked r goal os end bad calls.1) | inr out ↦ inl out ]
     check_agrees (Checked goal os end) (Refused u) gives calls = absurd (not_checked u goal os end (check_quiet u calls) gives)
@@ -209,7 +213,7 @@ module _ (clear : TextsAreClear) (sections : SectionsAreClear) (one_map : OneMap
     sweep_quiet : (r : Refusal) → IsJobCause held NoName (job.Sweep from) r → AreBadSources held from r
     sweep_quiet r c = elim (sweep_bad NoName r c) [ inl bad ↦ bad | inr (six, (name, is, failed)) ↦ absurd failed ]
 
-    sweep_agrees : (i whole : Intent) → GivesIntent held Failed (job.Sweep from) i → CallsFor held (job.Sweep from) whole → Agrees Failed (job.Sweep from) i whole
+    sweep_agrees : (i whole : Intent) → GivesIntent held Failed (job.Sweep from) i → CallsFor held log (job.Sweep from) whole → Agrees Failed (job.Sweep from) i whole
     sweep_agrees (Refused r) (Refused u) gives calls = elim (sweep_bad Failed r gives) [ inl bad ↦ alike_refusals (job.Sweep from) r u (one_source clear held from sweep_env sweep_prims r u bad (sweep_quiet u calls)) | inr out ↦ inl out ]
     sweep_agrees (Refused r) (Listed v) gives calls = elim (sweep_bad Failed r gives) [ inl bad ↦ absurd (not_world clear held from sweep_env sweep_prims v r bad calls) | inr out ↦ inl out ]
     sweep_agrees (Listed w) (Refused u) gives calls = absurd (not_world clear held from sweep_env sweep_prims w u (sweep_quiet u calls) gives.0)
@@ -222,79 +226,80 @@ module _ (clear : TextsAreClear) (sections : SectionsAreClear) (one_map : OneMap
   -- ---- demo
 
   module _ (d : DemoJob) where
-    demos_agree : (w v : World) (count count' : ℕ) (rs us : List PlanRecord) (all : Bool) → IsDemonstration d w count rs all → IsDemonstration d v count' us true
-        → Agrees Failed (job.Demo d) (Demonstrated w count rs all) (Demonstrated v count' us true)
-    demos_agree w v count count' rs us true (bs, is, x) (cs, also, y) =
-        let line = one_first_line d w v count count' bs cs rs us true true is also x y in
-        let same = one_demonstrated one d w v bs cs rs us x y in
+    demos_agree : (w v : World) (count count' : ℕ) (rs us : List PlanRecord) (all : Bool) (own other : List Entry) (broken also : List Found) → IsDemonstration d w count rs all log broken → IsDemonstration d v count' us true log also
+        → Agrees Failed (job.Demo d) (Demonstrated w count rs all own broken) (Demonstrated v count' us true other also)
+    demos_agree w v count count' rs us true own other broken also (bs, is, x) (cs, too, y) =
+        let line = one_first_line d w v count count' bs cs rs us true true log broken also is too x y in
+        let same = one_demonstrated one d w v bs cs log rs us broken also x y in
         inr (inl (refl, λ i. to_output (line i) ∷ lines_writes (same i) true))
-    demos_agree w v count count' rs us false (bs, is, x) (cs, also, y) =
-        let line = one_first_line d w v count count' bs cs rs us false true is also x y in
-        let parted = few_demonstrated first d w v bs cs rs us false x y in
+    demos_agree w v count count' rs us false own other broken also (bs, is, x) (cs, too, y) =
+        let line = one_first_line d w v count count' bs cs rs us false true log broken also is too x y in
+        let parted = few_demonstrated first d w v bs cs log rs us false broken also x y in
         let few = few_written (λ (r : PlanRecord). to_output (plan_line r) ∷ []) rs parted.0 in
         let lines : lines_writes us true ≡ lines_writes rs false ++ few.0 = ap (λ (l : List PlanRecord). lines_writes l true) parted.1 ∙ few.1 in
-        let own : demo_text (network_of v).states (length v.prims.items) count' ≡ demo_text (network_of w).states (length w.prims.items) count = sym line in
-        inr (inr (refl, (few.0, λ i. to_output (own i) ∷ lines i)))
+        let mine : demo_text (network_of v).states (length v.prims.items) count' ≡ demo_text (network_of w).states (length w.prims.items) count = sym line in
+        inr (inr (refl, (few.0, λ i. to_output (mine i) ∷ lines i)))
 
-    demo_agrees : (i whole : Intent) → GivesIntent held Failed (job.Demo d) i → CallsFor held (job.Demo d) whole → Agrees Failed (job.Demo d) i whole
-    demo_agrees OutOfMemory whole gives calls = inr (inr (refl, (writes_of (job.Demo d) whole, refl)))
-    demo_agrees (Demonstrated w count rs all) (Demonstrated v count' us every) gives calls =
-        subst (λ (b : Bool). Agrees Failed (job.Demo d) (Demonstrated w count rs all) (Demonstrated v count' us b)) (sym calls.0) (demos_agree w v count count' rs us all gives calls.1)
-    demo_agrees (Demonstrated w count rs all) _ gives calls = absurd calls
-    demo_agrees _ whole gives calls = absurd gives
+    demo_agrees : (i whole : Intent) → GivesIntent held Failed (job.Demo d) i → BeginsAfter i log → CallsFor held log (job.Demo d) whole → Agrees Failed (job.Demo d) i whole
+    demo_agrees OutOfMemory whole gives begins calls = inr (inr (refl, (writes_of (job.Demo d) whole, refl)))
+    demo_agrees (Demonstrated w count rs all own broken) (Demonstrated v count' us every other also) gives begins calls =
+        subst (λ (b : Bool). Agrees Failed (job.Demo d) (Demonstrated w count rs all own broken) (Demonstrated v count' us b other also)) (sym calls.0)
+        (demos_agree w v count count' rs us all own other broken also (subst (λ (l : List Entry). IsDemonstration d w count rs all l broken) begins gives) calls.2)
+    demo_agrees (Demonstrated w count rs all own broken) _ gives begins calls = absurd calls
+    demo_agrees _ whole gives begins calls = absurd gives
 
-  agrees : (j : Job) (i whole : Intent) → AreTold held j → GivesIntent held Failed j i → CallsFor held j whole → Agrees Failed j i whole
-  agrees (job.Plan p) i whole told gives calls = plan_agrees p told i whole gives calls
-  agrees (job.Check c) i whole told gives calls = check_agrees c told i whole gives calls
-  agrees (job.Sweep from) i whole told gives calls = sweep_agrees from told i whole gives calls
-  agrees (job.Demo d) i whole told gives calls = demo_agrees d i whole gives calls
+  agrees : (j : Job) (i whole : Intent) → AreTold held j → GivesIntent held Failed j i → BeginsAfter i log → CallsFor held log j whole → Agrees Failed j i whole
+  agrees (job.Plan p) i whole told gives begins calls = plan_agrees p told i whole gives begins calls
+  agrees (job.Check c) i whole told gives begins calls = check_agrees c told i whole gives calls
+  agrees (job.Sweep from) i whole told gives begins calls = sweep_agrees from told i whole gives calls
+  agrees (job.Demo d) i whole told gives begins calls = demo_agrees d i whole gives begins calls
 
 -- ---- what is called for
 
 -- where what a job means to do has not the status of a failure, the words and the files call for it
-called_for : (held : Told) (Failed : Names) (j : Job) (i : Intent) → GivesIntent held Failed j i → IsDeterminedJob j
-    → intent_status i ≢ 6 → intent_status i ≢ 9 → CallsFor held j i
-called_for held Failed j (Refused r) gives one six nine = job_cause_on held Failed NoName j r (λ is. absurd (six is)) gives
-called_for held Failed (job.Plan p) (Planned records true) gives one six nine = (refl, one, gives)
-called_for held Failed (job.Plan p) (Planned records false) gives one six nine = absurd (nine refl)
-called_for held Failed (job.Check c) (Checked goal os end) gives one six nine = (λ is. nine (ap checked_status is), gives)
-called_for held Failed (job.Sweep from) (Listed w) gives one six nine = gives.0
-called_for held Failed (job.Demo d) (Demonstrated w count records true) gives one six nine = (refl, gives)
-called_for held Failed (job.Demo d) (Demonstrated w count records false) gives one six nine = absurd (nine refl)
-called_for held Failed j OutOfMemory gives one six nine = absurd (nine refl)
-called_for held Failed _ _ gives one six nine = absurd gives
+called_for : (held : Told) (Failed : Names) (log : List Entry) (j : Job) (i : Intent) → GivesIntent held Failed j i → BeginsAfter i log → IsDeterminedJob j
+    → intent_status i ≢ 6 → intent_status i ≢ 9 → CallsFor held log j i
+called_for held Failed log j (Refused r) gives begins one six nine = job_cause_on held Failed NoName j r (λ is. absurd (six is)) gives
+called_for held Failed log (job.Plan p) (Planned records true own broken) gives begins one six nine = (refl, one, begins, subst (λ (l : List Entry). ArePlanned held p records true l broken) begins gives)
+called_for held Failed log (job.Plan p) (Planned records false own broken) gives begins one six nine = absurd (nine refl)
+called_for held Failed log (job.Check c) (Checked goal os end) gives begins one six nine = (λ is. nine (ap checked_status is), gives)
+called_for held Failed log (job.Sweep from) (Listed w) gives begins one six nine = gives.0
+called_for held Failed log (job.Demo d) (Demonstrated w count records true own broken) gives begins one six nine = (refl, begins, subst (λ (l : List Entry). IsDemonstration d w count records true l broken) begins gives)
+called_for held Failed log (job.Demo d) (Demonstrated w count records false own broken) gives begins one six nine = absurd (nine refl)
+called_for held Failed log j OutOfMemory gives begins one six nine = absurd (nine refl)
+called_for held Failed log _ _ gives begins one six nine = absurd gives
 
 none_names : (j : Job) → ◌≡◌ {A = Option Job} None (Some j) → ⊥
 none_names j is = cc
 
-module _ (before after : DeskState) where
-  job_called : (j : Job) (status : ℕ) → IsDeterminedJob j → IsNoFailure status → EndsJob before after j status
-      → (whole : Intent) × CallsFor before.held j whole
+module _ (before after : DeskState) (old new : List Entry) where
+  job_called : (j : Job) (status : ℕ) → IsDeterminedJob j → IsNoFailure status → EndsJob before after old new j status
+      → (whole : Intent) × CallsFor before.held old j whole
   job_called j status one (no_read, no_write, no_want) e = elim e.ends [
     | inl (is, made) ↦
         let six : intent_status e.intent ≢ 6 = λ h. no_read (is ∙ h) in
         let nine : intent_status e.intent ≢ 9 = λ h. no_want (is ∙ h) in
-        (e.intent, called_for before.held (ReadFailed before after) j e.intent e.gives one six nine)
+        (e.intent, called_for before.held (ReadFailed before after) old j e.intent e.gives e.begins one six nine)
     | inr (inl (is, cut)) ↦ absurd (no_write is)
     | inr (inr (is, stopped)) ↦ absurd (no_want is)
   ]
 
-  pub run_called : (named : Option Job) (status : ℕ) → EndsRun named before after status → (j : Job) → named ≡ Some j
-      → IsDeterminedJob j → IsNoFailure status → (whole : Intent) × CallsFor before.held j whole
+  pub run_called : (named : Option Job) (status : ℕ) → EndsRun named before after old new status → (j : Job) → named ≡ Some j
+      → IsDeterminedJob j → IsNoFailure status → (whole : Intent) × CallsFor before.held old j whole
   run_called named status (by_job other at e) j is one free =
       let same : other ≡ j = same_Some other j (sym at ∙ is) in
-      job_called j status one free (subst (λ (k : Job). EndsJob before after k status) same e)
-  run_called named status (by_words none ends) j is one free = absurd (none_names j (sym none ∙ is))
-  run_called named status (by_memory nine same) j is one (no_read, no_write, no_want) = absurd (no_want nine)
+      job_called j status one free (subst (λ (k : Job). EndsJob before after old new k status) same e)
+  run_called named status (by_words none ends stays) j is one free = absurd (none_names j (sym none ∙ is))
+  run_called named status (by_memory nine same stays) j is one (no_read, no_write, no_want) = absurd (no_want nine)
 
 -- ---- a run
 
-module _ (clear : TextsAreClear) (sections : SectionsAreClear) (one_map : OneMap) (graphs : AlikeWorldsAreOneGraph) (one : RecordsAreOne) (first : FewAreFirst) (before after : DeskState) where
+module _ (clear : TextsAreClear) (sections : SectionsAreClear) (one_map : OneMap) (graphs : AlikeWorldsAreOneGraph) (one : RecordsAreOne) (first : FewAreFirst) (before after : DeskState) (old new : List Entry) where
   -- what is called for was written whole
-  job_whole : (j : Job) (whole : Intent) (status : ℕ) → AreTold before.held j → CallsFor before.held j whole → IsNoFailure status → EndsJob before after j status
+  job_whole : (j : Job) (whole : Intent) (status : ℕ) → AreTold before.held j → CallsFor before.held old j whole → IsNoFailure status → EndsJob before after old new j status
       → (status ≡ intent_status whole) × AreAppended before after (writes_of j whole)
   job_whole j whole status told calls (no_read, no_write, no_want) e = elim e.ends [
-    | inl (is, made) ↦ elim (agrees clear sections one_map graphs one first before.held (ReadFailed before after) j e.intent whole told e.gives calls) [
+    | inl (is, made) ↦ elim (agrees clear sections one_map graphs one first before.held (ReadFailed before after) old j e.intent whole told e.gives e.begins calls) [
       | inl (six, out) ↦ absurd (no_read (is ∙ six))
       | inr (inl (same, writes)) ↦ (is ∙ same, subst (λ (ws : List Write). AreAppended before after ws) writes made)
       | inr (inr (nine, rest)) ↦ absurd (no_want (is ∙ nine))
@@ -304,8 +309,8 @@ module _ (clear : TextsAreClear) (sections : SectionsAreClear) (one_map : OneMap
   ]
 
   -- and otherwise prefixes of it, where no read failed
-  job_prefix : (j : Job) (whole : Intent) (status : ℕ) → AreTold before.held j → NoneRose j before after → CallsFor before.held j whole → EndsJob before after j status → ArePrefixes before after (writes_of j whole)
-  job_prefix j whole status told quiet_reads calls e = elim (agrees clear sections one_map graphs one first before.held (ReadFailed before after) j e.intent whole told e.gives calls) [
+  job_prefix : (j : Job) (whole : Intent) (status : ℕ) → AreTold before.held j → NoneRose j before after → CallsFor before.held old j whole → EndsJob before after old new j status → ArePrefixes before after (writes_of j whole)
+  job_prefix j whole status told quiet_reads calls e = elim (agrees clear sections one_map graphs one first before.held (ReadFailed before after) old j e.intent whole told e.gives e.begins calls) [
     | inl (six, (name, input, rose)) ↦ absurd (quiet_reads name input rose)
     | inr (inl (same, writes)) ↦ ends_prefix before after (intent_status e.intent) status (writes_of j e.intent) [] (writes_of j whole) (sym writes ∙ nothing_after (writes_of j e.intent)) e.ends
     | inr (inr (nine, (rest, parted))) ↦ ends_prefix before after (intent_status e.intent) status (writes_of j e.intent) rest (writes_of j whole) parted e.ends
@@ -315,18 +320,18 @@ module _ (clear : TextsAreClear) (sections : SectionsAreClear) (one_map : OneMap
       nothing_after [] = refl
       nothing_after (w ∷ ws) = ap (λ (l : List Write). w ∷ l) (nothing_after ws)
 
-  pub run_whole : (named : Option Job) (status : ℕ) → EndsRun named before after status → (j : Job) (whole : Intent) → named ≡ Some j → AreTold before.held j → CallsFor before.held j whole → IsNoFailure status
+  pub run_whole : (named : Option Job) (status : ℕ) → EndsRun named before after old new status → (j : Job) (whole : Intent) → named ≡ Some j → AreTold before.held j → CallsFor before.held old j whole → IsNoFailure status
       → (status ≡ intent_status whole) × AreAppended before after (writes_of j whole)
   run_whole named status (by_job other at e) j whole is told calls free =
       let same : other ≡ j = same_Some other j (sym at ∙ is) in
-      job_whole j whole status told calls free (subst (λ (k : Job). EndsJob before after k status) same e)
-  run_whole named status (by_words none ends) j whole is told calls free = absurd (none_names j (sym none ∙ is))
-  run_whole named status (by_memory nine same) j whole is told calls (no_read, no_write, no_want) = absurd (no_want nine)
+      job_whole j whole status told calls free (subst (λ (k : Job). EndsJob before after old new k status) same e)
+  run_whole named status (by_words none ends stays) j whole is told calls free = absurd (none_names j (sym none ∙ is))
+  run_whole named status (by_memory nine same stays) j whole is told calls (no_read, no_write, no_want) = absurd (no_want nine)
 
-  pub run_prefix : (named : Option Job) (status : ℕ) → EndsRun named before after status → (j : Job) (whole : Intent) → named ≡ Some j → AreTold before.held j → NoneRose j before after → CallsFor before.held j whole
+  pub run_prefix : (named : Option Job) (status : ℕ) → EndsRun named before after old new status → (j : Job) (whole : Intent) → named ≡ Some j → AreTold before.held j → NoneRose j before after → CallsFor before.held old j whole
       → ArePrefixes before after (writes_of j whole)
   run_prefix named status (by_job other at e) j whole is told quiet_reads calls =
       let same : other ≡ j = same_Some other j (sym at ∙ is) in
-      job_prefix j whole status told quiet_reads calls (subst (λ (k : Job). EndsJob before after k status) same e)
-  run_prefix named status (by_words none ends) j whole is told quiet_reads calls = absurd (none_names j (sym none ∙ is))
-  run_prefix named status (by_memory nine same) j whole is told quiet_reads calls = made_prefix before after [] (writes_of j whole) (writes_of j whole) refl (none_made before after same)
+      job_prefix j whole status told quiet_reads calls (subst (λ (k : Job). EndsJob before after old new k status) same e)
+  run_prefix named status (by_words none ends stays) j whole is told quiet_reads calls = absurd (none_names j (sym none ∙ is))
+  run_prefix named status (by_memory nine same stays) j whole is told quiet_reads calls = made_prefix before after [] (writes_of j whole) (writes_of j whole) refl (none_made before after same)

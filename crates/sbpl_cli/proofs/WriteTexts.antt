@@ -29,10 +29,11 @@ use Rattle.sbpl_cli.specs.declared.section_check.SectionStop.TheVariants as sect
 use Rattle.sbpl_cli.specs.Asked.{Known}
 use Rattle.sbpl_cli.specs.Causes.{ReadsWorld}
 use Rattle.sbpl_cli.specs.Headline.{AreRecords, Carried, start_after}
-use Rattle.sbpl_cli.specs.Intents.{Intent, Refused, Planned, Checked, Listed, Demonstrated, OutOfMemory, checked_writes, end_writes, fault_text, labels_text, labels_writes, last_write, refusal_text, section_writes, stop_writes, trace_writes, unread_text, writes_of}
+use Rattle.sbpl_cli.specs.Intents.{Intent, Refused, Planned, Checked, Listed, Demonstrated, OutOfMemory, checked_writes, end_writes, fault_text, incumbent_writes, labels_text, labels_writes, last_write, refusal_text, section_writes, stop_writes, trace_writes, unread_text, writes_of}
 use Rattle.sbpl_cli.specs.Listing.{listing_at, listing_text, listings, prim_text}
 use Rattle.sbpl_cli.specs.Promises.{GivesIntent}
-use Rattle.sbpl_cli.specs.Report.{demo_text, plan_line, section_text}
+use Rattle.sbpl_cli.specs.Published.{Entry, with_plan}
+use Rattle.sbpl_cli.specs.Report.{demo_text, entry_text, incumbent_text, plan_line, section_text}
 use Rattle.sbpl_cli.specs.Shown.{IsThere}
 use Rattle.sbpl_cli.specs.Traces.{trace_text}
 use Rattle.sbpl_cli.specs.Verdicts.{flaw_kind, flaw_text, holds_text}
@@ -78,6 +79,14 @@ trace_full r = not_empty _ _
 demo_full : (states primitives batches : ℕ) → demo_text states primitives batches ≢ []
 unfolding demo_text
 demo_full states primitives batches = not_empty _ _
+
+entry_full : (e : Entry) → entry_text e ≢ []
+unfolding entry_text
+entry_full e = not_empty _ _
+
+incumbent_full : (o : Option Entry) → incumbent_text o ≢ []
+incumbent_full (Some e) = entry_full e
+incumbent_full None = not_empty _ _
 
 line_full : (r : PlanRecord) → plan_line r ≢ []
 unfolding plan_line
@@ -135,15 +144,16 @@ section_full : (o : Outputs) (P : Section → Type 0) (r : PlanRecord) → IsThe
 section_full o P r there =
     let written = asked_full o.labels P r.labels there in
     let traced = named_full o.trace (trace_text r) (trace_full r) in
-    one_more (to_output (section_text r)) _ (report_full r) (both (labels_writes o r) (trace_writes o r) written traced)
+    let shown = named_full o.incumbent (incumbent_text r.incumbent) (incumbent_full r.incumbent) in
+    one_more (to_output (section_text r)) _ (report_full r) (both (labels_writes o r) (trace_writes o r ++ incumbent_writes o r) written (both (trace_writes o r) (incumbent_writes o r) traced shown))
 
 module _ (by : Known) (w : World) (batches : List (List change.Write)) (how : SearchJob) (o : Outputs) (starts : ℕ → ℕ) (goal : ℕ) where
-  records_full : (k : ℕ) (before : Option Carried) (rs : List PlanRecord) → AreRecords by w batches how o starts goal k before rs
+  records_full : (k : ℕ) (log : List Entry) (before : Option Carried) (rs : List PlanRecord) → AreRecords by w batches how o starts goal k log before rs
       → NoneEmpty (flat_map (section_writes o) rs)
-  records_full k before [] each = no_writes
-  records_full k before (r ∷ rs) (carried, after, is, rest) =
+  records_full k log before [] each = no_writes
+  records_full k log before (r ∷ rs) (carried, after, is, rest) =
       let own = section_full o _ r is.searched.labels in
-      both (section_writes o r) (flat_map (section_writes o) rs) own (records_full (k + 1) (Some carried) rs rest)
+      both (section_writes o r) (flat_map (section_writes o) rs) own (records_full (k + 1) (with_plan log r) (Some carried) rs rest)
 
 lines_full : (rs : List PlanRecord) → NoneEmpty (flat_map (λ (r : PlanRecord). to_output (plan_line r) ∷ []) rs)
 lines_full [] = no_writes
@@ -201,13 +211,13 @@ module _ (held : Told) (from : Sources) (w : World) (says : ReadsWorld held from
 intent_full : (held : Told) (Failed : Names) (j : Job) (i : Intent) → GivesIntent held Failed j i → NoneEmpty (writes_of j i)
 intent_full held Failed j (Refused r) gives = one_write _ (refusal_full j r)
 intent_full held Failed j OutOfMemory gives = no_writes
-intent_full held Failed (job.Plan p) (Planned records all) gives =
+intent_full held Failed (job.Plan p) (Planned records all log broken) gives =
     let plans = gives.plans in
-    let sections = records_full _ gives.world gives.course.batches p.search p.outputs (start_after gives.world.env plans.start gives.course.moves) plans.goal 0 None records plans.each in
+    let sections = records_full _ gives.world gives.course.batches p.search p.outputs (start_after gives.world.env plans.start gives.course.moves) plans.goal 0 log None records plans.each in
     both _ _ sections (end_full all)
 intent_full held Failed (job.Check c) (Checked goals os end) gives = checked_full goals 0 os end
 intent_full held Failed (job.Sweep from) (Listed w) gives = both _ _ (listed_full held from w gives.0) last_full
-intent_full held Failed (job.Demo d) (Demonstrated w count records all) gives =
+intent_full held Failed (job.Demo d) (Demonstrated w count records all log broken) gives =
     one_more _ _ (demo_full _ _ _) (both _ _ (lines_full records) (end_full all))
 intent_full held Failed _ _ gives = absurd gives
 
@@ -224,7 +234,8 @@ section_length : (o : Outputs) (r : PlanRecord) → length (section_writes o r) 
 section_length o r =
     let labels = named_length o.labels (labels_text r.labels) in
     let trace = named_length o.trace (trace_text r) in
-    omega (arith, length-append (labels_writes o r) (trace_writes o r))
+    let shown = named_length o.incumbent (incumbent_text r.incumbent) in
+    omega (arith, length-append (labels_writes o r) (trace_writes o r ++ incumbent_writes o r), length-append (trace_writes o r) (incumbent_writes o r))
 
 -- where each record has as many
 all_lengths : (f : PlanRecord → List Write) (m : ℕ) → ((r : PlanRecord) → length (f r) ≡ m) → (rs : List PlanRecord)

@@ -35,7 +35,9 @@ use Rattle.sbpl_job.specs.declared.job.Planner.TheVariants as planner
 use Rattle.sbpl_job.specs.declared.job.SearchJob.{SearchJob}
 use Rattle.sbpl_job.specs.declared.job.Sources.{Sources}
 use Rattle.sbpl_cli.specs.declared.record.PlanRecord.{PlanRecord}
+use Rattle.sbpl_plan.specs.declared.found.Found.{Found}
 use Rattle.sbpl_cli.specs.Headline.{ArePlans}
+use Rattle.sbpl_cli.specs.Published.{Entry}
 use Rattle.sbpl_cli.specs.Writing.{DeskState, Names, ReadFailed, Told}
 use Rattle.sbpl_cli.specs.declared.course.Course.{Course}
 use Rattle.sbpl_cli.specs.Texts.{IsEnvironmentText, HasEnvironmentFault, IsPrimitiveText, HasPrimitiveFault, IsChangeText, HasChangeFault, Scope, scope_for, still}
@@ -102,13 +104,14 @@ pub record AreRead (held : Told) (from : Sources) (changes : Option (List ℕ)) 
   pub course_is : ReadsCourse held changes (scope_of moving w) c
   pub in_world : IsCourseIn moving w c
 
--- The files stand for a world and a course, and these are records of plans in it: all of them, or the first few.
-pub record ArePlanned (held : Told) (job : PlanJob) (records : List PlanRecord) (all : Bool) : Type 0 where
+-- The files stand for a world and a course, and these are records of plans in it: all of them, or the first few, after which memory may
+-- run out in a plan whose passes found this. These entries were published before them.
+pub record ArePlanned (held : Told) (job : PlanJob) (records : List PlanRecord) (all : Bool) (log : List Entry) (broken : List Found) : Type 0 where
   pub world : World
   pub course : Course
   pub says : ReadsWorld held job.sources world
   pub changes : ReadsCourse held job.changes (scope_of (may_move job.search.planner) world) course
-  pub plans : ArePlans world course job.search job.outputs records all
+  pub plans : ArePlans world course job.search job.outputs records all log broken
 
 -- how a demonstration is planned: by Anytime D*, with the inflations 3.000, 2.500 and so on to 1.000
 abbrev pub demo_search : SearchJob
@@ -116,7 +119,7 @@ demo_search = record { planner = planner.AdStar; workers = 1; first = 3000; step
 
 -- what it writes besides its lines: nothing
 abbrev pub no_outputs : Outputs
-no_outputs = record { labels = None; form = form.Sparse; trace = None }
+no_outputs = record { labels = None; form = form.Sparse; trace = None; incumbent = None }
 
 -- the world that is drawn from a seed, for a point
 pub record IsDrawn (job : DemoJob) (w : World) : Type 0 where
@@ -125,11 +128,11 @@ pub record IsDrawn (job : DemoJob) (w : World) : Type 0 where
   pub sweeps : AreSweepsOf primitives 0 w.sweeps
   pub map : w.map ≡ record { width = job.width; height = job.height; costs = costs job.width job.height job.seed }
 
--- the world and the batches of changes are those that are drawn, and these are records of plans in it: all of them, or the first few
-pub record AreDemonstrated (job : DemoJob) (world : World) (batches : List (List Write)) (records : List PlanRecord) (all : Bool) : Type 0 where
+-- the world and the batches of changes are those that are drawn, and these are records of plans in it, as of `ArePlanned`
+pub record AreDemonstrated (job : DemoJob) (world : World) (batches : List (List Write)) (records : List PlanRecord) (all : Bool) (log : List Entry) (broken : List Found) : Type 0 where
   pub drawn : IsDrawn job world
   pub changes : batches ≡ changes_drawn job.width job.height job.seed
-  pub plans : ArePlans world (still batches) demo_search no_outputs records all
+  pub plans : ArePlans world (still batches) demo_search no_outputs records all log broken
 
 -- the environment file has this first fault
 pub record IsFaultyEnvironment (held : Told) (from : Sources) (f : EnvFault) : Type 0 where

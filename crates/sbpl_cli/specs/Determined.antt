@@ -11,7 +11,9 @@ use Rattle.sbpl_cli.specs.declared.section_check.SectionStop.TheVariants as sect
 use Rattle.sbpl_cli.specs.declared.record.PlanRecord.{PlanRecord}
 use Rattle.sbpl_cli.specs.Asked.{is_determined}
 use Rattle.sbpl_cli.specs.Causes.{ArePlanned, IsJobCause, ReadsWorld}
+use Rattle.sbpl_plan.specs.declared.found.Found.{Found}
 use Rattle.sbpl_cli.specs.Headline.{ArePlans}
+use Rattle.sbpl_cli.specs.Published.{Entry}
 use Rattle.sbpl_cli.specs.Intents.{Intent, Refused, Planned, Checked, Listed, Demonstrated}
 use Rattle.sbpl_cli.specs.Promises.{IsChecked, IsDemonstration}
 use Rattle.sbpl_cli.specs.declared.course.Course.{Course}
@@ -26,16 +28,16 @@ pub record AreAlikeWorlds (w v : World) : Type 0 where
   pub map : v.map ≡ w.map
   pub radius : v.sweeps.radius ≡ w.sweeps.radius
 
--- all plans in alike worlds, over the same course and asked the same, by a planner whose passes are determined, have one list of
--- records
+-- all plans in alike worlds, over the same course and asked the same, after the same entries, by a planner whose passes are determined,
+-- have one list of records
 abbrev pub RecordsAreOne : Type 0
-RecordsAreOne = (w v : World) (course : Course) (how : SearchJob) (outputs : Outputs) (records others : List PlanRecord)
-    → is_determined how.planner ≡ true → AreAlikeWorlds w v → ArePlans w course how outputs records true → ArePlans v course how outputs others true → records ≡ others
+RecordsAreOne = (w v : World) (course : Course) (how : SearchJob) (outputs : Outputs) (log : List Entry) (records others : List PlanRecord) (broken also : List Found)
+    → is_determined how.planner ≡ true → AreAlikeWorlds w v → ArePlans w course how outputs records true log broken → ArePlans v course how outputs others true log also → records ≡ others
 
 -- and records of the first few plans are the first few of it
 abbrev pub FewAreFirst : Type 0
-FewAreFirst = (w v : World) (course : Course) (how : SearchJob) (outputs : Outputs) (few records : List PlanRecord) (all : Bool)
-    → is_determined how.planner ≡ true → AreAlikeWorlds w v → ArePlans w course how outputs few all → ArePlans v course how outputs records true
+FewAreFirst = (w v : World) (course : Course) (how : SearchJob) (outputs : Outputs) (log : List Entry) (few records : List PlanRecord) (all : Bool) (broken also : List Found)
+    → is_determined how.planner ≡ true → AreAlikeWorlds w v → ArePlans w course how outputs few all log broken → ArePlans v course how outputs records true log also
     → (rest : List PlanRecord) × (records ≡ few ++ rest)
 
 -- ---- what the words and the files call for
@@ -64,15 +66,15 @@ abbrev pub NoName : Names
 NoName name = ⊥
 
 -- What the words and the files call for, where no read fails and memory does not run out: a refusal with its cause, the plans
--- of all maps by a planner whose passes are determined, the checking of sections to its end, the list of sweeps, or a
+-- of all maps by a planner whose passes are determined, after these entries, the checking of sections to its end, the list of sweeps, or a
 -- demonstration of all maps. Plans by a planner whose passes are not determined are not called for: each run makes its own.
-abbrev pub CallsFor : Told → Job → Intent → Type 0
-CallsFor held j (Refused r) = IsJobCause held NoName j r
-CallsFor held (job.Plan j) (Planned records all) = (all ≡ true) × (is_determined j.search.planner ≡ true) × ArePlanned held j records true
-CallsFor held (job.Check j) (Checked goals os end) = (end ≢ Some section.NoMemory) × IsChecked held j goals os end
-CallsFor held (job.Sweep from) (Listed w) = ReadsWorld held from w
-CallsFor held (job.Demo d) (Demonstrated w count records all) = (all ≡ true) × IsDemonstration d w count records true
-CallsFor held _ _ = ⊥
+abbrev pub CallsFor : Told → (log : List Entry) → Job → Intent → Type 0
+CallsFor held log j (Refused r) = IsJobCause held NoName j r
+CallsFor held log (job.Plan j) (Planned records all own broken) = (all ≡ true) × (is_determined j.search.planner ≡ true) × (own ≡ log) × ArePlanned held j records true log broken
+CallsFor held log (job.Check j) (Checked goals os end) = (end ≢ Some section.NoMemory) × IsChecked held j goals os end
+CallsFor held log (job.Sweep from) (Listed w) = ReadsWorld held from w
+CallsFor held log (job.Demo d) (Demonstrated w count records all own broken) = (all ≡ true) × (own ≡ log) × IsDemonstration d w count records true log broken
+CallsFor held log _ _ = ⊥
 
 -- the job makes no plans by a planner whose passes are not determined
 abbrev pub IsDeterminedJob : Job → Type 0

@@ -19,7 +19,8 @@ use Rattle.sbpl_plan.specs.declared.result.Outcome.{Outcome}
 use Rattle.sbpl_plan.specs.declared.result.Outcome.TheVariants as outcome
 use Rattle.sbpl_plan.specs.Asked.{most_passes}
 use Rattle.sbpl_plan.specs.Outcomes.{IsResultOf}
-use Rattle.sbpl_plan.specs.Passing.{ArePasses, expansions, inquiry_of}
+use Rattle.sbpl_plan.specs.declared.found.Found.{Found}
+use Rattle.sbpl_plan.specs.Passing.{AreFirstPasses, ArePasses, expansions, inquiry_of}
 use Rattle.sbpl_map.specs.CellMap.{CellMap}
 use Rattle.sbpl_map.specs.MapAfter.{IsMapAfter}
 use Rattle.sbpl_map.specs.declared.write.Write.{Write}
@@ -35,6 +36,7 @@ use Rattle.sbpl_job.specs.declared.job.SearchJob.{SearchJob}
 use Rattle.sbpl_cli.specs.Asked.{Known, ask_of, known}
 use Rattle.sbpl_cli.specs.Traces.{traced_pass}
 use Rattle.sbpl_cli.specs.Shown.{IsShown, IsThere}
+use Rattle.sbpl_cli.specs.Published.{Entry, founds, newest, with_plan}
 use Rattle.sbpl_cli.specs.declared.course.Course.{Course}
 
 -- the state of a pose: that of its cell and heading
@@ -171,32 +173,53 @@ pub record IsSearched (by : Known) (w : World) (how : SearchJob) (outputs : Outp
   pub ample : spent ≡ true → most_passes how.step how.first * (by.means.most * (by.direction.network w).states) ≤ how.budget → carried.expanded ≡ 2 ^ 30
   pub labels : IsThere (is_some outputs.labels) (IsShown outputs.form (by.direction.network w) guide (by.direction.from start goal) (by.direction.to start goal) r.plan carried.labels found) r.labels
 
+-- Memory ran out in a plan: it began as a plan does, and its passes so far found this.
+pub record IsBrokenOff (by : Known) (w : World) (how : SearchJob) (outputs : Outputs) (start goal : ℕ) (before : Option Carried) (found : List Found) : Type 0 where
+  pub guide : ℕ → ℕ
+  pub is_guide : by.direction.guides w start goal guide
+  pub begun : Marks
+  pub raised : List ℕ
+  pub begins : Begins by.means by.direction w (by.direction.from start goal) before begun raised
+  pub left : Marks
+  pub notes : List (Pass by.Note)
+  pub passes : AreFirstPasses by.means (inquiry_of (by.direction.network w) guide (by.direction.to start goal) (ask_of how outputs)) how.first begun notes left
+  pub found_is : found ≡ founds notes
+
+-- memory ran out in plan k, on the map after the first k batches, or before its first pass
+abbrev pub IsBrokenIn : Known → World → List (List Write) → SearchJob → Outputs → (starts : ℕ → ℕ) → (goal k : ℕ) → List Found → Type 0
+IsBrokenIn by w batches how outputs starts goal k found =
+    (found ≡ []) ⊎ ((m : CellMap) × (before : Option Carried) × IsMapAfter w.map batches k m × IsBrokenOff by (over_map w m) how outputs (starts k) goal before found)
+
 -- the record of plan k in a world, whose graph has just the arcs that the primitives make on its map, in the order of the file
--- both from a state and into it
-pub record IsPlanOf (by : Known) (w : World) (how : SearchJob) (outputs : Outputs) (start goal k : ℕ) (before : Option Carried) (carried : Carried) (r : PlanRecord) : Type 0 where
+-- both from a state and into it; these entries were published before it, and it tells the newest after it
+pub record IsPlanOf (by : Known) (w : World) (how : SearchJob) (outputs : Outputs) (start goal k : ℕ) (log : List Entry) (before : Option Carried) (carried : Carried) (r : PlanRecord) : Type 0 where
   pub number : r.plan ≡ k
   pub is_world : IsWorld w
   pub arcs : HasLatticeArcs (network_of w) w
   pub tails : HasLatticeTails (network_of w) w
   pub promises : KeepsPromises w start goal how.bound r
   pub searched : IsSearched by w how outputs start goal before carried r
+  pub incumbent : r.incumbent ≡ newest (with_plan log r)
 
 -- The records of plans in turn, the first of which is plan k: each is made in the world on the map after as many batches as its
 -- number, from its own start, and goes on from the plan before it.
-abbrev pub AreRecords : Known → World → List (List Write) → SearchJob → Outputs → (starts : ℕ → ℕ) → (goal k : ℕ) → Option Carried → List PlanRecord → Type 0
-AreRecords by w batches how outputs starts goal k before [] = Unit {0}
-AreRecords by w batches how outputs starts goal k before (r ∷ rs) =
+abbrev pub AreRecords : Known → World → List (List Write) → SearchJob → Outputs → (starts : ℕ → ℕ) → (goal k : ℕ) → (log : List Entry) → Option Carried → List PlanRecord → Type 0
+AreRecords by w batches how outputs starts goal k log before [] = Unit {0}
+AreRecords by w batches how outputs starts goal k log before (r ∷ rs) =
     (carried : Carried) × IsMapAfter w.map batches k carried.map
-    × IsPlanOf by (over_map w carried.map) how outputs (starts k) goal k before carried r
-    × AreRecords by w batches how outputs starts goal (k + 1) (Some carried) rs
+    × IsPlanOf by (over_map w carried.map) how outputs (starts k) goal k log before carried r
+    × AreRecords by w batches how outputs starts goal (k + 1) (with_plan log r) (Some carried) rs
 
 -- These are records of plans in a world, from the start of its environment, or where the robot was last said to be, to its end: of
--- plan 0 on the map as it is, and then of one plan after each batch of changes. They are all of them, or the first few.
-pub record ArePlans (w : World) (course : Course) (how : SearchJob) (outputs : Outputs) (records : List PlanRecord) (all : Bool) : Type 0 where
+-- plan 0 on the map as it is, and then of one plan after each batch of changes. They are all of them, or the first few, and then
+-- memory may run out in a plan whose passes found this. These entries were published before them.
+pub record ArePlans (w : World) (course : Course) (how : SearchJob) (outputs : Outputs) (records : List PlanRecord) (all : Bool) (log : List Entry) (broken : List Found) : Type 0 where
   pub start : ℕ
   pub goal : ℕ
   pub start_is : IsStateOf w.env w.env.start start
   pub goal_is : IsStateOf w.env w.env.end goal
-  pub each : AreRecords (known how.planner) w course.batches how outputs (start_after w.env start course.moves) goal 0 None records
+  pub each : AreRecords (known how.planner) w course.batches how outputs (start_after w.env start course.moves) goal 0 log None records
+  pub broken_in : IsBrokenIn (known how.planner) w course.batches how outputs (start_after w.env start course.moves) goal (length records) broken
+  pub none_broken : all ≡ true → broken ≡ []
   pub few : length records ≤ length course.batches + 1
   pub all_made : all ≡ true → length records ≡ length course.batches + 1

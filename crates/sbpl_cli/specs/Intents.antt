@@ -1,5 +1,5 @@
 -- What a job means to do: what is to be written, and the status.
-use Rattle.std.specs.Prelude.{ℕ, ◌+◌, Bool, if◌then◌else◌, List, [], ◌∷◌, ◌++◌, flat_map, length, map, Option, Some, None, codes, decimal}
+use Rattle.std.specs.Prelude.{◌≡◌, ℕ, ◌+◌, Bool, if◌then◌else◌, List, [], ◌∷◌, ◌++◌, flat_map, length, map, Option, Some, None, codes, decimal}
 use Rattle.sbpl_cfg.specs.Faults as environments
 use Rattle.sbpl_mprim.specs.Faults as primitives
 use Rattle.sbpl_cli.specs.declared.refusal.Input.{Input}
@@ -23,9 +23,11 @@ use Rattle.sbpl_cli.specs.declared.section_check.SectionStop.{SectionStop}
 use Rattle.sbpl_cli.specs.declared.section_check.SectionStop.TheVariants as stop
 use Rattle.sbpl_job.specs.declared.job.LabelForm.TheVariants as form
 use Rattle.sbpl_job.specs.declared.job.Outputs.{Outputs}
+use Rattle.sbpl_plan.specs.declared.found.Found.{Found}
+use Rattle.sbpl_cli.specs.Published.{Entry, with_paths, with_plans}
 use Rattle.sbpl_cli.specs.declared.record.PlanRecord.{PlanRecord}
 use Rattle.sbpl_cli.specs.Listing.{listings}
-use Rattle.sbpl_cli.specs.Report.{line_feed, section_text, done_text, demo_text, plan_line}
+use Rattle.sbpl_cli.specs.Report.{incumbent_text, line_feed, section_text, done_text, demo_text, plan_line}
 use Rattle.sbpl_cli.specs.Traces.{trace_text}
 use Rattle.sbpl_cli.specs.Verdicts.{flaw_text, holds_text}
 use Rattle.sbpl_cli.specs.Writing.{Write, to_named, to_output}
@@ -89,15 +91,16 @@ refusal_text j (refusal.Changes f) = fault_text (codes "changes") (changes.numbe
 refusal_text j (refusal.Read i) = unread_text (codes "read") (input_name j i)
 refusal_text j (refusal.Length i) = unread_text (codes "length") (input_name j i)
 
--- What a job means to do: it is refused; plans were made, all or the first few; sections of labels were checked, of searches to these
+-- What a job means to do: it is refused; plans were made, all or the first few, after these entries were published, and then memory ran
+-- out in a plan whose passes found this, if it did; sections of labels were checked, of searches to these
 -- goals, of which those with these outcomes hold, and then it ended so; the sweeps of a world are listed; plans of a demonstration were made
 -- in a world with this number of batches of changes, all or the first few; or memory runs out before anything is written.
 pub data Intent : Type 0 where
   Refused : Refusal → Intent
-  Planned : List PlanRecord → (all : Bool) → Intent
+  Planned : List PlanRecord → (all : Bool) → (log : List Entry) → (broken : List Found) → Intent
   Checked : (goals : ℕ → ℕ) → List Outcome → Option SectionStop → Intent
   Listed : World → Intent
-  Demonstrated : World → (batches : ℕ) → List PlanRecord → (all : Bool) → Intent
+  Demonstrated : World → (batches : ℕ) → List PlanRecord → (all : Bool) → (log : List Entry) → (broken : List Found) → Intent
   OutOfMemory : Intent
 
 -- the last write
@@ -117,9 +120,13 @@ labels_writes o plan = to_named o.labels (labels_text plan.labels)
 abbrev pub trace_writes : Outputs → PlanRecord → List Write
 trace_writes o plan = to_named o.trace (trace_text plan)
 
--- the writes of a plan: its section of the report, its labels, its trace
+-- the write of the newest path after a plan, where it is written
+abbrev pub incumbent_writes : Outputs → PlanRecord → List Write
+incumbent_writes o plan = to_named o.incumbent (incumbent_text plan.incumbent)
+
+-- the writes of a plan: its section of the report, its labels, its trace, and the newest path
 abbrev pub section_writes : Outputs → PlanRecord → List Write
-section_writes o plan = to_output (section_text plan) ∷ (labels_writes o plan ++ trace_writes o plan)
+section_writes o plan = to_output (section_text plan) ∷ (labels_writes o plan ++ (trace_writes o plan ++ incumbent_writes o plan))
 
 -- the last write, where all plans were made
 abbrev pub end_writes : (all : Bool) → List Write
@@ -185,27 +192,40 @@ refusal_writes j r = to_output (refusal_text j r) ∷ []
 -- where a job's plans are written besides the report
 abbrev pub outputs_of : Job → Outputs
 outputs_of (job.Plan j) = j.outputs
-outputs_of _ = record { labels = None; form = form.Sparse; trace = None }
+outputs_of _ = record { labels = None; form = form.Sparse; trace = None; incumbent = None }
 
 -- what is to be written
 abbrev pub writes_of : Job → Intent → List Write
 writes_of j (Refused r) = refusal_writes j r
-writes_of j (Planned records all) = plans_writes (outputs_of j) records all
+writes_of j (Planned records all log broken) = plans_writes (outputs_of j) records all
 writes_of j (Checked goals os end) = checked_writes goals 0 os end
 writes_of j (Listed w) = listing_writes w
-writes_of j (Demonstrated w batches records all) = demo_writes w batches records all
+writes_of j (Demonstrated w batches records all log broken) = demo_writes w batches records all
 writes_of j OutOfMemory = []
 
 -- the status of a job that means to do this and whose writes are made
 abbrev pub intent_status : Intent → ℕ
 intent_status (Refused r) = refusal_status r
-intent_status (Planned records all) = plans_status all
+intent_status (Planned records all log broken) = plans_status all
 intent_status (Checked goals os end) = checked_status end
 intent_status (Listed w) = 0
-intent_status (Demonstrated w batches records all) = plans_status all
+intent_status (Demonstrated w batches records all log broken) = plans_status all
 intent_status OutOfMemory = 9
 
 -- The statuses of the program: those of what jobs mean to do (`intent_status`), 2 for words that name no job, and 7 for a write
 -- that failed.
 abbrev pub statuses : List ℕ
 statuses = 0 ∷ 1 ∷ 2 ∷ 3 ∷ 4 ∷ 5 ∷ 6 ∷ 7 ∷ 8 ∷ 9 ∷ 10 ∷ []
+
+-- the plans of a job are made after these entries were published
+abbrev pub BeginsAfter : Intent → List Entry → Type 0
+BeginsAfter (Planned records all log broken) old = log ≡ old
+BeginsAfter (Demonstrated w batches records all log broken) old = log ≡ old
+BeginsAfter _ old = Unit {0}
+
+-- what is published once the plans of a job are made, where these entries were published before: one more for each pass whose walk gave a
+-- path, in order
+abbrev pub published_by : Intent → List Entry → List Entry
+published_by (Planned records all log broken) old = with_paths (with_plans old records) (length records) 0 broken
+published_by (Demonstrated w batches records all log broken) old = with_paths (with_plans old records) (length records) 0 broken
+published_by _ old = old

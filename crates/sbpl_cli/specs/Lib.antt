@@ -1,5 +1,6 @@
 pub mod Asked
 pub mod Writing
+pub mod Published
 pub mod Report
 pub mod Traces
 pub mod Verdicts

@@ -18,7 +18,9 @@ use Rattle.sbpl_fixed.specs.Formats.{Left}
 use Rattle.sbpl_cert.specs.declared.outcome.Outcome.{Outcome}
 use Rattle.sbpl_cli.specs.Checked.{Case, Ground, IsGroundAfter, IsShownHolding, from_in, to_in}
 use Rattle.sbpl_cli.specs.Verdicts.{holds_text}
-use Rattle.sbpl_cli.specs.Headline.{Begins, Carried, IsPlanOf, expanded_before}
+use Rattle.sbpl_plan.specs.declared.found.Found.{Found}
+use Rattle.sbpl_cli.specs.Headline.{Begins, Carried, IsBrokenOff, IsPlanOf, expanded_before}
+use Rattle.sbpl_cli.specs.Published.{Entry, with_paths, with_plan}
 use Rattle.sbpl_cli.specs.Writing.{AreAppended, DeskState, EndsIn, Stays, Write, to_output}
 
 -- where the robot is said to be from batch k on, if that is said
@@ -44,13 +46,24 @@ pub record GoesOnFrom {Note : Type 0} (means : Meaning Note) (d : Direction) (w 
   pub begins : Begins means d w from before s.search.labels s.search.raised
   pub counted : expanded_before before ≡ s.counts.run
 
--- what is written of plan k in a world, and whether it was
-abbrev pub EndsOnePlan : Known → (PlanRecord → List Write) → World → SearchJob → Outputs → (start goal k : ℕ) → Option Carried → Carried → (old new : DeskState) → Result (Unit {0}) WriteStop → Type 0
-EndsOnePlan by written_of w how outputs start goal k before carried old new (Ok _) =
-    (r : PlanRecord) × IsPlanOf by w how outputs start goal k before carried r × AreAppended old new (written_of r)
-EndsOnePlan by written_of w how outputs start goal k before carried old new (Err e) =
-    ((e ≡ NoMemory) × Stays old.written new.written)
-    ⊎ ((r : PlanRecord) × IsPlanOf by w how outputs start goal k before carried r × EndsIn {T = Unit {0}} old new (written_of r) (Err e))
+-- the record of plan k in a world, and what was published before it and after
+pub record IsPublishedPlan (by : Known) (w : World) (how : SearchJob) (outputs : Outputs) (start goal k : ℕ) (log shown : List Entry) (before : Option Carried) (carried : Carried) (r : PlanRecord) : Type 0 where
+  pub plan : IsPlanOf by w how outputs start goal k log before carried r
+  pub shown_is : shown ≡ with_plan log r
+
+-- memory ran out in plan k in a world, and the paths that its passes so far found were published
+pub record IsPublishedInPart (by : Known) (w : World) (how : SearchJob) (outputs : Outputs) (start goal k : ℕ) (log shown : List Entry) (before : Option Carried) : Type 0 where
+  pub found : List Found
+  pub broken : (found ≡ []) ⊎ IsBrokenOff by w how outputs start goal before found
+  pub shown_is : shown ≡ with_paths log k 0 found
+
+-- what is written of plan k in a world, and whether it was; what was published before it and after
+abbrev pub EndsOnePlan : Known → (PlanRecord → List Write) → World → SearchJob → Outputs → (start goal k : ℕ) → (log shown : List Entry) → Option Carried → Carried → (old new : DeskState) → Result (Unit {0}) WriteStop → Type 0
+EndsOnePlan by written_of w how outputs start goal k log shown before carried old new (Ok _) =
+    (r : PlanRecord) × IsPublishedPlan by w how outputs start goal k log shown before carried r × AreAppended old new (written_of r)
+EndsOnePlan by written_of w how outputs start goal k log shown before carried old new (Err e) =
+    ((e ≡ NoMemory) × Stays old.written new.written × IsPublishedInPart by w how outputs start goal k log shown before)
+    ⊎ ((r : PlanRecord) × IsPublishedPlan by w how outputs start goal k log shown before carried r × EndsIn {T = Unit {0}} old new (written_of r) (Err e))
 
 -- the section of a plan holds on a graph, and a line says so
 pub record HoldsAndPrints (n : Ground) (start goal plan : ℕ) (left rest : Left) (before after : DeskState) : Type 0 where

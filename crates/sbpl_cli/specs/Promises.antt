@@ -18,7 +18,9 @@ use Rattle.sbpl_cli.specs.declared.section_check.SectionStop.{SectionStop}
 use Rattle.sbpl_cli.specs.declared.section_check.SectionStop.TheVariants as section
 use Rattle.sbpl_job.specs.declared.job.CheckJob.{CheckJob}
 use Rattle.sbpl_cli.specs.Checked.{AreChecked, Case, Holding, IsShownHolding, case_of, to_in}
-use Rattle.sbpl_cli.specs.Headline.{AreRecords, Carried, IsStateOf}
+use Rattle.sbpl_plan.specs.declared.found.Found.{Found}
+use Rattle.sbpl_cli.specs.Headline.{AreRecords, Carried, IsBrokenIn, IsStateOf}
+use Rattle.sbpl_cli.specs.Published.{Entry, with_paths, with_plans}
 use Rattle.sbpl_job.specs.declared.job.Job.{Job}
 use Rattle.sbpl_job.specs.declared.job.Job.TheVariants as job
 use Rattle.sbpl_job.specs.declared.job.DemoJob.{DemoJob}
@@ -30,7 +32,7 @@ use Rattle.sbpl_cli.specs.declared.record.PlanRecord.{PlanRecord}
 use Rattle.sbpl_cli.specs.declared.refusal.Refusal.{Refusal}
 use Rattle.sbpl_cli.specs.Causes.{AreDemonstrated, ArePlanned, IsJobCause, IsReadText, NoneTooDear, ReadsCourse, ReadsWorld, scope_of}
 use Rattle.sbpl_sweep.specs.Widths.{NoneTooWide}
-use Rattle.sbpl_cli.specs.Intents.{Intent, Refused, Planned, Checked, Listed, Demonstrated, OutOfMemory, checked_status, checked_writes, demo_writes, end_writes, intent_status, listing_writes, outputs_of, plans_status, plans_writes, refusal_status, refusal_writes, statuses, words_writes, writes_of}
+use Rattle.sbpl_cli.specs.Intents.{BeginsAfter, Intent, Refused, Planned, Checked, Listed, Demonstrated, OutOfMemory, published_by, checked_status, checked_writes, demo_writes, end_writes, intent_status, listing_writes, outputs_of, plans_status, plans_writes, refusal_status, refusal_writes, statuses, words_writes, writes_of}
 use Rattle.sbpl_cli.specs.declared.course.Course.{Course}
 use Rattle.sbpl_cli.specs.Texts.{HasChangeFault, HasEnvironmentFault, HasPrimitiveFault, IsChangeText, IsEnvironmentText, IsPrimitiveText, Scope, scope_for, still}
 use Rattle.sbpl_cli.specs.Writing.{AreAppended, DeskState, EndsAs, IsCutAt, IsOutput, IsOutputOf, RunsOutAt, Names, ReadFailed, Stays, StaysBut, Told, Write, WriteFailed}
@@ -40,18 +42,18 @@ abbrev pub AtJob : Option Job → (Job → Type 0) → Type 0
 AtJob named P = (j : Job) × (named ≡ Some j) × P j
 
 -- the report of the plans of the job's files was written, one for the map as it is and one for each batch of changes, and their
--- labels and their traces where they are asked for
-pub record IsReported (before after : DeskState) (j : PlanJob) : Type 0 where
+-- labels, their traces and the newest paths where they are asked for
+pub record IsReported (before after : DeskState) (old : List Entry) (j : PlanJob) : Type 0 where
   pub records : List PlanRecord
-  pub planned : ArePlanned before.held j records true
+  pub planned : ArePlanned before.held j records true old []
   pub report : AreAppended before after (plans_writes j.outputs records true)
 
 -- plans of the demonstration were made, one for the map as it is and one for each batch, and a line for each was written
-pub record IsDemonstrated (before after : DeskState) (d : DemoJob) : Type 0 where
+pub record IsDemonstrated (before after : DeskState) (old : List Entry) (d : DemoJob) : Type 0 where
   pub world : World
   pub batches : List (List change.Write)
   pub records : List PlanRecord
-  pub planned : AreDemonstrated d world batches records true
+  pub planned : AreDemonstrated d world batches records true old []
   pub lines : AreAppended before after (demo_writes world (length batches) records true)
 
 -- what each primitive of the files costs and sweeps was listed
@@ -102,11 +104,11 @@ IsFaultFound before after (job.Check j) = (f : LabelFault) × IsJudged before af
 IsFaultFound before after _ = ⊥
 
 -- the job was done, and what came of it was written
-abbrev pub IsDone : (before after : DeskState) → Job → Type 0
-IsDone before after (job.Plan j) = IsReported before after j
-IsDone before after (job.Check j) = IsJudged before after None j
-IsDone before after (job.Sweep from) = IsListed before after from
-IsDone before after (job.Demo d) = IsDemonstrated before after d
+abbrev pub IsDone : (before after : DeskState) → (old : List Entry) → Job → Type 0
+IsDone before after old (job.Plan j) = IsReported before after old j
+IsDone before after old (job.Check j) = IsJudged before after None j
+IsDone before after old (job.Sweep from) = IsListed before after from
+IsDone before after old (job.Demo d) = IsDemonstrated before after old d
 
 -- the job was refused with this status, for a cause, and the line of the refusal was written, and nothing under names other than
 -- that of the standard output
@@ -118,47 +120,51 @@ pub record IsRefused (before after : DeskState) (status : ℕ) (j : Job) : Type 
   pub others : StaysBut IsOutput before.written after.written
 
 -- the job `demo` means plans of a demonstration in this world, with this number of batches
-abbrev pub IsDemonstration : DemoJob → World → (batches : ℕ) → List PlanRecord → (all : Bool) → Type 0
-IsDemonstration d w count records all = (batches : List (List change.Write)) × (count ≡ length batches) × AreDemonstrated d w batches records all
+abbrev pub IsDemonstration : DemoJob → World → (batches : ℕ) → List PlanRecord → (all : Bool) → (log : List Entry) → (broken : List Found) → Type 0
+IsDemonstration d w count records all log broken = (batches : List (List change.Write)) × (count ≡ length batches) × AreDemonstrated d w batches records all log broken
 
 -- a job means to do this
 abbrev pub GivesIntent : Told → Names → Job → Intent → Type 0
 GivesIntent held Failed j (Refused r) = IsJobCause held Failed j r
 GivesIntent held Failed j OutOfMemory = Unit {0}
-GivesIntent held Failed (job.Plan j) (Planned records all) = ArePlanned held j records all
+GivesIntent held Failed (job.Plan j) (Planned records all log broken) = ArePlanned held j records all log broken
 GivesIntent held Failed (job.Check j) (Checked goals os end) = IsChecked held j goals os end
 GivesIntent held Failed (job.Sweep from) (Listed w) = ReadsWorld held from w × IsWorld w
-GivesIntent held Failed (job.Demo d) (Demonstrated w batches records all) = IsDemonstration d w batches records all
+GivesIntent held Failed (job.Demo d) (Demonstrated w batches records all log broken) = IsDemonstration d w batches records all log broken
 GivesIntent held Failed _ _ = ⊥
 
 -- the name is one that a job which means to do this may write under: besides the standard output only where plans were made, and
 -- none where memory runs out before anything is written
 abbrev pub IsWrittenFor : Job → Intent → Names
-IsWrittenFor j (Planned records all) name = IsOutputOf (outputs_of j) name
+IsWrittenFor j (Planned records all log broken) name = IsOutputOf (outputs_of j) name
 IsWrittenFor j OutOfMemory name = ⊥
 IsWrittenFor j _ name = IsOutput name
 
 -- a write of what the job means to do failed: those before it were made, and a prefix of it, and nothing under names other than such
 -- a job's
-pub record IsCutShort (before after : DeskState) (j : Job) : Type 0 where
+pub record IsCutShort (before after : DeskState) (old : List Entry) (j : Job) : Type 0 where
   pub intent : Intent
   pub gives : GivesIntent before.held (ReadFailed before after) j intent
+  pub begins : BeginsAfter intent old
   pub cut : IsCutAt before after (writes_of j intent)
   pub others : StaysBut (IsWrittenFor j intent) before.written after.written
 
 -- the first few writes of what the job means to do were made, and nothing under names other than such a job's
-pub record EndsWithoutMemory (before after : DeskState) (j : Job) : Type 0 where
+pub record EndsWithoutMemory (before after : DeskState) (old : List Entry) (j : Job) : Type 0 where
   pub intent : Intent
   pub gives : GivesIntent before.held (ReadFailed before after) j intent
+  pub begins : BeginsAfter intent old
   pub stopped : RunsOutAt before after (writes_of j intent)
   pub others : StaysBut (IsWrittenFor j intent) before.written after.written
 
--- how a job ends, by the program's status
-pub record EndsJob (before after : DeskState) (j : Job) (status : ℕ) : Type 0 where
+-- how a job ends, by the program's status, and what was published before it and after
+pub record EndsJob (before after : DeskState) (old new : List Entry) (j : Job) (status : ℕ) : Type 0 where
   pub intent : Intent
   pub gives : GivesIntent before.held (ReadFailed before after) j intent
   pub ends : EndsAs before after (writes_of j intent) (intent_status intent) status
   pub others : StaysBut (IsWrittenFor j intent) before.written after.written
+  pub begins : BeginsAfter intent old
+  pub published : new ≡ published_by intent old
 
 -- how the checking of this number of sections more, the first that of a plan, ends by the program's status
 pub record EndsSections (c : Case) (plan more : ℕ) (left : Left) (before after : DeskState) (status : ℕ) : Type 0 where
@@ -167,20 +173,25 @@ pub record EndsSections (c : Case) (plan more : ℕ) (left : Left) (before after
   pub checked : AreChecked IsShownHolding c plan more left outcomes end
   pub ends : EndsAs before after (checked_writes (to_in c) plan outcomes end) (checked_status end) status
 
--- how the making of plans, the first of which is plan k, ends by the program's status; what is written of a plan is given
-pub record EndsPlans (by : Known) (written_of : PlanRecord → List Write) (w : World) (batches : List (List change.Write)) (how : SearchJob) (outputs : Outputs) (starts : ℕ → ℕ) (goal k : ℕ) (left : Option Carried) (before after : DeskState) (status : ℕ) : Type 0 where
+-- how the making of plans, the first of which is plan k, ends by the program's status, and what was published before it and after;
+-- what is written of a plan is given
+pub record EndsPlans (by : Known) (written_of : PlanRecord → List Write) (w : World) (batches : List (List change.Write)) (how : SearchJob) (outputs : Outputs) (starts : ℕ → ℕ) (goal k : ℕ) (log shown : List Entry) (left : Option Carried) (before after : DeskState) (status : ℕ) : Type 0 where
   pub records : List PlanRecord
   pub all : Bool
-  pub each : AreRecords by w batches how outputs starts goal k left records
+  pub broken : List Found
+  pub each : AreRecords by w batches how outputs starts goal k log left records
+  pub broken_in : IsBrokenIn by w batches how outputs starts goal (k + length records) broken
+  pub none_broken : all ≡ true → broken ≡ []
+  pub shown_is : shown ≡ with_paths (with_plans log records) (k + length records) 0 broken
   pub few : k + length records ≤ length batches + 1
   pub all_made : all ≡ true → k + length records ≡ length batches + 1
   pub ends : EndsAs before after (flat_map written_of records ++ end_writes all) (plans_status all) status
 
--- how a run ends, whose words name a job or none
-pub data EndsRun (named : Option Job) (before after : DeskState) (status : ℕ) : Type 0 where
-  by_job : (j : Job) → named ≡ Some j → EndsJob before after j status → EndsRun named before after status
-  by_words : named ≡ None → EndsAs before after words_writes 2 status → EndsRun named before after status
-  by_memory : status ≡ 9 → Stays before.written after.written → EndsRun named before after status
+-- how a run ends, whose words name a job or none, and what was published before it and after
+pub data EndsRun (named : Option Job) (before after : DeskState) (old new : List Entry) (status : ℕ) : Type 0 where
+  by_job : (j : Job) → named ≡ Some j → EndsJob before after old new j status → EndsRun named before after old new status
+  by_words : named ≡ None → EndsAs before after words_writes 2 status → new ≡ old → EndsRun named before after old new status
+  by_memory : status ≡ 9 → Stays before.written after.written → new ≡ old → EndsRun named before after old new status
 
 -- the name is one that the job may write under
 abbrev pub MayBeWritten : Option Job → Names

@@ -10,6 +10,7 @@ use Rattle.sbpl_cli.specs.declared.record.PathStep.{PathStep}
 use Rattle.sbpl_cli.specs.declared.record.PathRecord.{PathRecord}
 use Rattle.sbpl_plan.specs.declared.result.Outcome.{Outcome}
 use Rattle.sbpl_plan.specs.declared.result.Outcome.TheVariants as outcome
+use Rattle.sbpl_incumbent.specs.declared.entry.Entry.{Entry}
 use Rattle.sbpl_cli.specs.declared.record.PlanRecord.{PlanRecord}
 
 -- a line feed
@@ -56,6 +57,17 @@ section_text r = codes "plan " ++ (decimal r.plan ++ (line_feed ++ (flat_map pas
 -- the last line
 abbrev pub done_text : List ℕ
 done_text = codes "done\n"
+
+-- ---- the newest path
+
+-- an entry: its number, its plan and pass, and the cost and the bound of its path
+unfoldable pub entry_text : Entry → List ℕ
+entry_text e = codes "incumbent " ++ (decimal e.number ++ (codes " plan " ++ (decimal e.plan ++ (codes " pass " ++ (decimal e.pass ++ (codes " cost " ++ (decimal e.cost ++ (codes " bound " ++ (milli_text e.bound ++ line_feed)))))))))
+
+-- the line of the newest entry, or that there is none
+abbrev pub incumbent_text : Option Entry → List ℕ
+incumbent_text (Some e) = entry_text e
+incumbent_text None = codes "incumbent none\n"
 
 -- ---- a demonstration
 

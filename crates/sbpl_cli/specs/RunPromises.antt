@@ -1,18 +1,20 @@
 -- What `run` promises, of every desk: how the status and what is written come of the job that the words name and of the files.
 use Rattle.std.specs.Prelude.{◌≡◌, ◌≢◌, ◌⊎◌, ℕ, List, None, Option, Some}
 use Rattle.sbpl_desk.specs.Desk.{DeskState}
-use Rattle.sbpl_cli.specs.Run.{AreGood, ArePrefixes, AreTold, AtJob, CallsFor, ChangeFault, CheckJob, Course, DemoJob, EndsWithoutMemory, EnvFault, Environment, Intent, IsCheckedIn, IsCutShort, IsDeterminedJob, IsDone, IsFaultFound, IsFirstTooDear, IsFirstTooWide, IsFlawFound, IsHolding, IsNoCheck, IsNoFailure, IsOrFailed, IsOrUnwritten, IsRefused, IsStatus, Job, NoneRose, NoneTooWide, Outcome, PrimFault, Primitives, ReadsFrom, Scope, SectionStop, SomeRose, Sources, Tells, TellsChangeFault, TellsCourse, TellsEnvironment, TellsEnvironmentFault, TellsPrimitiveFault, TellsPrimitives, TellsTooMuch, TellsWorld, World, changes_of, checked_status, intent_status, moves_in, scope_of, sources_of, words_writes, writes_of}
+use Rattle.sbpl_cli.specs.Published.{Entry}
+use Rattle.sbpl_cli.specs.Run.{AreGood, ArePrefixes, AreTold, AtJob, CallsFor, ChangeFault, CheckJob, Course, DemoJob, EndsJob, EndsWithoutMemory, EnvFault, Environment, Intent, IsCheckedIn, IsCutShort, IsDeterminedJob, IsDone, IsFaultFound, IsFirstTooDear, IsFirstTooWide, IsFlawFound, IsHolding, IsNoCheck, IsNoFailure, IsOrFailed, IsOrUnwritten, IsRefused, IsStatus, Job, NoneRose, NoneTooWide, Outcome, PrimFault, Primitives, ReadsFrom, Scope, SectionStop, SomeRose, Sources, Tells, TellsChangeFault, TellsCourse, TellsEnvironment, TellsEnvironmentFault, TellsPrimitiveFault, TellsPrimitives, TellsTooMuch, TellsWorld, World, changes_of, checked_status, intent_status, moves_in, scope_of, sources_of, words_writes, writes_of}
 use Rattle.sbpl_cli.specs.Writing.{AreAppended, IsCutAt, RunsOutAt, Stays}
 use Rattle.sbpl_cli.specs.declared.section_check.SectionStop.TheVariants as Stops
 use Rattle.sbpl_job.specs.declared.job.Job.TheVariants as Jobs
 
--- where these are the job that the words name, the desk before and after, and the status that is answered
-pub record RunPromises (named : Option Job) (before after : DeskState) (status : ℕ) : Type 0 where
+-- where these are the job that the words name, the desk before and after, what was published before and after, and the status that is
+-- answered
+pub record RunPromises (named : Option Job) (before after : DeskState) (old new : List Entry) (status : ℕ) : Type 0 where
   pub statuses : IsStatus status
   -- 0: the job was done. Plans of the job's files were made, one on the map as it is and one after each batch of changes, which
   -- keep their promises, and their report, and their labels and traces where they are asked for, were written; or the labels hold;
   -- or what each primitive costs and sweeps was listed; or plans on an example were made, and a line for each was written.
-  pub done : status ≡ 0 → AtJob named (IsDone before after)
+  pub done : status ≡ 0 → AtJob named (IsDone before after old)
   -- 1: the job `check` found a first flaw in a section of the labels, after sections that hold, and a line says so.
   pub flaw : status ≡ 1 → AtJob named (IsFlawFound before after)
   -- 10: it found a first fault in the text of the labels, after sections that hold, and a line says so.
@@ -27,9 +29,12 @@ pub record RunPromises (named : Option Job) (before after : DeskState) (status :
   pub too_long : status ≡ 8 → AtJob named (IsRefused before after 8)
   -- 7: a write failed, and the writes before it and a prefix of it stand there, on the standard output alone where the job means a refusal.
   pub write : status ≡ 7 → SomeRose named before after
-  pub cut : status ≡ 7 → AtJob named (IsCutShort before after) ⊎ ((named ≡ None) × IsCutAt before after words_writes)
+  pub cut : status ≡ 7 → AtJob named (IsCutShort before after old) ⊎ ((named ≡ None) × IsCutAt before after words_writes)
   -- 9: memory ran out, and the first few writes stand there, on the standard output alone where the job means a refusal.
-  pub memory : status ≡ 9 → AtJob named (EndsWithoutMemory before after) ⊎ (((named ≡ None) × RunsOutAt before after words_writes) ⊎ Stays before.written after.written)
+  pub memory : status ≡ 9 → AtJob named (EndsWithoutMemory before after old) ⊎ (((named ≡ None) × RunsOutAt before after words_writes) ⊎ Stays before.written after.written)
+  -- What was published grew by exactly one entry for each pass whose walk gave a path, in order, with its plan, pass, cost and bound:
+  -- for the plans that were made, and where memory ran out in one for its passes so far. Where no plans are made it stays.
+  pub published : AtJob named (λ j. EndsJob before after old new j status) ⊎ (((named ≡ None) ⊎ (status ≡ 9)) × (new ≡ old))
   -- Words that name no job are refused, unless a write fails or memory runs out.
   pub no_job : named ≡ None → IsOrUnwritten 2 status
   -- A cause that the desk tells is answered, unless the desk fails or memory runs out.
@@ -49,9 +54,9 @@ pub record RunPromises (named : Option Job) (before after : DeskState) (status :
   pub labels_long : (j : CheckJob) (w : World) (c : Course) → named ≡ Some (Jobs.Check j) → TellsWorld before.held j.sources w → TellsCourse before.held j.changes (scope_of j.back w) c → TellsTooMuch (before.held j.labels) → IsOrFailed 8 status
   -- Where no read or write failed and memory did not run out, the words and the files call for something, so the next clause never
   -- stands empty. Plans by a planner whose passes are not determined are not called for.
-  pub called : (job : Job) → named ≡ Some job → IsDeterminedJob job → IsNoFailure status → (whole : Intent) × CallsFor before.held job whole
+  pub called : (job : Job) → named ≡ Some job → IsDeterminedJob job → IsNoFailure status → (whole : Intent) × CallsFor before.held old job whole
   -- What is written is determined by the words and the files: whatever these call for is written whole, with its status, unless a
   -- read or a write failed or memory ran out.
-  pub determined : (job : Job) (whole : Intent) → named ≡ Some job → AreTold before.held job → CallsFor before.held job whole → IsNoFailure status → (status ≡ intent_status whole) × AreAppended before after (writes_of job whole)
+  pub determined : (job : Job) (whole : Intent) → named ≡ Some job → AreTold before.held job → CallsFor before.held old job whole → IsNoFailure status → (status ≡ intent_status whole) × AreAppended before after (writes_of job whole)
   -- And where no read failed, what was written under each name is a prefix of that.
-  pub prefix : (job : Job) (whole : Intent) → named ≡ Some job → AreTold before.held job → NoneRose job before after → CallsFor before.held job whole → ArePrefixes before after (writes_of job whole)
+  pub prefix : (job : Job) (whole : Intent) → named ≡ Some job → AreTold before.held job → NoneRose job before after → CallsFor before.held old job whole → ArePrefixes before after (writes_of job whole)

@@ -19,7 +19,7 @@ WritesHaveTexts = (before after : DeskState) (j : Job) (i : Intent) → GivesInt
 
 -- how many outputs of plans are named besides the report
 abbrev pub named_count : Outputs → ℕ
-named_count o = (if is_some o.labels then 1 else 0) + (if is_some o.trace then 1 else 0)
+named_count o = (if is_some o.labels then 1 else 0) + ((if is_some o.trace then 1 else 0) + (if is_some o.incumbent then 1 else 0))
 
 -- the writes of all plans are, for each record, one to the report and one to each other output that is named, and then the last one
 abbrev pub WritesAreCounted : Type 0

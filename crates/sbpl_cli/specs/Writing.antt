@@ -39,7 +39,7 @@ IsNamed o name = o ≡ Some name
 
 -- the name is that of the standard output, or of another output of a plan
 abbrev pub IsOutputOf : Outputs → Names
-IsOutputOf o name = IsOutput name ⊎ (IsNamed o.labels name ⊎ IsNamed o.trace name)
+IsOutputOf o name = IsOutput name ⊎ (IsNamed o.labels name ⊎ (IsNamed o.trace name ⊎ IsNamed o.incumbent name))
 
 -- these writes were made: under each name, told bytes grew by their texts
 pub record AreAppended (before after : DeskState) (writes : List Write) : Type 0 where

@@ -1,6 +1,6 @@
 //! The job `check`.
 
-ghost use Rattle.std.specs.Prelude.{◌≡◌, ◌<◌, ◌≤◌, ◌^◌, ◌∷◌, [], Bool, ℕ, suc, length, IfErr, IfOk, OnErr};
+ghost use Rattle.std.specs.Prelude.{◌≡◌, ◌<◌, ◌≤◌, ◌^◌, ◌∷◌, [], Bool, ℕ, suc, length, List, IfErr, IfOk, OnErr};
 ghost use Rattle.sbpl_fixed.specs.Formats.{start_at};
 ghost use Rattle.sbpl_cost.specs.Lattices.{network_of};
 ghost use Rattle.sbpl_cost.specs.World.{IsWorld, World, over_map};
@@ -10,6 +10,7 @@ ghost use Rattle.sbpl_cli.specs.Checked.{Case, IsGroundAfter, case_of, from_in, 
 ghost use Rattle.sbpl_cli.specs.Searched.{IsSearchedIn};
 ghost use Rattle.sbpl_cli.specs.Planning.{HoldsAndPrints, HoldsInCase, IsPlanIn};
 ghost use Rattle.sbpl_cli.specs.Intents.{label_fault_text, stop_status, stop_writes};
+ghost use Rattle.sbpl_cli.specs.Published.{Entry};
 ghost use Rattle.sbpl_cli.specs.Promises.{EndsJob, EndsSections};
 ghost use Rattle.sbpl_cli.specs.Verdicts.{flaw_text, holds_text};
 ghost use Rattle.sbpl_cli.specs.Writing.{EndsAs, EndsIn, IsOutput, ReadsOnly, WritesOnly, to_output};
@@ -299,7 +300,7 @@ fn read_check<D: Desk>(
 /// Checks labels that a plan wrote, writes what came of it, and answers the status.
 pub(crate) fn check_labels<D: Desk>(alloc: Global, job: &CheckJob, desk: &mut D) -> Result<u8, Stop>
     requires range { job.now.sources.radius ≤ 10 ^ 12 }
-    ensures ends { IfOk result (EndsJob (D.state desk.old) (D.state desk.new) (Jobs.Check job.now)) }
+    ensures ends { IfOk result (λ status. (log : List Entry) → EndsJob (D.state desk.old) (D.state desk.new) log log (Jobs.Check job.now) status) }
     ensures stop { IfErr result (JobStopsFor (D.state desk.old) (D.state desk.new) (Jobs.Check job.now)) }
     ensures unwritten { OnErr result (ReadsOnly (D.state desk.old) (D.state desk.new)) }
     ensures frame { WritesOnly IsOutput (D.state desk.old) (D.state desk.new) }

@@ -1,6 +1,6 @@
 //! The job `demo`: plans on an example that is drawn from a seed.
 
-ghost use Rattle.std.specs.Prelude.{◌≡◌, ◌∷◌, [], false, length};
+ghost use Rattle.std.specs.Prelude.{◌≡◌, ◌^◌, ◌<◌, ◌∷◌, [], false, length};
 ghost use Rattle.sbpl_cost.specs.Lattices.{network_of};
 ghost use Rattle.sbpl_cost.specs.World.{IsWorld};
 ghost use Rattle.sbpl_demo.specs.Changes.{changes_drawn};
@@ -16,6 +16,7 @@ use crate::course::Course;
 use crate::drawn::draw;
 use crate::planners::plans_by_adstar;
 use crate::poses::ends_of;
+use crate::publishing::LiveBoard;
 use crate::report::demo_line;
 use crate::telling::Lines;
 use crate::writing::{OUTPUT, status_after, write_text};
@@ -23,9 +24,11 @@ use sbpl_cost::Lattice;
 use sbpl_desk::{Desk, WriteStop};
 use sbpl_fixed::NoMemory;
 use sbpl_graph::Graph;
+use sbpl_incumbent::Publisher;
 use sbpl_job::{DemoJob, LabelForm, Outputs, Planner, SearchJob};
 use sbpl_map::Changes;
 use std::alloc::Global;
+use std::sync::Wait;
 
 /// How a demonstration is planned.
 fn demo_search() -> SearchJob
@@ -64,18 +67,23 @@ fn write_first<D: Desk>(
 }
 
 /// Plans on an example that was drawn, writes a line for each plan, and answers the status.
-fn demonstrate<D: Desk>(
+fn demonstrate<D: Desk, W: Wait>(
     alloc: Global,
     job: &DemoJob,
     lattice: &mut Lattice,
     course: &Course,
+    live: &LiveBoard<W>,
+    publisher: &mut Publisher,
     desk: &mut D,
 ) -> u8
     requires drawn { IsDrawn job.now lattice.old }
     requires course { course.now ≡ still (changes_drawn job.now.width job.now.height job.now.seed) }
     requires kept { IsWorld lattice.old }
     requires in_world { IsCourseIn false lattice.old course.now }
-    ensures ends { EndsJob (D.state desk.old) (D.state desk.new) (Jobs.Demo job.now) result }
+    requires board { publisher.old.board ≡ live.now.board.now }
+    requires few { length publisher.old.published < 2 ^ 62 }
+    ensures ends { EndsJob (D.state desk.old) (D.state desk.new) publisher.old.published publisher.new.published (Jobs.Demo job.now) result }
+    ensures board { publisher.new.board ≡ publisher.old.board }
     ensures frame { WritesOnly IsOutput (D.state desk.old) (D.state desk.new) }
 {
     let (start, goal) = ends_of(lattice);
@@ -86,6 +94,7 @@ fn demonstrate<D: Desk>(
         labels: None,
         form: LabelForm::Sparse,
         trace: None,
+        incumbent: None,
     };
     plans_by_adstar(
         alloc,
@@ -95,15 +104,26 @@ fn demonstrate<D: Desk>(
         &outputs,
         start,
         goal,
+        live,
+        publisher,
         &Lines,
         desk,
     )
 }
 
 /// Draws an example, plans on it, writes a line for each plan, and answers the status. Nothing is read from the desk.
-pub(crate) fn end_demo<D: Desk>(alloc: Global, job: &DemoJob, desk: &mut D) -> u8
+pub(crate) fn end_demo<D: Desk, W: Wait>(
+    alloc: Global,
+    job: &DemoJob,
+    live: &LiveBoard<W>,
+    publisher: &mut Publisher,
+    desk: &mut D,
+) -> u8
     requires range { IsDemoJob job.now }
-    ensures ends { EndsJob (D.state desk.old) (D.state desk.new) (Jobs.Demo job.now) result }
+    requires board { publisher.old.board ≡ live.now.board.now }
+    requires few { length publisher.old.published < 2 ^ 62 }
+    ensures ends { EndsJob (D.state desk.old) (D.state desk.new) publisher.old.published publisher.new.published (Jobs.Demo job.now) result }
+    ensures board { publisher.new.board ≡ publisher.old.board }
     ensures frame { WritesOnly IsOutput (D.state desk.old) (D.state desk.new) }
 {
     match draw(alloc, job) {
@@ -112,7 +132,7 @@ pub(crate) fn end_demo<D: Desk>(alloc: Global, job: &DemoJob, desk: &mut D) -> u
                 batches,
                 moves: None,
             };
-            let status = demonstrate(alloc, job, &mut lattice, &course, desk);
+            let status = demonstrate(alloc, job, &mut lattice, &course, live, publisher, desk);
             // Let go by a call: the drop of each field here would make the proof long.
             drop(lattice);
             drop(course);

@@ -16,6 +16,7 @@ mod plan_record;
 mod planners;
 mod plans;
 mod poses;
+mod publishing;
 mod record;
 mod recorded;
 mod refusal;
@@ -36,10 +37,11 @@ pub use parts::Steps;
 pub use record::{PathRecord, PathStep, PlanRecord, Raised, TraceLine};
 pub use refusal::{Input, Refusal};
 pub use sbpl_epase::{Gate, NoGate};
+pub use sbpl_incumbent::{Board, Entry, Publisher};
 pub use sbpl_job::{
     CheckJob, Command, DemoJob, Job, JobFault, Name, Outputs, PlanJob, Planner, SearchJob, Setting,
     Sources, read_job,
 };
 pub use section_check::SectionStop;
-pub use top::run;
+pub use top::{run, run_with};
 pub use trace::Traced;

@@ -1,6 +1,6 @@
 //! The job `plan`.
 
-ghost use Rattle.std.specs.Prelude.{IfErr, IfOk, OnErr};
+ghost use Rattle.std.specs.Prelude.{◌≡◌, ◌^◌, ◌<◌, length, IfErr, IfOk, OnErr};
 ghost use Rattle.sbpl_job.specs.Jobs.{IsJob};
 ghost use Rattle.sbpl_job.specs.declared.job.Job.TheVariants as Jobs;
 ghost use Rattle.sbpl_cli.specs.Causes.{JobStopsFor};
@@ -10,9 +10,11 @@ ghost use Rattle.sbpl_cli.specs.Writing.{IsOutputOf, ReadsOnly, WritesOnly};
 use crate::lattice::read_course;
 use crate::planners::make_plans;
 use crate::poses::ends_of;
+use crate::publishing::LiveBoard;
 use crate::refusal::Stop;
 use sbpl_desk::Desk;
 use sbpl_epase::Gate;
+use sbpl_incumbent::Publisher;
 use sbpl_job::PlanJob;
 use std::alloc::Global;
 use std::sync::Wait;
@@ -20,23 +22,27 @@ use std::thread::Threads;
 
 /// Makes the plans of a job, writes what came of it, and answers the status; or answers why nothing was written.
 pub(crate) fn end_plan<R: Threads + Wait + Sync, D: Desk, T: Gate + Sync>(
-    rt: &R,
     alloc: Global,
     job: &PlanJob,
+    live: &LiveBoard<R>,
+    publisher: &mut Publisher,
     desk: &mut D,
     gate: &T,
 ) -> Result<u8, Stop>
     requires range { IsJob (Jobs.Plan job.now) }
-    ensures ends { IfOk result (EndsJob (D.state desk.old) (D.state desk.new) (Jobs.Plan job.now)) }
+    requires board { publisher.old.board ≡ live.now.board.now }
+    requires few { length publisher.old.published < 2 ^ 62 }
+    ensures ends { IfOk result (EndsJob (D.state desk.old) (D.state desk.new) publisher.old.published publisher.new.published (Jobs.Plan job.now)) }
     ensures stop { IfErr result (JobStopsFor (D.state desk.old) (D.state desk.new) (Jobs.Plan job.now)) }
     ensures unwritten { OnErr result (ReadsOnly (D.state desk.old) (D.state desk.new)) }
+    ensures unpublished { OnErr result (publisher.new ≡ publisher.old) }
+    ensures board { publisher.new.board ≡ publisher.old.board }
     ensures frame { WritesOnly (IsOutputOf job.now.outputs) (D.state desk.old) (D.state desk.new) }
 {
     let moving = job.search.planner.may_move();
     let (mut lattice, course) = read_course(alloc, &job.sources, &job.changes, moving, desk)?;
     let (start, goal) = ends_of(&lattice);
     let status = make_plans(
-        rt,
         gate,
         alloc,
         &mut lattice,
@@ -45,6 +51,8 @@ pub(crate) fn end_plan<R: Threads + Wait + Sync, D: Desk, T: Gate + Sync>(
         &job.outputs,
         start,
         goal,
+        live,
+        publisher,
         &job.outputs,
         desk,
     );

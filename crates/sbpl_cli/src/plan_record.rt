@@ -1,10 +1,15 @@
 //! One plan on a lattice.
 
-ghost use Rattle.std.specs.Prelude.{map, [], if◌then◌else◌, ◌≡◌, ◌<◌, ℕ, IfOk, IsSome, MatchBool, None, Option, Some};
+ghost use Rattle.std.specs.Prelude.{map, [], if◌then◌else◌, ◌≡◌, ◌+◌, ◌^◌, ◌<◌, ◌≤◌, ℕ, length, IfOk, IsSome, MatchBool, None, OnErr, Option, Some};
 ghost use Rattle.sbpl_cost.specs.Lattices.{network_of};
 ghost use Rattle.sbpl_cli.specs.Headline.{AreSteps, Carried, IsKnownWithin, IsNoneThere, IsPathFrom, IsSearched, IsPathStep, IsWithinBound, KeepsPromises, Joins, JoinsStates, IsSameResult, IsToldOf};
 ghost use Rattle.sbpl_cli.specs.Traces.{traced_pass};
-ghost use Rattle.sbpl_cli.specs.Planning.{GoesOnFrom, IsSetFor, carried_of};
+ghost use Rattle.sbpl_cli.specs.Planning.{GoesOnFrom, IsPublishedInPart, IsSetFor, carried_of};
+ghost use Rattle.sbpl_cli.specs.Published.{founds, newest, with_paths, with_plan};
+ghost use Rattle.sbpl_plan.specs.Asked.{IsAsk, MOST_PASSES};
+ghost use Rattle.sbpl_plan.specs.Determined.{AreWithin};
+ghost use Rattle.sbpl_plan.specs.Planned.{IsPlanned};
+ghost use Rattle.sbpl_replan.specs.Replanning.{StandsOutOfMemory, StaysTheSame, at_plan, inquiry};
 ghost use Rattle.sbpl_job.specs.Jobs.{IsSearchJob};
 ghost use Rattle.sbpl_cli.specs.Asked.{ask_of};
 ghost use Rattle.sbpl_plan.specs.Outcomes.{IsTrueOutcome};
@@ -12,6 +17,7 @@ ghost use Rattle.sbpl_plan.specs.Outcomes as Conclusions;
 ghost use Rattle.sbpl_plan.specs.declared.result.Outcome.TheVariants as Results;
 
 use crate::parts::Steps;
+use crate::publishing::{LiveBoard, Publishes, newest_on};
 use crate::record::{PathRecord, PathStep, PlanRecord, Raised};
 use crate::recorded::Recorded;
 use crate::trace::{Traced, traced_passes};
@@ -19,9 +25,11 @@ use sbpl_cert::Section;
 use sbpl_cost::Lattice;
 use sbpl_fixed::NoMemory;
 use sbpl_graph::Graph;
+use sbpl_incumbent::{Entry, Publisher};
 use sbpl_job::{Outputs, SearchJob};
-use sbpl_plan::{Ask, FoundPath, Nobody, Outcome, Planned};
+use sbpl_plan::{Ask, FoundPath, Outcome, Planned};
 use std::alloc::Global;
+use std::sync::Wait;
 
 /// The state that an arc leads to, and the step that it is.
 fn step_of(lattice: &Lattice, from: u32, arc: u32) -> (u32, PathStep)
@@ -142,6 +150,7 @@ fn record_of<R: Recorded>(
     expanded: u64,
     labels: Option<Section>,
     raised: Raised,
+    incumbent: Option<Entry>,
 ) -> Result<PlanRecord, NoMemory>
 where
     R::Note: Traced,
@@ -154,6 +163,7 @@ where
     ensures told { IfOk result (λ r. IsToldOf (R.direction.leads lattice.now start goal) planned.outcome r.outcome) }
     ensures labels { IfOk result (λ r. r.labels ≡ labels) }
     ensures raised { IfOk result (λ r. r.raised ≡ raised) }
+    ensures incumbent { IfOk result (λ r. r.incumbent ≡ incumbent) }
     ensures marked { IfOk result (λ r. MatchBool planned.spent (r.spent ≡ Some expanded) (r.spent ≡ None)) }
     ensures joins { IfOk result (λ r. Joins lattice.now start goal r.outcome) }
     ensures within_the_bound { IfOk result (λ r. IsWithinBound lattice.now start goal r.outcome) }
@@ -171,11 +181,46 @@ where
         spent: mark_of(planned.spent, expanded),
         outcome,
         labels,
+        incumbent,
     })
 }
 
-/// Makes plan `plan` on the present map of a lattice, and its record.
-pub(crate) fn make_record<R: Recorded>(
+/// Makes a plan on the present map of a lattice, and publishes each path as soon as it is found.
+fn plan_on<R: Recorded, W: Wait>(
+    alloc: Global,
+    lattice: &Lattice,
+    replanner: &mut R,
+    ask: &Ask,
+    plan: u32,
+    live: &LiveBoard<W>,
+    publisher: &mut Publisher,
+) -> Result<Planned<R::Note>, NoMemory>
+    requires ready { R.ready replanner.old lattice.now }
+    requires asked { IsAsk ask.now }
+    requires board { publisher.old.board ≡ live.now.board.now }
+    requires few { length publisher.old.published + MOST_PASSES < 2 ^ 63 }
+    ensures planned { IfOk result (IsPlanned R.meaning (inquiry R.direction lattice.now (R.guide replanner.old lattice.now) (R.standing replanner.old) ask.now) (R.standing replanner.old).search (R.standing replanner.new).search (at_plan (R.standing replanner.old).counts) (R.standing replanner.new).counts) }
+    ensures within { IfOk result (λ r. AreWithin (R.standing replanner.old).counts.per_plan (R.standing replanner.old).counts.run r.passes r.spent) }
+    ensures run { (R.standing replanner.new).counts.run ≤ 2 ^ 30 }
+    ensures ready { IfOk result (λ _. R.ready replanner.new lattice.now) }
+    ensures same { IfOk result (λ _. StaysTheSame (R.standing replanner.old) (R.standing replanner.new)) }
+    ensures guide { R.guide replanner.new lattice.now ≡ R.guide replanner.old lattice.now }
+    ensures shown { IfOk result (λ r. publisher.new.published ≡ with_paths publisher.old.published plan 0 (founds r.passes)) }
+    ensures memory { OnErr result (StandsOutOfMemory R.meaning (inquiry R.direction lattice.now (R.guide replanner.old lattice.now) (R.standing replanner.old) ask.now) (R.ready replanner.new lattice.now) (λ ps. publisher.new.published ≡ with_paths publisher.old.published plan 0 (founds ps)) (R.standing replanner.old) (R.standing replanner.new)) }
+    ensures board { publisher.new.board ≡ publisher.old.board }
+    ensures grown { length publisher.new.published ≤ length publisher.old.published + MOST_PASSES }
+{
+    let mut publishes = Publishes {
+        rt: live.rt,
+        board: live.board,
+        publisher,
+        plan,
+    };
+    replanner.plan(alloc, lattice, ask, &mut publishes)
+}
+
+/// Makes plan `plan` on the present map of a lattice, publishes each path as soon as it is found, and makes the plan's record.
+pub(crate) fn make_record<R: Recorded, W: Wait>(
     alloc: Global,
     lattice: &Lattice,
     replanner: &mut R,
@@ -184,11 +229,15 @@ pub(crate) fn make_record<R: Recorded>(
     start: u32,
     goal: u32,
     plan: u32,
+    live: &LiveBoard<W>,
+    publisher: &mut Publisher,
 ) -> Result<PlanRecord, NoMemory>
 where
     R::Note: Traced,
     requires start { start < (network_of lattice.now).states }
     requires goal { goal < (network_of lattice.now).states }
+    requires board { publisher.old.board ≡ live.now.board.now }
+    requires few { length publisher.old.published + MOST_PASSES < 2 ^ 63 }
     requires search { IsSearchJob how.now }
     requires ready { R.ready replanner.old lattice.now }
     requires set { IsSetFor R.direction how.now start goal (R.standing replanner.old) }
@@ -198,10 +247,17 @@ where
         → IfOk result (IsSearched (record { Note = R.Note; means = R.meaning; line = R.Note.line; direction = R.direction }) lattice.now how.now outputs.now start goal before (carried_of lattice.now (R.standing replanner.new))) }
     ensures ready { IfOk result (λ _. R.ready replanner.new lattice.now) }
     ensures set { IfOk result (λ _. IsSetFor R.direction how.now start goal (R.standing replanner.new)) }
+    ensures shown { IfOk result (λ r. publisher.new.published ≡ with_plan publisher.old.published r) }
+    ensures incumbent { IfOk result (λ r. r.incumbent ≡ newest publisher.new.published) }
+    ensures broken { (before : Option Carried) → GoesOnFrom R.meaning R.direction lattice.now (R.direction.from start goal) before (R.standing replanner.old)
+        → OnErr result (IsPublishedInPart (record { Note = R.Note; means = R.meaning; line = R.Note.line; direction = R.direction }) lattice.now how.now outputs.now start goal plan publisher.old.published publisher.new.published before) }
+    ensures board { publisher.new.board ≡ publisher.old.board }
+    ensures grown { length publisher.new.published ≤ length publisher.old.published + MOST_PASSES }
 {
     let ask = ask_of(how, outputs);
     let raised = raised_of(alloc, replanner.raised(), ask.traced)?;
-    let planned = replanner.plan(alloc, lattice, &ask, &mut Nobody)?;
+    let planned = plan_on(alloc, lattice, replanner, &ask, plan, live, publisher)?;
+    let incumbent = newest_on(live, publisher)?;
     let labels = replanner.section(
         alloc,
         lattice,
@@ -214,6 +270,6 @@ where
     )?;
     let expanded = replanner.expanded();
     record_of::<R>(
-        alloc, lattice, start, goal, plan, planned, expanded, labels, raised,
+        alloc, lattice, start, goal, plan, planned, expanded, labels, raised, incumbent,
     )
 }

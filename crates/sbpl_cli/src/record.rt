@@ -3,6 +3,7 @@
 use crate::parts::Steps;
 use sbpl_cert::Section;
 use sbpl_cfg::Place;
+use sbpl_incumbent::Entry;
 use sbpl_list::ListOf;
 use sbpl_plan::{Arcs, Outcome, Passes};
 
@@ -71,4 +72,6 @@ pub struct PlanRecord {
     pub outcome: Outcome<PathRecord>,
     /// The section of the final labels, where they are to be written.
     pub labels: Option<Section>,
+    /// The newest path that was published by the end of the plan, if there is one.
+    pub incumbent: Option<Entry>,
 }

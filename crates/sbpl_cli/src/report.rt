@@ -2,12 +2,13 @@
 
 ghost use Rattle.std.specs.Prelude.{◌≡◌, ◌++◌, IfOk, OnOk, flat_map, decimal};
 ghost use Rattle.sbpl_fixed.specs.Printed.{milli_text};
-ghost use Rattle.sbpl_cli.specs.Report.{demo_text, found_text, outcome_line, pass_text, place_text, plan_line, step_text, path_text, outcome_text, spent_text, section_text};
+ghost use Rattle.sbpl_cli.specs.Report.{demo_text, entry_text, found_text, incumbent_text, outcome_line, pass_text, place_text, plan_line, step_text, path_text, outcome_text, spent_text, section_text};
 
 use crate::record::{PathRecord, PathStep, PlanRecord, TraceLine};
 use itoa::Buffer;
 use sbpl_cfg::Place;
 use sbpl_fixed::{NoMemory, print_milli};
+use sbpl_incumbent::Entry;
 use sbpl_plan::{Found, Outcome, Pass};
 use std::alloc::Global;
 
@@ -202,6 +203,31 @@ pub(crate) fn line_of(alloc: Global, plan: &PlanRecord) -> Result<Vec<u8>, NoMem
 {
     let mut line = Vec::new(alloc);
     push_line(&mut line, plan)?;
+    Ok(line)
+}
+
+/// Appends the line of an entry.
+#[tactic(auto, unfolding(crate::specs::Report::entry_text))]
+fn push_entry(out: &mut Vec<u8>, entry: &Entry) -> Result<(), NoMemory>
+    ensures appended { OnOk result (out.new.items ≡ out.old.items ++ entry_text entry.now) }
+{
+    push_field(out, b"incumbent ", entry.number)?;
+    push_field(out, b" plan ", u64::from(entry.plan))?;
+    push_field(out, b" pass ", u64::from(entry.pass))?;
+    push_field(out, b" cost ", entry.cost)?;
+    push_milli(out, b" bound ", entry.bound)?;
+    push_bytes(out, b"\n")
+}
+
+/// The line of the newest path, or that there is none.
+pub(crate) fn incumbent_line(alloc: Global, newest: &Option<Entry>) -> Result<Vec<u8>, NoMemory>
+    ensures text { IfOk result (λ line. line.items ≡ incumbent_text newest.now) }
+{
+    let mut line = Vec::new(alloc);
+    match newest {
+        Some(entry) => push_entry(&mut line, entry)?,
+        None => push_bytes(&mut line, b"incumbent none\n")?,
+    }
     Ok(line)
 }
 

@@ -1,13 +1,13 @@
 //! The sections of a plan, written: of the report, of labels and of a trace.
 
 ghost use Rattle.std.specs.Prelude.{◌∷◌, ◌++◌, []};
-ghost use Rattle.sbpl_cli.specs.Intents.{labels_writes, section_writes, trace_writes};
+ghost use Rattle.sbpl_cli.specs.Intents.{incumbent_writes, labels_writes, section_writes, trace_writes};
 ghost use Rattle.sbpl_cli.specs.Report.{section_text};
 ghost use Rattle.sbpl_cli.specs.Writing.{EndsIn, IsNamed, IsOutput, IsOutputOf, WritesOnly, to_named, to_output};
 
 use crate::labels;
 use crate::record::PlanRecord;
-use crate::report::section_of;
+use crate::report::{incumbent_line, section_of};
 use crate::trace::trace_of;
 use crate::writing::{OUTPUT, write_text};
 use sbpl_desk::{Desk, WriteStop};
@@ -69,23 +69,55 @@ fn write_trace<D: Desk>(
     }
 }
 
-/// Writes what a plan writes besides the report: its labels and its trace.
+/// Writes the newest path after a plan, where it is to be written.
+fn write_incumbent<D: Desk>(
+    alloc: Global,
+    outputs: &Outputs,
+    plan: &PlanRecord,
+    desk: &mut D,
+) -> Result<(), WriteStop>
+    ensures ends { EndsIn (D.state desk.old) (D.state desk.new) (incumbent_writes outputs.now plan.now) result }
+    ensures frame { WritesOnly (IsNamed outputs.now.incumbent) (D.state desk.old) (D.state desk.new) }
+{
+    match incumbent_line(alloc, &plan.incumbent) {
+        Ok(line) => write_named(&outputs.incumbent, line.as_slice(), desk),
+        Err(NoMemory) => Err(WriteStop::NoMemory),
+    }
+}
+
+/// Writes the trace of a plan and then the newest path, where they are to be written.
+fn write_last_outputs<D: Desk>(
+    alloc: Global,
+    outputs: &Outputs,
+    plan: &PlanRecord,
+    desk: &mut D,
+) -> Result<(), WriteStop>
+    ensures ends { EndsIn (D.state desk.old) (D.state desk.new) (trace_writes outputs.now plan.now ++ incumbent_writes outputs.now plan.now) result }
+    ensures frame { WritesOnly (IsOutputOf outputs.now) (D.state desk.old) (D.state desk.new) }
+{
+    match write_trace(alloc, outputs, plan, desk) {
+        Ok(()) => write_incumbent(alloc, outputs, plan, desk),
+        Err(stop) => Err(stop),
+    }
+}
+
+/// Writes what a plan writes besides the report: its labels, its trace, and the newest path.
 fn write_outputs<D: Desk>(
     alloc: Global,
     outputs: &Outputs,
     plan: &PlanRecord,
     desk: &mut D,
 ) -> Result<(), WriteStop>
-    ensures ends { EndsIn (D.state desk.old) (D.state desk.new) (labels_writes outputs.now plan.now ++ trace_writes outputs.now plan.now) result }
+    ensures ends { EndsIn (D.state desk.old) (D.state desk.new) (labels_writes outputs.now plan.now ++ (trace_writes outputs.now plan.now ++ incumbent_writes outputs.now plan.now)) result }
     ensures frame { WritesOnly (IsOutputOf outputs.now) (D.state desk.old) (D.state desk.new) }
 {
     match write_labels(alloc, outputs, plan, desk) {
-        Ok(()) => write_trace(alloc, outputs, plan, desk),
+        Ok(()) => write_last_outputs(alloc, outputs, plan, desk),
         Err(stop) => Err(stop),
     }
 }
 
-/// Writes all of a plan: its section of the report, its labels and its trace.
+/// Writes all of a plan: its section of the report, its labels, its trace, and the newest path.
 pub(crate) fn write_plan<D: Desk>(
     alloc: Global,
     outputs: &Outputs,

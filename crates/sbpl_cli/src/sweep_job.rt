@@ -1,10 +1,11 @@
 //! The job `sweep`: the listing of what each primitive costs and sweeps.
 
-ghost use Rattle.std.specs.Prelude.{◌<◌, ◌∷◌, [], length, IfErr, IfOk, OnErr};
+ghost use Rattle.std.specs.Prelude.{◌<◌, ◌∷◌, [], length, List, IfErr, IfOk, OnErr};
 ghost use Rattle.sbpl_cli.specs.Intents.{listing_writes};
 ghost use Rattle.sbpl_cli.specs.Listing.{listing_at};
 ghost use Rattle.sbpl_cli.specs.Writing.{EndsIn, IsOutput, ReadsOnly, WritesOnly, to_output};
 ghost use Rattle.sbpl_cli.specs.Causes.{JobStopsFor};
+ghost use Rattle.sbpl_cli.specs.Published.{Entry};
 ghost use Rattle.sbpl_cli.specs.Promises.{EndsJob};
 ghost use Rattle.sbpl_job.specs.Jobs.{IsJob};
 ghost use Rattle.sbpl_job.specs.declared.job.Job.TheVariants as Jobs;
@@ -57,7 +58,7 @@ pub(crate) fn write_listings<D: Desk>(
 /// Lists what each primitive costs and sweeps, and answers the status; or answers why nothing was written.
 pub(crate) fn end_sweep<D: Desk>(alloc: Global, from: &Sources, desk: &mut D) -> Result<u8, Stop>
     requires range { IsJob (Jobs.Sweep from.now) }
-    ensures ends { IfOk result (EndsJob (D.state desk.old) (D.state desk.new) (Jobs.Sweep from.now)) }
+    ensures ends { IfOk result (λ status. (log : List Entry) → EndsJob (D.state desk.old) (D.state desk.new) log log (Jobs.Sweep from.now) status) }
     ensures stop { IfErr result (JobStopsFor (D.state desk.old) (D.state desk.new) (Jobs.Sweep from.now)) }
     ensures unwritten { OnErr result (ReadsOnly (D.state desk.old) (D.state desk.new)) }
     ensures frame { WritesOnly IsOutput (D.state desk.old) (D.state desk.new) }

@@ -91,6 +91,7 @@ long_at command.Plan setting.Budget = refl
 long_at command.Plan setting.Labels = refl
 long_at command.Plan setting.LabelsAs = refl
 long_at command.Plan setting.Trace = refl
+long_at command.Plan setting.Incumbent = refl
 long_at command.Check setting.Changes = refl
 long_at command.Check setting.Radius = refl
 long_at command.Check setting.Planner = refl
@@ -102,6 +103,7 @@ long_at command.Check setting.Budget = refl
 long_at command.Check setting.Labels = refl
 long_at command.Check setting.LabelsAs = refl
 long_at command.Check setting.Trace = refl
+long_at command.Check setting.Incumbent = refl
 long_at command.Sweep setting.Changes = refl
 long_at command.Sweep setting.Radius = refl
 long_at command.Sweep setting.Planner = refl
@@ -113,6 +115,7 @@ long_at command.Sweep setting.Budget = refl
 long_at command.Sweep setting.Labels = refl
 long_at command.Sweep setting.LabelsAs = refl
 long_at command.Sweep setting.Trace = refl
+long_at command.Sweep setting.Incumbent = refl
 long_at command.Demo setting.Changes = refl
 long_at command.Demo setting.Radius = refl
 long_at command.Demo setting.Planner = refl
@@ -124,6 +127,7 @@ long_at command.Demo setting.Budget = refl
 long_at command.Demo setting.Labels = refl
 long_at command.Demo setting.LabelsAs = refl
 long_at command.Demo setting.Trace = refl
+long_at command.Demo setting.Incumbent = refl
 
 pub option_at : (c : Command) (s : Setting) → arg_by_id (rules c) (id_of s) ≡ (if takes c s then Some (option_built s) else None)
 option_at command.Plan setting.Changes = refl
@@ -137,6 +141,7 @@ option_at command.Plan setting.Budget = refl
 option_at command.Plan setting.Labels = refl
 option_at command.Plan setting.LabelsAs = refl
 option_at command.Plan setting.Trace = refl
+option_at command.Plan setting.Incumbent = refl
 option_at command.Check setting.Changes = refl
 option_at command.Check setting.Radius = refl
 option_at command.Check setting.Planner = refl
@@ -148,6 +153,7 @@ option_at command.Check setting.Budget = refl
 option_at command.Check setting.Labels = refl
 option_at command.Check setting.LabelsAs = refl
 option_at command.Check setting.Trace = refl
+option_at command.Check setting.Incumbent = refl
 option_at command.Sweep setting.Changes = refl
 option_at command.Sweep setting.Radius = refl
 option_at command.Sweep setting.Planner = refl
@@ -159,6 +165,7 @@ option_at command.Sweep setting.Budget = refl
 option_at command.Sweep setting.Labels = refl
 option_at command.Sweep setting.LabelsAs = refl
 option_at command.Sweep setting.Trace = refl
+option_at command.Sweep setting.Incumbent = refl
 option_at command.Demo setting.Changes = refl
 option_at command.Demo setting.Radius = refl
 option_at command.Demo setting.Planner = refl
@@ -170,6 +177,7 @@ option_at command.Demo setting.Budget = refl
 option_at command.Demo setting.Labels = refl
 option_at command.Demo setting.LabelsAs = refl
 option_at command.Demo setting.Trace = refl
+option_at command.Demo setting.Incumbent = refl
 
 pub some_is : {X : Type 0} {x y : X} → Some x ≡ Some y → x ≡ y
 some_is {x = x} e = ap (λ o. Rattle.std.specs.Option.unwrap_or o x) e
@@ -263,7 +271,7 @@ told x s t h = bytes_are x (name_of s) h.0 ∙ ap name_of h.1
 -- a word that is a setting's name is that name
 pub is_name : (x : Text) (t : Setting) → setting_named x ≡ Some t → x ≡ name_of t
 is_name x t named =
-    elim (pick (bytes_eq x (name_of setting.Changes)) setting.Changes t _ named) [ inl h ↦ told x setting.Changes t h | inr e0 ↦ elim (pick (bytes_eq x (name_of setting.Radius)) setting.Radius t _ e0) [ inl h ↦ told x setting.Radius t h | inr e1 ↦ elim (pick (bytes_eq x (name_of setting.Planner)) setting.Planner t _ e1) [ inl h ↦ told x setting.Planner t h | inr e2 ↦ elim (pick (bytes_eq x (name_of setting.Workers)) setting.Workers t _ e2) [ inl h ↦ told x setting.Workers t h | inr e3 ↦ elim (pick (bytes_eq x (name_of setting.First)) setting.First t _ e3) [ inl h ↦ told x setting.First t h | inr e4 ↦ elim (pick (bytes_eq x (name_of setting.Step)) setting.Step t _ e4) [ inl h ↦ told x setting.Step t h | inr e5 ↦ elim (pick (bytes_eq x (name_of setting.Bound)) setting.Bound t _ e5) [ inl h ↦ told x setting.Bound t h | inr e6 ↦ elim (pick (bytes_eq x (name_of setting.Budget)) setting.Budget t _ e6) [ inl h ↦ told x setting.Budget t h | inr e7 ↦ elim (pick (bytes_eq x (name_of setting.Labels)) setting.Labels t _ e7) [ inl h ↦ told x setting.Labels t h | inr e8 ↦ elim (pick (bytes_eq x (name_of setting.LabelsAs)) setting.LabelsAs t _ e8) [ inl h ↦ told x setting.LabelsAs t h | inr e9 ↦ elim (pick (bytes_eq x (name_of setting.Trace)) setting.Trace t _ e9) [ inl h ↦ told x setting.Trace t h | inr e10 ↦ absurd (not_none e10) ] ] ] ] ] ] ] ] ] ] ]
+    elim (pick (bytes_eq x (name_of setting.Changes)) setting.Changes t _ named) [ inl h ↦ told x setting.Changes t h | inr e0 ↦ elim (pick (bytes_eq x (name_of setting.Radius)) setting.Radius t _ e0) [ inl h ↦ told x setting.Radius t h | inr e1 ↦ elim (pick (bytes_eq x (name_of setting.Planner)) setting.Planner t _ e1) [ inl h ↦ told x setting.Planner t h | inr e2 ↦ elim (pick (bytes_eq x (name_of setting.Workers)) setting.Workers t _ e2) [ inl h ↦ told x setting.Workers t h | inr e3 ↦ elim (pick (bytes_eq x (name_of setting.First)) setting.First t _ e3) [ inl h ↦ told x setting.First t h | inr e4 ↦ elim (pick (bytes_eq x (name_of setting.Step)) setting.Step t _ e4) [ inl h ↦ told x setting.Step t h | inr e5 ↦ elim (pick (bytes_eq x (name_of setting.Bound)) setting.Bound t _ e5) [ inl h ↦ told x setting.Bound t h | inr e6 ↦ elim (pick (bytes_eq x (name_of setting.Budget)) setting.Budget t _ e6) [ inl h ↦ told x setting.Budget t h | inr e7 ↦ elim (pick (bytes_eq x (name_of setting.Labels)) setting.Labels t _ e7) [ inl h ↦ told x setting.Labels t h | inr e8 ↦ elim (pick (bytes_eq x (name_of setting.LabelsAs)) setting.LabelsAs t _ e8) [ inl h ↦ told x setting.LabelsAs t h | inr e9 ↦ elim (pick (bytes_eq x (name_of setting.Trace)) setting.Trace t _ e9) [ inl h ↦ told x setting.Trace t h | inr e10 ↦ elim (pick (bytes_eq x (name_of setting.Incumbent)) setting.Incumbent t _ e10) [ inl h ↦ told x setting.Incumbent t h | inr e11 ↦ absurd (not_none e11) ] ] ] ] ] ] ] ] ] ] ] ]
   where
     not_none : None ≡ Some t → ⊥
     not_none e = cc
@@ -280,6 +288,7 @@ long_name setting.Budget = refl
 long_name setting.Labels = refl
 long_name setting.LabelsAs = refl
 long_name setting.Trace = refl
+long_name setting.Incumbent = refl
 
 not_dashes : (s : Setting) → bytes_eq (name_of s) dashes ≡ false
 not_dashes setting.Changes = refl
@@ -293,6 +302,7 @@ not_dashes setting.Budget = refl
 not_dashes setting.Labels = refl
 not_dashes setting.LabelsAs = refl
 not_dashes setting.Trace = refl
+not_dashes setting.Incumbent = refl
 
 pub taken : (c : Command) (s : Setting) (o : Option Setting) → option_and_then (λ t. if takes c t then Some t else None) o ≡ Some s → (o ≡ Some s) × (takes c s ≡ true)
 taken c s None e = cc

@@ -1,5 +1,5 @@
 -- The job that a list of words names.
-use Rattle.std.specs.Prelude.{◌≡◌, ◌^◌, ◌<◌, ◌≤◌, true, false, ◌/◌, ◌%◌, ◌&&◌, ◌||◌, Bool, ℕ, ℤ, pos, negsuc, nat_eq, nat_le, List, [], ◌∷◌, length, map, String, string_bytes, Option, Some, None, option_map, option_and_then, Result, Ok, Err, codes, if◌then◌else◌}
+use Rattle.std.specs.Prelude.{◌≡◌, ◌^◌, ◌<◌, ◌≤◌, true, false, not, ◌/◌, ◌%◌, ◌&&◌, ◌||◌, Bool, ℕ, ℤ, pos, negsuc, nat_eq, nat_le, List, [], ◌∷◌, length, map, String, string_bytes, Option, Some, None, option_map, option_and_then, Result, Ok, Err, codes, if◌then◌else◌}
 use Rattle.std.specs.Option.{option_map_or}
 use Rattle.std.specs.Result.{result_ok}
 use Rattle.std.specs.Str.{bytes_eq}
@@ -146,16 +146,21 @@ form_by labels None = Some form.Sparse
 form_by None (Some version) = None
 form_by (Some labels) (Some version) = form_named version
 
--- two outputs, which differ where both are set
-abbrev pub outputs_by : (labels : Option (List ℕ)) → LabelForm → (trace : Option (List ℕ)) → Option Outputs
-outputs_by None f trace = Some (record { labels = None; form = f; trace = trace })
-outputs_by (Some labels) f None = Some (record { labels = Some labels; form = f; trace = None })
-outputs_by (Some labels) f (Some trace) = if bytes_eq labels trace then None else Some (record { labels = Some labels; form = f; trace = Some trace })
+-- two names differ, where both are set
+abbrev pub differ : (first second : Option (List ℕ)) → Bool
+differ (Some first) (Some second) = not (bytes_eq first second)
+differ _ _ = true
 
--- where a plan's labels and its trace are written, and in which form the labels are
+-- three outputs, which differ where they are set
+abbrev pub outputs_by : (labels : Option (List ℕ)) → LabelForm → (trace incumbent : Option (List ℕ)) → Option Outputs
+outputs_by labels f trace incumbent =
+    if differ labels trace && (differ labels incumbent && differ trace incumbent) then Some (record { labels = labels; form = f; trace = trace; incumbent = incumbent }) else None
+
+-- where a plan's labels, its trace and the newest path are written, and in which form the labels are
 abbrev pub outputs_in : Sources → Option (List ℕ) → Settings → Option Outputs
 outputs_in from changes set =
-    option_and_then (λ labels. option_and_then (λ f. option_and_then (outputs_by labels f) (output_by from changes (set setting.Trace)))
+    option_and_then (λ labels. option_and_then (λ f. option_and_then (λ trace. option_and_then (outputs_by labels f trace) (output_by from changes (set setting.Incumbent)))
+    (output_by from changes (set setting.Trace)))
     (form_by labels (set setting.LabelsAs)))
     (output_by from changes (set setting.Labels))
 

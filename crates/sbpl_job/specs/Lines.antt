@@ -34,7 +34,7 @@ option_rule id = record (new_rule id) { long = Some id; value_names = 1 }
 abbrev pub arguments : Command → List Rule
 arguments command.Plan = plain_rule (codes "ENV") ∷ (plain_rule (codes "MPRIM") ∷ (option_rule (codes "changes") ∷ (option_rule (codes "radius") ∷ (option_rule (codes "planner")
     ∷ (option_rule (codes "workers") ∷ (option_rule (codes "first") ∷ (option_rule (codes "step") ∷ (option_rule (codes "bound") ∷ (option_rule (codes "budget") ∷ (option_rule (codes "labels")
-    ∷ (option_rule (codes "labels-as") ∷ (option_rule (codes "trace") ∷ []))))))))))))
+    ∷ (option_rule (codes "labels-as") ∷ (option_rule (codes "trace") ∷ (option_rule (codes "incumbent") ∷ [])))))))))))))
 arguments command.Check = plain_rule (codes "ENV") ∷ (plain_rule (codes "MPRIM") ∷ (plain_rule (codes "LABELS") ∷ (option_rule (codes "changes") ∷ (option_rule (codes "radius")
     ∷ (option_rule (codes "planner") ∷ [])))))
 arguments command.Sweep = plain_rule (codes "ENV") ∷ (plain_rule (codes "MPRIM") ∷ (option_rule (codes "radius") ∷ []))

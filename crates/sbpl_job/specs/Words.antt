@@ -58,6 +58,7 @@ id_of setting.Budget = codes "budget"
 id_of setting.Labels = codes "labels"
 id_of setting.LabelsAs = codes "labels-as"
 id_of setting.Trace = codes "trace"
+id_of setting.Incumbent = codes "incumbent"
 
 -- two settings are the same where their names are
 abbrev pub is_setting : Setting → Setting → Bool
@@ -76,7 +77,8 @@ setting_named word =
     else (if bytes_eq word (codes "--budget") then Some setting.Budget
     else (if bytes_eq word (codes "--labels") then Some setting.Labels
     else (if bytes_eq word (codes "--labels-as") then Some setting.LabelsAs
-    else (if bytes_eq word (codes "--trace") then Some setting.Trace else None))))))))))
+    else (if bytes_eq word (codes "--trace") then Some setting.Trace
+    else (if bytes_eq word (codes "--incumbent") then Some setting.Incumbent else None)))))))))))
 
 -- a command takes a setting
 abbrev pub takes : Command → Setting → Bool

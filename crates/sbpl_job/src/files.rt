@@ -4,7 +4,7 @@ ghost use Rattle.std.specs.Prelude.{◌≡◌, ◌≤◌, ◌^◌, IfOk, Some, o
 ghost use Rattle.std.specs.Str.{bytes_eq};
 ghost use Rattle.sbpl_job.specs.declared.words.Setting.TheVariants as Settings;
 ghost use Rattle.sbpl_job.specs.Found.{set_in};
-ghost use Rattle.sbpl_job.specs.Jobs.{form_by, form_named, is_input, output_by, outputs_by, outputs_in, sources_in};
+ghost use Rattle.sbpl_job.specs.Jobs.{differ, form_by, form_named, is_input, output_by, outputs_by, outputs_in, sources_in};
 ghost use Rattle.sbpl_job.specs.Words.{Names, text_of};
 
 use crate::job::{JobFault, LabelForm, Outputs, Sources};
@@ -123,27 +123,38 @@ fn form_of(labels: &Option<Name>, version: Option<&str>) -> Result<LabelForm, Jo
     }
 }
 
-/// Two outputs, which differ where both are set.
-fn both_outputs(
+/// Whether two outputs differ, where both are set.
+fn differ(first: &Option<Name>, second: &Option<Name>) -> bool
+    ensures differ { result ≡ differ first.now second.now }
+{
+    match (first, second) {
+        (Some(first), Some(second)) => !is_same(first.as_str(), second),
+        _ => true,
+    }
+}
+
+/// Three outputs, which differ where they are set.
+fn all_outputs(
     labels: Option<Name>,
     form: LabelForm,
     trace: Option<Name>,
+    incumbent: Option<Name>,
 ) -> Result<Outputs, JobFault>
-    ensures outputs { Names (outputs_by labels form trace) result }
+    ensures outputs { Names (outputs_by labels form trace incumbent) result }
 {
-    if let (Some(first), Some(second)) = (&labels, &trace) {
-        if is_same(first.as_str(), second) {
-            return Err(JobFault::Words);
-        }
+    if differ(&labels, &trace) && differ(&labels, &incumbent) && differ(&trace, &incumbent) {
+        Ok(Outputs {
+            labels,
+            form,
+            trace,
+            incumbent,
+        })
+    } else {
+        Err(JobFault::Words)
     }
-    Ok(Outputs {
-        labels,
-        form,
-        trace,
-    })
 }
 
-/// Where a plan's labels and its trace are written, and in which form the labels are.
+/// Where a plan's labels, its trace and the newest path are written, and in which form the labels are.
 pub(crate) fn outputs_of(
     alloc: Global,
     from: &Sources,
@@ -155,5 +166,6 @@ pub(crate) fn outputs_of(
     let labels = output_of(alloc, from, changes, matches.get_str("labels"))?;
     let form = form_of(&labels, matches.get_str("labels-as"))?;
     let trace = output_of(alloc, from, changes, matches.get_str("trace"))?;
-    both_outputs(labels, form, trace)
+    let incumbent = output_of(alloc, from, changes, matches.get_str("incumbent"))?;
+    all_outputs(labels, form, trace, incumbent)
 }

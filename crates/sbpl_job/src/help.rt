@@ -25,7 +25,7 @@ const VERSION: &str = "temjoask 0.1.0\n";
 
 /// How the program is called.
 const USAGE: &str = "\
-usage: temjoask plan ENV MPRIM [--changes F] [--radius M] [--planner P] [--workers N] [--first E] [--step E] [--bound B] [--budget N] [--labels F [--labels-as V]] [--trace F]
+usage: temjoask plan ENV MPRIM [--changes F] [--radius M] [--planner P] [--workers N] [--first E] [--step E] [--bound B] [--budget N] [--labels F [--labels-as V]] [--trace F] [--incumbent F]
        temjoask check ENV MPRIM LABELS [--changes F] [--radius M] [--planner back]
        temjoask sweep ENV MPRIM [--radius M]
        temjoask demo SEED W H

@@ -71,7 +71,7 @@ pub enum LabelForm {
     Sparse,
 }
 
-/// Where a plan is written besides its report. Both differ from the files that are read, and from each other.
+/// Where a plan is written besides its report. The names differ from the files that are read, and from each other.
 #[derive(Debug, Drop)]
 pub struct Outputs {
     /// Where the labels of each plan are written, if they are.
@@ -80,6 +80,8 @@ pub struct Outputs {
     pub form: LabelForm,
     /// Where the expansions of each plan are written, if they are.
     pub trace: Option<Name>,
+    /// Where the newest path after each plan is written, if it is.
+    pub incumbent: Option<Name>,
 }
 
 /// The job `plan`: plan a path on the lattice.

@@ -192,15 +192,22 @@ fn with_labels<'a>(alloc: Global, line: Line<'a>) -> Line<'a>
 
 /// What a plan writes besides its report.
 fn with_outputs<'a>(alloc: Global, line: Line<'a>) -> Line<'a>
-    ensures app { (a : App) → IsLine line.entry a → IsLine result (with_rule (with_rule (with_rule a (option_rule (codes "labels"))) (option_rule (codes "labels-as"))) (option_rule (codes "trace"))) }
+    ensures app { (a : App) → IsLine line.entry a → IsLine result (with_rule (with_rule (with_rule (with_rule a (option_rule (codes "labels"))) (option_rule (codes "labels-as"))) (option_rule (codes "trace"))) (option_rule (codes "incumbent"))) }
 {
     let line = with_labels(alloc, line);
-    with_option(
+    let line = with_option(
         alloc,
         line,
         "trace",
         "F",
         "where the expansions are written [default: nowhere]",
+    );
+    with_option(
+        alloc,
+        line,
+        "incumbent",
+        "F",
+        "where the newest path after each plan is written [default: nowhere]",
     )
 }
 

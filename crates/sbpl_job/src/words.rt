@@ -46,6 +46,8 @@ pub enum Setting {
     LabelsAs,
     /// `--trace`: where the expansions of each plan are written.
     Trace,
+    /// `--incumbent`: where the newest path after each plan is written.
+    Incumbent,
 }
 
 /// Whether a word is plain: not empty, and it does not begin with `-`.
@@ -74,6 +76,7 @@ fn setting_named(word: &str) -> Option<Setting>
         "--labels" => Some(Setting::Labels),
         "--labels-as" => Some(Setting::LabelsAs),
         "--trace" => Some(Setting::Trace),
+        "--incumbent" => Some(Setting::Incumbent),
         _ => None,
     }
 }

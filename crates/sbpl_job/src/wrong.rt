@@ -80,7 +80,7 @@ fn wrong_demo(matches: &ArgMatches) -> Option<(&'static str, &'static str)> {
 
 /// What is wrong with words that `clap` takes and whose values are right: the files that are written.
 const WRONG_OUTPUTS: &str =
-    "the files of --labels and --trace must differ from each other and from each file that is read";
+    "the files of --labels, --trace and --incumbent must differ from each other and from each file that is read";
 
 /// What is wrong with words that `clap` takes.
 fn wrong_in(alloc: Global, command: Command, matches: &ArgMatches) -> Result<String, AllocError> {

@@ -1,9 +1,10 @@
 //! What the program does for the words after its name, at any desk.
 
-ghost use Rattle.std.specs.Prelude.{◌≡◌, false, None, IsSome, map, string_bytes};
+ghost use Rattle.std.specs.Prelude.{◌≡◌, [], false, List, None, IsSome, map, string_bytes};
 ghost use Rattle.std.specs.Io.KnownBytes.{Keeps};
 ghost use Rattle.sbpl_desk.specs.Desk.{ReadsOnly, Rose};
 ghost use Rattle.sbpl_cli.specs.Run.{IsOrUnwritten, IsStatus, MayBeWritten, job_named};
+ghost use Rattle.sbpl_cli.specs.Published.{Entry};
 ghost use Rattle.sbpl_cli.specs.RunPromises.{RunPromises};
 ghost use Rattle.sbpl_cli.specs.Writing.{IsOutput, WritesOnly, output};
 ghost use Rattle.sbpl_job.specs.Asked.{asked_for};
@@ -75,7 +76,7 @@ pub fn answer<R: Threads + Wait + Sync, D: Desk, T: Gate + Sync, E: io::Write>(
     ensures asked { IsSome (asked_for (map string_bytes words.now)) → IsOrUnwritten 0 result }
     ensures unwritten { IsSome (asked_for (map string_bytes words.now)) → result ≡ 7 → Rose ((D.state desk.old).write_faults output) ((D.state desk.new).write_faults output) }
     // All other words get what `run` promises, of this status.
-    ensures run { asked_for (map string_bytes words.now) ≡ None → RunPromises (job_named words.now) (D.state desk.old) (D.state desk.new) result }
+    ensures run { asked_for (map string_bytes words.now) ≡ None → (published : List Entry) × RunPromises (job_named words.now) (D.state desk.old) (D.state desk.new) [] published result }
     ensures statuses { IsStatus result }
     // A message comes with the statuses 2 to 7 and 10 alone.
     ensures quiet { has_message result ≡ false → Keeps (E.contents err.old) (E.contents err.new) }

@@ -34,7 +34,8 @@ pub fn size_message(alloc: Global, name: &str) -> Result<Vec<u8>, NoMemory>
 pub fn unwritten_message(alloc: Global) -> Result<Vec<u8>, NoMemory>
     ensures message { IfOk result (λ m. IsPlainMessage (codes "temjoask") m.items) }
 {
-    let what = "a write failed: to the standard output, or to the file of --labels or of --trace";
+    let what =
+        "a write failed: to the standard output, or to the file of --labels, --trace or --incumbent";
     let message = plain_message(alloc, PROGRAM, what)?;
     Ok(message)
 }

@@ -8,36 +8,38 @@ use std::alloc::Global;
 use std::test::Fail;
 
 /// Words that name a job, and after the arrow that job as a line: of `plan` its environment, primitives, radius, changes,
-/// planner, workers, first inflation, step, bound, budget, labels with their form, and trace; of `check` its environment, primitives,
+/// planner, workers, first inflation, step, bound, budget, labels with their form, trace and the newest path; of `check` its environment, primitives,
 /// radius, changes, labels and `back`; and `moves` where the robot may move.
 const JOBS: &str = "\
-plan e m => plan e m 0 - ad 1 1000 500 1000 1073741824 - -
-plan --radius 0 e m => plan e m 0 - ad 1 1000 500 1000 1073741824 - -
-plan e --radius=0.000 m => plan e m 0 - ad 1 1000 500 1000 1073741824 - -
-plan e m --radius +.0125 => plan e m 12500000 - ad 1 1000 500 1000 1073741824 - -
-plan e m --radius=1000 => plan e m 1000000000000 - ad 1 1000 500 1000 1073741824 - -
-plan e m --planner ara => plan e m 0 - ara 1 1000 500 1000 1073741824 - -
-plan --planner=ad e m => plan e m 0 - ad 1 1000 500 1000 1073741824 - -
-plan e m --bound=1.5 => plan e m 0 - ad 1 1000 500 1500 1073741824 - -
-plan e m --bound 1.0000000001 => plan e m 0 - ad 1 1000 500 1000 1073741824 - -
-plan e --bound=100 m => plan e m 0 - ad 1 1000 500 100000 1073741824 - -
-plan e m --first 3.000 --step=.001 => plan e m 0 - ad 1 3000 1 1000 1073741824 - -
-plan --first=100 --step 99 e m => plan e m 0 - ad 1 100000 99000 1000 1073741824 - -
-plan e m --budget +4 => plan e m 0 - ad 1 1000 500 1000 4 - -
-plan e m --budget=007 => plan e m 0 - ad 1 1000 500 1000 7 - -
-plan e m --budget 1073741824 => plan e m 0 - ad 1 1000 500 1000 1073741824 - -
-plan e m --planner epase => plan e m 0 - epase 1 1000 500 1000 1073741824 - -
-plan --workers=1 e m --trace t --planner=epase => plan e m 0 - epase 1 1000 500 1000 1073741824 - t
-plan e m --planner epase --workers 2 => plan e m 0 - epase 2 1000 500 1000 1073741824 - -
-plan e m --planner epase --workers 4 --changes c => plan e m 0 c epase 4 1000 500 1000 1073741824 - -
-plan --workers 64 e --planner=epase m --labels=l => plan e m 0 - epase 64 1000 500 1000 1073741824 l -
-plan --planner back e m --labels l => plan e m 0 - back 1 1000 500 1000 1073741824 l - moves
-plan --changes c e m => plan e m 0 c ad 1 1000 500 1000 1073741824 - -
-plan e m --labels=l --trace t => plan e m 0 - ad 1 1000 500 1000 1073741824 l t
-plan e m --labels=l --labels-as 1 => plan e m 0 - ad 1 1000 500 1000 1073741824 l in full -
-plan --labels-as=2 e --trace t m --labels l => plan e m 0 - ad 1 1000 500 1000 1073741824 l t
-plan e --changes=c=d --labels c m --trace=d => plan e m 0 c=d ad 1 1000 500 1000 1073741824 c d
-plan e e --changes e => plan e e 0 e ad 1 1000 500 1000 1073741824 - -
+plan e m => plan e m 0 - ad 1 1000 500 1000 1073741824 - - -
+plan --radius 0 e m => plan e m 0 - ad 1 1000 500 1000 1073741824 - - -
+plan e --radius=0.000 m => plan e m 0 - ad 1 1000 500 1000 1073741824 - - -
+plan e m --radius +.0125 => plan e m 12500000 - ad 1 1000 500 1000 1073741824 - - -
+plan e m --radius=1000 => plan e m 1000000000000 - ad 1 1000 500 1000 1073741824 - - -
+plan e m --planner ara => plan e m 0 - ara 1 1000 500 1000 1073741824 - - -
+plan --planner=ad e m => plan e m 0 - ad 1 1000 500 1000 1073741824 - - -
+plan e m --bound=1.5 => plan e m 0 - ad 1 1000 500 1500 1073741824 - - -
+plan e m --bound 1.0000000001 => plan e m 0 - ad 1 1000 500 1000 1073741824 - - -
+plan e --bound=100 m => plan e m 0 - ad 1 1000 500 100000 1073741824 - - -
+plan e m --first 3.000 --step=.001 => plan e m 0 - ad 1 3000 1 1000 1073741824 - - -
+plan --first=100 --step 99 e m => plan e m 0 - ad 1 100000 99000 1000 1073741824 - - -
+plan e m --budget +4 => plan e m 0 - ad 1 1000 500 1000 4 - - -
+plan e m --budget=007 => plan e m 0 - ad 1 1000 500 1000 7 - - -
+plan e m --budget 1073741824 => plan e m 0 - ad 1 1000 500 1000 1073741824 - - -
+plan e m --planner epase => plan e m 0 - epase 1 1000 500 1000 1073741824 - - -
+plan --workers=1 e m --trace t --planner=epase => plan e m 0 - epase 1 1000 500 1000 1073741824 - t -
+plan e m --planner epase --workers 2 => plan e m 0 - epase 2 1000 500 1000 1073741824 - - -
+plan e m --planner epase --workers 4 --changes c => plan e m 0 c epase 4 1000 500 1000 1073741824 - - -
+plan --workers 64 e --planner=epase m --labels=l => plan e m 0 - epase 64 1000 500 1000 1073741824 l - -
+plan --planner back e m --labels l => plan e m 0 - back 1 1000 500 1000 1073741824 l - - moves
+plan --changes c e m => plan e m 0 c ad 1 1000 500 1000 1073741824 - - -
+plan e m --labels=l --trace t => plan e m 0 - ad 1 1000 500 1000 1073741824 l t -
+plan e m --labels=l --labels-as 1 => plan e m 0 - ad 1 1000 500 1000 1073741824 l in full - -
+plan --labels-as=2 e --trace t m --labels l => plan e m 0 - ad 1 1000 500 1000 1073741824 l t -
+plan e --changes=c=d --labels c m --trace=d => plan e m 0 c=d ad 1 1000 500 1000 1073741824 c d -
+plan e m --incumbent i => plan e m 0 - ad 1 1000 500 1000 1073741824 - - i
+plan --incumbent=i e m --labels l --trace=t => plan e m 0 - ad 1 1000 500 1000 1073741824 l t i
+plan e e --changes e => plan e e 0 e ad 1 1000 500 1000 1073741824 - - -
 check e m l => check e m 0 - l
 check e --changes c m l => check e m 0 c l
 check --radius=0.5 e --changes=c m l => check e m 500000000 c l
@@ -102,9 +104,15 @@ check e m l --workers 1
 plan e m --planner=ARA
 plan e m --labels e
 plan e m --trace=m
+plan e m --incumbent e
+plan e m --changes c --incumbent=c
 plan e m --changes c --labels c
 plan --trace=c --changes=c e m
 plan e m --labels x --trace x
+plan e m --labels x --incumbent x
+plan e m --trace x --incumbent=x
+plan e m --labels i --trace x --incumbent i
+plan e m --incumbent x --incumbent y
 plan e m --labels x --labels y
 plan e m --labels-as 2
 plan e m --trace t --labels-as=1
@@ -120,6 +128,7 @@ check e m l --planner ara
 check e m l --planner=Back
 check e m l --planner back --planner back
 check e m l --labels x
+check e m l --incumbent x
 check e m l --changes=
 check e m l --changes c --changes c
 sweep e
@@ -183,7 +192,7 @@ fn said_of_plan(alloc: Global, job: &PlanJob) -> Result<String, Fail> {
     };
     let search = &job.search;
     Ok(format!(in alloc;
-        "plan {} {} {planner} {} {} {} {} {} {}{} {}",
+        "plan {} {} {planner} {} {} {} {} {} {}{} {} {}",
         from.as_str(),
         or_dash(&job.changes),
         search.workers,
@@ -193,7 +202,8 @@ fn said_of_plan(alloc: Global, job: &PlanJob) -> Result<String, Fail> {
         search.budget,
         or_dash(&job.outputs.labels),
         said_of_form(job.outputs.form),
-        or_dash(&job.outputs.trace)
+        or_dash(&job.outputs.trace),
+        or_dash(&job.outputs.incumbent)
     )?)
 }
 

@@ -4,6 +4,8 @@
 #[cfg(test)]
 mod hostile;
 #[cfg(test)]
+mod newest;
+#[cfg(test)]
 mod parallel;
 #[cfg(test)]
 mod runs;

@@ -1,8 +1,11 @@
 //! The program on small files, over a desk in memory.
 
+ghost use Rattle.std.specs.Prelude.{◌≡◌, []};
+
 use sample_files::{E1, F1, p16, realistic};
-use sbpl_cli::{Gate, NoGate, run};
+use sbpl_cli::{Gate, NoGate, run, run_with};
 use sbpl_desk::MemoryDesk;
+use sbpl_incumbent::{Board, Publisher};
 use std::alloc::Global;
 use std::process::Abort;
 use std::sync::Wait;
@@ -59,6 +62,23 @@ pub(crate) fn status_at<R: Threads + Wait + Sync, T: Gate + Sync>(
 ) -> Result<u8, Fail> {
     let words = words_of(alloc, words)?;
     Ok(run(rt, alloc, words.as_slice(), desk, gate))
+}
+
+/// The status of a run of these words, which publishes the paths that it finds on a board.
+pub(crate) fn status_with<R: Threads + Wait + Sync, T: Gate + Sync>(
+    rt: &R,
+    alloc: Global,
+    words: &[&str],
+    desk: &mut MemoryDesk,
+    gate: &T,
+    board: &Board,
+    publisher: &mut Publisher,
+) -> Result<u8, Fail>
+    requires board { publisher.old.board ≡ board.now }
+    requires none { publisher.old.published ≡ [] }
+{
+    let words = words_of(alloc, words)?;
+    Ok(run_with(rt, alloc, words.as_slice(), desk, gate, board, publisher))
 }
 
 fn words_of(alloc: Global, words: &[&str]) -> Result<Vec<String>, Fail> {

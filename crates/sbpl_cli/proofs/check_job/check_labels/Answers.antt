@@ -12,7 +12,7 @@ returns-clause-ends g c =
     let course = c.in_ok-lattice.course in
     let ends = c.check_text-status.ensures.ends in
     let case : Case = case_of w course c.ends_of-start.result.0 c.ends_of-start.result.1 c.args.job.now.back in
-    record {
+    λ log. record {
       intent = Checked (to_in case) ends.outcomes ends.end;
       gives = record {
         world = w;
@@ -34,6 +34,8 @@ returns-clause-ends g c =
       };
       ends = ends_since _ _ _ _ _ _ c.in_ok-lattice.ensures.frame.written c.in_ok-lattice.ensures.frame.writes ends.ends;
       others = λ name no. c.check_text-status.ensures.frame.others name no ∙ c.in_ok-lattice.ensures.frame.written name;
+      begins = tt;
+      published = refl;
     }
 
 pub returns-clause-frame : goal.returns-clause-frame

@@ -1,12 +1,13 @@
-use Rattle.std.proofs.Common.{[], ◌∷◌, List, Option, None, Err, length, refl, ap, subst, false, arith}
+use Rattle.std.proofs.Common.{◌≡◌, ℕ, ◌+◌, ◌∙◌, inl, [], ◌∷◌, List, Option, None, Err, length, refl, ap, subst, false, arith}
 use Rattle.sbpl_cfg.specs.declared.pose.Place.{Place}
 use Rattle.sbpl_cli.specs.declared.course.Course.{Course}
 use Rattle.sbpl_job.specs.declared.job.Job.TheVariants as job
 use Rattle.sbpl_job.specs.declared.job.Planner.TheVariants as planner
 use Rattle.sbpl_cli.specs.Asked.{known}
 use Rattle.sbpl_cli.specs.Intents.{Demonstrated, lines_writes}
-use Rattle.sbpl_cli.specs.Causes.{no_outputs}
-use Rattle.sbpl_cli.specs.Headline.{AreRecords, start_after}
+use Rattle.sbpl_cli.specs.Causes.{demo_search, no_outputs}
+use Rattle.sbpl_cli.specs.Headline.{AreRecords, IsBrokenIn, start_after}
+use Rattle.sbpl_cli.specs.Published.{with_paths, with_plans}
 use Rattle.sbpl_job.specs.declared.job.SearchJob.{SearchJob}
 use Rattle.sbpl_cli.proofs.Ends.{ended}
 use Rattle.sbpl_cli.proofs.Writings.{ends_as_after, status_ends}
@@ -15,7 +16,7 @@ use Rattle.sbpl_cli.proofs.Frames.{same_state, writes_on}
 
 pub returns-in-Err-clause-ends : goal.returns-in-Err-clause-ends
 returns-in-Err-clause-ends g c =
-    ended _ (g.D.Desk.state c.args.desk.now) _ (job.Demo c.args.job.now) (Demonstrated c.args.lattice.now (length c.args.course.now.batches) [] false) _ (
+    ended _ (g.D.Desk.state c.args.desk.now) _ _ _ (job.Demo c.args.job.now) (Demonstrated c.args.lattice.now (length c.args.course.now.batches) [] false c.args.publisher.now.published []) _ refl refl (
       c.args.course.now.batches,
       refl,
       record {
@@ -27,6 +28,8 @@ returns-in-Err-clause-ends g c =
           start_is = c.ends_of-start.ensures.start;
           goal_is = c.ends_of-start.ensures.goal;
           each = tt;
+          broken_in = inl refl;
+          none_broken = λ is. refl;
           few = omega arith;
           all_made = λ is. absurd (cc);
         };
@@ -39,7 +42,9 @@ returns-in-Err-clause-ends g c =
 pub returns-clause-ends : goal.returns-clause-ends
 returns-clause-ends g c =
     let e = c.plans_by_adstar.ensures.ends in
-    ended _ (g.D.Desk.state c.args.desk.now) _ (job.Demo c.args.job.now) (Demonstrated c.args.lattice.now (length c.args.course.now.batches) e.records e.all) _ (
+    let count : 0 + length e.records ≡ length e.records = omega arith in
+    ended _ (g.D.Desk.state c.args.desk.now) _ _ _ (job.Demo c.args.job.now) (Demonstrated c.args.lattice.now (length c.args.course.now.batches) e.records e.all c.args.publisher.now.published e.broken) _
+    refl (e.shown_is ∙ ap (λ (n : ℕ). with_paths (with_plans c.args.publisher.now.published e.records) n 0 e.broken) count) (
       c.args.course.now.batches,
       refl,
       record {
@@ -50,10 +55,14 @@ returns-clause-ends g c =
           goal = c.ends_of-start.result.1;
           start_is = c.ends_of-start.ensures.start;
           goal_is = c.ends_of-start.ensures.goal;
-          each = subst (λ (how : SearchJob). AreRecords (known planner.AdStar) c.args.lattice.now c.args.course.now.batches how no_outputs (λ k. c.ends_of-start.result.0) c.ends_of-start.result.1 0 None e.records) c.demo_search.ensures.search
-              (subst (λ (o : Option (List (Option Place))). AreRecords (known planner.AdStar) c.args.lattice.now c.args.course.now.batches c.demo_search.result no_outputs (start_after c.args.lattice.now.env c.ends_of-start.result.0 o) c.ends_of-start.result.1 0 None e.records) (ap (λ (x : Course). x.moves) c.requires.course) e.each);
-          few = let count = e.few in omega arith;
-          all_made = λ is. let count = e.all_made is in omega arith;
+          each = subst (λ (how : SearchJob). AreRecords (known planner.AdStar) c.args.lattice.now c.args.course.now.batches how no_outputs (λ k. c.ends_of-start.result.0) c.ends_of-start.result.1 0 c.args.publisher.now.published None e.records) c.demo_search.ensures.search
+              (subst (λ (o : Option (List (Option Place))). AreRecords (known planner.AdStar) c.args.lattice.now c.args.course.now.batches c.demo_search.result no_outputs (start_after c.args.lattice.now.env c.ends_of-start.result.0 o) c.ends_of-start.result.1 0 c.args.publisher.now.published None e.records) (ap (λ (x : Course). x.moves) c.requires.course) e.each);
+          broken_in = subst (λ (n : ℕ). IsBrokenIn (known planner.AdStar) c.args.lattice.now c.args.course.now.batches demo_search no_outputs (λ k. c.ends_of-start.result.0) c.ends_of-start.result.1 n e.broken) count
+              (subst (λ (how : SearchJob). IsBrokenIn (known planner.AdStar) c.args.lattice.now c.args.course.now.batches how no_outputs (λ k. c.ends_of-start.result.0) c.ends_of-start.result.1 (0 + length e.records) e.broken) c.demo_search.ensures.search
+              (subst (λ (o : Option (List (Option Place))). IsBrokenIn (known planner.AdStar) c.args.lattice.now c.args.course.now.batches c.demo_search.result no_outputs (start_after c.args.lattice.now.env c.ends_of-start.result.0 o) c.ends_of-start.result.1 (0 + length e.records) e.broken) (ap (λ (x : Course). x.moves) c.requires.course) e.broken_in));
+          none_broken = e.none_broken;
+          few = let made = e.few in omega arith;
+          all_made = λ is. let made = e.all_made is in omega arith;
         };
       },
     )

@@ -1,7 +1,10 @@
 use Rattle.sbpl_job.specs.declared.job.Job.TheVariants as job
 use Rattle.sbpl_cli.specs.Intents.{Planned}
 use Rattle.sbpl_cli.proofs.Ends.{ended}
-use Rattle.std.proofs.Common.{Bool, subst, arith}
+use Rattle.std.proofs.Common.{◌≡◌, ℕ, ◌+◌, ◌∙◌, Bool, length, refl, ap, subst, arith}
+use Rattle.sbpl_cli.specs.Asked.{known}
+use Rattle.sbpl_cli.specs.Headline.{IsBrokenIn, start_after}
+use Rattle.sbpl_cli.specs.Published.{with_paths, with_plans}
 use Rattle.sbpl_cli.specs.Causes.{ReadsCourse, scope_of}
 use Rattle.sbpl_cli.proofs.plan_job.end_plan.Goals as goal
 use Rattle.sbpl_cli.proofs.Frames.{writes_after}
@@ -9,7 +12,9 @@ use Rattle.sbpl_cli.proofs.Frames.{writes_after}
 pub returns-clause-ends : goal.returns-clause-ends
 returns-clause-ends g c =
     let e = c.make_plans-status.ensures.ends in
-    ended _ (g.D.Desk.state c.read_course.new.desk) _ (job.Plan c.args.job.now) (Planned e.records e.all) _
+    let count : 0 + length e.records ≡ length e.records = omega arith in
+    ended _ (g.D.Desk.state c.read_course.new.desk) _ _ _ (job.Plan c.args.job.now) (Planned e.records e.all c.args.publisher.now.published e.broken) _
+    refl (e.shown_is ∙ ap (λ (n : ℕ). with_paths (with_plans c.args.publisher.now.published e.records) n 0 e.broken) count)
     (record {
       world = c.in_ok-lattice.lattice;
       course = c.in_ok-lattice.course;
@@ -21,6 +26,8 @@ returns-clause-ends g c =
         start_is = c.ends_of-start.ensures.start;
         goal_is = c.ends_of-start.ensures.goal;
         each = e.each;
+        broken_in = subst (λ (n : ℕ). IsBrokenIn (known c.args.job.now.search.planner) c.in_ok-lattice.lattice c.in_ok-lattice.course.batches c.args.job.now.search c.args.job.now.outputs (start_after c.in_ok-lattice.lattice.env c.ends_of-start.result.0 c.in_ok-lattice.course.moves) c.ends_of-start.result.1 n e.broken) count e.broken_in;
+        none_broken = e.none_broken;
         few = let count = e.few in omega arith;
         all_made = λ is. let count = e.all_made is in omega arith;
       };

@@ -16,8 +16,12 @@ use Rattle.sbpl_plan.specs.Outcomes.{IsResultOf, IsTrueOutcome}
 use Rattle.sbpl_plan.specs.Asked.{most_passes}
 use Rattle.sbpl_plan.specs.Passing.{ArePasses, expansions, inquiry_of}
 use Rattle.sbpl_replan.specs.Directions.{Direction}
-use Rattle.sbpl_replan.specs.Replanning.{GoesBetween, Standing, StaysTheSame}
+use Rattle.sbpl_replan.specs.Replanning.{GoesBetween, Standing, StaysTheSame, inquiry}
 use Rattle.sbpl_cli.specs.Traces.{traced_pass}
+use Rattle.sbpl_plan.specs.declared.passes.Pass.{Pass}
+use Rattle.sbpl_cli.specs.declared.record.TraceLine.{TraceLine}
+use Rattle.sbpl_cli.specs.Published.{Entry, founds, with_paths, with_plan}
+use Rattle.sbpl_cli.proofs.Founds.{broken_by, first_of_all, founds_traced, none_published, on_err_is, stands_broken}
 use Rattle.sbpl_cli.proofs.SameRecords.{expansions_traced}
 use Rattle.sbpl_cli.specs.declared.record.PlanRecord.{PlanRecord}
 use Rattle.sbpl_cli.specs.Asked.{Known, ask_of}
@@ -97,8 +101,8 @@ section-requires-clause-found g c =
     let d = g.R.Replan.direction in
     let w = c.args.lattice.now in
     let made = c.in_ok-planned.ensures.planned in
-    let labels = (g.R.Replan.standing c.plan.new.self).search.labels in
-    subst (λ (h : ℕ → ℕ). IsResultOf (d.network w) h (d.to c.args.start c.args.goal) labels c.in_ok-planned.planned.outcome) (sym c.plan.ensures.guide)
+    let labels = (g.R.Replan.standing c.plan_on.new.replanner).search.labels in
+    subst (λ (h : ℕ → ℕ). IsResultOf (d.network w) h (d.to c.args.start c.args.goal) labels c.in_ok-planned.planned.outcome) (sym c.plan_on.ensures.guide)
     (subst (λ (t : ℕ). IsResultOf (d.network w) (g.R.Replan.guide c.args.replanner.now w) t labels c.in_ok-planned.planned.outcome) c.requires.set.between.to made.outcome)
 
 pub record_of-requires-clause-so : goal.record_of-requires-clause-so
@@ -120,7 +124,7 @@ returns-clause-searched g c = λ before goes.
     let made = c.in_ok-planned.ensures.planned in
     let within = c.in_ok-planned.ensures.within in
     let old = g.R.Replan.standing c.args.replanner.now in
-    let new = g.R.Replan.standing c.plan.new.self in
+    let new = g.R.Replan.standing c.plan_on.new.replanner in
     let guide = g.R.Replan.guide c.args.replanner.now w in
     let to = d.to c.args.start c.args.goal in
     let rises : new.counts.run ≡ old.counts.run + expansions planned.passes = ap (λ (k : Counts). k.run) made.leaves.counted in
@@ -135,7 +139,7 @@ returns-clause-searched g c = λ before goes.
     set.budget_is run used (λ is. in_run old.counts.run rises (within.used_up is)) within.of_plan c.in_ok-planned.ensures.run made.few
     (λ is ample. made.enough is (omega (arith, ample, set.budget_is)))
     c.is_some.ensures
-    (subst (λ (h : ℕ → ℕ). IsThere c.is_some.result (IsShown c.args.outputs.now.form (d.network w) h (d.from c.args.start c.args.goal) to c.args.plan new.search.labels planned.outcome) c.in_ok-labels.labels) c.plan.ensures.guide c.in_ok-labels.ensures.shown)
+    (subst (λ (h : ℕ → ℕ). IsThere c.is_some.result (IsShown c.args.outputs.now.form (d.network w) h (d.from c.args.start c.args.goal) to c.args.plan new.search.labels planned.outcome) c.in_ok-labels.labels) c.plan_on.ensures.guide c.in_ok-labels.ensures.shown)
     c.record_of.ensures.number c.record_of.ensures.passes c.record_of.ensures.expanded c.record_of.ensures.told c.record_of.ensures.labels
     (subst (λ (l : List ℕ). IfOk c.record_of.result (λ x. x.raised ≡ l)) (c.in_ok-raised.ensures.told ∙ ap (λ (l : List ℕ). if c.ask_of-ask.result.traced then l else []) c.raised.ensures.value) c.record_of.ensures.raised)
     c.record_of.ensures.marked
@@ -174,3 +178,74 @@ returns-in_err-raised-clause-searched g c = λ before goes. no_value _ c.from_re
 
 pub returns-in_err-labels-clause-searched : goal.returns-in_err-labels-clause-searched
 returns-in_err-labels-clause-searched g c = λ before goes. no_value _ c.from_residual-in_err-labels.result c.from_residual-in_err-labels.ensures.0
+
+-- ---- what was published
+
+shown_by : {Note : Type 0} (line : Note → TraceLine) (log shown : List Entry) (plan : ℕ) (ps : List (Pass Note)) (x : PlanRecord) → x.plan ≡ plan → x.passes ≡ map (traced_pass line) ps → shown ≡ with_paths log plan 0 (founds ps) → shown ≡ with_plan log x
+shown_by line log shown plan ps x number passes is = is ∙ sym (λ i. with_paths log (number i) 0 ((ap founds passes ∙ founds_traced line ps) i))
+
+if_shown : {Note E : Type 0} (line : Note → TraceLine) (log shown : List Entry) (plan : ℕ) (ps : List (Pass Note)) (r : Result PlanRecord E) → IfOk r (λ x. x.plan ≡ plan) → IfOk r (λ x. x.passes ≡ map (traced_pass line) ps) → shown ≡ with_paths log plan 0 (founds ps) → IfOk r (λ x. shown ≡ with_plan log x)
+if_shown line log shown plan ps (Ok x) number passes is = shown_by line log shown plan ps x number passes is
+if_shown line log shown plan ps (Err e) number passes is = tt
+
+pub returns-clause-shown : goal.returns-clause-shown
+returns-clause-shown g c =
+    if_shown g.R.Note.Traced.line _ _ _ _ c.record_of.result c.record_of.ensures.number c.record_of.ensures.passes (ap (λ p. p.published) c.newest_on.ensures.same ∙ c.in_ok-planned.ensures.shown)
+
+pub returns-in_err-raised-clause-broken : goal.returns-in_err-raised-clause-broken
+returns-in_err-raised-clause-broken g c = λ before goes. on_err_is _ c.from_residual.result (none_published _ _ (λ s. 0) _ _ _ _ _ _ _ _ refl)
+
+pub returns-in_err-planned-clause-broken : goal.returns-in_err-planned-clause-broken
+returns-in_err-planned-clause-broken g c = λ before goes.
+    let d = g.R.Replan.direction in
+    let w = c.args.lattice.now in
+    let by : Known = record { Note = g.row.R-Note.Denot; means = g.R.Replan.meaning; line = g.R.Note.Traced.line; direction = d } in
+    let guide = g.R.Replan.guide c.args.replanner.now w in
+    on_err_is _ c.from_residual-in_err-planned.result
+    (stands_broken by w guide c.args.start c.args.goal c.args.plan c.args.how.now c.args.outputs.now _ _ before _ (g.R.Replan.standing c.args.replanner.now) (g.R.Replan.standing c.plan_on.new.replanner) c.ask_of-ask.result
+    (g.met.R.Replan.guided c.args.replanner.now w c.args.start c.args.goal c.requires.ready c.requires.set.between) goes.begins c.ask_of-ask.ensures.ask c.requires.set.between.to c.in_err-planned.ensures.memory)
+
+pub returns-in_err-incumbent-clause-broken : goal.returns-in_err-incumbent-clause-broken
+returns-in_err-incumbent-clause-broken g c = λ before goes.
+    let by : Known = record { Note = g.row.R-Note.Denot; means = g.R.Replan.meaning; line = g.R.Note.Traced.line; direction = g.R.Replan.direction } in
+    let w = c.args.lattice.now in
+    let guide = g.R.Replan.guide c.args.replanner.now w in
+    let old = g.R.Replan.standing c.args.replanner.now in
+    let ask = c.ask_of-ask.result in
+    let planned = c.in_ok-planned.planned in
+    let left = (g.R.Replan.standing c.plan_on.new.replanner).search.labels in
+    on_err_is _ c.from_residual-in_err-incumbent.result
+    (broken_by by w guide c.args.start c.args.goal c.args.plan c.args.how.now c.args.outputs.now _ _ before old ask left planned.passes
+    (g.met.R.Replan.guided c.args.replanner.now w c.args.start c.args.goal c.requires.ready c.requires.set.between) goes.begins c.ask_of-ask.ensures.ask c.requires.set.between.to
+    (first_of_all by.means (inquiry by.direction w guide old ask) planned.passes ask.first old.search.labels left planned.spent c.in_ok-planned.ensures.planned.passes)
+    (ap (λ p. p.published) c.newest_on.ensures.same ∙ c.in_ok-planned.ensures.shown))
+
+pub returns-in_err-labels-clause-broken : goal.returns-in_err-labels-clause-broken
+returns-in_err-labels-clause-broken g c = λ before goes.
+    let by : Known = record { Note = g.row.R-Note.Denot; means = g.R.Replan.meaning; line = g.R.Note.Traced.line; direction = g.R.Replan.direction } in
+    let w = c.args.lattice.now in
+    let guide = g.R.Replan.guide c.args.replanner.now w in
+    let old = g.R.Replan.standing c.args.replanner.now in
+    let ask = c.ask_of-ask.result in
+    let planned = c.in_ok-planned.planned in
+    let left = (g.R.Replan.standing c.plan_on.new.replanner).search.labels in
+    on_err_is _ c.from_residual-in_err-labels.result
+    (broken_by by w guide c.args.start c.args.goal c.args.plan c.args.how.now c.args.outputs.now _ _ before old ask left planned.passes
+    (g.met.R.Replan.guided c.args.replanner.now w c.args.start c.args.goal c.requires.ready c.requires.set.between) goes.begins c.ask_of-ask.ensures.ask c.requires.set.between.to
+    (first_of_all by.means (inquiry by.direction w guide old ask) planned.passes ask.first old.search.labels left planned.spent c.in_ok-planned.ensures.planned.passes)
+    (ap (λ p. p.published) c.newest_on.ensures.same ∙ c.in_ok-planned.ensures.shown))
+
+pub returns-clause-broken : goal.returns-clause-broken
+returns-clause-broken g c = λ before goes.
+    let by : Known = record { Note = g.row.R-Note.Denot; means = g.R.Replan.meaning; line = g.R.Note.Traced.line; direction = g.R.Replan.direction } in
+    let w = c.args.lattice.now in
+    let guide = g.R.Replan.guide c.args.replanner.now w in
+    let old = g.R.Replan.standing c.args.replanner.now in
+    let ask = c.ask_of-ask.result in
+    let planned = c.in_ok-planned.planned in
+    let left = (g.R.Replan.standing c.plan_on.new.replanner).search.labels in
+    on_err_is _ c.record_of.result
+    (broken_by by w guide c.args.start c.args.goal c.args.plan c.args.how.now c.args.outputs.now _ _ before old ask left planned.passes
+    (g.met.R.Replan.guided c.args.replanner.now w c.args.start c.args.goal c.requires.ready c.requires.set.between) goes.begins c.ask_of-ask.ensures.ask c.requires.set.between.to
+    (first_of_all by.means (inquiry by.direction w guide old ask) planned.passes ask.first old.search.labels left planned.spent c.in_ok-planned.ensures.planned.passes)
+    (ap (λ p. p.published) c.newest_on.ensures.same ∙ c.in_ok-planned.ensures.shown))

@@ -1,4 +1,4 @@
-use Rattle.std.proofs.Common.{◌≡◌, ◌<◌, ℕ, length, Option, sym, subst, ap, ◌∙◌, arith}
+use Rattle.std.proofs.Common.{◌≡◌, ◌<◌, ℕ, length, Option, refl, sym, subst, ap, ◌∙◌, arith}
 use Rattle.sbpl_cfg.specs.Environment.{Environment}
 use Rattle.sbpl_cfg.specs.declared.pose.Place.{Place}
 use Rattle.sbpl_cost.specs.World.{World}
@@ -13,23 +13,25 @@ use Rattle.sbpl_cli.proofs.Frames.{nothing_done, writes_more, writes_on}
 
 pub loop-k-init : goal.loop-k-init
 loop-k-init g c = record {
-  going = sets_out _ _ _ _ _ _ _ _ _ _ _ (c.writes_lead_to_the_next_map.ensures.first c.args.lattice.now.map c.args.course.now.batches) c.requires.kept (sym (start_first c.args.lattice.now.env c.args.start c.args.course.now.moves)) c.requires.set c.requires.begun;
+  going = sets_out _ _ _ _ _ _ _ _ _ _ _ _ (c.writes_lead_to_the_next_map.ensures.first c.args.lattice.now.map c.args.course.now.batches) c.requires.kept (sym (start_first c.args.lattice.now.env c.args.start c.args.course.now.moves)) c.requires.set c.requires.begun;
   ready = c.requires.ready;
   inside = c.requires.start;
   frame = nothing_done _ _;
+  board = refl;
+  grown = omega arith;
 }
 
 pub make_plan-requires-clause-goal : goal.make_plan-requires-clause-goal
 make_plan-requires-clause-goal g c = subst (λ (n : ℕ). c.args.goal < n) (same_states _ _ c.loop-k.invariant.going.same) c.requires.goal
 
 pub returns-in-Err-clause-ends : goal.returns-in-Err-clause-ends
-returns-in-Err-clause-ends g c = stops _ _ _ _ _ _ _ _ _ _ _ _ (g.R.Replan.standing c.make_plan.new.replanner) _ _ _ c.loop-k.invariant.going _ c.in-Err.stop c.in-Err.ensures.ends c.status_after.ensures.status
+returns-in-Err-clause-ends g c = stops _ _ _ _ _ _ _ _ _ _ _ _ _ _ _ (g.R.Replan.standing c.make_plan.new.replanner) _ _ _ c.loop-k.invariant.going _ c.in-Err.stop c.in-Err.ensures.ends c.status_after.ensures.status
 
 pub change-requires-clause-on_map : goal.change-requires-clause-on_map
 change-requires-clause-on_map g c = batch_on_map _ _ _ _ _ c.requires.course.on_map c.batch.ensures.writes c.loop-k.invariant.going.after.width c.loop-k.invariant.going.after.height
 
 pub returns-in-Err-change-clause-ends : goal.returns-in-Err-change-clause-ends
-returns-in-Err-change-clause-ends g c = tells_no_more _ _ _ _ _ _ _ _ _ _ _ _ (g.R.Replan.standing c.make_plan.new.replanner) _ _ _ c.loop-k.invariant.going c.in_default.ensures.ends c.make_plan.ensures.frame.writes
+returns-in-Err-change-clause-ends g c = tells_no_more _ _ _ _ _ _ _ _ _ _ _ _ _ _ _ (g.R.Replan.standing c.make_plan.new.replanner) _ _ _ c.loop-k.invariant.going c.in_default.ensures.ends c.make_plan.ensures.frame.writes
 
 pub start_at-start-requires-clause-place : goal.start_at-start-requires-clause-place
 start_at-start-requires-clause-place g c =
@@ -60,23 +62,25 @@ loop-k-preserved g c =
     let here : k < length course.batches = (let test = c.loop-k-test.true in let count = c.batches-k-end.ensures.value in omega arith) in
     let next = next_is w.env now.env c.args.start course.moves k c.loop-k.start c.start_at-start.result c.place.result (within w course.batches course.moves k c.requires.course.moves here) (sym going.start_is) env c.place.ensures.place c.start_at-start.ensures.state in
     record {
-      going = changes _ _ _ _ _ _ _ _ _ _ _ _ (g.R.Replan.standing c.make_plan.new.replanner) _ _ _ going now c.start_at-start.result (g.R.Replan.standing c.change.new.self) (g.R.Replan.standing c.follow.new.self) c.batch.result.now c.writes_lead_to_the_next_map.ensures.next c.in_default.ensures.ends c.make_plan.ensures.frame.writes c.in_default.ensures.set c.batch.ensures.writes
+      going = changes _ _ _ _ _ _ _ _ _ _ _ _ _ _ _ (g.R.Replan.standing c.make_plan.new.replanner) _ _ _ going now c.start_at-start.result (g.R.Replan.standing c.change.new.self) (g.R.Replan.standing c.follow.new.self) c.batch.result.now c.writes_lead_to_the_next_map.ensures.next c.in_default.ensures.ends c.make_plan.ensures.frame.writes c.in_default.ensures.set c.batch.ensures.writes
           c.in_default-change.ensures.written c.change.ensures.others c.change.ensures.kept c.in_default-change.ensures.begun c.in_default-change.ensures.same c.change.ensures.counts
           (sym next) (λ still. stays_put now.env course.moves k c.loop-k.start c.start_at-start.result c.place.result (c.requires.course.stays still) c.place.ensures.place c.start_at-start.ensures.state) c.follow.ensures.follows;
       ready = c.follow.ensures.ready _ c.in_default-change.ensures.ready;
       inside = c.start_at-start.ensures.inside;
       frame = writes_on _ _ _ _ c.loop-k.invariant.frame c.make_plan.ensures.frame;
+      board = c.make_plan.ensures.board ∙ c.loop-k.invariant.board;
+      grown = let was = c.loop-k.invariant.grown in let more = c.make_plan.ensures.grown in omega arith;
     }
 
 pub make_plan-requires-2-clause-goal : goal.make_plan-requires-2-clause-goal
 make_plan-requires-2-clause-goal g c = subst (λ (n : ℕ). c.args.goal < n) (same_states _ _ c.loop-k.invariant.going.same) c.requires.goal
 
 pub returns-in-Ok-clause-ends : goal.returns-in-Ok-clause-ends
-returns-in-Ok-clause-ends g c = tells_last _ _ _ _ _ _ _ _ _ c.batches-last.result _ _ (g.R.Replan.standing c.make_plan-2.new.replanner) _ _ _ (at_last _ _ _ _ _ _ _ _ _ _ _ _ _ _ _ (omega (arith, c.loop-k-test.false, c.loop-k.auto.k-end, c.batches-k-end.ensures.value, c.batches-last.ensures.value)) c.loop-k.invariant.going) _ _ c.in-Ok.ensures.ends c.make_plan-2.ensures.frame.writes c.batches-last.ensures.value
+returns-in-Ok-clause-ends g c = tells_last _ _ _ _ _ _ _ _ _ c.batches-last.result _ _ _ _ _ (g.R.Replan.standing c.make_plan-2.new.replanner) _ _ _ (at_last _ _ _ _ _ _ _ _ _ _ _ _ _ _ _ _ _ (omega (arith, c.loop-k-test.false, c.loop-k.auto.k-end, c.batches-k-end.ensures.value, c.batches-last.ensures.value)) c.loop-k.invariant.going) _ _ c.in-Ok.ensures.ends c.make_plan-2.ensures.frame.writes c.batches-last.ensures.value
     (status_ends _ _ _ _ _ _ c.write_last.ensures.ends c.status_after-in-Ok.ensures.status)
 
 pub returns-in-Ok-clause-frame : goal.returns-in-Ok-clause-frame
 returns-in-Ok-clause-frame g c = writes_on _ _ _ _ (writes_on _ _ _ _ c.loop-k.invariant.frame c.make_plan-2.ensures.frame) (writes_more _ _ _ _ (g.T.Telling.output c.args.telling.now) c.write_last.ensures.frame)
 
 pub returns-in-Err-make_plan-clause-ends : goal.returns-in-Err-make_plan-clause-ends
-returns-in-Err-make_plan-clause-ends g c = stops _ _ _ _ _ _ _ _ _ c.batches-last.result _ _ (g.R.Replan.standing c.make_plan-2.new.replanner) _ _ _ (at_last _ _ _ _ _ _ _ _ _ _ _ _ _ _ _ (omega (arith, c.loop-k-test.false, c.loop-k.auto.k-end, c.batches-k-end.ensures.value, c.batches-last.ensures.value)) c.loop-k.invariant.going) _ c.in-Err-make_plan.stop c.in-Err-make_plan.ensures.ends c.status_after-in-Err-make_plan.ensures.status
+returns-in-Err-make_plan-clause-ends g c = stops _ _ _ _ _ _ _ _ _ c.batches-last.result _ _ _ _ _ (g.R.Replan.standing c.make_plan-2.new.replanner) _ _ _ (at_last _ _ _ _ _ _ _ _ _ _ _ _ _ _ _ _ _ (omega (arith, c.loop-k-test.false, c.loop-k.auto.k-end, c.batches-k-end.ensures.value, c.batches-last.ensures.value)) c.loop-k.invariant.going) _ c.in-Err-make_plan.stop c.in-Err-make_plan.ensures.ends c.status_after-in-Err-make_plan.ensures.status

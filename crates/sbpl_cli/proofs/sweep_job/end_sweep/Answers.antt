@@ -1,3 +1,4 @@
+use Rattle.std.proofs.Common.{refl}
 use Rattle.sbpl_job.specs.declared.job.Job.TheVariants as job
 use Rattle.sbpl_cli.specs.Intents.{Listed}
 use Rattle.sbpl_cli.proofs.Ends.{ended}
@@ -6,8 +7,8 @@ use Rattle.sbpl_cli.proofs.sweep_job.end_sweep.Goals as goal
 use Rattle.sbpl_cli.proofs.Frames.{writes_after}
 
 pub returns-in-Ok-clause-ends : goal.returns-in-Ok-clause-ends
-returns-in-Ok-clause-ends g c =
-    ended _ (g.D.Desk.state c.read_lattice.new.desk) _ (job.Sweep c.args.from.now) (Listed c.in-Ok.lattice) _ (c.in-Ok.ensures.says, c.in-Ok.ensures.kept) c.read_lattice.ensures.frame
+returns-in-Ok-clause-ends g c = λ log.
+    ended _ (g.D.Desk.state c.read_lattice.new.desk) _ log log (job.Sweep c.args.from.now) (Listed c.in-Ok.lattice) _ tt refl (c.in-Ok.ensures.says, c.in-Ok.ensures.kept) c.read_lattice.ensures.frame
     (status_ends _ _ _ _ _ _ c.write_listings.ensures.ends c.status_after-status.ensures.status) c.write_listings.ensures.frame.others
 
 pub returns-in-Ok-clause-frame : goal.returns-in-Ok-clause-frame

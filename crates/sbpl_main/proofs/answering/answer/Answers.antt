@@ -55,7 +55,7 @@ pub returns-in-None-clause-run : goal.returns-in-None-clause-run
 returns-in-None-clause-run g c = λ _. c.run-status.ensures.promises
 
 pub returns-in-None-clause-statuses : goal.returns-in-None-clause-statuses
-returns-in-None-clause-statuses g c = c.run-status.ensures.promises.statuses
+returns-in-None-clause-statuses g c = c.run-status.ensures.promises.1.statuses
 
 pub returns-in-None-clause-quiet : goal.returns-in-None-clause-quiet
 returns-in-None-clause-quiet g c = c.explain.ensures.quiet
