@@ -30,27 +30,33 @@ fn told<R: Wait>(
 /// The greatest bound, in thousandths, takes both of its words.
 const BOUND: u128 = (1 << 100) - 1;
 
-#[test]
-fn the_newest_is_read(rt: HostRuntime) -> Result<(), Fail> {
-    let (board, mut publisher) = Board::new(rt.alloc())?;
-    assert_eq!(rt; told(&rt, &board, &mut publisher)?, None);
-    board.publish(&rt, &mut publisher, 7, 0, 120, 1200);
-    let first = Entry {
+/// What is read before a path is published, after one, and after another.
+const FOUND: [Result<Option<Entry>, NoMemory>; 3] = [
+    Ok(None),
+    Ok(Some(Entry {
         number: 1,
         plan: 7,
         pass: 0,
         cost: 120,
         bound: 1200,
-    };
-    assert_eq!(rt; told(&rt, &board, &mut publisher)?, Some(first));
-    board.publish(&rt, &mut publisher, 7, 3, 1 << 40, BOUND);
-    let second = Entry {
+    })),
+    Ok(Some(Entry {
         number: 2,
         plan: 7,
         pass: 3,
         cost: 1 << 40,
         bound: BOUND,
-    };
-    assert_eq!(rt; told(&rt, &board, &mut publisher)?, Some(second));
+    })),
+];
+
+#[test]
+fn the_newest_is_read(rt: HostRuntime) -> Result<(), Fail> {
+    let (board, mut publisher) = Board::new(rt.alloc())?;
+    let none = told(&rt, &board, &mut publisher);
+    board.publish(&rt, &mut publisher, 7, 0, 120, 1200);
+    let first = told(&rt, &board, &mut publisher);
+    board.publish(&rt, &mut publisher, 7, 3, 1 << 40, BOUND);
+    let second = told(&rt, &board, &mut publisher);
+    assert!(rt; [none, first, second] == FOUND);
     Ok(())
 }

@@ -38,8 +38,9 @@ fn a_locked_reader_reads(rt: HostRuntime) -> Result<(), Fail> {
         reader,
     };
     let lock = Mutex::new(watch);
-    assert_eq!(rt; number(&rt, &lock), 0);
+    let before = number(&rt, &lock);
     board.publish(&rt, &mut publisher, 0, 0, 120, 1200);
-    assert_eq!(rt; number(&rt, &lock), 1);
+    let after = number(&rt, &lock);
+    assert!(rt; before == 0 && after == 1);
     Ok(())
 }

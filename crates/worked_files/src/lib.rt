@@ -3,16 +3,12 @@
 #![tactic(auto)]
 
 #[cfg(test)]
-mod cfg;
-#[cfg(test)]
 mod desk;
+#[cfg(test)]
+mod files;
 #[cfg(test)]
 mod fixed;
 #[cfg(test)]
 mod job;
 #[cfg(test)]
-mod list;
-#[cfg(test)]
 mod message;
-#[cfg(test)]
-mod mprim;
