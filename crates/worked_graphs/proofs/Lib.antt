@@ -1,3 +1,2 @@
-pub mod ListedTails
 pub mod SampleTails
 pub mod Touching

@@ -1,4 +1,4 @@
--- A graph of six states with a guide.
+-- A graph of a few states with a guide.
 use Rattle.std.specs.Prelude.{◌≡◌, ℕ, ◌+◌, ◌-◌, ◌*◌, ◌/◌, ◌%◌, ◌≤◌, ◌&&◌, ◌==◌, min, max, nat_lt, if◌then◌else◌, Some, None, List, slice_index, slice_index_or}
 use Rattle.std.proofs.Common.{arith}
 use Rattle.std.proofs.lemmas.Bool.Decides.{nat_tests}
@@ -13,33 +13,41 @@ height heights s = min (slice_index heights s) 1000
 abbrev pub arc_at : List (ℕ × ℕ) → ℕ → ℕ → ℕ × ℕ
 arc_at arcs s k = slice_index_or arcs (2 * s + k) (6, 0)
 
--- two arcs a state; one with a head of 6 or more leads off the map, one of cost 0 is not free, and none costs less than the height falls
-abbrev pub sample : List (ℕ × ℕ) → List ℕ → Network
-sample arcs heights = record {
-  states = 6;
+-- this many states with two arcs each; one whose head is no state leads off the map, one of cost 0 is not free, and none costs less than the height falls
+abbrev pub counted : ℕ → List (ℕ × ℕ) → List ℕ → Network
+counted count arcs heights = record {
+  states = count;
   fan = λ _. 2;
-  head = λ s k. if nat_lt (arc_at arcs s k).0 6 then Some (arc_at arcs s k).0 else None;
+  head = λ s k. if nat_lt (arc_at arcs s k).0 count then Some (arc_at arcs s k).0 else None;
   cost = λ s k.
-      if nat_lt (arc_at arcs s k).0 6 && nat_lt 0 (arc_at arcs s k).1
+      if nat_lt (arc_at arcs s k).0 count && nat_lt 0 (arc_at arcs s k).1
       then Some (max (min (arc_at arcs s k).1 1000) (height heights s - height heights (arc_at arcs s k).0)) else None;
-  tail_fan = λ _. 12;
+  tail_fan = λ _. 2 * count;
   tail = λ t j. if (slice_index_or arcs j (6, 0)).0 == t then Some (j / 2, j % 2) else None;
   gap = λ _ _. 0;
 }
 
+-- how many states there are up to the last, which is state 5 at most
+abbrev pub count_of : ℕ → ℕ
+count_of last = min last 5 + 1
+
+-- the states up to this last one
+abbrev pub sample : ℕ → List (ℕ × ℕ) → List ℕ → Network
+sample last arcs heights = counted (count_of last) arcs heights
+
 -- the fall of the height along an arc is at most the arc's cost
-along_sample : (head cost from : ℕ) (height_of : ℕ → ℕ) (t c : ℕ) → (if nat_lt head 6 then Some head else None) ≡ Some t
-    → (if nat_lt head 6 && nat_lt 0 cost then Some (max (min cost 1000) (from - height_of head)) else None) ≡ Some c
+along_sample : (count head cost from : ℕ) (height_of : ℕ → ℕ) (t c : ℕ) → (if nat_lt head count then Some head else None) ≡ Some t
+    → (if nat_lt head count && nat_lt 0 cost then Some (max (min cost 1000) (from - height_of head)) else None) ≡ Some c
     → from ≤ c + height_of t
-along_sample head cost from height_of t c is_head is_cost = grind (arith, nat_tests)
+along_sample count head cost from height_of t c is_head is_cost = grind (arith, nat_tests)
 
 -- the heights are a guide to a goal of height 0
-pub sample_is_consistent : (arcs : List (ℕ × ℕ)) (heights : List ℕ) (n : Network) (goal : ℕ) → n ≡ sample arcs heights
+pub sample_is_consistent : (last : ℕ) (arcs : List (ℕ × ℕ)) (heights : List ℕ) (n : Network) (goal : ℕ) → n ≡ sample last arcs heights
     → height heights goal ≡ 0 → IsConsistent n goal (height heights)
-sample_is_consistent arcs heights n goal same low =
-    let heights_are : IsConsistent (sample arcs heights) goal (height heights) = record {
+sample_is_consistent last arcs heights n goal same low =
+    let heights_are : IsConsistent (sample last arcs heights) goal (height heights) = record {
       at_goal = low;
       along = λ s k t c arc.
-          along_sample (arc_at arcs s k).0 (arc_at arcs s k).1 (height heights s) (height heights) t c arc.head arc.cost;
+          along_sample (count_of last) (arc_at arcs s k).0 (arc_at arcs s k).1 (height heights s) (height heights) t c arc.head arc.cost;
     } in
     rw same heights_are

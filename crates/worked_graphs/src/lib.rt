@@ -9,12 +9,14 @@ mod ara;
 #[cfg(test)]
 mod cert;
 #[cfg(test)]
-mod graph;
+mod epase;
 #[cfg(test)]
 mod labels;
-#[cfg(test)]
-mod listed;
 #[cfg(test)]
 mod open;
 #[cfg(test)]
 mod plan;
+#[cfg(test)]
+mod table;
+#[cfg(test)]
+mod texts;

@@ -1,18 +1,18 @@
-//! Plans on a graph of three states.
+//! Plans on graphs of three states.
 
-ghost use Rattle.std.specs.Prelude.{◌≡◌, ◌<◌, IfSome};
+ghost use Rattle.std.specs.Prelude.{◌≡◌, IsTrue};
 ghost use Rattle.sbpl_graph.specs.Fit.{FitCount};
 ghost use Rattle.sbpl_labels.specs.Marks.{states_of, g_of, v_of};
 ghost use Rattle.sbpl_search.specs.Ready.{IsStartFresh};
 
-use crate::listed::Listed;
+use crate::table::{Table, row};
+use crate::texts::reads;
 use sbpl_adstar::AdStar;
-use sbpl_ara::{Ara, Step};
+use sbpl_ara::Ara;
 use sbpl_graph::{Graph, Zero};
 use sbpl_labels::Budget;
-use sbpl_plan::{Ask, Found, Nobody, Outcome, Planned, plan};
+use sbpl_plan::{Ask, Nobody, plan};
 use std::alloc::Global;
-use std::process::Abort;
 use std::test::Fail;
 
 /// What is asked of each plan.
@@ -23,227 +23,80 @@ const ASK: Ask = Ask {
     traced: true,
 };
 
-/// A way over state 1 that costs one more than its first arc, which is blocked where it has no cost.
-fn way(first: Option<u32>) -> Listed
-    requires cost { IfSome first (λ cost. 0 < cost) }
-{
-    Listed {
-        arcs: [first.map(|cost| (1, cost)), Some((2, 1)), None],
-    }
-}
+/// The first plan expands both states on the way.
+const CHEAP_PLAN: &str =
+    "Planned { passes: ListOf { items: [Pass { inflation: 3000, expanded: 2, found: Path { cost: 6, bound: 1000 }, trace: ListOf { items: [Step { state: 0, raised: false }, Step { state: 1, raised: false }] } }] }, spent: false, outcome: Path(FoundPath { arcs: ListOf { items: [0, 0] }, cost: 6, bound: 1000 }) }";
 
-/// A plan from state 0 to this goal, and the search that made it.
-fn planned(
-    alloc: Global,
-    graph: &Listed,
-    goal: u32,
-    budget: &mut Budget,
-) -> Option<(Planned<Step>, AdStar)>
-    requires goal { goal < 3 }
-    ensures states { IfSome result (λ r. states_of r.1.labels ≡ 3) }
-    ensures start { IfSome result (λ r. r.1.labels.start ≡ 0) }
-    ensures goal { IfSome result (λ r. r.1.goal ≡ goal) }
-    ensures fits { IfSome result (λ r. FitCount 3 (g_of r.1.labels) (v_of r.1.labels) budget.new.run) }
-    ensures fresh { IfSome result (λ r. IsStartFresh r.1.labels) }
-{
-    let _states = graph.states();
-    let Ok(mut ara) = Ara::open(alloc, 3, 0, goal) else {
-        return None;
-    };
-    let planned = plan(
-        alloc,
-        graph,
-        &Zero,
-        &mut ara,
-        goal,
-        &ASK,
-        budget,
-        &mut Nobody,
-    )
-    .ok()?;
-    Some((planned, AdStar::from(ara)))
-}
+/// Where the first arc is dearer, the state behind it is raised and then lowered again.
+const DEAR_PLAN: &str =
+    "Planned { passes: ListOf { items: [Pass { inflation: 3000, expanded: 2, found: Path { cost: 8, bound: 1000 }, trace: ListOf { items: [Step { state: 1, raised: true }, Step { state: 1, raised: false }] } }] }, spent: false, outcome: Path(FoundPath { arcs: ListOf { items: [0, 0] }, cost: 8, bound: 1000 }) }";
 
-/// A plan to state 2 from labels that are repaired for this graph.
-fn replanned(
+/// Where it is blocked and the budget is spent, no state can be raised, and nothing is known: a break in the way is not taken
+/// for the lack of one.
+const BROKEN_PLAN: &str =
+    "Planned { passes: ListOf { items: [Pass { inflation: 3000, expanded: 0, found: Broken, trace: ListOf { items: [] } }] }, spent: true, outcome: Unknown }";
+
+/// With the budget of the next plan it is raised, and there is no path.
+const NO_PLAN: &str =
+    "Planned { passes: ListOf { items: [Pass { inflation: 3000, expanded: 1, found: None, trace: ListOf { items: [Step { state: 1, raised: true }] } }] }, spent: false, outcome: NoPath }";
+
+/// Whether a plan to state 2 from labels that are repaired for this graph is as this text has it.
+fn replans(
     alloc: Global,
-    graph: &Listed,
+    graph: &Table,
     search: &mut AdStar,
     budget: &mut Budget,
-) -> Option<Planned<Step>>
+    want: &str,
+) -> bool
+    requires three { graph.now.last ≡ 2 }
     requires states { states_of search.old.labels ≡ 3 }
     requires start { search.old.labels.start ≡ 0 }
     requires goal { search.old.goal ≡ 2 }
     requires fits { FitCount 3 (g_of search.old.labels) (v_of search.old.labels) budget.old.run }
     requires fresh { IsStartFresh search.old.labels }
-    ensures states { IfSome result (λ _. states_of search.new.labels ≡ 3) }
-    ensures start { IfSome result (λ _. search.new.labels.start ≡ 0) }
-    ensures goal { IfSome result (λ _. search.new.goal ≡ 2) }
-    ensures fits { IfSome result (λ _. FitCount 3 (g_of search.new.labels) (v_of search.new.labels) budget.new.run) }
-    ensures fresh { IfSome result (λ _. IsStartFresh search.new.labels) }
+    ensures states { IsTrue result → states_of search.new.labels ≡ 3 }
+    ensures start { IsTrue result → search.new.labels.start ≡ 0 }
+    ensures goal { IsTrue result → search.new.goal ≡ 2 }
+    ensures fits { IsTrue result → FitCount 3 (g_of search.new.labels) (v_of search.new.labels) budget.new.run }
+    ensures fresh { IsTrue result → IsStartFresh search.new.labels }
 {
     let _used = budget.used();
     let _states = graph.states();
     search.change(graph, [1, 2].as_slice());
-    plan(alloc, graph, &Zero, search, 2, &ASK, budget, &mut Nobody).ok()
-}
-
-/// A plan from state 0 to this goal.
-fn planned_alone(
-    alloc: Global,
-    graph: &Listed,
-    goal: u32,
-    budget: &mut Budget,
-) -> Result<Planned<Step>, Fail>
-    requires goal { goal < 3 }
-{
-    match planned(alloc, graph, goal, budget) {
-        Some((planned, search)) => {
-            drop(search);
-            Ok(planned)
+    match plan(alloc, graph, &Zero, search, 2, &ASK, budget, &mut Nobody) {
+        Ok(planned) => {
+            let is = reads(format!(in alloc; "{planned:?}"), want);
+            drop(planned);
+            is
         }
-        None => Err(Fail::new("memory")),
+        Err(_) => false,
     }
 }
 
-/// Compares the only pass of a plan: what it found, and the states that it expanded, raised or not.
-fn compare_pass(rt: &impl Abort, planned: &Planned<Step>, found: Found, steps: &[(u32, bool)]) {
-    let [pass] = planned.passes.as_slice() else {
-        assert!(rt; false, "one pass");
-        return;
-    };
-    assert_eq!(rt; (pass.inflation, pass.found), (3000, found));
-    let trace = pass.trace.as_slice();
-    let same = trace.len() == steps.len()
-        && steps
-            .iter()
-            .zip(trace)
-            .all(|(want, step)| *want == (step.state, step.raised));
-    assert!(rt; same, "{trace:?}");
-}
-
-/// Compares the path of a plan that is not spent: its arc numbers and its cost.
-fn compare_path(rt: &impl Abort, planned: &Planned<Step>, arcs: &[u32], cost: u64) {
-    let Outcome::Path(path) = &planned.outcome else {
-        assert!(rt; false, "no path");
-        return;
-    };
-    assert_eq!(rt; path.arcs.as_slice(), arcs);
-    assert_eq!(rt; (path.cost, path.bound, planned.spent), (cost, 1000, false));
-}
-
-/// Compares a spent plan, of which nothing is known: what its only pass found, which expanded nothing.
-fn compare_unknown(rt: &impl Abort, planned: &Planned<Step>, found: Found) {
-    compare_pass(rt, planned, found, [].as_slice());
-    assert!(rt; matches!(&planned.outcome, Outcome::Unknown));
-    assert!(rt; planned.spent);
-}
-
-/// What a pass finds whose path has the least cost.
-fn least(cost: u64) -> Found {
-    Found::Path { cost, bound: 1000 }
-}
-
-#[test]
-fn one_arc_is_the_path(rt: HostRuntime) -> Result<(), Fail> {
-    let graph = Listed {
-        arcs: [Some((1, 5)), None, None],
-    };
-    let mut budget = Budget::new(10);
-    let planned = planned_alone(rt.alloc(), &graph, 1, &mut budget)?;
-    compare_pass(&rt, &planned, least(5), [(0, false)].as_slice());
-    compare_path(&rt, &planned, [0].as_slice(), 5);
-    drop(planned);
-    assert_eq!(rt; budget.used(), 1);
-    Ok(())
-}
-
-/// How many passes a plan has.
-fn count_of(planned: Planned<Step>) -> usize {
-    planned.passes.into_vec().len()
-}
-
-#[test]
-fn no_arc_is_no_path(rt: HostRuntime) -> Result<(), Fail> {
-    let graph = Listed {
-        arcs: [None, None, None],
-    };
-    let mut budget = Budget::new(10);
-    let planned = planned_alone(rt.alloc(), &graph, 1, &mut budget)?;
-    let none = matches!(&planned.outcome, Outcome::NoPath) && !planned.spent;
-    assert_eq!(rt; (none, count_of(planned)), (true, 1));
-    Ok(())
-}
-
-#[test]
-fn nothing_is_known_where_nothing_is_expanded(rt: HostRuntime) -> Result<(), Fail> {
-    let graph = Listed {
-        arcs: [Some((1, 5)), None, None],
-    };
-    let mut budget = Budget::new(1);
-    budget.spend();
-    let planned = planned_alone(rt.alloc(), &graph, 1, &mut budget)?;
-    compare_unknown(&rt, &planned, Found::None);
-    drop(planned);
-    Ok(())
-}
-
-/// Plans to state 2 once the way costs more, and once it is blocked.
-fn dear_and_blocked(
-    rt: &impl Abort,
-    alloc: Global,
-    search: &mut AdStar,
-    budget: &mut Budget,
-) -> Result<(), Fail>
+/// Whether the plans are as wanted while the way gets dearer, with a budget of four expansions, and then is blocked.
+fn are_planned(alloc: Global, search: &mut AdStar) -> bool
     requires states { states_of search.old.labels ≡ 3 }
     requires start { search.old.labels.start ≡ 0 }
     requires goal { search.old.goal ≡ 2 }
-    requires fits { FitCount 3 (g_of search.old.labels) (v_of search.old.labels) budget.old.run }
+    requires fits { FitCount 3 (g_of search.old.labels) (v_of search.old.labels) 0 }
     requires fresh { IsStartFresh search.old.labels }
 {
-    let Some(dear) = replanned(alloc, &way(Some(7)), search, budget) else {
-        return Err(Fail::new("memory"));
-    };
-    compare_pass(rt, &dear, least(8), [(1, true), (1, false)].as_slice());
-    compare_path(rt, &dear, [0, 0].as_slice(), 8);
-    drop(dear);
-    assert_eq!(rt; budget.used(), 4);
-
-    let Some(blocked) = replanned(alloc, &way(None), search, budget) else {
-        return Err(Fail::new("memory"));
-    };
-    let none = matches!(&blocked.outcome, Outcome::NoPath) && !blocked.spent;
-    drop(blocked);
-    assert_eq!(rt; (none, budget.used()), (true, 5));
-    Ok(())
+    let mut budget = Budget::new(4);
+    if !replans(alloc, &row(5, 1), search, &mut budget, CHEAP_PLAN)
+        || !replans(alloc, &row(7, 1), search, &mut budget, DEAR_PLAN)
+        || !replans(alloc, &row(0, 1), search, &mut budget, BROKEN_PLAN)
+    {
+        return false;
+    }
+    budget.next_plan();
+    replans(alloc, &row(0, 1), search, &mut budget, NO_PLAN)
 }
 
 #[test]
-fn replanned_after_changes(rt: HostRuntime) -> Result<(), Fail> {
-    let mut budget = Budget::new(10);
-    let Some((first, mut search)) = planned(rt.alloc(), &way(Some(5)), 2, &mut budget) else {
-        return Err(Fail::new("memory"));
-    };
-    compare_path(&rt, &first, [0, 0].as_slice(), 6);
-    drop(first);
-    let compared = dear_and_blocked(&rt, rt.alloc(), &mut search, &mut budget);
+fn planned_again_after_changes(rt: HostRuntime) -> Result<(), Fail> {
+    let mut search = AdStar::from(Ara::open(rt.alloc(), 3, 0, 2)?);
+    let are = are_planned(rt.alloc(), &mut search);
     drop(search);
-    compared
-}
-
-#[test]
-fn a_break_is_no_path_where_nothing_is_repaired(rt: HostRuntime) -> Result<(), Fail> {
-    let mut budget = Budget::new(2);
-    let Some((first, mut search)) = planned(rt.alloc(), &way(Some(5)), 2, &mut budget) else {
-        return Err(Fail::new("memory"));
-    };
-    drop(first);
-    let broken = replanned(rt.alloc(), &way(Some(7)), &mut search, &mut budget);
-    drop(search);
-    let Some(broken) = broken else {
-        return Err(Fail::new("memory"));
-    };
-    compare_unknown(&rt, &broken, Found::Broken);
-    drop(broken);
+    assert!(rt; are);
     Ok(())
 }

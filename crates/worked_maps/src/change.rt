@@ -1,81 +1,55 @@
-//! A batch on a small lattice, by hand.
+//! Batches on a small hall, by hand.
 
-use crate::lattices::judged;
-use sample_files::{E2, F2};
 use sbpl_change::{apply, are_on_map};
 use sbpl_cost::{ArcEnd, Lattice};
 use sbpl_map::Write;
 use std::alloc::Global;
-use std::test::Fail;
 
-/// The states that a batch touches on a lattice, at an end of the arcs, each once, upwards, or `None` where it is not written.
-fn touched_on(
+/// The corner becomes an obstacle.
+pub(crate) const SHUT: Write = Write {
+    x: 2,
+    y: 1,
+    cost: 100,
+};
+
+/// The corner is free again.
+pub(crate) const FREE: Write = Write {
+    x: 2,
+    y: 1,
+    cost: 0,
+};
+
+/// A cell gets the cost that it has.
+pub(crate) const SAME: Write = Write {
+    x: 0,
+    y: 0,
+    cost: 0,
+};
+
+/// Writes a batch, and answers whether it touches just these states at an end of the arcs.
+fn touches(
     alloc: Global,
-    lattice: &mut Lattice,
+    hall: &mut Lattice,
     batch: &[Write],
     end: ArcEnd,
-) -> Option<Vec<u32>> {
-    if !are_on_map(lattice, batch) {
-        return None;
+    want: &[u32],
+    states: &mut Vec<u32>,
+) -> bool {
+    if !are_on_map(hall, batch) {
+        return false;
     }
-    let mut touched = Vec::new(alloc);
-    if apply(alloc, lattice, batch, end, &mut touched).is_err() {
-        return None;
-    }
-    Some(touched)
+    apply(alloc, hall, batch, end, states).is_ok() && states.as_slice() == want
 }
 
-/// The states that a batch touches on the hall's lattice, at an end of the arcs.
-fn touched_at(alloc: Global, batch: &[Write], end: ArcEnd) -> Option<Vec<u32>> {
-    let Some(Ok(mut hall)) = judged(alloc, E2, F2, 0) else {
-        return None;
-    };
-    let touched = touched_on(alloc, &mut hall, batch, end);
-    drop(hall);
-    touched
-}
-
-/// The heads of the arcs that a batch touches on the hall's lattice.
-fn touched_by(alloc: Global, batch: &[Write]) -> Option<Vec<u32>> {
-    touched_at(alloc, batch, ArcEnd::Head)
-}
-
-/// Cell `(x, y)` gets cost `cost`.
-fn write(x: u32, y: u32, cost: u8) -> Write {
-    Write { x, y, cost }
-}
-
-#[test]
-fn a_corner_touches_two_heads(rt: HostRuntime) -> Result<(), Fail> {
-    for batch in [
-        [write(2, 1, 100), write(2, 1, 100)],
-        [write(2, 1, 0), write(2, 1, 100)],
-        [write(0, 0, 0), write(2, 1, 100)],
-    ] {
-        let Some(touched) = touched_by(rt.alloc(), &batch) else {
-            return Err(Fail::new("not written"));
-        };
-        assert_eq!(rt; touched.as_slice(), [32, 80].as_slice());
-    }
-    Ok(())
-}
-
-#[test]
-fn a_corner_touches_four_sources(rt: HostRuntime) -> Result<(), Fail> {
-    let Some(touched) = touched_at(rt.alloc(), &[write(2, 1, 100)], ArcEnd::Source) else {
-        return Err(Fail::new("not written"));
-    };
-    assert_eq!(rt; touched.as_slice(), [32, 48, 64, 80].as_slice());
-    Ok(())
-}
-
-#[test]
-fn what_is_changed_back_touches_none(rt: HostRuntime) -> Result<(), Fail> {
-    let batch = [write(2, 1, 100), write(2, 1, 0), write(0, 0, 0)];
-    let Some(touched) = touched_by(rt.alloc(), &batch) else {
-        return Err(Fail::new("not written"));
-    };
-    assert!(rt; touched.is_empty());
-    assert!(rt; touched_by(rt.alloc(), &[write(3, 0, 1)]).is_none());
-    Ok(())
+/// The corner touches two heads and four sources, each once and upwards, whatever else a batch writes. What is changed back
+/// touches none.
+pub(crate) fn are_touched(alloc: Global, hall: &mut Lattice, states: &mut Vec<u32>) -> bool {
+    let heads = [32, 80].as_slice();
+    let sources = [32, 48, 64, 80].as_slice();
+    let shut = touches(alloc, hall, &[SHUT, SHUT], ArcEnd::Head, heads, states);
+    let free = touches(alloc, hall, &[SAME, FREE], ArcEnd::Head, heads, states);
+    let again = touches(alloc, hall, &[FREE, SHUT], ArcEnd::Head, heads, states);
+    let freed = touches(alloc, hall, &[FREE], ArcEnd::Source, sources, states);
+    let back = touches(alloc, hall, &[SHUT, FREE, SAME], ArcEnd::Head, &[], states);
+    [shut, free, again, freed, back] == [true; 5]
 }

@@ -1,222 +1,210 @@
-//! Lattices of small files, by hand.
+//! Arcs and states of a small hall, forwards and backwards.
 
-use crate::lattices::{fault_of, judged, made};
-use sample_files::{E1, E2, E3, F1, F2};
+use sbpl_back::{Back, FromStart};
 use sbpl_cfg::Place;
-use sbpl_cost::{Lattice, LatticeFault};
-use sbpl_graph::Graph;
+use sbpl_cost::Lattice;
+use sbpl_graph::{Graph, Guide};
 use sbpl_map::OffMap;
-use std::alloc::{AllocError, Global};
-use std::process::Abort;
-use std::test::Fail;
 
-/// The head and the cost of arc `k` of state `s`.
-fn arc(lattice: &Lattice, s: u32, k: u32) -> Option<(Option<u32>, Option<u32>)> {
-    if s < lattice.states() && k < lattice.fan(s) {
-        Some((lattice.head(s, k), lattice.judge(s, k)))
-    } else {
-        None
+/// Five arcs, or fewer, each as its head, its cost and a floor on the cost.
+type Arcs = [Option<(Option<u32>, Option<u32>, u32)>; 5];
+
+/// Five tails, or fewer.
+type Tails = [Option<Option<(u32, u32)>>; 5];
+
+/// The first arcs and tails of a state.
+fn ends<G: Graph>(graph: &G, s: u32) -> (Arcs, Tails) {
+    let mut arcs = [None; 5];
+    let mut tails = [None; 5];
+    for k in 0..5 {
+        if s < graph.states() && k < graph.fan(s) {
+            arcs[k as usize] = Some((graph.head(s, k), graph.judge(s, k), graph.floor(s, k)));
+        }
+        if s < graph.states() && k < graph.tail_fan(s) {
+            tails[k as usize] = Some(graph.tail(s, k));
+        }
     }
+    (arcs, tails)
 }
 
-/// Tail `j` of state `t`.
-fn tail(lattice: &Lattice, t: u32, j: u32) -> Option<Option<(u32, u32)>> {
-    if t < lattice.states() && j < lattice.tail_fan(t) {
-        Some(lattice.tail(t, j))
-    } else {
-        None
-    }
+/// A state whose heading no primitive has.
+const NONE: (Arcs, Tails) = ([None; 5], [None; 5]);
+
+/// The start: arcs come in the order of the file, and one leads off the map.
+const FIRST: (Arcs, Tails) = (
+    [
+        Some((Some(16), Some(75), 25)),
+        Some((Some(32), Some(150), 50)),
+        Some((Some(48), Some(25), 25)),
+        Some((None, None, 25)),
+        None,
+    ],
+    [
+        Some(None),
+        Some(None),
+        Some(None),
+        Some(Some((48, 3))),
+        None,
+    ],
+);
+
+/// The end.
+const LAST: (Arcs, Tails) = (
+    [
+        Some((None, None, 25)),
+        Some((None, None, 50)),
+        Some((Some(80), Some(25), 25)),
+        Some((None, None, 25)),
+        None,
+    ],
+    [
+        Some(Some((16, 0))),
+        Some(Some((0, 1))),
+        Some(None),
+        Some(Some((80, 3))),
+        None,
+    ],
+);
+
+/// The end backwards: its arcs are the tails, in their order, and its tails the arcs.
+const LAST_BACK: (Arcs, Tails) = (
+    [
+        Some((Some(16), Some(75), 25)),
+        Some((Some(0), Some(150), 50)),
+        Some((None, None, 1)),
+        Some((Some(80), Some(25), 25)),
+        None,
+    ],
+    [
+        Some(None),
+        Some(None),
+        Some(Some((80, 2))),
+        Some(None),
+        None,
+    ],
+);
+
+/// The tails of the start backwards.
+const FIRST_BACK: Tails = [
+    Some(Some((16, 0))),
+    Some(Some((32, 1))),
+    Some(Some((48, 2))),
+    Some(None),
+    None,
+];
+
+/// Arcs and tails, forwards and backwards.
+pub(crate) fn are_arcs(hall: &Lattice) -> bool {
+    let back = Back::new(hall);
+    ends(hall, 0) == FIRST
+        && ends(hall, 32) == LAST
+        && ends(hall, 1) == NONE
+        && ends(&back, 0).1 == FIRST_BACK
+        && ends(&back, 32) == LAST_BACK
+        && ends(&back, 33) == NONE
 }
 
-/// Arc `k` of state `s` as a tail.
-fn as_tail(lattice: &Lattice, s: u32, k: u32) -> Option<Option<(u32, u32)>> {
-    if s < lattice.states() && k < lattice.fan(s) {
-        Some(lattice.as_tail(s, k))
-    } else {
-        None
+/// Arc `k` of state `s` as a tail, the number, the id and the cost of its primitive, and the place of the state, with the state
+/// that is there.
+fn known_of(
+    lattice: &Lattice,
+    s: u32,
+    k: u32,
+) -> Option<(Option<(u32, u32)>, (u32, u32, u32), Place, Option<u32>)> {
+    if s >= lattice.states() || k >= lattice.fan(s) {
+        return None;
     }
+    let prim = lattice.prim_of(s, k);
+    let place = lattice.place_of(s);
+    Some((
+        lattice.as_tail(s, k),
+        (prim, lattice.prim_id(prim), lattice.cost_of(prim)),
+        place,
+        lattice.state_of(&place),
+    ))
 }
 
-/// The lower bound on the cost of each way from one state to another.
-fn gap(lattice: &Lattice, from: u32, to: u32) -> Option<u64> {
+/// The lower bound on the cost of each way from one state to another, by the lattice and by the guide for searches backwards.
+fn gaps(lattice: &Lattice, from: u32, to: u32) -> Option<(u64, u64)> {
     if from < lattice.states() && to < lattice.states() {
-        Some(lattice.gap(from, to))
+        let guide = FromStart::new(lattice, from);
+        Some((lattice.gap(from, to), guide.to_goal(to)))
     } else {
         None
     }
 }
 
-/// The number of the primitive of arc `k` of state `s`, its id and its cost by itself.
-fn primitive(lattice: &Lattice, s: u32, k: u32) -> Option<(u32, u32, u32)> {
-    if s < lattice.states() && k < lattice.fan(s) {
-        let place = lattice.prim_of(s, k);
-        Some((place, lattice.prim_id(place), lattice.cost_of(place)))
-    } else {
-        None
-    }
-}
+/// A place of the hall, and three beside it.
+const PLACES: [Place; 4] = [
+    Place { x: 2, y: 1, t: 3 },
+    Place { x: 3, y: 1, t: 3 },
+    Place { x: 2, y: 2, t: 3 },
+    Place { x: 2, y: 1, t: 16 },
+];
 
-/// The place of state `s`, and the state there.
-fn there_and_back(lattice: &Lattice, s: u32) -> Option<(Place, Option<u32>)> {
-    if s < lattice.states() {
-        let place = lattice.place_of(s);
-        Some((place, lattice.state_of(&place)))
-    } else {
-        None
-    }
-}
-
-/// Arcs in the order of the file.
-fn compare_arcs(rt: &impl Abort, hall: &Lattice) {
-    for (s, k, want) in [
-        (0, 0, Some((Some(16), Some(75)))),
-        (0, 1, Some((Some(32), Some(150)))),
-        (0, 2, Some((Some(48), Some(25)))),
-        (0, 3, Some((None, None))),
-        (0, 4, None),
-        (1, 0, None),
-    ] {
-        assert_eq!(rt; arc(hall, s, k), want, "at arc {k} of {s}");
-    }
-}
-
-/// Tails, and the arcs that they name, which lead there.
-fn compare_tails(rt: &impl Abort, hall: &Lattice) {
-    for (t, j, want) in [
-        (32, 0, Some(Some((16, 0)))),
-        (32, 1, Some(Some((0, 1)))),
-        (32, 2, Some(None)),
-        (32, 3, Some(Some((80, 3)))),
-        (32, 4, None),
-        (33, 0, None),
-    ] {
-        assert_eq!(rt; tail(hall, t, j), want, "at tail {j} of {t}");
-    }
-    for (s, k) in [(16, 0), (0, 1), (80, 3)] {
-        assert_eq!(rt; arc(hall, s, k).map(|arc| arc.0), Some(Some(32)));
-    }
-    for (s, k, want) in [
-        (16, 0, Some(Some((32, 0)))),
-        (0, 1, Some(Some((32, 1)))),
-        (80, 3, Some(Some((32, 3)))),
-        (0, 3, Some(None)),
-    ] {
-        assert_eq!(rt; as_tail(hall, s, k), want, "at arc {k} of {s}");
-    }
-}
+/// What is known of arcs 1 and 3 of the corner.
+const CORNER: [Option<(Option<(u32, u32)>, (u32, u32, u32), Place, Option<u32>)>; 3] = [
+    Some((None, (1, 1, 50), Place { x: 2, y: 1, t: 0 }, Some(80))),
+    Some((
+        Some((32, 3)),
+        (3, 3, 25),
+        Place { x: 2, y: 1, t: 0 },
+        Some(80),
+    )),
+    None,
+];
 
 /// Gaps by the primitives alone.
-fn compare_gaps(rt: &impl Abort, hall: &Lattice) {
-    for (from, to, want) in [
-        (0, 32, Some(50)),
-        (48, 32, Some(50)),
-        (0, 48, Some(25)),
-        (32, 0, Some(0)),
-        (0, 5, Some(0)),
-        (0, 96, None),
-    ] {
-        assert_eq!(rt; gap(hall, from, to), want, "from {from} to {to}");
-    }
+const GAPS: [Option<(u64, u64)>; 6] = [
+    Some((50, 50)),
+    Some((50, 50)),
+    Some((25, 25)),
+    Some((0, 0)),
+    Some((0, 0)),
+    None,
+];
+
+/// States, their places, the primitives of their arcs, and the gaps between them.
+pub(crate) fn are_known(hall: &Lattice) -> bool {
+    let states = [
+        hall.state_of(&PLACES[0]),
+        hall.state_of(&PLACES[1]),
+        hall.state_of(&PLACES[2]),
+        hall.state_of(&PLACES[3]),
+    ];
+    let corner = [
+        known_of(hall, 80, 1),
+        known_of(hall, 80, 3),
+        known_of(hall, 81, 0),
+    ];
+    let gaps = [
+        gaps(hall, 0, 32),
+        gaps(hall, 48, 32),
+        gaps(hall, 0, 48),
+        gaps(hall, 32, 0),
+        gaps(hall, 0, 5),
+        gaps(hall, 0, 96),
+    ];
+    states == [Some(83), None, None, None] && corner == CORNER && gaps == GAPS
 }
 
-/// States, their places, and primitives of their arcs.
-fn compare_states(rt: &impl Abort, hall: &Lattice) {
-    let place = Place { x: 2, y: 1, t: 3 };
-    assert_eq!(rt; there_and_back(hall, 83), Some((place, Some(83))));
-    for off in [
-        Place { x: 3, y: 1, t: 3 },
-        Place { x: 2, y: 2, t: 3 },
-        Place { x: 2, y: 1, t: 16 },
-    ] {
-        assert_eq!(rt; hall.state_of(&off), None);
-    }
-    assert_eq!(rt; primitive(hall, 80, 1), Some((1, 1, 50)));
-    assert_eq!(rt; primitive(hall, 81, 0), None);
+/// The heads of the four arcs that read the corner, and then their sources.
+const READING: [u32; 8] = [80, 80, 80, 32, 64, 48, 32, 80];
+
+/// The ends of the arcs that read the corner.
+pub(crate) fn are_read(hall: &Lattice, states: &mut Vec<u32>) -> bool {
+    states.clear();
+    let heads = hall.heads_reading(2, 1, states).is_ok();
+    let sources = hall.tails_reading(2, 1, states).is_ok();
+    heads && sources && states.as_slice() == READING.as_slice()
 }
 
-/// The heads of the arcs that read cell `(x, y)`, after state 7.
-fn heads(alloc: Global, lattice: &Lattice, x: u32, y: u32) -> Result<Vec<u32>, AllocError> {
-    let mut heads = vec![in alloc; 7]?;
-    if let Err(_) = lattice.heads_reading(x, y, &mut heads) {
-        heads.clear();
-    }
-    Ok(heads)
-}
-
-/// The sources of the arcs that read cell `(x, y)`, after state 7.
-fn sources(alloc: Global, lattice: &Lattice, x: u32, y: u32) -> Result<Vec<u32>, AllocError> {
-    let mut sources = vec![in alloc; 7]?;
-    if let Err(_) = lattice.tails_reading(x, y, &mut sources) {
-        sources.clear();
-    }
-    Ok(sources)
-}
-
-/// The hall, and the four arcs that read its corner.
-#[test]
-fn hall(rt: HostRuntime) -> Result<(), Fail> {
-    let hall = made(rt.alloc(), E2, F2, 0)?;
-    compare_arcs(&rt, &hall);
-    compare_tails(&rt, &hall);
-    compare_gaps(&rt, &hall);
-    compare_states(&rt, &hall);
-    let heads = heads(rt.alloc(), &hall, 2, 1);
-    let sources = sources(rt.alloc(), &hall, 2, 1);
-    drop(hall);
-    assert_eq!(rt; heads?.as_slice(), [7, 80, 80, 80, 32].as_slice());
-    assert_eq!(rt; sources?.as_slice(), [7, 64, 48, 32, 80].as_slice());
-    Ok(())
-}
-
-#[test]
-fn a_dear_primitive_is_named(rt: HostRuntime) -> Result<(), Fail> {
-    let text = F1.replacen(rt.alloc(), "mult: 1", "mult: 16777215", 1)?;
-    let fault = fault_of(rt.alloc(), E1, text.as_str());
-    assert_eq!(rt; fault, Some(LatticeFault::TooDear(0)));
-    Ok(())
-}
-
-/// Costs are written to the corridor.
-fn compare_writes(rt: &impl Abort, corridor: &mut Lattice) {
-    assert_eq!(rt; arc(corridor, 0, 0), Some((Some(16), Some(25))));
-    assert_eq!(rt; corridor.set(3, 0, 90), Err(OffMap));
-    assert_eq!(rt; corridor.set(1, 0, 90), Ok(0));
-    assert_eq!(rt; corridor.cell_cost(1, 0), Some(90));
-    assert_eq!(rt; arc(corridor, 0, 0), Some((Some(16), None)));
-}
-
-#[test]
-fn corridor(rt: HostRuntime) -> Result<(), Fail> {
-    let mut corridor = made(rt.alloc(), E1, F1, 0)?;
-    compare_writes(&rt, &mut corridor);
-    drop(corridor);
-    Ok(())
-}
-
-/// The arc beside the pillar, once the pillar costs this.
-fn beside(room: &mut Lattice, cost: u8) -> Option<(Option<u32>, Option<u32>)> {
-    match room.set(2, 2, cost) {
-        Ok(_) => arc(room, 96, 0),
-        Err(_) => None,
-    }
-}
-
-/// The arc beside the pillar for a robot of this radius, where the pillar costs this.
-fn beside_pillar(alloc: Global, radius: u64, cost: u8) -> Option<(Option<u32>, Option<u32>)> {
-    let mut room = judged(alloc, E3, F1, radius)?.ok()?;
-    let found = beside(&mut room, cost);
-    drop(room);
-    found
-}
-
-#[test]
-fn a_disc_must_not_reach_an_obstacle(rt: HostRuntime) {
-    for (radius, cost, want) in [
-        (12_500_000, 100, Some(25)),
-        (12_500_001, 100, None),
-        (12_500_001, 99, Some(25)),
-    ] {
-        let found = beside_pillar(rt.alloc(), radius, cost);
-        assert_eq!(rt; found, Some((Some(112), want)), "at {radius}");
-    }
+/// A cell that costs as much as the robot may touch is shut, until its old cost is written again.
+pub(crate) fn is_written(hall: &mut Lattice) -> bool {
+    let writes = (hall.set(3, 0, 90), hall.set(1, 0, 90), hall.cell_cost(1, 0));
+    let (arcs, _tails) = ends(&*hall, 0);
+    let back = hall.set(1, 0, 2);
+    writes == (Err(OffMap), Ok(2), Some(90))
+        && arcs[0] == Some((Some(16), None, 25))
+        && back == Ok(90)
 }

@@ -3,13 +3,13 @@
 #![tactic(auto)]
 
 #[cfg(test)]
-mod back;
-#[cfg(test)]
 mod change;
 #[cfg(test)]
 mod cost;
 #[cfg(test)]
 mod demo;
+#[cfg(test)]
+mod hall;
 #[cfg(test)]
 mod heur;
 #[cfg(test)]
@@ -24,3 +24,5 @@ mod moving;
 mod replan;
 #[cfg(test)]
 mod sweep;
+#[cfg(test)]
+mod texts;

@@ -1,10 +1,11 @@
 //! Maps, and the texts of changes to them.
 
-ghost use Rattle.std.specs.Prelude.{◌≡◌, ◌≤◌, ◌^◌, length};
+ghost use Rattle.std.specs.Prelude.{◌≡◌, length};
 
+use crate::texts::reads;
 use sample_files::{E1, E2};
 use sbpl_cfg::{Place, read_env};
-use sbpl_map::{Changes, Map, Moves, OffMap, Write, read_changes, read_moves};
+use sbpl_map::{ChangeFault, Changes, Map, Moves, OffMap, Write, read_changes, read_moves};
 use std::alloc::Global;
 use std::process::Abort;
 use std::test::Fail;
@@ -20,54 +21,33 @@ fn map_of(alloc: Global, text: &str) -> Result<Map, Fail> {
     }
 }
 
-/// A map of three cells in a row, all of cost 0.
-fn row_of_three(alloc: Global) -> Result<Map, Fail> {
-    map_of(alloc, E1)
-}
+/// Texts of changes of three cells in a row, each with `;` after it. After its arrow comes the fault where lines can say where
+/// a robot is, as its number, name and line, and then the fault where they cannot.
+const ROW_FAULTS: &str = "\
+cell 3 0 1\nreplan\n => 4 OffMap 1, 4 OffMap 1;\
+cell 0 1 1\nreplan\n => 4 OffMap 1, 4 OffMap 1;\
+replan\ncell 1 0 5\n => 5 NoReplan 2, 5 NoReplan 2;\
+cell 1 0 5\n\ncell 1 0 6\n \n => 5 NoReplan 3, 5 NoReplan 3;\
+cell 1 0 5\ncells 1 0 5 => 1 Word 2, 1 Word 2;\
+\n\t\n\r\nCell 1 0 5\n => 1 Word 4, 1 Word 4;\
+cell 1 0\n => 1 Word 1, 1 Word 1;\
+cell 1 0 5 6\n => 1 Word 1, 1 Word 1;\
+replan 1\n => 1 Word 1, 1 Word 1;\
+replan\r => 1 Word 1, 1 Word 1;\
+replan\r\r\n => 1 Word 1, 1 Word 1;\
+replan\x0b\n => 1 Word 1, 1 Word 1;\
+cell 1\x0c0 5\n => 1 Word 1, 1 Word 1;\
+cell 1 0 5.0\n => 2 Number 1, 2 Number 1;\
+cell 1 0 5\r => 2 Number 1, 2 Number 1;\
+cell 9999999999999999999 - 5\n => 2 Number 1, 2 Number 1;\
+cell 9999999999999999999 0 5\n => 3 Range 1, 3 Range 1;\
+cell -1 0 5\n => 3 Range 1, 3 Range 1;\
+cell 8388608 0 5\n => 3 Range 1, 3 Range 1;\
+cell 8388607 0 256\n => 3 Range 1, 3 Range 1;\
+cell 8388607 0 255\n => 4 OffMap 1, 4 OffMap 1";
 
-/// Texts of changes, each with `;` after it, and after its arrow the fault: its number, name and line.
-const FAULTS: &str = "\
-cell 3 0 1\nreplan\n => 4 OffMap 1;\
-cell 0 1 1\nreplan\n => 4 OffMap 1;\
-replan\ncell 1 0 5\n => 5 NoReplan 2;\
-cell 1 0 5\n\ncell 1 0 6\n \n => 5 NoReplan 3;\
-cell 1 0 5\ncells 1 0 5 => 1 Word 2;\
-\n\t\n\r\nCell 1 0 5\n => 1 Word 4;\
-cell 1 0\n => 1 Word 1;\
-cell 1 0 5 6\n => 1 Word 1;\
-replan 1\n => 1 Word 1;\
-replan\r => 1 Word 1;\
-replan\r\r\n => 1 Word 1;\
-replan\x0b\n => 1 Word 1;\
-cell 1\x0c0 5\n => 1 Word 1;\
-cell 1 0 5.0\n => 2 Number 1;\
-cell 1 0 5\r => 2 Number 1;\
-cell 9999999999999999999 - 5\n => 2 Number 1;\
-cell 9999999999999999999 0 5\n => 3 Range 1;\
-cell -1 0 5\n => 3 Range 1;\
-cell 8388608 0 5\n => 3 Range 1;\
-cell 8388607 0 256\n => 3 Range 1;\
-cell 8388607 0 255\n => 4 OffMap 1";
-
-/// The fault of a text of changes as a line.
-fn fault_of(alloc: Global, map: &Map, text: &[u8]) -> Result<String, Fail> {
-    if text.len() > 100 {
-        return Err(Fail::new("a long text"));
-    }
-    match read_changes(alloc, text, map) {
-        Ok(_) => Err(Fail::new("no fault")),
-        Err(fault) => Ok(format!(in alloc;
-            "{} {} {}",
-            fault.number(),
-            fault.name(),
-            fault.line()
-        )?),
-    }
-}
-
-/// Texts that say where a robot is, each with `;` after it, and after its arrow the fault where there are sixteen headings
-/// and the map has two rows of three cells, and the fault where lines cannot say this.
-const START_FAULTS: &str = "\
+/// The same for two rows of three cells, with sixteen headings.
+const HALL_FAULTS: &str = "\
 start 0 0 16\nreplan\n => 3 Range 1, 1 Word 1;\
 start 0 0 -1\nreplan\n => 3 Range 1, 1 Word 1;\
 start 8388608 0 0\nreplan\n => 3 Range 1, 1 Word 1;\
@@ -82,168 +62,143 @@ start 0 1 0\ncell 0 0 1\n => 5 NoReplan 2, 1 Word 1;\
 cell 0 0 256\nstart 0 1 0\n => 3 Range 1, 3 Range 1;\
 cell 0 0 255\n => 5 NoReplan 1, 5 NoReplan 1";
 
-/// The fault of a text that can say where a robot is, with sixteen headings, and the fault where it cannot, as a line.
-fn start_faults_of(alloc: Global, map: &Map, text: &[u8]) -> Result<String, Fail> {
-    let other = fault_of(alloc, map, text)?;
+/// The fault of a text of changes that can say where a robot is, or that cannot.
+fn fault_of(alloc: Global, map: &Map, text: &str, moves: bool) -> Option<ChangeFault> {
     if text.len() > 100 {
-        return Err(Fail::new("a long text"));
+        return None;
     }
-    match read_moves(alloc, text, map, 16) {
-        Ok(_) => Err(Fail::new("no fault")),
-        Err(fault) => Ok(format!(in alloc;
-            "{} {} {}, {}",
-            fault.number(),
-            fault.name(),
-            fault.line(),
-            other.as_str()
-        )?),
+    if moves {
+        read_moves(alloc, text.as_bytes(), map, 16).err()
+    } else {
+        read_changes(alloc, text.as_bytes(), map).err()
     }
 }
 
-/// The first faults of texts that can say where a robot is.
-fn compare_start_faults(rt: &impl Abort, alloc: Global, map: &Map) -> Result<(), Fail> {
-    for row in START_FAULTS.split(';') {
-        let (text, want) = row.split_once(" => ").ok_or("an arrow")?;
-        let faults = start_faults_of(alloc, map, text.as_bytes())?;
-        assert_eq!(rt; faults.as_str(), want, "{row}");
-    }
-    Ok(())
+/// Whether a text has the faults that a row says.
+fn row_holds(alloc: Global, map: &Map, row: &str) -> Option<bool> {
+    let (text, want) = row.split_once(" => ")?;
+    let moved = fault_of(alloc, map, text, true)?;
+    let told = fault_of(alloc, map, text, false)?;
+    let said = format!(in alloc;
+        "{} {} {}, {} {} {}",
+        moved.number(),
+        moved.name(),
+        moved.line(),
+        told.number(),
+        told.name(),
+        told.line()
+    );
+    Some(reads(said, want))
 }
 
-/// Where a robot is in three batches: by the last line of the first that says so, not said by the second.
-fn compare_places(rt: &impl Abort, changes: &Changes, moves: &Moves)
+/// Each row of a table holds.
+fn compare_rows(rt: &impl Abort, alloc: Global, map: &Map, table: &str) {
+    for row in table.split(';') {
+        assert_eq!(rt; row_holds(alloc, map, row), Some(true), "{row}");
+    }
+}
+
+/// What the first of three batches writes, and the last. The second writes nothing.
+const FIRST: [Write; 2] = [
+    Write {
+        x: 2,
+        y: 0,
+        cost: 7,
+    },
+    Write {
+        x: 0,
+        y: 1,
+        cost: 255,
+    },
+];
+
+const LAST: [Write; 1] = [Write {
+    x: 1,
+    y: 0,
+    cost: 0,
+}];
+
+/// Where the robot then is, by the last line of the first batch that says so, and not said by the second.
+const THERE: [Option<Place>; 3] = [
+    Some(Place { x: 0, y: 1, t: 0 }),
+    None,
+    Some(Place { x: 1, y: 0, t: 15 }),
+];
+
+/// Whether three batches are these.
+fn are_batches(changes: &Changes, moves: &Moves) -> bool
     requires each { length moves.now ≡ length changes.now }
 {
-    assert_eq!(rt; changes.batches(), 3);
-    let first = Place { x: 0, y: 1, t: 0 };
-    let last = Place { x: 1, y: 0, t: 15 };
-    assert_eq!(rt;
-        (moves.at(0), moves.at(1), moves.at(2)),
-        (Some(first), None, Some(last))
-    );
+    if changes.batches() != 3 {
+        return false;
+    }
+    let there = [moves.at(0), moves.at(1), moves.at(2)];
+    changes.batch(0) == FIRST.as_slice()
+        && changes.batch(1).is_empty()
+        && changes.batch(2) == LAST.as_slice()
+        && there == THERE
 }
 
-/// The moves of a text with sixteen headings.
-fn compare_moves(rt: &impl Abort, alloc: Global, map: &Map) -> Result<(), Fail> {
-    let text =
-        "start 2 1 15\ncell 0 0 7\nstart\t0 1 0\r\nreplan\ncell 0 0 8\nreplan\n start +1 0 015\nreplan";
-    let (changes, moves) = read_moves(alloc, text.as_bytes(), map, 16)?;
-    compare_places(rt, &changes, &moves);
+/// Three batches for two rows of three cells.
+const TEXT: &str =
+    "\t cell +02\t000 007 \r\n\n  \t\nstart 2 1 15\ncell 0 1 255\nstart\t0 1 0\r\nreplan\r\nreplan\n start +1 0 015\ncell 1 -0 0\n replan";
+
+/// Whether the text has these batches, and a text of blanks alone has none.
+fn are_read(alloc: Global, map: &Map) -> bool {
+    let Ok((changes, moves)) = read_moves(alloc, TEXT.as_bytes(), map, 16) else {
+        return false;
+    };
+    let are = are_batches(&changes, &moves);
     drop((changes, moves));
+    let Ok(none) = read_changes(alloc, b" \r\n", map) else {
+        return false;
+    };
+    are && none.batches() == 0
+}
+
+#[test]
+fn a_text_gives_its_batches_or_its_first_fault(rt: HostRuntime) -> Result<(), Fail> {
+    let map = map_of(rt.alloc(), E2)?;
+    let are = are_read(rt.alloc(), &map);
+    compare_rows(&rt, rt.alloc(), &map, HALL_FAULTS);
+    drop(map);
+    assert!(rt; are);
     Ok(())
 }
 
-/// The first faults of texts for this map.
-fn compare_faults(rt: &impl Abort, alloc: Global, map: &Map) -> Result<(), Fail> {
-    for row in FAULTS.split(';') {
-        let (text, want) = row.split_once(" => ").ok_or("an arrow")?;
-        let fault = fault_of(alloc, map, text.as_bytes())?;
-        assert_eq!(rt; fault.as_str(), want, "{row}");
-    }
-    Ok(())
-}
+/// What was there before each write, or that it is off the map.
+const WRITES: [Result<u8, OffMap>; 4] = [Ok(0), Ok(9), Err(OffMap), Err(OffMap)];
 
-/// The batches of a text for the map of three cells in a row.
-fn compare_batches(rt: &impl Abort, changes: &Changes) {
-    let first = [
-        Write {
-            x: 2,
-            y: 0,
-            cost: 7,
-        },
-        Write {
-            x: 0,
-            y: 0,
-            cost: 255,
-        },
+/// The costs after them.
+const COSTS: [Option<u8>; 7] = [Some(0), Some(8), Some(0), None, None, None, None];
+
+/// Writes to the middle of three cells in a row, and answers whether the map then has it, and nothing beside its cells.
+fn takes_writes(map: &mut Map) -> bool {
+    let size = (map.width(), map.height());
+    let writes = [
+        map.set(1, 0, 9),
+        map.set(1, 0, 8),
+        map.set(3, 0, 7),
+        map.set(0, -1, 7),
     ];
-    let last = [Write {
-        x: 1,
-        y: 0,
-        cost: 0,
-    }];
-    assert_eq!(rt; changes.batches(), 3);
-    assert_eq!(rt; changes.batch(0), first.as_slice());
-    assert!(rt; changes.batch(1).is_empty());
-    assert_eq!(rt; changes.batch(2), last.as_slice());
-}
-
-/// How many batches a text has.
-fn count_of(alloc: Global, map: &Map, text: &[u8]) -> Result<u32, Fail>
-    requires short { length text.now ≤ 2 ^ 30 }
-{
-    let changes = read_changes(alloc, text, map)?;
-    Ok(changes.batches())
-}
-
-/// The batches of texts for this map.
-fn compare_texts(rt: &impl Abort, alloc: Global, map: &Map) -> Result<(), Fail> {
-    let text =
-        "\t cell +02\t000 007 \r\n\n  \t\ncell 0 0 255\nreplan\r\nreplan\ncell 1 -0 0\n replan";
-    let changes = read_changes(alloc, text.as_bytes(), map)?;
-    compare_batches(rt, &changes);
-    drop(changes);
-    assert_eq!(rt; count_of(alloc, map, b"")?, 0);
-    assert_eq!(rt; count_of(alloc, map, b" \r\n")?, 0);
-    Ok(())
-}
-
-/// Writes to the cells of this map, and none beside them.
-fn compare_writes(rt: &impl Abort, map: &mut Map) {
-    assert_eq!(rt; (map.width(), map.height()), (3, 1));
-    assert_eq!(rt; (map.set(1, 0, 9), map.set(1, 0, 8)), (Ok(0), Ok(9)));
-    for (x, y, cost) in [
-        (0, 0, Some(0)),
-        (1, 0, Some(8)),
-        (2, 0, Some(0)),
-        (3, 0, None),
-        (0, 1, None),
-        (-1, 0, None),
-        (0, -1, None),
-    ] {
-        assert_eq!(rt; map.cost(x, y), cost, "{x} {y}");
-        if cost.is_none() {
-            assert_eq!(rt; map.set(x, y, 7), Err(OffMap));
-        }
-    }
-}
-
-#[test]
-fn a_text_gives_its_first_fault(rt: HostRuntime) -> Result<(), Fail> {
-    let map = row_of_three(rt.alloc())?;
-    let compared = compare_faults(&rt, rt.alloc(), &map);
-    drop(map);
-    compared
-}
-
-#[test]
-fn a_text_gives_its_batches(rt: HostRuntime) -> Result<(), Fail> {
-    let map = row_of_three(rt.alloc())?;
-    let compared = compare_texts(&rt, rt.alloc(), &map);
-    drop(map);
-    compared
-}
-
-#[test]
-fn a_text_gives_where_a_robot_is(rt: HostRuntime) -> Result<(), Fail> {
-    let map = map_of(rt.alloc(), E2)?;
-    let compared = compare_moves(&rt, rt.alloc(), &map);
-    drop(map);
-    compared
-}
-
-#[test]
-fn a_text_that_says_where_a_robot_is_gives_its_first_fault(rt: HostRuntime) -> Result<(), Fail> {
-    let map = map_of(rt.alloc(), E2)?;
-    let compared = compare_start_faults(&rt, rt.alloc(), &map);
-    drop(map);
-    compared
+    let costs = [
+        map.cost(0, 0),
+        map.cost(1, 0),
+        map.cost(2, 0),
+        map.cost(3, 0),
+        map.cost(0, 1),
+        map.cost(-1, 0),
+        map.cost(0, -1),
+    ];
+    size == (3, 1) && writes == WRITES && costs == COSTS
 }
 
 #[test]
 fn a_map_takes_writes_to_its_cells(rt: HostRuntime) -> Result<(), Fail> {
-    let mut map = row_of_three(rt.alloc())?;
-    compare_writes(&rt, &mut map);
+    let mut map = map_of(rt.alloc(), E1)?;
+    compare_rows(&rt, rt.alloc(), &map, ROW_FAULTS);
+    let takes = takes_writes(&mut map);
     drop(map);
+    assert!(rt; takes);
     Ok(())
 }

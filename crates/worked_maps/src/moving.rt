@@ -1,13 +1,12 @@
 //! Plans backwards on a small map, for a robot that moves.
 
-ghost use Rattle.std.specs.Prelude.{◌≡◌, ℕ, IfSome, OnOk};
+ghost use Rattle.std.specs.Prelude.{ℕ, IfSome};
 ghost use Rattle.sbpl_back.specs.Reversed.{reversed};
 ghost use Rattle.sbpl_cost.specs.Lattices.{network_of};
 ghost use Rattle.sbpl_plan.specs.Outcomes.{IsTrueOutcome};
 ghost use Rattle.sbpl_replan.specs.Replanning.{IsReadyBack};
 
-use crate::lattices::made;
-use sample_files::{E2, F2};
+use crate::change::SHUT;
 use sbpl_adstar::AdStar;
 use sbpl_ara::Ara;
 use sbpl_back::turned_round;
@@ -16,12 +15,9 @@ use sbpl_change::are_on_map;
 use sbpl_cost::Lattice;
 use sbpl_fixed::NoMemory;
 use sbpl_graph::Graph;
-use sbpl_map::Write;
 use sbpl_plan::{Ask, FoundPath, Nobody, Outcome};
 use sbpl_replan::{BackReplanner, Replan};
 use std::alloc::Global;
-use std::process::Abort;
-use std::test::Fail;
 
 /// Plans from the end of the environment back to its start.
 fn back_on(alloc: Global, lattice: &Lattice) -> Option<BackReplanner>
@@ -72,82 +68,49 @@ fn next_is(
     arcs: &[u32],
     cost: u64,
     expanded: u64,
-) -> Result<bool, Fail>
-    requires ready { IsReadyBack lattice.now plans.old }
-    ensures ready { OnOk result (IsReadyBack lattice.now plans.new) }
-{
-    let from = plans.labels().start();
-    let planned = plans.plan(alloc, lattice, &AT_ONCE, &mut Nobody)?;
-    let is = is_path(alloc, lattice, from, &planned.outcome, arcs, cost);
-    drop(planned);
-    Ok(is? && plans.expanded() == expanded)
-}
-
-/// The robot is now at a cell, with heading 0.
-fn follow(lattice: &Lattice, plans: &mut BackReplanner, x: u32, y: u32) -> Option<()>
+) -> Option<bool>
     requires ready { IsReadyBack lattice.now plans.old }
     ensures ready { IfSome result (λ _. IsReadyBack lattice.now plans.new) }
 {
-    let start = lattice.state_of(&Place { x, y, t: 0 })?;
-    plans.follow(start);
-    Some(())
-}
-
-/// Makes the plans ready for the map after a write.
-fn change(
-    alloc: Global,
-    lattice: &mut Lattice,
-    plans: &mut BackReplanner,
-    write: Write,
-) -> Result<(), Fail>
-    requires ready { IsReadyBack lattice.old plans.old }
-    ensures ready { OnOk result (IsReadyBack lattice.new plans.new) }
-{
-    if !are_on_map(lattice, &[write]) {
-        return Err(Fail::new("off the map"));
+    let from = plans.labels().start();
+    let Ok(planned) = plans.plan(alloc, lattice, &AT_ONCE, &mut Nobody) else {
+        return None;
+    };
+    let is = is_path(alloc, lattice, from, &planned.outcome, arcs, cost);
+    drop(planned);
+    let expands = plans.expanded() == expanded;
+    match is {
+        Ok(is) => Some(is && expands),
+        Err(_) => None,
     }
-    plans.change(alloc, lattice, &[write])?;
-    Ok(())
 }
 
 /// The robot drives into the way around, which then closes before it.
-fn drive(
-    rt: &impl Abort,
-    alloc: Global,
-    lattice: &mut Lattice,
-    plans: &mut BackReplanner,
-) -> Result<(), Fail>
+fn drives(alloc: Global, lattice: &mut Lattice, plans: &mut BackReplanner) -> Option<bool>
     requires ready { IsReadyBack lattice.old plans.old }
 {
-    assert!(rt; next_is(alloc, lattice, plans, &[2, 1, 3], 100, 5)?);
-    let Some(()) = follow(lattice, plans, 0, 1) else {
-        return Err(Fail::new("no such place"));
+    let around = next_is(alloc, lattice, plans, &[2, 1, 3], 100, 5)?;
+    let there = Place { x: 0, y: 1, t: 0 };
+    let start = lattice.state_of(&there)?;
+    plans.follow(start);
+    let moved = next_is(alloc, lattice, plans, &[1, 3], 75, 0)?;
+    if !are_on_map(lattice, &[SHUT]) {
+        return None;
+    }
+    let Ok(()) = plans.change(alloc, lattice, &[SHUT]) else {
+        return None;
     };
-    assert!(rt; next_is(alloc, lattice, plans, &[1, 3], 75, 0)?);
-    let shut = Write {
-        x: 2,
-        y: 1,
-        cost: 100,
-    };
-    change(alloc, lattice, plans, shut)?;
-    assert!(rt; next_is(alloc, lattice, plans, &[3, 0, 0], 175, 5)?);
-    Ok(())
+    let closed = next_is(alloc, lattice, plans, &[3, 0, 0], 175, 5)?;
+    Some(around && moved && closed)
 }
 
-/// The same of plans that are let go at the end.
-fn drive_on(rt: &impl Abort, alloc: Global, lattice: &mut Lattice) -> Result<(), Fail> {
+/// The same of plans that are let go at the end, and the map is then as it was.
+pub(crate) fn is_driven(alloc: Global, lattice: &mut Lattice) -> bool {
     let Some(mut plans) = back_on(alloc, lattice) else {
-        return Err(Fail::new("memory"));
+        return false;
     };
-    let driven = drive(rt, alloc, lattice, &mut plans);
+    let driven = drives(alloc, lattice, &mut plans);
     drop(plans);
-    driven
-}
-
-#[test]
-fn hall_driven(rt: HostRuntime) -> Result<(), Fail> {
-    let mut hall = made(rt.alloc(), E2, F2, 0)?;
-    let driven = drive_on(&rt, rt.alloc(), &mut hall);
-    drop(hall);
-    driven
+    let free = lattice.set(2, 1, 0).is_ok();
+    driven == Some(true) && free
 }

@@ -1,0 +1,11 @@
+//! Texts that the tests make.
+
+use std::alloc::AllocError;
+
+/// Whether a text was made, and is this one.
+pub(crate) fn reads(made: Result<String, AllocError>, want: &str) -> bool {
+    match made {
+        Ok(text) => text.as_str() == want,
+        Err(_) => false,
+    }
+}
