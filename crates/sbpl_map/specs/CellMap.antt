@@ -7,6 +7,12 @@ pub record CellMap : Type 0 where
   pub height : ℕ
   pub costs : List ℕ
 
+-- a map may have this many cells along x and along y: at least one of each, and at most 2 ^ 23 cells in all
+pub record IsMapSize (columns rows : ℕ) : Type 0 where
+  pub width : (1 ≤ columns) × (columns ≤ 8388608)
+  pub height : (1 ≤ rows) × (rows ≤ 8388608)
+  pub few_cells : columns * rows ≤ 8388608
+
 -- a map has one cost for each cell, in 0..255, and at most 2 ^ 23 cells
 pub record IsCellMap (m : CellMap) : Type 0 where
   pub width : (1 ≤ m.width) × (m.width ≤ 8388608)

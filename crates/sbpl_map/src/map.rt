@@ -1,7 +1,7 @@
 //! The costs of the cells, as they are at present.
 
 ghost use Rattle.std.specs.Prelude.{◌≡◌, ◌*◌, ◌<◌, ◌↔◌, length, IfSome, IsSome, IsOk, IfOk, OnOk, OnErr, Some};
-ghost use Rattle.sbpl_map.specs.CellMap.{cost_at, costs_with, index_in, IsOnMap, IsCellMap, ChangesCell};
+ghost use Rattle.sbpl_map.specs.CellMap.{cost_at, costs_with, index_in, IsOnMap, IsMapSize, IsCellMap, ChangesCell};
 
 use crate::off_map::OffMap;
 use sbpl_cfg::{Env, Grid};
@@ -33,10 +33,21 @@ impl Map {
         ensures map { result ≡ record { width = env.now.width; height = env.now.height; costs = grid } }
         ensures kept { IsCellMap result }
     {
+        Map::plain(env.width, env.height, grid)
+    }
+
+    /// The map of a grid of costs with this many cells along x and along y: 1..8388608 each, and at most 2^23 cells in all. The
+    /// grid has a cost for each of them.
+    pub fn plain(width: u32, height: u32, grid: Grid) -> Map
+        requires ranges { IsMapSize width height }
+        requires size { length grid ≡ width * height }
+        ensures map { result ≡ record { width = width; height = height; costs = grid } }
+        ensures kept { IsCellMap result }
+    {
         let costs = grid.into_vec();
         Map {
-            width: env.width,
-            height: env.height,
+            width,
+            height,
             costs,
         }
     }
