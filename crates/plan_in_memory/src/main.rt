@@ -6,7 +6,8 @@ ghost use Rattle.sbpl_adstar.specs.Planner.{adstar};
 ghost use Rattle.sbpl_cost.specs.Lattices.{network_of};
 ghost use Rattle.sbpl_graph.specs.Path.{IsFreePath};
 ghost use Rattle.sbpl_plan.specs.Outcomes.{IsTrueOutcome};
-ghost use Rattle.sbpl_replan.specs.Replanning.{IsReadyIn, StaysTheSame, standing_of};
+ghost use Rattle.sbpl_replan.specs.OnLattice.{IsReadyOn};
+ghost use Rattle.sbpl_replan.specs.Replanning.{StaysTheSame, standing_of};
 
 mod room;
 
@@ -21,7 +22,7 @@ use sbpl_fixed::NoMemory;
 use sbpl_graph::Graph;
 use sbpl_map::Write;
 use sbpl_plan::{Ask, FoundPath, Nobody, Outcome};
-use sbpl_replan::{Replan, Replanner};
+use sbpl_replan::{LatticeReplanner, Replan};
 use std::alloc::Global;
 use std::io;
 
@@ -55,15 +56,19 @@ fn trip_on(lattice: &Lattice) -> Option<Trip>
 }
 
 /// A planner that repairs its labels where the map changes: Anytime D*.
-fn planner(alloc: Global, lattice: &Lattice, trip: Trip) -> Result<Replanner<AdStar>, NoMemory>
+fn planner(
+    alloc: Global,
+    lattice: &Lattice,
+    trip: Trip,
+) -> Result<LatticeReplanner<AdStar>, NoMemory>
     requires start { trip.start < (network_of lattice.now).states }
     requires goal { trip.goal < (network_of lattice.now).states }
-    ensures ready { IfOk result (IsReadyIn adstar lattice.now) }
+    ensures ready { IfOk result (IsReadyOn adstar lattice.now) }
     ensures start { IfOk result (λ plans. plans.search.labels.start ≡ trip.start) }
     ensures goal { IfOk result (λ plans. plans.search.goal ≡ trip.goal) }
 {
     let search = Ara::open(alloc, lattice.states(), trip.start, trip.goal)?;
-    Replanner::new(alloc, lattice, AdStar::from(search), trip.goal, BUDGET)
+    LatticeReplanner::new(alloc, lattice, AdStar::from(search), trip.goal, BUDGET)
 }
 
 /// The steps of a path: the primitive that is driven, and the cell and the heading that it leads to. That the path is free is what
@@ -113,13 +118,13 @@ fn plan(
     rt: &impl Print,
     alloc: Global,
     lattice: &Lattice,
-    plans: &mut Replanner<AdStar>,
+    plans: &mut LatticeReplanner<AdStar>,
     trip: Trip,
 ) -> anyhow::Result<()>
-    requires ready { IsReadyIn adstar lattice.now plans.old }
+    requires ready { IsReadyOn adstar lattice.now plans.old }
     requires start { plans.old.search.labels.start ≡ trip.start }
     requires goal { plans.old.search.goal ≡ trip.goal }
-    ensures ready { OnOk result (IsReadyIn adstar lattice.now plans.new) }
+    ensures ready { OnOk result (IsReadyOn adstar lattice.now plans.new) }
     ensures same { OnOk result (StaysTheSame (standing_of plans.old) (standing_of plans.new)) }
 {
     let planned = plans.plan(alloc, lattice, &ASK, &mut Nobody)?;
@@ -132,11 +137,11 @@ fn plan(
 fn change(
     alloc: Global,
     lattice: &mut Lattice,
-    plans: &mut Replanner<AdStar>,
+    plans: &mut LatticeReplanner<AdStar>,
     writes: &[Write],
 ) -> anyhow::Result<()>
-    requires ready { IsReadyIn adstar lattice.old plans.old }
-    ensures ready { OnOk result (IsReadyIn adstar lattice.new plans.new) }
+    requires ready { IsReadyOn adstar lattice.old plans.old }
+    ensures ready { OnOk result (IsReadyOn adstar lattice.new plans.new) }
     ensures same { OnOk result (StaysTheSame (standing_of plans.old) (standing_of plans.new)) }
 {
     if !are_on_map(lattice, writes) {
@@ -150,10 +155,10 @@ fn plan_and_repair(
     rt: &impl Print,
     alloc: Global,
     lattice: &mut Lattice,
-    plans: &mut Replanner<AdStar>,
+    plans: &mut LatticeReplanner<AdStar>,
     trip: Trip,
 ) -> anyhow::Result<()>
-    requires ready { IsReadyIn adstar lattice.old plans.old }
+    requires ready { IsReadyOn adstar lattice.old plans.old }
     requires start { plans.old.search.labels.start ≡ trip.start }
     requires goal { plans.old.search.goal ≡ trip.goal }
 {

@@ -8,11 +8,10 @@ use Rattle.sbpl_graph.specs.Network.{Network, IsArc, IsFreeArc}
 use Rattle.sbpl_map.specs.CellMap.{CellMap, cost_at}
 use Rattle.sbpl_map.specs.MapAfter.{AreWritten}
 use Rattle.sbpl_map.specs.declared.write.Write.{Write}
-use Rattle.sbpl_cost.specs.World.{IsWorld, World, over_map}
-use Rattle.sbpl_cost.specs.Lattices.{network_of}
-use Rattle.sbpl_cost.specs.Ends.{at_end}
-use Rattle.sbpl_cost.specs.Reading.{IsEndReading, DifferInCostsAlone, UnreadArcsCostTheSame, MapsChangeNoReads}
-use Rattle.sbpl_cost.specs.declared.arc_end.ArcEnd.{ArcEnd}
+use Rattle.sbpl_terrain.specs.Cells.{Cells, DifferInCostsAlone, IsTerrain}
+use Rattle.sbpl_terrain.specs.Ends.{at_end}
+use Rattle.sbpl_terrain.specs.Reading.{IsEndReading}
+use Rattle.sbpl_terrain.specs.declared.arc_end.ArcEnd.{ArcEnd}
 use Rattle.sbpl_change.specs.Noted.{cell_cmp, AreNoted}
 use Rattle.sbpl_change.specs.Ends.{IsEndOf, AreEndsOf}
 use Rattle.sbpl_change.specs.Affected.{IsAffected, AreAffected, KeepArcsElsewhere}
@@ -38,65 +37,71 @@ same_arc n m s k t rest arc = record {
   head = subst (λ head. head s k ≡ Some t) rest.head arc.head;
 }
 
-module _ (end : ArcEnd) (w : World) (m : CellMap) (rest : DifferInCostsAlone (network_of (over_map w m)) (network_of w)) (reads : MapsChangeNoReads) where
-  end_before : (x y : ℤ) (t : ℕ) → IsEndReading end (over_map w m) x y t → IsEndReading end w x y t
+module _ {W : Type 0} (network : W → Network) (cells : Cells W) (is : IsTerrain network cells) (end : ArcEnd) (w : W) (m : CellMap) (is_made : cells.is_made w) (is_other : cells.is_made (cells.over w m)) where
+  rest : DifferInCostsAlone (network (cells.over w m)) (network w)
+  rest = is.rest w m is_made is_other
+
+  cost_after : (x y : ℤ) → cost_at (cells.map (cells.over w m)) x y ≡ cost_at m x y
+  cost_after x y = ap (λ l. cost_at l x y) (is.map w m)
+
+  end_before : (x y : ℤ) (t : ℕ) → IsEndReading network cells end (cells.over w m) x y t → IsEndReading network cells end w x y t
   end_before x y t h = record {
     source = h.source;
     number = h.number;
     head = h.head;
-    arc = same_arc (network_of (over_map w m)) (network_of w) h.source h.number h.head rest h.arc;
-    reads = (reads w m h.source h.number x y).0 h.reads;
+    arc = same_arc (network (cells.over w m)) (network w) h.source h.number h.head rest h.arc;
+    reads = (is.reads w m h.source h.number x y is_made is_other).0 h.reads;
     at = h.at;
   }
 
   -- the other way round
-  rest_back : DifferInCostsAlone (network_of w) (network_of (over_map w m))
+  rest_back : DifferInCostsAlone (network w) (network (cells.over w m))
   rest_back = record { states = sym rest.states; fan = sym rest.fan; head = sym rest.head; tail_fan = sym rest.tail_fan; tail = sym rest.tail; gap = sym rest.gap }
 
-  end_after : (x y : ℤ) (t : ℕ) → IsEndReading end w x y t → IsEndReading end (over_map w m) x y t
+  end_after : (x y : ℤ) (t : ℕ) → IsEndReading network cells end w x y t → IsEndReading network cells end (cells.over w m) x y t
   end_after x y t h = record {
     source = h.source;
     number = h.number;
     head = h.head;
-    arc = same_arc (network_of w) (network_of (over_map w m)) h.source h.number h.head rest_back h.arc;
-    reads = (reads w m h.source h.number x y).1 h.reads;
+    arc = same_arc (network w) (network (cells.over w m)) h.source h.number h.head rest_back h.arc;
+    reads = (is.reads w m h.source h.number x y is_made is_other).1 h.reads;
     at = h.at;
   }
 
-  module _ (batch : List Write) (costs : BTreeMap (ℕ × ℕ) ℕ) (ends : List ℕ) (noted : AreNoted w.map batch costs) (written : AreWritten w.map batch m) (are : AreEndsOf end (over_map w m) costs ends) where
-    touched_by_end : (t : ℕ) → IsEndOf end (over_map w m) costs t → IsAffected end w m t
+  module _ (batch : List Write) (costs : BTreeMap (ℕ × ℕ) ℕ) (ends : List ℕ) (noted : AreNoted (cells.map w) batch costs) (written : AreWritten (cells.map w) batch m) (are : AreEndsOf network cells end (cells.over w m) costs ends) where
+    touched_by_end : (t : ℕ) → IsEndOf network cells end (cells.over w m) costs t → IsAffected network cells end w m t
     touched_by_end t h = record {
       x = pos h.x;
       y = pos h.y;
-      changed = λ same. h.at.changed (same ∙ noted.sound h.x h.y h.cost h.noted);
+      changed = λ same. h.at.changed (cost_after (pos h.x) (pos h.y) ∙ same ∙ noted.sound h.x h.y h.cost h.noted);
       reads = end_before (pos h.x) (pos h.y) t h.at.reads;
     }
 
-    end_by_note : (x y t : ℕ) (o : Option ℕ) → get cell_cmp costs (x, y) ≡ o → IsSome o → cost_at m (pos x) (pos y) ≢ cost_at w.map (pos x) (pos y) → IsEndReading end w (pos x) (pos y) t → IsEndOf end (over_map w m) costs t
-    end_by_note x y t None is some changed here = absurd (cc)
-    end_by_note x y t (Some c) is some changed here = record {
+    end_by_note : (x y t : ℕ) (o : Option ℕ) → get cell_cmp costs (x, y) ≡ o → IsSome o → cost_at m (pos x) (pos y) ≢ cost_at (cells.map w) (pos x) (pos y) → IsEndReading network cells end w (pos x) (pos y) t → IsEndOf network cells end (cells.over w m) costs t
+    end_by_note x y t None found some changed here = absurd (cc)
+    end_by_note x y t (Some c) found some changed here = record {
       x = x;
       y = y;
       cost = c;
-      noted = is;
-      at = record { changed = λ same. changed (same ∙ sym (noted.sound x y c is)); reads = end_after (pos x) (pos y) t here };
+      noted = found;
+      at = record { changed = λ same. changed (sym (cost_after (pos x) (pos y)) ∙ same ∙ sym (noted.sound x y c found)); reads = end_after (pos x) (pos y) t here };
     }
 
-    end_by_touched : (t : ℕ) → IsAffected end w m t → IsEndOf end (over_map w m) costs t
+    end_by_touched : (t : ℕ) → IsAffected network cells end w m t → IsEndOf network cells end (cells.over w m) costs t
     end_by_touched t h =
-        let to = changed_is_written batch w.map m h.x h.y written h.changed in
+        let to = changed_is_written batch (cells.map w) m h.x h.y written h.changed in
         let v = to.write in
-        let changed : cost_at m (pos v.x) (pos v.y) ≢ cost_at w.map (pos v.x) (pos v.y) = subst (λ y. cost_at m (pos v.x) y ≢ cost_at w.map (pos v.x) y) to.row (subst (λ x. cost_at m x h.y ≢ cost_at w.map x h.y) to.column h.changed) in
-        let here : IsEndReading end w (pos v.x) (pos v.y) t = subst (λ y. IsEndReading end w (pos v.x) y t) to.row (subst (λ x. IsEndReading end w x h.y t) to.column h.reads) in
+        let changed : cost_at m (pos v.x) (pos v.y) ≢ cost_at (cells.map w) (pos v.x) (pos v.y) = subst (λ y. cost_at m (pos v.x) y ≢ cost_at (cells.map w) (pos v.x) y) to.row (subst (λ x. cost_at m x h.y ≢ cost_at (cells.map w) x h.y) to.column h.changed) in
+        let here : IsEndReading network cells end w (pos v.x) (pos v.y) t = subst (λ y. IsEndReading network cells end w (pos v.x) y t) to.row (subst (λ x. IsEndReading network cells end w x h.y t) to.column h.reads) in
         end_by_note v.x v.y t (get cell_cmp costs (v.x, v.y)) refl (noted.complete to.place v to.stands) changed here
 
-    pub ends_are_touched : AreAffected end w m ends
+    pub ends_are_touched : AreAffected network cells end w m ends
     ends_are_touched t = (λ h. touched_by_end t (are.sound t h), λ h. are.complete t (end_by_touched t h))
 
-  module _ (touched : List ℕ) (costs_same : UnreadArcsCostTheSame) (is_world : IsWorld w) (is_other : IsWorld (over_map w m)) (are : AreAffected end w m touched) where
-    same_cost : (s k t : ℕ) → IsArc (network_of w) s k t → (Contains touched (at_end end (s, t)) → ⊥) → (network_of (over_map w m)).cost s k ≡ (network_of w).cost s k
-    same_cost s k t arc none = costs_same w m s k is_world is_other (λ x y read.
-        same_unless (cost_at m x y) (cost_at w.map x y) (λ changed.
+  module _ (touched : List ℕ) (are : AreAffected network cells end w m touched) where
+    same_cost : (s k t : ℕ) → IsArc (network w) s k t → (Contains touched (at_end end (s, t)) → ⊥) → (network (cells.over w m)).cost s k ≡ (network w).cost s k
+    same_cost s k t arc none = is.costs w m s k is_made is_other (λ x y read.
+        same_unless (cost_at m x y) (cost_at (cells.map w) x y) (λ changed.
         none ((are (at_end end (s, t))).1 (record {
           x = x;
           y = y;
@@ -104,16 +109,16 @@ module _ (end : ArcEnd) (w : World) (m : CellMap) (rest : DifferInCostsAlone (ne
           reads = record { source = s; number = k; head = t; arc = arc; reads = read; at = refl };
         }))))
 
-    free_after : (s k t c : ℕ) → (Contains touched (at_end end (s, t)) → ⊥) → IsFreeArc (network_of w) s k t c → IsFreeArc (network_of (over_map w m)) s k t c
+    free_after : (s k t c : ℕ) → (Contains touched (at_end end (s, t)) → ⊥) → IsFreeArc (network w) s k t c → IsFreeArc (network (cells.over w m)) s k t c
     free_after s k t c none free =
-        let arc : IsArc (network_of w) s k t = record { source = free.source; number = free.number; head = free.head } in
-        let there = same_arc (network_of w) (network_of (over_map w m)) s k t rest_back arc in
+        let arc : IsArc (network w) s k t = record { source = free.source; number = free.number; head = free.head } in
+        let there = same_arc (network w) (network (cells.over w m)) s k t rest_back arc in
         record { source = there.source; number = there.number; head = there.head; cost = same_cost s k t arc none ∙ free.cost }
 
-    free_before : (s k t c : ℕ) → (Contains touched (at_end end (s, t)) → ⊥) → IsFreeArc (network_of (over_map w m)) s k t c → IsFreeArc (network_of w) s k t c
+    free_before : (s k t c : ℕ) → (Contains touched (at_end end (s, t)) → ⊥) → IsFreeArc (network (cells.over w m)) s k t c → IsFreeArc (network w) s k t c
     free_before s k t c none free =
-        let arc = same_arc (network_of (over_map w m)) (network_of w) s k t rest (record { source = free.source; number = free.number; head = free.head }) in
+        let arc = same_arc (network (cells.over w m)) (network w) s k t rest (record { source = free.source; number = free.number; head = free.head }) in
         record { source = arc.source; number = arc.number; head = arc.head; cost = sym (same_cost s k t arc none) ∙ free.cost }
 
-    pub arcs_kept_elsewhere : KeepArcsElsewhere end (network_of w) (network_of (over_map w m)) touched
+    pub arcs_kept_elsewhere : KeepArcsElsewhere end (network w) (network (cells.over w m)) touched
     arcs_kept_elsewhere s k t c none = (free_after s k t c none, free_before s k t c none)

@@ -6,22 +6,22 @@ ghost use Rattle.std.specs.List.Sorted.{IsStrictlyIncreasing};
 ghost use Rattle.sbpl_change.specs.Ends.{AddsEndsOf, AreEndsOf};
 
 use crate::costs::{Costs, present_cost};
-use sbpl_cost::{ArcEnd, Lattice};
 use sbpl_fixed::NoMemory;
+use sbpl_terrain::{ArcEnd, Terrain};
 
 /// Adds the states at this end of the arcs that read cell `(x, y)`, unless that costs what it did.
-fn add_ends(
-    lattice: &Lattice,
+fn add_ends<W: Terrain>(
+    world: &W,
     x: u32,
     y: u32,
     was: u8,
     end: ArcEnd,
     ends: &mut Vec<u32>,
 ) -> Result<(), NoMemory>
-    ensures added { OnOk result (AddsEndsOf end lattice.now x y was ends.old.items ends.new.items) }
+    ensures added { OnOk result (AddsEndsOf W.network W.cells end world.now x y was ends.old.items ends.new.items) }
 {
-    if present_cost(lattice, x, y) != Some(was) {
-        lattice.ends_reading(x, y, end, ends)?;
+    if present_cost(world, x, y) != Some(was) {
+        world.ends_reading(x, y, end, ends)?;
     }
     Ok(())
 }
@@ -36,18 +36,18 @@ fn list_once(states: &mut Vec<u32>)
 }
 
 /// Adds the states at this end of the arcs that read cells whose costs are not what they were, each once, upwards.
-pub(crate) fn add_changed_ends(
-    lattice: &Lattice,
+pub(crate) fn add_changed_ends<W: Terrain>(
+    world: &W,
     costs: &Costs,
     end: ArcEnd,
     ends: &mut Vec<u32>,
 ) -> Result<(), NoMemory>
     requires empty { ends.old.items ≡ [] }
-    ensures ends { OnOk result (AreEndsOf end lattice.now costs.now ends.new.items) }
+    ensures ends { OnOk result (AreEndsOf W.network W.cells end world.now costs.now ends.new.items) }
     ensures once { OnOk result (IsStrictlyIncreasing ends.new.items) }
 {
     for (cell, was) in costs {
-        add_ends(lattice, cell.0, cell.1, *was, end, ends)?;
+        add_ends(world, cell.0, cell.1, *was, end, ends)?;
     }
     list_once(ends);
     Ok(())

@@ -1,4 +1,4 @@
-//! Batches of changes of a lattice's map, and the states that they touch.
+//! Batches of changes of the map under a graph, and the states that they touch.
 #![tactic(auto)]
 
 mod batch;

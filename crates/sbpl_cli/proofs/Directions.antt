@@ -11,12 +11,12 @@ use Rattle.sbpl_cost.specs.States.{state_count}
 use Rattle.sbpl_cost.specs.World.{World}
 use Rattle.sbpl_job.specs.declared.job.Planner.{Planner}
 use Rattle.sbpl_job.specs.declared.job.Planner.TheVariants as planner
-use Rattle.sbpl_replan.specs.Directions.{Direction, backwards, forwards}
-use Rattle.sbpl_cli.specs.Asked.{checked_direction, known}
+use Rattle.sbpl_replan.specs.Directions.{Direction}
+use Rattle.sbpl_cli.specs.Asked.{checked_direction, known, lattice_backwards, lattice_forwards}
 use Rattle.sbpl_cli.proofs.SameGuide.{best_moved, made, one_best}
 
 -- worlds with one graph have one graph in this direction, with all states, and one guide at them
-pub record IsAlike (d : Direction) : Type 0 where
+pub record IsAlike (d : Direction World) : Type 0 where
   pub network : (w v : World) → network_of w ≡ network_of v → d.network w ≡ d.network v
   pub states : (w : World) → (d.network w).states ≡ state_count w.env
   pub guides : (e : Environment) (ps : Primitives) (sweeps others : Swept) (m : CellMap) (start goal : ℕ) (h h' : ℕ → ℕ)
@@ -24,7 +24,7 @@ pub record IsAlike (d : Direction) : Type 0 where
       → (s : ℕ) → s < state_count e → h s ≡ h' s
   pub moved : (v w : World) (start goal : ℕ) (h : ℕ → ℕ) → v.env ≡ w.env → v.prims ≡ w.prims → v.map ≡ w.map → network_of v ≡ network_of w → d.guides v start goal h → d.guides w start goal h
 
-alike_forwards : IsAlike forwards
+alike_forwards : IsAlike lattice_forwards
 alike_forwards = record {
   network = λ w v same. same;
   states = states_are;
@@ -32,7 +32,7 @@ alike_forwards = record {
   moved = λ v w start goal h env prims map same x. best_moved v w goal h env prims map same x;
 }
 
-alike_backwards : IsAlike backwards
+alike_backwards : IsAlike lattice_backwards
 alike_backwards = record {
   network = λ w v same. ap reversed same;
   states = states_are;
@@ -55,13 +55,13 @@ alike_known planner.Back = alike_backwards
 alike_known planner.Epase = alike_forwards
 
 -- what is found leads to one path
-abbrev pub LeadsOnce : Direction → Type 0
+abbrev pub LeadsOnce : Direction World → Type 0
 LeadsOnce d = (w v : World) (start goal : ℕ) (found path other : List ℕ) → network_of w ≡ network_of v → d.leads w start goal found path → d.leads v start goal found other → path ≡ other
 
-leads_forwards : LeadsOnce forwards
+leads_forwards : LeadsOnce lattice_forwards
 leads_forwards w v start goal found path other same x y = x ∙ sym y
 
-leads_backwards : PathsTurnOnce → LeadsOnce backwards
+leads_backwards : PathsTurnOnce → LeadsOnce lattice_backwards
 leads_backwards once w v start goal found path other same x y =
     once (network_of v) goal start found path other (subst (λ (n : Network). AreTurned n goal found start path) same x) y
 

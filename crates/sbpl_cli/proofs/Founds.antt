@@ -1,5 +1,5 @@
 -- What is published while plans are made.
-use Rattle.std.proofs.Common.{◌≡◌, ◌⊎◌, ℕ, ◌+◌, Bool, List, [], ◌∷◌, ◌++◌, map, Option, Result, Ok, Err, IfOk, refl, sym, ◌∙◌, ap, subst, inl, inr}
+use Rattle.std.proofs.Common.{◌≡◌, ℕ, ◌+◌, Bool, List, [], ◌∷◌, ◌++◌, map, Option, Result, Ok, Err, IfOk, refl, sym, ◌∙◌, ap, subst, inl, inr}
 use Rattle.std.specs.Prelude.{OnErr}
 use Rattle.sbpl_incumbent.specs.Entries.{next_entry}
 use Rattle.sbpl_labels.specs.Counts.{Counts}
@@ -14,7 +14,7 @@ use Rattle.sbpl_plan.specs.Asked.{lowered}
 use Rattle.sbpl_plan.specs.Observed.{AreTold, IsTold}
 use Rattle.sbpl_plan.specs.OutOfMemory.{IsPartOfPlan}
 use Rattle.sbpl_plan.specs.Passing.{AreFirstPasses, ArePasses, Inquiry, inquiry_of}
-use Rattle.sbpl_replan.specs.Replanning.{Standing, StandsOutOfMemory, at_plan, inquiry}
+use Rattle.sbpl_replan.specs.Replanning.{Standing, StandsOutOfMemory, inquiry}
 use Rattle.sbpl_cost.specs.World.{World}
 use Rattle.sbpl_job.specs.declared.job.Outputs.{Outputs}
 use Rattle.sbpl_job.specs.declared.job.SearchJob.{SearchJob}

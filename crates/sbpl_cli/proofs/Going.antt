@@ -4,6 +4,8 @@ use Rattle.std.proofs.lemmas.Option.{slice_get_within}
 use Rattle.sbpl_desk.specs.Desk.{NoneFalls, Stays}
 use Rattle.sbpl_desk.specs.declared.desk.WriteStop.{WriteStop}
 use Rattle.sbpl_desk.specs.declared.desk.WriteStop.TheVariants.{NoMemory}
+use Rattle.sbpl_cost.specs.Cells.{lattice_cells}
+use Rattle.sbpl_cost.specs.Lattices.{network_of}
 use Rattle.sbpl_cost.specs.World.{IsWorld, World, over_map}
 use Rattle.sbpl_job.specs.declared.job.Outputs.{Outputs}
 use Rattle.sbpl_job.specs.declared.job.Planner.{Planner}
@@ -183,7 +185,7 @@ module _ (by : Known) (written_of : PlanRecord → List Write) (w : World) (batc
     pub changes : (next : World) (next_start : ℕ) (t u : Standing by.Note) (batch : List change.Write)
         → ((first m m' : CellMap) (bs : List (List change.Write)) (n : ℕ) (l : List change.Write) → IsMapAfter first bs n m → slice_get bs n ≡ Some l → AreWritten m l m' → IsMapAfter first bs (n + 1) m')
         → NextEnds (Ok tt) → NoneFalls b.write_faults c.write_faults → IsSetFor by.direction how start goal s → slice_get batches k ≡ Some batch → AreWritten now.map batch next.map → next ≡ record now { map = next.map } → IsWorld next
-        → BeginsWith by.means by.direction now next s.search.labels t.search.labels t.search.raised → StaysTheSame s t → t.counts ≡ s.counts
+        → BeginsWith by.means network_of lattice_cells by.direction now next s.search.labels t.search.labels t.search.raised → StaysTheSame s t → t.counts ≡ s.counts
         → next_start ≡ starts (k + 1) → (by.direction.moves ≡ false → next_start ≡ start) → Follows by.direction next_start t u → IsGoing next (k + 1) next_start first shown u a c
     changes next next_start t u batch law made low set at written others kept begins stays counts start_is still follows = record {
       same = others ∙ ap (λ (v : World). record v { map = next.map }) going.same;
@@ -197,9 +199,9 @@ module _ (by : Known) (written_of : PlanRecord → List Write) (w : World) (batc
       };
       before = Some (carried_of now s);
       goes_on = record {
-        begins = subst (λ (v : World). BeginsWith by.means by.direction v next s.search.labels u.search.labels u.search.raised) (sym back)
-            (subst (λ (l : List ℕ). BeginsWith by.means by.direction now next s.search.labels u.search.labels l) (sym follows.raised)
-            (subst (λ (m : Marks). BeginsWith by.means by.direction now next s.search.labels m t.search.raised) (sym follows.labels) begins));
+        begins = subst (λ (v : World). BeginsWith by.means network_of lattice_cells by.direction v next s.search.labels u.search.labels u.search.raised) (sym back)
+            (subst (λ (l : List ℕ). BeginsWith by.means network_of lattice_cells by.direction now next s.search.labels u.search.labels l) (sym follows.raised)
+            (subst (λ (m : Marks). BeginsWith by.means network_of lattice_cells by.direction now next s.search.labels m t.search.raised) (sym follows.labels) begins));
         counted = ap (λ (n : Counts). n.run) (sym counts ∙ sym follows.counts);
       };
       ends = λ d status later e. tells d status later made low e;

@@ -1,5 +1,5 @@
 -- What a run promises, by how it ends.
-use Rattle.std.proofs.Common.{◌≡◌, ℕ, List, Option, arith}
+use Rattle.std.proofs.Common.{ℕ, List, Option, arith}
 use Rattle.sbpl_cost.specs.Alike.{AlikeWorldsAreOneGraph}
 use Rattle.sbpl_desk.specs.Desk.{DeskState}
 use Rattle.sbpl_job.specs.declared.job.Job.{Job}

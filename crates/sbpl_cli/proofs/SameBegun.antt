@@ -7,8 +7,10 @@ use Rattle.sbpl_mprim.specs.Primitives.{Primitives}
 use Rattle.sbpl_sweep.specs.Swept.{Swept}
 use Rattle.sbpl_map.specs.CellMap.{CellMap}
 use Rattle.sbpl_cost.specs.Lattices.{network_of, states_are}
-use Rattle.sbpl_cost.specs.Reading.{IsEndReading}
-use Rattle.sbpl_cost.specs.declared.arc_end.ArcEnd.{ArcEnd}
+use Rattle.sbpl_terrain.specs.Reading.{IsEndReading}
+use Rattle.sbpl_cost.specs.Cells.{lattice_cells}
+use Rattle.sbpl_cost.specs.World.{World}
+use Rattle.sbpl_terrain.specs.declared.arc_end.ArcEnd.{ArcEnd}
 use Rattle.sbpl_cost.specs.States.{state_count}
 use Rattle.sbpl_change.specs.Affected.{IsAffected}
 use Rattle.sbpl_labels.specs.Marks.{AreInitial, Marks, states_of, back_of}
@@ -23,10 +25,10 @@ use Rattle.sbpl_cli.proofs.SameGuide.{made}
 
 -- which states a change touches does not depend on the tables of sweeps
 touched_on : (end : ArcEnd) (e : Environment) (ps : Primitives) (sweeps others : Swept) (m now : CellMap) → network_of (made e ps sweeps m) ≡ network_of (made e ps others m)
-    → sweeps.radius ≡ others.radius → (t : ℕ) → IsAffected end (made e ps sweeps m) now t → IsAffected end (made e ps others m) now t
+    → sweeps.radius ≡ others.radius → (t : ℕ) → IsAffected network_of lattice_cells end (made e ps sweeps m) now t → IsAffected network_of lattice_cells end (made e ps others m) now t
 touched_on end e ps sweeps others m now same radius t is =
     let r = is.reads.reads in
-    let reading : IsEndReading end (made e ps others m) is.x is.y t = record {
+    let reading : IsEndReading network_of lattice_cells end (made e ps others m) is.x is.y t = record {
       source = is.reads.source;
       number = is.reads.number;
       head = is.reads.head;
@@ -61,9 +63,9 @@ module _ (e : Environment) (ps : Primitives) (sweeps others : Swept) (radius : s
         let own : AreInitial b (network_of (made e ps sweeps m)).states start = rw same y.0 in
         record { same = initial a b _ start x.0 own; raised = x.1 ∙ sym y.1; states = x.0.states ∙ states_are (made e ps sweeps m); no_arc = x.0.no_arc a.start }
 
-    module _ {Note : Type 0} (means : Meaning Note) (law : AreBeginningsDetermined means) (d : Direction) (alike : IsAlike d) where
+    module _ {Note : Type 0} (means : Meaning Note) (law : AreBeginningsDetermined means) (d : Direction World) (alike : IsAlike d) where
       with_begun : (m : CellMap) (left : Carried) (a b : Marks) (xs ys : List ℕ) → network_of (made e ps sweeps m) ≡ network_of (made e ps others m) → IsCarried left
-          → BeginsWith means d (made e ps sweeps left.map) (made e ps sweeps m) left.labels a xs → BeginsWith means d (made e ps others left.map) (made e ps others m) left.labels b ys
+          → BeginsWith means network_of lattice_cells d (made e ps sweeps left.map) (made e ps sweeps m) left.labels a xs → BeginsWith means network_of lattice_cells d (made e ps others left.map) (made e ps others m) left.labels b ys
           → AreBegun e a b xs ys
       with_begun m left a b xs ys same carried x y =
           let n : Network = d.network (made e ps sweeps m) in

@@ -10,7 +10,7 @@ use Rattle.sbpl_cert.specs.declared.outcome.Outcome.{Outcome}
 use Rattle.sbpl_cert.specs.Text.{HasFault}
 use Rattle.sbpl_map.specs.MapAfter.{IsMapAfter}
 use Rattle.sbpl_cost.specs.Lattices.{network_of}
-use Rattle.sbpl_heur.specs.Bests.{Fits, IsBest, Table, distance_in}
+use Rattle.sbpl_heur.specs.Bests.{Fits, IsBest, IsBestGuide, Table, distance_in}
 use Rattle.sbpl_cost.specs.States.{state_count}
 use Rattle.sbpl_cost.specs.World.{IsWorld, World, over_map}
 use Rattle.sbpl_cli.specs.declared.section_check.SectionStop.{SectionStop}
@@ -21,7 +21,7 @@ use Rattle.sbpl_back.specs.Reversed.{reversed}
 use Rattle.sbpl_back.specs.Starts.{StartIn, from_start}
 use Rattle.sbpl_cli.specs.Asked.{checked_direction}
 use Rattle.sbpl_cli.specs.Headline.{start_after}
-use Rattle.sbpl_cli.specs.Searched.{IsBestGuide, IsSearchedIn}
+use Rattle.sbpl_cli.specs.Searched.{IsSearchedIn}
 use Rattle.sbpl_cli.specs.declared.check_job.Searched.{Searched}
 use Rattle.sbpl_cli.specs.declared.check_job.Searched.TheVariants.{Backwards, Forwards}
 use Rattle.sbpl_cli.specs.declared.course.Course.{Course}

@@ -14,6 +14,9 @@ use Rattle.sbpl_job.specs.declared.job.Outputs.{Outputs}
 use Rattle.sbpl_job.specs.declared.job.Planner.{Planner}
 use Rattle.sbpl_job.specs.declared.job.Planner.TheVariants as planner
 use Rattle.sbpl_job.specs.declared.job.SearchJob.{SearchJob}
+use Rattle.sbpl_cost.specs.Lattices.{network_of}
+use Rattle.sbpl_cost.specs.World.{World}
+use Rattle.sbpl_heur.specs.Bests.{IsBest}
 use Rattle.sbpl_replan.specs.Directions.{Direction, backwards, forwards}
 
 -- what a plan is asked for
@@ -28,21 +31,29 @@ is_determined planner.AdStar = true
 is_determined planner.Back = true
 is_determined planner.Epase = false
 
+-- from the start over the lattice, by the best heuristic
+abbrev pub lattice_forwards : Direction World
+lattice_forwards = forwards network_of IsBest
+
+-- from the goal over the reversed lattice, by the gap from the start
+abbrev pub lattice_backwards : Direction World
+lattice_backwards = backwards network_of
+
 -- a planner as the program knows it: what its passes note, what its calls mean, how a note is told in a trace, and in which direction
 -- it searches
 pub record Known : Type 1 where
   pub Note : Type 0
   pub means : Meaning Note
   pub line : Note → TraceLine
-  pub direction : Direction
+  pub direction : Direction World
 
 abbrev pub known : Planner → Known
-known planner.Ara = record { Note = Step; means = ara; line = line_of; direction = forwards }
-known planner.AdStar = record { Note = Step; means = adstar; line = line_of; direction = forwards }
-known planner.Back = record { Note = Step; means = adstar; line = line_of; direction = backwards }
-known planner.Epase = record { Note = Event; means = epase; line = line_of_event; direction = forwards }
+known planner.Ara = record { Note = Step; means = ara; line = line_of; direction = lattice_forwards }
+known planner.AdStar = record { Note = Step; means = adstar; line = line_of; direction = lattice_forwards }
+known planner.Back = record { Note = Step; means = adstar; line = line_of; direction = lattice_backwards }
+known planner.Epase = record { Note = Event; means = epase; line = line_of_event; direction = lattice_forwards }
 
 -- the direction in which labels are checked: that of the planner `back`, or that of the others
-abbrev pub checked_direction : (back : Bool) → Direction
-checked_direction true = backwards
-checked_direction false = forwards
+abbrev pub checked_direction : (back : Bool) → Direction World
+checked_direction true = lattice_backwards
+checked_direction false = lattice_forwards

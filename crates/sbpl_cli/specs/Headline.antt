@@ -10,6 +10,7 @@ use Rattle.sbpl_cfg.specs.Environment.{Environment, IsPlaceOf}
 use Rattle.sbpl_mprim.specs.declared.prim.Primitive.{Primitive}
 use Rattle.sbpl_cost.specs.Arc.{HasLatticeArcs}
 use Rattle.sbpl_cost.specs.TailOrder.{HasLatticeTails}
+use Rattle.sbpl_cost.specs.Cells.{lattice_cells}
 use Rattle.sbpl_cost.specs.World.{IsWorld, World, over_map}
 use Rattle.sbpl_cost.specs.States.{place_of, state_number}
 use Rattle.sbpl_cost.specs.Lattices.{network_of, arc_primitive}
@@ -136,9 +137,9 @@ expanded_before (Some b) = b.expanded
 
 -- the labels that a plan in a world begins with, and the states that were raised for it: initial ones, with the state from which the
 -- search goes as their start, and none; and after another plan what the planner makes of the labels that it left
-abbrev pub Begins : {Note : Type 0} → Meaning Note → Direction → World → (from : ℕ) → Option Carried → Marks → (raised : List ℕ) → Type 0
+abbrev pub Begins : {Note : Type 0} → Meaning Note → Direction World → World → (from : ℕ) → Option Carried → Marks → (raised : List ℕ) → Type 0
 Begins means d w from None m raised = AreInitial m (network_of w).states from × (raised ≡ [])
-Begins means d w from (Some b) m raised = BeginsWith means d (over_map w b.map) w b.labels m raised
+Begins means d w from (Some b) m raised = BeginsWith means network_of lattice_cells d (over_map w b.map) w b.labels m raised
 
 -- a plan that was spent is marked with its expansions, which are the budget, or the run's are 2 ^ 30; one that was not is not marked
 abbrev pub IsMarked : (budget before : ℕ) → Bool → PlanRecord → Type 0

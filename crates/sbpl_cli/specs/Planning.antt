@@ -33,7 +33,7 @@ abbrev pub state_or : Environment → Option Place → (start : ℕ) → ℕ
 state_or e place start = unwrap_or (option_map (state_number e) place) start
 
 -- the plans go from this start to this goal, with the budget that is asked
-pub record IsSetFor {Note : Type 0} (d : Direction) (how : SearchJob) (start goal : ℕ) (s : Standing Note) : Type 0 where
+pub record IsSetFor {Note : Type 0} (d : Direction World) (how : SearchJob) (start goal : ℕ) (s : Standing Note) : Type 0 where
   pub between : GoesBetween d start goal s
   pub budget_is : s.counts.per_plan ≡ how.budget
 
@@ -42,7 +42,7 @@ abbrev pub carried_of : {Note : Type 0} → World → Standing Note → Carried
 carried_of w s = record { map = w.map; labels = s.search.labels; expanded = s.counts.run }
 
 -- the next plan in a world, whose search goes from this state, goes on from the plans before it
-pub record GoesOnFrom {Note : Type 0} (means : Meaning Note) (d : Direction) (w : World) (from : ℕ) (before : Option Carried) (s : Standing Note) : Type 0 where
+pub record GoesOnFrom {Note : Type 0} (means : Meaning Note) (d : Direction World) (w : World) (from : ℕ) (before : Option Carried) (s : Standing Note) : Type 0 where
   pub begins : Begins means d w from before s.search.labels s.search.raised
   pub counted : expanded_before before ≡ s.counts.run
 

@@ -1,5 +1,5 @@
 -- What plans publish: an entry for each pass whose walk gave a path, in order.
-use Rattle.std.specs.Prelude.{ℕ, ◌+◌, List, [], ◌∷◌, ◌++◌, map, Option, Some, None}
+use Rattle.std.specs.Prelude.{ℕ, ◌+◌, List, [], ◌∷◌, ◌++◌, map}
 use Rattle.sbpl_incumbent.specs.Entries.{next_entry}
 pub use Rattle.sbpl_incumbent.specs.Entries.{newest}
 pub use Rattle.sbpl_incumbent.specs.declared.entry.Entry.{Entry}

@@ -8,10 +8,9 @@ ghost use Rattle.sbpl_heur.specs.Bests.{IsGuide, distance_in};
 ghost use Rattle.sbpl_job.specs.Jobs.{IsSearchJob, may_move};
 ghost use Rattle.sbpl_labels.specs.Marks.{AreInitial};
 ghost use Rattle.sbpl_search.specs.Ready.{IsStartFresh};
-ghost use Rattle.sbpl_replan.specs.Directions.{forwards};
 ghost use Rattle.sbpl_job.specs.declared.job.Planner.TheVariants as Planners;
 ghost use Rattle.sbpl_search.specs.Query.{query};
-ghost use Rattle.sbpl_cli.specs.Asked.{known};
+ghost use Rattle.sbpl_cli.specs.Asked.{known, lattice_forwards};
 ghost use Rattle.sbpl_cli.specs.Causes.{IsCourseIn};
 ghost use Rattle.sbpl_cli.specs.Headline.{start_after};
 ghost use Rattle.sbpl_cli.specs.Promises.{EndsPlans};
@@ -32,7 +31,7 @@ use sbpl_graph::Graph;
 use sbpl_heur::Best;
 use sbpl_incumbent::Publisher;
 use sbpl_job::{Outputs, Planner, SearchJob};
-use sbpl_replan::{BackReplanner, Replanner};
+use sbpl_replan::{BackReplanner, LatticeReplanner};
 use sbpl_search::Search;
 use std::alloc::Global;
 use std::sync::Wait;
@@ -68,11 +67,11 @@ where
     requires to_goal { (S.state search).goal ≡ goal }
     requires fresh { IsStartFresh (S.state search).labels }
     requires serves { S.serves search }
-    ensures ends { EndsPlans (record { Note = S.Note; means = S.meaning; line = S.Note.line; direction = forwards }) (T.written telling.now) lattice.old course.now.batches how.now outputs.now (start_after lattice.old.env start course.now.moves) goal 0 publisher.old.published publisher.new.published None (D.state desk.old) (D.state desk.new) result }
+    ensures ends { EndsPlans (record { Note = S.Note; means = S.meaning; line = S.Note.line; direction = lattice_forwards }) (T.written telling.now) lattice.old course.now.batches how.now outputs.now (start_after lattice.old.env start course.now.moves) goal 0 publisher.old.published publisher.new.published None (D.state desk.old) (D.state desk.new) result }
     ensures board { publisher.new.board ≡ publisher.old.board }
     ensures frame { WritesOnly (T.under telling.now) (D.state desk.old) (D.state desk.new) }
 {
-    match Replanner::new(alloc, lattice, search, goal, how.budget) {
+    match LatticeReplanner::new(alloc, lattice, search, goal, how.budget) {
         Ok(mut replanner) => go_through(
             alloc,
             lattice,

@@ -21,12 +21,12 @@ use sbpl_graph::Graph;
 use sbpl_heur::Best;
 use sbpl_job::LabelForm;
 use sbpl_plan::{Arcs, FoundPath, Outcome};
-use sbpl_replan::{BackReplanner, Replan, Replanner};
+use sbpl_replan::{BackReplanner, LatticeReplanner, Replan};
 use sbpl_search::Search;
 use std::alloc::Global;
 
 /// Plans of which records are made.
-pub(crate) trait Recorded: Replan {
+pub(crate) trait Recorded: Replan<Lattice> {
     /// The section of the labels that plan `plan` left, which went from `start` to `goal` and had this result; where it is asked for.
     fn section(
         &self,
@@ -62,7 +62,7 @@ pub(crate) trait Recorded: Replan {
         ensures turned { IfOk result (IsTurned (Self.direction.leads lattice.now start goal) found) };
 }
 
-impl<S: Search<Lattice, Best> + Drop> Recorded for Replanner<S> {
+impl<S: Search<Lattice, Best> + Drop> Recorded for LatticeReplanner<S> {
     fn section(
         &self,
         alloc: Global,

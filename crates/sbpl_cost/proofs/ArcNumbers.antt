@@ -9,8 +9,8 @@ use Rattle.sbpl_mprim.specs.declared.prim.Primitive.{Primitive}
 use Rattle.sbpl_mprim.specs.Primitives.{IsPrimitive}
 use Rattle.sbpl_cost.specs.Ends.{heading_at}
 use Rattle.sbpl_cost.specs.Tables.{AreNumbers}
-use Rattle.sbpl_cost.specs.declared.arc_end.ArcEnd.{ArcEnd}
-use Rattle.sbpl_cost.specs.declared.arc_end.ArcEnd.TheVariants as end
+use Rattle.sbpl_terrain.specs.declared.arc_end.ArcEnd.{ArcEnd}
+use Rattle.sbpl_terrain.specs.declared.arc_end.ArcEnd.TheVariants as end
 use Rattle.sbpl_cost.proofs.Filling.{IsFilled, filled_more}
 
 -- n is the number of the primitive at this index among those with its heading at this end

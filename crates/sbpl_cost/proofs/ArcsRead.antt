@@ -18,10 +18,12 @@ use Rattle.sbpl_cost.specs.States.{IsPlace, place_of, state_number, state_count,
 use Rattle.sbpl_cost.specs.World.{World, IsWorld}
 use Rattle.sbpl_cost.specs.Arc.{IsArcBy}
 use Rattle.sbpl_cost.specs.Lattices.{leaving, arc_index, head_by, network_of}
-use Rattle.sbpl_cost.specs.Ends.{at_end}
-use Rattle.sbpl_cost.specs.Reading.{IsEndReading, AddsEnds, end_of, ends_by_offset, ends_from, ends_of_read, end_of_read, AreReadable}
-use Rattle.sbpl_cost.specs.declared.arc_end.ArcEnd.{ArcEnd}
-use Rattle.sbpl_cost.specs.declared.arc_end.ArcEnd.TheVariants as end
+use Rattle.sbpl_terrain.specs.Ends.{at_end}
+use Rattle.sbpl_terrain.specs.Reading.{IsEndReading}
+use Rattle.sbpl_cost.specs.Cells.{lattice_cells}
+use Rattle.sbpl_cost.specs.Reading.{AddsFewEnds, end_of, ends_by_offset, ends_from, ends_of_read, end_of_read, AreReadable}
+use Rattle.sbpl_terrain.specs.declared.arc_end.ArcEnd.{ArcEnd}
+use Rattle.sbpl_terrain.specs.declared.arc_end.ArcEnd.TheVariants as end
 use Rattle.sbpl_cost.proofs.Numbered.{numbered_at}
 use Rattle.sbpl_cost.proofs.Filling.{take_next}
 use Rattle.sbpl_cost.proofs.PlaceLaws.{place_of_state, place_of_state_number, state_of_place_of}
@@ -184,7 +186,7 @@ module _ (w : World) (is_world : IsWorld w) where
   source_of s k t arc = arc.source
 
   -- what a read answers is the end of an arc that reads the cell
-  pub answered : (end : ArcEnd) (j : ℕ) (r : Read) (x y : ℤ) (z : ℕ) → slice_get w.sweeps.reads j ≡ Some r → end_of_read end w.env w.prims.items x y r ≡ Some z → IsEndReading end w x y z
+  pub answered : (end : ArcEnd) (j : ℕ) (r : Read) (x y : ℤ) (z : ℕ) → slice_get w.sweeps.reads j ≡ Some r → end_of_read end w.env w.prims.items x y r ≡ Some z → IsEndReading network_of lattice_cells end w x y z
   unfolding ends_of_read
   answered end j r x y z at h =
       let ends = mapped (at_end end) (ends_of_read w.env w.prims.items x y r) z h in
@@ -223,7 +225,7 @@ module _ (w : World) (is_world : IsWorld w) where
       }
 
   -- the end of an arc that reads the cell is what a read answers
-  pub asked : (end : ArcEnd) (x y : ℤ) (z : ℕ) → IsEndReading end w x y z → (j : ℕ) × ((r : Read) × (slice_get w.sweeps.reads j ≡ Some r) × (end_of_read end w.env w.prims.items x y r ≡ Some z))
+  pub asked : (end : ArcEnd) (x y : ℤ) (z : ℕ) → IsEndReading network_of lattice_cells end w x y z → (j : ℕ) × ((r : Read) × (slice_get w.sweeps.reads j ≡ Some r) × (end_of_read end w.env w.prims.items x y r ≡ Some z))
   unfolding ends_of_read
   asked end x y z reading =
       let s = reading.source in
@@ -248,17 +250,19 @@ module _ (w : World) (is_world : IsWorld w) where
   end_is_state end.Source s k t z arc is = subst (λ n. n < (network_of w).states) (sym is) arc.source
   end_is_state end.Head s k t z arc is = subst (λ n. n < (network_of w).states) (sym is) ((sound w is_world).head_is_state s k t arc.source arc.number arc.head)
 
-  pub adds_ends : (end : ArcEnd) (x y : ℤ) (old new : List ℕ) → new ≡ old ++ filter_map (end_of_read end w.env w.prims.items x y) w.sweeps.reads → AddsEnds end w x y old new
+  pub adds_ends : (end : ArcEnd) (x y : ℤ) (old new : List ℕ) → new ≡ old ++ filter_map (end_of_read end w.env w.prims.items x y) w.sweeps.reads → AddsFewEnds end w x y old new
   adds_ends end x y old new added =
       let f : Read → Option ℕ = end_of_read end w.env w.prims.items x y in
-      let found : (i t : ℕ) → slice_get (filter_map f w.sweeps.reads) i ≡ Some t → IsEndReading end w x y t = λ i t at.
+      let found : (i t : ℕ) → slice_get (filter_map f w.sweeps.reads) i ≡ Some t → IsEndReading network_of lattice_cells end w x y t = λ i t at.
       let from = filtered_from f w.sweeps.reads i t at in
       answered end from.0 from.1.0 x y t from.1.1 from.1.2 in
       record {
-        added = filter_map f w.sweeps.reads;
-        kept = added;
-        sound = found;
-        complete = λ t reading. let from = asked end x y t reading in filtered_at f w.sweeps.reads from.0 from.1.0 t from.1.1 from.1.2;
-        states = λ i t at. let reading = found i t at in end_is_state end reading.source reading.number reading.head t reading.arc reading.at;
+        adds = record {
+          added = filter_map f w.sweeps.reads;
+          kept = added;
+          sound = found;
+          complete = λ t reading. let from = asked end x y t reading in filtered_at f w.sweeps.reads from.0 from.1.0 t from.1.1 from.1.2;
+          states = λ i t at. let reading = found i t at in end_is_state end reading.source reading.number reading.head t reading.arc reading.at;
+        };
         few = filtered_few f w.sweeps.reads;
       }

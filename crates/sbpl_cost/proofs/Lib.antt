@@ -30,3 +30,4 @@ pub mod Stripping
 pub mod Clearing
 pub mod Walling
 pub mod Reaching
+pub mod Terrain

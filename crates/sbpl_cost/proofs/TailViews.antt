@@ -10,7 +10,7 @@ use Rattle.sbpl_cost.specs.World.{World, IsWorld}
 use Rattle.sbpl_cost.specs.Lattices.{entering, tail_by, network_of}
 use Rattle.sbpl_cost.specs.Tables.{AreNumbers}
 use Rattle.sbpl_cost.specs.Ends.{heading_at}
-use Rattle.sbpl_cost.specs.declared.arc_end.ArcEnd.{ArcEnd}
+use Rattle.sbpl_terrain.specs.declared.arc_end.ArcEnd.{ArcEnd}
 use Rattle.sbpl_cost.proofs.LatticeLaws.{gaps}
 use Rattle.sbpl_cost.proofs.Numbered.{numbered}
 use Rattle.sbpl_cost.proofs.Tails.{tail_is_arc}

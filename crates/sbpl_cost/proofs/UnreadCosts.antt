@@ -10,7 +10,8 @@ use Rattle.sbpl_map.specs.CellMap.{CellMap, IsCellMap, cost_at, ChangesCell}
 use Rattle.sbpl_cost.specs.World.{IsWorld, World, over_map}
 use Rattle.sbpl_cost.specs.Arc.{column_from, row_from, cost_from, IsBelow, IsFree, IsPaid, IsGreatestPaid, IsFreeAt}
 use Rattle.sbpl_cost.specs.Lattices.{arc_index, head_by, tail_by, network_of}
-use Rattle.sbpl_cost.specs.Reading.{ReadsCell, UnreadArcsCostTheSame, MapsChangeCostsAlone, MapsChangeNoReads, UnreadCostTheSame}
+use Rattle.sbpl_cost.specs.Reads.{ReadsCell}
+use Rattle.sbpl_cost.specs.Reading.{UnreadArcsCostTheSame, MapsChangeCostsAlone, MapsChangeNoReads, UnreadCostTheSame}
 use Rattle.sbpl_cost.proofs.Arcs.{IsFound, found_at, arc_of}
 use Rattle.sbpl_cost.proofs.ArcsRead.{found_by_arc}
 

@@ -15,3 +15,5 @@ pub mod Gaps
 pub mod Rates
 pub mod Alike
 pub mod TailOrder
+pub mod Reads
+pub mod Cells

@@ -1,49 +1,26 @@
 -- Which arcs of a lattice read a cell.
-use Rattle.std.specs.Prelude.{◌≡◌, ℕ, ℤ, pos, ◌+ℤ◌, ◌-ℤ◌, ◌<◌, ◌≤◌, ◌↔◌, ◌++◌, List, length, slice_get, Option, Some, option_and_then, option_map}
-use Rattle.sbpl_graph.specs.Network.{Network, IsArc}
+use Rattle.std.specs.Prelude.{◌≡◌, ℕ, ℤ, pos, ◌+ℤ◌, ◌-ℤ◌, ◌<◌, ◌≤◌, ◌↔◌, List, length, slice_get, Option, Some, option_and_then, option_map}
 use Rattle.sbpl_cfg.specs.declared.pose.Place.{Place}
 use Rattle.sbpl_cfg.specs.Environment.{Environment}
 use Rattle.sbpl_mprim.specs.declared.prim.Primitive.{Primitive}
 use Rattle.sbpl_sweep.specs.declared.reads.Read.{Read}
-use Rattle.sbpl_sweep.specs.Reads.{IsRead}
 use Rattle.sbpl_map.specs.CellMap.{CellMap, cost_at}
+use Rattle.sbpl_terrain.specs.Cells.{DifferInCostsAlone}
+use Rattle.sbpl_terrain.specs.Ends.{at_end}
+use Rattle.sbpl_terrain.specs.Reading.{AddsEnds}
+use Rattle.sbpl_terrain.specs.declared.arc_end.ArcEnd.{ArcEnd}
+use Rattle.sbpl_cost.specs.Cells.{lattice_cells}
 use Rattle.sbpl_cost.specs.Judging.{IsNear}
+use Rattle.sbpl_cost.specs.Lattices.{network_of}
+use Rattle.sbpl_cost.specs.Reads.{ReadsCell}
 use Rattle.sbpl_cost.specs.States.{place_on_map, state_in, state_number}
 use Rattle.sbpl_cost.specs.World.{World, IsWorld, over_map}
-use Rattle.sbpl_cost.specs.Arc.{IsArcBy, column_from, row_from}
-use Rattle.sbpl_cost.specs.Lattices.{network_of}
-use Rattle.sbpl_cost.specs.Ends.{at_end}
-use Rattle.sbpl_cost.specs.declared.arc_end.ArcEnd.{ArcEnd}
-
--- judging arc k of state s reads cell (x, y): it is the source cell, the end cell, a centre cell or a swept cell
-pub record ReadsCell (w : World) (s k : ℕ) (x y : ℤ) : Type 0 where
-  pub index : ℕ
-  pub prim : Primitive
-  pub by : IsArcBy w s k index prim
-  pub dx : ℤ
-  pub dy : ℤ
-  pub column : column_from w s dx ≡ x
-  pub row : row_from w s dy ≡ y
-  pub read : IsRead w.env.cell w.sweeps.radius prim dx dy
-
--- some arc that reads cell (x, y) has state s at this end
-pub record IsEndReading (end : ArcEnd) (w : World) (x y : ℤ) (s : ℕ) : Type 0 where
-  pub source : ℕ
-  pub number : ℕ
-  pub head : ℕ
-  pub arc : IsArc (network_of w) source number head
-  pub reads : ReadsCell w source number x y
-  pub at : s ≡ at_end end (source, head)
 
 -- the states at this end of all arcs that read cell (x, y), and no other states, were appended to a list, no more of them than
 -- there are pairs of a primitive and a cell that it reads
-pub record AddsEnds (end : ArcEnd) (w : World) (x y : ℤ) (old new : List ℕ) : Type 0 where
-  pub added : List ℕ
-  pub kept : new ≡ old ++ added
-  pub sound : (i s : ℕ) → slice_get added i ≡ Some s → IsEndReading end w x y s
-  pub complete : (s : ℕ) → IsEndReading end w x y s → (i : ℕ) × (slice_get added i ≡ Some s)
-  pub states : (i s : ℕ) → slice_get added i ≡ Some s → s < (network_of w).states
-  pub few : length added ≤ length w.sweeps.reads
+pub record AddsFewEnds (end : ArcEnd) (w : World) (x y : ℤ) (old new : List ℕ) : Type 0 where
+  pub adds : AddsEnds network_of lattice_cells end w x y old new
+  pub few : length adds.added ≤ length w.sweeps.reads
 
 -- the state where the motion by p from a place ends, none off the map
 abbrev pub end_of : Environment → Primitive → Place → Option ℕ
@@ -73,15 +50,6 @@ AreReadable prims reads = (i : ℕ) (r : Read) → slice_get reads i ≡ Some r 
 -- where all cells that an arc reads cost the same on another map, so does the arc
 abbrev pub UnreadArcsCostTheSame : Type 0
 UnreadArcsCostTheSame = (w : World) (m : CellMap) (s k : ℕ) → IsWorld w → IsWorld (over_map w m) → ((x y : ℤ) → ReadsCell w s k x y → cost_at m x y ≡ cost_at w.map x y) → (network_of (over_map w m)).cost s k ≡ (network_of w).cost s k
-
--- two graphs differ in what their arcs cost, and in nothing else
-pub record DifferInCostsAlone (n m : Network) : Type 0 where
-  pub states : n.states ≡ m.states
-  pub fan : n.fan ≡ m.fan
-  pub head : n.head ≡ m.head
-  pub tail_fan : n.tail_fan ≡ m.tail_fan
-  pub tail : n.tail ≡ m.tail
-  pub gap : n.gap ≡ m.gap
 
 -- another map changes costs alone
 abbrev pub MapsChangeCostsAlone : Type 0

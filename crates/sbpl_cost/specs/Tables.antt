@@ -18,8 +18,8 @@ use Rattle.sbpl_cost.specs.Rates.{AreGaps}
 use Rattle.sbpl_cost.specs.Reaches.{HaveReaches}
 use Rattle.sbpl_cost.specs.Ends.{heading_at}
 use Rattle.sbpl_cost.specs.World.{World, IsWorld}
-use Rattle.sbpl_cost.specs.declared.arc_end.ArcEnd.{ArcEnd}
-use Rattle.sbpl_cost.specs.declared.arc_end.ArcEnd.TheVariants as end
+use Rattle.sbpl_terrain.specs.declared.arc_end.ArcEnd.{ArcEnd}
+use Rattle.sbpl_terrain.specs.declared.arc_end.ArcEnd.TheVariants as end
 
 -- each heading has the indices of the primitives that start at it
 abbrev pub AreLeaving : Primitives → List (List ℕ) → Type 0

@@ -1,18 +1,10 @@
-//! The two ends of an arc.
+//! The headings at the two ends of an arc.
 
 ghost use Rattle.std.specs.Prelude.{◌≡◌};
 ghost use Rattle.sbpl_cost.specs.Ends.{heading_at};
 
 use sbpl_mprim::Prim;
-
-/// An end of an arc.
-#[derive(Clone, Copy, Debug, PartialEq, Eq)]
-pub enum ArcEnd {
-    /// The state that the arc comes from.
-    Source,
-    /// The state that it leads to.
-    Head,
-}
+use sbpl_terrain::ArcEnd;
 
 /// The heading at an end of the motion by a primitive.
 pub(crate) fn heading_at(end: ArcEnd, prim: &Prim) -> u32

@@ -12,11 +12,11 @@ ghost use Rattle.sbpl_cost.specs.States.{IsPlace, place_of, state_number};
 ghost use Rattle.sbpl_cost.specs.World.{World, IsWorld};
 ghost use Rattle.sbpl_cost.specs.Arc.{IsArcBy};
 ghost use Rattle.sbpl_cost.specs.Lattices.{network_of, arc_index, leaving, entering};
-ghost use Rattle.sbpl_cost.specs.Reading.{end_of_read, AddsEnds, UnreadCostTheSame, DifferInCostsAlone};
+ghost use Rattle.sbpl_cost.specs.Reading.{end_of_read, AddsFewEnds, UnreadCostTheSame};
+ghost use Rattle.sbpl_terrain.specs.Cells.{DifferInCostsAlone};
 ghost use Rattle.sbpl_cost.specs.Tables.{AreCheap, IsCause};
-ghost use Rattle.sbpl_cost.specs.declared.arc_end.ArcEnd.TheVariants as Ends;
+ghost use Rattle.sbpl_terrain.specs.declared.arc_end.ArcEnd.TheVariants as Ends;
 
-use crate::arc_end::ArcEnd;
 use crate::fault::LatticeFault;
 use crate::gaps::Gaps;
 use crate::judging::greatest_paid;
@@ -34,6 +34,7 @@ use sbpl_map::{Map, OffMap};
 use sbpl_mprim::Prims;
 use sbpl_runs::Runs;
 use sbpl_sweep::{Cell, Sweeps};
+use sbpl_terrain::{ArcEnd, Terrain};
 use std::alloc::Global;
 use std::marker::Model;
 
@@ -255,7 +256,7 @@ impl Lattice {
 
     /// Adds to a list the heads of all arcs with a head whose judgement reads cell `(x, y)`, as `ends_reading` does.
     pub fn heads_reading(&self, x: u32, y: u32, into: &mut Vec<u32>) -> Result<(), NoMemory>
-        ensures heads { OnOk result (AddsEnds Ends.Head self.now (pos x) (pos y) into.old.items into.new.items) }
+        ensures heads { OnOk result (AddsFewEnds Ends.Head self.now (pos x) (pos y) into.old.items into.new.items) }
         ensures listed { OnOk result (into.new.items ≡ into.old.items ++ filter_map (end_of_read Ends.Head self.now.env self.now.prims.items (pos x) (pos y)) self.now.sweeps.reads) }
         ensures memory { OnErr result (into.new.items ≡ into.old.items) }
     {
@@ -264,7 +265,7 @@ impl Lattice {
 
     /// Adds to a list the sources of all arcs with a head whose judgement reads cell `(x, y)`, as `ends_reading` does.
     pub fn tails_reading(&self, x: u32, y: u32, into: &mut Vec<u32>) -> Result<(), NoMemory>
-        ensures sources { OnOk result (AddsEnds Ends.Source self.now (pos x) (pos y) into.old.items into.new.items) }
+        ensures sources { OnOk result (AddsFewEnds Ends.Source self.now (pos x) (pos y) into.old.items into.new.items) }
         ensures listed { OnOk result (into.new.items ≡ into.old.items ++ filter_map (end_of_read Ends.Source self.now.env self.now.prims.items (pos x) (pos y)) self.now.sweeps.reads) }
         ensures memory { OnErr result (into.new.items ≡ into.old.items) }
     {
@@ -282,7 +283,7 @@ impl Lattice {
         end: ArcEnd,
         into: &mut Vec<u32>,
     ) -> Result<(), NoMemory>
-        ensures ends { OnOk result (AddsEnds end self.now (pos x) (pos y) into.old.items into.new.items) }
+        ensures ends { OnOk result (AddsFewEnds end self.now (pos x) (pos y) into.old.items into.new.items) }
         ensures listed { OnOk result (into.new.items ≡ into.old.items ++ filter_map (end_of_read end self.now.env self.now.prims.items (pos x) (pos y)) self.now.sweeps.reads) }
         ensures memory { OnErr result (into.new.items ≡ into.old.items) }
     {
@@ -371,6 +372,33 @@ impl Graph for Lattice {
         let to = place_at(&self.env, b);
         self.gaps.between(&self.env, &from, &to)
     }
+}
+
+impl Terrain for Lattice {
+    ghost use Rattle.sbpl_cost.specs.Cells.{lattice_cells};
+
+    ghost cells = { lattice_cells };
+
+    fn map(&self) -> &Map {
+        let _env = self.env();
+        &self.map
+    }
+
+    fn set(&mut self, x: i64, y: i64, c: u8) -> Result<u8, OffMap> {
+        Lattice::set(self, x, y, c)
+    }
+
+    fn ends_reading(
+        &self,
+        x: u32,
+        y: u32,
+        end: ArcEnd,
+        into: &mut Vec<u32>,
+    ) -> Result<(), NoMemory> {
+        Lattice::ends_reading(self, x, y, end, into)
+    }
+
+    fn is_terrain() {}
 }
 
 /// The same environment.

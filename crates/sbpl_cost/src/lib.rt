@@ -19,7 +19,6 @@ mod tables;
 mod walls;
 mod way;
 
-pub use arc_end::ArcEnd;
 pub use fault::LatticeFault;
 pub use lattice::Lattice;
 pub use laws::{

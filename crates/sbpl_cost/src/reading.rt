@@ -7,12 +7,12 @@ ghost use Rattle.sbpl_cost.specs.Judging.{IsNear};
 ghost use Rattle.sbpl_cost.specs.States.{place_on_map};
 ghost use Rattle.sbpl_cost.specs.Reading.{end_of_read, AreReadable};
 
-use crate::arc_end::ArcEnd;
 use crate::places::{end_state, number_of, place_on_map};
 use sbpl_cfg::{Env, Place};
 use sbpl_fixed::NoMemory;
 use sbpl_mprim::Prims;
 use sbpl_sweep::{Cell, Read};
+use sbpl_terrain::ArcEnd;
 
 /// The place with heading `t` in the cell from which cell `(x, y)` lies this far, or `None` where that is off the map.
 fn source_of(env: &Env, cell: Cell, x: u32, y: u32, t: u32) -> Option<Place>

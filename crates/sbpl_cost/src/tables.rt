@@ -8,9 +8,9 @@ ghost use Rattle.sbpl_cost.specs.Lattices.{leaving, entering};
 ghost use Rattle.sbpl_cost.specs.Reaches.{HaveReaches};
 ghost use Rattle.sbpl_cost.specs.Tables.{AreLeaving, AreEntering, AreNumbers, AreCheap, IsCause};
 ghost use Rattle.sbpl_cost.specs.Walls.{AreWalls};
-ghost use Rattle.sbpl_cost.specs.declared.arc_end.ArcEnd.TheVariants as Ends;
+ghost use Rattle.sbpl_terrain.specs.declared.arc_end.ArcEnd.TheVariants as Ends;
 
-use crate::arc_end::{ArcEnd, heading_at};
+use crate::arc_end::heading_at;
 use crate::checked::{along_table, around_table, reach_table};
 use crate::fault::LatticeFault;
 use crate::primitive_cost::prim_cost;
@@ -23,6 +23,7 @@ use sbpl_fixed::NoMemory;
 use sbpl_mprim::Prims;
 use sbpl_runs::Runs;
 use sbpl_sweep::{Cell, Sweeps};
+use sbpl_terrain::ArcEnd;
 use std::alloc::Global;
 
 /// The indices in the file of the primitives that start at heading `t`.

@@ -56,6 +56,13 @@ pub record IsGuide (n : Network) (goal : ℕ) (b : Table) : Type 0 where
   pub states : n.states ≡ length b.cells * length b.turns
   pub consistent : IsConsistent n goal (distance_in b)
 
+-- the heuristic is the best one to a goal in a world
+pub record IsBestGuide (w : World) (goal : ℕ) (b : Table) : Type 0 where
+  pub to_goal : b.goal ≡ goal
+  pub best : IsBest w goal (distance_in b)
+  pub guides : IsGuide (network_of w) goal b
+  pub fits : Fits w b
+
 -- the parts of a heuristic: its table, and the walks of cells to the goal's cell
 pub record AreParts (b : Table) (walks : Walking) : Type 0 where
   pub table : IsTable b

@@ -15,6 +15,7 @@ use sbpl_cfg::Env;
 use sbpl_cost::{Lattice, lattice_has_its_arcs};
 use sbpl_fixed::NoMemory;
 use sbpl_graph::{Graph, Guide};
+use sbpl_terrain::Heuristic;
 use std::alloc::Global;
 use std::marker::Model;
 
@@ -123,6 +124,26 @@ impl Best {
         cap(lattice, headings, self.goal, &mut self.cells);
         turn(lattice, headings, self.goal, &mut self.turns);
     }
+}
+
+impl Heuristic<Lattice> for Best {
+    ghost use Rattle.sbpl_heur.specs.Bests.{IsBest, IsBestGuide};
+
+    ghost says = { IsBest };
+
+    ghost is_made_for = { λ b w goal. IsBestGuide w goal b };
+
+    fn build(alloc: Global, lattice: &Lattice, goal: u32) -> Result<Best, NoMemory> {
+        Best::build(alloc, lattice, goal)
+    }
+
+    fn rebuild(&mut self, lattice: &Lattice) {
+        Best::rebuild(self, lattice);
+    }
+
+    ghost guides_there = { λ b w goal made. made.guides };
+
+    ghost says_so = { λ b w goal made. made.best };
 }
 
 impl Guide for Best {

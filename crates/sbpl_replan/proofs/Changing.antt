@@ -1,7 +1,6 @@
 -- Labels before and after a change of the map, and what is left where memory runs out.
-use Rattle.std.proofs.Common.{◌≡◌, ℕ, ◌+◌, ◌^◌, ◌<◌, List, slice_index_or, Result, Ok, Err, Some, refl, sym, ◌∙◌, ap, subst, arith, inl, inr}
+use Rattle.std.proofs.Common.{◌≡◌, ℕ, ◌+◌, ◌^◌, ◌<◌, List, slice_index_or, Result, Ok, Err, sym, ◌∙◌, ap, subst, arith, inl, inr}
 use Rattle.std.specs.Prelude.{OnErr}
-use Rattle.std.specs.List.{Contains}
 use Rattle.std.proofs.lemmas.List.{get_or_default}
 use Rattle.sbpl_graph.specs.Network.{IsFreeArc, Network}
 use Rattle.sbpl_labels.specs.Counts.{AreCounts, Counts}
@@ -19,22 +18,28 @@ use Rattle.sbpl_change.specs.Affected.{AreStates, KeepArcsElsewhere}
 use Rattle.sbpl_back.specs.Reversed.{ArcsTurnBack, ArcsTurnRound, reversed}
 use Rattle.sbpl_back.specs.Starts.{StartIn, from_start}
 use Rattle.sbpl_replan.specs.Directions.{backwards}
-use Rattle.sbpl_cost.specs.Reading.{DifferInCostsAlone, MapsChangeCostsAlone}
+use Rattle.sbpl_terrain.specs.Cells.{Cells, DifferInCostsAlone, IsTerrain}
 use Rattle.sbpl_cost.specs.World.{World}
-use Rattle.sbpl_cost.specs.declared.arc_end.ArcEnd.TheVariants as end
+use Rattle.sbpl_terrain.specs.declared.arc_end.ArcEnd.TheVariants as end
 use Rattle.sbpl_cost.specs.Lattices.{network_of}
 use Rattle.sbpl_graph.specs.Laws.{HasExactTails}
-use Rattle.sbpl_replan.specs.Replanning.{IsReadyBack, IsReadyIn, Replanning, Standing, StandsOutOfMemory, at_plan, gap_from, inquiry, standing_of}
+use Rattle.sbpl_replan.specs.Replanning.{IsReadyBack, IsReadyIn, Replanning, Standing, StandsOutOfMemory, at_plan, gap_from, inquiry}
 use Rattle.sbpl_serial.specs.declared.step.Step.{Step}
 
--- another map has the same number of states
-pub same_states : (w v : World) → v ≡ record w { map = v.map } → (network_of v).states ≡ (network_of w).states
-unfolding network_of
-same_states w v others = ap (λ (u : World). (network_of u).states) others
+-- another map gives a graph that differs in what arcs cost alone
+pub differ : {W : Type 0} (network : W → Network) (cells : Cells W) → IsTerrain network cells → (w v : W) → v ≡ cells.over w (cells.map v) → cells.is_made w → cells.is_made v
+    → DifferInCostsAlone (network v) (network w)
+differ network cells is w v others made_before made_after =
+    subst (λ u. DifferInCostsAlone (network u) (network w)) (sym others) (is.rest w (cells.map v) made_before (subst cells.is_made others made_after))
 
--- and a graph that differs in what arcs cost alone
-pub differ : MapsChangeCostsAlone → (w v : World) → v ≡ record w { map = v.map } → DifferInCostsAlone (network_of v) (network_of w)
-differ law w v others = subst (λ (u : World). DifferInCostsAlone (network_of u) (network_of w)) (sym others) (law w v.map)
+-- so it has the same number of states
+pub same_states : {W : Type 0} (network : W → Network) (cells : Cells W) → IsTerrain network cells → (w v : W) → v ≡ cells.over w (cells.map v) → cells.is_made w → cells.is_made v
+    → (network v).states ≡ (network w).states
+same_states network cells is w v others made_before made_after = (differ network cells is w v others made_before made_after).states
+
+-- over the map of before it is what it was
+pub as_before : {W : Type 0} (network : W → Network) (cells : Cells W) → IsTerrain network cells → (w v : W) → v ≡ cells.over w (cells.map v) → cells.over v (cells.map w) ≡ w
+as_before network cells is w v others = ap (λ u. cells.over u (cells.map w)) others ∙ is.again w (cells.map v) (cells.map w) ∙ is.present w
 
 -- labels that are exact on one graph can be repaired for another that keeps the arcs into each state that is not touched
 pub changeable : ExactWhereSame → (n n' : Network) (m : Marks) (touched : List ℕ) → n'.states ≡ n.states → AreUsable n m (2 ^ 30) → AreStates n' touched → KeepArcsElsewhere end.Head n n' touched → IsChangeable n' touched m
@@ -93,29 +98,22 @@ stands means q Ready Told old new are again (inl part) = inl (record {
 stands means q Ready Told old new are again (inr cut) = inr cut
 
 -- another plan may begin where the search went on to the same goal on the same map
-pub ready_again : {Note : Type 0} (means : Meaning Note) (w : World) (r : Replanning Note) (search : State Note) (counts : Counts) → IsReadyIn means w r
-    → means.ready (network_of w) search.labels counts.run → search.goal ≡ r.search.goal → IsStartFresh search.labels → IsReadyIn means w (record r { search = search; counts = counts })
-ready_again means w r search counts ready labels same fresh = record {
-  to_goal = same ∙ ready.to_goal;
-  guides_to_goal = ready.guides_to_goal;
-  best = ready.best;
-  guides = ready.guides;
-  fits = ready.fits;
-  labels = labels;
-  fresh = fresh;
-}
+pub ready_again : {Note H W : Type 0} (means : Meaning Note) (network : W → Network) (is_made_for : H → W → ℕ → Type 0) (w : W) (r : Replanning Note H) (search : State Note) (counts : Counts)
+    → IsReadyIn means network is_made_for w r → means.ready (network w) search.labels counts.run → search.goal ≡ r.search.goal → IsStartFresh search.labels
+    → IsReadyIn means network is_made_for w (record r { search = search; counts = counts })
+ready_again means network is_made_for w r search counts ready labels same fresh = record { to_goal = same ∙ ready.to_goal; made = ready.made; labels = labels; fresh = fresh }
 
-pub ready_again_back : (w : World) (s : Standing Step) (search : State Step) (counts : Counts) → IsReadyBack w s
-    → AreUsable (reversed (network_of w)) search.labels counts.run → search.goal ≡ s.search.goal → IsStartFresh search.labels → IsReadyBack w (record { search = search; counts = counts })
-ready_again_back w s search counts ready labels same fresh = record {
-  goal = subst (λ (t : ℕ). t < (network_of w).states) (sym same) ready.goal;
+pub ready_again_back : (n : Network) (s : Standing Step) (search : State Step) (counts : Counts) → IsReadyBack n s
+    → AreUsable (reversed n) search.labels counts.run → search.goal ≡ s.search.goal → IsStartFresh search.labels → IsReadyBack n (record { search = search; counts = counts })
+ready_again_back n s search counts ready labels same fresh = record {
+  goal = subst (λ (t : ℕ). t < n.states) (sym same) ready.goal;
   labels = labels;
   fresh = fresh;
 }
 
 -- what stays the same over a plan backwards
 pub back_inquiry : (w b : World) (f : StartIn) (s : Standing Step) (start : ℕ) (ask : Ask) → b ≡ w → f ≡ record { world = w; start = start } → s.search.goal ≡ start
-    → inquiry_of (reversed (network_of b)) (from_start f) start ask ≡ inquiry backwards w (gap_from s w) s ask
+    → inquiry_of (reversed (network_of b)) (from_start f) start ask ≡ inquiry (backwards network_of) w (gap_from s (network_of w)) s ask
 back_inquiry w b f s start ask b_is f_is start_is =
-    let guide : from_start f ≡ gap_from s w = ap from_start f_is ∙ (λ i t. (network_of w).gap ((sym start_is) i) t) in
+    let guide : from_start f ≡ gap_from s (network_of w) = ap from_start f_is ∙ (λ i t. (network_of w).gap ((sym start_is) i) t) in
     λ i. inquiry_of (reversed (network_of (b_is i))) (guide i) ((sym start_is) i) ask

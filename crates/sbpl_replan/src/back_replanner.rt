@@ -61,7 +61,7 @@ impl BackReplanner {
         requires fresh { IsStartFresh search.labels }
         requires some { 1 ≤ budget }
         requires few { budget ≤ 2 ^ 30 }
-        ensures ready { IsReadyBack lattice.now result }
+        ensures ready { IsReadyBack (network_of lattice.now) result }
         ensures search { result.search ≡ seen search }
         ensures counts { result.counts ≡ record { per_plan = budget; plan = 0; run = 0 } }
     {
@@ -83,8 +83,9 @@ impl BackReplanner {
     }
 }
 
-impl Replan for BackReplanner {
+impl Replan<Lattice> for BackReplanner {
     ghost use Rattle.sbpl_adstar.specs.Planner.{adstar};
+    ghost use Rattle.sbpl_cost.specs.Lattices.{network_of};
     ghost use Rattle.sbpl_replan.specs.Directions.{backwards};
     ghost use Rattle.sbpl_replan.specs.Replanning.{IsReadyBack, gap_from, is_guided_back};
 
@@ -92,17 +93,17 @@ impl Replan for BackReplanner {
 
     ghost meaning = { adstar };
 
-    ghost direction = { backwards };
+    ghost direction = { backwards network_of };
 
     ghost standing = { λ r. r };
 
-    ghost ready = { λ r w. IsReadyBack w r };
+    ghost ready = { λ r w. IsReadyBack (network_of w) r };
 
-    ghost guide = { gap_from };
+    ghost guide = { λ r w. gap_from r (network_of w) };
 
     ghost sized = { λ r w ready. ready.labels.states };
 
-    ghost guided = { is_guided_back };
+    ghost guided = { is_guided_back network_of };
 
     fn plan<O: Observer>(
         &mut self,

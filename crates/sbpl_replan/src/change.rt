@@ -4,6 +4,7 @@ ghost use Rattle.std.specs.Prelude.{◌≡◌, ◌^◌, ◌⊎◌, [], ℕ, OnEr
 ghost use Rattle.sbpl_search.specs.Ready.{AreUsable, IsStartFresh};
 ghost use Rattle.sbpl_change.specs.Noted.{AreOnMap};
 ghost use Rattle.sbpl_cost.specs.World.{IsWorld};
+ghost use Rattle.sbpl_cost.specs.Cells.{lattice_cells};
 ghost use Rattle.sbpl_cost.specs.Lattices.{network_of};
 ghost use Rattle.sbpl_map.specs.MapAfter.{AreWritten};
 ghost use Rattle.sbpl_adstar.specs.Planner.{adstar};
@@ -15,46 +16,48 @@ ghost use Rattle.sbpl_serial.specs.Meant.{seen};
 use sbpl_adstar::AdStar;
 use sbpl_back::{Back, FromStart, arcs_turn_round};
 use sbpl_change::{apply, write_batch};
-use sbpl_cost::{ArcEnd, Lattice, unread_arcs_cost_the_same};
+use sbpl_cost::Lattice;
 use sbpl_fixed::NoMemory;
 use sbpl_graph::Graph;
-use sbpl_heur::Best;
 use sbpl_map::Write;
 use sbpl_search::Search;
 use sbpl_serial::exact_where_same;
+use sbpl_terrain::{ArcEnd, Heuristic, Terrain};
 use std::alloc::Global;
 
-/// Writes a batch to the map of a lattice, and makes the labels of a search ready for a plan on it. The touched states are
+/// Writes a batch to the map, and makes the labels of a search ready for a plan on it. The touched states are
 /// found only where the search repairs its labels; `touched` is room to work in. All cells of the batch are on the map.
-pub(crate) fn change<S: Search<Lattice, Best>>(
+pub(crate) fn change<W: Terrain, H: Heuristic<W>, S: Search<W, H>>(
     alloc: Global,
-    lattice: &mut Lattice,
+    world: &mut W,
     batch: &[Write],
     search: &mut S,
     touched: &mut Vec<u32>,
 ) -> Result<(), NoMemory>
-    requires on_map { AreOnMap lattice.old.map batch.now }
-    requires usable { AreUsable (network_of lattice.old) (S.state search.old).labels (2 ^ 30) }
+    requires on_map { AreOnMap (W.cells.map world.old) batch.now }
+    requires usable { AreUsable (W.network world.old) (S.state search.old).labels (2 ^ 30) }
     requires fresh { IsStartFresh (S.state search.old).labels }
-    ensures written { OnOk result (AreWritten lattice.old.map batch.now lattice.new.map) }
-    ensures refused { OnErr result ((lattice.new.map ≡ lattice.old.map) ⊎ AreWritten lattice.old.map batch.now lattice.new.map) }
-    ensures others { lattice.new ≡ record lattice.old { map = lattice.new.map } }
-    ensures kept { IsWorld lattice.new }
-    ensures begun { OnOk result (BeginsWith S.meaning forwards lattice.old lattice.new (S.state search.old).labels (S.state search.new).labels (S.state search.new).raised) }
-    ensures ready { (count : ℕ) → S.meaning.ready (network_of lattice.old) (S.state search.old).labels count → OnOk result (S.meaning.ready (network_of lattice.new) (S.state search.new).labels count) }
+    ensures written { OnOk result (AreWritten (W.cells.map world.old) batch.now (W.cells.map world.new)) }
+    ensures refused { OnErr result ((W.cells.map world.new ≡ W.cells.map world.old) ⊎ AreWritten (W.cells.map world.old) batch.now (W.cells.map world.new)) }
+    ensures others { world.new ≡ W.cells.over world.old (W.cells.map world.new) }
+    ensures kept { W.cells.is_made world.new }
+    ensures begun { OnOk result (BeginsWith S.meaning W.network W.cells (forwards W.network H.says) world.old world.new (S.state search.old).labels (S.state search.new).labels (S.state search.new).raised) }
+    ensures ready { (count : ℕ) → S.meaning.ready (W.network world.old) (S.state search.old).labels count → OnOk result (S.meaning.ready (W.network world.new) (S.state search.new).labels count) }
     ensures fresh { OnOk result (IsStartFresh (S.state search.new).labels) }
     ensures start { OnOk result ((S.state search.new).labels.start ≡ (S.state search.old).labels.start) }
     ensures same_goal { OnOk result ((S.state search.new).goal ≡ (S.state search.old).goal) }
     ensures unchanged { OnErr result (search.new ≡ search.old) }
     ensures serves { S.serves search.old → S.serves search.new }
 {
+    W::is_terrain();
     exact_where_same();
+    let _map = world.map();
     if search.repairs() {
-        apply(alloc, lattice, batch, ArcEnd::Head, touched)?;
-        search.change(lattice, touched.as_slice());
+        apply(alloc, world, batch, ArcEnd::Head, touched)?;
+        search.change(world, touched.as_slice());
     } else {
-        write_batch(lattice, batch);
-        search.change(lattice, &[]);
+        write_batch(world, batch);
+        search.change(world, &[]);
     }
     Ok(())
 }
@@ -74,7 +77,7 @@ pub(crate) fn change_back(
     ensures refused { OnErr result ((lattice.new.map ≡ lattice.old.map) ⊎ AreWritten lattice.old.map batch.now lattice.new.map) }
     ensures others { lattice.new ≡ record lattice.old { map = lattice.new.map } }
     ensures kept { IsWorld lattice.new }
-    ensures begun { OnOk result (BeginsWith adstar backwards lattice.old lattice.new search.old.labels search.new.labels []) }
+    ensures begun { OnOk result (BeginsWith adstar network_of lattice_cells (backwards network_of) lattice.old lattice.new search.old.labels search.new.labels []) }
     ensures ready { (count : ℕ) → AreUsable (reversed (network_of lattice.old)) search.old.labels count → OnOk result (AreUsable (reversed (network_of lattice.new)) search.new.labels count) }
     ensures fresh { OnOk result (IsStartFresh search.new.labels) }
     ensures start { OnOk result (search.new.labels.start ≡ search.old.labels.start) }
@@ -83,7 +86,8 @@ pub(crate) fn change_back(
 {
     exact_where_same();
     arcs_turn_round();
-    unread_arcs_cost_the_same();
+    Lattice::is_terrain();
+    let _map = lattice.map();
     let _before = lattice.states();
     apply(alloc, lattice, batch, ArcEnd::Source, touched)?;
     let _after = lattice.states();

@@ -1,4 +1,4 @@
-//! Plans on a lattice whose map changes: one at first, and one after each batch of changes.
+//! Plans while a map changes: one at first, and one after each batch of changes.
 #![tactic(auto)]
 
 mod back_replanner;
@@ -8,4 +8,4 @@ mod replanner;
 
 pub use back_replanner::BackReplanner;
 pub use replan::Replan;
-pub use replanner::Replanner;
+pub use replanner::{LatticeReplanner, Replanner};

@@ -1,8 +1,9 @@
 //! Batches on a small hall, by hand.
 
 use sbpl_change::{apply, are_on_map};
-use sbpl_cost::{ArcEnd, Lattice};
+use sbpl_cost::Lattice;
 use sbpl_map::Write;
+use sbpl_terrain::ArcEnd;
 use std::alloc::Global;
 
 /// The corner becomes an obstacle.

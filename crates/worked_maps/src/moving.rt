@@ -21,7 +21,7 @@ use std::alloc::Global;
 
 /// Plans from the end of the environment back to its start.
 fn back_on(alloc: Global, lattice: &Lattice) -> Option<BackReplanner>
-    ensures ready { IfSome result (IsReadyBack lattice.now) }
+    ensures ready { IfSome result (IsReadyBack (network_of lattice.now)) }
 {
     let env = lattice.env();
     let start = lattice.state_of(&place_at(env, &env.start)?)?;
@@ -69,8 +69,8 @@ fn next_is(
     cost: u64,
     expanded: u64,
 ) -> Option<bool>
-    requires ready { IsReadyBack lattice.now plans.old }
-    ensures ready { IfSome result (λ _. IsReadyBack lattice.now plans.new) }
+    requires ready { IsReadyBack (network_of lattice.now) plans.old }
+    ensures ready { IfSome result (λ _. IsReadyBack (network_of lattice.now) plans.new) }
 {
     let from = plans.labels().start();
     let Ok(planned) = plans.plan(alloc, lattice, &AT_ONCE, &mut Nobody) else {
@@ -87,7 +87,7 @@ fn next_is(
 
 /// The robot drives into the way around, which then closes before it.
 fn drives(alloc: Global, lattice: &mut Lattice, plans: &mut BackReplanner) -> Option<bool>
-    requires ready { IsReadyBack lattice.old plans.old }
+    requires ready { IsReadyBack (network_of lattice.old) plans.old }
 {
     let around = next_is(alloc, lattice, plans, &[2, 1, 3], 100, 5)?;
     let there = Place { x: 0, y: 1, t: 0 };

@@ -2,7 +2,7 @@
 
 ghost use Rattle.std.specs.Prelude.{IfSome};
 ghost use Rattle.sbpl_adstar.specs.Planner.{adstar};
-ghost use Rattle.sbpl_replan.specs.Replanning.{IsReadyIn};
+ghost use Rattle.sbpl_replan.specs.OnLattice.{IsReadyOn};
 
 use crate::change::{FREE, SAME, SHUT};
 use crate::texts::reads;
@@ -14,12 +14,12 @@ use sbpl_cost::Lattice;
 use sbpl_graph::{Graph, Guide};
 use sbpl_map::Write;
 use sbpl_plan::{Ask, Nobody};
-use sbpl_replan::{Replan, Replanner};
+use sbpl_replan::{LatticeReplanner, Replan};
 use std::alloc::Global;
 
 /// Plans from the start of the environment to its end whose labels are repaired.
-fn repairing_on(alloc: Global, lattice: &Lattice) -> Option<Replanner<AdStar>>
-    ensures ready { IfSome result (IsReadyIn adstar lattice.now) }
+fn repairing_on(alloc: Global, lattice: &Lattice) -> Option<LatticeReplanner<AdStar>>
+    ensures ready { IfSome result (IsReadyOn adstar lattice.now) }
 {
     let env = lattice.env();
     let start = lattice.state_of(&place_at(env, &env.start)?)?;
@@ -27,7 +27,7 @@ fn repairing_on(alloc: Global, lattice: &Lattice) -> Option<Replanner<AdStar>>
     let Ok(search) = Ara::open(alloc, lattice.states(), start, goal) else {
         return None;
     };
-    Replanner::new(alloc, lattice, AdStar::from(search), goal, 1_000_000).ok()
+    LatticeReplanner::new(alloc, lattice, AdStar::from(search), goal, 1_000_000).ok()
 }
 
 /// What is asked of a plan in one pass.
@@ -58,11 +58,11 @@ const FREED: &str =
 fn plans_as(
     alloc: Global,
     lattice: &Lattice,
-    plans: &mut Replanner<AdStar>,
+    plans: &mut LatticeReplanner<AdStar>,
     want: &str,
 ) -> Option<bool>
-    requires ready { IsReadyIn adstar lattice.now plans.old }
-    ensures ready { IfSome result (λ _. IsReadyIn adstar lattice.now plans.new) }
+    requires ready { IsReadyOn adstar lattice.now plans.old }
+    ensures ready { IfSome result (λ _. IsReadyOn adstar lattice.now plans.new) }
 {
     let Ok(planned) = plans.plan(alloc, lattice, &AT_ONCE, &mut Nobody) else {
         return None;
@@ -76,11 +76,11 @@ fn plans_as(
 fn change(
     alloc: Global,
     lattice: &mut Lattice,
-    plans: &mut Replanner<AdStar>,
+    plans: &mut LatticeReplanner<AdStar>,
     batch: &[Write],
 ) -> Option<()>
-    requires ready { IsReadyIn adstar lattice.old plans.old }
-    ensures ready { IfSome result (λ _. IsReadyIn adstar lattice.new plans.new) }
+    requires ready { IsReadyOn adstar lattice.old plans.old }
+    ensures ready { IfSome result (λ _. IsReadyOn adstar lattice.new plans.new) }
 {
     if !are_on_map(lattice, batch) {
         return None;
@@ -92,8 +92,12 @@ fn change(
 }
 
 /// The plans while the corner is shut and freed.
-fn plans_are(alloc: Global, lattice: &mut Lattice, plans: &mut Replanner<AdStar>) -> Option<bool>
-    requires ready { IsReadyIn adstar lattice.old plans.old }
+fn plans_are(
+    alloc: Global,
+    lattice: &mut Lattice,
+    plans: &mut LatticeReplanner<AdStar>,
+) -> Option<bool>
+    requires ready { IsReadyOn adstar lattice.old plans.old }
 {
     let open = plans_as(alloc, lattice, plans, OPEN)?;
     change(alloc, lattice, plans, &[SHUT, FREE, SAME])?;

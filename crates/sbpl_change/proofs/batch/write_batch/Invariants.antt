@@ -3,9 +3,9 @@ use Rattle.sbpl_map.specs.MapAfter.{AreWritten}
 use Rattle.sbpl_change.proofs.batch.write_batch.Given as goal
 
 abbrev pub invariant-loop-write : goal.invariant-loop-write
-invariant-loop-write l = record {
-  written : AreWritten l.fn.lattice.map (take l.write-index l.batch) l.lattice.map;
-  others : l.lattice ≡ record l.fn.lattice { map = l.lattice.map };
-  width : l.lattice.map.width ≡ l.fn.lattice.map.width;
-  height : l.lattice.map.height ≡ l.fn.lattice.map.height;
+invariant-loop-write g l = record {
+  written : AreWritten (g.W.Terrain.cells.map l.fn.world) (take l.write-index l.batch) (g.W.Terrain.cells.map l.world);
+  others : l.world ≡ g.W.Terrain.cells.over l.fn.world (g.W.Terrain.cells.map l.world);
+  width : (g.W.Terrain.cells.map l.world).width ≡ (g.W.Terrain.cells.map l.fn.world).width;
+  height : (g.W.Terrain.cells.map l.world).height ≡ (g.W.Terrain.cells.map l.fn.world).height;
 }

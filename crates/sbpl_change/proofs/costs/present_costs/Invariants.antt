@@ -4,7 +4,7 @@ use Rattle.sbpl_change.specs.Noted.{AreCosts, IsNoted}
 use Rattle.sbpl_change.proofs.costs.present_costs.Given as goal
 
 abbrev pub invariant-loop-write : goal.invariant-loop-write
-invariant-loop-write l = record {
-  sound : AreCosts l.lattice.map l.costs;
+invariant-loop-write g l = record {
+  sound : AreCosts (g.W.Terrain.cells.map l.world) l.costs;
   complete : (i : ℕ) (w : Write) → i < l.write-index → slice_get l.batch i ≡ Some w → IsNoted l.costs w.x w.y;
 }

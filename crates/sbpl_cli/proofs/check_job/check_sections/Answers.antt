@@ -39,10 +39,10 @@ write_batch-requires g c = record {
 }
 
 -- the map after the batch
-after_batch : (g : _) (c : After-write_batch g) → IsMapAfter c.args.lattice.now.map c.args.course.now.batches (c.loop-k.k + 1) c.write_batch.new.lattice.map
+after_batch : (g : _) (c : After-write_batch g) → IsMapAfter c.args.lattice.now.map c.args.course.now.batches (c.loop-k.k + 1) c.write_batch.new.world.map
 after_batch g c = c.writes_lead_to_the_next_map.ensures.next _ _ _ _ _ _ c.loop-k.invariant.map_after c.batch.ensures.writes c.write_batch.ensures.written
 
-env_after : (g : _) (c : After-write_batch g) → c.write_batch.new.lattice.env ≡ c.args.lattice.now.env
+env_after : (g : _) (c : After-write_batch g) → c.write_batch.new.world.env ≡ c.args.lattice.now.env
 env_after g c = ap (λ (v : World). v.env) c.write_batch.ensures.others ∙ ap (λ (v : World). v.env) c.loop-k.invariant.other_parts
 
 pub rebuild-requires : goal.rebuild-requires
@@ -55,9 +55,9 @@ start_at-start-requires-clause-place g c =
     let moves = c.args.course.now.moves in
     let next = after_batch g at in
     let here : c.loop-k.k < length c.args.course.now.batches = (let test = c.loop-k-test.true in let count = c.batches-k-end.ensures.value in omega arith) in
-    subst (λ (e : Environment). IsPlaceOnMap c.write_batch.new.lattice.map e.headings c.place.result) (sym (env_after g at))
-    (subst (λ (o : Option Place). IsPlaceOnMap c.write_batch.new.lattice.map w.env.headings o) (sym c.place.ensures.place)
-    (move_on_map w c.write_batch.new.lattice.map c.args.course.now.batches moves c.loop-k.k c.requires.course.1.moves here next.width next.height))
+    subst (λ (e : Environment). IsPlaceOnMap c.write_batch.new.world.map e.headings c.place.result) (sym (env_after g at))
+    (subst (λ (o : Option Place). IsPlaceOnMap c.write_batch.new.world.map w.env.headings o) (sym c.place.ensures.place)
+    (move_on_map w c.write_batch.new.world.map c.args.course.now.batches moves c.loop-k.k c.requires.course.1.moves here next.width next.height))
 
 pub start_at-start-requires-clause-start : goal.start_at-start-requires-clause-start
 start_at-start-requires-clause-start g c = subst (λ (n : ℕ). c.loop-k.start < n) (same_states _ _ c.write_batch.ensures.others) c.loop-k.invariant.state
@@ -76,9 +76,9 @@ loop-k-preserved g c =
       fits = λ back fits. c.rebuild.ensures.fits c.loop-k.lattice c.args.goal back (so.fits back fits) c.write_batch.ensures.others;
       far = omega (arith, here);
       map_after = after_batch g at;
-      other_parts = ◌∙◌ {b = record c.loop-k.lattice { map = c.write_batch.new.lattice.map }} c.write_batch.ensures.others (ap (λ (v : World). record v { map = c.write_batch.new.lattice.map }) so.other_parts);
+      other_parts = ◌∙◌ {b = record c.loop-k.lattice { map = c.write_batch.new.world.map }} c.write_batch.ensures.others (ap (λ (v : World). record v { map = c.write_batch.new.world.map }) so.other_parts);
       kept = c.write_batch.ensures.kept;
-      start_is = next_is w.env c.write_batch.new.lattice.env c.args.start course.moves k c.loop-k.start c.start_at-start.result c.place.result (within w course.batches course.moves k c.requires.course.1.moves here) so.start_is (env_after g at) c.place.ensures.place c.start_at-start.ensures.state;
+      start_is = next_is w.env c.write_batch.new.world.env c.args.start course.moves k c.loop-k.start c.start_at-start.result c.place.result (within w course.batches course.moves k c.requires.course.1.moves here) so.start_is (env_after g at) c.place.ensures.place c.start_at-start.ensures.state;
       state = c.start_at-start.ensures.inside;
       inside = c.in-Ok.ensures.inside;
       frame = writes_on _ _ _ _ so.frame c.check_plan.ensures.frame;

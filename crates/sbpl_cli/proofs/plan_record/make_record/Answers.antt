@@ -90,7 +90,7 @@ module _ (by : Known) (w : World) (guide : ℕ → ℕ) (start goal : ℕ) (how 
       }
 
 -- after a plan it goes between the same states
-between_after : {Note : Type 0} (d : Direction) (start goal : ℕ) (old new : Standing Note) → GoesBetween d start goal old → StaysTheSame old new → GoesBetween d start goal new
+between_after : {Note : Type 0} (d : Direction World) (start goal : ℕ) (old new : Standing Note) → GoesBetween d start goal old → StaysTheSame old new → GoesBetween d start goal new
 between_after d start goal old new between same = record { from = same.start ∙ between.from; to = same.goal ∙ between.to }
 
 pub section-requires-clause-between : goal.section-requires-clause-between

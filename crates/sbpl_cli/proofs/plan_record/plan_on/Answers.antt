@@ -1,6 +1,5 @@
 use Rattle.std.proofs.Common.{◌≡◌, ℕ, ◌+◌, ◌-◌, ◌^◌, ◌≤◌, ◌<◌, length, List, [], ◌∷◌, ◌++◌, Result, Ok, Err, IfOk, refl, sym, ◌∙◌, ap, subst, inl, inr, arith}
 use Rattle.std.specs.Prelude.{OnErr}
-use Rattle.sbpl_fixed.specs.declared.no_memory.NoMemory.{NoMemory}
 use Rattle.sbpl_incumbent.specs.Entries.{next_entry}
 use Rattle.sbpl_incumbent.specs.Views.{Publishing}
 use Rattle.sbpl_plan.specs.declared.passes.Pass.{Pass}
@@ -11,7 +10,7 @@ use Rattle.sbpl_plan.specs.Passing.{Inquiry}
 use Rattle.sbpl_replan.specs.Replanning.{Standing, StandsOutOfMemory}
 use Rattle.sbpl_search.specs.Meaning.{Meaning}
 use Rattle.sbpl_cli.specs.declared.publishing.Publishes.{Publishes}
-use Rattle.sbpl_cli.specs.Published.{Entry, founds, with_paths}
+use Rattle.sbpl_cli.specs.Published.{founds, with_paths}
 use Rattle.sbpl_cli.proofs.Founds.{all_found, on_err_so, stands_so}
 use Rattle.sbpl_cli.proofs.plan_record.plan_on.Goals as goal
 

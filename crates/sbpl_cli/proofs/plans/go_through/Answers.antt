@@ -36,7 +36,7 @@ returns-in-Err-change-clause-ends g c = tells_no_more _ _ _ _ _ _ _ _ _ _ _ _ _ 
 pub start_at-start-requires-clause-place : goal.start_at-start-requires-clause-place
 start_at-start-requires-clause-place g c =
     let w = c.args.lattice.now in
-    let now = c.change.new.lattice in
+    let now = c.change.new.world in
     let going = c.loop-k.invariant.going in
     let env : now.env ≡ w.env = ap (λ (v : World). v.env) c.change.ensures.others ∙ ap (λ (v : World). v.env) going.same in
     let next = c.writes_lead_to_the_next_map.ensures.next _ _ _ _ _ _ going.after c.batch.ensures.writes c.in_default-change.ensures.written in
@@ -55,7 +55,7 @@ pub loop-k-preserved : goal.loop-k-preserved
 loop-k-preserved g c =
     let w = c.args.lattice.now in
     let course = c.args.course.now in
-    let now = c.change.new.lattice in
+    let now = c.change.new.world in
     let k = c.loop-k.k in
     let going = c.loop-k.invariant.going in
     let env : now.env ≡ w.env = ap (λ (v : World). v.env) c.change.ensures.others ∙ ap (λ (v : World). v.env) going.same in

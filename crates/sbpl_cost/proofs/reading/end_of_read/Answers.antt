@@ -1,7 +1,7 @@
 use Rattle.std.proofs.Common.{Some, pos, ◌-ℤ◌, arith, sym, ap, ◌∙◌}
-use Rattle.sbpl_cost.specs.Ends.{at_end}
+use Rattle.sbpl_terrain.specs.Ends.{at_end}
 use Rattle.sbpl_cost.specs.States.{state_number}
-use Rattle.sbpl_cost.specs.declared.arc_end.ArcEnd.{ArcEnd}
+use Rattle.sbpl_terrain.specs.declared.arc_end.ArcEnd.{ArcEnd}
 use Rattle.sbpl_cost.proofs.ArcsRead.{ends_found, no_head, no_source, place_some}
 use Rattle.sbpl_cost.proofs.reading.end_of_read.Goals as goal
 

@@ -1,7 +1,7 @@
 use Rattle.std.proofs.Common.{arith, ap, sym, ◌∙◌, pos, ◌+ℤ◌}
 use Rattle.std.proofs.lemmas.Option.{slice_get_within}
 use Rattle.sbpl_cost.specs.States.{state_in}
-use Rattle.sbpl_cost.specs.declared.arc_end.ArcEnd.TheVariants as end
+use Rattle.sbpl_terrain.specs.declared.arc_end.ArcEnd.TheVariants as end
 use Rattle.sbpl_cost.proofs.Tails.{arc_as_tail}
 use Rattle.sbpl_cost.proofs.TailViews.{number_read}
 use Rattle.sbpl_cost.proofs.Views.{found_prim, number_below, state_below, head_is}

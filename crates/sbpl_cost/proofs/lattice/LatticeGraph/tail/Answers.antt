@@ -1,6 +1,6 @@
 use Rattle.std.proofs.Common.{arith, ap, refl}
 use Rattle.std.proofs.lemmas.Option.{slice_get_within}
-use Rattle.sbpl_cost.specs.declared.arc_end.ArcEnd.TheVariants as end
+use Rattle.sbpl_terrain.specs.declared.arc_end.ArcEnd.TheVariants as end
 use Rattle.sbpl_cost.proofs.Views.{state_below}
 use Rattle.sbpl_cost.proofs.TailViews.{tail_below, tail_read, tail_inside, number_read}
 use Rattle.sbpl_cost.proofs.lattice.LatticeGraph.tail.Goals as goal

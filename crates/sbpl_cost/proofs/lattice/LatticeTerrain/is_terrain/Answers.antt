@@ -1,0 +1,5 @@
+use Rattle.sbpl_cost.proofs.Terrain.{lattice_is_terrain}
+use Rattle.sbpl_cost.proofs.lattice.LatticeTerrain.is_terrain.Goals as goal
+
+pub returns : goal.returns
+returns c = record { law = lattice_is_terrain }

@@ -1,0 +1,10 @@
+-- Plans on a lattice from the start to the goal, by the best heuristic.
+use Rattle.sbpl_cost.specs.Lattices.{network_of}
+use Rattle.sbpl_cost.specs.World.{World}
+use Rattle.sbpl_heur.specs.Bests.{IsBestGuide, Table}
+use Rattle.sbpl_replan.specs.Replanning.{IsReadyIn, Replanning}
+use Rattle.sbpl_search.specs.Meaning.{Meaning}
+
+-- a plan may begin in a world
+abbrev pub IsReadyOn : {Note : Type 0} → Meaning Note → World → Replanning Note Table → Type 0
+IsReadyOn means w r = IsReadyIn means network_of (λ b v goal. IsBestGuide v goal b) w r

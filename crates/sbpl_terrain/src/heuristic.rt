@@ -1,0 +1,34 @@
+//! Guides that follow a map.
+
+ghost use Rattle.std.specs.Prelude.{ℕ, ◌<◌, IfOk};
+ghost use Rattle.sbpl_map.specs.CellMap.{CellMap};
+
+use crate::Terrain;
+use sbpl_fixed::NoMemory;
+use sbpl_graph::Guide;
+use std::alloc::Global;
+
+/// A guide to a goal that is made for a graph over a map, and made anew where the map has changed.
+pub trait Heuristic<W: Terrain>: Guide {
+    /// What such a guide says at each state, in a world and to a goal.
+    ghost says: { W → (goal : ℕ) → (guide : ℕ → ℕ) → Type 0 };
+
+    /// It is made for a world and a goal.
+    ghost is_made_for: { Self → W → (goal : ℕ) → Type 0 };
+
+    /// The guide to a goal on the present map.
+    fn build(alloc: Global, world: &W, goal: u32) -> Result<Self, NoMemory>
+        requires goal { goal < (W.network world.now).states }
+        ensures made { IfOk result (λ guide. is_made_for guide world.now goal) };
+
+    /// Makes the guide anew for the present map, where it was made for another map of the same graph. It takes no memory.
+    fn rebuild(&mut self, world: &W)
+        requires made { (m : CellMap) × (goal : ℕ) × is_made_for self.old (W.cells.over world.now m) goal }
+        ensures made { (m : CellMap) (goal : ℕ) → is_made_for self.old (W.cells.over world.now m) goal → is_made_for self.new world.now goal };
+
+    /// It guides to the goal.
+    ghost guides_there: { (guide : Self) (w : W) (goal : ℕ) → is_made_for guide w goal → Self.guides guide (W.network w) goal };
+
+    /// It says what it should.
+    ghost says_so: { (guide : Self) (w : W) (goal : ℕ) → is_made_for guide w goal → says w goal (Self.distance guide) };
+}
