@@ -1,0 +1,15 @@
+mod Adding
+mod Fitting
+mod Gaps
+mod Guiding
+mod Judged
+mod GraphLaws
+mod Networks
+mod OwnFaults
+mod Places
+mod Plain
+mod Steps
+mod Tails
+mod TextLaws
+mod Unread
+mod Terrain

@@ -1,0 +1,14 @@
+pub mod Adding
+pub mod Arc
+pub mod Directions
+pub mod Environment
+pub mod Faults
+pub mod Format
+pub mod Gap
+pub mod Grids
+pub mod Guides
+pub mod Reading
+pub mod Text
+pub mod World
+pub mod Reads
+pub mod Cells

@@ -1,0 +1,58 @@
+-- Which arcs of a grid read a cell.
+use Rattle.std.specs.Prelude.{◌≡◌, ℕ, ℤ, ◌≤◌, ◌⊎◌, List, [], ◌∷◌, length}
+use Rattle.sbpl_graph.specs.Network.{Network, IsArc}
+use Rattle.sbpl_map.specs.CellMap.{CellMap, cost_at}
+use Rattle.sbpl_terrain.specs.Cells.{DifferInCostsAlone}
+use Rattle.sbpl_terrain.specs.Ends.{at_end}
+use Rattle.sbpl_terrain.specs.Reading.{AddsEnds}
+use Rattle.sbpl_terrain.specs.declared.arc_end.ArcEnd.{ArcEnd}
+use Rattle.sbpl_nav2d.specs.Cells.{grid_cells}
+use Rattle.sbpl_nav2d.specs.Grids.{network_of}
+use Rattle.sbpl_nav2d.specs.Reads.{ReadsCell}
+use Rattle.sbpl_nav2d.specs.World.{GridWorld, over_map}
+
+-- ---- ends of arcs
+
+-- these states are, in turn, at this end of these arcs, which are given by their sources and their numbers
+abbrev pub AreAtEnd : ArcEnd → Network → List (ℕ × ℕ) → List ℕ → Type 0
+AreAtEnd end n [] [] = Unit {0}
+AreAtEnd end n (a ∷ arcs) (t ∷ ts) = ((head : ℕ) × IsArc n a.0 a.1 head × (t ≡ at_end end (a.0, head))) × AreAtEnd end n arcs ts
+AreAtEnd end n _ _ = ⊥
+
+-- arc k of state s is one of these
+abbrev pub IsAmong : ℕ → ℕ → List (ℕ × ℕ) → Type 0
+IsAmong s k [] = ⊥
+IsAmong s k (a ∷ arcs) = ((s ≡ a.0) × (k ≡ a.1)) ⊎ IsAmong s k arcs
+
+-- The states at this end of all arcs that read cell (x, y), and no other states, were appended to a list: one for each of these
+-- arcs, and at most 24 in all.
+pub record AddsFewEnds (end : ArcEnd) (w : GridWorld) (x y : ℤ) (old new : List ℕ) : Type 0 where
+  pub adds : AddsEnds network_of grid_cells end w x y old new
+  pub arcs : List (ℕ × ℕ)
+  pub ends : AreAtEnd end (network_of w) arcs adds.added
+  pub each : (s k t : ℕ) → IsArc (network_of w) s k t → ReadsCell w s k x y → IsAmong s k arcs
+  pub few : length adds.added ≤ 24
+
+-- ---- costs
+
+-- each arc that does not read cell (x, y) costs the same in two worlds
+abbrev pub UnreadCostTheSame : GridWorld → GridWorld → ℤ → ℤ → Type 0
+UnreadCostTheSame old new x y =
+    (s k : ℕ) → (ReadsCell old s k x y → ⊥) → (network_of new).cost s k ≡ (network_of old).cost s k
+
+-- another map is one of the same size
+pub record HasSize (w : GridWorld) (m : CellMap) : Type 0 where
+  pub width : m.width ≡ w.map.width
+  pub height : m.height ≡ w.map.height
+
+-- where all cells that an arc reads cost the same on another map, so does the arc
+abbrev pub UnreadArcsCostTheSame : Type 0
+UnreadArcsCostTheSame =
+    (w : GridWorld) (m : CellMap) (s k : ℕ) → HasSize w m
+    → ((x y : ℤ) → ReadsCell w s k x y → cost_at m x y ≡ cost_at w.map x y)
+    → (network_of (over_map w m)).cost s k ≡ (network_of w).cost s k
+
+-- another map changes costs alone
+abbrev pub MapsChangeCostsAlone : Type 0
+MapsChangeCostsAlone =
+    (w : GridWorld) (m : CellMap) → HasSize w m → DifferInCostsAlone (network_of (over_map w m)) (network_of w)

@@ -1,0 +1,24 @@
+//! Grids with eight neighbours: their environment files, and the grid as a graph.
+#![tactic(auto)]
+
+mod cell;
+mod env;
+mod fault;
+mod judging;
+mod laws;
+mod nav;
+mod octile;
+mod parts;
+mod read;
+mod reading;
+mod text;
+
+pub use env::NavEnv;
+pub use fault::NavFault;
+pub use laws::{
+    gaps_in_plain_words, grids_have_their_tails, unread_arcs_cost_the_same, worlds_are_grids,
+};
+pub use nav::Nav;
+pub use octile::Octile;
+pub use read::read_nav;
+pub use text::texts_are_grids_or_faulty;

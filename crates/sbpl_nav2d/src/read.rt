@@ -1,0 +1,191 @@
+//! An environment file of a grid is read.
+
+ghost use Rattle.std.specs.Prelude.{ℕ, List, Ok, Err, ◌≡◌, ◌≢◌, ◌*◌, ◌<◌, ◌≤◌, true, IfOk, IfErr};
+ghost use Rattle.sbpl_fixed.specs.Formats.{Answers, Gives, reads};
+ghost use Rattle.sbpl_nav2d.specs.declared.fault.NavFault.{NavFault};
+ghost use Rattle.sbpl_nav2d.specs.declared.fault.NavFault.TheVariants.{NoMemory};
+ghost use Rattle.sbpl_nav2d.specs.Environment.{NavEnvironment};
+ghost use Rattle.sbpl_nav2d.specs.Faults.{told};
+ghost use Rattle.sbpl_nav2d.specs.Format.{cost_format, end_format, end_spot_format, environment_format, grid_format, is_on_map, numbers_format, obsthresh_format, size_format, spot_format, start_format, start_spot_format, state_of};
+ghost use Rattle.sbpl_nav2d.specs.Text.{HasFault, IsTextOf};
+
+use crate::env::NavEnv;
+use crate::fault::NavFault;
+use crate::parts::{Size, Spot};
+use sbpl_cfg::Grid;
+use sbpl_fixed::{Placed, Reader};
+use std::alloc::Global;
+
+/// The most states that a planner takes.
+const MOST_STATES: u64 = 8_388_608;
+
+/// The map's size, which must leave room for the states.
+#[tactic(auto, unfolding(sbpl_fixed::specs::Formats::reads, crate::specs::Format::size_format))]
+fn size(reader: &mut Reader) -> Result<Size, NavFault>
+    ensures read { Gives NoMemory (λ x. x) result reader.new (reads told size_format reader.old) }
+    ensures width { IfOk result (λ x. (1 ≤ x.width) × (x.width ≤ 8388608)) }
+    ensures height { IfOk result (λ x. (1 ≤ x.height) × (x.height ≤ 8388608)) }
+    ensures states { IfOk result (λ x. x.width * x.height ≤ 8388608) }
+{
+    reader.word(b"discretization(cells):")?;
+    let width = reader.natural(1, 8_388_608)?;
+    let height = reader.natural(1, 8_388_608)?;
+    if u64::from(width.value) * u64::from(height.value) > MOST_STATES {
+        return Err(NavFault::TooLarge(width.place));
+    }
+    Ok(Size {
+        width: width.value,
+        height: height.value,
+    })
+}
+
+/// The cost from which a cell is an obstacle.
+#[tactic(auto, unfolding(sbpl_fixed::specs::Formats::reads, crate::specs::Format::obsthresh_format))]
+fn obsthresh(reader: &mut Reader) -> Result<u8, NavFault>
+    ensures read { Gives NoMemory (λ x. x) result reader.new (reads told obsthresh_format reader.old) }
+{
+    reader.word(b"obsthresh:")?;
+    Ok(reader.natural(0, 255)?.value as u8)
+}
+
+/// A word, and a cell after it, with the place of its x.
+#[tactic(auto, unfolding(sbpl_fixed::specs::Formats::reads, crate::specs::Format::spot_format))]
+fn spot(reader: &mut Reader, word: &[u8]) -> Result<Placed<Spot>, NavFault>
+    ensures read { Gives NoMemory (λ x. x) result reader.new (reads told (spot_format word.now) reader.old) }
+{
+    reader.word(word)?;
+    let x = reader.natural(0, 8_388_607)?;
+    let y = reader.natural(0, 8_388_607)?;
+    Ok(Placed {
+        value: Spot {
+            x: x.value,
+            y: y.value,
+        },
+        place: x.place,
+    })
+}
+
+/// Whether a cell is on the map.
+fn is_on_map(size: &Size, p: &Spot) -> bool
+    ensures on_map { result ≡ is_on_map size.now p.now }
+{
+    p.x < size.width && p.y < size.height
+}
+
+/// The state of a cell on the map.
+fn state_of(size: &Size, p: &Spot) -> u32
+    requires states { size.now.width * size.now.height ≤ 8388608 }
+    requires on_map { is_on_map size.now p.now ≡ true }
+    ensures state { result ≡ state_of size.now p.now }
+    ensures inside { result < size.now.width * size.now.height }
+{
+    p.y * size.width + p.x
+}
+
+/// The start's word and cell.
+#[tactic(auto, unfolding(crate::specs::Format::start_spot_format))]
+fn start_spot(reader: &mut Reader) -> Result<Placed<Spot>, NavFault>
+    ensures read { Gives NoMemory (λ x. x) result reader.new (reads told start_spot_format reader.old) }
+{
+    spot(reader, b"start(cells):")
+}
+
+/// The start, which must be on the map.
+#[tactic(auto, using(sbpl_fixed::specs::Parts::reading), unfolding(sbpl_fixed::specs::Formats::reads, crate::specs::Format::start_format))]
+fn start(reader: &mut Reader, size: &Size) -> Result<u32, NavFault>
+    requires states { size.now.width * size.now.height ≤ 8388608 }
+    ensures read { Gives NoMemory (λ x. x) result reader.new (reads told (start_format size.now) reader.old) }
+    ensures inside { IfOk result (λ s. s < size.now.width * size.now.height) }
+{
+    let spot = start_spot(reader)?;
+    if !is_on_map(size, &spot.value) {
+        return Err(NavFault::StartOff(spot.place));
+    }
+    Ok(state_of(size, &spot.value))
+}
+
+/// The end's word and cell.
+#[tactic(auto, unfolding(crate::specs::Format::end_spot_format))]
+fn end_spot(reader: &mut Reader) -> Result<Placed<Spot>, NavFault>
+    ensures read { Gives NoMemory (λ x. x) result reader.new (reads told end_spot_format reader.old) }
+{
+    spot(reader, b"end(cells):")
+}
+
+/// The end, which must be on the map.
+#[tactic(auto, using(sbpl_fixed::specs::Parts::reading), unfolding(sbpl_fixed::specs::Formats::reads, crate::specs::Format::end_format))]
+fn end(reader: &mut Reader, size: &Size) -> Result<u32, NavFault>
+    requires states { size.now.width * size.now.height ≤ 8388608 }
+    ensures read { Gives NoMemory (λ x. x) result reader.new (reads told (end_format size.now) reader.old) }
+    ensures inside { IfOk result (λ s. s < size.now.width * size.now.height) }
+{
+    let spot = end_spot(reader)?;
+    if !is_on_map(size, &spot.value) {
+        return Err(NavFault::EndOff(spot.place));
+    }
+    Ok(state_of(size, &spot.value))
+}
+
+/// All numbers but the costs.
+#[tactic(auto, using(sbpl_fixed::specs::Parts::reading), unfolding(sbpl_fixed::specs::Formats::reads, crate::specs::Format::numbers_format))]
+fn numbers(reader: &mut Reader) -> Result<NavEnv, NavFault>
+    ensures read { Gives NoMemory (λ x. x) result reader.new (reads told numbers_format reader.old) }
+{
+    let size = size(reader)?;
+    let obsthresh = obsthresh(reader)?;
+    let start = start(reader, &size)?;
+    let end = end(reader, &size)?;
+    Ok(NavEnv {
+        width: size.width,
+        height: size.height,
+        obsthresh,
+        start,
+        end,
+    })
+}
+
+/// The costs of the cells, after their word.
+#[tactic(auto, using(sbpl_fixed::specs::Parts::reading), unfolding(sbpl_fixed::specs::Formats::reads, crate::specs::Format::cost_format, crate::specs::Format::grid_format))]
+fn costs(alloc: Global, reader: &mut Reader, count: u32) -> Result<Vec<u8>, NavFault>
+    ensures read { Gives NoMemory (λ x. x.items) result reader.new (reads told (grid_format count) reader.old) }
+{
+    reader.word(b"environment:")?;
+    let mut costs = Vec::with_capacity(alloc, count as usize)?;
+    for _ in 0..count {
+        let cost = reader.natural(0, 255)?;
+        costs.push(cost.value as u8)?;
+    }
+    Ok(costs)
+}
+
+/// The whole file.
+#[tactic(auto, using(sbpl_fixed::specs::Parts::reading), unfolding(sbpl_fixed::specs::Formats::reads, crate::specs::Format::environment_format))]
+fn environment(alloc: Global, reader: &mut Reader) -> Result<(NavEnv, Grid), NavFault>
+    ensures read { Gives NoMemory (λ x. x) result reader.new (reads told environment_format reader.old) }
+{
+    let env = numbers(reader)?;
+    let costs = costs(alloc, reader, env.width * env.height)?;
+    reader.end()?;
+    Ok((env, Grid::of(costs)))
+}
+
+/// Reads an environment file of a grid: `discretization(cells):` with width and height, `obsthresh:`, `start(cells):`
+/// and `end(cells):` with x and y, `environment:` and the costs row by row, separated by any blanks; a number may have
+/// a sign and leading zeros. The ranges are those of `NavEnv`. A fault is the first one in reading order, with its
+/// offset: `TooLarge` comes directly after the height, `StartOff` and `EndOff` directly after their y. Only the costs
+/// take memory.
+#[tactic(auto, using(sbpl_fixed::proofs::Meaning::answering))]
+pub fn read_nav(alloc: Global, text: &[u8]) -> Result<(NavEnv, Grid), NavFault>
+    // What is read is what the text stands for.
+    ensures found { IfOk result (λ x. IsTextOf text.now x.0 x.1) }
+    // What a text stands for is read, unless memory runs out.
+    ensures only { (x : NavEnvironment × List ℕ)
+        → IsTextOf text.now x.0 x.1 → Answers NoMemory (λ y. y) result (Ok x) }
+    // A fault is the text's first one.
+    ensures faulty { IfErr result (λ f. f ≢ NoMemory → HasFault text.now f) }
+    // The first fault of a text is answered, unless memory runs out.
+    ensures only_faulty { (f : NavFault)
+        → HasFault text.now f → Answers NoMemory (λ y. y) result (Err f) }
+{
+    environment(alloc, &mut Reader::new(text))
+}
