@@ -1,17 +1,17 @@
 //! What the program does for the words after its name, at any desk.
 
-ghost use Rattle.std.specs.Prelude.{◌≡◌, [], false, List, None, IsSome, map, string_bytes};
+ghost use Rattle.std.specs.Prelude.{◌≡◌, ◌<◌, ◌^◌, false, length, None, IsSome, map, string_bytes};
 ghost use Rattle.std.specs.Io.KnownBytes.{Keeps};
 ghost use Rattle.sbpl_desk.specs.Desk.{ReadsOnly, Rose};
 ghost use Rattle.sbpl_cli.specs.Run.{IsOrUnwritten, IsStatus, MayBeWritten, job_named};
-ghost use Rattle.sbpl_cli.specs.Published.{Entry};
 ghost use Rattle.sbpl_cli.specs.RunPromises.{RunPromises};
 ghost use Rattle.sbpl_cli.specs.Writing.{IsOutput, WritesOnly, output};
 ghost use Rattle.sbpl_job.specs.Asked.{asked_for};
 ghost use Rattle.sbpl_message.specs.Reasons.{has_message};
 
-use sbpl_cli::{Gate, run};
+use sbpl_cli::{Gate, run_with};
 use sbpl_desk::{Desk, WriteStop};
+use sbpl_incumbent::{Board, Publisher};
 use sbpl_job::{Asked, read_asked, told};
 use sbpl_message::message_for;
 use std::alloc::Global;
@@ -61,8 +61,9 @@ fn explain<D: Desk, E: io::Write>(
 
 #[tactic(none)]
 /// Does what the words after the program's name ask for, and answers the program's status: tells help or the version, or does
-/// the job that they name, as `run` does it. Where the job was not done, a line on `err` says why: which word, which file, or
-/// where in a file and what must stand there. To find that out it reads the files again at the desk `again`, and only then.
+/// the job that they name, as `run_with` does it. Where the job was not done, a line on `err` says why: which word, which file, or
+/// where in a file and what must stand there. To find that out it reads the files again at the desk `again`, and only then. The
+/// publisher is the board's, and has published fewer than 2^62 entries.
 pub fn answer<R: Threads + Wait + Sync, D: Desk, T: Gate + Sync, E: io::Write>(
     rt: &R,
     alloc: Global,
@@ -71,12 +72,16 @@ pub fn answer<R: Threads + Wait + Sync, D: Desk, T: Gate + Sync, E: io::Write>(
     gate: &T,
     again: &mut D,
     err: &mut E,
+    board: &Board,
+    publisher: &mut Publisher,
 ) -> u8
+    requires board { publisher.old.board ≡ board.now }
+    requires few { length publisher.old.published < 2 ^ 62 }
     // Words that ask for help or the version are told it, unless that cannot be written or memory runs out.
     ensures asked { IsSome (asked_for (map string_bytes words.now)) → IsOrUnwritten 0 result }
     ensures unwritten { IsSome (asked_for (map string_bytes words.now)) → result ≡ 7 → Rose ((D.state desk.old).write_faults output) ((D.state desk.new).write_faults output) }
-    // All other words get what `run` promises, of this status.
-    ensures run { asked_for (map string_bytes words.now) ≡ None → (published : List Entry) × RunPromises (job_named words.now) (D.state desk.old) (D.state desk.new) [] published result }
+    // All other words get what `run_with` promises, of this status.
+    ensures run { asked_for (map string_bytes words.now) ≡ None → RunPromises (job_named words.now) (D.state desk.old) (D.state desk.new) publisher.old.published publisher.new.published result }
     ensures statuses { IsStatus result }
     // A message comes with the statuses 2 to 7 and 10 alone.
     ensures quiet { has_message result ≡ false → Keeps (E.contents err.old) (E.contents err.new) }
@@ -88,7 +93,7 @@ pub fn answer<R: Threads + Wait + Sync, D: Desk, T: Gate + Sync, E: io::Write>(
     match read_asked(words) {
         Some(asked) => tell(alloc, asked, desk),
         None => {
-            let status = run(rt, alloc, words, desk, gate);
+            let status = run_with(rt, alloc, words, desk, gate, board, publisher);
             explain(alloc, words, status, again, err);
             status
         }

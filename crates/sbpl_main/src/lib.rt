@@ -3,6 +3,7 @@
 
 mod answering;
 mod program;
+mod progress;
 
 pub use answering::answer;
 pub use program::start;

@@ -4,11 +4,15 @@ ghost use Rattle.std.specs.Prelude.{◌≡◌, drop};
 ghost use Rattle.sbpl_cli.specs.Promises.{IsStatus};
 
 use crate::answering::{NO_MEMORY, answer};
+use crate::progress::answer_at_terminal;
 use sbpl_cli::NoGate;
 use sbpl_desk::RealDesk;
+use sbpl_incumbent::Board;
+use std::io::IsTerminal;
 use std::rt::{Env, Files};
 use std::sync::Wait;
 use std::thread::Threads;
+use std::time::Clock;
 use std::{env, io};
 
 /// The program's words, its name first.
@@ -27,11 +31,12 @@ fn after_name(words: &[String]) -> &[String]
 }
 
 /// Does what the program's words ask for, at the system's files and standard output, and answers the status, which is one of
-/// those that the help lists. Where the job was not done, a line on `err` says why.
-pub fn start<R: Env + Files + Print + AllocGlobal + Threads + Wait + Sync, E: io::Write>(
-    rt: &R,
-    err: &mut E,
-) -> u8
+/// those that the help lists. Where the job was not done, a line on `err` says why. Where `err` is a terminal, the newest path is
+/// shown on its last line while the planner works.
+pub fn start<
+    R: Env + Files + Print + AllocGlobal + Threads + Wait + Clock + Sync,
+    E: io::Write + IsTerminal + Send,
+>(rt: &R, err: &mut E) -> u8
     ensures status { IsStatus result }
 {
     let words = match words_of(rt) {
@@ -40,15 +45,24 @@ pub fn start<R: Env + Files + Print + AllocGlobal + Threads + Wait + Sync, E: io
         // A word that isn't text names no job, like no word at all.
         Err(_) => Vec::new(rt.alloc()),
     };
+    let words = after_name(words.as_slice());
+    let Ok((board, mut publisher)) = Board::new(rt.alloc()) else {
+        return NO_MEMORY;
+    };
+    if err.is_terminal() {
+        return answer_at_terminal(rt, words, err, &board, &mut publisher);
+    }
     let mut desk = RealDesk::new(rt);
     let mut again = RealDesk::new(rt);
     answer(
         rt,
         rt.alloc(),
-        after_name(words.as_slice()),
+        words,
         &mut desk,
         &NoGate,
         &mut again,
         err,
+        &board,
+        &mut publisher,
     )
 }

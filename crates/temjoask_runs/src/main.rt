@@ -10,6 +10,7 @@
 #![tactic(auto)]
 
 use sbpl_desk::RealDesk;
+use sbpl_incumbent::Board;
 use sbpl_main::{NoGate, answer};
 use std::rt::Files;
 use std::sync::Wait;
@@ -25,6 +26,9 @@ fn run_line<R: Files + Print + AllocGlobal + Threads + Wait + Sync>(
     for word in line.split(' ') {
         words.push(String::from_str(rt.alloc(), word)?)?;
     }
+    let Ok((board, mut publisher)) = Board::new(rt.alloc()) else {
+        return println!(rt; "out of memory");
+    };
     let mut desk = RealDesk::new(rt);
     let mut again = RealDesk::new(rt);
     let mut error = Vec::new(rt.alloc());
@@ -36,6 +40,8 @@ fn run_line<R: Files + Print + AllocGlobal + Threads + Wait + Sync>(
         &NoGate,
         &mut again,
         &mut error,
+        &board,
+        &mut publisher,
     );
     println!(rt; "status {status}")?;
     match str::from_utf8(error.as_slice()) {

@@ -1,8 +1,7 @@
-use Rattle.std.proofs.Common.{◌≡◌, ℕ, None, Option, Some, IsSome, map, string_bytes, arith, rules, inl, inr, refl, sym, ◌∙◌}
+use Rattle.std.proofs.Common.{◌≡◌, ℕ, None, Option, Some, IsSome, arith, rules, inl, inr, refl, sym, ◌∙◌}
 use Rattle.std.proofs.lemmas.Bool.{false≢true}
 use Rattle.sbpl_cli.specs.Run.{IsOrUnwritten, IsStatus}
 use Rattle.sbpl_job.specs.declared.help.Asked.{Asked}
-use Rattle.sbpl_job.specs.Asked.{asked_for}
 use Rattle.sbpl_main.proofs.answering.answer.Goals as goal
 
 -- words that ask for something do not ask for nothing
@@ -52,10 +51,10 @@ pub returns-in-None-clause-unwritten : goal.returns-in-None-clause-unwritten
 returns-in-None-clause-unwritten g c = λ some. absurd (none_asked _ (sym c.read_asked.ensures.asked ∙ c.in-None.is) some)
 
 pub returns-in-None-clause-run : goal.returns-in-None-clause-run
-returns-in-None-clause-run g c = λ _. c.run-status.ensures.promises
+returns-in-None-clause-run g c = λ _. c.run_with-status.ensures.promises
 
 pub returns-in-None-clause-statuses : goal.returns-in-None-clause-statuses
-returns-in-None-clause-statuses g c = c.run-status.ensures.promises.1.statuses
+returns-in-None-clause-statuses g c = c.run_with-status.ensures.promises.statuses
 
 pub returns-in-None-clause-quiet : goal.returns-in-None-clause-quiet
 returns-in-None-clause-quiet g c = c.explain.ensures.quiet
@@ -64,4 +63,10 @@ pub returns-in-None-clause-again : goal.returns-in-None-clause-again
 returns-in-None-clause-again g c = c.explain.ensures.frame
 
 pub returns-in-None-clause-frame : goal.returns-in-None-clause-frame
-returns-in-None-clause-frame g c = c.run-status.ensures.frame
+returns-in-None-clause-frame g c = c.run_with-status.ensures.frame
+
+pub run_with-status-requires-clause-board : goal.run_with-status-requires-clause-board
+run_with-status-requires-clause-board g c = search rules
+
+pub run_with-status-requires-clause-few : goal.run_with-status-requires-clause-few
+run_with-status-requires-clause-few g c = search rules
