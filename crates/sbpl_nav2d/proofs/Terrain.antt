@@ -6,10 +6,9 @@ use Rattle.sbpl_nav2d.specs.declared.cell.Cell.{Cell}
 use Rattle.sbpl_nav2d.specs.Arc.{cell_of}
 use Rattle.sbpl_nav2d.specs.Cells.{grid_cells}
 use Rattle.sbpl_nav2d.specs.Grids.{network_of}
-use Rattle.sbpl_nav2d.specs.Reading.{HasSize}
 use Rattle.sbpl_nav2d.specs.Reads.{ReadsCell}
 use Rattle.sbpl_nav2d.specs.World.{GridWorld, IsGridWorld, over_map}
-use Rattle.sbpl_nav2d.proofs.Unread.{maps_change_costs_alone, same_cell_of, unread_arcs_cost_the_same}
+use Rattle.sbpl_nav2d.proofs.Unread.{HasSize, maps_change_costs_alone, same_cell_of, unread_arcs_cost_the_same}
 
 -- both maps have the environment's size
 same_size : (w : GridWorld) (m : CellMap) → IsGridWorld w → IsGridWorld (over_map w m) → HasSize w m

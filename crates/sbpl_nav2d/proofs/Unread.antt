@@ -6,6 +6,7 @@ use Rattle.std.proofs.lemmas.Bool.{cases_Bool}
 use Rattle.std.proofs.lemmas.Bool.Decides.{Decides-int_eq}
 use Rattle.std.proofs.lemmas.Int.{ints}
 use Rattle.sbpl_map.specs.CellMap.{CellMap, cost_at, index_in, ChangesCell}
+use Rattle.sbpl_terrain.specs.Cells.{DifferInCostsAlone}
 use Rattle.sbpl_nav2d.specs.Environment.{column_of, row_of}
 use Rattle.sbpl_nav2d.specs.Directions.{direction, is_diagonal, by, moved, moved_back, step_cost}
 use Rattle.sbpl_nav2d.specs.Gap.{gap_of}
@@ -14,13 +15,18 @@ use Rattle.sbpl_nav2d.specs.Arc.{cell_of}
 use Rattle.sbpl_nav2d.specs.Arc.IsReadAt.{at_source, at_end, beside_along_x, beside_along_y}
 use Rattle.sbpl_nav2d.specs.Grids.{network_of, state_at, greatest_read}
 use Rattle.sbpl_nav2d.specs.Reads.{ReadsCell}
-use Rattle.sbpl_nav2d.specs.Reading.{HasSize, UnreadCostTheSame, UnreadArcsCostTheSame, MapsChangeCostsAlone}
+use Rattle.sbpl_nav2d.specs.Reading.{UnreadCostTheSame}
 use Rattle.sbpl_nav2d.proofs.Networks.{states_are, fan_is, head_is, cost_is, tail_fan_is, tail_is, gap_is}
 
 nothing_more : (x : ℤ) → (x +ℤ pos 0) ≡ x
 nothing_more x = omega (arith, ints)
 
 -- ---- maps of one size
+
+-- another map is one of the same size
+pub record HasSize (w : GridWorld) (m : CellMap) : Type 0 where
+  pub width : m.width ≡ w.map.width
+  pub height : m.height ≡ w.map.height
 
 pub same_cell_of : (w : GridWorld) (m : CellMap) (s : ℕ) → HasSize w m → cell_of (over_map w m) s ≡ cell_of w s
 same_cell_of w m s size = ap (λ n. by (pos (column_of n s)) (pos (row_of n s))) size.width
@@ -45,7 +51,8 @@ module _ (w : GridWorld) (m : CellMap) (size : HasSize w m) where
   same_gap : (a b : ℕ) → (network_of (over_map w m)).gap a b ≡ (network_of w).gap a b
   same_gap a b = gap_is (over_map w m) a b ∙ ap (λ n. gap_of n a b) size.width ∙ sym (gap_is w a b)
 
-pub maps_change_costs_alone : MapsChangeCostsAlone
+-- another map changes costs alone
+pub maps_change_costs_alone : (w : GridWorld) (m : CellMap) → HasSize w m → DifferInCostsAlone (network_of (over_map w m)) (network_of w)
 maps_change_costs_alone w m size = record {
   states = states_are (over_map w m) ∙ ap (λ n. n * m.height) size.width ∙ ap (λ n. w.map.width * n) size.height
       ∙ sym (states_are w);
@@ -103,7 +110,9 @@ same_greatest w m s k limit same =
       | inr d ↦ rw (d, here, there) refl
     ]
 
-pub unread_arcs_cost_the_same : UnreadArcsCostTheSame
+-- where all cells that an arc reads cost the same on another map, so does the arc
+pub unread_arcs_cost_the_same : (w : GridWorld) (m : CellMap) (s k : ℕ) → HasSize w m → ((x y : ℤ) → ReadsCell w s k x y → cost_at m x y ≡ cost_at w.map x y)
+    → (network_of (over_map w m)).cost s k ≡ (network_of w).cost s k
 unread_arcs_cost_the_same w m s k size same =
     let price : Option ℕ → Option ℕ = option_map (λ greatest. step_cost k * (greatest + 1)) in
     cost_is (over_map w m) s k ∙ ap (λ c. price (greatest_read w.env.obsthresh m c k)) (same_cell_of w m s size)

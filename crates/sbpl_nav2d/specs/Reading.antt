@@ -1,15 +1,13 @@
 -- Which arcs of a grid read a cell.
 use Rattle.std.specs.Prelude.{◌≡◌, ℕ, ℤ, ◌≤◌, ◌⊎◌, List, [], ◌∷◌, length}
 use Rattle.sbpl_graph.specs.Network.{Network, IsArc}
-use Rattle.sbpl_map.specs.CellMap.{CellMap, cost_at}
-use Rattle.sbpl_terrain.specs.Cells.{DifferInCostsAlone}
 use Rattle.sbpl_terrain.specs.Ends.{at_end}
 use Rattle.sbpl_terrain.specs.Reading.{AddsEnds}
 use Rattle.sbpl_terrain.specs.declared.arc_end.ArcEnd.{ArcEnd}
 use Rattle.sbpl_nav2d.specs.Cells.{grid_cells}
 use Rattle.sbpl_nav2d.specs.Grids.{network_of}
 use Rattle.sbpl_nav2d.specs.Reads.{ReadsCell}
-use Rattle.sbpl_nav2d.specs.World.{GridWorld, over_map}
+use Rattle.sbpl_nav2d.specs.World.{GridWorld}
 
 -- ---- ends of arcs
 
@@ -39,20 +37,3 @@ pub record AddsFewEnds (end : ArcEnd) (w : GridWorld) (x y : ℤ) (old new : Lis
 abbrev pub UnreadCostTheSame : GridWorld → GridWorld → ℤ → ℤ → Type 0
 UnreadCostTheSame old new x y =
     (s k : ℕ) → (ReadsCell old s k x y → ⊥) → (network_of new).cost s k ≡ (network_of old).cost s k
-
--- another map is one of the same size
-pub record HasSize (w : GridWorld) (m : CellMap) : Type 0 where
-  pub width : m.width ≡ w.map.width
-  pub height : m.height ≡ w.map.height
-
--- where all cells that an arc reads cost the same on another map, so does the arc
-abbrev pub UnreadArcsCostTheSame : Type 0
-UnreadArcsCostTheSame =
-    (w : GridWorld) (m : CellMap) (s k : ℕ) → HasSize w m
-    → ((x y : ℤ) → ReadsCell w s k x y → cost_at m x y ≡ cost_at w.map x y)
-    → (network_of (over_map w m)).cost s k ≡ (network_of w).cost s k
-
--- another map changes costs alone
-abbrev pub MapsChangeCostsAlone : Type 0
-MapsChangeCostsAlone =
-    (w : GridWorld) (m : CellMap) → HasSize w m → DifferInCostsAlone (network_of (over_map w m)) (network_of w)

@@ -2,7 +2,6 @@
 
 ghost use Rattle.sbpl_nav2d.specs.Gap.{GapsArePlain};
 ghost use Rattle.sbpl_nav2d.specs.Grids.{WorldsAreGrids, GridsHaveExactTails, GridsHaveGaps};
-ghost use Rattle.sbpl_nav2d.specs.Reading.{UnreadArcsCostTheSame, MapsChangeCostsAlone};
 
 /// The arcs and the tails of the grid, as a graph, are the steps in the eight directions: with their heads, their
 /// freedom and their costs. Its gaps are octile distances. It does nothing.
@@ -21,11 +20,4 @@ pub fn grids_have_their_tails()
 /// nothing.
 pub fn gaps_in_plain_words()
     ensures law { GapsArePlain }
-{}
-
-/// An arc costs the same on two maps of one size on which all cells that it reads cost the same. A map changes costs
-/// alone. It does nothing.
-pub fn unread_arcs_cost_the_same()
-    ensures costs { UnreadArcsCostTheSame }
-    ensures rest { MapsChangeCostsAlone }
 {}

@@ -15,9 +15,7 @@ mod text;
 
 pub use env::NavEnv;
 pub use fault::NavFault;
-pub use laws::{
-    gaps_in_plain_words, grids_have_their_tails, unread_arcs_cost_the_same, worlds_are_grids,
-};
+pub use laws::{gaps_in_plain_words, grids_have_their_tails, worlds_are_grids};
 pub use nav::Nav;
 pub use octile::Octile;
 pub use read::read_nav;
