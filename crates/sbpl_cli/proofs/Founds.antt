@@ -15,7 +15,6 @@ use Rattle.sbpl_plan.specs.Observed.{AreTold, IsTold}
 use Rattle.sbpl_plan.specs.OutOfMemory.{IsPartOfPlan}
 use Rattle.sbpl_plan.specs.Passing.{AreFirstPasses, ArePasses, Inquiry, inquiry_of}
 use Rattle.sbpl_replan.specs.Replanning.{Standing, StandsOutOfMemory, inquiry}
-use Rattle.sbpl_cost.specs.World.{World}
 use Rattle.sbpl_job.specs.declared.job.Outputs.{Outputs}
 use Rattle.sbpl_job.specs.declared.job.SearchJob.{SearchJob}
 use Rattle.sbpl_cli.specs.declared.record.TraceLine.{TraceLine}
@@ -85,8 +84,8 @@ on_err_is P (Ok x) h = tt
 on_err_is P (Err e) h = h
 
 -- the passes that were made before memory ran out are those of a plan that was broken off, and their paths were published
-module _ (by : Known) (w : World) (guide : ℕ → ℕ) (start goal k : ℕ) (how : SearchJob) (outputs : Outputs) (log shown : List Entry) (before : Option Carried) where
-  pub broken_by : (old : Standing by.Note) (asked : Ask) (left : Marks) (ps : List (Pass by.Note)) → by.direction.guides w start goal guide → Begins by.means by.direction w (by.direction.from start goal) before old.search.labels old.search.raised
+module _ {W : Type 0} (by : Known W) (w : W) (guide : ℕ → ℕ) (start goal k : ℕ) (how : SearchJob) (outputs : Outputs) (log shown : List Entry) (before : Option Carried) where
+  pub broken_by : (old : Standing by.Note) (asked : Ask) (left : Marks) (ps : List (Pass by.Note)) → by.direction.guides w start goal guide → Begins by.means by.on by.direction w (by.direction.from start goal) before old.search.labels old.search.raised
       → asked ≡ ask_of how outputs → old.search.goal ≡ by.direction.to start goal → AreFirstPasses by.means (inquiry_of (by.direction.network w) guide old.search.goal asked) asked.first old.search.labels ps left
       → shown ≡ with_paths log k 0 (founds ps) → IsPublishedInPart by w how outputs start goal k log shown before
   broken_by old asked left ps is_guide begins same to made shown_is = record {
@@ -107,7 +106,7 @@ module _ (by : Known) (w : World) (guide : ℕ → ℕ) (start goal k : ℕ) (ho
   }
 
   -- and where memory ran out in the plan
-  pub stands_broken : (Ready : Type 0) (old new : Standing by.Note) (asked : Ask) → by.direction.guides w start goal guide → Begins by.means by.direction w (by.direction.from start goal) before old.search.labels old.search.raised
+  pub stands_broken : (Ready : Type 0) (old new : Standing by.Note) (asked : Ask) → by.direction.guides w start goal guide → Begins by.means by.on by.direction w (by.direction.from start goal) before old.search.labels old.search.raised
       → asked ≡ ask_of how outputs → old.search.goal ≡ by.direction.to start goal
       → StandsOutOfMemory by.means (inquiry by.direction w guide old asked) Ready (λ ps. shown ≡ with_paths log k 0 (founds ps)) old new → IsPublishedInPart by w how outputs start goal k log shown before
   stands_broken Ready old new asked is_guide begins same to (inl cut) = broken_by old asked new.search.labels cut.part.passes is_guide begins same to cut.part.made cut.part.told

@@ -4,9 +4,7 @@ use Rattle.std.proofs.lemmas.Option.{slice_get_within}
 use Rattle.sbpl_desk.specs.Desk.{NoneFalls, Stays}
 use Rattle.sbpl_desk.specs.declared.desk.WriteStop.{WriteStop}
 use Rattle.sbpl_desk.specs.declared.desk.WriteStop.TheVariants.{NoMemory}
-use Rattle.sbpl_cost.specs.Cells.{lattice_cells}
-use Rattle.sbpl_cost.specs.Lattices.{network_of}
-use Rattle.sbpl_cost.specs.World.{IsWorld, World, over_map}
+use Rattle.sbpl_terrain.specs.Cells.{IsTerrain}
 use Rattle.sbpl_job.specs.declared.job.Outputs.{Outputs}
 use Rattle.sbpl_job.specs.declared.job.Planner.{Planner}
 use Rattle.sbpl_job.specs.declared.job.SearchJob.{SearchJob}
@@ -16,6 +14,7 @@ use Rattle.sbpl_map.specs.CellMap.{CellMap}
 use Rattle.sbpl_map.specs.MapAfter.{AreWritten, IsMapAfter}
 use Rattle.sbpl_map.specs.declared.write.Write as change
 use Rattle.sbpl_cli.specs.Asked.{Known, known}
+use Rattle.sbpl_cli.specs.Sites.{Site}
 use Rattle.sbpl_replan.specs.Replanning.{BeginsWith, Follows, Standing, StaysTheSame}
 use Rattle.sbpl_cli.specs.declared.record.PlanRecord.{PlanRecord}
 use Rattle.sbpl_plan.specs.declared.found.Found.{Found}
@@ -29,13 +28,13 @@ use Rattle.sbpl_cli.proofs.Writings.{ends_as_after, none_made, status_ends}
 
 -- ---- plans in turn
 
-module _ (by : Known) (written_of : PlanRecord → List Write) (w : World) (batches : List (List change.Write)) (how : SearchJob) (outputs : Outputs) (starts : ℕ → ℕ) (goal : ℕ) where
+module _ {W : Type 0} (by : Known W) (written_of : PlanRecord → List Write) (w : W) (batches : List (List change.Write)) (how : SearchJob) (outputs : Outputs) (starts : ℕ → ℕ) (goal : ℕ) where
   -- how the plans from plan k on end, where these entries were published before and after
   abbrev Ends : (k : ℕ) (log shown : List Entry) → Option Carried → (a b : DeskState) → (status : ℕ) → Type 0
   Ends k log shown before a b status = EndsPlans by written_of w batches how outputs starts goal k log shown before a b status
 
   -- plan k was made and told, and then the others ended so
-  one_more : (k : ℕ) (log shown : List Entry) (before : Option Carried) (carried : Carried) (r : PlanRecord) (a b c : DeskState) (status : ℕ) → IsMapAfter w.map batches k carried.map → IsPlanOf by (over_map w carried.map) how outputs (starts k) goal k log before carried r
+  one_more : (k : ℕ) (log shown : List Entry) (before : Option Carried) (carried : Carried) (r : PlanRecord) (a b c : DeskState) (status : ℕ) → IsMapAfter (by.on.cells.map w) batches k carried.map → IsPlanOf by (by.on.cells.over w carried.map) how outputs (starts k) goal k log before carried r
       → AreAppended a b (written_of r) → NoneFalls a.write_faults b.write_faults → Ends (k + 1) (with_plan log r) shown (Some carried) b c status → Ends k log shown before a c status
   one_more k log shown before carried r a b c status after plan made low e =
       let count : k + 1 + length e.records ≡ k + suc (length e.records) = omega arith in
@@ -88,7 +87,7 @@ module _ (by : Known) (written_of : PlanRecord → List Write) (w : World) (batc
   }
 
   -- plan k was made, but was not told
-  untold : (k : ℕ) (log : List Entry) (before : Option Carried) (carried : Carried) (r : PlanRecord) (a b : DeskState) (status : ℕ) (e : WriteStop) → k ≤ length batches → IsMapAfter w.map batches k carried.map → IsPlanOf by (over_map w carried.map) how outputs (starts k) goal k log before carried r
+  untold : (k : ℕ) (log : List Entry) (before : Option Carried) (carried : Carried) (r : PlanRecord) (a b : DeskState) (status : ℕ) (e : WriteStop) → k ≤ length batches → IsMapAfter (by.on.cells.map w) batches k carried.map → IsPlanOf by (by.on.cells.over w carried.map) how outputs (starts k) goal k log before carried r
       → EndsIn {T = Unit {0}} a b (written_of r) (Err e) → status ≡ status_after {T = Unit {0}} 9 (Err e) → Ends k log (with_plan log r) before a b status
   untold k log before carried r a b status e inside after plan ends is = record {
     records = r ∷ [];
@@ -105,20 +104,20 @@ module _ (by : Known) (written_of : PlanRecord → List Write) (w : World) (batc
 
   -- the plans before plan k were made and told, and the map is that after the first k batches; these entries were published before the first
   -- of them, and these after the last
-  pub record IsGoing (now : World) (k start : ℕ) (first log : List Entry) (r : Standing by.Note) (a b : DeskState) : Type 0 where
-    pub same : now ≡ over_map w now.map
+  pub record IsGoing (now : W) (k start : ℕ) (first log : List Entry) (r : Standing by.Note) (a b : DeskState) : Type 0 where
+    pub same : now ≡ by.on.cells.over w (by.on.cells.map now)
     pub inside : k ≤ length batches
-    pub after : IsMapAfter w.map batches k now.map
-    pub kept : IsWorld now
+    pub after : IsMapAfter (by.on.cells.map w) batches k (by.on.cells.map now)
+    pub kept : by.on.cells.is_made now
     pub start_is : start ≡ starts k
     pub set : IsSetFor by.direction how start goal r
     pub before : Option Carried
-    pub goes_on : GoesOnFrom by.means by.direction now (by.direction.from start goal) before r
+    pub goes_on : GoesOnFrom by.means by.on by.direction now (by.direction.from start goal) before r
     pub ends : (c : DeskState) (status : ℕ) (shown : List Entry) → Ends k log shown before b c status → Ends 0 first shown None a c status
 
-  pub sets_out : (start : ℕ) (log : List Entry) (r : Standing by.Note) (a : DeskState) → IsMapAfter w.map batches 0 w.map → IsWorld w → start ≡ starts 0 → IsSetFor by.direction how start goal r → GoesOnFrom by.means by.direction w (by.direction.from start goal) None r → IsGoing w 0 start log log r a a
-  sets_out start log r a first kept start_is set begun = record {
-    same = refl;
+  pub sets_out : (start : ℕ) (log : List Entry) (r : Standing by.Note) (a : DeskState) → IsTerrain by.on.network by.on.cells → IsMapAfter (by.on.cells.map w) batches 0 (by.on.cells.map w) → by.on.cells.is_made w → start ≡ starts 0 → IsSetFor by.direction how start goal r → GoesOnFrom by.means by.on by.direction w (by.direction.from start goal) None r → IsGoing w 0 start log log r a a
+  sets_out start log r a law first kept start_is set begun = record {
+    same = sym (law.present w);
     inside = omega arith;
     after = first;
     kept = kept;
@@ -129,27 +128,27 @@ module _ (by : Known) (written_of : PlanRecord → List Write) (w : World) (batc
     ends = λ c status shown e. e;
   }
 
-  pub at_last : (now : World) (k n start : ℕ) (first log : List Entry) (r : Standing by.Note) (a b : DeskState) → k ≡ n → IsGoing now k start first log r a b → IsGoing now n start first log r a b
+  pub at_last : (now : W) (k n start : ℕ) (first log : List Entry) (r : Standing by.Note) (a b : DeskState) → k ≡ n → IsGoing now k start first log r a b → IsGoing now n start first log r a b
   at_last now k n start first log r a b same going = subst (λ (i : ℕ). IsGoing now i start first log r a b) same going
 
-  module _ (now : World) (k start : ℕ) (first log shown : List Entry) (r s : Standing by.Note) (a b c : DeskState) (going : IsGoing now k start first log r a b) where
-    on_that : (before : Option Carried) (p : PlanRecord) → IsPlanOf by now how outputs start goal k log before (carried_of now s) p → IsPlanOf by (over_map w now.map) how outputs (starts k) goal k log before (carried_of now s) p
-    on_that before p plan = subst (λ (x : ℕ). IsPlanOf by (over_map w now.map) how outputs x goal k log before (carried_of now s) p) going.start_is
-        (subst (λ (v : World). IsPlanOf by v how outputs start goal k log before (carried_of now s) p) going.same plan)
+  module _ (now : W) (k start : ℕ) (first log shown : List Entry) (r s : Standing by.Note) (a b c : DeskState) (going : IsGoing now k start first log r a b) where
+    on_that : (before : Option Carried) (p : PlanRecord) → IsPlanOf by now how outputs start goal k log before (carried_of (by.on.cells.map now) s) p → IsPlanOf by (by.on.cells.over w (by.on.cells.map now)) how outputs (starts k) goal k log before (carried_of (by.on.cells.map now) s) p
+    on_that before p plan = subst (λ (x : ℕ). IsPlanOf by (by.on.cells.over w (by.on.cells.map now)) how outputs x goal k log before (carried_of (by.on.cells.map now) s) p) going.start_is
+        (subst (λ (v : W). IsPlanOf by v how outputs start goal k log before (carried_of (by.on.cells.map now) s) p) going.same plan)
 
     broken_on_that : (before : Option Carried) (found : List Found) → (found ≡ []) ⊎ IsBrokenOff by now how outputs start goal before found → IsBrokenIn by w batches how outputs starts goal k found
     broken_on_that before found (inl none) = inl none
     broken_on_that before found (inr broken) = inr (
-      now.map,
+      by.on.cells.map now,
       before,
       going.after,
-      subst (λ (x : ℕ). IsBrokenOff by (over_map w now.map) how outputs x goal before found) going.start_is
-          (subst (λ (v : World). IsBrokenOff by v how outputs start goal before found) going.same broken),
+      subst (λ (x : ℕ). IsBrokenOff by (by.on.cells.over w (by.on.cells.map now)) how outputs x goal before found) going.start_is
+          (subst (λ (v : W). IsBrokenOff by v how outputs start goal before found) going.same broken),
     )
 
     -- what holds of the plan that is made next
     abbrev pub NextEnds : Result (Unit {0}) WriteStop → Type 0
-    NextEnds result = (before : Option Carried) → GoesOnFrom by.means by.direction now (by.direction.from start goal) before r → EndsOnePlan by written_of now how outputs start goal k log shown before (carried_of now s) b c result
+    NextEnds result = (before : Option Carried) → GoesOnFrom by.means by.on by.direction now (by.direction.from start goal) before r → EndsOnePlan by written_of now how outputs start goal k log shown before (carried_of (by.on.cells.map now) s) b c result
 
     -- the next plan was not told
     pub stops : (status : ℕ) (e : WriteStop) → NextEnds (Err e) → status ≡ status_after {T = Unit {0}} 9 (Err e) → Ends 0 first shown None a c status
@@ -159,60 +158,60 @@ module _ (by : Known) (written_of : PlanRecord → List Write) (w : World) (batc
           (breaks_off k log shown going.before part.found b c (let room = going.inside in omega arith) (broken_on_that going.before part.found part.broken) part.shown_is same)
       | inr (p, made_so, ends) ↦
           subst (λ (l : List Entry). Ends k log l going.before b c status) (sym made_so.shown_is)
-          (untold k log going.before (carried_of now s) p b c status e going.inside going.after (on_that going.before p made_so.plan) ends is)
+          (untold k log going.before (carried_of (by.on.cells.map now) s) p b c status e going.inside going.after (on_that going.before p made_so.plan) ends is)
     ])
       where
         nine : e ≡ NoMemory → status_after {T = Unit {0}} 9 (Err e) ≡ 9
         nine out = rw out refl
 
     -- it was told, and then the others ended so
-    pub tells : (d : DeskState) (status : ℕ) (later : List Entry) → NextEnds (Ok tt) → NoneFalls b.write_faults c.write_faults → Ends (k + 1) shown later (Some (carried_of now s)) c d status → Ends 0 first later None a d status
+    pub tells : (d : DeskState) (status : ℕ) (later : List Entry) → NextEnds (Ok tt) → NoneFalls b.write_faults c.write_faults → Ends (k + 1) shown later (Some (carried_of (by.on.cells.map now) s)) c d status → Ends 0 first later None a d status
     tells d status later made low e =
         let told = made going.before going.goes_on in
         going.ends d status later
-        (one_more k log later going.before (carried_of now s) told.0 b c d status going.after (on_that going.before told.0 told.1.plan) told.2 low
-        (subst (λ (l : List Entry). Ends (k + 1) l later (Some (carried_of now s)) c d status) told.1.shown_is e))
+        (one_more k log later going.before (carried_of (by.on.cells.map now) s) told.0 b c d status going.after (on_that going.before told.0 told.1.plan) told.2 low
+        (subst (λ (l : List Entry). Ends (k + 1) l later (Some (carried_of (by.on.cells.map now) s)) c d status) told.1.shown_is e))
 
     -- it was the last, and the last line was written
     pub tells_last : (d : DeskState) (status : ℕ) → NextEnds (Ok tt) → NoneFalls b.write_faults c.write_faults → k ≡ length batches → EndsAs c d (last_write ∷ []) 0 status → Ends 0 first shown None a d status
-    tells_last d status made low last ends = tells d status shown made low (all_told (k + 1) shown (Some (carried_of now s)) c d status (omega arith) ends)
+    tells_last d status made low last ends = tells d status shown made low (all_told (k + 1) shown (Some (carried_of (by.on.cells.map now) s)) c d status (omega arith) ends)
 
     -- it was told, and memory ran out while the map was changed
     pub tells_no_more : NextEnds (Ok tt) → NoneFalls b.write_faults c.write_faults → Ends 0 first shown None a c 9
-    tells_no_more made low = tells c 9 shown made low (no_more (k + 1) shown (Some (carried_of now s)) c c (let room = going.inside in omega arith) (λ name. refl))
+    tells_no_more made low = tells c 9 shown made low (no_more (k + 1) shown (Some (carried_of (by.on.cells.map now) s)) c c (let room = going.inside in omega arith) (λ name. refl))
 
     -- it was told, then the map was changed, and then the start moved
-    pub changes : (next : World) (next_start : ℕ) (t u : Standing by.Note) (batch : List change.Write)
+    pub changes : IsTerrain by.on.network by.on.cells → (next : W) (next_start : ℕ) (t u : Standing by.Note) (batch : List change.Write)
         → ((first m m' : CellMap) (bs : List (List change.Write)) (n : ℕ) (l : List change.Write) → IsMapAfter first bs n m → slice_get bs n ≡ Some l → AreWritten m l m' → IsMapAfter first bs (n + 1) m')
-        → NextEnds (Ok tt) → NoneFalls b.write_faults c.write_faults → IsSetFor by.direction how start goal s → slice_get batches k ≡ Some batch → AreWritten now.map batch next.map → next ≡ record now { map = next.map } → IsWorld next
-        → BeginsWith by.means network_of lattice_cells by.direction now next s.search.labels t.search.labels t.search.raised → StaysTheSame s t → t.counts ≡ s.counts
+        → NextEnds (Ok tt) → NoneFalls b.write_faults c.write_faults → IsSetFor by.direction how start goal s → slice_get batches k ≡ Some batch → AreWritten (by.on.cells.map now) batch (by.on.cells.map next) → next ≡ by.on.cells.over now (by.on.cells.map next) → by.on.cells.is_made next
+        → BeginsWith by.means by.on.network by.on.cells by.direction now next s.search.labels t.search.labels t.search.raised → StaysTheSame s t → t.counts ≡ s.counts
         → next_start ≡ starts (k + 1) → (by.direction.moves ≡ false → next_start ≡ start) → Follows by.direction next_start t u → IsGoing next (k + 1) next_start first shown u a c
-    changes next next_start t u batch law made low set at written others kept begins stays counts start_is still follows = record {
-      same = others ∙ ap (λ (v : World). record v { map = next.map }) going.same;
+    changes terrain next next_start t u batch law made low set at written others kept begins stays counts start_is still follows = record {
+      same = others ∙ ap (λ (v : W). by.on.cells.over v (by.on.cells.map next)) going.same ∙ terrain.again w (by.on.cells.map now) (by.on.cells.map next);
       inside = let room = slice_get_within batches k batch at in omega arith;
-      after = law w.map now.map next.map batches k batch going.after at written;
+      after = law (by.on.cells.map w) (by.on.cells.map now) (by.on.cells.map next) batches k batch going.after at written;
       kept = kept;
       start_is = start_is;
       set = record {
         between = follows.between start goal still (record { from = stays.start ∙ set.between.from; to = stays.goal ∙ set.between.to });
         budget_is = ap (λ (n : Counts). n.per_plan) follows.counts ∙ stays.per_plan ∙ set.budget_is;
       };
-      before = Some (carried_of now s);
+      before = Some (carried_of (by.on.cells.map now) s);
       goes_on = record {
-        begins = subst (λ (v : World). BeginsWith by.means network_of lattice_cells by.direction v next s.search.labels u.search.labels u.search.raised) (sym back)
-            (subst (λ (l : List ℕ). BeginsWith by.means network_of lattice_cells by.direction now next s.search.labels u.search.labels l) (sym follows.raised)
-            (subst (λ (m : Marks). BeginsWith by.means network_of lattice_cells by.direction now next s.search.labels m t.search.raised) (sym follows.labels) begins));
+        begins = subst (λ (v : W). BeginsWith by.means by.on.network by.on.cells by.direction v next s.search.labels u.search.labels u.search.raised) (sym back)
+            (subst (λ (l : List ℕ). BeginsWith by.means by.on.network by.on.cells by.direction now next s.search.labels u.search.labels l) (sym follows.raised)
+            (subst (λ (m : Marks). BeginsWith by.means by.on.network by.on.cells by.direction now next s.search.labels m t.search.raised) (sym follows.labels) begins));
         counted = ap (λ (n : Counts). n.run) (sym counts ∙ sym follows.counts);
       };
       ends = λ d status later e. tells d status later made low e;
     }
       where
-        back : over_map next now.map ≡ now
-        back = ap (λ (v : World). record v { map = now.map }) others
+        back : by.on.cells.over next (by.on.cells.map now) ≡ now
+        back = ap (λ (v : W). by.on.cells.over v (by.on.cells.map now)) others ∙ terrain.again now (by.on.cells.map next) (by.on.cells.map now) ∙ terrain.present now
 
 -- plans by the planner that was asked for
-pub ends_by : {written_of : PlanRecord → List Write} {w : World} {batches : List (List change.Write)} {how : SearchJob} {outputs : Outputs} {starts : ℕ → ℕ} {goal : ℕ} {log shown : List Entry} {a b : DeskState} {status : ℕ}
-    (p : Planner) → how.planner ≡ p → EndsPlans (known p) written_of w batches how outputs starts goal 0 log shown None a b status
-    → EndsPlans (known how.planner) written_of w batches how outputs starts goal 0 log shown None a b status
-ends_by {written_of} {w} {batches} {how} {outputs} {starts} {goal} {log} {shown} {a} {b} {status} p is ends =
-    subst (λ (x : Planner). EndsPlans (known x) written_of w batches how outputs starts goal 0 log shown None a b status) (sym is) ends
+pub ends_by : {W : Type 0} {on : Site W} {written_of : PlanRecord → List Write} {w : W} {batches : List (List change.Write)} {how : SearchJob} {outputs : Outputs} {starts : ℕ → ℕ} {goal : ℕ} {log shown : List Entry} {a b : DeskState} {status : ℕ}
+    (p : Planner) → how.planner ≡ p → EndsPlans (known on p) written_of w batches how outputs starts goal 0 log shown None a b status
+    → EndsPlans (known on how.planner) written_of w batches how outputs starts goal 0 log shown None a b status
+ends_by {W} {on} {written_of} {w} {batches} {how} {outputs} {starts} {goal} {log} {shown} {a} {b} {status} p is ends =
+    subst (λ (x : Planner). EndsPlans (known on x) written_of w batches how outputs starts goal 0 log shown None a b status) (sym is) ends

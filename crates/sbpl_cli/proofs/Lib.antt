@@ -12,8 +12,8 @@ pub mod Verifying
 pub mod OneEnding
 pub mod Going
 pub mod Drawings
-pub mod SameGuide
-pub mod Directions
+pub mod AlikeSites
+pub mod LatticeAlike
 pub mod Moving
 pub mod SameBegun
 pub mod SameRecords

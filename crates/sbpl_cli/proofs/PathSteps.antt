@@ -2,10 +2,9 @@
 use Rattle.std.proofs.Common.{◌≡◌, ℕ, ◌<◌, List, [], ◌∷◌, ◌++◌, Some, IsSome, rules, subst, append_assoc, append-nil}
 use Rattle.sbpl_graph.specs.Network.{Network}
 use Rattle.sbpl_graph.specs.Path.{IsFreePath}
-use Rattle.sbpl_cost.specs.World.{World}
-use Rattle.sbpl_cost.specs.Lattices.{network_of}
 use Rattle.sbpl_cli.specs.declared.record.PathStep.{PathStep}
-use Rattle.sbpl_cli.specs.Headline.{AreSteps, IsPathFrom, IsPathStep}
+use Rattle.sbpl_cli.specs.Headline.{AreSteps, IsPathFrom}
+use Rattle.sbpl_cli.specs.Sites.{Site}
 
 -- what the first arc of a free path is
 pub record IsFirstArc (n : Network) (s k : ℕ) : Type 0 where
@@ -26,11 +25,11 @@ path_after n s k u ks path head =
     (path.0, path.2.2, subst (λ x. IsFreePath n x ks path.0 path.2.2) same path.2.4)
 
 -- steps so far that are completed by those of the arcs that are left
-abbrev pub Completes : World → ℕ → List ℕ → ℕ → List ℕ → List PathStep → Type 0
-Completes w from arcs at left steps = (others : List PathStep) → AreSteps w at left others → AreSteps w from arcs (steps ++ others)
+abbrev pub Completes : {W : Type 0} → Site W → W → ℕ → List ℕ → ℕ → List ℕ → List PathStep → Type 0
+Completes on w from arcs at left steps = (others : List PathStep) → AreSteps on w at left others → AreSteps on w from arcs (steps ++ others)
 
-pub one_more : (w : World) (from at k u : ℕ) (arcs ks : List ℕ) (steps : List PathStep) (step : PathStep) → Completes w from arcs at (k ∷ ks) steps → (network_of w).head at k ≡ Some u → IsPathStep w at k u step → Completes w from arcs u ks (steps ++ step ∷ [])
-one_more w from at k u arcs ks steps step done head is others more = rw append_assoc (done (step ∷ others) (u, head, is, more))
+pub one_more : {W : Type 0} (on : Site W) (w : W) (from at k u : ℕ) (arcs ks : List ℕ) (steps : List PathStep) (step : PathStep) → Completes on w from arcs at (k ∷ ks) steps → (on.network w).head at k ≡ Some u → on.wording.step w at k u step → Completes on w from arcs u ks (steps ++ step ∷ [])
+one_more on w from at k u arcs ks steps step done head is others more = rw append_assoc (done (step ∷ others) (u, head, is, more))
 
-pub all_done : (w : World) (from at : ℕ) (arcs : List ℕ) (steps : List PathStep) → Completes w from arcs at [] steps → AreSteps w from arcs steps
-all_done w from at arcs steps done = subst (λ l. AreSteps w from arcs l) (append-nil steps) (done [] tt)
+pub all_done : {W : Type 0} (on : Site W) (w : W) (from at : ℕ) (arcs : List ℕ) (steps : List PathStep) → Completes on w from arcs at [] steps → AreSteps on w from arcs steps
+all_done on w from at arcs steps done = subst (λ l. AreSteps on w from arcs l) (append-nil steps) (done [] tt)

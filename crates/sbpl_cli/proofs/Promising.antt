@@ -4,7 +4,8 @@ use Rattle.sbpl_cost.specs.Alike.{AlikeWorldsAreOneGraph}
 use Rattle.sbpl_desk.specs.Desk.{DeskState}
 use Rattle.sbpl_job.specs.declared.job.Job.{Job}
 use Rattle.sbpl_cli.specs.Clear.{SectionsAreClear, TextsAreClear}
-use Rattle.sbpl_cli.specs.Determined.{FewAreFirst, RecordsAreOne}
+use Rattle.sbpl_cli.specs.LatticeSite.{lattice_site}
+use Rattle.sbpl_cli.specs.Determined.{AreAlikeWorlds, FewAreFirst, RecordsAreOne}
 use Rattle.sbpl_cli.specs.Promises.{EndsRun}
 use Rattle.sbpl_cli.specs.Published.{Entry}
 use Rattle.sbpl_cli.specs.RunPromises.{RunPromises}
@@ -12,7 +13,7 @@ use Rattle.sbpl_cli.proofs.OneEnding.{OneMap}
 use Rattle.sbpl_cli.proofs.Runs.{run_changes_faulty, run_changes_long, run_checked, run_complete, run_cut, run_demonstrated, run_done, run_environment_faulty, run_environment_long, run_faulted, run_flawed, run_labels_long, run_no_job, run_primitives_faulty, run_primitives_long, run_published, run_refused, run_status, run_stopped, run_too_dear, run_too_wide, run_words, run_write}
 use Rattle.sbpl_cli.proofs.Wholes.{run_called, run_prefix, run_whole}
 
-pub promised : TextsAreClear → SectionsAreClear → OneMap → AlikeWorldsAreOneGraph → RecordsAreOne → FewAreFirst
+pub promised : TextsAreClear → SectionsAreClear → OneMap → AlikeWorldsAreOneGraph → RecordsAreOne lattice_site AreAlikeWorlds → FewAreFirst lattice_site AreAlikeWorlds
     → (named : Option Job) (before after : DeskState) (old new : List Entry) (status : ℕ) → EndsRun named before after old new status → RunPromises named before after old new status
 promised clear sections one_map graphs one first named before after old new status ends = record {
   statuses = run_status before after old new named status ends;

@@ -22,7 +22,13 @@ use Rattle.sbpl_job.specs.declared.job.Job.TheVariants as job
 use Rattle.sbpl_job.specs.declared.job.Outputs.{Outputs}
 use Rattle.sbpl_job.specs.declared.job.Sources.{Sources}
 use Rattle.sbpl_cli.specs.Checked.{IsHolding, case_of}
-use Rattle.sbpl_cli.specs.Headline.{IsStateOf, start_after}
+use Rattle.sbpl_cli.specs.Asked.{checked_direction}
+use Rattle.sbpl_cli.specs.Determined.{AreAlikeWorlds}
+use Rattle.sbpl_cli.specs.LatticeSite.{lattice_site, lattice_wording}
+use Rattle.sbpl_cli.proofs.AlikeSites.{goes_alike}
+use Rattle.sbpl_cli.proofs.LatticeAlike.{lattices_alike}
+use Rattle.sbpl_cli.specs.Sites.{start_after}
+use Rattle.sbpl_cli.proofs.Moving.{same_starts}
 use Rattle.sbpl_cli.specs.declared.record.PlanRecord.{PlanRecord}
 use Rattle.sbpl_cli.specs.declared.refusal.Refusal.{Refusal}
 use Rattle.sbpl_cli.specs.declared.refusal.Refusal.TheVariants as refusal
@@ -41,7 +47,7 @@ use Rattle.sbpl_cli.specs.Writing.{AreAppended, DeskState, EndsAs, IsCutAt, IsNa
 use Rattle.sbpl_cli.proofs.Ends.{plain_is}
 use Rattle.sbpl_cli.specs.Clear.{TextsAreClear}
 use Rattle.sbpl_cli.specs.Clear.{SectionsAreClear}
-use Rattle.sbpl_cli.proofs.OneEnding.{OneMap, checked_on, one_ending, one_state, same_case, same_graph}
+use Rattle.sbpl_cli.proofs.OneEnding.{OneMap, checked_on, one_ending, same_case}
 use Rattle.sbpl_cli.proofs.Converse.{HasRead, all_good, by_intent, cause_of, changes_faulty, changes_faulty_none, changes_long, changes_long_none, changes_world, environment_faulty, environment_faulty_none, environment_long, environment_long_none, labels_refused, no_memory, primitives_faulty, primitives_faulty_none, primitives_good, primitives_long, primitives_long_none, same_course, same_environment, same_primitives, same_scope, told_is, too_dear_none, too_long_not_short, too_much_not_read, too_wide_none, world_good}
 
 -- ---- statuses
@@ -447,14 +453,14 @@ module _ (before after : DeskState) (old new : List Entry) where
     check_refused clear c w course wanted tells told long r (inr (inr cause)) = labels_refused held Failed c wanted r long cause
 
     -- how a check ends
-    checked_alike : TextsAreClear → SectionsAreClear → OneMap → AlikeWorldsAreOneGraph → (c : CheckJob) (w : World) (course : Course) (text : List ℕ) (goals : ℕ → ℕ) (os : List Outcome) (end : Option SectionStop) → end ≢ Some section.NoMemory → TellsWorld held c.sources w → TellsCourse held c.changes (scope_of c.back w) course → Tells (held c.labels) text → IsCheckedIn IsHolding w course c.back text goals os end
+    checked_alike : TextsAreClear → SectionsAreClear → OneMap → AlikeWorldsAreOneGraph → (c : CheckJob) (w : World) (course : Course) (text : List ℕ) (goals : ℕ → ℕ) (os : List Outcome) (end : Option SectionStop) → end ≢ Some section.NoMemory → TellsWorld held c.sources w → TellsCourse held c.changes (scope_of c.back w) course → Tells (held c.labels) text → IsCheckedIn IsHolding lattice_site (checked_direction lattice_site c.back) w course text goals os end
         → ((r : Refusal) → IsJobCause held Failed (job.Check c) r → IsOrFailed (checked_status end) (refusal_status r)) → (i : Intent) → GivesIntent held Failed (job.Check c) i → IsOrFailed (checked_status end) (intent_status i)
-    checked_alike clear sections one alike c w course text goals os end some tells told held_text is refused (Refused r) gives = refused r gives
-    checked_alike clear sections one alike c w course text goals os end some tells told held_text is refused (Planned records all log broken) gives = absurd gives
-    checked_alike clear sections one alike c w course text goals os end some tells told held_text is refused (Listed v) gives = absurd gives
-    checked_alike clear sections one alike c w course text goals os end some tells told held_text is refused (Demonstrated v count records all log broken) gives = absurd gives
-    checked_alike clear sections one alike c w course text goals os end some tells told held_text is refused OutOfMemory gives = no_memory (checked_status end)
-    checked_alike clear sections one alike c w course text goals os end some tells told held_text is refused (Checked goal' os' end') gives =
+    checked_alike clear sections one graphs c w course text goals os end some tells told held_text is refused (Refused r) gives = refused r gives
+    checked_alike clear sections one graphs c w course text goals os end some tells told held_text is refused (Planned records all log broken) gives = absurd gives
+    checked_alike clear sections one graphs c w course text goals os end some tells told held_text is refused (Listed v) gives = absurd gives
+    checked_alike clear sections one graphs c w course text goals os end some tells told held_text is refused (Demonstrated v count records all log broken) gives = absurd gives
+    checked_alike clear sections one graphs c w course text goals os end some tells told held_text is refused OutOfMemory gives = no_memory (checked_status end)
+    checked_alike clear sections one graphs c w course text goals os end some tells told held_text is refused (Checked goal' os' end') gives =
         let v = gives.world in
         let good = world_good clear held Failed c.sources c.back w tells in
         let env = same_environment clear held c.sources w.env v.env gives.says.cells tells.environment gives.says.environment in
@@ -464,15 +470,20 @@ module _ (before after : DeskState) (old new : List Entry) where
         let radius = gives.says.sweeps.radius_is ∙ sym tells.says.sweeps.radius_is in
         let same : gives.course ≡ course = same_course clear held c.changes (scope_of c.back w) course gives.course told (subst (λ (s : Scope). ReadsCourse held c.changes s gives.course) scope gives.changes) in
         let same_text : gives.text ≡ text = told_is (held c.labels) text gives.text held_text.held_bytes gives.read in
-        let from : gives.in_world.start ≡ is.start = one_state w.env w.env.start gives.in_world.start is.start (subst (λ (e : Environment). IsStateOf e e.start gives.in_world.start) env gives.in_world.start_is) is.start_is in
-        let to : gives.in_world.goal ≡ is.goal = one_state w.env w.env.end gives.in_world.goal is.goal (subst (λ (e : Environment). IsStateOf e e.end gives.in_world.goal) env gives.in_world.goal_is) is.goal_is in
-        let mine : ℕ → ℕ = start_after w.env is.start course.moves in
-        let starts : start_after v.env gives.in_world.start gives.course.moves ≡ mine = λ i. start_after (env i) (from i) (same i).moves in
-        let there = same_case v course.batches gives.course.batches (start_after v.env gives.in_world.start gives.course.moves) mine gives.in_world.goal is.goal c.back gives.text text os' end' (ap (λ (x : Course). x.batches) same) starts to same_text gives.in_world.checked in
-        one_ending sections one (case_of w course is.start is.goal c.back) (suc (length course.batches)) 0 (start_at text 0) os os' end end' some is.checked
-        (checked_on v w course.batches mine is.goal c.back (same_graph alike v w tells.is_world env prims map radius course.batches mine is.goal c.back) env (suc (length course.batches)) 0 (start_at text 0) os' end' there)
+        let near : AreAlikeWorlds w v = record { env = env; prims = prims; map = map; radius = radius } in
+        let alike = lattices_alike graphs in
+        let d = checked_direction lattice_site c.back in
+        let goes = goes_alike lattice_site AreAlikeWorlds alike c.back in
+        let back = alike.back w v near in
+        let from : gives.in_world.start ≡ is.start = alike.starts v w gives.in_world.start is.start back gives.in_world.start_is is.start_is in
+        let to : gives.in_world.goal ≡ is.goal = alike.ends v w gives.in_world.goal is.goal back gives.in_world.goal_is is.goal_is in
+        let mine : ℕ → ℕ = start_after lattice_wording w is.start course.moves in
+        let starts : start_after lattice_wording v gives.in_world.start gives.course.moves ≡ mine = same_starts lattice_wording v w gives.in_world.start is.start gives.course.moves course.moves (alike.state v w back) from (ap (λ (x : Course). x.moves) same) in
+        let there = same_case lattice_site d v course.batches gives.course.batches (start_after lattice_wording v gives.in_world.start gives.course.moves) mine gives.in_world.goal is.goal gives.text text os' end' (ap (λ (x : Course). x.batches) same) starts to same_text gives.in_world.checked in
+        one_ending lattice_site AreAlikeWorlds alike d goes sections one (case_of lattice_site d w course is.start is.goal) (suc (length course.batches)) 0 (start_at text 0) os os' end end' some is.checked
+        (checked_on lattice_site AreAlikeWorlds alike d goes v w back tells.is_world course.batches mine is.goal (suc (length course.batches)) 0 (start_at text 0) os' end' there)
 
-    pub run_checked : TextsAreClear → SectionsAreClear → OneMap → AlikeWorldsAreOneGraph → EndsRun named before after old new status → (c : CheckJob) (w : World) (course : Course) (text : List ℕ) (goals : ℕ → ℕ) (os : List Outcome) (end : Option SectionStop) → named ≡ Some (job.Check c) → TellsWorld held c.sources w → TellsCourse held c.changes (scope_of c.back w) course → Tells (held c.labels) text → IsCheckedIn IsHolding w course c.back text goals os end → end ≢ Some section.NoMemory → IsOrFailed (checked_status end) status
+    pub run_checked : TextsAreClear → SectionsAreClear → OneMap → AlikeWorldsAreOneGraph → EndsRun named before after old new status → (c : CheckJob) (w : World) (course : Course) (text : List ℕ) (goals : ℕ → ℕ) (os : List Outcome) (end : Option SectionStop) → named ≡ Some (job.Check c) → TellsWorld held c.sources w → TellsCourse held c.changes (scope_of c.back w) course → Tells (held c.labels) text → IsCheckedIn IsHolding lattice_site (checked_direction lattice_site c.back) w course text goals os end → end ≢ Some section.NoMemory → IsOrFailed (checked_status end) status
     run_checked clear sections one alike ends c w course text goals os end names tells told held_text is some =
         let refused = check_refused clear c w course (checked_status end) tells told (λ long. absurd (too_long_not_short (held c.labels) text held_text long)) in
         by_each (job.Check c) (checked_status end) ends names (checked_alike clear sections one alike c w course text goals os end some tells told held_text is refused)

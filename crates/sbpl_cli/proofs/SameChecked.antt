@@ -3,15 +3,14 @@ use Rattle.std.proofs.Common.{◌≡◌, ◌≢◌, ℕ, zero, suc, ◌+◌, ◌
 use Rattle.sbpl_graph.specs.Network.{Network}
 use Rattle.sbpl_fixed.specs.Formats.{Left, start_at}
 use Rattle.sbpl_fixed.specs.Tokens.{Piece}
-use Rattle.sbpl_cfg.specs.Environment.{Environment}
 use Rattle.sbpl_cert.specs.declared.fault.LabelFault.{LabelFault}
 use Rattle.sbpl_cert.specs.declared.flaw.Flaw.{Flaw}
 use Rattle.sbpl_cert.specs.declared.outcome.Outcome.{Outcome}
 use Rattle.sbpl_cert.specs.Flaws.{IsFirstFlaw}
 use Rattle.sbpl_cert.specs.declared.section.Section.{Section}
+use Rattle.sbpl_cert.specs.Text.{HasFault}
 use Rattle.sbpl_cert.specs.Versions.{claim_by, outcome_of}
 use Rattle.sbpl_cost.specs.Alike.{AlikeWorldsAreOneGraph}
-use Rattle.sbpl_cost.specs.States.{state_count}
 use Rattle.sbpl_job.specs.declared.job.CheckJob.{CheckJob}
 use Rattle.sbpl_cli.specs.declared.section_check.SectionStop.{SectionStop}
 use Rattle.sbpl_cli.specs.declared.section_check.SectionStop.TheVariants as section
@@ -19,15 +18,21 @@ use Rattle.sbpl_cli.specs.Asked.{checked_direction}
 use Rattle.sbpl_cli.specs.Causes.{ReadsCourse, scope_of}
 use Rattle.sbpl_cli.specs.Texts.{Scope}
 use Rattle.sbpl_cli.specs.declared.course.Course.{Course}
-use Rattle.sbpl_cli.specs.Checked.{AreChecked, Case, Ground, IsFlawed, IsHolding, IsStoppedIn, IsTrailingAt, case_of, from_in, to_in}
+use Rattle.sbpl_cli.specs.Checked.{AreChecked, Case, Ground, IsFlawed, IsHolding, IsShownHolding, IsStoppedIn, IsTrailingAt, case_of, from_in, to_in}
 use Rattle.sbpl_cli.specs.Clear.{SectionsAreClear, TextsAreClear}
-use Rattle.sbpl_cli.specs.Headline.{IsStateOf, start_after}
+use Rattle.sbpl_cli.specs.Determined.{AreAlikeWorlds}
+use Rattle.sbpl_cli.specs.LatticeSite.{lattice_site}
+use Rattle.sbpl_cli.specs.Sites.{Site, start_after}
+use Rattle.sbpl_replan.specs.Directions.{Direction}
 use Rattle.sbpl_cli.specs.Intents.{checked_writes}
-use Rattle.sbpl_cli.specs.Promises.{IsChecked}
+use Rattle.sbpl_cli.specs.Promises.{IsChecked, IsCheckedIn}
 use Rattle.sbpl_cli.specs.Verdicts.{holds_text}
 use Rattle.sbpl_cli.specs.Writing.{Told}
 use Rattle.sbpl_cli.specs.Writing as writing
-use Rattle.sbpl_cli.proofs.OneEnding.{AreOneGround, OneMap, case_in, checked_on, holds_not_stopped, one_ground, one_state, readable, same_case, same_graph, same_left, trailing_none}
+use Rattle.sbpl_cli.proofs.OneEnding.{AreOneGround, OneMap, case_in, checked_on, holds_not_stopped, one_ground, readable, same_case, same_left, trailing_none}
+use Rattle.sbpl_cli.proofs.AlikeSites.{AreAlike, GoesAlike, goes_alike}
+use Rattle.sbpl_cli.proofs.LatticeAlike.{lattices_alike}
+use Rattle.sbpl_cli.proofs.Moving.{same_starts}
 use Rattle.sbpl_cli.proofs.SamePlanned.{alike_scopes, one_course, one_world, read_once}
 
 -- the first checking goes as far as the second: both are the same, or memory ran out in it after the first few sections that hold
@@ -38,7 +43,7 @@ trailing_one : (ts : List Piece) (f g : LabelFault) → IsTrailingAt ts f → Is
 trailing_one [] f g p q = absurd p
 trailing_one (t ∷ ts) f g p q = p ∙ sym q
 
-module _ (clear : SectionsAreClear) (one : OneMap) (c : Case) where
+module _ {W : Type 0} (on : Site W) (Alike : W → W → Type 0) (alike : AreAlike on Alike) (d : Direction W) (goes : GoesAlike on Alike d) (clear : SectionsAreClear) (one : OneMap) (c : Case on d) where
   one_flaw : (n m : Ground) (plan : ℕ) (left : Left) (f g : Flaw) → AreOneGround n m → IsFlawed n (from_in c plan) (to_in c plan) plan left f → IsFlawed m (from_in c plan) (to_in c plan) plan left g → f ≡ g
   one_flaw n m plan left f g same x y =
       let sections : x.section ≡ y.section = (clear.one left.tokens x.rest y.rest x.section y.section x.tokens y.tokens).0 in
@@ -49,14 +54,15 @@ module _ (clear : SectionsAreClear) (one : OneMap) (c : Case) where
   -- where a section does not hold
   stops_as_far : (plan : ℕ) (left : Left) (s t : SectionStop) → t ≢ section.NoMemory → IsStoppedIn c plan left s → IsStoppedIn c plan left t → GoesAsFar [] [] (Some s) (Some t)
   stops_as_far plan left (section.Flaw f) (section.Flaw g) some (n, after, x) (m, later, y) =
-      let same = one_flaw n m plan left f g (one_ground one c plan n m after later) x y in
+      let same = one_flaw n m plan left f g (one_ground on Alike alike d goes one c plan n m after later) x y in
       inl (refl, ap (λ (e : Flaw). Some (section.Flaw e)) same)
-  stops_as_far plan left (section.Flaw f) (section.Fault g) some (n, after, x) q =
-      absurd (clear.not_both plan _ left g (readable clear one c n plan left x.section x.rest after x.of x.tokens) q.1)
-  stops_as_far plan left (section.Fault f) (section.Flaw g) some p (n, after, y) =
-      absurd (clear.not_both plan _ left f (readable clear one c n plan left y.section y.rest after y.of y.tokens) p.1)
-  stops_as_far plan left (section.Fault f) (section.Fault g) some p q =
-      inl (refl, ap (λ (e : LabelFault). Some (section.Fault e)) (clear.one_fault plan (state_count c.world.env) left f g p.1 q.1))
+  stops_as_far plan left (section.Flaw f) (section.Fault g) some (n, after, x) (m, later, faulty) =
+      absurd (clear.not_both plan _ left g (readable on Alike alike d goes clear one c n m plan left x.section x.rest after later x.of x.tokens) faulty.1)
+  stops_as_far plan left (section.Fault f) (section.Flaw g) some (m, later, faulty) (n, after, y) =
+      absurd (clear.not_both plan _ left f (readable on Alike alike d goes clear one c n m plan left y.section y.rest after later y.of y.tokens) faulty.1)
+  stops_as_far plan left (section.Fault f) (section.Fault g) some (n, after, x) (m, later, y) =
+      let same = (one_ground on Alike alike d goes one c plan n m after later).network in
+      inl (refl, ap (λ (e : LabelFault). Some (section.Fault e)) (clear.one_fault plan m.network.states left f g (subst (λ (o : Network). HasFault plan o.states left f) same x.1) y.1))
   stops_as_far plan left section.NoMemory t some p q = inr (refl, ([], refl))
   stops_as_far plan left (section.Flaw f) section.NoMemory some p q = absurd (some refl)
   stops_as_far plan left (section.Fault f) section.NoMemory some p q = absurd (some refl)
@@ -65,9 +71,9 @@ module _ (clear : SectionsAreClear) (one : OneMap) (c : Case) where
   ends_as_far : (plan : ℕ) (left : Left) (a b : Option SectionStop) → b ≢ Some section.NoMemory → AreChecked IsHolding c plan zero left [] a → AreChecked IsHolding c plan zero left [] b → GoesAsFar [] [] a b
   ends_as_far plan left None None some p q = inl (refl, refl)
   ends_as_far plan left None (Some (section.Flaw g)) some p q = absurd q
-  ends_as_far plan left None (Some (section.Fault g)) some p q = absurd (trailing_none clear one c left.tokens g p q)
+  ends_as_far plan left None (Some (section.Fault g)) some p q = absurd (trailing_none on Alike alike d goes clear one c left.tokens g p q)
   ends_as_far plan left (Some (section.Flaw f)) b some p q = absurd p
-  ends_as_far plan left (Some (section.Fault f)) None some p q = absurd (trailing_none clear one c left.tokens f q p)
+  ends_as_far plan left (Some (section.Fault f)) None some p q = absurd (trailing_none on Alike alike d goes clear one c left.tokens f q p)
   ends_as_far plan left (Some (section.Fault f)) (Some (section.Flaw g)) some p q = absurd q
   ends_as_far plan left (Some (section.Fault f)) (Some (section.Fault g)) some p q = inl (refl, ap (λ (e : LabelFault). Some (section.Fault e)) (trailing_one left.tokens f g p q))
   ends_as_far plan left (Some section.NoMemory) b some p q = inr (refl, ([], refl))
@@ -87,14 +93,14 @@ module _ (clear : SectionsAreClear) (one : OneMap) (c : Case) where
   goes_as_far (suc more) plan left [] [] (Some s) None some p q = absurd q
   goes_as_far (suc more) plan left [] [] (Some s) (Some t) some p q = stops_as_far plan left s t (λ is. some (ap (λ (x : SectionStop). Some x) is)) p q
   goes_as_far (suc more) plan left [] (o ∷ ps) (Some section.NoMemory) b some p q = inr (refl, (o ∷ ps, refl))
-  goes_as_far (suc more) plan left [] (o ∷ ps) (Some (section.Flaw f)) b some p (n, after, rest, is, q) = absurd (holds_not_stopped clear one c n plan left rest o (section.Flaw f) (λ no. cc) after is p)
-  goes_as_far (suc more) plan left [] (o ∷ ps) (Some (section.Fault f)) b some p (n, after, rest, is, q) = absurd (holds_not_stopped clear one c n plan left rest o (section.Fault f) (λ no. cc) after is p)
+  goes_as_far (suc more) plan left [] (o ∷ ps) (Some (section.Flaw f)) b some p (n, after, rest, is, q) = absurd (holds_not_stopped on Alike alike d goes clear one c n plan left rest o (section.Flaw f) (λ no. cc) after is p)
+  goes_as_far (suc more) plan left [] (o ∷ ps) (Some (section.Fault f)) b some p (n, after, rest, is, q) = absurd (holds_not_stopped on Alike alike d goes clear one c n plan left rest o (section.Fault f) (λ no. cc) after is p)
   goes_as_far (suc more) plan left (o ∷ os) [] a None some p q = absurd q
-  goes_as_far (suc more) plan left (o ∷ os) [] a (Some t) some (n, after, rest, is, p) q = absurd (holds_not_stopped clear one c n plan left rest o t (λ no. some (ap (λ (x : SectionStop). Some x) no)) after is q)
+  goes_as_far (suc more) plan left (o ∷ os) [] a (Some t) some (n, after, rest, is, p) q = absurd (holds_not_stopped on Alike alike d goes clear one c n plan left rest o t (λ no. some (ap (λ (x : SectionStop). Some x) no)) after is q)
   goes_as_far (suc more) plan left (o ∷ os) (o' ∷ ps) a b some (n, after, rest, is, p) (m, later, carried, also, q) =
       let both = clear.one left.tokens rest.tokens carried.tokens is.section also.section is.tokens also.tokens in
       let outcome : o ≡ o' = sym is.says ∙ ap outcome_of both.0 ∙ also.says in
-      let same : carried ≡ rest = same_left clear one c carried rest (sym both.1) (also.same_end ∙ sym is.same_end) in
+      let same : carried ≡ rest = same_left on Alike alike d goes clear one c carried rest (sym both.1) (also.same_end ∙ sym is.same_end) in
       one_more o o' os ps a b outcome (goes_as_far more (plan + 1) rest os ps a b some p (subst (λ (l : Left). AreChecked IsHolding c (plan + 1) more l ps b) same q))
 
 -- ---- the writes
@@ -121,25 +127,32 @@ writes_as_far goals plan os ps a b (inr (out, (rest, parted))) =
 
 -- ---- the labels of a job
 
+-- in alike worlds and over one course, the checking of one text goes as far, of searches to the same goals
+pub checks_as_far : {W : Type 0} (on : Site W) (Alike : W → W → Type 0) (alike : AreAlike on Alike) (d : Direction W) (goes : GoesAlike on Alike d) → SectionsAreClear → OneMap → (w v : W) (course also : Course) (text same_text : List ℕ) (goals others : ℕ → ℕ) (os ps : List Outcome) (a b : Option SectionStop)
+    → Alike v w → on.cells.is_made w → also ≡ course → same_text ≡ text → b ≢ Some section.NoMemory
+    → IsCheckedIn IsShownHolding on d w course text goals os a → IsCheckedIn IsShownHolding on d v also same_text others ps b → (goals ≡ others) × WritesAsFar goals 0 os ps a b
+checks_as_far on Alike alike d goes sections one w v course also text same_text goals others os ps a b near made courses texts some x y =
+    let from : y.start ≡ x.start = alike.starts v w y.start x.start near y.start_is x.start_is in
+    let to : y.goal ≡ x.goal = alike.ends v w y.goal x.goal near y.goal_is x.goal_is in
+    let mine : ℕ → ℕ = start_after on.wording w x.start course.moves in
+    let starts : start_after on.wording v y.start also.moves ≡ mine = same_starts on.wording v w y.start x.start also.moves course.moves (alike.state v w near) from (ap (λ (c : Course). c.moves) courses) in
+    let batches : also.batches ≡ course.batches = ap (λ (c : Course). c.batches) courses in
+    let there = same_case on d v course.batches also.batches (start_after on.wording v y.start also.moves) mine y.goal x.goal same_text text ps b batches starts to texts y.checked in
+    let c : Case on d = case_in on d w course.batches mine x.goal in
+    let q = checked_on on Alike alike d goes v w near made course.batches mine x.goal (suc (length course.batches)) 0 (start_at text 0) ps b there in
+    let p = checked_on on Alike alike d goes w w (alike.same w) made course.batches mine x.goal (suc (length course.batches)) 0 (start_at text 0) os a x.checked in
+    let same : to_in (case_of on d v also y.start y.goal) ≡ to_in (case_of on d w course x.start x.goal) = λ i k. d.to (starts i k) (to i) in
+    (x.goals_are ∙ sym same ∙ sym y.goals_are, writes_as_far goals 0 os ps a b (goes_as_far on Alike alike d goes sections one c (suc (length course.batches)) 0 (start_at text 0) os ps a b some p q))
+
 module _ (clear : TextsAreClear) (sections : SectionsAreClear) (one : OneMap) (graphs : AlikeWorldsAreOneGraph) (held : Told) where
   pub check_as_far : (j : CheckJob) (goals others : ℕ → ℕ) (os ps : List Outcome) (a b : Option SectionStop) → IsSome (held j.sources.env) → IsSome (held j.sources.prims) → IfSome j.changes (λ name. IsSome (held name)) → IsSome (held j.labels)
       → b ≢ Some section.NoMemory → IsChecked held j goals os a → IsChecked held j others ps b → (goals ≡ others) × WritesAsFar goals 0 os ps a b
   check_as_far j goals others os ps a b told_env told_prims told_changes told_labels some x y =
       let w = x.world in
       let v = y.world in
-      let alike = one_world clear held j.sources w v told_env told_prims x.says y.says in
-      let read : ReadsCourse held j.changes (scope_of j.back w) y.course = subst (λ (s : Scope). ReadsCourse held j.changes s y.course) (alike_scopes j.back w v alike) y.changes in
+      let near = one_world clear held j.sources w v told_env told_prims x.says y.says in
+      let alike = lattices_alike graphs in
+      let read : ReadsCourse held j.changes (scope_of j.back w) y.course = subst (λ (s : Scope). ReadsCourse held j.changes s y.course) (alike_scopes j.back w v near) y.changes in
       let course : y.course ≡ x.course = sym (one_course clear held j.changes (scope_of j.back w) x.course y.course told_changes x.changes read) in
       let text : y.text ≡ x.text = read_once (held j.labels) y.text x.text told_labels y.read x.read in
-      let from : y.in_world.start ≡ x.in_world.start = one_state w.env w.env.start y.in_world.start x.in_world.start (subst (λ (e : Environment). IsStateOf e e.start y.in_world.start) alike.env y.in_world.start_is) x.in_world.start_is in
-      let to : y.in_world.goal ≡ x.in_world.goal = one_state w.env w.env.end y.in_world.goal x.in_world.goal (subst (λ (e : Environment). IsStateOf e e.end y.in_world.goal) alike.env y.in_world.goal_is) x.in_world.goal_is in
-      let env = alike.env in
-      let starts : start_after v.env y.in_world.start y.course.moves ≡ start_after w.env x.in_world.start x.course.moves = λ i. start_after (env i) (from i) (course i).moves in
-      let batches : y.course.batches ≡ x.course.batches = ap (λ (c : Course). c.batches) course in
-      let mine : ℕ → ℕ = start_after w.env x.in_world.start x.course.moves in
-      let there = same_case v x.course.batches y.course.batches (start_after v.env y.in_world.start y.course.moves) mine y.in_world.goal x.in_world.goal j.back y.text x.text ps b batches starts to text y.in_world.checked in
-      let c : Case = case_in w x.course.batches mine x.in_world.goal j.back in
-      let q = checked_on v w x.course.batches mine x.in_world.goal j.back (same_graph graphs v w x.is_world alike.env alike.prims alike.map alike.radius x.course.batches mine x.in_world.goal j.back) alike.env (suc (length x.course.batches)) 0 (start_at x.text 0) ps b there in
-      let p = checked_on w w x.course.batches mine x.in_world.goal j.back (λ k n after. after) refl (suc (length x.course.batches)) 0 (start_at x.text 0) os a x.in_world.checked in
-      let same : to_in (case_of v y.course y.in_world.start y.in_world.goal j.back) ≡ to_in (case_of w x.course x.in_world.start x.in_world.goal j.back) = λ i k. (checked_direction j.back).to (starts i k) (to i) in
-      (x.in_world.goals_are ∙ sym same ∙ sym y.in_world.goals_are, writes_as_far goals 0 os ps a b (goes_as_far sections one c (suc (length x.course.batches)) 0 (start_at x.text 0) os ps a b some p q))
+      checks_as_far lattice_site AreAlikeWorlds alike (checked_direction lattice_site j.back) (goes_alike lattice_site AreAlikeWorlds alike j.back) sections one w v x.course y.course x.text y.text goals others os ps a b (alike.back w v near) x.is_world course text some x.in_world y.in_world

@@ -22,6 +22,7 @@ use Rattle.sbpl_cli.specs.Causes.{AreDemonstrated, IsDrawn, ReadsWorld, demo_sea
 use Rattle.sbpl_cli.specs.Determined.{AreAlikeWorlds, FewAreFirst, RecordsAreOne}
 use Rattle.sbpl_plan.specs.declared.found.Found.{Found}
 use Rattle.sbpl_cli.specs.Headline.{ArePlans}
+use Rattle.sbpl_cli.specs.LatticeSite.{lattice_site}
 use Rattle.sbpl_cli.specs.Published.{Entry}
 use Rattle.sbpl_cli.specs.Texts.{still}
 use Rattle.sbpl_cli.specs.Intents.{last_write, listing_writes}
@@ -29,7 +30,7 @@ use Rattle.sbpl_cli.specs.Listing.{listing_at, listing_by}
 use Rattle.sbpl_cli.specs.Report.{demo_text}
 use Rattle.sbpl_cli.specs.Writing.{Told, to_output}
 use Rattle.sbpl_cli.specs.Clear.{TextsAreClear}
-use Rattle.sbpl_cli.proofs.SameGuide.{made}
+use Rattle.sbpl_cli.proofs.LatticeAlike.{made}
 use Rattle.sbpl_cli.proofs.SamePlanned.{one_world}
 
 -- ---- a demonstration
@@ -43,17 +44,17 @@ same_drawn d w v x y = record {
 }
 
 -- the world and the batches are those that are drawn: records of its plans are the first few of any records of all of them
-pub few_demonstrated : FewAreFirst → (d : DemoJob) (w v : World) (bs cs : List (List change.Write)) (log : List Entry) (rs us : List PlanRecord) (all : Bool) (broken also : List Found) → AreDemonstrated d w bs rs all log broken → AreDemonstrated d v cs us true log also
+pub few_demonstrated : FewAreFirst lattice_site AreAlikeWorlds → (d : DemoJob) (w v : World) (bs cs : List (List change.Write)) (log : List Entry) (rs us : List PlanRecord) (all : Bool) (broken also : List Found) → AreDemonstrated d w bs rs all log broken → AreDemonstrated d v cs us true log also
     → (rest : List PlanRecord) × (us ≡ rs ++ rest)
 few_demonstrated first d w v bs cs log rs us all broken also x y =
     let course : bs ≡ cs = x.changes ∙ sym y.changes in
-    let plans : ArePlans w (still cs) demo_search no_outputs rs all log broken = subst (λ (l : List (List change.Write)). ArePlans w (still l) demo_search no_outputs rs all log broken) course x.plans in
+    let plans : ArePlans lattice_site w (still cs) demo_search no_outputs rs all log broken = subst (λ (l : List (List change.Write)). ArePlans lattice_site w (still l) demo_search no_outputs rs all log broken) course x.plans in
     first w v (still cs) demo_search no_outputs log rs us all broken also refl (same_drawn d w v x.drawn y.drawn) plans y.plans
 
-pub one_demonstrated : RecordsAreOne → (d : DemoJob) (w v : World) (bs cs : List (List change.Write)) (log : List Entry) (rs us : List PlanRecord) (broken also : List Found) → AreDemonstrated d w bs rs true log broken → AreDemonstrated d v cs us true log also → rs ≡ us
+pub one_demonstrated : RecordsAreOne lattice_site AreAlikeWorlds → (d : DemoJob) (w v : World) (bs cs : List (List change.Write)) (log : List Entry) (rs us : List PlanRecord) (broken also : List Found) → AreDemonstrated d w bs rs true log broken → AreDemonstrated d v cs us true log also → rs ≡ us
 one_demonstrated one d w v bs cs log rs us broken also x y =
     let course : bs ≡ cs = x.changes ∙ sym y.changes in
-    let plans : ArePlans w (still cs) demo_search no_outputs rs true log broken = subst (λ (l : List (List change.Write)). ArePlans w (still l) demo_search no_outputs rs true log broken) course x.plans in
+    let plans : ArePlans lattice_site w (still cs) demo_search no_outputs rs true log broken = subst (λ (l : List (List change.Write)). ArePlans lattice_site w (still l) demo_search no_outputs rs true log broken) course x.plans in
     one w v (still cs) demo_search no_outputs log rs us broken also refl (same_drawn d w v x.drawn y.drawn) plans y.plans
 
 -- so is its first line

@@ -14,6 +14,7 @@ use Rattle.sbpl_job.specs.Jobs.{may_move}
 use Rattle.sbpl_cli.specs.Determined.{AreAlikeWorlds, FewAreFirst, RecordsAreOne}
 use Rattle.sbpl_plan.specs.declared.found.Found.{Found}
 use Rattle.sbpl_cli.specs.Headline.{ArePlans}
+use Rattle.sbpl_cli.specs.LatticeSite.{lattice_site}
 use Rattle.sbpl_cli.specs.Published.{Entry}
 use Rattle.sbpl_cli.specs.Texts.{IsChangeText, IsEnvironmentText, IsPrimitiveText, Scope, scope_for}
 use Rattle.sbpl_cli.specs.Writing.{Told}
@@ -63,22 +64,22 @@ module _ (clear : TextsAreClear) (held : Told) where
       clear.changes s x.0 c d x.2 own
 
   -- records of plans of a job are the first few of any records of all of its plans
-  pub few_planned : FewAreFirst → (j : PlanJob) (log : List Entry) (rs us : List PlanRecord) (all : Bool) (broken also : List Found) → IsSome (held j.sources.env) → IsSome (held j.sources.prims) → IfSome j.changes (λ name. IsSome (held name))
+  pub few_planned : FewAreFirst lattice_site AreAlikeWorlds → (j : PlanJob) (log : List Entry) (rs us : List PlanRecord) (all : Bool) (broken also : List Found) → IsSome (held j.sources.env) → IsSome (held j.sources.prims) → IfSome j.changes (λ name. IsSome (held name))
       → is_determined j.search.planner ≡ true → ArePlanned held j rs all log broken → ArePlanned held j us true log also → (rest : List PlanRecord) × (us ≡ rs ++ rest)
   few_planned first j log rs us all broken also told_env told_prims told_changes determined x y =
       let alike = one_world j.sources x.world y.world told_env told_prims x.says y.says in
       let moving = may_move j.search.planner in
       let read : ReadsCourse held j.changes (scope_of moving x.world) y.course = subst (λ (s : Scope). ReadsCourse held j.changes s y.course) (alike_scopes moving x.world y.world alike) y.changes in
       let course : x.course ≡ y.course = one_course j.changes (scope_of moving x.world) x.course y.course told_changes x.changes read in
-      let plans : ArePlans y.world x.course j.search j.outputs us true log also = subst (λ (c : Course). ArePlans y.world c j.search j.outputs us true log also) (sym course) y.plans in
+      let plans : ArePlans lattice_site y.world x.course j.search j.outputs us true log also = subst (λ (c : Course). ArePlans lattice_site y.world c j.search j.outputs us true log also) (sym course) y.plans in
       first x.world y.world x.course j.search j.outputs log rs us all broken also determined alike x.plans plans
 
-  pub one_planned : RecordsAreOne → (j : PlanJob) (log : List Entry) (rs us : List PlanRecord) (broken also : List Found) → IsSome (held j.sources.env) → IsSome (held j.sources.prims) → IfSome j.changes (λ name. IsSome (held name))
+  pub one_planned : RecordsAreOne lattice_site AreAlikeWorlds → (j : PlanJob) (log : List Entry) (rs us : List PlanRecord) (broken also : List Found) → IsSome (held j.sources.env) → IsSome (held j.sources.prims) → IfSome j.changes (λ name. IsSome (held name))
       → is_determined j.search.planner ≡ true → ArePlanned held j rs true log broken → ArePlanned held j us true log also → rs ≡ us
   one_planned one j log rs us broken also told_env told_prims told_changes determined x y =
       let alike = one_world j.sources x.world y.world told_env told_prims x.says y.says in
       let moving = may_move j.search.planner in
       let read : ReadsCourse held j.changes (scope_of moving x.world) y.course = subst (λ (s : Scope). ReadsCourse held j.changes s y.course) (alike_scopes moving x.world y.world alike) y.changes in
       let course : x.course ≡ y.course = one_course j.changes (scope_of moving x.world) x.course y.course told_changes x.changes read in
-      let plans : ArePlans y.world x.course j.search j.outputs us true log also = subst (λ (c : Course). ArePlans y.world c j.search j.outputs us true log also) (sym course) y.plans in
+      let plans : ArePlans lattice_site y.world x.course j.search j.outputs us true log also = subst (λ (c : Course). ArePlans lattice_site y.world c j.search j.outputs us true log also) (sym course) y.plans in
       one x.world y.world x.course j.search j.outputs log rs us broken also determined alike x.plans plans

@@ -6,16 +6,8 @@ use Rattle.std.proofs.lemmas.Option.{same_Some}
 use Rattle.std.specs.Option.{is_some}
 use Rattle.sbpl_graph.specs.Bound.{IsLow}
 use Rattle.sbpl_graph.specs.Network.{Network}
-use Rattle.sbpl_cfg.specs.Environment.{Environment}
-use Rattle.sbpl_mprim.specs.Primitives.{Primitives}
-use Rattle.sbpl_mprim.specs.declared.prim.Primitive.{Primitive}
-use Rattle.sbpl_sweep.specs.Swept.{Swept}
 use Rattle.sbpl_map.specs.CellMap.{CellMap}
 use Rattle.sbpl_map.specs.declared.write.Write.{Write}
-use Rattle.sbpl_cost.specs.Alike.{AlikeWorldsAreOneGraph}
-use Rattle.sbpl_cost.specs.Lattices.{network_of}
-use Rattle.sbpl_cost.specs.States.{place_of, state_count}
-use Rattle.sbpl_cost.specs.World.{World}
 use Rattle.sbpl_cert.specs.Sections.{FullSection, row_at}
 use Rattle.sbpl_cert.specs.Sections as section
 use Rattle.sbpl_cert.specs.Cut.{AreCutRows, CutRowsAreOne}
@@ -50,65 +42,64 @@ use Rattle.sbpl_job.specs.declared.job.SearchJob.{SearchJob}
 use Rattle.sbpl_cli.specs.declared.record.PathStep.{PathStep}
 use Rattle.sbpl_cli.specs.declared.record.PathRecord.{PathRecord}
 use Rattle.sbpl_cli.specs.declared.record.PlanRecord.{PlanRecord}
-use Rattle.sbpl_cli.specs.Asked.{Known, ask_of, is_determined, known}
-use Rattle.sbpl_cli.specs.Headline.{ArePlans, AreRecords, AreSteps, Carried, IsMarked, IsPlanOf, IsSearched, IsTurned, Joins, IsSameResult, expanded_before, start_after}
-use Rattle.sbpl_cli.specs.declared.course.Course.{Course}
+use Rattle.sbpl_cli.specs.Asked.{Known, Search, ask_of, checked_direction, is_determined, known, search_of}
+use Rattle.sbpl_cli.specs.Sites.{Site, start_after}
+use Rattle.sbpl_job.specs.Jobs.{may_move}
+use Rattle.sbpl_replan.specs.Directions.{Direction}
+use Rattle.sbpl_cli.specs.Headline.{AreRecords, AreSteps, Carried, IsMarked, IsPlanOf, IsSearched, IsTurned, Joins, IsSameResult, expanded_before}
 use Rattle.sbpl_back.specs.Reversed.{PathsTurnOnce}
-use Rattle.sbpl_cli.proofs.Directions.{IsAlike, LeadsOnce, alike_known, leads_known}
+use Rattle.sbpl_map.specs.MapAfter.{IsMapAfter}
+use Rattle.sbpl_cli.proofs.AlikeSites.{AreAlike, GoesAlike, LeadsOnce, goes_alike, leads_once}
+use Rattle.sbpl_cli.proofs.Moving.{same_starts}
 use Rattle.sbpl_cli.specs.Determined.{FewAreFirst, RecordsAreOne}
-use Rattle.sbpl_plan.specs.declared.found.Found.{Found}
 use Rattle.sbpl_cli.specs.Published.{Entry, founds, newest, with_paths, with_plan}
 use Rattle.sbpl_cli.specs.Shown.{IsShown, IsShownInFull, IsShownSparsely, IsThere}
-use Rattle.sbpl_cli.proofs.OneEnding.{OneMap, one_state}
+use Rattle.sbpl_cli.proofs.OneEnding.{OneMap}
 use Rattle.sbpl_cli.proofs.SameBegun.{AreCarried, one_begun}
-use Rattle.sbpl_cli.proofs.SameGuide.{made}
 
 -- ---- what is told
 
 -- the steps of the same arcs are the same
-one_steps : (e : Environment) (ps : Primitives) (sweeps others : Swept) (m : CellMap) → network_of (made e ps sweeps m) ≡ network_of (made e ps others m)
-    → (s u : ℕ) → s ≡ u → (arcs : List ℕ) (xs ys : List PathStep) → AreSteps (made e ps sweeps m) s arcs xs → AreSteps (made e ps others m) u arcs ys → xs ≡ ys
-one_steps e ps sweeps others m same s u at [] [] [] left right = refl
-one_steps e ps sweeps others m same s u at [] [] (y ∷ ys) left right = absurd right
-one_steps e ps sweeps others m same s u at [] (x ∷ xs) ys left right = absurd left
-one_steps e ps sweeps others m same s u at (k ∷ ks) [] ys left right = absurd left
-one_steps e ps sweeps others m same s u at (k ∷ ks) (x ∷ xs) [] left right = absurd right
-one_steps e ps sweeps others m same s u at (k ∷ ks) (x ∷ xs) (y ∷ ys) left right =
-    let own : AreSteps (made e ps others m) s (k ∷ ks) (y ∷ ys) = rw at right in
-    let head : (network_of (made e ps sweeps m)).head s k ≡ Some own.0 = ap (λ (n : Network). n.head s k) same ∙ own.1 in
-    let target : left.0 ≡ own.0 = same_Some left.0 own.0 (sym left.1 ∙ head) in
-    let motion : left.2.primitive ≡ own.2.primitive = same_Some left.2.primitive own.2.primitive (sym left.2.by ∙ own.2.by) in
-    let id : x.id ≡ y.id = left.2.id ∙ ap (λ (p : Primitive). p.id) motion ∙ sym own.2.id in
-    let place : x.place ≡ y.place = left.2.place ∙ ap (λ (t : ℕ). place_of e t) target ∙ sym own.2.place in
-    let rest = one_steps e ps sweeps others m same left.0 own.0 target ks xs ys left.3 own.3 in
-    λ i. record { id = id i; place = place i } ∷ rest i
+module _ {W : Type 0} (on : Site W) (Alike : W → W → Type 0) (alike : AreAlike on Alike) (w v : W) (a : Alike w v) (same : on.network w ≡ on.network v) where
+  one_steps : (s u : ℕ) → s ≡ u → (arcs : List ℕ) (xs ys : List PathStep) → AreSteps on w s arcs xs → AreSteps on v u arcs ys → xs ≡ ys
+  one_steps s u at [] [] [] left right = refl
+  one_steps s u at [] [] (y ∷ ys) left right = absurd right
+  one_steps s u at [] (x ∷ xs) ys left right = absurd left
+  one_steps s u at (k ∷ ks) [] ys left right = absurd left
+  one_steps s u at (k ∷ ks) (x ∷ xs) [] left right = absurd right
+  one_steps s u at (k ∷ ks) (x ∷ xs) (y ∷ ys) left right =
+      let own : AreSteps on v s (k ∷ ks) (y ∷ ys) = subst (λ (z : ℕ). AreSteps on v z (k ∷ ks) (y ∷ ys)) (sym at) right in
+      let head : (on.network w).head s k ≡ Some own.0 = ap (λ (n : Network). n.head s k) same ∙ own.1 in
+      let target : left.0 ≡ own.0 = same_Some left.0 own.0 (sym left.1 ∙ head) in
+      let first : x ≡ y = alike.step w v s k left.0 x y a left.2 (subst (λ (t : ℕ). on.wording.step v s k t y) (sym target) own.2) in
+      let rest = one_steps left.0 own.0 target ks xs ys left.3 own.3 in
+      λ i. first i ∷ rest i
 
--- the outcome that tells a result is determined
-one_told : (e : Environment) (ps : Primitives) (sweeps others : Swept) (m : CellMap) → network_of (made e ps sweeps m) ≡ network_of (made e ps others m)
-    → (start goal : ℕ) (r : Outcome FoundPath) (o p : Outcome PathRecord) → IsSameResult r o → IsSameResult r p
-    → Joins (made e ps sweeps m) start goal o → Joins (made e ps others m) start goal p → o ≡ p
-one_told e ps sweeps others m same start goal (outcome.Path found) (outcome.Path x) (outcome.Path y) told also joins joins' =
-    let way : x.arcs ≡ y.arcs = told.0 ∙ sym also.0 in
-    let price : x.cost ≡ y.cost = told.1 ∙ sym also.1 in
-    let limit : x.bound ≡ y.bound = told.2 ∙ sym also.2 in
-    let from : x.start ≡ y.start = joins.from ∙ sym joins'.from in
-    let own : AreSteps (made e ps others m) start x.arcs y.steps = rw way joins'.steps in
-    let steps = one_steps e ps sweeps others m same start start refl x.arcs x.steps y.steps joins.steps own in
-    λ i. outcome.Path (record { cost = price i; bound = limit i; start = from i; steps = steps i; arcs = way i })
-one_told e ps sweeps others m same start goal (outcome.Path found) (outcome.Path x) outcome.NoPath told also joins joins' = absurd also
-one_told e ps sweeps others m same start goal (outcome.Path found) (outcome.Path x) outcome.Unknown told also joins joins' = absurd also
-one_told e ps sweeps others m same start goal (outcome.Path found) outcome.NoPath p told also joins joins' = absurd told
-one_told e ps sweeps others m same start goal (outcome.Path found) outcome.Unknown p told also joins joins' = absurd told
-one_told e ps sweeps others m same start goal outcome.NoPath (outcome.Path x) p told also joins joins' = absurd told
-one_told e ps sweeps others m same start goal outcome.NoPath outcome.NoPath (outcome.Path y) told also joins joins' = absurd also
-one_told e ps sweeps others m same start goal outcome.NoPath outcome.NoPath outcome.NoPath told also joins joins' = refl
-one_told e ps sweeps others m same start goal outcome.NoPath outcome.NoPath outcome.Unknown told also joins joins' = absurd also
-one_told e ps sweeps others m same start goal outcome.NoPath outcome.Unknown p told also joins joins' = absurd told
-one_told e ps sweeps others m same start goal outcome.Unknown (outcome.Path x) p told also joins joins' = absurd told
-one_told e ps sweeps others m same start goal outcome.Unknown outcome.NoPath p told also joins joins' = absurd told
-one_told e ps sweeps others m same start goal outcome.Unknown outcome.Unknown (outcome.Path y) told also joins joins' = absurd also
-one_told e ps sweeps others m same start goal outcome.Unknown outcome.Unknown outcome.NoPath told also joins joins' = absurd also
-one_told e ps sweeps others m same start goal outcome.Unknown outcome.Unknown outcome.Unknown told also joins joins' = refl
+  -- the outcome that tells a result is determined
+  one_told : (start goal : ℕ) (r : Outcome FoundPath) (o p : Outcome PathRecord) → IsSameResult r o → IsSameResult r p
+      → Joins on w start goal o → Joins on v start goal p → o ≡ p
+  one_told start goal (outcome.Path found) (outcome.Path x) (outcome.Path y) told also joins joins' =
+      let way : x.arcs ≡ y.arcs = told.0 ∙ sym also.0 in
+      let price : x.cost ≡ y.cost = told.1 ∙ sym also.1 in
+      let limit : x.bound ≡ y.bound = told.2 ∙ sym also.2 in
+      let from : x.start ≡ y.start = joins.from ∙ alike.spot w v start a ∙ sym joins'.from in
+      let own : AreSteps on v start x.arcs y.steps = subst (λ (arcs : List ℕ). AreSteps on v start arcs y.steps) (sym way) joins'.steps in
+      let steps = one_steps start start refl x.arcs x.steps y.steps joins.steps own in
+      λ i. outcome.Path (record { cost = price i; bound = limit i; start = from i; steps = steps i; arcs = way i })
+  one_told start goal (outcome.Path found) (outcome.Path x) outcome.NoPath told also joins joins' = absurd also
+  one_told start goal (outcome.Path found) (outcome.Path x) outcome.Unknown told also joins joins' = absurd also
+  one_told start goal (outcome.Path found) outcome.NoPath p told also joins joins' = absurd told
+  one_told start goal (outcome.Path found) outcome.Unknown p told also joins joins' = absurd told
+  one_told start goal outcome.NoPath (outcome.Path x) p told also joins joins' = absurd told
+  one_told start goal outcome.NoPath outcome.NoPath (outcome.Path y) told also joins joins' = absurd also
+  one_told start goal outcome.NoPath outcome.NoPath outcome.NoPath told also joins joins' = refl
+  one_told start goal outcome.NoPath outcome.NoPath outcome.Unknown told also joins joins' = absurd also
+  one_told start goal outcome.NoPath outcome.Unknown p told also joins joins' = absurd told
+  one_told start goal outcome.Unknown (outcome.Path x) p told also joins joins' = absurd told
+  one_told start goal outcome.Unknown outcome.NoPath p told also joins joins' = absurd told
+  one_told start goal outcome.Unknown outcome.Unknown (outcome.Path y) told also joins joins' = absurd also
+  one_told start goal outcome.Unknown outcome.Unknown outcome.NoPath told also joins joins' = absurd also
+  one_told start goal outcome.Unknown outcome.Unknown outcome.Unknown told also joins joins' = refl
 
 -- a result that a found one leads to is determined
 one_turned : {leads other : List ℕ → List ℕ → Type 0} → ((f a b : List ℕ) → leads f a → other f b → a ≡ b) → (f p q : Outcome FoundPath) → IsTurned leads f p → IsTurned other f q → p ≡ q
@@ -222,25 +213,25 @@ pub expansions_traced : {Note : Type 0} (line : Note → TraceLine) (ps : List (
 expansions_traced line [] = refl
 expansions_traced line (p ∷ ps) = ap (λ (n : ℕ). p.expanded + n) (expansions_traced line ps)
 
-as_many : {by : Known} {w : World} {how : SearchJob} {outputs : Outputs} {start goal : ℕ} {before : Option Carried} {carried : Carried} {r : PlanRecord}
+as_many : {W : Type 0} {by : Known W} {w : W} {how : SearchJob} {outputs : Outputs} {start goal : ℕ} {before : Option Carried} {carried : Carried} {r : PlanRecord}
     → (x : IsSearched by w how outputs start goal before carried r) → expansions r.passes ≡ expansions x.notes
-as_many {by} x = ap expansions x.lines ∙ expansions_traced by.line x.notes
+as_many {W} {by} x = ap expansions x.lines ∙ expansions_traced by.line x.notes
 
 -- what a plan expanded is within its budget and what the run had left
-within_room : {by : Known} {w : World} {how : SearchJob} {outputs : Outputs} {start goal : ℕ} {before : Option Carried} {carried : Carried} {r : PlanRecord}
+within_room : {W : Type 0} {by : Known W} {w : W} {how : SearchJob} {outputs : Outputs} {start goal : ℕ} {before : Option Carried} {carried : Carried} {r : PlanRecord}
     → (x : IsSearched by w how outputs start goal before carried r) → AreWithin how.budget (expanded_before before) x.notes x.spent
-within_room {by} {w} {how} {outputs} {start} {goal} {before} {carried} {r} x = record {
+within_room {W} {by} {w} {how} {outputs} {start} {goal} {before} {carried} {r} x = record {
   of_plan = omega (arith, x.within_budget, x.expanded, as_many x);
   of_run = omega (arith, x.within_run, x.counted, as_many x);
   used_up = λ is. rw (← as_many x) (MatchBool-at_true ((r.spent ≡ Some (expansions r.passes)) × ((expansions r.passes ≡ how.budget) ⊎ (expanded_before before + expansions r.passes ≡ 2 ^ 30))) (r.spent ≡ None) is x.marked).1;
 }
 
 -- two plans have one record, leave the same, and what they leave is carried on
-pub record AreOneRecord (e : Environment) (carried other : Carried) (r u : PlanRecord) : Type 0 where
+pub record AreOneRecord (count : ℕ) (carried other : Carried) (r u : PlanRecord) : Type 0 where
   pub record_is : r ≡ u
   pub labels : carried.labels ≡ other.labels
   pub expanded : carried.expanded ≡ other.expanded
-  pub states : states_of carried.labels ≡ state_count e
+  pub states : states_of carried.labels ≡ count
   pub no_arc : back_of carried.labels carried.labels.start ≡ None
 
 -- what is known of a planner whose plans are determined
@@ -249,36 +240,44 @@ pub record IsPlannerDetermined {Note : Type 0} (means : Meaning Note) : Type 0 w
   pub beginnings : AreBeginningsDetermined means
   pub plans : PassesAreOne means
 
-module _ (by : Known) (law : IsPlannerDetermined by.means) (alike_in : IsAlike by.direction) (leads_once : LeadsOnce by.direction) (initial : InitialLabelsAreOne) (one_result : OutcomesAreOne) (cut_one : CutRowsAreOne) (e : Environment) (ps : Primitives) (sweeps others : Swept)
-    (radius : sweeps.radius ≡ others.radius) where
+module _ {W : Type 0} (on : Site W) (Alike : W → W → Type 0) (alike : AreAlike on Alike) (search : Search) (law : IsPlannerDetermined search.means) (d : Direction W) (goes : GoesAlike on Alike d) (once : LeadsOnce on d)
+    (initial : InitialLabelsAreOne) (one_result : OutcomesAreOne) (cut_one : CutRowsAreOne) (w v : W) (both_alike : Alike w v) where
+  -- the planner as the program knows it at the site
+  abbrev by : Known W
+  by = record { on = on; Note = search.Note; means = search.means; line = search.line; direction = d }
+
   one_record : (m : CellMap) (how : SearchJob) (outputs : Outputs) (start goal : ℕ) (log : List Entry) (before : Option Carried) (carried other : Carried) (r u : PlanRecord)
-      → network_of (made e ps sweeps m) ≡ network_of (made e ps others m) → AreCarried e ps sweeps others radius before → r.plan ≡ u.plan
-      → Joins (made e ps sweeps m) start goal r.outcome → Joins (made e ps others m) start goal u.outcome
-      → IsSearched by (made e ps sweeps m) how outputs start goal before carried r → IsSearched by (made e ps others m) how outputs start goal before other u
+      → on.cells.is_made (on.cells.over w m) → on.network (on.cells.over w m) ≡ on.network (on.cells.over v m) → AreCarried on Alike alike w v both_alike before → r.plan ≡ u.plan
+      → Joins on (on.cells.over w m) start goal r.outcome → Joins on (on.cells.over v m) start goal u.outcome
+      → IsSearched by (on.cells.over w m) how outputs start goal before carried r → IsSearched by (on.cells.over v m) how outputs start goal before other u
       → r.incumbent ≡ newest (with_plan log r) → u.incumbent ≡ newest (with_plan log u)
-      → AreOneRecord e carried other r u
-  one_record m how outputs start goal log before carried other r u same begins_alike number joins joins' x y newest_is newest_is' =
-      let n : Network = by.direction.network (made e ps sweeps m) in
-      let one_network : by.direction.network (made e ps sweeps m) ≡ by.direction.network (made e ps others m) = alike_in.network (made e ps sweeps m) (made e ps others m) same in
-      let from : ℕ = by.direction.from start goal in
-      let to : ℕ = by.direction.to start goal in
+      → AreOneRecord (on.network (on.cells.over w m)).states carried other r u
+  one_record m how outputs start goal log before carried other r u made same begins_alike number joins joins' x y newest_is newest_is' =
+      let here : W = on.cells.over w m in
+      let there : W = on.cells.over v m in
+      let a : Alike here there = alike.over w v m both_alike in
+      let count : ℕ = (on.network here).states in
+      let n : Network = d.network here in
+      let one_network : d.network here ≡ d.network there = goes.network here there same in
+      let from : ℕ = d.from start goal in
+      let to : ℕ = d.to start goal in
       let ask : Ask = ask_of how outputs in
       let q : Inquiry = record { network = n; guide = x.guide; goal = to; ask = ask } in
-      let begun = one_begun e ps sweeps others radius initial by.means law.beginnings by.direction alike_in m from before x.begun y.begun x.raised y.raised same begins_alike x.begins y.begins in
-      let guides : (s : ℕ) → s < state_count e → x.guide s ≡ y.guide s = alike_in.guides e ps sweeps others m start goal x.guide y.guide same x.is_guide y.is_guide in
-      let alike : AreAlikeGuides (states_of x.begun) x.guide y.guide = λ s inside. guides s (subst (λ (count : ℕ). s < count) begun.states inside) in
+      let begun = one_begun on Alike alike w v both_alike initial by.means law.beginnings d goes m from before x.begun y.begun x.raised y.raised made same begins_alike x.begins y.begins in
+      let guides : (s : ℕ) → s < count → x.guide s ≡ y.guide s = goes.guides here there start goal x.guide y.guide a same x.is_guide y.is_guide in
+      let guided : AreAlikeGuides (states_of x.begun) x.guide y.guide = λ s inside. guides s (subst (λ (k : ℕ). s < k) begun.states inside) in
       let passes : ArePasses by.means (record { network = n; guide = y.guide; goal = to; ask = ask }) how.first x.begun y.notes other.labels y.spent = rw (one_network, begun.same) y.passes in
-      let one = law.plans q y.guide how.budget (expanded_before before) how.first x.begun carried.labels other.labels x.notes y.notes x.spent y.spent begun.no_arc alike x.passes passes (within_room x) (within_room y) in
+      let one = law.plans q y.guide how.budget (expanded_before before) how.first x.begun carried.labels other.labels x.notes y.notes x.spent y.spent begun.no_arc guided x.passes passes (within_room x) (within_room y) in
       let placed = passes_placed by.means law.passes q x.notes how.first x.begun carried.labels x.spent x.passes in
       let no_arc : back_of carried.labels carried.labels.start ≡ None = placed.no_arc begun.no_arc in
-      let states : states_of carried.labels ≡ state_count e = placed.states ∙ begun.states in
-      let at_end : AreAlikeGuides (states_of carried.labels) x.guide y.guide = λ s inside. guides s (subst (λ (count : ℕ). s < count) states inside) in
+      let states : states_of carried.labels ≡ count = placed.states ∙ begun.states in
+      let at_end : AreAlikeGuides (states_of carried.labels) x.guide y.guide = λ s inside. guides s (subst (λ (k : ℕ). s < k) states inside) in
       let is_result : IsResultOf n y.guide to carried.labels y.found = rw (one_network, one.labels) y.is_result in
       let results : x.found ≡ y.found = one_result n x.guide y.guide to carried.labels x.found y.found no_arc at_end x.is_result is_result in
-      let turned : IsTurned (by.direction.leads (made e ps others m) start goal) x.found y.told.result = rw results y.told.turned in
-      let paths : x.told.result ≡ y.told.result = one_turned (λ f a b. leads_once (made e ps sweeps m) (made e ps others m) start goal f a b same) x.found x.told.result y.told.result x.told.turned turned in
+      let turned : IsTurned (d.leads there start goal) x.found y.told.result = rw results y.told.turned in
+      let paths : x.told.result ≡ y.told.result = one_turned (λ f l k. once here there start goal f l k same) x.found x.told.result y.told.result x.told.turned turned in
       let told : IsSameResult x.told.result u.outcome = rw paths y.told.same in
-      let outcomes : r.outcome ≡ u.outcome = one_told e ps sweeps others m same start goal x.told.result r.outcome u.outcome x.told.same told joins joins' in
+      let outcomes : r.outcome ≡ u.outcome = one_told on Alike alike here there a same start goal x.told.result r.outcome u.outcome x.told.same told joins joins' in
       let all : r.passes ≡ u.passes = x.lines ∙ ap (map (traced_pass by.line)) one.passes ∙ sym y.lines in
       let counts : expansions r.passes ≡ expansions u.passes = ap expansions all in
       let expanded : r.expanded ≡ u.expanded = x.expanded ∙ counts ∙ sym y.expanded in
@@ -288,7 +287,7 @@ module _ (by : Known) (law : IsPlannerDetermined by.means) (alike_in : IsAlike b
       subst (λ (k : Network). IsThere (is_some outputs.labels) (IsShown outputs.form k y.guide from to r.plan carried.labels x.found) u.labels) (sym one_network)
       (rw (number, one.labels, results) y.labels)
       in
-      let all_states : states_of carried.labels ≡ n.states = states ∙ sym (alike_in.states (made e ps sweeps m)) in
+      let all_states : states_of carried.labels ≡ n.states = states ∙ sym (goes.states here) in
       let labels : r.labels ≡ u.labels =
       one_there (is_some outputs.labels) (IsShown outputs.form n x.guide from to r.plan carried.labels x.found) (IsShown outputs.form n y.guide from to r.plan carried.labels x.found) r.labels u.labels
       (λ s t. one_section cut_one n x.guide y.guide from to r.plan carried.labels x.found all_states at_end outputs.form s t) x.labels shown
@@ -299,33 +298,33 @@ module _ (by : Known) (law : IsPlannerDetermined by.means) (alike_in : IsAlike b
       record {
         record_is = λ i. record { plan = number i; raised = raised i; passes = all i; expanded = expanded i; spent = spent i; outcome = outcomes i; labels = labels i; incumbent = incumbent i };
         labels = one.labels;
-        expanded = x.counted ∙ ap (λ (count : ℕ). expanded_before before + count) counts ∙ sym y.counted;
+        expanded = x.counted ∙ ap (λ (k : ℕ). expanded_before before + k) counts ∙ sym y.counted;
         states = states;
         no_arc = no_arc;
       }
 
   -- ---- plans in turn
 
-  module _ (one_map : OneMap) (one_graph : AlikeWorldsAreOneGraph) (first : CellMap) (batches : List (List Write)) (how : SearchJob) (outputs : Outputs) (starts : ℕ → ℕ) (goal : ℕ) where
+  module _ (one_map : OneMap) (batches : List (List Write)) (how : SearchJob) (outputs : Outputs) (starts : ℕ → ℕ) (goal : ℕ) where
     -- records of plans from one on are the first of any others from it on that are no fewer
-    pub one_records : (rs us : List PlanRecord) (k : ℕ) (log : List Entry) (before : Option Carried) → AreCarried e ps sweeps others radius before → length rs ≤ length us
-        → AreRecords by (made e ps sweeps first) batches how outputs starts goal k log before rs → AreRecords by (made e ps others first) batches how outputs starts goal k log before us
+    pub one_records : (rs us : List PlanRecord) (k : ℕ) (log : List Entry) (before : Option Carried) → AreCarried on Alike alike w v both_alike before → length rs ≤ length us
+        → AreRecords by w batches how outputs starts goal k log before rs → AreRecords by v batches how outputs starts goal k log before us
         → (rest : List PlanRecord) × (us ≡ rs ++ rest)
     one_records [] us k log before begins_alike no_fewer left right = (us, refl)
     one_records (r ∷ rs) [] k log before begins_alike no_fewer left right = absurd (omega arith)
     one_records (r ∷ rs) (u ∷ us) k log before begins_alike no_fewer left right =
         let carried : Carried = left.0 in
         let other : Carried = right.0 in
-        let maps : carried.map ≡ other.map = one_map first carried.map other.map batches k left.2.is_world.map right.2.is_world.map left.1 right.1 in
-        let plan : IsPlanOf by (made e ps others carried.map) how outputs (starts k) goal k log before other u = rw maps right.2 in
-        let same : network_of (made e ps sweeps carried.map) ≡ network_of (made e ps others carried.map) =
-        one_graph (made e ps others carried.map) (made e ps sweeps carried.map) plan.is_world left.2.is_world refl refl refl radius
-        in
-        let one = one_record carried.map how outputs (starts k) goal log before carried other r u same begins_alike (left.2.number ∙ sym plan.number) left.2.promises.joins plan.promises.joins left.2.searched plan.searched left.2.incumbent plan.incumbent in
+        let first : IsMapAfter (on.cells.map w) batches k other.map = subst (λ (m : CellMap). IsMapAfter m batches k other.map) (sym (alike.map w v both_alike)) right.1 in
+        let maps : carried.map ≡ other.map = one_map (on.cells.map w) carried.map other.map batches k (alike.cell_map w carried.map left.2.is_world) (alike.cell_map v other.map right.2.is_world) left.1 first in
+        let plan : IsPlanOf by (on.cells.over v carried.map) how outputs (starts k) goal k log before other u = subst (λ (m : CellMap). IsPlanOf by (on.cells.over v m) how outputs (starts k) goal k log before other u) (sym maps) right.2 in
+        let same : on.network (on.cells.over w carried.map) ≡ on.network (on.cells.over v carried.map) = alike.graph _ _ (alike.over w v carried.map both_alike) left.2.is_world plan.is_world in
+        let one = one_record carried.map how outputs (starts k) goal log before carried other r u left.2.is_world same begins_alike (left.2.number ∙ sym plan.number) left.2.promises.joins plan.promises.joins left.2.searched plan.searched left.2.incumbent plan.incumbent in
         let both : carried ≡ other = λ i. record { map = maps i; labels = one.labels i; expanded = one.expanded i } in
-        let later : AreCarried e ps sweeps others radius (Some carried) = record { states = one.states; no_arc = one.no_arc; graph = same } in
-        let further : AreRecords by (made e ps others first) batches how outputs starts goal (k + 1) (with_plan log r) (Some carried) us =
-        subst (λ (x : PlanRecord). AreRecords by (made e ps others first) batches how outputs starts goal (k + 1) (with_plan log x) (Some carried) us) (sym one.record_is) (rw both right.3)
+        let later : AreCarried on Alike alike w v both_alike (Some carried) = record { made = left.2.is_world; states = one.states; no_arc = one.no_arc; graph = same } in
+        let further : AreRecords by v batches how outputs starts goal (k + 1) (with_plan log r) (Some carried) us =
+        subst (λ (x : PlanRecord). AreRecords by v batches how outputs starts goal (k + 1) (with_plan log x) (Some carried) us) (sym one.record_is)
+        (subst (λ (c : Carried). AreRecords by v batches how outputs starts goal (k + 1) (with_plan log u) (Some c) us) (sym both) right.3)
         in
         let after_them = one_records rs us (k + 1) (with_plan log r) (Some carried) later (omega arith) left.3 further in
         let same_record : u ≡ r = sym one.record_is in
@@ -341,35 +340,31 @@ whole_front rs us rest parted as_many =
     let none : rest ≡ [] = nil_from_length rest (omega arith) in
     sym (parted ∙ ap (λ (l : List PlanRecord). rs ++ l) none ∙ append-nil rs)
 
-first_list : ((p : Planner) → is_determined p ≡ true → IsPlannerDetermined (known p).means) → PathsTurnOnce → InitialLabelsAreOne → OutcomesAreOne → CutRowsAreOne → OneMap → AlikeWorldsAreOneGraph → (e : Environment) (ps : Primitives) (sweeps others : Swept) (m : CellMap) → sweeps.radius ≡ others.radius
-    → (course : Course) (how : SearchJob) (outputs : Outputs) (log : List Entry) (rs us : List PlanRecord) (all : Bool) (broken also : List Found) → is_determined how.planner ≡ true → ArePlans (made e ps sweeps m) course how outputs rs all log broken → ArePlans (made e ps others m) course how outputs us true log also
-    → (rest : List PlanRecord) × (us ≡ rs ++ rest)
-first_list laws once initial one_result cut_one one_map one_graph e ps sweeps others m radius course how outputs log rs us all broken also determined left right =
-    let starts : left.start ≡ right.start = one_state e e.start left.start right.start left.start_is right.start_is in
-    let goals : left.goal ≡ right.goal = one_state e e.end left.goal right.goal left.goal_is right.goal_is in
-    let each : AreRecords (known how.planner) (made e ps others m) course.batches how outputs (start_after e left.start course.moves) left.goal 0 log None us = rw (starts, goals) right.each in
-    let none : AreCarried e ps sweeps others radius None = tt in
-    let few = left.few in
-    let many = right.all_made refl in
-    one_records (known how.planner) (laws how.planner determined) (alike_known how.planner) (leads_known once how.planner) initial one_result cut_one e ps sweeps others radius one_map one_graph m course.batches how outputs (start_after e left.start course.moves) left.goal rs us 0 log None none (omega arith) left.each each
-
 -- each planner whose passes are determined is one of these
-pub of_each : IsPlannerDetermined ara → IsPlannerDetermined adstar → (p : Planner) → is_determined p ≡ true → IsPlannerDetermined (known p).means
+pub of_each : IsPlannerDetermined ara → IsPlannerDetermined adstar → (p : Planner) → is_determined p ≡ true → IsPlannerDetermined (search_of p).means
 of_each by_ara by_adstar planner.Ara determined = by_ara
 of_each by_ara by_adstar planner.AdStar determined = by_adstar
 of_each by_ara by_adstar planner.Back determined = by_adstar
 of_each by_ara by_adstar planner.Epase determined = absurd (false≢true determined)
 
-pub few_are_first : ((p : Planner) → is_determined p ≡ true → IsPlannerDetermined (known p).means) → PathsTurnOnce → InitialLabelsAreOne → OutcomesAreOne → CutRowsAreOne → OneMap → AlikeWorldsAreOneGraph → FewAreFirst
-few_are_first laws once initial one_result cut_one one_map one_graph w v course how outputs log rs us all broken also determined alike left right =
-    let env = alike.env in
-    let prims = alike.prims in
-    let map = alike.map in
-    let is : v ≡ made w.env w.prims v.sweeps w.map = λ i. record { env = env i; prims = prims i; sweeps = v.sweeps; map = map i } in
-    let own : ArePlans (made w.env w.prims v.sweeps w.map) course how outputs us true log also = subst (λ (x : World). ArePlans x course how outputs us true log also) is right in
-    first_list laws once initial one_result cut_one one_map one_graph w.env w.prims w.sweeps v.sweeps w.map (sym alike.radius) course how outputs log rs us all broken also determined left own
+pub few_are_first : {W : Type 0} (on : Site W) (Alike : W → W → Type 0) → AreAlike on Alike → ((p : Planner) → is_determined p ≡ true → IsPlannerDetermined (search_of p).means) → PathsTurnOnce → InitialLabelsAreOne → OutcomesAreOne → CutRowsAreOne → OneMap
+    → FewAreFirst on Alike
+few_are_first on Alike alike laws turned initial one_result cut_one one_map w v course how outputs log rs us all broken also determined a left right =
+    let starts : left.start ≡ right.start = alike.starts w v left.start right.start a left.start_is right.start_is in
+    let goals : left.goal ≡ right.goal = alike.ends w v left.goal right.goal a left.goal_is right.goal_is in
+    let back = may_move how.planner in
+    let mine : ℕ → ℕ = start_after on.wording w left.start course.moves in
+    let own : start_after on.wording v right.start course.moves ≡ mine = same_starts on.wording v w right.start left.start course.moves course.moves (sym (alike.state w v a)) (sym starts) refl in
+    let each : AreRecords (known on how.planner) v course.batches how outputs mine left.goal 0 log None us =
+    subst (λ (s : ℕ → ℕ). AreRecords (known on how.planner) v course.batches how outputs s left.goal 0 log None us) own
+    (subst (λ (g : ℕ). AreRecords (known on how.planner) v course.batches how outputs (start_after on.wording v right.start course.moves) g 0 log None us) (sym goals) right.each)
+    in
+    let few = left.few in
+    let many = right.all_made refl in
+    one_records on Alike alike (search_of how.planner) (laws how.planner determined) (checked_direction on back) (goes_alike on Alike alike back) (leads_once on Alike alike turned back) initial one_result cut_one w v a one_map course.batches how outputs mine left.goal
+    rs us 0 log None tt (omega arith) left.each each
 
-pub records_are_one : FewAreFirst → RecordsAreOne
-records_are_one first w v course how outputs log rs us broken also determined alike left right =
+pub records_are_one : {W : Type 0} (on : Site W) (Alike : W → W → Type 0) → FewAreFirst on Alike → RecordsAreOne on Alike
+records_are_one on Alike first w v course how outputs log rs us broken also determined alike left right =
     let parted = first w v course how outputs log rs us true broken also determined alike left right in
     whole_front rs us parted.0 parted.1 (right.all_made refl ∙ sym (left.all_made refl))

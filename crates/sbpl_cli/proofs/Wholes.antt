@@ -19,7 +19,8 @@ use Rattle.sbpl_cli.specs.declared.refusal.Refusal.{Refusal}
 use Rattle.sbpl_cli.specs.Asked.{is_determined}
 use Rattle.sbpl_cli.specs.Causes.{ArePlanned, IsJobCause}
 use Rattle.sbpl_cli.specs.Clear.{SectionsAreClear, TextsAreClear}
-use Rattle.sbpl_cli.specs.Determined.{ArePrefixes, AreTold, CallsFor, FewAreFirst, IsDeterminedJob, IsInput, IsNoFailure, IsSource, NoName, NoneRose, RecordsAreOne}
+use Rattle.sbpl_cli.specs.LatticeSite.{lattice_site}
+use Rattle.sbpl_cli.specs.Determined.{AreAlikeWorlds, ArePrefixes, AreTold, CallsFor, FewAreFirst, IsDeterminedJob, IsInput, IsNoFailure, IsSource, NoName, NoneRose, RecordsAreOne}
 use Rattle.sbpl_cli.specs.Intents.{BeginsAfter, Intent, Refused, Planned, Checked, Listed, Demonstrated, OutOfMemory, checked_status, end_writes, intent_status, lines_writes, plans_writes, refusal_status, section_writes, writes_of}
 use Rattle.sbpl_cli.specs.Promises.{GivesIntent, EndsJob, EndsRun, IsDemonstration, by_job, by_memory, by_words}
 use Rattle.sbpl_plan.specs.declared.found.Found.{Found}
@@ -72,7 +73,7 @@ unread Failed j IsOne r input (i, is, (name, one, rose)) = (ap (λ (x : Refusal)
 
 -- ---- the jobs
 
-module _ (clear : TextsAreClear) (sections : SectionsAreClear) (one_map : OneMap) (graphs : AlikeWorldsAreOneGraph) (one : RecordsAreOne) (first : FewAreFirst) (held : Told) (Failed : Names) (log : List Entry) where
+module _ (clear : TextsAreClear) (sections : SectionsAreClear) (one_map : OneMap) (graphs : AlikeWorldsAreOneGraph) (one : RecordsAreOne lattice_site AreAlikeWorlds) (first : FewAreFirst lattice_site AreAlikeWorlds) (held : Told) (Failed : Names) (log : List Entry) where
   alike_refusals : (j : Job) (r u : Refusal) → r ≡ u → Agrees Failed j (Refused r) (Refused u)
   alike_refusals j r u same = inr (inl (ap (λ (x : Refusal). refusal_status x) same, ap (λ (x : Refusal). writes_of j (Refused x)) same))
 
@@ -294,7 +295,7 @@ module _ (before after : DeskState) (old new : List Entry) where
 
 -- ---- a run
 
-module _ (clear : TextsAreClear) (sections : SectionsAreClear) (one_map : OneMap) (graphs : AlikeWorldsAreOneGraph) (one : RecordsAreOne) (first : FewAreFirst) (before after : DeskState) (old new : List Entry) where
+module _ (clear : TextsAreClear) (sections : SectionsAreClear) (one_map : OneMap) (graphs : AlikeWorldsAreOneGraph) (one : RecordsAreOne lattice_site AreAlikeWorlds) (first : FewAreFirst lattice_site AreAlikeWorlds) (before after : DeskState) (old new : List Entry) where
   -- what is called for was written whole
   job_whole : (j : Job) (whole : Intent) (status : ℕ) → AreTold before.held j → CallsFor before.held old j whole → IsNoFailure status → EndsJob before after old new j status
       → (status ≡ intent_status whole) × AreAppended before after (writes_of j whole)

@@ -28,7 +28,10 @@ use Rattle.sbpl_cli.specs.declared.section_check.SectionStop.{SectionStop}
 use Rattle.sbpl_cli.specs.declared.section_check.SectionStop.TheVariants as section
 use Rattle.sbpl_cli.specs.Asked.{Known}
 use Rattle.sbpl_cli.specs.Causes.{ReadsWorld}
-use Rattle.sbpl_cli.specs.Headline.{AreRecords, Carried, start_after}
+use Rattle.sbpl_cli.specs.Headline.{AreRecords, Carried}
+use Rattle.sbpl_cli.specs.Asked.{known}
+use Rattle.sbpl_cli.specs.LatticeSite.{lattice_site, lattice_wording}
+use Rattle.sbpl_cli.specs.Sites.{start_after}
 use Rattle.sbpl_cli.specs.Intents.{Intent, Refused, Planned, Checked, Listed, Demonstrated, OutOfMemory, checked_writes, end_writes, fault_text, incumbent_writes, labels_text, labels_writes, last_write, refusal_text, section_writes, stop_writes, trace_writes, unread_text, writes_of}
 use Rattle.sbpl_cli.specs.Listing.{listing_at, listing_text, listings, prim_text}
 use Rattle.sbpl_cli.specs.Promises.{GivesIntent}
@@ -147,7 +150,7 @@ section_full o P r there =
     let shown = named_full o.incumbent (incumbent_text r.incumbent) (incumbent_full r.incumbent) in
     one_more (to_output (section_text r)) _ (report_full r) (both (labels_writes o r) (trace_writes o r ++ incumbent_writes o r) written (both (trace_writes o r) (incumbent_writes o r) traced shown))
 
-module _ (by : Known) (w : World) (batches : List (List change.Write)) (how : SearchJob) (o : Outputs) (starts : ℕ → ℕ) (goal : ℕ) where
+module _ {W : Type 0} (by : Known W) (w : W) (batches : List (List change.Write)) (how : SearchJob) (o : Outputs) (starts : ℕ → ℕ) (goal : ℕ) where
   records_full : (k : ℕ) (log : List Entry) (before : Option Carried) (rs : List PlanRecord) → AreRecords by w batches how o starts goal k log before rs
       → NoneEmpty (flat_map (section_writes o) rs)
   records_full k log before [] each = no_writes
@@ -213,7 +216,7 @@ intent_full held Failed j (Refused r) gives = one_write _ (refusal_full j r)
 intent_full held Failed j OutOfMemory gives = no_writes
 intent_full held Failed (job.Plan p) (Planned records all log broken) gives =
     let plans = gives.plans in
-    let sections = records_full _ gives.world gives.course.batches p.search p.outputs (start_after gives.world.env plans.start gives.course.moves) plans.goal 0 log None records plans.each in
+    let sections = records_full (known lattice_site p.search.planner) gives.world gives.course.batches p.search p.outputs (start_after lattice_wording gives.world plans.start gives.course.moves) plans.goal 0 log None records plans.each in
     both _ _ sections (end_full all)
 intent_full held Failed (job.Check c) (Checked goals os end) gives = checked_full goals 0 os end
 intent_full held Failed (job.Sweep from) (Listed w) gives = both _ _ (listed_full held from w gives.0) last_full

@@ -37,6 +37,8 @@ use Rattle.sbpl_job.specs.declared.job.Sources.{Sources}
 use Rattle.sbpl_cli.specs.declared.record.PlanRecord.{PlanRecord}
 use Rattle.sbpl_plan.specs.declared.found.Found.{Found}
 use Rattle.sbpl_cli.specs.Headline.{ArePlans}
+use Rattle.sbpl_cli.specs.LatticeSite.{lattice_site}
+use Rattle.sbpl_cli.specs.Sites.{Site}
 use Rattle.sbpl_cli.specs.Published.{Entry}
 use Rattle.sbpl_cli.specs.Writing.{DeskState, Names, ReadFailed, Told}
 use Rattle.sbpl_cli.specs.declared.course.Course.{Course}
@@ -87,14 +89,14 @@ ReadsCourse held None s c = c ≡ still []
 ReadsCourse held (Some name) s c = (text : List ℕ) × IsReadText (held name) text × IsChangeText s text c
 
 -- where the robot is, if that is said: on the map of a world, with one of its headings, a place or none for each batch
-pub record AreMovesIn (w : World) (batches : List (List Write)) (moves : List (Option Place)) : Type 0 where
-  pub places : ArePlacesOnMap w.map w.env.headings moves
+pub record AreMovesIn {W : Type 0} (on : Site W) (w : W) (batches : List (List Write)) (moves : List (Option Place)) : Type 0 where
+  pub places : ArePlacesOnMap (on.cells.map w) (on.wording.headings w) moves
   pub each : length moves ≡ length batches
 
 -- the batches of a course are on the map of a world, and the robot too, which stays where it may not move
-pub record IsCourseIn (moving : Bool) (w : World) (c : Course) : Type 0 where
-  pub on_map : AreOnMap w.map c.batches
-  pub moves : IfSome c.moves (AreMovesIn w c.batches)
+pub record IsCourseIn {W : Type 0} (on : Site W) (moving : Bool) (w : W) (c : Course) : Type 0 where
+  pub on_map : AreOnMap (on.cells.map w) c.batches
+  pub moves : IfSome c.moves (AreMovesIn on w c.batches)
   pub stays : moving ≡ false → c.moves ≡ None
 
 -- a lattice and a course that were read: the files stand for them
@@ -102,7 +104,7 @@ pub record AreRead (held : Told) (from : Sources) (changes : Option (List ℕ)) 
   pub says : ReadsWorld held from w
   pub is_world : IsWorld w
   pub course_is : ReadsCourse held changes (scope_of moving w) c
-  pub in_world : IsCourseIn moving w c
+  pub in_world : IsCourseIn lattice_site moving w c
 
 -- The files stand for a world and a course, and these are records of plans in it: all of them, or the first few, after which memory may
 -- run out in a plan whose passes found this. These entries were published before them.
@@ -111,7 +113,7 @@ pub record ArePlanned (held : Told) (job : PlanJob) (records : List PlanRecord) 
   pub course : Course
   pub says : ReadsWorld held job.sources world
   pub changes : ReadsCourse held job.changes (scope_of (may_move job.search.planner) world) course
-  pub plans : ArePlans world course job.search job.outputs records all log broken
+  pub plans : ArePlans lattice_site world course job.search job.outputs records all log broken
 
 -- how a demonstration is planned: by Anytime D*, with the inflations 3.000, 2.500 and so on to 1.000
 abbrev pub demo_search : SearchJob
@@ -132,7 +134,7 @@ pub record IsDrawn (job : DemoJob) (w : World) : Type 0 where
 pub record AreDemonstrated (job : DemoJob) (world : World) (batches : List (List Write)) (records : List PlanRecord) (all : Bool) (log : List Entry) (broken : List Found) : Type 0 where
   pub drawn : IsDrawn job world
   pub changes : batches ≡ changes_drawn job.width job.height job.seed
-  pub plans : ArePlans world (still batches) demo_search no_outputs records all log broken
+  pub plans : ArePlans lattice_site world (still batches) demo_search no_outputs records all log broken
 
 -- the environment file has this first fault
 pub record IsFaultyEnvironment (held : Told) (from : Sources) (f : EnvFault) : Type 0 where

@@ -1,5 +1,5 @@
 -- How the sections of a label text are checked, one for each plan.
-use Rattle.std.specs.Prelude.{◌≡◌, ◌≢◌, ℕ, zero, suc, ◌+◌, Bool, List, [], ◌∷◌, Option, Some, None}
+use Rattle.std.specs.Prelude.{◌≡◌, ◌≢◌, ℕ, zero, suc, ◌+◌, List, [], ◌∷◌, Option, Some, None}
 use Rattle.sbpl_graph.specs.Network.{Network}
 use Rattle.sbpl_fixed.specs.Formats.{Left}
 use Rattle.sbpl_fixed.specs.Tokens.{Piece}
@@ -15,10 +15,8 @@ use Rattle.sbpl_cert.specs.Versions.{IsOf, arcs_of, claim_by, outcome_of}
 use Rattle.sbpl_map.specs.CellMap.{CellMap}
 use Rattle.sbpl_map.specs.MapAfter.{IsMapAfter}
 use Rattle.sbpl_map.specs.declared.write.Write.{Write}
-use Rattle.sbpl_cost.specs.States.{state_count}
-use Rattle.sbpl_cost.specs.World.{IsWorld, World, over_map}
-use Rattle.sbpl_cli.specs.Asked.{checked_direction}
-use Rattle.sbpl_cli.specs.Headline.{start_after}
+use Rattle.sbpl_replan.specs.Directions.{Direction}
+use Rattle.sbpl_cli.specs.Sites.{Site, start_after}
 use Rattle.sbpl_cli.specs.declared.course.Course.{Course}
 use Rattle.sbpl_cli.specs.declared.section_check.SectionStop.{SectionStop}
 use Rattle.sbpl_cli.specs.declared.section_check.SectionStop.TheVariants as stop
@@ -79,50 +77,52 @@ IsTrailing ts (stop.Flaw f) = ⊥
 IsTrailing ts (stop.Fault f) = IsTrailingAt ts f
 IsTrailing ts stop.NoMemory = Unit {0}
 
--- what stays the same while the sections of a text are checked: the world and the batches, the start of each plan and the goal, and
--- whether the labels are those of the planner `back`
-pub record Case : Type 0 where
-  pub world : World
+-- how the checking ends after the last section: well, where no token is left
+abbrev pub IsEndOfText : Left → Option SectionStop → Type 0
+IsEndOfText left None = left.tokens ≡ []
+IsEndOfText left (Some s) = IsTrailing left.tokens s
+
+-- what stays the same while the sections of a text are checked, whose labels were searched in a direction at a site: the world and the
+-- batches, the start of each plan and the goal
+pub record Case {W : Type 0} (on : Site W) (d : Direction W) : Type 0 where
+  pub world : W
   pub batches : List (List Write)
   pub starts : ℕ → ℕ
   pub goal : ℕ
-  pub back : Bool
 
 -- the case of a world and a course, between these states
-abbrev pub case_of : World → Course → (start goal : ℕ) → (back : Bool) → Case
-case_of w course start goal back = record { world = w; batches = course.batches; starts = start_after w.env start course.moves; goal = goal; back = back }
+abbrev pub case_of : {W : Type 0} → (on : Site W) → (d : Direction W) → W → Course → (start goal : ℕ) → Case on d
+case_of on d w course start goal = record { world = w; batches = course.batches; starts = start_after on.wording w start course.moves; goal = goal }
 
 -- the state from which the search of plan k goes, and the one to which
-abbrev pub from_in : Case → ℕ → ℕ
-from_in c k = (checked_direction c.back).from (c.starts k) c.goal
+abbrev pub from_in : {W : Type 0} → {on : Site W} → {d : Direction W} → Case on d → ℕ → ℕ
+from_in {W} {on} {d} c k = d.from (c.starts k) c.goal
 
-abbrev pub to_in : Case → ℕ → ℕ
-to_in c k = (checked_direction c.back).to (c.starts k) c.goal
+abbrev pub to_in : {W : Type 0} → {on : Site W} → {d : Direction W} → Case on d → ℕ → ℕ
+to_in {W} {on} {d} c k = d.to (c.starts k) c.goal
 
 -- the graph over which plan k is searched, on the map after the first k batches, and what guides it
-pub record IsGroundAfter (c : Case) (k : ℕ) (n : Ground) : Type 0 where
+pub record IsGroundAfter {W : Type 0} {on : Site W} {d : Direction W} (c : Case on d) (k : ℕ) (n : Ground) : Type 0 where
   pub map : CellMap
-  pub after : IsMapAfter c.world.map c.batches k map
-  pub is_world : IsWorld (over_map c.world map)
-  pub network : n.network ≡ (checked_direction c.back).network (over_map c.world map)
-  pub guide : (checked_direction c.back).guides (over_map c.world map) (c.starts k) c.goal n.guide
+  pub after : IsMapAfter (on.cells.map c.world) c.batches k map
+  pub is_world : on.cells.is_made (on.cells.over c.world map)
+  pub network : n.network ≡ d.network (on.cells.over c.world map)
+  pub guide : d.guides (on.cells.over c.world map) (c.starts k) c.goal n.guide
 
 -- what is said of a section that holds: its graph, its plan, the tokens from it on, its outcome, and the tokens after it
 abbrev pub Holding : Type 1
 Holding = Ground → (start goal plan : ℕ) → Left → Outcome → Left → Type 0
 
 -- the section of a plan does not hold on its graph, or memory ran out
-abbrev pub IsStoppedIn : Case → (plan : ℕ) → Left → SectionStop → Type 0
-IsStoppedIn c plan left (stop.Flaw f) = (n : Ground) × IsGroundAfter c plan n × IsFlawed n (from_in c plan) (to_in c plan) plan left f
-IsStoppedIn c plan left (stop.Fault f) = (f ≢ fault.NoMemory) × HasFault plan (state_count c.world.env) left f
+abbrev pub IsStoppedIn : {W : Type 0} → {on : Site W} → {d : Direction W} → Case on d → (plan : ℕ) → Left → SectionStop → Type 0
 IsStoppedIn c plan left stop.NoMemory = Unit {0}
+IsStoppedIn c plan left s = (n : Ground) × IsGroundAfter c plan n × IsSectionStop n (from_in c plan) (to_in c plan) plan left s
 
 -- The tokens that are left stand for this number of sections more, the first that of a plan, each for the graph on the map after as
 -- many batches: those with these outcomes hold, and then it ends so. It ends well where all hold and no token is left. That
 -- memory ran out says nothing of what was to come.
-abbrev pub AreChecked : Holding → Case → (plan more : ℕ) → Left → List Outcome → Option SectionStop → Type 0
-AreChecked Holds c plan zero left [] None = left.tokens ≡ []
-AreChecked Holds c plan zero left [] (Some s) = IsTrailing left.tokens s
+abbrev pub AreChecked : {W : Type 0} → {on : Site W} → {d : Direction W} → Holding → Case on d → (plan more : ℕ) → Left → List Outcome → Option SectionStop → Type 0
+AreChecked Holds c plan zero left [] end = IsEndOfText left end
 AreChecked Holds c plan (suc more) left [] (Some s) = IsStoppedIn c plan left s
 AreChecked Holds c plan (suc more) left (o ∷ os) end =
     (n : Ground) × IsGroundAfter c plan n

@@ -13,6 +13,7 @@ use Rattle.sbpl_cli.specs.Asked.{is_determined}
 use Rattle.sbpl_cli.specs.Causes.{ArePlanned, IsJobCause, ReadsWorld}
 use Rattle.sbpl_plan.specs.declared.found.Found.{Found}
 use Rattle.sbpl_cli.specs.Headline.{ArePlans}
+use Rattle.sbpl_cli.specs.Sites.{Site}
 use Rattle.sbpl_cli.specs.Published.{Entry}
 use Rattle.sbpl_cli.specs.Intents.{Intent, Refused, Planned, Checked, Listed, Demonstrated}
 use Rattle.sbpl_cli.specs.Promises.{IsChecked, IsDemonstration}
@@ -28,16 +29,16 @@ pub record AreAlikeWorlds (w v : World) : Type 0 where
   pub map : v.map ≡ w.map
   pub radius : v.sweeps.radius ≡ w.sweeps.radius
 
--- all plans in alike worlds, over the same course and asked the same, after the same entries, by a planner whose passes are determined,
+-- all plans in alike worlds of a site, over the same course and asked the same, after the same entries, by a planner whose passes are determined,
 -- have one list of records
-abbrev pub RecordsAreOne : Type 0
-RecordsAreOne = (w v : World) (course : Course) (how : SearchJob) (outputs : Outputs) (log : List Entry) (records others : List PlanRecord) (broken also : List Found)
-    → is_determined how.planner ≡ true → AreAlikeWorlds w v → ArePlans w course how outputs records true log broken → ArePlans v course how outputs others true log also → records ≡ others
+abbrev pub RecordsAreOne : {W : Type 0} → Site W → (Alike : W → W → Type 0) → Type 0
+RecordsAreOne {W} on Alike = (w v : W) (course : Course) (how : SearchJob) (outputs : Outputs) (log : List Entry) (records others : List PlanRecord) (broken also : List Found)
+    → is_determined how.planner ≡ true → Alike w v → ArePlans on w course how outputs records true log broken → ArePlans on v course how outputs others true log also → records ≡ others
 
 -- and records of the first few plans are the first few of it
-abbrev pub FewAreFirst : Type 0
-FewAreFirst = (w v : World) (course : Course) (how : SearchJob) (outputs : Outputs) (log : List Entry) (few records : List PlanRecord) (all : Bool) (broken also : List Found)
-    → is_determined how.planner ≡ true → AreAlikeWorlds w v → ArePlans w course how outputs few all log broken → ArePlans v course how outputs records true log also
+abbrev pub FewAreFirst : {W : Type 0} → Site W → (Alike : W → W → Type 0) → Type 0
+FewAreFirst {W} on Alike = (w v : W) (course : Course) (how : SearchJob) (outputs : Outputs) (log : List Entry) (few records : List PlanRecord) (all : Bool) (broken also : List Found)
+    → is_determined how.planner ≡ true → Alike w v → ArePlans on w course how outputs few all log broken → ArePlans on v course how outputs records true log also
     → (rest : List PlanRecord) × (records ≡ few ++ rest)
 
 -- ---- what the words and the files call for

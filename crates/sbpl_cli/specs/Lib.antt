@@ -1,3 +1,5 @@
+pub mod Sites
+pub mod LatticeSite
 pub mod Asked
 pub mod Writing
 pub mod Published
@@ -5,7 +7,6 @@ pub mod Report
 pub mod Traces
 pub mod Verdicts
 pub mod Checked
-pub mod Searched
 pub mod Listing
 pub mod Intents
 pub mod Texts

@@ -13,13 +13,16 @@ use Rattle.sbpl_cost.specs.World.{IsWorld, World}
 use Rattle.sbpl_cert.specs.declared.fault.LabelFault.{LabelFault}
 use Rattle.sbpl_cert.specs.declared.flaw.Flaw.{Flaw}
 use Rattle.sbpl_cert.specs.declared.outcome.Outcome.{Outcome}
-use Rattle.sbpl_cli.specs.Asked.{Known}
+use Rattle.sbpl_cli.specs.Asked.{Known, checked_direction}
+use Rattle.sbpl_cli.specs.LatticeSite.{lattice_site}
+use Rattle.sbpl_cli.specs.Sites.{Site}
+use Rattle.sbpl_replan.specs.Directions.{Direction}
 use Rattle.sbpl_cli.specs.declared.section_check.SectionStop.{SectionStop}
 use Rattle.sbpl_cli.specs.declared.section_check.SectionStop.TheVariants as section
 use Rattle.sbpl_job.specs.declared.job.CheckJob.{CheckJob}
 use Rattle.sbpl_cli.specs.Checked.{AreChecked, Case, Holding, IsShownHolding, case_of, to_in}
 use Rattle.sbpl_plan.specs.declared.found.Found.{Found}
-use Rattle.sbpl_cli.specs.Headline.{AreRecords, Carried, IsBrokenIn, IsStateOf}
+use Rattle.sbpl_cli.specs.Headline.{AreRecords, Carried, IsBrokenIn}
 use Rattle.sbpl_cli.specs.Published.{Entry, with_paths, with_plans}
 use Rattle.sbpl_job.specs.declared.job.Job.{Job}
 use Rattle.sbpl_job.specs.declared.job.Job.TheVariants as job
@@ -63,15 +66,15 @@ pub record IsListed (before after : DeskState) (from : Sources) : Type 0 where
   pub is_world : IsWorld world
   pub lines : AreAppended before after (listing_writes world)
 
--- In a world and over a course the text of a file of labels, of the planner `back` or of another one, is checked: sections with these
--- outcomes, of searches to these goals, hold, and it ends so.
-pub record IsCheckedIn (Holds : Holding) (w : World) (course : Course) (back : Bool) (text : List ℕ) (goals : ℕ → ℕ) (os : List Outcome) (end : Option SectionStop) : Type 0 where
+-- In a world of a site and over a course the text of a file of labels, which were searched in a direction, is checked: sections with
+-- these outcomes, of searches to these goals, hold, and it ends so.
+pub record IsCheckedIn {W : Type 0} (Holds : Holding) (on : Site W) (d : Direction W) (w : W) (course : Course) (text : List ℕ) (goals : ℕ → ℕ) (os : List Outcome) (end : Option SectionStop) : Type 0 where
   pub start : ℕ
   pub goal : ℕ
-  pub start_is : IsStateOf w.env w.env.start start
-  pub goal_is : IsStateOf w.env w.env.end goal
-  pub goals_are : goals ≡ to_in (case_of w course start goal back)
-  pub checked : AreChecked Holds (case_of w course start goal back) 0 (suc (length course.batches)) (start_at text 0) os end
+  pub start_is : on.wording.starts w start
+  pub goal_is : on.wording.ends w goal
+  pub goals_are : goals ≡ to_in (case_of on d w course start goal)
+  pub checked : AreChecked Holds (case_of on d w course start goal) 0 (suc (length course.batches)) (start_at text 0) os end
 
 -- The files stand for a world and a course, and in it the file of labels is checked so. What its sections that hold say is shown, and is
 -- so, on graphs which have just the arcs that the primitives make on the map, read backwards for the planner `back`.
@@ -84,7 +87,7 @@ pub record IsChecked (held : Told) (j : CheckJob) (goals : ℕ → ℕ) (os : Li
   pub is_world : IsWorld world
   pub text : List ℕ
   pub read : IsReadText (held j.labels) text
-  pub in_world : IsCheckedIn IsShownHolding world course j.back text goals os end
+  pub in_world : IsCheckedIn IsShownHolding lattice_site (checked_direction lattice_site j.back) world course text goals os end
 
 -- sections of labels were checked, which ended so, and their lines were written
 pub record IsJudged (before after : DeskState) (end : Option SectionStop) (j : CheckJob) : Type 0 where
@@ -167,7 +170,7 @@ pub record EndsJob (before after : DeskState) (old new : List Entry) (j : Job) (
   pub published : new ≡ published_by intent old
 
 -- how the checking of this number of sections more, the first that of a plan, ends by the program's status
-pub record EndsSections (c : Case) (plan more : ℕ) (left : Left) (before after : DeskState) (status : ℕ) : Type 0 where
+pub record EndsSections {W : Type 0} {on : Site W} {d : Direction W} (c : Case on d) (plan more : ℕ) (left : Left) (before after : DeskState) (status : ℕ) : Type 0 where
   pub outcomes : List Outcome
   pub end : Option SectionStop
   pub checked : AreChecked IsShownHolding c plan more left outcomes end
@@ -175,7 +178,7 @@ pub record EndsSections (c : Case) (plan more : ℕ) (left : Left) (before after
 
 -- how the making of plans, the first of which is plan k, ends by the program's status, and what was published before it and after;
 -- what is written of a plan is given
-pub record EndsPlans (by : Known) (written_of : PlanRecord → List Write) (w : World) (batches : List (List change.Write)) (how : SearchJob) (outputs : Outputs) (starts : ℕ → ℕ) (goal k : ℕ) (log shown : List Entry) (left : Option Carried) (before after : DeskState) (status : ℕ) : Type 0 where
+pub record EndsPlans {W : Type 0} (by : Known W) (written_of : PlanRecord → List Write) (w : W) (batches : List (List change.Write)) (how : SearchJob) (outputs : Outputs) (starts : ℕ → ℕ) (goal k : ℕ) (log shown : List Entry) (left : Option Carried) (before after : DeskState) (status : ℕ) : Type 0 where
   pub records : List PlanRecord
   pub all : Bool
   pub broken : List Found

@@ -8,6 +8,8 @@ use Rattle.sbpl_cli.specs.declared.record.TraceLine.{TraceLine}
 use Rattle.sbpl_plan.specs.declared.passes.Pass.{Pass}
 use Rattle.sbpl_cli.specs.declared.record.PathStep.{PathStep}
 use Rattle.sbpl_cli.specs.declared.record.PathRecord.{PathRecord}
+use Rattle.sbpl_cli.specs.declared.record.Spot.{Spot}
+use Rattle.sbpl_cli.specs.declared.record.Spot.TheVariants as spot
 use Rattle.sbpl_plan.specs.declared.result.Outcome.{Outcome}
 use Rattle.sbpl_plan.specs.declared.result.Outcome.TheVariants as outcome
 use Rattle.sbpl_incumbent.specs.declared.entry.Entry.{Entry}
@@ -31,13 +33,18 @@ pass_text p = codes "pass " ++ (milli_text p.inflation ++ (codes " expanded " ++
 unfoldable pub place_text : Place → List ℕ
 place_text p = decimal p.x ++ (codes " " ++ (decimal p.y ++ (codes " " ++ (decimal p.t ++ line_feed))))
 
+-- where a state is, and the end of its line: a pose with its heading, or a cell
+abbrev pub spot_text : Spot → List ℕ
+spot_text (spot.Pose p) = place_text p
+spot_text (spot.Cell x y) = decimal x ++ (codes " " ++ (decimal y ++ line_feed))
+
 -- the line of a step
 unfoldable pub step_text : PathStep → List ℕ
-step_text s = codes "step " ++ (decimal s.id ++ (codes " " ++ place_text s.place))
+step_text s = codes "step " ++ (decimal s.id ++ (codes " " ++ spot_text s.spot))
 
 -- the lines of a path
 unfoldable pub path_text : PathRecord → List ℕ
-path_text p = codes "path " ++ (decimal (length p.steps) ++ (codes " cost " ++ (decimal p.cost ++ (codes " bound " ++ (milli_text p.bound ++ (line_feed ++ (codes "pose " ++ (place_text p.start ++ flat_map step_text p.steps))))))))
+path_text p = codes "path " ++ (decimal (length p.steps) ++ (codes " cost " ++ (decimal p.cost ++ (codes " bound " ++ (milli_text p.bound ++ (line_feed ++ (codes "pose " ++ (spot_text p.start ++ flat_map step_text p.steps))))))))
 
 -- the lines of a result
 abbrev pub outcome_text : Outcome PathRecord → List ℕ

@@ -2,7 +2,7 @@
 use Rattle.std.specs.Prelude.{◌≡◌, ◌≢◌, ◌⊎◌, ℕ, List, None, Option, Some}
 use Rattle.sbpl_desk.specs.Desk.{DeskState}
 use Rattle.sbpl_cli.specs.Published.{Entry}
-use Rattle.sbpl_cli.specs.Run.{AreGood, ArePrefixes, AreTold, AtJob, CallsFor, ChangeFault, CheckJob, Course, DemoJob, EndsJob, EndsWithoutMemory, EnvFault, Environment, Intent, IsCheckedIn, IsCutShort, IsDeterminedJob, IsDone, IsFaultFound, IsFirstTooDear, IsFirstTooWide, IsFlawFound, IsHolding, IsNoCheck, IsNoFailure, IsOrFailed, IsOrUnwritten, IsRefused, IsStatus, Job, NoneRose, NoneTooWide, Outcome, PrimFault, Primitives, ReadsFrom, Scope, SectionStop, SomeRose, Sources, Tells, TellsChangeFault, TellsCourse, TellsEnvironment, TellsEnvironmentFault, TellsPrimitiveFault, TellsPrimitives, TellsTooMuch, TellsWorld, World, changes_of, checked_status, intent_status, moves_in, scope_of, sources_of, words_writes, writes_of}
+use Rattle.sbpl_cli.specs.Run.{AreGood, ArePrefixes, AreTold, AtJob, CallsFor, ChangeFault, CheckJob, Course, DemoJob, EndsJob, EndsWithoutMemory, EnvFault, Environment, Intent, IsCheckedIn, IsCutShort, IsDeterminedJob, IsDone, IsFaultFound, IsFirstTooDear, IsFirstTooWide, IsFlawFound, IsHolding, IsNoCheck, IsNoFailure, IsOrFailed, IsOrUnwritten, IsRefused, IsStatus, Job, NoneRose, NoneTooWide, Outcome, PrimFault, Primitives, ReadsFrom, Scope, SectionStop, SomeRose, Sources, Tells, TellsChangeFault, TellsCourse, TellsEnvironment, TellsEnvironmentFault, TellsPrimitiveFault, TellsPrimitives, TellsTooMuch, TellsWorld, World, changes_of, checked_direction, checked_status, intent_status, lattice_site, moves_in, scope_of, sources_of, words_writes, writes_of}
 use Rattle.sbpl_cli.specs.Writing.{AreAppended, IsCutAt, RunsOutAt, Stays}
 use Rattle.sbpl_cli.specs.declared.section_check.SectionStop.TheVariants as Stops
 use Rattle.sbpl_job.specs.declared.job.Job.TheVariants as Jobs
@@ -50,7 +50,7 @@ pub record RunPromises (named : Option Job) (before after : DeskState) (old new 
   pub complete : (job : Job) (from : Sources) (s : Scope) (c : Course) → named ≡ Some job → sources_of job ≡ Some from → AreGood before.held from (moves_in job) s → TellsCourse before.held (changes_of job) s c → IsNoCheck job → IsOrFailed 0 status
   pub demonstrated : (d : DemoJob) → named ≡ Some (Jobs.Demo d) → IsOrUnwritten 0 status
   -- The job `check` ends as the labels do in the world that the files stand for, unless the desk fails or memory runs out.
-  pub checked : (j : CheckJob) (w : World) (c : Course) (text : List ℕ) (goals : ℕ → ℕ) (os : List Outcome) (end : Option SectionStop) → named ≡ Some (Jobs.Check j) → TellsWorld before.held j.sources w → TellsCourse before.held j.changes (scope_of j.back w) c → Tells (before.held j.labels) text → IsCheckedIn IsHolding w c j.back text goals os end → end ≢ Some Stops.NoMemory → IsOrFailed (checked_status end) status
+  pub checked : (j : CheckJob) (w : World) (c : Course) (text : List ℕ) (goals : ℕ → ℕ) (os : List Outcome) (end : Option SectionStop) → named ≡ Some (Jobs.Check j) → TellsWorld before.held j.sources w → TellsCourse before.held j.changes (scope_of j.back w) c → Tells (before.held j.labels) text → IsCheckedIn IsHolding lattice_site (checked_direction lattice_site j.back) w c text goals os end → end ≢ Some Stops.NoMemory → IsOrFailed (checked_status end) status
   pub labels_long : (j : CheckJob) (w : World) (c : Course) → named ≡ Some (Jobs.Check j) → TellsWorld before.held j.sources w → TellsCourse before.held j.changes (scope_of j.back w) c → TellsTooMuch (before.held j.labels) → IsOrFailed 8 status
   -- Where no read or write failed and memory did not run out, the words and the files call for something, so the next clause never
   -- stands empty. Plans by a planner whose passes are not determined are not called for.

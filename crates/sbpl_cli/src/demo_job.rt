@@ -7,6 +7,7 @@ ghost use Rattle.sbpl_demo.specs.Changes.{changes_drawn};
 ghost use Rattle.sbpl_job.specs.Jobs.{IsDemoJob};
 ghost use Rattle.sbpl_job.specs.declared.job.Job.TheVariants as Jobs;
 ghost use Rattle.sbpl_cli.specs.Causes.{IsCourseIn, IsDrawn, demo_search};
+ghost use Rattle.sbpl_cli.specs.LatticeSite.{lattice_site};
 ghost use Rattle.sbpl_cli.specs.Promises.{EndsJob};
 ghost use Rattle.sbpl_cli.specs.Report.{demo_text};
 ghost use Rattle.sbpl_cli.specs.Texts.{still};
@@ -15,10 +16,10 @@ ghost use Rattle.sbpl_cli.specs.Writing.{EndsIn, IsOutput, WritesOnly, to_output
 use crate::course::Course;
 use crate::drawn::draw;
 use crate::planners::plans_by_adstar;
-use crate::poses::ends_of;
 use crate::publishing::LiveBoard;
 use crate::report::demo_line;
 use crate::telling::Lines;
+use crate::workspace::Workspace;
 use crate::writing::{OUTPUT, status_after, write_text};
 use sbpl_cost::Lattice;
 use sbpl_desk::{Desk, WriteStop};
@@ -79,14 +80,14 @@ fn demonstrate<D: Desk, W: Wait>(
     requires drawn { IsDrawn job.now lattice.old }
     requires course { course.now ≡ still (changes_drawn job.now.width job.now.height job.now.seed) }
     requires kept { IsWorld lattice.old }
-    requires in_world { IsCourseIn false lattice.old course.now }
+    requires in_world { IsCourseIn lattice_site false lattice.old course.now }
     requires board { publisher.old.board ≡ live.now.board.now }
     requires few { length publisher.old.published < 2 ^ 62 }
     ensures ends { EndsJob (D.state desk.old) (D.state desk.new) publisher.old.published publisher.new.published (Jobs.Demo job.now) result }
     ensures board { publisher.new.board ≡ publisher.old.board }
     ensures frame { WritesOnly IsOutput (D.state desk.old) (D.state desk.new) }
 {
-    let (start, goal) = ends_of(lattice);
+    let (start, goal) = lattice.ends();
     if let Err(stop) = write_first(alloc, lattice, &course.batches, desk) {
         return status_after(Err(stop), 9);
     }

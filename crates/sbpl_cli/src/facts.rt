@@ -2,7 +2,8 @@
 //! passes are determined; and that no write is empty.
 
 ghost use Rattle.sbpl_cli.specs.Clear.{SectionsAreClear, TextsAreClear};
-ghost use Rattle.sbpl_cli.specs.Determined.{FewAreFirst, RecordsAreOne};
+ghost use Rattle.sbpl_cli.specs.Determined.{AreAlikeWorlds, FewAreFirst, RecordsAreOne};
+ghost use Rattle.sbpl_cli.specs.LatticeSite.{lattice_site};
 ghost use Rattle.sbpl_cli.specs.WriteTexts.{WritesAreCounted, WritesHaveTexts};
 
 use sbpl_adstar::AdStar;
@@ -38,8 +39,8 @@ pub fn texts_are_clear()
 /// its path, cost and bound, what was spent, and the final labels. Records of the first few plans are the first of them. It
 /// does nothing.
 pub fn records_are_determined()
-    ensures law { RecordsAreOne }
-    ensures few { FewAreFirst }
+    ensures law { RecordsAreOne lattice_site AreAlikeWorlds }
+    ensures few { FewAreFirst lattice_site AreAlikeWorlds }
 {
     run_is_determined();
     plan_is_determined::<Lattice, Best, Ara>();

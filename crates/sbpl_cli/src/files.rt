@@ -1,6 +1,7 @@
 //! The files that a lattice is made of and the change file, read and judged.
 
 ghost use Rattle.std.specs.Prelude.{◌≡◌, ◌≢◌, ◌≤◌, ◌^◌, [], false, true, List, ℕ, length, IfOk, IfErr};
+ghost use Rattle.sbpl_cli.specs.LatticeSite.{lattice_site};
 ghost use Rattle.sbpl_cli.specs.Causes.{ChangesStopFor, IsChangesRefused, IsEnvironmentRefused, IsPrimitivesRefused, IsReadText, IsUnread, LatticeStopsFor, PrimitivesStopFor, IsCourseIn, ReadsCourse, ReadsEnvironment, ReadsPrimitives, scope_of};
 ghost use Rattle.sbpl_cli.specs.Texts.{HasChangeFault, IsChangeText, IsEnvironmentText, IsPrimitiveText, Scope};
 ghost use Rattle.sbpl_map.specs.declared.fault.ChangeFault.TheVariants as ChangeFaults;
@@ -104,7 +105,7 @@ fn stop_for(fault: ChangeFault) -> Stop
 fn judge_still(alloc: Global, text: &[u8], lattice: &Lattice) -> Result<Course, Stop>
     requires short { length text.now ≤ 2 ^ 30 }
     ensures stands { IfOk result (IsChangeText (scope_of false lattice.now) text.now) }
-    ensures in_world { IfOk result (IsCourseIn false lattice.now) }
+    ensures in_world { IfOk result (IsCourseIn lattice_site false lattice.now) }
     ensures stop { IfErr result (IsChangesRefused (scope_of false lattice.now) text.now) }
 {
     match read_changes(alloc, text, lattice.map()) {
@@ -120,7 +121,7 @@ fn judge_still(alloc: Global, text: &[u8], lattice: &Lattice) -> Result<Course, 
 fn judge_moving(alloc: Global, text: &[u8], lattice: &Lattice) -> Result<Course, Stop>
     requires short { length text.now ≤ 2 ^ 30 }
     ensures stands { IfOk result (IsChangeText (scope_of true lattice.now) text.now) }
-    ensures in_world { IfOk result (IsCourseIn true lattice.now) }
+    ensures in_world { IfOk result (IsCourseIn lattice_site true lattice.now) }
     ensures stop { IfErr result (IsChangesRefused (scope_of true lattice.now) text.now) }
 {
     match read_moves(alloc, text, lattice.map(), lattice.env().headings) {
@@ -152,7 +153,7 @@ pub(crate) fn read_change_file<D: Desk>(
     desk: &mut D,
 ) -> Result<Course, Stop>
     ensures says { IfOk result (ReadsCourse (D.state desk.old).held changes.now (scope_of moving lattice.now)) }
-    ensures in_world { IfOk result (IsCourseIn moving lattice.now) }
+    ensures in_world { IfOk result (IsCourseIn lattice_site moving lattice.now) }
     ensures stop { IfErr result (ChangesStopFor (D.state desk.old) (D.state desk.new) changes.now (scope_of moving lattice.now)) }
     ensures frame { ReadsOnly (D.state desk.old) (D.state desk.new) }
 {

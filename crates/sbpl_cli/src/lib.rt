@@ -3,6 +3,7 @@
 
 mod check_job;
 mod check_lines;
+mod check_next;
 mod course;
 mod demo_job;
 mod drawn;
@@ -22,6 +23,7 @@ mod recorded;
 mod refusal;
 mod refusal_lines;
 mod report;
+mod searched;
 mod section_check;
 mod sections;
 mod sweep_job;
@@ -29,12 +31,13 @@ mod sweep_lines;
 mod telling;
 mod top;
 mod trace;
+mod workspace;
 mod writing;
 
 pub use course::Course;
 pub use facts::{records_are_determined, texts_are_clear, writes_have_texts};
 pub use parts::Steps;
-pub use record::{PathRecord, PathStep, PlanRecord, Raised, TraceLine};
+pub use record::{PathRecord, PathStep, PlanRecord, Raised, Spot, TraceLine};
 pub use refusal::{Input, Refusal};
 pub use sbpl_epase::{Gate, NoGate};
 pub use sbpl_incumbent::{Board, Entry, Publisher};

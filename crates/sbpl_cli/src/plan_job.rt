@@ -9,9 +9,9 @@ ghost use Rattle.sbpl_cli.specs.Writing.{IsOutputOf, ReadsOnly, WritesOnly};
 
 use crate::lattice::read_course;
 use crate::planners::make_plans;
-use crate::poses::ends_of;
 use crate::publishing::LiveBoard;
 use crate::refusal::Stop;
+use crate::workspace::Workspace;
 use sbpl_desk::Desk;
 use sbpl_epase::Gate;
 use sbpl_incumbent::Publisher;
@@ -41,7 +41,7 @@ pub(crate) fn end_plan<R: Threads + Wait + Sync, D: Desk, T: Gate + Sync>(
 {
     let moving = job.search.planner.may_move();
     let (mut lattice, course) = read_course(alloc, &job.sources, &job.changes, moving, desk)?;
-    let (start, goal) = ends_of(&lattice);
+    let (start, goal) = lattice.ends();
     let status = make_plans(
         gate,
         alloc,

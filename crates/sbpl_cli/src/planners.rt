@@ -4,15 +4,16 @@ ghost use Rattle.std.specs.Prelude.{◌≡◌, ◌^◌, ◌<◌, ◌≤◌, [], 
 ghost use Rattle.sbpl_cost.specs.Lattices.{network_of};
 ghost use Rattle.sbpl_cost.specs.World.{IsWorld};
 ghost use Rattle.sbpl_epase.specs.Making.{CanPass, Leaves};
-ghost use Rattle.sbpl_heur.specs.Bests.{IsGuide, distance_in};
 ghost use Rattle.sbpl_job.specs.Jobs.{IsSearchJob, may_move};
 ghost use Rattle.sbpl_labels.specs.Marks.{AreInitial};
 ghost use Rattle.sbpl_search.specs.Ready.{IsStartFresh};
 ghost use Rattle.sbpl_job.specs.declared.job.Planner.TheVariants as Planners;
 ghost use Rattle.sbpl_search.specs.Query.{query};
-ghost use Rattle.sbpl_cli.specs.Asked.{known, lattice_forwards};
+ghost use Rattle.sbpl_cli.specs.Asked.{known};
 ghost use Rattle.sbpl_cli.specs.Causes.{IsCourseIn};
-ghost use Rattle.sbpl_cli.specs.Headline.{start_after};
+ghost use Rattle.sbpl_cli.specs.LatticeSite.{lattice_site, lattice_wording};
+ghost use Rattle.sbpl_cli.specs.Sites.{site_of, start_after};
+ghost use Rattle.sbpl_replan.specs.Directions.{forwards};
 ghost use Rattle.sbpl_cli.specs.Promises.{EndsPlans};
 ghost use Rattle.sbpl_cli.specs.Writing.{WritesOnly};
 
@@ -21,6 +22,7 @@ use crate::plans::go_through;
 use crate::publishing::LiveBoard;
 use crate::telling::Telling;
 use crate::trace::Traced;
+use crate::workspace::Workspace;
 use sbpl_adstar::AdStar;
 use sbpl_ara::Ara;
 use sbpl_cost::Lattice;
@@ -28,53 +30,52 @@ use sbpl_desk::Desk;
 use sbpl_epase::{Epase, Gate, Parts, parallel_pass_parts};
 use sbpl_fixed::NoMemory;
 use sbpl_graph::Graph;
-use sbpl_heur::Best;
 use sbpl_incumbent::Publisher;
 use sbpl_job::{Outputs, Planner, SearchJob};
-use sbpl_replan::{BackReplanner, LatticeReplanner};
+use sbpl_replan::{BackReplanner, Replanner};
 use sbpl_search::Search;
 use std::alloc::Global;
 use std::sync::Wait;
 use std::thread::Threads;
 
-/// Makes and tells the plans on a lattice from its start by a search whose labels are initial, as `make_plans` does.
-fn plans_by<D: Desk, T: Telling, S: Search<Lattice, Best> + Drop, W: Wait>(
+/// Makes and tells the plans from the start by a search whose labels are initial, as `make_plans` does.
+fn plans_by<D: Desk, T: Telling, W: Workspace, S: Search<W, W::Best> + Drop, B: Wait>(
     alloc: Global,
-    lattice: &mut Lattice,
+    world: &mut W,
     course: &Course,
     search: S,
     how: &SearchJob,
     outputs: &Outputs,
     start: u32,
     goal: u32,
-    live: &LiveBoard<W>,
+    live: &LiveBoard<B>,
     publisher: &mut Publisher,
     telling: &T,
     desk: &mut D,
 ) -> u8
 where
     S::Note: Traced,
-    requires start { start < (network_of lattice.old).states }
-    requires goal { goal < (network_of lattice.old).states }
+    requires start { start < (W.network world.old).states }
+    requires goal { goal < (W.network world.old).states }
     requires board { publisher.old.board ≡ live.now.board.now }
     requires few { length publisher.old.published < 2 ^ 62 }
     requires search { IsSearchJob how.now }
-    requires kept { IsWorld lattice.old }
-    requires course { IsCourseIn false lattice.old course.now }
-    requires initial { AreInitial (S.state search).labels (network_of lattice.old).states start }
+    requires kept { W.cells.is_made world.old }
+    requires course { IsCourseIn (site_of W.network W.cells W.Best.says W.wording) false world.old course.now }
+    requires initial { AreInitial (S.state search).labels (W.network world.old).states start }
     requires none_raised { (S.state search).raised ≡ [] }
-    requires ready { S.meaning.ready (network_of lattice.old) (S.state search).labels 0 }
+    requires ready { S.meaning.ready (W.network world.old) (S.state search).labels 0 }
     requires to_goal { (S.state search).goal ≡ goal }
     requires fresh { IsStartFresh (S.state search).labels }
     requires serves { S.serves search }
-    ensures ends { EndsPlans (record { Note = S.Note; means = S.meaning; line = S.Note.line; direction = lattice_forwards }) (T.written telling.now) lattice.old course.now.batches how.now outputs.now (start_after lattice.old.env start course.now.moves) goal 0 publisher.old.published publisher.new.published None (D.state desk.old) (D.state desk.new) result }
+    ensures ends { EndsPlans (record { on = site_of W.network W.cells W.Best.says W.wording; Note = S.Note; means = S.meaning; line = S.Note.line; direction = forwards W.network W.Best.says }) (T.written telling.now) world.old course.now.batches how.now outputs.now (start_after W.wording world.old start course.now.moves) goal 0 publisher.old.published publisher.new.published None (D.state desk.old) (D.state desk.new) result }
     ensures board { publisher.new.board ≡ publisher.old.board }
     ensures frame { WritesOnly (T.under telling.now) (D.state desk.old) (D.state desk.new) }
 {
-    match LatticeReplanner::new(alloc, lattice, search, goal, how.budget) {
+    match Replanner::new(alloc, world, search, goal, how.budget) {
         Ok(mut replanner) => go_through(
             alloc,
-            lattice,
+            world,
             course,
             &mut replanner,
             how,
@@ -90,69 +91,68 @@ where
     }
 }
 
-/// Makes and tells the plans on a lattice by ARA*, as `make_plans` does.
-fn plans_by_ara<D: Desk, T: Telling, W: Wait>(
+/// Makes and tells the plans by ARA*, as `make_plans` does.
+fn plans_by_ara<D: Desk, T: Telling, W: Workspace, B: Wait>(
     alloc: Global,
-    lattice: &mut Lattice,
+    world: &mut W,
     course: &Course,
     how: &SearchJob,
     outputs: &Outputs,
     start: u32,
     goal: u32,
-    live: &LiveBoard<W>,
+    live: &LiveBoard<B>,
     publisher: &mut Publisher,
     telling: &T,
     desk: &mut D,
 ) -> u8
-    requires start { start < (network_of lattice.old).states }
-    requires goal { goal < (network_of lattice.old).states }
+    requires start { start < (W.network world.old).states }
+    requires goal { goal < (W.network world.old).states }
     requires board { publisher.old.board ≡ live.now.board.now }
     requires few { length publisher.old.published < 2 ^ 62 }
     requires search { IsSearchJob how.now }
-    requires kept { IsWorld lattice.old }
-    requires course { IsCourseIn false lattice.old course.now }
-    ensures ends { EndsPlans (known Planners.Ara) (T.written telling.now) lattice.old course.now.batches how.now outputs.now (start_after lattice.old.env start course.now.moves) goal 0 publisher.old.published publisher.new.published None (D.state desk.old) (D.state desk.new) result }
+    requires kept { W.cells.is_made world.old }
+    requires course { IsCourseIn (site_of W.network W.cells W.Best.says W.wording) false world.old course.now }
+    ensures ends { EndsPlans (known (site_of W.network W.cells W.Best.says W.wording) Planners.Ara) (T.written telling.now) world.old course.now.batches how.now outputs.now (start_after W.wording world.old start course.now.moves) goal 0 publisher.old.published publisher.new.published None (D.state desk.old) (D.state desk.new) result }
     ensures board { publisher.new.board ≡ publisher.old.board }
     ensures frame { WritesOnly (T.under telling.now) (D.state desk.old) (D.state desk.new) }
 {
-    match Ara::open(alloc, lattice.states(), start, goal) {
+    match Ara::open(alloc, world.states(), start, goal) {
         Ok(search) => plans_by(
-            alloc, lattice, course, search, how, outputs, start, goal, live, publisher, telling,
-            desk,
+            alloc, world, course, search, how, outputs, start, goal, live, publisher, telling, desk,
         ),
         Err(NoMemory) => 9,
     }
 }
 
-/// Makes and tells the plans on a lattice by Anytime D*, as `make_plans` does.
-pub(crate) fn plans_by_adstar<D: Desk, T: Telling, W: Wait>(
+/// Makes and tells the plans by Anytime D*, as `make_plans` does.
+pub(crate) fn plans_by_adstar<D: Desk, T: Telling, W: Workspace, B: Wait>(
     alloc: Global,
-    lattice: &mut Lattice,
+    world: &mut W,
     course: &Course,
     how: &SearchJob,
     outputs: &Outputs,
     start: u32,
     goal: u32,
-    live: &LiveBoard<W>,
+    live: &LiveBoard<B>,
     publisher: &mut Publisher,
     telling: &T,
     desk: &mut D,
 ) -> u8
-    requires start { start < (network_of lattice.old).states }
-    requires goal { goal < (network_of lattice.old).states }
+    requires start { start < (W.network world.old).states }
+    requires goal { goal < (W.network world.old).states }
     requires board { publisher.old.board ≡ live.now.board.now }
     requires few { length publisher.old.published < 2 ^ 62 }
     requires search { IsSearchJob how.now }
-    requires kept { IsWorld lattice.old }
-    requires course { IsCourseIn false lattice.old course.now }
-    ensures ends { EndsPlans (known Planners.AdStar) (T.written telling.now) lattice.old course.now.batches how.now outputs.now (start_after lattice.old.env start course.now.moves) goal 0 publisher.old.published publisher.new.published None (D.state desk.old) (D.state desk.new) result }
+    requires kept { W.cells.is_made world.old }
+    requires course { IsCourseIn (site_of W.network W.cells W.Best.says W.wording) false world.old course.now }
+    ensures ends { EndsPlans (known (site_of W.network W.cells W.Best.says W.wording) Planners.AdStar) (T.written telling.now) world.old course.now.batches how.now outputs.now (start_after W.wording world.old start course.now.moves) goal 0 publisher.old.published publisher.new.published None (D.state desk.old) (D.state desk.new) result }
     ensures board { publisher.new.board ≡ publisher.old.board }
     ensures frame { WritesOnly (T.under telling.now) (D.state desk.old) (D.state desk.new) }
 {
-    match Ara::open(alloc, lattice.states(), start, goal) {
+    match Ara::open(alloc, world.states(), start, goal) {
         Ok(ara) => plans_by(
             alloc,
-            lattice,
+            world,
             course,
             AdStar::from(ara),
             how,
@@ -169,7 +169,7 @@ pub(crate) fn plans_by_adstar<D: Desk, T: Telling, W: Wait>(
 }
 
 /// Makes and tells the plans on a lattice by Anytime D* from the goal to where the robot is, as `make_plans` does.
-fn plans_by_back<D: Desk, T: Telling, W: Wait>(
+fn plans_by_back<D: Desk, T: Telling, B: Wait>(
     alloc: Global,
     lattice: &mut Lattice,
     course: &Course,
@@ -177,7 +177,7 @@ fn plans_by_back<D: Desk, T: Telling, W: Wait>(
     outputs: &Outputs,
     start: u32,
     goal: u32,
-    live: &LiveBoard<W>,
+    live: &LiveBoard<B>,
     publisher: &mut Publisher,
     telling: &T,
     desk: &mut D,
@@ -188,8 +188,8 @@ fn plans_by_back<D: Desk, T: Telling, W: Wait>(
     requires few { length publisher.old.published < 2 ^ 62 }
     requires search { IsSearchJob how.now }
     requires kept { IsWorld lattice.old }
-    requires course { IsCourseIn true lattice.old course.now }
-    ensures ends { EndsPlans (known Planners.Back) (T.written telling.now) lattice.old course.now.batches how.now outputs.now (start_after lattice.old.env start course.now.moves) goal 0 publisher.old.published publisher.new.published None (D.state desk.old) (D.state desk.new) result }
+    requires course { IsCourseIn lattice_site true lattice.old course.now }
+    ensures ends { EndsPlans (known lattice_site Planners.Back) (T.written telling.now) lattice.old course.now.batches how.now outputs.now (start_after lattice_wording lattice.old start course.now.moves) goal 0 publisher.old.published publisher.new.published None (D.state desk.old) (D.state desk.new) result }
     ensures board { publisher.new.board ≡ publisher.old.board }
     ensures frame { WritesOnly (T.under telling.now) (D.state desk.old) (D.state desk.new) }
 {
@@ -216,11 +216,17 @@ fn plans_by_back<D: Desk, T: Telling, W: Wait>(
     }
 }
 
-/// Makes and tells the plans on a lattice by ePA*SE with the workers of the job, as `make_plans` does.
-fn plans_by_epase<R: Threads + Wait + Sync, G: Gate + Sync, D: Desk, T: Telling>(
+/// Makes and tells the plans by ePA*SE with the workers of the job, as `make_plans` does.
+fn plans_by_epase<
+    R: Threads + Wait + Sync,
+    G: Gate + Sync,
+    D: Desk,
+    T: Telling,
+    W: Workspace + Sync,
+>(
     gate: &G,
     alloc: Global,
-    lattice: &mut Lattice,
+    world: &mut W,
     course: &Course,
     how: &SearchJob,
     outputs: &Outputs,
@@ -231,35 +237,85 @@ fn plans_by_epase<R: Threads + Wait + Sync, G: Gate + Sync, D: Desk, T: Telling>
     telling: &T,
     desk: &mut D,
 ) -> u8
-    requires start { start < (network_of lattice.old).states }
-    requires goal { goal < (network_of lattice.old).states }
+where
+    W::Best: Sync,
+    requires start { start < (W.network world.old).states }
+    requires goal { goal < (W.network world.old).states }
     requires board { publisher.old.board ≡ live.now.board.now }
     requires few { length publisher.old.published < 2 ^ 62 }
     requires search { IsSearchJob how.now }
-    requires kept { IsWorld lattice.old }
-    requires course { IsCourseIn false lattice.old course.now }
-    ensures ends { EndsPlans (known Planners.Epase) (T.written telling.now) lattice.old course.now.batches how.now outputs.now (start_after lattice.old.env start course.now.moves) goal 0 publisher.old.published publisher.new.published None (D.state desk.old) (D.state desk.new) result }
+    requires kept { W.cells.is_made world.old }
+    requires course { IsCourseIn (site_of W.network W.cells W.Best.says W.wording) false world.old course.now }
+    ensures ends { EndsPlans (known (site_of W.network W.cells W.Best.says W.wording) Planners.Epase) (T.written telling.now) world.old course.now.batches how.now outputs.now (start_after W.wording world.old start course.now.moves) goal 0 publisher.old.published publisher.new.published None (D.state desk.old) (D.state desk.new) result }
     ensures board { publisher.new.board ≡ publisher.old.board }
     ensures frame { WritesOnly (T.under telling.now) (D.state desk.old) (D.state desk.new) }
 {
     let rt = live.rt;
     let workers = how.workers;
-    let make = move |alloc: Global, graph: &Lattice, guide: &Best, parts: Parts, goal: u32, eps: u32, keeps: bool|
+    let make = move |alloc: Global, graph: &W, guide: &W::Best, parts: Parts, goal: u32, eps: u32, keeps: bool|
         requires some { 1 ≤ workers }
         requires few { workers ≤ 64 }
-        requires can { CanPass (query (network_of graph.now) (distance_in guide.now) eps goal) (IsGuide (network_of graph.now) goal guide.now) parts }
-        ensures left { Leaves (query (network_of graph.now) (distance_in guide.now) eps goal) parts keeps result }
+        requires can { CanPass (query (W.network graph.now) (W.Best.distance guide.now) eps goal) (W.Best.guides guide.now (W.network graph.now) goal) parts }
+        ensures left { Leaves (query (W.network graph.now) (W.Best.distance guide.now) eps goal) parts keeps result }
     {
         parallel_pass_parts(
             rt, gate, workers, alloc, graph, guide, parts, goal, eps, keeps,
         )
     };
-    match Epase::open(alloc, make, lattice.states(), start, goal) {
+    match Epase::open(alloc, make, world.states(), start, goal) {
         Ok(search) => plans_by(
-            alloc, lattice, course, search, how, outputs, start, goal, live, publisher, telling,
-            desk,
+            alloc, world, course, search, how, outputs, start, goal, live, publisher, telling, desk,
         ),
         Err(NoMemory) => 9,
+    }
+}
+
+/// Makes and tells the plans by a planner that goes from the start, as `make_plans` does.
+pub(crate) fn plans_forwards<
+    R: Threads + Wait + Sync,
+    G: Gate + Sync,
+    D: Desk,
+    T: Telling,
+    W: Workspace + Sync,
+>(
+    gate: &G,
+    alloc: Global,
+    world: &mut W,
+    course: &Course,
+    how: &SearchJob,
+    outputs: &Outputs,
+    start: u32,
+    goal: u32,
+    live: &LiveBoard<R>,
+    publisher: &mut Publisher,
+    telling: &T,
+    desk: &mut D,
+) -> u8
+where
+    W::Best: Sync,
+    requires start { start < (W.network world.old).states }
+    requires goal { goal < (W.network world.old).states }
+    requires board { publisher.old.board ≡ live.now.board.now }
+    requires few { length publisher.old.published < 2 ^ 62 }
+    requires search { IsSearchJob how.now }
+    requires kept { W.cells.is_made world.old }
+    requires course { IsCourseIn (site_of W.network W.cells W.Best.says W.wording) false world.old course.now }
+    requires forwards { may_move how.now.planner ≡ false }
+    ensures ends { EndsPlans (known (site_of W.network W.cells W.Best.says W.wording) how.now.planner) (T.written telling.now) world.old course.now.batches how.now outputs.now (start_after W.wording world.old start course.now.moves) goal 0 publisher.old.published publisher.new.published None (D.state desk.old) (D.state desk.new) result }
+    ensures board { publisher.new.board ≡ publisher.old.board }
+    ensures frame { WritesOnly (T.under telling.now) (D.state desk.old) (D.state desk.new) }
+{
+    match how.planner {
+        Planner::Ara => plans_by_ara(
+            alloc, world, course, how, outputs, start, goal, live, publisher, telling, desk,
+        ),
+        Planner::AdStar => plans_by_adstar(
+            alloc, world, course, how, outputs, start, goal, live, publisher, telling, desk,
+        ),
+        Planner::Epase => plans_by_epase(
+            gate, alloc, world, course, how, outputs, start, goal, live, publisher, telling, desk,
+        ),
+        Planner::Back => unreachable!(),
     }
 }
 
@@ -285,23 +341,17 @@ pub(crate) fn make_plans<R: Threads + Wait + Sync, G: Gate + Sync, D: Desk, T: T
     requires few { length publisher.old.published < 2 ^ 62 }
     requires search { IsSearchJob how.now }
     requires kept { IsWorld lattice.old }
-    requires course { IsCourseIn (may_move how.now.planner) lattice.old course.now }
-    ensures ends { EndsPlans (known how.now.planner) (T.written telling.now) lattice.old course.now.batches how.now outputs.now (start_after lattice.old.env start course.now.moves) goal 0 publisher.old.published publisher.new.published None (D.state desk.old) (D.state desk.new) result }
+    requires course { IsCourseIn lattice_site (may_move how.now.planner) lattice.old course.now }
+    ensures ends { EndsPlans (known lattice_site how.now.planner) (T.written telling.now) lattice.old course.now.batches how.now outputs.now (start_after lattice_wording lattice.old start course.now.moves) goal 0 publisher.old.published publisher.new.published None (D.state desk.old) (D.state desk.new) result }
     ensures board { publisher.new.board ≡ publisher.old.board }
     ensures frame { WritesOnly (T.under telling.now) (D.state desk.old) (D.state desk.new) }
 {
-    match how.planner {
-        Planner::Ara => plans_by_ara(
+    if how.planner.may_move() {
+        return plans_by_back(
             alloc, lattice, course, how, outputs, start, goal, live, publisher, telling, desk,
-        ),
-        Planner::AdStar => plans_by_adstar(
-            alloc, lattice, course, how, outputs, start, goal, live, publisher, telling, desk,
-        ),
-        Planner::Back => plans_by_back(
-            alloc, lattice, course, how, outputs, start, goal, live, publisher, telling, desk,
-        ),
-        Planner::Epase => plans_by_epase(
-            gate, alloc, lattice, course, how, outputs, start, goal, live, publisher, telling, desk,
-        ),
+        );
     }
+    plans_forwards(
+        gate, alloc, lattice, course, how, outputs, start, goal, live, publisher, telling, desk,
+    )
 }

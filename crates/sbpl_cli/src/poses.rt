@@ -1,39 +1,53 @@
-//! The states between which a job plans.
+//! The lattice, whose states are poses, as what a job plans on.
 
-ghost use Rattle.std.specs.Prelude.{◌≡◌, ◌<◌, IfSome};
-ghost use Rattle.sbpl_cost.specs.Lattices.{network_of};
-ghost use Rattle.sbpl_map.specs.ChangeText.{IsPlaceOnMap};
-ghost use Rattle.sbpl_cli.specs.Headline.{IsStateOf};
-ghost use Rattle.sbpl_cli.specs.Planning.{state_or};
-
+use crate::record::{PathStep, Spot};
+use crate::workspace::Workspace;
 use sbpl_cfg::{Place, place_at};
-use sbpl_cost::Lattice;
+use sbpl_cost::{Lattice, lattice_has_its_arcs, lattice_tails_are_in_order};
+use sbpl_graph::Graph;
+use sbpl_heur::Best;
+use sbpl_terrain::Terrain;
 
-/// The state of the start of a lattice's environment and that of its end.
-pub(crate) fn ends_of(lattice: &Lattice) -> (u32, u32)
-    ensures start { IsStateOf lattice.now.env lattice.now.env.start result.0 }
-    ensures goal { IsStateOf lattice.now.env lattice.now.env.end result.1 }
-    ensures start_inside { result.0 < (network_of lattice.now).states }
-    ensures goal_inside { result.1 < (network_of lattice.now).states }
-{
-    let env = lattice.env();
-    let start = place_at(env, &env.start).unwrap();
-    let goal = place_at(env, &env.end).unwrap();
-    let start = lattice.state_of(&start).unwrap();
-    let goal = lattice.state_of(&goal).unwrap();
-    (start, goal)
-}
+impl Workspace for Lattice {
+    ghost use Rattle.std.proofs.Common.{refl};
+    ghost use Rattle.sbpl_cli.specs.LatticeSite.{lattice_wording};
 
-/// The state of a place, or `start` where no place is given.
-pub(crate) fn start_at(lattice: &Lattice, place: Option<Place>, start: u32) -> u32
-    requires place { IsPlaceOnMap lattice.now.map lattice.now.env.headings place }
-    requires start { start < (network_of lattice.now).states }
-    ensures state { result ≡ state_or lattice.now.env place start }
-    ensures inside { result < (network_of lattice.now).states }
-{
-    let _map = lattice.map();
-    match place {
-        Some(place) => lattice.state_of(&place).unwrap(),
-        None => start,
+    type Best = Best;
+
+    ghost wording = { lattice_wording };
+
+    fn ends(&self) -> (u32, u32) {
+        let env = self.env();
+        let start = place_at(env, &env.start).unwrap();
+        let goal = place_at(env, &env.end).unwrap();
+        let start = self.state_of(&start).unwrap();
+        let goal = self.state_of(&goal).unwrap();
+        (start, goal)
     }
+
+    fn spot(&self, state: u32) -> Spot {
+        Spot::Pose(self.place_of(state))
+    }
+
+    fn step(&self, from: u32, arc: u32) -> (u32, PathStep) {
+        let id = self.prim_id(self.prim_of(from, arc));
+        let head = self.head(from, arc).unwrap();
+        let spot = Spot::Pose(self.place_of(head));
+        (head, PathStep { id, spot })
+    }
+
+    fn start_at(&self, place: Option<Place>, start: u32) -> u32 {
+        let _map = self.map();
+        match place {
+            Some(place) => self.state_of(&place).unwrap(),
+            None => start,
+        }
+    }
+
+    fn has_its_arcs() {
+        lattice_has_its_arcs();
+        lattice_tails_are_in_order();
+    }
+
+    ghost places_stay = { λ w m. record { headings = refl; state = refl } };
 }

@@ -7,11 +7,21 @@ use sbpl_incumbent::Entry;
 use sbpl_list::ListOf;
 use sbpl_plan::{Arcs, Outcome, Passes};
 
-/// One step of a path: the primitive's id and the place where it ends.
+/// Where a state is, as a report tells it.
+#[derive(Clone, Copy)]
+pub enum Spot {
+    /// A cell and a heading.
+    Pose(Place),
+    /// A cell: its column and its row.
+    Cell(u32, u32),
+}
+
+/// One step of a path: the number by which the environment's files name the motion, and where it ends.
 #[derive(Clone, Copy)]
 pub struct PathStep {
+    /// On a lattice the primitive's id.
     pub id: u32,
-    pub place: Place,
+    pub spot: Spot,
 }
 
 /// A line of a trace: one thing that a planner noted.
@@ -44,8 +54,8 @@ pub struct PathRecord {
     pub cost: u64,
     /// Its bound, in thousandths.
     pub bound: u128,
-    /// The place of the start.
-    pub start: Place,
+    /// Where it starts.
+    pub start: Spot,
     /// Its steps, from the start.
     pub steps: Steps,
     /// Its arc numbers, from the start.

@@ -13,25 +13,26 @@ ghost use Rattle.sbpl_cli.specs.Headline.{IsTurned};
 ghost use Rattle.sbpl_cli.specs.Shown.{IsShown, IsThere};
 
 use crate::labels::labels_of;
+use crate::workspace::Workspace;
 use sbpl_back::{Back, FromStart, paths_turn_round, turned_round};
 use sbpl_cert::Section;
 use sbpl_cost::Lattice;
 use sbpl_fixed::NoMemory;
 use sbpl_graph::Graph;
-use sbpl_heur::Best;
 use sbpl_job::LabelForm;
 use sbpl_plan::{Arcs, FoundPath, Outcome};
-use sbpl_replan::{BackReplanner, LatticeReplanner, Replan};
+use sbpl_replan::{BackReplanner, Replan, Replanner};
 use sbpl_search::Search;
+use sbpl_terrain::Heuristic;
 use std::alloc::Global;
 
 /// Plans of which records are made.
-pub(crate) trait Recorded: Replan<Lattice> {
+pub(crate) trait Recorded<W: Workspace>: Replan<W> {
     /// The section of the labels that plan `plan` left, which went from `start` to `goal` and had this result; where it is asked for.
     fn section(
         &self,
         alloc: Global,
-        lattice: &Lattice,
+        world: &W,
         start: u32,
         goal: u32,
         plan: u32,
@@ -39,34 +40,35 @@ pub(crate) trait Recorded: Replan<Lattice> {
         asked: bool,
         form: LabelForm,
     ) -> Result<Option<Section>, NoMemory>
-        requires start { start < (network_of lattice.now).states }
-        requires goal { goal < (network_of lattice.now).states }
-        requires ready { Self.ready self.now lattice.now }
+        requires start { start < (W.network world.now).states }
+        requires goal { goal < (W.network world.now).states }
+        requires ready { Self.ready self.now world.now }
         requires between { GoesBetween Self.direction start goal (Self.standing self.now) }
-        requires found { IsResultOf (Self.direction.network lattice.now) (Self.guide self.now lattice.now) (Self.direction.to start goal) (Self.standing self.now).search.labels found.now }
-        requires supported { AreSupported (Self.direction.network lattice.now) (Self.standing self.now).search.labels.start (g_of (Self.standing self.now).search.labels) (v_of (Self.standing self.now).search.labels) }
-        ensures shown { IfOk result (IsThere asked (IsShown form (Self.direction.network lattice.now) (Self.guide self.now lattice.now) (Self.direction.from start goal) (Self.direction.to start goal) plan (Self.standing self.now).search.labels found.now)) };
+        requires found { IsResultOf (Self.direction.network world.now) (Self.guide self.now world.now) (Self.direction.to start goal) (Self.standing self.now).search.labels found.now }
+        requires supported { AreSupported (Self.direction.network world.now) (Self.standing self.now).search.labels.start (g_of (Self.standing self.now).search.labels) (v_of (Self.standing self.now).search.labels) }
+        ensures shown { IfOk result (IsThere asked (IsShown form (Self.direction.network world.now) (Self.guide self.now world.now) (Self.direction.from start goal) (Self.direction.to start goal) plan (Self.standing self.now).search.labels found.now)) };
 
-    /// The result of a plan from `start` to `goal` on the lattice, as the search found it in its direction.
+    /// The result of a plan from `start` to `goal` on the world, as the search found it in its direction.
     fn turn(
         alloc: Global,
-        lattice: &Lattice,
+        world: &W,
         start: u32,
         goal: u32,
         found: Outcome<FoundPath>,
     ) -> Result<Outcome<FoundPath>, NoMemory>
-        requires start { start < (network_of lattice.now).states }
-        requires goal { goal < (network_of lattice.now).states }
-        requires so { IsTrueOutcome (Self.direction.network lattice.now) (Self.direction.from start goal) (Self.direction.to start goal) found }
-        ensures so { IfOk result (IsTrueOutcome (network_of lattice.now) start goal) }
-        ensures turned { IfOk result (IsTurned (Self.direction.leads lattice.now start goal) found) };
+        requires start { start < (W.network world.now).states }
+        requires goal { goal < (W.network world.now).states }
+        requires so { IsTrueOutcome (Self.direction.network world.now) (Self.direction.from start goal) (Self.direction.to start goal) found }
+        ensures so { IfOk result (IsTrueOutcome (W.network world.now) start goal) }
+        ensures turned { IfOk result (IsTurned (Self.direction.leads world.now start goal) found) };
 }
 
-impl<S: Search<Lattice, Best> + Drop> Recorded for LatticeReplanner<S> {
+impl<W: Workspace, H: Heuristic<W> + Drop, S: Search<W, H> + Drop> Recorded<W>
+    for Replanner<W, H, S> {
     fn section(
         &self,
         alloc: Global,
-        lattice: &Lattice,
+        world: &W,
         _start: u32,
         goal: u32,
         plan: u32,
@@ -76,7 +78,7 @@ impl<S: Search<Lattice, Best> + Drop> Recorded for LatticeReplanner<S> {
     ) -> Result<Option<Section>, NoMemory> {
         labels_of(
             alloc,
-            lattice,
+            world,
             self.guide(),
             self.labels(),
             goal,
@@ -89,7 +91,7 @@ impl<S: Search<Lattice, Best> + Drop> Recorded for LatticeReplanner<S> {
 
     fn turn(
         _alloc: Global,
-        _lattice: &Lattice,
+        _world: &W,
         _start: u32,
         _goal: u32,
         found: Outcome<FoundPath>,
@@ -121,7 +123,7 @@ fn turn_path(
     })
 }
 
-impl Recorded for BackReplanner {
+impl Recorded<Lattice> for BackReplanner {
     fn section(
         &self,
         alloc: Global,

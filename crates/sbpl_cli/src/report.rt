@@ -2,9 +2,9 @@
 
 ghost use Rattle.std.specs.Prelude.{◌≡◌, ◌++◌, IfOk, OnOk, flat_map, decimal};
 ghost use Rattle.sbpl_fixed.specs.Printed.{milli_text};
-ghost use Rattle.sbpl_cli.specs.Report.{demo_text, entry_text, found_text, incumbent_text, outcome_line, pass_text, place_text, plan_line, step_text, path_text, outcome_text, spent_text, section_text};
+ghost use Rattle.sbpl_cli.specs.Report.{demo_text, entry_text, found_text, incumbent_text, outcome_line, pass_text, place_text, plan_line, spot_text, step_text, path_text, outcome_text, spent_text, section_text};
 
-use crate::record::{PathRecord, PathStep, PlanRecord, TraceLine};
+use crate::record::{PathRecord, PathStep, PlanRecord, Spot, TraceLine};
 use itoa::Buffer;
 use sbpl_cfg::Place;
 use sbpl_fixed::{NoMemory, print_milli};
@@ -90,6 +90,20 @@ fn push_place(out: &mut Vec<u8>, place: Place) -> Result<(), NoMemory>
     push_bytes(out, b"\n")
 }
 
+/// Appends where a state is, and the end of its line.
+fn push_spot(out: &mut Vec<u8>, spot: Spot) -> Result<(), NoMemory>
+    ensures appended { OnOk result (out.new.items ≡ out.old.items ++ spot_text spot) }
+{
+    match spot {
+        Spot::Pose(place) => push_place(out, place),
+        Spot::Cell(x, y) => {
+            push_number(out, u64::from(x))?;
+            push_field(out, b" ", u64::from(y))?;
+            push_bytes(out, b"\n")
+        }
+    }
+}
+
 /// Appends the line of a step.
 #[tactic(auto, unfolding(crate::specs::Report::step_text))]
 fn push_step(out: &mut Vec<u8>, step: &PathStep) -> Result<(), NoMemory>
@@ -97,7 +111,7 @@ fn push_step(out: &mut Vec<u8>, step: &PathStep) -> Result<(), NoMemory>
 {
     push_field(out, b"step ", u64::from(step.id))?;
     push_bytes(out, b" ")?;
-    push_place(out, step.place)
+    push_spot(out, step.spot)
 }
 
 /// Appends the lines of steps.
@@ -121,7 +135,7 @@ fn push_path(out: &mut Vec<u8>, path: &PathRecord) -> Result<(), NoMemory>
     push_milli(out, b" bound ", path.bound)?;
     push_bytes(out, b"\n")?;
     push_bytes(out, b"pose ")?;
-    push_place(out, path.start)?;
+    push_spot(out, path.start)?;
     push_steps(out, steps)
 }
 

@@ -1,6 +1,8 @@
 use Rattle.std.proofs.Common.{List, ℕ, suc, length, refl, subst, ◌∙◌}
 use Rattle.sbpl_fixed.specs.Formats.{start_at}
-use Rattle.sbpl_cli.specs.Checked.{AreChecked, Case, IsShownHolding, case_of, to_in}
+use Rattle.sbpl_cli.specs.Checked.{AreChecked, IsShownHolding, case_of, to_in}
+use Rattle.sbpl_cli.specs.Asked.{checked_direction}
+use Rattle.sbpl_cli.specs.LatticeSite.{lattice_site}
 use Rattle.sbpl_cli.specs.Intents.{Checked}
 use Rattle.sbpl_cli.proofs.Frames.{writes_after}
 use Rattle.sbpl_cli.proofs.Writings.{ends_since}
@@ -10,8 +12,8 @@ pub returns-clause-ends : goal.returns-clause-ends
 returns-clause-ends g c =
     let w = c.in_ok-lattice.lattice in
     let course = c.in_ok-lattice.course in
-    let ends = c.check_text-status.ensures.ends in
-    let case : Case = case_of w course c.ends_of-start.result.0 c.ends_of-start.result.1 c.args.job.now.back in
+    let ends = c.check_either_way-status.ensures.ends in
+    let case = case_of lattice_site (checked_direction lattice_site c.args.job.now.back) w course c.ends-start.result.0 c.ends-start.result.1 in
     λ log. record {
       intent = Checked (to_in case) ends.outcomes ends.end;
       gives = record {
@@ -24,19 +26,19 @@ returns-clause-ends g c =
         text = c.in_ok-lattice.text.items;
         read = c.in_ok-lattice.ensures.text;
         in_world = record {
-          start = c.ends_of-start.result.0;
-          goal = c.ends_of-start.result.1;
-          start_is = c.ends_of-start.ensures.start;
-          goal_is = c.ends_of-start.ensures.goal;
+          start = c.ends-start.result.0;
+          goal = c.ends-start.result.1;
+          start_is = c.ends-start.ensures.start;
+          goal_is = c.ends-start.ensures.goal;
           goals_are = refl;
           checked = subst (λ (t : List ℕ). AreChecked IsShownHolding case 0 (suc (length course.batches)) (start_at t 0) ends.outcomes ends.end) c.as_slice.ensures.value ends.checked;
         };
       };
       ends = ends_since _ _ _ _ _ _ c.in_ok-lattice.ensures.frame.written c.in_ok-lattice.ensures.frame.writes ends.ends;
-      others = λ name no. c.check_text-status.ensures.frame.others name no ∙ c.in_ok-lattice.ensures.frame.written name;
+      others = λ name no. c.check_either_way-status.ensures.frame.others name no ∙ c.in_ok-lattice.ensures.frame.written name;
       begins = tt;
       published = refl;
     }
 
 pub returns-clause-frame : goal.returns-clause-frame
-returns-clause-frame g c = writes_after _ _ _ _ c.in_ok-lattice.ensures.frame c.check_text-status.ensures.frame
+returns-clause-frame g c = writes_after _ _ _ _ c.in_ok-lattice.ensures.frame c.check_either_way-status.ensures.frame

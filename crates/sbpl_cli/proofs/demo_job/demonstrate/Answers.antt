@@ -6,7 +6,9 @@ use Rattle.sbpl_job.specs.declared.job.Planner.TheVariants as planner
 use Rattle.sbpl_cli.specs.Asked.{known}
 use Rattle.sbpl_cli.specs.Intents.{Demonstrated, lines_writes}
 use Rattle.sbpl_cli.specs.Causes.{demo_search, no_outputs}
-use Rattle.sbpl_cli.specs.Headline.{AreRecords, IsBrokenIn, start_after}
+use Rattle.sbpl_cli.specs.Headline.{AreRecords, IsBrokenIn}
+use Rattle.sbpl_cli.specs.LatticeSite.{lattice_site, lattice_wording}
+use Rattle.sbpl_cli.specs.Sites.{start_after}
 use Rattle.sbpl_cli.specs.Published.{with_paths, with_plans}
 use Rattle.sbpl_job.specs.declared.job.SearchJob.{SearchJob}
 use Rattle.sbpl_cli.proofs.Ends.{ended}
@@ -23,10 +25,10 @@ returns-in-Err-clause-ends g c =
         drawn = c.requires.drawn;
         changes = ap (λ (x : Course). x.batches) c.requires.course;
         plans = record {
-          start = c.ends_of-start.result.0;
-          goal = c.ends_of-start.result.1;
-          start_is = c.ends_of-start.ensures.start;
-          goal_is = c.ends_of-start.ensures.goal;
+          start = c.ends-start.result.0;
+          goal = c.ends-start.result.1;
+          start_is = c.ends-start.ensures.start;
+          goal_is = c.ends-start.ensures.goal;
           each = tt;
           broken_in = inl refl;
           none_broken = λ is. refl;
@@ -51,15 +53,15 @@ returns-clause-ends g c =
         drawn = c.requires.drawn;
         changes = ap (λ (x : Course). x.batches) c.requires.course;
         plans = record {
-          start = c.ends_of-start.result.0;
-          goal = c.ends_of-start.result.1;
-          start_is = c.ends_of-start.ensures.start;
-          goal_is = c.ends_of-start.ensures.goal;
-          each = subst (λ (how : SearchJob). AreRecords (known planner.AdStar) c.args.lattice.now c.args.course.now.batches how no_outputs (λ k. c.ends_of-start.result.0) c.ends_of-start.result.1 0 c.args.publisher.now.published None e.records) c.demo_search.ensures.search
-              (subst (λ (o : Option (List (Option Place))). AreRecords (known planner.AdStar) c.args.lattice.now c.args.course.now.batches c.demo_search.result no_outputs (start_after c.args.lattice.now.env c.ends_of-start.result.0 o) c.ends_of-start.result.1 0 c.args.publisher.now.published None e.records) (ap (λ (x : Course). x.moves) c.requires.course) e.each);
-          broken_in = subst (λ (n : ℕ). IsBrokenIn (known planner.AdStar) c.args.lattice.now c.args.course.now.batches demo_search no_outputs (λ k. c.ends_of-start.result.0) c.ends_of-start.result.1 n e.broken) count
-              (subst (λ (how : SearchJob). IsBrokenIn (known planner.AdStar) c.args.lattice.now c.args.course.now.batches how no_outputs (λ k. c.ends_of-start.result.0) c.ends_of-start.result.1 (0 + length e.records) e.broken) c.demo_search.ensures.search
-              (subst (λ (o : Option (List (Option Place))). IsBrokenIn (known planner.AdStar) c.args.lattice.now c.args.course.now.batches c.demo_search.result no_outputs (start_after c.args.lattice.now.env c.ends_of-start.result.0 o) c.ends_of-start.result.1 (0 + length e.records) e.broken) (ap (λ (x : Course). x.moves) c.requires.course) e.broken_in));
+          start = c.ends-start.result.0;
+          goal = c.ends-start.result.1;
+          start_is = c.ends-start.ensures.start;
+          goal_is = c.ends-start.ensures.goal;
+          each = subst (λ (how : SearchJob). AreRecords (known lattice_site planner.AdStar) c.args.lattice.now c.args.course.now.batches how no_outputs (λ k. c.ends-start.result.0) c.ends-start.result.1 0 c.args.publisher.now.published None e.records) c.demo_search.ensures.search
+              (subst (λ (o : Option (List (Option Place))). AreRecords (known lattice_site planner.AdStar) c.args.lattice.now c.args.course.now.batches c.demo_search.result no_outputs (start_after lattice_wording c.args.lattice.now c.ends-start.result.0 o) c.ends-start.result.1 0 c.args.publisher.now.published None e.records) (ap (λ (x : Course). x.moves) c.requires.course) e.each);
+          broken_in = subst (λ (n : ℕ). IsBrokenIn (known lattice_site planner.AdStar) c.args.lattice.now c.args.course.now.batches demo_search no_outputs (λ k. c.ends-start.result.0) c.ends-start.result.1 n e.broken) count
+              (subst (λ (how : SearchJob). IsBrokenIn (known lattice_site planner.AdStar) c.args.lattice.now c.args.course.now.batches how no_outputs (λ k. c.ends-start.result.0) c.ends-start.result.1 (0 + length e.records) e.broken) c.demo_search.ensures.search
+              (subst (λ (o : Option (List (Option Place))). IsBrokenIn (known lattice_site planner.AdStar) c.args.lattice.now c.args.course.now.batches c.demo_search.result no_outputs (start_after lattice_wording c.args.lattice.now c.ends-start.result.0 o) c.ends-start.result.1 (0 + length e.records) e.broken) (ap (λ (x : Course). x.moves) c.requires.course) e.broken_in));
           none_broken = e.none_broken;
           few = let made = e.few in omega arith;
           all_made = λ is. let made = e.all_made is in omega arith;

@@ -3,7 +3,9 @@ use Rattle.sbpl_cli.specs.Intents.{Planned}
 use Rattle.sbpl_cli.proofs.Ends.{ended}
 use Rattle.std.proofs.Common.{◌≡◌, ℕ, ◌+◌, ◌∙◌, Bool, length, refl, ap, subst, arith}
 use Rattle.sbpl_cli.specs.Asked.{known}
-use Rattle.sbpl_cli.specs.Headline.{IsBrokenIn, start_after}
+use Rattle.sbpl_cli.specs.Headline.{IsBrokenIn}
+use Rattle.sbpl_cli.specs.LatticeSite.{lattice_site, lattice_wording}
+use Rattle.sbpl_cli.specs.Sites.{start_after}
 use Rattle.sbpl_cli.specs.Published.{with_paths, with_plans}
 use Rattle.sbpl_cli.specs.Causes.{ReadsCourse, scope_of}
 use Rattle.sbpl_cli.proofs.plan_job.end_plan.Goals as goal
@@ -21,12 +23,12 @@ returns-clause-ends g c =
       says = c.in_ok-lattice.ensures.course.says;
       changes = subst (λ (b : Bool). ReadsCourse (g.D.Desk.state c.args.desk.now).held c.args.job.now.changes (scope_of b c.in_ok-lattice.lattice) c.in_ok-lattice.course) c.may_move-moving.ensures.value c.in_ok-lattice.ensures.course.course_is;
       plans = record {
-        start = c.ends_of-start.result.0;
-        goal = c.ends_of-start.result.1;
-        start_is = c.ends_of-start.ensures.start;
-        goal_is = c.ends_of-start.ensures.goal;
+        start = c.ends-start.result.0;
+        goal = c.ends-start.result.1;
+        start_is = c.ends-start.ensures.start;
+        goal_is = c.ends-start.ensures.goal;
         each = e.each;
-        broken_in = subst (λ (n : ℕ). IsBrokenIn (known c.args.job.now.search.planner) c.in_ok-lattice.lattice c.in_ok-lattice.course.batches c.args.job.now.search c.args.job.now.outputs (start_after c.in_ok-lattice.lattice.env c.ends_of-start.result.0 c.in_ok-lattice.course.moves) c.ends_of-start.result.1 n e.broken) count e.broken_in;
+        broken_in = subst (λ (n : ℕ). IsBrokenIn (known lattice_site c.args.job.now.search.planner) c.in_ok-lattice.lattice c.in_ok-lattice.course.batches c.args.job.now.search c.args.job.now.outputs (start_after lattice_wording c.in_ok-lattice.lattice c.ends-start.result.0 c.in_ok-lattice.course.moves) c.ends-start.result.1 n e.broken) count e.broken_in;
         none_broken = e.none_broken;
         few = let count = e.few in omega arith;
         all_made = λ is. let count = e.all_made is in omega arith;

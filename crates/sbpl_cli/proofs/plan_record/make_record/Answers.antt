@@ -4,7 +4,6 @@ use Rattle.std.specs.Option.{is_some}
 use Rattle.std.specs.Result.{IsErr}
 use Rattle.sbpl_cert.specs.declared.section.Section.{Section}
 use Rattle.sbpl_fixed.specs.declared.no_memory.NoMemory.{NoMemory}
-use Rattle.sbpl_cost.specs.World.{World}
 use Rattle.sbpl_job.specs.declared.job.Outputs.{Outputs}
 use Rattle.sbpl_job.specs.declared.job.SearchJob.{SearchJob}
 use Rattle.sbpl_labels.specs.Counts.{Counts}
@@ -25,6 +24,7 @@ use Rattle.sbpl_cli.proofs.Founds.{broken_by, first_of_all, founds_traced, none_
 use Rattle.sbpl_cli.proofs.SameRecords.{expansions_traced}
 use Rattle.sbpl_cli.specs.declared.record.PlanRecord.{PlanRecord}
 use Rattle.sbpl_cli.specs.Asked.{Known, ask_of}
+use Rattle.sbpl_cli.specs.Sites.{Site, site_of}
 use Rattle.sbpl_cli.specs.Headline.{Begins, Carried, IsKnownWithin, IsMarked, IsNoneThere, IsSearched, IsToldOf, IsWithinBound, Joins, KeepsPromises, expanded_before}
 use Rattle.sbpl_cli.specs.Shown.{IsShown, IsThere}
 use Rattle.sbpl_cli.proofs.plan_record.make_record.Goals as goal
@@ -46,8 +46,8 @@ in_run before rises (inl all) = inl all
 in_run before rises (inr all) = inr (rises ∙ all)
 
 -- what is known of a plan, and of its record, is that it was searched
-module _ (by : Known) (w : World) (guide : ℕ → ℕ) (start goal : ℕ) (how : SearchJob) (outputs : Outputs) (before : Option Carried) (begun final : Marks) (raised : List ℕ) (per_plan run used : ℕ) (planned : Planned by.Note) (section : Option Section) where
-  searched_by : (asked : Ask) (wanted : Bool) (plan : ℕ) (r : Result PlanRecord NoMemory) → by.direction.guides w start goal guide → Begins by.means by.direction w (by.direction.from start goal) before begun raised
+module _ {W : Type 0} (by : Known W) (w : W) (guide : ℕ → ℕ) (start goal : ℕ) (how : SearchJob) (outputs : Outputs) (before : Option Carried) (begun final : Marks) (raised : List ℕ) (per_plan run used : ℕ) (planned : Planned by.Note) (section : Option Section) where
+  searched_by : (asked : Ask) (wanted : Bool) (plan : ℕ) (r : Result PlanRecord NoMemory) → by.direction.guides w start goal guide → Begins by.means by.on by.direction w (by.direction.from start goal) before begun raised
       → asked ≡ ask_of how outputs → ArePasses by.means (inquiry_of (by.direction.network w) guide (by.direction.to start goal) asked) asked.first begun planned.passes final planned.spent
       → IsResultOf (by.direction.network w) guide (by.direction.to start goal) final planned.outcome → per_plan ≡ how.budget → run ≡ expanded_before before + expansions planned.passes → used ≡ expansions planned.passes
       → (planned.spent ≡ true → (expansions planned.passes ≡ per_plan) ⊎ (run ≡ 2 ^ 30))
@@ -58,7 +58,7 @@ module _ (by : Known) (w : World) (guide : ℕ → ℕ) (start goal : ℕ) (how 
       → IfOk r (λ x. x.plan ≡ plan) → IfOk r (λ x. x.passes ≡ map (traced_pass by.line) planned.passes) → IfOk r (λ x. x.expanded ≡ used) → IfOk r (λ x. IsToldOf (by.direction.leads w start goal) planned.outcome x.outcome) → IfOk r (λ x. x.labels ≡ section)
       → IfOk r (λ x. x.raised ≡ (if asked.traced then raised else []))
       → IfOk r (λ x. MatchBool planned.spent (x.spent ≡ Some used) (x.spent ≡ None))
-      → IfOk r (IsSearched by w how outputs start goal before (record { map = w.map; labels = final; expanded = run }))
+      → IfOk r (IsSearched by w how outputs start goal before (record { map = by.on.cells.map w; labels = final; expanded = run }))
   searched_by asked wanted plan (Err e) is_guide begins same passes outcome budget counted used_is spent within within_run few enough asks shown number copied expanded told kept raises mark = tt
   searched_by asked wanted plan (Ok x) is_guide begins same passes outcome budget counted used_is spent within within_run few enough asks shown number copied expanded told kept raises mark =
       let step = ap (λ (a : Ask). a.step) same in
@@ -90,7 +90,7 @@ module _ (by : Known) (w : World) (guide : ℕ → ℕ) (start goal : ℕ) (how 
       }
 
 -- after a plan it goes between the same states
-between_after : {Note : Type 0} (d : Direction World) (start goal : ℕ) (old new : Standing Note) → GoesBetween d start goal old → StaysTheSame old new → GoesBetween d start goal new
+between_after : {Note W : Type 0} (d : Direction W) (start goal : ℕ) (old new : Standing Note) → GoesBetween d start goal old → StaysTheSame old new → GoesBetween d start goal new
 between_after d start goal old new between same = record { from = same.start ∙ between.from; to = same.goal ∙ between.to }
 
 pub section-requires-clause-between : goal.section-requires-clause-between
@@ -99,7 +99,7 @@ section-requires-clause-between g c = between_after _ _ _ _ _ c.requires.set.bet
 pub section-requires-clause-found : goal.section-requires-clause-found
 section-requires-clause-found g c =
     let d = g.R.Replan.direction in
-    let w = c.args.lattice.now in
+    let w = c.args.world.now in
     let made = c.in_ok-planned.ensures.planned in
     let labels = (g.R.Replan.standing c.plan_on.new.replanner).search.labels in
     subst (λ (h : ℕ → ℕ). IsResultOf (d.network w) h (d.to c.args.start c.args.goal) labels c.in_ok-planned.planned.outcome) (sym c.plan_on.ensures.guide)
@@ -108,7 +108,7 @@ section-requires-clause-found g c =
 pub record_of-requires-clause-so : goal.record_of-requires-clause-so
 record_of-requires-clause-so g c =
     let d = g.R.Replan.direction in
-    let w = c.args.lattice.now in
+    let w = c.args.world.now in
     let made = c.in_ok-planned.ensures.planned in
     subst (λ (s : ℕ). IsTrueOutcome (d.network w) s (d.to c.args.start c.args.goal) c.in_ok-planned.planned.outcome) c.requires.set.between.from
     (subst (λ (t : ℕ). IsTrueOutcome (d.network w) (g.R.Replan.standing c.args.replanner.now).search.labels.start t c.in_ok-planned.planned.outcome) c.requires.set.between.to made.so)
@@ -116,9 +116,9 @@ record_of-requires-clause-so g c =
 pub returns-clause-searched : goal.returns-clause-searched
 returns-clause-searched g c = λ before goes.
     let d = g.R.Replan.direction in
-    let w = c.args.lattice.now in
+    let w = c.args.world.now in
     let means = g.R.Replan.meaning in
-    let by : Known = record { Note = g.row.R-Note.Denot; means = means; line = g.R.Note.Traced.line; direction = d } in
+    let by : Known _ = record { on = site_of g.W.Graph.network g.W.Terrain.cells g.W.Best.Heuristic.says g.W.Workspace.wording; Note = g.row.R-Note.Denot; means = means; line = g.R.Note.Traced.line; direction = d } in
     let set = c.requires.set in
     let planned = c.in_ok-planned.planned in
     let made = c.in_ok-planned.ensures.planned in
@@ -149,20 +149,20 @@ unmarked : (spent : Bool) (expanded : ℕ) (x : PlanRecord) → MatchBool spent 
 unmarked true expanded x mark is = cc
 unmarked false expanded x mark is = refl
 
-promises_by : {Note : Type 0} (w : World) (start goal asked expanded : ℕ) (planned : Planned Note) (r : Result PlanRecord NoMemory) → IfOk r (λ x. Joins w start goal x.outcome) → IfOk r (λ x. IsWithinBound w start goal x.outcome) → IfOk r (λ x. IsNoneThere w start goal x.outcome)
-    → IfOk r (λ x. MatchBool planned.spent (x.spent ≡ Some expanded) (x.spent ≡ None)) → (planned.spent ≡ false → search.IsConclusive asked planned.outcome) → IfOk r (λ x. (a : ℕ) → search.IsConclusive a planned.outcome → IsKnownWithin a x.outcome) → IfOk r (KeepsPromises w start goal asked)
-promises_by w start goal asked expanded planned (Ok x) joins within none mark known answered = record {
+promises_by : {Note W : Type 0} (on : Site W) (w : W) (start goal asked expanded : ℕ) (planned : Planned Note) (r : Result PlanRecord NoMemory) → IfOk r (λ x. Joins on w start goal x.outcome) → IfOk r (λ x. IsWithinBound (on.network w) start goal x.outcome) → IfOk r (λ x. IsNoneThere (on.network w) start goal x.outcome)
+    → IfOk r (λ x. MatchBool planned.spent (x.spent ≡ Some expanded) (x.spent ≡ None)) → (planned.spent ≡ false → search.IsConclusive asked planned.outcome) → IfOk r (λ x. (a : ℕ) → search.IsConclusive a planned.outcome → IsKnownWithin a x.outcome) → IfOk r (KeepsPromises on w start goal asked)
+promises_by on w start goal asked expanded planned (Ok x) joins within none mark known answered = record {
   joins = joins;
   within_the_bound = within;
   none = none;
   unless_spent = λ is. answered asked (known (unmarked planned.spent expanded x mark is));
 }
-promises_by w start goal asked expanded planned (Err e) joins within none mark known answered = tt
+promises_by on w start goal asked expanded planned (Err e) joins within none mark known answered = tt
 
 pub returns-clause-promises : goal.returns-clause-promises
 returns-clause-promises g c =
     let bound = ap (λ (a : Ask). a.bound) c.ask_of-ask.ensures.ask in
-    promises_by _ _ _ _ _ c.in_ok-planned.planned _ c.record_of.ensures.joins c.record_of.ensures.within_the_bound c.record_of.ensures.none c.record_of.ensures.marked
+    promises_by (site_of g.W.Graph.network g.W.Terrain.cells g.W.Best.Heuristic.says g.W.Workspace.wording) _ _ _ _ _ c.in_ok-planned.planned _ c.record_of.ensures.joins c.record_of.ensures.within_the_bound c.record_of.ensures.none c.record_of.ensures.marked
     (λ is. subst (λ (b : ℕ). search.IsConclusive b c.in_ok-planned.planned.outcome) bound (c.in_ok-planned.ensures.planned.answered is)) c.record_of.ensures.answered
 
 -- what is said of a value holds where there is none
@@ -198,8 +198,8 @@ returns-in_err-raised-clause-broken g c = λ before goes. on_err_is _ c.from_res
 pub returns-in_err-planned-clause-broken : goal.returns-in_err-planned-clause-broken
 returns-in_err-planned-clause-broken g c = λ before goes.
     let d = g.R.Replan.direction in
-    let w = c.args.lattice.now in
-    let by : Known = record { Note = g.row.R-Note.Denot; means = g.R.Replan.meaning; line = g.R.Note.Traced.line; direction = d } in
+    let w = c.args.world.now in
+    let by : Known _ = record { on = site_of g.W.Graph.network g.W.Terrain.cells g.W.Best.Heuristic.says g.W.Workspace.wording; Note = g.row.R-Note.Denot; means = g.R.Replan.meaning; line = g.R.Note.Traced.line; direction = d } in
     let guide = g.R.Replan.guide c.args.replanner.now w in
     on_err_is _ c.from_residual-in_err-planned.result
     (stands_broken by w guide c.args.start c.args.goal c.args.plan c.args.how.now c.args.outputs.now _ _ before _ (g.R.Replan.standing c.args.replanner.now) (g.R.Replan.standing c.plan_on.new.replanner) c.ask_of-ask.result
@@ -207,8 +207,8 @@ returns-in_err-planned-clause-broken g c = λ before goes.
 
 pub returns-in_err-incumbent-clause-broken : goal.returns-in_err-incumbent-clause-broken
 returns-in_err-incumbent-clause-broken g c = λ before goes.
-    let by : Known = record { Note = g.row.R-Note.Denot; means = g.R.Replan.meaning; line = g.R.Note.Traced.line; direction = g.R.Replan.direction } in
-    let w = c.args.lattice.now in
+    let by : Known _ = record { on = site_of g.W.Graph.network g.W.Terrain.cells g.W.Best.Heuristic.says g.W.Workspace.wording; Note = g.row.R-Note.Denot; means = g.R.Replan.meaning; line = g.R.Note.Traced.line; direction = g.R.Replan.direction } in
+    let w = c.args.world.now in
     let guide = g.R.Replan.guide c.args.replanner.now w in
     let old = g.R.Replan.standing c.args.replanner.now in
     let ask = c.ask_of-ask.result in
@@ -222,8 +222,8 @@ returns-in_err-incumbent-clause-broken g c = λ before goes.
 
 pub returns-in_err-labels-clause-broken : goal.returns-in_err-labels-clause-broken
 returns-in_err-labels-clause-broken g c = λ before goes.
-    let by : Known = record { Note = g.row.R-Note.Denot; means = g.R.Replan.meaning; line = g.R.Note.Traced.line; direction = g.R.Replan.direction } in
-    let w = c.args.lattice.now in
+    let by : Known _ = record { on = site_of g.W.Graph.network g.W.Terrain.cells g.W.Best.Heuristic.says g.W.Workspace.wording; Note = g.row.R-Note.Denot; means = g.R.Replan.meaning; line = g.R.Note.Traced.line; direction = g.R.Replan.direction } in
+    let w = c.args.world.now in
     let guide = g.R.Replan.guide c.args.replanner.now w in
     let old = g.R.Replan.standing c.args.replanner.now in
     let ask = c.ask_of-ask.result in
@@ -237,8 +237,8 @@ returns-in_err-labels-clause-broken g c = λ before goes.
 
 pub returns-clause-broken : goal.returns-clause-broken
 returns-clause-broken g c = λ before goes.
-    let by : Known = record { Note = g.row.R-Note.Denot; means = g.R.Replan.meaning; line = g.R.Note.Traced.line; direction = g.R.Replan.direction } in
-    let w = c.args.lattice.now in
+    let by : Known _ = record { on = site_of g.W.Graph.network g.W.Terrain.cells g.W.Best.Heuristic.says g.W.Workspace.wording; Note = g.row.R-Note.Denot; means = g.R.Replan.meaning; line = g.R.Note.Traced.line; direction = g.R.Replan.direction } in
+    let w = c.args.world.now in
     let guide = g.R.Replan.guide c.args.replanner.now w in
     let old = g.R.Replan.standing c.args.replanner.now in
     let ask = c.ask_of-ask.result in

@@ -1,15 +1,16 @@
+use Rattle.std.proofs.Common.{◌≡◌, ◌∙◌, refl, sym, true}
+use Rattle.sbpl_job.specs.Jobs.{may_move}
+use Rattle.sbpl_job.specs.declared.job.Planner.{Planner}
 use Rattle.sbpl_job.specs.declared.job.Planner.TheVariants as planner
 use Rattle.sbpl_cli.proofs.Going.{ends_by}
 use Rattle.sbpl_cli.proofs.planners.make_plans.Goals as goal
 
-pub returns-in-Ara-clause-ends : goal.returns-in-Ara-clause-ends
-returns-in-Ara-clause-ends g c = ends_by planner.Ara c.in-Ara.is c.plans_by_ara.ensures.ends
+-- the planner that lets the robot move is `back`
+is_back : (p : Planner) → may_move p ≡ true → p ≡ planner.Back
+is_back planner.Back is = refl
+is_back planner.Ara is = absurd cc
+is_back planner.AdStar is = absurd cc
+is_back planner.Epase is = absurd cc
 
-pub returns-in-AdStar-clause-ends : goal.returns-in-AdStar-clause-ends
-returns-in-AdStar-clause-ends g c = ends_by planner.AdStar c.in-AdStar.is c.plans_by_adstar.ensures.ends
-
-pub returns-in-Back-clause-ends : goal.returns-in-Back-clause-ends
-returns-in-Back-clause-ends g c = ends_by planner.Back c.in-Back.is c.plans_by_back.ensures.ends
-
-pub returns-in-Epase-clause-ends : goal.returns-in-Epase-clause-ends
-returns-in-Epase-clause-ends g c = ends_by planner.Epase c.in-Epase.is c.plans_by_epase.ensures.ends
+pub returns-then-may_move-clause-ends : goal.returns-then-may_move-clause-ends
+returns-then-may_move-clause-ends g c = ends_by planner.Back (is_back _ (sym c.may_move.ensures.value ∙ c.if-may_move.true)) c.plans_by_back.ensures.ends

@@ -1,10 +1,9 @@
 use Rattle.std.proofs.Common.{◌≡◌, ◌<◌, ℕ, length, Option, refl, sym, subst, ap, ◌∙◌, arith}
-use Rattle.sbpl_cfg.specs.Environment.{Environment}
 use Rattle.sbpl_cfg.specs.declared.pose.Place.{Place}
-use Rattle.sbpl_cost.specs.World.{World}
 use Rattle.sbpl_map.specs.ChangeText.{IsPlaceOnMap}
 use Rattle.sbpl_cli.proofs.Going.{at_last, changes, sets_out, stops, tells_last, tells_no_more}
-use Rattle.sbpl_cli.proofs.Moving.{move_on_map, next_is, start_first, stays_put, within}
+use Rattle.sbpl_cli.specs.Sites.{Site, site_of}
+use Rattle.sbpl_cli.proofs.Moving.{alike_over, move_on_map, next_is, start_first, stays_put, within}
 use Rattle.sbpl_cli.proofs.OnMaps.{batch_on_map}
 use Rattle.sbpl_cli.proofs.Verifying.{same_states}
 use Rattle.sbpl_cli.proofs.Writings.{status_ends}
@@ -13,7 +12,7 @@ use Rattle.sbpl_cli.proofs.Frames.{nothing_done, writes_more, writes_on}
 
 pub loop-k-init : goal.loop-k-init
 loop-k-init g c = record {
-  going = sets_out _ _ _ _ _ _ _ _ _ _ _ _ (c.writes_lead_to_the_next_map.ensures.first c.args.lattice.now.map c.args.course.now.batches) c.requires.kept (sym (start_first c.args.lattice.now.env c.args.start c.args.course.now.moves)) c.requires.set c.requires.begun;
+  going = sets_out _ _ _ _ _ _ _ _ _ _ _ _ c.is_terrain.ensures.law (c.writes_lead_to_the_next_map.ensures.first (g.W.Terrain.cells.map c.args.world.now) c.args.course.now.batches) c.requires.kept (sym (start_first g.W.Workspace.wording c.args.world.now c.args.start c.args.course.now.moves)) c.requires.set c.requires.begun;
   ready = c.requires.ready;
   inside = c.requires.start;
   frame = nothing_done _ _;
@@ -22,7 +21,7 @@ loop-k-init g c = record {
 }
 
 pub make_plan-requires-clause-goal : goal.make_plan-requires-clause-goal
-make_plan-requires-clause-goal g c = subst (λ (n : ℕ). c.args.goal < n) (same_states _ _ c.loop-k.invariant.going.same) c.requires.goal
+make_plan-requires-clause-goal g c = subst (λ (n : ℕ). c.args.goal < n) (same_states g.W.Graph.network g.W.Terrain.cells c.is_terrain.ensures.law _ _ c.requires.kept c.loop-k.invariant.going.kept c.loop-k.invariant.going.same) c.requires.goal
 
 pub returns-in-Err-clause-ends : goal.returns-in-Err-clause-ends
 returns-in-Err-clause-ends g c = stops _ _ _ _ _ _ _ _ _ _ _ _ _ _ _ (g.R.Replan.standing c.make_plan.new.replanner) _ _ _ c.loop-k.invariant.going _ c.in-Err.stop c.in-Err.ensures.ends c.status_after.ensures.status
@@ -35,36 +34,42 @@ returns-in-Err-change-clause-ends g c = tells_no_more _ _ _ _ _ _ _ _ _ _ _ _ _ 
 
 pub start_at-start-requires-clause-place : goal.start_at-start-requires-clause-place
 start_at-start-requires-clause-place g c =
-    let w = c.args.lattice.now in
+    let w = c.args.world.now in
     let now = c.change.new.world in
     let going = c.loop-k.invariant.going in
-    let env : now.env ≡ w.env = ap (λ (v : World). v.env) c.change.ensures.others ∙ ap (λ (v : World). v.env) going.same in
+    let cells = g.W.Terrain.cells in
+    let on : Site _ = site_of g.W.Graph.network g.W.Terrain.cells g.W.Best.Heuristic.says g.W.Workspace.wording in
+    let same : now ≡ cells.over w (cells.map now) = c.change.ensures.others ∙ ap (λ v. cells.over v (cells.map now)) going.same ∙ c.is_terrain.ensures.law.again w (cells.map c.loop-k.world) (cells.map now) in
+    let alike = alike_over on g.met.W.Workspace.places_stay w now same in
     let next = c.writes_lead_to_the_next_map.ensures.next _ _ _ _ _ _ going.after c.batch.ensures.writes c.in_default-change.ensures.written in
     let here : c.loop-k.k < length c.args.course.now.batches = (let test = c.loop-k-test.true in let count = c.batches-k-end.ensures.value in omega arith) in
-    subst (λ (e : Environment). IsPlaceOnMap now.map e.headings c.place.result) (sym env)
-    (subst (λ (o : Option Place). IsPlaceOnMap now.map w.env.headings o) (sym c.place.ensures.place)
-    (move_on_map w now.map c.args.course.now.batches c.args.course.now.moves c.loop-k.k c.requires.course.moves here next.width next.height))
+    subst (λ (count : ℕ). IsPlaceOnMap (cells.map now) count c.place.result) (sym alike.headings)
+    (subst (λ (o : Option Place). IsPlaceOnMap (cells.map now) (g.W.Workspace.wording.headings w) o) (sym c.place.ensures.place)
+    (move_on_map on w (cells.map now) c.args.course.now.batches c.args.course.now.moves c.loop-k.k c.requires.course.moves here next.width next.height))
 
 pub start_at-start-requires-clause-start : goal.start_at-start-requires-clause-start
-start_at-start-requires-clause-start g c = subst (λ (n : ℕ). c.loop-k.start < n) (same_states _ _ c.change.ensures.others) c.loop-k.invariant.inside
+start_at-start-requires-clause-start g c = subst (λ (n : ℕ). c.loop-k.start < n) (same_states g.W.Graph.network g.W.Terrain.cells c.is_terrain.ensures.law _ _ c.loop-k.invariant.going.kept c.change.ensures.kept c.change.ensures.others) c.loop-k.invariant.inside
 
 pub follow-requires : goal.follow-requires
 follow-requires g c = record { inside = subst (λ (n : ℕ). c.start_at-start.result < n) (sym (g.met.R.Replan.sized _ _ c.in_default-change.ensures.ready)) c.start_at-start.ensures.inside }
 
 pub loop-k-preserved : goal.loop-k-preserved
 loop-k-preserved g c =
-    let w = c.args.lattice.now in
+    let w = c.args.world.now in
     let course = c.args.course.now in
     let now = c.change.new.world in
     let k = c.loop-k.k in
     let going = c.loop-k.invariant.going in
-    let env : now.env ≡ w.env = ap (λ (v : World). v.env) c.change.ensures.others ∙ ap (λ (v : World). v.env) going.same in
+    let cells = g.W.Terrain.cells in
+    let on : Site _ = site_of g.W.Graph.network g.W.Terrain.cells g.W.Best.Heuristic.says g.W.Workspace.wording in
+    let same : now ≡ cells.over w (cells.map now) = c.change.ensures.others ∙ ap (λ v. cells.over v (cells.map now)) going.same ∙ c.is_terrain.ensures.law.again w (cells.map c.loop-k.world) (cells.map now) in
+    let alike = alike_over on g.met.W.Workspace.places_stay w now same in
     let here : k < length course.batches = (let test = c.loop-k-test.true in let count = c.batches-k-end.ensures.value in omega arith) in
-    let next = next_is w.env now.env c.args.start course.moves k c.loop-k.start c.start_at-start.result c.place.result (within w course.batches course.moves k c.requires.course.moves here) (sym going.start_is) env c.place.ensures.place c.start_at-start.ensures.state in
+    let next = next_is g.W.Workspace.wording w now c.args.start course.moves k c.loop-k.start c.start_at-start.result c.place.result (within on w course.batches course.moves k c.requires.course.moves here) (sym going.start_is) alike c.place.ensures.place c.start_at-start.ensures.state in
     record {
-      going = changes _ _ _ _ _ _ _ _ _ _ _ _ _ _ _ (g.R.Replan.standing c.make_plan.new.replanner) _ _ _ going now c.start_at-start.result (g.R.Replan.standing c.change.new.self) (g.R.Replan.standing c.follow.new.self) c.batch.result.now c.writes_lead_to_the_next_map.ensures.next c.in_default.ensures.ends c.make_plan.ensures.frame.writes c.in_default.ensures.set c.batch.ensures.writes
+      going = changes _ _ _ _ _ _ _ _ _ _ _ _ _ _ _ (g.R.Replan.standing c.make_plan.new.replanner) _ _ _ going c.is_terrain.ensures.law now c.start_at-start.result (g.R.Replan.standing c.change.new.self) (g.R.Replan.standing c.follow.new.self) c.batch.result.now c.writes_lead_to_the_next_map.ensures.next c.in_default.ensures.ends c.make_plan.ensures.frame.writes c.in_default.ensures.set c.batch.ensures.writes
           c.in_default-change.ensures.written c.change.ensures.others c.change.ensures.kept c.in_default-change.ensures.begun c.in_default-change.ensures.same c.change.ensures.counts
-          (sym next) (λ still. stays_put now.env course.moves k c.loop-k.start c.start_at-start.result c.place.result (c.requires.course.stays still) c.place.ensures.place c.start_at-start.ensures.state) c.follow.ensures.follows;
+          (sym next) (λ still. stays_put g.W.Workspace.wording now course.moves k c.loop-k.start c.start_at-start.result c.place.result (c.requires.course.stays still) c.place.ensures.place c.start_at-start.ensures.state) c.follow.ensures.follows;
       ready = c.follow.ensures.ready _ c.in_default-change.ensures.ready;
       inside = c.start_at-start.ensures.inside;
       frame = writes_on _ _ _ _ c.loop-k.invariant.frame c.make_plan.ensures.frame;
@@ -73,7 +78,7 @@ loop-k-preserved g c =
     }
 
 pub make_plan-requires-2-clause-goal : goal.make_plan-requires-2-clause-goal
-make_plan-requires-2-clause-goal g c = subst (λ (n : ℕ). c.args.goal < n) (same_states _ _ c.loop-k.invariant.going.same) c.requires.goal
+make_plan-requires-2-clause-goal g c = subst (λ (n : ℕ). c.args.goal < n) (same_states g.W.Graph.network g.W.Terrain.cells c.is_terrain.ensures.law _ _ c.requires.kept c.loop-k.invariant.going.kept c.loop-k.invariant.going.same) c.requires.goal
 
 pub returns-in-Ok-clause-ends : goal.returns-in-Ok-clause-ends
 returns-in-Ok-clause-ends g c = tells_last _ _ _ _ _ _ _ _ _ c.batches-last.result _ _ _ _ _ (g.R.Replan.standing c.make_plan-2.new.replanner) _ _ _ (at_last _ _ _ _ _ _ _ _ _ _ _ _ _ _ _ _ _ (omega (arith, c.loop-k-test.false, c.loop-k.auto.k-end, c.batches-k-end.ensures.value, c.batches-last.ensures.value)) c.loop-k.invariant.going) _ _ c.in-Ok.ensures.ends c.make_plan-2.ensures.frame.writes c.batches-last.ensures.value

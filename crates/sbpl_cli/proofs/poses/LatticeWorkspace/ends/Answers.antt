@@ -3,8 +3,8 @@ use Rattle.sbpl_cfg.specs.declared.pose.Pose.{Pose}
 use Rattle.sbpl_cfg.specs.declared.pose.Place.{Place}
 use Rattle.sbpl_cfg.specs.Environment.{Environment, IsPlaceOf}
 use Rattle.sbpl_cost.specs.States.{state_number}
-use Rattle.sbpl_cli.specs.Headline.{IsStateOf}
-use Rattle.sbpl_cli.proofs.poses.ends_of.Goals as goal
+use Rattle.sbpl_cli.specs.LatticeSite.{IsStateOf}
+use Rattle.sbpl_cli.proofs.poses.LatticeWorkspace.ends.Goals as goal
 
 -- the state of a place of a pose is the state of the pose
 state_is : (e d : Environment) (p q : Pose) (found : Option Place) (place : Place) (number : Option ℕ) (s : ℕ) → e ≡ d → p ≡ q → IfSome found (IsPlaceOf e p) → found ≡ Some place → IfSome number (λ n. n ≡ state_number d place) → number ≡ Some s → IsStateOf d q s

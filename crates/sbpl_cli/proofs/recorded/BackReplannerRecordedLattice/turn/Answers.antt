@@ -4,7 +4,7 @@ use Rattle.sbpl_cost.specs.Lattices.{network_of}
 use Rattle.sbpl_plan.specs.declared.result.FoundPath.{FoundPath}
 use Rattle.sbpl_plan.specs.declared.result.Outcome.{Outcome}
 use Rattle.sbpl_plan.specs.Outcomes.{IsTrueOutcome}
-use Rattle.sbpl_cli.proofs.recorded.BackReplannerRecorded.turn.Goals as goal
+use Rattle.sbpl_cli.proofs.recorded.BackReplannerRecordedLattice.turn.Goals as goal
 
 pub returns-in-NoPath-clause-so : goal.returns-in-NoPath-clause-so
 returns-in-NoPath-clause-so c = λ arcs cost free.

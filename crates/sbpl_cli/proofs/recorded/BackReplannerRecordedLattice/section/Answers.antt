@@ -5,7 +5,7 @@ use Rattle.sbpl_cost.specs.Lattices.{network_of}
 use Rattle.sbpl_cost.specs.World.{World}
 use Rattle.sbpl_labels.specs.Marks.{Marks}
 use Rattle.sbpl_plan.specs.Outcomes.{IsResultOf}
-use Rattle.sbpl_cli.proofs.recorded.BackReplannerRecorded.section.Goals as goal
+use Rattle.sbpl_cli.proofs.recorded.BackReplannerRecordedLattice.section.Goals as goal
 
 pub labels_of-requires-clause-found : goal.labels_of-requires-clause-found
 labels_of-requires-clause-found c =
