@@ -11,12 +11,14 @@ use Rattle.sbpl_map.specs.CellMap.{CellMap}
 use Rattle.sbpl_map.specs.declared.fault.ChangeFault.{ChangeFault}
 use Rattle.sbpl_job.specs.declared.job.CheckJob.{CheckJob}
 use Rattle.sbpl_job.specs.declared.job.Job.{Job}
+use Rattle.sbpl_job.specs.declared.job.PlanJob.{PlanJob}
 use Rattle.sbpl_job.specs.declared.job.Job.TheVariants as job
 use Rattle.sbpl_job.specs.declared.job.Sources.{Sources}
 use Rattle.sbpl_cli.specs.declared.refusal.Input.TheVariants as input
 use Rattle.sbpl_cli.specs.declared.refusal.Refusal.{Refusal}
 use Rattle.sbpl_cli.specs.declared.refusal.Refusal.TheVariants as refusal
-use Rattle.sbpl_cli.specs.Causes.{AtName, IsCause, IsChangesCause, IsEarlyCause, IsFaultyChanges, IsFaultyFor, IsJobCause, IsLabelsCause, IsReadText, IsTooLong, NoneTooDear, ReadsCourse, ReadsEnvironment, ReadsPrimitives, ReadsWorld, scope_of}
+use Rattle.sbpl_cli.specs.Causes.{AtName, IsCause, IsChangesCause, IsEarlyCause, IsFaultyChanges, IsFaultyFor, IsJobCause, IsLabelsCause, IsReadText, IsTooLong, NoneTooDear, ReadsCourse, ReadsEnvironment, ReadsPrimitives, ReadsWorld, check_files, lattice_files, plan_files, scope_of}
+use Rattle.sbpl_cli.specs.WorldFiles.{WorldFiles}
 use Rattle.sbpl_cli.specs.declared.course.Course.{Course}
 use Rattle.sbpl_job.specs.Jobs.{may_move, moves_in}
 use Rattle.sbpl_cli.specs.Intents.{Intent, Refused, Planned, Checked, Listed, Demonstrated, OutOfMemory, intent_status, refusal_status}
@@ -132,55 +134,94 @@ no_memory wanted = inr (inr (inr refl))
 -- ---- what was read where a job got this far
 
 -- the files stand for a world and a course
-pub record HasRead (held : Told) (from : Sources) (changes : Option (List ℕ)) (moving : Bool) : Type 0 where
-  pub world : World
+pub record HasRead {W : Type 0} (held : Told) (f : WorldFiles W) (changes : Option (List ℕ)) : Type 0 where
+  pub world : W
   pub course : Course
-  pub says : ReadsWorld held from world
-  pub stands : ReadsCourse held changes (scope_of moving world) course
+  pub says : f.stand_for held world
+  pub stands : ReadsCourse held changes (f.scope world) course
+
+-- the file of labels is tried after the others
+labels_course : {W : Type 0} (held : Told) (Failed : Names) (f : WorldFiles W) (changes : Option (List ℕ)) (labels : List ℕ) (r : Refusal) → IsLabelsCause held Failed f changes labels r → HasRead held f changes
+labels_course held Failed f changes labels (refusal.Read input.Labels) (w, course, says, stands, at) = record { world = w; course = course; says = says; stands = stands }
+labels_course held Failed f changes labels (refusal.Length input.Labels) (w, course, says, stands, at) = record { world = w; course = course; says = says; stands = stands }
+labels_course held Failed f changes labels _ cause = absurd cause
+
+-- a file of labels was not read: the reading failed, or it is too long
+pub labels_refused : {W : Type 0} (held : Told) (Failed : Names) (f : WorldFiles W) (changes : Option (List ℕ)) (labels : List ℕ) (wanted : ℕ) (r : Refusal) → (IsTooLong (held labels) → IsOrFailed wanted 8) → IsLabelsCause held Failed f changes labels r
+    → IsOrFailed wanted (refusal_status r)
+labels_refused held Failed f changes labels wanted (refusal.Read x) long cause = failed_read wanted
+labels_refused held Failed f changes labels wanted (refusal.Length input.Labels) long (w, course, says, stands, at) = long at
+labels_refused held Failed f changes labels wanted _ long cause = absurd cause
+
+-- the change file is tried where the others stand for a world
+pub changes_world : {W : Type 0} (held : Told) (Failed : Names) (f : WorldFiles W) (changes : Option (List ℕ)) (r : Refusal) → IsChangesCause held Failed f changes r → (w : W) × f.stand_for held w
+changes_world held Failed f changes (refusal.Changes x) (w, says, at) = (w, says)
+changes_world held Failed f changes (refusal.Read input.Changes) (w, says, at) = (w, says)
+changes_world held Failed f changes (refusal.Length input.Changes) (w, says, at) = (w, says)
+changes_world held Failed f changes _ cause = absurd cause
+
+-- what a job means to do besides being refused, unless memory runs out
+abbrev pub IsMore : Intent → Type 0
+IsMore (Refused r) = ⊥
+IsMore OutOfMemory = ⊥
+IsMore _ = Unit {0}
+
+-- A job reads a world and a course of these files: it is refused for one of them, or it is a check and they were read; and what else it
+-- means to do, it does after it read them.
+pub record IsReadFrom {W : Type 0} (j : Job) (f : WorldFiles W) (changes : Option (List ℕ)) : Type 1 where
+  pub cause : (held : Told) (Failed : Names) (r : Refusal) → IsJobCause held Failed j r → IsEarlyCause held Failed f changes r ⊎ (HasRead held f changes × (IsNoCheck j → ⊥))
+  pub more : (held : Told) (Failed : Names) (i : Intent) → IsMore i → GivesIntent held Failed j i → HasRead held f changes
 
 same_sources : (s t : Sources) → ◌≡◌ {A = Option Sources} (Some s) (Some t) → s ≡ t
 same_sources s t is = cc
 
-course_from : (held : Told) (s t : Sources) (changes : Option (List ℕ)) (moving : Bool) → ◌≡◌ {A = Option Sources} (Some s) (Some t) → HasRead held s changes moving → HasRead held t changes moving
-course_from held s t changes moving is c = subst (λ (u : Sources). HasRead held u changes moving) (same_sources s t is) c
+plan_reads : (p : PlanJob) → IsReadFrom (job.Plan p) (plan_files p) p.changes
+plan_reads p = record { cause = λ held Failed r cause. inl cause; more = more }
+  where
+    more : (held : Told) (Failed : Names) (i : Intent) → IsMore i → GivesIntent held Failed (job.Plan p) i → HasRead held (plan_files p) p.changes
+    more held Failed (Planned records all log broken) is gives = record { world = gives.world; course = gives.course; says = gives.says; stands = gives.changes_say }
+    more held Failed (Refused r) is gives = absurd is
+    more held Failed OutOfMemory is gives = absurd is
+    more held Failed _ is gives = absurd gives
 
--- the file of labels is tried after the others
-labels_course : (held : Told) (Failed : Names) (c : CheckJob) (r : Refusal) → IsLabelsCause held Failed c r → HasRead held c.sources c.changes c.back
-labels_course held Failed c (refusal.Read input.Labels) (w, course, says, changes, at) = record { world = w; course = course; says = says; stands = changes }
-labels_course held Failed c (refusal.Length input.Labels) (w, course, says, changes, at) = record { world = w; course = course; says = says; stands = changes }
-labels_course held Failed c _ cause = absurd cause
+pub check_reads : (c : CheckJob) → IsReadFrom (job.Check c) (check_files c) c.changes
+check_reads c = record { cause = cause; more = more }
+  where
+    cause : (held : Told) (Failed : Names) (r : Refusal) → IsJobCause held Failed (job.Check c) r → IsEarlyCause held Failed (check_files c) c.changes r ⊎ (HasRead held (check_files c) c.changes × (IsNoCheck (job.Check c) → ⊥))
+    cause held Failed r (inl x) = inl x
+    cause held Failed r (inr x) = inr (labels_course held Failed (check_files c) c.changes c.labels r x, λ none. none)
 
--- a file of labels was not read: the reading failed, or it is too long
-pub labels_refused : (held : Told) (Failed : Names) (c : CheckJob) (wanted : ℕ) (r : Refusal) → (IsTooLong (held c.labels) → IsOrFailed wanted 8) → IsLabelsCause held Failed c r → IsOrFailed wanted (refusal_status r)
-labels_refused held Failed c wanted (refusal.Read x) long cause = failed_read wanted
-labels_refused held Failed c wanted (refusal.Length input.Labels) long (w, course, says, changes, at) = long at
-labels_refused held Failed c wanted _ long cause = absurd cause
+    more : (held : Told) (Failed : Names) (i : Intent) → IsMore i → GivesIntent held Failed (job.Check c) i → HasRead held (check_files c) c.changes
+    more held Failed (Checked goals os end) is gives = record { world = gives.world; course = gives.course; says = gives.says; stands = gives.changes_say }
+    more held Failed (Refused r) is gives = absurd is
+    more held Failed OutOfMemory is gives = absurd is
+    more held Failed _ is gives = absurd gives
 
--- the change file is tried where the others stand for a world
-pub changes_world : (held : Told) (Failed : Names) (from : Sources) (changes : Option (List ℕ)) (moving : Bool) (r : Refusal) → IsChangesCause held Failed from changes moving r → (w : World) × ReadsWorld held from w
-changes_world held Failed from changes moving (refusal.Changes x) (w, says, at) = (w, says)
-changes_world held Failed from changes moving (refusal.Read input.Changes) (w, says, at) = (w, says)
-changes_world held Failed from changes moving (refusal.Length input.Changes) (w, says, at) = (w, says)
-changes_world held Failed from changes moving _ cause = absurd cause
+sweep_reads : (from : Sources) → IsReadFrom (job.Sweep from) (lattice_files from false) None
+sweep_reads from = record { cause = λ held Failed r cause. inl (inl cause); more = more }
+  where
+    more : (held : Told) (Failed : Names) (i : Intent) → IsMore i → GivesIntent held Failed (job.Sweep from) i → HasRead held (lattice_files from false) None
+    more held Failed (Listed w) is gives = record { world = w; course = still []; says = gives.0; stands = refl }
+    more held Failed (Refused r) is gives = absurd is
+    more held Failed OutOfMemory is gives = absurd is
+    more held Failed _ is gives = absurd gives
 
--- a job is refused for the files of its lattice or its change file; or it is `check`, and they were read
-pub cause_of : (held : Told) (Failed : Names) (j : Job) (from : Sources) (r : Refusal) → sources_of j ≡ Some from → IsJobCause held Failed j r → IsEarlyCause held Failed from (changes_of j) (moves_in j) r ⊎ (HasRead held from (changes_of j) (moves_in j) × (IsNoCheck j → ⊥))
-cause_of held Failed (job.Plan p) from r is cause = inl (subst (λ (s : Sources). IsEarlyCause held Failed s p.changes (may_move p.search.planner) r) (same_sources p.sources from is) cause)
-cause_of held Failed (job.Check c) from r is (inl cause) = inl (subst (λ (s : Sources). IsEarlyCause held Failed s c.changes c.back r) (same_sources c.sources from is) (inl cause))
-cause_of held Failed (job.Check c) from r is (inr (inl cause)) = inl (subst (λ (s : Sources). IsEarlyCause held Failed s c.changes c.back r) (same_sources c.sources from is) (inr cause))
-cause_of held Failed (job.Check c) from r is (inr (inr cause)) = inr (course_from held c.sources from c.changes c.back is (labels_course held Failed c r cause), λ none. none)
-cause_of held Failed (job.Sweep s) from r is cause = inl (inl (subst (λ (t : Sources). IsCause held Failed t r) (same_sources s from is) cause))
-cause_of held Failed (job.Demo d) from r is cause = absurd cause
+-- a job on a lattice reads its files
+pub lattice_reads : (j : Job) (from : Sources) → sources_of j ≡ Some from → IsReadFrom j (lattice_files from (moves_in j)) (changes_of j)
+lattice_reads (job.Plan p) from is = subst (λ (s : Sources). IsReadFrom (job.Plan p) (lattice_files s (may_move p.search.planner)) p.changes) (same_sources p.sources from is) (plan_reads p)
+lattice_reads (job.Check c) from is = subst (λ (s : Sources). IsReadFrom (job.Check c) (lattice_files s c.back) c.changes) (same_sources c.sources from is) (check_reads c)
+lattice_reads (job.Sweep s) from is = subst (λ (t : Sources). IsReadFrom (job.Sweep s) (lattice_files t false) None) (same_sources s from is) (sweep_reads s)
+lattice_reads (job.Demo d) from is = absurd cc
 
 -- A job whose files stand for no world and course means nothing but a refusal, or memory runs out.
-pub by_intent : (held : Told) (Failed : Names) (wanted : ℕ) (j : Job) (from : Sources) (i : Intent) → sources_of j ≡ Some from → ((r : Refusal) → IsJobCause held Failed j r → IsOrFailed wanted (refusal_status r)) → (HasRead held from (changes_of j) (moves_in j) → ⊥) → GivesIntent held Failed j i → IsOrFailed wanted (intent_status i)
-by_intent held Failed wanted j from (Refused r) is refused none gives = refused r gives
-by_intent held Failed wanted j from OutOfMemory is refused none gives = no_memory wanted
-by_intent held Failed wanted (job.Plan p) from (Planned records all log broken) is refused none gives = absurd (none (course_from held p.sources from p.changes (may_move p.search.planner) is (record { world = gives.world; course = gives.course; says = gives.says; stands = gives.changes })))
-by_intent held Failed wanted (job.Check c) from (Checked goals os end) is refused none gives = absurd (none (course_from held c.sources from c.changes c.back is (record { world = gives.world; course = gives.course; says = gives.says; stands = gives.changes })))
-by_intent held Failed wanted (job.Sweep s) from (Listed w) is refused none gives = absurd (none (course_from held s from None false is (record { world = w; course = still []; says = gives.0; stands = refl })))
-by_intent held Failed wanted (job.Demo d) from (Demonstrated w count records all log broken) is refused none gives = cc
-by_intent held Failed wanted _ from _ is refused none gives = absurd gives
+pub by_intent : {W : Type 0} (held : Told) (Failed : Names) (wanted : ℕ) (j : Job) (f : WorldFiles W) (changes : Option (List ℕ)) (i : Intent) → IsReadFrom j f changes → ((r : Refusal) → IsJobCause held Failed j r → IsOrFailed wanted (refusal_status r))
+    → (HasRead held f changes → ⊥) → GivesIntent held Failed j i → IsOrFailed wanted (intent_status i)
+by_intent held Failed wanted j f changes (Refused r) reads refused none gives = refused r gives
+by_intent held Failed wanted j f changes OutOfMemory reads refused none gives = no_memory wanted
+by_intent held Failed wanted j f changes (Planned records all log broken) reads refused none gives = absurd (none (reads.more held Failed (Planned records all log broken) tt gives))
+by_intent held Failed wanted j f changes (Checked goals os end) reads refused none gives = absurd (none (reads.more held Failed (Checked goals os end) tt gives))
+by_intent held Failed wanted j f changes (Listed w) reads refused none gives = absurd (none (reads.more held Failed (Listed w) tt gives))
+by_intent held Failed wanted j f changes (Demonstrated w count records all log broken) reads refused none gives = absurd (none (reads.more held Failed (Demonstrated w count records all log broken) tt gives))
 
 same_name : (a b : List ℕ) → ◌≡◌ {A = Option (List ℕ)} (Some a) (Some b) → a ≡ b
 same_name a b is = cc
@@ -189,6 +230,58 @@ same_name a b is = cc
 named : (changes : Option (List ℕ)) (P : List ℕ → Type 0) → AtName changes P → (name : List ℕ) × (changes ≡ Some name) × P name
 named None P at = absurd at
 named (Some name) P at = (name, refl, at)
+
+-- good files of a world are refused where a read failed alone, and give a change file this scope
+pub record AreGoodFiles {W : Type 0} (held : Told) (Failed : Names) (f : WorldFiles W) (s : Scope) : Type 0 where
+  pub refused : (wanted : ℕ) (r : Refusal) → f.refused held Failed r → IsOrFailed wanted (refusal_status r)
+  pub scope : (w : W) → f.stand_for held w → f.scope w ≡ s
+
+module _ (clear : TextsAreClear) (held : Told) (Failed : Names) {W : Type 0} (f : WorldFiles W) (changes : Option (List ℕ)) (s : Scope) (good : AreGoodFiles held Failed f s) where
+  -- where the files are good, a job is refused for the change file alone
+  good_refused : (wanted : ℕ) → ((name : List ℕ) (x : ChangeFault) → changes ≡ Some name → IsFaultyChanges held name s x → IsOrFailed wanted 5) → ((name : List ℕ) → changes ≡ Some name → IsTooLong (held name) → IsOrFailed wanted 8)
+      → (r : Refusal) → IsEarlyCause held Failed f changes r → IsOrFailed wanted (refusal_status r)
+  good_refused wanted faulty long r (inl cause) = good.refused wanted r cause
+  good_refused wanted faulty long r (inr cause) = by_changes r cause
+    where
+      by_changes : (r : Refusal) → IsChangesCause held Failed f changes r → IsOrFailed wanted (refusal_status r)
+      by_changes (refusal.Changes x) (w, says, at) =
+          let found = named changes (λ name. IsFaultyChanges held name (f.scope w) x) at in
+          faulty found.0 x found.1 (subst (λ (t : Scope). IsFaultyChanges held found.0 t x) (good.scope w says) found.2)
+      by_changes (refusal.Read x) p = failed_read wanted
+      by_changes (refusal.Length input.Changes) (w, says, at) = let found = named changes (λ name. IsTooLong (held name)) at in long found.0 found.1 found.2
+      by_changes _ p = absurd p
+
+  -- and not even for that, where it stands for a course: then only a failed read is left
+  pub all_good : (c : Course) (wanted : ℕ) → TellsCourse held changes s c → (r : Refusal) → IsEarlyCause held Failed f changes r → IsOrFailed wanted (refusal_status r)
+  all_good c wanted told =
+      good_refused wanted
+      (λ name x is faulty. absurd (course_not_faulty clear held name s c x (subst (λ (o : Option (List ℕ)). TellsCourse held o s c) is told) faulty))
+      (λ name is long. absurd (course_not_long held name s c (subst (λ (o : Option (List ℕ)). TellsCourse held o s c) is told) long))
+
+  -- a change file that is too long
+  pub changes_long : (name : List ℕ) → changes ≡ Some name → TellsTooMuch (held name) → (r : Refusal) → IsEarlyCause held Failed f changes r → IsOrFailed 8 (refusal_status r)
+  changes_long name is much =
+      good_refused 8
+      (λ other x also faulty. absurd (too_much_not_read (held name) faulty.text much (subst (λ (n : List ℕ). IsReadText (held n) faulty.text) (same_name other name (sym also ∙ is)) faulty.read)))
+      (λ other also long. inl refl)
+
+  pub changes_long_none : (name : List ℕ) → changes ≡ Some name → TellsTooMuch (held name) → HasRead held f changes → ⊥
+  changes_long_none name is much c =
+      let said = subst (λ (o : Option (List ℕ)). ReadsCourse held o (f.scope c.world) c.course) is c.stands in
+      too_much_not_read (held name) said.0 much said.1
+
+  -- a faulty change file
+  pub changes_faulty : (x : ChangeFault) → TellsChangeFault held changes s x → (r : Refusal) → IsEarlyCause held Failed f changes r → IsOrFailed 5 (refusal_status r)
+  changes_faulty x (name, text, is, tells, faulty) =
+      good_refused 5
+      (λ other y also p. inl refl)
+      (λ other also long. absurd (too_long_not_short (held name) text tells (subst (λ (n : List ℕ). IsTooLong (held n)) (same_name other name (sym also ∙ is)) long)))
+
+  pub changes_faulty_none : (x : ChangeFault) → TellsChangeFault held changes s x → HasRead held f changes → ⊥
+  changes_faulty_none x (name, text, is, tells, faulty) c =
+      let said = subst (λ (o : Option (List ℕ)). ReadsCourse held o (f.scope c.world) c.course) is c.stands in
+      let here : IsChangeText (f.scope c.world) text c.course = subst (λ (t : List ℕ). IsChangeText (f.scope c.world) t c.course) (told_is (held name) text said.0 tells.held_bytes said.1) said.2 in
+      clear.change_fault s text c.course x (subst (λ (t : Scope). IsChangeText t text c.course) (good.scope c.world c.says) here) faulty
 
 module _ (clear : TextsAreClear) (held : Told) (Failed : Names) (from : Sources) where
   -- a faulty environment
@@ -273,51 +366,12 @@ module _ (clear : TextsAreClear) (held : Told) (Failed : Names) (from : Sources)
       let like = same_environment clear held from env _ _ told p.environment in
       none_is_first env ps i (subst (λ (e : Environment). NoneTooDear e ps) like (subst (λ (qs : Primitives). NoneTooDear w.env qs) same p.cheap)) dear
 
-  -- good files of a lattice are refused for the change file alone
-  pub good_refused : (moving : Bool) (s : Scope) (changes : Option (List ℕ)) (wanted : ℕ) → AreGood held from moving s → ((name : List ℕ) (f : ChangeFault) → changes ≡ Some name → IsFaultyChanges held name s f → IsOrFailed wanted 5) → ((name : List ℕ) → changes ≡ Some name → IsTooLong (held name) → IsOrFailed wanted 8) → (r : Refusal) → IsEarlyCause held Failed from changes moving r → IsOrFailed wanted (refusal_status r)
-  good_refused moving s changes wanted good faulty long r (inl cause) =
-      primitives_good good.env good.prims good.environment good.primitives wanted (λ k h. absurd (none_is_widest good.prims from.radius k good.narrow h)) (λ k n h. absurd (none_is_first good.env good.prims k good.cheap h)) r cause
-  good_refused moving s changes wanted good faulty long r (inr cause) = by_changes r cause
-    where
-      by_changes : (r : Refusal) → IsChangesCause held Failed from changes moving r → IsOrFailed wanted (refusal_status r)
-      by_changes (refusal.Changes x) (w, says, at) =
-          let found = named changes (λ name. IsFaultyChanges held name (scope_of moving w) x) at in
-          faulty found.0 x found.1 (subst (λ (t : Scope). IsFaultyChanges held found.0 t x) (same_scope clear held from moving s w good.scope says) found.2)
-      by_changes (refusal.Read x) p = failed_read wanted
-      by_changes (refusal.Length input.Changes) (w, says, at) = let found = named changes (λ name. IsTooLong (held name)) at in long found.0 found.1 found.2
-      by_changes _ p = absurd p
-
-  -- and not even for that, where it stands for a course: then only a failed read is left
-  pub all_good : (moving : Bool) (s : Scope) (changes : Option (List ℕ)) (c : Course) (wanted : ℕ) → AreGood held from moving s → TellsCourse held changes s c → (r : Refusal) → IsEarlyCause held Failed from changes moving r → IsOrFailed wanted (refusal_status r)
-  all_good moving s changes c wanted good told =
-      good_refused moving s changes wanted good
-      (λ name f is faulty. absurd (course_not_faulty clear held name s c f (subst (λ (o : Option (List ℕ)). TellsCourse held o s c) is told) faulty))
-      (λ name is long. absurd (course_not_long held name s c (subst (λ (o : Option (List ℕ)). TellsCourse held o s c) is told) long))
-
-  -- a change file that is too long
-  pub changes_long : (moving : Bool) (s : Scope) (changes : Option (List ℕ)) (name : List ℕ) → AreGood held from moving s → changes ≡ Some name → TellsTooMuch (held name) → (r : Refusal) → IsEarlyCause held Failed from changes moving r → IsOrFailed 8 (refusal_status r)
-  changes_long moving s changes name good is much =
-      good_refused moving s changes 8 good
-      (λ other f also faulty. absurd (too_much_not_read (held name) faulty.text much (subst (λ (n : List ℕ). IsReadText (held n) faulty.text) (same_name other name (sym also ∙ is)) faulty.read)))
-      (λ other also long. inl refl)
-
-  pub changes_long_none : (moving : Bool) (changes : Option (List ℕ)) (name : List ℕ) → changes ≡ Some name → TellsTooMuch (held name) → HasRead held from changes moving → ⊥
-  changes_long_none moving changes name is much c =
-      let said = subst (λ (o : Option (List ℕ)). ReadsCourse held o (scope_of moving c.world) c.course) is c.stands in
-      too_much_not_read (held name) said.0 much said.1
-
-  -- a faulty change file
-  pub changes_faulty : (moving : Bool) (s : Scope) (changes : Option (List ℕ)) (f : ChangeFault) → AreGood held from moving s → TellsChangeFault held changes s f → (r : Refusal) → IsEarlyCause held Failed from changes moving r → IsOrFailed 5 (refusal_status r)
-  changes_faulty moving s changes f good (name, text, is, tells, faulty) =
-      good_refused moving s changes 5 good
-      (λ other g also p. inl refl)
-      (λ other also long. absurd (too_long_not_short (held name) text tells (subst (λ (n : List ℕ). IsTooLong (held n)) (same_name other name (sym also ∙ is)) long)))
-
-  pub changes_faulty_none : (moving : Bool) (s : Scope) (changes : Option (List ℕ)) (f : ChangeFault) → AreGood held from moving s → TellsChangeFault held changes s f → HasRead held from changes moving → ⊥
-  changes_faulty_none moving s changes f good (name, text, is, tells, faulty) c =
-      let said = subst (λ (o : Option (List ℕ)). ReadsCourse held o (scope_of moving c.world) c.course) is c.stands in
-      let here : IsChangeText (scope_of moving c.world) text c.course = subst (λ (t : List ℕ). IsChangeText (scope_of moving c.world) t c.course) (told_is (held name) text said.0 tells.held_bytes said.1) said.2 in
-      clear.change_fault s text c.course f (subst (λ (t : Scope). IsChangeText t text c.course) (same_scope clear held from moving s c.world good.scope c.says) here) faulty
+  -- good files of a lattice are
+  pub good_files : (moving : Bool) (s : Scope) → AreGood held from moving s → AreGoodFiles held Failed (lattice_files from moving) s
+  good_files moving s good = record {
+    refused = λ wanted. primitives_good good.env good.prims good.environment good.primitives wanted (λ k h. absurd (none_is_widest good.prims from.radius k good.narrow h)) (λ k n h. absurd (none_is_first good.env good.prims k good.cheap h));
+    scope = λ w says. same_scope clear held from moving s w good.scope says;
+  }
 
   -- files that stand for a world are good ones
   pub world_good : (moving : Bool) (w : World) → TellsWorld held from w → AreGood held from moving (scope_of moving w)

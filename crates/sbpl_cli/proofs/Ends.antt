@@ -1,11 +1,9 @@
 -- How a job ends, from how its reading, its planning and its writing end.
-use Rattle.std.proofs.Common.{◌≡◌, ℕ, ◌≤◌, Bool, List, Option, Some, None, refl, ◌∙◌, subst, arith, inl, inr}
+use Rattle.std.proofs.Common.{◌≡◌, ℕ, ◌≤◌, List, Option, Some, None, refl, ◌∙◌, subst, arith, inl, inr}
 use Rattle.std.proofs.lemmas.Bool.{cases_lt}
 use Rattle.sbpl_cfg.specs.Environment.{Environment}
 use Rattle.sbpl_desk.specs.Desk.{NoneFalls, Rose, Stays}
 use Rattle.sbpl_mprim.specs.Primitives.{Primitives}
-use Rattle.sbpl_cost.specs.World.{World}
-use Rattle.sbpl_job.specs.declared.job.CheckJob.{CheckJob}
 use Rattle.sbpl_job.specs.declared.job.Job.{Job}
 use Rattle.sbpl_job.specs.declared.job.Job.TheVariants as job
 use Rattle.sbpl_job.specs.declared.job.Sources.{Sources}
@@ -14,10 +12,10 @@ use Rattle.sbpl_cli.specs.declared.refusal.Refusal.{Refusal}
 use Rattle.sbpl_cli.specs.declared.refusal.Refusal.TheVariants as refusal
 use Rattle.sbpl_cli.specs.declared.refusal.Stop.{Stop}
 use Rattle.sbpl_cli.specs.declared.refusal.Stop.TheVariants as stop
-use Rattle.sbpl_cli.specs.Causes.{AtName, ChangesStopFor, EarlyStopsFor, IsCause, IsChangesCause, IsFaultyChanges, IsJobCause, IsLabelsCause, IsReadText, IsTooLong, IsUnread, IsWideStop, JobStopsFor, LatticeStopsFor, PrimitivesStopFor, ReadsCourse, ReadsEnvironment, ReadsPrimitives, ReadsWorld, scope_of}
+use Rattle.sbpl_cli.specs.Causes.{AtName, ChangesStopFor, CheckStopsFor, EarlyStopsFor, IsCause, IsChangesCause, IsCheckCause, IsEarlyCause, IsFaultyChanges, IsJobCause, IsLabelsCause, IsReadText, IsTooLong, IsUnread, IsWideStop, LatticeStopsFor, PrimitivesStopFor, ReadsCourse, ReadsEnvironment, ReadsPrimitives, check_files, plan_files}
+use Rattle.sbpl_cli.specs.WorldFiles.{WorldFiles}
 use Rattle.sbpl_cli.specs.Texts.{Scope}
 use Rattle.sbpl_cli.specs.declared.course.Course.{Course}
-use Rattle.sbpl_job.specs.Jobs.{may_move}
 use Rattle.sbpl_cli.specs.Intents.{BeginsAfter, published_by, Intent, Refused, OutOfMemory, intent_status, refusal_status, refusal_writes, writes_of}
 use Rattle.sbpl_cli.specs.Published.{Entry}
 use Rattle.sbpl_cli.specs.Promises.{GivesIntent, EndsJob, IsWrittenFor, MayBeWritten}
@@ -55,21 +53,25 @@ module _ (held : Told) (F G : Names) where
       record { env = cause.env; cells = cause.cells; environment = cause.environment; holds = on refl from.prims cause.holds }
   cause_on from _ on cause = cause
 
-  changes_cause_on : (from : Sources) (changes : Option (List ℕ)) (moving : Bool) (r : Refusal) → IsFailedOn F G r
-      → IsChangesCause held F from changes moving r → IsChangesCause held G from changes moving r
-  changes_cause_on from changes moving (refusal.Read input.Changes) on (w, says, at) = (w, says, at_name_on changes F G (on refl) at)
-  changes_cause_on from changes moving _ on cause = cause
+  changes_cause_on : {W : Type 0} (f : WorldFiles W) (changes : Option (List ℕ)) (r : Refusal) → IsFailedOn F G r → IsChangesCause held F f changes r → IsChangesCause held G f changes r
+  changes_cause_on f changes (refusal.Read input.Changes) on (w, says, at) = (w, says, at_name_on changes F G (on refl) at)
+  changes_cause_on f changes _ on cause = cause
 
-  labels_cause_on : (c : CheckJob) (r : Refusal) → IsFailedOn F G r → IsLabelsCause held F c r → IsLabelsCause held G c r
-  labels_cause_on c (refusal.Read input.Labels) on (w, batches, says, changes, failed) = (w, batches, says, changes, on refl c.labels failed)
-  labels_cause_on c _ on cause = cause
+  labels_cause_on : {W : Type 0} (f : WorldFiles W) (changes : Option (List ℕ)) (labels : List ℕ) (r : Refusal) → IsFailedOn F G r → IsLabelsCause held F f changes labels r → IsLabelsCause held G f changes labels r
+  labels_cause_on f changes labels (refusal.Read input.Labels) on (w, course, says, changes_say, failed) = (w, course, says, changes_say, on refl labels failed)
+  labels_cause_on f changes labels _ on cause = cause
+
+  early_cause_on : {W : Type 0} (f : WorldFiles W) (changes : Option (List ℕ)) (r : Refusal) → (f.refused held F r → f.refused held G r) → IsFailedOn F G r → IsEarlyCause held F f changes r → IsEarlyCause held G f changes r
+  early_cause_on f changes r files on (inl cause) = inl (files cause)
+  early_cause_on f changes r files on (inr cause) = inr (changes_cause_on f changes r on cause)
+
+  check_cause_on : {W : Type 0} (f : WorldFiles W) (changes : Option (List ℕ)) (labels : List ℕ) (r : Refusal) → (f.refused held F r → f.refused held G r) → IsFailedOn F G r → IsCheckCause held F f changes labels r → IsCheckCause held G f changes labels r
+  check_cause_on f changes labels r files on (inl cause) = inl (early_cause_on f changes r files on cause)
+  check_cause_on f changes labels r files on (inr cause) = inr (labels_cause_on f changes labels r on cause)
 
   pub job_cause_on : (j : Job) (r : Refusal) → IsFailedOn F G r → IsJobCause held F j r → IsJobCause held G j r
-  job_cause_on (job.Plan p) r on (inl cause) = inl (cause_on p.sources r on cause)
-  job_cause_on (job.Plan p) r on (inr cause) = inr (changes_cause_on p.sources p.changes (may_move p.search.planner) r on cause)
-  job_cause_on (job.Check c) r on (inl cause) = inl (cause_on c.sources r on cause)
-  job_cause_on (job.Check c) r on (inr (inl cause)) = inr (inl (changes_cause_on c.sources c.changes c.back r on cause))
-  job_cause_on (job.Check c) r on (inr (inr cause)) = inr (inr (labels_cause_on c r on cause))
+  job_cause_on (job.Plan p) r on cause = early_cause_on (plan_files p) p.changes r (cause_on p.sources r on) on cause
+  job_cause_on (job.Check c) r on cause = check_cause_on (check_files c) c.changes c.labels r (cause_on c.sources r on) on cause
   job_cause_on (job.Sweep from) r on cause = cause_on from r on cause
   job_cause_on (job.Demo d) r on cause = cause
 
@@ -111,35 +113,34 @@ course_since held later None s c stays is = is
 course_since held later (Some name) s c stays (text, read, is) = (text, subst (λ (held_bytes : Option (List ℕ)). IsReadText held_bytes text) (stays name) read, is)
 
 -- a stop for the change file, where a world was read before, is an early stop of the job
-pub course_stop : (s t u : DeskState) (from : Sources) (changes : Option (List ℕ)) (moving : Bool) (w : World) (e : Stop) → ReadsWorld s.held from w → ReadsOnly s t → ChangesStopFor t u changes (scope_of moving w) e → EarlyStopsFor s u from changes moving e
-course_stop s t u from changes moving w stop.NoMemory says same cause = tt
-course_stop s t u from changes moving w (stop.Refused r) says same cause = inr (by_refusal r cause)
+pub course_stop : {W : Type 0} (s t u : DeskState) (f : WorldFiles W) (changes : Option (List ℕ)) (w : W) (e : Stop) → f.stand_for s.held w → ReadsOnly s t → ChangesStopFor t u changes (f.scope w) e → EarlyStopsFor s u f changes e
+course_stop s t u f changes w stop.NoMemory says same cause = tt
+course_stop s t u f changes w (stop.Refused r) says same cause = inr (by_refusal r cause)
   where
-    by_refusal : (r : Refusal) → ChangesStopFor t u changes (scope_of moving w) (stop.Refused r) → IsChangesCause s.held (ReadFailed s u) from changes moving r
+    by_refusal : (r : Refusal) → ChangesStopFor t u changes (f.scope w) (stop.Refused r) → IsChangesCause s.held (ReadFailed s u) f changes r
     by_refusal (refusal.Changes x) cause =
-        (w, says, at_name_on changes (λ name. IsFaultyChanges t.held name (scope_of moving w) x) (λ name. IsFaultyChanges s.held name (scope_of moving w) x) (λ name faulty. record { text = faulty.text; read = subst (λ (o : Option (List ℕ)). IsReadText o faulty.text) (same.held name) faulty.read; faulty = faulty.faulty }) cause)
+        (w, says, at_name_on changes (λ name. IsFaultyChanges t.held name (f.scope w) x) (λ name. IsFaultyChanges s.held name (f.scope w) x) (λ name faulty. record { text = faulty.text; read = subst (λ (o : Option (List ℕ)). IsReadText o faulty.text) (same.held name) faulty.read; faulty = faulty.faulty }) cause)
     by_refusal (refusal.Read input.Changes) cause = (w, says, at_name_on changes (ReadFailed t u) (ReadFailed s u) (failed_since s t u same.reads) cause)
     by_refusal (refusal.Length input.Changes) cause =
         (w, says, at_name_on changes (λ name. IsTooLong (t.held name)) (λ name. IsTooLong (s.held name)) (λ name long. subst (λ (o : Option (List ℕ)). IsTooLong o) (same.held name) long) cause)
     by_refusal _ cause = absurd cause
 
--- a stop for the files of a lattice or for the change file is one of the job `check`
-pub early_stop : (s t : DeskState) (j : CheckJob) (x : Stop) → EarlyStopsFor s t j.sources j.changes j.back x → JobStopsFor s t (job.Check j) x
-early_stop s t j stop.NoMemory cause = tt
-early_stop s t j (stop.Refused r) (inl cause) = inl cause
-early_stop s t j (stop.Refused r) (inr cause) = inr (inl cause)
+-- an early stop is one of a check
+pub early_stop : {W : Type 0} (s t : DeskState) (f : WorldFiles W) (changes : Option (List ℕ)) (labels : List ℕ) (x : Stop) → EarlyStopsFor s t f changes x → CheckStopsFor s t f changes labels x
+early_stop s t f changes labels stop.NoMemory cause = tt
+early_stop s t f changes labels (stop.Refused r) cause = inl cause
 
--- a stop for the file of labels is one of the job `check`, where a world and a course were read before
-pub labels_stop : (s t u : DeskState) (j : CheckJob) (w : World) (c : Course) (x : Stop) → ReadsWorld s.held j.sources w → ReadsCourse s.held j.changes (scope_of j.back w) c → ReadsOnly s t → IsUnread t u j.labels input.Labels x → JobStopsFor s u (job.Check j) x
-labels_stop s t u j w c stop.NoMemory says changes same cause = tt
-labels_stop s t u j w c (stop.Refused r) says changes same cause = inr (inr (by_refusal r cause))
+-- a stop for the file of labels is one of a check, where a world and a course were read before
+pub labels_stop : {W : Type 0} (s t u : DeskState) (f : WorldFiles W) (changes : Option (List ℕ)) (labels : List ℕ) (w : W) (c : Course) (x : Stop) → f.stand_for s.held w → ReadsCourse s.held changes (f.scope w) c → ReadsOnly s t → IsUnread t u labels input.Labels x → CheckStopsFor s u f changes labels x
+labels_stop s t u f changes labels w c stop.NoMemory says changes_say same cause = tt
+labels_stop s t u f changes labels w c (stop.Refused r) says changes_say same cause = inr (by_refusal r cause)
   where
-    by_refusal : (r : Refusal) → IsUnread t u j.labels input.Labels (stop.Refused r) → IsLabelsCause s.held (ReadFailed s u) j r
-    by_refusal (refusal.Read input.Labels) (is, failed) = (w, c, says, changes, failed_since s t u same.reads j.labels failed)
+    by_refusal : (r : Refusal) → IsUnread t u labels input.Labels (stop.Refused r) → IsLabelsCause s.held (ReadFailed s u) f changes labels r
+    by_refusal (refusal.Read input.Labels) (is, failed) = (w, c, says, changes_say, failed_since s t u same.reads labels failed)
     by_refusal (refusal.Read input.Environment) (is, failed) = absurd (cc)
     by_refusal (refusal.Read input.Primitives) (is, failed) = absurd (cc)
     by_refusal (refusal.Read input.Changes) (is, failed) = absurd (cc)
-    by_refusal (refusal.Length input.Labels) (is, long) = (w, c, says, changes, subst (λ (o : Option (List ℕ)). IsTooLong o) (same.held j.labels) long)
+    by_refusal (refusal.Length input.Labels) (is, long) = (w, c, says, changes_say, subst (λ (o : Option (List ℕ)). IsTooLong o) (same.held labels) long)
     by_refusal (refusal.Length input.Environment) (is, long) = absurd (cc)
     by_refusal (refusal.Length input.Primitives) (is, long) = absurd (cc)
     by_refusal (refusal.Length input.Changes) (is, long) = absurd (cc)

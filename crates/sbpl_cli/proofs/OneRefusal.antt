@@ -10,20 +10,19 @@ use Rattle.sbpl_sweep.specs.Widths.{IsFirstTooWide, NoneTooWide}
 use Rattle.sbpl_cost.specs.PrimitiveCost.{IsFirstTooDear, most_cost, primitive_cost}
 use Rattle.sbpl_cost.specs.World.{World}
 use Rattle.sbpl_map.specs.declared.fault.ChangeFault.{ChangeFault}
-use Rattle.sbpl_job.specs.declared.job.CheckJob.{CheckJob}
 use Rattle.sbpl_job.specs.declared.job.Sources.{Sources}
 use Rattle.sbpl_cli.specs.declared.refusal.Input.{Input}
 use Rattle.sbpl_cli.specs.declared.refusal.Input.TheVariants as input
 use Rattle.sbpl_cli.specs.declared.refusal.Refusal.{Refusal}
 use Rattle.sbpl_cli.specs.declared.refusal.Refusal.TheVariants as refusal
-use Rattle.sbpl_cli.specs.Causes.{AtName, IsCause, IsChangesCause, IsFaultyChanges, IsFaultyEnvironment, IsFaultyFor, IsLabelsCause, IsReadText, IsTooLong, ReadsCourse, ReadsEnvironment, ReadsPrimitives, ReadsWorld, scope_of}
+use Rattle.sbpl_cli.specs.Causes.{AtName, IsCause, IsChangesCause, IsCheckCause, IsEarlyCause, IsEarlyInput, IsFaultyChanges, IsFaultyEnvironment, IsFaultyFor, IsLabelsCause, IsReadText, IsSource, IsTooLong, ReadsCourse, ReadsEnvironment, ReadsPrimitives, ReadsWorld, lattice_files}
 use Rattle.sbpl_cli.specs.declared.course.Course.{Course}
 use Rattle.sbpl_cli.specs.Clear.{TextsAreClear}
-use Rattle.sbpl_cli.specs.Determined.{IsSource}
+use Rattle.sbpl_cli.specs.WorldFiles.{WorldFiles}
 use Rattle.sbpl_cli.specs.Texts.{HasChangeFault, HasEnvironmentFault, HasPrimitiveFault, IsChangeText, IsEnvironmentText, IsPrimitiveText, Scope}
 use Rattle.sbpl_cli.specs.Writing.{IsNamed, Names, Told}
 use Rattle.sbpl_cli.proofs.Converse.{none_is_first, none_is_widest}
-use Rattle.sbpl_cli.proofs.SamePlanned.{alike_scopes, one_world, read_once}
+use Rattle.sbpl_cli.proofs.SamePlanned.{StandForOne, read_once}
 
 -- a file that was read is not too long
 read_is_short : (held : Option (List ℕ)) (text : List ℕ) → IsSome held → IsReadText held text → IsTooLong held → ⊥
@@ -82,14 +81,14 @@ AreBadChanges held s r name =
     ((f : ChangeFault) × (r ≡ refusal.Changes f) × IsFaultyChanges held name s f)
     ⊎ ((r ≡ refusal.Length input.Changes) × IsTooLong (held name))
 
-abbrev pub IsBadCourse : Told → Sources → Option (List ℕ) → (moving : Bool) → Refusal → Type 0
-IsBadCourse held from changes moving r = (w : World) × ReadsWorld held from w × AtName changes (AreBadChanges held (scope_of moving w) r)
+abbrev pub IsBadCourse : {W : Type 0} → Told → WorldFiles W → Option (List ℕ) → Refusal → Type 0
+IsBadCourse {W} held f changes r = (w : W) × f.stand_for held w × AtName changes (AreBadChanges held (f.scope w) r)
 
 -- the file of labels is too long
-abbrev pub AreBadLabels : Told → CheckJob → Refusal → Type 0
-AreBadLabels held j r =
-    (w : World) × (c : Course) × ReadsWorld held j.sources w × ReadsCourse held j.changes (scope_of j.back w) c
-    × ((r ≡ refusal.Length input.Labels) × IsTooLong (held j.labels))
+abbrev pub AreBadLabels : {W : Type 0} → Told → WorldFiles W → Option (List ℕ) → (labels : List ℕ) → Refusal → Type 0
+AreBadLabels {W} held f changes labels r =
+    (w : W) × (c : Course) × f.stand_for held w × ReadsCourse held changes (f.scope w) c
+    × ((r ≡ refusal.Length input.Labels) × IsTooLong (held labels))
 
 -- a read of a file with this property failed, and this says so
 abbrev pub IsFailedRead : (IsOne Failed : Names) → Refusal → Type 0
@@ -116,24 +115,24 @@ source_cause held Failed from (refusal.Length input.Environment) c = inl (inl (i
 source_cause held Failed from (refusal.Length input.Primitives) c = inl (inr (c.env, c.cells, c.environment, inl (inr (refl, c.holds))))
 source_cause held Failed from _ c = absurd c
 
-pub course_cause : (held : Told) (Failed : Names) (from : Sources) (changes : Option (List ℕ)) (moving : Bool) (r : Refusal) → IsChangesCause held Failed from changes moving r → IsBadCourse held from changes moving r ⊎ IsFailedRead (IsNamed changes) Failed r
-course_cause held Failed from changes moving (refusal.Changes x) (w, says, at) =
-    inl (w, says, at_name_on changes (λ name. IsFaultyChanges held name (scope_of moving w) x) (AreBadChanges held (scope_of moving w) (refusal.Changes x)) (λ name faulty. inl (x, refl, faulty)) at)
-course_cause held Failed from changes moving (refusal.Read input.Changes) (w, says, at) =
+course_cause : {W : Type 0} (held : Told) (Failed : Names) (f : WorldFiles W) (changes : Option (List ℕ)) (r : Refusal) → IsChangesCause held Failed f changes r → IsBadCourse held f changes r ⊎ IsFailedRead (IsNamed changes) Failed r
+course_cause held Failed f changes (refusal.Changes x) (w, says, at) =
+    inl (w, says, at_name_on changes (λ name. IsFaultyChanges held name (f.scope w) x) (AreBadChanges held (f.scope w) (refusal.Changes x)) (λ name faulty. inl (x, refl, faulty)) at)
+course_cause held Failed f changes (refusal.Read input.Changes) (w, says, at) =
     let found = named_at changes Failed at in
     inr (input.Changes, refl, (found.0, found.1, found.2))
-course_cause held Failed from changes moving (refusal.Length input.Changes) (w, says, at) =
-    inl (w, says, at_name_on changes (λ name. IsTooLong (held name)) (AreBadChanges held (scope_of moving w) (refusal.Length input.Changes)) (λ name long. inr (refl, long)) at)
-course_cause held Failed from changes moving _ c = absurd c
+course_cause held Failed f changes (refusal.Length input.Changes) (w, says, at) =
+    inl (w, says, at_name_on changes (λ name. IsTooLong (held name)) (AreBadChanges held (f.scope w) (refusal.Length input.Changes)) (λ name long. inr (refl, long)) at)
+course_cause held Failed f changes _ c = absurd c
 
-pub labels_cause : (held : Told) (Failed : Names) (j : CheckJob) (r : Refusal) → IsLabelsCause held Failed j r → AreBadLabels held j r ⊎ IsFailedRead (λ name. name ≡ j.labels) Failed r
-labels_cause held Failed j (refusal.Read input.Labels) (w, batches, says, changes, rose) = inr (input.Labels, refl, (j.labels, refl, rose))
-labels_cause held Failed j (refusal.Length input.Labels) (w, batches, says, changes, long) = inl (w, batches, says, changes, (refl, long))
-labels_cause held Failed j _ c = absurd c
+labels_cause : {W : Type 0} (held : Told) (Failed : Names) (f : WorldFiles W) (changes : Option (List ℕ)) (labels : List ℕ) (r : Refusal) → IsLabelsCause held Failed f changes labels r → AreBadLabels held f changes labels r ⊎ IsFailedRead (λ name. name ≡ labels) Failed r
+labels_cause held Failed f changes labels (refusal.Read input.Labels) (w, course, says, changes_say, rose) = inr (input.Labels, refl, (labels, refl, rose))
+labels_cause held Failed f changes labels (refusal.Length input.Labels) (w, course, says, changes_say, long) = inl (w, course, says, changes_say, (refl, long))
+labels_cause held Failed f changes labels _ c = absurd c
 
--- where the file of labels was read, it is not too long
-pub labels_read : (held : Told) (j : CheckJob) → IsSome (held j.labels) → (r : Refusal) (text : List ℕ) → AreBadLabels held j r → IsReadText (held j.labels) text → ⊥
-labels_read held j told r text (w, batches, says, course, (is, long)) read = read_is_short (held j.labels) text told read long
+-- a read that failed of a file with one property failed of one with another that follows
+failed_on : (P Q Failed : Names) (r : Refusal) → ((name : List ℕ) → P name → Q name) → IsFailedRead P Failed r → IsFailedRead Q Failed r
+failed_on P Q Failed r on (i, is, (name, one, failed)) = (i, is, (name, on name one, failed))
 
 -- ---- two of them are the same
 
@@ -226,39 +225,89 @@ module _ (clear : TextsAreClear) (held : Told) where
     not_world w r (inl x) says = not_environment r w.env says.cells x says.environment
     not_world w r (inr (e, cells, also, x)) says = second_world w e r says (same_said e w.env cells says.cells also says.environment) x
 
-    -- the changes, in the world that the files stand for
+  -- ---- the changes, in a world that the files stand for
 
-    module _ (changes : Option (List ℕ)) (moving : Bool) (told_changes : IfSome changes (λ name. IsSome (held name))) where
-      one_changes : (s : Scope) (r u : Refusal) (name : List ℕ) → IsSome (held name) → AreBadChanges held s r name → AreBadChanges held s u name → r ≡ u
-      one_changes s r u name told (inl (f, is, x)) (inl (g, also, y)) =
-          let text : y.text ≡ x.text = read_once (held name) y.text x.text told y.read x.read in
-          let own : HasChangeFault s x.text g = subst (λ (t : List ℕ). HasChangeFault s t g) text y.faulty in
-          is ∙ ap (λ (c : ChangeFault). refusal.Changes c) (clear.one_change_fault s x.text f g x.faulty own) ∙ sym also
-      one_changes s r u name told (inl (f, is, x)) (inr (also, long)) = absurd (read_is_short (held name) x.text told x.read long)
-      one_changes s r u name told (inr (is, long)) (inl (g, also, y)) = absurd (read_is_short (held name) y.text told y.read long)
-      one_changes s r u name told (inr (is, long)) (inr (also, too)) = is ∙ sym also
+  one_changes : (s : Scope) (r u : Refusal) (name : List ℕ) → IsSome (held name) → AreBadChanges held s r name → AreBadChanges held s u name → r ≡ u
+  one_changes s r u name told (inl (f, is, x)) (inl (g, also, y)) =
+      let text : y.text ≡ x.text = read_once (held name) y.text x.text told y.read x.read in
+      let own : HasChangeFault s x.text g = subst (λ (t : List ℕ). HasChangeFault s t g) text y.faulty in
+      is ∙ ap (λ (c : ChangeFault). refusal.Changes c) (clear.one_change_fault s x.text f g x.faulty own) ∙ sym also
+  one_changes s r u name told (inl (f, is, x)) (inr (also, long)) = absurd (read_is_short (held name) x.text told x.read long)
+  one_changes s r u name told (inr (is, long)) (inl (g, also, y)) = absurd (read_is_short (held name) y.text told y.read long)
+  one_changes s r u name told (inr (is, long)) (inr (also, too)) = is ∙ sym also
 
-      not_changes : (s : Scope) (r : Refusal) (c : Course) (name : List ℕ) → IsSome (held name) → AreBadChanges held s r name → ReadsCourse held (Some name) s c → ⊥
-      not_changes s r c name told (inl (f, is, x)) (t, read, stands) =
-          let text : t ≡ x.text = read_once (held name) t x.text told read x.read in
-          let own : IsChangeText s x.text c = subst (λ (l : List ℕ). IsChangeText s l c) text stands in
-          clear.change_fault s x.text c f own x.faulty
-      not_changes s r c name told (inr (is, long)) (t, read, stands) = read_is_short (held name) t told read long
+  not_changes : (s : Scope) (r : Refusal) (c : Course) (name : List ℕ) → IsSome (held name) → AreBadChanges held s r name → ReadsCourse held (Some name) s c → ⊥
+  not_changes s r c name told (inl (f, is, x)) (t, read, stands) =
+      let text : t ≡ x.text = read_once (held name) t x.text told read x.read in
+      let own : IsChangeText s x.text c = subst (λ (l : List ℕ). IsChangeText s l c) text stands in
+      clear.change_fault s x.text c f own x.faulty
+  not_changes s r c name told (inr (is, long)) (t, read, stands) = read_is_short (held name) t told read long
 
-      at_course : (s : Scope) (o : Option (List ℕ)) (r u : Refusal) → IfSome o (λ name. IsSome (held name)) → AtName o (AreBadChanges held s r) → AtName o (AreBadChanges held s u) → r ≡ u
-      at_course s None r u told x y = absurd x
-      at_course s (Some name) r u told x y = one_changes s r u name told x y
+  at_course : (s : Scope) (o : Option (List ℕ)) (r u : Refusal) → IfSome o (λ name. IsSome (held name)) → AtName o (AreBadChanges held s r) → AtName o (AreBadChanges held s u) → r ≡ u
+  at_course s None r u told x y = absurd x
+  at_course s (Some name) r u told x y = one_changes s r u name told x y
 
-      off_course : (s : Scope) (o : Option (List ℕ)) (r : Refusal) (c : Course) → IfSome o (λ name. IsSome (held name)) → AtName o (AreBadChanges held s r) → ReadsCourse held o s c → ⊥
-      off_course s None r c told x says = x
-      off_course s (Some name) r c told x says = not_changes s r c name told x says
+  off_course : (s : Scope) (o : Option (List ℕ)) (r : Refusal) (c : Course) → IfSome o (λ name. IsSome (held name)) → AtName o (AreBadChanges held s r) → ReadsCourse held o s c → ⊥
+  off_course s None r c told x says = x
+  off_course s (Some name) r c told x says = not_changes s r c name told x says
 
-      pub one_bad_course : (r u : Refusal) → IsBadCourse held from changes moving r → IsBadCourse held from changes moving u → r ≡ u
-      one_bad_course r u (w, says, x) (v, also, y) =
-          let alike = one_world clear held from w v told_env told_prims says also in
-          at_course (scope_of moving w) changes r u told_changes x (subst (λ (s : Scope). AtName changes (AreBadChanges held s u)) (alike_scopes moving w v alike) y)
+-- as far as they are told, the files of a world call for one refusal of these, or stand for a world
+pub record CallForOne {W : Type 0} (held : Told) (f : WorldFiles W) (Bad : Refusal → Type 0) : Type 1 where
+  pub cause : (Failed : Names) (r : Refusal) → f.refused held Failed r → Bad r ⊎ IsFailedRead f.names Failed r
+  pub one : (r u : Refusal) → Bad r → Bad u → r ≡ u
+  pub none : (w : W) (r : Refusal) → Bad r → f.stand_for held w → ⊥
 
-      pub not_course : (w : World) (c : Course) (r : Refusal) → IsBadCourse held from changes moving r → ReadsWorld held from w → ReadsCourse held changes (scope_of moving w) c → ⊥
-      not_course w c r (v, also, x) says course =
-          let alike = one_world clear held from w v told_env told_prims says also in
-          off_course (scope_of moving w) changes r c told_changes (subst (λ (s : Scope). AtName changes (AreBadChanges held s r)) (alike_scopes moving w v alike) x) course
+-- those of a lattice do
+pub lattices_call_for_one : (clear : TextsAreClear) (held : Told) (from : Sources) (moving : Bool) → IsSome (held from.env) → IsSome (held from.prims) → CallForOne held (lattice_files from moving) (AreBadSources held from)
+lattices_call_for_one clear held from moving told_env told_prims = record {
+  cause = λ Failed r. source_cause held Failed from r;
+  one = one_source clear held from told_env told_prims;
+  none = not_world clear held from told_env told_prims;
+}
+
+module _ (clear : TextsAreClear) (held : Told) {W : Type 0} (f : WorldFiles W) (Alike : W → W → Type 0) (stand : StandForOne held f Alike) (Bad : Refusal → Type 0) (calls : CallForOne held f Bad)
+    (changes : Option (List ℕ)) (told_changes : IfSome changes (λ name. IsSome (held name))) where
+  one_bad_course : (r u : Refusal) → IsBadCourse held f changes r → IsBadCourse held f changes u → r ≡ u
+  one_bad_course r u (w, says, x) (v, also, y) =
+      at_course clear held (f.scope w) changes r u told_changes x (subst (λ (s : Scope). AtName changes (AreBadChanges held s u)) (stand.scope w v (stand.one w v says also)) y)
+
+  not_course : (w : W) (c : Course) (r : Refusal) → IsBadCourse held f changes r → f.stand_for held w → ReadsCourse held changes (f.scope w) c → ⊥
+  not_course w c r (v, also, x) says course =
+      off_course clear held (f.scope w) changes r c told_changes (subst (λ (s : Scope). AtName changes (AreBadChanges held s r)) (stand.scope w v (stand.one w v says also)) x) course
+
+  -- what calls for a refusal before a plan is made
+  abbrev pub IsEarlyBad : Refusal → Type 0
+  IsEarlyBad r = Bad r ⊎ IsBadCourse held f changes r
+
+  pub early_bad : (Failed : Names) (r : Refusal) → IsEarlyCause held Failed f changes r → IsEarlyBad r ⊎ IsFailedRead (IsEarlyInput f changes) Failed r
+  early_bad Failed r (inl c) = elim (calls.cause Failed r c) [ inl bad ↦ inl (inl bad) | inr out ↦ inr (failed_on f.names (IsEarlyInput f changes) Failed r (λ name is. inl is) out) ]
+  early_bad Failed r (inr c) = elim (course_cause held Failed f changes r c) [ inl bad ↦ inl (inr bad) | inr out ↦ inr (failed_on (IsNamed changes) (IsEarlyInput f changes) Failed r (λ name is. inr is) out) ]
+
+  pub one_early : (r u : Refusal) → IsEarlyBad r → IsEarlyBad u → r ≡ u
+  one_early r u (inl x) (inl y) = calls.one r u x y
+  one_early r u (inl x) (inr y) = absurd (calls.none y.0 r x y.1)
+  one_early r u (inr x) (inl y) = absurd (calls.none x.0 u y x.1)
+  one_early r u (inr x) (inr y) = one_bad_course r u x y
+
+  pub not_early : (w : W) (c : Course) (r : Refusal) → IsEarlyBad r → f.stand_for held w → ReadsCourse held changes (f.scope w) c → ⊥
+  not_early w c r (inl x) says course = calls.none w r x says
+  not_early w c r (inr x) says course = not_course w c r x says course
+
+  -- and before labels are checked
+  module _ (labels : List ℕ) where
+    abbrev pub IsCheckBad : Refusal → Type 0
+    IsCheckBad r = IsEarlyBad r ⊎ AreBadLabels held f changes labels r
+
+    pub check_bad : (Failed : Names) (r : Refusal) → IsCheckCause held Failed f changes labels r → IsCheckBad r ⊎ IsFailedRead (λ name. IsEarlyInput f changes name ⊎ (name ≡ labels)) Failed r
+    check_bad Failed r (inl c) = elim (early_bad Failed r c) [ inl bad ↦ inl (inl bad) | inr out ↦ inr (failed_on (IsEarlyInput f changes) (λ name. IsEarlyInput f changes name ⊎ (name ≡ labels)) Failed r (λ name is. inl is) out) ]
+    check_bad Failed r (inr c) = elim (labels_cause held Failed f changes labels r c) [ inl bad ↦ inl (inr bad) | inr out ↦ inr (failed_on (λ name. name ≡ labels) (λ name. IsEarlyInput f changes name ⊎ (name ≡ labels)) Failed r (λ name is. inr is) out) ]
+
+    pub one_check : (r u : Refusal) → IsCheckBad r → IsCheckBad u → r ≡ u
+    one_check r u (inl x) (inl y) = one_early r u x y
+    one_check r u (inl x) (inr (w, c, says, course, y)) = absurd (not_early w c r x says course)
+    one_check r u (inr (w, c, says, course, x)) (inl y) = absurd (not_early w c u y says course)
+    one_check r u (inr (w, c, says, course, x)) (inr (v, d, also, too, y)) = x.0 ∙ sym y.0
+
+    pub not_check : IsSome (held labels) → (w : W) (c : Course) (text : List ℕ) (r : Refusal) → IsCheckBad r → f.stand_for held w → ReadsCourse held changes (f.scope w) c → IsReadText (held labels) text → ⊥
+    not_check told w c text r (inl x) says course read = not_early w c r x says course
+    not_check told w c text r (inr (v, d, also, too, x)) says course read = read_is_short (held labels) text told read x.1

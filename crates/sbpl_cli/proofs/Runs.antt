@@ -32,7 +32,8 @@ use Rattle.sbpl_cli.proofs.Moving.{same_starts}
 use Rattle.sbpl_cli.specs.declared.record.PlanRecord.{PlanRecord}
 use Rattle.sbpl_cli.specs.declared.refusal.Refusal.{Refusal}
 use Rattle.sbpl_cli.specs.declared.refusal.Refusal.TheVariants as refusal
-use Rattle.sbpl_cli.specs.Causes.{AreDemonstrated, ArePlanned, IsCause, IsEarlyCause, IsJobCause, IsTooLong, ReadsCourse, ReadsWorld, scope_of}
+use Rattle.sbpl_cli.specs.Causes.{AreDemonstrated, ArePlanned, IsCause, IsEarlyCause, IsJobCause, IsTooLong, ReadsCourse, ReadsWorld, check_files, lattice_files, plan_files, scope_of}
+use Rattle.sbpl_cli.specs.WorldFiles.{WorldFiles}
 use Rattle.sbpl_cli.specs.Texts.{Scope}
 use Rattle.sbpl_cli.specs.declared.course.Course.{Course}
 use Rattle.sbpl_job.specs.Jobs.{moves_in}
@@ -48,7 +49,7 @@ use Rattle.sbpl_cli.proofs.Ends.{plain_is}
 use Rattle.sbpl_cli.specs.Clear.{TextsAreClear}
 use Rattle.sbpl_cli.specs.Clear.{SectionsAreClear}
 use Rattle.sbpl_cli.proofs.OneEnding.{OneMap, checked_on, one_ending, same_case}
-use Rattle.sbpl_cli.proofs.Converse.{HasRead, all_good, by_intent, cause_of, changes_faulty, changes_faulty_none, changes_long, changes_long_none, changes_world, environment_faulty, environment_faulty_none, environment_long, environment_long_none, labels_refused, no_memory, primitives_faulty, primitives_faulty_none, primitives_good, primitives_long, primitives_long_none, same_course, same_environment, same_primitives, same_scope, told_is, too_dear_none, too_long_not_short, too_much_not_read, too_wide_none, world_good}
+use Rattle.sbpl_cli.proofs.Converse.{HasRead, IsReadFrom, all_good, by_intent, changes_faulty, changes_faulty_none, changes_long, changes_long_none, changes_world, environment_faulty, environment_faulty_none, environment_long, environment_long_none, good_files, labels_refused, lattice_reads, no_memory, primitives_faulty, primitives_faulty_none, primitives_good, primitives_long, primitives_long_none, same_course, same_environment, same_primitives, same_scope, told_is, too_dear_none, too_long_not_short, too_much_not_read, too_wide_none, world_good}
 
 -- ---- statuses
 
@@ -155,7 +156,7 @@ module _ (before after : DeskState) (old new : List Entry) where
   Failed = ReadFailed before after
 
   done_by : (j : Job) (i : Intent) → GivesIntent held Failed j i → BeginsAfter i old → 0 ≡ intent_status i → AreAppended before after (writes_of j i) → IsDone before after old j
-  done_by (job.Plan p) (Planned records true log broken) gives begins zero made = record { records = records; planned = subst (λ (l : List Entry). ArePlanned held p records true l []) begins (subst (λ (b : List Found). ArePlanned held p records true log b) (gives.plans.none_broken refl) gives); report = made }
+  done_by (job.Plan p) (Planned records true log broken) gives begins zero made = record { records = records; planned = subst (λ (l : List Entry). ArePlanned held (plan_files p) p.changes p.search p.outputs records true l []) begins (subst (λ (b : List Found). ArePlanned held (plan_files p) p.changes p.search p.outputs records true log b) (gives.plans.none_broken refl) gives); report = made }
   done_by (job.Check c) (Checked goal os None) gives begins zero made = record { goals = goal; outcomes = os; checked = gives; lines = made }
   done_by (job.Sweep from) (Listed w) gives begins zero made = record { world = w; says = gives.0; is_world = gives.1; lines = made }
   done_by (job.Demo d) (Demonstrated w count records true log broken) (batches, is, planned) begins zero made =
@@ -358,51 +359,57 @@ module _ (before after : DeskState) (old new : List Entry) where
     by_each j wanted (by_memory at same stays) names each = inr (inr (inr at))
 
     -- where the files stand for no world and course, a job is refused for one of them, or memory runs out
-    by_early : (j : Job) (from : Sources) (wanted : ℕ) → EndsRun named before after old new status → named ≡ Some j → sources_of j ≡ Some from → ((r : Refusal) → IsEarlyCause held Failed from (changes_of j) (moves_in j) r → IsOrFailed wanted (refusal_status r)) → (HasRead held from (changes_of j) (moves_in j) → ⊥) → IsOrFailed wanted status
-    by_early j from wanted ends names is refused none = by_each j wanted ends names (λ i gives. by_intent held Failed wanted j from i is by_cause none gives)
+    by_early : {W : Type 0} (j : Job) (f : WorldFiles W) (changes : Option (List ℕ)) (wanted : ℕ) → IsReadFrom j f changes → EndsRun named before after old new status → named ≡ Some j → ((r : Refusal) → IsEarlyCause held Failed f changes r → IsOrFailed wanted (refusal_status r))
+        → (HasRead held f changes → ⊥) → IsOrFailed wanted status
+    by_early j f changes wanted reads ends names refused none = by_each j wanted ends names (λ i gives. by_intent held Failed wanted j f changes i reads by_cause none gives)
       where
         by_cause : (r : Refusal) → IsJobCause held Failed j r → IsOrFailed wanted (refusal_status r)
-        by_cause r cause = elim (cause_of held Failed j from r is cause) [ inl early ↦ refused r early | inr (course, checks) ↦ absurd (none course) ]
+        by_cause r cause = elim (reads.cause held Failed r cause) [ inl early ↦ refused r early | inr (course, checks) ↦ absurd (none course) ]
 
-    -- and where they stand for no world, for a file of the lattice
-    by_none : (j : Job) (from : Sources) (wanted : ℕ) → EndsRun named before after old new status → named ≡ Some j → sources_of j ≡ Some from → ((r : Refusal) → IsCause held Failed from r → IsOrFailed wanted (refusal_status r)) → ((w : World) → ReadsWorld held from w → ⊥) → IsOrFailed wanted status
-    by_none j from wanted ends names is refused none = by_early j from wanted ends names is by_cause (λ c. none c.world c.says)
+    -- and where they stand for no world, for a file of the world
+    by_none : {W : Type 0} (j : Job) (f : WorldFiles W) (changes : Option (List ℕ)) (wanted : ℕ) → IsReadFrom j f changes → EndsRun named before after old new status → named ≡ Some j → ((r : Refusal) → f.refused held Failed r → IsOrFailed wanted (refusal_status r)) → ((w : W) → f.stand_for held w → ⊥)
+        → IsOrFailed wanted status
+    by_none j f changes wanted reads ends names refused none = by_early j f changes wanted reads ends names by_cause (λ c. none c.world c.says)
       where
-        by_cause : (r : Refusal) → IsEarlyCause held Failed from (changes_of j) (moves_in j) r → IsOrFailed wanted (refusal_status r)
+        by_cause : (r : Refusal) → IsEarlyCause held Failed f changes r → IsOrFailed wanted (refusal_status r)
         by_cause r (inl cause) = refused r cause
-        by_cause r (inr cause) = let found = changes_world held Failed from (changes_of j) (moves_in j) r cause in absurd (none found.0 found.1)
+        by_cause r (inr cause) = let found = changes_world held Failed f changes r cause in absurd (none found.0 found.1)
+
+    -- the same for a job on a lattice
+    no_lattice : (j : Job) (from : Sources) (wanted : ℕ) → EndsRun named before after old new status → named ≡ Some j → sources_of j ≡ Some from → ((r : Refusal) → IsCause held Failed from r → IsOrFailed wanted (refusal_status r)) → ((w : World) → ReadsWorld held from w → ⊥) → IsOrFailed wanted status
+    no_lattice j from wanted ends names is refused none = by_none j (lattice_files from (moves_in j)) (changes_of j) wanted (lattice_reads j from is) ends names refused none
 
     pub run_environment_faulty : TextsAreClear → EndsRun named before after old new status → (j : Job) (from : Sources) (f : EnvFault) → named ≡ Some j → sources_of j ≡ Some from → TellsEnvironmentFault held from f → IsOrFailed 3 status
-    run_environment_faulty clear ends j from f names is tells = by_none j from 3 ends names is (environment_faulty clear held Failed from f tells) (environment_faulty_none clear held Failed from f tells)
+    run_environment_faulty clear ends j from f names is tells = no_lattice j from 3 ends names is (environment_faulty clear held Failed from f tells) (environment_faulty_none clear held Failed from f tells)
 
     pub run_environment_long : TextsAreClear → EndsRun named before after old new status → (j : Job) (from : Sources) → named ≡ Some j → sources_of j ≡ Some from → TellsTooMuch (held from.env) → IsOrFailed 8 status
-    run_environment_long clear ends j from names is much = by_none j from 8 ends names is (environment_long clear held Failed from much) (environment_long_none clear held Failed from much)
+    run_environment_long clear ends j from names is much = no_lattice j from 8 ends names is (environment_long clear held Failed from much) (environment_long_none clear held Failed from much)
 
     pub run_primitives_long : TextsAreClear → EndsRun named before after old new status → (j : Job) (from : Sources) (env : Environment) → named ≡ Some j → sources_of j ≡ Some from → TellsEnvironment held from env → TellsTooMuch (held from.prims) → IsOrFailed 8 status
-    run_primitives_long clear ends j from env names is told much = by_none j from 8 ends names is (primitives_long clear held Failed from env told much) (primitives_long_none clear held Failed from env told much)
+    run_primitives_long clear ends j from env names is told much = no_lattice j from 8 ends names is (primitives_long clear held Failed from env told much) (primitives_long_none clear held Failed from env told much)
 
     pub run_primitives_faulty : TextsAreClear → EndsRun named before after old new status → (j : Job) (from : Sources) (env : Environment) (f : PrimFault) → named ≡ Some j → sources_of j ≡ Some from → TellsEnvironment held from env → TellsPrimitiveFault held from env f → IsOrFailed 4 status
-    run_primitives_faulty clear ends j from env f names is told tells = by_none j from 4 ends names is (primitives_faulty clear held Failed from env f told tells) (primitives_faulty_none clear held Failed from env f told tells)
+    run_primitives_faulty clear ends j from env f names is told tells = no_lattice j from 4 ends names is (primitives_faulty clear held Failed from env f told tells) (primitives_faulty_none clear held Failed from env f told tells)
 
     pub run_too_wide : TextsAreClear → EndsRun named before after old new status → (j : Job) (from : Sources) (env : Environment) (ps : Primitives) (i : ℕ) → named ≡ Some j → sources_of j ≡ Some from → TellsEnvironment held from env → TellsPrimitives held from env ps → IsFirstTooWide ps from.radius i → IsOrFailed 4 status
-    run_too_wide clear ends j from env ps i names is told tells wide = by_none j from 4 ends names is
+    run_too_wide clear ends j from env ps i names is told tells wide = no_lattice j from 4 ends names is
         (primitives_good clear held Failed from env ps told tells 4 (λ k h. inl refl) (λ k n h. inl refl))
         (too_wide_none clear held Failed from env ps i told tells wide)
 
     pub run_too_dear : TextsAreClear → EndsRun named before after old new status → (j : Job) (from : Sources) (env : Environment) (ps : Primitives) (i : ℕ) → named ≡ Some j → sources_of j ≡ Some from → TellsEnvironment held from env → TellsPrimitives held from env ps → NoneTooWide ps from.radius → IsFirstTooDear env ps.items i → IsOrFailed 4 status
-    run_too_dear clear ends j from env ps i names is told tells narrow dear = by_none j from 4 ends names is
+    run_too_dear clear ends j from env ps i names is told tells narrow dear = no_lattice j from 4 ends names is
         (primitives_good clear held Failed from env ps told tells 4 (λ k h. inl refl) (λ k n h. inl refl))
         (too_dear_none clear held Failed from env ps i told tells dear)
 
     pub run_changes_long : TextsAreClear → EndsRun named before after old new status → (j : Job) (from : Sources) (s : Scope) (name : List ℕ) → named ≡ Some j → sources_of j ≡ Some from → AreGood held from (moves_in j) s → changes_of j ≡ Some name → TellsTooMuch (held name) → IsOrFailed 8 status
-    run_changes_long clear ends j from s name names is good file much = by_early j from 8 ends names is
-        (changes_long clear held Failed from (moves_in j) s (changes_of j) name good file much)
-        (changes_long_none clear held Failed from (moves_in j) (changes_of j) name file much)
+    run_changes_long clear ends j from s name names is good file much = by_early j (lattice_files from (moves_in j)) (changes_of j) 8 (lattice_reads j from is) ends names
+        (changes_long clear held Failed (lattice_files from (moves_in j)) (changes_of j) s (good_files clear held Failed from (moves_in j) s good) name file much)
+        (changes_long_none clear held Failed (lattice_files from (moves_in j)) (changes_of j) s (good_files clear held Failed from (moves_in j) s good) name file much)
 
     pub run_changes_faulty : TextsAreClear → EndsRun named before after old new status → (j : Job) (from : Sources) (s : Scope) (f : ChangeFault) → named ≡ Some j → sources_of j ≡ Some from → AreGood held from (moves_in j) s → TellsChangeFault held (changes_of j) s f → IsOrFailed 5 status
-    run_changes_faulty clear ends j from s f names is good tells = by_early j from 5 ends names is
-        (changes_faulty clear held Failed from (moves_in j) s (changes_of j) f good tells)
-        (changes_faulty_none clear held Failed from (moves_in j) s (changes_of j) f good tells)
+    run_changes_faulty clear ends j from s f names is good tells = by_early j (lattice_files from (moves_in j)) (changes_of j) 5 (lattice_reads j from is) ends names
+        (changes_faulty clear held Failed (lattice_files from (moves_in j)) (changes_of j) s (good_files clear held Failed from (moves_in j) s good) f tells)
+        (changes_faulty_none clear held Failed (lattice_files from (moves_in j)) (changes_of j) s (good_files clear held Failed from (moves_in j) s good) f tells)
 
     -- plans are made, all of them or until memory runs out
     planned_status : (all : Bool) → IsOrFailed 0 (plans_status all)
@@ -423,7 +430,10 @@ module _ (before after : DeskState) (old new : List Entry) where
     run_complete clear ends j from s c names is good told plain = by_each j 0 ends names (λ i gives. served j i plain by_cause gives)
       where
         by_cause : (r : Refusal) → IsJobCause held Failed j r → IsOrFailed 0 (refusal_status r)
-        by_cause r cause = elim (cause_of held Failed j from r is cause) [ inl early ↦ all_good clear held Failed from (moves_in j) s (changes_of j) c 0 good told r early | inr (course, checks) ↦ absurd (checks plain) ]
+        by_cause r cause = elim ((lattice_reads j from is).cause held Failed r cause) [
+          | inl early ↦ all_good clear held Failed (lattice_files from (moves_in j)) (changes_of j) s (good_files clear held Failed from (moves_in j) s good) c 0 told r early
+          | inr (course, checks) ↦ absurd (checks plain)
+        ]
 
     -- a demonstration is refused for nothing
     demonstrated : (d : DemoJob) (i : Intent) → GivesIntent held Failed (job.Demo d) i → (intent_status i ≡ 0) ⊎ (intent_status i ≡ 9)
@@ -447,10 +457,10 @@ module _ (before after : DeskState) (old new : List Entry) where
     run_demonstrated (by_memory at same stays) d names = inr (inr at)
 
     -- where the files stand for a world and a course, a check is refused for its file of labels alone
-    check_refused : TextsAreClear → (c : CheckJob) (w : World) (course : Course) (wanted : ℕ) → TellsWorld held c.sources w → TellsCourse held c.changes (scope_of c.back w) course → (IsTooLong (held c.labels) → IsOrFailed wanted 8) → (r : Refusal) → IsJobCause held Failed (job.Check c) r → IsOrFailed wanted (refusal_status r)
-    check_refused clear c w course wanted tells told long r (inl cause) = all_good clear held Failed c.sources c.back (scope_of c.back w) c.changes course wanted (world_good clear held Failed c.sources c.back w tells) told r (inl cause)
-    check_refused clear c w course wanted tells told long r (inr (inl cause)) = all_good clear held Failed c.sources c.back (scope_of c.back w) c.changes course wanted (world_good clear held Failed c.sources c.back w tells) told r (inr cause)
-    check_refused clear c w course wanted tells told long r (inr (inr cause)) = labels_refused held Failed c wanted r long cause
+    check_refused : TextsAreClear → (c : CheckJob) (w : World) (course : Course) (wanted : ℕ) → TellsWorld held c.sources w → TellsCourse held c.changes (scope_of c.back w) course → (IsTooLong (held c.labels) → IsOrFailed wanted 8) → (r : Refusal) → IsJobCause held Failed (job.Check c) r
+        → IsOrFailed wanted (refusal_status r)
+    check_refused clear c w course wanted tells told long r (inl cause) = all_good clear held Failed (check_files c) c.changes (scope_of c.back w) (good_files clear held Failed c.sources c.back (scope_of c.back w) (world_good clear held Failed c.sources c.back w tells)) course wanted told r cause
+    check_refused clear c w course wanted tells told long r (inr cause) = labels_refused held Failed (check_files c) c.changes c.labels wanted r long cause
 
     -- how a check ends
     checked_alike : TextsAreClear → SectionsAreClear → OneMap → AlikeWorldsAreOneGraph → (c : CheckJob) (w : World) (course : Course) (text : List ℕ) (goals : ℕ → ℕ) (os : List Outcome) (end : Option SectionStop) → end ≢ Some section.NoMemory → TellsWorld held c.sources w → TellsCourse held c.changes (scope_of c.back w) course → Tells (held c.labels) text → IsCheckedIn IsHolding lattice_site (checked_direction lattice_site c.back) w course text goals os end
@@ -468,7 +478,7 @@ module _ (before after : DeskState) (old new : List Entry) where
         let scope = same_scope clear held c.sources c.back (scope_of c.back w) v good.scope gives.says in
         let map = ap (λ (s : Scope). s.map) scope in
         let radius = gives.says.sweeps.radius_is ∙ sym tells.says.sweeps.radius_is in
-        let same : gives.course ≡ course = same_course clear held c.changes (scope_of c.back w) course gives.course told (subst (λ (s : Scope). ReadsCourse held c.changes s gives.course) scope gives.changes) in
+        let same : gives.course ≡ course = same_course clear held c.changes (scope_of c.back w) course gives.course told (subst (λ (s : Scope). ReadsCourse held c.changes s gives.course) scope gives.changes_say) in
         let same_text : gives.text ≡ text = told_is (held c.labels) text gives.text held_text.held_bytes gives.read in
         let near : AreAlikeWorlds w v = record { env = env; prims = prims; map = map; radius = radius } in
         let alike = lattices_alike graphs in

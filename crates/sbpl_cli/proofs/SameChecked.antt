@@ -10,18 +10,14 @@ use Rattle.sbpl_cert.specs.Flaws.{IsFirstFlaw}
 use Rattle.sbpl_cert.specs.declared.section.Section.{Section}
 use Rattle.sbpl_cert.specs.Text.{HasFault}
 use Rattle.sbpl_cert.specs.Versions.{claim_by, outcome_of}
-use Rattle.sbpl_cost.specs.Alike.{AlikeWorldsAreOneGraph}
-use Rattle.sbpl_job.specs.declared.job.CheckJob.{CheckJob}
 use Rattle.sbpl_cli.specs.declared.section_check.SectionStop.{SectionStop}
 use Rattle.sbpl_cli.specs.declared.section_check.SectionStop.TheVariants as section
 use Rattle.sbpl_cli.specs.Asked.{checked_direction}
-use Rattle.sbpl_cli.specs.Causes.{ReadsCourse, scope_of}
+use Rattle.sbpl_cli.specs.Causes.{ReadsCourse}
 use Rattle.sbpl_cli.specs.Texts.{Scope}
 use Rattle.sbpl_cli.specs.declared.course.Course.{Course}
 use Rattle.sbpl_cli.specs.Checked.{AreChecked, Case, Ground, IsFlawed, IsHolding, IsShownHolding, IsStoppedIn, IsTrailingAt, case_of, from_in, to_in}
 use Rattle.sbpl_cli.specs.Clear.{SectionsAreClear, TextsAreClear}
-use Rattle.sbpl_cli.specs.Determined.{AreAlikeWorlds}
-use Rattle.sbpl_cli.specs.LatticeSite.{lattice_site}
 use Rattle.sbpl_cli.specs.Sites.{Site, start_after}
 use Rattle.sbpl_replan.specs.Directions.{Direction}
 use Rattle.sbpl_cli.specs.Intents.{checked_writes}
@@ -31,9 +27,9 @@ use Rattle.sbpl_cli.specs.Writing.{Told}
 use Rattle.sbpl_cli.specs.Writing as writing
 use Rattle.sbpl_cli.proofs.OneEnding.{AreOneGround, OneMap, case_in, checked_on, holds_not_stopped, one_ground, readable, same_case, same_left, trailing_none}
 use Rattle.sbpl_cli.proofs.AlikeSites.{AreAlike, GoesAlike, goes_alike}
-use Rattle.sbpl_cli.proofs.LatticeAlike.{lattices_alike}
 use Rattle.sbpl_cli.proofs.Moving.{same_starts}
-use Rattle.sbpl_cli.proofs.SamePlanned.{alike_scopes, one_course, one_world, read_once}
+use Rattle.sbpl_cli.specs.WorldFiles.{WorldFiles}
+use Rattle.sbpl_cli.proofs.SamePlanned.{StandForOne, one_course, read_once}
 
 -- the first checking goes as far as the second: both are the same, or memory ran out in it after the first few sections that hold
 abbrev pub GoesAsFar : List Outcome → List Outcome → Option SectionStop → Option SectionStop → Type 0
@@ -144,15 +140,14 @@ checks_as_far on Alike alike d goes sections one w v course also text same_text 
     let same : to_in (case_of on d v also y.start y.goal) ≡ to_in (case_of on d w course x.start x.goal) = λ i k. d.to (starts i k) (to i) in
     (x.goals_are ∙ sym same ∙ sym y.goals_are, writes_as_far goals 0 os ps a b (goes_as_far on Alike alike d goes sections one c (suc (length course.batches)) 0 (start_at text 0) os ps a b some p q))
 
-module _ (clear : TextsAreClear) (sections : SectionsAreClear) (one : OneMap) (graphs : AlikeWorldsAreOneGraph) (held : Told) where
-  pub check_as_far : (j : CheckJob) (goals others : ℕ → ℕ) (os ps : List Outcome) (a b : Option SectionStop) → IsSome (held j.sources.env) → IsSome (held j.sources.prims) → IfSome j.changes (λ name. IsSome (held name)) → IsSome (held j.labels)
-      → b ≢ Some section.NoMemory → IsChecked held j goals os a → IsChecked held j others ps b → (goals ≡ others) × WritesAsFar goals 0 os ps a b
-  check_as_far j goals others os ps a b told_env told_prims told_changes told_labels some x y =
-      let w = x.world in
-      let v = y.world in
-      let near = one_world clear held j.sources w v told_env told_prims x.says y.says in
-      let alike = lattices_alike graphs in
-      let read : ReadsCourse held j.changes (scope_of j.back w) y.course = subst (λ (s : Scope). ReadsCourse held j.changes s y.course) (alike_scopes j.back w v near) y.changes in
-      let course : y.course ≡ x.course = sym (one_course clear held j.changes (scope_of j.back w) x.course y.course told_changes x.changes read) in
-      let text : y.text ≡ x.text = read_once (held j.labels) y.text x.text told_labels y.read x.read in
-      checks_as_far lattice_site AreAlikeWorlds alike (checked_direction lattice_site j.back) (goes_alike lattice_site AreAlikeWorlds alike j.back) sections one w v x.course y.course x.text y.text goals others os ps a b (alike.back w v near) x.is_world course text some x.in_world y.in_world
+pub check_as_far : (clear : TextsAreClear) (sections : SectionsAreClear) (one : OneMap) (held : Told) {W : Type 0} (f : WorldFiles W) (Alike : W → W → Type 0) → AreAlike f.on Alike → StandForOne held f Alike
+    → (changes : Option (List ℕ)) (labels : List ℕ) (goals others : ℕ → ℕ) (os ps : List Outcome) (a b : Option SectionStop) → IfSome changes (λ name. IsSome (held name)) → IsSome (held labels)
+    → b ≢ Some section.NoMemory → IsChecked held f changes labels goals os a → IsChecked held f changes labels others ps b → (goals ≡ others) × WritesAsFar goals 0 os ps a b
+check_as_far clear sections one held f Alike alike stand changes labels goals others os ps a b told_changes told_labels some x y =
+    let w = x.world in
+    let v = y.world in
+    let near = stand.one w v x.says y.says in
+    let read : ReadsCourse held changes (f.scope w) y.course = subst (λ (s : Scope). ReadsCourse held changes s y.course) (stand.scope w v near) y.changes_say in
+    let course : y.course ≡ x.course = sym (one_course clear held changes (f.scope w) x.course y.course told_changes x.changes_say read) in
+    let text : y.text ≡ x.text = read_once (held labels) y.text x.text told_labels y.read x.read in
+    checks_as_far f.on Alike alike (checked_direction f.on f.moves) (goes_alike f.on Alike alike f.moves) sections one w v x.course y.course x.text y.text goals others os ps a b (alike.back w v near) x.is_world course text some x.in_world y.in_world

@@ -4,17 +4,17 @@ use Rattle.std.proofs.lemmas.Bool.{false≢true}
 use Rattle.sbpl_cfg.specs.Environment.{Environment}
 use Rattle.sbpl_map.specs.CellMap.{CellMap}
 use Rattle.sbpl_cost.specs.World.{World}
-use Rattle.sbpl_job.specs.declared.job.PlanJob.{PlanJob}
+use Rattle.sbpl_job.specs.declared.job.Outputs.{Outputs}
+use Rattle.sbpl_job.specs.declared.job.SearchJob.{SearchJob}
 use Rattle.sbpl_job.specs.declared.job.Sources.{Sources}
 use Rattle.sbpl_cli.specs.declared.record.PlanRecord.{PlanRecord}
 use Rattle.sbpl_cli.specs.Asked.{is_determined}
-use Rattle.sbpl_cli.specs.Causes.{ArePlanned, IsReadText, ReadsCourse, ReadsWorld, scope_of}
+use Rattle.sbpl_cli.specs.Causes.{ArePlanned, IsReadText, ReadsCourse, ReadsWorld, lattice_files, scope_of}
 use Rattle.sbpl_cli.specs.declared.course.Course.{Course}
-use Rattle.sbpl_job.specs.Jobs.{may_move}
 use Rattle.sbpl_cli.specs.Determined.{AreAlikeWorlds, FewAreFirst, RecordsAreOne}
 use Rattle.sbpl_plan.specs.declared.found.Found.{Found}
 use Rattle.sbpl_cli.specs.Headline.{ArePlans}
-use Rattle.sbpl_cli.specs.LatticeSite.{lattice_site}
+use Rattle.sbpl_cli.specs.WorldFiles.{WorldFiles}
 use Rattle.sbpl_cli.specs.Published.{Entry}
 use Rattle.sbpl_cli.specs.Texts.{IsChangeText, IsEnvironmentText, IsPrimitiveText, Scope, scope_for}
 use Rattle.sbpl_cli.specs.Writing.{Told}
@@ -63,23 +63,34 @@ module _ (clear : TextsAreClear) (held : Told) where
       let own : IsChangeText s x.0 d = subst (λ (t : List ℕ). IsChangeText s t d) text y.2 in
       clear.changes s x.0 c d x.2 own
 
-  -- records of plans of a job are the first few of any records of all of its plans
-  pub few_planned : FewAreFirst lattice_site AreAlikeWorlds → (j : PlanJob) (log : List Entry) (rs us : List PlanRecord) (all : Bool) (broken also : List Found) → IsSome (held j.sources.env) → IsSome (held j.sources.prims) → IfSome j.changes (λ name. IsSome (held name))
-      → is_determined j.search.planner ≡ true → ArePlanned held j rs all log broken → ArePlanned held j us true log also → (rest : List PlanRecord) × (us ≡ rs ++ rest)
-  few_planned first j log rs us all broken also told_env told_prims told_changes determined x y =
-      let alike = one_world j.sources x.world y.world told_env told_prims x.says y.says in
-      let moving = may_move j.search.planner in
-      let read : ReadsCourse held j.changes (scope_of moving x.world) y.course = subst (λ (s : Scope). ReadsCourse held j.changes s y.course) (alike_scopes moving x.world y.world alike) y.changes in
-      let course : x.course ≡ y.course = one_course j.changes (scope_of moving x.world) x.course y.course told_changes x.changes read in
-      let plans : ArePlans lattice_site y.world x.course j.search j.outputs us true log also = subst (λ (c : Course). ArePlans lattice_site y.world c j.search j.outputs us true log also) (sym course) y.plans in
-      first x.world y.world x.course j.search j.outputs log rs us all broken also determined alike x.plans plans
+-- as far as they are told, the files stand for alike worlds, which give a change file one scope
+pub record StandForOne {W : Type 0} (held : Told) (f : WorldFiles W) (Alike : W → W → Type 0) : Type 0 where
+  pub one : (w v : W) → f.stand_for held w → f.stand_for held v → Alike w v
+  pub scope : (w v : W) → Alike w v → f.scope v ≡ f.scope w
 
-  pub one_planned : RecordsAreOne lattice_site AreAlikeWorlds → (j : PlanJob) (log : List Entry) (rs us : List PlanRecord) (broken also : List Found) → IsSome (held j.sources.env) → IsSome (held j.sources.prims) → IfSome j.changes (λ name. IsSome (held name))
-      → is_determined j.search.planner ≡ true → ArePlanned held j rs true log broken → ArePlanned held j us true log also → rs ≡ us
-  one_planned one j log rs us broken also told_env told_prims told_changes determined x y =
-      let alike = one_world j.sources x.world y.world told_env told_prims x.says y.says in
-      let moving = may_move j.search.planner in
-      let read : ReadsCourse held j.changes (scope_of moving x.world) y.course = subst (λ (s : Scope). ReadsCourse held j.changes s y.course) (alike_scopes moving x.world y.world alike) y.changes in
-      let course : x.course ≡ y.course = one_course j.changes (scope_of moving x.world) x.course y.course told_changes x.changes read in
-      let plans : ArePlans lattice_site y.world x.course j.search j.outputs us true log also = subst (λ (c : Course). ArePlans lattice_site y.world c j.search j.outputs us true log also) (sym course) y.plans in
-      one x.world y.world x.course j.search j.outputs log rs us broken also determined alike x.plans plans
+module _ (clear : TextsAreClear) (held : Told) {W : Type 0} (f : WorldFiles W) (Alike : W → W → Type 0) (stand : StandForOne held f Alike) where
+  -- records of plans are the first few of any records of all of them
+  pub few_planned : FewAreFirst f.on Alike → (changes : Option (List ℕ)) (search : SearchJob) (outputs : Outputs) (log : List Entry) (rs us : List PlanRecord) (all : Bool) (broken also : List Found) → IfSome changes (λ name. IsSome (held name))
+      → is_determined search.planner ≡ true → ArePlanned held f changes search outputs rs all log broken → ArePlanned held f changes search outputs us true log also → (rest : List PlanRecord) × (us ≡ rs ++ rest)
+  few_planned first changes search outputs log rs us all broken also told_changes determined x y =
+      let alike = stand.one x.world y.world x.says y.says in
+      let read : ReadsCourse held changes (f.scope x.world) y.course = subst (λ (s : Scope). ReadsCourse held changes s y.course) (stand.scope x.world y.world alike) y.changes_say in
+      let course : x.course ≡ y.course = one_course clear held changes (f.scope x.world) x.course y.course told_changes x.changes_say read in
+      let plans : ArePlans f.on y.world x.course search outputs us true log also = subst (λ (c : Course). ArePlans f.on y.world c search outputs us true log also) (sym course) y.plans in
+      first x.world y.world x.course search outputs log rs us all broken also determined alike x.plans plans
+
+  pub one_planned : RecordsAreOne f.on Alike → (changes : Option (List ℕ)) (search : SearchJob) (outputs : Outputs) (log : List Entry) (rs us : List PlanRecord) (broken also : List Found) → IfSome changes (λ name. IsSome (held name))
+      → is_determined search.planner ≡ true → ArePlanned held f changes search outputs rs true log broken → ArePlanned held f changes search outputs us true log also → rs ≡ us
+  one_planned one changes search outputs log rs us broken also told_changes determined x y =
+      let alike = stand.one x.world y.world x.says y.says in
+      let read : ReadsCourse held changes (f.scope x.world) y.course = subst (λ (s : Scope). ReadsCourse held changes s y.course) (stand.scope x.world y.world alike) y.changes_say in
+      let course : x.course ≡ y.course = one_course clear held changes (f.scope x.world) x.course y.course told_changes x.changes_say read in
+      let plans : ArePlans f.on y.world x.course search outputs us true log also = subst (λ (c : Course). ArePlans f.on y.world c search outputs us true log also) (sym course) y.plans in
+      one x.world y.world x.course search outputs log rs us broken also determined alike x.plans plans
+
+-- those of a lattice do
+pub lattices_stand_for_one : (clear : TextsAreClear) (held : Told) (from : Sources) (moving : Bool) → IsSome (held from.env) → IsSome (held from.prims) → StandForOne held (lattice_files from moving) AreAlikeWorlds
+lattices_stand_for_one clear held from moving told_env told_prims = record {
+  one = λ w v. one_world clear held from w v told_env told_prims;
+  scope = alike_scopes moving;
+}

@@ -17,12 +17,17 @@ use Rattle.sbpl_cli.specs.declared.section_check.SectionStop.TheVariants as sect
 use Rattle.sbpl_cli.specs.declared.record.PlanRecord.{PlanRecord}
 use Rattle.sbpl_cli.specs.declared.refusal.Refusal.{Refusal}
 use Rattle.sbpl_cli.specs.Asked.{is_determined}
-use Rattle.sbpl_cli.specs.Causes.{ArePlanned, IsJobCause}
+use Rattle.sbpl_cli.specs.Causes.{ArePlanned, IsCheckCause, IsEarlyCause, IsEarlyInput, IsJobCause, IsSource, check_files, plan_files}
+use Rattle.sbpl_cli.specs.WorldFiles.{WorldFiles}
+use Rattle.sbpl_cli.proofs.AlikeSites.{AreAlike}
+use Rattle.sbpl_cli.proofs.LatticeAlike.{lattices_alike}
+use Rattle.sbpl_job.specs.declared.job.Outputs.{Outputs}
+use Rattle.sbpl_job.specs.declared.job.SearchJob.{SearchJob}
 use Rattle.sbpl_cli.specs.Clear.{SectionsAreClear, TextsAreClear}
 use Rattle.sbpl_cli.specs.LatticeSite.{lattice_site}
-use Rattle.sbpl_cli.specs.Determined.{AreAlikeWorlds, ArePrefixes, AreTold, CallsFor, FewAreFirst, IsDeterminedJob, IsInput, IsNoFailure, IsSource, NoName, NoneRose, RecordsAreOne}
-use Rattle.sbpl_cli.specs.Intents.{BeginsAfter, Intent, Refused, Planned, Checked, Listed, Demonstrated, OutOfMemory, checked_status, end_writes, intent_status, lines_writes, plans_writes, refusal_status, section_writes, writes_of}
-use Rattle.sbpl_cli.specs.Promises.{GivesIntent, EndsJob, EndsRun, IsDemonstration, by_job, by_memory, by_words}
+use Rattle.sbpl_cli.specs.Determined.{AreAlikeWorlds, ArePrefixes, AreTold, CallsFor, FewAreFirst, IsDeterminedJob, IsInput, IsNoFailure, NoName, NoneRose, RecordsAreOne}
+use Rattle.sbpl_cli.specs.Intents.{BeginsAfter, Intent, Refused, Planned, Checked, Listed, Demonstrated, OutOfMemory, checked_status, end_writes, intent_status, lines_writes, outputs_of, plans_writes, refusal_status, section_writes, writes_of}
+use Rattle.sbpl_cli.specs.Promises.{GivesIntent, EndsJob, EndsRun, IsChecked, IsDemonstration, by_job, by_memory, by_words}
 use Rattle.sbpl_plan.specs.declared.found.Found.{Found}
 use Rattle.sbpl_cli.specs.Published.{Entry}
 use Rattle.sbpl_cli.specs.Report.{demo_text, plan_line}
@@ -30,10 +35,10 @@ use Rattle.sbpl_cli.specs.Writing.{AreAppended, DeskState, IsNamed, Names, ReadF
 use Rattle.sbpl_cli.proofs.Ends.{job_cause_on}
 use Rattle.sbpl_cli.proofs.Prefixes.{ends_prefix, made_prefix}
 use Rattle.sbpl_cli.proofs.OneEnding.{OneMap}
-use Rattle.sbpl_cli.proofs.OneRefusal.{AreBadLabels, AreBadSources, IsBadCourse, IsFailedRead, course_cause, labels_cause, labels_read, not_course, not_world, one_bad_course, one_source, source_cause}
+use Rattle.sbpl_cli.proofs.OneRefusal.{AreBadSources, CallForOne, IsCheckBad, IsEarlyBad, IsFailedRead, check_bad, early_bad, lattices_call_for_one, not_check, not_early, not_world, one_check, one_early, one_source, source_cause}
 use Rattle.sbpl_cli.proofs.SameChecked.{check_as_far}
 use Rattle.sbpl_cli.proofs.SameLines.{few_demonstrated, one_demonstrated, one_first_line, one_listed}
-use Rattle.sbpl_cli.proofs.SamePlanned.{few_planned, one_planned}
+use Rattle.sbpl_cli.proofs.SamePlanned.{StandForOne, few_planned, lattices_stand_for_one, one_planned}
 use Rattle.sbpl_cli.proofs.Writings.{none_made}
 
 -- ---- how two ends of a job go together
@@ -43,15 +48,15 @@ abbrev HasFailedRead : Names → Job → Intent → Type 0
 HasFailedRead Failed j i = (intent_status i ≡ 6) × ((name : List ℕ) × IsInput j name × Failed name)
 
 -- both are written alike
-abbrev AreAlike : Job → Intent → Intent → Type 0
-AreAlike j i whole = (intent_status i ≡ intent_status whole) × (writes_of j i ≡ writes_of j whole)
+abbrev AreWrittenAlike : Job → Intent → Intent → Type 0
+AreWrittenAlike j i whole = (intent_status i ≡ intent_status whole) × (writes_of j i ≡ writes_of j whole)
 
 -- memory ran out after the first writes of the other
 abbrev IsPart : Job → Intent → Intent → Type 0
 IsPart j i whole = (intent_status i ≡ 9) × ((rest : List Write) × (writes_of j whole ≡ writes_of j i ++ rest))
 
 abbrev Agrees : Names → Job → Intent → Intent → Type 0
-Agrees Failed j i whole = HasFailedRead Failed j i ⊎ (AreAlike j i whole ⊎ IsPart j i whole)
+Agrees Failed j i whole = HasFailedRead Failed j i ⊎ (AreWrittenAlike j i whole ⊎ IsPart j i whole)
 
 -- ---- the writes of the first few records
 
@@ -82,56 +87,92 @@ module _ (clear : TextsAreClear) (sections : SectionsAreClear) (one_map : OneMap
   told_name None each = tt
   told_name (Some name) each = each name refl
 
+  -- ---- plans and checks, whatever they are made on
+
+  module _ (j : Job) {W : Type 0} (f : WorldFiles W) (Alike : W → W → Type 0) (stand : StandForOne held f Alike) (Bad : Refusal → Type 0) (calls_for : CallForOne held f Bad)
+      (changes : Option (List ℕ)) (told_changes : IfSome changes (λ name. IsSome (held name))) where
+    early_quiet : (r : Refusal) → IsEarlyCause held NoName f changes r → IsEarlyBad clear held f Alike stand Bad calls_for changes told_changes r
+    early_quiet r c = elim (early_bad clear held f Alike stand Bad calls_for changes told_changes NoName r c) [ inl bad ↦ bad | inr (i, is, (name, one, failed)) ↦ absurd failed ]
+
+    module _ (input : (name : List ℕ) → IsEarlyInput f changes name → IsInput j name) where
+      early_refusals : (r u : Refusal) → IsEarlyCause held Failed f changes r → IsEarlyCause held NoName f changes u → Agrees Failed j (Refused r) (Refused u)
+      early_refusals r u c quiet = elim (early_bad clear held f Alike stand Bad calls_for changes told_changes Failed r c) [
+        | inl bad ↦ alike_refusals j r u (one_early clear held f Alike stand Bad calls_for changes told_changes r u bad (early_quiet u quiet))
+        | inr out ↦ inl (unread Failed j (IsEarlyInput f changes) r input out)
+      ]
+
+      refused_for_plans : (r : Refusal) (whole : Intent) (search : SearchJob) (outputs : Outputs) (us : List PlanRecord) (all : Bool) (own : List Entry) (broken : List Found) → IsEarlyCause held Failed f changes r → ArePlanned held f changes search outputs us all own broken
+          → Agrees Failed j (Refused r) whole
+      refused_for_plans r whole search outputs us all own broken c planned = elim (early_bad clear held f Alike stand Bad calls_for changes told_changes Failed r c) [
+        | inl bad ↦ absurd (not_early clear held f Alike stand Bad calls_for changes told_changes planned.world planned.course r bad planned.says planned.changes_say)
+        | inr out ↦ inl (unread Failed j (IsEarlyInput f changes) r input out)
+      ]
+
+    plans_not_refused : (u : Refusal) (search : SearchJob) (outputs : Outputs) (rs : List PlanRecord) (all : Bool) (own : List Entry) (broken : List Found) → IsEarlyCause held NoName f changes u → ArePlanned held f changes search outputs rs all own broken → ⊥
+    plans_not_refused u search outputs rs all own broken quiet planned = not_early clear held f Alike stand Bad calls_for changes told_changes planned.world planned.course u (early_quiet u quiet) planned.says planned.changes_say
+
+    plans_agree : RecordsAreOne f.on Alike → FewAreFirst f.on Alike → (search : SearchJob) (rs us : List PlanRecord) (all : Bool) (own other : List Entry) (broken also : List Found) → is_determined search.planner ≡ true
+        → ArePlanned held f changes search (outputs_of j) rs all log broken → ArePlanned held f changes search (outputs_of j) us true log also → Agrees Failed j (Planned rs all own broken) (Planned us true other also)
+    plans_agree one first search rs us true own other broken also determined x y =
+        let same = one_planned clear held f Alike stand one changes search (outputs_of j) log rs us broken also told_changes determined x y in
+        inr (inl (refl, ap (λ (l : List PlanRecord). plans_writes (outputs_of j) l true) same))
+    plans_agree one first search rs us false own other broken also determined x y =
+        let parted = few_planned clear held f Alike stand first changes search (outputs_of j) log rs us false broken also told_changes determined x y in
+        let few = few_written (section_writes (outputs_of j)) rs parted.0 in
+        inr (inr (refl, (few.0, ap (λ (l : List PlanRecord). plans_writes (outputs_of j) l true) parted.1 ∙ few.1)))
+
+    module _ (labels : List ℕ) (told_labels : IsSome (held labels)) where
+      check_quiet : (r : Refusal) → IsCheckCause held NoName f changes labels r → IsCheckBad clear held f Alike stand Bad calls_for changes told_changes labels r
+      check_quiet r c = elim (check_bad clear held f Alike stand Bad calls_for changes told_changes labels NoName r c) [ inl bad ↦ bad | inr (i, is, (name, one, failed)) ↦ absurd failed ]
+
+      checks_not_refused : (u : Refusal) (goals : ℕ → ℕ) (os : List Outcome) (end : Option SectionStop) → IsCheckCause held NoName f changes labels u → IsChecked held f changes labels goals os end → ⊥
+      checks_not_refused u goals os end quiet checked = not_check clear held f Alike stand Bad calls_for changes told_changes labels told_labels checked.world checked.course checked.text u (check_quiet u quiet) checked.says checked.changes_say checked.read
+
+      module _ (input : (name : List ℕ) → IsEarlyInput f changes name ⊎ (name ≡ labels) → IsInput j name) where
+        check_refusals : (r u : Refusal) → IsCheckCause held Failed f changes labels r → IsCheckCause held NoName f changes labels u → Agrees Failed j (Refused r) (Refused u)
+        check_refusals r u c quiet = elim (check_bad clear held f Alike stand Bad calls_for changes told_changes labels Failed r c) [
+          | inl bad ↦ alike_refusals j r u (one_check clear held f Alike stand Bad calls_for changes told_changes labels r u bad (check_quiet u quiet))
+          | inr out ↦ inl (unread Failed j (λ name. IsEarlyInput f changes name ⊎ (name ≡ labels)) r input out)
+        ]
+
+        refused_for_checks : (r : Refusal) (whole : Intent) (goals : ℕ → ℕ) (os : List Outcome) (end : Option SectionStop) → IsCheckCause held Failed f changes labels r → IsChecked held f changes labels goals os end → Agrees Failed j (Refused r) whole
+        refused_for_checks r whole goals os end c checked = elim (check_bad clear held f Alike stand Bad calls_for changes told_changes labels Failed r c) [
+          | inl bad ↦ absurd (not_check clear held f Alike stand Bad calls_for changes told_changes labels told_labels checked.world checked.course checked.text r bad checked.says checked.changes_say checked.read)
+          | inr out ↦ inl (unread Failed j (λ name. IsEarlyInput f changes name ⊎ (name ≡ labels)) r input out)
+        ]
+
+      checks_agree : AreAlike f.on Alike → (goal other : ℕ → ℕ) (os ps : List Outcome) (a b : Option SectionStop) → b ≢ Some section.NoMemory → IsChecked held f changes labels goal os a → IsChecked held f changes labels other ps b
+          → Agrees Failed j (Checked goal os a) (Checked other ps b)
+      checks_agree alike goal other os ps a b some x y =
+          let far = check_as_far clear sections one_map held f Alike alike stand changes labels goal other os ps a b told_changes told_labels some x y in
+          subst (λ (s : ℕ → ℕ). Agrees Failed j (Checked goal os a) (Checked s ps b)) far.0
+          (elim far.1 [
+            | inl (writes, ends) ↦ inr (inl (ap checked_status ends, writes))
+            | inr (out, later) ↦ inr (inr (ap checked_status out, later))
+          ])
+
   -- ---- plan
 
   module _ (p : PlanJob) (told : AreTold held (job.Plan p)) where
-    plan_env : IsSome (held p.sources.env)
-    plan_env = told p.sources.env (inl (inl refl))
+    plan_stand : StandForOne held (plan_files p) AreAlikeWorlds
+    plan_stand = lattices_stand_for_one clear held p.sources (may_move p.search.planner) (told p.sources.env (inl (inl refl))) (told p.sources.prims (inl (inr refl)))
 
-    plan_prims : IsSome (held p.sources.prims)
-    plan_prims = told p.sources.prims (inl (inr refl))
+    plan_calls : CallForOne held (plan_files p) (AreBadSources held p.sources)
+    plan_calls = lattices_call_for_one clear held p.sources (may_move p.search.planner) (told p.sources.env (inl (inl refl))) (told p.sources.prims (inl (inr refl)))
 
     plan_changes : IfSome p.changes (λ name. IsSome (held name))
     plan_changes = told_name p.changes (λ name is. told name (inr is))
 
-    -- a cause, with counts
-    abbrev IsPlanBad : Refusal → Type 0
-    IsPlanBad r = AreBadSources held p.sources r ⊎ IsBadCourse held p.sources p.changes (may_move p.search.planner) r
-
-    plan_bad : (F : Names) (r : Refusal) → IsJobCause held F (job.Plan p) r → IsPlanBad r ⊎ HasFailedRead F (job.Plan p) (Refused r)
-    plan_bad F r (inl c) = elim (source_cause held F p.sources r c) [ inl bad ↦ inl (inl bad) | inr out ↦ inr (unread F (job.Plan p) (IsSource p.sources) r (λ name is. inl is) out) ]
-    plan_bad F r (inr c) = elim (course_cause held F p.sources p.changes (may_move p.search.planner) r c) [ inl bad ↦ inl (inr bad) | inr out ↦ inr (unread F (job.Plan p) (IsNamed p.changes) r (λ name is. inr is) out) ]
-
-    plan_quiet : (r : Refusal) → IsJobCause held NoName (job.Plan p) r → IsPlanBad r
-    plan_quiet r c = elim (plan_bad NoName r c) [ inl bad ↦ bad | inr (six, (name, is, failed)) ↦ absurd failed ]
-
-    one_plan_bad : (r u : Refusal) → IsPlanBad r → IsPlanBad u → r ≡ u
-    one_plan_bad r u (inl x) (inl y) = one_source clear held p.sources plan_env plan_prims r u x y
-    one_plan_bad r u (inl x) (inr y) = absurd (not_world clear held p.sources plan_env plan_prims y.0 r x y.1)
-    one_plan_bad r u (inr x) (inl y) = absurd (not_world clear held p.sources plan_env plan_prims x.0 u y x.1)
-    one_plan_bad r u (inr x) (inr y) = one_bad_course clear held p.sources plan_env plan_prims p.changes (may_move p.search.planner) plan_changes r u x y
-
-    not_planned : (r : Refusal) (records : List PlanRecord) (all : Bool) (own : List Entry) (broken : List Found) → IsPlanBad r → ArePlanned held p records all own broken → ⊥
-    not_planned r records all own broken (inl x) planned = not_world clear held p.sources plan_env plan_prims planned.world r x planned.says
-    not_planned r records all own broken (inr x) planned = not_course clear held p.sources plan_env plan_prims p.changes (may_move p.search.planner) plan_changes planned.world planned.course r x planned.says planned.changes
-
-    plans_agree : (rs us : List PlanRecord) (all : Bool) (own other : List Entry) (broken also : List Found) → is_determined p.search.planner ≡ true → ArePlanned held p rs all log broken → ArePlanned held p us true log also
-        → Agrees Failed (job.Plan p) (Planned rs all own broken) (Planned us true other also)
-    plans_agree rs us true own other broken also determined x y =
-        let same = one_planned clear held one p log rs us broken also plan_env plan_prims plan_changes determined x y in
-        inr (inl (refl, ap (λ (l : List PlanRecord). plans_writes p.outputs l true) same))
-    plans_agree rs us false own other broken also determined x y =
-        let parted = few_planned clear held first p log rs us false broken also plan_env plan_prims plan_changes determined x y in
-        let few = few_written (section_writes p.outputs) rs parted.0 in
-        inr (inr (refl, (few.0, ap (λ (l : List PlanRecord). plans_writes p.outputs l true) parted.1 ∙ few.1)))
-
     plan_agrees : (i whole : Intent) → GivesIntent held Failed (job.Plan p) i → BeginsAfter i log → CallsFor held log (job.Plan p) whole → Agrees Failed (job.Plan p) i whole
-    plan_agrees (Refused r) (Refused u) gives begins calls = elim (plan_bad Failed r gives) [ inl bad ↦ alike_refusals (job.Plan p) r u (one_plan_bad r u bad (plan_quiet u calls)) | inr out ↦ inl out ]
-    plan_agrees (Refused r) (Planned us all other also) gives begins calls = elim (plan_bad Failed r gives) [ inl bad ↦ absurd (not_planned r us true log also bad calls.3) | inr out ↦ inl out ]
-    plan_agrees (Planned rs all own broken) (Refused u) gives begins calls = absurd (not_planned u rs all own broken (plan_quiet u calls) gives)
+    plan_agrees (Refused r) (Refused u) gives begins calls = early_refusals (job.Plan p) (plan_files p) AreAlikeWorlds plan_stand (AreBadSources held p.sources) plan_calls p.changes plan_changes (λ name is. is) r u gives calls
+    plan_agrees (Refused r) (Planned us all other also) gives begins calls =
+        refused_for_plans (job.Plan p) (plan_files p) AreAlikeWorlds plan_stand (AreBadSources held p.sources) plan_calls p.changes plan_changes (λ name is. is) r (Planned us all other also) p.search p.outputs us true log also gives calls.3
+    plan_agrees (Planned rs all own broken) (Refused u) gives begins calls =
+        absurd (plans_not_refused (job.Plan p) (plan_files p) AreAlikeWorlds plan_stand (AreBadSources held p.sources) plan_calls p.changes plan_changes u p.search p.outputs rs all own broken calls gives)
     plan_agrees (Planned rs all own broken) (Planned us every other also) gives begins calls =
         subst (λ (b : Bool). Agrees Failed (job.Plan p) (Planned rs all own broken) (Planned us b other also)) (sym calls.0)
-        (plans_agree rs us all own other broken also calls.1 (subst (λ (l : List Entry). ArePlanned held p rs all l broken) begins gives) calls.3)
+        (plans_agree (job.Plan p) (plan_files p) AreAlikeWorlds plan_stand (AreBadSources held p.sources) plan_calls p.changes plan_changes one first p.search rs us all own other broken also calls.1
+        (subst (λ (l : List Entry). ArePlanned held (plan_files p) p.changes p.search p.outputs rs all l broken) begins gives) calls.3)
     plan_agrees OutOfMemory whole gives begins calls = inr (inr (refl, (writes_of (job.Plan p) whole, refl)))
     plan_agrees (Refused r) _ gives begins calls = absurd calls
     plan_agrees (Planned rs all own broken) _ gives begins calls = absurd calls
@@ -140,60 +181,26 @@ module _ (clear : TextsAreClear) (sections : SectionsAreClear) (one_map : OneMap
   -- ---- check
 
   module _ (c : CheckJob) (told : AreTold held (job.Check c)) where
-    check_env : IsSome (held c.sources.env)
-    check_env = told c.sources.env (inl (inl refl))
+    check_stand : StandForOne held (check_files c) AreAlikeWorlds
+    check_stand = lattices_stand_for_one clear held c.sources c.back (told c.sources.env (inl (inl (inl refl)))) (told c.sources.prims (inl (inl (inr refl))))
 
-    check_prims : IsSome (held c.sources.prims)
-    check_prims = told c.sources.prims (inl (inr refl))
+    check_calls : CallForOne held (check_files c) (AreBadSources held c.sources)
+    check_calls = lattices_call_for_one clear held c.sources c.back (told c.sources.env (inl (inl (inl refl)))) (told c.sources.prims (inl (inl (inr refl))))
 
     check_changes : IfSome c.changes (λ name. IsSome (held name))
-    check_changes = told_name c.changes (λ name is. told name (inr (inl is)))
+    check_changes = told_name c.changes (λ name is. told name (inl (inr is)))
 
     check_labels : IsSome (held c.labels)
-    check_labels = told c.labels (inr (inr refl))
-
-    abbrev IsCheckBad : Refusal → Type 0
-    IsCheckBad r = AreBadSources held c.sources r ⊎ (IsBadCourse held c.sources c.changes c.back r ⊎ AreBadLabels held c r)
-
-    check_bad : (F : Names) (r : Refusal) → IsJobCause held F (job.Check c) r → IsCheckBad r ⊎ HasFailedRead F (job.Check c) (Refused r)
-    check_bad F r (inl x) = elim (source_cause held F c.sources r x) [ inl bad ↦ inl (inl bad) | inr out ↦ inr (unread F (job.Check c) (IsSource c.sources) r (λ name is. inl is) out) ]
-    check_bad F r (inr (inl x)) = elim (course_cause held F c.sources c.changes c.back r x) [ inl bad ↦ inl (inr (inl bad)) | inr out ↦ inr (unread F (job.Check c) (IsNamed c.changes) r (λ name is. inr (inl is)) out) ]
-    check_bad F r (inr (inr x)) = elim (labels_cause held F c r x) [ inl bad ↦ inl (inr (inr bad)) | inr out ↦ inr (unread F (job.Check c) (λ name. name ≡ c.labels) r (λ name is. inr (inr is)) out) ]
-
-    check_quiet : (r : Refusal) → IsJobCause held NoName (job.Check c) r → IsCheckBad r
-    check_quiet r x = elim (check_bad NoName r x) [ inl bad ↦ bad | inr (six, (name, is, failed)) ↦ absurd failed ]
-
-    one_check_bad : (r u : Refusal) → IsCheckBad r → IsCheckBad u → r ≡ u
-    one_check_bad r u (inl x) (inl y) = one_source clear held c.sources check_env check_prims r u x y
-    one_check_bad r u (inl x) (inr (inl y)) = absurd (not_world clear held c.sources check_env check_prims y.0 r x y.1)
-    one_check_bad r u (inl x) (inr (inr y)) = absurd (not_world clear held c.sources check_env check_prims y.0 r x y.2)
-    one_check_bad r u (inr (inl x)) (inl y) = absurd (not_world clear held c.sources check_env check_prims x.0 u y x.1)
-    one_check_bad r u (inr (inr x)) (inl y) = absurd (not_world clear held c.sources check_env check_prims x.0 u y x.2)
-    one_check_bad r u (inr (inl x)) (inr (inl y)) = one_bad_course clear held c.sources check_env check_prims c.changes c.back check_changes r u x y
-    one_check_bad r u (inr (inl x)) (inr (inr (w, batches, says, course, y))) = absurd (not_course clear held c.sources check_env check_prims c.changes c.back check_changes w batches r x says course)
-    one_check_bad r u (inr (inr (w, batches, says, course, x))) (inr (inl y)) = absurd (not_course clear held c.sources check_env check_prims c.changes c.back check_changes w batches u y says course)
-    one_check_bad r u (inr (inr (w, batches, says, course, x))) (inr (inr (v, others, also, too, y))) = x.0 ∙ sym y.0
-
-    not_checked : (r : Refusal) (goals : ℕ → ℕ) (os : List Outcome) (end : Option SectionStop) → IsCheckBad r → GivesIntent held Failed (job.Check c) (Checked goals os end) → ⊥
-    not_checked r goal os end (inl x) checked = not_world clear held c.sources check_env check_prims checked.world r x checked.says
-    not_checked r goal os end (inr (inl x)) checked = not_course clear held c.sources check_env check_prims c.changes c.back check_changes checked.world checked.course r x checked.says checked.changes
-    not_checked r goal os end (inr (inr x)) checked = labels_read held c check_labels r checked.text x checked.read
-
-    checks_agree : (goal other : ℕ → ℕ) (os ps : List Outcome) (a b : Option SectionStop) → b ≢ Some section.NoMemory → GivesIntent held Failed (job.Check c) (Checked goal os a) → GivesIntent held Failed (job.Check c) (Checked other ps b)
-        → Agrees Failed (job.Check c) (Checked goal os a) (Checked other ps b)
-    checks_agree goal other os ps a b some x y =
-        let far = check_as_far clear sections one_map graphs held c goal other os ps a b check_env check_prims check_changes check_labels some x y in
-        subst (λ (s : ℕ → ℕ). Agrees Failed (job.Check c) (Checked goal os a) (Checked s ps b)) far.0
-        (elim far.1 [
-          | inl (writes, ends) ↦ inr (inl (ap checked_status ends, writes))
-          | inr (out, later) ↦ inr (inr (ap checked_status out, later))
-        ])
+    check_labels = told c.labels (inr refl)
 
     check_agrees : (i whole : Intent) → GivesIntent held Failed (job.Check c) i → CallsFor held log (job.Check c) whole → Agrees Failed (job.Check c) i whole
-    check_agrees (Refused r) (Refused u) gives calls = elim (check_bad Failed r gives) [ inl bad ↦ alike_refusals (job.Check c) r u (one_check_bad r u bad (check_quiet u calls)) | inr out ↦ inl out ]
-    check_agrees (Refused r) (Checked goal os end) gives calls = elim (check_bad Failed r gives) [ inl bad ↦ absurd (not_checked r goal os end bad calls.1) | inr out ↦ inl out ]
-    check_agrees (Checked goal os end) (Refused u) gives calls = absurd (not_checked u goal os end (check_quiet u calls) gives)
-    check_agrees (Checked goal os a) (Checked other ps b) gives calls = checks_agree goal other os ps a b calls.0 gives calls.1
+    check_agrees (Refused r) (Refused u) gives calls = check_refusals (job.Check c) (check_files c) AreAlikeWorlds check_stand (AreBadSources held c.sources) check_calls c.changes check_changes c.labels check_labels (λ name is. is) r u gives calls
+    check_agrees (Refused r) (Checked goal os end) gives calls =
+        refused_for_checks (job.Check c) (check_files c) AreAlikeWorlds check_stand (AreBadSources held c.sources) check_calls c.changes check_changes c.labels check_labels (λ name is. is) r (Checked goal os end) goal os end gives calls.1
+    check_agrees (Checked goal os end) (Refused u) gives calls =
+        absurd (checks_not_refused (job.Check c) (check_files c) AreAlikeWorlds check_stand (AreBadSources held c.sources) check_calls c.changes check_changes c.labels check_labels u goal os end calls gives)
+    check_agrees (Checked goal os a) (Checked other ps b) gives calls =
+        checks_agree (job.Check c) (check_files c) AreAlikeWorlds check_stand (AreBadSources held c.sources) check_calls c.changes check_changes c.labels check_labels (lattices_alike graphs) goal other os ps a b calls.0 gives calls.1
     check_agrees OutOfMemory whole gives calls = inr (inr (refl, (writes_of (job.Check c) whole, refl)))
     check_agrees (Refused r) _ gives calls = absurd calls
     check_agrees (Checked goal os end) _ gives calls = absurd calls
@@ -261,7 +268,7 @@ module _ (clear : TextsAreClear) (sections : SectionsAreClear) (one_map : OneMap
 called_for : (held : Told) (Failed : Names) (log : List Entry) (j : Job) (i : Intent) → GivesIntent held Failed j i → BeginsAfter i log → IsDeterminedJob j
     → intent_status i ≢ 6 → intent_status i ≢ 9 → CallsFor held log j i
 called_for held Failed log j (Refused r) gives begins one six nine = job_cause_on held Failed NoName j r (λ is. absurd (six is)) gives
-called_for held Failed log (job.Plan p) (Planned records true own broken) gives begins one six nine = (refl, one, begins, subst (λ (l : List Entry). ArePlanned held p records true l broken) begins gives)
+called_for held Failed log (job.Plan p) (Planned records true own broken) gives begins one six nine = (refl, one, begins, subst (λ (l : List Entry). ArePlanned held (plan_files p) p.changes p.search p.outputs records true l broken) begins gives)
 called_for held Failed log (job.Plan p) (Planned records false own broken) gives begins one six nine = absurd (nine refl)
 called_for held Failed log (job.Check c) (Checked goal os end) gives begins one six nine = (λ is. nine (ap checked_status is), gives)
 called_for held Failed log (job.Sweep from) (Listed w) gives begins one six nine = gives.0

@@ -16,7 +16,7 @@ use Rattle.sbpl_demo.specs.Changes.{changes_drawn}
 use Rattle.sbpl_demo.specs.Environment.{costs, environment}
 use Rattle.sbpl_demo.specs.Primitives.{primitives}
 use Rattle.sbpl_cost.specs.PrimitiveCost.{IsFirstTooDear, most_cost, primitive_cost}
-use Rattle.sbpl_cost.specs.World.{IsWorld, World}
+use Rattle.sbpl_cost.specs.World.{World}
 use Rattle.sbpl_cli.specs.declared.refusal.Input.{Input}
 use Rattle.sbpl_cli.specs.declared.refusal.Input.TheVariants as input
 use Rattle.sbpl_cli.specs.declared.refusal.Refusal.{Refusal}
@@ -39,8 +39,9 @@ use Rattle.sbpl_plan.specs.declared.found.Found.{Found}
 use Rattle.sbpl_cli.specs.Headline.{ArePlans}
 use Rattle.sbpl_cli.specs.LatticeSite.{lattice_site}
 use Rattle.sbpl_cli.specs.Sites.{Site}
+use Rattle.sbpl_cli.specs.WorldFiles.{WorldFiles}
 use Rattle.sbpl_cli.specs.Published.{Entry}
-use Rattle.sbpl_cli.specs.Writing.{DeskState, Names, ReadFailed, Told}
+use Rattle.sbpl_cli.specs.Writing.{DeskState, IsNamed, Names, ReadFailed, Told}
 use Rattle.sbpl_cli.specs.declared.course.Course.{Course}
 use Rattle.sbpl_cli.specs.Texts.{IsEnvironmentText, HasEnvironmentFault, IsPrimitiveText, HasPrimitiveFault, IsChangeText, HasChangeFault, Scope, scope_for, still}
 
@@ -99,21 +100,21 @@ pub record IsCourseIn {W : Type 0} (on : Site W) (moving : Bool) (w : W) (c : Co
   pub moves : IfSome c.moves (AreMovesIn on w c.batches)
   pub stays : moving ≡ false → c.moves ≡ None
 
--- a lattice and a course that were read: the files stand for them
-pub record AreRead (held : Told) (from : Sources) (changes : Option (List ℕ)) (moving : Bool) (w : World) (c : Course) : Type 0 where
-  pub says : ReadsWorld held from w
-  pub is_world : IsWorld w
-  pub course_is : ReadsCourse held changes (scope_of moving w) c
-  pub in_world : IsCourseIn lattice_site moving w c
+-- a world and a course that were read: the files stand for them
+pub record AreRead {W : Type 0} (held : Told) (f : WorldFiles W) (changes : Option (List ℕ)) (w : W) (c : Course) : Type 0 where
+  pub says : f.stand_for held w
+  pub is_world : f.on.cells.is_made w
+  pub course_is : ReadsCourse held changes (f.scope w) c
+  pub in_world : IsCourseIn f.on f.moves w c
 
 -- The files stand for a world and a course, and these are records of plans in it: all of them, or the first few, after which memory may
 -- run out in a plan whose passes found this. These entries were published before them.
-pub record ArePlanned (held : Told) (job : PlanJob) (records : List PlanRecord) (all : Bool) (log : List Entry) (broken : List Found) : Type 0 where
-  pub world : World
+pub record ArePlanned {W : Type 0} (held : Told) (f : WorldFiles W) (changes : Option (List ℕ)) (search : SearchJob) (outputs : Outputs) (records : List PlanRecord) (all : Bool) (log : List Entry) (broken : List Found) : Type 0 where
+  pub world : W
   pub course : Course
-  pub says : ReadsWorld held job.sources world
-  pub changes : ReadsCourse held job.changes (scope_of (may_move job.search.planner) world) course
-  pub plans : ArePlans lattice_site world course job.search job.outputs records all log broken
+  pub says : f.stand_for held world
+  pub changes_say : ReadsCourse held changes (f.scope world) course
+  pub plans : ArePlans f.on world course search outputs records all log broken
 
 -- how a demonstration is planned: by Anytime D*, with the inflations 3.000, 2.500 and so on to 1.000
 abbrev pub demo_search : SearchJob
@@ -206,36 +207,66 @@ AtName None P = ⊥
 AtName (Some name) P = P name
 
 -- the files stand for a world, and this holds of the change file and of what it is read for
-abbrev pub AtChanges : Told → Sources → Option (List ℕ) → (moving : Bool) → (List ℕ → Scope → Type 0) → Type 0
-AtChanges held from changes moving P = (w : World) × ReadsWorld held from w × AtName changes (λ name. P name (scope_of moving w))
+abbrev pub AtChanges : {W : Type 0} → Told → WorldFiles W → Option (List ℕ) → (List ℕ → Scope → Type 0) → Type 0
+AtChanges {W} held f changes P = (w : W) × f.stand_for held w × AtName changes (λ name. P name (f.scope w))
 
--- why a job is refused for its change file, once its lattice was made
-abbrev pub IsChangesCause : Told → Names → Sources → Option (List ℕ) → (moving : Bool) → Refusal → Type 0
-IsChangesCause held Failed from changes moving (refusal.Changes f) = AtChanges held from changes moving (λ name s. IsFaultyChanges held name s f)
-IsChangesCause held Failed from changes moving (refusal.Read input.Changes) = AtChanges held from changes moving (λ name s. Failed name)
-IsChangesCause held Failed from changes moving (refusal.Length input.Changes) = AtChanges held from changes moving (λ name s. IsTooLong (held name))
-IsChangesCause held Failed from changes moving _ = ⊥
+-- why a job is refused for its change file, once its world was made
+abbrev pub IsChangesCause : {W : Type 0} → Told → Names → WorldFiles W → Option (List ℕ) → Refusal → Type 0
+IsChangesCause held Failed f changes (refusal.Changes x) = AtChanges held f changes (λ name s. IsFaultyChanges held name s x)
+IsChangesCause held Failed f changes (refusal.Read input.Changes) = AtChanges held f changes (λ name s. Failed name)
+IsChangesCause held Failed f changes (refusal.Length input.Changes) = AtChanges held f changes (λ name s. IsTooLong (held name))
+IsChangesCause held Failed f changes _ = ⊥
 
--- the files stand for a world and a course, and this holds of the file of labels that the job `check` reads
-abbrev pub AtLabels : Told → CheckJob → (List ℕ → Type 0) → Type 0
-AtLabels held j P = (w : World) × (c : Course) × ReadsWorld held j.sources w × ReadsCourse held j.changes (scope_of j.back w) c × P j.labels
+-- the files stand for a world and a course, and this holds of the file of labels
+abbrev pub AtLabels : {W : Type 0} → Told → WorldFiles W → Option (List ℕ) → Type 0 → Type 0
+AtLabels {W} held f changes P = (w : W) × (c : Course) × f.stand_for held w × ReadsCourse held changes (f.scope w) c × P
 
--- why the job `check` is refused for its file of labels: it was not read
-abbrev pub IsLabelsCause : Told → Names → CheckJob → Refusal → Type 0
-IsLabelsCause held Failed j (refusal.Read input.Labels) = AtLabels held j Failed
-IsLabelsCause held Failed j (refusal.Length input.Labels) = AtLabels held j (λ name. IsTooLong (held name))
-IsLabelsCause held Failed j _ = ⊥
+-- why a job is refused for its file of labels: it was not read
+abbrev pub IsLabelsCause : {W : Type 0} → Told → Names → WorldFiles W → Option (List ℕ) → (labels : List ℕ) → Refusal → Type 0
+IsLabelsCause held Failed f changes labels (refusal.Read input.Labels) = AtLabels held f changes (Failed labels)
+IsLabelsCause held Failed f changes labels (refusal.Length input.Labels) = AtLabels held f changes (IsTooLong (held labels))
+IsLabelsCause held Failed f changes labels _ = ⊥
+
+-- why the files of a world or the change file were refused
+abbrev pub IsEarlyCause : {W : Type 0} → Told → Names → WorldFiles W → Option (List ℕ) → Refusal → Type 0
+IsEarlyCause held Failed f changes r = f.refused held Failed r ⊎ IsChangesCause held Failed f changes r
+
+-- or the file of labels
+abbrev pub IsCheckCause : {W : Type 0} → Told → Names → WorldFiles W → Option (List ℕ) → (labels : List ℕ) → Refusal → Type 0
+IsCheckCause held Failed f changes labels r = IsEarlyCause held Failed f changes r ⊎ IsLabelsCause held Failed f changes labels r
+
+-- the name is that of a file of a world, or of the change file
+abbrev pub IsEarlyInput : {W : Type 0} → WorldFiles W → Option (List ℕ) → Names
+IsEarlyInput f changes name = f.names name ⊎ IsNamed changes name
+
+-- the name is that of a file of a lattice
+abbrev pub IsSource : Sources → Names
+IsSource from name = (name ≡ from.env) ⊎ (name ≡ from.prims)
+
+-- the files of a lattice, where the robot moves or not
+abbrev pub lattice_files : Sources → (moving : Bool) → WorldFiles World
+lattice_files from moving = record {
+  on = lattice_site;
+  moves = moving;
+  names = IsSource from;
+  stand_for = λ held w. ReadsWorld held from w;
+  refused = λ held Failed r. IsCause held Failed from r;
+  scope = scope_of moving;
+}
+
+-- the files of the lattice of a plan, and of a check
+abbrev pub plan_files : PlanJob → WorldFiles World
+plan_files j = lattice_files j.sources (may_move j.search.planner)
+
+abbrev pub check_files : CheckJob → WorldFiles World
+check_files j = lattice_files j.sources j.back
 
 -- why a job is refused: for the files of its lattice, for its change file, or for its file of labels
 abbrev pub IsJobCause : Told → Names → Job → Refusal → Type 0
-IsJobCause held Failed (job.Plan j) r = IsCause held Failed j.sources r ⊎ IsChangesCause held Failed j.sources j.changes (may_move j.search.planner) r
-IsJobCause held Failed (job.Check j) r = IsCause held Failed j.sources r ⊎ (IsChangesCause held Failed j.sources j.changes j.back r ⊎ IsLabelsCause held Failed j r)
+IsJobCause held Failed (job.Plan j) r = IsEarlyCause held Failed (plan_files j) j.changes r
+IsJobCause held Failed (job.Check j) r = IsCheckCause held Failed (check_files j) j.changes j.labels r
 IsJobCause held Failed (job.Sweep from) r = IsCause held Failed from r
 IsJobCause held Failed (job.Demo d) r = ⊥
-
--- why the files of a lattice or the change file were refused
-abbrev pub IsEarlyCause : Told → Names → Sources → Option (List ℕ) → (moving : Bool) → Refusal → Type 0
-IsEarlyCause held Failed from changes moving r = IsCause held Failed from r ⊎ IsChangesCause held Failed from changes moving r
 
 -- a refusal with a cause; or memory ran out
 abbrev pub StopsFor : (Refusal → Type 0) → Stop → Type 0
@@ -250,9 +281,13 @@ JobStopsFor before after j s = StopsFor (IsJobCause before.held (ReadFailed befo
 abbrev pub LatticeStopsFor : (before after : DeskState) → Sources → Stop → Type 0
 LatticeStopsFor before after from s = StopsFor (IsCause before.held (ReadFailed before after) from) s
 
--- why no lattice with its changes was read
-abbrev pub EarlyStopsFor : (before after : DeskState) → Sources → Option (List ℕ) → (moving : Bool) → Stop → Type 0
-EarlyStopsFor before after from changes moving s = StopsFor (IsEarlyCause before.held (ReadFailed before after) from changes moving) s
+-- why no world with its changes was read
+abbrev pub EarlyStopsFor : {W : Type 0} → (before after : DeskState) → WorldFiles W → Option (List ℕ) → Stop → Type 0
+EarlyStopsFor before after f changes s = StopsFor (IsEarlyCause before.held (ReadFailed before after) f changes) s
+
+-- or the file of labels
+abbrev pub CheckStopsFor : {W : Type 0} → (before after : DeskState) → WorldFiles W → Option (List ℕ) → (labels : List ℕ) → Stop → Type 0
+CheckStopsFor before after f changes labels s = StopsFor (IsCheckCause before.held (ReadFailed before after) f changes labels) s
 
 -- why the file of a name was not read
 abbrev pub IsUnread : (before after : DeskState) → List ℕ → Input → Stop → Type 0

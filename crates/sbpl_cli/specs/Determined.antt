@@ -6,11 +6,10 @@ use Rattle.sbpl_job.specs.declared.job.Job.{Job}
 use Rattle.sbpl_job.specs.declared.job.Job.TheVariants as job
 use Rattle.sbpl_job.specs.declared.job.Outputs.{Outputs}
 use Rattle.sbpl_job.specs.declared.job.SearchJob.{SearchJob}
-use Rattle.sbpl_job.specs.declared.job.Sources.{Sources}
 use Rattle.sbpl_cli.specs.declared.section_check.SectionStop.TheVariants as section
 use Rattle.sbpl_cli.specs.declared.record.PlanRecord.{PlanRecord}
 use Rattle.sbpl_cli.specs.Asked.{is_determined}
-use Rattle.sbpl_cli.specs.Causes.{ArePlanned, IsJobCause, ReadsWorld}
+use Rattle.sbpl_cli.specs.Causes.{ArePlanned, IsEarlyInput, IsJobCause, IsSource, ReadsWorld, check_files, plan_files}
 use Rattle.sbpl_plan.specs.declared.found.Found.{Found}
 use Rattle.sbpl_cli.specs.Headline.{ArePlans}
 use Rattle.sbpl_cli.specs.Sites.{Site}
@@ -18,7 +17,7 @@ use Rattle.sbpl_cli.specs.Published.{Entry}
 use Rattle.sbpl_cli.specs.Intents.{Intent, Refused, Planned, Checked, Listed, Demonstrated}
 use Rattle.sbpl_cli.specs.Promises.{IsChecked, IsDemonstration}
 use Rattle.sbpl_cli.specs.declared.course.Course.{Course}
-use Rattle.sbpl_cli.specs.Writing.{DeskState, IsNamed, Names, ReadFailed, Told, Write, text_under}
+use Rattle.sbpl_cli.specs.Writing.{DeskState, Names, ReadFailed, Told, Write, text_under}
 
 -- ---- records of plans
 
@@ -43,14 +42,10 @@ FewAreFirst {W} on Alike = (w v : W) (course : Course) (how : SearchJob) (output
 
 -- ---- what the words and the files call for
 
--- the name is that of a file of a lattice
-abbrev pub IsSource : Sources → Names
-IsSource from name = (name ≡ from.env) ⊎ (name ≡ from.prims)
-
 -- the name is that of a file which the job reads
 abbrev pub IsInput : Job → Names
-IsInput (job.Plan j) name = IsSource j.sources name ⊎ IsNamed j.changes name
-IsInput (job.Check j) name = IsSource j.sources name ⊎ (IsNamed j.changes name ⊎ (name ≡ j.labels))
+IsInput (job.Plan j) name = IsEarlyInput (plan_files j) j.changes name
+IsInput (job.Check j) name = IsEarlyInput (check_files j) j.changes name ⊎ (name ≡ j.labels)
 IsInput (job.Sweep from) name = IsSource from name
 IsInput (job.Demo d) name = ⊥
 
@@ -71,8 +66,8 @@ NoName name = ⊥
 -- demonstration of all maps. Plans by a planner whose passes are not determined are not called for: each run makes its own.
 abbrev pub CallsFor : Told → (log : List Entry) → Job → Intent → Type 0
 CallsFor held log j (Refused r) = IsJobCause held NoName j r
-CallsFor held log (job.Plan j) (Planned records all own broken) = (all ≡ true) × (is_determined j.search.planner ≡ true) × (own ≡ log) × ArePlanned held j records true log broken
-CallsFor held log (job.Check j) (Checked goals os end) = (end ≢ Some section.NoMemory) × IsChecked held j goals os end
+CallsFor held log (job.Plan j) (Planned records all own broken) = (all ≡ true) × (is_determined j.search.planner ≡ true) × (own ≡ log) × ArePlanned held (plan_files j) j.changes j.search j.outputs records true log broken
+CallsFor held log (job.Check j) (Checked goals os end) = (end ≢ Some section.NoMemory) × IsChecked held (check_files j) j.changes j.labels goals os end
 CallsFor held log (job.Sweep from) (Listed w) = ReadsWorld held from w
 CallsFor held log (job.Demo d) (Demonstrated w count records all own broken) = (all ≡ true) × (own ≡ log) × IsDemonstration d w count records true log broken
 CallsFor held log _ _ = ⊥

@@ -10,6 +10,7 @@ pub mod Checked
 pub mod Listing
 pub mod Intents
 pub mod Texts
+pub mod WorldFiles
 pub mod Clear
 pub mod Shown
 pub mod Headline

@@ -6,7 +6,6 @@ use Rattle.sbpl_cfg.specs.Environment.{Environment}
 use Rattle.sbpl_mprim.specs.declared.fault.PrimFault.{PrimFault}
 use Rattle.sbpl_mprim.specs.Primitives.{Primitives}
 use Rattle.sbpl_fixed.specs.Formats.{Left, start_at}
-use Rattle.sbpl_cost.specs.Lattices.{LatticeHasItsArcs}
 use Rattle.sbpl_map.specs.declared.fault.ChangeFault.{ChangeFault}
 use Rattle.sbpl_map.specs.declared.write.Write as change
 use Rattle.sbpl_cost.specs.World.{IsWorld, World}
@@ -14,12 +13,11 @@ use Rattle.sbpl_cert.specs.declared.fault.LabelFault.{LabelFault}
 use Rattle.sbpl_cert.specs.declared.flaw.Flaw.{Flaw}
 use Rattle.sbpl_cert.specs.declared.outcome.Outcome.{Outcome}
 use Rattle.sbpl_cli.specs.Asked.{Known, checked_direction}
-use Rattle.sbpl_cli.specs.LatticeSite.{lattice_site}
 use Rattle.sbpl_cli.specs.Sites.{Site}
+use Rattle.sbpl_cli.specs.WorldFiles.{WorldFiles}
 use Rattle.sbpl_replan.specs.Directions.{Direction}
 use Rattle.sbpl_cli.specs.declared.section_check.SectionStop.{SectionStop}
 use Rattle.sbpl_cli.specs.declared.section_check.SectionStop.TheVariants as section
-use Rattle.sbpl_job.specs.declared.job.CheckJob.{CheckJob}
 use Rattle.sbpl_cli.specs.Checked.{AreChecked, Case, Holding, IsShownHolding, case_of, to_in}
 use Rattle.sbpl_plan.specs.declared.found.Found.{Found}
 use Rattle.sbpl_cli.specs.Headline.{AreRecords, Carried, IsBrokenIn}
@@ -28,12 +26,11 @@ use Rattle.sbpl_job.specs.declared.job.Job.{Job}
 use Rattle.sbpl_job.specs.declared.job.Job.TheVariants as job
 use Rattle.sbpl_job.specs.declared.job.DemoJob.{DemoJob}
 use Rattle.sbpl_job.specs.declared.job.Outputs.{Outputs}
-use Rattle.sbpl_job.specs.declared.job.PlanJob.{PlanJob}
 use Rattle.sbpl_job.specs.declared.job.SearchJob.{SearchJob}
 use Rattle.sbpl_job.specs.declared.job.Sources.{Sources}
 use Rattle.sbpl_cli.specs.declared.record.PlanRecord.{PlanRecord}
 use Rattle.sbpl_cli.specs.declared.refusal.Refusal.{Refusal}
-use Rattle.sbpl_cli.specs.Causes.{AreDemonstrated, ArePlanned, IsJobCause, IsReadText, NoneTooDear, ReadsCourse, ReadsWorld, scope_of}
+use Rattle.sbpl_cli.specs.Causes.{AreDemonstrated, ArePlanned, IsJobCause, IsReadText, NoneTooDear, ReadsCourse, ReadsWorld, check_files, plan_files}
 use Rattle.sbpl_sweep.specs.Widths.{NoneTooWide}
 use Rattle.sbpl_cli.specs.Intents.{BeginsAfter, Intent, Refused, Planned, Checked, Listed, Demonstrated, OutOfMemory, published_by, checked_status, checked_writes, demo_writes, end_writes, intent_status, listing_writes, outputs_of, plans_status, plans_writes, refusal_status, refusal_writes, statuses, words_writes, writes_of}
 use Rattle.sbpl_cli.specs.declared.course.Course.{Course}
@@ -44,12 +41,12 @@ use Rattle.sbpl_cli.specs.Writing.{AreAppended, DeskState, EndsAs, IsCutAt, IsOu
 abbrev pub AtJob : Option Job → (Job → Type 0) → Type 0
 AtJob named P = (j : Job) × (named ≡ Some j) × P j
 
--- the report of the plans of the job's files was written, one for the map as it is and one for each batch of changes, and their
+-- the report of plans of these files was written, one for the map as it is and one for each batch of changes, and their
 -- labels, their traces and the newest paths where they are asked for
-pub record IsReported (before after : DeskState) (old : List Entry) (j : PlanJob) : Type 0 where
+pub record IsReported {W : Type 0} (before after : DeskState) (old : List Entry) (f : WorldFiles W) (changes : Option (List ℕ)) (search : SearchJob) (outputs : Outputs) : Type 0 where
   pub records : List PlanRecord
-  pub planned : ArePlanned before.held j records true old []
-  pub report : AreAppended before after (plans_writes j.outputs records true)
+  pub planned : ArePlanned before.held f changes search outputs records true old []
+  pub report : AreAppended before after (plans_writes outputs records true)
 
 -- plans of the demonstration were made, one for the map as it is and one for each batch, and a line for each was written
 pub record IsDemonstrated (before after : DeskState) (old : List Entry) (d : DemoJob) : Type 0 where
@@ -76,40 +73,44 @@ pub record IsCheckedIn {W : Type 0} (Holds : Holding) (on : Site W) (d : Directi
   pub goals_are : goals ≡ to_in (case_of on d w course start goal)
   pub checked : AreChecked Holds (case_of on d w course start goal) 0 (suc (length course.batches)) (start_at text 0) os end
 
+-- each world's graph has just the arcs that its files make
+abbrev pub HasItsArcs : {W : Type 0} → Site W → Type 0
+HasItsArcs {W} on = (w : W) → on.cells.is_made w → on.wording.arcs (on.network w) w
+
 -- The files stand for a world and a course, and in it the file of labels is checked so. What its sections that hold say is shown, and is
--- so, on graphs which have just the arcs that the primitives make on the map, read backwards for the planner `back`.
-pub record IsChecked (held : Told) (j : CheckJob) (goals : ℕ → ℕ) (os : List Outcome) (end : Option SectionStop) : Type 0 where
-  pub world : World
+-- so, on graphs which have just the arcs that the files make on the map, read backwards where the robot may move.
+pub record IsChecked {W : Type 0} (held : Told) (f : WorldFiles W) (changes : Option (List ℕ)) (labels : List ℕ) (goals : ℕ → ℕ) (os : List Outcome) (end : Option SectionStop) : Type 0 where
+  pub world : W
   pub course : Course
-  pub says : ReadsWorld held j.sources world
-  pub changes : ReadsCourse held j.changes (scope_of j.back world) course
-  pub arcs : LatticeHasItsArcs
-  pub is_world : IsWorld world
+  pub says : f.stand_for held world
+  pub changes_say : ReadsCourse held changes (f.scope world) course
+  pub arcs : HasItsArcs f.on
+  pub is_world : f.on.cells.is_made world
   pub text : List ℕ
-  pub read : IsReadText (held j.labels) text
-  pub in_world : IsCheckedIn IsShownHolding lattice_site (checked_direction lattice_site j.back) world course text goals os end
+  pub read : IsReadText (held labels) text
+  pub in_world : IsCheckedIn IsShownHolding f.on (checked_direction f.on f.moves) world course text goals os end
 
 -- sections of labels were checked, which ended so, and their lines were written
-pub record IsJudged (before after : DeskState) (end : Option SectionStop) (j : CheckJob) : Type 0 where
+pub record IsJudged {W : Type 0} (before after : DeskState) (end : Option SectionStop) (f : WorldFiles W) (changes : Option (List ℕ)) (labels : List ℕ) : Type 0 where
   pub goals : ℕ → ℕ
   pub outcomes : List Outcome
-  pub checked : IsChecked before.held j goals outcomes end
+  pub checked : IsChecked before.held f changes labels goals outcomes end
   pub lines : AreAppended before after (checked_writes goals 0 outcomes end)
 
 -- the job `check` found this flaw, and said so
 abbrev pub IsFlawFound : (before after : DeskState) → Job → Type 0
-IsFlawFound before after (job.Check j) = (f : Flaw) × IsJudged before after (Some (section.Flaw f)) j
+IsFlawFound before after (job.Check j) = (x : Flaw) × IsJudged before after (Some (section.Flaw x)) (check_files j) j.changes j.labels
 IsFlawFound before after _ = ⊥
 
 -- the job `check` found this fault in the text of the labels, and said so
 abbrev pub IsFaultFound : (before after : DeskState) → Job → Type 0
-IsFaultFound before after (job.Check j) = (f : LabelFault) × IsJudged before after (Some (section.Fault f)) j
+IsFaultFound before after (job.Check j) = (x : LabelFault) × IsJudged before after (Some (section.Fault x)) (check_files j) j.changes j.labels
 IsFaultFound before after _ = ⊥
 
 -- the job was done, and what came of it was written
 abbrev pub IsDone : (before after : DeskState) → (old : List Entry) → Job → Type 0
-IsDone before after old (job.Plan j) = IsReported before after old j
-IsDone before after old (job.Check j) = IsJudged before after None j
+IsDone before after old (job.Plan j) = IsReported before after old (plan_files j) j.changes j.search j.outputs
+IsDone before after old (job.Check j) = IsJudged before after None (check_files j) j.changes j.labels
 IsDone before after old (job.Sweep from) = IsListed before after from
 IsDone before after old (job.Demo d) = IsDemonstrated before after old d
 
@@ -130,8 +131,8 @@ IsDemonstration d w count records all log broken = (batches : List (List change.
 abbrev pub GivesIntent : Told → Names → Job → Intent → Type 0
 GivesIntent held Failed j (Refused r) = IsJobCause held Failed j r
 GivesIntent held Failed j OutOfMemory = Unit {0}
-GivesIntent held Failed (job.Plan j) (Planned records all log broken) = ArePlanned held j records all log broken
-GivesIntent held Failed (job.Check j) (Checked goals os end) = IsChecked held j goals os end
+GivesIntent held Failed (job.Plan j) (Planned records all log broken) = ArePlanned held (plan_files j) j.changes j.search j.outputs records all log broken
+GivesIntent held Failed (job.Check j) (Checked goals os end) = IsChecked held (check_files j) j.changes j.labels goals os end
 GivesIntent held Failed (job.Sweep from) (Listed w) = ReadsWorld held from w × IsWorld w
 GivesIntent held Failed (job.Demo d) (Demonstrated w batches records all log broken) = IsDemonstration d w batches records all log broken
 GivesIntent held Failed _ _ = ⊥

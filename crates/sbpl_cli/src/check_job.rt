@@ -6,7 +6,7 @@ ghost use Rattle.sbpl_cost.specs.Lattices.{network_of};
 ghost use Rattle.sbpl_cost.specs.World.{IsWorld};
 ghost use Rattle.sbpl_job.specs.declared.job.Job.TheVariants as Jobs;
 ghost use Rattle.sbpl_cli.specs.Asked.{checked_direction};
-ghost use Rattle.sbpl_cli.specs.Causes.{AreRead, IsCourseIn, IsReadText, JobStopsFor};
+ghost use Rattle.sbpl_cli.specs.Causes.{AreRead, IsCourseIn, IsReadText, JobStopsFor, check_files};
 ghost use Rattle.sbpl_cli.specs.Checked.{case_of};
 ghost use Rattle.sbpl_cli.specs.LatticeSite.{lattice_site};
 ghost use Rattle.sbpl_cli.specs.Published.{Entry};
@@ -25,7 +25,7 @@ use crate::workspace::Workspace;
 use crate::writing::{status_after, write_last};
 use sbpl_cert::LabelFault;
 use sbpl_change::write_batch;
-use sbpl_cost::{Lattice, lattice_has_its_arcs};
+use sbpl_cost::Lattice;
 use sbpl_desk::Desk;
 use sbpl_fixed::{NoMemory, next_token};
 use sbpl_heur::Best;
@@ -150,7 +150,7 @@ fn read_check<D: Desk>(
     desk: &mut D,
 ) -> Result<(Lattice, Course, Vec<u8>), Stop>
     requires range { job.now.sources.radius ≤ 10 ^ 12 }
-    ensures course { IfOk result (λ x. AreRead (D.state desk.old).held job.now.sources job.now.changes job.now.back x.0 x.1) }
+    ensures course { IfOk result (λ x. AreRead (D.state desk.old).held (check_files job.now) job.now.changes x.0 x.1) }
     ensures text { IfOk result (λ x. IsReadText ((D.state desk.old).held job.now.labels) x.2.items) }
     ensures stop { IfErr result (JobStopsFor (D.state desk.old) (D.state desk.new) (Jobs.Check job.now)) }
     ensures frame { ReadsOnly (D.state desk.old) (D.state desk.new) }
@@ -178,7 +178,7 @@ pub(crate) fn check_labels<D: Desk>(alloc: Global, job: &CheckJob, desk: &mut D)
     ensures unwritten { OnErr result (ReadsOnly (D.state desk.old) (D.state desk.new)) }
     ensures frame { WritesOnly IsOutput (D.state desk.old) (D.state desk.new) }
 {
-    lattice_has_its_arcs();
+    Lattice::has_its_arcs();
     let (mut lattice, course, text) = read_check(alloc, job, desk)?;
     let (start, goal) = lattice.ends();
     let status = check_either_way(

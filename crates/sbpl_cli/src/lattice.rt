@@ -4,7 +4,7 @@ ghost use Rattle.std.specs.Prelude.{◌≤◌, ◌^◌, IfErr, IfOk};
 ghost use Rattle.sbpl_cost.specs.World.{IsWorld};
 ghost use Rattle.sbpl_sweep.specs.Swept.{AreSweepsOf};
 ghost use Rattle.sbpl_sweep.specs.Widths.{NoneTooWide};
-ghost use Rattle.sbpl_cli.specs.Causes.{AreRead, EarlyStopsFor, IsWideStop, LatticeStopsFor, ReadsWorld};
+ghost use Rattle.sbpl_cli.specs.Causes.{AreRead, EarlyStopsFor, IsWideStop, LatticeStopsFor, ReadsWorld, lattice_files};
 ghost use Rattle.sbpl_cli.specs.Writing.{ReadsOnly};
 
 use crate::course::Course;
@@ -64,8 +64,8 @@ pub(crate) fn read_course<D: Desk>(
     desk: &mut D,
 ) -> Result<(Lattice, Course), Stop>
     requires range { from.now.radius ≤ 10 ^ 12 }
-    ensures course { IfOk result (λ x. AreRead (D.state desk.old).held from.now changes.now moving x.0 x.1) }
-    ensures stop { IfErr result (EarlyStopsFor (D.state desk.old) (D.state desk.new) from.now changes.now moving) }
+    ensures course { IfOk result (λ x. AreRead (D.state desk.old).held (lattice_files from.now moving) changes.now x.0 x.1) }
+    ensures stop { IfErr result (EarlyStopsFor (D.state desk.old) (D.state desk.new) (lattice_files from.now moving) changes.now) }
     ensures frame { ReadsOnly (D.state desk.old) (D.state desk.new) }
 {
     let lattice = read_lattice(alloc, from, desk)?;

@@ -1,4 +1,4 @@
-use Rattle.sbpl_cli.specs.Causes.{scope_of}
+use Rattle.sbpl_cli.specs.Causes.{lattice_files, scope_of}
 use Rattle.sbpl_cli.proofs.Ends.{course_since, course_stop}
 use Rattle.sbpl_cli.proofs.Frames.{reads_on}
 use Rattle.sbpl_cli.proofs.lattice.read_course.Goals as goal
@@ -7,7 +7,7 @@ pub returns-in-Err-clause-stop : goal.returns-in-Err-clause-stop
 returns-in-Err-clause-stop g c =
     let mid = g.D.Desk.state c.read_lattice.new.desk in
     let end = g.D.Desk.state c.read_change_file.new.desk in
-    course_stop _ mid end c.args.from.now c.args.changes.now c.args.moving c.in_ok-lattice.lattice c.in-Err.stop c.in_ok-lattice.ensures.says c.in_ok-lattice.ensures.frame c.in-Err.ensures.stop
+    course_stop _ mid end (lattice_files c.args.from.now c.args.moving) c.args.changes.now c.in_ok-lattice.lattice c.in-Err.stop c.in_ok-lattice.ensures.says c.in_ok-lattice.ensures.frame c.in-Err.ensures.stop
 
 pub returns-in-Ok-clause-course : goal.returns-in-Ok-clause-course
 returns-in-Ok-clause-course g c =
