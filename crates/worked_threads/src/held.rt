@@ -5,8 +5,9 @@ ghost use Rattle.worked_threads.specs.Pair.{pair};
 ghost use Rattle.sbpl_search.specs.Query.{query};
 ghost use Rattle.sbpl_search.specs.Ready.{AreReady};
 
-use sbpl_frontier::{Claim, Claims, Line, Lined, Seat, Second, Shared, Turn};
-use sbpl_frontier_core::{Core, Judged, Pass, Unseen, judge};
+use crate::judged::judged;
+use sbpl_frontier::{Claims, Line, Lined, Seat, Second, Shared};
+use sbpl_frontier_core::{Core, Pass, Unseen};
 use sbpl_graph::{Graph, Zero};
 use sbpl_labels::{Budget, Labels};
 use std::alloc::Global;
@@ -111,12 +112,8 @@ fn ask<'g, R: Wait, N: Pass, M: Second, L: Lined>(
     requires network { N.query.network ≡ pair }
 {
     let mut seat = seat;
-    match shared.next(rt, &mut seat) {
-        Ok(Turn::Job(ticket, claim)) => shared.post(rt, &mut seat, judge(ticket, graph), claim),
-        Ok(Turn::NotYet(_seen)) => {}
-        Ok(Turn::Over(_seen)) => {}
-        Ok(Turn::Spent(_seen)) => {}
-        Err(_) => {}
+    if let Some((judged, claim)) = judged(rt, shared, &mut seat, graph) {
+        shared.post(rt, &mut seat, judged, claim);
     }
 }
 
@@ -127,38 +124,33 @@ fn posts_meanwhile<
     N: Pass + Send + Sync,
     M: Second + Send + Sync,
     L: Lined + Send + Sync,
->(
-    rt: &R,
-    shared: &Frontier<'g, N, M, L>,
-    graph: &Held,
-    seats: (Seat<N, M, L>, Seat<N, M, L>),
-    judged: Judged<N>,
-    claim: Claim<M>,
-) -> Result<bool, Fail>
+>(rt: &R, shared: &Frontier<'g, N, M, L>, graph: &Held, seats: Vec<Seat<N, M, L>>) -> bool
     requires network { N.query.network ≡ pair }
-    requires same { claim ≡ record { ticket = judged.number; state = judged.state; arc = judged.arc } }
 {
-    let (mut seat, other) = seats;
+    let mut seats = seats;
+    let (Some(other), Some(mut seat)) = (seats.pop(), seats.pop()) else {
+        return false;
+    };
     thread::scope(
         thread::scope_env(),
         rt,
-        move |scope| -> Result<bool, Fail>
+        move |scope| -> bool
             requires network { N.query.network ≡ pair }
-            requires same { claim ≡ record { ticket = judged.number; state = judged.state; arc = judged.arc } }
         {
+            let Some((judged, claim)) = judged(rt, shared, &mut seat, graph) else {
+                return false;
+            };
             let job = move ||
                 requires { N.query.network ≡ pair }
             { ask(rt, shared, graph, other) };
-            match scope.spawn(job) {
-                Ok(handle) => {
-                    let is_asked = comes(&graph.asked);
-                    shared.post(rt, &mut seat, judged, claim);
-                    graph.posted.store(true, Ordering::SeqCst);
-                    handle.join(rt);
-                    Ok(is_asked && graph.met.load(Ordering::SeqCst))
-                }
-                Err(_job) => Err(Fail::new("no thread")),
-            }
+            let Ok(handle) = scope.spawn(job) else {
+                return false;
+            };
+            let is_asked = comes(&graph.asked);
+            shared.post(rt, &mut seat, judged, claim);
+            graph.posted.store(true, Ordering::SeqCst);
+            handle.join(rt);
+            is_asked && graph.met.load(Ordering::SeqCst)
         },
     )
 }
@@ -178,7 +170,7 @@ fn posts_as<
     claims: Claims,
     line: Line<N, M>,
     graph: &Held,
-) -> Result<bool, Fail>
+) -> bool
     requires network { N.query.network ≡ pair }
     requires empty { core.journal ≡ [] }
     requires parts { M.parts ≡ 2 }
@@ -187,77 +179,66 @@ fn posts_as<
     requires line { line ≡ L.line }
 {
     let made = Shared::<'g, Held, Zero, N, Unseen, M, L>::new(alloc, core, 2, takes, line, claims);
-    let Ok((shared, mut seats)) = made else {
-        return Err(Fail::new("memory"));
-    };
-    let (Some(other), Some(mut seat)) = (seats.pop(), seats.pop()) else {
-        return Err(Fail::new("seats"));
-    };
-    match shared.next(rt, &mut seat)? {
-        Turn::Job(ticket, claim) => {
-            posts_meanwhile(
-                rt,
-                &shared,
-                graph,
-                (seat, other),
-                judge(ticket, graph),
-                claim,
-            )
+    match made {
+        Ok((shared, seats)) => {
+            let posts = posts_meanwhile(rt, &shared, graph, seats);
+            drop(shared);
+            posts
         }
-        Turn::NotYet(_seen) => Err(Fail::new("not yet")),
-        Turn::Over(_seen) => Err(Fail::new("over")),
-        Turn::Spent(_seen) => Err(Fail::new("spent")),
+        Err(core) => {
+            drop(core);
+            false
+        }
     }
 }
 
-/// The same, from a core whose values have two names.
-fn posts_by_line<'g, M: Second + Send + Sync, N: Pass + Send + Sync, R: Threads + Wait + Sync>(
-    rt: &R,
-    alloc: Global,
-    core: Core<'g, Held, Zero, N>,
-    takes: Blank,
-    claims: Claims,
-    graph: &Held,
-) -> Result<bool, Fail>
-    requires network { N.query.network ≡ pair }
-    requires empty { core.journal ≡ [] }
-    requires parts { M.parts ≡ 2 }
-    requires takes { (takes.name ≡ M.takes) × (takes.parts ≡ M.parts) }
-    requires claims { claims ≡ M.table }
-{
-    let line = Line::<N, M>::new(alloc, 1)?;
-    posts_as::<Brand, M, N, R>(rt, alloc, core, takes, claims, line, graph)
-}
-
-/// The same, from labels that have a name.
-fn posts_from<N: Pass + Send + Sync, R: Threads + Wait + Sync>(
+/// The same, from labels, takes and claims that have names.
+fn posts_from<M: Second + Send + Sync, N: Pass + Send + Sync, R: Threads + Wait + Sync>(
     rt: &R,
     alloc: Global,
     labels: Labels,
     budget: Budget,
+    takes: Blank,
+    claims: Claims,
     graph: &Held,
-) -> Result<bool, Fail>
+) -> bool
     requires query { query pair (λ s. 0) 1000 1 ≡ N.query }
     requires labels { labels ≡ N.opening }
     requires budget { budget ≡ N.counts }
     requires keeps { N.keeps ≡ false }
     requires ready { AreReady pair labels budget.run }
+    requires parts { M.parts ≡ 2 }
+    requires takes { (takes.name ≡ M.takes) × (takes.parts ≡ M.parts) }
+    requires claims { claims ≡ M.table }
 {
+    let Ok(line) = Line::<N, M>::new(alloc, 1) else {
+        return false;
+    };
     let opened = Core::<'_, Held, Zero, N>::open(
         alloc, graph, &Zero, labels, 1, 1000, budget, false,
     );
-    let Ok(core) = opened else {
-        return Err(Fail::new("memory"));
-    };
-    let claims = Claims::new(alloc)?;
-    posts_by_line::<Brand, N, R>(rt, alloc, core, Blank::new(2), claims, graph)
+    match opened {
+        Ok(core) => posts_as::<Brand, M, N, R>(rt, alloc, core, takes, claims, line, graph),
+        Err(_) => false,
+    }
 }
 
 #[test]
 fn posted_while_the_lock_is_held(rt: HostRuntime) -> Result<(), Fail> {
     let labels = Labels::open(rt.alloc(), 2, 0)?;
+    let claims = Claims::new(rt.alloc())?;
     let graph = Held::new();
-    let posted = posts_from::<Brand, HostRuntime>(&rt, rt.alloc(), labels, Budget::new(8), &graph)?;
-    assert!(rt; posted, "the lock is waited for");
+    let budget = Budget::new(8);
+    let takes = Blank::new(2);
+    let posts = posts_from::<Brand, Brand, HostRuntime>(
+        &rt,
+        rt.alloc(),
+        labels,
+        budget,
+        takes,
+        claims,
+        &graph,
+    );
+    assert!(rt; posts, "the lock is waited for");
     Ok(())
 }

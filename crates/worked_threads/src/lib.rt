@@ -6,6 +6,8 @@ mod claims;
 #[cfg(test)]
 mod held;
 #[cfg(test)]
+mod judged;
+#[cfg(test)]
 mod lattices;
 #[cfg(test)]
 mod passes;
@@ -13,5 +15,7 @@ mod passes;
 mod rows;
 #[cfg(test)]
 mod seats;
+#[cfg(test)]
+mod small;
 #[cfg(test)]
 mod watched;

@@ -6,7 +6,6 @@ ghost use Rattle.sbpl_search.specs.Ready.{AreReady};
 
 use crate::lattices::made;
 use crate::watched::Watched;
-use sample_files::{E2, F2};
 use sbpl_cost::Lattice;
 use sbpl_demo::generate;
 use sbpl_epase::{NoGate, parallel_pass};
@@ -15,7 +14,6 @@ use sbpl_graph::{Graph, Zero};
 use sbpl_labels::{Budget, Labels};
 use std::alloc::Global;
 use std::marker::Brand;
-use std::process::Abort;
 use std::sync::Wait;
 use std::test::Fail;
 use std::thread::Threads;
@@ -79,46 +77,39 @@ fn cost_by<R: Threads + Wait + Sync, G: Graph + Sync>(
     )
 }
 
-/// A worker judges an arc while another one is still judging the first: no lock is held meanwhile.
-#[test]
-fn judged_side_by_side(rt: HostRuntime) -> Result<(), Fail> {
-    let graph = Watched::new(made(rt.alloc(), E2.as_bytes(), F2.as_bytes())?);
-    let cost = cost_by(&rt, rt.alloc(), &graph, 0, 32, 2);
-    let met = graph.has_met();
-    drop(graph);
-    assert!(rt; met, "one judgement at a time");
-    assert_eq!(rt; cost?, 100);
-    Ok(())
-}
-
-/// The lattice of a drawn map of about sixteen thousand states.
-fn drawn(alloc: Global) -> Result<Lattice, Fail> {
-    let files = generate(alloc, 7, 32, 32)?;
-    let lattice = made(alloc, files.env.as_slice(), files.prims.as_slice());
-    drop(files);
-    lattice
-}
-
-/// Eight workers find what one finds, again and again.
-fn compare_eight<R: Abort + Threads + Wait + Sync>(
+/// Whether a worker judges an arc while another one is still judging the first, since no lock is held meanwhile, and the cost that the
+/// two find.
+pub(crate) fn meet<R: Threads + Wait + Sync>(
     rt: &R,
     alloc: Global,
     lattice: &Lattice,
-) -> Result<(), Fail> {
+) -> Result<(bool, u64), Fail> {
+    let graph = Watched::new(lattice);
+    let cost = cost_by(rt, alloc, &graph, 0, 32, 2)?;
+    Ok((graph.has_met(), cost))
+}
+
+/// Whether eight workers find what one finds, again and again.
+fn agree<R: Threads + Wait + Sync>(rt: &R, alloc: Global, lattice: &Lattice) -> Result<bool, Fail> {
     let (start, goal) = ((32 + 1) * 16, (30 * 32 + 30) * 16);
     let alone = cost_by(rt, alloc, lattice, start, goal, 1)?;
     for _ in 0..4 {
-        let cost = cost_by(rt, alloc, lattice, start, goal, 8)?;
-        assert_eq!(rt; cost, alone);
+        if cost_by(rt, alloc, lattice, start, goal, 8)? != alone {
+            return Ok(false);
+        }
     }
-    Ok(())
+    Ok(true)
 }
 
-/// The same on a drawn map.
+/// The same on a drawn map of about sixteen thousand states.
 #[test]
 fn eight_workers(rt: HostRuntime) -> Result<(), Fail> {
-    let lattice = drawn(rt.alloc())?;
-    let compared = compare_eight(&rt, rt.alloc(), &lattice);
+    let files = generate(rt.alloc(), 7, 32, 32)?;
+    let lattice = made(rt.alloc(), files.env.as_slice(), files.prims.as_slice());
+    drop(files);
+    let lattice = lattice?;
+    let agree = agree(&rt, rt.alloc(), &lattice);
     drop(lattice);
-    compared
+    assert!(rt; agree?);
+    Ok(())
 }

@@ -6,10 +6,9 @@ ghost use Rattle.sbpl_heur.specs.Bests.{IsGuide, distance_in};
 ghost use Rattle.sbpl_search.specs.Query.{query};
 ghost use Rattle.sbpl_epase.specs.Making.{CanPass, Leaves};
 
-use crate::lattices::made;
-use sample_files::{E2, F2};
 use sbpl_cost::Lattice;
 use sbpl_epase::{Epase, Event, NoGate, Parts, parallel_pass_parts};
+use sbpl_fixed::NoMemory;
 use sbpl_graph::Graph;
 use sbpl_heur::Best;
 use sbpl_labels::Budget;
@@ -40,14 +39,28 @@ fn workers_at(eps: u32) -> u32
     }
 }
 
-/// A plan from the first state to this one, each of whose passes begins with the labels of the pass before.
-fn planned_to<R: Threads + Wait + Sync>(
+/// How many passes a plan made, and the cost of its path.
+fn told(planned: Result<Planned<Event>, NoMemory>) -> Option<(usize, u64)> {
+    let Ok(planned) = planned else {
+        return None;
+    };
+    let told = match &planned.outcome {
+        Outcome::Path(path) => Some((planned.passes.as_slice().len(), path.cost)),
+        _ => None,
+    };
+    drop(planned);
+    told
+}
+
+/// The passes of a plan from the first state to this one are made by one, four, two and three workers, and each begins with the labels
+/// of the pass before: how many passes there are, and the cost of the path.
+pub(crate) fn falling<R: Threads + Wait + Sync>(
     rt: &R,
     alloc: Global,
     lattice: &Lattice,
     best: &Best,
     goal: u32,
-) -> Result<Planned<Event>, Fail>
+) -> Result<Option<(usize, u64)>, Fail>
     requires goal { goal < (network_of lattice.now).states }
     requires guide { IsGuide (network_of lattice.now) goal best.now }
 {
@@ -70,7 +83,7 @@ fn planned_to<R: Threads + Wait + Sync>(
     };
     let mut search = Epase::open(alloc, make, lattice.states(), 0, goal)?;
     let mut budget = Budget::new(1 << 30);
-    Ok(plan(
+    let planned = plan(
         alloc,
         lattice,
         best,
@@ -79,33 +92,7 @@ fn planned_to<R: Threads + Wait + Sync>(
         &FALLING,
         &mut budget,
         &mut Nobody,
-    )?)
-}
-
-/// The same on the lattice of two texts, from the first state to the goal in cell `(2, 0)`.
-fn planned<R: Threads + Wait + Sync>(rt: &R, alloc: Global) -> Result<Planned<Event>, Fail> {
-    let lattice = made(alloc, E2.as_bytes(), F2.as_bytes())?;
-    let goal = 32;
-    if goal >= lattice.states() {
-        return Err(Fail::new("states"));
-    }
-    let best = Best::build(alloc, &lattice, goal)?;
-    planned_to(rt, alloc, &lattice, &best, goal)
-}
-
-/// How many passes a plan made, and the cost of its path.
-fn told(planned: &Planned<Event>) -> (usize, Option<u64>) {
-    let cost = match &planned.outcome {
-        Outcome::Path(path) => Some(path.cost),
-        _ => None,
-    };
-    (planned.passes.as_slice().len(), cost)
-}
-
-/// The passes of a plan are made by one, four, two and three workers, and the path of the last one is the best.
-#[test]
-fn workers_come_and_go(rt: HostRuntime) -> Result<(), Fail> {
-    let planned = planned(&rt, rt.alloc())?;
-    assert_eq!(rt; told(&planned), (4, Some(100)));
-    Ok(())
+    );
+    drop(search);
+    Ok(told(planned))
 }

@@ -1,7 +1,5 @@
 //! A lattice that holds the first judgement of an arc until another one has begun.
 
-ghost use Rattle.std.specs.Prelude.{◌≡◌};
-
 use sbpl_cost::Lattice;
 use sbpl_graph::Graph;
 use std::hint;
@@ -12,17 +10,15 @@ const TURNS: u64 = 1 << 28;
 
 /// A lattice whose first judgement waits until a second one has begun, or until the turns are used up.
 #[derive(Drop)]
-pub(crate) struct Watched {
-    lattice: Lattice,
+pub(crate) struct Watched<'l> {
+    lattice: &'l Lattice,
     begun: AtomicU64,
     met: AtomicBool,
 }
 
-impl Watched {
+impl<'l> Watched<'l> {
     /// This lattice, of which no arc was judged.
-    pub(crate) fn new(lattice: Lattice) -> Watched
-        ensures lattice { result.lattice ≡ lattice }
-    {
+    pub(crate) fn new(lattice: &'l Lattice) -> Watched<'l> {
         Watched {
             lattice,
             begun: AtomicU64::new(0),
@@ -47,10 +43,10 @@ impl Watched {
     }
 }
 
-impl Graph for Watched {
+impl<'l> Graph for Watched<'l> {
     ghost use Rattle.sbpl_cost.specs.Lattices.{network_of};
 
-    ghost network = { λ watched. network_of watched.lattice };
+    ghost network = { λ watched. network_of watched.lattice.now };
 
     fn states(&self) -> u32 {
         self.lattice.states()
