@@ -2,8 +2,6 @@
 #![tactic(auto)]
 
 #[cfg(test)]
-mod hostile;
-#[cfg(test)]
 mod newest;
 #[cfg(test)]
 mod parallel;

@@ -1,13 +1,15 @@
 //! The newest path, read by a gate while the planner works.
 
-ghost use Rattle.std.specs.Prelude.{◌≡◌};
+ghost use Rattle.std.specs.Prelude.{◌≡◌, []};
 
-use crate::runs::{THERE_AND_BACK, desk_of, status_with};
-use sample_files::{E2, F2};
-use sbpl_cli::Gate;
-use sbpl_incumbent::{Board, Reader};
+use crate::runs::{DETOUR, hold, words_of};
+use sbpl_cli::{Gate, run_with};
+use sbpl_desk::MemoryDesk;
+use sbpl_incumbent::{Board, Publisher, Reader};
+use std::alloc::Global;
 use std::sync::{Mutex, Wait};
 use std::test::Fail;
+use std::thread::Threads;
 
 /// A reader of a board, and what it got: the number of the newest entry, or 0.
 #[derive(Drop)]
@@ -57,87 +59,59 @@ impl<'b, R: Wait + Sync> Gate for Watching<'b, R> {
     }
 }
 
-/// Plans passes of falling inflation by several workers: the numbers that the gate reads never fall.
-#[test]
-fn numbers_never_fall(rt: HostRuntime) -> Result<(), Fail> {
-    let (board, mut publisher) = Board::new(rt.alloc())?;
-    let reader = board.reader(&mut publisher)?;
+/// The status of a run of these words on a map with a way around, whether the newest path that a gate reads is ever an older one,
+/// how many evaluations of ticket 0 there are, and the numbers at the first three.
+fn seen_on<R: Threads + Wait + Sync>(
+    rt: &R,
+    alloc: Global,
+    words: &str,
+    desk: &mut MemoryDesk,
+    board: &Board,
+    publisher: &mut Publisher,
+) -> Result<(u8, bool, usize, [u64; 3]), Fail>
+    requires board { publisher.old.board ≡ board.now }
+    requires none { publisher.old.published ≡ [] }
+{
+    hold(&DETOUR, desk)?;
+    let words = words_of(alloc, words)?;
     let seen = Seen {
-        board: &board,
-        reader,
+        board,
+        reader: board.reader(publisher)?,
         last: 0,
         fell: false,
         firsts: 0,
         at_first: [0; 3],
     };
     let gate = Watching {
-        rt: &rt,
+        rt,
         seen: Mutex::new(seen),
     };
-    let words = [
-        "plan",
-        "e",
-        "m",
-        "--first=3",
-        "--planner=epase",
-        "--workers=4",
-    ];
-    let mut desk = desk_of(rt.alloc(), &[("e", E2), ("m", F2)])?;
-    let status = status_with(
-        &rt,
-        rt.alloc(),
-        &words,
-        &mut desk,
-        &gate,
-        &board,
-        &mut publisher,
-    );
-    let fell = gate.seen.lock(&rt).fell;
-    drop(desk);
-    assert_eq!(rt; (status?, fell), (0, false));
-    Ok(())
+    let status = run_with(rt, alloc, words.as_slice(), desk, &gate, board, publisher);
+    let seen = gate.seen.lock(rt);
+    Ok((status, seen.fell, seen.firsts, seen.at_first))
 }
 
-/// Plans three times by one worker. At the first evaluation of each plan the newest path is that of the plan before.
-#[test]
-fn each_plan_is_published_before_the_next(rt: HostRuntime) -> Result<(), Fail> {
-    let (board, mut publisher) = Board::new(rt.alloc())?;
-    let reader = board.reader(&mut publisher)?;
-    let seen = Seen {
-        board: &board,
-        reader,
-        last: 0,
-        fell: false,
-        firsts: 0,
-        at_first: [0; 3],
-    };
-    let gate = Watching {
-        rt: &rt,
-        seen: Mutex::new(seen),
-    };
-    let words = [
-        "plan",
-        "e",
-        "m",
-        "--changes=c",
-        "--planner=epase",
-        "--workers=1",
-    ];
-    let files = [("e", E2), ("m", F2), ("c", THERE_AND_BACK)];
-    let mut desk = desk_of(rt.alloc(), &files)?;
-    let status = status_with(
-        &rt,
-        rt.alloc(),
-        &words,
-        &mut desk,
-        &gate,
-        &board,
-        &mut publisher,
-    );
-    let firsts = gate.seen.lock(&rt).firsts;
-    let at_first = gate.seen.lock(&rt).at_first;
+/// The same, on a desk and a board of its own.
+fn seen_by<R: Threads + Wait + Sync>(
+    rt: &R,
+    alloc: Global,
+    words: &str,
+) -> Result<(u8, bool, usize, [u64; 3]), Fail> {
+    let (board, mut publisher) = Board::new(alloc)?;
+    let mut desk = MemoryDesk::new(alloc);
+    let seen = seen_on(rt, alloc, words, &mut desk, &board, &mut publisher);
     drop(desk);
-    assert_eq!(rt; (status?, firsts), (0, 3));
-    assert_eq!(rt; at_first, [0, 1, 2]);
+    seen
+}
+
+/// The numbers never fall, also while several workers plan passes of falling inflation. At the first evaluation of each of three
+/// plans by one worker the newest path is that of the plan before.
+#[test]
+fn read_while_planning(rt: HostRuntime) -> Result<(), Fail> {
+    let words = "plan e m --first=3 --planner=epase --workers=4";
+    let (status, fell, ..) = seen_by(&rt, rt.alloc(), words)?;
+    let words = "plan e m --changes=c --planner=epase --workers=1";
+    let plans = seen_by(&rt, rt.alloc(), words)?;
+    assert_eq!(rt; (status, fell, plans), (0, false, (0, false, 3, [0, 1, 2])));
     Ok(())
 }

@@ -1,11 +1,11 @@
 //! Plans by ePA*SE with several workers, over a desk in memory.
 
-use crate::runs::{THERE_AND_BACK, THREE_HOLD, compare_held, desk_of, labels_of, status_at};
-use sample_files::{E2, F2, car, draw, field};
+use crate::runs::{DETOUR, Files, Row, WORKS, answers};
+use sample_files::{car, draw, field};
 use sbpl_cli::{Gate, NoGate};
-use std::alloc::{AllocError, Global};
+use sbpl_desk::MemoryDesk;
+use std::alloc::Global;
 use std::hint;
-use std::process::Abort;
 use std::sync::Wait;
 use std::sync::atomic::{AtomicBool, AtomicU64, Ordering};
 use std::test::Fail;
@@ -14,24 +14,16 @@ use std::thread::Threads;
 /// How often a worker that is held up looks for another one.
 const TURNS: u64 = 1 << 28;
 
-/// A gate that holds the first judgement until a second has begun, or until the turns are used up.
+/// A gate that holds the first judgement until a second has begun, or until the turns are used up; or that holds none.
 #[derive(Drop)]
 struct Held {
-    /// How many judgements have begun.
+    /// How many judgements have begun, and one more where none is held.
     begun: AtomicU64,
-    /// Whether a second one began while the first was held.
+    /// Whether a second one began while the first was held, or none is held.
     met: AtomicBool,
 }
 
 impl Held {
-    /// A gate at which no judgement has begun.
-    fn new() -> Held {
-        Held {
-            begun: AtomicU64::new(0),
-            met: AtomicBool::new(false),
-        }
-    }
-
     /// Waits until a second judgement has begun, or until the turns are used up.
     fn hold(&self) {
         for _ in 0..TURNS {
@@ -52,132 +44,138 @@ impl Gate for Held {
     }
 }
 
-/// Whether a report has a path of the least cost from the start on, and its last line.
-fn says_the_path(report: &[u8]) -> bool {
-    match str::from_utf8(report) {
-        Ok(text) => {
-            text.contains(" cost 100 bound 1.000\npose 0 0 0\n") && text.ends_with("\ndone\n")
-        }
-        Err(_) => false,
-    }
-}
+/// A path of the least cost from the start on, and the last line. Which states are expanded depends on the workers, and nothing is said
+/// of them.
+const PATH: &str = ".. cost 100 bound 1.000\npose 0 0 0\n..\ndone\n";
 
-/// Plans on the map with a way around by this number of workers, and compares the status, and the cost and the bound in the
-/// report. The labels that were written hold. Which states are expanded depends on the workers, and nothing is said of them.
-fn compare_workers<R: Abort + Threads + Wait + Sync, T: Gate + Sync>(
+/// What a check of labels writes, of one plan and of three.
+const HOLDS: &str = "plan 0 path holds\ndone\n";
+
+const ALL_HOLD: &str = "plan 0 path holds\nplan 1 path holds\nplan 2 path holds\ndone\n";
+
+/// Whether the first judgement is held; the words of plans that workers make with labels, and the report; and then the words of a check
+/// of these labels, and its report.
+static PLANS: [(bool, &str, &str, &str, &str); 6] = [
+    (
+        false,
+        "plan e m --planner epase --workers 1 --labels l",
+        PATH,
+        "check e m l",
+        HOLDS,
+    ),
+    (
+        false,
+        "plan e m --planner epase --workers 2 --labels l",
+        PATH,
+        "check e m l",
+        HOLDS,
+    ),
+    (
+        true,
+        "plan e m --planner epase --workers 2 --labels l",
+        PATH,
+        "check e m l",
+        HOLDS,
+    ),
+    (
+        false,
+        "plan e m --planner epase --workers 4 --labels l",
+        PATH,
+        "check e m l",
+        HOLDS,
+    ),
+    (
+        false,
+        "plan e m --planner epase --workers 64 --labels l",
+        PATH,
+        "check e m l",
+        HOLDS,
+    ),
+    (
+        false,
+        "plan e m --changes=c --planner=epase --workers=4 --labels=l",
+        "..",
+        "check e m l --changes c",
+        ALL_HOLD,
+    ),
+];
+
+/// Whether a plan answers as its row says, and then a check, on another desk, of the labels that it wrote.
+fn plans_and_holds<R: Threads + Wait + Sync>(
     rt: &R,
     alloc: Global,
-    workers: &str,
-    gate: &T,
-) -> Result<(), Fail> {
-    let files = [("e", E2), ("m", F2)];
-    let words = [
-        "plan",
-        "e",
-        "m",
-        "--planner",
-        "epase",
-        "--workers",
-        workers,
-        "--labels",
-        "l",
-    ];
-    let mut desk = desk_of(alloc, &files)?;
-    let status = status_at(rt, alloc, &words, &mut desk, gate);
-    let says = says_the_path(desk.written("-"));
-    let labels = desk.written("l").to_vec(alloc);
-    drop(desk);
-    assert_eq!(rt; status?, 0, "{workers}");
-    assert!(rt; says, "{workers}");
-    let labels = labels?;
-    let check = ["check", "e", "m", "l"];
-    let report = "plan 0 path holds\ndone\n";
-    let compared = compare_held(rt, alloc, &files, labels.as_slice(), &check, report);
-    drop(labels);
-    compared
+    plan: &Row,
+    check: &Row,
+    gate: &Held,
+    desk: &mut MemoryDesk,
+    other: &mut MemoryDesk,
+) -> Result<bool, Fail> {
+    let plans = answers(rt, alloc, &DETOUR, plan, gate, desk)?;
+    other.hold("l", desk.written("l"))?;
+    Ok(plans && answers(rt, alloc, &DETOUR, check, &NoGate, other)?)
 }
 
-/// One worker and several find paths of the same cost.
+/// One worker and several find paths of the same cost, and labels that hold. A worker judges an arc while another one is still
+/// judging the first.
 #[test]
 fn workers(rt: HostRuntime) -> Result<(), Fail> {
-    for workers in ["1", "2", "4", "64"] {
-        compare_workers(&rt, rt.alloc(), workers, &NoGate)?;
+    for (is_held, words, report, check, holds) in &PLANS {
+        let plan: Row = ("", WORKS, words, 0, report);
+        let check: Row = ("", WORKS, check, 0, holds);
+        let gate = Held {
+            begun: AtomicU64::new(u64::from(!*is_held)),
+            met: AtomicBool::new(!*is_held),
+        };
+        let mut desk = MemoryDesk::new(rt.alloc());
+        let mut other = MemoryDesk::new(rt.alloc());
+        let right = plans_and_holds(&rt, rt.alloc(), &plan, &check, &gate, &mut desk, &mut other);
+        drop(other);
+        drop(desk);
+        assert!(rt; right? && gate.met.load(Ordering::SeqCst), "{words}");
     }
     Ok(())
 }
 
-/// A worker judges an arc while another one is still judging the first.
-#[test]
-fn judged_side_by_side(rt: HostRuntime) -> Result<(), Fail> {
-    let gate = Held::new();
-    let compared = compare_workers(&rt, rt.alloc(), "2", &gate);
-    assert!(rt; gate.met.load(Ordering::SeqCst), "one judgement at a time");
-    compared
-}
-
-/// The cost in the line of a path.
-fn cost_in(line: &str) -> Option<u64> {
-    let (_, rest) = line.split_once(" cost ")?;
-    let (cost, _) = rest.split_once(" ")?;
-    cost.parse().ok()
-}
-
-/// What each plan of a report makes known: the cost of its path, or that there is none.
-fn known_in(alloc: Global, report: &[u8]) -> Result<Vec<Option<u64>>, AllocError> {
-    let text = str::from_utf8(report).unwrap_or("");
-    let mut known = Vec::new(alloc);
-    for line in text.lines() {
-        if line.starts_with("path ") || line == "nopath" {
-            known.push(cost_in(line))?;
-        }
-    }
-    Ok(known)
-}
-
-/// What the plans that these words name make known.
-fn known_by<R: Abort + Threads + Wait + Sync>(
+/// Makes plans on these files, and appends what each makes known: the cost of its path, or that there is none.
+fn put_known<R: Threads + Wait + Sync>(
     rt: &R,
     alloc: Global,
-    files: &[(&str, &str)],
-    words: &[&str],
-) -> Result<Vec<Option<u64>>, Fail> {
-    let mut desk = desk_of(alloc, files)?;
-    let status = status_at(rt, alloc, words, &mut desk, &NoGate);
-    let known = known_in(alloc, desk.written("-"));
-    drop(desk);
-    assert_eq!(rt; status?, 0);
-    Ok(known?)
+    files: &Files,
+    words: &str,
+    desk: &mut MemoryDesk,
+    known: &mut String,
+) -> Result<(), Fail> {
+    let row: Row = ("", WORKS, words, 0, "..");
+    if !answers(rt, alloc, files, &row, &NoGate, desk)? {
+        return Err(Fail::new("status"));
+    }
+    for line in str::from_utf8(desk.written("-")).unwrap_or("").lines() {
+        let mut words = line.split(' ');
+        let cost = match words.next() {
+            Some("path") => words.nth(2),
+            Some("nopath") => Some("none"),
+            _ => None,
+        };
+        if let Some(cost) = cost {
+            known.push_str(cost)?;
+            known.push(' ')?;
+        }
+    }
+    Ok(())
 }
 
-/// The costs of a repair by four workers, and its labels, each section of which holds on the map of its plan.
-#[test]
-fn repaired_by_workers(rt: HostRuntime) -> Result<(), Fail> {
-    let files = [("e", E2), ("m", F2), ("c", THERE_AND_BACK)];
-    let words = [
-        "plan",
-        "e",
-        "m",
-        "--changes=c",
-        "--planner=epase",
-        "--workers=4",
-        "--labels=l",
-    ];
-    let known = known_by(&rt, rt.alloc(), &files, &words)?;
-    let right = known.as_slice() == [Some(100), Some(150), Some(100)].as_slice();
-    drop(known);
-    assert!(rt; right);
-    let labels = labels_of(&rt, rt.alloc(), &files, &words)?;
-    let check = ["check", "e", "m", "l", "--changes", "c"];
-    let compared = compare_held(
-        &rt,
-        rt.alloc(),
-        &files,
-        labels.as_slice(),
-        &check,
-        THREE_HOLD,
-    );
-    drop(labels);
-    compared
+/// The same on a desk of its own.
+fn put_known_by<R: Threads + Wait + Sync>(
+    rt: &R,
+    alloc: Global,
+    files: &Files,
+    words: &str,
+    known: &mut String,
+) -> Result<(), Fail> {
+    let mut desk = MemoryDesk::new(alloc);
+    let put = put_known(rt, alloc, files, words, &mut desk, known);
+    drop(desk);
+    put
 }
 
 /// Thirty batches for the field: in each a third of sixty writes make an obstacle, and a third make a cell dear.
@@ -197,31 +195,52 @@ fn thirty_batches(alloc: Global) -> Result<String, Fail> {
     Ok(text)
 }
 
-/// After each of thirty drawn batches, repairing by four workers makes known what planning anew does.
+/// Whether repairing by four workers makes known these costs on the map with a way around; and what planning anew does on these files,
+/// for 31 plans, of which some find a path and some none.
+fn repairs<R: Threads + Wait + Sync>(
+    rt: &R,
+    alloc: Global,
+    files: &Files,
+    known: &mut String,
+) -> Result<bool, Fail> {
+    let repair = "plan e m --changes=c --planner=epase --workers=4";
+    put_known_by(rt, alloc, &DETOUR, repair, known)?;
+    let is_right = known.as_str() == "100 150 100 ";
+    known.clear();
+    put_known_by(
+        rt,
+        alloc,
+        files,
+        "plan e m --changes=c --planner=ara",
+        known,
+    )?;
+    let (half, all, none) = (
+        known.len(),
+        known.matches(" ").count(),
+        known.matches("none ").count(),
+    );
+    put_known_by(rt, alloc, files, repair, known)?;
+    let is_same = known.as_bytes().get(..half) == known.as_bytes().get(half..);
+    Ok(is_right && is_same && all == 31 && 0 < none && none < 31)
+}
+
+/// Four workers repair as planning anew does, after each of thirty drawn batches.
 #[test]
-fn repaired_by_workers_as_begun_anew(rt: HostRuntime) -> Result<(), Fail> {
+fn repaired_by_workers(rt: HostRuntime) -> Result<(), Fail> {
     let env = field(rt.alloc())?;
     let prims = car(rt.alloc())?;
     let batches = thirty_batches(rt.alloc())?;
+    let mut known = String::new(rt.alloc());
     let files = [
-        ("e", env.as_str()),
-        ("m", prims.as_str()),
-        ("c", batches.as_str()),
+        Some(env.as_str()),
+        Some(prims.as_str()),
+        Some(batches.as_str()),
     ];
-    let words = ["plan", "e", "m", "--changes=c", "--planner=ara"];
-    let anew = known_by(&rt, rt.alloc(), &files, &words)?;
-    let words = [
-        "plan",
-        "e",
-        "m",
-        "--changes=c",
-        "--planner=epase",
-        "--workers=4",
-    ];
-    let repaired = known_by(&rt, rt.alloc(), &files, &words)?;
-    assert_eq!(rt; anew.len(), 31);
-    assert!(rt; anew.as_slice() == repaired.as_slice());
-    assert!(rt; anew.iter().any(|cost| cost.is_some()));
-    assert!(rt; anew.iter().any(|cost| cost.is_none()));
+    let repairs = repairs(&rt, rt.alloc(), &files, &mut known);
+    drop(known);
+    drop(batches);
+    drop(prims);
+    drop(env);
+    assert!(rt; repairs?);
     Ok(())
 }
