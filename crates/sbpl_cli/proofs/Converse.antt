@@ -12,18 +12,23 @@ use Rattle.sbpl_map.specs.declared.fault.ChangeFault.{ChangeFault}
 use Rattle.sbpl_job.specs.declared.job.CheckJob.{CheckJob}
 use Rattle.sbpl_job.specs.declared.job.Job.{Job}
 use Rattle.sbpl_job.specs.declared.job.PlanJob.{PlanJob}
+use Rattle.sbpl_job.specs.declared.job.NavJob.{NavJob}
+use Rattle.sbpl_job.specs.declared.job.NavCheckJob.{NavCheckJob}
+use Rattle.sbpl_nav2d.specs.World.{GridWorld}
+use Rattle.sbpl_nav2d.specs.declared.fault.NavFault.{NavFault}
+use Rattle.sbpl_cli.proofs.SamePlanned.{grid_by}
 use Rattle.sbpl_job.specs.declared.job.Job.TheVariants as job
 use Rattle.sbpl_job.specs.declared.job.Sources.{Sources}
 use Rattle.sbpl_cli.specs.declared.refusal.Input.TheVariants as input
 use Rattle.sbpl_cli.specs.declared.refusal.Refusal.{Refusal}
 use Rattle.sbpl_cli.specs.declared.refusal.Refusal.TheVariants as refusal
-use Rattle.sbpl_cli.specs.Causes.{AtName, IsCause, IsChangesCause, IsEarlyCause, IsFaultyChanges, IsFaultyFor, IsJobCause, IsLabelsCause, IsReadText, IsTooLong, NoneTooDear, ReadsCourse, ReadsEnvironment, ReadsPrimitives, ReadsWorld, check_files, lattice_files, plan_files, scope_of}
+use Rattle.sbpl_cli.specs.Causes.{AtName, IsCause, IsChangesCause, IsEarlyCause, IsFaultyChanges, IsFaultyFor, IsGridCause, IsJobCause, IsLabelsCause, IsReadText, IsTooLong, NoneTooDear, ReadsCourse, ReadsEnvironment, ReadsGrid, ReadsPrimitives, ReadsWorld, check_files, grid_files, grid_scope, lattice_files, plan_files, scope_of}
 use Rattle.sbpl_cli.specs.WorldFiles.{WorldFiles}
 use Rattle.sbpl_cli.specs.declared.course.Course.{Course}
 use Rattle.sbpl_job.specs.Jobs.{may_move, moves_in}
 use Rattle.sbpl_cli.specs.Intents.{Intent, Refused, Planned, Checked, Listed, Demonstrated, OutOfMemory, intent_status, refusal_status}
-use Rattle.sbpl_cli.specs.Promises.{AreGood, GivesIntent, IsNoCheck, IsOrFailed, Tells, TellsChangeFault, TellsCourse, TellsEnvironment, TellsEnvironmentFault, TellsPrimitiveFault, TellsPrimitives, TellsScope, TellsTooMuch, TellsWorld, changes_of, sources_of}
-use Rattle.sbpl_cli.specs.Texts.{HasChangeFault, HasEnvironmentFault, HasPrimitiveFault, IsChangeText, IsEnvironmentText, IsPrimitiveText, Scope, scope_for, still}
+use Rattle.sbpl_cli.specs.Promises.{AreGood, GivesIntent, IsNoCheck, IsOrFailed, Tells, TellsChangeFault, TellsCourse, TellsEnvironment, TellsEnvironmentFault, TellsGrid, TellsGridFault, TellsPrimitiveFault, TellsPrimitives, TellsScope, TellsTooMuch, TellsWorld, changes_of, grid_of, sources_of}
+use Rattle.sbpl_cli.specs.Texts.{HasChangeFault, HasEnvironmentFault, HasGridFault, HasPrimitiveFault, IsChangeText, IsEnvironmentText, IsGridText, IsPrimitiveText, Scope, scope_for, still}
 use Rattle.sbpl_cli.specs.Writing.{Names, Told}
 use Rattle.sbpl_cli.specs.Clear.{TextsAreClear}
 
@@ -206,12 +211,48 @@ sweep_reads from = record { cause = λ held Failed r cause. inl (inl cause); mor
     more held Failed OutOfMemory is gives = absurd is
     more held Failed _ is gives = absurd gives
 
+nav_reads : (n : NavJob) → IsReadFrom (job.Nav n) (grid_files n.env) n.changes
+nav_reads n = record { cause = λ held Failed r cause. inl cause; more = more }
+  where
+    more : (held : Told) (Failed : Names) (i : Intent) → IsMore i → GivesIntent held Failed (job.Nav n) i → HasRead held (grid_files n.env) n.changes
+    more held Failed (Planned records all log broken) is gives = record { world = gives.world; course = gives.course; says = gives.says; stands = gives.changes_say }
+    more held Failed (Refused r) is gives = absurd is
+    more held Failed OutOfMemory is gives = absurd is
+    more held Failed _ is gives = absurd gives
+
+nav_check_reads : (n : NavCheckJob) → IsReadFrom (job.NavCheck n) (grid_files n.env) n.changes
+nav_check_reads n = record { cause = cause; more = more }
+  where
+    cause : (held : Told) (Failed : Names) (r : Refusal) → IsJobCause held Failed (job.NavCheck n) r → IsEarlyCause held Failed (grid_files n.env) n.changes r ⊎ (HasRead held (grid_files n.env) n.changes × (IsNoCheck (job.NavCheck n) → ⊥))
+    cause held Failed r (inl x) = inl x
+    cause held Failed r (inr x) = inr (labels_course held Failed (grid_files n.env) n.changes n.labels r x, λ none. none)
+
+    more : (held : Told) (Failed : Names) (i : Intent) → IsMore i → GivesIntent held Failed (job.NavCheck n) i → HasRead held (grid_files n.env) n.changes
+    more held Failed (Checked goals os end) is gives = record { world = gives.world; course = gives.course; says = gives.says; stands = gives.changes_say }
+    more held Failed (Refused r) is gives = absurd is
+    more held Failed OutOfMemory is gives = absurd is
+    more held Failed _ is gives = absurd gives
+
+same_env : (a b : List ℕ) → ◌≡◌ {A = Option (List ℕ)} (Some a) (Some b) → a ≡ b
+same_env a b is = cc
+
+-- a job on a grid reads its file
+pub grid_reads : (j : Job) (env : List ℕ) → grid_of j ≡ Some env → IsReadFrom j (grid_files env) (changes_of j)
+grid_reads (job.Nav n) env is = subst (λ (e : List ℕ). IsReadFrom (job.Nav n) (grid_files e) n.changes) (same_env n.env env is) (nav_reads n)
+grid_reads (job.NavCheck n) env is = subst (λ (e : List ℕ). IsReadFrom (job.NavCheck n) (grid_files e) n.changes) (same_env n.env env is) (nav_check_reads n)
+grid_reads (job.Plan p) env is = absurd cc
+grid_reads (job.Check c) env is = absurd cc
+grid_reads (job.Sweep from) env is = absurd cc
+grid_reads (job.Demo d) env is = absurd cc
+
 -- a job on a lattice reads its files
 pub lattice_reads : (j : Job) (from : Sources) → sources_of j ≡ Some from → IsReadFrom j (lattice_files from (moves_in j)) (changes_of j)
 lattice_reads (job.Plan p) from is = subst (λ (s : Sources). IsReadFrom (job.Plan p) (lattice_files s (may_move p.search.planner)) p.changes) (same_sources p.sources from is) (plan_reads p)
 lattice_reads (job.Check c) from is = subst (λ (s : Sources). IsReadFrom (job.Check c) (lattice_files s c.back) c.changes) (same_sources c.sources from is) (check_reads c)
 lattice_reads (job.Sweep s) from is = subst (λ (t : Sources). IsReadFrom (job.Sweep s) (lattice_files t false) None) (same_sources s from is) (sweep_reads s)
 lattice_reads (job.Demo d) from is = absurd cc
+lattice_reads (job.Nav n) from is = absurd cc
+lattice_reads (job.NavCheck n) from is = absurd cc
 
 -- A job whose files stand for no world and course means nothing but a refusal, or memory runs out.
 pub by_intent : {W : Type 0} (held : Told) (Failed : Names) (wanted : ℕ) (j : Job) (f : WorldFiles W) (changes : Option (List ℕ)) (i : Intent) → IsReadFrom j f changes → ((r : Refusal) → IsJobCause held Failed j r → IsOrFailed wanted (refusal_status r))
@@ -387,3 +428,45 @@ module _ (clear : TextsAreClear) (held : Told) (Failed : Names) (from : Sources)
     where
       by_text : TellsEnvironment held from w.env → TellsScope held from moving (scope_of moving w)
       by_text (text, cells, told, stands) = (text, w.env, tells.says.cells, told, said_text held from w.env tells.says.cells text told tells.says.environment, ap (λ (m : CellMap). scope_for moving w.env m) tells.says.map)
+
+-- ---- grids
+
+module _ (clear : TextsAreClear) (held : Told) (Failed : Names) (env : List ℕ) where
+  -- a faulty environment file
+  pub grid_faulty : (f : NavFault) → TellsGridFault held env f → (r : Refusal) → IsGridCause held Failed env r → IsOrFailed 3 (refusal_status r)
+  grid_faulty f tells (refusal.Grid x) p = inl refl
+  grid_faulty f tells (refusal.Read x) p = failed_read 3
+  grid_faulty f tells (refusal.Length input.Environment) p = absurd (too_long_not_short _ tells.0 tells.1 p)
+  grid_faulty f tells _ p = absurd p
+
+  pub grid_faulty_none : (f : NavFault) → TellsGridFault held env f → (w : GridWorld) → ReadsGrid held env w → ⊥
+  grid_faulty_none f (text, tells, faulty) w says =
+      clear.grid_fault text w.env says.cells f (subst (λ (t : List ℕ). IsGridText t w.env says.cells) (told_is (held env) text says.text tells.held_bytes says.read) says.stands) faulty
+
+  -- one that is too long
+  pub grid_long : TellsTooMuch (held env) → (r : Refusal) → IsGridCause held Failed env r → IsOrFailed 8 (refusal_status r)
+  grid_long much (refusal.Grid x) p = absurd (too_much_not_read _ p.text much p.read)
+  grid_long much (refusal.Read x) p = failed_read 8
+  grid_long much (refusal.Length x) p = inl refl
+  grid_long much _ p = absurd p
+
+  pub grid_long_none : TellsTooMuch (held env) → (w : GridWorld) → ReadsGrid held env w → ⊥
+  grid_long_none much w says = too_much_not_read _ says.text much says.read
+
+  -- where a world is told, it is the one that is read
+  pub same_grid : (w v : GridWorld) → TellsGrid held env w → ReadsGrid held env v → v ≡ w
+  same_grid w v tells says =
+      let own : IsGridText tells.text v.env says.cells = subst (λ (t : List ℕ). IsGridText t v.env says.cells) (told_is (held env) tells.text says.text tells.told.held_bytes says.read) says.stands in
+      let both = clear.grid tells.text v.env w.env says.cells tells.cells own tells.stands in
+      grid_by v w says.cells tells.cells both.0 both.1 says.map tells.map
+
+  told_grid_refused : (w : GridWorld) → TellsGrid held env w → (wanted : ℕ) (r : Refusal) → IsGridCause held Failed env r → IsOrFailed wanted (refusal_status r)
+  told_grid_refused w tells wanted (refusal.Grid x) p =
+      absurd (clear.grid_fault tells.text w.env tells.cells x tells.stands (subst (λ (t : List ℕ). HasGridFault t x) (told_is (held env) tells.text p.text tells.told.held_bytes p.read) p.faulty))
+  told_grid_refused w tells wanted (refusal.Read x) p = failed_read wanted
+  told_grid_refused w tells wanted (refusal.Length input.Environment) p = absurd (too_long_not_short _ tells.text tells.told p)
+  told_grid_refused w tells wanted _ p = absurd p
+
+  -- such a file is a good one
+  pub good_grid : (w : GridWorld) → TellsGrid held env w → AreGoodFiles held Failed (grid_files env) (grid_scope w)
+  good_grid w tells = record { refused = told_grid_refused w tells; scope = λ v says. ap grid_scope (same_grid w v tells says) }

@@ -12,7 +12,7 @@ use Rattle.sbpl_cli.specs.declared.refusal.Refusal.{Refusal}
 use Rattle.sbpl_cli.specs.declared.refusal.Refusal.TheVariants as refusal
 use Rattle.sbpl_cli.specs.declared.refusal.Stop.{Stop}
 use Rattle.sbpl_cli.specs.declared.refusal.Stop.TheVariants as stop
-use Rattle.sbpl_cli.specs.Causes.{AtName, ChangesStopFor, CheckStopsFor, EarlyStopsFor, IsCause, IsChangesCause, IsCheckCause, IsEarlyCause, IsFaultyChanges, IsJobCause, IsLabelsCause, IsReadText, IsTooLong, IsUnread, IsWideStop, LatticeStopsFor, PrimitivesStopFor, ReadsCourse, ReadsEnvironment, ReadsPrimitives, check_files, plan_files}
+use Rattle.sbpl_cli.specs.Causes.{GridStopsFor, IsGridRefused, AtName, ChangesStopFor, CheckStopsFor, EarlyStopsFor, IsCause, IsChangesCause, IsCheckCause, IsEarlyCause, IsFaultyChanges, IsGridCause, IsJobCause, IsLabelsCause, IsReadText, IsTooLong, IsUnread, IsWideStop, LatticeStopsFor, PrimitivesStopFor, ReadsCourse, ReadsEnvironment, ReadsPrimitives, check_files, grid_files, plan_files}
 use Rattle.sbpl_cli.specs.WorldFiles.{WorldFiles}
 use Rattle.sbpl_cli.specs.Texts.{Scope}
 use Rattle.sbpl_cli.specs.declared.course.Course.{Course}
@@ -53,6 +53,10 @@ module _ (held : Told) (F G : Names) where
       record { env = cause.env; cells = cause.cells; environment = cause.environment; holds = on refl from.prims cause.holds }
   cause_on from _ on cause = cause
 
+  grid_cause_on : (env : List ℕ) (r : Refusal) → IsFailedOn F G r → IsGridCause held F env r → IsGridCause held G env r
+  grid_cause_on env (refusal.Read input.Environment) on cause = on refl env cause
+  grid_cause_on env _ on cause = cause
+
   changes_cause_on : {W : Type 0} (f : WorldFiles W) (changes : Option (List ℕ)) (r : Refusal) → IsFailedOn F G r → IsChangesCause held F f changes r → IsChangesCause held G f changes r
   changes_cause_on f changes (refusal.Read input.Changes) on (w, says, at) = (w, says, at_name_on changes F G (on refl) at)
   changes_cause_on f changes _ on cause = cause
@@ -74,6 +78,8 @@ module _ (held : Told) (F G : Names) where
   job_cause_on (job.Check c) r on cause = check_cause_on (check_files c) c.changes c.labels r (cause_on c.sources r on) on cause
   job_cause_on (job.Sweep from) r on cause = cause_on from r on cause
   job_cause_on (job.Demo d) r on cause = cause
+  job_cause_on (job.Nav j) r on cause = early_cause_on (grid_files j.env) j.changes r (grid_cause_on j.env r on) on cause
+  job_cause_on (job.NavCheck j) r on cause = check_cause_on (grid_files j.env) j.changes j.labels r (grid_cause_on j.env r on) on cause
 
 -- ---- a stop is handed on
 
@@ -146,6 +152,25 @@ labels_stop s t u f changes labels w c (stop.Refused r) says changes_say same ca
     by_refusal (refusal.Length input.Changes) (is, long) = absurd (cc)
     by_refusal _ none = absurd none
 
+-- what was refused as text of a grid is a stop for the grid
+pub grid_stop : (s u : DeskState) (env : List ℕ) (text : List ℕ) (x : Stop) → IsReadText (s.held env) text → IsGridRefused text x → GridStopsFor s u env x
+grid_stop s u env text stop.NoMemory read refused = tt
+grid_stop s u env text (stop.Refused (refusal.Grid f)) read refused = record { text = text; read = read; faulty = refused }
+grid_stop s u env text (stop.Refused _) read refused = absurd refused
+
+-- and where the file was not read
+pub grid_unread : (s u : DeskState) (env : List ℕ) (x : Stop) → IsUnread s u env input.Environment x → GridStopsFor s u env x
+grid_unread s u env stop.NoMemory is = tt
+grid_unread s u env (stop.Refused (refusal.Read input.Environment)) (is, failed) = failed
+grid_unread s u env (stop.Refused (refusal.Length input.Environment)) (is, long) = long
+grid_unread s u env (stop.Refused (refusal.Read input.Primitives)) (is, failed) = absurd (cc)
+grid_unread s u env (stop.Refused (refusal.Read input.Changes)) (is, failed) = absurd (cc)
+grid_unread s u env (stop.Refused (refusal.Read input.Labels)) (is, failed) = absurd (cc)
+grid_unread s u env (stop.Refused (refusal.Length input.Primitives)) (is, long) = absurd (cc)
+grid_unread s u env (stop.Refused (refusal.Length input.Changes)) (is, long) = absurd (cc)
+grid_unread s u env (stop.Refused (refusal.Length input.Labels)) (is, long) = absurd (cc)
+grid_unread s u env (stop.Refused _) is = absurd is
+
 -- ---- the end of a job
 
 -- the job means to do this, and then its writes were made
@@ -172,4 +197,5 @@ memory_ended s t old new j stays same = record { intent = OutOfMemory; gives = t
 -- the standard output is a name that each job may write under
 pub plain_is : (j : Job) (name : List ℕ) → IsOutput name → MayBeWritten (Some j) name
 plain_is (job.Plan p) name is = inl is
+plain_is (job.Nav j) name is = inl is
 plain_is _ name is = is

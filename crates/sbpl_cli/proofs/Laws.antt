@@ -11,6 +11,9 @@ use Rattle.sbpl_map.specs.declared.write.Write.{Write}
 use Rattle.sbpl_mprim.specs.declared.fault.PrimFault.{PrimFault}
 use Rattle.sbpl_mprim.specs.Primitives.{Primitives}
 use Rattle.sbpl_mprim.specs.Text as primitives
+use Rattle.sbpl_nav2d.specs.Environment.{NavEnvironment}
+use Rattle.sbpl_nav2d.specs.Text as grids
+use Rattle.sbpl_nav2d.specs.declared.fault.NavFault.{NavFault}
 use Rattle.sbpl_cfg.specs.declared.pose.Place.{Place}
 use Rattle.sbpl_cli.specs.Clear.{TextsAreClear}
 use Rattle.sbpl_cli.specs.Texts.{HasChangeFault, IsChangeText, Scope}
@@ -23,17 +26,23 @@ pub texts_clear :
     → ((text : List ℕ) (ps qs : Primitives) → primitives.IsTextOf text ps → primitives.IsTextOf text qs → ps ≡ qs)
     → ((cell : ℤ) (headings : ℕ) (text : List ℕ) (f : PrimFault) → primitives.IsText cell headings text → primitives.HasFault cell headings text f → ⊥)
     → ((cell : ℤ) (headings : ℕ) (text : List ℕ) (f g : PrimFault) → primitives.HasFault cell headings text f → primitives.HasFault cell headings text g → f ≡ g)
+    → ((text : List ℕ) (e d : NavEnvironment) (cells others : List ℕ) → grids.IsTextOf text e cells → grids.IsTextOf text d others → (e ≡ d) × (cells ≡ others))
+    → ((text : List ℕ) (f : NavFault) → grids.IsText text → grids.HasFault text f → ⊥)
+    → ((text : List ℕ) (f g : NavFault) → grids.HasFault text f → grids.HasFault text g → f ≡ g)
     → ((s : Scope) (text : List ℕ) (c d : Course) → IsChangeText s text c → IsChangeText s text d → c ≡ d)
     → ((s : Scope) (text : List ℕ) (c : Course) (f : ChangeFault) → IsChangeText s text c → HasChangeFault s text f → ⊥)
     → ((s : Scope) (text : List ℕ) (f g : ChangeFault) → HasChangeFault s text f → HasChangeFault s text g → f ≡ g)
     → TextsAreClear
-texts_clear one not_both one_fault one_list not_both_lists one_list_fault one_course not_both_courses one_course_fault = record {
+texts_clear one not_both one_fault one_list not_both_lists one_list_fault one_grid not_both_grids one_grid_fault one_course not_both_courses one_course_fault = record {
   environment = one;
   environment_fault = λ text e cells f p q. not_both text f (e, cells, p) q;
   one_environment_fault = one_fault;
   primitives = λ text e ps qs p q. one_list text ps qs p.stands q.stands;
   primitive_fault = λ text e ps f p q. not_both_lists e.cell e.headings text f (ps, p.cell, p.headings, p.stands) q;
   one_primitive_fault = λ text e f g p q. one_list_fault e.cell e.headings text f g p q;
+  grid = one_grid;
+  grid_fault = λ text e cells f p q. not_both_grids text f (e, cells, p) q;
+  one_grid_fault = one_grid_fault;
   changes = one_course;
   change_fault = not_both_courses;
   one_change_fault = one_course_fault;

@@ -14,6 +14,7 @@ pub mod Going
 pub mod Drawings
 pub mod AlikeSites
 pub mod LatticeAlike
+pub mod GridAlike
 pub mod Moving
 pub mod SameBegun
 pub mod SameRecords

@@ -16,12 +16,14 @@ use Rattle.sbpl_map.specs.MapAfter.{IsMapAfter}
 use Rattle.sbpl_map.specs.declared.write.Write.{Write}
 use Rattle.sbpl_cli.specs.declared.section_check.SectionStop.{SectionStop}
 use Rattle.sbpl_cli.specs.declared.section_check.SectionStop.TheVariants as section
-use Rattle.sbpl_cli.specs.Checked.{AreChecked, Case, Ground, IsFlawed, IsGroundAfter, IsHolding, IsShownHolding, IsStoppedIn, IsTrailingAt, from_in, to_in}
+use Rattle.sbpl_cli.specs.Checked.{AreChecked, Case, Ground, IsFlawed, IsGroundAfter, IsHolding, IsShownHolding, IsStoppedIn, IsTrailingAt, case_of, from_in, to_in}
 use Rattle.sbpl_cli.specs.Intents.{checked_status}
-use Rattle.sbpl_cli.specs.Promises.{IsOrFailed}
+use Rattle.sbpl_cli.specs.Promises.{IsCheckedIn, IsOrFailed}
 use Rattle.sbpl_replan.specs.Directions.{Direction}
-use Rattle.sbpl_cli.specs.Sites.{Site}
+use Rattle.sbpl_cli.specs.Sites.{Site, start_after}
 use Rattle.sbpl_cli.proofs.AlikeSites.{AreAlike, GoesAlike}
+use Rattle.sbpl_cli.proofs.Moving.{same_starts}
+use Rattle.sbpl_cli.specs.declared.course.Course.{Course}
 
 left_by : (end end' : ℕ) (ts us : List Piece) → end ≡ end' → ts ≡ us → ◌≡◌ {A = Left} (record { end = end; tokens = ts }) (record { end = end'; tokens = us })
 left_by end end' ts us a b = cc
@@ -165,3 +167,17 @@ same_case on d v bs cs s s' g g' t t' os end course from to text checked =
     (subst (λ (x : ℕ → ℕ). AreChecked IsShownHolding (case_in on d v cs x g') 0 (suc (length cs)) (start_at t' 0) os end) from
     (subst (λ (x : ℕ). AreChecked IsShownHolding (case_in on d v cs s x) 0 (suc (length cs)) (start_at t' 0) os end) to
     (subst (λ (x : List ℕ). AreChecked IsShownHolding (case_in on d v cs s g) 0 (suc (length cs)) (start_at x 0) os end) text checked)))
+
+-- in alike worlds and over one course, the checking of one text ends in one way
+pub checked_ends_alike : {W : Type 0} (on : Site W) (Alike : W → W → Type 0) (alike : AreAlike on Alike) (d : Direction W) (goes : GoesAlike on Alike d) → SectionsAreClear → OneMap → (w v : W) (course also : Course) (text same_text : List ℕ) (goals others : ℕ → ℕ) (os ps : List Outcome) (a b : Option SectionStop)
+    → Alike v w → on.cells.is_made w → also ≡ course → same_text ≡ text → a ≢ Some section.NoMemory
+    → IsCheckedIn IsHolding on d w course text goals os a → IsCheckedIn IsShownHolding on d v also same_text others ps b → EndAlike a b
+checked_ends_alike on Alike alike d goes sections one w v course also text same_text goals others os ps a b near made courses texts some x y =
+    let from : y.start ≡ x.start = alike.starts v w y.start x.start near y.start_is x.start_is in
+    let to : y.goal ≡ x.goal = alike.ends v w y.goal x.goal near y.goal_is x.goal_is in
+    let mine : ℕ → ℕ = start_after on.wording w x.start course.moves in
+    let starts : start_after on.wording v y.start also.moves ≡ mine = same_starts on.wording v w y.start x.start also.moves course.moves (alike.state v w near) from (ap (λ (c : Course). c.moves) courses) in
+    let batches : also.batches ≡ course.batches = ap (λ (c : Course). c.batches) courses in
+    let there = same_case on d v course.batches also.batches (start_after on.wording v y.start also.moves) mine y.goal x.goal same_text text ps b batches starts to texts y.checked in
+    one_ending on Alike alike d goes sections one (case_of on d w course x.start x.goal) (suc (length course.batches)) 0 (start_at text 0) os ps a b some x.checked
+    (checked_on on Alike alike d goes v w near made course.batches mine x.goal (suc (length course.batches)) 0 (start_at text 0) ps b there)

@@ -15,11 +15,13 @@ use Rattle.sbpl_cli.specs.declared.refusal.Input.{Input}
 use Rattle.sbpl_cli.specs.declared.refusal.Input.TheVariants as input
 use Rattle.sbpl_cli.specs.declared.refusal.Refusal.{Refusal}
 use Rattle.sbpl_cli.specs.declared.refusal.Refusal.TheVariants as refusal
-use Rattle.sbpl_cli.specs.Causes.{AtName, IsCause, IsChangesCause, IsCheckCause, IsEarlyCause, IsEarlyInput, IsFaultyChanges, IsFaultyEnvironment, IsFaultyFor, IsLabelsCause, IsReadText, IsSource, IsTooLong, ReadsCourse, ReadsEnvironment, ReadsPrimitives, ReadsWorld, lattice_files}
+use Rattle.sbpl_cli.specs.Causes.{AtName, IsCause, IsChangesCause, IsCheckCause, IsEarlyCause, IsEarlyInput, IsFaultyChanges, IsFaultyEnvironment, IsFaultyFor, IsFaultyGrid, IsGridCause, IsLabelsCause, IsReadText, IsSource, IsTooLong, ReadsCourse, ReadsEnvironment, ReadsGrid, ReadsPrimitives, ReadsWorld, grid_files, lattice_files}
+use Rattle.sbpl_nav2d.specs.World.{GridWorld}
+use Rattle.sbpl_nav2d.specs.declared.fault.NavFault.{NavFault}
 use Rattle.sbpl_cli.specs.declared.course.Course.{Course}
 use Rattle.sbpl_cli.specs.Clear.{TextsAreClear}
 use Rattle.sbpl_cli.specs.WorldFiles.{WorldFiles}
-use Rattle.sbpl_cli.specs.Texts.{HasChangeFault, HasEnvironmentFault, HasPrimitiveFault, IsChangeText, IsEnvironmentText, IsPrimitiveText, Scope}
+use Rattle.sbpl_cli.specs.Texts.{HasChangeFault, HasEnvironmentFault, HasGridFault, HasPrimitiveFault, IsChangeText, IsEnvironmentText, IsGridText, IsPrimitiveText, Scope}
 use Rattle.sbpl_cli.specs.Writing.{IsNamed, Names, Told}
 use Rattle.sbpl_cli.proofs.Converse.{none_is_first, none_is_widest}
 use Rattle.sbpl_cli.proofs.SamePlanned.{StandForOne, read_once}
@@ -264,6 +266,39 @@ lattices_call_for_one clear held from moving told_env told_prims = record {
   one = one_source clear held from told_env told_prims;
   none = not_world clear held from told_env told_prims;
 }
+
+-- the environment file of a grid is faulty or too long
+abbrev pub IsBadGrid : Told → (env : List ℕ) → Refusal → Type 0
+IsBadGrid held env r =
+    ((f : NavFault) × (r ≡ refusal.Grid f) × IsFaultyGrid held env f)
+    ⊎ ((r ≡ refusal.Length input.Environment) × IsTooLong (held env))
+
+grid_cause : (held : Told) (Failed : Names) (env : List ℕ) (r : Refusal) → IsGridCause held Failed env r → IsBadGrid held env r ⊎ IsFailedRead (λ name. name ≡ env) Failed r
+grid_cause held Failed env (refusal.Grid x) c = inl (inl (x, refl, c))
+grid_cause held Failed env (refusal.Read input.Environment) c = inr (input.Environment, refl, (env, refl, c))
+grid_cause held Failed env (refusal.Length input.Environment) c = inl (inr (refl, c))
+grid_cause held Failed env _ c = absurd c
+
+module _ (clear : TextsAreClear) (held : Told) (env : List ℕ) (told : IsSome (held env)) where
+  one_grid : (r u : Refusal) → IsBadGrid held env r → IsBadGrid held env u → r ≡ u
+  one_grid r u (inl (f, is, x)) (inl (g, also, y)) =
+      let text : y.text ≡ x.text = read_once (held env) y.text x.text told y.read x.read in
+      let own : HasGridFault x.text g = subst (λ (t : List ℕ). HasGridFault t g) text y.faulty in
+      is ∙ ap (λ (e : NavFault). refusal.Grid e) (clear.one_grid_fault x.text f g x.faulty own) ∙ sym also
+  one_grid r u (inl (f, is, x)) (inr (also, long)) = absurd (read_is_short (held env) x.text told x.read long)
+  one_grid r u (inr (is, long)) (inl (g, also, y)) = absurd (read_is_short (held env) y.text told y.read long)
+  one_grid r u (inr (is, long)) (inr (also, too)) = is ∙ sym also
+
+  not_grid : (w : GridWorld) (r : Refusal) → IsBadGrid held env r → ReadsGrid held env w → ⊥
+  not_grid w r (inl (f, is, x)) says =
+      let text : says.text ≡ x.text = read_once (held env) says.text x.text told says.read x.read in
+      let own : IsGridText x.text w.env says.cells = subst (λ (t : List ℕ). IsGridText t w.env says.cells) text says.stands in
+      clear.grid_fault x.text w.env says.cells f own x.faulty
+  not_grid w r (inr (is, long)) says = read_is_short (held env) says.text told says.read long
+
+  -- those of a grid do
+  pub grids_call_for_one : CallForOne held (grid_files env) (IsBadGrid held env)
+  grids_call_for_one = record { cause = λ Failed r. grid_cause held Failed env r; one = one_grid; none = not_grid }
 
 module _ (clear : TextsAreClear) (held : Told) {W : Type 0} (f : WorldFiles W) (Alike : W → W → Type 0) (stand : StandForOne held f Alike) (Bad : Refusal → Type 0) (calls : CallForOne held f Bad)
     (changes : Option (List ℕ)) (told_changes : IfSome changes (λ name. IsSome (held name))) where

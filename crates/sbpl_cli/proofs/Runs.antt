@@ -1,5 +1,5 @@
 -- What holds of a run by how it ends.
-use Rattle.std.proofs.Common.{◌≡◌, ◌≢◌, ℕ, suc, ◌+◌, ◌⊎◌, ◌≤◌, append_assoc, append-nil, Bool, true, false, List, [], ◌∷◌, ◌++◌, flat_map, length, map, Option, Some, None, sym, ◌∙◌, ap, refl, subst, arith, inl, inr}
+use Rattle.std.proofs.Common.{◌≡◌, ◌≢◌, ℕ, ◌+◌, ◌⊎◌, ◌≤◌, append_assoc, append-nil, Bool, true, false, List, [], ◌∷◌, ◌++◌, flat_map, map, Option, Some, None, sym, ◌∙◌, ap, refl, subst, arith, inl, inr}
 use Rattle.std.specs.List.{AllByRecursion}
 use Rattle.sbpl_cfg.specs.declared.fault.EnvFault.{EnvFault}
 use Rattle.sbpl_cfg.specs.Environment.{Environment}
@@ -10,7 +10,6 @@ use Rattle.sbpl_sweep.specs.Widths.{IsFirstTooWide, NoneTooWide}
 use Rattle.sbpl_cost.specs.PrimitiveCost.{IsFirstTooDear}
 use Rattle.sbpl_cost.specs.Alike.{AlikeWorldsAreOneGraph}
 use Rattle.sbpl_cost.specs.World.{World}
-use Rattle.sbpl_fixed.specs.Formats.{start_at}
 use Rattle.sbpl_map.specs.declared.fault.ChangeFault.{ChangeFault}
 use Rattle.sbpl_cert.specs.declared.outcome.Outcome.{Outcome}
 use Rattle.sbpl_cli.specs.declared.section_check.SectionStop.{SectionStop}
@@ -21,18 +20,16 @@ use Rattle.sbpl_job.specs.declared.job.Job.{Job}
 use Rattle.sbpl_job.specs.declared.job.Job.TheVariants as job
 use Rattle.sbpl_job.specs.declared.job.Outputs.{Outputs}
 use Rattle.sbpl_job.specs.declared.job.Sources.{Sources}
-use Rattle.sbpl_cli.specs.Checked.{IsHolding, case_of}
+use Rattle.sbpl_cli.specs.Checked.{IsHolding}
 use Rattle.sbpl_cli.specs.Asked.{checked_direction}
 use Rattle.sbpl_cli.specs.Determined.{AreAlikeWorlds}
-use Rattle.sbpl_cli.specs.LatticeSite.{lattice_site, lattice_wording}
+use Rattle.sbpl_cli.specs.LatticeSite.{lattice_site}
 use Rattle.sbpl_cli.proofs.AlikeSites.{goes_alike}
 use Rattle.sbpl_cli.proofs.LatticeAlike.{lattices_alike}
-use Rattle.sbpl_cli.specs.Sites.{start_after}
-use Rattle.sbpl_cli.proofs.Moving.{same_starts}
 use Rattle.sbpl_cli.specs.declared.record.PlanRecord.{PlanRecord}
 use Rattle.sbpl_cli.specs.declared.refusal.Refusal.{Refusal}
 use Rattle.sbpl_cli.specs.declared.refusal.Refusal.TheVariants as refusal
-use Rattle.sbpl_cli.specs.Causes.{AreDemonstrated, ArePlanned, IsCause, IsEarlyCause, IsJobCause, IsTooLong, ReadsCourse, ReadsWorld, check_files, lattice_files, plan_files, scope_of}
+use Rattle.sbpl_cli.specs.Causes.{AreDemonstrated, ArePlanned, IsCause, IsEarlyCause, IsJobCause, IsTooLong, ReadsCourse, ReadsWorld, check_files, grid_files, grid_scope, lattice_files, plan_files, scope_of}
 use Rattle.sbpl_cli.specs.WorldFiles.{WorldFiles}
 use Rattle.sbpl_cli.specs.Texts.{Scope}
 use Rattle.sbpl_cli.specs.declared.course.Course.{Course}
@@ -42,14 +39,19 @@ use Rattle.sbpl_plan.specs.declared.found.Found.{Found}
 use Rattle.sbpl_cli.specs.Listing.{listings}
 use Rattle.sbpl_cli.specs.Published.{Entry}
 use Rattle.sbpl_cli.specs.Report.{incumbent_text}
-use Rattle.sbpl_cli.specs.Promises.{AreGood, AtJob, GivesIntent, EndsJob, EndsRun, by_job, by_words, by_memory, IsCutShort, IsCheckedIn, IsDone, IsFaultFound, IsFlawFound, IsNoCheck, IsOrFailed, IsOrUnwritten, IsRefused, IsStatus, EndsWithoutMemory, IsWrittenFor, MayBeWritten, SomeRose, Tells, TellsChangeFault, TellsCourse, TellsEnvironment, TellsEnvironmentFault, TellsPrimitiveFault, TellsPrimitives, TellsTooMuch, TellsWorld, changes_of, sources_of}
+use Rattle.sbpl_cli.specs.Promises.{AreGood, AtJob, EndsJob, EndsRun, EndsWithoutMemory, GivesIntent, IsCheckedIn, IsCutShort, IsDone, IsFaultFound, IsFlawFound, IsNoCheck, IsOrFailed, IsOrUnwritten, IsRefused, IsStatus, IsWrittenFor, MayBeWritten, SomeRose, Tells, TellsChangeFault, TellsCourse, TellsEnvironment, TellsEnvironmentFault, TellsGrid, TellsGridFault, TellsPrimitiveFault, TellsPrimitives, TellsTooMuch, TellsWorld, by_job, by_memory, by_words, changes_of, grid_of, sources_of}
 use Rattle.sbpl_cli.specs.Traces.{trace_text}
 use Rattle.sbpl_cli.specs.Writing.{AreAppended, DeskState, EndsAs, IsCutAt, IsNamed, IsOutput, IsOutputOf, RunsOutAt, Names, ReadFailed, StaysBut, Told, Write, output, to_named, to_output}
 use Rattle.sbpl_cli.proofs.Ends.{plain_is}
 use Rattle.sbpl_cli.specs.Clear.{TextsAreClear}
 use Rattle.sbpl_cli.specs.Clear.{SectionsAreClear}
-use Rattle.sbpl_cli.proofs.OneEnding.{OneMap, checked_on, one_ending, same_case}
-use Rattle.sbpl_cli.proofs.Converse.{HasRead, IsReadFrom, all_good, by_intent, changes_faulty, changes_faulty_none, changes_long, changes_long_none, changes_world, environment_faulty, environment_faulty_none, environment_long, environment_long_none, good_files, labels_refused, lattice_reads, no_memory, primitives_faulty, primitives_faulty_none, primitives_good, primitives_long, primitives_long_none, same_course, same_environment, same_primitives, same_scope, told_is, too_dear_none, too_long_not_short, too_much_not_read, too_wide_none, world_good}
+use Rattle.sbpl_cli.proofs.OneEnding.{OneMap, checked_ends_alike}
+use Rattle.sbpl_cli.proofs.GridAlike.{AreOneGrid, grids_alike}
+use Rattle.sbpl_cli.specs.GridSite.{grid_site}
+use Rattle.sbpl_nav2d.specs.World.{GridWorld}
+use Rattle.sbpl_nav2d.specs.declared.fault.NavFault.{NavFault}
+use Rattle.sbpl_job.specs.declared.job.NavCheckJob.{NavCheckJob}
+use Rattle.sbpl_cli.proofs.Converse.{HasRead, IsReadFrom, all_good, by_intent, changes_faulty, changes_faulty_none, changes_long, changes_long_none, changes_world, environment_faulty, environment_faulty_none, environment_long, environment_long_none, good_files, good_grid, grid_faulty, grid_faulty_none, grid_long, grid_long_none, grid_reads, labels_refused, lattice_reads, no_memory, primitives_faulty, primitives_faulty_none, primitives_good, primitives_long, primitives_long_none, same_course, same_environment, same_grid, same_primitives, same_scope, told_is, too_dear_none, too_long_not_short, too_much_not_read, too_wide_none, world_good}
 
 -- ---- statuses
 
@@ -59,6 +61,7 @@ is_status s k has is = subst (λ (n : ℕ). IsStatus n) (sym is) has
 
 intent_is_status : (i : Intent) → IsStatus (intent_status i)
 intent_is_status (Refused (refusal.Environment x)) = refl
+intent_is_status (Refused (refusal.Grid x)) = refl
 intent_is_status (Refused _) = refl
 intent_is_status (Planned records true log broken) = refl
 intent_is_status (Checked goal os None) = refl
@@ -70,6 +73,7 @@ intent_is_status _ = refl
 -- what a job means to do has neither the status of words that name no job nor that of a failed write
 not_intent : (i : Intent) → (intent_status i ≢ 2) × (intent_status i ≢ 7)
 not_intent (Refused (refusal.Environment x)) = (λ h. omega arith, λ h. omega arith)
+not_intent (Refused (refusal.Grid x)) = (λ h. omega arith, λ h. omega arith)
 not_intent (Refused _) = (λ h. omega arith, λ h. omega arith)
 not_intent (Planned records true log broken) = (λ h. omega arith, λ h. omega arith)
 not_intent (Checked goal os None) = (λ h. omega arith, λ h. omega arith)
@@ -136,6 +140,8 @@ writes_under held Failed (job.Plan p) (Planned records all log broken) gives = p
 writes_under held Failed (job.Check c) (Checked goal os end) gives = checked_under goal 0 os end
 writes_under held Failed (job.Sweep from) (Listed w) gives = under_both IsOutput (map to_output (listings w)) (last_write ∷ []) (listed_under (listings w)) (refl, tt)
 writes_under held Failed (job.Demo d) (Demonstrated w count records all log broken) gives = (refl, lines_under records all)
+writes_under held Failed (job.Nav n) (Planned records all log broken) gives = plans_under n.outputs records all
+writes_under held Failed (job.NavCheck n) (Checked goal os end) gives = checked_under goal 0 os end
 writes_under held Failed _ _ gives = absurd gives
 
 one_of_all : (IsWritten : List ℕ → Type 0) (first : List Write) (w : Write) (rest : List Write) → AreUnder IsWritten (first ++ w ∷ rest) → IsWritten w.name
@@ -161,13 +167,23 @@ module _ (before after : DeskState) (old new : List Entry) where
   done_by (job.Sweep from) (Listed w) gives begins zero made = record { world = w; says = gives.0; is_world = gives.1; lines = made }
   done_by (job.Demo d) (Demonstrated w count records true log broken) (batches, is, planned) begins zero made =
       record { world = w; batches = batches; records = records; planned = subst (λ (l : List Entry). AreDemonstrated d w batches records true l []) begins (subst (λ (b : List Found). AreDemonstrated d w batches records true log b) (planned.plans.none_broken refl) planned); lines = subst (λ (n : ℕ). AreAppended before after (demo_writes w n records true)) is made }
+  done_by (job.Nav n) (Planned records true log broken) gives begins zero made = record {
+    records = records;
+    planned = subst (λ (l : List Entry). ArePlanned held (grid_files n.env) n.changes n.search n.outputs records true l []) begins (subst (λ (b : List Found). ArePlanned held (grid_files n.env) n.changes n.search n.outputs records true log b) (gives.plans.none_broken refl) gives);
+    report = made;
+  }
+  done_by (job.NavCheck n) (Checked goal os None) gives begins zero made = record { goals = goal; outcomes = os; checked = gives; lines = made }
   done_by j (Refused (refusal.Environment x)) gives begins zero made = absurd (omega arith)
+  done_by j (Refused (refusal.Grid x)) gives begins zero made = absurd (omega arith)
   done_by j (Refused _) gives begins zero made = absurd (omega arith)
   done_by j OutOfMemory gives begins zero made = absurd (omega arith)
   done_by (job.Plan p) (Planned records false log broken) gives begins zero made = absurd (omega arith)
   done_by (job.Check c) (Checked goal os (Some (section.Flaw x))) gives begins zero made = absurd (omega arith)
   done_by (job.Check c) (Checked goal os (Some _)) gives begins zero made = absurd (omega arith)
   done_by (job.Demo d) (Demonstrated w count records false log broken) gives begins zero made = absurd (omega arith)
+  done_by (job.Nav n) (Planned records false log broken) gives begins zero made = absurd (omega arith)
+  done_by (job.NavCheck n) (Checked goal os (Some (section.Flaw x))) gives begins zero made = absurd (omega arith)
+  done_by (job.NavCheck n) (Checked goal os (Some _)) gives begins zero made = absurd (omega arith)
   done_by _ _ gives begins zero made = absurd gives
 
   job_done : (j : Job) (status : ℕ) → EndsJob before after old new j status → status ≡ 0 → IsDone before after old j
@@ -200,7 +216,9 @@ module _ (before after : DeskState) (old new : List Entry) where
   -- the job found a flaw
   flawed_by : (j : Job) (i : Intent) → GivesIntent held Failed j i → 1 ≡ intent_status i → AreAppended before after (writes_of j i) → IsFlawFound before after j
   flawed_by (job.Check c) (Checked goal os (Some (section.Flaw x))) gives one made = (x, record { goals = goal; outcomes = os; checked = gives; lines = made })
+  flawed_by (job.NavCheck c) (Checked goal os (Some (section.Flaw x))) gives one made = (x, record { goals = goal; outcomes = os; checked = gives; lines = made })
   flawed_by j (Refused (refusal.Environment x)) gives one made = absurd (omega arith)
+  flawed_by j (Refused (refusal.Grid x)) gives one made = absurd (omega arith)
   flawed_by j (Refused _) gives one made = absurd (omega arith)
   flawed_by j (Planned records true log broken) gives one made = absurd (omega arith)
   flawed_by j (Checked goal os None) gives one made = absurd (omega arith)
@@ -220,7 +238,9 @@ module _ (before after : DeskState) (old new : List Entry) where
   -- the job found a fault in the text of labels
   faulted_by : (j : Job) (i : Intent) → GivesIntent held Failed j i → 10 ≡ intent_status i → AreAppended before after (writes_of j i) → IsFaultFound before after j
   faulted_by (job.Check c) (Checked goal os (Some (section.Fault x))) gives ten made = (x, record { goals = goal; outcomes = os; checked = gives; lines = made })
+  faulted_by (job.NavCheck c) (Checked goal os (Some (section.Fault x))) gives ten made = (x, record { goals = goal; outcomes = os; checked = gives; lines = made })
   faulted_by j (Refused (refusal.Environment x)) gives ten made = absurd (omega arith)
+  faulted_by j (Refused (refusal.Grid x)) gives ten made = absurd (omega arith)
   faulted_by j (Refused _) gives ten made = absurd (omega arith)
   faulted_by j (Planned records true log broken) gives ten made = absurd (omega arith)
   faulted_by j (Checked goal os None) gives ten made = absurd (omega arith)
@@ -424,6 +444,7 @@ module _ (before after : DeskState) (old new : List Entry) where
     served j (Listed w) plain refused gives = inl refl
     served j OutOfMemory plain refused gives = no_memory 0
     served (job.Check c) (Checked goal os end) plain refused gives = absurd plain
+    served (job.NavCheck c) (Checked goal os end) plain refused gives = absurd plain
     served _ (Checked goal os end) plain refused gives = absurd gives
 
     pub run_complete : TextsAreClear → EndsRun named before after old new status → (j : Job) (from : Sources) (s : Scope) (c : Course) → named ≡ Some j → sources_of j ≡ Some from → AreGood held from (moves_in j) s → TellsCourse held (changes_of j) s c → IsNoCheck j → IsOrFailed 0 status
@@ -434,6 +455,66 @@ module _ (before after : DeskState) (old new : List Entry) where
           | inl early ↦ all_good clear held Failed (lattice_files from (moves_in j)) (changes_of j) s (good_files clear held Failed from (moves_in j) s good) c 0 told r early
           | inr (course, checks) ↦ absurd (checks plain)
         ]
+
+    -- ---- the same on a grid
+
+    pub run_grid_faulty : TextsAreClear → EndsRun named before after old new status → (j : Job) (env : List ℕ) (f : NavFault) → named ≡ Some j → grid_of j ≡ Some env → TellsGridFault held env f → IsOrFailed 3 status
+    run_grid_faulty clear ends j env f names is tells = by_none j (grid_files env) (changes_of j) 3 (grid_reads j env is) ends names (grid_faulty clear held Failed env f tells) (grid_faulty_none clear held Failed env f tells)
+
+    pub run_grid_long : TextsAreClear → EndsRun named before after old new status → (j : Job) (env : List ℕ) → named ≡ Some j → grid_of j ≡ Some env → TellsTooMuch (held env) → IsOrFailed 8 status
+    run_grid_long clear ends j env names is much = by_none j (grid_files env) (changes_of j) 8 (grid_reads j env is) ends names (grid_long clear held Failed env much) (grid_long_none clear held Failed env much)
+
+    pub run_grid_changes_long : TextsAreClear → EndsRun named before after old new status → (j : Job) (env : List ℕ) (w : GridWorld) (name : List ℕ) → named ≡ Some j → grid_of j ≡ Some env → TellsGrid held env w → changes_of j ≡ Some name → TellsTooMuch (held name) → IsOrFailed 8 status
+    run_grid_changes_long clear ends j env w name names is tells file much = by_early j (grid_files env) (changes_of j) 8 (grid_reads j env is) ends names
+        (changes_long clear held Failed (grid_files env) (changes_of j) (grid_scope w) (good_grid clear held Failed env w tells) name file much)
+        (changes_long_none clear held Failed (grid_files env) (changes_of j) (grid_scope w) (good_grid clear held Failed env w tells) name file much)
+
+    pub run_grid_changes_faulty : TextsAreClear → EndsRun named before after old new status → (j : Job) (env : List ℕ) (w : GridWorld) (f : ChangeFault) → named ≡ Some j → grid_of j ≡ Some env → TellsGrid held env w → TellsChangeFault held (changes_of j) (grid_scope w) f → IsOrFailed 5 status
+    run_grid_changes_faulty clear ends j env w f names is tells faulty = by_early j (grid_files env) (changes_of j) 5 (grid_reads j env is) ends names
+        (changes_faulty clear held Failed (grid_files env) (changes_of j) (grid_scope w) (good_grid clear held Failed env w tells) f faulty)
+        (changes_faulty_none clear held Failed (grid_files env) (changes_of j) (grid_scope w) (good_grid clear held Failed env w tells) f faulty)
+
+    pub run_grid_complete : TextsAreClear → EndsRun named before after old new status → (j : Job) (env : List ℕ) (w : GridWorld) (c : Course) → named ≡ Some j → grid_of j ≡ Some env → TellsGrid held env w → TellsCourse held (changes_of j) (grid_scope w) c → IsNoCheck j → IsOrFailed 0 status
+    run_grid_complete clear ends j env w c names is tells told plain = by_each j 0 ends names (λ i gives. served j i plain by_cause gives)
+      where
+        by_cause : (r : Refusal) → IsJobCause held Failed j r → IsOrFailed 0 (refusal_status r)
+        by_cause r cause = elim ((grid_reads j env is).cause held Failed r cause) [
+          | inl early ↦ all_good clear held Failed (grid_files env) (changes_of j) (grid_scope w) (good_grid clear held Failed env w tells) c 0 told r early
+          | inr (course, checks) ↦ absurd (checks plain)
+        ]
+
+    -- where the file stands for a world and a course, a check is refused for its file of labels alone
+    nav_check_refused : TextsAreClear → (n : NavCheckJob) (w : GridWorld) (course : Course) (wanted : ℕ) → TellsGrid held n.env w → TellsCourse held n.changes (grid_scope w) course → (IsTooLong (held n.labels) → IsOrFailed wanted 8) → (r : Refusal) → IsJobCause held Failed (job.NavCheck n) r
+        → IsOrFailed wanted (refusal_status r)
+    nav_check_refused clear n w course wanted tells told long r (inl cause) = all_good clear held Failed (grid_files n.env) n.changes (grid_scope w) (good_grid clear held Failed n.env w tells) course wanted told r cause
+    nav_check_refused clear n w course wanted tells told long r (inr cause) = labels_refused held Failed (grid_files n.env) n.changes n.labels wanted r long cause
+
+    nav_checked_alike : TextsAreClear → SectionsAreClear → OneMap → (n : NavCheckJob) (w : GridWorld) (course : Course) (text : List ℕ) (goals : ℕ → ℕ) (os : List Outcome) (end : Option SectionStop) → end ≢ Some section.NoMemory → TellsGrid held n.env w → TellsCourse held n.changes (grid_scope w) course
+        → Tells (held n.labels) text → IsCheckedIn IsHolding grid_site (checked_direction grid_site false) w course text goals os end → ((r : Refusal) → IsJobCause held Failed (job.NavCheck n) r → IsOrFailed (checked_status end) (refusal_status r))
+        → (i : Intent) → GivesIntent held Failed (job.NavCheck n) i → IsOrFailed (checked_status end) (intent_status i)
+    nav_checked_alike clear sections one n w course text goals os end some tells told held_text is refused (Refused r) gives = refused r gives
+    nav_checked_alike clear sections one n w course text goals os end some tells told held_text is refused OutOfMemory gives = no_memory (checked_status end)
+    nav_checked_alike clear sections one n w course text goals os end some tells told held_text is refused (Checked goal' os' end') gives =
+        let near : gives.world ≡ w = same_grid clear held Failed n.env w gives.world tells gives.says in
+        let same : gives.course ≡ course = same_course clear held n.changes (grid_scope w) course gives.course told (subst (λ (v : GridWorld). ReadsCourse held n.changes (grid_scope v) gives.course) near gives.changes_say) in
+        let same_text : gives.text ≡ text = told_is (held n.labels) text gives.text held_text.held_bytes gives.read in
+        checked_ends_alike grid_site AreOneGrid grids_alike (checked_direction grid_site false) (goes_alike grid_site AreOneGrid grids_alike false) sections one w gives.world course gives.course text gives.text goals goal' os os' end end' near tells.is_world same same_text some is gives.in_world
+    nav_checked_alike clear sections one n w course text goals os end some tells told held_text is refused _ gives = absurd gives
+
+    pub run_grid_checked : TextsAreClear → SectionsAreClear → OneMap → EndsRun named before after old new status → (n : NavCheckJob) (w : GridWorld) (course : Course) (text : List ℕ) (goals : ℕ → ℕ) (os : List Outcome) (end : Option SectionStop) → named ≡ Some (job.NavCheck n) → TellsGrid held n.env w
+        → TellsCourse held n.changes (grid_scope w) course → Tells (held n.labels) text → IsCheckedIn IsHolding grid_site (checked_direction grid_site false) w course text goals os end → end ≢ Some section.NoMemory → IsOrFailed (checked_status end) status
+    run_grid_checked clear sections one ends n w course text goals os end names tells told held_text is some =
+        let refused = nav_check_refused clear n w course (checked_status end) tells told (λ long. absurd (too_long_not_short (held n.labels) text held_text long)) in
+        by_each (job.NavCheck n) (checked_status end) ends names (nav_checked_alike clear sections one n w course text goals os end some tells told held_text is refused)
+
+    pub run_grid_labels_long : TextsAreClear → EndsRun named before after old new status → (n : NavCheckJob) (w : GridWorld) (course : Course) → named ≡ Some (job.NavCheck n) → TellsGrid held n.env w → TellsCourse held n.changes (grid_scope w) course → TellsTooMuch (held n.labels) → IsOrFailed 8 status
+    run_grid_labels_long clear ends n w course names tells told much = by_each (job.NavCheck n) 8 ends names long_by
+      where
+        long_by : (i : Intent) → GivesIntent held Failed (job.NavCheck n) i → IsOrFailed 8 (intent_status i)
+        long_by (Refused r) gives = nav_check_refused clear n w course 8 tells told (λ long. inl refl) r gives
+        long_by (Checked goal os end) gives = absurd (too_much_not_read (held n.labels) gives.text much gives.read)
+        long_by OutOfMemory gives = no_memory 8
+        long_by _ gives = absurd gives
 
     -- a demonstration is refused for nothing
     demonstrated : (d : DemoJob) (i : Intent) → GivesIntent held Failed (job.Demo d) i → (intent_status i ≡ 0) ⊎ (intent_status i ≡ 9)
@@ -483,15 +564,7 @@ module _ (before after : DeskState) (old new : List Entry) where
         let near : AreAlikeWorlds w v = record { env = env; prims = prims; map = map; radius = radius } in
         let alike = lattices_alike graphs in
         let d = checked_direction lattice_site c.back in
-        let goes = goes_alike lattice_site AreAlikeWorlds alike c.back in
-        let back = alike.back w v near in
-        let from : gives.in_world.start ≡ is.start = alike.starts v w gives.in_world.start is.start back gives.in_world.start_is is.start_is in
-        let to : gives.in_world.goal ≡ is.goal = alike.ends v w gives.in_world.goal is.goal back gives.in_world.goal_is is.goal_is in
-        let mine : ℕ → ℕ = start_after lattice_wording w is.start course.moves in
-        let starts : start_after lattice_wording v gives.in_world.start gives.course.moves ≡ mine = same_starts lattice_wording v w gives.in_world.start is.start gives.course.moves course.moves (alike.state v w back) from (ap (λ (x : Course). x.moves) same) in
-        let there = same_case lattice_site d v course.batches gives.course.batches (start_after lattice_wording v gives.in_world.start gives.course.moves) mine gives.in_world.goal is.goal gives.text text os' end' (ap (λ (x : Course). x.batches) same) starts to same_text gives.in_world.checked in
-        one_ending lattice_site AreAlikeWorlds alike d goes sections one (case_of lattice_site d w course is.start is.goal) (suc (length course.batches)) 0 (start_at text 0) os os' end end' some is.checked
-        (checked_on lattice_site AreAlikeWorlds alike d goes v w back tells.is_world course.batches mine is.goal (suc (length course.batches)) 0 (start_at text 0) os' end' there)
+        checked_ends_alike lattice_site AreAlikeWorlds alike d (goes_alike lattice_site AreAlikeWorlds alike c.back) sections one w v course gives.course text gives.text goals goal' os os' end end' (alike.back w v near) tells.is_world same same_text some is gives.in_world
 
     pub run_checked : TextsAreClear → SectionsAreClear → OneMap → AlikeWorldsAreOneGraph → EndsRun named before after old new status → (c : CheckJob) (w : World) (course : Course) (text : List ℕ) (goals : ℕ → ℕ) (os : List Outcome) (end : Option SectionStop) → named ≡ Some (job.Check c) → TellsWorld held c.sources w → TellsCourse held c.changes (scope_of c.back w) course → Tells (held c.labels) text → IsCheckedIn IsHolding lattice_site (checked_direction lattice_site c.back) w course text goals os end → end ≢ Some section.NoMemory → IsOrFailed (checked_status end) status
     run_checked clear sections one alike ends c w course text goals os end names tells told held_text is some =

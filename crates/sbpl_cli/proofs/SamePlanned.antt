@@ -1,5 +1,5 @@
 -- The files of a job stand for one world and one list of batches, and its plans have one list of records.
-use Rattle.std.proofs.Common.{◌≡◌, ℕ, Bool, true, Option, Some, None, List, ◌++◌, IsSome, IfSome, sym, subst, ◌∙◌}
+use Rattle.std.proofs.Common.{◌≡◌, ℕ, Bool, true, Option, Some, None, List, ◌++◌, IsSome, IfSome, sym, ap, subst, ◌∙◌}
 use Rattle.std.proofs.lemmas.Bool.{false≢true}
 use Rattle.sbpl_cfg.specs.Environment.{Environment}
 use Rattle.sbpl_map.specs.CellMap.{CellMap}
@@ -9,16 +9,18 @@ use Rattle.sbpl_job.specs.declared.job.SearchJob.{SearchJob}
 use Rattle.sbpl_job.specs.declared.job.Sources.{Sources}
 use Rattle.sbpl_cli.specs.declared.record.PlanRecord.{PlanRecord}
 use Rattle.sbpl_cli.specs.Asked.{is_determined}
-use Rattle.sbpl_cli.specs.Causes.{ArePlanned, IsReadText, ReadsCourse, ReadsWorld, lattice_files, scope_of}
+use Rattle.sbpl_cli.specs.Causes.{ArePlanned, IsReadText, ReadsCourse, ReadsWorld, grid_files, grid_scope, lattice_files, scope_of}
 use Rattle.sbpl_cli.specs.declared.course.Course.{Course}
 use Rattle.sbpl_cli.specs.Determined.{AreAlikeWorlds, FewAreFirst, RecordsAreOne}
 use Rattle.sbpl_plan.specs.declared.found.Found.{Found}
 use Rattle.sbpl_cli.specs.Headline.{ArePlans}
 use Rattle.sbpl_cli.specs.WorldFiles.{WorldFiles}
 use Rattle.sbpl_cli.specs.Published.{Entry}
-use Rattle.sbpl_cli.specs.Texts.{IsChangeText, IsEnvironmentText, IsPrimitiveText, Scope, scope_for}
+use Rattle.sbpl_cli.specs.Texts.{IsChangeText, IsEnvironmentText, IsGridText, IsPrimitiveText, Scope, scope_for}
 use Rattle.sbpl_cli.specs.Writing.{Told}
 use Rattle.sbpl_cli.specs.Clear.{TextsAreClear}
+use Rattle.sbpl_nav2d.specs.World.{GridWorld}
+use Rattle.sbpl_cli.proofs.GridAlike.{AreOneGrid}
 
 -- what is read of a file that the desk tells is determined
 pub read_once : (held : Option (List ℕ)) (t u : List ℕ) → IsSome held → IsReadText held t → IsReadText held u → t ≡ u
@@ -63,6 +65,15 @@ module _ (clear : TextsAreClear) (held : Told) where
       let own : IsChangeText s x.0 d = subst (λ (t : List ℕ). IsChangeText s t d) text y.2 in
       clear.changes s x.0 c d x.2 own
 
+-- a grid's world comes of its environment and its cells
+pub grid_by : (w v : GridWorld) (cells others : List ℕ) → w.env ≡ v.env → cells ≡ others → w.map ≡ record { width = w.env.width; height = w.env.height; costs = cells } → v.map ≡ record { width = v.env.width; height = v.env.height; costs = others } → w ≡ v
+grid_by w v cells others env same x y =
+    let maps : ◌≡◌ {A = CellMap} (record { width = w.env.width; height = w.env.height; costs = cells }) (record { width = v.env.width; height = v.env.height; costs = others }) =
+    λ i. record { width = (env i).width; height = (env i).height; costs = same i }
+    in
+    let map : w.map ≡ v.map = x ∙ maps ∙ sym y in
+    λ i. record { env = env i; map = map i }
+
 -- as far as they are told, the files stand for alike worlds, which give a change file one scope
 pub record StandForOne {W : Type 0} (held : Told) (f : WorldFiles W) (Alike : W → W → Type 0) : Type 0 where
   pub one : (w v : W) → f.stand_for held w → f.stand_for held v → Alike w v
@@ -93,4 +104,15 @@ pub lattices_stand_for_one : (clear : TextsAreClear) (held : Told) (from : Sourc
 lattices_stand_for_one clear held from moving told_env told_prims = record {
   one = λ w v. one_world clear held from w v told_env told_prims;
   scope = alike_scopes moving;
+}
+
+-- those of a grid stand for one world
+pub grids_stand_for_one : (clear : TextsAreClear) (held : Told) (env : List ℕ) → IsSome (held env) → StandForOne held (grid_files env) AreOneGrid
+grids_stand_for_one clear held env told = record {
+  one = λ w v x y.
+      let text : y.text ≡ x.text = read_once (held env) y.text x.text told y.read x.read in
+      let own : IsGridText x.text v.env y.cells = subst (λ (t : List ℕ). IsGridText t v.env y.cells) text y.stands in
+      let both = clear.grid x.text w.env v.env x.cells y.cells x.stands own in
+      grid_by w v x.cells y.cells both.0 both.1 x.map y.map;
+  scope = λ w v same. ap grid_scope (sym same);
 }

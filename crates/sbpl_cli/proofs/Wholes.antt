@@ -17,10 +17,14 @@ use Rattle.sbpl_cli.specs.declared.section_check.SectionStop.TheVariants as sect
 use Rattle.sbpl_cli.specs.declared.record.PlanRecord.{PlanRecord}
 use Rattle.sbpl_cli.specs.declared.refusal.Refusal.{Refusal}
 use Rattle.sbpl_cli.specs.Asked.{is_determined}
-use Rattle.sbpl_cli.specs.Causes.{ArePlanned, IsCheckCause, IsEarlyCause, IsEarlyInput, IsJobCause, IsSource, check_files, plan_files}
+use Rattle.sbpl_cli.specs.Causes.{ArePlanned, IsCheckCause, IsEarlyCause, IsEarlyInput, IsJobCause, IsSource, check_files, grid_files, plan_files}
 use Rattle.sbpl_cli.specs.WorldFiles.{WorldFiles}
 use Rattle.sbpl_cli.proofs.AlikeSites.{AreAlike}
 use Rattle.sbpl_cli.proofs.LatticeAlike.{lattices_alike}
+use Rattle.sbpl_cli.proofs.GridAlike.{AreOneGrid, grids_alike}
+use Rattle.sbpl_cli.specs.GridSite.{grid_site}
+use Rattle.sbpl_job.specs.declared.job.NavJob.{NavJob}
+use Rattle.sbpl_job.specs.declared.job.NavCheckJob.{NavCheckJob}
 use Rattle.sbpl_job.specs.declared.job.Outputs.{Outputs}
 use Rattle.sbpl_job.specs.declared.job.SearchJob.{SearchJob}
 use Rattle.sbpl_cli.specs.Clear.{SectionsAreClear, TextsAreClear}
@@ -35,10 +39,10 @@ use Rattle.sbpl_cli.specs.Writing.{AreAppended, DeskState, IsNamed, Names, ReadF
 use Rattle.sbpl_cli.proofs.Ends.{job_cause_on}
 use Rattle.sbpl_cli.proofs.Prefixes.{ends_prefix, made_prefix}
 use Rattle.sbpl_cli.proofs.OneEnding.{OneMap}
-use Rattle.sbpl_cli.proofs.OneRefusal.{AreBadSources, CallForOne, IsCheckBad, IsEarlyBad, IsFailedRead, check_bad, early_bad, lattices_call_for_one, not_check, not_early, not_world, one_check, one_early, one_source, source_cause}
+use Rattle.sbpl_cli.proofs.OneRefusal.{AreBadSources, CallForOne, IsBadGrid, IsCheckBad, IsEarlyBad, IsFailedRead, check_bad, early_bad, grids_call_for_one, lattices_call_for_one, not_check, not_early, not_world, one_check, one_early, one_source, source_cause}
 use Rattle.sbpl_cli.proofs.SameChecked.{check_as_far}
 use Rattle.sbpl_cli.proofs.SameLines.{few_demonstrated, one_demonstrated, one_first_line, one_listed}
-use Rattle.sbpl_cli.proofs.SamePlanned.{StandForOne, few_planned, lattices_stand_for_one, one_planned}
+use Rattle.sbpl_cli.proofs.SamePlanned.{StandForOne, few_planned, grids_stand_for_one, lattices_stand_for_one, one_planned}
 use Rattle.sbpl_cli.proofs.Writings.{none_made}
 
 -- ---- how two ends of a job go together
@@ -78,7 +82,7 @@ unread Failed j IsOne r input (i, is, (name, one, rose)) = (ap (λ (x : Refusal)
 
 -- ---- the jobs
 
-module _ (clear : TextsAreClear) (sections : SectionsAreClear) (one_map : OneMap) (graphs : AlikeWorldsAreOneGraph) (one : RecordsAreOne lattice_site AreAlikeWorlds) (first : FewAreFirst lattice_site AreAlikeWorlds) (held : Told) (Failed : Names) (log : List Entry) where
+module _ (clear : TextsAreClear) (sections : SectionsAreClear) (one_map : OneMap) (graphs : AlikeWorldsAreOneGraph) (one : RecordsAreOne lattice_site AreAlikeWorlds) (first : FewAreFirst lattice_site AreAlikeWorlds) (one_grid : RecordsAreOne grid_site AreOneGrid) (first_grid : FewAreFirst grid_site AreOneGrid) (held : Told) (Failed : Names) (log : List Entry) where
   alike_refusals : (j : Job) (r u : Refusal) → r ≡ u → Agrees Failed j (Refused r) (Refused u)
   alike_refusals j r u same = inr (inl (ap (λ (x : Refusal). refusal_status x) same, ap (λ (x : Refusal). writes_of j (Refused x)) same))
 
@@ -206,6 +210,62 @@ module _ (clear : TextsAreClear) (sections : SectionsAreClear) (one_map : OneMap
     check_agrees (Checked goal os end) _ gives calls = absurd calls
     check_agrees _ whole gives calls = absurd gives
 
+  -- ---- nav
+
+  module _ (n : NavJob) (told : AreTold held (job.Nav n)) where
+    nav_stand : StandForOne held (grid_files n.env) AreOneGrid
+    nav_stand = grids_stand_for_one clear held n.env (told n.env (inl refl))
+
+    nav_calls : CallForOne held (grid_files n.env) (IsBadGrid held n.env)
+    nav_calls = grids_call_for_one clear held n.env (told n.env (inl refl))
+
+    nav_changes : IfSome n.changes (λ name. IsSome (held name))
+    nav_changes = told_name n.changes (λ name is. told name (inr is))
+
+    nav_agrees : (i whole : Intent) → GivesIntent held Failed (job.Nav n) i → BeginsAfter i log → CallsFor held log (job.Nav n) whole → Agrees Failed (job.Nav n) i whole
+    nav_agrees (Refused r) (Refused u) gives begins calls = early_refusals (job.Nav n) (grid_files n.env) AreOneGrid nav_stand (IsBadGrid held n.env) nav_calls n.changes nav_changes (λ name is. is) r u gives calls
+    nav_agrees (Refused r) (Planned us all other also) gives begins calls =
+        refused_for_plans (job.Nav n) (grid_files n.env) AreOneGrid nav_stand (IsBadGrid held n.env) nav_calls n.changes nav_changes (λ name is. is) r (Planned us all other also) n.search n.outputs us true log also gives calls.3
+    nav_agrees (Planned rs all own broken) (Refused u) gives begins calls =
+        absurd (plans_not_refused (job.Nav n) (grid_files n.env) AreOneGrid nav_stand (IsBadGrid held n.env) nav_calls n.changes nav_changes u n.search n.outputs rs all own broken calls gives)
+    nav_agrees (Planned rs all own broken) (Planned us every other also) gives begins calls =
+        subst (λ (b : Bool). Agrees Failed (job.Nav n) (Planned rs all own broken) (Planned us b other also)) (sym calls.0)
+        (plans_agree (job.Nav n) (grid_files n.env) AreOneGrid nav_stand (IsBadGrid held n.env) nav_calls n.changes nav_changes one_grid first_grid n.search rs us all own other broken also calls.1
+        (subst (λ (l : List Entry). ArePlanned held (grid_files n.env) n.changes n.search n.outputs rs all l broken) begins gives) calls.3)
+    nav_agrees OutOfMemory whole gives begins calls = inr (inr (refl, (writes_of (job.Nav n) whole, refl)))
+    nav_agrees (Refused r) _ gives begins calls = absurd calls
+    nav_agrees (Planned rs all own broken) _ gives begins calls = absurd calls
+    nav_agrees _ whole gives begins calls = absurd gives
+
+  -- ---- navcheck
+
+  module _ (n : NavCheckJob) (told : AreTold held (job.NavCheck n)) where
+    nav_check_stand : StandForOne held (grid_files n.env) AreOneGrid
+    nav_check_stand = grids_stand_for_one clear held n.env (told n.env (inl (inl refl)))
+
+    nav_check_calls : CallForOne held (grid_files n.env) (IsBadGrid held n.env)
+    nav_check_calls = grids_call_for_one clear held n.env (told n.env (inl (inl refl)))
+
+    nav_check_changes : IfSome n.changes (λ name. IsSome (held name))
+    nav_check_changes = told_name n.changes (λ name is. told name (inl (inr is)))
+
+    nav_check_labels : IsSome (held n.labels)
+    nav_check_labels = told n.labels (inr refl)
+
+    nav_check_agrees : (i whole : Intent) → GivesIntent held Failed (job.NavCheck n) i → CallsFor held log (job.NavCheck n) whole → Agrees Failed (job.NavCheck n) i whole
+    nav_check_agrees (Refused r) (Refused u) gives calls =
+        check_refusals (job.NavCheck n) (grid_files n.env) AreOneGrid nav_check_stand (IsBadGrid held n.env) nav_check_calls n.changes nav_check_changes n.labels nav_check_labels (λ name is. is) r u gives calls
+    nav_check_agrees (Refused r) (Checked goal os end) gives calls =
+        refused_for_checks (job.NavCheck n) (grid_files n.env) AreOneGrid nav_check_stand (IsBadGrid held n.env) nav_check_calls n.changes nav_check_changes n.labels nav_check_labels (λ name is. is) r (Checked goal os end) goal os end gives calls.1
+    nav_check_agrees (Checked goal os end) (Refused u) gives calls =
+        absurd (checks_not_refused (job.NavCheck n) (grid_files n.env) AreOneGrid nav_check_stand (IsBadGrid held n.env) nav_check_calls n.changes nav_check_changes n.labels nav_check_labels u goal os end calls gives)
+    nav_check_agrees (Checked goal os a) (Checked other ps b) gives calls =
+        checks_agree (job.NavCheck n) (grid_files n.env) AreOneGrid nav_check_stand (IsBadGrid held n.env) nav_check_calls n.changes nav_check_changes n.labels nav_check_labels grids_alike goal other os ps a b calls.0 gives calls.1
+    nav_check_agrees OutOfMemory whole gives calls = inr (inr (refl, (writes_of (job.NavCheck n) whole, refl)))
+    nav_check_agrees (Refused r) _ gives calls = absurd calls
+    nav_check_agrees (Checked goal os end) _ gives calls = absurd calls
+    nav_check_agrees _ whole gives calls = absurd gives
+
   -- ---- sweep
 
   module _ (from : Sources) (told : AreTold held (job.Sweep from)) where
@@ -261,6 +321,8 @@ module _ (clear : TextsAreClear) (sections : SectionsAreClear) (one_map : OneMap
   agrees (job.Check c) i whole told gives begins calls = check_agrees c told i whole gives calls
   agrees (job.Sweep from) i whole told gives begins calls = sweep_agrees from told i whole gives calls
   agrees (job.Demo d) i whole told gives begins calls = demo_agrees d i whole gives begins calls
+  agrees (job.Nav n) i whole told gives begins calls = nav_agrees n told i whole gives begins calls
+  agrees (job.NavCheck n) i whole told gives begins calls = nav_check_agrees n told i whole gives calls
 
 -- ---- what is called for
 
@@ -274,6 +336,9 @@ called_for held Failed log (job.Check c) (Checked goal os end) gives begins one 
 called_for held Failed log (job.Sweep from) (Listed w) gives begins one six nine = gives.0
 called_for held Failed log (job.Demo d) (Demonstrated w count records true own broken) gives begins one six nine = (refl, begins, subst (λ (l : List Entry). IsDemonstration d w count records true l broken) begins gives)
 called_for held Failed log (job.Demo d) (Demonstrated w count records false own broken) gives begins one six nine = absurd (nine refl)
+called_for held Failed log (job.Nav n) (Planned records true own broken) gives begins one six nine = (refl, one, begins, subst (λ (l : List Entry). ArePlanned held (grid_files n.env) n.changes n.search n.outputs records true l broken) begins gives)
+called_for held Failed log (job.Nav n) (Planned records false own broken) gives begins one six nine = absurd (nine refl)
+called_for held Failed log (job.NavCheck n) (Checked goal os end) gives begins one six nine = (λ is. nine (ap checked_status is), gives)
 called_for held Failed log j OutOfMemory gives begins one six nine = absurd (nine refl)
 called_for held Failed log _ _ gives begins one six nine = absurd gives
 
@@ -302,12 +367,12 @@ module _ (before after : DeskState) (old new : List Entry) where
 
 -- ---- a run
 
-module _ (clear : TextsAreClear) (sections : SectionsAreClear) (one_map : OneMap) (graphs : AlikeWorldsAreOneGraph) (one : RecordsAreOne lattice_site AreAlikeWorlds) (first : FewAreFirst lattice_site AreAlikeWorlds) (before after : DeskState) (old new : List Entry) where
+module _ (clear : TextsAreClear) (sections : SectionsAreClear) (one_map : OneMap) (graphs : AlikeWorldsAreOneGraph) (one : RecordsAreOne lattice_site AreAlikeWorlds) (first : FewAreFirst lattice_site AreAlikeWorlds) (one_grid : RecordsAreOne grid_site AreOneGrid) (first_grid : FewAreFirst grid_site AreOneGrid) (before after : DeskState) (old new : List Entry) where
   -- what is called for was written whole
   job_whole : (j : Job) (whole : Intent) (status : ℕ) → AreTold before.held j → CallsFor before.held old j whole → IsNoFailure status → EndsJob before after old new j status
       → (status ≡ intent_status whole) × AreAppended before after (writes_of j whole)
   job_whole j whole status told calls (no_read, no_write, no_want) e = elim e.ends [
-    | inl (is, made) ↦ elim (agrees clear sections one_map graphs one first before.held (ReadFailed before after) old j e.intent whole told e.gives e.begins calls) [
+    | inl (is, made) ↦ elim (agrees clear sections one_map graphs one first one_grid first_grid before.held (ReadFailed before after) old j e.intent whole told e.gives e.begins calls) [
       | inl (six, out) ↦ absurd (no_read (is ∙ six))
       | inr (inl (same, writes)) ↦ (is ∙ same, subst (λ (ws : List Write). AreAppended before after ws) writes made)
       | inr (inr (nine, rest)) ↦ absurd (no_want (is ∙ nine))
@@ -318,7 +383,7 @@ module _ (clear : TextsAreClear) (sections : SectionsAreClear) (one_map : OneMap
 
   -- and otherwise prefixes of it, where no read failed
   job_prefix : (j : Job) (whole : Intent) (status : ℕ) → AreTold before.held j → NoneRose j before after → CallsFor before.held old j whole → EndsJob before after old new j status → ArePrefixes before after (writes_of j whole)
-  job_prefix j whole status told quiet_reads calls e = elim (agrees clear sections one_map graphs one first before.held (ReadFailed before after) old j e.intent whole told e.gives e.begins calls) [
+  job_prefix j whole status told quiet_reads calls e = elim (agrees clear sections one_map graphs one first one_grid first_grid before.held (ReadFailed before after) old j e.intent whole told e.gives e.begins calls) [
     | inl (six, (name, input, rose)) ↦ absurd (quiet_reads name input rose)
     | inr (inl (same, writes)) ↦ ends_prefix before after (intent_status e.intent) status (writes_of j e.intent) [] (writes_of j whole) (sym writes ∙ nothing_after (writes_of j e.intent)) e.ends
     | inr (inr (nine, (rest, parted))) ↦ ends_prefix before after (intent_status e.intent) status (writes_of j e.intent) rest (writes_of j whole) parted e.ends

@@ -30,6 +30,7 @@ use Rattle.sbpl_cli.specs.Asked.{Known}
 use Rattle.sbpl_cli.specs.Causes.{ReadsWorld}
 use Rattle.sbpl_cli.specs.Headline.{AreRecords, Carried}
 use Rattle.sbpl_cli.specs.Asked.{known}
+use Rattle.sbpl_cli.specs.GridSite.{grid_site, grid_wording}
 use Rattle.sbpl_cli.specs.LatticeSite.{lattice_site, lattice_wording}
 use Rattle.sbpl_cli.specs.Sites.{start_after}
 use Rattle.sbpl_cli.specs.Intents.{Intent, Refused, Planned, Checked, Listed, Demonstrated, OutOfMemory, checked_writes, end_writes, fault_text, incumbent_writes, labels_text, labels_writes, last_write, refusal_text, section_writes, stop_writes, trace_writes, unread_text, writes_of}
@@ -59,6 +60,7 @@ unread_full why name = not_empty _ _
 
 refusal_full : (j : Job) (r : Refusal) → refusal_text j r ≢ []
 refusal_full j (refusal.Environment f) = fault_full _ _ _ _
+refusal_full j (refusal.Grid f) = fault_full _ _ _ _
 refusal_full j (refusal.Primitives f) = fault_full _ _ _ _
 refusal_full j (refusal.TooWide i) = fault_full _ _ _ _
 refusal_full j (refusal.TooDear i) = fault_full _ _ _ _
@@ -219,6 +221,11 @@ intent_full held Failed (job.Plan p) (Planned records all log broken) gives =
     let sections = records_full (known lattice_site p.search.planner) gives.world gives.course.batches p.search p.outputs (start_after lattice_wording gives.world plans.start gives.course.moves) plans.goal 0 log None records plans.each in
     both _ _ sections (end_full all)
 intent_full held Failed (job.Check c) (Checked goals os end) gives = checked_full goals 0 os end
+intent_full held Failed (job.Nav n) (Planned records all log broken) gives =
+    let plans = gives.plans in
+    let sections = records_full (known grid_site n.search.planner) gives.world gives.course.batches n.search n.outputs (start_after grid_wording gives.world plans.start gives.course.moves) plans.goal 0 log None records plans.each in
+    both _ _ sections (end_full all)
+intent_full held Failed (job.NavCheck n) (Checked goals os end) gives = checked_full goals 0 os end
 intent_full held Failed (job.Sweep from) (Listed w) gives = both _ _ (listed_full held from w gives.0) last_full
 intent_full held Failed (job.Demo d) (Demonstrated w count records all log broken) gives =
     one_more _ _ (demo_full _ _ _) (both _ _ (lines_full records) (end_full all))

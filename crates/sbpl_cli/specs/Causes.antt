@@ -1,4 +1,4 @@
--- What the files that a lattice is made of say, and why a job on it is refused. `Reads..`: what a job read, which is what the desk
+-- What the files that a world is made of say, and why a job on it is refused. `Reads..`: what a job read, which is what the desk
 -- holds as far as it tells. That the desk tells it is `Tells..` of Promises.
 use Rattle.std.specs.Prelude.{◌≡◌, ℕ, ◌^◌, ◌<◌, ◌≤◌, ◌⊎◌, Bool, false, List, [], length, slice_get, Option, Some, None, IfSome}
 use Rattle.sbpl_cfg.specs.declared.fault.EnvFault.{EnvFault}
@@ -37,13 +37,16 @@ use Rattle.sbpl_job.specs.declared.job.Sources.{Sources}
 use Rattle.sbpl_cli.specs.declared.record.PlanRecord.{PlanRecord}
 use Rattle.sbpl_plan.specs.declared.found.Found.{Found}
 use Rattle.sbpl_cli.specs.Headline.{ArePlans}
+use Rattle.sbpl_cli.specs.GridSite.{grid_site}
 use Rattle.sbpl_cli.specs.LatticeSite.{lattice_site}
+use Rattle.sbpl_nav2d.specs.World.{GridWorld}
+use Rattle.sbpl_nav2d.specs.declared.fault.NavFault.{NavFault}
 use Rattle.sbpl_cli.specs.Sites.{Site}
 use Rattle.sbpl_cli.specs.WorldFiles.{WorldFiles}
 use Rattle.sbpl_cli.specs.Published.{Entry}
 use Rattle.sbpl_cli.specs.Writing.{DeskState, IsNamed, Names, ReadFailed, Told}
 use Rattle.sbpl_cli.specs.declared.course.Course.{Course}
-use Rattle.sbpl_cli.specs.Texts.{IsEnvironmentText, HasEnvironmentFault, IsPrimitiveText, HasPrimitiveFault, IsChangeText, HasChangeFault, Scope, scope_for, still}
+use Rattle.sbpl_cli.specs.Texts.{IsEnvironmentText, HasEnvironmentFault, IsGridText, HasGridFault, IsPrimitiveText, HasPrimitiveFault, IsChangeText, HasChangeFault, Scope, scope_for, still, still_scope}
 
 -- these bytes were read of a file: the held ones, where the desk tells them, and at most 2 ^ 30
 pub record IsReadText (held : Option (List ℕ)) (text : List ℕ) : Type 0 where
@@ -261,12 +264,50 @@ plan_files j = lattice_files j.sources (may_move j.search.planner)
 abbrev pub check_files : CheckJob → WorldFiles World
 check_files j = lattice_files j.sources j.back
 
--- why a job is refused: for the files of its lattice, for its change file, or for its file of labels
+-- the environment file of a grid stands for its world
+pub record ReadsGrid (held : Told) (env : List ℕ) (w : GridWorld) : Type 0 where
+  pub text : List ℕ
+  pub read : IsReadText (held env) text
+  pub cells : List ℕ
+  pub stands : IsGridText text w.env cells
+  pub map : w.map ≡ record { width = w.env.width; height = w.env.height; costs = cells }
+
+-- it has this first fault
+pub record IsFaultyGrid (held : Told) (env : List ℕ) (f : NavFault) : Type 0 where
+  pub text : List ℕ
+  pub read : IsReadText (held env) text
+  pub faulty : HasGridFault text f
+
+-- why a job on a grid is refused: what the environment file holds, or that it was not read
+abbrev pub IsGridCause : Told → Names → (env : List ℕ) → Refusal → Type 0
+IsGridCause held Failed env (refusal.Grid f) = IsFaultyGrid held env f
+IsGridCause held Failed env (refusal.Read input.Environment) = Failed env
+IsGridCause held Failed env (refusal.Length input.Environment) = IsTooLong (held env)
+IsGridCause held Failed env _ = ⊥
+
+-- for what the change file of a grid is read
+abbrev pub grid_scope : GridWorld → Scope
+grid_scope w = still_scope w.map
+
+-- the file of a grid
+abbrev pub grid_files : (env : List ℕ) → WorldFiles GridWorld
+grid_files env = record {
+  on = grid_site;
+  moves = false;
+  names = λ name. name ≡ env;
+  stand_for = λ held w. ReadsGrid held env w;
+  refused = λ held Failed r. IsGridCause held Failed env r;
+  scope = grid_scope;
+}
+
+-- why a job is refused: for the files of its world, for its change file, or for its file of labels
 abbrev pub IsJobCause : Told → Names → Job → Refusal → Type 0
 IsJobCause held Failed (job.Plan j) r = IsEarlyCause held Failed (plan_files j) j.changes r
 IsJobCause held Failed (job.Check j) r = IsCheckCause held Failed (check_files j) j.changes j.labels r
 IsJobCause held Failed (job.Sweep from) r = IsCause held Failed from r
 IsJobCause held Failed (job.Demo d) r = ⊥
+IsJobCause held Failed (job.Nav j) r = IsEarlyCause held Failed (grid_files j.env) j.changes r
+IsJobCause held Failed (job.NavCheck j) r = IsCheckCause held Failed (grid_files j.env) j.changes j.labels r
 
 -- a refusal with a cause; or memory ran out
 abbrev pub StopsFor : (Refusal → Type 0) → Stop → Type 0
@@ -295,6 +336,16 @@ IsUnread before after name i (stop.Refused (refusal.Read j)) = (j ≡ i) × Read
 IsUnread before after name i (stop.Refused (refusal.Length j)) = (j ≡ i) × IsTooLong (before.held name)
 IsUnread before after name i (stop.Refused _) = ⊥
 IsUnread before after name i stop.NoMemory = Unit {0}
+
+-- why no grid was made
+abbrev pub GridStopsFor : (before after : DeskState) → (env : List ℕ) → Stop → Type 0
+GridStopsFor before after env s = StopsFor (IsGridCause before.held (ReadFailed before after) env) s
+
+-- why the text of the environment file of a grid was refused
+abbrev pub IsGridRefused : List ℕ → Stop → Type 0
+IsGridRefused text (stop.Refused (refusal.Grid f)) = HasGridFault text f
+IsGridRefused text (stop.Refused _) = ⊥
+IsGridRefused text stop.NoMemory = Unit {0}
 
 -- why the text of an environment file was refused
 abbrev pub IsEnvironmentRefused : List ℕ → Stop → Type 0

@@ -9,7 +9,7 @@ use Rattle.sbpl_job.specs.declared.job.SearchJob.{SearchJob}
 use Rattle.sbpl_cli.specs.declared.section_check.SectionStop.TheVariants as section
 use Rattle.sbpl_cli.specs.declared.record.PlanRecord.{PlanRecord}
 use Rattle.sbpl_cli.specs.Asked.{is_determined}
-use Rattle.sbpl_cli.specs.Causes.{ArePlanned, IsEarlyInput, IsJobCause, IsSource, ReadsWorld, check_files, plan_files}
+use Rattle.sbpl_cli.specs.Causes.{ArePlanned, IsEarlyInput, IsJobCause, IsSource, ReadsWorld, check_files, grid_files, plan_files}
 use Rattle.sbpl_plan.specs.declared.found.Found.{Found}
 use Rattle.sbpl_cli.specs.Headline.{ArePlans}
 use Rattle.sbpl_cli.specs.Sites.{Site}
@@ -48,6 +48,8 @@ IsInput (job.Plan j) name = IsEarlyInput (plan_files j) j.changes name
 IsInput (job.Check j) name = IsEarlyInput (check_files j) j.changes name ⊎ (name ≡ j.labels)
 IsInput (job.Sweep from) name = IsSource from name
 IsInput (job.Demo d) name = ⊥
+IsInput (job.Nav j) name = IsEarlyInput (grid_files j.env) j.changes name
+IsInput (job.NavCheck j) name = IsEarlyInput (grid_files j.env) j.changes name ⊎ (name ≡ j.labels)
 
 -- the desk tells what each file of the job holds
 abbrev pub AreTold : Told → Job → Type 0
@@ -70,11 +72,14 @@ CallsFor held log (job.Plan j) (Planned records all own broken) = (all ≡ true)
 CallsFor held log (job.Check j) (Checked goals os end) = (end ≢ Some section.NoMemory) × IsChecked held (check_files j) j.changes j.labels goals os end
 CallsFor held log (job.Sweep from) (Listed w) = ReadsWorld held from w
 CallsFor held log (job.Demo d) (Demonstrated w count records all own broken) = (all ≡ true) × (own ≡ log) × IsDemonstration d w count records true log broken
+CallsFor held log (job.Nav j) (Planned records all own broken) = (all ≡ true) × (is_determined j.search.planner ≡ true) × (own ≡ log) × ArePlanned held (grid_files j.env) j.changes j.search j.outputs records true log broken
+CallsFor held log (job.NavCheck j) (Checked goals os end) = (end ≢ Some section.NoMemory) × IsChecked held (grid_files j.env) j.changes j.labels goals os end
 CallsFor held log _ _ = ⊥
 
 -- the job makes no plans by a planner whose passes are not determined
 abbrev pub IsDeterminedJob : Job → Type 0
 IsDeterminedJob (job.Plan j) = is_determined j.search.planner ≡ true
+IsDeterminedJob (job.Nav j) = is_determined j.search.planner ≡ true
 IsDeterminedJob _ = Unit {0}
 
 -- the status says that no read and no write failed, and that memory did not run out

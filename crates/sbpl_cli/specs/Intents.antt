@@ -10,7 +10,10 @@ use Rattle.sbpl_map.specs.Faults as changes
 use Rattle.sbpl_cost.specs.Lattices.{network_of}
 use Rattle.sbpl_cost.specs.World.{World}
 use Rattle.sbpl_job.specs.declared.job.CheckJob.{CheckJob}
+use Rattle.sbpl_job.specs.declared.job.NavCheckJob.{NavCheckJob}
+use Rattle.sbpl_job.specs.declared.job.NavJob.{NavJob}
 use Rattle.sbpl_job.specs.declared.job.PlanJob.{PlanJob}
+use Rattle.sbpl_nav2d.specs.Faults as grids
 use Rattle.sbpl_job.specs.declared.job.Sources.{Sources}
 use Rattle.sbpl_cert.specs.Faults as faults
 use Rattle.sbpl_cert.specs.Printed as labels
@@ -55,15 +58,29 @@ check_name j input.Primitives = j.sources.prims
 check_name j input.Changes = name_or_nothing j.changes
 check_name j input.Labels = j.labels
 
+abbrev pub nav_name : NavJob → Input → List ℕ
+nav_name j input.Environment = j.env
+nav_name j input.Changes = name_or_nothing j.changes
+nav_name j _ = []
+
+abbrev pub nav_check_name : NavCheckJob → Input → List ℕ
+nav_check_name j input.Environment = j.env
+nav_check_name j input.Primitives = []
+nav_check_name j input.Changes = name_or_nothing j.changes
+nav_check_name j input.Labels = j.labels
+
 abbrev pub input_name : Job → Input → List ℕ
 input_name (job.Plan j) i = plan_name j i
 input_name (job.Check j) i = check_name j i
 input_name (job.Sweep from) i = sources_name from i
 input_name (job.Demo d) i = []
+input_name (job.Nav j) i = nav_name j i
+input_name (job.NavCheck j) i = nav_check_name j i
 
 -- the statuses of refusals
 abbrev pub refusal_status : Refusal → ℕ
 refusal_status (refusal.Environment _) = 3
+refusal_status (refusal.Grid _) = 3
 refusal_status (refusal.Changes _) = 5
 refusal_status (refusal.Read _) = 6
 refusal_status (refusal.Length _) = 8
@@ -84,6 +101,7 @@ unread_text why name = codes "refused " ++ (why ++ (codes " " ++ (name ++ line_f
 -- the line of a refusal
 abbrev pub refusal_text : Job → Refusal → List ℕ
 refusal_text j (refusal.Environment f) = fault_text (codes "environment") (environments.number_of f) (environments.name_of f) (environments.place_of f)
+refusal_text j (refusal.Grid f) = fault_text (codes "environment") (grids.number_of f) (grids.name_of f) (grids.place_of f)
 refusal_text j (refusal.Primitives f) = fault_text (codes "primitives") (primitives.number_of f) (primitives.name_of f) (primitives.place_of f)
 refusal_text j (refusal.TooWide i) = fault_text (codes "primitives") 14 (codes "TooWide") i
 refusal_text j (refusal.TooDear i) = fault_text (codes "primitives") 15 (codes "TooDear") i
@@ -192,6 +210,7 @@ refusal_writes j r = to_output (refusal_text j r) ∷ []
 -- where a job's plans are written besides the report
 abbrev pub outputs_of : Job → Outputs
 outputs_of (job.Plan j) = j.outputs
+outputs_of (job.Nav j) = j.outputs
 outputs_of _ = record { labels = None; form = form.Sparse; trace = None; incumbent = None }
 
 -- what is to be written

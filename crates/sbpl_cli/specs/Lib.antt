@@ -1,5 +1,6 @@
 pub mod Sites
 pub mod LatticeSite
+pub mod GridSite
 pub mod Asked
 pub mod Writing
 pub mod Published

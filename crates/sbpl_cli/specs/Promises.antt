@@ -14,6 +14,8 @@ use Rattle.sbpl_cert.specs.declared.flaw.Flaw.{Flaw}
 use Rattle.sbpl_cert.specs.declared.outcome.Outcome.{Outcome}
 use Rattle.sbpl_cli.specs.Asked.{Known, checked_direction}
 use Rattle.sbpl_cli.specs.Sites.{Site}
+use Rattle.sbpl_nav2d.specs.World.{GridWorld, IsGridWorld}
+use Rattle.sbpl_nav2d.specs.declared.fault.NavFault.{NavFault}
 use Rattle.sbpl_cli.specs.WorldFiles.{WorldFiles}
 use Rattle.sbpl_replan.specs.Directions.{Direction}
 use Rattle.sbpl_cli.specs.declared.section_check.SectionStop.{SectionStop}
@@ -30,11 +32,11 @@ use Rattle.sbpl_job.specs.declared.job.SearchJob.{SearchJob}
 use Rattle.sbpl_job.specs.declared.job.Sources.{Sources}
 use Rattle.sbpl_cli.specs.declared.record.PlanRecord.{PlanRecord}
 use Rattle.sbpl_cli.specs.declared.refusal.Refusal.{Refusal}
-use Rattle.sbpl_cli.specs.Causes.{AreDemonstrated, ArePlanned, IsJobCause, IsReadText, NoneTooDear, ReadsCourse, ReadsWorld, check_files, plan_files}
+use Rattle.sbpl_cli.specs.Causes.{AreDemonstrated, ArePlanned, IsJobCause, IsReadText, NoneTooDear, ReadsCourse, ReadsWorld, check_files, grid_files, plan_files}
 use Rattle.sbpl_sweep.specs.Widths.{NoneTooWide}
 use Rattle.sbpl_cli.specs.Intents.{BeginsAfter, Intent, Refused, Planned, Checked, Listed, Demonstrated, OutOfMemory, published_by, checked_status, checked_writes, demo_writes, end_writes, intent_status, listing_writes, outputs_of, plans_status, plans_writes, refusal_status, refusal_writes, statuses, words_writes, writes_of}
 use Rattle.sbpl_cli.specs.declared.course.Course.{Course}
-use Rattle.sbpl_cli.specs.Texts.{HasChangeFault, HasEnvironmentFault, HasPrimitiveFault, IsChangeText, IsEnvironmentText, IsPrimitiveText, Scope, scope_for, still}
+use Rattle.sbpl_cli.specs.Texts.{HasChangeFault, HasEnvironmentFault, HasGridFault, HasPrimitiveFault, IsChangeText, IsEnvironmentText, IsGridText, IsPrimitiveText, Scope, scope_for, still}
 use Rattle.sbpl_cli.specs.Writing.{AreAppended, DeskState, EndsAs, IsCutAt, IsOutput, IsOutputOf, RunsOutAt, Names, ReadFailed, Stays, StaysBut, Told, Write, WriteFailed}
 
 -- the words name this job, of which P holds
@@ -100,11 +102,13 @@ pub record IsJudged {W : Type 0} (before after : DeskState) (end : Option Sectio
 -- the job `check` found this flaw, and said so
 abbrev pub IsFlawFound : (before after : DeskState) → Job → Type 0
 IsFlawFound before after (job.Check j) = (x : Flaw) × IsJudged before after (Some (section.Flaw x)) (check_files j) j.changes j.labels
+IsFlawFound before after (job.NavCheck j) = (x : Flaw) × IsJudged before after (Some (section.Flaw x)) (grid_files j.env) j.changes j.labels
 IsFlawFound before after _ = ⊥
 
 -- the job `check` found this fault in the text of the labels, and said so
 abbrev pub IsFaultFound : (before after : DeskState) → Job → Type 0
 IsFaultFound before after (job.Check j) = (x : LabelFault) × IsJudged before after (Some (section.Fault x)) (check_files j) j.changes j.labels
+IsFaultFound before after (job.NavCheck j) = (x : LabelFault) × IsJudged before after (Some (section.Fault x)) (grid_files j.env) j.changes j.labels
 IsFaultFound before after _ = ⊥
 
 -- the job was done, and what came of it was written
@@ -113,6 +117,8 @@ IsDone before after old (job.Plan j) = IsReported before after old (plan_files j
 IsDone before after old (job.Check j) = IsJudged before after None (check_files j) j.changes j.labels
 IsDone before after old (job.Sweep from) = IsListed before after from
 IsDone before after old (job.Demo d) = IsDemonstrated before after old d
+IsDone before after old (job.Nav j) = IsReported before after old (grid_files j.env) j.changes j.search j.outputs
+IsDone before after old (job.NavCheck j) = IsJudged before after None (grid_files j.env) j.changes j.labels
 
 -- the job was refused with this status, for a cause, and the line of the refusal was written, and nothing under names other than
 -- that of the standard output
@@ -135,6 +141,8 @@ GivesIntent held Failed (job.Plan j) (Planned records all log broken) = ArePlann
 GivesIntent held Failed (job.Check j) (Checked goals os end) = IsChecked held (check_files j) j.changes j.labels goals os end
 GivesIntent held Failed (job.Sweep from) (Listed w) = ReadsWorld held from w × IsWorld w
 GivesIntent held Failed (job.Demo d) (Demonstrated w batches records all log broken) = IsDemonstration d w batches records all log broken
+GivesIntent held Failed (job.Nav j) (Planned records all log broken) = ArePlanned held (grid_files j.env) j.changes j.search j.outputs records all log broken
+GivesIntent held Failed (job.NavCheck j) (Checked goals os end) = IsChecked held (grid_files j.env) j.changes j.labels goals os end
 GivesIntent held Failed _ _ = ⊥
 
 -- the name is one that a job which means to do this may write under: besides the standard output only where plans were made, and
@@ -200,6 +208,7 @@ pub data EndsRun (named : Option Job) (before after : DeskState) (old new : List
 -- the name is one that the job may write under
 abbrev pub MayBeWritten : Option Job → Names
 MayBeWritten (Some (job.Plan j)) name = IsOutputOf j.outputs name
+MayBeWritten (Some (job.Nav j)) name = IsOutputOf j.outputs name
 MayBeWritten _ name = IsOutput name
 
 -- a write under a name that the job may write under failed in this call
@@ -281,19 +290,45 @@ abbrev pub sources_of : Job → Option Sources
 sources_of (job.Plan j) = Some j.sources
 sources_of (job.Check j) = Some j.sources
 sources_of (job.Sweep from) = Some from
-sources_of (job.Demo d) = None
+sources_of _ = None
 
 -- the words name a job that reads these files of a lattice
 abbrev pub ReadsFrom : Option Job → Sources → Type 0
 ReadsFrom named from = AtJob named (λ j. sources_of j ≡ Some from)
 
+-- the environment file of the job's grid, if it is one on a grid
+abbrev pub grid_of : Job → Option (List ℕ)
+grid_of (job.Nav j) = Some j.env
+grid_of (job.NavCheck j) = Some j.env
+grid_of _ = None
+
+-- the words name a job on the grid of this environment file
+abbrev pub IsOnGrid : Option Job → (env : List ℕ) → Type 0
+IsOnGrid named env = AtJob named (λ j. grid_of j ≡ Some env)
+
+-- the desk tells that this environment file of a grid has this first fault
+abbrev pub TellsGridFault : Told → (env : List ℕ) → NavFault → Type 0
+TellsGridFault held env f = (text : List ℕ) × Tells (held env) text × HasGridFault text f
+
+-- the desk tells that it stands for this world
+pub record TellsGrid (held : Told) (env : List ℕ) (w : GridWorld) : Type 0 where
+  pub text : List ℕ
+  pub cells : List ℕ
+  pub told : Tells (held env) text
+  pub stands : IsGridText text w.env cells
+  pub map : w.map ≡ record { width = w.env.width; height = w.env.height; costs = cells }
+  pub is_world : IsGridWorld w
+
 -- the job's change file, if it reads one
 abbrev pub changes_of : Job → Option (List ℕ)
 changes_of (job.Plan j) = j.changes
 changes_of (job.Check j) = j.changes
+changes_of (job.Nav j) = j.changes
+changes_of (job.NavCheck j) = j.changes
 changes_of _ = None
 
--- the job is not `check`
+-- the job is neither `check` nor `navcheck`
 abbrev pub IsNoCheck : Job → Type 0
 IsNoCheck (job.Check j) = ⊥
+IsNoCheck (job.NavCheck j) = ⊥
 IsNoCheck _ = Unit {0}

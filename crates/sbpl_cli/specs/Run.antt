@@ -3,12 +3,16 @@ pub use Rattle.sbpl_cert.specs.declared.outcome.Outcome.{Outcome}
 pub use Rattle.sbpl_cfg.specs.Environment.{Environment}
 pub use Rattle.sbpl_cfg.specs.declared.fault.EnvFault.{EnvFault}
 pub use Rattle.sbpl_cli.specs.Asked.{checked_direction}
-pub use Rattle.sbpl_cli.specs.Causes.{scope_of}
+pub use Rattle.sbpl_cli.specs.Causes.{grid_scope, scope_of}
 pub use Rattle.sbpl_cli.specs.Checked.{IsHolding}
 pub use Rattle.sbpl_cli.specs.Determined.{ArePrefixes, AreTold, CallsFor, IsDeterminedJob, IsNoFailure, NoneRose}
 pub use Rattle.sbpl_cli.specs.Intents.{Intent, checked_status, intent_status, refusal_status, refusal_writes, words_writes, writes_of}
-pub use Rattle.sbpl_cli.specs.Promises.{AreGood, ReadsFrom, AtJob, EndsJob, EndsRun, IsCutShort, IsCheckedIn, IsDone, IsFaultFound, IsFlawFound, IsNoCheck, IsOrFailed, IsOrUnwritten, IsRefused, IsStatus, EndsWithoutMemory, MayBeWritten, SomeRose, Tells, TellsChangeFault, TellsCourse, TellsEnvironment, TellsEnvironmentFault, TellsPrimitiveFault, TellsPrimitives, TellsTooMuch, TellsWorld, changes_of, sources_of}
+pub use Rattle.sbpl_cli.specs.Promises.{AreGood, ReadsFrom, AtJob, EndsJob, EndsRun, IsCutShort, IsCheckedIn, IsDone, IsFaultFound, IsFlawFound, IsNoCheck, IsOrFailed, IsOrUnwritten, IsRefused, IsStatus, EndsWithoutMemory, MayBeWritten, SomeRose, Tells, TellsChangeFault, TellsCourse, TellsEnvironment, TellsEnvironmentFault, TellsPrimitiveFault, TellsPrimitives, TellsTooMuch, TellsWorld, TellsGrid, TellsGridFault, IsOnGrid, changes_of, grid_of, sources_of}
+pub use Rattle.sbpl_cli.specs.GridSite.{grid_site}
 pub use Rattle.sbpl_cli.specs.LatticeSite.{lattice_site}
+pub use Rattle.sbpl_nav2d.specs.World.{GridWorld}
+pub use Rattle.sbpl_nav2d.specs.declared.fault.NavFault.{NavFault}
+pub use Rattle.sbpl_job.specs.declared.job.NavCheckJob.{NavCheckJob}
 pub use Rattle.sbpl_cli.specs.declared.course.Course.{Course}
 pub use Rattle.sbpl_cli.specs.Texts.{Scope}
 pub use Rattle.sbpl_cli.specs.declared.section_check.SectionStop.{SectionStop}

@@ -13,6 +13,9 @@ use Rattle.sbpl_cli.specs.declared.course.Course.{Course}
 use Rattle.sbpl_mprim.specs.declared.fault.PrimFault.{PrimFault}
 use Rattle.sbpl_mprim.specs.Primitives.{Primitives}
 use Rattle.sbpl_mprim.specs.Text as primitives
+use Rattle.sbpl_nav2d.specs.Environment.{NavEnvironment}
+use Rattle.sbpl_nav2d.specs.Text as grids
+use Rattle.sbpl_nav2d.specs.declared.fault.NavFault.{NavFault}
 
 -- the text of an environment file stands for an environment and the costs of its cells
 abbrev pub IsEnvironmentText : List ℕ → Environment → List ℕ → Type 0
@@ -32,6 +35,14 @@ pub record IsPrimitiveText (e : Environment) (text : List ℕ) (ps : Primitives)
 abbrev pub HasPrimitiveFault : Environment → List ℕ → PrimFault → Type 0
 HasPrimitiveFault e text f = primitives.HasFault e.cell e.headings text f
 
+-- the text of the environment file of a grid stands for an environment and the costs of its cells
+abbrev pub IsGridText : List ℕ → NavEnvironment → List ℕ → Type 0
+IsGridText text e cells = grids.IsTextOf text e cells
+
+-- the first fault of the text of the environment file of a grid
+abbrev pub HasGridFault : List ℕ → NavFault → Type 0
+HasGridFault text f = grids.HasFault text f
+
 -- what a change file is read for: the map, and, where its lines can say where the robot is, the number of headings
 pub record Scope : Type 0 where
   pub map : CellMap
@@ -40,6 +51,10 @@ pub record Scope : Type 0 where
 -- the scope of a change file for an environment and a map, where the robot moves or not
 abbrev pub scope_for : (moving : Bool) → Environment → CellMap → Scope
 scope_for moving e m = record { map = m; headings = if moving then Some e.headings else None }
+
+-- where the robot stays
+abbrev pub still_scope : CellMap → Scope
+still_scope m = record { map = m; headings = None }
 
 -- batches over which the robot stays where it is
 abbrev pub still : List (List Write) → Course

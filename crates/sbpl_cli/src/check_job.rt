@@ -87,7 +87,7 @@ fn check_sections<D: Desk, W: Workspace, S: Searched<W>>(
 
 /// Checks the sections of a text, whose labels were searched as `S` says, on the maps while batches of changes are written, as
 /// `check_sections` does.
-fn check_text<D: Desk, W: Workspace, S: Searched<W>>(
+pub(crate) fn check_text<D: Desk, W: Workspace, S: Searched<W>>(
     alloc: Global,
     world: &mut W,
     course: &Course,

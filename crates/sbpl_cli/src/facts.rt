@@ -3,6 +3,8 @@
 
 ghost use Rattle.sbpl_cli.specs.Clear.{SectionsAreClear, TextsAreClear};
 ghost use Rattle.sbpl_cli.specs.Determined.{AreAlikeWorlds, FewAreFirst, RecordsAreOne};
+ghost use Rattle.std.specs.Prelude.{◌≡◌};
+ghost use Rattle.sbpl_cli.specs.GridSite.{grid_site};
 ghost use Rattle.sbpl_cli.specs.LatticeSite.{lattice_site};
 ghost use Rattle.sbpl_cli.specs.WriteTexts.{WritesAreCounted, WritesHaveTexts};
 
@@ -17,6 +19,7 @@ use sbpl_map::{
     texts_are_changes_or_faulty, texts_are_moves_or_faulty, writes_lead_to_the_next_map,
 };
 use sbpl_mprim::texts_are_primitives_or_faulty;
+use sbpl_nav2d::texts_are_grids_or_faulty;
 use sbpl_plan::plan_is_determined;
 use sbpl_serial::run_is_determined;
 
@@ -28,6 +31,7 @@ pub fn texts_are_clear()
 {
     texts_are_environments_or_faulty();
     texts_are_primitives_or_faulty();
+    texts_are_grids_or_faulty();
     texts_are_changes_or_faulty();
     texts_are_moves_or_faulty();
     texts_are_sections_or_faulty();
@@ -35,12 +39,14 @@ pub fn texts_are_clear()
 }
 
 /// The records of all plans by a planner whose passes are determined are determined too: by the environment, the primitives,
-/// the map, the radius and the batches of changes, and by what is asked. So are each pass with its expansions, each result with
+/// the map, the radius and the batches of changes, and by what is asked; on a grid by its environment, its map and the batches. So are each pass with its expansions, each result with
 /// its path, cost and bound, what was spent, and the final labels. Records of the first few plans are the first of them. It
 /// does nothing.
 pub fn records_are_determined()
     ensures law { RecordsAreOne lattice_site AreAlikeWorlds }
     ensures few { FewAreFirst lattice_site AreAlikeWorlds }
+    ensures grids { RecordsAreOne grid_site (λ w v. w ≡ v) }
+    ensures few_on_grids { FewAreFirst grid_site (λ w v. w ≡ v) }
 {
     run_is_determined();
     plan_is_determined::<Lattice, Best, Ara>();

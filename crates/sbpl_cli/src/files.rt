@@ -1,9 +1,10 @@
 //! The files that a lattice is made of and the change file, read and judged.
 
-ghost use Rattle.std.specs.Prelude.{◌≡◌, ◌≢◌, ◌≤◌, ◌^◌, [], false, true, List, ℕ, length, IfOk, IfErr};
+ghost use Rattle.std.specs.Prelude.{◌≡◌, ◌≢◌, ◌≤◌, ◌^◌, [], true, List, ℕ, None, length, IfOk, IfErr};
 ghost use Rattle.sbpl_cli.specs.LatticeSite.{lattice_site};
 ghost use Rattle.sbpl_cli.specs.Causes.{ChangesStopFor, IsChangesRefused, IsEnvironmentRefused, IsPrimitivesRefused, IsReadText, IsUnread, LatticeStopsFor, PrimitivesStopFor, IsCourseIn, ReadsCourse, ReadsEnvironment, ReadsPrimitives, scope_of};
-ghost use Rattle.sbpl_cli.specs.Texts.{HasChangeFault, IsChangeText, IsEnvironmentText, IsPrimitiveText, Scope};
+ghost use Rattle.sbpl_cli.specs.Texts.{HasChangeFault, IsChangeText, IsEnvironmentText, IsPrimitiveText, Scope, still_scope};
+ghost use Rattle.sbpl_map.specs.ChangeText.{AreOnMap};
 ghost use Rattle.sbpl_map.specs.declared.fault.ChangeFault.TheVariants as ChangeFaults;
 ghost use Rattle.sbpl_cli.specs.Writing.{ReadsOnly};
 
@@ -102,13 +103,14 @@ fn stop_for(fault: ChangeFault) -> Stop
 }
 
 /// The course that a text stands for, in which the robot stays where it is.
-fn judge_still(alloc: Global, text: &[u8], lattice: &Lattice) -> Result<Course, Stop>
+fn judge_still(alloc: Global, text: &[u8], map: &Map) -> Result<Course, Stop>
     requires short { length text.now ≤ 2 ^ 30 }
-    ensures stands { IfOk result (IsChangeText (scope_of false lattice.now) text.now) }
-    ensures in_world { IfOk result (IsCourseIn lattice_site false lattice.now) }
-    ensures stop { IfErr result (IsChangesRefused (scope_of false lattice.now) text.now) }
+    ensures stands { IfOk result (IsChangeText (still_scope map.now) text.now) }
+    ensures on_map { IfOk result (λ c. AreOnMap map.now c.batches) }
+    ensures stays { IfOk result (λ c. c.moves ≡ None) }
+    ensures stop { IfErr result (IsChangesRefused (still_scope map.now) text.now) }
 {
-    match read_changes(alloc, text, lattice.map()) {
+    match read_changes(alloc, text, map) {
         Ok(batches) => Ok(Course {
             batches,
             moves: None,
@@ -143,6 +145,32 @@ fn no_changes(alloc: Global, map: &Map) -> Result<Changes, NoMemory>
     }
 }
 
+/// The course of a change file in whose lines the robot stays where it is; one without batches where there is no such file.
+pub(crate) fn read_still<D: Desk>(
+    alloc: Global,
+    changes: &Option<Name>,
+    map: &Map,
+    desk: &mut D,
+) -> Result<Course, Stop>
+    ensures says { IfOk result (ReadsCourse (D.state desk.old).held changes.now (still_scope map.now)) }
+    ensures on_map { IfOk result (λ c. AreOnMap map.now c.batches) }
+    ensures stays { IfOk result (λ c. c.moves ≡ None) }
+    ensures stop { IfErr result (ChangesStopFor (D.state desk.old) (D.state desk.new) changes.now (still_scope map.now)) }
+    ensures frame { ReadsOnly (D.state desk.old) (D.state desk.new) }
+{
+    let Some(name) = changes else {
+        return match no_changes(alloc, map) {
+            Ok(batches) => Ok(Course {
+                batches,
+                moves: None,
+            }),
+            Err(NoMemory) => Err(Stop::NoMemory),
+        };
+    };
+    let text = read_file(alloc, name, Input::Changes, desk)?;
+    judge_still(alloc, text.as_slice(), map)
+}
+
 /// The course of the change file on a lattice; one without batches where there is no such file. Lines of the file can say where the
 /// robot is where it may move.
 pub(crate) fn read_change_file<D: Desk>(
@@ -157,19 +185,11 @@ pub(crate) fn read_change_file<D: Desk>(
     ensures stop { IfErr result (ChangesStopFor (D.state desk.old) (D.state desk.new) changes.now (scope_of moving lattice.now)) }
     ensures frame { ReadsOnly (D.state desk.old) (D.state desk.new) }
 {
-    let Some(name) = changes else {
-        return match no_changes(alloc, lattice.map()) {
-            Ok(batches) => Ok(Course {
-                batches,
-                moves: None,
-            }),
-            Err(NoMemory) => Err(Stop::NoMemory),
-        };
-    };
-    let text = read_file(alloc, name, Input::Changes, desk)?;
-    if moving {
-        judge_moving(alloc, text.as_slice(), lattice)
-    } else {
-        judge_still(alloc, text.as_slice(), lattice)
+    match changes {
+        Some(name) if moving => {
+            let text = read_file(alloc, name, Input::Changes, desk)?;
+            judge_moving(alloc, text.as_slice(), lattice)
+        }
+        _ => read_still(alloc, changes, lattice.map(), desk),
     }
 }

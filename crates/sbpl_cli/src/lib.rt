@@ -1,6 +1,7 @@
 //! The program's top call: from the words to the written bytes.
 #![tactic(auto)]
 
+mod cells;
 mod check_job;
 mod check_lines;
 mod check_next;
@@ -9,8 +10,10 @@ mod demo_job;
 mod drawn;
 mod facts;
 mod files;
+mod grid;
 mod labels;
 mod lattice;
+mod nav_job;
 mod parts;
 mod plan_job;
 mod plan_record;
@@ -42,8 +45,8 @@ pub use refusal::{Input, Refusal};
 pub use sbpl_epase::{Gate, NoGate};
 pub use sbpl_incumbent::{Board, Entry, Publisher};
 pub use sbpl_job::{
-    CheckJob, Command, DemoJob, Job, JobFault, Name, Outputs, PlanJob, Planner, SearchJob, Setting,
-    Sources, read_job,
+    CheckJob, Command, DemoJob, Job, JobFault, Name, NavCheckJob, NavJob, Outputs, PlanJob,
+    Planner, SearchJob, Setting, Sources, read_job,
 };
 pub use section_check::SectionStop;
 pub use top::{run, run_with};

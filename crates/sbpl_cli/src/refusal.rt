@@ -6,6 +6,7 @@ ghost use Rattle.sbpl_cli.specs.Intents.{refusal_status};
 use sbpl_cfg::EnvFault;
 use sbpl_map::ChangeFault;
 use sbpl_mprim::PrimFault;
+use sbpl_nav2d::NavFault;
 
 /// A file that a job reads.
 #[derive(Clone, Copy)]
@@ -19,8 +20,10 @@ pub enum Input {
 /// Why a job is refused, once the words have named it.
 #[derive(Clone, Copy)]
 pub enum Refusal {
-    /// The environment file has a fault.
+    /// The environment file of a lattice has a fault.
     Environment(EnvFault),
+    /// The environment file of a grid has a fault.
+    Grid(NavFault),
     /// The primitive file has a fault.
     Primitives(PrimFault),
     /// The primitive at this place of the file sweeps too many cells, or too many with those before it.
@@ -41,7 +44,7 @@ impl Refusal {
         ensures status { result ≡ refusal_status self.now }
     {
         match self {
-            Refusal::Environment(_) => 3,
+            Refusal::Environment(_) | Refusal::Grid(_) => 3,
             Refusal::Primitives(_) | Refusal::TooWide(_) | Refusal::TooDear(_) => 4,
             Refusal::Changes(_) => 5,
             Refusal::Read(_) => 6,

@@ -1,13 +1,13 @@
 //! The lines of refusals.
 
 ghost use Rattle.std.specs.Prelude.{◌≡◌, ◌++◌, OnOk, IfOk};
-ghost use Rattle.sbpl_cli.specs.Intents.{check_name, fault_text, input_name, label_fault_text, name_or_nothing, plan_name, refusal_text, sources_name, unread_text};
+ghost use Rattle.sbpl_cli.specs.Intents.{check_name, fault_text, input_name, label_fault_text, name_or_nothing, nav_check_name, nav_name, plan_name, refusal_text, sources_name, unread_text};
 
 use crate::refusal::{Input, Refusal};
 use crate::report::{push_bytes, push_field};
 use sbpl_cert::LabelFault;
 use sbpl_fixed::NoMemory;
-use sbpl_job::{CheckJob, Job, Name, PlanJob, Sources};
+use sbpl_job::{CheckJob, Job, Name, NavCheckJob, NavJob, PlanJob, Sources};
 use std::alloc::Global;
 
 /// Appends the line of a fault in a file.
@@ -87,6 +87,29 @@ fn check_name(job: &CheckJob, input: Input) -> &str
     }
 }
 
+/// The name of a file that a job `nav` reads; empty where it reads none.
+fn nav_name(job: &NavJob, input: Input) -> &str
+    ensures name { result.now ≡ nav_name job.now input }
+{
+    match input {
+        Input::Environment => job.env.as_str(),
+        Input::Changes => name_or_nothing(&job.changes),
+        Input::Primitives | Input::Labels => "",
+    }
+}
+
+/// The name of a file that a job `navcheck` reads; empty where it reads none.
+fn nav_check_name(job: &NavCheckJob, input: Input) -> &str
+    ensures name { result.now ≡ nav_check_name job.now input }
+{
+    match input {
+        Input::Environment => job.env.as_str(),
+        Input::Primitives => "",
+        Input::Changes => name_or_nothing(&job.changes),
+        Input::Labels => job.labels.as_str(),
+    }
+}
+
 /// The name of a file that a job reads; empty where it reads none.
 fn name_of(job: &Job, input: Input) -> &str
     ensures name { result.now ≡ input_name job.now input }
@@ -96,6 +119,8 @@ fn name_of(job: &Job, input: Input) -> &str
         Job::Check(job) => check_name(job, input),
         Job::Sweep(from) => sources_name(from, input),
         Job::Demo(_) => "",
+        Job::Nav(job) => nav_name(job, input),
+        Job::NavCheck(job) => nav_check_name(job, input),
     }
 }
 
@@ -105,6 +130,13 @@ fn push_refusal(out: &mut Vec<u8>, job: &Job, refusal: &Refusal) -> Result<(), N
 {
     match refusal {
         Refusal::Environment(fault) => push_fault(
+            out,
+            b"environment",
+            fault.number(),
+            fault.name(),
+            fault.place() as u64,
+        ),
+        Refusal::Grid(fault) => push_fault(
             out,
             b"environment",
             fault.number(),

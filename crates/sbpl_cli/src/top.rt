@@ -10,6 +10,7 @@ ghost use Rattle.sbpl_cli.specs.Writing.{EndsAs, IsOutput, ReadsOnly, WritesOnly
 use crate::check_job::check_labels;
 use crate::demo_job::end_demo;
 use crate::facts::{records_are_determined, texts_are_clear};
+use crate::nav_job::{check_nav, end_nav};
 use crate::plan_job::end_plan;
 use crate::publishing::LiveBoard;
 use crate::refusal::{Refusal, Stop};
@@ -62,6 +63,8 @@ fn do_job<R: Threads + Wait + Sync, D: Desk, T: Gate + Sync>(
         Job::Check(check) => check_labels(alloc, check, desk),
         Job::Sweep(from) => end_sweep(alloc, from, desk),
         Job::Demo(job) => Ok(end_demo(alloc, job, live, publisher, desk)),
+        Job::Nav(nav) => end_nav(alloc, nav, live, publisher, desk, gate),
+        Job::NavCheck(check) => check_nav(alloc, check, desk),
     }
 }
 

@@ -24,6 +24,8 @@ alone command.Plan = refl
 alone command.Check = refl
 alone command.Sweep = refl
 alone command.Demo = refl
+alone command.Nav = refl
+alone command.NavCheck = refl
 
 -- a command takes no setting of the name `--help`
 with_help : (c : Command) → job_of_words (codes "--help" ∷ []) c ≡ None
@@ -31,6 +33,8 @@ with_help command.Plan = refl
 with_help command.Check = refl
 with_help command.Sweep = refl
 with_help command.Demo = refl
+with_help command.Nav = refl
+with_help command.NavCheck = refl
 
 none_by : (words : List Word) → ((c : Command) → job_of_words words c ≡ None) → (o : Option Command) → option_and_then (job_of_words words) o ≡ None
 none_by words none None = refl

@@ -77,6 +77,12 @@ index_at command.Demo zero = refl
 index_at command.Demo (suc zero) = refl
 index_at command.Demo (suc (suc zero)) = refl
 index_at command.Demo (suc (suc (suc k))) = rw (not_at 1 (suc (suc (suc k))) (omega arith), not_at 2 (suc (suc (suc k))) (omega arith), not_at 3 (suc (suc (suc k))) (omega arith)) refl
+index_at command.Nav zero = refl
+index_at command.Nav (suc k) = rw (not_at 1 (suc k) (omega arith)) refl
+index_at command.NavCheck zero = refl
+index_at command.NavCheck (suc zero) = refl
+index_at command.NavCheck (suc (suc k)) =
+    rw (not_at 1 (suc (suc k)) (omega arith), not_at 2 (suc (suc k)) (omega arith)) refl
 
 -- which argument a setting's name calls
 pub long_at : (c : Command) (s : Setting) → arg_by_long (rules c) (id_of s) ≡ (if takes c s then Some (option_built s) else None)
@@ -128,6 +134,30 @@ long_at command.Demo setting.Labels = refl
 long_at command.Demo setting.LabelsAs = refl
 long_at command.Demo setting.Trace = refl
 long_at command.Demo setting.Incumbent = refl
+long_at command.Nav setting.Changes = refl
+long_at command.Nav setting.Radius = refl
+long_at command.Nav setting.Planner = refl
+long_at command.Nav setting.Workers = refl
+long_at command.Nav setting.First = refl
+long_at command.Nav setting.Step = refl
+long_at command.Nav setting.Bound = refl
+long_at command.Nav setting.Budget = refl
+long_at command.Nav setting.Labels = refl
+long_at command.Nav setting.LabelsAs = refl
+long_at command.Nav setting.Trace = refl
+long_at command.Nav setting.Incumbent = refl
+long_at command.NavCheck setting.Changes = refl
+long_at command.NavCheck setting.Radius = refl
+long_at command.NavCheck setting.Planner = refl
+long_at command.NavCheck setting.Workers = refl
+long_at command.NavCheck setting.First = refl
+long_at command.NavCheck setting.Step = refl
+long_at command.NavCheck setting.Bound = refl
+long_at command.NavCheck setting.Budget = refl
+long_at command.NavCheck setting.Labels = refl
+long_at command.NavCheck setting.LabelsAs = refl
+long_at command.NavCheck setting.Trace = refl
+long_at command.NavCheck setting.Incumbent = refl
 
 pub option_at : (c : Command) (s : Setting) → arg_by_id (rules c) (id_of s) ≡ (if takes c s then Some (option_built s) else None)
 option_at command.Plan setting.Changes = refl
@@ -178,6 +208,30 @@ option_at command.Demo setting.Labels = refl
 option_at command.Demo setting.LabelsAs = refl
 option_at command.Demo setting.Trace = refl
 option_at command.Demo setting.Incumbent = refl
+option_at command.Nav setting.Changes = refl
+option_at command.Nav setting.Radius = refl
+option_at command.Nav setting.Planner = refl
+option_at command.Nav setting.Workers = refl
+option_at command.Nav setting.First = refl
+option_at command.Nav setting.Step = refl
+option_at command.Nav setting.Bound = refl
+option_at command.Nav setting.Budget = refl
+option_at command.Nav setting.Labels = refl
+option_at command.Nav setting.LabelsAs = refl
+option_at command.Nav setting.Trace = refl
+option_at command.Nav setting.Incumbent = refl
+option_at command.NavCheck setting.Changes = refl
+option_at command.NavCheck setting.Radius = refl
+option_at command.NavCheck setting.Planner = refl
+option_at command.NavCheck setting.Workers = refl
+option_at command.NavCheck setting.First = refl
+option_at command.NavCheck setting.Step = refl
+option_at command.NavCheck setting.Bound = refl
+option_at command.NavCheck setting.Budget = refl
+option_at command.NavCheck setting.Labels = refl
+option_at command.NavCheck setting.LabelsAs = refl
+option_at command.NavCheck setting.Trace = refl
+option_at command.NavCheck setting.Incumbent = refl
 
 pub some_is : {X : Type 0} {x y : X} → Some x ≡ Some y → x ≡ y
 some_is {x = x} e = ap (λ o. Rattle.std.specs.Option.unwrap_or o x) e
@@ -197,6 +251,14 @@ plain_at command.Demo zero id is = subst (λ (i : Text). arg_by_id (rules comman
 plain_at command.Demo (suc zero) id is = subst (λ (i : Text). arg_by_id (rules command.Demo) i ≡ Some (plain_built 1 i)) (some_is is) refl
 plain_at command.Demo (suc (suc zero)) id is = subst (λ (i : Text). arg_by_id (rules command.Demo) i ≡ Some (plain_built 2 i)) (some_is is) refl
 plain_at command.Demo (suc (suc (suc k))) id is = cc
+plain_at command.Nav zero id is =
+    subst (λ (i : Text). arg_by_id (rules command.Nav) i ≡ Some (plain_built 0 i)) (some_is is) refl
+plain_at command.Nav (suc k) id is = cc
+plain_at command.NavCheck zero id is =
+    subst (λ (i : Text). arg_by_id (rules command.NavCheck) i ≡ Some (plain_built 0 i)) (some_is is) refl
+plain_at command.NavCheck (suc zero) id is =
+    subst (λ (i : Text). arg_by_id (rules command.NavCheck) i ≡ Some (plain_built 1 i)) (some_is is) refl
+plain_at command.NavCheck (suc (suc k)) id is = cc
 
 -- ---- names differ
 
@@ -438,6 +500,8 @@ strays c k x p rows plain none =
     leaf command.Check = refl
     leaf command.Sweep = refl
     leaf command.Demo = refl
+    leaf command.Nav = refl
+    leaf command.NavCheck = refl
 
 long_found : (c : Command) (s : Setting) → takes c s ≡ true → arg_by_long (rules c) (id_of s) ≡ Some (option_built s)
 long_found c s takes_it = long_at c s ∙ ap (λ b. if b then Some (option_built s) else None) takes_it
@@ -588,6 +652,8 @@ places command.Plan = 2
 places command.Check = 3
 places command.Sweep = 2
 places command.Demo = 3
+places command.Nav = 1
+places command.NavCheck = 2
 
 pub has_place : (c : Command) (k : ℕ) (id : Text) → plain_id c k ≡ Some id → k < places c
 has_place command.Plan zero id is = omega arith
@@ -604,6 +670,11 @@ has_place command.Demo zero id is = omega arith
 has_place command.Demo (suc zero) id is = omega arith
 has_place command.Demo (suc (suc zero)) id is = omega arith
 has_place command.Demo (suc (suc (suc k))) id is = cc
+has_place command.Nav zero id is = omega arith
+has_place command.Nav (suc k) id is = cc
+has_place command.NavCheck zero id is = omega arith
+has_place command.NavCheck (suc zero) id is = omega arith
+has_place command.NavCheck (suc (suc k)) id is = cc
 
 pub has_no_place : (c : Command) (k : ℕ) → plain_id c k ≡ None → places c ≤ k
 has_no_place command.Plan zero none = cc
@@ -620,12 +691,19 @@ has_no_place command.Demo zero none = cc
 has_no_place command.Demo (suc zero) none = cc
 has_no_place command.Demo (suc (suc zero)) none = cc
 has_no_place command.Demo (suc (suc (suc k))) none = omega arith
+has_no_place command.Nav zero none = cc
+has_no_place command.Nav (suc k) none = omega arith
+has_no_place command.NavCheck zero none = cc
+has_no_place command.NavCheck (suc zero) none = cc
+has_no_place command.NavCheck (suc (suc k)) none = omega arith
 
 few : (c : Command) → places c ≤ 3
 few command.Plan = omega arith
 few command.Check = omega arith
 few command.Sweep = omega arith
 few command.Demo = omega arith
+few command.Nav = omega arith
+few command.NavCheck = omega arith
 
 -- where the walk stands before words, where a setting may wait for its value; and what is known there
 abbrev pub standing : Command → ℕ → Option Setting → Option (Text × List Text) → (rows done : List Row) → Walk

@@ -10,7 +10,7 @@ use Rattle.sbpl_job.specs.declared.job.JobFault.TheVariants as fault
 use Rattle.sbpl_job.specs.declared.words.Command.{Command}
 use Rattle.sbpl_job.specs.declared.words.Command.TheVariants as command
 use Rattle.sbpl_job.specs.Words.{Names, Parts, are_fit, parts_in}
-use Rattle.sbpl_job.specs.Jobs.{Settings, check_in, demo_in, job_by, job_with, plan_in, sweep_in}
+use Rattle.sbpl_job.specs.Jobs.{Settings, check_in, demo_in, job_by, job_with, nav_check_in, nav_in, plan_in, sweep_in}
 use Rattle.sbpl_job.specs.Lines.{plain_id}
 use Rattle.sbpl_job.specs.Found.{FindsParts, IsFound, job_found, job_from, set_in, word_at}
 use Rattle.sbpl_job.proofs.Spacing.{fit_parts_in}
@@ -22,9 +22,11 @@ Word = List ℕ
 abbrev AreAt : Command → (Word → Option Word) → List Word → Type 0
 AreAt c value ws = (k : ℕ) → option_and_then value (plain_id c k) ≡ word_at ws k
 
-by_two : (value : Word → Option Word) (job : Word → Word → Option Job) (a b : Option Word) → value (Rattle.std.specs.Prelude.codes "ENV") ≡ a → value (Rattle.std.specs.Prelude.codes "MPRIM") ≡ b
-    → option_and_then (λ env. option_and_then (λ prims. job env prims) (value (Rattle.std.specs.Prelude.codes "MPRIM"))) (value (Rattle.std.specs.Prelude.codes "ENV")) ≡ option_and_then (λ env. option_and_then (λ prims. job env prims) b) a
-by_two value job a b is_a is_b = ap₂ (λ (x y : Option Word). option_and_then (λ env. option_and_then (λ prims. job env prims) y) x) is_a is_b
+abbrev two : (Word → Word → Option Job) → (x y : Option Word) → Option Job
+two job x y = option_and_then (λ a. option_and_then (λ b. job a b) y) x
+
+by_two : (job : Word → Word → Option Job) (x y a b : Option Word) → x ≡ a → y ≡ b → two job x y ≡ two job a b
+by_two job x y a b is_a is_b = ap₂ (two job) is_a is_b
 
 abbrev three : (Word → Word → Word → Option Job) → (x y z : Option Word) → Option Job
 three job x y z = option_and_then (λ a. option_and_then (λ b. option_and_then (λ d. job a b d) z) y) x
@@ -36,13 +38,13 @@ too_many : (w : Word) → None ≡ Some w → ⊥
 too_many w e = cc
 
 by_words : (c : Command) (value : Word → Option Word) (set : Settings) (ws : List Word) → AreAt c value ws → job_from c value set ≡ job_with c ws set
-by_words command.Plan value set [] at = by_two value (λ a b. plan_in a b set) None None (at 0) (at 1)
-by_words command.Plan value set (a ∷ []) at = by_two value (λ a b. plan_in a b set) (Some a) None (at 0) (at 1)
-by_words command.Plan value set (a ∷ (b ∷ [])) at = by_two value (λ a b. plan_in a b set) (Some a) (Some b) (at 0) (at 1)
+by_words command.Plan value set [] at = by_two (λ a b. plan_in a b set) _ _ None None (at 0) (at 1)
+by_words command.Plan value set (a ∷ []) at = by_two (λ a b. plan_in a b set) _ _ (Some a) None (at 0) (at 1)
+by_words command.Plan value set (a ∷ (b ∷ [])) at = by_two (λ a b. plan_in a b set) _ _ (Some a) (Some b) (at 0) (at 1)
 by_words command.Plan value set (a ∷ (b ∷ (d ∷ more))) at = absurd (too_many d (at 2))
-by_words command.Sweep value set [] at = by_two value (λ a b. sweep_in a b set) None None (at 0) (at 1)
-by_words command.Sweep value set (a ∷ []) at = by_two value (λ a b. sweep_in a b set) (Some a) None (at 0) (at 1)
-by_words command.Sweep value set (a ∷ (b ∷ [])) at = by_two value (λ a b. sweep_in a b set) (Some a) (Some b) (at 0) (at 1)
+by_words command.Sweep value set [] at = by_two (λ a b. sweep_in a b set) _ _ None None (at 0) (at 1)
+by_words command.Sweep value set (a ∷ []) at = by_two (λ a b. sweep_in a b set) _ _ (Some a) None (at 0) (at 1)
+by_words command.Sweep value set (a ∷ (b ∷ [])) at = by_two (λ a b. sweep_in a b set) _ _ (Some a) (Some b) (at 0) (at 1)
 by_words command.Sweep value set (a ∷ (b ∷ (d ∷ more))) at = absurd (too_many d (at 2))
 by_words command.Check value set [] at = by_three (λ a b d. check_in a b d set) _ _ _ None None None (at 0) (at 1) (at 2)
 by_words command.Check value set (a ∷ []) at = by_three (λ a b d. check_in a b d set) _ _ _ (Some a) None None (at 0) (at 1) (at 2)
@@ -54,6 +56,14 @@ by_words command.Demo value set (a ∷ []) at = by_three demo_in _ _ _ (Some a) 
 by_words command.Demo value set (a ∷ (b ∷ [])) at = by_three demo_in _ _ _ (Some a) (Some b) None (at 0) (at 1) (at 2)
 by_words command.Demo value set (a ∷ (b ∷ (d ∷ []))) at = by_three demo_in _ _ _ (Some a) (Some b) (Some d) (at 0) (at 1) (at 2)
 by_words command.Demo value set (a ∷ (b ∷ (d ∷ (e ∷ more)))) at = absurd (too_many e (at 3))
+by_words command.Nav value set [] at = ap (option_and_then (λ env. nav_in env set)) (at 0)
+by_words command.Nav value set (a ∷ []) at = ap (option_and_then (λ env. nav_in env set)) (at 0)
+by_words command.Nav value set (a ∷ (b ∷ more)) at = absurd (too_many b (at 1))
+by_words command.NavCheck value set [] at = by_two (λ a b. nav_check_in a b set) _ _ None None (at 0) (at 1)
+by_words command.NavCheck value set (a ∷ []) at = by_two (λ a b. nav_check_in a b set) _ _ (Some a) None (at 0) (at 1)
+by_words command.NavCheck value set (a ∷ (b ∷ [])) at =
+    by_two (λ a b. nav_check_in a b set) _ _ (Some a) (Some b) (at 0) (at 1)
+by_words command.NavCheck value set (a ∷ (b ∷ (d ∷ more))) at = absurd (too_many d (at 2))
 
 -- the job of what was found is that of the parts
 found_is : (c : Command) (m : ArgMatches) (p : Parts) → IsFound c (found_of m) p → job_found c m ≡ job_by c p

@@ -197,6 +197,8 @@ without_defaults command.Plan = refl
 without_defaults command.Check = refl
 without_defaults command.Sweep = refl
 without_defaults command.Demo = refl
+without_defaults command.Nav = refl
+without_defaults command.NavCheck = refl
 
 abbrev start : Rattle.clap.specs.Walk.Walk
 start = at [] None idle 0
@@ -303,6 +305,13 @@ wrong_count command.Demo (a ∷ []) set wrong = refl
 wrong_count command.Demo (a ∷ (b ∷ [])) set wrong = refl
 wrong_count command.Demo (a ∷ (b ∷ (d ∷ []))) set wrong = absurd (wrong refl)
 wrong_count command.Demo (a ∷ (b ∷ (d ∷ (e ∷ more)))) set wrong = refl
+wrong_count command.Nav [] set wrong = refl
+wrong_count command.Nav (a ∷ []) set wrong = absurd (wrong refl)
+wrong_count command.Nav (a ∷ (b ∷ more)) set wrong = refl
+wrong_count command.NavCheck [] set wrong = refl
+wrong_count command.NavCheck (a ∷ []) set wrong = refl
+wrong_count command.NavCheck (a ∷ (b ∷ [])) set wrong = absurd (wrong refl)
+wrong_count command.NavCheck (a ∷ (b ∷ (d ∷ more))) set wrong = refl
 
 pub short_is_none : (c : Command) (k : ℕ) (id : Text) (p : Parts) → plain_id c k ≡ Some id → word_at p.plain k ≡ None → job_by c p ≡ None
 short_is_none c k id p is none = wrong_count c p.plain (λ s. value_of s p.given) (λ same. let less = has_place c k id is in let few = word_none p.plain k none in omega arith)
@@ -326,6 +335,10 @@ not_given id us lacks = by_value (lookup id us) (ap not (sym (given_is id us)) �
 
 abbrev is_lacking : Text → Uses → Bool
 is_lacking id us = not (is_given id (map row_of_use us))
+
+that_one : (x : Bool) → (x || false) ≡ true → x ≡ true
+that_one true e = refl
+that_one false e = cc
 
 either_of : (x y : Bool) → (x || (y || false)) ≡ true → (x ≡ true) ⊎ (y ≡ true)
 either_of true y e = inl refl
@@ -357,6 +370,13 @@ lacks command.Demo us e = elim (one_of_three (is_lacking (codes "SEED") us) (is_
   | inr (inl b) ↦ record { place = 1; id = codes "W"; is = refl; none = not_given (codes "W") us b }
   | inr (inr d) ↦ record { place = 2; id = codes "H"; is = refl; none = not_given (codes "H") us d }
 ]
+lacks command.Nav us e =
+    let lacking = that_one (is_lacking (codes "ENV") us) e in
+    record { place = 0; id = codes "ENV"; is = refl; none = not_given (codes "ENV") us lacking }
+lacks command.NavCheck us e = elim (either_of (is_lacking (codes "ENV") us) (is_lacking (codes "LABELS") us) e) [
+  | inl a ↦ record { place = 0; id = codes "ENV"; is = refl; none = not_given (codes "ENV") us a }
+  | inr b ↦ record { place = 1; id = codes "LABELS"; is = refl; none = not_given (codes "LABELS") us b }
+]
 
 lacks_by : (c : Command) (us : Uses) → check_fault (shape c) (map row_of_use us) false ≢ [] → Lacks c us
 lacks_by c us some = elim (cases_Bool (list_any (λ (a : Rule). a.required && not (is_given a.id (map row_of_use us))) (rules c))) [
@@ -371,12 +391,16 @@ is_simple_line command.Plan = refl
 is_simple_line command.Check = refl
 is_simple_line command.Sweep = refl
 is_simple_line command.Demo = refl
+is_simple_line command.Nav = refl
+is_simple_line command.NavCheck = refl
 
 pub is_free_line : (c : Command) → is_simple_and_free (app c) ≡ true
 is_free_line command.Plan = refl
 is_free_line command.Check = refl
 is_free_line command.Sweep = refl
 is_free_line command.Demo = refl
+is_free_line command.Nav = refl
+is_free_line command.NavCheck = refl
 
 found_by : (c : Command) (xs : List Text) (f : Found) (us : Uses) → IsTaken c xs us → rows_of f ≡ matches_of (app c) xs → Agrees c 0 (parts_after c None xs) us → (p : Parts) × (parts_after c None xs ≡ Some p) × IsFound c f p
 found_by c xs f us is_taken rows so = (so.p, so.parts_are, record { settings = λ s. value (id_of s) ∙ so.settings s; plain = λ k. by_place k (plain_id c k) refl })

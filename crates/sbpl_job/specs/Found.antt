@@ -11,7 +11,7 @@ use Rattle.sbpl_job.specs.declared.words.Command.TheVariants as command
 use Rattle.sbpl_job.specs.declared.words.Setting.{Setting}
 use Rattle.sbpl_job.specs.Words.{Parts, id_of, parts_after, value_of}
 use Rattle.sbpl_job.specs.Lines.{plain_id}
-use Rattle.sbpl_job.specs.Jobs.{Settings, check_in, demo_in, job_by, plan_in, sweep_in}
+use Rattle.sbpl_job.specs.Jobs.{Settings, check_in, demo_in, job_by, nav_check_in, nav_in, plan_in, sweep_in}
 
 -- the values that were found for settings
 abbrev pub set_in : ArgMatches → Settings
@@ -42,6 +42,9 @@ job_from command.Check value set =
 job_from command.Sweep value set = option_and_then (λ env. option_and_then (λ prims. sweep_in env prims set) (value (codes "MPRIM"))) (value (codes "ENV"))
 job_from command.Demo value set =
     option_and_then (λ seed. option_and_then (λ width. option_and_then (λ height. demo_in seed width height) (value (codes "H"))) (value (codes "W"))) (value (codes "SEED"))
+job_from command.Nav value set = option_and_then (λ env. nav_in env set) (value (codes "ENV"))
+job_from command.NavCheck value set =
+    option_and_then (λ env. option_and_then (λ labels. nav_check_in env labels set) (value (codes "LABELS"))) (value (codes "ENV"))
 
 abbrev pub job_found : Command → ArgMatches → Option Job
 job_found c m = job_from c (first_value (found_of m)) (set_in m)

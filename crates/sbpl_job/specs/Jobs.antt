@@ -1,5 +1,6 @@
 -- The job that a list of words names.
 use Rattle.std.specs.Prelude.{◌≡◌, ◌^◌, ◌<◌, ◌≤◌, true, false, not, ◌/◌, ◌%◌, ◌&&◌, ◌||◌, Bool, ℕ, ℤ, pos, negsuc, nat_eq, nat_le, List, [], ◌∷◌, length, map, String, string_bytes, Option, Some, None, option_map, option_and_then, Result, Ok, Err, codes, if◌then◌else◌}
+use Rattle.std.specs.List.{list_any}
 use Rattle.std.specs.Option.{option_map_or}
 use Rattle.std.specs.Result.{result_ok}
 use Rattle.std.specs.Str.{bytes_eq}
@@ -32,7 +33,9 @@ command_named word =
     if bytes_eq word (codes "plan") then Some command.Plan
     else (if bytes_eq word (codes "check") then Some command.Check
     else (if bytes_eq word (codes "sweep") then Some command.Sweep
-    else (if bytes_eq word (codes "demo") then Some command.Demo else None)))
+    else (if bytes_eq word (codes "demo") then Some command.Demo
+    else (if bytes_eq word (codes "nav") then Some command.Nav
+    else (if bytes_eq word (codes "navcheck") then Some command.NavCheck else None)))))
 
 -- a number of nanometres, 0 to 10 ^ 12
 abbrev pub radius_in : Result ℤ NumFault → Option ℕ
@@ -127,14 +130,18 @@ search_in set =
     (workers_by p (set setting.Workers)))
     (planner_by (set setting.Planner))
 
--- a name is that of a file that is read: the environment, the primitives, or the changes where there are some
-abbrev pub is_input : Sources → Option (List ℕ) → List ℕ → Bool
-is_input from changes name = bytes_eq name from.env || (bytes_eq name from.prims || option_map_or (bytes_eq name) changes false)
+-- how a path on a grid is to be searched, by settings: by a planner under which the robot stays
+abbrev pub grid_search_in : Settings → Option SearchJob
+grid_search_in set = option_and_then (λ search. if may_move search.planner then None else Some search) (search_in set)
+
+-- a name is that of a file that is read: one of these, or the changes where there are some
+abbrev pub is_input : (files : List (List ℕ)) (changes : Option (List ℕ)) → List ℕ → Bool
+is_input files changes name = list_any (bytes_eq name) files || option_map_or (bytes_eq name) changes false
 
 -- the name of an output, if one is set: it is no file that is read
-abbrev pub output_by : Sources → Option (List ℕ) → Option (List ℕ) → Option (Option (List ℕ))
-output_by from changes None = Some None
-output_by from changes (Some name) = if is_input from changes name then None else Some (Some name)
+abbrev pub output_by : (files : List (List ℕ)) (changes : Option (List ℕ)) → Option (List ℕ) → Option (Option (List ℕ))
+output_by files changes None = Some None
+output_by files changes (Some name) = if is_input files changes name then None else Some (Some name)
 
 -- the form of labels of this version
 abbrev pub form_named : List ℕ → Option LabelForm
@@ -156,13 +163,15 @@ abbrev pub outputs_by : (labels : Option (List ℕ)) → LabelForm → (trace in
 outputs_by labels f trace incumbent =
     if differ labels trace && (differ labels incumbent && differ trace incumbent) then Some (record { labels = labels; form = f; trace = trace; incumbent = incumbent }) else None
 
--- where a plan's labels, its trace and the newest path are written, and in which form the labels are
-abbrev pub outputs_in : Sources → Option (List ℕ) → Settings → Option Outputs
-outputs_in from changes set =
-    option_and_then (λ labels. option_and_then (λ f. option_and_then (λ trace. option_and_then (outputs_by labels f trace) (output_by from changes (set setting.Incumbent)))
-    (output_by from changes (set setting.Trace)))
+-- where a plan that reads these files and these changes writes its labels, its trace and the newest path, and in which form the
+-- labels are
+abbrev pub outputs_in : (files : List (List ℕ)) (changes : Option (List ℕ)) → Settings → Option Outputs
+outputs_in files changes set =
+    option_and_then (λ labels. option_and_then (λ f. option_and_then (λ trace. option_and_then (outputs_by labels f trace)
+    (output_by files changes (set setting.Incumbent)))
+    (output_by files changes (set setting.Trace)))
     (form_by labels (set setting.LabelsAs)))
-    (output_by from changes (set setting.Labels))
+    (output_by files changes (set setting.Labels))
 
 -- the job `plan` of these parts
 abbrev pub plan_by : Sources → Option (List ℕ) → Outputs → SearchJob → Job
@@ -172,7 +181,7 @@ plan_by from changes outputs search = job.Plan (record { sources = from; changes
 abbrev pub plan_on : Sources → Option (List ℕ) → Settings → Option Job
 plan_on from changes set =
     option_and_then (λ outputs. option_map (plan_by from changes outputs) (search_in set))
-    (outputs_in from changes set)
+    (outputs_in (from.env ∷ (from.prims ∷ [])) changes set)
 
 abbrev pub plan_in : (env prims : List ℕ) → Settings → Option Job
 plan_in env prims set =
@@ -209,12 +218,31 @@ demo_in seed width height =
     option_and_then (λ s. option_and_then (λ w. option_map (λ h. job.Demo (record { seed = s; width = w; height = h })) (extent_in (whole_of height))) (extent_in (whole_of width)))
     (seed_in seed)
 
+-- the job `nav` of these parts
+abbrev pub nav_by : (env : List ℕ) (changes : Option (List ℕ)) → Outputs → SearchJob → Job
+nav_by env changes outputs search = job.Nav (record { env = env; changes = changes; search = search; outputs = outputs })
+
+-- the job `nav` on this environment, with these changes
+abbrev pub nav_on : (env : List ℕ) (changes : Option (List ℕ)) → Settings → Option Job
+nav_on env changes set =
+    option_and_then (λ outputs. option_map (nav_by env changes outputs) (grid_search_in set))
+    (outputs_in (env ∷ []) changes set)
+
+abbrev pub nav_in : (env : List ℕ) → Settings → Option Job
+nav_in env set = nav_on env (set setting.Changes) set
+
+-- the job `navcheck`
+abbrev pub nav_check_in : (env labels : List ℕ) → Settings → Option Job
+nav_check_in env labels set = Some (job.NavCheck (record { env = env; changes = set setting.Changes; labels = labels }))
+
 -- the job of a command with these plain words and settings
 abbrev pub job_with : Command → List (List ℕ) → Settings → Option Job
 job_with command.Plan (env ∷ (prims ∷ [])) set = plan_in env prims set
 job_with command.Check (env ∷ (prims ∷ (labels ∷ []))) set = check_in env prims labels set
 job_with command.Sweep (env ∷ (prims ∷ [])) set = sweep_in env prims set
 job_with command.Demo (seed ∷ (width ∷ (height ∷ []))) set = demo_in seed width height
+job_with command.Nav (env ∷ []) set = nav_in env set
+job_with command.NavCheck (env ∷ (labels ∷ [])) set = nav_check_in env labels set
 job_with _ _ _ = None
 
 abbrev pub job_by : Command → Parts → Option Job
@@ -257,9 +285,11 @@ pub record IsDemoJob (d : DemoJob) : Type 0 where
   pub height_low : 8 ≤ d.height
   pub height_high : d.height ≤ 512
 
--- the numbers of a job lie in their ranges
+-- the numbers of a job lie in their ranges, and on a grid the robot stays
 abbrev pub IsJob : Job → Type 0
 IsJob (job.Plan plan) = (plan.sources.radius ≤ 10 ^ 12) × IsSearchJob plan.search
 IsJob (job.Check check) = check.sources.radius ≤ 10 ^ 12
 IsJob (job.Sweep sources) = sources.radius ≤ 10 ^ 12
 IsJob (job.Demo demo) = IsDemoJob demo
+IsJob (job.Nav nav) = IsSearchJob nav.search × (may_move nav.search.planner ≡ false)
+IsJob (job.NavCheck check) = Unit {0}

@@ -22,6 +22,11 @@ plain_id command.Demo zero = Some (codes "SEED")
 plain_id command.Demo (suc zero) = Some (codes "W")
 plain_id command.Demo (suc (suc zero)) = Some (codes "H")
 plain_id command.Demo (suc (suc (suc k))) = None
+plain_id command.Nav zero = Some (codes "ENV")
+plain_id command.Nav (suc k) = None
+plain_id command.NavCheck zero = Some (codes "ENV")
+plain_id command.NavCheck (suc zero) = Some (codes "LABELS")
+plain_id command.NavCheck (suc (suc k)) = None
 
 -- an argument that must stand, and an option with one value, which has a name
 abbrev pub plain_rule : Text → Rule
@@ -30,21 +35,33 @@ plain_rule id = record (new_rule id) { required = true }
 abbrev pub option_rule : Text → Rule
 option_rule id = record (new_rule id) { long = Some id; value_names = 1 }
 
+-- the options of a plan on any graph: how to search, when to end, and what to write
+abbrev pub plan_options : List Rule
+plan_options =
+    option_rule (codes "planner") ∷ (option_rule (codes "workers") ∷ (option_rule (codes "first")
+    ∷ (option_rule (codes "step") ∷ (option_rule (codes "bound") ∷ (option_rule (codes "budget")
+    ∷ (option_rule (codes "labels") ∷ (option_rule (codes "labels-as") ∷ (option_rule (codes "trace")
+    ∷ (option_rule (codes "incumbent") ∷ [])))))))))
+
 -- the arguments of a command, in order
 abbrev pub arguments : Command → List Rule
-arguments command.Plan = plain_rule (codes "ENV") ∷ (plain_rule (codes "MPRIM") ∷ (option_rule (codes "changes") ∷ (option_rule (codes "radius") ∷ (option_rule (codes "planner")
-    ∷ (option_rule (codes "workers") ∷ (option_rule (codes "first") ∷ (option_rule (codes "step") ∷ (option_rule (codes "bound") ∷ (option_rule (codes "budget") ∷ (option_rule (codes "labels")
-    ∷ (option_rule (codes "labels-as") ∷ (option_rule (codes "trace") ∷ (option_rule (codes "incumbent") ∷ [])))))))))))))
+arguments command.Plan =
+    plain_rule (codes "ENV") ∷ (plain_rule (codes "MPRIM")
+    ∷ (option_rule (codes "changes") ∷ (option_rule (codes "radius") ∷ plan_options)))
 arguments command.Check = plain_rule (codes "ENV") ∷ (plain_rule (codes "MPRIM") ∷ (plain_rule (codes "LABELS") ∷ (option_rule (codes "changes") ∷ (option_rule (codes "radius")
     ∷ (option_rule (codes "planner") ∷ [])))))
 arguments command.Sweep = plain_rule (codes "ENV") ∷ (plain_rule (codes "MPRIM") ∷ (option_rule (codes "radius") ∷ []))
 arguments command.Demo = plain_rule (codes "SEED") ∷ (plain_rule (codes "W") ∷ (plain_rule (codes "H") ∷ []))
+arguments command.Nav = plain_rule (codes "ENV") ∷ (option_rule (codes "changes") ∷ plan_options)
+arguments command.NavCheck = plain_rule (codes "ENV") ∷ (plain_rule (codes "LABELS") ∷ (option_rule (codes "changes") ∷ []))
 
 abbrev pub word_of : Command → Text
 word_of command.Plan = codes "plan"
 word_of command.Check = codes "check"
 word_of command.Sweep = codes "sweep"
 word_of command.Demo = codes "demo"
+word_of command.Nav = codes "nav"
+word_of command.NavCheck = codes "navcheck"
 
 -- a line without arguments, which reads words alone, with no name of the program before them, and knows no help
 abbrev pub bare_shape : Text → Shape

@@ -86,6 +86,8 @@ takes command.Plan s = true
 takes command.Check s = is_setting s setting.Changes || is_setting s setting.Radius || is_setting s setting.Planner
 takes command.Sweep s = is_setting s setting.Radius
 takes command.Demo s = false
+takes command.Nav s = not (is_setting s setting.Radius)
+takes command.NavCheck s = is_setting s setting.Changes
 
 -- the setting of this name, where the command takes it
 abbrev pub setting_of : Command → List ℕ → Option Setting

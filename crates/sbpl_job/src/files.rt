@@ -5,11 +5,12 @@ ghost use Rattle.std.specs.Str.{bytes_eq};
 ghost use Rattle.sbpl_job.specs.declared.words.Setting.TheVariants as Settings;
 ghost use Rattle.sbpl_job.specs.Found.{set_in};
 ghost use Rattle.sbpl_job.specs.Jobs.{differ, form_by, form_named, is_input, output_by, outputs_by, outputs_in, sources_in};
-ghost use Rattle.sbpl_job.specs.Words.{Names, text_of};
+ghost use Rattle.sbpl_job.specs.Words.{Names, text_of, texts};
 
 use crate::job::{JobFault, LabelForm, Outputs, Sources};
 use crate::name::Name;
 use crate::values::radius_of;
+use crate::words::stands_in;
 use clap::ArgMatches;
 use std::alloc::{AllocError, Global};
 
@@ -57,11 +58,11 @@ fn is_same(word: &str, name: &Name) -> bool
     word == name.as_str()
 }
 
-/// Whether a name is that of a file that is read.
-fn is_input(from: &Sources, changes: &Option<Name>, name: &str) -> bool
-    ensures input { result ≡ is_input from.now changes.now name.now }
+/// Whether a name is that of a file that is read: one of these, or the changes.
+fn is_input(files: &[&str], changes: &Option<Name>, name: &str) -> bool
+    ensures input { result ≡ is_input (texts files.now) changes.now name.now }
 {
-    if is_same(name, &from.env) || is_same(name, &from.prims) {
+    if stands_in(name, files) {
         return true;
     }
     match changes {
@@ -73,13 +74,13 @@ fn is_input(from: &Sources, changes: &Option<Name>, name: &str) -> bool
 /// The output of this name, which is no file that is read.
 fn output_named(
     alloc: Global,
-    from: &Sources,
+    files: &[&str],
     changes: &Option<Name>,
     name: &str,
 ) -> Result<Option<Name>, JobFault>
-    ensures output { Names (output_by from.now changes.now (Some name.now)) result }
+    ensures output { Names (output_by (texts files.now) changes.now (Some name.now)) result }
 {
-    if is_input(from, changes, name) {
+    if is_input(files, changes, name) {
         return Err(JobFault::Words);
     }
     Ok(Some(Name::of(alloc, name)?))
@@ -88,15 +89,15 @@ fn output_named(
 /// The output that this word names, if there is one.
 fn output_of(
     alloc: Global,
-    from: &Sources,
+    files: &[&str],
     changes: &Option<Name>,
     name: Option<&str>,
 ) -> Result<Option<Name>, JobFault>
-    ensures output { Names (output_by from.now changes.now (option_map text_of name.entry)) result }
+    ensures output { Names (output_by (texts files.now) changes.now (option_map text_of name.entry)) result }
 {
     match name {
         None => Ok(None),
-        Some(name) => output_named(alloc, from, changes, name),
+        Some(name) => output_named(alloc, files, changes, name),
     }
 }
 
@@ -154,18 +155,19 @@ fn all_outputs(
     }
 }
 
-/// Where a plan's labels, its trace and the newest path are written, and in which form the labels are.
+/// Where a plan that reads these files and these changes writes its labels, its trace and the newest path, and in which form the
+/// labels are.
 pub(crate) fn outputs_of(
     alloc: Global,
-    from: &Sources,
+    files: &[&str],
     changes: &Option<Name>,
     matches: &ArgMatches,
 ) -> Result<Outputs, JobFault>
-    ensures outputs { Names (outputs_in from.now changes.now (set_in matches.now)) result }
+    ensures outputs { Names (outputs_in (texts files.now) changes.now (set_in matches.now)) result }
 {
-    let labels = output_of(alloc, from, changes, matches.get_str("labels"))?;
+    let labels = output_of(alloc, files, changes, matches.get_str("labels"))?;
     let form = form_of(&labels, matches.get_str("labels-as"))?;
-    let trace = output_of(alloc, from, changes, matches.get_str("trace"))?;
-    let incumbent = output_of(alloc, from, changes, matches.get_str("incumbent"))?;
+    let trace = output_of(alloc, files, changes, matches.get_str("trace"))?;
+    let incumbent = output_of(alloc, files, changes, matches.get_str("incumbent"))?;
     all_outputs(labels, form, trace, incumbent)
 }

@@ -29,13 +29,15 @@ usage: temjoask plan ENV MPRIM [--changes F] [--radius M] [--planner P] [--worke
        temjoask check ENV MPRIM LABELS [--changes F] [--radius M] [--planner back]
        temjoask sweep ENV MPRIM [--radius M]
        temjoask demo SEED W H
+       temjoask nav ENV [--changes F] [--planner P] [--workers N] [--first E] [--step E] [--bound B] [--budget N] [--labels F [--labels-as V]] [--trace F] [--incumbent F]
+       temjoask navcheck ENV LABELS [--changes F]
        temjoask [COMMAND] --help
        temjoask --version
 ";
 
 /// What the program does.
 const ABOUT: &str = "\
-Temjoask plans on SBPL's state lattice, with a proved bound on the cost of each path.
+Temjoask plans on SBPL's state lattice, and on grids with eight neighbours, with a proved bound on the cost of each path.
 
 ";
 
@@ -62,6 +64,8 @@ fn call_of(command: Command) -> &'static str {
         Command::Check => "temjoask check",
         Command::Sweep => "temjoask sweep",
         Command::Demo => "temjoask demo",
+        Command::Nav => "temjoask nav",
+        Command::NavCheck => "temjoask navcheck",
     }
 }
 
@@ -74,6 +78,8 @@ fn example_of(command: Command) -> &'static str {
             "\nExample: temjoask check hall.cfg robot.mprim hall.labels --radius 0.2\n",
         Command::Sweep => "\nExample: temjoask sweep hall.cfg robot.mprim --radius 0.2\n",
         Command::Demo => "\nExample: temjoask demo 7 32 32\n",
+        Command::Nav => "\nExample: temjoask nav yard.cfg --first 3 --labels yard.labels\n",
+        Command::NavCheck => "\nExample: temjoask navcheck yard.cfg yard.labels\n",
     }
 }
 

@@ -121,17 +121,45 @@ pub struct DemoJob {
     pub height: u32,
 }
 
+/// The job `nav`: plan a path on a grid with eight neighbours.
+#[derive(Debug, Drop)]
+pub struct NavJob {
+    /// The environment file of the grid.
+    pub env: Name,
+    /// The file of changes that are made from plan to plan, if there is one.
+    pub changes: Option<Name>,
+    /// How the path is to be searched; not by `back`, since the robot does not move here.
+    pub search: SearchJob,
+    /// What is written besides the report.
+    pub outputs: Outputs,
+}
+
+/// The job `navcheck`: check the labels that a plan on a grid wrote.
+#[derive(Debug, Drop)]
+pub struct NavCheckJob {
+    /// The environment file of the grid.
+    pub env: Name,
+    /// The file of changes that were made from plan to plan, if there is one.
+    pub changes: Option<Name>,
+    /// The file of labels.
+    pub labels: Name,
+}
+
 /// A job of the program.
 #[derive(Debug, Drop)]
 pub enum Job {
-    /// Plan a path.
+    /// Plan a path on the lattice.
     Plan(PlanJob),
-    /// Check the labels of a plan.
+    /// Check the labels of a plan on the lattice.
     Check(CheckJob),
     /// List what each primitive costs and sweeps.
     Sweep(Sources),
     /// Plan on an example that is drawn from a seed.
     Demo(DemoJob),
+    /// Plan a path on a grid.
+    Nav(NavJob),
+    /// Check the labels of a plan on a grid.
+    NavCheck(NavCheckJob),
 }
 
 impl Job {
@@ -142,7 +170,7 @@ impl Job {
         match self {
             Job::Plan(plan) => plan.search.planner.may_move(),
             Job::Check(check) => check.back,
-            Job::Sweep(_) | Job::Demo(_) => false,
+            Job::Sweep(_) | Job::Demo(_) | Job::Nav(_) | Job::NavCheck(_) => false,
         }
     }
 }

@@ -14,7 +14,8 @@ mod wrong;
 
 pub use help::{Asked, read_asked, told};
 pub use job::{
-    CheckJob, DemoJob, Job, JobFault, LabelForm, Outputs, PlanJob, Planner, SearchJob, Sources,
+    CheckJob, DemoJob, Job, JobFault, LabelForm, NavCheckJob, NavJob, Outputs, PlanJob, Planner,
+    SearchJob, Sources,
 };
 pub use name::Name;
 pub use read::read_job;

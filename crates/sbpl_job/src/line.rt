@@ -63,6 +63,25 @@ fn with_files<'a>(alloc: Global, line: Line<'a>) -> Line<'a>
     with_plain(alloc, line, "MPRIM", "the primitive file, SBPL's .mprim")
 }
 
+/// The file that a grid is made of.
+fn with_grid<'a>(alloc: Global, line: Line<'a>) -> Line<'a>
+    ensures app { (a : App) → IsLine line.entry a → IsLine result (with_rule a (plain_rule (codes "ENV"))) }
+{
+    with_plain(
+        alloc,
+        line,
+        "ENV",
+        "the environment file of a grid: its size, obsthresh, start and end in cells, and a cost for each cell",
+    )
+}
+
+/// The file of labels.
+fn with_labels_file<'a>(alloc: Global, line: Line<'a>) -> Line<'a>
+    ensures app { (a : App) → IsLine line.entry a → IsLine result (with_rule a (plain_rule (codes "LABELS"))) }
+{
+    with_plain(alloc, line, "LABELS", "the file of labels")
+}
+
 /// The setting of the radius.
 fn with_radius<'a>(alloc: Global, line: Line<'a>) -> Line<'a>
     ensures app { (a : App) → IsLine line.entry a → IsLine result (with_rule a (option_rule (codes "radius"))) }
@@ -89,17 +108,11 @@ fn with_changes<'a>(alloc: Global, line: Line<'a>) -> Line<'a>
     )
 }
 
-/// The planner, and its workers.
-fn with_planner<'a>(alloc: Global, line: Line<'a>) -> Line<'a>
+/// The planner, with a help that names those that there are, and its workers.
+fn with_planner<'a>(alloc: Global, line: Line<'a>, planners: &'a str) -> Line<'a>
     ensures app { (a : App) → IsLine line.entry a → IsLine result (with_rule (with_rule a (option_rule (codes "planner"))) (option_rule (codes "workers"))) }
 {
-    let line = with_option(
-        alloc,
-        line,
-        "planner",
-        "P",
-        "how to search: ad, ara, back or epase [default: ad]",
-    );
+    let line = with_option(alloc, line, "planner", "P", planners);
     with_option(
         alloc,
         line,
@@ -143,10 +156,10 @@ fn with_inflations<'a>(alloc: Global, line: Line<'a>) -> Line<'a>
 }
 
 /// How to search: the planner, its workers, and the inflations.
-fn with_search<'a>(alloc: Global, line: Line<'a>) -> Line<'a>
+fn with_search<'a>(alloc: Global, line: Line<'a>, planners: &'a str) -> Line<'a>
     ensures app { (a : App) → IsLine line.entry a → IsLine result (with_rule (with_rule (with_rule (with_rule a (option_rule (codes "planner"))) (option_rule (codes "workers"))) (option_rule (codes "first"))) (option_rule (codes "step"))) }
 {
-    let line = with_planner(alloc, line);
+    let line = with_planner(alloc, line, planners);
     with_inflations(alloc, line)
 }
 
@@ -223,7 +236,11 @@ fn plan_line<'a>(alloc: Global) -> Line<'a>
     let line = with_files(alloc, line);
     let line = with_changes(alloc, line);
     let line = with_radius(alloc, line);
-    let line = with_search(alloc, line);
+    let line = with_search(
+        alloc,
+        line,
+        "how to search: ad, ara, back or epase [default: ad]",
+    );
     let line = with_ends(alloc, line);
     with_outputs(alloc, line)
 }
@@ -234,7 +251,7 @@ fn check_line<'a>(alloc: Global) -> Line<'a>
 {
     let line = bare(alloc, "check", "Checks the labels that a plan wrote.");
     let line = with_files(alloc, line);
-    let line = with_plain(alloc, line, "LABELS", "the file of labels");
+    let line = with_labels_file(alloc, line);
     let line = with_changes(alloc, line);
     let line = with_radius(alloc, line);
     with_back(alloc, line)
@@ -272,6 +289,36 @@ fn demo_line<'a>(alloc: Global) -> Line<'a>
     with_plain(alloc, line, "H", "how many cells the map is high, 8 to 512")
 }
 
+/// The line of the command `nav`.
+fn nav_line<'a>(alloc: Global) -> Line<'a>
+    ensures app { IsLine result (app Command.Nav) }
+{
+    let line = bare(
+        alloc,
+        "nav",
+        "Plans on a grid with eight neighbours, and again after each batch of changes.",
+    );
+    let line = with_grid(alloc, line);
+    let line = with_changes(alloc, line);
+    let line = with_search(alloc, line, "how to search: ad, ara or epase [default: ad]");
+    let line = with_ends(alloc, line);
+    with_outputs(alloc, line)
+}
+
+/// The line of the command `navcheck`.
+fn nav_check_line<'a>(alloc: Global) -> Line<'a>
+    ensures app { IsLine result (app Command.NavCheck) }
+{
+    let line = bare(
+        alloc,
+        "navcheck",
+        "Checks the labels that a plan on a grid wrote.",
+    );
+    let line = with_grid(alloc, line);
+    let line = with_labels_file(alloc, line);
+    with_changes(alloc, line)
+}
+
 /// The line of a command.
 pub(crate) fn line_of<'a>(alloc: Global, command: Command) -> Line<'a>
     ensures app { IsLine result (app command) }
@@ -281,6 +328,8 @@ pub(crate) fn line_of<'a>(alloc: Global, command: Command) -> Line<'a>
         Command::Check => check_line(alloc),
         Command::Sweep => sweep_line(alloc),
         Command::Demo => demo_line(alloc),
+        Command::Nav => nav_line(alloc),
+        Command::NavCheck => nav_check_line(alloc),
     }
 }
 

@@ -1,16 +1,18 @@
 //! The job that the words name.
 
-ghost use Rattle.std.specs.Prelude.{◌≡◌, ◌≤◌, ◌^◌, IfErr, IfOk, None, Some, option_and_then};
+ghost use Rattle.std.specs.Prelude.{◌≡◌, ◌≤◌, ◌^◌, false, IfErr, IfOk, None, Some, option_and_then};
 ghost use Rattle.sbpl_job.specs.Found.{job_found, set_in};
-ghost use Rattle.sbpl_job.specs.Jobs.{IsJob, IsSearchJob, check_in, command_named, demo_in, job_by, job_named, plan_in, plan_on, sweep_in};
+ghost use Rattle.sbpl_job.specs.Jobs.{IsJob, IsSearchJob, check_in, command_named, demo_in, job_by, job_named, may_move, nav_by, nav_check_in, nav_in, nav_on, plan_by, plan_in, plan_on, sweep_in};
 ghost use Rattle.sbpl_job.specs.Words.{Names, parts_in, texts};
 
 use crate::demo::{read_extent, read_seed};
 use crate::files::{name_of, outputs_of, sources_of};
-use crate::job::{CheckJob, DemoJob, Job, JobFault, Outputs, PlanJob, SearchJob, Sources};
+use crate::job::{
+    CheckJob, DemoJob, Job, JobFault, NavCheckJob, NavJob, Outputs, PlanJob, SearchJob, Sources,
+};
 use crate::line::find_parts;
 use crate::name::Name;
-use crate::values::{back_of, search_of};
+use crate::values::{back_of, grid_search_of, search_of};
 use crate::words::{Command, are_fit, spaced_words};
 use clap::ArgMatches;
 use std::alloc::Global;
@@ -24,6 +26,8 @@ pub(crate) fn command_named(word: &str) -> Option<Command>
         "check" => Some(Command::Check),
         "sweep" => Some(Command::Sweep),
         "demo" => Some(Command::Demo),
+        "nav" => Some(Command::Nav),
+        "navcheck" => Some(Command::NavCheck),
         _ => None,
     }
 }
@@ -35,11 +39,12 @@ fn plan_settings(
     changes: &Option<Name>,
     matches: &ArgMatches,
 ) -> Result<(SearchJob, Outputs), JobFault>
-    ensures job { IfOk result (λ x. plan_on from.now changes.now (set_in matches.now) ≡ Some (Job.Plan (record { sources = from.now; changes = changes.now; search = x.0; outputs = x.1 }))) }
+    ensures job { IfOk result (λ x. plan_on from.now changes.now (set_in matches.now) ≡ Some (plan_by from.now changes.now x.1 x.0)) }
     ensures none { IfErr result (λ e. e ≡ JobFault.Words → plan_on from.now changes.now (set_in matches.now) ≡ None) }
     ensures range { IfOk result (λ x. IsSearchJob x.0) }
 {
-    let outputs = outputs_of(alloc, from, changes, matches)?;
+    let files = [from.env.as_str(), from.prims.as_str()];
+    let outputs = outputs_of(alloc, &files, changes, matches)?;
     let search = search_of(matches)?;
     Ok((search, outputs))
 }
@@ -114,6 +119,70 @@ fn demo_of(seed: &str, width: &str, height: &str) -> Result<Job, JobFault>
     }))
 }
 
+/// How the job `nav` on this environment, with these changes, searches, and what it writes.
+fn nav_settings(
+    alloc: Global,
+    env: &Name,
+    changes: &Option<Name>,
+    matches: &ArgMatches,
+) -> Result<(SearchJob, Outputs), JobFault>
+    ensures job { IfOk result (λ x. nav_on env.now changes.now (set_in matches.now) ≡ Some (nav_by env.now changes.now x.1 x.0)) }
+    ensures none { IfErr result (λ e. e ≡ JobFault.Words → nav_on env.now changes.now (set_in matches.now) ≡ None) }
+    ensures range { IfOk result (λ x. IsSearchJob x.0) }
+    ensures stays { IfOk result (λ x. may_move x.0.planner ≡ false) }
+{
+    let files = [env.as_str()];
+    let outputs = outputs_of(alloc, &files, changes, matches)?;
+    let search = grid_search_of(matches)?;
+    Ok((search, outputs))
+}
+
+/// The job `nav` on this environment, with these changes.
+fn nav_on(
+    alloc: Global,
+    env: Name,
+    changes: Option<Name>,
+    matches: &ArgMatches,
+) -> Result<Job, JobFault>
+    ensures job { Names (nav_on env changes (set_in matches.now)) result }
+    ensures range { IfOk result IsJob }
+{
+    let (search, outputs) = nav_settings(alloc, &env, &changes, matches)?;
+    Ok(Job::Nav(NavJob {
+        env,
+        changes,
+        search,
+        outputs,
+    }))
+}
+
+/// The job `nav` on this file.
+fn nav_of(alloc: Global, env: &str, matches: &ArgMatches) -> Result<Job, JobFault>
+    ensures job { Names (nav_in env.now (set_in matches.now)) result }
+    ensures range { IfOk result IsJob }
+{
+    let env = Name::of(alloc, env)?;
+    let changes = name_of(alloc, matches.get_str("changes"))?;
+    nav_on(alloc, env, changes, matches)
+}
+
+/// The job `navcheck` of this file of labels.
+fn nav_check_of(
+    alloc: Global,
+    env: &str,
+    labels: &str,
+    matches: &ArgMatches,
+) -> Result<Job, JobFault>
+    ensures job { Names (nav_check_in env.now labels.now (set_in matches.now)) result }
+    ensures range { IfOk result IsJob }
+{
+    Ok(Job::NavCheck(NavCheckJob {
+        env: Name::of(alloc, env)?,
+        changes: name_of(alloc, matches.get_str("changes"))?,
+        labels: Name::of(alloc, labels)?,
+    }))
+}
+
 /// The job `plan` of what was found.
 fn found_plan(alloc: Global, matches: &ArgMatches) -> Result<Job, JobFault>
     ensures job { Names (job_found Command.Plan matches.now) result }
@@ -176,6 +245,31 @@ fn found_demo(matches: &ArgMatches) -> Result<Job, JobFault>
     demo_of(seed, width, height)
 }
 
+/// The job `nav` of what was found.
+fn found_nav(alloc: Global, matches: &ArgMatches) -> Result<Job, JobFault>
+    ensures job { Names (job_found Command.Nav matches.now) result }
+    ensures range { IfOk result IsJob }
+{
+    let Some(env) = matches.get_str("ENV") else {
+        return Err(JobFault::Words);
+    };
+    nav_of(alloc, env, matches)
+}
+
+/// The job `navcheck` of what was found.
+fn found_nav_check(alloc: Global, matches: &ArgMatches) -> Result<Job, JobFault>
+    ensures job { Names (job_found Command.NavCheck matches.now) result }
+    ensures range { IfOk result IsJob }
+{
+    let Some(env) = matches.get_str("ENV") else {
+        return Err(JobFault::Words);
+    };
+    let Some(labels) = matches.get_str("LABELS") else {
+        return Err(JobFault::Words);
+    };
+    nav_check_of(alloc, env, labels, matches)
+}
+
 /// The job of what was found.
 fn job_found(alloc: Global, command: Command, matches: &ArgMatches) -> Result<Job, JobFault>
     ensures job { Names (job_found command matches.now) result }
@@ -186,6 +280,8 @@ fn job_found(alloc: Global, command: Command, matches: &ArgMatches) -> Result<Jo
         Command::Check => found_check(alloc, matches),
         Command::Sweep => found_sweep(alloc, matches),
         Command::Demo => found_demo(matches),
+        Command::Nav => found_nav(alloc, matches),
+        Command::NavCheck => found_nav_check(alloc, matches),
     }
 }
 

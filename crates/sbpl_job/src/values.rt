@@ -4,7 +4,7 @@ ghost use Rattle.std.specs.Prelude.{◌≡◌, ◌≤◌, ◌^◌, false, IfOk, 
 ghost use Rattle.sbpl_fixed.specs.Numbers.{nano_of, whole_of};
 ghost use Rattle.sbpl_job.specs.declared.words.Setting.TheVariants as Settings;
 ghost use Rattle.sbpl_job.specs.Found.{set_in};
-ghost use Rattle.sbpl_job.specs.Jobs.{IsSearchJob, back_by, budget_by, budget_in, has_workers, milli_by, milli_from, milli_in, most_workers, planner_by, planner_named, radius_by, radius_in, search_in, workers_by, workers_in};
+ghost use Rattle.sbpl_job.specs.Jobs.{IsSearchJob, back_by, budget_by, budget_in, grid_search_in, has_workers, may_move, milli_by, milli_from, milli_in, most_workers, planner_by, planner_named, radius_by, radius_in, search_in, workers_by, workers_in};
 ghost use Rattle.sbpl_job.specs.Words.{Names, text_of};
 
 use crate::job::{JobFault, Planner, SearchJob};
@@ -203,6 +203,19 @@ pub(crate) fn search_of(matches: &ArgMatches) -> Result<SearchJob, JobFault>
     })
 }
 
+/// How the path of the job `nav` is to be searched: by a planner under which the robot stays.
+pub(crate) fn grid_search_of(matches: &ArgMatches) -> Result<SearchJob, JobFault>
+    ensures search { Names (grid_search_in (set_in matches.now)) result }
+    ensures range { IfOk result IsSearchJob }
+    ensures stays { IfOk result (λ s. may_move s.planner ≡ false) }
+{
+    let search = search_of(matches)?;
+    if search.planner.may_move() {
+        return Err(JobFault::Words);
+    }
+    Ok(search)
+}
+
 /// The setting of the planner, its workers or its budget whose value is wrong, and what the value must be.
 fn wrong_planner(matches: &ArgMatches) -> Option<(&'static str, &'static str)> {
     let Ok(planner) = planner_of(matches) else {
@@ -252,4 +265,12 @@ pub(crate) fn wrong_search(matches: &ArgMatches) -> Option<(&'static str, &'stat
         ));
     }
     wrong_planner(matches)
+}
+
+/// The setting of `nav` whose value is wrong, and what the value must be.
+pub(crate) fn wrong_grid_search(matches: &ArgMatches) -> Option<(&'static str, &'static str)> {
+    match planner_of(matches) {
+        Ok(planner) if !planner.may_move() => wrong_search(matches),
+        _ => Some(("planner", "--planner must be ad, ara or epase")),
+    }
 }

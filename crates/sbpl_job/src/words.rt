@@ -19,6 +19,10 @@ pub enum Command {
     Sweep,
     /// Plan on an example that is drawn from a seed.
     Demo,
+    /// Plan on the grid of an environment file.
+    Nav,
+    /// Check the labels that a plan on a grid wrote.
+    NavCheck,
 }
 
 /// Something that the words can set, by a value after its name.
@@ -93,6 +97,8 @@ fn takes(command: Command, setting: Setting) -> bool
         ),
         Command::Sweep => matches!(setting, Setting::Radius),
         Command::Demo => false,
+        Command::Nav => !matches!(setting, Setting::Radius),
+        Command::NavCheck => matches!(setting, Setting::Changes),
     }
 }
 
@@ -142,9 +148,9 @@ pub(crate) fn spaced_words(
     Ok(spaced)
 }
 
-/// Whether a word stands again among others.
-fn stands_in(word: &str, words: &[&str]) -> bool
-    ensures again { result ≡ list_any (bytes_eq word.now) (texts words.now) }
+/// Whether a word stands among others.
+pub(crate) fn stands_in(word: &str, words: &[&str]) -> bool
+    ensures stands { result ≡ list_any (bytes_eq word.now) (texts words.now) }
 {
     for other in words {
         if word == *other {

@@ -4,7 +4,7 @@ use crate::demo::{read_extent, read_seed};
 use crate::files::form_named;
 use crate::line::line_of;
 use crate::read::command_named;
-use crate::values::{radius_of, wrong_back, wrong_search};
+use crate::values::{radius_of, wrong_back, wrong_grid_search, wrong_search};
 use crate::words::{Command, spaced_words};
 use clap::ArgMatches;
 use std::alloc::{AllocError, Global};
@@ -40,15 +40,14 @@ fn wrong_value(command: Command, matches: &ArgMatches) -> Option<(&'static str, 
             "--radius must be a decimal from 0 to 1000, in metres",
         ));
     }
-    match command {
-        Command::Plan => match wrong_search(matches) {
-            Some(wrong) => Some(wrong),
-            None => wrong_form(matches),
-        },
+    let wrong = match command {
+        Command::Plan => wrong_search(matches),
+        Command::Nav => wrong_grid_search(matches),
         Command::Check => wrong_back(matches),
         Command::Demo => wrong_demo(matches),
-        Command::Sweep => None,
-    }
+        Command::Sweep | Command::NavCheck => None,
+    };
+    wrong.or(wrong_form(matches))
 }
 
 /// The form of labels, where it is wrong or stands without them, and what it must be.
@@ -109,13 +108,13 @@ pub fn wrong_words(alloc: Global, words: &[String]) -> Result<String, AllocError
     let [word, rest @ ..] = words else {
         return String::from_str(
             alloc,
-            "a command must stand here: plan, check, sweep or demo",
+            "a command must stand here: plan, check, sweep, demo, nav or navcheck",
         );
     };
     let word = word.as_str();
     let Some(command) = command_named(word) else {
         return format!(in alloc;
-            "the command must be plan, check, sweep or demo, found \"{word}\""
+            "the command must be plan, check, sweep, demo, nav or navcheck, found \"{word}\""
         );
     };
     let spaced = spaced_words(alloc, command, rest)?;

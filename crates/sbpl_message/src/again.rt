@@ -11,6 +11,7 @@ use sbpl_cfg::{Env, Grid, read_env};
 use sbpl_desk::{Desk, ReadStop};
 use sbpl_job::{Job, Name, Sources};
 use sbpl_map::{ChangeFault, Changes, Map, read_changes, read_moves};
+use sbpl_nav2d::read_nav;
 use std::alloc::Global;
 
 /// The files of a job's lattice, if it reads any.
@@ -19,8 +20,31 @@ pub(crate) fn sources_of(job: &Job) -> Option<&Sources> {
         Job::Plan(plan) => Some(&plan.sources),
         Job::Check(check) => Some(&check.sources),
         Job::Sweep(from) => Some(from),
-        Job::Demo(_) => None,
+        Job::Demo(_) | Job::Nav(_) | Job::NavCheck(_) => None,
     }
+}
+
+/// The environment file of a job's grid, if it reads one.
+fn grid_of(job: &Job) -> Option<&Name> {
+    match job {
+        Job::Nav(nav) => Some(&nav.env),
+        Job::NavCheck(check) => Some(&check.env),
+        Job::Plan(_) | Job::Check(_) | Job::Sweep(_) | Job::Demo(_) => None,
+    }
+}
+
+/// The job's environment file, if it reads one.
+pub(crate) fn env_of(job: &Job) -> Option<&Name> {
+    match sources_of(job) {
+        Some(from) => Some(&from.env),
+        None => grid_of(job),
+    }
+}
+
+/// The job's primitive file, if it reads one.
+pub(crate) fn prims_of(job: &Job) -> Option<&Name> {
+    let from = sources_of(job)?;
+    Some(&from.prims)
 }
 
 /// The job's change file, if it reads one.
@@ -28,6 +52,8 @@ pub(crate) fn changes_of(job: &Job) -> Option<&Name> {
     match job {
         Job::Plan(plan) => plan.changes.as_ref(),
         Job::Check(check) => check.changes.as_ref(),
+        Job::Nav(nav) => nav.changes.as_ref(),
+        Job::NavCheck(check) => check.changes.as_ref(),
         Job::Sweep(_) | Job::Demo(_) => None,
     }
 }
@@ -36,7 +62,8 @@ pub(crate) fn changes_of(job: &Job) -> Option<&Name> {
 pub(crate) fn labels_of(job: &Job) -> Option<&Name> {
     match job {
         Job::Check(check) => Some(&check.labels),
-        Job::Plan(_) | Job::Sweep(_) | Job::Demo(_) => None,
+        Job::NavCheck(check) => Some(&check.labels),
+        Job::Plan(_) | Job::Sweep(_) | Job::Demo(_) | Job::Nav(_) => None,
     }
 }
 
@@ -71,7 +98,7 @@ pub(crate) fn fails<D: Desk>(alloc: Global, name: &Name, desk: &mut D) -> bool
     }
 }
 
-/// The environment of a job's files, if it can be read.
+/// The environment of a lattice's files, if it can be read.
 pub(crate) fn environment_of<D: Desk>(
     alloc: Global,
     from: &Sources,
@@ -87,12 +114,8 @@ pub(crate) fn environment_of<D: Desk>(
     }
 }
 
-/// The map of a job's files, if it can be read, how many states it has, and how many headings.
-pub(crate) fn map_of<D: Desk>(
-    alloc: Global,
-    from: &Sources,
-    desk: &mut D,
-) -> Option<(Map, u32, u32)>
+/// The map of a lattice's files, if it can be read, how many states it has, and how many headings.
+fn lattice_map<D: Desk>(alloc: Global, from: &Sources, desk: &mut D) -> Option<(Map, u32, u32)>
     ensures frame { ReadsOnly (D.state desk.old) (D.state desk.new) }
 {
     let (env, grid) = environment_of(alloc, from, desk)?;
@@ -101,6 +124,32 @@ pub(crate) fn map_of<D: Desk>(
         .saturating_mul(env.height)
         .saturating_mul(env.headings);
     Some((Map::new(&env, grid), states, env.headings))
+}
+
+/// The map of a text of a grid, if it stands for one, and how many states it has.
+fn grid_in(alloc: Global, text: &[u8]) -> Option<(Map, u32)> {
+    let (env, grid) = read_nav(alloc, text).ok()?;
+    let states = env.width * env.height;
+    Some((Map::plain(env.width, env.height, grid), states))
+}
+
+/// The map of a grid's file, if it can be read, how many states it has, and how many headings, which is one.
+fn grid_map<D: Desk>(alloc: Global, env: &Name, desk: &mut D) -> Option<(Map, u32, u32)>
+    ensures frame { ReadsOnly (D.state desk.old) (D.state desk.new) }
+{
+    let text = text_of(alloc, env, desk)?;
+    let (map, states) = grid_in(alloc, text.as_slice())?;
+    Some((map, states, 1))
+}
+
+/// The map of a job's files, if it can be read, how many states it has, and how many headings.
+pub(crate) fn map_of<D: Desk>(alloc: Global, job: &Job, desk: &mut D) -> Option<(Map, u32, u32)>
+    ensures frame { ReadsOnly (D.state desk.old) (D.state desk.new) }
+{
+    match grid_of(job) {
+        Some(env) => grid_map(alloc, env, desk),
+        None => lattice_map(alloc, sources_of(job)?, desk),
+    }
 }
 
 /// The batches of changes of a text, or its fault. Where a number of headings is given, lines can say where the robot is.
@@ -148,15 +197,10 @@ fn batches_of<D: Desk>(
 }
 
 /// The number of a job's last plan, counted from 0, and how many states each plan has, if the job's files can be read.
-pub(crate) fn plans_of<D: Desk>(
-    alloc: Global,
-    job: &Job,
-    from: &Sources,
-    desk: &mut D,
-) -> Option<(u32, u32)>
+pub(crate) fn plans_of<D: Desk>(alloc: Global, job: &Job, desk: &mut D) -> Option<(u32, u32)>
     ensures frame { ReadsOnly (D.state desk.old) (D.state desk.new) }
 {
-    let (map, states, headings) = map_of(alloc, from, desk)?;
+    let (map, states, headings) = map_of(alloc, job, desk)?;
     let headings = headings_for(job, headings);
     let last = batches_of(alloc, changes_of(job), &map, headings, desk)?;
     Some((last, states))

@@ -10,14 +10,28 @@ use sbpl_cfg::EnvFault;
 use sbpl_fixed::NoMemory;
 use std::alloc::Global;
 
-/// What must stand after the words of the map's size and of the number of headings, this many tokens after the word.
+/// What number must stand this many tokens after a word that the file of a grid has too.
+pub(crate) fn wanted_of_map(word: &[u8], after: usize) -> Option<&'static str> {
+    if is_named(word, "discretization(cells):") {
+        return match after {
+            0 => Some("the width in cells must be a whole number from 1 to 8388608"),
+            1 => Some("the height in cells must be a whole number from 1 to 8388608"),
+            _ => None,
+        };
+    }
+    if is_named(word, "obsthresh:") && after == 0 {
+        return Some("obsthresh must be a whole number from 0 to 255");
+    }
+    if is_named(word, "environment:") {
+        return Some("the cost of a cell must be a whole number from 0 to 255");
+    }
+    None
+}
+
+/// What must stand after the map's size, and after the word of the number of headings, this many tokens after the word.
 fn wanted_of_size(word: &[u8], after: usize) -> Option<&'static str> {
     if is_named(word, "discretization(cells):") {
-        return Some(match after {
-            0 => "the width in cells must be a whole number from 1 to 8388608",
-            1 => "the height in cells must be a whole number from 1 to 8388608",
-            _ => "NumThetaDirs: or obsthresh: must stand here",
-        });
+        return Some("NumThetaDirs: or obsthresh: must stand here");
     }
     if is_named(word, "NumThetaDirs:") {
         return Some(match after {
@@ -31,10 +45,7 @@ fn wanted_of_size(word: &[u8], after: usize) -> Option<&'static str> {
 /// What must stand after the words of the costs' meaning, this many tokens after the word.
 fn wanted_of_costs(word: &[u8], after: usize) -> Option<&'static str> {
     if is_named(word, "obsthresh:") {
-        return Some(match after {
-            0 => "obsthresh must be a whole number from 0 to 255",
-            _ => "cost_inscribed_thresh: must stand here",
-        });
+        return Some("cost_inscribed_thresh: must stand here");
     }
     if is_named(word, "cost_inscribed_thresh:") {
         return Some(match after {
@@ -74,7 +85,7 @@ fn wanted_of_rates(word: &[u8], after: usize) -> Option<&'static str> {
     None
 }
 
-/// What must stand after the words of the start, of the end and of the cells.
+/// What must stand after the words of the start and of the end.
 fn wanted_of_poses(word: &[u8], after: usize) -> Option<&'static str> {
     if is_named(word, "start(meters,rads):") {
         return Some(match after {
@@ -92,15 +103,13 @@ fn wanted_of_poses(word: &[u8], after: usize) -> Option<&'static str> {
             _ => "environment: must stand here",
         });
     }
-    if is_named(word, "environment:") {
-        return Some("the cost of a cell must be a whole number from 0 to 255");
-    }
     None
 }
 
 /// What must stand this many tokens after a word of the file, or at its start where no word stands before.
 fn wanted_after(word: &[u8], after: usize) -> &'static str {
-    wanted_of_size(word, after)
+    wanted_of_map(word, after)
+        .or(wanted_of_size(word, after))
         .or(wanted_of_costs(word, after))
         .or(wanted_of_rates(word, after))
         .or(wanted_of_poses(word, after))

@@ -5,6 +5,7 @@ mod again;
 mod changes;
 mod environment;
 mod field;
+mod grid;
 mod labels;
 mod lines;
 mod message;
@@ -14,6 +15,7 @@ mod whole;
 
 pub use changes::changes_message;
 pub use environment::environment_message;
+pub use grid::grid_message;
 pub use labels::labels_message;
 pub use lines::line_and_column;
 pub use primitives::primitives_message;

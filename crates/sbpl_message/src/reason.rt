@@ -1,16 +1,18 @@
 //! The message for a status, which says why a job was not done.
 
-ghost use Rattle.std.specs.Prelude.{◌≡◌, ◌⊎◌, ℕ, ◌^◌, ◌≤◌, List, false, codes, length, IfOk, IfSome, IsSome, Ok, None};
+ghost use Rattle.std.specs.Prelude.{◌≡◌, ◌⊎◌, ◌^◌, ◌≤◌, false, codes, length, IfOk, IfSome, IsSome, Ok, None};
 ghost use Rattle.sbpl_desk.specs.Desk.{ReadsOnly};
+ghost use Rattle.sbpl_job.specs.Jobs.{job_named};
 ghost use Rattle.sbpl_message.specs.Messages.{IsPlainMessage};
-ghost use Rattle.sbpl_message.specs.Reasons.{IsOnEnvironment, has_message};
+ghost use Rattle.sbpl_message.specs.Reasons.{IsOnEnvironment, IsOnEnvironmentOf, IsOnGrid, IsOnLattice, has_message};
 
 use crate::again::{
-    changes_in, changes_of, environment_of, fails, headings_for, labels_of, map_of, plans_of,
-    sources_of, text_of,
+    changes_in, changes_of, env_of, environment_of, fails, headings_for, labels_of, map_of,
+    plans_of, prims_of, sources_of, text_of,
 };
 use crate::changes::changes_message;
 use crate::environment::environment_message;
+use crate::grid::grid_message;
 use crate::labels::labels_message;
 use crate::primitives::primitives_message;
 use crate::whole::{size_message, unread_message, unwritten_message, words_message};
@@ -21,6 +23,7 @@ use sbpl_fixed::{NoMemory, next_token};
 use sbpl_job::{Job, Name, Sources, read_job, wrong_words};
 use sbpl_map::{ChangeFault, Map};
 use sbpl_mprim::{PrimFault, read_prims};
+use sbpl_nav2d::{NavFault, read_nav};
 use std::alloc::Global;
 
 /// Whether a status has a message.
@@ -36,17 +39,42 @@ pub fn has_message(status: u8) -> bool
         || status == 10
 }
 
-/// The message on the first fault of the environment file, if it has one.
-fn on_environment<D: Desk>(alloc: Global, from: &Sources, desk: &mut D) -> Option<Vec<u8>>
-    ensures told { IfSome result (λ m. IsOnEnvironment (D.state desk.old) from.now.env m.items) }
+/// The message on the first fault of the environment file of a lattice, if it has one.
+fn on_lattice<D: Desk>(alloc: Global, name: &Name, desk: &mut D) -> Option<Vec<u8>>
+    ensures told { IfSome result (λ m. IsOnLattice (D.state desk.old) name.now m.items) }
     ensures frame { ReadsOnly (D.state desk.old) (D.state desk.new) }
 {
-    let text = text_of(alloc, &from.env, desk)?;
+    let text = text_of(alloc, name, desk)?;
     match read_env(alloc, text.as_slice()) {
         Ok(_) | Err(EnvFault::NoMemory) => None,
-        Err(fault) => {
-            environment_message(alloc, from.env.as_str(), text.as_slice(), &fault).ok()
-        }
+        Err(fault) => environment_message(alloc, name.as_str(), text.as_slice(), &fault).ok(),
+    }
+}
+
+/// The message on the first fault of the environment file of a grid, if it has one.
+fn on_grid<D: Desk>(alloc: Global, name: &Name, desk: &mut D) -> Option<Vec<u8>>
+    ensures told { IfSome result (λ m. IsOnGrid (D.state desk.old) name.now m.items) }
+    ensures frame { ReadsOnly (D.state desk.old) (D.state desk.new) }
+{
+    let text = text_of(alloc, name, desk)?;
+    match read_nav(alloc, text.as_slice()) {
+        Ok(_) | Err(NavFault::NoMemory) => None,
+        Err(fault) => grid_message(alloc, name.as_str(), text.as_slice(), &fault).ok(),
+    }
+}
+
+/// The message on the first fault of the job's environment file, if it has one.
+fn on_environment<D: Desk>(alloc: Global, job: &Job, desk: &mut D) -> Option<Vec<u8>>
+    ensures told { IfSome result (λ m. IsOnEnvironment (D.state desk.old) job.now m.items) }
+    ensures frame { ReadsOnly (D.state desk.old) (D.state desk.new) }
+{
+    match job {
+        Job::Plan(plan) => on_lattice(alloc, &plan.sources.env, desk),
+        Job::Check(check) => on_lattice(alloc, &check.sources.env, desk),
+        Job::Sweep(from) => on_lattice(alloc, &from.env, desk),
+        Job::Demo(_) => None,
+        Job::Nav(nav) => on_grid(alloc, &nav.env, desk),
+        Job::NavCheck(check) => on_grid(alloc, &check.env, desk),
     }
 }
 
@@ -98,16 +126,10 @@ fn in_changes(
 }
 
 /// The message on the first fault of the change file, if it has one.
-fn on_changes<D: Desk>(
-    alloc: Global,
-    job: &Job,
-    from: &Sources,
-    name: &Name,
-    desk: &mut D,
-) -> Option<Vec<u8>>
+fn on_changes<D: Desk>(alloc: Global, job: &Job, name: &Name, desk: &mut D) -> Option<Vec<u8>>
     ensures frame { ReadsOnly (D.state desk.old) (D.state desk.new) }
 {
-    let (map, _, headings) = map_of(alloc, from, desk)?;
+    let (map, _, headings) = map_of(alloc, job, desk)?;
     let text = text_of(alloc, name, desk)?;
     in_changes(
         alloc,
@@ -134,16 +156,10 @@ fn fault_of_labels(alloc: Global, text: &[u8], last: u32, states: u32) -> Option
 }
 
 /// The message on the first fault of the text of labels, if it has one.
-fn on_labels<D: Desk>(
-    alloc: Global,
-    job: &Job,
-    from: &Sources,
-    name: &Name,
-    desk: &mut D,
-) -> Option<Vec<u8>>
+fn on_labels<D: Desk>(alloc: Global, job: &Job, name: &Name, desk: &mut D) -> Option<Vec<u8>>
     ensures frame { ReadsOnly (D.state desk.old) (D.state desk.new) }
 {
-    let (last, states) = plans_of(alloc, job, from, desk)?;
+    let (last, states) = plans_of(alloc, job, desk)?;
     let text = text_of(alloc, name, desk)?;
     match fault_of_labels(alloc, text.as_slice(), last, states) {
         None | Some(LabelFault::NoMemory) => None,
@@ -164,13 +180,13 @@ fn on_read<D: Desk>(alloc: Global, name: Option<&Name>, desk: &mut D) -> Option<
 }
 
 /// The message for the first file of a job that can't be read, if there is one.
-fn on_reads<D: Desk>(alloc: Global, job: &Job, from: &Sources, desk: &mut D) -> Option<Vec<u8>>
+fn on_reads<D: Desk>(alloc: Global, job: &Job, desk: &mut D) -> Option<Vec<u8>>
     ensures frame { ReadsOnly (D.state desk.old) (D.state desk.new) }
 {
-    if let Some(message) = on_read(alloc, Some(&from.env), desk) {
+    if let Some(message) = on_read(alloc, env_of(job), desk) {
         return Some(message);
     }
-    if let Some(message) = on_read(alloc, Some(&from.prims), desk) {
+    if let Some(message) = on_read(alloc, prims_of(job), desk) {
         return Some(message);
     }
     if let Some(message) = on_read(alloc, changes_of(job), desk) {
@@ -181,16 +197,15 @@ fn on_reads<D: Desk>(alloc: Global, job: &Job, from: &Sources, desk: &mut D) -> 
 
 /// The message for a job that was refused with a status.
 fn on_job<D: Desk>(alloc: Global, job: &Job, status: u8, desk: &mut D) -> Option<Vec<u8>>
-    ensures environment { status ≡ 3 → IfSome result (λ m. (name : List ℕ) × IsOnEnvironment (D.state desk.old) name m.items) }
+    ensures environment { status ≡ 3 → IfSome result (λ m. IsOnEnvironment (D.state desk.old) job.now m.items) }
     ensures frame { ReadsOnly (D.state desk.old) (D.state desk.new) }
 {
-    let from = sources_of(job)?;
     match status {
-        3 => on_environment(alloc, from, desk),
-        4 => on_primitives(alloc, from, desk),
-        5 => on_changes(alloc, job, from, changes_of(job)?, desk),
-        6 => on_reads(alloc, job, from, desk),
-        10 => on_labels(alloc, job, from, labels_of(job)?, desk),
+        3 => on_environment(alloc, job, desk),
+        4 => on_primitives(alloc, sources_of(job)?, desk),
+        5 => on_changes(alloc, job, changes_of(job)?, desk),
+        6 => on_reads(alloc, job, desk),
+        10 => on_labels(alloc, job, labels_of(job)?, desk),
         _ => None,
     }
 }
@@ -202,7 +217,7 @@ fn on_named_job<D: Desk>(
     status: u8,
     desk: &mut D,
 ) -> Option<Vec<u8>>
-    ensures environment { status ≡ 3 → IfSome result (λ m. (name : List ℕ) × IsOnEnvironment (D.state desk.old) name m.items) }
+    ensures environment { status ≡ 3 → IfSome result (λ m. IsOnEnvironmentOf (D.state desk.old) (job_named words.now) m.items) }
     ensures frame { ReadsOnly (D.state desk.old) (D.state desk.new) }
 {
     let job = read_job(alloc, words).ok()?;
@@ -231,7 +246,7 @@ pub fn message_for<D: Desk>(
     ensures told { IfOk result (λ m. (status ≡ 2) ⊎ (status ≡ 7) → IfSome m (λ m. IsPlainMessage (codes "temjoask") m.items)) }
     ensures some { IfOk result (λ m. (status ≡ 2) ⊎ (status ≡ 7) → IsSome m) }
     ensures environment { IfOk result
-        (λ m. status ≡ 3 → IfSome m (λ m. (name : List ℕ) × IsOnEnvironment (D.state desk.old) name m.items)) }
+        (λ m. status ≡ 3 → IfSome m (λ m. IsOnEnvironmentOf (D.state desk.old) (job_named words.now) m.items)) }
     ensures frame { ReadsOnly (D.state desk.old) (D.state desk.new) }
 {
     if !has_message(status) {

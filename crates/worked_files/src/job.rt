@@ -47,6 +47,11 @@ demo 7 32 32 => Demo(DemoJob { seed: 7, width: 32, height: 32 }) false
 demo 0 8 512 => Demo(DemoJob { seed: 0, width: 8, height: 512 }) false
 demo 18446744073709551615 +9 0010 => Demo(DemoJob { seed: 18446744073709551615, width: 9, height: 10 }) false
 demo 00000000000000000007 8 8 => Demo(DemoJob { seed: 7, width: 8, height: 8 }) false
+nav e => Nav(NavJob { env: Name { text: "e" }, changes: None, search: SearchJob { planner: AdStar, workers: 1, first: 1000, step: 500, bound: 1000, budget: 1073741824 }, outputs: Outputs { labels: None, form: Sparse, trace: None, incumbent: None } }) false
+nav --planner=ara e --budget 7 => Nav(NavJob { env: Name { text: "e" }, changes: None, search: SearchJob { planner: Ara, workers: 1, first: 1000, step: 500, bound: 1000, budget: 7 }, outputs: Outputs { labels: None, form: Sparse, trace: None, incumbent: None } }) false
+nav --changes c --planner epase e --workers=4 --first 3 --step=.001 --bound 1.5 --labels l --labels-as=1 --trace t --incumbent=i => Nav(NavJob { env: Name { text: "e" }, changes: Some(Name { text: "c" }), search: SearchJob { planner: Epase, workers: 4, first: 3000, step: 1, bound: 1500, budget: 1073741824 }, outputs: Outputs { labels: Some(Name { text: "l" }), form: Full, trace: Some(Name { text: "t" }), incumbent: Some(Name { text: "i" }) } }) false
+navcheck e l => NavCheck(NavCheckJob { env: Name { text: "e" }, changes: None, labels: Name { text: "l" } }) false
+navcheck --changes=c e e => NavCheck(NavCheckJob { env: Name { text: "e" }, changes: Some(Name { text: "c" }), labels: Name { text: "e" } }) false
 plan => no job
 plan e => no job
 plan e - => no job
@@ -142,6 +147,24 @@ demo 18446744073709551616 8 8 => no job
 demo 7 8 8.0 => no job
 demo 7 8 --radius 8 => no job
 demo 7 8 8 --radius 0 => no job
+nav => no job
+nav e m => no job
+nav e --radius 0 => no job
+nav e --planner back => no job
+nav e --planner=ad --workers 2 => no job
+nav e --planner epase --workers 65 => no job
+nav e --step 0 => no job
+nav e --labels e => no job
+nav e --changes c --trace=c => no job
+nav e --labels x --incumbent x => no job
+nav e --labels-as 1 => no job
+navcheck e => no job
+navcheck e l x => no job
+navcheck e l --planner ad => no job
+navcheck e l --planner back => no job
+navcheck e l --radius 0 => no job
+navcheck e l --labels x => no job
+navcheck e l --changes c --changes=c => no job
  => no job"#;
 
 /// The words of a line, which are separated by one blank each; between two blanks stands an empty word. An empty line has none.
@@ -210,6 +233,7 @@ fn names_job(alloc: Global, row: &str) -> Option<bool> {
 /// Words that ask for help or for the version, and a part of the text that is told; and words that ask for neither.
 const ASKED: &str = "\
 --help => demo SEED W H
+--help => navcheck ENV LABELS [--changes F]
 -h => 10  the text of labels
 -V => temjoask 0.1.0
 plan --help => --budget <N>
@@ -217,6 +241,8 @@ check --help => <LABELS>
 check --help => back: the labels are those of the planner back
 sweep --help => [default: 0]
 demo --help => <SEED> <W> <H>
+nav --help => ad, ara or epase [default: ad]
+navcheck --help => <ENV> <LABELS>
 plan -h => no help
 help plan => no help
 --help plan => no help";

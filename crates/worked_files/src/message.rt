@@ -8,10 +8,12 @@ use sbpl_desk::MemoryDesk;
 use sbpl_fixed::NoMemory;
 use sbpl_map::ChangeFault;
 use sbpl_message::{
-    changes_message, environment_message, labels_message, line_and_column, message_for,
-    primitives_message, size_message, unread_message, unwritten_message, words_message,
+    changes_message, environment_message, grid_message, labels_message, line_and_column,
+    message_for, primitives_message, size_message, unread_message, unwritten_message,
+    words_message,
 };
 use sbpl_mprim::PrimFault;
+use sbpl_nav2d::NavFault;
 use std::alloc::Global;
 use std::process::Abort;
 
@@ -59,6 +61,38 @@ const ENVIRONMENTS: [(&str, EnvFault, &str); 5] = [
     ),
 ];
 
+/// The environment file of a grid.
+const YARD: &str =
+    "discretization(cells): 3 2\nobsthresh: 100\nstart(cells): 0 0\nend(cells): 2 1\nenvironment:\n0 0 0\n0 2 0\n";
+
+/// Faults of it, and their messages.
+const GRIDS: [(NavFault, &str); 6] = [
+    (
+        NavFault::TooLarge(23),
+        "yard.cfg:1:24: width times height must be at most 8388608, found \"3\"\n",
+    ),
+    (
+        NavFault::Word(27),
+        "yard.cfg:2:1: obsthresh: must stand here, found \"obsthresh:\"\n",
+    ),
+    (
+        NavFault::Word(42),
+        "yard.cfg:3:1: start(cells): must stand here, found \"start(cells):\"\n",
+    ),
+    (
+        NavFault::Range(58),
+        "yard.cfg:3:17: y of the start must be a whole number from 0 to 8388607, found \"0\"\n",
+    ),
+    (
+        NavFault::Number(97),
+        "yard.cfg:7:3: the cost of a cell must be a whole number from 0 to 255, found \"2\"\n",
+    ),
+    (
+        NavFault::Trailing(99),
+        "yard.cfg:7:5: the file must end after the cost of the last cell, found \"0\"\n",
+    ),
+];
+
 /// The start of a primitive file.
 const ROBOT: &str =
     "resolution_m: 0.1\nnumberofangles: 16\ntotalnumberofprimitives: 2\nprimID: 0\nstartangle_c: 0\nendpose_c: 1 0 0\nadditionalactioncostmult: 1\nintermediateposes: 2\n0 0 0\n0.1 0 x\nprimID: \x1b[2Jabcdefghijklmnopqrstuvwxyzabcdefghijklmnopqrstuvwxyz\n";
@@ -90,6 +124,10 @@ const JAM: &str = "cell 1 1 254\nreplan\n  cell 1 1\ncell 9 9 0\n";
 fn faults_have_messages(rt: HostRuntime) {
     for (text, fault, wanted) in &ENVIRONMENTS {
         let message = environment_message(rt.alloc(), "hall.cfg", text.as_bytes(), fault);
+        assert!(rt; is_said(message, wanted), "{wanted}");
+    }
+    for (fault, wanted) in &GRIDS {
+        let message = grid_message(rt.alloc(), "yard.cfg", YARD.as_bytes(), fault);
         assert!(rt; is_said(message, wanted), "{wanted}");
     }
     for (fault, wanted) in &PRIMITIVES {
@@ -128,8 +166,8 @@ fn faults_have_messages(rt: HostRuntime) {
 }
 
 /// Words, what the file c holds, a status, and its message; an empty one where there is none, as where the file has no fault. The file e
-/// has a map of three by two cells with sixteen headings, and m is not there.
-const STATUSES: [(&str, &str, u8, &str); 12] = [
+/// has a map of three by two cells with sixteen headings, n a grid of as many cells, and m is not there.
+const STATUSES: [(&str, &str, u8, &str); 19] = [
     (
         "plan e m --changes c --planner back",
         "replan\n\tstart 3 0 0\nreplan\n",
@@ -197,6 +235,48 @@ const STATUSES: [(&str, &str, u8, &str); 12] = [
         "temjoask: a write failed: to the standard output, or to the file of --labels, --trace or --incumbent\n",
     ),
     ("sweep e m", "", 9, ""),
+    (
+        "nav e --planner back",
+        "",
+        2,
+        "temjoask: --planner must be ad, ara or epase, found \"back\"\n",
+    ),
+    (
+        "nav c",
+        "discretization(cells): 3 3\nobsthresh: 100\nstart(cells): 0 0\nend(cells): 3 2\n",
+        3,
+        "c:4:13: the end must lie on the map, found \"3\"\n",
+    ),
+    (
+        "navcheck e l",
+        "",
+        3,
+        "e:3:1: start(cells): must stand here, found \"cost_inscribed_thresh:\"\n",
+    ),
+    (
+        "nav n --changes c",
+        "cell 3 0 5\nreplan\n",
+        5,
+        "c:1:1: the cell must lie on the map, found \"cell 3 0 5\"\n",
+    ),
+    (
+        "navcheck n l --changes c",
+        "start 0 0 0\nreplan\n",
+        5,
+        "c:1:1: a line must be \"cell X Y C\" or \"replan\", or have no fields, found \"start 0 0 0\"\n",
+    ),
+    (
+        "navcheck n m",
+        "",
+        6,
+        "m: the file could not be read: it must exist, and the program must be allowed to read it\n",
+    ),
+    (
+        "navcheck n c",
+        "labels 2 plan 0 states 6\n",
+        10,
+        "c:2:1: the section must go on, or the next one must follow, but the file ends here\n",
+    ),
 ];
 
 /// Whether this is the message for a status.
@@ -219,8 +299,12 @@ fn tells(
 
 /// Compares the messages for statuses.
 fn compare_statuses(rt: &impl Abort, alloc: Global, desk: &mut MemoryDesk) {
-    let held = [desk.hold("e", E2.as_bytes()), desk.hold("l", b"labels 2\n")];
-    assert!(rt; held == [Ok(()); 2]);
+    let held = [
+        desk.hold("e", E2.as_bytes()),
+        desk.hold("l", b"labels 2\n"),
+        desk.hold("n", YARD.as_bytes()),
+    ];
+    assert!(rt; held == [Ok(()); 3]);
     for (line, text, status, wanted) in &STATUSES {
         assert!(rt; desk.hold("c", text.as_bytes()).is_ok());
         assert!(rt;

@@ -203,6 +203,47 @@ fn failures(rt: HostRuntime) -> Result<(), Fail> {
     compare(&rt, rt.alloc(), &LARGE, &[row])
 }
 
+/// A grid with a wall in its middle, which is opened.
+static GRID: Files<'static> = [
+    Some(
+        "discretization(cells): 3 3
+obsthresh: 100
+start(cells): 0 0
+end(cells): 2 2
+environment:
+0 0 0
+0 100 0
+0 0 0
+",
+    ),
+    None,
+    Some("cell 1 1 0\nreplan\n"),
+];
+
+/// Plans on it: by four workers round the wall, which expand more or fewer states, and by Anytime D* through where it was.
+static GRIDS: [Row; 2] = [
+    (
+        "",
+        WORKS,
+        "nav e --planner epase --workers 4",
+        0,
+        "plan 0\n.. best 4000 bound 1.000\npath 4 cost 4000 bound 1.000\n..\ndone\n",
+    ),
+    (
+        "",
+        WORKS,
+        "nav e --changes c",
+        0,
+        "plan 0\npass 1.000 expanded 7 best 4000 bound 1.000\npath 4 cost 4000 bound 1.000\npose 0 0\nstep 0 1 0\nstep 0 2 0\nstep 2 2 1\nstep 2 2 2\nplan 1\n..\npath 2 cost 2828 bound 1.000\npose 0 0\nstep 1 1 1\nstep 1 2 2\ndone\n",
+    ),
+];
+
+/// Grids with eight neighbours.
+#[test]
+fn grids(rt: HostRuntime) -> Result<(), Fail> {
+    compare(&rt, rt.alloc(), &GRID, &GRIDS)
+}
+
 /// Fifteen by fifteen empty cells, and a robot with sixteen headings.
 #[test]
 fn realistic_map(rt: HostRuntime) -> Result<(), Fail> {
