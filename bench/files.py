@@ -48,19 +48,35 @@ def primitives():
     return "\n".join(lines) + "\n"
 
 
-def environment(draws, n):
-    """A map of n by n cells, drawn as `demo` draws it."""
+def drawn_costs(draws, n):
+    """The costs of n by n cells, drawn as `demo` draws them."""
     costs = []
     for _ in range(n * n):
         drawn = draws.next() % 100
         costs.append(254 if drawn < 15 else 20 if drawn < 30 else 0)
     costs[n + 1] = costs[(n - 2) * n + n - 2] = 0
+    return costs
+
+
+def rows_of_costs(costs, n):
+    return "".join(" ".join(map(str, costs[y * n:(y + 1) * n])) + "\n" for y in range(n))
+
+
+def grid(draws, n):
+    """A grid of n by n cells for `nav`, drawn as `demo` draws it."""
+    head = f"discretization(cells): {n} {n}\nobsthresh: 254\nstart(cells): 1 1\nend(cells): {n - 2} {n - 2}\nenvironment:\n"
+    return head + rows_of_costs(drawn_costs(draws, n), n)
+
+
+def environment(draws, n):
+    """A map of n by n cells, drawn as `demo` draws it."""
+    costs = drawn_costs(draws, n)
     center = lambda cell: f"{0.025 * cell + 0.0125:.4f}"
     head = (f"discretization(cells): {n} {n}\nobsthresh: 254\ncost_inscribed_thresh: 253\n"
             "cost_possibly_circumscribed_thresh: 128\ncellsize(meters): 0.025\nnominalvel(mpersecs): 1.0\n"
             f"timetoturn45degsinplace(secs): 2.0\nstart(meters,rads): {center(1)} {center(1)} 0\n"
             f"end(meters,rads): {center(n - 2)} {center(n - 2)} 0\nenvironment:\n")
-    return head + "".join(" ".join(map(str, costs[y * n:(y + 1) * n])) + "\n" for y in range(n))
+    return head + rows_of_costs(costs, n)
 
 
 def hall(draws, n, radius):

@@ -7,11 +7,12 @@
 //! - *Speed.* Its expansions a second say what the same search costs in ordinary Rust on the same machine.
 //! - *Bytes.* What it prints must be what the proved program prints, byte for byte, on every seed, size and file.
 //!
-//! It knows two commands, without a budget:
+//! It knows three commands, without a budget:
 //!
 //! ```text
 //! plain demo SEED W H
 //! plain plan ENV MPRIM [--radius R] [--changes F] [--planner ad|ara] [--first E] [--step E] [--bound B]
+//! plain nav ENV [--changes F] [--planner ad|ara] [--first E] [--step E] [--bound B]
 //! ```
 //!
 //! It trusts its input: words and files that the proved program refuses make it panic, or are read as they come.
@@ -45,7 +46,8 @@ fn main() {
     match words[..] {
         ["demo", seed, width, height] => demo(number(seed), number(width), number(height)),
         ["plan", env, primitives, ref options @ ..] => plan(env, primitives, options),
-        _ => panic!("usage: plain demo SEED W H, or plain plan ENV MPRIM [OPTIONS]"),
+        ["nav", env, ref options @ ..] => nav(env, options),
+        _ => panic!("usage: plain demo SEED W H, plain plan ENV MPRIM [OPTIONS], or plain nav ENV [OPTIONS]"),
     }
 }
 
@@ -55,32 +57,61 @@ fn demo(seed: u64, width: i32, height: i32) {
     let states = problem.env.costs.len() * problem.env.headings;
     println!("demo states {states} primitives {} batches {}", problem.primitives.len(), problem.batches.len());
     let settings = Settings { repair: true, first: 3 * ONE, step: ONE / 2, bound: ONE };
-    problem.solve(&settings, |number, plan| print!("{}", plan.line(number)));
+    let lattice = Lattice::new(&problem.env, &problem.primitives, problem.radius);
+    let (start, goal) = (lattice.state(problem.env.start), lattice.state(problem.env.goal));
+    solve(lattice, start, goal, &problem.batches, &settings, |number, plan| print!("{}", plan.line(number)));
     println!("done");
 }
 
-/// Reads a problem from files, plans on it, and prints a section for each plan.
+/// Plans on the lattice of an environment file and a file of primitives, and prints a section for each plan.
 fn plan(env: &str, primitives: &str, options: &[&str]) {
-    let read = |name: &str| std::fs::read_to_string(name).unwrap_or_else(|fault| panic!("{name}: {fault}"));
-    let mut settings = Settings { repair: true, first: ONE, step: ONE / 2, bound: ONE };
-    let mut batches = Vec::new();
-    let mut radius = 0;
-    for option in options.chunks(2) {
-        let thousandths = || (nano(option[1]) / 1_000_000) as u64;
-        match option[0] {
-            "--radius" => radius = nano(option[1]),
-            "--changes" => batches = read_changes(&read(option[1])),
-            "--planner" => settings.repair = option[1] == "ad",
-            "--first" => settings.first = thousandths(),
-            "--step" => settings.step = thousandths(),
-            "--bound" => settings.bound = thousandths(),
-            other => panic!("unknown option {other}"),
-        }
-    }
+    let options = Options::of(options);
     let env = read_env(Tokens::of(&read(env)));
     let primitives = read_primitives(Tokens::of(&read(primitives)), env.headings);
-    Problem { env, primitives, batches, radius }.solve(&settings, |number, plan| print!("{}", plan.section(number)));
+    let lattice = Lattice::new(&env, &primitives, options.radius);
+    let (start, goal) = (lattice.state(env.start), lattice.state(env.goal));
+    solve(lattice, start, goal, &options.batches, &options.settings, |number, plan| print!("{}", plan.section(number)));
     println!("done");
+}
+
+/// Plans on the grid of an environment file, and prints a section for each plan.
+fn nav(env: &str, options: &[&str]) {
+    let options = Options::of(options);
+    let (grid, start, goal) = read_grid(Tokens::of(&read(env)));
+    solve(grid, start, goal, &options.batches, &options.settings, |number, plan| print!("{}", plan.section(number)));
+    println!("done");
+}
+
+/// The text of a file.
+fn read(name: &str) -> String {
+    std::fs::read_to_string(name).unwrap_or_else(|fault| panic!("{name}: {fault}"))
+}
+
+/// What the options say: the settings, the batches of the change file, and the radius in nanometres.
+struct Options {
+    settings: Settings,
+    batches: Vec<Vec<Write>>,
+    radius: i64,
+}
+
+impl Options {
+    fn of(words: &[&str]) -> Options {
+        let settings = Settings { repair: true, first: ONE, step: ONE / 2, bound: ONE };
+        let mut options = Options { settings, batches: Vec::new(), radius: 0 };
+        for option in words.chunks(2) {
+            let thousandths = || (nano(option[1]) / 1_000_000) as u64;
+            match option[0] {
+                "--radius" => options.radius = nano(option[1]),
+                "--changes" => options.batches = read_changes(&read(option[1])),
+                "--planner" => options.settings.repair = option[1] == "ad",
+                "--first" => options.settings.first = thousandths(),
+                "--step" => options.settings.step = thousandths(),
+                "--bound" => options.settings.bound = thousandths(),
+                other => panic!("unknown option {other}"),
+            }
+        }
+        options
+    }
 }
 
 // ---- What is planned on ----
@@ -152,16 +183,60 @@ struct Settings {
     bound: u64,
 }
 
-impl Problem {
-    /// Makes the plan on the first map and one after each batch, and shows each with its number.
-    fn solve(&self, settings: &Settings, show: impl Fn(usize, &Plan)) {
-        let mut planner = Planner::new(&self.env, &self.primitives, self.radius);
-        show(0, &planner.plan(settings));
-        for (number, batch) in self.batches.iter().enumerate() {
-            planner.change(batch, settings.repair);
-            show(number + 1, &planner.plan(settings));
-        }
+/// Makes the plan on the first map and one after each batch, and shows each with its number.
+fn solve<G: Graph>(graph: G, start: u32, goal: u32, batches: &[Vec<Write>], settings: &Settings, show: impl Fn(usize, &Plan)) {
+    let mut planner = Planner::new(graph, start, goal);
+    show(0, &planner.plan(settings));
+    for (number, batch) in batches.iter().enumerate() {
+        planner.change(batch, settings.repair);
+        show(number + 1, &planner.plan(settings));
     }
+}
+
+/// What is planned on: states, and arcs whose costs hang on a map.
+trait Graph {
+    /// Where a state is.
+    type At: Copy;
+    type Guide: Guide;
+
+    fn states(&self) -> usize;
+    fn at(&self, state: u32) -> Self::At;
+    /// Where a state is, as a report says it.
+    fn shown(&self, at: Self::At) -> String;
+    /// The arcs out of a state.
+    fn heads(&self, source: Self::At) -> impl Iterator<Item = Head>;
+    /// The arcs into a state, in the order in which they are tried.
+    fn tails(&self, head: Self::At) -> impl Iterator<Item = Tail<Self::At>>;
+    /// What an arc's step is called in a report.
+    fn name(&self, source: Self::At, arc: u32) -> u32;
+    /// The arc's cost on the present map, where it is free.
+    fn judge(&self, source: Self::At, arc: u32) -> Option<u64>;
+    /// What no arc costs more than.
+    fn dearest(&self) -> u64;
+    /// Writes the costs, and answers the heads of all arcs that read a cell whose cost is now another, in order.
+    fn change(&mut self, batch: &[Write]) -> Vec<u32>;
+    /// Lower bounds on the way to the goal, on the present map.
+    fn guide(&self, goal: u32) -> Self::Guide;
+}
+
+/// Lower bounds on the way to the goal.
+trait Guide {
+    fn to_goal(&self, state: u32) -> u64;
+}
+
+/// An arc seen from its source: its number, the state that it leads to, and its cost where all cells cost nothing.
+struct Head {
+    arc: u32,
+    state: u32,
+    least: u64,
+}
+
+/// An arc seen from its head.
+struct Tail<At> {
+    at: At,
+    source: u32,
+    arc: u32,
+    least: u64,
 }
 
 /// The one of so many headings whose bin is nearest to the angle.
@@ -235,10 +310,10 @@ struct Map {
 const FRAME: u8 = u8::MAX;
 
 impl Map {
-    fn new(env: &Env, frame_x: i32, frame_y: i32) -> Map {
-        let cells = (env.width + 2 * frame_x) as usize * (env.height + 2 * frame_y) as usize;
-        let mut map = Map { width: env.width, height: env.height, frame_x, frame_y, costs: vec![FRAME; cells] };
-        for (y, row) in env.costs.chunks_exact(env.width as usize).enumerate() {
+    fn new(width: i32, height: i32, costs: &[u8], frame_x: i32, frame_y: i32) -> Map {
+        let cells = (width + 2 * frame_x) as usize * (height + 2 * frame_y) as usize;
+        let mut map = Map { width, height, frame_x, frame_y, costs: vec![FRAME; cells] };
+        for (y, row) in costs.chunks_exact(width as usize).enumerate() {
             let from = map.place(0, y as i32);
             map.costs[from..from + row.len()].copy_from_slice(row);
         }
@@ -267,6 +342,17 @@ impl Map {
         self.has(x, y).then_some((x, y))
     }
 
+    /// Writes the costs, and answers the places whose cost is now another.
+    fn write(&mut self, batch: &[Write]) -> Vec<usize> {
+        let mut before = BTreeMap::new();
+        for write in batch {
+            let place = self.place(write.x, write.y);
+            let old = std::mem::replace(&mut self.costs[place], write.cost);
+            before.entry(place).or_insert(old);
+        }
+        before.into_iter().filter(|&(place, old)| self.costs[place] != old).map(|(place, _)| place).collect()
+    }
+
     /// Whether the cell is on the map.
     fn has(&self, x: i32, y: i32) -> bool {
         (0..self.width).contains(&x) && (0..self.height).contains(&y)
@@ -287,8 +373,8 @@ struct Arc {
     swept: Box<[isize]>,
 }
 
-/// An arc seen from its head.
-struct Tail {
+/// An arc of a heading, by its number.
+struct ArcOf {
     from: usize,
     arc: usize,
 }
@@ -303,7 +389,7 @@ struct Lattice {
     blocked: u8,
     /// For each heading the arcs that start there, and the tails of those that end there.
     arcs: Vec<Vec<Arc>>,
-    tails: Vec<Vec<Tail>>,
+    tails: Vec<Vec<ArcOf>>,
 }
 
 impl Lattice {
@@ -324,11 +410,11 @@ impl Lattice {
         let all = || reads.iter().chain(&sweeps).flatten();
         let frame_x = all().map(|read| read.0.abs()).max().unwrap_or(0);
         let frame_y = all().map(|read| read.1.abs()).max().unwrap_or(0);
-        let map = Map::new(env, frame_x, frame_y);
+        let map = Map::new(env.width, env.height, &env.costs, frame_x, frame_y);
 
         let headings = env.headings;
         let mut arcs: Vec<Vec<Arc>> = (0..headings).map(|_| Vec::new()).collect();
-        let mut tails: Vec<Vec<Tail>> = (0..headings).map(|_| Vec::new()).collect();
+        let mut tails: Vec<Vec<ArcOf>> = (0..headings).map(|_| Vec::new()).collect();
         let places = |cells: &[(i32, i32)]| {
             let mut places: Vec<isize> = cells.iter().map(|&(dx, dy)| map.offset(dx, dy)).collect();
             places.sort_unstable();
@@ -341,14 +427,10 @@ impl Lattice {
             let mut swept = places(sweep);
             swept.retain(|place| reads.binary_search(place).is_err());
             let cost = primitive.cost(env);
-            tails[to].push(Tail { from, arc: arcs[from].len() });
+            tails[to].push(ArcOf { from, arc: arcs[from].len() });
             arcs[from].push(Arc { id, dx, dy, to, cost, reads: reads.into(), swept: swept.into() });
         }
         Lattice { map, headings, obstacle: env.obstacle, blocked: env.obstacle.min(env.inscribed), arcs, tails }
-    }
-
-    fn states(&self) -> usize {
-        (self.map.width * self.map.height) as usize * self.headings
     }
 
     fn state(&self, pos: Pos) -> u32 {
@@ -367,8 +449,58 @@ impl Lattice {
         self.map.has(x, y).then(|| self.state(Pos { x, y, heading: arc.to }))
     }
 
-    /// The arc's cost on the present map, where it is free.
-    fn judge(&self, source: Pos, arc: &Arc) -> Option<u64> {
+    /// The heads of the arcs that read the cell at a place, some of them more than once.
+    fn heads_reading(&self, place: usize) -> Vec<u32> {
+        let mut heads = Vec::new();
+        for (heading, arcs) in self.arcs.iter().enumerate() {
+            for arc in arcs {
+                for read in arc.reads.iter().chain(&arc.swept).chain(&[0]) {
+                    let source = self.map.cell(place.wrapping_add_signed(-read));
+                    heads.extend(source.and_then(|(x, y)| self.head(Pos { x, y, heading }, arc)));
+                }
+            }
+        }
+        heads
+    }
+}
+
+impl Graph for Lattice {
+    type At = Pos;
+    type Guide = LatticeGuide;
+
+    fn states(&self) -> usize {
+        (self.map.width * self.map.height) as usize * self.headings
+    }
+
+    fn at(&self, state: u32) -> Pos {
+        self.pos(state)
+    }
+
+    fn shown(&self, at: Pos) -> String {
+        format!("{} {} {}", at.x, at.y, at.heading)
+    }
+
+    fn heads(&self, source: Pos) -> impl Iterator<Item = Head> {
+        self.arcs[source.heading].iter().zip(0..).filter_map(move |(arc, number)| {
+            Some(Head { arc: number, state: self.head(source, arc)?, least: arc.cost })
+        })
+    }
+
+    /// In the primitives' order.
+    fn tails(&self, head: Pos) -> impl Iterator<Item = Tail<Pos>> {
+        self.tails[head.heading].iter().filter_map(move |&ArcOf { from, arc: number }| {
+            let arc = &self.arcs[from][number];
+            let at = Pos { x: head.x - arc.dx, y: head.y - arc.dy, heading: from };
+            self.map.has(at.x, at.y).then(|| Tail { at, source: self.state(at), arc: number as u32, least: arc.cost })
+        })
+    }
+
+    fn name(&self, source: Pos, arc: u32) -> u32 {
+        self.arcs[source.heading][arc as usize].id
+    }
+
+    fn judge(&self, source: Pos, arc: u32) -> Option<u64> {
+        let arc = &self.arcs[source.heading][arc as usize];
         let place = self.map.place(source.x, source.y);
         let mut worst = self.map.costs[place];
         if worst >= self.obstacle {
@@ -389,42 +521,108 @@ impl Lattice {
         Some(arc.cost * (1 + u64::from(worst)))
     }
 
-    /// The sources of the arcs that lead to a state, with the arcs and their numbers, in the primitives' order.
-    fn tails(&self, head: Pos) -> impl Iterator<Item = (Pos, usize, &Arc)> {
-        self.tails[head.heading].iter().filter_map(move |tail| {
-            let arc = &self.arcs[tail.from][tail.arc];
-            let (x, y) = (head.x - arc.dx, head.y - arc.dy);
-            self.map.has(x, y).then_some((Pos { x, y, heading: tail.from }, tail.arc, arc))
-        })
+    fn dearest(&self) -> u64 {
+        self.arcs.iter().flatten().map(|arc| 256 * arc.cost).max().unwrap_or(0)
     }
 
-    /// Writes the costs, and answers the heads of all arcs that read a cell whose cost is now another.
     fn change(&mut self, batch: &[Write]) -> Vec<u32> {
-        let mut before = BTreeMap::new();
-        for write in batch {
-            let place = self.map.place(write.x, write.y);
-            let old = std::mem::replace(&mut self.map.costs[place], write.cost);
-            before.entry(place).or_insert(old);
-        }
-        let changed = before.into_iter().filter(|&(place, old)| self.map.costs[place] != old);
-        let mut heads: Vec<u32> = changed.flat_map(|(place, _)| self.heads_reading(place)).collect();
+        let changed = self.map.write(batch);
+        let mut heads: Vec<u32> = changed.into_iter().flat_map(|place| self.heads_reading(place)).collect();
         heads.sort_unstable();
         heads.dedup();
         heads
     }
 
-    /// The heads of the arcs that read the cell at a place, some of them more than once.
-    fn heads_reading(&self, place: usize) -> Vec<u32> {
-        let mut heads = Vec::new();
-        for (heading, arcs) in self.arcs.iter().enumerate() {
-            for arc in arcs {
-                for read in arc.reads.iter().chain(&arc.swept).chain(&[0]) {
-                    let source = self.map.cell(place.wrapping_add_signed(-read));
-                    heads.extend(source.and_then(|(x, y)| self.head(Pos { x, y, heading }, arc)));
-                }
-            }
+    fn guide(&self, goal: u32) -> LatticeGuide {
+        LatticeGuide::new(self, self.pos(goal))
+    }
+}
+
+/// The steps of a grid with eight neighbours. The odd ones are diagonals.
+const EIGHT: [(i32, i32); 8] = [(1, 0), (1, 1), (0, 1), (-1, 1), (-1, 0), (-1, -1), (0, -1), (1, -1)];
+/// What a step costs over cells that cost nothing, along an axis and on a diagonal.
+const STEP_COSTS: [u64; 2] = [1000, 1414];
+
+/// A grid with eight neighbours: states are cells, and an arc leads one cell in one of the directions.
+struct Grid {
+    map: Map,
+    /// Cells that an arc reads cost less than this.
+    obstacle: u8,
+}
+
+impl Grid {
+    /// The state one step from a cell, unless it is off the map.
+    fn step(&self, (x, y): (i32, i32), (dx, dy): (i32, i32)) -> Option<u32> {
+        let (x, y) = (x + dx, y + dy);
+        self.map.has(x, y).then_some((y * self.map.width + x) as u32)
+    }
+}
+
+impl Graph for Grid {
+    type At = (i32, i32);
+    type Guide = Octile;
+
+    fn states(&self) -> usize {
+        (self.map.width * self.map.height) as usize
+    }
+
+    fn at(&self, state: u32) -> (i32, i32) {
+        let width = self.map.width as u32;
+        ((state % width) as i32, (state / width) as i32)
+    }
+
+    fn shown(&self, (x, y): (i32, i32)) -> String {
+        format!("{x} {y}")
+    }
+
+    fn heads(&self, source: (i32, i32)) -> impl Iterator<Item = Head> {
+        (0..8).filter_map(move |arc| {
+            Some(Head { arc, state: self.step(source, EIGHT[arc as usize])?, least: STEP_COSTS[arc as usize % 2] })
+        })
+    }
+
+    fn tails(&self, (x, y): (i32, i32)) -> impl Iterator<Item = Tail<(i32, i32)>> {
+        (0..8).filter_map(move |arc| {
+            let (dx, dy) = EIGHT[arc as usize];
+            let source = self.step((x, y), (-dx, -dy))?;
+            Some(Tail { at: (x - dx, y - dy), source, arc, least: STEP_COSTS[arc as usize % 2] })
+        })
+    }
+
+    fn name(&self, _: (i32, i32), arc: u32) -> u32 {
+        arc
+    }
+
+    fn judge(&self, (x, y): (i32, i32), arc: u32) -> Option<u64> {
+        let (dx, dy) = EIGHT[arc as usize];
+        let place = self.map.place(x, y);
+        let cost = |dx, dy| self.map.costs[place.wrapping_add_signed(self.map.offset(dx, dy))];
+        let mut worst = cost(0, 0).max(cost(dx, dy));
+        if arc % 2 == 1 {
+            worst = worst.max(cost(dx, 0)).max(cost(0, dy));
         }
+        (worst < self.obstacle).then(|| STEP_COSTS[arc as usize % 2] * (1 + u64::from(worst)))
+    }
+
+    fn dearest(&self) -> u64 {
+        256 * STEP_COSTS[1]
+    }
+
+    /// The arcs that read a cell begin and end at most one cell from it.
+    fn change(&mut self, batch: &[Write]) -> Vec<u32> {
+        let cells: Vec<_> = self.map.write(batch).into_iter().filter_map(|place| self.map.cell(place)).collect();
+        let mut heads = Vec::new();
+        for cell in cells {
+            heads.extend(EIGHT.iter().chain(&[(0, 0)]).filter_map(|&step| self.step(cell, step)));
+        }
+        heads.sort_unstable();
+        heads.dedup();
         heads
+    }
+
+    fn guide(&self, goal: u32) -> Octile {
+        let (x, y) = self.at(goal);
+        Octile { width: self.map.width as u32, x: x as u32, y: y as u32 }
     }
 }
 
@@ -442,15 +640,29 @@ fn bound_over(units: u64, rate: Option<Rate>) -> u64 {
     rate.map_or(0, |rate| units * rate.cost / rate.units)
 }
 
-/// Lower bounds on the way to the goal: the greater of that of a state's cell and that of its heading.
-struct Guide {
+/// On a grid: the cost of the shortest way by straight and diagonal steps over cells that cost nothing.
+struct Octile {
+    width: u32,
+    x: u32,
+    y: u32,
+}
+
+impl Guide for Octile {
+    fn to_goal(&self, state: u32) -> u64 {
+        let (x, y) = ((state % self.width).abs_diff(self.x), (state / self.width).abs_diff(self.y));
+        STEP_COSTS[0] * u64::from(x.max(y)) + (STEP_COSTS[1] - STEP_COSTS[0]) * u64::from(x.min(y))
+    }
+}
+
+/// On a lattice: the greater of the bound of a state's cell and that of its heading.
+struct LatticeGuide {
     cells: Vec<u64>,
     headings: Vec<u64>,
 }
 
-impl Guide {
+impl LatticeGuide {
     /// The bounds on the present map.
-    fn new(lattice: &Lattice, goal: Pos) -> Guide {
+    fn new(lattice: &Lattice, goal: Pos) -> LatticeGuide {
         let rate = |units: &dyn Fn(usize, &Arc) -> i64| {
             let arcs = lattice.arcs.iter().enumerate().flat_map(|(from, arcs)| arcs.iter().map(move |arc| (from, arc)));
             let rates = arcs.map(|(from, arc)| (arc.cost, units(from, arc))).filter(|&(_, units)| units > 0);
@@ -471,9 +683,11 @@ impl Guide {
         }
         let turned = |heading| turns_between(lattice.headings, heading, goal.heading);
         let headings = (0..lattice.headings).map(|heading| bound_over(turned(heading), turns)).collect();
-        Guide { cells, headings }
+        LatticeGuide { cells, headings }
     }
+}
 
+impl Guide for LatticeGuide {
     fn to_goal(&self, state: u32) -> u64 {
         let n = self.headings.len() as u32;
         self.cells[(state / n) as usize].max(self.headings[(state % n) as usize])
@@ -572,7 +786,7 @@ impl Search {
     }
 
     /// Expands states until no open key is below the goal's, and answers how many.
-    fn pass(&mut self, lattice: &Lattice, guide: &Guide, inflation: u64) -> u64 {
+    fn pass<G: Graph>(&mut self, graph: &G, guide: &G::Guide, inflation: u64) -> u64 {
         self.pass += 1;
         self.open.clear();
         for state in std::mem::take(&mut self.unsettled) {
@@ -587,9 +801,9 @@ impl Search {
             if self.key(guide, inflation, key.state) == Some(key) {
                 expanded += 1;
                 if self.label(key.state).g < self.label(key.state).v {
-                    self.settle(lattice, guide, inflation, key.state);
+                    self.settle(graph, guide, inflation, key.state);
                 } else {
-                    self.raise(lattice, guide, inflation, key.state);
+                    self.raise(graph, guide, inflation, key.state);
                 }
             }
         }
@@ -614,7 +828,7 @@ impl Search {
     }
 
     /// The state's key, where it belongs into OPEN: where it is underconsistent, or overconsistent and not closed.
-    fn key(&self, guide: &Guide, inflation: u64, state: u32) -> Option<Key> {
+    fn key(&self, guide: &impl Guide, inflation: u64, state: u32) -> Option<Key> {
         let &Label { g, v, closed, .. } = self.label(state);
         match g.cmp(&v) {
             Ordering::Less if closed == self.pass => None,
@@ -625,7 +839,7 @@ impl Search {
     }
 
     /// Puts the state into OPEN where it belongs there. Entries with older keys of it are thereby out of date.
-    fn place(&mut self, guide: &Guide, inflation: u64, state: u32) {
+    fn place(&mut self, guide: &impl Guide, inflation: u64, state: u32) {
         match self.key(guide, inflation, state) {
             Some(key) => self.open.push(Reverse(key)),
             None if self.label(state).g < self.label(state).v => self.inconsistent.push(state),
@@ -634,34 +848,31 @@ impl Search {
     }
 
     /// Expands an overconsistent state: its heads are lowered by what it costs now.
-    fn settle(&mut self, lattice: &Lattice, guide: &Guide, inflation: u64, state: u32) {
+    fn settle<G: Graph>(&mut self, graph: &G, guide: &G::Guide, inflation: u64, state: u32) {
         let label = &mut self.labels[state as usize];
         label.v = label.g;
         label.closed = self.pass;
-        let (v, pos) = (label.v, lattice.pos(state));
-        for (number, arc) in lattice.arcs[pos.heading].iter().enumerate() {
-            let Some(head) = lattice.head(pos, arc) else { continue };
-            if v + arc.cost >= self.label(head).g {
+        let (v, at) = (label.v, graph.at(state));
+        for Head { arc, state: head, least } in graph.heads(at) {
+            if v + least >= self.label(head).g {
                 continue;
             }
-            let Some(cost) = lattice.judge(pos, arc) else { continue };
+            let Some(cost) = graph.judge(at, arc) else { continue };
             let label = &mut self.labels[head as usize];
             if v + cost < label.g && head != self.start {
                 label.g = v + cost;
-                label.back = Some(Back { source: state, arc: number as u32 });
+                label.back = Some(Back { source: state, arc });
                 self.place(guide, inflation, head);
             }
         }
     }
 
     /// Expands an underconsistent state: what its heads had from it is taken back.
-    fn raise(&mut self, lattice: &Lattice, guide: &Guide, inflation: u64, state: u32) {
+    fn raise<G: Graph>(&mut self, graph: &G, guide: &G::Guide, inflation: u64, state: u32) {
         self.labels[state as usize].v = FAR;
-        let pos = lattice.pos(state);
-        for (number, arc) in lattice.arcs[pos.heading].iter().enumerate() {
-            let Some(head) = lattice.head(pos, arc) else { continue };
-            if self.label(head).back == Some(Back { source: state, arc: number as u32 }) {
-                self.recompute(lattice, head);
+        for Head { arc, state: head, .. } in graph.heads(graph.at(state)) {
+            if self.label(head).back == Some(Back { source: state, arc }) {
+                self.recompute(graph, head);
                 self.place(guide, inflation, head);
             }
         }
@@ -669,17 +880,16 @@ impl Search {
     }
 
     /// Finds the state's `g` and the arc that gives it anew.
-    fn recompute(&mut self, lattice: &Lattice, state: u32) {
+    fn recompute(&mut self, graph: &impl Graph, state: u32) {
         if state == self.start {
             return;
         }
         let (mut g, mut back) = (FAR, None);
-        for (pos, number, arc) in lattice.tails(lattice.pos(state)) {
-            let source = lattice.state(pos);
+        for Tail { at, source, arc, least } in graph.tails(graph.at(state)) {
             let v = self.label(source).v;
-            let cost = if v < FAR && v + arc.cost < g { lattice.judge(pos, arc) } else { None };
+            let cost = if v < FAR && v + least < g { graph.judge(at, arc) } else { None };
             if let Some(sum) = cost.map(|cost| v + cost).filter(|&sum| sum < g) {
-                (g, back) = (sum, Some(Back { source, arc: number as u32 }));
+                (g, back) = (sum, Some(Back { source, arc }));
             }
         }
         let label = &mut self.labels[state as usize];
@@ -687,15 +897,15 @@ impl Search {
     }
 
     /// Takes in that the map changed: each of the states may have other arcs into it.
-    fn change(&mut self, lattice: &Lattice, touched: Vec<u32>) {
+    fn change(&mut self, graph: &impl Graph, touched: Vec<u32>) {
         for &state in &touched {
-            self.recompute(lattice, state);
+            self.recompute(graph, state);
         }
         self.list_unsettled(touched);
     }
 
     /// A lower bound on the cost of every path.
-    fn low(&self, guide: &Guide) -> u64 {
+    fn low(&self, guide: &impl Guide) -> u64 {
         let sums = self.unsettled.iter().map(|&state| self.label(state).g.saturating_add(guide.to_goal(state)));
         sums.fold(self.label(self.goal).g, u64::min)
     }
@@ -707,7 +917,7 @@ impl Search {
     }
 
     /// Follows the back arcs from the goal to the start.
-    fn walk(&self, lattice: &Lattice, guide: &Guide) -> Walk {
+    fn walk<G: Graph>(&self, graph: &G, guide: &G::Guide) -> Walk {
         if self.label(self.goal).g == FAR {
             return Walk::None;
         }
@@ -718,14 +928,13 @@ impl Search {
                 return Walk::Broken;
             }
             let Some(back) = label.back else { break };
-            let pos = lattice.pos(back.source);
-            let arc = &lattice.arcs[pos.heading][back.arc as usize];
-            cost += lattice.judge(pos, arc).expect("a back arc is free");
-            steps.push(Step { id: arc.id, end: lattice.pos(at) });
+            let source = graph.at(back.source);
+            cost += graph.judge(source, back.arc).expect("a back arc is free");
+            steps.push(Step { name: graph.name(source, back.arc), end: graph.shown(graph.at(at)) });
             at = back.source;
         }
         steps.reverse();
-        Walk::Path(Path { start: lattice.pos(at), steps, cost, bound: bound_of(cost, self.low(guide)) })
+        Walk::Path(Path { start: graph.shown(graph.at(at)), steps, cost, bound: bound_of(cost, self.low(guide)) })
     }
 }
 
@@ -739,15 +948,15 @@ fn bound_of(cost: u64, low: u64) -> u64 {
 
 // ---- Plans ----
 
-/// A step of a path: the primitive's id and where it ends.
+/// A step of a path: the name of its arc and where it ends.
 struct Step {
-    id: u32,
-    end: Pos,
+    name: u32,
+    end: String,
 }
 
 /// A path with its cost and its bound.
 struct Path {
-    start: Pos,
+    start: String,
     steps: Vec<Step>,
     cost: u64,
     bound: u64,
@@ -774,39 +983,37 @@ struct Plan {
 }
 
 /// Plans on a map that changes.
-struct Planner {
-    lattice: Lattice,
+struct Planner<G> {
+    graph: G,
     search: Search,
 }
 
-impl Planner {
-    fn new(env: &Env, primitives: &[Primitive], radius: i64) -> Planner {
-        let lattice = Lattice::new(env, primitives, radius);
-        let dearest = lattice.arcs.iter().flatten().map(|arc| 256 * arc.cost).max().unwrap_or(0);
-        let longest = u128::from(dearest) * lattice.states() as u128;
-        assert!(longest * u128::from(HUNDRED) < u128::from(FAR), "primitives too dear for keys of 64 bits");
-        let search = Search::new(lattice.states(), lattice.state(env.start), lattice.state(env.goal));
-        Planner { lattice, search }
+impl<G: Graph> Planner<G> {
+    fn new(graph: G, start: u32, goal: u32) -> Planner<G> {
+        let longest = u128::from(graph.dearest()) * graph.states() as u128;
+        assert!(longest * u128::from(HUNDRED) < u128::from(FAR), "arcs too dear for keys of 64 bits");
+        let search = Search::new(graph.states(), start, goal);
+        Planner { graph, search }
     }
 
     /// Changes the map. The search is repaired, or begun anew.
     fn change(&mut self, batch: &[Write], repair: bool) {
-        let touched = self.lattice.change(batch);
+        let touched = self.graph.change(batch);
         if repair {
-            self.search.change(&self.lattice, touched);
+            self.search.change(&self.graph, touched);
         } else {
-            self.search = Search::new(self.lattice.states(), self.search.start, self.search.goal);
+            self.search = Search::new(self.graph.states(), self.search.start, self.search.goal);
         }
     }
 
     /// Makes passes of falling inflation until the path is good enough or none can be better.
     fn plan(&mut self, settings: &Settings) -> Plan {
-        let guide = Guide::new(&self.lattice, self.lattice.pos(self.search.goal));
+        let guide = self.graph.guide(self.search.goal);
         let mut passes = Vec::new();
         let mut inflation = settings.first;
         loop {
-            let expanded = self.search.pass(&self.lattice, &guide, inflation);
-            let walk = self.search.walk(&self.lattice, &guide);
+            let expanded = self.search.pass(&self.graph, &guide, inflation);
+            let walk = self.search.walk(&self.graph, &guide);
             let good = matches!(&walk, Walk::Path(path) if path.bound <= settings.bound);
             passes.push(Pass { inflation, expanded, walk });
             let no_path = self.search.shows_none();
@@ -849,9 +1056,9 @@ impl Plan {
         }
         writeln!(out, "{}", self.result()).unwrap();
         if let Walk::Path(Path { start, steps, .. }) = &self.passes[self.passes.len() - 1].walk {
-            writeln!(out, "pose {} {} {}", start.x, start.y, start.heading).unwrap();
-            for Step { id, end } in steps {
-                writeln!(out, "step {id} {} {} {}", end.x, end.y, end.heading).unwrap();
+            writeln!(out, "pose {start}").unwrap();
+            for Step { name, end } in steps {
+                writeln!(out, "step {name} {end}").unwrap();
             }
         }
         out
@@ -1017,6 +1224,21 @@ fn read_env(mut tokens: Tokens) -> Env {
     tokens.word("environment:");
     let costs = (0..width * height).map(|_| tokens.whole()).collect();
     Env { width, height, headings, obstacle, inscribed, cell, speed, turn45, start, goal, costs }
+}
+
+/// Reads a grid with its start and its goal.
+fn read_grid(mut tokens: Tokens) -> (Grid, u32, u32) {
+    let width: i32 = tokens.word("discretization(cells):").whole();
+    let height: i32 = tokens.whole();
+    let obstacle = tokens.word("obsthresh:").whole();
+    let mut state = |word| {
+        let (x, y): (i32, i32) = (tokens.word(word).whole(), tokens.whole());
+        (y * width + x) as u32
+    };
+    let (start, goal) = (state("start(cells):"), state("end(cells):"));
+    tokens.word("environment:");
+    let costs: Vec<u8> = (0..width * height).map(|_| tokens.whole()).collect();
+    (Grid { map: Map::new(width, height, &costs, 1, 1), obstacle }, start, goal)
 }
 
 fn read_primitives(mut tokens: Tokens, headings: usize) -> Vec<Primitive> {
