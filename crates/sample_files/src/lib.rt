@@ -2,8 +2,6 @@
 //! stands here once.
 #![tactic(auto)]
 
-ghost use Rattle.std.specs.Prelude.{◌<◌};
-
 use std::alloc::{AllocError, Global};
 
 /// Three cells in a row, from the first to the last.
@@ -163,6 +161,11 @@ const STEPS: [(i32, i32, i32); 16] = [
     (2, -1, 58905),
 ];
 
+/// The step along a heading, and its angle.
+fn step(heading: u8) -> (i32, i32, i32) {
+    STEPS[usize::from(heading % 16)]
+}
+
 /// Appends a number of ten-thousandths with four decimals, and the byte after it.
 fn put_units(text: &mut String, units: i32, end: char) -> Result<(), AllocError> {
     if units < 0 {
@@ -179,28 +182,80 @@ fn along(cells: i32, j: i32) -> i32 {
     ninths.wrapping_mul(2).wrapping_add(9).div_euclid(18)
 }
 
+/// Appends a pose: two coordinates and a heading.
+fn put_pose(text: &mut String, x: i32, y: i32, heading: i32) -> Result<(), AllocError> {
+    put_units(text, x, ' ')?;
+    put_units(text, y, ' ')?;
+    put_units(text, heading, '\n')
+}
+
+/// Appends the lines of a primitive before its poses, of which there are `poses`.
+fn put_start(
+    text: &mut String,
+    id: u32,
+    from: i32,
+    cell: (i32, i32),
+    to: i32,
+    poses: u32,
+) -> Result<(), AllocError> {
+    let (dx, dy) = cell;
+    let mult = if id == 1 && poses == 10 { 5 } else { 1 };
+    write!(
+        text,
+        "primID: {id}\nstartangle_c: {from}\nendpose_c: {dx} {dy} {to}\nadditionalactioncostmult: {mult}\nintermediateposes: {poses}\n"
+    )
+}
+
 /// Appends a primitive of ten poses that goes straight to a cell; its last pose has an angle of its own.
 fn put_prim(
     text: &mut String,
     id: u32,
-    from: usize,
+    from: i32,
     cell: (i32, i32),
     to: i32,
-    last: i32,
+    angles: (i32, i32),
 ) -> Result<(), AllocError> {
-    let (dx, dy) = cell;
-    let mult = if id == 1 { 5 } else { 1 };
-    let (_, _, theta) = STEPS[from % 16];
-    write!(text, "primID: {id}\nstartangle_c: {from}\n")?;
-    write!(text, "endpose_c: {dx} {dy} {to}\n")?;
-    write!(
-        text,
-        "additionalactioncostmult: {mult}\nintermediateposes: 10\n"
-    )?;
+    put_start(text, id, from, cell, to, 10)?;
     for j in 0..10 {
-        put_units(text, along(dx, j), ' ')?;
-        put_units(text, along(dy, j), ' ')?;
-        put_units(text, if j == 9 { last } else { theta }, '\n')?;
+        let angle = if j == 9 { angles.1 } else { angles.0 };
+        put_pose(text, along(cell.0, j), along(cell.1, j), angle)?;
+    }
+    Ok(())
+}
+
+/// The primitive `id` of the five for a heading: the cell that it leads to, its heading there, and the angle of its last pose.
+fn prim(id: u32, from: u8) -> ((i32, i32), i32, i32) {
+    let heading = i32::from(from);
+    let (ux, uy, theta) = step(from);
+    match id {
+        0 => ((ux, uy), heading, theta),
+        1 => ((ux.wrapping_neg(), uy.wrapping_neg()), heading, theta),
+        2 => {
+            let (_, _, left) = step(from.wrapping_add(1));
+            (
+                (0, 0),
+                heading.wrapping_add(1),
+                if from == 15 { 62832 } else { left },
+            )
+        }
+        3 => {
+            let (_, _, right) = step(from.wrapping_add(15));
+            (
+                (0, 0),
+                heading.wrapping_sub(1),
+                if from == 0 { -3927 } else { right },
+            )
+        }
+        _ => ((ux.wrapping_mul(4), uy.wrapping_mul(4)), heading, theta),
+    }
+}
+
+/// Appends the five primitives for a heading.
+fn put_heading(text: &mut String, from: u8) -> Result<(), AllocError> {
+    let (_, _, theta) = step(from);
+    for id in 0..5 {
+        let (cell, to, last) = prim(id, from);
+        put_prim(text, id, i32::from(from), cell, to, (theta, last))?;
     }
     Ok(())
 }
@@ -212,31 +267,8 @@ pub fn p16(alloc: Global) -> Result<String, AllocError> {
         alloc,
         "resolution_m: 0.025000\nnumberofangles: 16\ntotalnumberofprimitives: 80\n",
     )?;
-    for (from, (ux, uy, theta)) in STEPS.iter().enumerate() {
-        let t = from as i32;
-        let (_, _, left) = STEPS[(from + 1) % 16];
-        let (_, _, right) = STEPS[(from + 15) % 16];
-        let back = (ux.wrapping_neg(), uy.wrapping_neg());
-        let far = (ux.wrapping_mul(4), uy.wrapping_mul(4));
-        put_prim(&mut text, 0, from, (*ux, *uy), t, *theta)?;
-        put_prim(&mut text, 1, from, back, t, *theta)?;
-        put_prim(
-            &mut text,
-            2,
-            from,
-            (0, 0),
-            t.wrapping_add(1),
-            if from == 15 { 62832 } else { left },
-        )?;
-        put_prim(
-            &mut text,
-            3,
-            from,
-            (0, 0),
-            t.wrapping_sub(1),
-            if from == 0 { -3927 } else { right },
-        )?;
-        put_prim(&mut text, 4, from, far, t, *theta)?;
+    for from in 0..16 {
+        put_heading(&mut text, from)?;
     }
     Ok(text)
 }
@@ -260,21 +292,27 @@ fn put_short(
 ) -> Result<(), AllocError> {
     let (dx, dy) = cell;
     let count = dx.unsigned_abs().max(dy.unsigned_abs()).clamp(1, 2);
-    let poses = count + 1;
-    write!(text, "primID: {id}\nstartangle_c: {from}\n")?;
-    write!(text, "endpose_c: {dx} {dy} {to}\n")?;
-    write!(
-        text,
-        "additionalactioncostmult: 1\nintermediateposes: {poses}\n"
-    )?;
-    for j in 0..poses {
+    put_start(text, id, from, cell, to, count + 1)?;
+    for j in 0..count + 1 {
         let units = (250 * j / count) as i32;
         let heading = if j == count { to } else { from };
-        put_units(text, units.wrapping_mul(dx), ' ')?;
-        put_units(text, units.wrapping_mul(dy), ' ')?;
-        put_units(text, heading.wrapping_mul(3927), '\n')?;
+        put_pose(
+            text,
+            units.wrapping_mul(dx),
+            units.wrapping_mul(dy),
+            heading.wrapping_mul(3927),
+        )?;
     }
     Ok(())
+}
+
+/// Appends the three primitives for a heading.
+fn put_three(text: &mut String, from: u8) -> Result<(), AllocError> {
+    let heading = i32::from(from);
+    let (ux, uy, _) = step(from);
+    put_short(text, 0, heading, (ux, uy), heading)?;
+    put_short(text, 1, heading, (0, 0), heading.wrapping_add(1))?;
+    put_short(text, 2, heading, (0, 0), heading.wrapping_sub(1))
 }
 
 /// Three primitives for each heading: a step forward, and a turn to the left and to the right.
@@ -282,22 +320,7 @@ pub fn car(alloc: Global) -> Result<String, AllocError> {
     let mut text = String::new(alloc);
     put_head(&mut text, 48)?;
     for from in 0..16 {
-        let heading = from as i32;
-        let (ux, uy, _) = STEPS[from];
-        put_short(&mut text, 0, heading, (ux, uy), heading)?;
-        put_short(&mut text, 1, heading, (0, 0), heading.wrapping_add(1))?;
-        put_short(&mut text, 2, heading, (0, 0), heading.wrapping_sub(1))?;
+        put_three(&mut text, from)?;
     }
     Ok(text)
-}
-
-/// A number below `limit`, drawn from a word that each draw replaces.
-pub fn draw(word: &mut u64, limit: u32) -> u32
-    requires some { 0 < limit }
-    ensures below { result < limit }
-{
-    *word = word
-        .wrapping_mul(6_364_136_223_846_793_005)
-        .wrapping_add(1_442_695_040_888_963_407);
-    ((*word >> 33) % u64::from(limit)) as u32
 }

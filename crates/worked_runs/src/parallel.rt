@@ -1,7 +1,9 @@
 //! Plans by ePA*SE with several workers, over a desk in memory.
 
+ghost use Rattle.std.specs.Prelude.{◌<◌};
+
 use crate::runs::{DETOUR, Files, Row, WORKS, answers};
-use sample_files::{car, draw, field};
+use sample_files::{car, field};
 use sbpl_cli::{Gate, NoGate};
 use sbpl_desk::MemoryDesk;
 use std::alloc::Global;
@@ -42,6 +44,17 @@ impl Gate for Held {
             self.hold();
         }
     }
+}
+
+/// A number below `limit`, drawn from a word that each draw replaces.
+fn draw(word: &mut u64, limit: u32) -> u32
+    requires some { 0 < limit }
+    ensures below { result < limit }
+{
+    *word = word
+        .wrapping_mul(6_364_136_223_846_793_005)
+        .wrapping_add(1_442_695_040_888_963_407);
+    ((*word >> 33) % u64::from(limit)) as u32
 }
 
 /// A path of the least cost from the start on, and the last line. Which states are expanded depends on the workers, and nothing is said
