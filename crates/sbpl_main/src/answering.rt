@@ -3,9 +3,9 @@
 ghost use Rattle.std.specs.Prelude.{◌≡◌, ◌<◌, ◌^◌, false, length, None, IsSome, map, string_bytes};
 ghost use Rattle.std.specs.Io.KnownBytes.{Keeps};
 ghost use Rattle.sbpl_desk.specs.Desk.{ReadsOnly, Rose};
-ghost use Rattle.sbpl_cli.specs.Run.{IsOrUnwritten, IsStatus, MayBeWritten, job_named};
-ghost use Rattle.sbpl_cli.specs.RunPromises.{RunPromises};
-ghost use Rattle.sbpl_cli.specs.Writing.{IsOutput, WritesOnly, output};
+ghost use Rattle.sbpl_promises.specs.Run.{IsOrUnwritten, IsStatus, MayBeWritten, job_named};
+ghost use Rattle.sbpl_promises.specs.RunPromises.{RunPromises};
+ghost use Rattle.sbpl_promises.specs.Writing.{IsOutput, WritesOnly, output};
 ghost use Rattle.sbpl_job.specs.Asked.{asked_for};
 ghost use Rattle.sbpl_message.specs.Reasons.{has_message};
 
@@ -83,6 +83,9 @@ pub fn answer<R: Threads + Wait + Sync, D: Desk, T: Gate + Sync, E: io::Write>(
     // All other words get what `run_with` promises, of this status.
     ensures run { asked_for (map string_bytes words.now) ≡ None → RunPromises (job_named words.now) (D.state desk.old) (D.state desk.new) publisher.old.published publisher.new.published result }
     ensures statuses { IsStatus result }
+    // The publisher stays the board's, and where help or the version is told nothing is published.
+    ensures board { publisher.new.board ≡ publisher.old.board }
+    ensures unpublished { IsSome (asked_for (map string_bytes words.now)) → publisher.new ≡ publisher.old }
     // A message comes with the statuses 2 to 7 and 10 alone.
     ensures quiet { has_message result ≡ false → Keeps (E.contents err.old) (E.contents err.new) }
     // The desk at which files are read again is only read.

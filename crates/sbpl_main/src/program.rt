@@ -1,7 +1,7 @@
 //! The program from its start: its words, and its exit status.
 
 ghost use Rattle.std.specs.Prelude.{◌≡◌, drop};
-ghost use Rattle.sbpl_cli.specs.Promises.{IsStatus};
+ghost use Rattle.sbpl_promises.specs.Promises.{IsStatus};
 
 use crate::answering::{NO_MEMORY, answer};
 use crate::progress::answer_at_terminal;

@@ -1,7 +1,7 @@
 //! The newest path, shown to people while the planner works.
 
 ghost use Rattle.std.specs.Prelude.{◌≡◌, ◌<◌, ◌^◌, length};
-ghost use Rattle.sbpl_cli.specs.Promises.{IsStatus};
+ghost use Rattle.sbpl_promises.specs.Promises.{IsStatus};
 
 use crate::answering::{NO_MEMORY, answer};
 use sbpl_cli::NoGate;

@@ -1,6 +1,6 @@
 use Rattle.std.proofs.Common.{◌≡◌, ℕ, None, Option, Some, IsSome, arith, rules, inl, inr, refl, sym, ◌∙◌}
 use Rattle.std.proofs.lemmas.Bool.{false≢true}
-use Rattle.sbpl_cli.specs.Run.{IsOrUnwritten, IsStatus}
+use Rattle.sbpl_promises.specs.Run.{IsOrUnwritten, IsStatus}
 use Rattle.sbpl_job.specs.declared.help.Asked.{Asked}
 use Rattle.sbpl_main.proofs.answering.answer.Goals as goal
 
@@ -30,6 +30,12 @@ returns-in-Some-clause-run g c = λ none. absurd (not_asked _ _ c.in-Some.is (c.
 pub returns-in-Some-clause-statuses : goal.returns-in-Some-clause-statuses
 returns-in-Some-clause-statuses g c = told_status c.tell.result c.tell.ensures.told
 
+pub returns-in-Some-clause-board : goal.returns-in-Some-clause-board
+returns-in-Some-clause-board g c = refl
+
+pub returns-in-Some-clause-unpublished : goal.returns-in-Some-clause-unpublished
+returns-in-Some-clause-unpublished g c = λ _. refl
+
 pub returns-in-Some-clause-quiet : goal.returns-in-Some-clause-quiet
 returns-in-Some-clause-quiet g c = search rules
 
@@ -55,6 +61,12 @@ returns-in-None-clause-run g c = λ _. c.run_with-status.ensures.promises
 
 pub returns-in-None-clause-statuses : goal.returns-in-None-clause-statuses
 returns-in-None-clause-statuses g c = c.run_with-status.ensures.promises.statuses
+
+pub returns-in-None-clause-board : goal.returns-in-None-clause-board
+returns-in-None-clause-board g c = c.run_with-status.ensures.board
+
+pub returns-in-None-clause-unpublished : goal.returns-in-None-clause-unpublished
+returns-in-None-clause-unpublished g c = λ some. absurd (none_asked _ (sym c.read_asked.ensures.asked ∙ c.in-None.is) some)
 
 pub returns-in-None-clause-quiet : goal.returns-in-None-clause-quiet
 returns-in-None-clause-quiet g c = c.explain.ensures.quiet

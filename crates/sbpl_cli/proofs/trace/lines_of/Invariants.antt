@@ -1,6 +1,0 @@
-use Rattle.std.proofs.Common.{◌≡◌, ◌++◌, map, drop}
-use Rattle.sbpl_cli.proofs.trace.lines_of.Given as goal
-
--- what was told, and what is left to tell, are all
-abbrev pub invariant-loop-note : goal.invariant-loop-note
-invariant-loop-note g l = l.lines.items ++ map g.N.Traced.line (drop l.note-index l.notes) ≡ map g.N.Traced.line l.notes

@@ -1,0 +1,46 @@
+//! The grid, whose states are cells, as what a job plans on.
+
+use crate::workspace::Workspace;
+use sbpl_cfg::Place;
+use sbpl_graph::Graph;
+use sbpl_nav2d::{Nav, Octile, worlds_are_grids};
+use sbpl_report::{PathStep, Spot};
+
+impl Workspace for Nav {
+    ghost use Rattle.std.proofs.Common.{refl};
+    ghost use Rattle.sbpl_promises.specs.GridSite.{grid_wording};
+
+    type Best = Octile;
+
+    ghost wording = { grid_wording };
+
+    fn ends(&self) -> (u32, u32) {
+        let env = self.env();
+        (env.start, env.end)
+    }
+
+    fn spot(&self, state: u32) -> Spot {
+        let width = self.env().width;
+        Spot::Cell(state % width, state / width)
+    }
+
+    fn step(&self, from: u32, arc: u32) -> (u32, PathStep) {
+        let head = self.head(from, arc).unwrap();
+        let spot = self.spot(head);
+        (head, PathStep { id: arc, spot })
+    }
+
+    fn start_at(&self, place: Option<Place>, start: u32) -> u32 {
+        match place {
+            // A place has a heading, and here there is none.
+            Some(_) => unreachable!(),
+            None => start,
+        }
+    }
+
+    fn has_its_arcs() {
+        worlds_are_grids();
+    }
+
+    ghost places_stay = { λ w m. record { headings = refl; state = refl } };
+}

@@ -1,0 +1,144 @@
+//! The job `demo`: plans on an example that is drawn from a seed.
+
+ghost use Rattle.std.specs.Prelude.{◌≡◌, ◌^◌, ◌<◌, ◌∷◌, [], false, length};
+ghost use Rattle.sbpl_cost.specs.Lattices.{network_of};
+ghost use Rattle.sbpl_cost.specs.World.{IsWorld};
+ghost use Rattle.sbpl_demo.specs.Changes.{changes_drawn};
+ghost use Rattle.sbpl_job.specs.Jobs.{IsDemoJob};
+ghost use Rattle.sbpl_job.specs.declared.job.Job.TheVariants as Jobs;
+ghost use Rattle.sbpl_promises.specs.Causes.{IsCourseIn, IsDrawn, demo_search};
+ghost use Rattle.sbpl_promises.specs.LatticeSite.{lattice_site};
+ghost use Rattle.sbpl_promises.specs.Promises.{EndsJob};
+ghost use Rattle.sbpl_report.specs.Report.{demo_text};
+ghost use Rattle.sbpl_promises.specs.Texts.{still};
+ghost use Rattle.sbpl_promises.specs.Writing.{EndsIn, IsOutput, WritesOnly, to_output};
+
+use crate::drawn::draw;
+use crate::planners::plans_by_adstar;
+use crate::publishing::LiveBoard;
+use crate::telling::Lines;
+use crate::workspace::Workspace;
+use crate::writing::{OUTPUT, status_after, write_text};
+use sbpl_cost::Lattice;
+use sbpl_desk::{Desk, WriteStop};
+use sbpl_fixed::NoMemory;
+use sbpl_graph::Graph;
+use sbpl_incumbent::Publisher;
+use sbpl_job::{DemoJob, LabelForm, Outputs, Planner, SearchJob};
+use sbpl_map::Changes;
+use sbpl_promises::Course;
+use sbpl_report::demo_line;
+use std::alloc::Global;
+use std::sync::Wait;
+
+/// How a demonstration is planned.
+fn demo_search() -> SearchJob
+    ensures search { result ≡ demo_search }
+{
+    SearchJob {
+        planner: Planner::AdStar,
+        workers: 1,
+        first: 3000,
+        step: 500,
+        bound: 1000,
+        budget: 1 << 30,
+    }
+}
+
+/// Writes the first line of a demonstration.
+fn write_first<D: Desk>(
+    alloc: Global,
+    lattice: &Lattice,
+    changes: &Changes,
+    desk: &mut D,
+) -> Result<(), WriteStop>
+    ensures ends { EndsIn (D.state desk.old) (D.state desk.new) (to_output (demo_text (network_of lattice.now).states (length lattice.now.prims.items) (length changes.now)) ∷ []) result }
+    ensures frame { WritesOnly IsOutput (D.state desk.old) (D.state desk.new) }
+{
+    let line = demo_line(
+        alloc,
+        lattice.states(),
+        lattice.prims().len(),
+        changes.batches(),
+    );
+    match line {
+        Ok(line) => write_text(OUTPUT, line.as_slice(), desk),
+        Err(NoMemory) => Err(WriteStop::NoMemory),
+    }
+}
+
+/// Plans on an example that was drawn, writes a line for each plan, and answers the status.
+fn demonstrate<D: Desk, W: Wait>(
+    alloc: Global,
+    job: &DemoJob,
+    lattice: &mut Lattice,
+    course: &Course,
+    live: &LiveBoard<W>,
+    publisher: &mut Publisher,
+    desk: &mut D,
+) -> u8
+    requires drawn { IsDrawn job.now lattice.old }
+    requires course { course.now ≡ still (changes_drawn job.now.width job.now.height job.now.seed) }
+    requires kept { IsWorld lattice.old }
+    requires in_world { IsCourseIn lattice_site false lattice.old course.now }
+    requires board { publisher.old.board ≡ live.now.board.now }
+    requires few { length publisher.old.published < 2 ^ 62 }
+    ensures ends { EndsJob (D.state desk.old) (D.state desk.new) publisher.old.published publisher.new.published (Jobs.Demo job.now) result }
+    ensures board { publisher.new.board ≡ publisher.old.board }
+    ensures frame { WritesOnly IsOutput (D.state desk.old) (D.state desk.new) }
+{
+    let (start, goal) = lattice.ends();
+    if let Err(stop) = write_first(alloc, lattice, &course.batches, desk) {
+        return status_after(Err(stop), 9);
+    }
+    let outputs = Outputs {
+        labels: None,
+        form: LabelForm::Sparse,
+        trace: None,
+        incumbent: None,
+    };
+    plans_by_adstar(
+        alloc,
+        lattice,
+        course,
+        &demo_search(),
+        &outputs,
+        start,
+        goal,
+        live,
+        publisher,
+        &Lines,
+        desk,
+    )
+}
+
+/// Draws an example, plans on it, writes a line for each plan, and answers the status. Nothing is read from the desk.
+pub(crate) fn end_demo<D: Desk, W: Wait>(
+    alloc: Global,
+    job: &DemoJob,
+    live: &LiveBoard<W>,
+    publisher: &mut Publisher,
+    desk: &mut D,
+) -> u8
+    requires range { IsDemoJob job.now }
+    requires board { publisher.old.board ≡ live.now.board.now }
+    requires few { length publisher.old.published < 2 ^ 62 }
+    ensures ends { EndsJob (D.state desk.old) (D.state desk.new) publisher.old.published publisher.new.published (Jobs.Demo job.now) result }
+    ensures board { publisher.new.board ≡ publisher.old.board }
+    ensures frame { WritesOnly IsOutput (D.state desk.old) (D.state desk.new) }
+{
+    match draw(alloc, job) {
+        Ok((mut lattice, batches)) => {
+            let course = Course {
+                batches,
+                moves: None,
+            };
+            let status = demonstrate(alloc, job, &mut lattice, &course, live, publisher, desk);
+            // Let go by a call: the drop of each field here would make the proof long.
+            drop(lattice);
+            drop(course);
+            status
+        }
+        Err(NoMemory) => 9,
+    }
+}

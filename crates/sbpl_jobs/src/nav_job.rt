@@ -1,0 +1,107 @@
+//! The jobs `nav` and `navcheck`.
+
+ghost use Rattle.std.specs.Prelude.{◌≡◌, ◌^◌, ◌<◌, List, length, IfErr, IfOk, OnErr};
+ghost use Rattle.sbpl_job.specs.Jobs.{IsJob};
+ghost use Rattle.sbpl_job.specs.declared.job.Job.TheVariants as Jobs;
+ghost use Rattle.sbpl_promises.specs.Causes.{AreRead, IsReadText, JobStopsFor, grid_files};
+ghost use Rattle.sbpl_promises.specs.Promises.{EndsJob};
+ghost use Rattle.sbpl_promises.specs.Published.{Entry};
+ghost use Rattle.sbpl_promises.specs.Writing.{IsOutput, IsOutputOf, ReadsOnly, WritesOnly};
+
+use crate::check_job::check_text;
+use crate::files::read_file;
+use crate::grid::read_grid_course;
+use crate::planners::plans_forwards;
+use crate::publishing::LiveBoard;
+use crate::searched::Forwards;
+use crate::workspace::Workspace;
+use sbpl_desk::Desk;
+use sbpl_epase::Gate;
+use sbpl_incumbent::Publisher;
+use sbpl_job::{NavCheckJob, NavJob};
+use sbpl_nav2d::{Nav, Octile};
+use sbpl_promises::Course;
+use sbpl_report::{Input, Stop};
+use std::alloc::Global;
+use std::sync::Wait;
+use std::thread::Threads;
+
+/// Makes the plans of a job on a grid, writes what came of it, and answers the status; or answers why nothing was written.
+pub(crate) fn end_nav<R: Threads + Wait + Sync, D: Desk, T: Gate + Sync>(
+    alloc: Global,
+    job: &NavJob,
+    live: &LiveBoard<R>,
+    publisher: &mut Publisher,
+    desk: &mut D,
+    gate: &T,
+) -> Result<u8, Stop>
+    requires range { IsJob (Jobs.Nav job.now) }
+    requires board { publisher.old.board ≡ live.now.board.now }
+    requires few { length publisher.old.published < 2 ^ 62 }
+    ensures ends { IfOk result (EndsJob (D.state desk.old) (D.state desk.new) publisher.old.published publisher.new.published (Jobs.Nav job.now)) }
+    ensures stop { IfErr result (JobStopsFor (D.state desk.old) (D.state desk.new) (Jobs.Nav job.now)) }
+    ensures unwritten { OnErr result (ReadsOnly (D.state desk.old) (D.state desk.new)) }
+    ensures unpublished { OnErr result (publisher.new ≡ publisher.old) }
+    ensures board { publisher.new.board ≡ publisher.old.board }
+    ensures frame { WritesOnly (IsOutputOf job.now.outputs) (D.state desk.old) (D.state desk.new) }
+{
+    let (mut nav, course) = read_grid_course(alloc, &job.env, &job.changes, desk)?;
+    let (start, goal) = nav.ends();
+    Ok(plans_forwards(
+        gate,
+        alloc,
+        &mut nav,
+        &course,
+        &job.search,
+        &job.outputs,
+        start,
+        goal,
+        live,
+        publisher,
+        &job.outputs,
+        desk,
+    ))
+}
+
+/// The grid, the course of the change file, and the text of the labels.
+fn read_nav_check<D: Desk>(
+    alloc: Global,
+    job: &NavCheckJob,
+    desk: &mut D,
+) -> Result<(Nav, Course, Vec<u8>), Stop>
+    ensures course { IfOk result (λ x. AreRead (D.state desk.old).held (grid_files job.now.env) job.now.changes x.0 x.1) }
+    ensures text { IfOk result (λ x. IsReadText ((D.state desk.old).held job.now.labels) x.2.items) }
+    ensures stop { IfErr result (JobStopsFor (D.state desk.old) (D.state desk.new) (Jobs.NavCheck job.now)) }
+    ensures frame { ReadsOnly (D.state desk.old) (D.state desk.new) }
+{
+    let (nav, course) = match read_grid_course(alloc, &job.env, &job.changes, desk) {
+        Ok(read) => read,
+        Err(stop) => return Err(stop),
+    };
+    match read_file(alloc, &job.labels, Input::Labels, desk) {
+        Ok(text) => Ok((nav, course, text)),
+        Err(stop) => Err(stop),
+    }
+}
+
+/// Checks labels that a plan on a grid wrote, writes what came of it, and answers the status.
+pub(crate) fn check_nav<D: Desk>(alloc: Global, job: &NavCheckJob, desk: &mut D) -> Result<u8, Stop>
+    ensures ends { IfOk result (λ status. (log : List Entry) → EndsJob (D.state desk.old) (D.state desk.new) log log (Jobs.NavCheck job.now) status) }
+    ensures stop { IfErr result (JobStopsFor (D.state desk.old) (D.state desk.new) (Jobs.NavCheck job.now)) }
+    ensures unwritten { OnErr result (ReadsOnly (D.state desk.old) (D.state desk.new)) }
+    ensures frame { WritesOnly IsOutput (D.state desk.old) (D.state desk.new) }
+{
+    Nav::has_its_arcs();
+    let (mut nav, course, text) = read_nav_check(alloc, job, desk)?;
+    let (start, goal) = nav.ends();
+    let status = check_text::<D, Nav, Forwards<Octile>>(
+        alloc,
+        &mut nav,
+        &course,
+        start,
+        goal,
+        text.as_slice(),
+        desk,
+    );
+    Ok(status)
+}

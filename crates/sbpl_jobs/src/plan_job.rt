@@ -1,0 +1,63 @@
+//! The job `plan`.
+
+ghost use Rattle.std.specs.Prelude.{◌≡◌, ◌^◌, ◌<◌, length, IfErr, IfOk, OnErr};
+ghost use Rattle.sbpl_job.specs.Jobs.{IsJob};
+ghost use Rattle.sbpl_job.specs.declared.job.Job.TheVariants as Jobs;
+ghost use Rattle.sbpl_promises.specs.Causes.{JobStopsFor};
+ghost use Rattle.sbpl_promises.specs.Promises.{EndsJob};
+ghost use Rattle.sbpl_promises.specs.Writing.{IsOutputOf, ReadsOnly, WritesOnly};
+
+use crate::lattice::read_course;
+use crate::planners::make_plans;
+use crate::publishing::LiveBoard;
+use crate::workspace::Workspace;
+use sbpl_desk::Desk;
+use sbpl_epase::Gate;
+use sbpl_incumbent::Publisher;
+use sbpl_job::PlanJob;
+use sbpl_report::Stop;
+use std::alloc::Global;
+use std::sync::Wait;
+use std::thread::Threads;
+
+/// Makes the plans of a job, writes what came of it, and answers the status; or answers why nothing was written.
+pub(crate) fn end_plan<R: Threads + Wait + Sync, D: Desk, T: Gate + Sync>(
+    alloc: Global,
+    job: &PlanJob,
+    live: &LiveBoard<R>,
+    publisher: &mut Publisher,
+    desk: &mut D,
+    gate: &T,
+) -> Result<u8, Stop>
+    requires range { IsJob (Jobs.Plan job.now) }
+    requires board { publisher.old.board ≡ live.now.board.now }
+    requires few { length publisher.old.published < 2 ^ 62 }
+    ensures ends { IfOk result (EndsJob (D.state desk.old) (D.state desk.new) publisher.old.published publisher.new.published (Jobs.Plan job.now)) }
+    ensures stop { IfErr result (JobStopsFor (D.state desk.old) (D.state desk.new) (Jobs.Plan job.now)) }
+    ensures unwritten { OnErr result (ReadsOnly (D.state desk.old) (D.state desk.new)) }
+    ensures unpublished { OnErr result (publisher.new ≡ publisher.old) }
+    ensures board { publisher.new.board ≡ publisher.old.board }
+    ensures frame { WritesOnly (IsOutputOf job.now.outputs) (D.state desk.old) (D.state desk.new) }
+{
+    let moving = job.search.planner.may_move();
+    let (mut lattice, course) = read_course(alloc, &job.sources, &job.changes, moving, desk)?;
+    let (start, goal) = lattice.ends();
+    let status = make_plans(
+        gate,
+        alloc,
+        &mut lattice,
+        &course,
+        &job.search,
+        &job.outputs,
+        start,
+        goal,
+        live,
+        publisher,
+        &job.outputs,
+        desk,
+    );
+    // Let go by a call: the drop of each field here would make the proof long.
+    drop(lattice);
+    drop(course);
+    Ok(status)
+}

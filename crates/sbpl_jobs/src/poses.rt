@@ -1,0 +1,53 @@
+//! The lattice, whose states are poses, as what a job plans on.
+
+use crate::workspace::Workspace;
+use sbpl_cfg::{Place, place_at};
+use sbpl_cost::{Lattice, lattice_has_its_arcs, lattice_tails_are_in_order};
+use sbpl_graph::Graph;
+use sbpl_heur::Best;
+use sbpl_report::{PathStep, Spot};
+use sbpl_terrain::Terrain;
+
+impl Workspace for Lattice {
+    ghost use Rattle.std.proofs.Common.{refl};
+    ghost use Rattle.sbpl_promises.specs.LatticeSite.{lattice_wording};
+
+    type Best = Best;
+
+    ghost wording = { lattice_wording };
+
+    fn ends(&self) -> (u32, u32) {
+        let env = self.env();
+        let start = place_at(env, &env.start).unwrap();
+        let goal = place_at(env, &env.end).unwrap();
+        let start = self.state_of(&start).unwrap();
+        let goal = self.state_of(&goal).unwrap();
+        (start, goal)
+    }
+
+    fn spot(&self, state: u32) -> Spot {
+        Spot::Pose(self.place_of(state))
+    }
+
+    fn step(&self, from: u32, arc: u32) -> (u32, PathStep) {
+        let id = self.prim_id(self.prim_of(from, arc));
+        let head = self.head(from, arc).unwrap();
+        let spot = Spot::Pose(self.place_of(head));
+        (head, PathStep { id, spot })
+    }
+
+    fn start_at(&self, place: Option<Place>, start: u32) -> u32 {
+        let _map = self.map();
+        match place {
+            Some(place) => self.state_of(&place).unwrap(),
+            None => start,
+        }
+    }
+
+    fn has_its_arcs() {
+        lattice_has_its_arcs();
+        lattice_tails_are_in_order();
+    }
+
+    ghost places_stay = { λ w m. record { headings = refl; state = refl } };
+}

@@ -1,0 +1,17 @@
+pub mod Laws
+pub mod Converse
+pub mod Runs
+pub mod OneEnding
+pub mod AlikeSites
+pub mod LatticeAlike
+pub mod GridAlike
+pub mod SameBegun
+pub mod SameRecords
+pub mod SamePlanned
+pub mod SameLines
+pub mod SameChecked
+pub mod Prefixes
+pub mod OneRefusal
+pub mod Wholes
+pub mod WriteTexts
+pub mod Promising

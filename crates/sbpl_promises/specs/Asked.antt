@@ -1,0 +1,60 @@
+-- What a job asks of a planner.
+use Rattle.std.specs.Prelude.{Bool, true, false}
+use Rattle.std.specs.Option.{is_some}
+use Rattle.sbpl_search.specs.Meaning.{Meaning}
+use Rattle.sbpl_serial.specs.declared.step.Step.{Step}
+use Rattle.sbpl_report.specs.declared.record.TraceLine.{TraceLine}
+use Rattle.sbpl_promises.specs.Sites.{Site}
+use Rattle.sbpl_report.specs.Traces.{line_of, line_of_event}
+use Rattle.sbpl_ara.specs.Planner.{ara}
+use Rattle.sbpl_adstar.specs.Planner.{adstar}
+use Rattle.sbpl_frontier_rules.specs.declared.event.Event.{Event}
+use Rattle.sbpl_epase.specs.Planner.{epase}
+use Rattle.sbpl_plan.specs.declared.ask.Ask.{Ask}
+use Rattle.sbpl_job.specs.Jobs.{may_move}
+use Rattle.sbpl_job.specs.declared.job.Outputs.{Outputs}
+use Rattle.sbpl_job.specs.declared.job.Planner.{Planner}
+use Rattle.sbpl_job.specs.declared.job.Planner.TheVariants as planner
+use Rattle.sbpl_job.specs.declared.job.SearchJob.{SearchJob}
+use Rattle.sbpl_replan.specs.Directions.{Direction, backwards, forwards}
+
+-- what a plan is asked for
+abbrev pub ask_of : SearchJob → Outputs → Ask
+ask_of search outputs = record { first = search.first; step = search.step; bound = search.bound; traced = is_some outputs.trace }
+
+-- the passes of a planner are determined by the labels from which they begin: those of a serial search are, and those of one
+-- with workers are not
+abbrev pub is_determined : Planner → Bool
+is_determined planner.Ara = true
+is_determined planner.AdStar = true
+is_determined planner.Back = true
+is_determined planner.Epase = false
+
+-- a planner's search: what its passes note, what its calls mean, and how a note is told in a trace
+pub record Search : Type 1 where
+  pub Note : Type 0
+  pub means : Meaning Note
+  pub line : Note → TraceLine
+
+abbrev pub search_of : Planner → Search
+search_of planner.Ara = record { Note = Step; means = ara; line = line_of }
+search_of planner.AdStar = record { Note = Step; means = adstar; line = line_of }
+search_of planner.Back = record { Note = Step; means = adstar; line = line_of }
+search_of planner.Epase = record { Note = Event; means = epase; line = line_of_event }
+
+-- the direction in which labels are searched at a site, by the planner `back` or by another one: from the goal over the reversed graph,
+-- by the gap from the start; or from the start, by the site's heuristic
+abbrev pub checked_direction : {W : Type 0} → Site W → (back : Bool) → Direction W
+checked_direction on true = backwards on.network
+checked_direction on false = forwards on.network on.says
+
+-- a planner as the program knows it at a site: its search, and in which direction it goes
+pub record Known (W : Type 0) : Type 1 where
+  pub on : Site W
+  pub Note : Type 0
+  pub means : Meaning Note
+  pub line : Note → TraceLine
+  pub direction : Direction W
+
+abbrev pub known : {W : Type 0} → Site W → Planner → Known W
+known on p = record { on = on; Note = (search_of p).Note; means = (search_of p).means; line = (search_of p).line; direction = checked_direction on (may_move p) }

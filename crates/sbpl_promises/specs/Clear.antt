@@ -1,0 +1,45 @@
+-- No text of a file has two readings.
+use Rattle.std.specs.Prelude.{◌≡◌, ℕ, ◌<◌, List}
+use Rattle.sbpl_graph.specs.Network.{Network}
+use Rattle.sbpl_fixed.specs.Formats.{Left}
+use Rattle.sbpl_fixed.specs.Tokens.{Piece}
+use Rattle.sbpl_cfg.specs.declared.fault.EnvFault.{EnvFault}
+use Rattle.sbpl_cfg.specs.Environment.{Environment}
+use Rattle.sbpl_map.specs.declared.fault.ChangeFault.{ChangeFault}
+use Rattle.sbpl_mprim.specs.declared.fault.PrimFault.{PrimFault}
+use Rattle.sbpl_mprim.specs.Primitives.{Primitives}
+use Rattle.sbpl_cert.specs.declared.fault.LabelFault.{LabelFault}
+use Rattle.sbpl_cert.specs.declared.flaw.Flaw.{Flaw}
+use Rattle.sbpl_cert.specs.declared.section.Section.{Section}
+use Rattle.sbpl_cert.specs.Flaws.{HasFlaw, HasNoFlaw, IsFirstFlaw}
+use Rattle.sbpl_cert.specs.Text.{AreTokens, AreTokensOf, HasFault}
+use Rattle.sbpl_cert.specs.Versions.{claim_by}
+use Rattle.sbpl_promises.specs.declared.course.Course.{Course}
+use Rattle.sbpl_nav2d.specs.Environment.{NavEnvironment}
+use Rattle.sbpl_nav2d.specs.declared.fault.NavFault.{NavFault}
+use Rattle.sbpl_promises.specs.Texts.{HasChangeFault, HasEnvironmentFault, HasGridFault, HasPrimitiveFault, IsChangeText, IsEnvironmentText, IsGridText, IsPrimitiveText, Scope}
+
+-- an environment file, of a lattice or of a grid, a primitive file or a change file stands for one value or has one first fault, and never both
+pub record TextsAreClear : Type 0 where
+  pub environment : (text : List ℕ) (e d : Environment) (cells others : List ℕ) → IsEnvironmentText text e cells → IsEnvironmentText text d others → (e ≡ d) × (cells ≡ others)
+  pub environment_fault : (text : List ℕ) (e : Environment) (cells : List ℕ) (f : EnvFault) → IsEnvironmentText text e cells → HasEnvironmentFault text f → ⊥
+  pub one_environment_fault : (text : List ℕ) (f g : EnvFault) → HasEnvironmentFault text f → HasEnvironmentFault text g → f ≡ g
+  pub primitives : (text : List ℕ) (e : Environment) (ps qs : Primitives) → IsPrimitiveText e text ps → IsPrimitiveText e text qs → ps ≡ qs
+  pub primitive_fault : (text : List ℕ) (e : Environment) (ps : Primitives) (f : PrimFault) → IsPrimitiveText e text ps → HasPrimitiveFault e text f → ⊥
+  pub one_primitive_fault : (text : List ℕ) (e : Environment) (f g : PrimFault) → HasPrimitiveFault e text f → HasPrimitiveFault e text g → f ≡ g
+  pub grid : (text : List ℕ) (e d : NavEnvironment) (cells others : List ℕ) → IsGridText text e cells → IsGridText text d others → (e ≡ d) × (cells ≡ others)
+  pub grid_fault : (text : List ℕ) (e : NavEnvironment) (cells : List ℕ) (f : NavFault) → IsGridText text e cells → HasGridFault text f → ⊥
+  pub one_grid_fault : (text : List ℕ) (f g : NavFault) → HasGridFault text f → HasGridFault text g → f ≡ g
+  pub changes : (s : Scope) (text : List ℕ) (c d : Course) → IsChangeText s text c → IsChangeText s text d → c ≡ d
+  pub change_fault : (s : Scope) (text : List ℕ) (c : Course) (f : ChangeFault) → IsChangeText s text c → HasChangeFault s text f → ⊥
+  pub one_change_fault : (s : Scope) (text : List ℕ) (f g : ChangeFault) → HasChangeFault s text f → HasChangeFault s text g → f ≡ g
+
+-- one section of labels stands in tokens, or they have one first fault, and never both; a section has one first flaw, or none
+pub record SectionsAreClear : Type 0 where
+  pub one : (ts rest more : List Piece) (s u : Section) → AreTokensOf ts s rest → AreTokensOf ts u more → (s ≡ u) × (rest ≡ more)
+  pub not_both : (plan states : ℕ) (left : Left) (f : LabelFault) → AreTokens plan states left.tokens → HasFault plan states left f → ⊥
+  pub one_fault : (plan states : ℕ) (left : Left) (f g : LabelFault) → HasFault plan states left f → HasFault plan states left g → f ≡ g
+  pub one_flaw : (n : Network) (start goal : ℕ) (s : Section) (h k : ℕ → ℕ) (f e : Flaw) → ((u : ℕ) → u < n.states → h u ≡ k u)
+      → IsFirstFlaw n start goal (claim_by h s) f → IsFirstFlaw n start goal (claim_by k s) e → f ≡ e
+  pub no_flaw : (n : Network) (start goal : ℕ) (s : Section) (h k : ℕ → ℕ) (f : Flaw) → ((u : ℕ) → u < n.states → h u ≡ k u)
+      → HasNoFlaw n start goal (claim_by h s) → HasFlaw n start goal (claim_by k s) f → ⊥

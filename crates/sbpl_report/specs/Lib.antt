@@ -1,0 +1,6 @@
+pub mod Report
+pub mod Traces
+pub mod Verdicts
+pub mod Listing
+pub mod Refusals
+pub mod Shown

@@ -1,0 +1,63 @@
+//! Why a job is refused.
+
+ghost use Rattle.std.specs.Prelude.{◌≡◌};
+ghost use Rattle.sbpl_report.specs.Refusals.{refusal_status};
+
+use sbpl_cfg::EnvFault;
+use sbpl_map::ChangeFault;
+use sbpl_mprim::PrimFault;
+use sbpl_nav2d::NavFault;
+
+/// A file that a job reads.
+#[derive(Clone, Copy)]
+pub enum Input {
+    Environment,
+    Primitives,
+    Changes,
+    Labels,
+}
+
+/// Why a job is refused, once the words have named it.
+#[derive(Clone, Copy)]
+pub enum Refusal {
+    /// The environment file of a lattice has a fault.
+    Environment(EnvFault),
+    /// The environment file of a grid has a fault.
+    Grid(NavFault),
+    /// The primitive file has a fault.
+    Primitives(PrimFault),
+    /// The primitive at this place of the file sweeps too many cells, or too many with those before it.
+    TooWide(u32),
+    /// The cost of the primitive at this place of the file is above the limit.
+    TooDear(u32),
+    /// The change file has a fault.
+    Changes(ChangeFault),
+    /// A file could not be read.
+    Read(Input),
+    /// A file holds more than 2^30 bytes.
+    Length(Input),
+}
+
+impl Refusal {
+    /// The program's status after this refusal.
+    pub fn status(&self) -> u8
+        ensures status { result ≡ refusal_status self.now }
+    {
+        match self {
+            Refusal::Environment(_) | Refusal::Grid(_) => 3,
+            Refusal::Primitives(_) | Refusal::TooWide(_) | Refusal::TooDear(_) => 4,
+            Refusal::Changes(_) => 5,
+            Refusal::Read(_) => 6,
+            Refusal::Length(_) => 8,
+        }
+    }
+}
+
+/// Why a job stopped before anything was written.
+#[derive(Clone, Copy)]
+pub enum Stop {
+    /// The job is refused.
+    Refused(Refusal),
+    /// Memory ran out.
+    NoMemory,
+}

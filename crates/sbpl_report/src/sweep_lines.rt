@@ -1,0 +1,112 @@
+//! The lines that list what a primitive costs and which cells it sweeps.
+
+ghost use Rattle.std.specs.Prelude.{◌≡◌, ◌<◌, ◌++◌, OnOk, IfOk, length};
+ghost use Rattle.std.specs.Fmt.{signed_decimal};
+ghost use Rattle.sbpl_report.specs.Listing.{cell_text, cells_text, offset_text, end_text, listing_at, listing_text, prim_text};
+
+use crate::report::{push_bytes, push_field};
+use itoa::Buffer;
+use sbpl_cost::Lattice;
+use sbpl_fixed::NoMemory;
+use sbpl_mprim::Prim;
+use sbpl_sweep::Cell;
+use std::alloc::Global;
+
+/// Appends a whole number with its sign.
+fn push_signed(out: &mut Vec<u8>, number: i64) -> Result<(), NoMemory>
+    ensures appended { OnOk result (out.new.items ≡ out.old.items ++ signed_decimal number) }
+{
+    out.extend_from_slice(Buffer::new().format(number).as_bytes())?;
+    Ok(())
+}
+
+/// Appends a cell.
+#[tactic(auto, unfolding(crate::specs::Listing::offset_text))]
+fn push_offset(out: &mut Vec<u8>, cell: Cell) -> Result<(), NoMemory>
+    ensures appended { OnOk result (out.new.items ≡ out.old.items ++ offset_text cell) }
+{
+    push_signed(out, cell.x)?;
+    push_bytes(out, b" ")?;
+    push_signed(out, cell.y)
+}
+
+/// Appends the line of a cell.
+#[tactic(auto, unfolding(crate::specs::Listing::cell_text))]
+fn push_cell(out: &mut Vec<u8>, word: &[u8], cell: Cell) -> Result<(), NoMemory>
+    ensures appended { OnOk result (out.new.items ≡ out.old.items ++ cell_text word.now cell) }
+{
+    push_bytes(out, word)?;
+    push_bytes(out, b" ")?;
+    push_offset(out, cell)?;
+    push_bytes(out, b"\n")
+}
+
+/// Appends the lines of cells.
+fn push_cells(out: &mut Vec<u8>, word: &[u8], cells: &[Cell]) -> Result<(), NoMemory>
+    ensures appended { OnOk result (out.new.items ≡ out.old.items ++ cells_text word.now cells.now) }
+{
+    for cell in cells {
+        push_cell(out, word, *cell)?;
+    }
+    Ok(())
+}
+
+/// Appends where a primitive leads.
+#[tactic(auto, unfolding(crate::specs::Listing::end_text, crate::specs::Listing::offset_text))]
+fn push_end(out: &mut Vec<u8>, prim: &Prim) -> Result<(), NoMemory>
+    ensures appended { OnOk result (out.new.items ≡ out.old.items ++ end_text prim.now) }
+{
+    let cell = Cell {
+        x: i64::from(prim.dx),
+        y: i64::from(prim.dy),
+    };
+    push_offset(out, cell)?;
+    push_field(out, b" ", u64::from(prim.to))
+}
+
+/// Appends the line of a primitive.
+#[tactic(auto, unfolding(crate::specs::Listing::prim_text))]
+fn push_prim(out: &mut Vec<u8>, prim: &Prim, cost: u32) -> Result<(), NoMemory>
+    ensures appended { OnOk result (out.new.items ≡ out.old.items ++ prim_text prim.now cost) }
+{
+    push_field(out, b"prim ", u64::from(prim.from))?;
+    push_field(out, b" ", u64::from(prim.id))?;
+    push_bytes(out, b" to ")?;
+    push_end(out, prim)?;
+    push_field(out, b" cost ", u64::from(cost))?;
+    push_bytes(out, b"\n")
+}
+
+/// The lines of a primitive of this cost, with these centre cells and swept cells.
+#[tactic(auto, unfolding(crate::specs::Listing::listing_text))]
+fn listing_of(
+    alloc: Global,
+    prim: &Prim,
+    cost: u32,
+    centres: &[Cell],
+    swept: &[Cell],
+) -> Result<Vec<u8>, NoMemory>
+    ensures text { IfOk result (λ text. text.items ≡ listing_text prim.now cost centres.now swept.now) }
+{
+    let mut text = Vec::new(alloc);
+    push_prim(&mut text, prim, cost)?;
+    push_cells(&mut text, b"centre", centres)?;
+    push_cells(&mut text, b"swept", swept)?;
+    Ok(text)
+}
+
+/// The lines of the primitive at place `i` of the file.
+pub fn listing_at(alloc: Global, lattice: &Lattice, i: u32) -> Result<Vec<u8>, NoMemory>
+    requires place { i < length lattice.now.prims.items }
+    ensures text { IfOk result (λ text. text.items ≡ listing_at lattice.now i) }
+{
+    let prim = lattice.prims().get(i);
+    let sweeps = lattice.sweeps();
+    listing_of(
+        alloc,
+        prim,
+        lattice.cost_of(i),
+        sweeps.centre(i),
+        sweeps.swept(i),
+    )
+}
