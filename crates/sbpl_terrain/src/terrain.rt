@@ -1,7 +1,7 @@
 //! A graph over a map of cells.
 
-ghost use Rattle.std.specs.Prelude.{◌≡◌, pos, ◌↔◌, IsOk, OnErr, OnOk};
-ghost use Rattle.sbpl_map.specs.CellMap.{ChangesCell, IsOnMap};
+ghost use Rattle.std.specs.Prelude.{◌≡◌, pos, ◌↔◌, IfOk, IsOk, OnErr, OnOk, Some};
+ghost use Rattle.sbpl_map.specs.CellMap.{ChangesCell, IsOnMap, cost_at};
 ghost use Rattle.sbpl_terrain.specs.Cells.{Cells, IsTerrain};
 ghost use Rattle.sbpl_terrain.specs.Reading.{AddsEnds};
 
@@ -25,6 +25,7 @@ pub trait Terrain: Graph {
     /// changes. It takes no memory.
     fn set(&mut self, x: i64, y: i64, c: u8) -> Result<u8, OffMap>
         ensures on_map { IsOk result ↔ IsOnMap (cells.map self.old) x y }
+        ensures old { IfOk result (λ was. cost_at (cells.map self.old) x y ≡ Some was) }
         ensures changes { OnOk result (ChangesCell (cells.map self.old) (cells.map self.new) x y c) }
         ensures others { self.new ≡ cells.over self.old (cells.map self.new) }
         ensures refused { OnErr result (self.new ≡ self.old) }
