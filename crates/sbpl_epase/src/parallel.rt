@@ -161,6 +161,7 @@ fn line_as<
     requires takes { (takes.name ≡ M.takes) × (takes.parts ≡ M.parts) }
     requires claims { claims ≡ M.table }
     requires line { line ≡ L.line }
+    requires room { line.slots ≡ workers }
     ensures out { IfOk result (λ core. core.frontier.out ≡ []) }
 {
     let (shared, seats) = Shared::<'g, G, H, N, U, M, L>::new(

@@ -47,6 +47,7 @@ impl<'g, G: Graph, H: Guide, N: Pass, U: Past, M: Second, L: Lined> Shared<'g, G
         requires parts { M.parts ≡ seats }
         requires takes { (takes.name ≡ M.takes) × (takes.parts ≡ M.parts) }
         requires line { line ≡ L.line }
+        requires room { line.slots ≡ seats }
         requires claims { claims ≡ M.table }
         ensures all { IfOk result (λ r. vec_len r.1 ≡ M.parts) }
         ensures fresh { IfOk result (λ r. r.1.items ≡ fresh_seats seats) }

@@ -41,6 +41,7 @@ impl<N: Pass, M: Naming> Line<N, M> {
     pub fn new(alloc: Global, seats: u32) -> Result<Line<N, M>, NoMemory>
         requires some { 1 ≤ seats }
         requires few { seats ≤ 64 }
+        ensures room { IfOk result (λ line. line.slots ≡ seats) }
     {
         let (postings, pass) = Postings::<N, M>::ruled(alloc, seats as usize)?;
         Ok(Line { postings, pass })

@@ -177,6 +177,7 @@ fn posts_as<
     requires takes { (takes.name ≡ M.takes) × (takes.parts ≡ M.parts) }
     requires claims { claims ≡ M.table }
     requires line { line ≡ L.line }
+    requires room { line.slots ≡ 2 }
 {
     let made = Shared::<'g, Held, Zero, N, Unseen, M, L>::new(alloc, core, 2, takes, line, claims);
     match made {
@@ -211,7 +212,7 @@ fn posts_from<M: Second + Send + Sync, N: Pass + Send + Sync, R: Threads + Wait 
     requires takes { (takes.name ≡ M.takes) × (takes.parts ≡ M.parts) }
     requires claims { claims ≡ M.table }
 {
-    let Ok(line) = Line::<N, M>::new(alloc, 1) else {
+    let Ok(line) = Line::<N, M>::new(alloc, 2) else {
         return false;
     };
     let opened = Core::<'_, Held, Zero, N>::open(

@@ -171,6 +171,7 @@ fn told_as<'g, L: Lined, M: Second, N: Pass, R: Wait>(
     requires takes { (takes.name ≡ M.takes) × (takes.parts ≡ M.parts) }
     requires claims { claims ≡ M.table }
     requires line { line ≡ L.line }
+    requires room { line.slots ≡ 1 }
 {
     let made = Shared::<'g, Lattice, Best, N, Unseen, M, L>::new(
         alloc, core, 1, takes, line, claims,
