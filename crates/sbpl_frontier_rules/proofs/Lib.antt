@@ -13,3 +13,4 @@ pub mod Marking
 pub mod Starting
 pub mod Showing
 pub mod Returning
+pub mod Tickets

@@ -42,3 +42,23 @@ is_posting _ = 0
 abbrev pub posts_in : List Event → ℕ
 posts_in [] = 0
 posts_in (e ∷ rest) = is_posting e + posts_in rest
+
+-- how often an event hands out the ticket with this number
+abbrev pub takes : ℕ → Event → ℕ
+takes n (Taken ticket seat state arc) = cond (nat_eq ticket n) 1 0
+takes n _ = 0
+
+-- how often these events do
+abbrev pub taken_times : ℕ → List Event → ℕ
+taken_times n [] = 0
+taken_times n (e ∷ rest) = takes n e + taken_times n rest
+
+-- how often an event brings the judgement of this ticket back
+abbrev pub posts : ℕ → Event → ℕ
+posts n (Posted ticket cost) = cond (nat_eq ticket n) 1 0
+posts n _ = 0
+
+-- how often these events do
+abbrev pub posted_times : ℕ → List Event → ℕ
+posted_times n [] = 0
+posted_times n (e ∷ rest) = posts n e + posted_times n rest

@@ -1,17 +1,20 @@
 -- What every list of events keeps.
-use Rattle.std.specs.Prelude.{◌≡◌, ℕ, ◌+◌, ◌<◌, ◌≤◌, true, List, length}
+use Rattle.std.specs.Prelude.{◌≡◌, ℕ, ◌+◌, ◌<◌, ◌≤◌, true, Option, List, ◌∷◌, ◌++◌, length}
+use Rattle.std.specs.List.{Contains}
 use Rattle.sbpl_graph.specs.Bound.{IsLow}
 use Rattle.sbpl_graph.specs.Certificate.{AreSupported, ShowBound}
 use Rattle.sbpl_graph.specs.Exact.{AreExact}
 use Rattle.sbpl_graph.specs.Laws.{HasGaps, IsConsistent, IsSound}
+use Rattle.sbpl_graph.specs.Network.{Network}
 use Rattle.sbpl_labels.specs.Counts.{AreCounts, Counts}
 use Rattle.sbpl_labels.specs.Marks.{AreLabels, Marks, states_of, g_of, v_of, back_of}
 use Rattle.sbpl_search.specs.Query.{Query}
 use Rattle.sbpl_search.specs.Ready.{AreReady}
 use Rattle.sbpl_frontier_rules.specs.declared.event.Event.{Event}
+use Rattle.sbpl_frontier_rules.specs.declared.event.Event.TheVariants.{Taken, Posted}
 use Rattle.sbpl_frontier_rules.specs.Events.{AreEvents, IsFirst, IsIdle, IsOutOfBudget}
 use Rattle.sbpl_frontier_rules.specs.Frontier.{Frontier, is_opened}
-use Rattle.sbpl_frontier_rules.specs.Journal.{opened_times, openings, posts_in, takes_in}
+use Rattle.sbpl_frontier_rules.specs.Journal.{opened_times, openings, posted_times, posts_in, taken_times, takes_in}
 use Rattle.sbpl_frontier_rules.specs.Kept.{IsKept}
 
 -- the graph keeps its laws, the guide is consistent on it, and the inflation is at least one
@@ -69,3 +72,24 @@ EachOpensOnce = (q : Query) (m : Marks) (before : Counts) (events : List Event) 
 abbrev pub TakesComeBack : Type 0
 TakesComeBack = (q : Query) (m : Marks) (before : Counts) (events : List Event) (old new : Frontier) → IsLawful q → MayBegin q m before
     → IsFirst m before old → AreEvents q events old new → posts_in events + length new.out ≡ takes_in events
+
+-- these events handed out an arc under this ticket, and this is its judgement
+pub record WasTaken (n : Network) (events : List Event) (ticket : ℕ) (cost : Option ℕ) : Type 0 where
+  pub seat : ℕ
+  pub state : ℕ
+  pub arc : ℕ
+  pub taken : Contains events (Taken ticket seat state arc)
+  pub judged : cost ≡ n.cost state arc
+
+-- No ticket is taken twice, or posted more often than it is taken. Each judgement that comes back is that of the arc that an earlier
+-- event handed out under its ticket, and no earlier event brought it back.
+pub record GoOnce (n : Network) (events : List Event) : Type 0 where
+  pub taken : (ticket : ℕ) → taken_times ticket events ≤ 1
+  pub posted : (ticket : ℕ) → posted_times ticket events ≤ taken_times ticket events
+  pub earlier : (before after : List Event) (ticket : ℕ) (cost : Option ℕ) → events ≡ before ++ Posted ticket cost ∷ after → WasTaken n before ticket cost
+  pub fresh : (before after : List Event) (ticket : ℕ) (cost : Option ℕ) → events ≡ before ++ Posted ticket cost ∷ after → posted_times ticket before ≡ 0
+
+-- every list of events from the beginning of a pass does so
+abbrev pub TicketsGoOnce : Type 0
+TicketsGoOnce = (q : Query) (m : Marks) (before : Counts) (events : List Event) (old new : Frontier) → IsFirst m before old → AreEvents q events old new
+    → GoOnce q.network events

@@ -1,6 +1,6 @@
 //! What every list of events keeps.
 
-ghost use Rattle.sbpl_frontier_rules.specs.Laws.{EachOpensOnce, EventsKeep, FirstIsKept, IdleIsExact, IdleShows, SettledAtOne, TakesComeBack};
+ghost use Rattle.sbpl_frontier_rules.specs.Laws.{EachOpensOnce, EventsKeep, FirstIsKept, IdleIsExact, IdleShows, SettledAtOne, TakesComeBack, TicketsGoOnce};
 ghost use Rattle.sbpl_frontier_rules.specs.Passes.{CountsAreFree, OpenedByEvents, StartStaysFresh};
 
 /// On every graph that keeps its laws, with a guide that is consistent on it and an inflation of at least 1: a frontier that is
@@ -8,7 +8,8 @@ ghost use Rattle.sbpl_frontier_rules.specs.Passes.{CountsAreFree, OpenedByEvents
 /// of events keeps it. So at every moment, whatever results are missing, v of each opened state is at most the inflation times
 /// the cost of every free path to it. Where no arc is ready and none is out, the labels are exact, and with their low they show a
 /// bound of every path from the start to the goal. With inflation 1 each opened state has v = g. Each arc that was
-/// handed out is out, or its judgement came back. (ePA*SE, Mukherjee, Aine and Likhachev 2022; the test of independence after
+/// handed out is out, or its judgement came back. No ticket is taken twice or posted twice, and each judgement is that of the arc
+/// that an earlier event handed out under its ticket. (ePA*SE, Mukherjee, Aine and Likhachev 2022; the test of independence after
 /// PA*SE, Phillips, Likhachev and Koenig 2014.)
 /// This does nothing when it runs.
 pub fn events_keep()
@@ -22,4 +23,5 @@ pub fn events_keep()
     ensures marked { OpenedByEvents }
     ensures start { StartStaysFresh }
     ensures back { TakesComeBack }
+    ensures tickets { TicketsGoOnce }
 {}

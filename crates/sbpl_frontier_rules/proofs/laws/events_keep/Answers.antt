@@ -7,6 +7,7 @@ use Rattle.sbpl_frontier_rules.proofs.Marking.{opened_by_events}
 use Rattle.sbpl_frontier_rules.proofs.Recounting.{counts_are_free}
 use Rattle.sbpl_frontier_rules.proofs.SettledAtOne.{settled_at_one}
 use Rattle.sbpl_frontier_rules.proofs.Starting.{start_stays_fresh}
+use Rattle.sbpl_frontier_rules.proofs.Tickets.{tickets_go_once}
 use Rattle.sbpl_frontier_rules.proofs.Walking.{opening_bounded}
 use Rattle.sbpl_frontier_rules.proofs.laws.events_keep.Goals as goal
 
@@ -39,3 +40,6 @@ returns-clause-shows c = idle_shows
 
 pub returns-clause-back : goal.returns-clause-back
 returns-clause-back c = takes_come_back opening_bounded
+
+pub returns-clause-tickets : goal.returns-clause-tickets
+returns-clause-tickets c = tickets_go_once
