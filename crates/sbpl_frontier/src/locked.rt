@@ -1,6 +1,7 @@
 //! What the lock guards.
 
 ghost use Rattle.std.specs.Prelude.{◌≡◌, ◌+◌, ◌<◌, [], ◌++◌, IfOk, IsFalse, OnErr, map, sum_by, vec_len};
+ghost use Rattle.sbpl_frontier_core.specs.Answers.{OpensTo};
 ghost use Rattle.sbpl_postings.specs.Kept.{AreBrought};
 ghost use Rattle.sbpl_frontier.specs.Tally.{sent_in};
 ghost use Rattle.sbpl_frontier.specs.Turns.{Gives, Shows};
@@ -43,6 +44,8 @@ impl<'g, G: Graph, H: Guide, N: Pass, U: Past, M: Second, L: Lined> Locked<'g, G
     pub(crate) fn next(&mut self, seat: &mut Seat<N, M, L>) -> Result<Turn<N, U, M>, NoMemory>
         ensures gives { IfOk result (λ turn. Gives seat.old turn seat.new) }
         ensures same { OnErr result (seat.new ≡ seat.old) }
+        ensures opened { OnErr result (OpensTo N.query self.old.book self.new.book) }
+        ensures line { self.new.line ≡ self.old.line }
         ensures shows { IfOk result (λ turn. Shows N.query N.opening N.counts turn) }
     {
         match self.core.next(seat.number)? {
