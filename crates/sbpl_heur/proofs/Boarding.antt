@@ -225,6 +225,12 @@ module _ (b : Board) (is : IsBoard b) where
       let high : e + 1 ≤ 256 = omega (arith, byte, cost) in
       mul-le-mul (is.light k h at).1 high
 
+  pub floor_some : (k e : ℕ) (h : Hop) → slice_get b.hops k ≡ Some h → 1 ≤ h.cost * (e + 1)
+  floor_some k e h at =
+      let some : 1 ≤ e + 1 = omega arith in
+      let least : 1 * 1 ≤ h.cost * (e + 1) = mul-le-mul (is.light k h at).0 some in
+      omega (arith, least)
+
   -- there are four headings or more
   pub few_cells : cell_count b ≤ 2097152
   few_cells =

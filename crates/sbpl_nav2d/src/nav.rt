@@ -186,6 +186,7 @@ impl Graph for Nav {
 
     fn floor(&self, _s: u32, k: u32) -> u32
         ensures value { result ≡ step_cost k }
+        ensures positive { 1 ≤ result }
         ensures floor { (c : ℕ) → (network_of self.now).cost _s k ≡ Some c → result ≤ c }
     {
         step_cost(k)

@@ -5,6 +5,7 @@ use Rattle.sbpl_cost.proofs.lattice.LatticeGraph.floor.Goals as goal
 
 pub returns : goal.returns
 returns c = record {
+  positive = c.cost_of.ensures.positive;
   floor = λ cost is.
       let own = c.cost_of.ensures.cost in
       let by = c.prim_of.ensures.primitive in

@@ -1,11 +1,12 @@
 use Rattle.std.proofs.Common.{◌≡◌, ◌<◌, Some, slice_get, slice_index, ap, sym, ◌∙◌, arith}
 use Rattle.std.proofs.lemmas.Option.{slice_get-get_or}
 use Rattle.sbpl_heur.specs.Boards.{cell_count}
-use Rattle.sbpl_heur.proofs.Boarding.{back_cost, cost_floor, cost_free, floor_fits, read_at}
+use Rattle.sbpl_heur.proofs.Boarding.{back_cost, cost_floor, cost_free, floor_fits, floor_some, read_at}
 use Rattle.sbpl_heur.proofs.cells.CellsGraph.floor.Goals as goal
 
 pub returns-then-s-count : goal.returns-then-s-count
 returns-then-s-count c = record {
+  positive = omega arith;
   floor = λ d costs. (let free = cost_free c.args.self.now c.args.s c.args.k d costs in (back_cost c.args.self.now c.count.ensures.kept c.args.s c.args.k free.0 d free.1).0);
 }
 
@@ -25,4 +26,7 @@ pub overflow_mul-result : goal.overflow_mul-result
 overflow_mul-result c = omega (arith, floor_fits _ c.self.invariant c.args.s c.args.k c.from.result c.index.result.now (hop_at c) (cost_at c))
 
 pub returns : goal.returns
-returns c = record { floor = rw (← c.self.view_is) (cost_floor _ c.self.invariant c.args.s c.args.k c.from.result c.index.result.now (hop_at c) (cost_at c)) }
+returns c = record {
+  positive = floor_some _ c.self.invariant c.args.k c.from.result c.index.result.now (hop_at c);
+  floor = rw (← c.self.view_is) (cost_floor _ c.self.invariant c.args.s c.args.k c.from.result c.index.result.now (hop_at c) (cost_at c));
+}
