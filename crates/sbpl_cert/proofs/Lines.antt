@@ -43,6 +43,11 @@ pub six_parts : (old p n m k l q a b c d e f : List ℕ) → a ≡ old ++ p → 
 six_parts old p n m k l q a b c d e f one two three four five six =
     six ∙ rw (five, four, three, two, one) (simp append_assoc)
 
+pub head_grows : (plan states low : ℕ) (old a b c d e f : List ℕ) → a ≡ old ++ codes "labels 1 plan" → b ≡ a ++ (32 ∷ decimal plan) → c ≡ b ++ codes " states"
+    → d ≡ c ++ (32 ∷ decimal states) → e ≡ d ++ codes " low " → f ≡ e ++ (label_text low ++ 10 ∷ []) → f ≡ old ++ head_text plan states low
+head_grows plan states low old a b c d e f one two three four five six =
+    six_parts old (codes "labels 1 plan") (32 ∷ decimal plan) (codes " states") (32 ∷ decimal states) (codes " low ") (label_text low ++ 10 ∷ []) a b c d e f one two three four five six
+
 pub section_grows : (s : FullSection) (rows : List Row) (arcs old a b c d : List ℕ) → rows ≡ s.labels → arcs ≡ s.arcs → a ≡ old ++ head_text s.plan (length rows) s.low
     → b ≡ a ++ line_text (outcome_line s.outcome arcs) → c ≡ b ++ flat_map row_text rows → d ≡ c ++ codes "end\n" → d ≡ old ++ full_text s
 section_grows s rows arcs old a b c d labels_is arcs_is one two three four =

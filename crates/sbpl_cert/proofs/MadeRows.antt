@@ -3,9 +3,10 @@ use Rattle.std.proofs.Common.{◌≡◌, ℕ, ◌+◌, ◌<◌, ◌≤◌, ◌++
 use Rattle.std.proofs.Math.ListN.{get_or-append}
 use Rattle.std.proofs.Math.Seq.{get_or-append_seam}
 use Rattle.std.proofs.lemmas.Bool.{cases_lt}
-use Rattle.sbpl_labels.specs.Marks.{Marks, g_of, v_of}
+use Rattle.sbpl_labels.specs.Marks.{Marks, states_of, g_of, v_of}
 use Rattle.sbpl_cert.specs.declared.row.Row.{Row}
-use Rattle.sbpl_cert.specs.Sections.{IsRow, no_row, row_at}
+use Rattle.sbpl_cert.specs.Made.{HaveRows}
+use Rattle.sbpl_cert.specs.Sections.{AreRows, IsRow, no_row, row_at}
 
 -- the rows of the first states are there
 pub record AreMadeTo (m : Marks) (h : ℕ → ℕ) (rows : List Row) (i : ℕ) : Type 0 where
@@ -29,3 +30,13 @@ one_more m h rows i row made is fits = record {
         let found : row_at (rows ++ row ∷ []) s ≡ row = rw here (get_or-append_seam rows row [] no_row) in
         subst P (sym found) (last (omega arith)))
         (cases_lt s i)
+
+-- rows that are made for all states
+pub all_made : (m : Marks) (h : ℕ → ℕ) (rows labels : List Row) (i : ℕ) → labels ≡ rows → AreMadeTo m h rows i → i ≡ states_of m → HaveRows m h labels
+all_made m h rows labels i same made all = rw same (record {
+  states = made.count ∙ all;
+  rows = λ s less. made.each s (rw all less);
+})
+
+pub all_kept : (m : Marks) (h : ℕ → ℕ) (rows labels : List Row) (i : ℕ) → labels ≡ rows → AreMadeTo m h rows i → AreRows labels
+all_kept m h rows labels i same made = rw same (λ s less. made.kept s (rw (sym made.count) less))

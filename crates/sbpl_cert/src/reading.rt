@@ -199,7 +199,6 @@ fn read_arc(arcs: &mut Vec<u32>, reader: &mut Reader) -> Result<(), LabelFault>
 }
 
 /// Reads this number of further arc numbers.
-#[tactic(auto, using(sbpl_fixed::specs::Parts::reads_and_then, sbpl_fixed::specs::Parts::turns_next, sbpl_fixed::specs::Parts::turns_over), unfolding(sbpl_fixed::specs::Formats::reads))]
 fn read_arcs(count: u32, arcs: &mut Vec<u32>, reader: &mut Reader) -> Result<(), LabelFault>
     ensures read { Gives Memory (λ _. arcs.new.items) result reader.new (reads told (turns count arc_turn arcs.old.items) reader.old) }
 {
@@ -263,7 +262,6 @@ fn read_next_row(rows: &mut Vec<Row>, reader: &mut Reader) -> Result<(), LabelFa
 }
 
 /// Reads this number of further rows.
-#[tactic(auto, using(sbpl_fixed::specs::Parts::reads_and_then, sbpl_fixed::specs::Parts::turns_next, sbpl_fixed::specs::Parts::turns_over), unfolding(sbpl_fixed::specs::Formats::reads))]
 fn read_rows(count: u32, rows: &mut Vec<Row>, reader: &mut Reader) -> Result<(), LabelFault>
     ensures read { Gives Memory (λ _. rows.new.items) result reader.new (reads told (turns count row_turn rows.old.items) reader.old) }
 {
@@ -301,7 +299,6 @@ fn read_next_sparse_row(
 }
 
 /// Reads this number of further rows, upwards from `least`. Answers the state after the last of them.
-#[tactic(auto, using(sbpl_fixed::specs::Parts::reads_and_then, sbpl_fixed::specs::Parts::turns_next, sbpl_fixed::specs::Parts::turns_over), unfolding(sbpl_fixed::specs::Formats::reads))]
 fn read_sparse_rows(
     count: u32,
     mut least: u32,

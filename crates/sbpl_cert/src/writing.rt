@@ -84,7 +84,6 @@ fn put_row(out: &mut Vec<u8>, row: Row) -> Result<(), NoMemory>
 }
 
 /// Appends the lines of the states.
-#[tactic(auto, using(crate::proofs::Kept::kept_now, crate::proofs::Kept::kept_after, std::proofs::lemmas::List::append_assoc))]
 fn put_rows(out: &mut Vec<u8>, rows: &[Row]) -> Result<(), NoMemory>
     ensures ok { OnOk result (out.new.items ≡ out.old.items ++ flat_map row_text rows.now) }
     ensures kept { BeginsWith out.old.items out.new.items }
@@ -129,7 +128,6 @@ fn put_last_label(out: &mut Vec<u8>, label: u64) -> Result<(), NoMemory>
 }
 
 /// Appends the first line.
-#[tactic(auto, using(crate::proofs::Kept::kept_now, crate::proofs::Kept::kept_after, std::proofs::lemmas::List::append_assoc))]
 fn put_head(out: &mut Vec<u8>, plan: u32, states: usize, low: u64) -> Result<(), NoMemory>
     ensures ok { OnOk result (out.new.items ≡ out.old.items ++ (codes "labels 1 plan " ++ (decimal plan ++ (codes " states " ++ (decimal states ++ (codes " low " ++ (label_text low ++ 10 ∷ []))))))) }
     ensures kept { BeginsWith out.old.items out.new.items }
@@ -143,7 +141,6 @@ fn put_head(out: &mut Vec<u8>, plan: u32, states: usize, low: u64) -> Result<(),
 }
 
 /// Appends the arc numbers of a path, and a line feed.
-#[tactic(auto, using(crate::proofs::Kept::kept_now, crate::proofs::Kept::kept_after, std::proofs::lemmas::List::append_assoc))]
 fn put_arcs(out: &mut Vec<u8>, arcs: &[u32]) -> Result<(), NoMemory>
     ensures ok { OnOk result (out.new.items ≡ out.old.items ++ (flat_map (λ k. 32 ∷ decimal k) arcs.now ++ 10 ∷ [])) }
     ensures kept { BeginsWith out.old.items out.new.items }
@@ -155,7 +152,7 @@ fn put_arcs(out: &mut Vec<u8>, arcs: &[u32]) -> Result<(), NoMemory>
 }
 
 /// Appends the line of a path.
-#[tactic(auto, using(crate::proofs::Kept::kept_now, crate::proofs::Kept::kept_after, std::proofs::lemmas::List::append_assoc), unfolding(sbpl_fixed::specs::Printed::line_text))]
+#[tactic(auto, unfolding(sbpl_fixed::specs::Printed::line_text))]
 fn put_path(out: &mut Vec<u8>, cost: u64, bound: u128, arcs: &[u32]) -> Result<(), NoMemory>
     ensures ok { OnOk result (out.new.items ≡ out.old.items ++ line_text (outcome_line (outcome.Path cost bound) arcs.now)) }
     ensures kept { BeginsWith out.old.items out.new.items }
@@ -209,7 +206,6 @@ fn put_sparse_row(out: &mut Vec<u8>, row: SparseRow) -> Result<(), NoMemory>
 }
 
 /// Appends the lines of the rows of a sparse section.
-#[tactic(auto, using(crate::proofs::Kept::kept_now, crate::proofs::Kept::kept_after, std::proofs::lemmas::List::append_assoc))]
 fn put_sparse_rows(out: &mut Vec<u8>, rows: &[SparseRow]) -> Result<(), NoMemory>
     ensures ok { OnOk result (out.new.items ≡ out.old.items ++ flat_map sparse_row_text rows.now) }
     ensures kept { BeginsWith out.old.items out.new.items }
@@ -221,7 +217,7 @@ fn put_sparse_rows(out: &mut Vec<u8>, rows: &[SparseRow]) -> Result<(), NoMemory
 }
 
 /// Appends what the first line of a sparse section has of its plan and its number of states.
-#[tactic(auto, using(crate::proofs::Kept::kept_now, crate::proofs::Kept::kept_after, std::proofs::lemmas::List::append_assoc))]
+#[tactic(auto, using(crate::proofs::Kept::kept, std::proofs::lemmas::List::append_assoc))]
 fn put_sparse_title(out: &mut Vec<u8>, plan: u32, states: u32) -> Result<(), NoMemory>
     ensures ok { OnOk result (out.new.items ≡ out.old.items ++ (codes "labels 2 plan " ++ (decimal plan ++ (codes " states " ++ decimal states)))) }
     ensures kept { BeginsWith out.old.items out.new.items }
@@ -233,7 +229,6 @@ fn put_sparse_title(out: &mut Vec<u8>, plan: u32, states: u32) -> Result<(), NoM
 }
 
 /// Appends the first line of a sparse section.
-#[tactic(auto, using(crate::proofs::Kept::kept_now, crate::proofs::Kept::kept_after, std::proofs::lemmas::List::append_assoc))]
 fn put_sparse_head(
     out: &mut Vec<u8>,
     plan: u32,
@@ -252,7 +247,6 @@ fn put_sparse_head(
 }
 
 /// Appends a section.
-#[tactic(auto, using(crate::proofs::Kept::kept_now, crate::proofs::Kept::kept_after, std::proofs::lemmas::List::append_assoc))]
 fn put_section(out: &mut Vec<u8>, set: &LabelSet) -> Result<(), NoMemory>
     ensures ok { OnOk result (out.new.items ≡ out.old.items ++ full_text set.now) }
     ensures kept { BeginsWith out.old.items out.new.items }
@@ -279,7 +273,6 @@ pub fn write_labels(set: &LabelSet, out: &mut Vec<u8>) -> Result<(), NoMemory>
 }
 
 /// Appends a sparse section.
-#[tactic(auto, using(crate::proofs::Kept::kept_now, crate::proofs::Kept::kept_after, std::proofs::lemmas::List::append_assoc))]
 fn put_sparse_section(out: &mut Vec<u8>, set: &SparseSet) -> Result<(), NoMemory>
     ensures ok { OnOk result (out.new.items ≡ out.old.items ++ sparse_text set.now) }
     ensures kept { BeginsWith out.old.items out.new.items }

@@ -1,5 +1,6 @@
 use Rattle.std.proofs.lemmas.Result.{on_ok_weaker}
 use Rattle.sbpl_cert.specs.Sparse.{SparseSection}
+use Rattle.sbpl_cert.proofs.Kept.{kept}
 use Rattle.sbpl_cert.proofs.Lines.{sparse_grows}
 use Rattle.sbpl_cert.proofs.writing.put_sparse_section.Goals as goal
 
@@ -11,3 +12,12 @@ returns-clause-ok c =
     (λ last.
     sparse_grows s _ _ _ _ _ _ _ c.as_slice-rows.ensures.items c.as_slice.ensures.items c.in_ok-put_sparse_head.ensures.ok c.in_ok-put_outcome.ensures.ok c.in_ok-put_sparse_rows.ensures.ok last)
     c.put.ensures.ok)
+
+pub returns-in_err-put_outcome-clause-kept : goal.returns-in_err-put_outcome-clause-kept
+returns-in_err-put_outcome-clause-kept c = kept _ _ _ c.put_sparse_head.ensures.kept c.put_outcome.ensures.kept
+
+pub returns-in_err-put_sparse_rows-clause-kept : goal.returns-in_err-put_sparse_rows-clause-kept
+returns-in_err-put_sparse_rows-clause-kept c = kept _ _ _ c.put_sparse_head.ensures.kept (kept _ _ _ c.put_outcome.ensures.kept c.put_sparse_rows.ensures.kept)
+
+pub returns-clause-kept : goal.returns-clause-kept
+returns-clause-kept c = kept _ _ _ c.put_sparse_head.ensures.kept (kept _ _ _ c.put_outcome.ensures.kept (kept _ _ _ c.put_sparse_rows.ensures.kept c.put.ensures.kept))
