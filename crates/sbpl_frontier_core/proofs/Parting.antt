@@ -19,9 +19,11 @@ use Rattle.sbpl_frontier_rules.specs.Frontier.{Frontier, is_opened, without}
 use Rattle.sbpl_frontier_rules.specs.Kept.{IsKept}
 use Rattle.sbpl_frontier_rules.specs.Laws.{EventsKeep, FirstIsKept, IsLawful, MayBegin}
 use Rattle.sbpl_frontier_core.specs.Book.{frontier_of}
+use Rattle.sbpl_frontier_core.specs.Clear.{HaveSameKeys}
 use Rattle.sbpl_frontier_core.specs.Cursor.{IsFirstHead, arcs_from}
 use Rattle.sbpl_frontier_core.specs.Log.{Log}
 use Rattle.sbpl_frontier_core.specs.Together.{AreCoreParts, Room}
+use Rattle.sbpl_frontier_core.proofs.Choosing.{queued_same}
 use Rattle.sbpl_frontier_core.proofs.Cursors.{all_from, few_within}
 use Rattle.sbpl_frontier_core.proofs.Replaying.{fewer_without, kept_by_replay, replay_push}
 
@@ -200,4 +202,48 @@ module _ {q : Query} {opening : Marks} {before : Counts} {keeps : Bool} where
     kept = same;
     none_aside = none;
     aside_room = room;
+  }
+
+  -- room is made in the journal
+  pub parts_reserved : {f : Frontier} {log log' : Log} {queue : OpenList} {expanded : List ℕ} {state : ℕ} {aside : Room}
+      → AreCoreParts q opening before keeps f log queue expanded state aside → log'.events ≡ log.events → log'.keeps ≡ log.keeps → log.spare ≤ log'.spare
+      → AreCoreParts q opening before keeps f log' queue expanded state aside
+  parts_reserved here events keeps spare = record {
+    lawful = here.lawful;
+    may_begin = here.may_begin;
+    replay = rw events here.replay;
+    states = here.states;
+    marks = here.marks;
+    goal_inside = here.goal_inside;
+    queued = here.queued;
+    listed = here.listed;
+    listed_inside = here.listed_inside;
+    cursor = here.cursor;
+    room = omega (arith, here.room);
+    counted = here.counted;
+    kept = keeps ∙ here.kept;
+    none_aside = here.none_aside;
+    aside_room = here.aside_room;
+  }
+
+  -- states were put aside and back
+  pub parts_searched : {f : Frontier} {log : Log} {queue queue' : OpenList} {expanded : List ℕ} {state : ℕ} {aside aside' : Room}
+      → AreCoreParts q opening before keeps f log queue expanded state aside → HaveSameKeys queue queue' → aside'.entries ≡ [] → aside'.size ≡ aside.size
+      → AreCoreParts q opening before keeps f log queue' expanded state aside'
+  parts_searched here same none size = record {
+    lawful = here.lawful;
+    may_begin = here.may_begin;
+    replay = here.replay;
+    states = here.states;
+    marks = here.marks;
+    goal_inside = here.goal_inside;
+    queued = queued_same same here.queued;
+    listed = here.listed;
+    listed_inside = here.listed_inside;
+    cursor = here.cursor;
+    room = here.room;
+    counted = here.counted;
+    kept = here.kept;
+    none_aside = none;
+    aside_room = omega (arith, here.aside_room);
   }

@@ -7,7 +7,7 @@ use Rattle.sbpl_serial.specs.Run.{goal_key_at}
 use Rattle.sbpl_frontier_rules.specs.Frontier.{Frontier}
 use Rattle.sbpl_frontier_core.specs.Book.{frontier_of}
 use Rattle.sbpl_frontier_core.specs.Clear.{IsSearched}
-use Rattle.sbpl_frontier_core.proofs.Parting.{parts_kept}
+use Rattle.sbpl_frontier_core.proofs.Parting.{parts_kept, parts_searched}
 use Rattle.sbpl_frontier_core.proofs.Choosing.{chosen_from, over_from, spent_from, waits_at_rest, waits_from}
 use Rattle.sbpl_frontier_core.proofs.Replaying.{states_out}
 use Rattle.sbpl_frontier_core.proofs.frontier.CoreOf.choose.Goals as goal
@@ -85,3 +85,15 @@ returns-clause-choice g c =
       | in-Some w ↦ rw w.result-is (chosen_from q f inside.queue here.5.queued kept none_ready w.in-Some.s (c.if-spent.ensures.left.0 refl) (rw w.in-Some.is at searched))
       | in-None w ↦ rw w.result-is (waits_from q f inside.queue here.5.queued kept none_ready some.0 least (rw w.in-None.is at searched))
     ])
+
+pub invariant_of-self : goal.invariant_of-self
+invariant_of-self g c =
+    let here = c.self.invariant in
+    let found = c.find_clear-found.ensures in (
+      here.0,
+      here.1,
+      here.2,
+      here.3,
+      here.4,
+      parts_searched here.5 found.same found.empty found.room,
+    )

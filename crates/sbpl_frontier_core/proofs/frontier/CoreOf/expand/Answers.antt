@@ -1,5 +1,5 @@
 use Rattle.std.proofs.Common.{arith, refl, ◌∙◌}
-use Rattle.sbpl_frontier_core.proofs.Parting.{opening_of, parts_opened}
+use Rattle.sbpl_frontier_core.proofs.Parting.{opening_of, parts_opened, parts_reserved}
 use Rattle.sbpl_frontier_core.proofs.Placing.{opened_unplaced}
 use Rattle.sbpl_frontier_core.proofs.frontier.CoreOf.expand.Goals as goal
 
@@ -38,3 +38,25 @@ returns-clause-opened g c =
     let noted = rw c.reserve.ensures.events at c.push.ensures.events in
     let step = opening_of g.N.Pass.query inside.labels c.settle.new.self inside.opened c.insert.new.self inside.state inside.from inside.out.items inside.next inside.budget c.spend.new.self c.args.s none_ready may c.settle.ensures.settled c.insert.ensures.closed c.spend.ensures.counted in
     rw (← c.self.view_is) (record { none_ready = none_ready; first = first; opening = step; journal = noted })
+
+pub invariant_of-self : goal.invariant_of-self
+invariant_of-self g c =
+    let here = c.self.invariant in (
+      here.0,
+      here.1,
+      here.2,
+      here.3,
+      here.4,
+      parts_reserved here.5 c.reserve.ensures.events c.reserve.ensures.keeps c.reserve.ensures.spare,
+    )
+
+pub invariant_of-self-in_err-reserve-2 : goal.invariant_of-self-in_err-reserve-2
+invariant_of-self-in_err-reserve-2 g c =
+    let here = c.self.invariant in (
+      here.0,
+      here.1,
+      here.2,
+      here.3,
+      here.4,
+      rw c.reserve-2.ensures.items (parts_reserved here.5 c.reserve.ensures.events c.reserve.ensures.keeps c.reserve.ensures.spare),
+    )

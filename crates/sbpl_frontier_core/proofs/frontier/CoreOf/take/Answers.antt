@@ -1,5 +1,5 @@
 use Rattle.std.proofs.Common.{arith, ◌∙◌}
-use Rattle.sbpl_frontier_core.proofs.Parting.{fewer_tickets, parts_taken, taking}
+use Rattle.sbpl_frontier_core.proofs.Parting.{fewer_tickets, parts_reserved, parts_taken, taking}
 use Rattle.sbpl_frontier_core.proofs.frontier.CoreOf.take.Goals as goal
 
 pub invariant_of-self-2 : goal.invariant_of-self-2
@@ -35,3 +35,25 @@ returns-clause-taken g c =
       journal = noted;
       few = fewer_tickets here.5 c.used-used.ensures.counts head.first;
     })
+
+pub invariant_of-self : goal.invariant_of-self
+invariant_of-self g c =
+    let here = c.self.invariant in (
+      here.0,
+      here.1,
+      here.2,
+      here.3,
+      here.4,
+      parts_reserved here.5 c.reserve.ensures.events c.reserve.ensures.keeps c.reserve.ensures.spare,
+    )
+
+pub invariant_of-self-in_err-reserve-2 : goal.invariant_of-self-in_err-reserve-2
+invariant_of-self-in_err-reserve-2 g c =
+    let here = c.self.invariant in (
+      here.0,
+      here.1,
+      here.2,
+      here.3,
+      here.4,
+      rw c.reserve-2.ensures.items (parts_reserved here.5 c.reserve.ensures.events c.reserve.ensures.keeps c.reserve.ensures.spare),
+    )
