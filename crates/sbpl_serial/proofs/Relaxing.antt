@@ -9,7 +9,7 @@ use Rattle.sbpl_graph.specs.Kept.{AreKept, NoneUnder, pending_from, none_pending
 use Rattle.sbpl_graph.proofs.Keeping.{kept_from_exact, kept_settled, kept_lowered, kept_next_from, kept_done, exact_from_kept, none_under_settled, none_under_lowered}
 use Rattle.sbpl_graph.proofs.Fitting.{fit_settled, fit_lowered, fit_small}
 use Rattle.sbpl_labels.specs.Marks.{Marks, ChangesRow, states_of, g_of, v_of, back_of}
-use Rattle.sbpl_serial.specs.Run.{IsFirstArc, IsOver}
+use Rattle.sbpl_serial.specs.Run.{IsFirstArc, IsOver, LowersHeads}
 use Rattle.sbpl_serial.specs.Relaxed.{LowersHead, IsRelaxed}
 use Rattle.sbpl_search.specs.Ready.{AreUsable}
 use Rattle.sbpl_labels.proofs.Changes.{settles_state, lowers_state}
@@ -184,4 +184,24 @@ module _ {n : Network} {old : Marks} (s : ℕ) where
     states = here.same_states ∙ usable.states;
     exact = rw here.same_start (exact_from_kept (kept_done s i here.kept over));
     fits = here.fits count usable.fits;
+  }
+
+  -- after the last arc each head has its lesser label
+  pub lowered_all : {m : Marks} {i : ℕ} → IsExpanding n old m s i → n.fan s ≤ i → IsOver old s → LowersHeads n old m s
+  lowered_all here over is_over = record {
+    same_start = here.same_start;
+    same_states = here.same_states;
+    over = is_over;
+    settled = here.settled;
+    other_v = here.other_v;
+    heads = λ t apart.
+        let so_far = here.heads t apart in
+        record {
+          at_most = so_far.at_most;
+          least = λ k c arc. so_far.least k c (omega (arith, arc.number)) arc;
+          same = so_far.same;
+          lower = λ lower. let found = so_far.lower lower in (found.0, found.1, found.2, found.3);
+        };
+    start_g = here.start_g;
+    start_back = here.start_back;
   }

@@ -3,7 +3,7 @@ use Rattle.sbpl_graph.specs.declared.TheConstants.{FAR}
 use Rattle.sbpl_graph.proofs.Paths.{label_at_most}
 use Rattle.sbpl_labels.specs.Marks.{g_of}
 use Rattle.sbpl_serial.proofs.Queueing.{relaxed_unplaced}
-use Rattle.sbpl_serial.proofs.Relaxing.{expanding_none, expanding_more, usable_all}
+use Rattle.sbpl_serial.proofs.Relaxing.{expanding_none, expanding_more, lowered_all, usable_all}
 use Rattle.sbpl_serial.proofs.expansion.expand.Goals as goal
 
 pub loop-k-init : goal.loop-k-init
@@ -30,3 +30,12 @@ loop-k-preserved g c =
 pub returns-clause-usable : goal.returns-clause-usable
 returns-clause-usable g c = λ count usable.
     usable_all _ c.loop-k.invariant.0 (omega (arith, c.loop-k-test.false, c.fan-k-end.ensures.value)) usable
+
+pub returns-clause-lowered : goal.returns-clause-lowered
+returns-clause-lowered g c = lowered_all _ c.loop-k.invariant.0 (omega (arith, c.loop-k-test.false, c.fan-k-end.ensures.value)) c.requires.over
+
+pub returns-clause-none_under : goal.returns-clause-none_under
+returns-clause-none_under g c = c.loop-k.invariant.0.none_under
+
+pub returns-clause-queued : goal.returns-clause-queued
+returns-clause-queued g c = c.loop-k.invariant.1

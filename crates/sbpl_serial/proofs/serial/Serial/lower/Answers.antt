@@ -23,3 +23,9 @@ pub returns-clause-queued : goal.returns-clause-queued
 returns-clause-queued g c =
     let parts = invariant_of-self g c in
     queued_alike _ _ _ _ (λ u. sym (parts.closed_by_steps u)) c.expand.ensures.queued
+
+pub returns-clause-taken : goal.returns-clause-taken
+returns-clause-taken g c = rw (← c.self.view_is) (record { step = c.expand.ensures.lowered; traced = c.push.ensures.pushed })
+
+pub returns-clause-usable : goal.returns-clause-usable
+returns-clause-usable g c = rw (← c.self.view_is) c.expand.ensures.usable
