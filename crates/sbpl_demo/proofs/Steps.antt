@@ -101,6 +101,10 @@ pub motions_none : lines_text (flat_map motion_lines (motions 0)) ≡ []
 unfolding motions
 motions_none = refl
 
+pub head_written : (head empty text : List ℕ) → head ≡ lines_text head_lines → empty ≡ [] → text ≡ empty ++ head
+    → text ≡ lines_text head_lines ++ lines_text (flat_map motion_lines (motions 0))
+head_written head empty text is none adds = adds ∙ rw (none, motions_none) (is ∙ sym (append-nil (lines_text head_lines)))
+
 pub motions_next : (n : ℕ)
     → lines_text (flat_map motion_lines (motions (n + 1))) ≡ lines_text (flat_map motion_lines (motions n)) ++ lines_text (flat_map motion_lines (motions_from n))
 unfolding motions

@@ -108,7 +108,6 @@ fn put_pose(out: &mut Vec<u8>, motion: &Motion, j: u32) -> Result<(), NoMemory>
 }
 
 /// Appends the lines of the ten poses.
-#[tactic(auto, using(crate::proofs::Steps::poses_none, crate::proofs::Steps::poses_next, std::proofs::lemmas::List::append_assoc))]
 fn put_poses(out: &mut Vec<u8>, motion: &Motion) -> Result<(), NoMemory>
     requires motion { IsMotion motion.now }
     ensures ok { OnOk result (out.new.items ≡ out.old.items ++ lines_text (pose_lines motion.now 10)) }
@@ -274,7 +273,6 @@ fn put_heading(out: &mut Vec<u8>, from: u32) -> Result<(), NoMemory>
 
 /// The text of the primitives: for each of sixteen headings a step forward, a dear step back, a turn to the left, a turn to
 /// the right, and four steps forward. They are for cells of 25 millimetres.
-#[tactic(auto, using(crate::proofs::Steps::motions_none, crate::proofs::Steps::motions_next, crate::proofs::Texts::primitives_head, crate::proofs::Steps::file_written, std::proofs::lemmas::List::append_assoc))]
 pub(crate) fn primitives(alloc: Global) -> Result<Vec<u8>, NoMemory>
     ensures text { IfOk result (λ text. text.items ≡ primitives_text) }
 {
