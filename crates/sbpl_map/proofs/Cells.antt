@@ -1,5 +1,5 @@
 -- Where the cells of a map stand in its list of costs.
-use Rattle.std.proofs.Common.{◌≡◌, ◌≢◌, ℕ, ℤ, pos, negsuc, ◌+◌, ◌*◌, ◌<◌, ◌&&◌, List, [], ◌∷◌, zero, suc, inl, inr, option_and_then, length, slice_get, set, get_or, Option, Some, None, IfSome, nat_lt, refl, ap, sym, ◌∙◌, arith}
+use Rattle.std.proofs.Common.{◌≡◌, ◌≢◌, ℕ, ℤ, pos, negsuc, ◌+◌, ◌*◌, ◌<◌, ◌≤◌, ◌&&◌, List, [], ◌∷◌, zero, suc, inl, inr, option_and_then, length, slice_get, set, get_or, length-set, Option, Some, None, IfSome, nat_lt, refl, ap, sym, ◌∙◌, arith}
 use Rattle.std.proofs.lemmas.Bool.Decides.{nat_tests}
 use Rattle.std.proofs.lemmas.Option.{cond_some, none-some, slice_get-get_or}
 use Rattle.std.proofs.lemmas.Nat.{same_from_place, mul-add-lt}
@@ -82,4 +82,21 @@ cell_changed m x y p c kept e = record {
   others = λ u v differs. others_unchanged m.costs p c (index_in m u v) (λ q f same.
       let one = one_cell m x y u v p q e f same in
       elim differs as (λ _. ⊥) [ inl d ↦ d one.0 | inr d ↦ d one.1 ]);
+}
+
+low_after : (xs : List ℕ) (i c k b : ℕ) → ((j : ℕ) → get_or xs j 0 ≤ b) → c ≤ b → get_or (set xs i c) k 0 ≤ b
+low_after [] i c k b low le = low k
+low_after (x ∷ xs) zero c zero b low le = le
+low_after (x ∷ xs) zero c (suc k) b low le = low (suc k)
+low_after (x ∷ xs) (suc i) c zero b low le = low zero
+low_after (x ∷ xs) (suc i) c (suc k) b low le = low_after xs i c k b (λ j. low (suc j)) le
+
+-- a map stays one when a cost is written
+pub kept_by_write : (m : CellMap) (p c : ℕ) → IsCellMap m → c ≤ 255 → IsCellMap (record { width = m.width; height = m.height; costs = set m.costs p c })
+kept_by_write m p c kept le = record {
+  width = kept.width;
+  height = kept.height;
+  cells = length-set m.costs p c ∙ kept.cells;
+  few_cells = kept.few_cells;
+  costs = λ k. low_after m.costs p c k 255 kept.costs le;
 }
