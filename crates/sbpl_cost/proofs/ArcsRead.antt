@@ -30,6 +30,7 @@ use Rattle.sbpl_cost.proofs.PlaceLaws.{place_of_state, place_of_state_number, st
 use Rattle.sbpl_cost.proofs.LatticeLaws.{sound, state_number_below}
 use Rattle.sbpl_cost.proofs.Arcs.{IsFound}
 use Rattle.sbpl_cost.proofs.Offsets.{swept_within}
+use Rattle.sbpl_cost.proofs.Plane.{place_at}
 
 -- ---- what a function gives of the elements of a list
 
@@ -93,9 +94,6 @@ place_some e (pos a) (pos b) t q h =
     subst P parts.1 (record { column = refl; row = refl; heading = refl; right = ltb-true a e.width inside.0; high = ltb-true b e.height inside.1 })
 place_some e (pos a) (negsuc b) t q h = absurd (none-some q h)
 place_some e (negsuc a) y t q h = absurd (none-some q h)
-
-pub place_at : (e : Environment) (x y : ℤ) (t a b : ℕ) → x ≡ pos a → y ≡ pos b → a < e.width → b < e.height → place_on_map e x y t ≡ Some (record { x = a; y = b; t = t })
-place_at e x y t a b at_column at_row right high = rw (at_column, at_row) (cond-true _ _ _ (and_from _ _ (lt-ltb a e.width right) (lt-ltb b e.height high)))
 
 -- ---- arcs
 

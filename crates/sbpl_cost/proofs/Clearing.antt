@@ -29,6 +29,12 @@ less_where_false limit c e = grind (arith, nat_tests)
 more_where_true : (limit c : ℕ) → nat_le limit c ≡ true → limit ≤ c
 more_where_true limit c e = grind (arith, nat_tests)
 
+-- a strip of a row ends within the bits
+pub ends_inside : (m : CellMap) (limit : ℕ) (walls : Flags) → IsCellMap m → AreWalls limit m.costs walls → (row from len : ℕ) → 0 < len → row < m.height → from + len ≤ m.width
+    → row * m.width + from + len ≤ walls.len
+ends_inside m limit walls is_map are row from len some high right =
+    omega (arith, mul-add-lt row m.width (from + (len - 1)) m.height high (omega (arith, some, right)), is_map.cells, are.len, some)
+
 -- the first cell of a strip is not far off
 pub near_first : (strip : Strip) → 0 < strip.len → ((i : ℕ) (c : Cell) → slice_get (strip_cells strip) i ≡ Some c → IsNear c)
     → IsWithin (negsuc 10000000000000) (pos 10000000000000) strip.from × IsWithin (negsuc 10000000000000) (pos 10000000000000) strip.y

@@ -18,6 +18,7 @@ pub mod Lessers
 pub mod Numbered
 pub mod Offsets
 pub mod PlaceLaws
+pub mod Plane
 pub mod RoundedUp
 pub mod TailViews
 pub mod Tails

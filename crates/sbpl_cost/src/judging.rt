@@ -82,7 +82,8 @@ fn is_clear(walls: &Bits, map: &Map, strip: Strip, x: u32, y: u32, limit: u8) ->
     if row >= height || from + len > width {
         return false;
     }
-    walls.none_between(row * width + from, row * width + from + len)
+    let at = row * width + from;
+    walls.none_between(at, at + len)
 }
 
 /// Whether the cells of strips that lie this far from cell `(x, y)` are all on the map and no walls.

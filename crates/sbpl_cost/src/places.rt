@@ -76,19 +76,11 @@ fn on_axis(count: u32, x: i64) -> Option<u32>
     }
 }
 
-/// The state of a cell of the plane with heading `t`, or `None` where the cell is off the map.
-fn state_in(env: &Env, x: i64, y: i64, t: u32) -> Option<u32>
-    requires heading { t < env.now.headings }
-    ensures value { result ≡ state_in env.now x y t }
-{
-    let column = on_axis(env.width, x)?;
-    let row = on_axis(env.height, y)?;
-    Some(number_of(env, column, row, t))
-}
-
 /// The place with heading `t` in a cell of the plane, or `None` where the cell is off the map.
 pub(crate) fn place_on_map(env: &Env, x: i64, y: i64, t: u32) -> Option<Place>
     ensures value { result ≡ place_on_map env.now x y t }
+    ensures on_map { IfSome result (λ p. (p.x < env.now.width) × (p.y < env.now.height)) }
+    ensures heading { IfSome result (λ p. p.t ≡ t) }
 {
     let column = on_axis(env.width, x)?;
     let row = on_axis(env.height, y)?;
@@ -97,6 +89,15 @@ pub(crate) fn place_on_map(env: &Env, x: i64, y: i64, t: u32) -> Option<Place>
         y: row,
         t,
     })
+}
+
+/// The state of a cell of the plane with heading `t`, or `None` where the cell is off the map.
+fn state_in(env: &Env, x: i64, y: i64, t: u32) -> Option<u32>
+    requires heading { t < env.now.headings }
+    ensures value { result ≡ state_in env.now x y t }
+{
+    let place = place_on_map(env, x, y, t)?;
+    Some(number_of(env, place.x, place.y, place.t))
 }
 
 /// The state where the motion by a primitive from this place ends, or `None` where its cell is off the map.

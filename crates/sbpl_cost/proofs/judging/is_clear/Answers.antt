@@ -1,6 +1,6 @@
-use Rattle.std.proofs.Common.{inl, inr, ⊎_elim, arith, SFits, w64}
+use Rattle.std.proofs.Common.{◌+◌, ◌<◌, ◌≤◌, inl, inr, ⊎_elim, arith, SFits, w64}
 use Rattle.std.proofs.lemmas.Int.{ints, to_z-of_z}
-use Rattle.sbpl_cost.proofs.Clearing.{clear_below, off_first, off_last, off_row, wall_blocks}
+use Rattle.sbpl_cost.proofs.Clearing.{clear_below, ends_inside, off_first, off_last, off_row, wall_blocks}
 use Rattle.sbpl_cost.proofs.judging.is_clear.Goals.{then-row-height-via-then-row-height, then-row-height-via-else-row-height+then-from-len}
 use Rattle.sbpl_cost.proofs.judging.is_clear.Goals as goal
 
@@ -31,6 +31,12 @@ returns-then-row-height-clause-blocked c = λ _.
       | then-row-height-via-then-row-height w ↦ off_row c.args.map.now c.args.limit kept c.args.x c.args.y c.args.strip c.requires.some (inr (omega (arith, ints, row, w.if-row-height.true, c.height.ensures.value)))
       | then-row-height-via-else-row-height+then-from-len w ↦ off_last c.args.map.now c.args.limit kept c.args.x c.args.y c.args.strip c.requires.some c.in-Some-shifted.from from (omega (arith, w.if-from-len.true, c.width.ensures.value))
     ]
+
+pub none_between-requires : goal.none_between-requires
+none_between-requires c =
+    let high : c.in-Some.row < c.args.map.now.height = omega (arith, c.if-row-height.false, c.height.ensures.value) in
+    let right : c.in-Some-shifted.from + c.args.strip.len ≤ c.args.map.now.width = omega (arith, c.if-from-len.false, c.width.ensures.value) in
+    rw c.width.ensures.value (record { inside = ends_inside c.args.map.now c.args.limit c.args.walls.now c.height.ensures.kept c.requires.walls c.in-Some.row c.in-Some-shifted.from c.args.strip.len c.requires.some high right })
 
 pub returns-clause-below : goal.returns-clause-below
 returns-clause-below c = λ clear.

@@ -1,7 +1,6 @@
-use Rattle.std.proofs.Common.{◌≡◌, ◌<◌, ◌≤◌, ◌+◌, ◌-◌, pos, ◌+ℤ◌, arith, w64}
+use Rattle.std.proofs.Common.{◌≡◌, ◌<◌, ◌≤◌, ◌+◌, pos, ◌+ℤ◌, arith, w64}
 use Rattle.std.proofs.lemmas.Int.{ints, to_z-of_z}
-use Rattle.std.proofs.lemmas.Nat.{mul-add-lt}
-use Rattle.sbpl_cost.proofs.Clearing.{clear_below, wall_blocks}
+use Rattle.sbpl_cost.proofs.Clearing.{clear_below, ends_inside, wall_blocks}
 use Rattle.sbpl_cost.proofs.Reaching.{fits}
 use Rattle.sbpl_cost.proofs.judging.is_clear_inside.Goals as goal
 
@@ -20,9 +19,7 @@ right c = omega (arith, ints, from_is c, c.requires.last)
 
 pub none_between-requires : goal.none_between-requires
 none_between-requires c =
-    let column : c.moved-2.result + (c.args.strip.len - 1) < c.args.map.now.width = omega (arith, right c, c.requires.some) in
-    let place = mul-add-lt c.moved.result c.args.map.now.width (c.moved-2.result + (c.args.strip.len - 1)) c.args.map.now.height (high c) column in
-    rw c.width.ensures.value (record { inside = omega (arith, place, c.width.ensures.kept.cells, c.requires.walls.len, c.requires.some) })
+    rw c.width.ensures.value (record { inside = ends_inside c.args.map.now c.args.limit c.args.walls.now c.width.ensures.kept c.requires.walls c.moved.result c.moved-2.result c.args.strip.len c.requires.some (high c) (right c) })
 
 pub returns-clause-below : goal.returns-clause-below
 returns-clause-below c = λ clear.
