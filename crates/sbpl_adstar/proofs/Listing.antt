@@ -1,5 +1,6 @@
 -- The underconsistent states are listed.
-use Rattle.std.proofs.Common.{◌≡◌, ◌≢◌, ℕ, ◌+◌, ◌<◌, ◌≤◌, List, [], ◌∷◌, ◌++◌, length, slice_index, arith, ⊎_elim, inl, sym, ◌∙◌, subst}
+use Rattle.std.proofs.Common.{◌≡◌, ◌≢◌, ℕ, ◌+◌, ◌<◌, ◌≤◌, List, [], ◌∷◌, ◌++◌, length, slice_index, arith, ⊎_elim, inl}
+use Rattle.std.proofs.Common.{sym, ◌∙◌, subst}
 use Rattle.std.proofs.lemmas.Bool.{cases_eq}
 use Rattle.std.proofs.lemmas.List.{get_or_default}
 use Rattle.std.proofs.lemmas.List.Elements.{Contains-append_left, Contains-get_or, Contains-push, Contains-push_cases}
@@ -39,11 +40,14 @@ module _ {m : Marks} {states : List ℕ} {list : List ℕ} (i : ℕ) (here : IsL
     once = here.once;
   }
 
-  pub listing_more : IsStrictlyIncreasing states → i < length states → IsUnder m (slice_index states i) → IsListing m states (i + 1) (list ++ slice_index states i ∷ [])
+  pub listing_more : IsStrictlyIncreasing states → i < length states → IsUnder m (slice_index states i)
+      → IsListing m states (i + 1) (list ++ slice_index states i ∷ [])
   listing_more upwards inside own =
       let s : ℕ = slice_index states i in
       let new : Contains list s → ⊥ =
-      λ among. let at = here.among s among in let less : slice_index states at.0 < slice_index states i = AllPairs-from_increasing states upwards at.0 i 0 at.1 inside in omega (arith, less, at.2)
+      λ among. let at = here.among s among in
+      let less : slice_index states at.0 < slice_index states i =
+      AllPairs-from_increasing states upwards at.0 i 0 at.1 inside in omega (arith, less, at.2)
       in
       record {
         among = λ t among.
@@ -58,14 +62,17 @@ module _ {m : Marks} {states : List ℕ} {list : List ℕ} (i : ℕ) (here : IsL
             (Contains-push_cases list s t among);
         all = λ j before under.
             ⊎_elim
-            (λ (at : j ≡ i). subst (λ (k : ℕ). Contains (list ++ s ∷ []) (slice_index states k)) (sym at) (Contains-push list s))
-            (λ (apart : j ≢ i). Contains-append_left list (s ∷ []) (slice_index states j) (here.all j (omega arith) under))
+            (λ (at : j ≡ i).
+            subst (λ (k : ℕ). Contains (list ++ s ∷ []) (slice_index states k)) (sym at) (Contains-push list s))
+            (λ (apart : j ≢ i).
+            Contains-append_left list (s ∷ []) (slice_index states j) (here.all j (omega arith) under))
             (cases_eq j i);
         once = once_push list s new here.once;
       }
 
   -- each is a state, as those are
-  pub listed_inside : i ≤ length states → All (λ (t : ℕ). t < states_of m) states → (s : ℕ) → Contains list s → s < states_of m
+  pub listed_inside : i ≤ length states → All (λ (t : ℕ). t < states_of m) states → (s : ℕ)
+      → Contains list s → s < states_of m
   listed_inside within inside s among =
       let at = here.among s among in
       let own : slice_index states at.0 < states_of m = inside at.0 0 (omega (arith, at.1, within)) in
@@ -76,7 +83,8 @@ module _ {m : Marks} {states : List ℕ} {list : List ℕ} (i : ℕ) (here : IsL
   room_for within inside = few list (states_of m) (listed_inside within inside) here.once
 
 -- all of them
-pub listing_all : {m : Marks} {states : List ℕ} {list : List ℕ} → IsListing m states (length states) list → All (λ (t : ℕ). t < states_of m) states
+pub listing_all : {m : Marks} {states : List ℕ} {list : List ℕ} → IsListing m states (length states) list
+    → All (λ (t : ℕ). t < states_of m) states
     → ((s : ℕ) → s < states_of m → IsUnder m s → Contains states s) → AreListed m list
 listing_all {m} {states} {list} here inside under = record {
   inside = listed_inside (length states) here (omega arith) inside;

@@ -1,5 +1,6 @@
 -- How often numbers stand in a list.
-use Rattle.std.proofs.Common.{◌≡◌, ◌≢◌, ℕ, zero, suc, ◌+◌, ◌<◌, ◌≤◌, cond, nat_eq, List, [], ◌∷◌, ◌++◌, length, arith, ⊎_elim, refl, sym, ◌∙◌, eq-eqb}
+use Rattle.std.proofs.Common.{◌≡◌, ◌≢◌, ℕ, zero, suc, ◌+◌, ◌<◌, ◌≤◌, cond, nat_eq, List, [], ◌∷◌, ◌++◌, length, arith}
+use Rattle.std.proofs.Common.{⊎_elim, refl, sym, ◌∙◌, eq-eqb}
 use Rattle.std.proofs.lemmas.Bool.{cases_eq, ne_eqb}
 use Rattle.std.proofs.lemmas.List.{get_or_default}
 use Rattle.std.proofs.lemmas.List.Quantifiers.{all_pairs_push}
@@ -33,18 +34,22 @@ occurs_not (x ∷ xs) s none =
 occurs_once : (xs : List ℕ) (s : ℕ) → AllPairs (λ (a b : ℕ). a ≢ b) xs → occurrences xs s ≤ 1
 occurs_once [] s apart = omega arith
 occurs_once (x ∷ xs) s apart =
-    let rest : occurrences xs s ≤ 1 = occurs_once xs s (λ i j d before inside. apart (suc i) (suc j) d (omega (arith, before)) (omega (arith, inside))) in
+    let rest : occurrences xs s ≤ 1 =
+    occurs_once xs s (λ i j d before inside. apart (suc i) (suc j) d (omega (arith, before)) (omega (arith, inside))) in
     ⊎_elim
     (λ (at : x ≡ s).
-    let none : occurrences xs s ≡ 0 = occurs_not xs s (λ among. apart 0 (suc among.0) s (omega arith) (omega (arith, among.1)) (at ∙ sym among.2)) in
+    let none : occurrences xs s ≡ 0 =
+    occurs_not xs s (λ among. apart 0 (suc among.0) s (omega arith) (omega (arith, among.1)) (at ∙ sym among.2)) in
     omega (arith, one_if_same x s at, none))
     (λ (other : x ≢ s). omega (arith, one_if_other x s other, rest))
     (cases_eq x s)
 
 -- a number that was not there differs from each that was
-pub once_push : (xs : List ℕ) (x : ℕ) → (Contains xs x → ⊥) → AllPairs (λ (a b : ℕ). a ≢ b) xs → AllPairs (λ (a b : ℕ). a ≢ b) (xs ++ x ∷ [])
+pub once_push : (xs : List ℕ) (x : ℕ) → (Contains xs x → ⊥) → AllPairs (λ (a b : ℕ). a ≢ b) xs
+    → AllPairs (λ (a b : ℕ). a ≢ b) (xs ++ x ∷ [])
 once_push xs x none once =
-    all_pairs_push (λ (a b : ℕ). a ≢ b) xs x once (λ k d inside same. none (k, inside, get_or_default xs k x d inside ∙ same))
+    all_pairs_push (λ (a b : ℕ). a ≢ b) xs x once
+    (λ k d inside same. none (k, inside, get_or_default xs k x d inside ∙ same))
 
 -- ---- how long a list is
 
@@ -64,7 +69,8 @@ sum_one x (suc n) inside =
     (λ (other : x ≢ n). omega (arith, sum_one x n (omega arith), one_if_other x n other))
     (cases_eq x n)
 
-sum_cons : (x : ℕ) (xs : List ℕ) (n : ℕ) → sum_below (occurrences (x ∷ xs)) n ≡ sum_below (one_if x) n + sum_below (occurrences xs) n
+sum_cons : (x : ℕ) (xs : List ℕ) (n : ℕ)
+    → sum_below (occurrences (x ∷ xs)) n ≡ sum_below (one_if x) n + sum_below (occurrences xs) n
 sum_cons x xs zero = refl
 sum_cons x xs (suc n) = omega (arith, sum_cons x xs n)
 
@@ -75,7 +81,12 @@ sum_nil (suc n) = omega (arith, sum_nil n)
 sum_length : (xs : List ℕ) (n : ℕ) → ((s : ℕ) → Contains xs s → s < n) → sum_below (occurrences xs) n ≡ length xs
 sum_length [] n inside = sum_nil n
 sum_length (x ∷ xs) n inside =
-    omega (arith, sum_cons x xs n, sum_one x n (inside x (0, omega arith, refl)), sum_length xs n (λ s among. inside s (suc among.0, omega (arith, among.1), among.2)))
+    omega (
+      arith,
+      sum_cons x xs n,
+      sum_one x n (inside x (0, omega arith, refl)),
+      sum_length xs n (λ s among. inside s (suc among.0, omega (arith, among.1), among.2)),
+    )
 
 sum_most : (f : ℕ → ℕ) (n : ℕ) → ((s : ℕ) → f s ≤ 1) → sum_below f n ≤ n
 sum_most f zero most = omega arith

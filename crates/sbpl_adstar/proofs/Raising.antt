@@ -1,8 +1,11 @@
 -- States are raised in turn, and listed as they become underconsistent.
-use Rattle.std.proofs.Common.{◌≡◌, ◌≢◌, ℕ, ◌+◌, ◌-◌, ◌<◌, ◌≤◌, ◌⊎◌, Option, Some, None, List, [], ◌∷◌, ◌++◌, length, slice_index, take, arith, ⊎_elim, inl, inr, refl, sym, ◌∙◌, ap, subst}
+use Rattle.std.proofs.Common.{◌≡◌, ◌≢◌, ℕ, ◌+◌, ◌-◌, ◌<◌, ◌≤◌, ◌⊎◌, Option, Some, None, List, [], ◌∷◌, ◌++◌, length}
+use Rattle.std.proofs.Common.{slice_index, take, arith, ⊎_elim, inl, inr, refl, sym, ◌∙◌, ap, subst}
 use Rattle.std.proofs.lemmas.Bool.{cases_eq, cases_lt}
-use Rattle.std.proofs.lemmas.List.{append-nil, append_assoc, get_or_append_left, get_or-append-add, get_or_default, length-append, take-append-le, take_all, take_more}
-use Rattle.std.proofs.lemmas.List.Elements.{All-append, All-nil, All-weaker, Contains-append_left, Contains-get_or, Contains-push, Contains-push_cases}
+use Rattle.std.proofs.lemmas.List.{append-nil, append_assoc, get_or_append_left, get_or-append-add, get_or_default}
+use Rattle.std.proofs.lemmas.List.{length-append, take-append-le, take_all, take_more}
+use Rattle.std.proofs.lemmas.List.Elements.{All-append, All-nil, All-weaker, Contains-append_left}
+use Rattle.std.proofs.lemmas.List.Elements.{Contains-get_or, Contains-push, Contains-push_cases}
 use Rattle.std.proofs.lemmas.Option.{none-some, same_Some}
 use Rattle.std.specs.List.{All, Contains}
 use Rattle.sbpl_graph.specs.declared.TheConstants.{FAR}
@@ -21,16 +24,19 @@ use Rattle.sbpl_adstar.proofs.Occurrences.{once_push}
 
 -- a state whose v is infinite is not underconsistent
 far_not_under : (m : Marks) (s : ℕ) → AreLabels m → s < states_of m → v_of m s ≡ FAR → IsUnder m s → ⊥
-far_not_under m s labels inside far under = omega (arith, far, under, label_at_most (g_of m s) (labels.labels s inside).0)
+far_not_under m s labels inside far under =
+    omega (arith, far, under, label_at_most (g_of m s) (labels.labels s inside).0)
 
 -- ---- v of a listed state becomes infinite
 
 module _ (old m : Marks) (s : ℕ) (by : ChangesV old m s FAR) where
   other_under : (u : ℕ) → u ≢ s → IsUnder m u → IsUnder old u
-  other_under u other under = omega (arith, under, ap (λ (r : Row). r.g) (by.others u other), ap (λ (r : Row). r.v) (by.others u other))
+  other_under u other under =
+      omega (arith, under, ap (λ (r : Row). r.g) (by.others u other), ap (λ (r : Row). r.v) (by.others u other))
 
   pub under_other : (u : ℕ) → u ≢ s → IsUnder old u → IsUnder m u
-  under_other u other under = omega (arith, under, ap (λ (r : Row). r.g) (by.others u other), ap (λ (r : Row). r.v) (by.others u other))
+  under_other u other under =
+      omega (arith, under, ap (λ (r : Row). r.g) (by.others u other), ap (λ (r : Row). r.v) (by.others u other))
 
   pub changed_g : (u : ℕ) → g_of m u ≡ g_of old u
   changed_g u =
@@ -43,7 +49,8 @@ module _ (old m : Marks) (s : ℕ) (by : ChangesV old m s FAR) where
   far = ap (λ (r : Row). r.v) by.at
 
   not_under : AreLabels old → s < states_of old → IsUnder m s → ⊥
-  not_under labels inside under = omega (arith, far, under, ap (λ (r : Row). r.g) by.at, label_at_most (g_of old s) (labels.labels s inside).0)
+  not_under labels inside under =
+      omega (arith, far, under, ap (λ (r : Row). r.g) by.at, label_at_most (g_of old s) (labels.labels s inside).0)
 
   pub listed_raised : AreLabels old → s < states_of old → (list : List ℕ) → AreListed old list → AreListed m list
   listed_raised labels state list here = record {
@@ -78,14 +85,16 @@ module _ (n : Network) (m new : Marks) (s k : ℕ) where
       (λ (other : u ≢ t). ap (λ (r : Row). r.v) (returned.recomputes.others u other))
       (cases_eq u t)
 
-  returned_g : (head : Option ℕ) → IsReturned n m new s k head → (t : ℕ) → n.head s k ≡ Some t → (u : ℕ) → u ≢ t → g_of new u ≡ g_of m u
+  returned_g : (head : Option ℕ) → IsReturned n m new s k head → (t : ℕ) → n.head s k ≡ Some t → (u : ℕ)
+      → u ≢ t → g_of new u ≡ g_of m u
   returned_g None returned t is u other = ap (λ (a : Marks). g_of a u) returned.0
   returned_g (Some a) returned t is u other =
       let same : t ≡ a = same_Some t a (sym is ∙ returned.head) in
       ap (λ (r : Row). r.g) (returned.recomputes.others u (λ e. other (e ∙ sym same)))
 
   -- the head of a back arc is recomputed; it is not the start, which has no back arc
-  pub returns_head : (t : ℕ) → AreLabels m → Some t ≡ n.head s k → back_of m t ≡ Some (s, k) → (t ≢ m.start → Recomputes n m new t) → ReturnsHead n m new s k t
+  pub returns_head : (t : ℕ) → AreLabels m → Some t ≡ n.head s k → back_of m t ≡ Some (s, k)
+      → (t ≢ m.start → Recomputes n m new t) → ReturnsHead n m new s k t
   returns_head t labels is by recomputes =
       let apart : t ≢ m.start = λ e. none-some (s, k) (sym labels.none_at_start ∙ ap (back_of m) (sym e) ∙ by) in
       record { head = sym is; by = by; recomputes = recomputes apart }
@@ -114,21 +123,24 @@ module _ (n : Network) (m new : Marks) (s k : ℕ) where
           all = λ u inside under.
               let within : u < states_of m = omega (arith, returned_states head returned, inside) in
               ⊎_elim
-              (λ (at : u ≡ t). here.all u within (subst (IsUnder m) (sym at) (as_before (subst (IsUnder new) at under))))
+              (λ (at : u ≡ t).
+              here.all u within (subst (IsUnder m) (sym at) (as_before (subst (IsUnder new) at under))))
               (λ (other : u ≢ t). here.all u within (was_under u other under))
               (cases_eq u t);
           only = only_still;
           once = here.once;
         }
 
-        module _ (labels : AreLabels new) (inside : t < states_of m) (before : IsUnder m t → ⊥) (now : IsUnder new t) where
+        module _ (labels : AreLabels new) (inside : t < states_of m) (before : IsUnder m t → ⊥)
+            (now : IsUnder new t) where
           -- a head that becomes underconsistent is not in the list
           not_listed : Contains list t → ⊥
           not_listed among =
               ⊎_elim
               (λ (under : IsUnder m t). before under)
               (λ (was : v_of m t ≡ FAR).
-              far_not_under new t labels (omega (arith, returned_states head returned, inside)) (returned_v head returned t ∙ was) now)
+              far_not_under new t labels (omega (arith, returned_states head returned, inside))
+              (returned_v head returned t ∙ was) now)
               (here.only t among)
 
           pub listed_more : AreListed new (list ++ t ∷ [])
@@ -142,7 +154,8 @@ module _ (n : Network) (m new : Marks) (s k : ℕ) where
                 ⊎_elim
                 (λ (at : u ≡ t). subst (Contains (list ++ t ∷ [])) (sym at) (Contains-push list t))
                 (λ (other : u ≢ t).
-                Contains-append_left list (t ∷ []) u (here.all u (omega (arith, returned_states head returned, within)) (was_under u other under)))
+                Contains-append_left list (t ∷ []) u
+                (here.all u (omega (arith, returned_states head returned, within)) (was_under u other under)))
                 (cases_eq u t);
             only = λ u among.
                 ⊎_elim
@@ -155,11 +168,14 @@ module _ (n : Network) (m new : Marks) (s k : ℕ) where
 -- ---- over all arcs
 
 -- what was appended before stays underconsistent, and more is appended
-pub adds_more : {m new : Marks} {first old list : List ℕ} → AddsUnder m first old → ((u : ℕ) → IsUnder m u → IsUnder new u) → AddsUnder new old list → AddsUnder new first list
+pub adds_more : {m new : Marks} {first old list : List ℕ} → AddsUnder m first old
+    → ((u : ℕ) → IsUnder m u → IsUnder new u) → AddsUnder new old list → AddsUnder new first list
 adds_more {m} {new} {first} {old} {list} before stay now = record {
   more = before.more ++ now.more;
   added = now.added ∙ ap (λ (xs : List ℕ). xs ++ now.more) before.added ∙ append_assoc first before.more now.more;
-  under = All-append (IsUnder new) before.more now.more (All-weaker (IsUnder m) (IsUnder new) stay before.more before.under) now.under;
+  under =
+      All-append (IsUnder new) before.more now.more
+      (All-weaker (IsUnder m) (IsUnder new) stay before.more before.under) now.under;
 }
 
 pub adds_none : (m : Marks) (list : List ℕ) → AddsUnder m list list
@@ -168,7 +184,8 @@ adds_none m list = record { more = []; added = sym (append-nil list); under = Al
 -- ---- one state after the other
 
 -- one more state is raised
-pub raised_more : (n : Network) (old m new : Marks) (xs : List ℕ) (s : ℕ) → AreRaised n old xs m → RaisesState n m new s → AreRaised n old (xs ++ s ∷ []) new
+pub raised_more : (n : Network) (old m new : Marks) (xs : List ℕ) (s : ℕ) → AreRaised n old xs m → RaisesState n m new s
+    → AreRaised n old (xs ++ s ∷ []) new
 raised_more n old m new [] s same step = (new, subst (λ (a : Marks). RaisesState n a new s) same step, refl)
 raised_more n old m new (x ∷ xs) s (mid, first, rest) step = (mid, first, raised_more n mid m new xs s rest step)
 
@@ -183,7 +200,8 @@ pub record IsTurn (n : Network) (old m : Marks) (list : List ℕ) (i : ℕ) : Ty
   pub start_v : v_of m old.start ≡ v_of old old.start
   pub states : states_of m ≡ states_of old
 
-pub turn_none : (n : Network) (m : Marks) (list : List ℕ) → AreListed m list → All (IsUnder m) list → IsTurn n m m list 0
+pub turn_none : (n : Network) (m : Marks) (list : List ℕ) → AreListed m list
+    → All (IsUnder m) list → IsTurn n m m list 0
 turn_none n m list listed under = record {
   raised = refl;
   listed = listed;
@@ -195,7 +213,8 @@ turn_none n m list listed under = record {
   states = refl;
 }
 
-module _ {n : Network} {old m new : Marks} {list longer : List ℕ} (i : ℕ) (here : IsTurn n old m list i) (before : i < length list)
+module _ {n : Network} {old m new : Marks} {list longer : List ℕ} (i : ℕ) (here : IsTurn n old m list i)
+    (before : i < length list)
     (step : RaisesState n m new (slice_index list i)) (listed : AreListed new longer)
     (others : (t : ℕ) → t ≢ slice_index list i → IsUnder m t → IsUnder new t) (added : AddsUnder new list longer)
     (grown : (t : ℕ) → g_of m t ≤ g_of new t) (zero_g : g_of m m.start ≡ 0) where
@@ -205,11 +224,13 @@ module _ {n : Network} {old m new : Marks} {list longer : List ℕ} (i : ℕ) (h
 
   parted : take (i + 1) longer ≡ take i list ++ slice_index list i ∷ []
   parted =
-      ap (λ (xs : List ℕ). take (i + 1) xs) added.added ∙ take-append-le (i + 1) list added.more (omega (arith, before)) ∙ take_more list i 0 before
+      ap (λ (xs : List ℕ). take (i + 1) xs) added.added ∙ take-append-le (i + 1) list added.more (omega (arith, before))
+      ∙ take_more list i 0 before
 
   -- the raised state was listed
   listed_now : (s : ℕ) → Contains list s → Contains longer s
-  listed_now s among = subst (λ (xs : List ℕ). Contains xs s) (sym added.added) (Contains-append_left list added.more s among)
+  listed_now s among =
+      subst (λ (xs : List ℕ). Contains xs s) (sym added.added) (Contains-append_left list added.more s among)
 
   -- the start is not underconsistent
   not_start : old.start ≢ slice_index list i
@@ -219,14 +240,18 @@ module _ {n : Network} {old m new : Marks} {list longer : List ℕ} (i : ℕ) (h
 
   pub turn_more : IsTurn n old new longer (i + 1)
   turn_more = record {
-    raised = subst (λ (xs : List ℕ). AreRaised n old xs new) (sym parted) (raised_more n old m new (take i list) (slice_index list i) here.raised step);
+    raised =
+        subst (λ (xs : List ℕ). AreRaised n old xs new) (sym parted)
+        (raised_more n old m new (take i list) (slice_index list i) here.raised step);
     listed = listed;
     done = λ j below.
         ⊎_elim
-        (λ (at : j ≡ i). ap (λ (k : ℕ). v_of new (slice_index longer k)) at ∙ ap (v_of new) (front i before) ∙ step.raised)
+        (λ (at : j ≡ i).
+        ap (λ (k : ℕ). v_of new (slice_index longer k)) at ∙ ap (v_of new) (front i before) ∙ step.raised)
         (λ (other : j ≢ i).
         let apart = here.listed.once j i 0 (omega (arith, below, other)) before in
-        ap (v_of new) (front j (omega (arith, below, before))) ∙ step.other_v (slice_index list j) apart ∙ here.done j (omega (arith, below, other)))
+        ap (v_of new) (front j (omega (arith, below, before))) ∙ step.other_v (slice_index list j) apart
+        ∙ here.done j (omega (arith, below, other)))
         (cases_eq j i);
     waiting = λ j from inside.
         ⊎_elim
@@ -238,7 +263,8 @@ module _ {n : Network} {old m new : Marks} {list longer : List ℕ} (i : ℕ) (h
         (cases_lt j (length list));
     over = λ s over.
         ⊎_elim
-        (λ (at : s ≡ slice_index list i). inr (listed_now s (subst (Contains list) (sym at) (Contains-get_or list i 0 before))))
+        (λ (at : s ≡ slice_index list i).
+        inr (listed_now s (subst (Contains list) (sym at) (Contains-get_or list i 0 before))))
         (λ (other : s ≢ slice_index list i).
         ⊎_elim
         (λ (was : IsOver old s). inl was)
@@ -252,15 +278,19 @@ module _ {n : Network} {old m new : Marks} {list longer : List ℕ} (i : ℕ) (h
     where
       later : (j : ℕ) → length list ≤ j → j < length longer → IsUnder new (slice_index longer j)
       later j past inside =
-          let long : length longer ≡ length list + length added.more = ap (λ (xs : List ℕ). length xs) added.added ∙ length-append list added.more in
+          let long : length longer ≡ length list + length added.more =
+          ap (λ (xs : List ℕ). length xs) added.added ∙ length-append list added.more in
           let at : length list + (j - length list) ≡ j = omega (arith, past) in
           let own : slice_index longer j ≡ slice_index added.more (j - length list) =
-          ap (λ (xs : List ℕ). slice_index xs j) added.added ∙ ap (λ (k : ℕ). slice_index (list ++ added.more) k) (sym at) ∙ get_or-append-add list added.more (j - length list) 0
+          ap (λ (xs : List ℕ). slice_index xs j) added.added
+          ∙ ap (λ (k : ℕ). slice_index (list ++ added.more) k) (sym at)
+          ∙ get_or-append-add list added.more (j - length list) 0
           in
           subst (IsUnder new) (sym own) (added.under (j - length list) 0 (omega (arith, long, past, inside)))
 
 -- after the last turn no state is underconsistent
-pub none_under : {n : Network} {old m : Marks} {list : List ℕ} (i : ℕ) → AreLabels m → IsTurn n old m list i → length list ≤ i → NoneUnder (states_of m) (g_of m) (v_of m)
+pub none_under : {n : Network} {old m : Marks} {list : List ℕ} (i : ℕ) → AreLabels m → IsTurn n old m list i
+    → length list ≤ i → NoneUnder (states_of m) (g_of m) (v_of m)
 none_under {n} {old} {m} {list} i labels here over = record {
   at = λ s inside.
       ⊎_elim
@@ -274,11 +304,15 @@ none_under {n} {old} {m} {list} i labels here over = record {
 }
 
 -- and all of the list was raised
-pub all_raised : {n : Network} {old m : Marks} {list : List ℕ} (i : ℕ) → IsTurn n old m list i → length list ≤ i → AreRaised n old list m
-all_raised {n} {old} {m} {list} i here over = subst (λ (xs : List ℕ). AreRaised n old xs m) (take_all i list over) here.raised
+pub all_raised : {n : Network} {old m : Marks} {list : List ℕ} (i : ℕ) → IsTurn n old m list i → length list ≤ i
+    → AreRaised n old list m
+all_raised {n} {old} {m} {list} i here over =
+    subst (λ (xs : List ℕ). AreRaised n old xs m) (take_all i list over) here.raised
 
 -- the start is fresh as it was
-pub turn_fresh : {n : Network} {old m : Marks} {list : List ℕ} (i : ℕ) → IsTurn n old m list i → IsStartFresh old → IsStartFresh m
+pub turn_fresh : {n : Network} {old m : Marks} {list : List ℕ} (i : ℕ) → IsTurn n old m list i
+    → IsStartFresh old → IsStartFresh m
 turn_fresh {n} {old} {m} {list} i here fresh =
     let same : v_of m m.start ≡ v_of old old.start = ap (v_of m) here.start ∙ here.start_v in
-    ⊎_elim (λ (far : v_of old old.start ≡ FAR). inl (same ∙ far)) (λ (none : v_of old old.start ≡ 0). inr (same ∙ none)) fresh
+    ⊎_elim (λ (far : v_of old old.start ≡ FAR). inl (same ∙ far))
+    (λ (none : v_of old old.start ≡ 0). inr (same ∙ none)) fresh

@@ -1,5 +1,6 @@
 -- The number that an arc has among the tails of its head.
-use Rattle.std.proofs.Common.{◌≡◌, ℕ, zero, suc, ◌+◌, ◌<◌, ◌≤◌, ◌==◌, Bool, true, false, cond, inl, inr, Option, Some, None, refl, ap, sym, ◌∙◌, arith}
+use Rattle.std.proofs.Common.{◌≡◌, ℕ, zero, suc, ◌+◌, ◌<◌, ◌≤◌, ◌==◌, Bool, true, false, cond, inl, inr, Option, Some}
+use Rattle.std.proofs.Common.{None, refl, ap, sym, ◌∙◌, arith}
 use Rattle.std.specs.List.{find, range_with_len}
 use Rattle.std.proofs.lemmas.Bool.{and_parts, and_from, cases_lt, eqb-true, eq-eqb, false≢true}
 use Rattle.std.proofs.lemmas.Grind.{not_there}
@@ -15,7 +16,8 @@ pub record IsFound (test : ℕ → Bool) (a m j : ℕ) : Type 0 where
   pub from : a ≤ j
   pub below : j < a + m
 
-found_by : (test : ℕ → Bool) (a m j : ℕ) (b : Bool) → test a ≡ b → (find test (range_with_len (a + 1) m) ≡ Some j → IsFound test (a + 1) m j)
+found_by : (test : ℕ → Bool) (a m j : ℕ) (b : Bool) → test a ≡ b
+    → (find test (range_with_len (a + 1) m) ≡ Some j → IsFound test (a + 1) m j)
     → cond b (Some a) (find test (range_with_len (a + 1) m)) ≡ Some j → IsFound test a (suc m) j
 found_by test a m j true is later h =
     let same = same_Some a j h in
@@ -28,7 +30,8 @@ pub found : (test : ℕ → Bool) (a m j : ℕ) → find test (range_with_len a 
 found test a zero j h = absurd (none-some j h)
 found test a (suc m) j h = found_by test a m j (test a) refl (found test (a + 1) m j) h
 
-missed_by : (test : ℕ → Bool) (a m j : ℕ) (b : Bool) → test a ≡ b → (find test (range_with_len (a + 1) m) ≡ None → a + 1 ≤ j → j < a + 1 + m → test j ≡ false)
+missed_by : (test : ℕ → Bool) (a m j : ℕ) (b : Bool) → test a ≡ b
+    → (find test (range_with_len (a + 1) m) ≡ None → a + 1 ≤ j → j < a + 1 + m → test j ≡ false)
     → cond b (Some a) (find test (range_with_len (a + 1) m)) ≡ None → a ≤ j → j < a + suc m → test j ≡ false
 missed_by test a m j true is later h from below = absurd (none-some a (sym h))
 missed_by test a m j false is later h from below = elim (cases_lt a j) [

@@ -7,7 +7,8 @@ use Rattle.sbpl_back.specs.Reversed.{reversed}
 use Rattle.sbpl_back.specs.Starts.{IsGuideFrom}
 use Rattle.sbpl_back.proofs.Turning.{free_of_reversed}
 
-pub guides_from : (w : World) (start : ℕ) → IsWorld w → HasExactTails (network_of w) → HasGaps (network_of w) → LatticeGapsRise → start < (network_of w).states
+pub guides_from : (w : World) (start : ℕ) → IsWorld w → HasExactTails (network_of w) → HasGaps (network_of w)
+    → LatticeGapsRise → start < (network_of w).states
     → IsGuideFrom (record { world = w; start = start }) (reversed (network_of w)) start
 guides_from w start is_world tails gaps rise state = record {
   start = state;

@@ -1,10 +1,12 @@
 -- Bits of a word under a mask.
-use Rattle.std.proofs.Common.{◌≡◌, ℕ, zero, suc, ◌+◌, ◌-◌, ◌*◌, ◌/◌, ◌%◌, ◌^◌, ◌<◌, ◌≤◌, ◌⊎◌, inl, inr, min, ap, sym, ◌∙◌, subst, arith}
+use Rattle.std.proofs.Common.{◌≡◌, ℕ, zero, suc, ◌+◌, ◌-◌, ◌*◌, ◌/◌, ◌%◌, ◌^◌, ◌<◌, ◌≤◌, ◌⊎◌, inl, inr, min, ap, sym}
+use Rattle.std.proofs.Common.{◌∙◌, subst, arith}
 use Rattle.std.specs.Prelude.{bit_and, true, nat_eq, slice_index}
 use Rattle.sbpl_bits.specs.Flags.{Flags, is_set}
 use Rattle.std.specs.Int.{bit_at}
 use Rattle.std.proofs.lemmas.Bool.{cases_eq, cases_lt}
-use Rattle.std.proofs.lemmas.Nat.Bits.{bit_at_and, bit_at-lt, bit_at-zero, bit_at_mask_inside, bit_at_mask_below, bit_at_mask_above, ones_shr, same_from_bits}
+use Rattle.std.proofs.lemmas.Nat.Bits.{bit_at_and, bit_at-lt, bit_at-zero, bit_at_mask_inside, bit_at_mask_below}
+use Rattle.std.proofs.lemmas.Nat.Bits.{bit_at_mask_above, ones_shr, same_from_bits}
 
 -- `u64::MAX >> (64 - high)`
 pub ones_below : (high : ℕ) → high ≤ 64 → 18446744073709551615 / 2 ^ (64 - high) ≡ 2 ^ high - 1
@@ -29,7 +31,9 @@ none_under word mask low high is clear k from below =
 
 -- where no bit is set there, nothing is left under the mask
 clear_under : (word low high : ℕ) → HasNone word low high → bit_and word (2 ^ high - 2 ^ low) ≡ 0
-clear_under word low high none = same_from_bits (bit_and word (2 ^ high - 2 ^ low)) 0 (λ i. bit_at_and word (2 ^ high - 2 ^ low) i ∙ each i ∙ sym (bit_at-zero i))
+clear_under word low high none =
+    same_from_bits (bit_and word (2 ^ high - 2 ^ low)) 0
+    (λ i. bit_at_and word (2 ^ high - 2 ^ low) i ∙ each i ∙ sym (bit_at-zero i))
   where
     each : (i : ℕ) → min (bit_at word i) (bit_at (2 ^ high - 2 ^ low) i) ≡ 0
     each i =
@@ -60,16 +64,19 @@ look word low (suc n) =
           | inr ge ↦ let same : k ≡ low + n = omega arith in ap (bit_at word) same ∙ clear
         ]
 
-pub some_under : (word mask low high : ℕ) → low < high → mask ≡ 2 ^ high - 2 ^ low → (bit_and word mask ≡ 0 → ⊥) → HasSome word low high
+pub some_under : (word mask low high : ℕ) → low < high → mask ≡ 2 ^ high - 2 ^ low
+    → (bit_and word mask ≡ 0 → ⊥) → HasSome word low high
 some_under word mask low high some is left =
     let whole : low + (high - low) ≡ high = omega arith in
     elim (look word low (high - low)) [
-      | inl none ↦ absurd (left (ap (bit_and word) is ∙ clear_under word low high (subst (HasNone word low) whole none)))
+      | inl none ↦
+          absurd (left (ap (bit_and word) is ∙ clear_under word low high (subst (HasNone word low) whole none)))
       | inr found ↦ subst (HasSome word low) whole found
     ]
 
 -- a bit that is set in the word of a place is a flag that is set
-pub found : (flags : Flags) (word from at step to : ℕ) → word ≡ slice_index flags.words (at / 64) → from ≤ at → at < to → step ≤ to - at → step + at % 64 ≤ 64
+pub found : (flags : Flags) (word from at step to : ℕ) → word ≡ slice_index flags.words (at / 64) → from ≤ at → at < to
+    → step ≤ to - at → step + at % 64 ≤ 64
     → HasSome word (at % 64) (step + at % 64) → (i : ℕ) × (from ≤ i) × (i < to) × (is_set flags i ≡ true)
 found flags word from at step to is begun left inside whole some =
     let k : ℕ = some.0 in

@@ -13,7 +13,8 @@ use Rattle.sbpl_cert.specs.Sparse.{g_in, v_in}
 use Rattle.sbpl_cert.proofs.CutShows.{cut_shows}
 
 -- other labels that are the same at the states show the same
-same_show : (n : Network) (start goal low : ℕ) (g v g' v' h : ℕ → ℕ) → IsSound n → start < n.states → goal < n.states → ((s : ℕ) → s < n.states → (g' s ≡ g s) × (v' s ≡ v s))
+same_show : (n : Network) (start goal low : ℕ) (g v g' v' h : ℕ → ℕ) → IsSound n → start < n.states → goal < n.states
+    → ((s : ℕ) → s < n.states → (g' s ≡ g s) × (v' s ≡ v s))
     → ShowBound n start goal g v h low → ShowBound n start goal g' v' h low
 same_show n start goal low g v g' v' h sound begins inside same shown = record {
   supported = record {
@@ -38,15 +39,21 @@ same_show n start goal low g v g' v' h sound begins inside same shown = record {
 }
 
 -- the labels that are needed for an outcome show the bound that all labels show
-needed_show : (o : Outcome) (n : Network) (m : Marks) (h : ℕ → ℕ) (goal low : ℕ) (rows : List SparseRow) → IsSound n → m.start < n.states → goal < n.states → AreCutRows o n m h low rows
+needed_show : (o : Outcome) (n : Network) (m : Marks) (h : ℕ → ℕ) (goal low : ℕ) (rows : List SparseRow) → IsSound n
+    → m.start < n.states → goal < n.states → AreCutRows o n m h low rows
     → ShowBound n m.start goal (g_of m) (v_of m) h low → ShowBound n m.start goal (g_in rows) (v_in rows) h low
-needed_show outcome.NoPath n m h goal low rows sound begins inside cut shown = same_show n m.start goal low (g_of m) (v_of m) (g_in rows) (v_in rows) h sound begins inside cut.needed shown
-needed_show (outcome.Path cost bound) n m h goal low rows sound begins inside cut shown = cut_shows n m.start goal low (g_of m) (v_of m) h (g_in rows) (v_in rows) sound begins inside shown cut.needed
-needed_show outcome.Unknown n m h goal low rows sound begins inside cut shown = cut_shows n m.start goal low (g_of m) (v_of m) h (g_in rows) (v_in rows) sound begins inside shown cut.needed
+needed_show outcome.NoPath n m h goal low rows sound begins inside cut shown =
+    same_show n m.start goal low (g_of m) (v_of m) (g_in rows) (v_in rows) h sound begins inside cut.needed shown
+needed_show (outcome.Path cost bound) n m h goal low rows sound begins inside cut shown =
+    cut_shows n m.start goal low (g_of m) (v_of m) h (g_in rows) (v_in rows) sound begins inside shown cut.needed
+needed_show outcome.Unknown n m h goal low rows sound begins inside cut shown =
+    cut_shows n m.start goal low (g_of m) (v_of m) h (g_in rows) (v_in rows) sound begins inside shown cut.needed
 
 -- supported labels show the low that they give, and so do the labels that are needed
-pub cut_rows_show : (o : Outcome) (n : Network) (m : Marks) (h : ℕ → ℕ) (goal low : ℕ) (rows : List SparseRow) → states_of m ≡ n.states → IsSound n → m.start < n.states → goal < n.states
-    → AreCutRows o n m h low rows → IsLow (states_of m) goal (g_of m) (v_of m) h low → IsConsistent n goal h → AreSupported n m.start (g_of m) (v_of m)
+pub cut_rows_show : (o : Outcome) (n : Network) (m : Marks) (h : ℕ → ℕ) (goal low : ℕ) (rows : List SparseRow)
+    → states_of m ≡ n.states → IsSound n → m.start < n.states → goal < n.states
+    → AreCutRows o n m h low rows → IsLow (states_of m) goal (g_of m) (v_of m) h low → IsConsistent n goal h
+    → AreSupported n m.start (g_of m) (v_of m)
     → ShowBound n m.start goal (g_in rows) (v_in rows) h low
 cut_rows_show o n m h goal low rows same sound begins inside cut lowest consistent supported =
     needed_show o n m h goal low rows sound begins inside cut (record {

@@ -1,5 +1,6 @@
 -- The rows of cut labels, made one after another.
-use Rattle.std.proofs.Common.{◌≡◌, ◌≢◌, ℕ, suc, ◌+◌, ◌<◌, inl, inr, ◌++◌, List, [], ◌∷◌, length, refl, sym, ap, subst, ◌∙◌, arith, eq-eqb, length-append}
+use Rattle.std.proofs.Common.{◌≡◌, ◌≢◌, ℕ, suc, ◌+◌, ◌<◌, inl, inr, ◌++◌, List, [], ◌∷◌, length, refl, sym, ap, subst}
+use Rattle.std.proofs.Common.{◌∙◌, arith, eq-eqb, length-append}
 use Rattle.std.proofs.Math.ListN.{get_or-append}
 use Rattle.std.proofs.Math.Seq.{get_or-append_seam}
 use Rattle.std.proofs.lemmas.Bool.{cases_eq, cases_lt, ne_eqb}
@@ -15,7 +16,8 @@ use Rattle.sbpl_cert.proofs.SparseRows.{row_or_none}
 
 -- ---- one row more
 
-absent : (rows : List SparseRow) (s : ℕ) → ((k : ℕ) → k < length rows → (sparse_row_at rows k).state ≢ s) → (g_in rows s ≡ FAR) × (v_in rows s ≡ FAR)
+absent : (rows : List SparseRow) (s : ℕ) → ((k : ℕ) → k < length rows → (sparse_row_at rows k).state ≢ s)
+    → (g_in rows s ≡ FAR) × (v_in rows s ≡ FAR)
 absent rows s other = elim (row_or_none rows s) [ inl w ↦ absurd (other w.0 w.1 w.2) | inr far ↦ far ]
 
 added_other : (rows : List SparseRow) (r : SparseRow) (s : ℕ) → r.state ≢ s
@@ -28,7 +30,8 @@ added_other (q ∷ rows) r s other =
       | inr apart ↦ (rw (ne_eqb q.state s apart) more.0, rw (ne_eqb q.state s apart) more.1)
     ]
 
-added_last : (rows : List SparseRow) (r : SparseRow) → ((k : ℕ) → k < length rows → (sparse_row_at rows k).state ≢ r.state)
+added_last : (rows : List SparseRow) (r : SparseRow)
+    → ((k : ℕ) → k < length rows → (sparse_row_at rows k).state ≢ r.state)
     → (g_in (rows ++ r ∷ []) r.state ≡ r.g) × (v_in (rows ++ r ∷ []) r.state ≡ r.v)
 added_last [] r other = (rw (eq-eqb r.state r.state refl) refl, rw (eq-eqb r.state r.state refl) refl)
 added_last (q ∷ rows) r other =
@@ -46,7 +49,8 @@ module _ (rows : List SparseRow) (r : SparseRow) where
   new_row : (k : ℕ) → k ≡ length rows → sparse_row_at (rows ++ r ∷ []) k ≡ r
   new_row k is = rw is (get_or-append_seam rows r [] no_sparse_row)
 
-  each_more : (P : SparseRow → Type 0) → ((k : ℕ) → k < length rows → P (sparse_row_at rows k)) → P r → (k : ℕ) → k < length (rows ++ r ∷ [])
+  each_more : (P : SparseRow → Type 0) → ((k : ℕ) → k < length rows → P (sparse_row_at rows k)) → P r → (k : ℕ)
+      → k < length (rows ++ r ∷ [])
       → P (sparse_row_at (rows ++ r ∷ []) k)
   each_more P before last k at = elim (cases_lt k (length rows)) [
     | inl lt ↦ subst P (sym (old_row k lt)) (before k lt)
@@ -73,10 +77,12 @@ module _ (o : Outcome) (n : Network) (m : Marks) (h : ℕ → ℕ) (low : ℕ) w
   }
 
   moved : (s g v g' v' : ℕ) → g ≡ g' → v ≡ v' → IsNeededAt o n m h low s g v → IsNeededAt o n m h low s g' v'
-  moved s g v g' v' gs vs is = subst (λ x. IsNeededAt o n m h low s x v') gs (subst (λ x. IsNeededAt o n m h low s g x) vs is)
+  moved s g v g' v' gs vs is =
+      subst (λ x. IsNeededAt o n m h low s x v') gs (subst (λ x. IsNeededAt o n m h low s g x) vs is)
 
   -- a state of infinite labels needs no row
-  pub row_skipped : (rows : List SparseRow) (i : ℕ) (r : SparseRow) → AreRowsTo rows i → r.state ≡ i → IsNeededAt o n m h low i r.g r.v
+  pub row_skipped : (rows : List SparseRow) (i : ℕ) (r : SparseRow) → AreRowsTo rows i → r.state ≡ i
+      → IsNeededAt o n m h low i r.g r.v
       → IsLabel r.g × IsLabel r.v → (IsFinite r → ⊥) → AreRowsTo rows (i + 1)
   row_skipped rows i r are here is labels infinite = record {
     each = are.each;
@@ -88,16 +94,22 @@ module _ (o : Outcome) (n : Network) (m : Marks) (h : ℕ → ℕ) (low : ℕ) w
       | inr ge ↦
           let at : i ≡ s = omega (arith, lt, ge) in
           let none = absent rows i (λ k inside same. omega (arith, are.below k inside, same)) in
-          let g_far : r.g ≡ FAR = elim labels.0 [ inl far ↦ far | inr near ↦ absurd (infinite (inl (omega (arith, near)))) ] in
-          let v_far : r.v ≡ FAR = elim labels.1 [ inl far ↦ far | inr near ↦ absurd (infinite (inr (omega (arith, near)))) ] in
-          subst (λ x. IsNeededAt o n m h low x (g_in rows x) (v_in rows x)) at (moved i r.g r.v (g_in rows i) (v_in rows i) (g_far ∙ sym none.0) (v_far ∙ sym none.1) is)
+          let g_far : r.g ≡ FAR =
+          elim labels.0 [ inl far ↦ far | inr near ↦ absurd (infinite (inl (omega (arith, near)))) ] in
+          let v_far : r.v ≡ FAR =
+          elim labels.1 [ inl far ↦ far | inr near ↦ absurd (infinite (inr (omega (arith, near)))) ] in
+          subst (λ x. IsNeededAt o n m h low x (g_in rows x) (v_in rows x))
+          at (moved i r.g r.v (g_in rows i) (v_in rows i) (g_far ∙ sym none.0) (v_far ∙ sym none.1) is)
     ];
   }
 
-  pub row_added : (rows : List SparseRow) (i : ℕ) (r : SparseRow) → AreRowsTo rows i → i < n.states → r.state ≡ i → IsNeededAt o n m h low i r.g r.v
+  pub row_added : (rows : List SparseRow) (i : ℕ) (r : SparseRow) → AreRowsTo rows i → i < n.states → r.state ≡ i
+      → IsNeededAt o n m h low i r.g r.v
       → IsLabel r.g × IsLabel r.v → IsFinite r → AreRowsTo (rows ++ r ∷ []) (i + 1)
   row_added rows i r are inside here is labels finite = record {
-    each = each_more rows r (IsSparseRow n.states) are.each (record { inside = omega (arith, inside, here); g = labels.0; v = labels.1 });
+    each =
+        each_more rows r (IsSparseRow n.states) are.each
+        (record { inside = omega (arith, inside, here); g = labels.0; v = labels.1 });
     upwards = λ a b lt at. elim (cases_lt b (length rows)) [
       | inl old ↦ (
           let up = are.upwards a b lt old in
@@ -125,8 +137,10 @@ module _ (o : Outcome) (n : Network) (m : Marks) (h : ℕ → ℕ) (low : ℕ) w
           let at : i ≡ s = omega (arith, lt, ge) in
           let last = added_last rows r (λ k there same. omega (arith, are.below k there, same, here)) in
           let all = rows ++ r ∷ [] in
-          let found : IsNeededAt o n m h low i (g_in all r.state) (v_in all r.state) = moved i r.g r.v _ _ (sym last.0) (sym last.1) is in
-          subst (λ x. IsNeededAt o n m h low x (g_in all x) (v_in all x)) at (subst (λ x. IsNeededAt o n m h low i (g_in all x) (v_in all x)) here found)
+          let found : IsNeededAt o n m h low i (g_in all r.state) (v_in all r.state) =
+          moved i r.g r.v _ _ (sym last.0) (sym last.1) is in
+          subst (λ x. IsNeededAt o n m h low x (g_in all x) (v_in all x))
+          at (subst (λ x. IsNeededAt o n m h low i (g_in all x) (v_in all x)) here found)
           )
     ];
   }

@@ -9,7 +9,8 @@ use Rattle.sbpl_labels.specs.Cut.{kept_v}
 use Rattle.sbpl_cert.specs.Cut.{AreCut}
 
 -- a state is kept, or its v is infinite
-pub kept_or_not : (g h : ℕ → ℕ) (low s : ℕ) → ((kept_v g h low s ≡ g s) × (g s + h s < low)) ⊎ ((kept_v g h low s ≡ FAR) × (low ≤ g s + h s))
+pub kept_or_not : (g h : ℕ → ℕ) (low s : ℕ)
+    → ((kept_v g h low s ≡ g s) × (g s + h s < low)) ⊎ ((kept_v g h low s ≡ FAR) × (low ≤ g s + h s))
 kept_or_not g h low s = elim (cases_lt (g s + h s) low) [
   | inl lt ↦ inl (rw (lt-ltb (g s + h s) low lt) refl, lt)
   | inr le ↦ inr (rw (le-ltb (g s + h s) low le) refl, le)
@@ -19,7 +20,8 @@ kept_or_not g h low s = elim (cases_lt (g s + h s) low) [
 pub far_kept : (g h : ℕ → ℕ) (low s : ℕ) → g s ≡ FAR → kept_v g h low s ≡ FAR
 far_kept g h low s far = elim (kept_or_not g h low s) [ inl kept ↦ kept.0 ∙ far | inr not ↦ not.0 ]
 
-module _ (n : Network) (start goal low : ℕ) (g v h cut_g cut_v : ℕ → ℕ) (sound : IsSound n) (begins : start < n.states) (inside : goal < n.states)
+module _ (n : Network) (start goal low : ℕ) (g v h cut_g cut_v : ℕ → ℕ) (sound : IsSound n) (begins : start < n.states)
+    (inside : goal < n.states)
     (shown : ShowBound n start goal g v h low) (cut : AreCut n start g h low cut_g cut_v) where
   low_at_most_far : low ≤ FAR
   low_at_most_far =

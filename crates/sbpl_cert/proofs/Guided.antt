@@ -38,20 +38,33 @@ module _ (n : Network) (start goal : ℕ) (h k : ℕ → ℕ) (same : (u : ℕ) 
     before = has.before;
     shut = has.shut;
   }
-  moved (Sparse s) (flaw.Cost x y) has = record { bound = has.bound; outcome = has.outcome; end = has.end; path = has.path; differ = has.differ }
-  moved (Sparse s) (flaw.Bound x y) has = record { cost = has.cost; outcome = has.outcome; least_is = has.least_is; differ = has.differ }
+  moved (Sparse s) (flaw.Cost x y) has =
+      record { bound = has.bound; outcome = has.outcome; end = has.end; path = has.path; differ = has.differ }
+  moved (Sparse s) (flaw.Bound x y) has =
+      record { cost = has.cost; outcome = has.outcome; least_is = has.least_is; differ = has.differ }
   moved (Sparse s) (flaw.Goal u) has = elim has [
-    | inl off ↦ inl (record { cost = off.cost; bound = off.bound; outcome = off.outcome; paid = off.paid; path = off.path; other = off.other })
-    | inr open_ ↦ inr (record { outcome = open_.outcome; inside = open_.inside; near = open_.near; unsettled = open_.unsettled })
+    | inl off ↦
+        inl (record {
+          cost = off.cost;
+          bound = off.bound;
+          outcome = off.outcome;
+          paid = off.paid;
+          path = off.path;
+          other = off.other;
+        })
+    | inr open_ ↦
+        inr (record { outcome = open_.outcome; inside = open_.inside; near = open_.near; unsettled = open_.unsettled })
   ]
 
-pub one_first_by : (n : Network) (start goal : ℕ) (s : Section) (h k : ℕ → ℕ) (f e : Flaw) → ((u : ℕ) → u < n.states → h u ≡ k u)
+pub one_first_by : (n : Network) (start goal : ℕ) (s : Section) (h k : ℕ → ℕ) (f e : Flaw)
+    → ((u : ℕ) → u < n.states → h u ≡ k u)
     → IsFirstFlaw n start goal (claim_by h s) f → IsFirstFlaw n start goal (claim_by k s) e → f ≡ e
 one_first_by n start goal s h k f e same one two = one_first n start goal (claim_by k s) f e (record {
   has = moved n start goal h k same s f one.has;
   first = λ d has before. one.first d (moved n start goal k h (λ u inside. sym (same u inside)) s d has) before;
 }) two
 
-pub none_by : (n : Network) (start goal : ℕ) (s : Section) (h k : ℕ → ℕ) (f : Flaw) → ((u : ℕ) → u < n.states → h u ≡ k u)
+pub none_by : (n : Network) (start goal : ℕ) (s : Section) (h k : ℕ → ℕ) (f : Flaw)
+    → ((u : ℕ) → u < n.states → h u ≡ k u)
     → HasNoFlaw n start goal (claim_by h s) → HasFlaw n start goal (claim_by k s) f → ⊥
 none_by n start goal s h k f same none has = none f (moved n start goal k h (λ u inside. sym (same u inside)) s f has)

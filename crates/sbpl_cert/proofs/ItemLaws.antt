@@ -1,5 +1,6 @@
 -- What the items of a section mean, in both directions.
-use Rattle.std.proofs.Common.{◌≡◌, ℕ, ◌+◌, ◌*◌, ◌^◌, ◌<◌, ◌≤◌, Bool, true, false, ◌⊎◌, inl, inr, List, [], ◌∷◌, ℤ, pos, Result, Ok, Err, refl, sym, ap, ◌∙◌, arith}
+use Rattle.std.proofs.Common.{◌≡◌, ℕ, ◌+◌, ◌*◌, ◌^◌, ◌<◌, ◌≤◌, Bool, true, false, ◌⊎◌, inl, inr, List, [], ◌∷◌, ℤ, pos}
+use Rattle.std.proofs.Common.{Result, Ok, Err, refl, sym, ap, ◌∙◌, arith}
 use Rattle.std.specs.Prelude.{bytes_eq, codes, if◌then◌else◌, nat_le}
 use Rattle.std.proofs.lemmas.Bool.{cases_Bool, and_parts, leb-true, cases_lt, lt-ltb, le-ltb, lt-leb, le-leb}
 use Rattle.std.proofs.lemmas.Slice.Eq.{bytes_eq-Decides}
@@ -8,7 +9,8 @@ use Rattle.sbpl_fixed.specs.Numbers.{all_digits, is_digit, number_of}
 use Rattle.sbpl_fixed.specs.Unsigned.{below, IsDigits, NumbersAreTheirDigits}
 use Rattle.sbpl_fixed.specs.declared.fault.NumFault.TheVariants.{Form, Size}
 use Rattle.sbpl_fixed.specs.Formats.{Miss, no_word, out_of_range, fixed}
-use Rattle.sbpl_cert.specs.Format.{as_at_least, as_number, digits, digits_from, label, bound, outcome_word, version_word}
+use Rattle.sbpl_cert.specs.Format.{as_at_least, as_number, digits, digits_from, label}
+use Rattle.sbpl_cert.specs.Format.{bound, outcome_word, version_word}
 use Rattle.sbpl_cert.specs.Text.{MeansNumber, Means, a_label, a_milli}
 
 abbrev item_met : ℤ → Result ℤ Miss
@@ -40,11 +42,14 @@ digit_first (b ∷ bs) is same =
     omega (arith, leb-true 48 b digit.0)
 
 module _ (numbers : NumbersAreTheirDigits) where
-  pub digits_out : (end : ℕ) (bytes : List ℕ) (v : ℤ) → digits end bytes ≡ Ok v → (v ≡ pos (number_of bytes)) × (number_of bytes < end) × IsDigits bytes
+  pub digits_out : (end : ℕ) (bytes : List ℕ) (v : ℤ) → digits end bytes ≡ Ok v
+      → (v ≡ pos (number_of bytes)) × (number_of bytes < end) × IsDigits bytes
   digits_out end bytes v e =
       elim (numbers.other_digits end bytes) [
         | inl none ↦ absurd (let missed : as_number (Err Form) ≡ item_met v = sym (ap as_number none) ∙ e in cc)
-        | inr is ↦ (let met = below_out end (number_of bytes) v (sym (ap as_number (numbers.digits end bytes is)) ∙ e) in (met.0, met.1, is))
+        | inr is ↦
+            (let met = below_out end (number_of bytes) v (sym (ap as_number (numbers.digits end bytes is)) ∙ e) in
+            (met.0, met.1, is))
       ]
 
   pub digits_in : (end n : ℕ) (bytes : List ℕ) → MeansNumber n bytes → n < end → digits end bytes ≡ Ok (pos n)
@@ -54,13 +59,17 @@ module _ (numbers : NumbersAreTheirDigits) where
       → (n : ℕ) × (v ≡ pos n) × Means (a_label n) bytes × ((n ≡ FAR) ⊎ (n < end))
   label_out end bytes v small e =
       let decides = bytes_eq-Decides bytes (codes "-") in
-      let go : (b : Bool) → bytes_eq bytes (codes "-") ≡ b → label_by b (digits end bytes) ≡ Ok v → (n : ℕ) × (v ≡ pos n) × Means (a_label n) bytes × ((n ≡ FAR) ⊎ (n < end)) = elim [
-        | true ↦ λ q met. (FAR, (let same : item_met (pos FAR) ≡ item_met v = met in cc), inl (decides.0 q, refl), inl refl)
-        | false ↦ λ q met. (let out = digits_out end bytes v met in (number_of bytes, out.0, inr ((out.2, refl), omega (arith, out.1)), inr out.1))
+      let go : (b : Bool) → bytes_eq bytes (codes "-") ≡ b → label_by b (digits end bytes) ≡ Ok v
+      → (n : ℕ) × (v ≡ pos n) × Means (a_label n) bytes × ((n ≡ FAR) ⊎ (n < end)) = elim [
+        | true ↦
+            λ q met. (FAR, (let same : item_met (pos FAR) ≡ item_met v = met in cc), inl (decides.0 q, refl), inl refl)
+        | false ↦ λ q met. (let out = digits_out end bytes v met in
+            (number_of bytes, out.0, inr ((out.2, refl), omega (arith, out.1)), inr out.1))
       ] in
       go (bytes_eq bytes (codes "-")) refl e
 
-  pub label_in : (end n : ℕ) (bytes : List ℕ) → end ≤ FAR → Means (a_label n) bytes → (n ≡ FAR) ⊎ (n < end) → label end bytes ≡ Ok (pos n)
+  pub label_in : (end n : ℕ) (bytes : List ℕ) → end ≤ FAR → Means (a_label n) bytes → (n ≡ FAR) ⊎ (n < end)
+      → label end bytes ≡ Ok (pos n)
   label_in end n bytes small means range =
       let decides = bytes_eq-Decides bytes (codes "-") in
       elim means [
@@ -68,7 +77,10 @@ module _ (numbers : NumbersAreTheirDigits) where
         | inr near ↦ (
             let lt : n < end = elim range [ inl far ↦ omega (arith, near.1) | inr lt ↦ lt ] in
             let other : bytes_eq bytes (codes "-") ≡ false =
-            elim (cases_Bool (bytes_eq bytes (codes "-"))) [ inl q ↦ absurd (digit_first bytes near.0.0 (decides.0 q)) | inr q ↦ q ] in
+            elim (cases_Bool (bytes_eq bytes (codes "-"))) [
+              | inl q ↦ absurd (digit_first bytes near.0.0 (decides.0 q))
+              | inr q ↦ q
+            ] in
             rw other (digits_in end n bytes near.0 lt)
             )
       ]
@@ -79,37 +91,53 @@ module _ (numbers : NumbersAreTheirDigits) where
       → (v ≡ pos (number_of bytes)) × (least ≤ number_of bytes) × (number_of bytes < end) × IsDigits bytes
   digits_from_out least end bytes v e =
       elim (numbers.other_digits end bytes) [
-        | inl none ↦ absurd (let missed : as_at_least least (Err Form) ≡ item_met v = sym (ap (as_at_least least) none) ∙ e in cc)
+        | inl none ↦
+            absurd (let missed : as_at_least least (Err Form) ≡ item_met v =
+            sym (ap (as_at_least least) none) ∙ e in cc)
         | inr is ↦ (
             let n = number_of bytes in
-            let met : as_at_least least (below end n) ≡ item_met v = sym (ap (as_at_least least) (numbers.digits end bytes is)) ∙ e in
+            let met : as_at_least least (below end n) ≡ item_met v =
+            sym (ap (as_at_least least) (numbers.digits end bytes is)) ∙ e in
             elim (cases_lt n end) [
               | inl lt ↦ elim (cases_lt n least) [
-                | inl low ↦ absurd (let missed : item_missed ≡ item_met v = rw (lt-ltb n end lt, lt-leb least n low) at met in cc)
-                | inr high ↦ (let same : item_met (pos n) ≡ item_met v = rw (lt-ltb n end lt, le-leb least n high) at met in (cc, high, lt, is))
+                | inl low ↦
+                    absurd (let missed : item_missed ≡ item_met v =
+                    rw (lt-ltb n end lt, lt-leb least n low) at met in cc)
+                | inr high ↦
+                    (let same : item_met (pos n) ≡ item_met v =
+                    rw (lt-ltb n end lt, le-leb least n high) at met in (cc, high, lt, is))
               ]
               | inr le ↦ absurd (let missed : item_missed ≡ item_met v = rw (le-ltb n end le) at met in cc)
             ]
             )
       ]
 
-  pub digits_from_in : (least end n : ℕ) (bytes : List ℕ) → MeansNumber n bytes → least ≤ n → n < end → digits_from least end bytes ≡ Ok (pos n)
+  pub digits_from_in : (least end n : ℕ) (bytes : List ℕ) → MeansNumber n bytes → least ≤ n → n < end
+      → digits_from least end bytes ≡ Ok (pos n)
   digits_from_in least end n bytes means high lt =
-      ap (as_at_least least) (numbers.digits end bytes means.0) ∙ rw (means.1, lt-ltb n end lt, le-leb least n high) refl
+      ap (as_at_least least) (numbers.digits end bytes means.0)
+      ∙ rw (means.1, lt-ltb n end lt, le-leb least n high) refl
 
   -- ---- bounds
 
-  pub bound_out : (bytes : List ℕ) (v : ℤ) → bound bytes ≡ Ok v → (n : ℕ) × (v ≡ pos n) × Means (a_milli n) bytes × (1000 ≤ n) × (n < 2 ^ 100)
+  pub bound_out : (bytes : List ℕ) (v : ℤ) → bound bytes ≡ Ok v
+      → (n : ℕ) × (v ≡ pos n) × Means (a_milli n) bytes × (1000 ≤ n) × (n < 2 ^ 100)
   bound_out bytes v e =
       elim (numbers.other_millis (2 ^ 100) bytes) [
-        | inl none ↦ absurd (let missed : as_at_least 1000 (Err Form) ≡ item_met v = sym (ap (as_at_least 1000) none) ∙ e in cc)
+        | inl none ↦
+            absurd (let missed : as_at_least 1000 (Err Form) ≡ item_met v = sym (ap (as_at_least 1000) none) ∙ e in cc)
         | inr w ↦ (
             let n = number_of w.0 * 1000 + number_of w.1 in
-            let met : as_at_least 1000 (below (2 ^ 100) n) ≡ item_met v = sym (ap (as_at_least 1000) (numbers.millis (2 ^ 100) bytes w.0 w.1 w.2)) ∙ e in
+            let met : as_at_least 1000 (below (2 ^ 100) n) ≡ item_met v =
+            sym (ap (as_at_least 1000) (numbers.millis (2 ^ 100) bytes w.0 w.1 w.2)) ∙ e in
             elim (cases_lt n (2 ^ 100)) [
               | inl lt ↦ elim (cases_lt n 1000) [
-                | inl low ↦ absurd (let missed : item_missed ≡ item_met v = rw (lt-ltb n (2 ^ 100) lt, lt-leb 1000 n low) at met in cc)
-                | inr high ↦ (let same : item_met (pos n) ≡ item_met v = rw (lt-ltb n (2 ^ 100) lt, le-leb 1000 n high) at met in (n, cc, (w.0, w.1, w.2, refl), high, lt))
+                | inl low ↦
+                    absurd (let missed : item_missed ≡ item_met v =
+                    rw (lt-ltb n (2 ^ 100) lt, lt-leb 1000 n low) at met in cc)
+                | inr high ↦
+                    (let same : item_met (pos n) ≡ item_met v = rw (lt-ltb n (2 ^ 100) lt, le-leb 1000 n high) at met in
+                    (n, cc, (w.0, w.1, w.2, refl), high, lt))
               ]
               | inr le ↦ absurd (let missed : item_missed ≡ item_met v = rw (le-ltb n (2 ^ 100) le) at met in cc)
             ]
@@ -118,7 +146,8 @@ module _ (numbers : NumbersAreTheirDigits) where
 
   pub bound_in : (n : ℕ) (bytes : List ℕ) → Means (a_milli n) bytes → 1000 ≤ n → n < 2 ^ 100 → bound bytes ≡ Ok (pos n)
   bound_in n bytes means high lt =
-      ap (as_at_least 1000) (numbers.millis (2 ^ 100) bytes means.0 means.1 means.2) ∙ rw (means.3, lt-ltb n (2 ^ 100) lt, le-leb 1000 n high) refl
+      ap (as_at_least 1000) (numbers.millis (2 ^ 100) bytes means.0 means.1 means.2)
+      ∙ rw (means.3, lt-ltb n (2 ^ 100) lt, le-leb 1000 n high) refl
 
 -- ---- words
 
@@ -133,7 +162,8 @@ word_in word bytes e = rw ((bytes_eq-Decides bytes word).1 e) refl
 
 -- ---- versions
 
-pub version_out : (bytes : List ℕ) (v : ℤ) → version_word bytes ≡ Ok v → ((bytes ≡ codes "1") × (v ≡ pos 1)) ⊎ ((bytes ≡ codes "2") × (v ≡ pos 2))
+pub version_out : (bytes : List ℕ) (v : ℤ) → version_word bytes ≡ Ok v
+    → ((bytes ≡ codes "1") × (v ≡ pos 1)) ⊎ ((bytes ≡ codes "2") × (v ≡ pos 2))
 version_out bytes v e =
     let one = bytes_eq-Decides bytes (codes "1") in
     let two = bytes_eq-Decides bytes (codes "2") in
@@ -154,7 +184,8 @@ two_in bytes is = rw is refl
 -- ---- the words of outcomes
 
 pub outcome_word_out : (bytes : List ℕ) (v : ℤ) → outcome_word bytes ≡ Ok v
-    → ((bytes ≡ codes "path") × (v ≡ pos 0)) ⊎ (((bytes ≡ codes "nopath") × (v ≡ pos 1)) ⊎ ((bytes ≡ codes "unknown") × (v ≡ pos 2)))
+    → ((bytes ≡ codes "path") × (v ≡ pos 0))
+    ⊎ (((bytes ≡ codes "nopath") × (v ≡ pos 1)) ⊎ ((bytes ≡ codes "unknown") × (v ≡ pos 2)))
 outcome_word_out bytes v e =
     let one = bytes_eq-Decides bytes (codes "path") in
     let two = bytes_eq-Decides bytes (codes "nopath") in

@@ -1,5 +1,6 @@
 -- Rows that are made one by one.
-use Rattle.std.proofs.Common.{◌≡◌, ℕ, ◌+◌, ◌<◌, ◌≤◌, ◌++◌, List, [], ◌∷◌, length, sym, ◌∙◌, ap, subst, arith, ⊎_elim, length-append}
+use Rattle.std.proofs.Common.{◌≡◌, ℕ, ◌+◌, ◌<◌, ◌≤◌, ◌++◌, List, [], ◌∷◌, length, sym, ◌∙◌, ap, subst}
+use Rattle.std.proofs.Common.{arith, ⊎_elim, length-append}
 use Rattle.std.proofs.Math.ListN.{get_or-append}
 use Rattle.std.proofs.Math.Seq.{get_or-append_seam}
 use Rattle.std.proofs.lemmas.Bool.{cases_lt}
@@ -14,17 +15,21 @@ pub record AreMadeTo (m : Marks) (h : ℕ → ℕ) (rows : List Row) (i : ℕ) :
   pub each : (s : ℕ) → s < i → row_at rows s ≡ record { g = g_of m s; v = v_of m s; h = h s }
   pub kept : (s : ℕ) → s < i → IsRow (row_at rows s)
 
-pub one_more : (m : Marks) (h : ℕ → ℕ) (rows : List Row) (i : ℕ) (row : Row) → AreMadeTo m h rows i → row ≡ record { g = g_of m i; v = v_of m i; h = h i } → IsRow row → AreMadeTo m h (rows ++ row ∷ []) (i + 1)
+pub one_more : (m : Marks) (h : ℕ → ℕ) (rows : List Row) (i : ℕ) (row : Row) → AreMadeTo m h rows i
+    → row ≡ record { g = g_of m i; v = v_of m i; h = h i } → IsRow row → AreMadeTo m h (rows ++ row ∷ []) (i + 1)
 one_more m h rows i row made is fits = record {
   count = length-append rows (row ∷ []) ∙ ap (λ n. n + 1) made.count;
-  each = λ s less. by s less (λ r. r ≡ record { g = g_of m s; v = v_of m s; h = h s }) (made.each s) (λ last. rw last is);
+  each =
+      λ s less. by s less (λ r. r ≡ record { g = g_of m s; v = v_of m s; h = h s }) (made.each s) (λ last. rw last is);
   kept = λ s less. by s less (λ r. IsRow r) (made.kept s) (λ last. fits);
 }
   where
-    by : (s : ℕ) → s < i + 1 → (P : Row → Type 0) → (s < i → P (row_at rows s)) → (s ≡ i → P row) → P (row_at (rows ++ row ∷ []) s)
+    by : (s : ℕ) → s < i + 1 → (P : Row → Type 0) → (s < i → P (row_at rows s)) → (s ≡ i → P row)
+        → P (row_at (rows ++ row ∷ []) s)
     by s less P before last =
         ⊎_elim
-        (λ (earlier : s < i). subst P (sym (get_or-append rows (row ∷ []) no_row s (rw made.count earlier))) (before earlier))
+        (λ (earlier : s < i).
+        subst P (sym (get_or-append rows (row ∷ []) no_row s (rw made.count earlier))) (before earlier))
         (λ (past : i ≤ s).
         let here : s ≡ length rows = rw made.count (omega arith) in
         let found : row_at (rows ++ row ∷ []) s ≡ row = rw here (get_or-append_seam rows row [] no_row) in
@@ -32,11 +37,13 @@ one_more m h rows i row made is fits = record {
         (cases_lt s i)
 
 -- rows that are made for all states
-pub all_made : (m : Marks) (h : ℕ → ℕ) (rows labels : List Row) (i : ℕ) → labels ≡ rows → AreMadeTo m h rows i → i ≡ states_of m → HaveRows m h labels
+pub all_made : (m : Marks) (h : ℕ → ℕ) (rows labels : List Row) (i : ℕ) → labels ≡ rows → AreMadeTo m h rows i
+    → i ≡ states_of m → HaveRows m h labels
 all_made m h rows labels i same made all = rw same (record {
   states = made.count ∙ all;
   rows = λ s less. made.each s (rw all less);
 })
 
-pub all_kept : (m : Marks) (h : ℕ → ℕ) (rows labels : List Row) (i : ℕ) → labels ≡ rows → AreMadeTo m h rows i → AreRows labels
+pub all_kept : (m : Marks) (h : ℕ → ℕ) (rows labels : List Row) (i : ℕ) → labels ≡ rows
+    → AreMadeTo m h rows i → AreRows labels
 all_kept m h rows labels i same made = rw same (λ s less. made.kept s (rw (sym made.count) less))

@@ -10,7 +10,8 @@ use Rattle.sbpl_cert.specs.Made.{HaveRows}
 use Rattle.sbpl_cert.specs.Sections.{g_at, v_at, h_at}
 use Rattle.std.specs.Prelude.{List}
 
-module _ (n : Network) (m : Marks) (h : ℕ → ℕ) (goal low : ℕ) (labels : List Row) (same : n.states ≡ states_of m) (have : HaveRows m h labels) where
+module _ (n : Network) (m : Marks) (h : ℕ → ℕ) (goal low : ℕ) (labels : List Row) (same : n.states ≡ states_of m)
+    (have : HaveRows m h labels) where
   inside : (s : ℕ) → s < n.states → s < states_of m
   inside s state = subst (λ count. s < count) same state
 
@@ -26,7 +27,8 @@ module _ (n : Network) (m : Marks) (h : ℕ → ℕ) (goal low : ℕ) (labels : 
   head_inside : IsSound n → (s k t c : ℕ) → IsFreeArc n s k t c → t < n.states
   head_inside sound s k t c arc = sound.head_is_state s k t arc.source arc.number arc.head
 
-  pub rows_show : IsSound n → m.start < n.states → goal < n.states → IsConsistent n goal h → AreSupported n m.start (g_of m) (v_of m) → IsLow (states_of m) goal (g_of m) (v_of m) h low
+  pub rows_show : IsSound n → m.start < n.states → goal < n.states → IsConsistent n goal h
+      → AreSupported n m.start (g_of m) (v_of m) → IsLow (states_of m) goal (g_of m) (v_of m) h low
       → ShowBound n m.start goal (g_at labels) (v_at labels) (h_at labels) low
   rows_show sound start end consistent supported lowest = record {
     supported = record {
@@ -54,6 +56,7 @@ module _ (n : Network) (m : Marks) (h : ℕ → ℕ) (goal low : ℕ) (labels : 
         let g = g_is s state in
         let v = v_is s state in
         let to = h_is s state in
-        let most : low ≤ g_of m s + h s = lowest.unsettled s (inside s state) (λ settled. differ (v ∙ settled ∙ sym g)) in
+        let most : low ≤ g_of m s + h s =
+        lowest.unsettled s (inside s state) (λ settled. differ (v ∙ settled ∙ sym g)) in
         omega arith;
   }

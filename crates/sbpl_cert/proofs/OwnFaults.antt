@@ -15,7 +15,9 @@ use Rattle.sbpl_cert.specs.Faults.{told}
 use Rattle.sbpl_cert.specs.declared.sparse_row.SparseRow.{SparseRow}
 use Rattle.sbpl_cert.specs.declared.section.Section.{Section}
 use Rattle.sbpl_cert.specs.declared.section.Section.TheVariants.{Full, Sparse}
-use Rattle.sbpl_cert.specs.Format.{title_format, count_format, low_format, head_format, rows_format, sparse_head_format, arc_turn, path_format, outcome_format, row_format, row_turn, sparse_row_format, sparse_turn, full_format, sparse_format, front_format, section_format}
+use Rattle.sbpl_cert.specs.Format.{title_format, count_format, low_format, head_format, rows_format, sparse_head_format}
+use Rattle.sbpl_cert.specs.Format.{arc_turn, path_format, outcome_format, row_format, row_turn, sparse_row_format}
+use Rattle.sbpl_cert.specs.Format.{sparse_turn, full_format, sparse_format, front_format, section_format}
 
 told_spares : (t : TextFault) → told t ≢ NoMemory
 told_spares (common.Word p) q = cc
@@ -40,7 +42,8 @@ head_spares : (plan states : ℕ) → Spares NoMemory (head_format plan states)
 unfolding head_format
 head_spares plan states =
     and_then_spares NoMemory (count_format (codes "plan") plan) _ (count_spares (codes "plan") plan)
-    (λ _. and_then_spares NoMemory (count_format (codes "states") states) _ (count_spares (codes "states") states) (λ _. low_spares))
+    (λ _. and_then_spares NoMemory (count_format (codes "states") states) _
+    (count_spares (codes "states") states) (λ _. low_spares))
 
 row_count_spares : (states : ℕ) → Spares NoMemory (rows_format states)
 unfolding Spares rows_format
@@ -51,7 +54,8 @@ unfolding Spares sparse_head_format
 sparse_head_spares plan states =
     and_then_spares NoMemory (count_format (codes "plan") plan) _ (count_spares (codes "plan") plan)
     (λ _. and_then_spares NoMemory (count_format (codes "states") states) _ (count_spares (codes "states") states)
-    (λ _. and_then_spares NoMemory (rows_format states) _ (row_count_spares states) (λ _. and_then_spares NoMemory low_format _ low_spares (λ _. tt))))
+    (λ _. and_then_spares NoMemory (rows_format states) _ (row_count_spares states)
+    (λ _. and_then_spares NoMemory low_format _ low_spares (λ _. tt))))
 
 arc_spares : (arcs : List ℕ) → Spares NoMemory (arc_turn arcs)
 unfolding Spares arc_turn
@@ -59,7 +63,8 @@ arc_spares arcs = λ _ _. tt
 
 path_spares : Spares NoMemory path_format
 unfolding Spares path_format
-path_spares = λ _ _ _ _ _ n. and_then_spares NoMemory (turns _ arc_turn []) _ (turns_spare NoMemory _ arc_turn [] arc_spares) (λ _. tt)
+path_spares = λ _ _ _ _ _ n.
+    and_then_spares NoMemory (turns _ arc_turn []) _ (turns_spare NoMemory _ arc_turn [] arc_spares) (λ _. tt)
 
 abbrev Said : Type 0
 Said = Outcome × List ℕ
@@ -72,7 +77,9 @@ unknown = done (outcome.Unknown, [])
 
 outcome_spares : Spares NoMemory outcome_format
 unfolding Spares outcome_format no_path unknown
-outcome_spares = λ _ k. either_spares NoMemory {A = Said} (unsigned_abs k == 0) path_format (if unsigned_abs k == 1 then no_path else unknown) path_spares (either_spares NoMemory {A = Said} (unsigned_abs k == 1) no_path unknown tt tt)
+outcome_spares =
+    λ _ k. either_spares NoMemory {A = Said} (unsigned_abs k == 0) path_format (if unsigned_abs k == 1 then no_path
+    else unknown) path_spares (either_spares NoMemory {A = Said} (unsigned_abs k == 1) no_path unknown tt tt)
 
 row_spares : Spares NoMemory row_format
 unfolding Spares row_format
@@ -88,19 +95,24 @@ sparse_row_spares least states = λ _ _ _ _ _ _. tt
 
 next_sparse_row_spares : (states : ℕ) (before : ℕ × List SparseRow) → Spares NoMemory (sparse_turn states before)
 unfolding Spares sparse_turn
-next_sparse_row_spares states before = and_then_spares NoMemory (sparse_row_format before.0 states) _ (sparse_row_spares before.0 states) (λ _. tt)
+next_sparse_row_spares states before =
+    and_then_spares NoMemory (sparse_row_format before.0 states) _ (sparse_row_spares before.0 states) (λ _. tt)
 
 full_spares : (plan states : ℕ) → Spares NoMemory (full_format plan states)
 unfolding Spares full_format
 full_spares plan states =
-    and_then_spares NoMemory (head_format plan states) _ (head_spares plan states) (λ _. and_then_spares NoMemory outcome_format _ outcome_spares
-    (λ _. and_then_spares NoMemory (turns states row_turn []) _ (turns_spare NoMemory states row_turn [] next_row_spares) (λ _. tt)))
+    and_then_spares NoMemory (head_format plan states) _ (head_spares plan states)
+    (λ _. and_then_spares NoMemory outcome_format _ outcome_spares
+    (λ _. and_then_spares NoMemory (turns states row_turn []) _
+    (turns_spare NoMemory states row_turn [] next_row_spares) (λ _. tt)))
 
 sparse_spares : (plan states : ℕ) → Spares NoMemory (sparse_format plan states)
 unfolding Spares sparse_format
 sparse_spares plan states =
-    and_then_spares NoMemory (sparse_head_format plan states) _ (sparse_head_spares plan states) (λ head. and_then_spares NoMemory outcome_format _ outcome_spares
-    (λ _. and_then_spares NoMemory (turns head.0 (sparse_turn states) (0, [])) _ (turns_spare NoMemory head.0 (sparse_turn states) (0, []) (next_sparse_row_spares states)) (λ _. tt)))
+    and_then_spares NoMemory (sparse_head_format plan states) _ (sparse_head_spares plan states)
+    (λ head. and_then_spares NoMemory outcome_format _ outcome_spares
+    (λ _. and_then_spares NoMemory (turns head.0 (sparse_turn states) (0, [])) _
+    (turns_spare NoMemory head.0 (sparse_turn states) (0, []) (next_sparse_row_spares states)) (λ _. tt)))
 
 in_full : (plan states : ℕ) → Format LabelFault Section
 in_full plan states = and_then (full_format plan states) (λ s. done (Full s))
@@ -118,7 +130,10 @@ front_spares plan states =
 
 section_spares : (plan states : ℕ) → Spares NoMemory (section_format plan states)
 unfolding Spares section_format
-section_spares plan states = and_then_spares NoMemory (front_format plan states) _ (front_spares plan states) (λ _ _ _. tt)
+section_spares plan states =
+    and_then_spares NoMemory (front_format plan states) _ (front_spares plan states) (λ _ _ _. tt)
 
-pub no_memory_is_no_fault : (plan states end : ℕ) (ts : List Piece) (e : LabelFault) → IsFaulty told (section_format plan states) end ts e → e ≢ NoMemory
-no_memory_is_no_fault plan states end ts e h = spared NoMemory told (section_format plan states) end ts e told_spares (section_spares plan states) h
+pub no_memory_is_no_fault : (plan states end : ℕ) (ts : List Piece) (e : LabelFault)
+    → IsFaulty told (section_format plan states) end ts e → e ≢ NoMemory
+no_memory_is_no_fault plan states end ts e h =
+    spared NoMemory told (section_format plan states) end ts e told_spares (section_spares plan states) h

@@ -1,5 +1,6 @@
 -- What formats say of the first tokens of a list.
-use Rattle.std.proofs.Common.{◌≡◌, ℕ, ℤ, pos, ◌≤ℤ◌, Bool, true, false, cond, ◌&&◌, List, [], ◌∷◌, ◌++◌, map, Result, Ok, Err, refl, ap, subst, arith}
+use Rattle.std.proofs.Common.{◌≡◌, ℕ, ℤ, pos, ◌≤ℤ◌, Bool, true, false, cond, ◌&&◌, List, [], ◌∷◌, ◌++◌, map, Result, Ok}
+use Rattle.std.proofs.Common.{Err, refl, ap, subst, arith}
 use Rattle.std.specs.Prelude.{int_le, bytes_eq}
 use Rattle.std.proofs.lemmas.Bool.{and_parts}
 use Rattle.std.proofs.lemmas.Int.{ints}
@@ -39,11 +40,15 @@ pub record Ranged (low high n : ℤ) (r : Result ℤ NumFault) : Type 0 where
 
 pub within_is : (low high n : ℤ) (r : Result ℤ NumFault) → within low high r ≡ Ok n → Ranged low high n r
 within_is low high n (Ok m) =
-    let go : (b : Bool) → int_le low m && int_le m high ≡ b → cond b (Ok m) (Err Formats.out_of_range) ≡ Ok n → Ranged low high n (Ok m) = elim [
+    let go : (b : Bool) → int_le low m && int_le m high ≡ b → cond b (Ok m) (Err Formats.out_of_range) ≡ Ok n
+    → Ranged low high n (Ok m) = elim [
       | true ↦ λ q e.
           let same : m ≡ n = cc in
           let both = and_parts (int_le low m) (int_le m high) q in
-          record { value = ap (λ z. Ok z) same; between = subst (IsWithin low high) same (to_le low m both.0, to_le m high both.1) }
+          record {
+            value = ap (λ z. Ok z) same;
+            between = subst (IsWithin low high) same (to_le low m both.0, to_le m high both.1);
+          }
       | false ↦ λ q e. absurd cc
     ] in
     go (int_le low m && int_le m high) refl
@@ -61,12 +66,14 @@ Begins [] ts rest = rest ≡ ts
 Begins (s ∷ ss) [] rest = ⊥
 Begins (s ∷ ss) (t ∷ ts) rest = Means s t.bytes × Begins ss ts rest
 
-pub begins_append : (a b : List Said) (ts mid rest : List Piece) → Begins a ts mid → Begins b mid rest → Begins (a ++ b) ts rest
+pub begins_append : (a b : List Said) (ts mid rest : List Piece) → Begins a ts mid → Begins b mid rest
+    → Begins (a ++ b) ts rest
 begins_append [] b ts mid rest h k = subst (λ m. Begins b m rest) h k
 begins_append (s ∷ ss) b [] mid rest h k = absurd h
 begins_append (s ∷ ss) b (t ∷ ts) mid rest h k = (h.0, begins_append ss b ts mid rest h.1 k)
 
-pub append_begins : (a b : List Said) (ts rest : List Piece) → Begins (a ++ b) ts rest → (mid : List Piece) × Begins a ts mid × Begins b mid rest
+pub append_begins : (a b : List Said) (ts rest : List Piece) → Begins (a ++ b) ts rest
+    → (mid : List Piece) × Begins a ts mid × Begins b mid rest
 append_begins [] b ts rest h = (ts, refl, h)
 append_begins (s ∷ ss) b [] rest h = absurd h
 append_begins (s ∷ ss) b (t ∷ ts) rest h = let p = append_begins ss b ts rest h.1 in (p.0, (h.0, p.1), p.2)
@@ -85,17 +92,20 @@ all_begins (s ∷ ss) (t ∷ ts) h = (h.0, all_begins ss ts h.1)
 
 -- ---- tests in the middle of a format
 
-pub unless_wrong : {E A : Type 0} (b : Bool) (e : E) (x y : A) (ts rest : List Piece) → Says (cond b (wrong e) (done y)) ts x rest → (b ≡ false) × (x ≡ y) × (rest ≡ ts)
+pub unless_wrong : {E A : Type 0} (b : Bool) (e : E) (x y : A) (ts rest : List Piece)
+    → Says (cond b (wrong e) (done y)) ts x rest → (b ≡ false) × (x ≡ y) × (rest ≡ ts)
 unfolding Says
 unless_wrong true e x y ts rest h = absurd h
 unless_wrong false e x y ts rest h = (refl, h.0, h.1)
 
-pub if_right : {E A : Type 0} (b : Bool) (e : E) (x y : A) (ts rest : List Piece) → Says (cond b (done y) (wrong e)) ts x rest → (b ≡ true) × (x ≡ y) × (rest ≡ ts)
+pub if_right : {E A : Type 0} (b : Bool) (e : E) (x y : A) (ts rest : List Piece)
+    → Says (cond b (done y) (wrong e)) ts x rest → (b ≡ true) × (x ≡ y) × (rest ≡ ts)
 unfolding Says
 if_right true e x y ts rest h = (refl, h.0, h.1)
 if_right false e x y ts rest h = absurd h
 
-pub at_end : (E A : Type 0) (x y : A) (ts rest : List Piece) → Says {E = E} (ended (done y)) ts x rest → (x ≡ y) × (ts ≡ [])
+pub at_end : (E A : Type 0) (x y : A) (ts rest : List Piece)
+    → Says {E = E} (ended (done y)) ts x rest → (x ≡ y) × (ts ≡ [])
 unfolding Says
 at_end E A x y [] rest h = (h.0, refl)
 at_end E A x y (t ∷ ts) rest h = absurd h

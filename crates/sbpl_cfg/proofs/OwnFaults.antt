@@ -5,12 +5,17 @@ use Rattle.sbpl_fixed.specs.Formats.{done}
 use Rattle.sbpl_fixed.specs.Tokens.{tokens}
 use Rattle.sbpl_fixed.specs.declared.fault.TextFault.{TextFault}
 use Rattle.sbpl_fixed.specs.declared.fault.TextFault.TheVariants as common
-use Rattle.sbpl_fixed.specs.OwnFaults.{Spares, and_then_spares, done_spares, right_spares, spared, turns_spare, wrong_spares}
+use Rattle.sbpl_fixed.specs.OwnFaults.{Spares, and_then_spares, done_spares, right_spares}
+use Rattle.sbpl_fixed.specs.OwnFaults.{spared, turns_spare, wrong_spares}
 use Rattle.sbpl_cfg.specs.declared.fault.EnvFault.{EnvFault}
 use Rattle.sbpl_cfg.specs.declared.fault.EnvFault.TheVariants.{NoMemory, TooLarge, StartOff, EndOff}
 use Rattle.sbpl_cfg.specs.declared.parts.Header.{Header}
 use Rattle.sbpl_cfg.specs.Faults.{told}
-use Rattle.sbpl_cfg.specs.Format.{whole_format, nano_format, extent_format, headings_format, says_headings, size_format, obsthresh_format, inscribed_format, circumscribed_format, thresholds_format, cell_format, speed_format, turn45_format, rates_format, pose_format, start_pose_format, end_pose_format, start_format, end_format, header_format, ends_format, numbers_format, cost_format, grid_format, environment_format}
+use Rattle.sbpl_cfg.specs.Format.{whole_format, nano_format, extent_format, headings_format, says_headings, size_format}
+use Rattle.sbpl_cfg.specs.Format.{obsthresh_format, inscribed_format, circumscribed_format, thresholds_format}
+use Rattle.sbpl_cfg.specs.Format.{cell_format, speed_format, turn45_format, rates_format, pose_format}
+use Rattle.sbpl_cfg.specs.Format.{start_pose_format, end_pose_format, start_format, end_format, header_format}
+use Rattle.sbpl_cfg.specs.Format.{ends_format, numbers_format, cost_format, grid_format, environment_format}
 use Rattle.sbpl_cfg.specs.Text.{HasFault}
 
 told_spares : (t : TextFault) → told t ≢ NoMemory
@@ -49,20 +54,28 @@ size_spares said =
     wrong_spares NoMemory _ (TooLarge x.place) (done _) (λ q. cc) (done_spares NoMemory _)))
 
 header_spares : (said : Bool) → Spares NoMemory (header_format said)
-unfolding header_format thresholds_format rates_format obsthresh_format inscribed_format circumscribed_format cell_format speed_format turn45_format
+unfolding header_format thresholds_format rates_format obsthresh_format inscribed_format circumscribed_format
+    cell_format speed_format turn45_format
 header_spares said =
     and_then_spares NoMemory (size_format said) _ (size_spares said) (λ _.
     and_then_spares NoMemory thresholds_format _
-    (and_then_spares NoMemory obsthresh_format _ (whole_spares _ _ _) (λ _. and_then_spares NoMemory inscribed_format _ (whole_spares _ _ _) (λ _. and_then_spares NoMemory circumscribed_format _ (whole_spares _ _ _) (λ _. done_spares NoMemory _))))
+    (and_then_spares NoMemory obsthresh_format _ (whole_spares _ _ _)
+    (λ _. and_then_spares NoMemory inscribed_format _ (whole_spares _ _ _)
+    (λ _. and_then_spares NoMemory circumscribed_format _ (whole_spares _ _ _) (λ _. done_spares NoMemory _))))
     (λ _. and_then_spares NoMemory rates_format _
-    (and_then_spares NoMemory cell_format _ (nano_spares _ _ _) (λ _. and_then_spares NoMemory speed_format _ (nano_spares _ _ _) (λ _. and_then_spares NoMemory turn45_format _ (nano_spares _ _ _) (λ _. done_spares NoMemory _))))
+    (and_then_spares NoMemory cell_format _ (nano_spares _ _ _)
+    (λ _. and_then_spares NoMemory speed_format _ (nano_spares _ _ _)
+    (λ _. and_then_spares NoMemory turn45_format _ (nano_spares _ _ _) (λ _. done_spares NoMemory _))))
     (λ _. done_spares NoMemory _)))
 
 ends_spare : (h : Header) → Spares NoMemory (ends_format h)
 unfolding ends_format start_format end_format start_pose_format end_pose_format
 ends_spare h =
-    and_then_spares NoMemory (start_format h) _ (and_then_spares NoMemory start_pose_format _ (pose_spares _) (λ p. right_spares NoMemory _ (StartOff p.place) (done _) (λ q. cc) (done_spares NoMemory _))) (λ _.
-    and_then_spares NoMemory (end_format h) _ (and_then_spares NoMemory end_pose_format _ (pose_spares _) (λ p. right_spares NoMemory _ (EndOff p.place) (done _) (λ q. cc) (done_spares NoMemory _))) (λ _. done_spares NoMemory _))
+    and_then_spares NoMemory (start_format h) _ (and_then_spares NoMemory start_pose_format _ (pose_spares _)
+    (λ p. right_spares NoMemory _ (StartOff p.place) (done _) (λ q. cc) (done_spares NoMemory _))) (λ _.
+    and_then_spares NoMemory (end_format h) _ (and_then_spares NoMemory end_pose_format _ (pose_spares _)
+    (λ p. right_spares NoMemory _ (EndOff p.place) (done _) (λ q. cc) (done_spares NoMemory _)))
+    (λ _. done_spares NoMemory _))
 
 cost_spares : (cells : List ℕ) → Spares NoMemory (cost_format cells)
 unfolding Spares cost_format
@@ -75,8 +88,11 @@ grid_spares count = λ _ _. turns_spare NoMemory count cost_format [] cost_spare
 environment_spares : (said : Bool) → Spares NoMemory (environment_format said)
 unfolding Spares environment_format numbers_format
 environment_spares said =
-    and_then_spares NoMemory (numbers_format said) _ (and_then_spares NoMemory (header_format said) _ (header_spares said) (λ h. and_then_spares NoMemory (ends_format h) _ (ends_spare h) (λ _. tt))) (λ e.
+    and_then_spares NoMemory (numbers_format said) _ (and_then_spares NoMemory (header_format said) _
+    (header_spares said) (λ h. and_then_spares NoMemory (ends_format h) _ (ends_spare h) (λ _. tt))) (λ e.
     and_then_spares NoMemory (grid_format _) _ (grid_spares _) (λ _. tt))
 
 pub no_memory_is_no_fault : (text : List ℕ) (f : EnvFault) → HasFault text f → f ≢ NoMemory
-no_memory_is_no_fault text f h = spared NoMemory told (environment_format (says_headings text)) (length text) (tokens text) f told_spares (environment_spares (says_headings text)) h
+no_memory_is_no_fault text f h =
+    spared NoMemory told (environment_format (says_headings text)) (length text) (tokens text) f told_spares
+    (environment_spares (says_headings text)) h

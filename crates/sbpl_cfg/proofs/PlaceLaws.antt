@@ -1,5 +1,6 @@
 -- What cells, turns and headings are, in plain words.
-use Rattle.std.proofs.Common.{◌≡◌, ℕ, ℤ, pos, negsuc, zero, suc, ◌+◌, ◌*◌, ◌/◌, ◌%◌, ◌<◌, ◌≤◌, ◌<ℤ◌, ◌⊎◌, inl, inr, sym, ap, subst, arith}
+use Rattle.std.proofs.Common.{◌≡◌, ℕ, ℤ, pos, negsuc, zero, suc, ◌+◌, ◌*◌, ◌/◌, ◌%◌, ◌<◌, ◌≤◌, ◌<ℤ◌, ◌⊎◌, inl, inr, sym}
+use Rattle.std.proofs.Common.{ap, subst, arith}
 use Rattle.std.proofs.Math.Nat.{add-mod_right, div-eq_of_lt-le, eq-or-lt_of_le, mod-eq_of_lt, mod_self, mul-le-mul_left}
 use Rattle.std.proofs.lemmas.Int.{ints}
 use Rattle.sbpl_cfg.specs.Place.{cell_of, heading_of, turn_of, full_turn, IsCellOf, IsInBin, IsTurnOf}
@@ -60,7 +61,8 @@ pub heading_of_is : (n t : ℕ) (a : ℤ) → t < n → IsInBin n t (turn_of a) 
 unfolding heading_of
 heading_of_is n t a small h =
     let low = h.from in let high = h.to in
-    let e : (2 * n * turn_of a + full_turn) / (2 * full_turn) ≡ h.centre = quotient (2 * full_turn) _ h.centre (omega arith) (omega arith) in
+    let e : (2 * n * turn_of a + full_turn) / (2 * full_turn) ≡ h.centre =
+    quotient (2 * full_turn) _ h.centre (omega arith) (omega arith) in
     rw e (elim h.heading [
       | inl here ↦ rw here (mod-eq_of_lt small)
       | inr further ↦ rw (further, add-mod_right) (mod-eq_of_lt small)

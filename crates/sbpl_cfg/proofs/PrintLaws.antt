@@ -1,5 +1,6 @@
 -- Texts that are appended one after the other.
-use Rattle.std.proofs.Common.{◌≡◌, ℕ, zero, suc, sub-one, ◌+◌, ◌-◌, ◌<◌, ◌≤◌, List, [], ◌∷◌, ◌++◌, length, map, take, drop, get_or, append_assoc, append-nil, add-one, arith, refl, sym, ◌∙◌, ap}
+use Rattle.std.proofs.Common.{◌≡◌, ℕ, zero, suc, sub-one, ◌+◌, ◌-◌, ◌<◌, ◌≤◌, List, [], ◌∷◌, ◌++◌, length, map, take}
+use Rattle.std.proofs.Common.{drop, get_or, append_assoc, append-nil, add-one, arith, refl, sym, ◌∙◌, ap}
 use Rattle.std.proofs.Math.Seq.{drop-cons}
 use Rattle.std.proofs.lemmas.List.{drop_all, get_or-take, length-drop, length-map}
 use Rattle.std.proofs.lemmas.List.Concat.{flat_map-append}
@@ -7,10 +8,12 @@ use Rattle.std.specs.Fmt.{decimal}
 use Rattle.sbpl_fixed.specs.Printed.{line_text, lines_text}
 use Rattle.sbpl_cfg.specs.Printed.{grid_lines}
 
-pub after_three : (a x y z : List ℕ) {b c d : List ℕ} → b ≡ a ++ x → c ≡ b ++ y → d ≡ c ++ z → d ≡ a ++ (x ++ (y ++ (z ++ [])))
+pub after_three : (a x y z : List ℕ) {b c d : List ℕ} → b ≡ a ++ x → c ≡ b ++ y → d ≡ c ++ z
+    → d ≡ a ++ (x ++ (y ++ (z ++ [])))
 after_three a x y z p q r = rw (r, q, p) (simp (append_assoc, append-nil))
 
-pub after_four : (a w x y z : List ℕ) {b c d e : List ℕ} → b ≡ a ++ w → c ≡ b ++ x → d ≡ c ++ y → e ≡ d ++ z → e ≡ a ++ (w ++ (x ++ (y ++ (z ++ []))))
+pub after_four : (a w x y z : List ℕ) {b c d e : List ℕ} → b ≡ a ++ w → c ≡ b ++ x → d ≡ c ++ y → e ≡ d ++ z
+    → e ≡ a ++ (w ++ (x ++ (y ++ (z ++ []))))
 after_four a w x y z o p q r = rw (r, q, p, o) (simp (append_assoc, append-nil))
 
 -- a word that isn't the last
@@ -25,22 +28,28 @@ unfolding line_text
 line_text-last w = refl
 
 -- one more cost of a row, which isn't its last
-pub row_more : (out old next cells : List ℕ) (i x : ℕ) → i < length cells - 1 → x ≡ get_or (take (length cells - 1) cells) i 0
+pub row_more : (out old next cells : List ℕ) (i x : ℕ) → i < length cells - 1
+    → x ≡ get_or (take (length cells - 1) cells) i 0
     → next ≡ out ++ (decimal x ++ 32 ∷ []) → out ++ line_text (map decimal (drop i cells)) ≡ old
     → next ++ line_text (map decimal (drop (i + 1) cells)) ≡ old
 row_more out old next cells i x below read wrote before =
     let rest = drop (suc i) cells in
-    let front : drop i cells ≡ x ∷ rest = rw (read, get_or-take (length cells - 1) cells i 0 below) (drop-cons cells i 0 (omega arith)) in
+    let front : drop i cells ≡ x ∷ rest =
+    rw (read, get_or-take (length cells - 1) cells i 0 below) (drop-cons cells i 0 (omega arith)) in
     let some : 0 < length (map decimal rest) = rw (length-map rest decimal, length-drop (suc i) cells) (omega arith) in
     let all : out ++ ((decimal x ++ 32 ∷ []) ++ line_text (map decimal rest)) ≡ old =
-    rw (append_assoc (decimal x) (32 ∷ []) (line_text (map decimal rest)), ← line_text-more (decimal x) (map decimal rest) some) (rw front at before) in
+    rw (
+      append_assoc (decimal x) (32 ∷ []) (line_text (map decimal rest)),
+      ← line_text-more (decimal x) (map decimal rest) some,
+    ) (rw front at before) in
     rw (wrote, add-one i, append_assoc out (decimal x ++ 32 ∷ []) (line_text (map decimal rest))) all
 
 -- its last
 pub row_last : (out old next cells : List ℕ) (i x : ℕ) → i + 1 ≡ length cells → x ≡ get_or cells i 0
     → next ≡ out ++ (decimal x ++ 10 ∷ []) → out ++ line_text (map decimal (drop i cells)) ≡ old → next ≡ old
 row_last out old next cells i x end read wrote before =
-    let front : drop i cells ≡ x ∷ [] = rw (read, drop-cons cells i 0 (omega arith), drop_all (suc i) cells (omega arith)) refl in
+    let front : drop i cells ≡ x ∷ [] =
+    rw (read, drop-cons cells i 0 (omega arith), drop_all (suc i) cells (omega arith)) refl in
     wrote ∙ ap (λ text. out ++ text) (sym (line_text-last (decimal x))) ∙ (rw front at before)
 
 grid_lines-more : (rows width : ℕ) (cells : List ℕ) → 0 < rows
@@ -50,16 +59,20 @@ grid_lines-more zero width cells h = absurd (omega arith)
 grid_lines-more (suc rows) width cells h = rw sub-one refl
 
 -- one more row of a grid
-pub grid_more : (old out next row below rest : List ℕ) (height width y : ℕ) → y < height → row ≡ take width rest → below ≡ drop width rest
+pub grid_more : (old out next row below rest : List ℕ) (height width y : ℕ) → y < height → row ≡ take width rest
+    → below ≡ drop width rest
     → next ≡ out ++ line_text (map decimal row) → out ++ lines_text (grid_lines (height - y) width rest) ≡ old
     → next ++ lines_text (grid_lines (height - (y + 1)) width below) ≡ old
 grid_more old out next row below rest height width y more at after wrote before =
     let step : grid_lines (height - y) width rest ≡ map decimal row ∷ grid_lines (height - (y + 1)) width below =
-    rw (at, after, grid_lines-more (height - y) width rest (omega arith)) (ap (λ n. map decimal (take width rest) ∷ grid_lines n width (drop width rest)) (omega arith)) in
-    rw (wrote, append_assoc out (line_text (map decimal row)) (lines_text (grid_lines (height - (y + 1)) width below))) (rw step at before)
+    rw (at, after, grid_lines-more (height - y) width rest (omega arith))
+    (ap (λ n. map decimal (take width rest) ∷ grid_lines n width (drop width rest)) (omega arith)) in
+    rw (wrote, append_assoc out (line_text (map decimal row)) (lines_text (grid_lines (height - (y + 1)) width below)))
+    (rw step at before)
 
 -- no row is left
-pub grid_done : (old out rest : List ℕ) (height width y : ℕ) → height ≤ y → out ++ lines_text (grid_lines (height - y) width rest) ≡ old → out ≡ old
+pub grid_done : (old out rest : List ℕ) (height width y : ℕ) → height ≤ y
+    → out ++ lines_text (grid_lines (height - y) width rest) ≡ old → out ≡ old
 unfolding grid_lines
 grid_done old out rest height width y done before =
     let none : height - y ≡ 0 = omega arith in
@@ -69,8 +82,12 @@ lines_append : (a b : List (List (List ℕ))) → lines_text (a ++ b) ≡ lines_
 lines_append a b = flat_map-append line_text a b
 
 -- six runs of lines, one after the other
-pub after_lines : (out : List ℕ) (a : List (List (List ℕ))) (o : List ℕ) (b : List (List (List ℕ))) (p : List ℕ) (c : List (List (List ℕ))) (q : List ℕ)
-    (d : List (List (List ℕ))) (r : List ℕ) (e : List (List (List ℕ))) (s : List ℕ) (f : List (List (List ℕ))) (t : List ℕ)
-    → o ≡ out ++ lines_text a → p ≡ o ++ lines_text b → q ≡ p ++ lines_text c → r ≡ q ++ lines_text d → s ≡ r ++ lines_text e → t ≡ s ++ lines_text f
+pub after_lines : (out : List ℕ) (a : List (List (List ℕ))) (o : List ℕ) (b : List (List (List ℕ))) (p : List ℕ)
+    (c : List (List (List ℕ))) (q : List ℕ)
+    (d : List (List (List ℕ))) (r : List ℕ) (e : List (List (List ℕ))) (s : List ℕ)
+    (f : List (List (List ℕ))) (t : List ℕ)
+    → o ≡ out ++ lines_text a → p ≡ o ++ lines_text b → q ≡ p ++ lines_text c → r ≡ q ++ lines_text d
+    → s ≡ r ++ lines_text e → t ≡ s ++ lines_text f
     → t ≡ out ++ lines_text (a ++ (b ++ (c ++ (d ++ (e ++ f)))))
-after_lines out a o b p c q d r e s f t h i j k l m = rw (m, l, k, j, i, h, lines_append, lines_append, lines_append, lines_append, lines_append) (simp append_assoc)
+after_lines out a o b p c q d r e s f t h i j k l m =
+    rw (m, l, k, j, i, h, lines_append, lines_append, lines_append, lines_append, lines_append) (simp append_assoc)

@@ -1,5 +1,7 @@
 -- The format of an environment and its list of tokens say the same.
-use Rattle.std.proofs.Common.{◌≡◌, ◌↔◌, ℕ, ℤ, pos, negsuc, zero, suc, ◌*◌, ◌≤◌, ◌≤ℤ◌, Bool, true, false, ltb, lit≤, List, [], ◌∷◌, ◌++◌, length, map, codes, inl, inr, Ok, refl, sym, ap, subst, ◌∙◌, append_assoc, append-nil, arith}
+use Rattle.std.proofs.Common.{◌≡◌, ◌↔◌, ℕ, ℤ, pos, negsuc, zero, suc, ◌*◌, ◌≤◌, ◌≤ℤ◌, Bool, true, false, ltb, lit≤}
+use Rattle.std.proofs.Common.{List, [], ◌∷◌, ◌++◌, length, map, codes, inl, inr, Ok, refl, sym, ap, subst, ◌∙◌}
+use Rattle.std.proofs.Common.{append_assoc, append-nil, arith}
 use Rattle.std.specs.Prelude.{bytes_eq, int_le, int_lt, nat_abs}
 use Rattle.std.specs.List.{AllByRecursion}
 use Rattle.std.proofs.lemmas.Bool.{and_from, and_parts, ltb-false, le-ltb}
@@ -15,14 +17,23 @@ use Rattle.sbpl_cfg.specs.declared.parts.Header.{Header}
 use Rattle.sbpl_cfg.specs.declared.parts.Rates.{Rates}
 use Rattle.sbpl_cfg.specs.declared.parts.Size.{Size}
 use Rattle.sbpl_cfg.specs.declared.parts.Thresholds.{Thresholds}
-use Rattle.sbpl_cfg.specs.Environment.{Environment, IsEnvironment, IsHeadingCount, IsOnAxis, IsPoseInRange, IsWithin, is_on_axis, usual_headings}
+use Rattle.sbpl_cfg.specs.Environment.{Environment, IsEnvironment, IsHeadingCount, IsOnAxis, IsPoseInRange}
+use Rattle.sbpl_cfg.specs.Environment.{IsWithin, is_on_axis, usual_headings}
 use Rattle.sbpl_cfg.specs.Place.{cell_of}
-use Rattle.sbpl_cfg.specs.Format.{whole_format, nano_format, extent_format, headings_format, size_format, obsthresh_format, inscribed_format, circumscribed_format, thresholds_format, cell_format, speed_format, turn45_format, rates_format, pose_format, start_pose_format, end_pose_format, start_format, end_format, header_format, ends_format, numbers_format, cost_format, grid_format, environment_format, environment_of, headings_word, is_fourth_token, says_headings, IsHeaderInRange, is_on_map_of}
+use Rattle.sbpl_cfg.specs.Format.{whole_format, nano_format, extent_format, headings_format, size_format}
+use Rattle.sbpl_cfg.specs.Format.{obsthresh_format, inscribed_format, circumscribed_format}
+use Rattle.sbpl_cfg.specs.Format.{thresholds_format, cell_format, speed_format, turn45_format, rates_format}
+use Rattle.sbpl_cfg.specs.Format.{pose_format, start_pose_format, end_pose_format, start_format, end_format}
+use Rattle.sbpl_cfg.specs.Format.{header_format, ends_format, numbers_format, cost_format, grid_format}
+use Rattle.sbpl_cfg.specs.Format.{environment_format, environment_of, headings_word, is_fourth_token}
+use Rattle.sbpl_cfg.specs.Format.{says_headings, IsHeaderInRange, is_on_map_of}
 use Rattle.sbpl_fixed.specs.Meaning.{StandsFor}
 use Rattle.sbpl_fixed.specs.Tokens.{tokens}
-use Rattle.sbpl_cfg.specs.Text.{Said, word, number, nano, AllMean, AreTokensOf, LeavesOutUsual, words_of, IsGrid, IsTextOf, spelled, spelled_grid, spelled_headings, spelled_pose}
+use Rattle.sbpl_cfg.specs.Text.{Said, word, number, nano, AllMean, AreTokensOf, LeavesOutUsual, words_of, IsGrid}
+use Rattle.sbpl_cfg.specs.Text.{IsTextOf, spelled, spelled_grid, spelled_headings, spelled_pose}
 use Rattle.sbpl_fixed.specs.Parts.{says_both, says_parts}
-use Rattle.sbpl_cfg.proofs.Items.{Begins, all_begins, append_begins, at_end, begins_all, begins_append, fixed_is, if_right, is_fixed, is_within, unless_wrong, within_is}
+use Rattle.sbpl_cfg.proofs.Items.{Begins, all_begins, append_begins, at_end, begins_all, begins_append, fixed_is}
+use Rattle.sbpl_cfg.proofs.Items.{if_right, is_fixed, is_within, unless_wrong, within_is}
 
 -- ---- a word with a number
 
@@ -36,13 +47,17 @@ whole_said w low high n (t ∷ u ∷ ts) rest h =
     let same : h.2.0 ≡ n = sym h.2.2.0 in
     ((fixed_is w t.bytes h.0 h.1, (r.value ∙ ap (λ z. Ok z) same, h.2.2.1)), subst (IsWithin low high) same r.between)
 
-pub says_whole : (w : List ℕ) (low high n : ℤ) (ts rest : List Piece) → Begins (word w ∷ number n ∷ []) ts rest → IsWithin low high n
+pub says_whole : (w : List ℕ) (low high n : ℤ) (ts rest : List Piece)
+    → Begins (word w ∷ number n ∷ []) ts rest → IsWithin low high n
     → Says (whole_format w low high) ts n rest
 unfolding whole_format Says
 says_whole w low high n [] rest h k = absurd h
 says_whole w low high n (t ∷ []) rest h k = absurd h.1
-says_whole w low high n (t ∷ u ∷ ts) rest h k =
-    (pos 0, is_fixed w t.bytes h.0, (n, is_within low high n (whole_of u.bytes) (record { value = h.1.0; between = k }), (refl, h.1.1)))
+says_whole w low high n (t ∷ u ∷ ts) rest h k = (
+  pos 0,
+  is_fixed w t.bytes h.0,
+  (n, is_within low high n (whole_of u.bytes) (record { value = h.1.0; between = k }), (refl, h.1.1)),
+)
 
 pub nano_said : (w : List ℕ) (low high n : ℤ) (ts rest : List Piece) → Says (nano_format w low high) ts n rest
     → Begins (word w ∷ nano n ∷ []) ts rest × IsWithin low high n
@@ -54,13 +69,17 @@ nano_said w low high n (t ∷ u ∷ ts) rest h =
     let same : h.2.0 ≡ n = sym h.2.2.0 in
     ((fixed_is w t.bytes h.0 h.1, (r.value ∙ ap (λ z. Ok z) same, h.2.2.1)), subst (IsWithin low high) same r.between)
 
-pub says_nano : (w : List ℕ) (low high n : ℤ) (ts rest : List Piece) → Begins (word w ∷ nano n ∷ []) ts rest → IsWithin low high n
+pub says_nano : (w : List ℕ) (low high n : ℤ) (ts rest : List Piece)
+    → Begins (word w ∷ nano n ∷ []) ts rest → IsWithin low high n
     → Says (nano_format w low high) ts n rest
 unfolding nano_format Says
 says_nano w low high n [] rest h k = absurd h
 says_nano w low high n (t ∷ []) rest h k = absurd h.1
-says_nano w low high n (t ∷ u ∷ ts) rest h k =
-    (pos 0, is_fixed w t.bytes h.0, (n, is_within low high n (nano_of u.bytes) (record { value = h.1.0; between = k }), (refl, h.1.1)))
+says_nano w low high n (t ∷ u ∷ ts) rest h k = (
+  pos 0,
+  is_fixed w t.bytes h.0,
+  (n, is_within low high n (nano_of u.bytes) (record { value = h.1.0; between = k }), (refl, h.1.1)),
+)
 
 -- ---- the size
 
@@ -81,7 +100,8 @@ pub record IsExtent (x : Extent) : Type 0 where
 abbrev pub extent_words : Extent → List Said
 extent_words x = word (codes "discretization(cells):") ∷ number (pos x.width) ∷ number (pos x.height) ∷ []
 
-pub extent_said : (p : Placed Extent) (ts rest : List Piece) → Says extent_format ts p rest → Begins (extent_words p.value) ts rest × IsExtent p.value
+pub extent_said : (p : Placed Extent) (ts rest : List Piece) → Says extent_format ts p rest
+    → Begins (extent_words p.value) ts rest × IsExtent p.value
 unfolding extent_format Says
 extent_said p [] rest h = absurd h
 extent_said p (t ∷ []) rest h = absurd h.2
@@ -90,8 +110,10 @@ extent_said p (t ∷ u ∷ v ∷ ts) rest h =
     let w = within_is (pos 1) (pos 8388608) h.2.0 (whole_of u.bytes) h.2.1 in
     let r = within_is (pos 1) (pos 8388608) h.2.2.0 (whole_of v.bytes) h.2.2.1 in
     let g = h.2.2.2 in
-    let width : h.2.0 ≡ pos p.value.width = natural_is 1 h.2.0 w.between.0 ∙ ap (λ (y : Placed Extent). pos y.value.width) (sym g.0) in
-    let height : h.2.2.0 ≡ pos p.value.height = natural_is 1 h.2.2.0 r.between.0 ∙ ap (λ (y : Placed Extent). pos y.value.height) (sym g.0) in (
+    let width : h.2.0 ≡ pos p.value.width =
+    natural_is 1 h.2.0 w.between.0 ∙ ap (λ (y : Placed Extent). pos y.value.width) (sym g.0) in
+    let height : h.2.2.0 ≡ pos p.value.height =
+    natural_is 1 h.2.2.0 r.between.0 ∙ ap (λ (y : Placed Extent). pos y.value.height) (sym g.0) in (
       (fixed_is _ t.bytes h.0 h.1, (w.value ∙ ap (λ z. Ok z) width, (r.value ∙ ap (λ z. Ok z) height, g.1))),
       record {
         width = naturals_within 1 8388608 p.value.width (subst (IsWithin (pos 1) (pos 8388608)) width w.between);
@@ -112,10 +134,12 @@ says_extent x (t ∷ u ∷ v ∷ ts) rest h k = (
     is_fixed _ t.bytes h.0,
     (
       pos x.width,
-      is_within (pos 1) (pos 8388608) (pos x.width) (whole_of u.bytes) (record { value = h.1.0; between = within_naturals 1 8388608 x.width k.width.0 k.width.1 }),
+      is_within (pos 1) (pos 8388608) (pos x.width) (whole_of u.bytes)
+          (record { value = h.1.0; between = within_naturals 1 8388608 x.width k.width.0 k.width.1 }),
       (
         pos x.height,
-        is_within (pos 1) (pos 8388608) (pos x.height) (whole_of v.bytes) (record { value = h.1.1.0; between = within_naturals 1 8388608 x.height k.height.0 k.height.1 }),
+        is_within (pos 1) (pos 8388608) (pos x.height) (whole_of v.bytes)
+            (record { value = h.1.1.0; between = within_naturals 1 8388608 x.height k.height.0 k.height.1 }),
         (refl, h.1.1.1),
       ),
     ),
@@ -139,7 +163,10 @@ headings_said true z ts rest h =
     let a = whole_said headings_word (pos 4) (pos 64) z ts rest h in
     let is : z ≡ pos (nat_abs z) = natural_is 4 z a.1.0 in (
       subst (λ n. Begins (word headings_word ∷ number n ∷ []) ts rest) is a.0,
-      record { count = naturals_within 4 64 (nat_abs z) (subst (IsWithin (pos 4) (pos 64)) is a.1); usual = λ e. absurd cc },
+      record {
+        count = naturals_within 4 64 (nat_abs z) (subst (IsWithin (pos 4) (pos 64)) is a.1);
+        usual = λ e. absurd cc;
+      },
     )
 headings_said false z ts rest h =
     let is : nat_abs z ≡ usual_headings = ap nat_abs h.0 in
@@ -148,7 +175,8 @@ headings_said false z ts rest h =
 pub says_count : (said : Bool) (n : ℕ) (ts rest : List Piece) → Begins (headings_words said n) ts rest → IsCount said n
     → Says (headings_format said) ts (pos n) rest
 unfolding headings_format Says
-says_count true n ts rest h k = says_whole headings_word (pos 4) (pos 64) (pos n) ts rest h (within_naturals 4 64 n k.count.0 k.count.1)
+says_count true n ts rest h k =
+    says_whole headings_word (pos 4) (pos 64) (pos n) ts rest h (within_naturals 4 64 n k.count.0 k.count.1)
 says_count false n ts rest h k = (ap pos (k.usual refl), h)
 
 pub record IsSize (said : Bool) (x : Size) : Type 0 where
@@ -163,7 +191,8 @@ extent_of x = record { width = x.width; height = x.height }
 abbrev pub size_words : Bool → Size → List Said
 size_words said x = extent_words (extent_of x) ++ headings_words said x.headings
 
-pub size_said : (said : Bool) (x : Size) (ts rest : List Piece) → Says (size_format said) ts x rest → Begins (size_words said x) ts rest × IsSize said x
+pub size_said : (said : Bool) (x : Size) (ts rest : List Piece) → Says (size_format said) ts x rest
+    → Begins (size_words said x) ts rest × IsSize said x
 unfolding size_format
 size_said said x ts rest s =
     let a = says_parts _ _ ts rest x s in
@@ -175,17 +204,20 @@ size_said said x ts rest s =
     let begins : Begins (size_words said made) ts rest =
     begins_append (extent_words (extent_of made)) (headings_words said made.headings) ts a.1 rest e.0
     (subst (λ m. Begins (headings_words said made.headings) a.1 m) (sym g.2) n.0) in
-    let is : IsSize said made = record { width = e.1.width; height = e.1.height; headings = n.1; states = ltb-false _ _ g.0 } in
+    let is : IsSize said made =
+    record { width = e.1.width; height = e.1.height; headings = n.1; states = ltb-false _ _ g.0 } in
     (subst (λ (y : Size). Begins (size_words said y) ts rest) (sym g.1) begins, subst (IsSize said) (sym g.1) is)
 
-pub says_size : (said : Bool) (x : Size) (ts rest : List Piece) → Begins (size_words said x) ts rest → IsSize said x → Says (size_format said) ts x rest
+pub says_size : (said : Bool) (x : Size) (ts rest : List Piece) → Begins (size_words said x) ts rest → IsSize said x
+    → Says (size_format said) ts x rest
 unfolding size_format Says
 says_size said x ts rest h k =
     let a = append_begins (extent_words (extent_of x)) (headings_words said x.headings) ts rest h in
     let e = says_extent (extent_of x) ts a.0 a.1 (record { width = k.width; height = k.height }) in
     let small : ltb 8388608 (x.width * x.height * x.headings) ≡ false = le-ltb _ _ k.states in
     says_both extent_format _ ts a.0 rest (record { value = extent_of x; place = e.0 }) x e.1
-    (says_both (headings_format said) _ a.0 rest rest (pos x.headings) x (says_count said x.headings a.0 rest a.2 k.headings) (rw small (refl, refl)))
+    (says_both (headings_format said) _ a.0 rest rest (pos x.headings) x
+    (says_count said x.headings a.0 rest a.2 k.headings) (rw small (refl, refl)))
 
 -- ---- the thresholds
 
@@ -204,9 +236,11 @@ abbrev pub circumscribed_words : ℤ → List Said
 circumscribed_words n = word (codes "cost_possibly_circumscribed_thresh:") ∷ number n ∷ []
 
 abbrev pub thresholds_words : Thresholds → List Said
-thresholds_words x = obsthresh_words (pos x.obsthresh) ++ (inscribed_words (pos x.inscribed) ++ circumscribed_words x.circumscribed)
+thresholds_words x =
+    obsthresh_words (pos x.obsthresh) ++ (inscribed_words (pos x.inscribed) ++ circumscribed_words x.circumscribed)
 
-pub thresholds_said : (x : Thresholds) (ts rest : List Piece) → Says thresholds_format ts x rest → Begins (thresholds_words x) ts rest × AreThresholds x
+pub thresholds_said : (x : Thresholds) (ts rest : List Piece) → Says thresholds_format ts x rest
+    → Begins (thresholds_words x) ts rest × AreThresholds x
 unfolding thresholds_format obsthresh_format inscribed_format circumscribed_format Says
 thresholds_said x ts rest h =
     let a = says_parts _ _ ts rest x h in
@@ -215,14 +249,18 @@ thresholds_said x ts rest h =
     let o = whole_said _ (pos 0) (pos 255) a.0 ts a.1 a.2 in
     let i = whole_said _ (pos 0) (pos 255) b.0 a.1 b.1 b.2 in
     let r = whole_said _ (negsuc 0) (pos 255) c.0 b.1 c.1 c.2 in
-    let obsthresh : a.0 ≡ pos x.obsthresh = natural_is 0 a.0 o.1.0 ∙ ap (λ (y : Thresholds). pos y.obsthresh) (sym c.3.0) in
-    let inscribed : b.0 ≡ pos x.inscribed = natural_is 0 b.0 i.1.0 ∙ ap (λ (y : Thresholds). pos y.inscribed) (sym c.3.0) in
+    let obsthresh : a.0 ≡ pos x.obsthresh =
+    natural_is 0 a.0 o.1.0 ∙ ap (λ (y : Thresholds). pos y.obsthresh) (sym c.3.0) in
+    let inscribed : b.0 ≡ pos x.inscribed =
+    natural_is 0 b.0 i.1.0 ∙ ap (λ (y : Thresholds). pos y.inscribed) (sym c.3.0) in
     let circumscribed : c.0 ≡ x.circumscribed = ap (λ (y : Thresholds). y.circumscribed) (sym c.3.0) in (
-      begins_append (obsthresh_words (pos x.obsthresh)) (inscribed_words (pos x.inscribed) ++ circumscribed_words x.circumscribed) ts a.1 rest
+      begins_append (obsthresh_words (pos x.obsthresh))
+          (inscribed_words (pos x.inscribed) ++ circumscribed_words x.circumscribed) ts a.1 rest
           (subst (λ n. Begins (obsthresh_words n) ts a.1) obsthresh o.0)
           (begins_append (inscribed_words (pos x.inscribed)) (circumscribed_words x.circumscribed) a.1 b.1 rest
           (subst (λ n. Begins (inscribed_words n) a.1 b.1) inscribed i.0)
-          (subst (λ m. Begins (circumscribed_words x.circumscribed) b.1 m) (sym c.3.1) (subst (λ n. Begins (circumscribed_words n) b.1 c.1) circumscribed r.0))),
+          (subst (λ m. Begins (circumscribed_words x.circumscribed) b.1 m) (sym c.3.1)
+          (subst (λ n. Begins (circumscribed_words n) b.1 c.1) circumscribed r.0))),
       record {
         obsthresh = (naturals_within 0 255 x.obsthresh (subst (IsWithin (pos 0) (pos 255)) obsthresh o.1)).1;
         inscribed = (naturals_within 0 255 x.inscribed (subst (IsWithin (pos 0) (pos 255)) inscribed i.1)).1;
@@ -230,14 +268,20 @@ thresholds_said x ts rest h =
       },
     )
 
-pub says_thresholds : (x : Thresholds) (ts rest : List Piece) → Begins (thresholds_words x) ts rest → AreThresholds x → Says thresholds_format ts x rest
+pub says_thresholds : (x : Thresholds) (ts rest : List Piece) → Begins (thresholds_words x) ts rest → AreThresholds x
+    → Says thresholds_format ts x rest
 unfolding thresholds_format obsthresh_format inscribed_format circumscribed_format Says
 says_thresholds x ts rest h k =
-    let a = append_begins (obsthresh_words (pos x.obsthresh)) (inscribed_words (pos x.inscribed) ++ circumscribed_words x.circumscribed) ts rest h in
+    let a =
+    append_begins (obsthresh_words (pos x.obsthresh))
+    (inscribed_words (pos x.inscribed) ++ circumscribed_words x.circumscribed) ts rest h in
     let b = append_begins (inscribed_words (pos x.inscribed)) (circumscribed_words x.circumscribed) a.0 rest a.2 in
-    says_both obsthresh_format _ ts a.0 rest (pos x.obsthresh) x (says_whole _ (pos 0) (pos 255) (pos x.obsthresh) ts a.0 a.1 (within_naturals 0 255 x.obsthresh (omega arith) k.obsthresh))
-    (says_both inscribed_format _ a.0 b.0 rest (pos x.inscribed) x (says_whole _ (pos 0) (pos 255) (pos x.inscribed) a.0 b.0 b.1 (within_naturals 0 255 x.inscribed (omega arith) k.inscribed))
-    (says_both circumscribed_format _ b.0 rest rest x.circumscribed x (says_whole _ (negsuc 0) (pos 255) x.circumscribed b.0 rest b.2 k.circumscribed) (refl, refl)))
+    says_both obsthresh_format _ ts a.0 rest (pos x.obsthresh) x (says_whole _ (pos 0) (pos 255) (pos x.obsthresh) ts
+    a.0 a.1 (within_naturals 0 255 x.obsthresh (omega arith) k.obsthresh))
+    (says_both inscribed_format _ a.0 b.0 rest (pos x.inscribed) x (says_whole _ (pos 0) (pos 255) (pos x.inscribed) a.0
+    b.0 b.1 (within_naturals 0 255 x.inscribed (omega arith) k.inscribed))
+    (says_both circumscribed_format _ b.0 rest rest x.circumscribed x
+    (says_whole _ (negsuc 0) (pos 255) x.circumscribed b.0 rest b.2 k.circumscribed) (refl, refl)))
 
 -- ---- the rates
 
@@ -258,7 +302,8 @@ turn45_words n = word (codes "timetoturn45degsinplace(secs):") ∷ nano n ∷ []
 abbrev pub rates_words : Rates → List Said
 rates_words x = cell_words x.cell ++ (speed_words x.speed ++ turn45_words x.turn45)
 
-pub rates_said : (x : Rates) (ts rest : List Piece) → Says rates_format ts x rest → Begins (rates_words x) ts rest × AreRates x
+pub rates_said : (x : Rates) (ts rest : List Piece) → Says rates_format ts x rest
+    → Begins (rates_words x) ts rest × AreRates x
 unfolding rates_format cell_format speed_format turn45_format Says
 rates_said x ts rest h =
     let a = says_parts _ _ ts rest x h in
@@ -274,7 +319,8 @@ rates_said x ts rest h =
           (subst (λ n. Begins (cell_words n) ts a.1) cell p.0)
           (begins_append (speed_words x.speed) (turn45_words x.turn45) a.1 b.1 rest
           (subst (λ n. Begins (speed_words n) a.1 b.1) speed q.0)
-          (subst (λ m. Begins (turn45_words x.turn45) b.1 m) (sym c.3.1) (subst (λ n. Begins (turn45_words n) b.1 c.1) turn45 r.0))),
+          (subst (λ m. Begins (turn45_words x.turn45) b.1 m) (sym c.3.1)
+          (subst (λ n. Begins (turn45_words n) b.1 c.1) turn45 r.0))),
       record {
         cell = subst (IsWithin (pos 1) (pos 1000000000000)) cell p.1;
         speed = subst (IsWithin (pos 1) (pos 1000000000000)) speed q.1;
@@ -282,14 +328,17 @@ rates_said x ts rest h =
       },
     )
 
-pub says_rates : (x : Rates) (ts rest : List Piece) → Begins (rates_words x) ts rest → AreRates x → Says rates_format ts x rest
+pub says_rates : (x : Rates) (ts rest : List Piece) → Begins (rates_words x) ts rest → AreRates x
+    → Says rates_format ts x rest
 unfolding rates_format cell_format speed_format turn45_format Says
 says_rates x ts rest h k =
     let a = append_begins (cell_words x.cell) (speed_words x.speed ++ turn45_words x.turn45) ts rest h in
     let b = append_begins (speed_words x.speed) (turn45_words x.turn45) a.0 rest a.2 in
     says_both cell_format _ ts a.0 rest x.cell x (says_nano _ (pos 1) (pos 1000000000000) x.cell ts a.0 a.1 k.cell)
-    (says_both speed_format _ a.0 b.0 rest x.speed x (says_nano _ (pos 1) (pos 1000000000000) x.speed a.0 b.0 b.1 k.speed)
-    (says_both turn45_format _ b.0 rest rest x.turn45 x (says_nano _ (pos 1) (pos 1000000000000) x.turn45 b.0 rest b.2 k.turn45) (refl, refl)))
+    (says_both speed_format _ a.0 b.0 rest x.speed x
+    (says_nano _ (pos 1) (pos 1000000000000) x.speed a.0 b.0 b.1 k.speed)
+    (says_both turn45_format _ b.0 rest rest x.turn45 x
+    (says_nano _ (pos 1) (pos 1000000000000) x.turn45 b.0 rest b.2 k.turn45) (refl, refl)))
 
 -- ---- the poses
 
@@ -310,7 +359,10 @@ pose_said w p (t ∷ u ∷ v ∷ a ∷ ts) rest h =
     let is_x : h.2.0 ≡ p.value.x = ap (λ (q : Placed Pose). q.value.x) (sym g.0) in
     let is_y : h.2.2.0 ≡ p.value.y = ap (λ (q : Placed Pose). q.value.y) (sym g.0) in
     let is_theta : h.2.2.2.0 ≡ p.value.theta = ap (λ (q : Placed Pose). q.value.theta) (sym g.0) in (
-      (fixed_is w t.bytes h.0 h.1, (x.value ∙ ap (λ z. Ok z) is_x, (y.value ∙ ap (λ z. Ok z) is_y, (theta.value ∙ ap (λ z. Ok z) is_theta, g.1)))),
+      (
+        fixed_is w t.bytes h.0 h.1,
+        (x.value ∙ ap (λ z. Ok z) is_x, (y.value ∙ ap (λ z. Ok z) is_y, (theta.value ∙ ap (λ z. Ok z) is_theta, g.1))),
+      ),
       record {
         x = subst (IsWithin low high) is_x x.between;
         y = subst (IsWithin low high) is_y y.between;
@@ -361,16 +413,19 @@ start_said h p ts rest s =
     let r = pose_said _ a.0 ts a.1 a.2 in
     let g = if_right _ _ p _ a.1 rest a.3 in
     let same : a.0.value ≡ p = sym g.1 in (
-      subst (λ m. Begins (spelled_pose (codes "start(meters,rads):") p) ts m) (sym g.2) (subst (λ q. Begins (spelled_pose (codes "start(meters,rads):") q) ts a.1) same r.0),
+      subst (λ m. Begins (spelled_pose (codes "start(meters,rads):") p) ts m) (sym g.2)
+          (subst (λ q. Begins (spelled_pose (codes "start(meters,rads):") q) ts a.1) same r.0),
       record { in_range = subst IsPoseInRange same r.1; on_map = subst (λ q. is_on_map_of h q ≡ true) same g.0 },
     )
 
-pub says_start : (h : Header) (p : Pose) (ts rest : List Piece) → Begins (spelled_pose (codes "start(meters,rads):") p) ts rest → IsGood h p
+pub says_start : (h : Header) (p : Pose) (ts rest : List Piece)
+    → Begins (spelled_pose (codes "start(meters,rads):") p) ts rest → IsGood h p
     → Says (start_format h) ts p rest
 unfolding start_format start_pose_format Says
 says_start h p ts rest s good =
     let a = says_pose _ p ts rest s good.in_range in
-    says_both (pose_format (codes "start(meters,rads):")) _ ts rest rest (record { value = p; place = a.0 }) p a.1 (rw good.on_map (refl, refl))
+    says_both (pose_format (codes "start(meters,rads):")) _ ts rest rest (record { value = p; place = a.0 }) p a.1
+    (rw good.on_map (refl, refl))
 
 pub end_said : (h : Header) (p : Pose) (ts rest : List Piece) → Says (end_format h) ts p rest
     → Begins (spelled_pose (codes "end(meters,rads):") p) ts rest × IsGood h p
@@ -380,21 +435,25 @@ end_said h p ts rest s =
     let r = pose_said _ a.0 ts a.1 a.2 in
     let g = if_right _ _ p _ a.1 rest a.3 in
     let same : a.0.value ≡ p = sym g.1 in (
-      subst (λ m. Begins (spelled_pose (codes "end(meters,rads):") p) ts m) (sym g.2) (subst (λ q. Begins (spelled_pose (codes "end(meters,rads):") q) ts a.1) same r.0),
+      subst (λ m. Begins (spelled_pose (codes "end(meters,rads):") p) ts m) (sym g.2)
+          (subst (λ q. Begins (spelled_pose (codes "end(meters,rads):") q) ts a.1) same r.0),
       record { in_range = subst IsPoseInRange same r.1; on_map = subst (λ q. is_on_map_of h q ≡ true) same g.0 },
     )
 
-pub says_end : (h : Header) (p : Pose) (ts rest : List Piece) → Begins (spelled_pose (codes "end(meters,rads):") p) ts rest → IsGood h p
+pub says_end : (h : Header) (p : Pose) (ts rest : List Piece)
+    → Begins (spelled_pose (codes "end(meters,rads):") p) ts rest → IsGood h p
     → Says (end_format h) ts p rest
 unfolding end_format end_pose_format Says
 says_end h p ts rest s good =
     let a = says_pose _ p ts rest s good.in_range in
-    says_both (pose_format (codes "end(meters,rads):")) _ ts rest rest (record { value = p; place = a.0 }) p a.1 (rw good.on_map (refl, refl))
+    says_both (pose_format (codes "end(meters,rads):")) _ ts rest rest (record { value = p; place = a.0 }) p a.1
+    (rw good.on_map (refl, refl))
 
 abbrev pub ends_words : Ends → List Said
 ends_words x = spelled_pose (codes "start(meters,rads):") x.start ++ spelled_pose (codes "end(meters,rads):") x.end
 
-pub ends_said : (h : Header) (x : Ends) (ts rest : List Piece) → Says (ends_format h) ts x rest → Begins (ends_words x) ts rest × IsGood h x.start × IsGood h x.end
+pub ends_said : (h : Header) (x : Ends) (ts rest : List Piece) → Says (ends_format h) ts x rest
+    → Begins (ends_words x) ts rest × IsGood h x.start × IsGood h x.end
 unfolding ends_format Says
 ends_said h x ts rest s =
     let a = says_parts _ _ ts rest x s in
@@ -403,7 +462,8 @@ ends_said h x ts rest s =
     let q = end_said h b.0 a.1 b.1 b.2 in
     let start : a.0 ≡ x.start = ap (λ (y : Ends). y.start) (sym b.3.0) in
     let end : b.0 ≡ x.end = ap (λ (y : Ends). y.end) (sym b.3.0) in (
-      begins_append (spelled_pose (codes "start(meters,rads):") x.start) (spelled_pose (codes "end(meters,rads):") x.end) ts a.1 rest
+      begins_append (spelled_pose (codes "start(meters,rads):") x.start)
+          (spelled_pose (codes "end(meters,rads):") x.end) ts a.1 rest
           (subst (λ p. Begins (spelled_pose (codes "start(meters,rads):") p) ts a.1) start p.0)
           (subst (λ m. Begins (spelled_pose (codes "end(meters,rads):") x.end) a.1 m) (sym b.3.1)
           (subst (λ p. Begins (spelled_pose (codes "end(meters,rads):") p) a.1 b.1) end q.0)),
@@ -411,10 +471,13 @@ ends_said h x ts rest s =
       subst (IsGood h) end q.1,
     )
 
-pub says_ends : (h : Header) (x : Ends) (ts rest : List Piece) → Begins (ends_words x) ts rest → IsGood h x.start → IsGood h x.end → Says (ends_format h) ts x rest
+pub says_ends : (h : Header) (x : Ends) (ts rest : List Piece) → Begins (ends_words x) ts rest → IsGood h x.start
+    → IsGood h x.end → Says (ends_format h) ts x rest
 unfolding ends_format Says
 says_ends h x ts rest s good fine =
-    let a = append_begins (spelled_pose (codes "start(meters,rads):") x.start) (spelled_pose (codes "end(meters,rads):") x.end) ts rest s in
+    let a =
+    append_begins (spelled_pose (codes "start(meters,rads):") x.start)
+    (spelled_pose (codes "end(meters,rads):") x.end) ts rest s in
     says_both (start_format h) _ ts a.0 rest x.start x (says_start h x.start ts a.0 a.1 good)
     (says_both (end_format h) _ a.0 rest rest x.end x (says_end h x.end a.0 rest a.2 fine) (refl, refl))
 
@@ -443,7 +506,8 @@ header_said said h ts rest s =
           (subst (λ x. Begins (size_words said x) ts a.1) size p.0)
           (begins_append (thresholds_words h.thresholds) (rates_words h.rates) a.1 b.1 rest
           (subst (λ x. Begins (thresholds_words x) a.1 b.1) thresholds q.0)
-          (subst (λ m. Begins (rates_words h.rates) b.1 m) (sym c.3.1) (subst (λ x. Begins (rates_words x) b.1 c.1) rates r.0))),
+          (subst (λ m. Begins (rates_words h.rates) b.1 m) (sym c.3.1)
+          (subst (λ x. Begins (rates_words x) b.1 c.1) rates r.0))),
       record {
         width = is_size.width;
         height = is_size.height;
@@ -459,7 +523,8 @@ header_said said h ts rest s =
       is_size.headings,
     )
 
-pub says_header : (said : Bool) (h : Header) (ts rest : List Piece) → Begins (header_words said h) ts rest → IsHeaderInRange h → IsCount said h.size.headings
+pub says_header : (said : Bool) (h : Header) (ts rest : List Piece) → Begins (header_words said h) ts rest
+    → IsHeaderInRange h → IsCount said h.size.headings
     → Says (header_format said) ts h rest
 unfolding header_format Says
 says_header said h ts rest s k n =
@@ -468,8 +533,10 @@ says_header said h ts rest s k n =
     says_both (size_format said) _ ts a.0 rest h.size h
     (says_size said h.size ts a.0 a.1 (record { width = k.width; height = k.height; headings = n; states = k.states }))
     (says_both thresholds_format _ a.0 b.0 rest h.thresholds h
-    (says_thresholds h.thresholds a.0 b.0 b.1 (record { obsthresh = k.obsthresh; inscribed = k.inscribed; circumscribed = k.circumscribed }))
-    (says_both rates_format _ b.0 rest rest h.rates h (says_rates h.rates b.0 rest b.2 (record { cell = k.cell; speed = k.speed; turn45 = k.turn45 })) (refl, refl)))
+    (says_thresholds h.thresholds a.0 b.0 b.1
+    (record { obsthresh = k.obsthresh; inscribed = k.inscribed; circumscribed = k.circumscribed }))
+    (says_both rates_format _ b.0 rest rest h.rates h
+    (says_rates h.rates b.0 rest b.2 (record { cell = k.cell; speed = k.speed; turn45 = k.turn45 })) (refl, refl)))
 
 -- ---- all numbers but the costs
 
@@ -484,12 +551,18 @@ is_on : (size x : ℤ) (count : ℕ) → IsOnAxis size count x → is_on_axis si
 is_on size x count h =
     let low = h.0 in
     let high = h.1 in
-    and_from (int_le (pos 0) (cell_of size x)) (int_lt (cell_of size x) (pos count)) (grind (arith, ints)) (grind (arith, ints))
+    and_from (int_le (pos 0) (cell_of size x)) (int_lt (cell_of size x) (pos count))
+    (grind (arith, ints)) (grind (arith, ints))
 
-pub environment_is : (h : Header) (x : Ends) → IsHeaderInRange h → IsGood h x.start → IsGood h x.end → IsEnvironment (environment_of h x)
+pub environment_is : (h : Header) (x : Ends) → IsHeaderInRange h → IsGood h x.start → IsGood h x.end
+    → IsEnvironment (environment_of h x)
 environment_is h x k good fine =
-    let s = and_parts (is_on_axis h.rates.cell h.size.width x.start.x) (is_on_axis h.rates.cell h.size.height x.start.y) good.on_map in
-    let e = and_parts (is_on_axis h.rates.cell h.size.width x.end.x) (is_on_axis h.rates.cell h.size.height x.end.y) fine.on_map in
+    let s =
+    and_parts (is_on_axis h.rates.cell h.size.width x.start.x)
+    (is_on_axis h.rates.cell h.size.height x.start.y) good.on_map in
+    let e =
+    and_parts (is_on_axis h.rates.cell h.size.width x.end.x)
+    (is_on_axis h.rates.cell h.size.height x.end.y) fine.on_map in
     record {
       width = k.width;
       height = k.height;
@@ -503,8 +576,14 @@ environment_is h x k good fine =
       end_in_range = fine.in_range;
       headings = k.headings;
       states = k.states;
-      start_on_map = record { x = on_axis_is h.rates.cell x.start.x h.size.width s.0; y = on_axis_is h.rates.cell x.start.y h.size.height s.1 };
-      end_on_map = record { x = on_axis_is h.rates.cell x.end.x h.size.width e.0; y = on_axis_is h.rates.cell x.end.y h.size.height e.1 };
+      start_on_map = record {
+        x = on_axis_is h.rates.cell x.start.x h.size.width s.0;
+        y = on_axis_is h.rates.cell x.start.y h.size.height s.1;
+      };
+      end_on_map = record {
+        x = on_axis_is h.rates.cell x.end.x h.size.width e.0;
+        y = on_axis_is h.rates.cell x.end.y h.size.height e.1;
+      };
     }
 
 abbrev pub header_of : Environment → Header
@@ -531,12 +610,14 @@ numbers_said said e ts rest s =
     let q = ends_said a.0 b.0 a.1 b.1 b.2 in
     let same : environment_of a.0 b.0 ≡ e = sym b.3.0 in (
       subst (λ (x : Environment). Begins (numbers_words said x) ts rest) same
-          (begins_append (header_words said a.0) (ends_words b.0) ts a.1 rest p.0 (subst (λ m. Begins (ends_words b.0) a.1 m) (sym b.3.1) q.0)),
+          (begins_append (header_words said a.0) (ends_words b.0) ts a.1 rest p.0
+          (subst (λ m. Begins (ends_words b.0) a.1 m) (sym b.3.1) q.0)),
       subst IsEnvironment same (environment_is a.0 b.0 p.1 q.1 q.2),
       subst (λ (x : Environment). IsCount said x.headings) same p.2,
     )
 
-pub says_numbers : (said : Bool) (e : Environment) (ts rest : List Piece) → Begins (numbers_words said e) ts rest → IsEnvironment e → IsCount said e.headings
+pub says_numbers : (said : Bool) (e : Environment) (ts rest : List Piece) → Begins (numbers_words said e) ts rest
+    → IsEnvironment e → IsCount said e.headings
     → Says (numbers_format said) ts e rest
 unfolding numbers_format Says
 says_numbers said e ts rest s k n =
@@ -555,14 +636,19 @@ says_numbers said e ts rest s k n =
     } in
     let start : IsGood (header_of e) e.start = record {
       in_range = k.start_in_range;
-      on_map = and_from (is_on_axis e.cell e.width e.start.x) (is_on_axis e.cell e.height e.start.y) (is_on e.cell e.start.x e.width k.start_on_map.x) (is_on e.cell e.start.y e.height k.start_on_map.y);
+      on_map =
+          and_from (is_on_axis e.cell e.width e.start.x) (is_on_axis e.cell e.height e.start.y)
+          (is_on e.cell e.start.x e.width k.start_on_map.x) (is_on e.cell e.start.y e.height k.start_on_map.y);
     } in
     let end : IsGood (header_of e) e.end = record {
       in_range = k.end_in_range;
-      on_map = and_from (is_on_axis e.cell e.width e.end.x) (is_on_axis e.cell e.height e.end.y) (is_on e.cell e.end.x e.width k.end_on_map.x) (is_on e.cell e.end.y e.height k.end_on_map.y);
+      on_map =
+          and_from (is_on_axis e.cell e.width e.end.x) (is_on_axis e.cell e.height e.end.y)
+          (is_on e.cell e.end.x e.width k.end_on_map.x) (is_on e.cell e.end.y e.height k.end_on_map.y);
     } in
     says_both (header_format said) _ ts a.0 rest (header_of e) e (says_header said (header_of e) ts a.0 a.1 in_range n)
-    (says_both (ends_format (header_of e)) _ a.0 rest rest (ends_of e) e (says_ends (header_of e) (ends_of e) a.0 rest a.2 start end) (refl, refl))
+    (says_both (ends_format (header_of e)) _ a.0 rest rest (ends_of e) e
+    (says_ends (header_of e) (ends_of e) a.0 rest a.2 start end) (refl, refl))
 
 -- ---- the grid
 
@@ -579,7 +665,8 @@ pub record IsMore (before cells : List ℕ) (ts rest : List Piece) : Type 0 wher
   pub bound : cost ≤ 255
   pub begins : Begins (number (pos cost) ∷ []) ts rest
 
-pub cost_said : (before cells : List ℕ) (ts rest : List Piece) → Says (cost_format before) ts cells rest → IsMore before cells ts rest
+pub cost_said : (before cells : List ℕ) (ts rest : List Piece) → Says (cost_format before) ts cells rest
+    → IsMore before cells ts rest
 unfolding cost_format Says
 cost_said before cells [] rest h = absurd h
 cost_said before cells (t ∷ ts) rest h =
@@ -592,11 +679,16 @@ cost_said before cells (t ∷ ts) rest h =
       begins = (r.value ∙ ap (λ z. Ok z) is, h.2.1);
     }
 
-pub says_cost : (before : List ℕ) (cost : ℕ) (ts rest : List Piece) → Begins (number (pos cost) ∷ []) ts rest → cost ≤ 255 → Says (cost_format before) ts (before ++ cost ∷ []) rest
+pub says_cost : (before : List ℕ) (cost : ℕ) (ts rest : List Piece) → Begins (number (pos cost) ∷ []) ts rest
+    → cost ≤ 255 → Says (cost_format before) ts (before ++ cost ∷ []) rest
 unfolding cost_format Says
 says_cost before cost [] rest h k = absurd h
-says_cost before cost (t ∷ ts) rest h k =
-    (pos cost, is_within (pos 0) (pos 255) (pos cost) (whole_of t.bytes) (record { value = h.0; between = within_naturals 0 255 cost (omega arith) k }), (refl, h.1))
+says_cost before cost (t ∷ ts) rest h k = (
+  pos cost,
+  is_within (pos 0) (pos 255) (pos cost) (whole_of t.bytes)
+      (record { value = h.0; between = within_naturals 0 255 cost (omega arith) k }),
+  (refl, h.1),
+)
 
 -- costs after those that were read
 pub record Further (count : ℕ) (before cells : List ℕ) (ts rest : List Piece) : Type 0 where
@@ -606,7 +698,8 @@ pub record Further (count : ℕ) (before cells : List ℕ) (ts rest : List Piece
   pub costs : AreCosts more
   pub begins : Begins (costs_words more) ts rest
 
-pub costs_said : (count : ℕ) (before cells : List ℕ) (ts rest : List Piece) → Says (turns count cost_format before) ts cells rest → Further count before cells ts rest
+pub costs_said : (count : ℕ) (before cells : List ℕ) (ts rest : List Piece)
+    → Says (turns count cost_format before) ts cells rest → Further count before cells ts rest
 unfolding turns Says
 costs_said zero before cells ts rest h = record {
   more = [];
@@ -621,10 +714,13 @@ costs_said (suc count) before cells ts rest h =
     let others = costs_said count a.0 cells a.1 rest a.3 in
     record {
       more = one.cost ∷ others.more;
-      all = others.all ∙ ap (λ (xs : List ℕ). xs ++ others.more) one.all ∙ append_assoc before (one.cost ∷ []) others.more;
+      all =
+          others.all ∙ ap (λ (xs : List ℕ). xs ++ others.more) one.all
+          ∙ append_assoc before (one.cost ∷ []) others.more;
       size = ap suc others.size;
       costs = (one.bound, others.costs);
-      begins = begins_append (number (pos one.cost) ∷ []) (costs_words others.more) ts a.1 rest one.begins others.begins;
+      begins =
+          begins_append (number (pos one.cost) ∷ []) (costs_words others.more) ts a.1 rest one.begins others.begins;
     }
 
 pub says_costs : (more before : List ℕ) (ts rest : List Piece) → Begins (costs_words more) ts rest → AreCosts more
@@ -633,8 +729,10 @@ unfolding turns Says
 says_costs [] before ts rest h k = (append-nil before, h)
 says_costs (cost ∷ more) before ts rest h k =
     let a = append_begins (number (pos cost) ∷ []) (costs_words more) ts rest h in
-    says_both (cost_format before) _ ts a.0 rest (before ++ cost ∷ []) (before ++ cost ∷ more) (says_cost before cost ts a.0 a.1 k.0)
-    (subst (λ (xs : List ℕ). Says (turns (length more) cost_format (before ++ cost ∷ [])) a.0 xs rest) (append_assoc before (cost ∷ []) more)
+    says_both (cost_format before) _ ts a.0 rest (before ++ cost ∷ []) (before ++ cost ∷ more)
+    (says_cost before cost ts a.0 a.1 k.0)
+    (subst (λ (xs : List ℕ). Says (turns (length more) cost_format (before ++ cost ∷ [])) a.0 xs rest)
+    (append_assoc before (cost ∷ []) more)
     (says_costs more (before ++ cost ∷ []) a.0 rest a.2 k.1))
 
 pub grid_said : (count : ℕ) (cells : List ℕ) (ts rest : List Piece) → Says (grid_format count) ts cells rest
@@ -649,12 +747,16 @@ grid_said count cells (t ∷ ts) rest h =
       subst AreCosts same all.costs,
     )
 
-pub says_grid : (count : ℕ) (cells : List ℕ) (ts rest : List Piece) → Begins (spelled_grid cells) ts rest → length cells ≡ count → AreCosts cells
+pub says_grid : (count : ℕ) (cells : List ℕ) (ts rest : List Piece) → Begins (spelled_grid cells) ts rest
+    → length cells ≡ count → AreCosts cells
     → Says (grid_format count) ts cells rest
 unfolding grid_format Says
 says_grid count cells [] rest h size k = absurd h
-says_grid count cells (t ∷ ts) rest h size k =
-    (pos 0, is_fixed _ t.bytes h.0, subst (λ n. Says (turns n cost_format []) ts cells rest) size (says_costs cells [] ts rest h.1 k))
+says_grid count cells (t ∷ ts) rest h size k = (
+  pos 0,
+  is_fixed _ t.bytes h.0,
+  subst (λ n. Says (turns n cost_format []) ts cells rest) size (says_costs cells [] ts rest h.1 k),
+)
 
 -- ---- the whole text
 
@@ -662,13 +764,15 @@ says_grid count cells (t ∷ ts) rest h size k =
 abbrev file_words : Bool → Environment → List ℕ → List Said
 file_words said e cells = numbers_words said e ++ spelled_grid cells
 
-are_tokens : (said : Bool) (e : Environment) (cells : List ℕ) (ts : List Piece) → IsCount said e.headings → Begins (file_words said e cells) ts []
+are_tokens : (said : Bool) (e : Environment) (cells : List ℕ) (ts : List Piece) → IsCount said e.headings
+    → Begins (file_words said e cells) ts []
     → AreTokensOf (map (λ t. t.bytes) ts) e cells
 are_tokens true e cells ts k h = inl (begins_all (spelled (spelled_headings e.headings) e cells) ts h)
 are_tokens false e cells ts k h = inr (k.usual refl, begins_all (spelled [] e cells) ts h)
 
 -- a file with the number of headings says it by its fourth token, and one without it does not
-said_by_fourth : (said : Bool) (e : Environment) (cells : List ℕ) (ts : List Piece) → Begins (file_words said e cells) ts [] → is_fourth_token ts ≡ said
+said_by_fourth : (said : Bool) (e : Environment) (cells : List ℕ) (ts : List Piece)
+    → Begins (file_words said e cells) ts [] → is_fourth_token ts ≡ said
 said_by_fourth true e cells [] h = absurd h
 said_by_fourth true e cells (t ∷ []) h = absurd h.1
 said_by_fourth true e cells (t ∷ u ∷ []) h = absurd h.1.1
@@ -680,7 +784,8 @@ said_by_fourth false e cells (t ∷ u ∷ []) h = absurd h.1.1
 said_by_fourth false e cells (t ∷ u ∷ v ∷ []) h = absurd h.1.1.1
 said_by_fourth false e cells (t ∷ u ∷ v ∷ w ∷ ts) h = ap (λ bytes. bytes_eq bytes headings_word) h.1.1.1.0
 
-pub text_said : (text : List ℕ) (x : Environment × List ℕ) → StandsFor (environment_format (says_headings text)) text x → IsTextOf text x.0 x.1
+pub text_said : (text : List ℕ) (x : Environment × List ℕ)
+    → StandsFor (environment_format (says_headings text)) text x → IsTextOf text x.0 x.1
 unfolding environment_format
 text_said text x h =
     let said = says_headings text in
@@ -689,7 +794,9 @@ text_said text x h =
     let z = at_end _ _ x (a.0, b.0) b.1 h.0 b.3 in
     let p = numbers_said said a.0 (tokens text) a.1 a.2 in
     let q = grid_said (a.0.width * a.0.height) b.0 a.1 b.1 b.2 in
-    let all = begins_append (numbers_words said a.0) (spelled_grid b.0) (tokens text) a.1 [] p.0 (subst (λ m. Begins (spelled_grid b.0) a.1 m) z.1 q.0) in
+    let all =
+    begins_append (numbers_words said a.0) (spelled_grid b.0) (tokens text) a.1 [] p.0
+    (subst (λ m. Begins (spelled_grid b.0) a.1 m) z.1 q.0) in
     subst (λ (y : Environment × List ℕ). IsTextOf text y.0 y.1) (sym z.0) (record {
       tokens = are_tokens said a.0 b.0 (tokens text) p.2 all;
       environment = p.1;
@@ -697,42 +804,53 @@ text_said text x h =
     })
 
 -- tokens that are those of an environment and a grid are what the format says that has these words
-says_file : (said : Bool) (text : List ℕ) (x : Environment × List ℕ) → Begins (file_words said x.0 x.1) (tokens text) [] → IsCount said x.0.headings
+says_file : (said : Bool) (text : List ℕ) (x : Environment × List ℕ) → Begins (file_words said x.0 x.1) (tokens text) []
+    → IsCount said x.0.headings
     → IsEnvironment x.0 → IsGrid x.0 x.1 → StandsFor (environment_format said) text x
 unfolding environment_format Says
 says_file said text x all n e g =
     let a = append_begins (numbers_words said x.0) (spelled_grid x.1) (tokens text) [] all in (
       [],
       says_both (numbers_format said) _ (tokens text) a.0 [] x.0 x (says_numbers said x.0 (tokens text) a.0 a.1 e n)
-          (says_both (grid_format (x.0.width * x.0.height)) _ a.0 [] [] x.1 x (says_grid (x.0.width * x.0.height) x.1 a.0 [] a.2 g.size g.costs) (refl, refl)),
+          (says_both (grid_format (x.0.width * x.0.height)) _ a.0 [] [] x.1 x
+          (says_grid (x.0.width * x.0.height) x.1 a.0 [] a.2 g.size g.costs) (refl, refl)),
     )
 
-pub says_text : (text : List ℕ) (x : Environment × List ℕ) → IsTextOf text x.0 x.1 → StandsFor (environment_format (says_headings text)) text x
+pub says_text : (text : List ℕ) (x : Environment × List ℕ) → IsTextOf text x.0 x.1
+    → StandsFor (environment_format (says_headings text)) text x
 says_text text x h =
-    let by : (said : Bool) → Begins (file_words said x.0 x.1) (tokens text) [] → IsCount said x.0.headings → StandsFor (environment_format (says_headings text)) text x =
+    let by : (said : Bool) → Begins (file_words said x.0 x.1) (tokens text) [] → IsCount said x.0.headings
+    → StandsFor (environment_format (says_headings text)) text x =
     λ said all n.
     subst (λ b. StandsFor (environment_format b) text x) (sym (said_by_fourth said x.0 x.1 (tokens text) all))
     (says_file said text x all n h.environment h.grid) in
     elim h.tokens [
       | inl t ↦ by true (all_begins (spelled (spelled_headings x.0.headings) x.0 x.1) (tokens text) t)
           (record { count = h.environment.headings; usual = λ e. absurd cc })
-      | inr t ↦ by false (all_begins (spelled [] x.0 x.1) (tokens text) t.1) (record { count = h.environment.headings; usual = λ _. t.0 })
+      | inr t ↦
+          by false (all_begins (spelled [] x.0 x.1) (tokens text) t.1)
+          (record { count = h.environment.headings; usual = λ _. t.0 })
     ]
 
 -- ---- the usual number of headings
 
 -- which of the two lists a text has is seen at its fourth token
-said_by_tokens : (text : List ℕ) (e : Environment) (cells : List ℕ) → AllMean (spelled (spelled_headings e.headings) e cells) (words_of text)
+said_by_tokens : (text : List ℕ) (e : Environment) (cells : List ℕ)
+    → AllMean (spelled (spelled_headings e.headings) e cells) (words_of text)
     → says_headings text ≡ true
-said_by_tokens text e cells t = said_by_fourth true e cells (tokens text) (all_begins (spelled (spelled_headings e.headings) e cells) (tokens text) t)
+said_by_tokens text e cells t =
+    said_by_fourth true e cells (tokens text)
+    (all_begins (spelled (spelled_headings e.headings) e cells) (tokens text) t)
 
-pub left_out_is_usual : (text : List ℕ) (e : Environment) (cells : List ℕ) → IsTextOf text e cells → says_headings text ≡ false → e.headings ≡ usual_headings
+pub left_out_is_usual : (text : List ℕ) (e : Environment) (cells : List ℕ) → IsTextOf text e cells
+    → says_headings text ≡ false → e.headings ≡ usual_headings
 left_out_is_usual text e cells h none = elim h.tokens [
   | inl t ↦ let e = sym none ∙ said_by_tokens text e cells t in absurd cc
   | inr t ↦ t.0
 ]
 
-usual_said : (plain full : List ℕ) (e : Environment) (cells : List ℕ) → LeavesOutUsual plain full → IsTextOf plain e cells → IsTextOf full e cells
+usual_said : (plain full : List ℕ) (e : Environment) (cells : List ℕ) → LeavesOutUsual plain full
+    → IsTextOf plain e cells → IsTextOf full e cells
 usual_said plain full e cells w h =
     let usual = left_out_is_usual plain e cells h w.left_out in
     let tokens : AreTokensOf (words_of full) e cells = elim h.tokens [
@@ -744,16 +862,21 @@ usual_said plain full e cells w h =
     ] in
     record { tokens = tokens; environment = h.environment; grid = h.grid }
 
-usual_left_out : (plain full : List ℕ) (e : Environment) (cells : List ℕ) → LeavesOutUsual plain full → IsTextOf full e cells → IsTextOf plain e cells
+usual_left_out : (plain full : List ℕ) (e : Environment) (cells : List ℕ) → LeavesOutUsual plain full
+    → IsTextOf full e cells → IsTextOf plain e cells
 usual_left_out plain full e cells w h =
     let tokens : AreTokensOf (words_of plain) e cells = elim h.tokens [
       | inl t ↦
           let m = subst (AllMean (spelled (spelled_headings e.headings) e cells)) w.full_words t in
           let same : pos usual_headings ≡ pos e.headings = let k = sym w.usual ∙ m.1.1.1.1.0 in cc in
-          inr (sym (ap nat_abs same), subst (AllMean (spelled [] e cells)) (sym w.plain_words) (m.0, (m.1.0, (m.1.1.0, m.1.1.1.1.1))))
+          inr (
+            sym (ap nat_abs same),
+            subst (AllMean (spelled [] e cells)) (sym w.plain_words) (m.0, (m.1.0, (m.1.1.0, m.1.1.1.1.1))),
+          )
       | inr t ↦ let m = subst (AllMean (spelled [] e cells)) w.full_words t.1 in let e = m.1.1.1.0 in absurd cc
     ] in
     record { tokens = tokens; environment = h.environment; grid = h.grid }
 
-pub usual_may_be_left_out : (plain full : List ℕ) (e : Environment) (cells : List ℕ) → LeavesOutUsual plain full → IsTextOf plain e cells ↔ IsTextOf full e cells
+pub usual_may_be_left_out : (plain full : List ℕ) (e : Environment) (cells : List ℕ) → LeavesOutUsual plain full
+    → IsTextOf plain e cells ↔ IsTextOf full e cells
 usual_may_be_left_out plain full e cells w = (usual_said plain full e cells w, usual_left_out plain full e cells w)

@@ -1,5 +1,6 @@
 -- Costs of cells that are noted.
-use Rattle.std.proofs.Common.{◌≡◌, ℕ, pos, ◌<◌, ◌+◌, inl, inr, Bool, true, false, cond, List, length, get_or, slice_get, Some, refl, sym, ◌∙◌, subst, arith}
+use Rattle.std.proofs.Common.{◌≡◌, ℕ, pos, ◌<◌, ◌+◌, inl, inr, Bool, true, false, cond, List, length, get_or, slice_get}
+use Rattle.std.proofs.Common.{Some, refl, sym, ◌∙◌, subst, arith}
 use Rattle.std.specs.BTreeMap.{BTreeMap, get, Updates, is_at}
 use Rattle.std.specs.Ordering.{nat_cmp}
 use Rattle.std.proofs.lemmas.Map.Lookups.{CmpEqualImpliesEq, exact_pairs, exact_unsigned}
@@ -13,8 +14,10 @@ use Rattle.sbpl_change.specs.Noted.{cell_cmp, AreCosts, IsNoted, KeepsNotes}
 pub exact_cells : CmpEqualImpliesEq cell_cmp
 exact_cells = exact_pairs nat_cmp nat_cmp exact_unsigned exact_unsigned
 
-module _ (m : CellMap) (old new : BTreeMap (ℕ × ℕ) ℕ) (x y cost : ℕ) (here : cost_at m (pos x) (pos y) ≡ Some cost) (sound : AreCosts m old) where
-  cost_by : (u v c : ℕ) (b : Bool) → is_at (cell_cmp (x, y)) (u, v) ≡ b → get cell_cmp new (u, v) ≡ cond b (Some cost) (get cell_cmp old (u, v))
+module _ (m : CellMap) (old new : BTreeMap (ℕ × ℕ) ℕ) (x y cost : ℕ) (here : cost_at m (pos x) (pos y) ≡ Some cost)
+    (sound : AreCosts m old) where
+  cost_by : (u v c : ℕ) (b : Bool) → is_at (cell_cmp (x, y)) (u, v) ≡ b
+      → get cell_cmp new (u, v) ≡ cond b (Some cost) (get cell_cmp old (u, v))
       → get cell_cmp new (u, v) ≡ Some c → cost_at m (pos u) (pos v) ≡ Some c
   cost_by u v c true e is h =
       let same : (x, y) ≡ (u, v) = tells_apart exact_cells (x, y) (u, v) e in
@@ -25,7 +28,8 @@ module _ (m : CellMap) (old new : BTreeMap (ℕ × ℕ) ℕ) (x y cost : ℕ) (h
   still_costs updates u v c h = cost_by u v c (is_at (cell_cmp (x, y)) (u, v)) refl (updates.0 (u, v)) h
 
 module _ (old new : BTreeMap (ℕ × ℕ) ℕ) (x y cost : ℕ) where
-  noted_by : (u v : ℕ) (b : Bool) → get cell_cmp new (u, v) ≡ cond b (Some cost) (get cell_cmp old (u, v)) → IsNoted old u v → IsNoted new u v
+  noted_by : (u v : ℕ) (b : Bool) → get cell_cmp new (u, v) ≡ cond b (Some cost) (get cell_cmp old (u, v))
+      → IsNoted old u v → IsNoted new u v
   noted_by u v true is h = rw is refl
   noted_by u v false is h = rw is h
 
@@ -33,13 +37,16 @@ module _ (old new : BTreeMap (ℕ × ℕ) ℕ) (x y cost : ℕ) where
   still_noted updates u v h = noted_by u v (is_at (cell_cmp (x, y)) (u, v)) (updates.0 (u, v)) h
 
 -- one more write is noted
-noted_at : (batch : List Write) (new : BTreeMap (ℕ × ℕ) ℕ) (n : ℕ) (d : Write) → n < length batch → IsNoted new (get_or batch n d).x (get_or batch n d).y → (w : Write) → slice_get batch n ≡ Some w → IsNoted new w.x w.y
+noted_at : (batch : List Write) (new : BTreeMap (ℕ × ℕ) ℕ) (n : ℕ) (d : Write) → n < length batch
+    → IsNoted new (get_or batch n d).x (get_or batch n d).y → (w : Write)
+    → slice_get batch n ≡ Some w → IsNoted new w.x w.y
 noted_at batch new n d within noted w h =
     let same : get_or batch n d ≡ w = get_or_from_slice_get batch n w d h in
     subst (λ (v : Write). IsNoted new v.x v.y) same noted
 
 pub noted_below : (batch : List Write) (old new : BTreeMap (ℕ × ℕ) ℕ) (n : ℕ) (d : Write) → n < length batch
-    → ((i : ℕ) (w : Write) → i < n → slice_get batch i ≡ Some w → IsNoted old w.x w.y) → KeepsNotes old new → IsNoted new (get_or batch n d).x (get_or batch n d).y
+    → ((i : ℕ) (w : Write) → i < n → slice_get batch i ≡ Some w → IsNoted old w.x w.y) → KeepsNotes old new
+    → IsNoted new (get_or batch n d).x (get_or batch n d).y
     → (i : ℕ) (w : Write) → i < n + 1 → slice_get batch i ≡ Some w → IsNoted new w.x w.y
 noted_below batch old new n d within before kept noted i w below h =
     elim (cases_lt i n) [

@@ -1,5 +1,6 @@
 -- Cells whose cost differs after some writes: they were written to.
-use Rattle.std.proofs.Common.{◌≡◌, ◌≢◌, ℕ, zero, suc, ℤ, pos, Bool, true, false, ◌⊎◌, inl, inr, List, [], ◌∷◌, slice_get, Some, refl, ap, sym, ◌∙◌, subst, ◌<ℤ◌}
+use Rattle.std.proofs.Common.{◌≡◌, ◌≢◌, ℕ, zero, suc, ℤ, pos, Bool, true, false, ◌⊎◌, inl, inr, List, [], ◌∷◌}
+use Rattle.std.proofs.Common.{slice_get, Some, refl, ap, sym, ◌∙◌, subst, ◌<ℤ◌}
 use Rattle.std.specs.Ordering.{int_eq}
 use Rattle.std.proofs.lemmas.Bool.Decides.{Decides-int_eq}
 use Rattle.sbpl_map.specs.CellMap.{CellMap, cost_at, IsOnMap}
@@ -25,18 +26,26 @@ pub record IsWrittenTo (batch : List Write) (x y : ℤ) : Type 0 where
   pub column : x ≡ pos write.x
   pub row : y ≡ pos write.y
 
-pub changed_is_written : (batch : List Write) (old new : CellMap) (x y : ℤ) → AreWritten old batch new → cost_at new x y ≢ cost_at old x y → IsWrittenTo batch x y
+pub changed_is_written : (batch : List Write) (old new : CellMap) (x y : ℤ) → AreWritten old batch new
+    → cost_at new x y ≢ cost_at old x y → IsWrittenTo batch x y
 changed_is_written [] old new x y h changed = absurd (changed (ap (λ m. cost_at m x y) h))
 changed_is_written (w ∷ later) old new x y (m, change, more) changed =
     elim (one_cell x (pos w.x) y (pos w.y)) [
       | inl here ↦ record { place = zero; write = w; stands = refl; column = here.0; row = here.1 }
       | inr other ↦
           let found = changed_is_written later m new x y more (λ same. changed (same ∙ change.others x y other)) in
-          record { place = suc found.place; write = found.write; stands = found.stands; column = found.column; row = found.row }
+          record {
+            place = suc found.place;
+            write = found.write;
+            stands = found.stands;
+            column = found.column;
+            row = found.row;
+          }
     ]
 
 -- a cell is on each map of the size
-pub still_on_map : (old now : CellMap) (x y : ℤ) → now.width ≡ old.width → now.height ≡ old.height → IsOnMap old x y → IsOnMap now x y
+pub still_on_map : (old now : CellMap) (x y : ℤ) → now.width ≡ old.width → now.height ≡ old.height
+    → IsOnMap old x y → IsOnMap now x y
 still_on_map old now x y width height on = record {
   left = on.left;
   right = subst (λ n. x <ℤ pos n) (sym width) on.right;

@@ -1,9 +1,12 @@
 -- Each step of the claims' table keeps the rule.
-use Rattle.std.proofs.Common.{◌≡◌, ◌≢◌, ℕ, zero, suc, ◌+◌, ◌<◌, ◌⊎◌, Bool, true, false, not, nat_eq, cond, Option, Some, None, List, [], ◌∷◌, ◌++◌, length, set, arith, subst, sym, refl, ap, ◌∙◌, inl, inr, ⊎_elim, length-set}
+use Rattle.std.proofs.Common.{◌≡◌, ◌≢◌, ℕ, zero, suc, ◌+◌, ◌<◌, ◌⊎◌, Bool, true, false, not, nat_eq, cond, Option}
+use Rattle.std.proofs.Common.{Some, None, List, [], ◌∷◌, ◌++◌, length, set, arith, subst, sym, refl, ap, ◌∙◌, inl}
+use Rattle.std.proofs.Common.{inr, ⊎_elim, length-set}
 use Rattle.std.specs.List.{Contains}
 use Rattle.std.proofs.lemmas.Bool.{ne_eqb}
 use Rattle.std.proofs.lemmas.Option.{none-some, same_Some}
-use Rattle.std.proofs.lemmas.List.Elements.{All-contains, All-filter, All-nil, All-push, All-weaker, Contains-append_left, Contains-push}
+use Rattle.std.proofs.lemmas.List.Elements.{All-contains, All-filter, All-nil, All-push}
+use Rattle.std.proofs.lemmas.List.Elements.{All-weaker, Contains-append_left, Contains-push}
 use mathlib.Core.Option.{some, some-injective, some-ne-none}
 use lib.ListN.{get_elem?}
 use Rattle.atomic_table.proofs.Lists.{at_longer, at_set, set_else, set_here}
@@ -13,17 +16,20 @@ use Rattle.sbpl_claims.specs.declared.known.Known.{Known}
 use Rattle.sbpl_claims.specs.declared.known.Known.TheVariants.{Nothing, One}
 use Rattle.sbpl_claims.specs.Known.{claim_of, leg_of, standing_of, whole}
 use Rattle.sbpl_claims.specs.Kept.{AreKept, HasClaim, IsKeeper, IsKept}
-use Rattle.sbpl_claims.specs.Steps.{claim_made, joined, made, next_leg, none_made, settled, standing_with, standing_without}
+use Rattle.sbpl_claims.specs.Steps.{claim_made, joined, made, next_leg, none_made}
+use Rattle.sbpl_claims.specs.Steps.{settled, standing_with, standing_without}
 use Rattle.sbpl_claims.specs.Standing.{Standing}
 use Rattle.sbpl_claims.proofs.Places.{at_end, at_inside, claim_at_end, claim_at_set}
 
 -- a longer list still contains it
-skip : (keeps : Bool) (first leg : Leg) (rest : List Leg) → Contains rest leg → Contains (cond keeps (first ∷ rest) rest) leg
+skip : (keeps : Bool) (first leg : Leg) (rest : List Leg) → Contains rest leg
+    → Contains (cond keeps (first ∷ rest) rest) leg
 skip true first leg rest (place, inside, at) = (suc place, omega arith, at)
 skip false first leg rest here = here
 
 -- an arc of another ticket stays out
-stays : (legs : List Leg) (ticket : ℕ) (leg : Leg) → leg.ticket ≢ ticket → Contains legs leg → Contains (without ticket legs) leg
+stays : (legs : List Leg) (ticket : ℕ) (leg : Leg) → leg.ticket ≢ ticket → Contains legs leg
+    → Contains (without ticket legs) leg
 stays [] ticket leg other (place, inside, at) = absurd (omega arith)
 stays (first ∷ rest) ticket leg other (zero, inside, at) =
     let same : first ≡ leg = at in
@@ -31,14 +37,18 @@ stays (first ∷ rest) ticket leg other (zero, inside, at) =
     let test : nat_eq first.ticket ticket ≡ false = ne_eqb first.ticket ticket apart in
     rw test (0, omega arith, at)
 stays (first ∷ rest) ticket leg other (suc place, inside, at) =
-    skip (not (nat_eq first.ticket ticket)) first leg (without ticket rest) (stays rest ticket leg other (place, omega arith, at))
+    skip (not (nat_eq first.ticket ticket)) first leg (without ticket rest)
+    (stays rest ticket leg other (place, omega arith, at))
 
 -- what the keeper's seat knows is what the rule has of it
-pub kept_at : (views : List Known) (seat : ℕ) (now : Standing) (joined : Option Leg) → IsKept views → IsKeeper views seat now joined → AreKept seat now joined views
+pub kept_at : (views : List Known) (seat : ℕ) (now : Standing) (joined : Option Leg) → IsKept views
+    → IsKeeper views seat now joined → AreKept seat now joined views
 kept_at views seat now joined (keeper, was, claim, kept) at =
     let here : seat ≡ keeper = kept.alone seat now joined at in
-    let there : get_elem? views keeper ≡ some (whole now joined) = subst (λ (k : ℕ). get_elem? views k ≡ some (whole now joined)) here at in
-    let same : whole was claim ≡ whole now joined = some-injective (whole was claim) (whole now joined) (sym kept.keeps ∙ there) in
+    let there : get_elem? views keeper ≡ some (whole now joined) =
+    subst (λ (k : ℕ). get_elem? views k ≡ some (whole now joined)) here at in
+    let same : whole was claim ≡ whole now joined =
+    some-injective (whole was claim) (whole now joined) (sym kept.keeps ∙ there) in
     let outs : was.out ≡ now.out = cc (same) in
     let nexts : was.next ≡ now.next = cc (same) in
     record {
@@ -50,7 +60,8 @@ kept_at views seat now joined (keeper, was, claim, kept) at =
     }
 
 -- nothing is made
-alone_at_first : (seat : ℕ) (now : Standing) (joined : Option Leg) → IsKeeper (none_made ∷ []) seat now joined → seat ≡ 0
+alone_at_first : (seat : ℕ) (now : Standing) (joined : Option Leg)
+    → IsKeeper (none_made ∷ []) seat now joined → seat ≡ 0
 alone_at_first zero now joined is = refl
 alone_at_first (suc seat) now joined is = absurd (some-ne-none (whole now joined) (sym is))
 
@@ -89,10 +100,12 @@ module _ (views : List Known) (keeper : ℕ) (now : Standing) (state arc : ℕ) 
   long : length (set views keeper after) ≡ length views
   long = length-set views keeper after
 
-  made_claim : (seat : ℕ) (other : Leg) → HasClaim longer seat other → HasClaim views seat other ⊎ ((seat ≡ length views) × (leg ≡ other))
+  made_claim : (seat : ℕ) (other : Leg) → HasClaim longer seat other
+      → HasClaim views seat other ⊎ ((seat ≡ length views) × (leg ≡ other))
   made_claim seat other has =
       ⊎_elim
-      (λ earlier. ⊎_elim (λ here. absurd (none-some other here.1)) (λ there. inl there.1) (claim_at_set views keeper after seat other earlier))
+      (λ earlier. ⊎_elim (λ here. absurd (none-some other here.1)) (λ there. inl there.1)
+      (claim_at_set views keeper after seat other earlier))
       (λ last. inr (last.0 ∙ long, same_Some leg other last.1))
       (claim_at_end (set views keeper after) (One leg) seat other has)
 
@@ -108,7 +121,8 @@ module _ (views : List Known) (keeper : ℕ) (now : Standing) (state arc : ℕ) 
       (at_end (set views keeper after) (One leg) (whole other claim) seat is)
 
   older : (seat : ℕ) (other : Leg) → HasClaim views seat other → other.ticket < now.next
-  older seat other has = All-contains (λ (l : Leg). l.ticket < now.next) now.out other kept.below (kept.stands seat other has)
+  older seat other has =
+      All-contains (λ (l : Leg). l.ticket < now.next) now.out other kept.below (kept.stands seat other has)
 
   made_apart : (a b : ℕ) (x y : Leg) → a ≢ b → HasClaim longer a x → HasClaim longer b y → x.ticket ≢ y.ticket
   made_apart a b x y other has also =
@@ -116,11 +130,13 @@ module _ (views : List Known) (keeper : ℕ) (now : Standing) (state arc : ℕ) 
       (λ first.
       ⊎_elim
       (λ second. kept.apart a b x y other first second)
-      (λ new. let below = older a x first in λ (e : x.ticket ≡ y.ticket). omega (arith, ap (λ (l : Leg). l.ticket) new.1))
+      (λ new. let below = older a x first in
+      λ (e : x.ticket ≡ y.ticket). omega (arith, ap (λ (l : Leg). l.ticket) new.1))
       (made_claim b y also))
       (λ new.
       ⊎_elim
-      (λ second. let below = older b y second in λ (e : x.ticket ≡ y.ticket). omega (arith, ap (λ (l : Leg). l.ticket) new.1))
+      (λ second. let below = older b y second in
+      λ (e : x.ticket ≡ y.ticket). omega (arith, ap (λ (l : Leg). l.ticket) new.1))
       (λ both. absurd (other (new.0 ∙ sym both.0)))
       (made_claim b y also))
       (made_claim a x has)
@@ -139,12 +155,15 @@ module _ (views : List Known) (keeper : ℕ) (now : Standing) (state arc : ℕ) 
           (λ new. rw (← new.1) (Contains-push now.out leg))
           (made_claim seat other has);
       apart = made_apart;
-      below = All-push (λ (l : Leg). l.ticket < now.next + 1) now.out leg (All-weaker (λ (l : Leg). l.ticket < now.next) (λ (l : Leg). l.ticket < now.next + 1) (λ l b. omega arith) now.out kept.below) (omega arith);
+      below =
+          All-push (λ (l : Leg). l.ticket < now.next + 1) now.out leg (All-weaker (λ (l : Leg). l.ticket < now.next)
+          (λ (l : Leg). l.ticket < now.next + 1) (λ l b. omega arith) now.out kept.below) (omega arith);
     },
   )
 
 -- a claim was joined
-module _ (views : List Known) (keeper : ℕ) (now : Standing) (claim : ℕ) (leg : Leg) (kept : AreKept keeper now None views) (other : ¬ (claim ≡ keeper))
+module _ (views : List Known) (keeper : ℕ) (now : Standing) (claim : ℕ) (leg : Leg)
+    (kept : AreKept keeper now None views) (other : ¬ (claim ≡ keeper))
     (at : get_elem? (set views keeper (whole now (Some leg))) claim ≡ some (One leg)) where
   abbrev both : Known
   both = whole now (Some leg)
@@ -156,7 +175,8 @@ module _ (views : List Known) (keeper : ℕ) (now : Standing) (claim : ℕ) (leg
   claimed = (One leg, sym (set_else views keeper claim both other) ∙ at, refl)
 
   -- a claim that is there now: the joined one in the keeper's seat, or another that was there
-  joined_claim : (seat : ℕ) (x : Leg) → HasClaim joint seat x → ((seat ≡ keeper) × (leg ≡ x)) ⊎ ((seat ≢ keeper) × (seat ≢ claim) × HasClaim views seat x)
+  joined_claim : (seat : ℕ) (x : Leg) → HasClaim joint seat x
+      → ((seat ≡ keeper) × (leg ≡ x)) ⊎ ((seat ≢ keeper) × (seat ≢ claim) × HasClaim views seat x)
   joined_claim seat x has =
       ⊎_elim
       (λ spent. absurd (none-some x spent.1))
@@ -199,17 +219,21 @@ module _ (views : List Known) (keeper : ℕ) (now : Standing) (claim : ℕ) (leg
     now,
     Some leg,
     record {
-      keeps = set_else (set views keeper both) claim keeper Nothing (λ e. other (sym e)) ∙ set_here views keeper both (at_inside views keeper (whole now None) kept.keeps);
+      keeps =
+          set_else (set views keeper both) claim keeper Nothing (λ e. other (sym e))
+          ∙ set_here views keeper both (at_inside views keeper (whole now None) kept.keeps);
       alone = joined_alone;
       stands = λ seat x has.
-          ⊎_elim (λ here. rw (← here.1) (kept.stands claim leg claimed)) (λ there. kept.stands seat x there.2) (joined_claim seat x has);
+          ⊎_elim (λ here. rw (← here.1) (kept.stands claim leg claimed)) (λ there. kept.stands seat x there.2)
+          (joined_claim seat x has);
       apart = joined_apart;
       below = kept.below;
     },
   )
 
 -- the joined claim is settled
-module _ (views : List Known) (keeper : ℕ) (now : Standing) (leg : Leg) (kept : AreKept keeper now (Some leg) views) where
+module _ (views : List Known) (keeper : ℕ) (now : Standing) (leg : Leg)
+    (kept : AreKept keeper now (Some leg) views) where
   abbrev less : Known
   less = whole (standing_without now leg) None
 
@@ -223,7 +247,8 @@ module _ (views : List Known) (keeper : ℕ) (now : Standing) (leg : Leg) (kept 
   stood = kept.stands keeper leg mine
 
   settled_claim : (seat : ℕ) (x : Leg) → HasClaim shorter seat x → (seat ≢ keeper) × HasClaim views seat x
-  settled_claim seat x has = ⊎_elim (λ here. absurd (none-some x here.1)) (λ there. there) (claim_at_set views keeper less seat x has)
+  settled_claim seat x has =
+      ⊎_elim (λ here. absurd (none-some x here.1)) (λ there. there) (claim_at_set views keeper less seat x has)
 
   pub settled_kept : IsKept shorter
   settled_kept = (
@@ -233,33 +258,42 @@ module _ (views : List Known) (keeper : ℕ) (now : Standing) (leg : Leg) (kept 
     record {
       keeps = set_here views keeper less (at_inside views keeper (whole now (Some leg)) kept.keeps);
       alone = λ seat standing one is.
-          ⊎_elim (λ here. here.0) (λ there. kept.alone seat standing one there.1) (at_set views keeper seat less (whole standing one) is);
+          ⊎_elim (λ here. here.0) (λ there. kept.alone seat standing one there.1)
+          (at_set views keeper seat less (whole standing one) is);
       stands = λ seat x has.
           let old = settled_claim seat x has in
           stays now.out leg.ticket x (kept.apart seat keeper x leg old.0 old.1 mine) (kept.stands seat x old.1);
       apart = λ a b x y differ has also. kept.apart a b x y differ (settled_claim a x has).1 (settled_claim b y also).1;
-      below = All-filter (λ (l : Leg). not (nat_eq l.ticket leg.ticket)) (λ (l : Leg). l.ticket < now.next) now.out kept.below;
+      below =
+          All-filter (λ (l : Leg). not (nat_eq l.ticket leg.ticket))
+          (λ (l : Leg). l.ticket < now.next) now.out kept.below;
     },
   )
 
 -- the three steps, from what the keeper's seat knows
-pub made_next : (views : List Known) (seat : ℕ) (v : Known) (state arc : ℕ) → v ≡ whole (standing_of v) None → IsKept views → get_elem? views seat ≡ some v
+pub made_next : (views : List Known) (seat : ℕ) (v : Known) (state arc : ℕ) → v ≡ whole (standing_of v) None
+    → IsKept views → get_elem? views seat ≡ some v
     → IsKept (set views seat (made state arc v) ++ claim_made state arc v ∷ [])
 made_next views seat v state arc is kept at =
     let here = kept_at views seat (standing_of v) None kept (at ∙ ap some is) in
     rw (ap claim_of is) (made_kept views seat (standing_of v) state arc here)
 
-pub joined_next : (views : List Known) (seat : ℕ) (v : Known) (claim : ℕ) (w : Known) → v ≡ whole (standing_of v) None → w ≡ One (leg_of w) → IsKept views
-    → get_elem? views seat ≡ some v → ¬ (claim ≡ seat) → get_elem? (set views seat (joined v w)) claim ≡ some w → IsKept (set (set views seat (joined v w)) claim Nothing)
+pub joined_next : (views : List Known) (seat : ℕ) (v : Known) (claim : ℕ) (w : Known) → v ≡ whole (standing_of v) None
+    → w ≡ One (leg_of w) → IsKept views
+    → get_elem? views seat ≡ some v → ¬ (claim ≡ seat) → get_elem? (set views seat (joined v w)) claim ≡ some w
+    → IsKept (set (set views seat (joined v w)) claim Nothing)
 joined_next views seat v claim w is one kept at other there =
     let here = kept_at views seat (standing_of v) None kept (at ∙ ap some is) in
     let has : claim_of w ≡ Some (leg_of w) = ap claim_of one in
-    let after : joined v w ≡ whole (standing_of v) (Some (leg_of w)) = ap (λ (c : Option Leg). whole (standing_of v) c) has in
+    let after : joined v w ≡ whole (standing_of v) (Some (leg_of w)) =
+    ap (λ (c : Option Leg). whole (standing_of v) c) has in
     let found : get_elem? (set views seat (whole (standing_of v) (Some (leg_of w)))) claim ≡ some (One (leg_of w)) =
     subst (λ (u : Known). get_elem? (set views seat u) claim ≡ some (One (leg_of w))) after (there ∙ ap some one) in
-    subst (λ (u : Known). IsKept (set (set views seat u) claim Nothing)) (sym after) (joined_kept views seat (standing_of v) claim (leg_of w) here other found)
+    subst (λ (u : Known). IsKept (set (set views seat u) claim Nothing)) (sym after)
+    (joined_kept views seat (standing_of v) claim (leg_of w) here other found)
 
-pub settled_next : (views : List Known) (seat : ℕ) (v : Known) → v ≡ whole (standing_of v) (Some (leg_of v)) → IsKept views → get_elem? views seat ≡ some v
+pub settled_next : (views : List Known) (seat : ℕ) (v : Known) → v ≡ whole (standing_of v) (Some (leg_of v))
+    → IsKept views → get_elem? views seat ≡ some v
     → Contains (standing_of v).out (leg_of v) × IsKept (set views seat (settled v))
 settled_next views seat v is kept at =
     let here = kept_at views seat (standing_of v) (Some (leg_of v)) kept (at ∙ ap some is) in

@@ -30,21 +30,31 @@ module _ (w : World) (a b : Swept) (s : ℕ) (p : Primitive) (radius : b.radius 
     swept = λ x y touched. free.swept x y (subst (λ r. IsSwept w.env.cell r p.poses x y) radius touched);
   }
 
-  still_greatest : (greatest : ℕ) → IsGreatestPaid (with_sweeps w a) s p greatest → IsGreatestPaid (with_sweeps w b) s p greatest
-  still_greatest greatest is = record { dx = is.dx; dy = is.dy; paid = is.paid; cost = is.cost; none_above = is.none_above }
+  still_greatest : (greatest : ℕ) → IsGreatestPaid (with_sweeps w a) s p greatest
+      → IsGreatestPaid (with_sweeps w b) s p greatest
+  still_greatest greatest is =
+      record { dx = is.dx; dy = is.dy; paid = is.paid; cost = is.cost; none_above = is.none_above }
 
   still_free_at : (c : ℕ) → IsFreeAt (with_sweeps w a) s p c → IsFreeAt (with_sweeps w b) s p c
-  still_free_at c at = record { free = still_free at.free; greatest = at.greatest; paid = still_greatest at.greatest at.paid; product = at.product }
+  still_free_at c at = record {
+    free = still_free at.free;
+    greatest = at.greatest;
+    paid = still_greatest at.greatest at.paid;
+    product = at.product;
+  }
 
-module _ (w : World) (t : Swept) (is_world : IsWorld w) (is_other : IsWorld (with_sweeps w t)) (radius : t.radius ≡ w.sweeps.radius) where
+module _ (w : World) (t : Swept) (is_world : IsWorld w) (is_other : IsWorld (with_sweeps w t))
+    (radius : t.radius ≡ w.sweeps.radius) where
   -- an arc costs the same by both tables
-  cost_by_place : (s k : ℕ) (o : Option ℕ) → arc_index w s k ≡ o → (network_of (with_sweeps w t)).cost s k ≡ (network_of w).cost s k
+  cost_by_place : (s k : ℕ) (o : Option ℕ) → arc_index w s k ≡ o
+      → (network_of (with_sweeps w t)).cost s k ≡ (network_of w).cost s k
   cost_by_place s k None h = no_cost (with_sweeps w t) s k h ∙ sym (no_cost w s k h)
   cost_by_place s k (Some place) h =
       let f = found_at w s k place is_world h in
       let p = f.0 in
       let here = arc_of w is_world s k place p f.1 in
-      let there = arc_of (with_sweeps w t) is_other s k place p (found_by_arc (with_sweeps w t) is_other s k place p f.1.by) in
+      let there =
+      arc_of (with_sweeps w t) is_other s k place p (found_by_arc (with_sweeps w t) is_other s k place p f.1.by) in
       same_answer ((network_of (with_sweeps w t)).cost s k) ((network_of w).cost s k)
       (λ c h. (here.cost c).1 (still_free_at w t w.sweeps s p (sym radius) c ((there.cost c).0 h)))
       (λ c h. (there.cost c).1 (still_free_at w w.sweeps t s p radius c ((here.cost c).0 h)))

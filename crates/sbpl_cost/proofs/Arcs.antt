@@ -1,5 +1,6 @@
 -- The arcs of the lattice, by their motions.
-use Rattle.std.proofs.Common.{◌≡◌, ℕ, ℤ, ◌<◌, ◌==◌, List, [], length, take, count_by, slice_get, slice_index, Some, option_and_then, refl, ap, sym, ◌∙◌, arith, subst}
+use Rattle.std.proofs.Common.{◌≡◌, ℕ, ℤ, ◌<◌, ◌==◌, List, [], length, take, count_by, slice_get, slice_index, Some}
+use Rattle.std.proofs.Common.{option_and_then, refl, ap, sym, ◌∙◌, arith, subst}
 use Rattle.std.proofs.lemmas.Bool.{eqb-true}
 use Rattle.std.proofs.lemmas.Option.{slice_get-get_or, get_or_from_slice_get}
 use Rattle.sbpl_mprim.specs.declared.prim.Primitive.{Primitive}
@@ -19,12 +20,17 @@ pub record IsSweeping (w : World) (place : ℕ) (p : Primitive) : Type 0 where
   pub swept : AreSwept w.env.cell w.sweeps.radius p.poses (swept_at w place)
 
 -- the table has the cells that the primitive at this index sweeps
-pub sweeping : (w : World) (place : ℕ) (p : Primitive) → IsWorld w → slice_get w.prims.items place ≡ Some p → IsSweeping w place p
+pub sweeping : (w : World) (place : ℕ) (p : Primitive) → IsWorld w
+    → slice_get w.prims.items place ≡ Some p → IsSweeping w place p
 sweeping w place p is_world stands =
     let entry = is_world.sweeps.swept.each place p stands in
     let cells_are = get_or_from_slice_get w.sweeps.swept place entry.0 [] entry.1 in
     let P : ℤ → List Cell → Type 0 = λ cell cells. AreSwept cell w.sweeps.radius p.poses cells in
-    record { swept = subst (λ cell. P cell (swept_at w place)) is_world.cell (subst (λ cells. P w.prims.cell cells) (sym cells_are) entry.2) }
+    record {
+      swept =
+          subst (λ cell. P cell (swept_at w place)) is_world.cell
+          (subst (λ cells. P w.prims.cell cells) (sym cells_are) entry.2);
+    }
 
 -- the motion of arc k of state s
 pub record IsFound (w : World) (s k place : ℕ) (p : Primitive) : Type 0 where
@@ -34,7 +40,8 @@ pub record IsFound (w : World) (s k place : ℕ) (p : Primitive) : Type 0 where
   pub good : IsPrimitive w.prims.cell w.prims.headings p
 
 -- the arc with this index in the table is the motion by the primitive that stands there
-pub found_at : (w : World) (s k place : ℕ) → IsWorld w → arc_index w s k ≡ Some place → (p : Primitive) × IsFound w s k place p
+pub found_at : (w : World) (s k place : ℕ) → IsWorld w → arc_index w s k ≡ Some place
+    → (p : Primitive) × IsFound w s k place p
 found_at w s k place is_world at =
     let n = numbered (λ p. p.from == (place_of w.env s).t) 0 w.prims.items k place at in
     let same : n.at ≡ place = omega (arith, n.number) in
@@ -53,7 +60,8 @@ found_at w s k place is_world at =
     )
 
 -- each arc below the fan has a motion
-pub found : (w : World) (s k : ℕ) → IsWorld w → k < length (leaving w.prims.items (place_of w.env s).t) → (place : ℕ) × (p : Primitive) × IsFound w s k place p
+pub found : (w : World) (s k : ℕ) → IsWorld w → k < length (leaving w.prims.items (place_of w.env s).t)
+    → (place : ℕ) × (p : Primitive) × IsFound w s k place p
 found w s k is_world h =
     let place = slice_index (leaving w.prims.items (place_of w.env s).t) k in
     let there = found_at w s k place is_world (slice_get-get_or (leaving w.prims.items (place_of w.env s).t) k 0 h) in
@@ -63,15 +71,30 @@ module _ (w : World) (is_world : IsWorld w) where
   pub arc_of : (s k place : ℕ) (p : Primitive) → IsFound w s k place p → IsArcOf (network_of w) w s k p
   unfolding network_of
   arc_of s k place p f =
-      let head_is : option_and_then (head_by w s) (arc_primitive w s k) ≡ head_by w s p = ap (λ o. option_and_then (head_by w s) o) f.primitive in
+      let head_is : option_and_then (head_by w s) (arc_primitive w s k) ≡ head_by w s p =
+      ap (λ o. option_and_then (head_by w s) o) f.primitive in
       let are = (sweeping w place p is_world f.by.stands).swept in
-      let cost_is : option_and_then (λ i. option_and_then (cost_by w s (swept_at w i)) (slice_get w.prims.items i)) (arc_index w s k) ≡ cost_by w s (swept_at w place) p =
-      ap (λ o. option_and_then (λ i. option_and_then (cost_by w s (swept_at w i)) (slice_get w.prims.items i)) o) f.at ∙ ap (λ o. option_and_then (cost_by w s (swept_at w place)) o) f.by.stands in
+      let cost_is : option_and_then (λ i. option_and_then (cost_by w s (swept_at w i)) (slice_get w.prims.items i))
+      (arc_index w s k) ≡ cost_by w s (swept_at w place) p =
+      ap (λ o. option_and_then (λ i. option_and_then (cost_by w s (swept_at w i)) (slice_get w.prims.items i)) o) f.at
+      ∙ ap (λ o. option_and_then (cost_by w s (swept_at w place)) o) f.by.stands in
       record {
-        head = λ t. (λ h. ends_in w is_world s p f.good t (sym head_is ∙ h), λ ends. head_is ∙ head_where_ends w is_world s p f.good t ends);
-        no_head = (λ h. off_map_where_none w is_world s p f.good (sym head_is ∙ h), λ off. head_is ∙ none_where_off_map w is_world s p f.good off);
-        cost = λ c. (λ h. free_at w s p (swept_at w place) are c (sym cost_is ∙ h), λ at. cost_is ∙ cost_where_free w s p (swept_at w place) are c at);
-        no_cost = (λ h. not_free_where_none w s p (swept_at w place) are (sym cost_is ∙ h), λ blocked. cost_is ∙ none_where_not_free w s p (swept_at w place) are blocked);
+        head = λ t. (
+          λ h. ends_in w is_world s p f.good t (sym head_is ∙ h),
+          λ ends. head_is ∙ head_where_ends w is_world s p f.good t ends,
+        );
+        no_head = (
+          λ h. off_map_where_none w is_world s p f.good (sym head_is ∙ h),
+          λ off. head_is ∙ none_where_off_map w is_world s p f.good off,
+        );
+        cost = λ c. (
+          λ h. free_at w s p (swept_at w place) are c (sym cost_is ∙ h),
+          λ at. cost_is ∙ cost_where_free w s p (swept_at w place) are c at,
+        );
+        no_cost = (
+          λ h. not_free_where_none w s p (swept_at w place) are (sym cost_is ∙ h),
+          λ blocked. cost_is ∙ none_where_not_free w s p (swept_at w place) are blocked,
+        );
       }
 
   pub has_lattice_arcs : HasLatticeArcs (network_of w) w

@@ -18,7 +18,8 @@ quotient-some a b q some enough = elim (cases_lt 0 q) [
 ]
 
 -- a primitive goes somewhere or turns
-pub time-some : (cell : ℤ) (headings way turn : ℕ) (prim : Primitive) → IsPrimitive cell headings prim → (0 < way_length prim.poses → 1 ≤ way) → (prim.from ≢ prim.to → 1 ≤ turn) → 1 ≤ max way turn
+pub time-some : (cell : ℤ) (headings way turn : ℕ) (prim : Primitive) → IsPrimitive cell headings prim
+    → (0 < way_length prim.poses → 1 ≤ way) → (prim.from ≢ prim.to → 1 ≤ turn) → 1 ≤ max way turn
 time-some cell headings way turn prim is goes turns = elim (cases_lt 0 (way_length prim.poses)) [
   | inl lt ↦ let h = goes lt in omega arith
   | inr le ↦ let h = turns (is.moves (AreAtOnePoint-none prim.poses (omega arith))) in omega arith

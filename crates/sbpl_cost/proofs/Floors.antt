@@ -1,6 +1,8 @@
 -- Floors of fractions, and the least of them.
-use Rattle.std.proofs.Common.{◌≡◌, ℕ, ◌+◌, ◌*◌, ◌/◌, ◌≤◌, ◌++◌, min, inl, inr, ◌⊎◌, List, [], ◌∷◌, slice_get, Option, Some, None, unwrap_or, refl, ap, sym, ◌∙◌, arith, subst, zero, suc}
-use Rattle.std.proofs.Math.Nat.{div-mul-le_self, le_of_mul-le-mul_right, mul-le-mul_left, mul-le-mul_right, add-mul-div_right}
+use Rattle.std.proofs.Common.{◌≡◌, ℕ, ◌+◌, ◌*◌, ◌/◌, ◌≤◌, ◌++◌, min, inl, inr, ◌⊎◌, List, [], ◌∷◌, slice_get, Option}
+use Rattle.std.proofs.Common.{Some, None, unwrap_or, refl, ap, sym, ◌∙◌, arith, subst, zero, suc}
+use Rattle.std.proofs.Math.Nat.{div-mul-le_self, le_of_mul-le-mul_right}
+use Rattle.std.proofs.Math.Nat.{mul-le-mul_left, mul-le-mul_right, add-mul-div_right}
 use Rattle.std.proofs.lemmas.Bool.{cases_lt, cond-true, cond-false, eq-eqb, ne_eqb}
 use Rattle.std.proofs.lemmas.Nat.{le-div}
 use Rattle.std.proofs.lemmas.Option.{same_Some, none-some}
@@ -41,15 +43,20 @@ lesser_assoc (Some a) (Some b) None = refl
 lesser_assoc (Some a) (Some b) (Some c) = let e : min (min a b) c ≡ min a (min b c) = omega arith in ap Some e
 
 -- one more primitive
-pub least_floor_push : (e : Environment) (way : Way) (n : ℕ) (ps : List Primitive) (p : Primitive) → least_floor e way n (ps ++ p ∷ []) ≡ lesser (least_floor e way n ps) (floor_by e way n p)
+pub least_floor_push : (e : Environment) (way : Way) (n : ℕ) (ps : List Primitive) (p : Primitive)
+    → least_floor e way n (ps ++ p ∷ []) ≡ lesser (least_floor e way n ps) (floor_by e way n p)
 least_floor_push e way n [] p = lesser_none (floor_by e way n p)
-least_floor_push e way n (q ∷ ps) p = ap (lesser (floor_by e way n q)) (least_floor_push e way n ps p) ∙ sym (lesser_assoc (floor_by e way n q) (least_floor e way n ps) (floor_by e way n p))
+least_floor_push e way n (q ∷ ps) p =
+    ap (lesser (floor_by e way n q)) (least_floor_push e way n ps p)
+    ∙ sym (lesser_assoc (floor_by e way n q) (least_floor e way n ps) (floor_by e way n p))
 
 -- the floors of a primitive that goes that way, and of one that doesn't
-pub floor_where_goes : (e : Environment) (way : Way) (n : ℕ) (p : Primitive) → 1 ≤ advance e.headings way p → floor_by e way n p ≡ Some (n * primitive_cost e p / advance e.headings way p)
+pub floor_where_goes : (e : Environment) (way : Way) (n : ℕ) (p : Primitive) → 1 ≤ advance e.headings way p
+    → floor_by e way n p ≡ Some (n * primitive_cost e p / advance e.headings way p)
 floor_where_goes e way n p goes = cond-false _ _ _ (ne_eqb (advance e.headings way p) 0 (λ h. omega arith))
 
-pub floor_where_not : (e : Environment) (way : Way) (n : ℕ) (p : Primitive) → advance e.headings way p ≡ 0 → floor_by e way n p ≡ None
+pub floor_where_not : (e : Environment) (way : Way) (n : ℕ) (p : Primitive) → advance e.headings way p ≡ 0
+    → floor_by e way n p ≡ None
 floor_where_not e way n p none = cond-true _ _ _ (eq-eqb (advance e.headings way p) 0 none)
 
 -- the order of fractions: where each of three is at most the next, the first is at most the last
@@ -71,7 +78,8 @@ nothing n = let z : n * 0 ≡ 0 = omega arith in sym (ap (λ k. k / 1) z)
 pub record IsRateOf (e : Environment) (ps : List Primitive) (way : Way) (cost cells : ℕ) : Type 0 where
   pub some : 1 ≤ cells
   pub floors : (n : ℕ) → least_floor e way n ps ≡ Some (n * cost / cells)
-  pub least : (i : ℕ) (p : Primitive) → slice_get ps i ≡ Some p → cost * advance e.headings way p ≤ primitive_cost e p * cells
+  pub least : (i : ℕ) (p : Primitive) → slice_get ps i ≡ Some p
+      → cost * advance e.headings way p ≤ primitive_cost e p * cells
   pub place : ℕ
   pub owner : Primitive
   pub stands : slice_get ps place ≡ Some owner
@@ -86,7 +94,8 @@ module _ (e : Environment) (way : Way) where
   pub no_floor : (n : ℕ) (ps : List Primitive) → NoneGo e way ps → least_floor e way n ps ≡ None
   no_floor n [] none = refl
   no_floor n (p ∷ ps) none =
-      ap (λ o. lesser o (least_floor e way n ps)) (floor_where_not e way n p (none 0 p refl)) ∙ no_floor n ps (λ i q at. none (suc i) q at)
+      ap (λ o. lesser o (least_floor e way n ps)) (floor_where_not e way n p (none 0 p refl))
+      ∙ no_floor n ps (λ i q at. none (suc i) q at)
 
   lesser_first : (a b : ℕ) → a ≤ b → lesser (Some a) (Some b) ≡ Some a
   lesser_first a b h = let k : min a b ≡ a = omega arith in ap Some k
@@ -99,9 +108,12 @@ module _ (e : Environment) (way : Way) where
     none_more none rest zero q at = subst (λ z. advance e.headings way z ≡ 0) (same_Some p q at) none
     none_more none rest (suc i) q at = rest i q at
 
-    least_more : (c d : ℕ) → c * advance e.headings way p ≤ primitive_cost e p * d → ((i : ℕ) (q : Primitive) → slice_get ps i ≡ Some q → c * advance e.headings way q ≤ primitive_cost e q * d)
-        → (i : ℕ) (q : Primitive) → slice_get (p ∷ ps) i ≡ Some q → c * advance e.headings way q ≤ primitive_cost e q * d
-    least_more c d first rest zero q at = subst (λ z. c * advance e.headings way z ≤ primitive_cost e z * d) (same_Some p q at) first
+    least_more : (c d : ℕ) → c * advance e.headings way p ≤ primitive_cost e p * d
+        → ((i : ℕ) (q : Primitive) → slice_get ps i ≡ Some q → c * advance e.headings way q ≤ primitive_cost e q * d)
+        → (i : ℕ) (q : Primitive) → slice_get (p ∷ ps) i ≡ Some q
+        → c * advance e.headings way q ≤ primitive_cost e q * d
+    least_more c d first rest zero q at =
+        subst (λ z. c * advance e.headings way z ≤ primitive_cost e z * d) (same_Some p q at) first
     least_more c d first rest (suc i) q at = rest i q at
 
     -- a primitive that does not go that way changes nothing
@@ -118,10 +130,12 @@ module _ (e : Environment) (way : Way) where
     }
 
     -- the first that goes that way
-    first : 1 ≤ advance e.headings way p → NoneGo e way ps → IsRateOf e (p ∷ ps) way (primitive_cost e p) (advance e.headings way p)
+    first : 1 ≤ advance e.headings way p → NoneGo e way ps
+        → IsRateOf e (p ∷ ps) way (primitive_cost e p) (advance e.headings way p)
     first goes none = record {
       some = goes;
-      floors = λ n. ap (λ o. lesser (floor_by e way n p) o) (no_floor n ps none) ∙ lesser_none (floor_by e way n p) ∙ floor_where_goes e way n p goes;
+      floors = λ n. ap (λ o. lesser (floor_by e way n p) o) (no_floor n ps none) ∙ lesser_none (floor_by e way n p)
+          ∙ floor_where_goes e way n p goes;
       least = least_more (primitive_cost e p) (advance e.headings way p) (omega arith)
           (λ i q at. omega (arith, times_none (primitive_cost e p) (advance e.headings way q) (none i q at)));
       place = zero;
@@ -132,11 +146,14 @@ module _ (e : Environment) (way : Way) where
     }
 
     -- one whose fraction is not less
-    kept : (c d : ℕ) → 1 ≤ advance e.headings way p → c * advance e.headings way p ≤ primitive_cost e p * d → IsRateOf e ps way c d → IsRateOf e (p ∷ ps) way c d
+    kept : (c d : ℕ) → 1 ≤ advance e.headings way p → c * advance e.headings way p ≤ primitive_cost e p * d
+        → IsRateOf e ps way c d → IsRateOf e (p ∷ ps) way c d
     kept c d goes less rate = record {
       some = rate.some;
-      floors = λ n. ap (λ o. lesser o (least_floor e way n ps)) (floor_where_goes e way n p goes) ∙ ap (lesser (Some (n * primitive_cost e p / advance e.headings way p))) (rate.floors n)
-          ∙ lesser_second (n * primitive_cost e p / advance e.headings way p) (n * c / d) (floor_le n c d (primitive_cost e p) (advance e.headings way p) rate.some goes less);
+      floors = λ n. ap (λ o. lesser o (least_floor e way n ps)) (floor_where_goes e way n p goes)
+          ∙ ap (lesser (Some (n * primitive_cost e p / advance e.headings way p))) (rate.floors n)
+          ∙ lesser_second (n * primitive_cost e p / advance e.headings way p) (n * c / d)
+          (floor_le n c d (primitive_cost e p) (advance e.headings way p) rate.some goes less);
       least = least_more c d less rate.least;
       place = suc rate.place;
       owner = rate.owner;
@@ -146,13 +163,17 @@ module _ (e : Environment) (way : Way) where
     }
 
     -- one whose fraction is less
-    lowered : (c d : ℕ) → 1 ≤ advance e.headings way p → primitive_cost e p * d ≤ c * advance e.headings way p → IsRateOf e ps way c d → IsRateOf e (p ∷ ps) way (primitive_cost e p) (advance e.headings way p)
+    lowered : (c d : ℕ) → 1 ≤ advance e.headings way p → primitive_cost e p * d ≤ c * advance e.headings way p
+        → IsRateOf e ps way c d → IsRateOf e (p ∷ ps) way (primitive_cost e p) (advance e.headings way p)
     lowered c d goes less rate = record {
       some = goes;
-      floors = λ n. ap (λ o. lesser o (least_floor e way n ps)) (floor_where_goes e way n p goes) ∙ ap (lesser (Some (n * primitive_cost e p / advance e.headings way p))) (rate.floors n)
-          ∙ lesser_first (n * primitive_cost e p / advance e.headings way p) (n * c / d) (floor_le n (primitive_cost e p) (advance e.headings way p) c d goes rate.some less);
+      floors = λ n. ap (λ o. lesser o (least_floor e way n ps)) (floor_where_goes e way n p goes)
+          ∙ ap (lesser (Some (n * primitive_cost e p / advance e.headings way p))) (rate.floors n)
+          ∙ lesser_first (n * primitive_cost e p / advance e.headings way p) (n * c / d)
+          (floor_le n (primitive_cost e p) (advance e.headings way p) c d goes rate.some less);
       least = least_more (primitive_cost e p) (advance e.headings way p) (omega arith) (λ i q at.
-          fraction_through (primitive_cost e p) (advance e.headings way p) c d (primitive_cost e q) (advance e.headings way q) rate.some less (rate.least i q at));
+          fraction_through (primitive_cost e p) (advance e.headings way p) c d (primitive_cost e q)
+          (advance e.headings way q) rate.some less (rate.least i q at));
       place = zero;
       owner = p;
       stands = refl;
@@ -184,7 +205,8 @@ module _ (e : Environment) (way : Way) where
     pub some : 1 ≤ d
     pub small : (most : ℕ) → ((i : ℕ) (p : Primitive) → slice_get ps i ≡ Some p → primitive_cost e p ≤ most) → c ≤ most
     pub floors : (n : ℕ) → way_bound e ps way n ≡ n * c / d
-    pub least : (i : ℕ) (p : Primitive) → slice_get ps i ≡ Some p → c * advance e.headings way p ≤ primitive_cost e p * d
+    pub least : (i : ℕ) (p : Primitive) → slice_get ps i ≡ Some p
+        → c * advance e.headings way p ≤ primitive_cost e p * d
 
   pub floor_of : (ps : List Primitive) → (c : ℕ) × (d : ℕ) × IsFloor ps c d
   unfolding way_bound

@@ -1,5 +1,6 @@
 -- The greatest of some cells' costs.
-use Rattle.std.proofs.Common.{◌≡◌, ℕ, ℤ, ◌+◌, ◌<◌, ◌+ℤ◌, inl, inr, List, take, slice_get, Option, Some, None, IsSomeAnd, max, ap, sym, ◌∙◌, arith, subst}
+use Rattle.std.proofs.Common.{◌≡◌, ℕ, ℤ, ◌+◌, ◌<◌, ◌+ℤ◌, inl, inr, List, take, slice_get, Option, Some, None, IsSomeAnd}
+use Rattle.std.proofs.Common.{max, ap, sym, ◌∙◌, arith, subst}
 use Rattle.std.proofs.lemmas.Bool.{cases_lt}
 use Rattle.std.proofs.lemmas.Grind.{common_steps}
 use Rattle.std.proofs.lemmas.Option.{gets, same_Some}
@@ -16,18 +17,23 @@ some_below (Some k) limit c h below = let same = same_Some k c h in omega arith
 at_end : {X : Type 0} (xs : List X) (n : ℕ) (x : X) → slice_get xs n ≡ Some x → slice_get (take (n + 1) xs) n ≡ Some x
 at_end xs n x h = grind (arith, common_steps, gets)
 
-kept : {X : Type 0} (xs : List X) (n i : ℕ) (x : X) → slice_get (take n xs) i ≡ Some x → slice_get (take (n + 1) xs) i ≡ Some x
+kept : {X : Type 0} (xs : List X) (n i : ℕ) (x : X) → slice_get (take n xs) i ≡ Some x
+    → slice_get (take (n + 1) xs) i ≡ Some x
 kept xs n i x h = grind (arith, common_steps, gets)
 
-module _ (m : CellMap) (cells : List Cell) (x y : ℤ) (limit least greatest n cost : ℕ) (next : Cell) (at : slice_get cells n ≡ Some next) (is : cost_at m (x +ℤ next.x) (y +ℤ next.y) ≡ Some cost) (small : cost < limit) where
+module _ (m : CellMap) (cells : List Cell) (x y : ℤ) (limit least greatest n cost : ℕ) (next : Cell)
+    (at : slice_get cells n ≡ Some next) (is : cost_at m (x +ℤ next.x) (y +ℤ next.y) ≡ Some cost)
+    (small : cost < limit) where
   below_next : (c : Cell) → next ≡ c → IsCellBelow m (x +ℤ c.x) (y +ℤ c.y) limit
-  below_next c same = subst (λ (z : Cell). IsCellBelow m (x +ℤ z.x) (y +ℤ z.y) limit) same (some_below _ limit cost is small)
+  below_next c same =
+      subst (λ (z : Cell). IsCellBelow m (x +ℤ z.x) (y +ℤ z.y) limit) same (some_below _ limit cost is small)
 
   cost_next : (c : Cell) (k : ℕ) → next ≡ c → cost_at m (x +ℤ c.x) (y +ℤ c.y) ≡ Some k → cost ≡ k
   cost_next c k same there = same_Some cost k (sym is ∙ ap (λ (z : Cell). cost_at m (x +ℤ z.x) (y +ℤ z.y)) same ∙ there)
 
   -- one more cell
-  pub greatest_more : IsGreatestBelow m (take n cells) x y limit least greatest → IsGreatestBelow m (take (n + 1) cells) x y limit least (max greatest cost)
+  pub greatest_more : IsGreatestBelow m (take n cells) x y limit least greatest
+      → IsGreatestBelow m (take (n + 1) cells) x y limit least (max greatest cost)
   greatest_more old = record {
     below = λ i c h. elim (among cells n next i c at h) [ inl e ↦ old.below i c e | inr e ↦ below_next c e ];
     at_least = omega (arith, old.at_least);
@@ -51,7 +57,8 @@ module _ (m : CellMap) (cells : List Cell) (x y : ℤ) (limit least greatest n c
   }
 
 -- one more cell that is below the limit
-pub below_more : (m : CellMap) (cells : List Cell) (x y : ℤ) (limit n cost : ℕ) (next : Cell) → slice_get cells n ≡ Some next → cost_at m (x +ℤ next.x) (y +ℤ next.y) ≡ Some cost → cost < limit
+pub below_more : (m : CellMap) (cells : List Cell) (x y : ℤ) (limit n cost : ℕ) (next : Cell)
+    → slice_get cells n ≡ Some next → cost_at m (x +ℤ next.x) (y +ℤ next.y) ≡ Some cost → cost < limit
     → AreBelow m (take n cells) x y limit → AreBelow m (take (n + 1) cells) x y limit
 below_more m cells x y limit n cost next at is small old i c h = elim (among cells n next i c at h) [
   | inl e ↦ old i c e

@@ -1,5 +1,6 @@
 -- The heads of the lattice's arcs.
-use Rattle.std.proofs.Common.{◌≡◌, ℕ, ℤ, pos, negsuc, ◌<◌, ◌≤ℤ◌, ◌<ℤ◌, ◌&&◌, Option, Some, None, nat_lt, refl, ap, sym, ◌∙◌, arith, subst}
+use Rattle.std.proofs.Common.{◌≡◌, ℕ, ℤ, pos, negsuc, ◌<◌, ◌≤ℤ◌, ◌<ℤ◌, ◌&&◌, Option, Some, None, nat_lt, refl, ap, sym}
+use Rattle.std.proofs.Common.{◌∙◌, arith, subst}
 use Rattle.std.proofs.lemmas.Bool.{and_parts, and_from, lt-ltb, ltb-true, cond-true}
 use Rattle.std.proofs.lemmas.Int.{ints}
 use Rattle.std.proofs.lemmas.Option.{cond_some, none-some}
@@ -45,7 +46,8 @@ pub record IsStateIn (e : Environment) (x y : ℤ) (t r : ℕ) : Type 0 where
 
 pub state_in_some : (e : Environment) (x y : ℤ) (t r : ℕ) → state_in e x y t ≡ Some r → IsStateIn e x y t r
 state_in_some e (pos a) (pos b) t r h =
-    let parts = cond_some (nat_lt a e.width && nat_lt b e.height) (state_number e (record { x = a; y = b; t = t })) r h in
+    let parts =
+    cond_some (nat_lt a e.width && nat_lt b e.height) (state_number e (record { x = a; y = b; t = t })) r h in
     let inside = and_parts (nat_lt a e.width) (nat_lt b e.height) parts.0 in
     record {
       column = a;
@@ -65,10 +67,12 @@ state_in_at e x y t a b at_column at_row right high =
     rw (at_column, at_row) (cond-true _ _ _ (and_from _ _ (lt-ltb a e.width right) (lt-ltb b e.height high)))
 
 pub none_beside : (e : Environment) (x y : ℤ) (t : ℕ) → IsOff e.width x → state_in e x y t ≡ None
-none_beside e x y t off = none_where_nothing (state_in e x y t) (λ r h. let at = state_in_some e x y t r h in off at.column at.x_is at.right)
+none_beside e x y t off =
+    none_where_nothing (state_in e x y t) (λ r h. let at = state_in_some e x y t r h in off at.column at.x_is at.right)
 
 pub none_above : (e : Environment) (x y : ℤ) (t : ℕ) → IsOff e.height y → state_in e x y t ≡ None
-none_above e x y t off = none_where_nothing (state_in e x y t) (λ r h. let at = state_in_some e x y t r h in off at.row at.y_is at.high)
+none_above e x y t off =
+    none_where_nothing (state_in e x y t) (λ r h. let at = state_in_some e x y t r h in off at.row at.y_is at.high)
 
 -- there is no state exactly where the cell is off the map
 module _ (w : World) (is_world : IsWorld w) (x y : ℤ) (t : ℕ) where
@@ -83,9 +87,11 @@ module _ (w : World) (is_world : IsWorld w) (x y : ℤ) (t : ℕ) where
   pub no_state_where_off : (IsOnMap w.map x y → ⊥) → state_in w.env x y t ≡ None
   no_state_where_off off = none_where_nothing (state_in w.env x y t) (λ r h.
       let at = state_in_some w.env x y t r h in
-      off (on_map_at w.map _ _ at.column at.row at.x_is at.y_is (subst (λ n. at.column < n) (sym is_world.width) at.right) (subst (λ n. at.row < n) (sym is_world.height) at.high)))
+      off (on_map_at w.map _ _ at.column at.row at.x_is at.y_is (subst (λ n. at.column < n) (sym is_world.width)
+      at.right) (subst (λ n. at.row < n) (sym is_world.height) at.high)))
 
-module _ (w : World) (is_world : IsWorld w) (s : ℕ) (p : Primitive) (is_primitive : IsPrimitive w.prims.cell w.prims.headings p) where
+module _ (w : World) (is_world : IsWorld w) (s : ℕ) (p : Primitive)
+    (is_primitive : IsPrimitive w.prims.cell w.prims.headings p) where
   pub ends_in : (t : ℕ) → head_by w s p ≡ Some t → EndsIn w s p t
   unfolding head_by
   ends_in t h =
@@ -102,8 +108,12 @@ module _ (w : World) (is_world : IsWorld w) (s : ℕ) (p : Primitive) (is_primit
   pub head_where_ends : (t : ℕ) → EndsIn w s p t → head_by w s p ≡ Some t
   unfolding head_by
   head_where_ends t ends =
-      let there = state_in_at w.env (column_from w s p.dx) (row_from w s p.dy) p.to ends.place.x ends.place.y (sym ends.column) (sym ends.row) ends.on_map.x ends.on_map.y in
-      there ∙ ap (λ h. Some (state_number w.env (record { x = ends.place.x; y = ends.place.y; t = h }))) (sym ends.heading) ∙ ap Some (sym ends.number)
+      let there =
+      state_in_at w.env (column_from w s p.dx) (row_from w s p.dy) p.to ends.place.x ends.place.y (sym ends.column)
+      (sym ends.row) ends.on_map.x ends.on_map.y in
+      there
+      ∙ ap (λ h. Some (state_number w.env (record { x = ends.place.x; y = ends.place.y; t = h }))) (sym ends.heading)
+      ∙ ap Some (sym ends.number)
 
   pub off_map_where_none : head_by w s p ≡ None → IsOnMap w.map (column_from w s p.dx) (row_from w s p.dy) → ⊥
   unfolding head_by

@@ -1,5 +1,6 @@
 -- The tails of the lattice, in the order of the file.
-use Rattle.std.proofs.Common.{◌≡◌, ℕ, pos, ◌<◌, ◌==◌, ◌+ℤ◌, length, take, count_by, slice_get, slice_index, Option, Some, None, option_and_then, refl, ap, sym, zero-add, ◌∙◌, arith, subst}
+use Rattle.std.proofs.Common.{◌≡◌, ℕ, pos, ◌<◌, ◌==◌, ◌+ℤ◌, length, take, count_by, slice_get, slice_index, Option}
+use Rattle.std.proofs.Common.{Some, None, option_and_then, refl, ap, sym, zero-add, ◌∙◌, arith, subst}
 use Rattle.std.specs.Option.{option_map}
 use Rattle.std.proofs.lemmas.Bool.{eqb-true}
 use Rattle.std.proofs.lemmas.Option.{none-some, slice_get-get_or}
@@ -26,7 +27,8 @@ record IsFoundTail (w : World) (t j place : ℕ) (p : Primitive) : Type 0 where
   by : IsEntering w.prims.items (place_of w.env t).t j place p
   at : slice_get (entering w.prims.items (place_of w.env t).t) j ≡ Some place
 
-found_tail : (w : World) (t j : ℕ) → j < length (entering w.prims.items (place_of w.env t).t) → (place : ℕ) × (p : Primitive) × IsFoundTail w t j place p
+found_tail : (w : World) (t j : ℕ) → j < length (entering w.prims.items (place_of w.env t).t)
+    → (place : ℕ) × (p : Primitive) × IsFoundTail w t j place p
 found_tail w t j h =
     let place = slice_index (entering w.prims.items (place_of w.env t).t) j in
     let at = slice_get-get_or (entering w.prims.items (place_of w.env t).t) j 0 h in
@@ -55,11 +57,18 @@ module _ (w : World) (is_world : IsWorld w) (t j place : ℕ) (p : Primitive) (f
   arc_into : t < state_count w.env → (s k : ℕ) → tail_by w t place p ≡ Some (s, k) → IsArcInto w s k place p t
   unfolding tail_by
   arc_into state s k h =
-      let parts = pair_made (state_in w.env (column_to w t p.dx) (row_to w t p.dy) p.from) (count_by (λ q. q.from == p.from) (take place w.prims.items)) s k h in
+      let parts =
+      pair_made (state_in w.env (column_to w t p.dx) (row_to w t p.dy) p.from)
+      (count_by (λ q. q.from == p.from) (take place w.prims.items)) s k h in
       let at = state_in_some w.env (column_to w t p.dx) (row_to w t p.dy) p.from s parts.0 in
       let source : Place = record { x = at.column; y = at.row; t = p.from } in
-      let on_map : IsPlace w.env source = record { x = at.right; y = at.high; t = omega (arith, is_world.headings, (is_world.prims.each place p f.by.stands).from) } in
-      let here : place_of w.env s ≡ source = ap (place_of w.env) at.number ∙ place_of_state_number w.env is_world.env source on_map in
+      let on_map : IsPlace w.env source = record {
+        x = at.right;
+        y = at.high;
+        t = omega (arith, is_world.headings, (is_world.prims.each place p f.by.stands).from);
+      } in
+      let here : place_of w.env s ≡ source =
+      ap (place_of w.env) at.number ∙ place_of_state_number w.env is_world.env source on_map in
       let heading : (place_of w.env s).t ≡ p.from = ap (λ (q : Place). q.t) here in
       record {
         source = omega (arith, state_number_below w.env source on_map, at.number);
@@ -71,8 +80,12 @@ module _ (w : World) (is_world : IsWorld w) (t j place : ℕ) (p : Primitive) (f
         ends = record {
           place = place_of w.env t;
           on_map = place_of_state w.env is_world.env t state;
-          column = left_of (pos at.column) (pos (place_of w.env t).x) p.dx at.x_is ∙ ap (λ (q : Place). pos q.x +ℤ p.dx) (sym here);
-          row = left_of (pos at.row) (pos (place_of w.env t).y) p.dy at.y_is ∙ ap (λ (q : Place). pos q.y +ℤ p.dy) (sym here);
+          column =
+              left_of (pos at.column) (pos (place_of w.env t).x) p.dx at.x_is
+              ∙ ap (λ (q : Place). pos q.x +ℤ p.dx) (sym here);
+          row =
+              left_of (pos at.row) (pos (place_of w.env t).y) p.dy at.y_is
+              ∙ ap (λ (q : Place). pos q.y +ℤ p.dy) (sym here);
           heading = sym f.by.heading;
           number = sym (state_of_place_of w.env is_world.env t);
         };
@@ -82,24 +95,36 @@ module _ (w : World) (is_world : IsWorld w) (t j place : ℕ) (p : Primitive) (f
   unfolding tail_by
   tail_of_into s k arc =
       let ends = arc.ends in
-      let there : place_of w.env t ≡ ends.place = ap (place_of w.env) ends.number ∙ place_of_state_number w.env is_world.env ends.place ends.on_map in
+      let there : place_of w.env t ≡ ends.place =
+      ap (place_of w.env) ends.number ∙ place_of_state_number w.env is_world.env ends.place ends.on_map in
       let inside = place_of_state w.env is_world.env s arc.source in
-      let column = right_of (pos (place_of w.env s).x) (pos (place_of w.env t).x) p.dx (ap (λ (q : Place). pos q.x) there ∙ ends.column) in
-      let row = right_of (pos (place_of w.env s).y) (pos (place_of w.env t).y) p.dy (ap (λ (q : Place). pos q.y) there ∙ ends.row) in
-      let source = state_in_at w.env (column_to w t p.dx) (row_to w t p.dy) p.from (place_of w.env s).x (place_of w.env s).y column row inside.x inside.y
-      ∙ ap (λ n. Some (state_number w.env (record { x = (place_of w.env s).x; y = (place_of w.env s).y; t = n }))) arc.by.heading ∙ ap (λ n. Some n) (state_of_place_of w.env is_world.env s) in
+      let column =
+      right_of (pos (place_of w.env s).x) (pos (place_of w.env t).x) p.dx
+      (ap (λ (q : Place). pos q.x) there ∙ ends.column) in
+      let row =
+      right_of (pos (place_of w.env s).y) (pos (place_of w.env t).y) p.dy
+      (ap (λ (q : Place). pos q.y) there ∙ ends.row) in
+      let source =
+      state_in_at w.env (column_to w t p.dx) (row_to w t p.dy) p.from (place_of w.env s).x (place_of w.env s).y
+      column row inside.x inside.y
+      ∙ ap (λ n. Some (state_number w.env (record { x = (place_of w.env s).x; y = (place_of w.env s).y; t = n })))
+      arc.by.heading ∙ ap (λ n. Some n) (state_of_place_of w.env is_world.env s) in
       let number = ap (λ n. count_by (λ q. q.from == n) (take place w.prims.items)) arc.by.heading ∙ arc.by.number in
       let pair : ℕ → Option (ℕ × ℕ) = λ n. Some (s, n) in
-      ap (λ o. option_map (λ r. (r, count_by (λ q. q.from == p.from) (take place w.prims.items))) o) source ∙ ap pair number
+      ap (λ o. option_map (λ r. (r, count_by (λ q. q.from == p.from) (take place w.prims.items))) o) source
+      ∙ ap pair number
 
   off_where_no_tail : tail_by w t place p ≡ None → IsOnMap w.map (column_to w t p.dx) (row_to w t p.dy) → ⊥
   unfolding tail_by
   off_where_no_tail h = off_where_no_state w is_world (column_to w t p.dx) (row_to w t p.dy) p.from
-      (made_of_none (λ (s : ℕ). (s, count_by (λ q. q.from == p.from) (take place w.prims.items))) (state_in w.env (column_to w t p.dx) (row_to w t p.dy) p.from) h)
+      (made_of_none (λ (s : ℕ). (s, count_by (λ q. q.from == p.from) (take place w.prims.items)))
+      (state_in w.env (column_to w t p.dx) (row_to w t p.dy) p.from) h)
 
   no_tail_where_off : (IsOnMap w.map (column_to w t p.dx) (row_to w t p.dy) → ⊥) → tail_by w t place p ≡ None
   unfolding tail_by
-  no_tail_where_off off = ap (λ o. option_map (λ (s : ℕ). (s, count_by (λ q. q.from == p.from) (take place w.prims.items))) o) (no_state_where_off w is_world (column_to w t p.dx) (row_to w t p.dy) p.from off)
+  no_tail_where_off off =
+      ap (λ o. option_map (λ (s : ℕ). (s, count_by (λ q. q.from == p.from) (take place w.prims.items))) o)
+      (no_state_where_off w is_world (column_to w t p.dx) (row_to w t p.dy) p.from off)
 
   tail_of : t < state_count w.env → IsTailOf (network_of w) w t j place p
   tail_of state = record {

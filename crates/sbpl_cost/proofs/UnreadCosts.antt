@@ -1,5 +1,6 @@
 -- Arcs cost the same on two maps on which the cells that they read do.
-use Rattle.std.proofs.Common.{◌≡◌, ℕ, ℤ, pos, ◌<◌, ◌≢◌, ◌⊎◌, inl, inr, Bool, true, false, Option, Some, None, IsSomeAnd, refl, sym, ◌∙◌, subst}
+use Rattle.std.proofs.Common.{◌≡◌, ℕ, ℤ, pos, ◌<◌, ◌≢◌, ◌⊎◌, inl, inr, Bool, true, false, Option, Some, None, IsSomeAnd}
+use Rattle.std.proofs.Common.{refl, sym, ◌∙◌, subst}
 use Rattle.std.specs.Ordering.{int_eq}
 use Rattle.std.proofs.lemmas.Bool.Decides.{Decides-int_eq}
 use Rattle.std.proofs.lemmas.Option.{none-some}
@@ -28,8 +29,11 @@ paid_read w p x y (inr (inl target)) = at_target target.0 target.1
 paid_read w p x y (inr (inr centre)) = at_centre centre
 
 -- an arc that is free on one map is so on another
-module _ (w : World) (m n : CellMap) (s : ℕ) (p : Primitive) (same : (dx dy : ℤ) → IsRead w.env.cell w.sweeps.radius p dx dy → cost_from (over_map w n) s dx dy ≡ cost_from (over_map w m) s dx dy) where
-  still_below : (dx dy : ℤ) (limit : ℕ) → IsRead w.env.cell w.sweeps.radius p dx dy → IsBelow (over_map w m) s dx dy limit → IsBelow (over_map w n) s dx dy limit
+module _ (w : World) (m n : CellMap) (s : ℕ) (p : Primitive)
+    (same : (dx dy : ℤ) → IsRead w.env.cell w.sweeps.radius p dx dy
+    → cost_from (over_map w n) s dx dy ≡ cost_from (over_map w m) s dx dy) where
+  still_below : (dx dy : ℤ) (limit : ℕ) → IsRead w.env.cell w.sweeps.radius p dx dy
+      → IsBelow (over_map w m) s dx dy limit → IsBelow (over_map w n) s dx dy limit
   still_below dx dy limit read below = subst (λ o. IsSomeAnd o (λ c. c < limit)) (sym (same dx dy read)) below
 
   still_free : IsFree (over_map w m) s p → IsFree (over_map w n) s p
@@ -41,7 +45,8 @@ module _ (w : World) (m n : CellMap) (s : ℕ) (p : Primitive) (same : (dx dy : 
     swept = λ x y touched. still_below x y w.env.obsthresh (at_swept touched) (free.swept x y touched);
   }
 
-  still_greatest : (greatest : ℕ) → IsGreatestPaid (over_map w m) s p greatest → IsGreatestPaid (over_map w n) s p greatest
+  still_greatest : (greatest : ℕ) → IsGreatestPaid (over_map w m) s p greatest
+      → IsGreatestPaid (over_map w n) s p greatest
   still_greatest greatest is = record {
     dx = is.dx;
     dy = is.dy;
@@ -51,14 +56,24 @@ module _ (w : World) (m n : CellMap) (s : ℕ) (p : Primitive) (same : (dx dy : 
   }
 
   pub still_free_at : (c : ℕ) → IsFreeAt (over_map w m) s p c → IsFreeAt (over_map w n) s p c
-  still_free_at c at = record { free = still_free at.free; greatest = at.greatest; paid = still_greatest at.greatest at.paid; product = at.product }
+  still_free_at c at = record {
+    free = still_free at.free;
+    greatest = at.greatest;
+    paid = still_greatest at.greatest at.paid;
+    product = at.product;
+  }
 
 -- an arc's primitive is found in both lattices
-pub other_cost : (w : World) (m : CellMap) (s k place : ℕ) (p : Primitive) → IsWorld w → IsWorld (over_map w m) → IsFound w s k place p
-    → ((x y : ℤ) → ReadsCell w s k x y → cost_at m x y ≡ cost_at w.map x y) → (network_of (over_map w m)).cost s k ≡ (network_of w).cost s k
+pub other_cost : (w : World) (m : CellMap) (s k place : ℕ) (p : Primitive) → IsWorld w
+    → IsWorld (over_map w m) → IsFound w s k place p
+    → ((x y : ℤ) → ReadsCell w s k x y → cost_at m x y ≡ cost_at w.map x y)
+    → (network_of (over_map w m)).cost s k ≡ (network_of w).cost s k
 other_cost w m s k place p is_world is_other f alike =
-    let same : (dx dy : ℤ) → IsRead w.env.cell w.sweeps.radius p dx dy → cost_at m (column_from w s dx) (row_from w s dy) ≡ cost_at w.map (column_from w s dx) (row_from w s dy) = λ dx dy read.
-    alike (column_from w s dx) (row_from w s dy) (record { index = place; prim = p; by = f.by; dx = dx; dy = dy; column = refl; row = refl; read = read }) in
+    let same : (dx dy : ℤ) → IsRead w.env.cell w.sweeps.radius p dx dy
+    → cost_at m (column_from w s dx) (row_from w s dy) ≡ cost_at w.map (column_from w s dx) (row_from w s dy) =
+    λ dx dy read.
+    alike (column_from w s dx) (row_from w s dy)
+    (record { index = place; prim = p; by = f.by; dx = dx; dy = dy; column = refl; row = refl; read = read }) in
     let here = arc_of w is_world s k place p f in
     let there = arc_of (over_map w m) is_other s k place p (found_by_arc (over_map w m) is_other s k place p f.by) in
     same_answer ((network_of (over_map w m)).cost s k) ((network_of w).cost s k)
@@ -70,40 +85,65 @@ pub no_cost : (w : World) (s k : ℕ) → arc_index w s k ≡ None → (network_
 unfolding network_of
 no_cost w s k h = rw h refl
 
-cost_by_place : (w : World) (m : CellMap) (s k : ℕ) (o : Option ℕ) → arc_index w s k ≡ o → IsWorld w → IsWorld (over_map w m)
-    → ((x y : ℤ) → ReadsCell w s k x y → cost_at m x y ≡ cost_at w.map x y) → (network_of (over_map w m)).cost s k ≡ (network_of w).cost s k
+cost_by_place : (w : World) (m : CellMap) (s k : ℕ) (o : Option ℕ) → arc_index w s k ≡ o → IsWorld w
+    → IsWorld (over_map w m)
+    → ((x y : ℤ) → ReadsCell w s k x y → cost_at m x y ≡ cost_at w.map x y)
+    → (network_of (over_map w m)).cost s k ≡ (network_of w).cost s k
 cost_by_place w m s k None h is_world is_other alike = no_cost (over_map w m) s k h ∙ sym (no_cost w s k h)
 cost_by_place w m s k (Some place) h is_world is_other alike =
     let f = found_at w s k place is_world h in
     other_cost w m s k place f.0 is_world is_other f.1 alike
 
 pub unread_arcs_cost_the_same : UnreadArcsCostTheSame
-unread_arcs_cost_the_same w m s k is_world is_other alike = cost_by_place w m s k (arc_index w s k) refl is_world is_other alike
+unread_arcs_cost_the_same w m s k is_world is_other alike =
+    cost_by_place w m s k (arc_index w s k) refl is_world is_other alike
 
 pub maps_change_costs_alone : MapsChangeCostsAlone
 unfolding network_of head_by tail_by
-maps_change_costs_alone w m = record { states = refl; fan = refl; head = refl; tail_fan = refl; tail = refl; gap = refl }
+maps_change_costs_alone w m =
+    record { states = refl; fan = refl; head = refl; tail_fan = refl; tail = refl; gap = refl }
 
 pub maps_change_no_reads : MapsChangeNoReads
 maps_change_no_reads w m s k x y = (
-  λ r. record { index = r.index; prim = r.prim; by = r.by; dx = r.dx; dy = r.dy; column = r.column; row = r.row; read = r.read },
-  λ r. record { index = r.index; prim = r.prim; by = r.by; dx = r.dx; dy = r.dy; column = r.column; row = r.row; read = r.read },
+  λ r. record {
+    index = r.index;
+    prim = r.prim;
+    by = r.by;
+    dx = r.dx;
+    dy = r.dy;
+    column = r.column;
+    row = r.row;
+    read = r.read;
+  },
+  λ r. record {
+    index = r.index;
+    prim = r.prim;
+    by = r.by;
+    dx = r.dx;
+    dy = r.dy;
+    column = r.column;
+    row = r.row;
+    read = r.read;
+  },
 )
 
 -- where two cells are not the same, their columns or their rows are not
 apart_by : (u x v y : ℤ) (b : Bool) → int_eq u x ≡ b → (u ≡ x → v ≡ y → ⊥) → (u ≢ x) ⊎ (v ≢ y)
 apart_by u x v y true same h = inr (h ((Decides-int_eq u x).0 same))
-apart_by u x v y false other h = inl (λ same. absurd (let no : false ≡ true = sym other ∙ (Decides-int_eq u x).1 same in cc))
+apart_by u x v y false other h =
+    inl (λ same. absurd (let no : false ≡ true = sym other ∙ (Decides-int_eq u x).1 same in cc))
 
 -- one cell changes
-pub unread_cost_the_same : (w : World) (m : CellMap) (x y : ℤ) (c : ℕ) → IsWorld w → IsWorld (over_map w m) → ChangesCell w.map m x y c → UnreadCostTheSame w (over_map w m) x y
+pub unread_cost_the_same : (w : World) (m : CellMap) (x y : ℤ) (c : ℕ) → IsWorld w → IsWorld (over_map w m)
+    → ChangesCell w.map m x y c → UnreadCostTheSame w (over_map w m) x y
 unread_cost_the_same w m x y c is_world is_other changes s k unread =
     unread_arcs_cost_the_same w m s k is_world is_other (λ u v reads.
     changes.others u v (apart_by u x v y (int_eq u x) refl (λ column row.
     unread (subst (λ q. ReadsCell w s k x q) row (subst (λ q. ReadsCell w s k q v) column reads)))))
 
 -- the lattice over another map of the same size
-pub still_world : (w : World) (m : CellMap) → IsWorld w → IsCellMap m → m.width ≡ w.map.width → m.height ≡ w.map.height → IsWorld (over_map w m)
+pub still_world : (w : World) (m : CellMap) → IsWorld w → IsCellMap m → m.width ≡ w.map.width → m.height ≡ w.map.height
+    → IsWorld (over_map w m)
 still_world w m is_world is_map width height = record {
   env = is_world.env;
   prims = is_world.prims;

@@ -1,5 +1,6 @@
 -- Distances of poses, and the ways along them.
-use Rattle.std.proofs.Common.{◌≡◌, ℕ, zero, suc, ℤ, pos, negsuc, ◌-ℤ◌, ◌+◌, ◌-◌, ◌*◌, ◌<◌, ◌≤◌, List, [], ◌∷◌, length, get_or, drop, Some, slice_get, refl, ap, sym, ◌∙◌, arith}
+use Rattle.std.proofs.Common.{◌≡◌, ℕ, zero, suc, ℤ, pos, negsuc, ◌-ℤ◌, ◌+◌, ◌-◌, ◌*◌, ◌<◌, ◌≤◌, List, [], ◌∷◌, length}
+use Rattle.std.proofs.Common.{get_or, drop, Some, slice_get, refl, ap, sym, ◌∙◌, arith}
 use Rattle.std.specs.List.{zip}
 use Rattle.std.specs.Int.RustNames.{unsigned_abs}
 use Rattle.std.proofs.Math.Nat.{mul-le-mul}
@@ -13,7 +14,8 @@ use Rattle.sbpl_cost.specs.PrimitiveCost.{squared_distance, distance, way_length
 use Rattle.sbpl_cost.proofs.RoundedUp.{root_above-least}
 
 -- coordinates in range are at most 2000 metres apart
-pub apart-le : (a b : ℤ) → IsWithin (negsuc 999999999999) (pos 1000000000000) a → IsWithin (negsuc 999999999999) (pos 1000000000000) b → unsigned_abs (a -ℤ b) ≤ 2000000000000
+pub apart-le : (a b : ℤ) → IsWithin (negsuc 999999999999) (pos 1000000000000) a
+    → IsWithin (negsuc 999999999999) (pos 1000000000000) b → unsigned_abs (a -ℤ b) ≤ 2000000000000
 apart-le a b within_a within_b = omega (arith, ints)
 
 -- a way goes to the second pose and on from there
@@ -29,20 +31,25 @@ way_length-short (p ∷ []) short = refl
 way_length-short (p ∷ q ∷ rest) short = absurd (omega arith)
 
 -- the way from a place on is the distance to the next place and the way from there on
-way_length-on : (poses : List Pose) (i : ℕ) (p q : Pose) → slice_get poses i ≡ Some p → slice_get poses (suc i) ≡ Some q → way_length (drop i poses) ≡ distance p q + way_length (drop (suc i) poses)
+way_length-on : (poses : List Pose) (i : ℕ) (p q : Pose) → slice_get poses i ≡ Some p → slice_get poses (suc i) ≡ Some q
+    → way_length (drop i poses) ≡ distance p q + way_length (drop (suc i) poses)
 way_length-on [] i p q here next = absurd (cc)
 way_length-on (x ∷ []) zero p q here next = absurd (cc)
 way_length-on (x ∷ []) (suc i) p q here next = absurd (cc)
-way_length-on (x ∷ y ∷ rest) zero p q here next = let a : x ≡ p = cc in let b : y ≡ q = cc in rw (← a, ← b) (way_length-cons x y rest)
+way_length-on (x ∷ y ∷ rest) zero p q here next =
+    let a : x ≡ p = cc in let b : y ≡ q = cc in rw (← a, ← b) (way_length-cons x y rest)
 way_length-on (x ∷ y ∷ rest) (suc i) p q here next = way_length-on (y ∷ rest) i p q here next
 
-pub way_length-drop : (poses : List Pose) (i r : ℕ) (d : Pose) → 1 ≤ i → i < length poses → r ≡ distance (get_or poses (i - 1) d) (get_or poses i d) → way_length (drop (i - 1) poses) ≡ r + way_length (drop i poses)
+pub way_length-drop : (poses : List Pose) (i r : ℕ) (d : Pose) → 1 ≤ i → i < length poses
+    → r ≡ distance (get_or poses (i - 1) d) (get_or poses i d)
+    → way_length (drop (i - 1) poses) ≡ r + way_length (drop i poses)
 way_length-drop poses zero r d some within is = absurd (omega arith)
 way_length-drop poses (suc i) r d some within is =
     let e : suc i - 1 ≡ i = omega arith in
     let p = slice_get-get_or poses i d (omega arith) in
     let q = slice_get-get_or poses (suc i) d within in
-    rw e (way_length-on poses i (get_or poses i d) (get_or poses (suc i) d) p q ∙ ap (λ n. n + way_length (drop (suc i) poses)) (sym (rw e at is)))
+    rw e (way_length-on poses i (get_or poses i d) (get_or poses (suc i) d) p q
+    ∙ ap (λ n. n + way_length (drop (suc i) poses)) (sym (rw e at is)))
 
 -- a number whose square is 0 is 0
 no_square : (n : ℕ) → n * n ≤ 0 → n ≡ 0
@@ -58,7 +65,8 @@ at_one_point p q none =
     let y = no_square (unsigned_abs (p.y -ℤ q.y)) (omega arith) in
     (omega (arith, ints), omega (arith, ints))
 
-all_at : (x : Pose) (rest : List Pose) → way_length (x ∷ rest) ≡ 0 → (i : ℕ) (p : Pose) → slice_get (x ∷ rest) i ≡ Some p → (x.x ≡ p.x) × (x.y ≡ p.y)
+all_at : (x : Pose) (rest : List Pose) → way_length (x ∷ rest) ≡ 0 → (i : ℕ) (p : Pose)
+    → slice_get (x ∷ rest) i ≡ Some p → (x.x ≡ p.x) × (x.y ≡ p.y)
 all_at x rest none zero p here = let e : x ≡ p = cc in (ap (λ (w : Pose). w.x) e, ap (λ (w : Pose). w.y) e)
 all_at x [] none (suc i) p here = absurd (cc)
 all_at x (y ∷ rest) none (suc i) p here =

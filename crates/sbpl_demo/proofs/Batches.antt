@@ -1,5 +1,6 @@
 -- The changes that are drawn can be made, and their text is short.
-use Rattle.std.proofs.Common.{◌≡◌, ℕ, zero, suc, ◌*◌, ◌%◌, ◌<◌, ◌≤◌, List, [], ◌∷◌, ◌++◌, length, map, refl, ap, inl, inr, add-one, arith}
+use Rattle.std.proofs.Common.{◌≡◌, ℕ, zero, suc, ◌*◌, ◌%◌, ◌<◌, ◌≤◌, List, [], ◌∷◌, ◌++◌, length, map, refl, ap, inl}
+use Rattle.std.proofs.Common.{inr, add-one, arith}
 use Rattle.std.specs.Prelude.{decimal, nat_eq}
 use Rattle.std.specs.List.{AllByRecursion}
 use Rattle.std.proofs.Math.Nat.{mod-lt}
@@ -25,26 +26,33 @@ HoldsOnMap width height P = (x y cost : ℕ) → x < width → y < height → co
 cost_small : (drawn : ℕ) → change_cost drawn ≤ 255
 cost_small drawn = elim (cases_Bool (nat_eq (drawn % 2) 1)) [ inl e ↦ rw e (omega arith) | inr e ↦ rw e (omega arith) ]
 
-cell_holds : (width height x y cost : ℕ) (P : Write → Type 0) → P (a_write x y cost) → AllByRecursion P (cell_writes width height x y cost)
-cell_holds width height x y cost P h = elim (cases_Bool (is_end width height x y)) [ inl e ↦ rw e tt | inr e ↦ rw e (h, tt) ]
+cell_holds : (width height x y cost : ℕ) (P : Write → Type 0) → P (a_write x y cost)
+    → AllByRecursion P (cell_writes width height x y cost)
+cell_holds width height x y cost P h =
+    elim (cases_Bool (is_end width height x y)) [ inl e ↦ rw e tt | inr e ↦ rw e (h, tt) ]
 
-change_holds : (width height from : ℕ) (P : Write → Type 0) → 0 < width → 0 < height → HoldsOnMap width height P → AllByRecursion P (change width height from)
+change_holds : (width height from : ℕ) (P : Write → Type 0) → 0 < width → 0 < height → HoldsOnMap width height P
+    → AllByRecursion P (change width height from)
 unfolding change
 change_holds width height from P some more h =
     let x = draw 0 from % width in
     let y = draw 1 from % height in
     let cost = change_cost (draw 2 from) in
-    cell_holds width height x y cost P (h x y cost (mod-lt (draw 0 from) some) (mod-lt (draw 1 from) more) (cost_small (draw 2 from)))
+    cell_holds width height x y cost P
+    (h x y cost (mod-lt (draw 0 from) some) (mod-lt (draw 1 from) more) (cost_small (draw 2 from)))
 
-both_hold : {X : Type 0} (P : X → Type 0) (xs ys : List X) → AllByRecursion P xs → AllByRecursion P ys → AllByRecursion P (xs ++ ys)
+both_hold : {X : Type 0} (P : X → Type 0) (xs ys : List X) → AllByRecursion P xs → AllByRecursion P ys
+    → AllByRecursion P (xs ++ ys)
 both_hold P [] ys h k = k
 both_hold P (x ∷ xs) ys h k = (h.0, both_hold P xs ys h.1 k)
 
-writes_hold : (width height n from : ℕ) (P : Write → Type 0) → 0 < width → 0 < height → HoldsOnMap width height P → AllByRecursion P (writes width height n from)
+writes_hold : (width height n from : ℕ) (P : Write → Type 0) → 0 < width → 0 < height → HoldsOnMap width height P
+    → AllByRecursion P (writes width height n from)
 unfolding writes
 writes_hold width height zero from P some more h = tt
 writes_hold width height (suc n) from P some more h =
-    both_hold P (writes width height n from) (change width height (word_after (3 * n) from)) (writes_hold width height n from P some more h)
+    both_hold P (writes width height n from) (change width height (word_after (3 * n) from))
+    (writes_hold width height n from P some more h)
     (change_holds width height (word_after (3 * n) from) P some more h)
 
 batches_hold : (width height n from : ℕ) (P : Write → Type 0) → 0 < width → 0 < height → HoldsOnMap width height P
@@ -52,17 +60,22 @@ batches_hold : (width height n from : ℕ) (P : Write → Type 0) → 0 < width 
 unfolding batches
 batches_hold width height zero from P some more h = tt
 batches_hold width height (suc n) from P some more h =
-    both_hold (λ batch. AllByRecursion P batch) (batches width height n from) (writes width height 8 (word_after (24 * n) from) ∷ [])
-    (batches_hold width height n from P some more h) (writes_hold width height 8 (word_after (24 * n) from) P some more h, tt)
+    both_hold (λ batch. AllByRecursion P batch) (batches width height n from)
+    (writes width height 8 (word_after (24 * n) from) ∷ [])
+    (batches_hold width height n from P some more h)
+    (writes_hold width height 8 (word_after (24 * n) from) P some more h, tt)
 
-pub are_changes : (width height seed : ℕ) (m : CellMap) → 8 ≤ width → width ≤ 512 → 8 ≤ height → height ≤ 512 → m.width ≡ width → m.height ≡ height
+pub are_changes : (width height seed : ℕ) (m : CellMap) → 8 ≤ width → width ≤ 512 → 8 ≤ height → height ≤ 512
+    → m.width ≡ width → m.height ≡ height
     → AreChangesOf m (changes_drawn width height seed)
 are_changes width height seed m a b c d e f =
     let from = word_after (width * height) seed in
     record {
       width = omega arith;
       height = omega arith;
-      on_map = batches_hold width height 3 from (λ w. IsWriteOnMap m w) (omega arith) (omega arith) (λ x y cost h k l. record { x = omega arith; y = omega arith });
+      on_map =
+          batches_hold width height 3 from (λ w. IsWriteOnMap m w) (omega arith) (omega arith)
+          (λ x y cost h k l. record { x = omega arith; y = omega arith });
       costs = batches_hold width height 3 from (λ w. w.cost ≤ 255) (omega arith) (omega arith) (λ x y cost h k l. l);
     }
 
@@ -89,33 +102,46 @@ line_short w h k l =
 abbrev text_of : List Write → List ℕ
 text_of ws = lines_text (map write_line ws)
 
-cell_short : (width height x y cost : ℕ) → x < 1000 → y < 1000 → cost < 1000 → length (text_of (cell_writes width height x y cost)) ≤ 17
+cell_short : (width height x y cost : ℕ) → x < 1000 → y < 1000 → cost < 1000
+    → length (text_of (cell_writes width height x y cost)) ≤ 17
 cell_short width height x y cost h k l = elim (cases_Bool (is_end width height x y)) [
   | inl e ↦ rw e (omega arith)
-  | inr e ↦ rw e (let one = line_short (a_write x y cost) h k l in omega (arith, one, length-append (line_text (write_line (a_write x y cost))) []))
+  | inr e ↦
+      rw e (let one = line_short (a_write x y cost) h k l in
+      omega (arith, one, length-append (line_text (write_line (a_write x y cost))) []))
 ]
 
-change_short : (width height from : ℕ) → 0 < width → 0 < height → width ≤ 512 → height ≤ 512 → length (text_of (change width height from)) ≤ 17
+change_short : (width height from : ℕ) → 0 < width → 0 < height → width ≤ 512 → height ≤ 512
+    → length (text_of (change width height from)) ≤ 17
 unfolding change
 change_short width height from some more few low =
     let x = mod-lt (draw 0 from) some in
     let y = mod-lt (draw 1 from) more in
     let cost = cost_small (draw 2 from) in
-    cell_short width height (draw 0 from % width) (draw 1 from % height) (change_cost (draw 2 from)) (omega (arith, x)) (omega (arith, y)) (omega (arith, cost))
+    cell_short width height (draw 0 from % width) (draw 1 from % height) (change_cost (draw 2 from)) (omega (arith, x))
+    (omega (arith, y)) (omega (arith, cost))
 
-writes_short : (width height n from : ℕ) → 0 < width → 0 < height → width ≤ 512 → height ≤ 512 → length (text_of (writes width height n from)) ≤ 17 * n
+writes_short : (width height n from : ℕ) → 0 < width → 0 < height → width ≤ 512 → height ≤ 512
+    → length (text_of (writes width height n from)) ≤ 17 * n
 writes_short width height zero from a b c d = rw (writes_none width height from) (omega arith)
 writes_short width height (suc n) from a b c d =
     let before = writes_short width height n from a b c d in
     let one = change_short width height (word_after (3 * n) from) a b c d in
     let next = rw (add-one n) at (ap length (writes_next width height n from)) in
-    omega (arith, before, one, next, length-append (text_of (writes width height n from)) (text_of (change width height (word_after (3 * n) from))))
+    omega (
+      arith,
+      before,
+      one,
+      next,
+      length-append (text_of (writes width height n from)) (text_of (change width height (word_after (3 * n) from))),
+    )
 
 end_short : length (line_text replan_line) ≡ 7
 unfolding line_text
 end_short = refl
 
-batches_short : (width height n from : ℕ) → 0 < width → 0 < height → width ≤ 512 → height ≤ 512 → length (changes_text (batches width height n from)) ≤ 143 * n
+batches_short : (width height n from : ℕ) → 0 < width → 0 < height → width ≤ 512 → height ≤ 512
+    → length (changes_text (batches width height n from)) ≤ 143 * n
 batches_short width height zero from a b c d = rw (batches_none width height from) (omega arith)
 batches_short width height (suc n) from a b c d =
     let batch = writes width height 8 (word_after (24 * n) from) in
@@ -123,7 +149,18 @@ batches_short width height (suc n) from a b c d =
     let some = writes_short width height 8 (word_after (24 * n) from) a b c d in
     let next = rw (add-one n) at (ap length (batches_next width height n from)) in
     let ends = ap length (batch_ends batch) in
-    omega (arith, before, some, next, ends, end_short, length-append (text_of batch) (line_text replan_line), length-append (changes_text (batches width height n from)) (lines_text (batch_lines batch)))
+    omega (
+      arith,
+      before,
+      some,
+      next,
+      ends,
+      end_short,
+      length-append (text_of batch) (line_text replan_line),
+      length-append (changes_text (batches width height n from)) (lines_text (batch_lines batch)),
+    )
 
-pub are_short : (width height seed : ℕ) → 8 ≤ width → width ≤ 512 → 8 ≤ height → height ≤ 512 → length (changes_text (changes_drawn width height seed)) ≤ 429
-are_short width height seed a b c d = batches_short width height 3 (word_after (width * height) seed) (omega arith) (omega arith) b d
+pub are_short : (width height seed : ℕ) → 8 ≤ width → width ≤ 512 → 8 ≤ height → height ≤ 512
+    → length (changes_text (changes_drawn width height seed)) ≤ 429
+are_short width height seed a b c d =
+    batches_short width height 3 (word_after (width * height) seed) (omega arith) (omega arith) b d

@@ -1,5 +1,6 @@
 -- What the eighty primitives are, by looking at each.
-use Rattle.std.proofs.Common.{◌≡◌, ℕ, zero, suc, ◌+◌, ◌*◌, ◌≤◌, ◌<◌, ℤ, pos, negsuc, Bool, true, false, ◌&&◌, not, List, [], ◌∷◌, ◌++◌, length, map, sum_by, Some, refl, sym, ap, subst, ◌∙◌, arith, length-append}
+use Rattle.std.proofs.Common.{◌≡◌, ℕ, zero, suc, ◌+◌, ◌*◌, ◌≤◌, ◌<◌, ℤ, pos, negsuc, Bool, true, false, ◌&&◌, not, List}
+use Rattle.std.proofs.Common.{[], ◌∷◌, ◌++◌, length, map, sum_by, Some, refl, sym, ap, subst, ◌∙◌, arith, length-append}
 use Rattle.std.specs.Prelude.{nat_le, nat_lt, unsigned_abs, ◌==◌}
 use Rattle.std.specs.List.{list_all, slice_get, AllByRecursion}
 use Rattle.std.proofs.lemmas.Bool.{and_parts, not-true}
@@ -19,7 +20,9 @@ use Rattle.sbpl_demo.specs.Primitives.{along, motions, motions_from, pose, poses
 
 -- a pose is within two decimetres, and within two turns
 abbrev is_near : Pose → Bool
-is_near p = nat_le (unsigned_abs p.x) 200000000 && (nat_le (unsigned_abs p.y) 200000000 && nat_le (unsigned_abs p.theta) 10000000000)
+is_near p =
+    nat_le (unsigned_abs p.x) 200000000
+    && (nat_le (unsigned_abs p.y) 200000000 && nat_le (unsigned_abs p.theta) 10000000000)
 
 -- its numbers lie in their ranges, it ends where it says, it costs something, and its poses are near
 abbrev looks : Motion → List Bool
@@ -64,7 +67,8 @@ eight_hundred = refl
 
 -- ---- what was looked at, in facts
 
-pub all_at : {A : Type 0} (P : A → Type 0) (xs : List A) → AllByRecursion P xs → (i : ℕ) (x : A) → slice_get xs i ≡ Some x → P x
+pub all_at : {A : Type 0} (P : A → Type 0) (xs : List A) → AllByRecursion P xs → (i : ℕ) (x : A)
+    → slice_get xs i ≡ Some x → P x
 all_at P [] h i x e = absurd cc
 all_at {A} P (y ∷ ys) h zero x e = let same : y ≡ x = cc in subst P same h.0
 all_at P (y ∷ ys) h (suc i) x e = all_at P ys h.1 i x e
@@ -96,7 +100,9 @@ below a b h = grind (arith, nat_tests)
 
 near : (p : Pose) → is_near p ≡ true → IsNear p
 near p h =
-    let a = and_parts (nat_le (unsigned_abs p.x) 200000000) (nat_le (unsigned_abs p.y) 200000000 && nat_le (unsigned_abs p.theta) 10000000000) h in
+    let a =
+    and_parts (nat_le (unsigned_abs p.x) 200000000)
+    (nat_le (unsigned_abs p.y) 200000000 && nat_le (unsigned_abs p.theta) 10000000000) h in
     let b = and_parts (nat_le (unsigned_abs p.y) 200000000) (nat_le (unsigned_abs p.theta) 10000000000) a.1 in
     record { x = at_most _ _ a.0; y = at_most _ _ b.0; theta = at_most _ _ b.1 }
 
@@ -155,7 +161,9 @@ in_range : (p : Pose) → IsNear p → IsOffsetInRange p
 in_range p h = record {
   x = wider 200000000 200000001 999999999999 1000000000000 p.x (omega arith) (omega arith) (within 200000000 p.x h.x);
   y = wider 200000000 200000001 999999999999 1000000000000 p.y (omega arith) (omega arith) (within 200000000 p.y h.y);
-  theta = wider 10000000000 10000000001 999999999999999999 1000000000000000000 p.theta (omega arith) (omega arith) (within 10000000000 p.theta h.theta);
+  theta =
+      wider 10000000000 10000000001 999999999999999999 1000000000000000000 p.theta (omega arith) (omega arith)
+      (within 10000000000 p.theta h.theta);
 }
 
 is_primitive : (m : Motion) → IsSound m → IsPrimitive (pos 25000000) 16 (primitive m)
@@ -172,20 +180,25 @@ is_primitive m h =
       some_pose = omega (arith, ten m);
       poses = λ i p at. in_range p (all_at IsNear (poses m 10) h.near i p at);
       end = λ p i last at.
-          let index : i ≡ length (poses m 9) = omega (arith, last, ap length (last_pose m), length-append (poses m 9) (a_pose m 9 ∷ [])) in
-          let same : p ≡ a_pose m 9 = sym (get_or_from_slice_get (poses m 10) i p p at) ∙ rw (last_pose m, index) (get_or-append_seam (poses m 9) (a_pose m 9) [] p) in
+          let index : i ≡ length (poses m 9) =
+          omega (arith, last, ap length (last_pose m), length-append (poses m 9) (a_pose m 9 ∷ [])) in
+          let same : p ≡ a_pose m 9 =
+          sym (get_or_from_slice_get (poses m 10) i p p at)
+          ∙ rw (last_pose m, index) (get_or-append_seam (poses m 9) (a_pose m 9) [] p) in
           ends_at (pos 25000000) 16 (primitive m) p (rw (same, h.end_cell) refl) (rw (same, h.end_bin) refl);
       moves = costs.1;
     }
 
 -- the primitive at an index
-pub from_motion : (ms : List Motion) (i : ℕ) (p : Primitive) → slice_get (map primitive ms) i ≡ Some p → (m : Motion) × (slice_get ms i ≡ Some m) × (primitive m ≡ p)
+pub from_motion : (ms : List Motion) (i : ℕ) (p : Primitive) → slice_get (map primitive ms) i ≡ Some p
+    → (m : Motion) × (slice_get ms i ≡ Some m) × (primitive m ≡ p)
 from_motion [] i p at = absurd cc
 from_motion (m ∷ ms) zero p at = (m, refl, cc)
 from_motion (m ∷ ms) (suc i) p at = from_motion ms i p at
 
 -- the number of a primitive is its index
-place_is : (n : ℕ) (ms : List Motion) → are_numbered n ms ≡ true → (i : ℕ) (m : Motion) → slice_get ms i ≡ Some m → 5 * m.from + m.id ≡ n + i
+place_is : (n : ℕ) (ms : List Motion) → are_numbered n ms ≡ true → (i : ℕ) (m : Motion) → slice_get ms i ≡ Some m
+    → 5 * m.from + m.id ≡ n + i
 place_is n [] h i m at = absurd cc
 place_is n (k ∷ ks) h zero m at =
     let both = and_parts ((5 * k.from + k.id) == n) (are_numbered (n + 1) ks) h in
@@ -210,7 +223,9 @@ are_primitives = record {
   count = omega (arith, eighty);
   each = λ i p at.
       let m = from_motion (motions 16) i p at in
-      subst (λ (q : Primitive). IsPrimitive (pos 25000000) 16 q) m.2 (is_primitive m.0 (all_at IsSound (motions 16) are_sound i m.0 m.1));
+      subst (λ (q : Primitive). IsPrimitive (pos 25000000) 16 q) m.2
+      (is_primitive m.0 (all_at IsSound (motions 16) are_sound i m.0 m.1));
   poses = omega (arith, eight_hundred);
-  ids = λ i j p q less at_p at_q same_from same_id. omega (arith, place_of i p at_p, place_of j q at_q, same_from, same_id);
+  ids = λ i j p q less at_p at_q same_from same_id.
+      omega (arith, place_of i p at_p, place_of j q at_q, same_from, same_id);
 }

@@ -1,5 +1,6 @@
 -- The environment that is drawn is one that a file may give.
-use Rattle.std.proofs.Common.{◌≡◌, ℕ, zero, suc, ◌+◌, ◌-◌, ◌*◌, ◌/◌, ◌%◌, ◌<◌, ◌≤◌, pos, List, [], ◌∷◌, ◌++◌, length, set, refl, ap, inl, inr, arith}
+use Rattle.std.proofs.Common.{◌≡◌, ℕ, zero, suc, ◌+◌, ◌-◌, ◌*◌, ◌/◌, ◌%◌, ◌<◌, ◌≤◌, pos, List, [], ◌∷◌, ◌++◌, length}
+use Rattle.std.proofs.Common.{set, refl, ap, inl, inr, arith}
 use Rattle.std.specs.Prelude.{nat_lt}
 use Rattle.std.specs.List.{AllByRecursion}
 use Rattle.std.proofs.lemmas.Int.{ints}
@@ -19,9 +20,14 @@ on_axis : (count x : ℕ) → x < count → IsOnAxis (pos 25000000) count (cente
 on_axis count x h = rw (center_cell x) (omega (arith, ints), omega (arith, ints))
 
 in_range : (x y : ℕ) → x < 512 → y < 512 → IsPoseInRange (center_pose x y)
-in_range x y h k = record { x = (omega (arith, ints), omega (arith, ints)); y = (omega (arith, ints), omega (arith, ints)); theta = (omega (arith, ints), omega (arith, ints)) }
+in_range x y h k = record {
+  x = (omega (arith, ints), omega (arith, ints));
+  y = (omega (arith, ints), omega (arith, ints));
+  theta = (omega (arith, ints), omega (arith, ints));
+}
 
-pub is_environment : (width height : ℕ) → 8 ≤ width → width ≤ 512 → 8 ≤ height → height ≤ 512 → IsEnvironment (environment width height)
+pub is_environment : (width height : ℕ) → 8 ≤ width → width ≤ 512 → 8 ≤ height → height ≤ 512
+    → IsEnvironment (environment width height)
 is_environment width height a b c d =
     let cells : width * height < 513 * 513 = mul-lt width height 513 513 (omega arith) (omega arith) in
     record {
@@ -38,7 +44,8 @@ is_environment width height a b c d =
       headings = (omega arith, omega arith);
       states = omega (arith, cells);
       start_on_map = record { x = on_axis width 1 (omega arith); y = on_axis height 1 (omega arith) };
-      end_on_map = record { x = on_axis width (width - 2) (omega arith); y = on_axis height (height - 2) (omega arith) };
+      end_on_map =
+          record { x = on_axis width (width - 2) (omega arith); y = on_axis height (height - 2) (omega arith) };
     }
 
 -- ---- the costs
@@ -63,7 +70,8 @@ costs_push (x ∷ xs) c h k = (h.0, costs_push xs c h.1 k)
 drawn_are_costs : (n x : ℕ) → AreCosts (costs_drawn n x)
 unfolding costs_drawn
 drawn_are_costs zero x = tt
-drawn_are_costs (suc n) x = costs_push (costs_drawn n x) (cost_of (draw n x)) (drawn_are_costs n x) (cost_small (draw n x))
+drawn_are_costs (suc n) x =
+    costs_push (costs_drawn n x) (cost_of (draw n x)) (drawn_are_costs n x) (cost_small (draw n x))
 
 drawn_count : (n x : ℕ) → length (costs_drawn n x) ≡ n
 unfolding costs_drawn

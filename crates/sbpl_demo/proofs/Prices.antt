@@ -1,5 +1,6 @@
 -- What the eighty primitives cost, at most, and how many cells they sweep.
-use Rattle.std.proofs.Common.{◌≡◌, ℕ, ◌*◌, ◌<◌, ◌≤◌, ℤ, pos, negsuc, List, [], ◌∷◌, length, sum_by, Some, max, subst, arith}
+use Rattle.std.proofs.Common.{◌≡◌, ℕ, ◌*◌, ◌<◌, ◌≤◌, ℤ, pos, negsuc, List, [], ◌∷◌, length, sum_by, Some}
+use Rattle.std.proofs.Common.{max, subst, arith}
 use Rattle.std.specs.Prelude.{drop, unsigned_abs, ◌-ℤ◌}
 use Rattle.std.specs.List.{slice_get, zip, AllByRecursion}
 use Rattle.std.proofs.lemmas.Int.{ints}
@@ -9,7 +10,8 @@ use Rattle.sbpl_cfg.specs.declared.pose.Pose.{Pose}
 use Rattle.sbpl_mprim.specs.declared.prim.Primitive.{Primitive}
 use Rattle.sbpl_mprim.specs.Primitives.{pose_count}
 use Rattle.sbpl_sweep.specs.Widths.{FewPosesAreNarrow, NoneTooWide}
-use Rattle.sbpl_cost.specs.PrimitiveCost.{DistancesRoundUp, angular_time, distance, heading_gap, linear_time, most_cost, primitive_cost, way_length}
+use Rattle.sbpl_cost.specs.PrimitiveCost.{DistancesRoundUp, angular_time, distance, heading_gap, linear_time}
+use Rattle.sbpl_cost.specs.PrimitiveCost.{most_cost, primitive_cost, way_length}
 use Rattle.sbpl_demo.specs.declared.primitives.Motion.{Motion}
 use Rattle.sbpl_demo.specs.Environment.{environment}
 use Rattle.sbpl_demo.specs.Primitives.{motions, poses, primitive, primitives}
@@ -66,7 +68,8 @@ module _ (law : DistancesRoundUp) where
   gap_small : (from to : ℕ) → heading_gap 16 from to ≤ 16
   gap_small from to = omega arith
 
-  costs_little : (width height : ℕ) (p : Primitive) → way_length p.poses ≤ 8000000000 → p.mult ≤ 5 → primitive_cost (environment width height) p ≤ most_cost
+  costs_little : (width height : ℕ) (p : Primitive) → way_length p.poses ≤ 8000000000 → p.mult ≤ 5
+      → primitive_cost (environment width height) p ≤ most_cost
   unfolding primitive_cost
   costs_little width height p way few =
       let gap = gap_small p.from p.to in
@@ -76,11 +79,14 @@ module _ (law : DistancesRoundUp) where
       let short : time < 16002 = omega (arith, linear, angular) in
       omega (arith, mul-lt p.mult time 6 16002 (omega arith) short)
 
-  motion_cheap : (width height : ℕ) (m : Motion) → IsSound m → primitive_cost (environment width height) (primitive m) ≤ most_cost
+  motion_cheap : (width height : ℕ) (m : Motion) → IsSound m
+      → primitive_cost (environment width height) (primitive m) ≤ most_cost
   unfolding primitive
-  motion_cheap width height m h = costs_little width height (primitive m) (way_short (poses m 10) h.near (ten m)) h.mult.1
+  motion_cheap width height m h =
+      costs_little width height (primitive m) (way_short (poses m 10) h.near (ten m)) h.mult.1
 
-  pub are_cheap : (width height i : ℕ) (p : Primitive) → slice_get primitives.items i ≡ Some p → primitive_cost (environment width height) p ≤ most_cost
+  pub are_cheap : (width height i : ℕ) (p : Primitive) → slice_get primitives.items i ≡ Some p
+      → primitive_cost (environment width height) p ≤ most_cost
   are_cheap width height i p at =
       let m = from_motion (motions 16) i p at in
       subst (λ (q : Primitive). primitive_cost (environment width height) q ≤ most_cost) m.2

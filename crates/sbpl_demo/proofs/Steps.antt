@@ -1,5 +1,6 @@
 -- One more draw, and what it adds.
-use Rattle.std.proofs.Common.{◌≡◌, ℕ, zero, suc, ◌+◌, ◌-◌, ◌*◌, ◌/◌, ◌%◌, ◌<◌, List, [], ◌∷◌, ◌++◌, map, append-nil, ap, refl, sym, ◌∙◌, add-one, sub-one, arith}
+use Rattle.std.proofs.Common.{◌≡◌, ℕ, zero, suc, ◌+◌, ◌-◌, ◌*◌, ◌/◌, ◌%◌, ◌<◌, List, [], ◌∷◌, ◌++◌, map, append-nil, ap}
+use Rattle.std.proofs.Common.{refl, sym, ◌∙◌, add-one, sub-one, arith}
 use Rattle.std.specs.List.{flat_map}
 use Rattle.std.proofs.lemmas.List.{map-append}
 use Rattle.std.proofs.lemmas.List.Concat.{flat_map-append}
@@ -10,7 +11,8 @@ use Rattle.sbpl_map.specs.declared.write.Write.{Write}
 use Rattle.sbpl_demo.specs.Generator.{draw, next_word, word_after}
 use Rattle.sbpl_demo.specs.Environment.{cost_of, costs_drawn}
 use Rattle.sbpl_demo.specs.Changes.{batches, change, writes}
-use Rattle.sbpl_demo.specs.Primitives.{backward, far, forward, head_lines, left, motion_head, motion_lines, motions, motions_from, pose_lines, pose_words, primitives_text, right, way_along}
+use Rattle.sbpl_demo.specs.Primitives.{backward, far, forward, head_lines, left, motion_head, motion_lines, motions}
+use Rattle.sbpl_demo.specs.Primitives.{motions_from, pose_lines, pose_words, primitives_text, right, way_along}
 use Rattle.sbpl_demo.specs.declared.primitives.Motion.{Motion}
 
 pub word_none : (x : ℕ) → word_after 0 x ≡ x
@@ -56,30 +58,37 @@ writes_none width height from = refl
 
 pub writes_next : (width height n from : ℕ)
     → lines_text (map write_line (writes width height (n + 1) from))
-    ≡ lines_text (map write_line (writes width height n from)) ++ lines_text (map write_line (change width height (word_after (3 * n) from)))
+    ≡ lines_text (map write_line (writes width height n from))
+    ++ lines_text (map write_line (change width height (word_after (3 * n) from)))
 unfolding writes
 writes_next width height n from =
     let before = writes width height n from in
     let more = change width height (word_after (3 * n) from) in
     let next : writes width height (n + 1) from ≡ before ++ more = rw (add-one n) refl in
-    rw (next, map-append write_line before more) (flat_map-append line_text (map write_line before) (map write_line more))
+    rw (next, map-append write_line before more)
+    (flat_map-append line_text (map write_line before) (map write_line more))
 
 -- a batch's writes, and its end
-pub batch_ends : (batch : List Write) → lines_text (batch_lines batch) ≡ lines_text (map write_line batch) ++ line_text replan_line
-batch_ends batch = flat_map-append line_text (map write_line batch) (replan_line ∷ []) ∙ ap (λ (l : List ℕ). text_of batch ++ l) (append-nil (line_text replan_line))
+pub batch_ends : (batch : List Write)
+    → lines_text (batch_lines batch) ≡ lines_text (map write_line batch) ++ line_text replan_line
+batch_ends batch =
+    flat_map-append line_text (map write_line batch) (replan_line ∷ [])
+    ∙ ap (λ (l : List ℕ). text_of batch ++ l) (append-nil (line_text replan_line))
 
 pub batches_none : (width height from : ℕ) → changes_text (batches width height 0 from) ≡ []
 unfolding batches
 batches_none width height from = refl
 
 pub batches_next : (width height n from : ℕ)
-    → changes_text (batches width height (n + 1) from) ≡ changes_text (batches width height n from) ++ lines_text (batch_lines (writes width height 8 (word_after (24 * n) from)))
+    → changes_text (batches width height (n + 1) from) ≡ changes_text (batches width height n from)
+    ++ lines_text (batch_lines (writes width height 8 (word_after (24 * n) from)))
 unfolding batches
 batches_next width height n from =
     let before = batches width height n from in
     let batch = writes width height 8 (word_after (24 * n) from) in
     let next : batches width height (n + 1) from ≡ before ++ batch ∷ [] = rw (add-one n) refl in
-    rw (next, flat_map-append batch_lines before (batch ∷ []), append-nil (batch_lines batch)) (flat_map-append line_text (flat_map batch_lines before) (batch_lines batch))
+    rw (next, flat_map-append batch_lines before (batch ∷ []), append-nil (batch_lines batch))
+    (flat_map-append line_text (flat_map batch_lines before) (batch_lines batch))
 
 -- ---- the lines of primitives
 
@@ -87,13 +96,16 @@ pub poses_none : (m : Motion) → lines_text (pose_lines m 0) ≡ []
 unfolding pose_lines
 poses_none m = refl
 
-pub poses_next : (m : Motion) (n : ℕ) → lines_text (pose_lines m (n + 1)) ≡ lines_text (pose_lines m n) ++ line_text (pose_words m n)
+pub poses_next : (m : Motion) (n : ℕ)
+    → lines_text (pose_lines m (n + 1)) ≡ lines_text (pose_lines m n) ++ line_text (pose_words m n)
 unfolding pose_lines
 poses_next m n =
     let next : pose_lines m (n + 1) ≡ pose_lines m n ++ pose_words m n ∷ [] = rw (add-one n) refl in
-    rw (next, flat_map-append line_text (pose_lines m n) (pose_words m n ∷ []), append-nil (line_text (pose_words m n))) refl
+    rw (next, flat_map-append line_text (pose_lines m n) (pose_words m n ∷ []), append-nil (line_text (pose_words m n)))
+    refl
 
-pub motion_written : (m : Motion) → lines_text (motion_lines m) ≡ lines_text (motion_head m) ++ lines_text (pose_lines m 10)
+pub motion_written : (m : Motion)
+    → lines_text (motion_lines m) ≡ lines_text (motion_head m) ++ lines_text (pose_lines m 10)
 unfolding motion_lines
 motion_written m = flat_map-append line_text (motion_head m) (pose_lines m 10)
 
@@ -103,14 +115,17 @@ motions_none = refl
 
 pub head_written : (head empty text : List ℕ) → head ≡ lines_text head_lines → empty ≡ [] → text ≡ empty ++ head
     → text ≡ lines_text head_lines ++ lines_text (flat_map motion_lines (motions 0))
-head_written head empty text is none adds = adds ∙ rw (none, motions_none) (is ∙ sym (append-nil (lines_text head_lines)))
+head_written head empty text is none adds =
+    adds ∙ rw (none, motions_none) (is ∙ sym (append-nil (lines_text head_lines)))
 
 pub motions_next : (n : ℕ)
-    → lines_text (flat_map motion_lines (motions (n + 1))) ≡ lines_text (flat_map motion_lines (motions n)) ++ lines_text (flat_map motion_lines (motions_from n))
+    → lines_text (flat_map motion_lines (motions (n + 1)))
+    ≡ lines_text (flat_map motion_lines (motions n)) ++ lines_text (flat_map motion_lines (motions_from n))
 unfolding motions
 motions_next n =
     let next : motions (n + 1) ≡ motions n ++ motions_from n = rw (add-one n) refl in
-    rw (next, flat_map-append motion_lines (motions n) (motions_from n)) (flat_map-append line_text (flat_map motion_lines (motions n)) (flat_map motion_lines (motions_from n)))
+    rw (next, flat_map-append motion_lines (motions n) (motions_from n))
+    (flat_map-append line_text (flat_map motion_lines (motions n)) (flat_map motion_lines (motions_from n)))
 
 -- the five primitives of a heading, one after the other
 pub five_written : (from : ℕ) → lines_text (flat_map motion_lines (motions_from from))
@@ -129,7 +144,8 @@ pub digits_none : (a : List ℕ) (count n : ℕ) → count ≡ 0 → a ≡ a ++ 
 unfolding last_digits
 digits_none a count n h = rw (h, append-nil a) refl
 
-pub digits_next : (count n : ℕ) → 0 < count → last_digits count n ≡ last_digits (count - 1) (n / 10) ++ (48 + n % 10) ∷ []
+pub digits_next : (count n : ℕ) → 0 < count
+    → last_digits count n ≡ last_digits (count - 1) (n / 10) ++ (48 + n % 10) ∷ []
 unfolding last_digits
 digits_next zero n h = absurd (omega arith)
 digits_next (suc count) n h = rw sub-one refl

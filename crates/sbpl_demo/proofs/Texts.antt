@@ -1,27 +1,34 @@
 -- Texts that are appended one after the other.
-use Rattle.std.proofs.Common.{◌≡◌, ℕ, ◌+◌, ◌/◌, ◌%◌, ◌<◌, ◌≤◌, List, [], ◌∷◌, ◌++◌, append_assoc, append-nil, ap, sym, ◌∙◌, refl, arith}
+use Rattle.std.proofs.Common.{◌≡◌, ℕ, ◌+◌, ◌/◌, ◌%◌, ◌<◌, ◌≤◌, List, [], ◌∷◌, ◌++◌, append_assoc, append-nil, ap, sym}
+use Rattle.std.proofs.Common.{◌∙◌, refl, arith}
 use Rattle.std.specs.Prelude.{codes, decimal}
 use Rattle.std.proofs.lemmas.Fmt.{decimal_digit, decimal_step}
 use Rattle.sbpl_fixed.specs.Printed.{line_text, lines_text}
 use Rattle.sbpl_demo.specs.Primitives.{head_lines}
 
 -- a text grows by one more part
-pub grown : (old part more all out new : List ℕ) → all ≡ part ++ more → out ≡ old ++ part → new ≡ out ++ more → new ≡ old ++ all
-grown old part more all out new parts is adds = adds ∙ ap (λ l. l ++ more) is ∙ append_assoc old part more ∙ ap (λ l. old ++ l) (sym parts)
+pub grown : (old part more all out new : List ℕ) → all ≡ part ++ more → out ≡ old ++ part
+    → new ≡ out ++ more → new ≡ old ++ all
+grown old part more all out new parts is adds =
+    adds ∙ ap (λ l. l ++ more) is ∙ append_assoc old part more ∙ ap (λ l. old ++ l) (sym parts)
 
-pub after_five : (a b c d e f : List ℕ) {p q r s t : List ℕ} → p ≡ a ++ b → q ≡ p ++ c → r ≡ q ++ d → s ≡ r ++ e → t ≡ s ++ f → t ≡ a ++ (b ++ (c ++ (d ++ (e ++ (f ++ [])))))
+pub after_five : (a b c d e f : List ℕ) {p q r s t : List ℕ} → p ≡ a ++ b → q ≡ p ++ c → r ≡ q ++ d → s ≡ r ++ e
+    → t ≡ s ++ f → t ≡ a ++ (b ++ (c ++ (d ++ (e ++ (f ++ [])))))
 after_five a b c d e f h i j k l = rw (l, k, j, i, h) (simp (append_assoc, append-nil))
 
-pub five_written : (a b c d e f : List ℕ) {p q r s t : List ℕ} → p ≡ a ++ b → q ≡ p ++ c → r ≡ q ++ d → s ≡ r ++ e → t ≡ s ++ f → t ≡ a ++ (b ++ (c ++ (d ++ (e ++ f))))
+pub five_written : (a b c d e f : List ℕ) {p q r s t : List ℕ} → p ≡ a ++ b → q ≡ p ++ c → r ≡ q ++ d → s ≡ r ++ e
+    → t ≡ s ++ f → t ≡ a ++ (b ++ (c ++ (d ++ (e ++ f))))
 five_written a b c d e f h i j k l = rw (l, k, j, i, h) (simp append_assoc)
 
 -- a line of three words, and of four
-pub line_three : (a u v w : List ℕ) {b c d : List ℕ} → b ≡ a ++ (u ++ 32 ∷ []) → c ≡ b ++ (v ++ 32 ∷ []) → d ≡ c ++ (w ++ 10 ∷ [])
+pub line_three : (a u v w : List ℕ) {b c d : List ℕ} → b ≡ a ++ (u ++ 32 ∷ []) → c ≡ b ++ (v ++ 32 ∷ [])
+    → d ≡ c ++ (w ++ 10 ∷ [])
     → d ≡ a ++ line_text (u ∷ v ∷ w ∷ [])
 unfolding line_text
 line_three a u v w p q r = rw (r, q, p) (simp append_assoc)
 
-pub line_four : (a u v w x : List ℕ) {b c d e : List ℕ} → b ≡ a ++ (u ++ 32 ∷ []) → c ≡ b ++ (v ++ 32 ∷ []) → d ≡ c ++ (w ++ 32 ∷ []) → e ≡ d ++ (x ++ 10 ∷ [])
+pub line_four : (a u v w x : List ℕ) {b c d e : List ℕ} → b ≡ a ++ (u ++ 32 ∷ []) → c ≡ b ++ (v ++ 32 ∷ [])
+    → d ≡ c ++ (w ++ 32 ∷ []) → e ≡ d ++ (x ++ 10 ∷ [])
     → e ≡ a ++ line_text (u ∷ v ∷ w ∷ x ∷ [])
 unfolding line_text
 line_four a u v w x p q r s = rw (s, r, q, p) (simp append_assoc)
@@ -33,6 +40,7 @@ digit n h = decimal_digit n h
 two_digits : (n : ℕ) → 10 ≤ n → n < 100 → decimal n ≡ (48 + n / 10) ∷ (48 + n % 10) ∷ []
 two_digits n low high = rw (decimal_step n (omega arith) (omega arith), digit (n / 10) (omega arith)) refl
 
-pub primitives_head : codes "resolution_m: 0.025000\nnumberofangles: 16\ntotalnumberofprimitives: 80\n" ≡ lines_text head_lines
+pub primitives_head : codes "resolution_m: 0.025000\nnumberofangles: 16\ntotalnumberofprimitives: 80\n"
+    ≡ lines_text head_lines
 unfolding line_text
 primitives_head = rw (two_digits 16 (omega arith) (omega arith), two_digits 80 (omega arith) (omega arith)) refl

@@ -1,5 +1,6 @@
 -- What a pass by events promises of a planner.
-use Rattle.std.proofs.Common.{◌≡◌, ◌≢◌, ℕ, ◌+◌, ◌*◌, ◌^◌, ◌<◌, ◌≤◌, Bool, true, false, nat_lt, List, arith, ⊎_elim, inl, inr, refl, sym, ap, subst, ◌∙◌}
+use Rattle.std.proofs.Common.{◌≡◌, ◌≢◌, ℕ, ◌+◌, ◌*◌, ◌^◌, ◌<◌, ◌≤◌, Bool, true, false, nat_lt, List, arith, ⊎_elim, inl}
+use Rattle.std.proofs.Common.{inr, refl, sym, ap, subst, ◌∙◌}
 use Rattle.std.proofs.lemmas.Bool.{cases_Bool, cases_eq, cases_lt}
 use Rattle.std.proofs.lemmas.Bool.Decides.{nat_tests}
 use Rattle.std.proofs.lemmas.List.{get_or_past}
@@ -23,15 +24,18 @@ use Rattle.sbpl_frontier_rules.specs.Events.{AreEvents, IsFirst, IsIdle, IsOutOf
 use Rattle.sbpl_frontier_rules.specs.Frontier.{Frontier, is_opened}
 use Rattle.sbpl_frontier_rules.specs.Journal.{openings}
 use Rattle.sbpl_frontier_rules.specs.Kept.{IsKept}
-use Rattle.sbpl_frontier_rules.specs.Laws.{EachOpensOnce, EventsKeep, FirstIsKept, IdleIsExact, IsLawful, MayBegin, OpensOnce, SettledAtOne}
-use Rattle.sbpl_frontier_rules.specs.Passes.{ArePass, CountsAreFree, OpenedByEvents, StartStaysFresh, counted_with, opened_by}
+use Rattle.sbpl_frontier_rules.specs.Laws.{EachOpensOnce, EventsKeep, FirstIsKept, IdleIsExact, IsLawful}
+use Rattle.sbpl_frontier_rules.specs.Laws.{MayBegin, OpensOnce, SettledAtOne}
+use Rattle.sbpl_frontier_rules.specs.Passes.{ArePass, CountsAreFree, OpenedByEvents}
+use Rattle.sbpl_frontier_rules.specs.Passes.{StartStaysFresh, counted_with, opened_by}
 use Rattle.sbpl_frontier_core.specs.Log.{Log}
 use Rattle.sbpl_frontier_core.specs.Passes.{EndsSo, IsPassFinished}
 use Rattle.sbpl_epase.specs.Planner.{epase}
 
 -- ---- keys
 
-key_over : (q : Query) (m : Marks) (s : ℕ) → IsOver m s → key_at q.eps q.guide m s ≡ over_key q.eps (g_of m s) (q.guide s)
+key_over : (q : Query) (m : Marks) (s : ℕ) → IsOver m s
+    → key_at q.eps q.guide m s ≡ over_key q.eps (g_of m s) (q.guide s)
 key_over q m s over = let less : nat_lt (g_of m s) (v_of m s) ≡ true = grind (arith, nat_tests) in rw less refl
 
 -- ---- two ways to tell which states are opened
@@ -40,11 +44,14 @@ module _ {a b : ℕ → Bool} (same : (s : ℕ) → a s ≡ b s) (q : Query) (m 
   open_same : (s : ℕ) → IsOpen a m s → IsOpen b m s
   open_same s is = record {
     inside = is.inside;
-    inconsistent = ⊎_elim (λ (under : IsUnder m s). inl under) (λ (over : IsOver m s × (a s ≡ false)). inr (over.0, sym (same s) ∙ over.1)) is.inconsistent;
+    inconsistent =
+        ⊎_elim (λ (under : IsUnder m s). inl under)
+        (λ (over : IsOver m s × (a s ≡ false)). inr (over.0, sym (same s) ∙ over.1)) is.inconsistent;
   }
 
 rest_same : {a b : ℕ → Bool} → ((s : ℕ) → a s ≡ b s) → (q : Query) (m : Marks) → IsAtRest q a m → IsAtRest q b m
-rest_same same q m rest = record { none_below = λ s is below. rest.none_below s (open_same (λ u. sym (same u)) q m s is) below }
+rest_same same q m rest =
+    record { none_below = λ s is below. rest.none_below s (open_same (λ u. sym (same u)) q m s is) below }
 
 -- ---- the frontier at the end of a pass
 
@@ -67,16 +74,21 @@ module _ (q : Query) (f : Frontier) (lawful : IsLawful q) (kept : IsKept q f) wh
       (cases_lt u q.network.states)
 
   v_at_most : (s : ℕ) → s < q.network.states → v s ≤ FAR
-  v_at_most s inside = ⊎_elim (λ (far : v s ≡ FAR). omega (arith, far)) (λ (near : v s < 2 ^ 62). omega (arith, near)) (kept.labels.labels s (omega (arith, kept.states))).1
+  v_at_most s inside =
+      ⊎_elim (λ (far : v s ≡ FAR). omega (arith, far)) (λ (near : v s < 2 ^ 62). omega (arith, near))
+      (kept.labels.labels s (omega (arith, kept.states))).1
 
   module _ (rest : IsAtRest q (is_opened f) f.labels) where
     -- a state that is not opened, and whose g and v differ, has a key that is not below the goal's
-    above_goal : (s : ℕ) → s < q.network.states → g s < v s → is_opened f s ≡ false → 1000 * g q.goal ≤ 1000 * g s + q.eps * q.guide s
+    above_goal : (s : ℕ) → s < q.network.states → g s < v s → is_opened f s ≡ false
+        → 1000 * g q.goal ≤ 1000 * g s + q.eps * q.guide s
     above_goal s inside over fresh =
         ⊎_elim
         (λ (low : 1000 * g s + q.eps * q.guide s < 1000 * g q.goal).
-        let below : IsBelow (key_at q.eps q.guide f.labels s) (goal_key_at q f.labels) = rw (key_over q f.labels s over) (inl low) in
-        absurd (rest.none_below s (record { inside = omega (arith, inside, kept.states); inconsistent = inr (over, fresh) }) below))
+        let below : IsBelow (key_at q.eps q.guide f.labels s) (goal_key_at q f.labels) =
+        rw (key_over q f.labels s over) (inl low) in
+        absurd (rest.none_below s
+        (record { inside = omega (arith, inside, kept.states); inconsistent = inr (over, fresh) }) below))
         (λ above. above)
         (cases_lt (1000 * g s + q.eps * q.guide s) (1000 * g q.goal))
 
@@ -87,7 +99,9 @@ module _ (q : Query) (f : Frontier) (lawful : IsLawful q) (kept : IsKept q f) wh
           (λ (opened : is_opened f s ≡ true). absurd (differ (settled q f lawful one kept s opened)))
           (λ (fresh : is_opened f s ≡ false).
           let under = under_nowhere s in
-          let over : g s < v s = ⊎_elim (λ (same : v s ≡ g s). absurd (differ same)) (λ (apart : v s ≢ g s). omega (arith, under, apart)) (cases_eq (v s) (g s)) in
+          let over : g s < v s =
+          ⊎_elim (λ (same : v s ≡ g s). absurd (differ same)) (λ (apart : v s ≢ g s). omega (arith, under, apart))
+          (cases_eq (v s) (g s)) in
           let above = above_goal s inside over fresh in
           let scaled : q.eps * q.guide s ≡ 1000 * q.guide s = rw one refl in
           omega (arith, above, scaled))
@@ -101,7 +115,8 @@ module _ (q : Query) (f : Frontier) (lawful : IsLawful q) (kept : IsKept q f) wh
         unsettled = unsettled_above;
       }
 
-      none_at_one : ((s : ℕ) → s < q.network.states → q.guide s < 2 ^ 55) → g q.goal ≡ FAR → ShowNone q.network f.labels.start q.goal g v
+      none_at_one : ((s : ℕ) → s < q.network.states → q.guide s < 2 ^ 55) → g q.goal ≡ FAR
+          → ShowNone q.network f.labels.start q.goal g v
       none_at_one small far = record {
         supported = supported;
         goal_is_far = far;
@@ -112,15 +127,18 @@ module _ (q : Query) (f : Frontier) (lawful : IsLawful q) (kept : IsKept q f) wh
             let at_most = unsettled_above s inside (λ same. omega (arith, same, near, infinite)) in
             let guide = small s inside in
             let label = (kept.labels.labels s (omega (arith, inside, kept.states))).0 in
-            absurd (⊎_elim (λ (is : g s ≡ FAR). omega (arith, is, near)) (λ (low : g s < 2 ^ 62). omega (arith, low, guide, at_most, far)) label))
+            absurd (⊎_elim (λ (is : g s ≡ FAR). omega (arith, is, near))
+            (λ (low : g s < 2 ^ 62). omega (arith, low, guide, at_most, far)) label))
             (cases_lt (v s) FAR);
       }
 
 -- ---- a pass
 
-module _ (q : Query) (m : Marks) (before : Counts) (events : List Event) (first last : Frontier) (lawful : IsLawful q) (begins : MayBegin q m before)
+module _ (q : Query) (m : Marks) (before : Counts) (events : List Event) (first last : Frontier) (lawful : IsLawful q)
+    (begins : MayBegin q m before)
     (is_first : IsFirst m before first) (are : AreEvents q events first last) (idle : IsIdle last)
-    (first_kept : FirstIsKept) (events_keep : EventsKeep) (idle_exact : IdleIsExact) (settled : SettledAtOne) (once : EachOpensOnce) (free : CountsAreFree) (marked : OpenedByEvents) (fresh : StartStaysFresh)
+    (first_kept : FirstIsKept) (events_keep : EventsKeep) (idle_exact : IdleIsExact) (settled : SettledAtOne)
+    (once : EachOpensOnce) (free : CountsAreFree) (marked : OpenedByEvents) (fresh : StartStaysFresh)
     (small : (s : ℕ) → s < q.network.states → q.guide s < 2 ^ 55) where
   kept : IsKept q last
   kept = events_keep q events first last lawful are (first_kept q m before first begins is_first)
@@ -128,7 +146,8 @@ module _ (q : Query) (m : Marks) (before : Counts) (events : List Event) (first 
   opens : OpensOnce q m before events last
   opens = once q m before events first last lawful begins is_first are
 
-  exact : AreExact q.network last.labels.start (g_of last.labels) (v_of last.labels) (back_of last.labels) × AreSupported q.network last.labels.start (g_of last.labels) (v_of last.labels)
+  exact : AreExact q.network last.labels.start (g_of last.labels) (v_of last.labels) (back_of last.labels)
+      × AreSupported q.network last.labels.start (g_of last.labels) (v_of last.labels)
   exact = idle_exact q last kept idle
 
   by_events : (s : ℕ) → is_opened last s ≡ opened_by events s
@@ -155,8 +174,10 @@ module _ (q : Query) (m : Marks) (before : Counts) (events : List Event) (first 
     record { none_ready = idle.none_ready; none_out = idle.none_out },
   )
 
-  pub passed : (end : PassEnd) (old new : State Event) → old.labels ≡ m → new.labels ≡ last.labels → new.notes ≡ events → new.goal ≡ old.goal → old.goal ≡ q.goal
-      → (end ≡ Rest → IsRest q last) → (end ≡ Spent → IsOutOfBudget q last) → IsPassed epase q old new before last.counts end
+  pub passed : (end : PassEnd) (old new : State Event) → old.labels ≡ m → new.labels ≡ last.labels → new.notes ≡ events
+      → new.goal ≡ old.goal → old.goal ≡ q.goal
+      → (end ≡ Rest → IsRest q last) → (end ≡ Spent → IsOutOfBudget q last)
+      → IsPassed epase q old new before last.counts end
   passed end old new from to noted same_goal goal rest spent = record {
     leads = rw (from, to, noted) are_pass;
     rests = λ is. rw (to, noted) (rest_same by_events q last.labels (rest is).rest);
@@ -169,7 +190,8 @@ module _ (q : Query) (m : Marks) (before : Counts) (events : List Event) (first 
     few = rw (noted, from) (omega (arith, opens.few));
     unfinished = λ is. let less = opens.unfinished (spent is) in rw (noted, from) (omega (arith, less));
     unbroken = λ is i u at. rw to (under_nowhere q last lawful kept u);
-    none = λ is one far. rw (to, goal) (none_at_one q last lawful kept (rest is).rest one settled exact.1 small (rw (← goal, ← to) far));
+    none = λ is one far.
+        rw (to, goal) (none_at_one q last lawful kept (rest is).rest one settled exact.1 small (rw (← goal, ← to) far));
     tight = λ is one. rw (to, goal) (tight_at_one q last lawful kept (rest is).rest one settled exact.1);
     ready = rw to (record { states = kept.states; exact = exact.0; none_under = kept.none_under; fits = kept.fits });
     supported = rw to exact.1;
@@ -196,19 +218,24 @@ spent_of : (q : Query) (end : PassEnd) (f : Frontier) → EndsSo q end f → end
 spent_of q Rest f ends is = absurd (let no : ⊥ = cc in no)
 spent_of q Spent f ends is = ends
 
-module _ (q : Query) (m left : Marks) (before after : Counts) (keeps : Bool) (log : Log) (end : PassEnd) (lawful : IsLawful q) (begins : MayBegin q m before)
+module _ (q : Query) (m left : Marks) (before after : Counts) (keeps : Bool) (log : Log) (end : PassEnd)
+    (lawful : IsLawful q) (begins : MayBegin q m before)
     (finished : IsPassFinished q m before keeps left after log end)
-    (first_kept : FirstIsKept) (events_keep : EventsKeep) (idle_exact : IdleIsExact) (settled : SettledAtOne) (once : EachOpensOnce) (free : CountsAreFree) (marked : OpenedByEvents) (fresh : StartStaysFresh)
+    (first_kept : FirstIsKept) (events_keep : EventsKeep) (idle_exact : IdleIsExact) (settled : SettledAtOne)
+    (once : EachOpensOnce) (free : CountsAreFree) (marked : OpenedByEvents) (fresh : StartStaysFresh)
     (small : (s : ℕ) → s < q.network.states → q.guide s < 2 ^ 55) where
-  pub finished_passed : (old new : State Event) → old.labels ≡ m → new.labels ≡ left → new.notes ≡ log.events → new.goal ≡ old.goal → old.goal ≡ q.goal
+  pub finished_passed : (old new : State Event) → old.labels ≡ m → new.labels ≡ left → new.notes ≡ log.events
+      → new.goal ≡ old.goal → old.goal ≡ q.goal
       → IsPassed epase q old new before after end
   finished_passed old new from to noted same_goal goal =
       let f = finished.frontier in
       let is = finished.finished in
       let replay = is.replay in
       let by : IsPassed epase q old new before f.counts end =
-      passed q m before log.events replay.first f lawful begins replay.begins replay.leads (idle_of q end f finished.ends)
-      first_kept events_keep idle_exact settled once free marked fresh small end old new from (to ∙ is.labels_are) noted same_goal goal
+      passed q m before log.events replay.first f lawful begins replay.begins replay.leads
+      (idle_of q end f finished.ends)
+      first_kept events_keep idle_exact settled once free marked fresh small end old new from
+      (to ∙ is.labels_are) noted same_goal goal
       (rest_of q end f finished.ends) (spent_of q end f finished.ends)
       in
       subst (λ (c : Counts). IsPassed epase q old new before c end) (sym is.counts_are) by

@@ -1,5 +1,6 @@
 -- Lists of seats and their sums.
-use Rattle.std.proofs.Common.{◌≡◌, ℕ, suc, ◌+◌, All, List, [], ◌∷◌, ◌++◌, ap, length, sum_by, arith, refl, sym, subst, ◌∙◌, length-append}
+use Rattle.std.proofs.Common.{◌≡◌, ℕ, suc, ◌+◌, All, List, [], ◌∷◌, ◌++◌, ap, length, sum_by, arith, refl, sym}
+use Rattle.std.proofs.Common.{subst, ◌∙◌, length-append}
 use Rattle.std.proofs.lemmas.List.{get_or_append_left}
 use Rattle.std.proofs.lemmas.List.Sums.{sum_by-append, sum_by-cons}
 use Rattle.sbpl_frontier.specs.Tally.{Tally}
@@ -27,7 +28,8 @@ sums_even (x ∷ xs) even =
 
 -- all but the last one
 even_before : (xs : List Tally) (x : Tally) → All IsEven (xs ++ x ∷ []) → All IsEven xs
-even_before xs x even = λ k d inside. subst IsEven (get_or_append_left xs (x ∷ []) d k inside) (even k d (omega (arith, length-append xs (x ∷ []))))
+even_before xs x even = λ k d inside.
+    subst IsEven (get_or_append_left xs (x ∷ []) d k inside) (even k d (omega (arith, length-append xs (x ∷ []))))
 
 pub even_left : (all xs : List Tally) (x : Tally) → all ≡ xs ++ x ∷ [] → All IsEven all → All IsEven xs
 even_left all xs x is even = even_before xs x (subst (All IsEven) is even)
@@ -37,7 +39,8 @@ abbrev AreAlike : List Tally → Type 0
 AreAlike xs = sum_by (λ s. length s.posts) xs ≡ sum_by (λ s. s.takes) xs
 
 pub alike_with : (all xs : List Tally) (x : Tally) → all ≡ xs ++ x ∷ [] → AreAlike xs → IsEven x → AreAlike all
-alike_with all xs x is alike even = rw is (omega (arith, sum_then (λ s. length s.posts) xs x, sum_then (λ s. s.takes) xs x, alike, even))
+alike_with all xs x is alike even =
+    rw is (omega (arith, sum_then (λ s. length s.posts) xs x, sum_then (λ s. s.takes) xs x, alike, even))
 
 pub alike_none : (xs : List Tally) → xs ≡ [] → AreAlike xs
 alike_none xs none = rw none refl

@@ -1,5 +1,6 @@
 -- Digits, and the number that they write up to a cap.
-use Rattle.std.proofs.Common.{◌≡◌, ℕ, zero, suc, ◌+◌, ◌-◌, ◌*◌, ◌^◌, ◌<◌, ◌≤◌, min, Bool, true, List, [], ◌∷◌, length, get_or, drop, refl, sym, ap, ◌∙◌, arith, inl, inr, leb, add-one}
+use Rattle.std.proofs.Common.{◌≡◌, ℕ, zero, suc, ◌+◌, ◌-◌, ◌*◌, ◌^◌, ◌<◌, ◌≤◌, min, Bool, true, List, [], ◌∷◌, length}
+use Rattle.std.proofs.Common.{get_or, drop, refl, sym, ap, ◌∙◌, arith, inl, inr, leb, add-one}
 use Rattle.std.proofs.lemmas.Bool.{and_parts, leb-true, cases_lt, lt-leb}
 use Rattle.std.proofs.lemmas.List.{drop_all}
 use Rattle.std.proofs.Math.Nat.{mul-le-mul_right, pow-succ', mul_assoc}
@@ -33,14 +34,17 @@ capped cap n ds =
       | inr le ↦ ap (λ (x : ℕ). min cap (number_after x ds)) (omega arith)
     ]
 
-pub capped_more : (cap value next i : ℕ) (ds : List ℕ) (total : ℕ) → i < length ds → next ≡ min cap (value * 10 + (get_or ds i 0 - 48))
+pub capped_more : (cap value next i : ℕ) (ds : List ℕ) (total : ℕ) → i < length ds
+    → next ≡ min cap (value * 10 + (get_or ds i 0 - 48))
     → min cap (number_after value (drop i ds)) ≡ total → min cap (number_after next (drop (i + 1) ds)) ≡ total
 unfolding number_after
 capped_more cap value next i ds total h e so_far =
-    let one : number_after value (drop i ds) ≡ number_after (value * 10 + (get_or ds i 0 - 48)) (drop (i + 1) ds) = rw (add-one, drop-cons ds i 0) refl in
+    let one : number_after value (drop i ds) ≡ number_after (value * 10 + (get_or ds i 0 - 48)) (drop (i + 1) ds) =
+    rw (add-one, drop-cons ds i 0) refl in
     rw e (capped cap (value * 10 + (get_or ds i 0 - 48)) (drop (i + 1) ds) ∙ ap (min cap) (sym one) ∙ so_far)
 
-pub capped_done : (cap value i : ℕ) (ds : List ℕ) (total : ℕ) → length ds ≤ i → value ≤ cap → min cap (number_after value (drop i ds)) ≡ total → value ≡ total
+pub capped_done : (cap value i : ℕ) (ds : List ℕ) (total : ℕ) → length ds ≤ i → value ≤ cap
+    → min cap (number_after value (drop i ds)) ≡ total → value ≡ total
 unfolding number_after
 capped_done cap value i ds total h le so_far =
     let all : min cap (number_after value []) ≡ total = rw (drop_all i ds) at so_far in
@@ -55,7 +59,8 @@ digits_below n (d ∷ ds) e =
     let digit = IsDigit-from_test d both.0 in
     let more = digits_below (n * 10 + (d - 48)) ds both.1 in
     let room = mul-le-mul_right (10 ^ length ds) (let le : n * 10 + (d - 48) + 1 ≤ (n + 1) * 10 = omega arith in le) in
-    let longer : (n + 1) * 10 ^ suc (length ds) ≡ (n + 1) * 10 * 10 ^ length ds = rw pow-succ' (sym (mul_assoc (n + 1) 10 (10 ^ length ds))) in
+    let longer : (n + 1) * 10 ^ suc (length ds) ≡ (n + 1) * 10 * 10 ^ length ds =
+    rw pow-succ' (sym (mul_assoc (n + 1) 10 (10 ^ length ds))) in
     omega (arith, more, room, longer)
 
 -- the decimals with zeros after them are digits too
@@ -66,12 +71,23 @@ digit_or_zero (d ∷ ds) (suc i) e = digit_or_zero ds i (and_parts (is_digit d) 
 
 pub nine_digits : (ds : List ℕ) → all_digits ds ≡ true → all_digits (nine_decimals ds) ≡ true
 nine_digits ds e =
-    rw (digit_or_zero ds 0 e, digit_or_zero ds 1 e, digit_or_zero ds 2 e, digit_or_zero ds 3 e, digit_or_zero ds 4 e, digit_or_zero ds 5 e, digit_or_zero ds 6 e, digit_or_zero ds 7 e, digit_or_zero ds 8 e) refl
+    rw (
+      digit_or_zero ds 0 e,
+      digit_or_zero ds 1 e,
+      digit_or_zero ds 2 e,
+      digit_or_zero ds 3 e,
+      digit_or_zero ds 4 e,
+      digit_or_zero ds 5 e,
+      digit_or_zero ds 6 e,
+      digit_or_zero ds 7 e,
+      digit_or_zero ds 8 e,
+    ) refl
 
 pub nine_below : (ds : List ℕ) → all_digits ds ≡ true → number_of (nine_decimals ds) < 10 ^ 9
 nine_below ds e = digits_below 0 (nine_decimals ds) (nine_digits ds e)
 
-pub sized_nano_capped : (minus : Bool) (w d : ℕ) → sized minus (min (10 ^ 9 + 1) w * 10 ^ 9 + d) ≡ sized minus (w * 10 ^ 9 + d)
+pub sized_nano_capped : (minus : Bool) (w d : ℕ)
+    → sized minus (min (10 ^ 9 + 1) w * 10 ^ 9 + d) ≡ sized minus (w * 10 ^ 9 + d)
 sized_nano_capped minus w d =
     elim (cases_lt (10 ^ 9 + 1) w) [
       | inl lt ↦
@@ -83,4 +99,5 @@ sized_nano_capped minus w d =
     ]
 
 pub three_below : (ds : List ℕ) → all_digits ds ≡ true → length ds ≡ 3 → number_of ds < 1000
-three_below ds e three = let lt = digits_below 0 ds e in let power : 10 ^ length ds ≡ 1000 = ap (λ (k : ℕ). 10 ^ k) three in omega arith
+three_below ds e three =
+    let lt = digits_below 0 ds e in let power : 10 ^ length ds ≡ 1000 = ap (λ (k : ℕ). 10 ^ k) three in omega arith

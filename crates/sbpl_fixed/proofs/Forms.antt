@@ -1,11 +1,14 @@
 -- Numbers by their parts.
-use Rattle.std.proofs.Common.{◌≡◌, ℕ, suc, ◌+◌, ◌<◌, Bool, true, false, not, ◌&&◌, ◌||◌, List, [], ◌∷◌, ◌++◌, length, eqb, ltb, refl, ap, ◌∙◌, arith, inl, inr, one-add, rules}
+use Rattle.std.proofs.Common.{◌≡◌, ℕ, suc, ◌+◌, ◌<◌, Bool, true, false, not, ◌&&◌, ◌||◌, List, [], ◌∷◌, ◌++◌, length}
+use Rattle.std.proofs.Common.{eqb, ltb, refl, ap, ◌∙◌, arith, inl, inr, one-add, rules}
 use Rattle.std.specs.List.{prefix_len}
 use Rattle.std.proofs.lemmas.Str.Parse.{IsNumeralModel, numerals_by_fold}
 use Rattle.std.proofs.lemmas.Bool.{cases_Bool, and_parts, or_parts, not-true, eqb-true, ne_eqb, lt-ltb, ltb-true}
 use Rattle.std.proofs.lemmas.List.{take_at, drop_at, drop_all, drop-drop, length-append}
-use Rattle.sbpl_fixed.specs.Numbers.{is_digit, all_digits, number_after, number_of, is_no_point, is_minus, without_sign, whole_part, decimals_part, is_whole, is_decimal, whole_of, nano_of}
-use Rattle.sbpl_fixed.specs.NumberForms.{IsSign, IsPoint, WholesHaveValues, NoOthersAreWhole, DecimalsHaveValues, NoOthersAreDecimals, MissingDecimalsAreZeros, DigitsWriteNumbers}
+use Rattle.sbpl_fixed.specs.Numbers.{is_digit, all_digits, number_after, number_of, is_no_point, is_minus, without_sign}
+use Rattle.sbpl_fixed.specs.Numbers.{whole_part, decimals_part, is_whole, is_decimal, whole_of, nano_of}
+use Rattle.sbpl_fixed.specs.NumberForms.{IsSign, IsPoint, WholesHaveValues, NoOthersAreWhole, DecimalsHaveValues}
+use Rattle.sbpl_fixed.specs.NumberForms.{NoOthersAreDecimals, MissingDecimalsAreZeros, DigitsWriteNumbers}
 use Rattle.sbpl_fixed.proofs.Digits.{IsDigit-from_test}
 
 -- ---- digits
@@ -45,7 +48,8 @@ plain_is (b ∷ bs) h =
     let neither = or_parts (eqb b 43) (eqb b 45) (not-true (eqb b 43 || eqb b 45) h) in
     (neither.1, rw (neither.0, neither.1) refl)
 
-after_sign : (sign body : List ℕ) (minus : Bool) → IsSign sign minus → is_plain body ≡ true → (is_minus (sign ++ body) ≡ minus) × (without_sign (sign ++ body) ≡ body)
+after_sign : (sign body : List ℕ) (minus : Bool) → IsSign sign minus → is_plain body ≡ true
+    → (is_minus (sign ++ body) ≡ minus) × (without_sign (sign ++ body) ≡ body)
 after_sign sign body minus h plain =
     elim h [
       | inl w ↦ rw (w.0, w.1) (refl, refl)
@@ -94,14 +98,25 @@ no_others_are_whole text =
       | inl e ↦
           let sign = sign_parts text in
           let both = and_parts (ltb 0 (length (without_sign text))) (all_digits (without_sign text)) e in
-          inr (is_minus text, without_sign text, record { sign = sign.0; parts = sign.1; signed = sign.2; digits_only = both.1; some = ltb-true 0 (length (without_sign text)) both.0 })
+          inr (
+            is_minus text,
+            without_sign text,
+            record {
+              sign = sign.0;
+              parts = sign.1;
+              signed = sign.2;
+              digits_only = both.1;
+              some = ltb-true 0 (length (without_sign text)) both.0;
+            },
+          )
       | inr e ↦ inl (rw e refl)
     ]
 
 -- ---- decimals
 
 -- digits have no point among them
-digits_front : (whole rest : List ℕ) → all_digits whole ≡ true → prefix_len is_no_point rest ≡ 0 → prefix_len is_no_point (whole ++ rest) ≡ length whole
+digits_front : (whole rest : List ℕ) → all_digits whole ≡ true → prefix_len is_no_point rest ≡ 0
+    → prefix_len is_no_point (whole ++ rest) ≡ length whole
 digits_front [] rest e h = h
 digits_front (d ∷ ds) rest e h =
     let both = and_parts (is_digit d) (all_digits ds) e in
@@ -114,28 +129,38 @@ pub parted : (whole point decimals : List ℕ) → all_digits whole ≡ true →
 parted whole point decimals e h =
     elim h [
       | inl is ↦ rw is (
-          let len : prefix_len is_no_point (whole ++ 46 ∷ decimals) ≡ length whole = digits_front whole (46 ∷ decimals) e refl in
-          (rw len (take_at whole (46 ∷ decimals) (length whole) refl), rw (len, ← drop-drop, drop_at whole (46 ∷ decimals) (length whole) refl) refl))
+          let len : prefix_len is_no_point (whole ++ 46 ∷ decimals) ≡ length whole =
+          digits_front whole (46 ∷ decimals) e refl in (
+            rw len (take_at whole (46 ∷ decimals) (length whole) refl),
+            rw (len, ← drop-drop, drop_at whole (46 ∷ decimals) (length whole) refl) refl,
+          ))
       | inr is ↦ rw (is.0, is.1) (
-          let len : prefix_len is_no_point (whole ++ []) ≡ length whole = digits_front whole [] e refl in
-          (rw len (take_at whole [] (length whole) refl), rw len (drop_all (length whole + 1) (whole ++ []) (omega (arith, length-append whole (no_bytes))))))
+          let len : prefix_len is_no_point (whole ++ []) ≡ length whole = digits_front whole [] e refl in (
+            rw len (take_at whole [] (length whole) refl),
+            rw len (drop_all (length whole + 1) (whole ++ []) (omega (arith, length-append whole (no_bytes)))),
+          ))
     ]
 
-body_plain : (whole point decimals : List ℕ) → all_digits whole ≡ true → IsPoint point decimals → 0 < length whole + length decimals → is_plain (whole ++ (point ++ decimals)) ≡ true
-body_plain [] point decimals e h some = elim h [ inl is ↦ rw is refl | inr is ↦ absurd (let none : length decimals ≡ 0 = rw is.1 refl in omega arith) ]
-body_plain (d ∷ ds) point decimals e h some = digits_plain d (ds ++ (point ++ decimals)) (and_parts (is_digit d) (all_digits ds) e).0
+body_plain : (whole point decimals : List ℕ) → all_digits whole ≡ true → IsPoint point decimals
+    → 0 < length whole + length decimals → is_plain (whole ++ (point ++ decimals)) ≡ true
+body_plain [] point decimals e h some =
+    elim h [ inl is ↦ rw is refl | inr is ↦ absurd (let none : length decimals ≡ 0 = rw is.1 refl in omega arith) ]
+body_plain (d ∷ ds) point decimals e h some =
+    digits_plain d (ds ++ (point ++ decimals)) (and_parts (is_digit d) (all_digits ds) e).0
 
 pub decimals_have_values : DecimalsHaveValues
 unfolding nano_of
 decimals_have_values text minus whole decimals w =
     let body = whole ++ (w.point ++ decimals) in
-    let after = after_sign w.sign body minus w.signed (body_plain whole w.point decimals w.whole_digits w.pointed w.some) in
+    let after =
+    after_sign w.sign body minus w.signed (body_plain whole w.point decimals w.whole_digits w.pointed w.some) in
     let parts = parted whole w.point decimals w.whole_digits w.pointed in
     let some : ltb 0 (length whole + length decimals) ≡ true = lt-ltb 0 (length whole + length decimals) w.some in
     rw (w.parts, after.0, after.1, parts.0, parts.1, some, w.whole_digits, w.decimal_digits) refl
 
 -- what is between a whole part and its decimals
-pub point_parts : (body : List ℕ) → (point : List ℕ) × (body ≡ whole_part body ++ (point ++ decimals_part body)) × IsPoint point (decimals_part body)
+pub point_parts : (body : List ℕ)
+    → (point : List ℕ) × (body ≡ whole_part body ++ (point ++ decimals_part body)) × IsPoint point (decimals_part body)
 point_parts [] = ([], refl, inr (refl, refl))
 point_parts (b ∷ bs) =
     elim (cases_Bool (eqb b 46)) [
@@ -154,7 +179,9 @@ no_others_are_decimals text =
           let body = without_sign text in
           let sign = sign_parts text in
           let point = point_parts body in
-          let both = and_parts (ltb 0 (length (whole_part body) + length (decimals_part body))) (all_digits (whole_part body) && all_digits (decimals_part body)) e in
+          let both =
+          and_parts (ltb 0 (length (whole_part body) + length (decimals_part body)))
+          (all_digits (whole_part body) && all_digits (decimals_part body)) e in
           let digits = and_parts (all_digits (whole_part body)) (all_digits (decimals_part body)) both.1 in
           inr (
             is_minus text,

@@ -1,11 +1,13 @@
 -- Digits that are written from the end.
-use Rattle.std.proofs.Common.{◌≡◌, ℕ, zero, suc, ◌+◌, ◌-◌, ◌*◌, ◌/◌, ◌%◌, ◌^◌, ◌<◌, ◌≤◌, List, [], ◌∷◌, ◌++◌, refl, sym, append_assoc, add-one, arith}
+use Rattle.std.proofs.Common.{◌≡◌, ℕ, zero, suc, ◌+◌, ◌-◌, ◌*◌, ◌/◌, ◌%◌, ◌^◌, ◌<◌, ◌≤◌, List, [], ◌∷◌, ◌++◌, refl, sym}
+use Rattle.std.proofs.Common.{append_assoc, add-one, arith}
 use Rattle.std.proofs.lemmas.Grind.{pow_more}
 use Rattle.std.specs.Prelude.{decimal}
 use Rattle.std.proofs.lemmas.Fmt.{decimal_step_wide, decimal_digit}
 use Rattle.sbpl_fixed.specs.Printed.{last_digits}
 
-pub decimal_longer : (n : ℕ) (after : List ℕ) → 10 ≤ n → n < 10 ^ 39 → decimal (n / 10) ++ (48 + n % 10) ∷ after ≡ decimal n ++ after
+pub decimal_longer : (n : ℕ) (after : List ℕ) → 10 ≤ n → n < 10 ^ 39
+    → decimal (n / 10) ++ (48 + n % 10) ∷ after ≡ decimal n ++ after
 decimal_longer n after two small =
     rw (decimal_step_wide n two (omega arith)) (sym (append_assoc (decimal (n / 10)) ((48 + n % 10) ∷ []) after))
 
@@ -22,6 +24,7 @@ one_shorter n (suc (suc k)) two lt =
     let e : suc (suc k) - 1 ≡ suc k = omega arith in
     (omega arith, rw e (omega (arith, p, q)))
 
-pub last_digits_longer : (count n : ℕ) (after : List ℕ) → last_digits count (n / 10) ++ (48 + n % 10) ∷ after ≡ last_digits (suc count) n ++ after
+pub last_digits_longer : (count n : ℕ) (after : List ℕ)
+    → last_digits count (n / 10) ++ (48 + n % 10) ∷ after ≡ last_digits (suc count) n ++ after
 unfolding last_digits
 last_digits_longer count n after = sym (append_assoc (last_digits count (n / 10)) ((48 + n % 10) ∷ []) after)

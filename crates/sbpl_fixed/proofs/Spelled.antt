@@ -1,4 +1,5 @@
--- A format's texts as lists: which tokens with which values stand one after another for a value, and a text of such words.
+-- A format's texts as lists: which tokens with which values
+-- stand one after another for a value, and a text of such words.
 use Rattle.std.specs.Prelude.{◌≡◌, ℕ, List, [], ◌∷◌, ◌++◌, ℤ, Ok}
 use Rattle.sbpl_fixed.specs.Tokens.{Piece}
 use Rattle.sbpl_fixed.specs.Formats.{Item, Format, Says}

@@ -9,11 +9,13 @@ use Rattle.sbpl_fixed.specs.Parts.{says_parts}
 use Rattle.sbpl_fixed.proofs.Spelled.{Expected, Spells, IsSpelled, AllAfter}
 
 -- a text that must end after a format stands for what the format says of all its tokens
-pub whole_said : {E A : Type 0} (f : Format E A) (text : List ℕ) (x : A) → StandsFor (and_then f (λ y. ended (done y))) text x → Says f (tokens text) x []
+pub whole_said : {E A : Type 0} (f : Format E A) (text : List ℕ) (x : A)
+    → StandsFor (and_then f (λ y. ended (done y))) text x → Says f (tokens text) x []
 unfolding Says
 whole_said {E} {A} f text x h =
     let p = says_parts f (λ y. ended (done y)) (tokens text) h.0 x h.1 in
-    let go : (mid : List Piece) → Says f (tokens text) p.0 mid → Says {E = E} (ended (done p.0)) mid x h.0 → Says f (tokens text) x [] = elim [
+    let go : (mid : List Piece) → Says f (tokens text) p.0 mid → Says {E = E} (ended (done p.0)) mid x h.0
+    → Says f (tokens text) x [] = elim [
       | [] ↦ λ s e. subst (λ (y : A). Says f (tokens text) y []) (sym e.0) s
       | ◌∷◌ t ts ↦ λ s e. absurd e
     ] in
@@ -21,7 +23,8 @@ whole_said {E} {A} f text x h =
 
 -- ---- lists of expected tokens
 
-pub spells_both : (ws vs : List Expected) (ts mid rest : List Piece) → Spells ws ts mid → Spells vs mid rest → Spells (ws ++ vs) ts rest
+pub spells_both : (ws vs : List Expected) (ts mid rest : List Piece) → Spells ws ts mid → Spells vs mid rest
+    → Spells (ws ++ vs) ts rest
 spells_both [] vs ts mid rest g h = rw (← g) h
 spells_both (w ∷ ws) vs [] mid rest g h = absurd g
 spells_both (w ∷ ws) vs (t ∷ ts) mid rest g h = (g.0, spells_both ws vs ts mid rest g.1 h)
@@ -43,7 +46,8 @@ grouped all before xs x h = h ∙ append_assoc before (x ∷ []) xs
 module _ {E X : Type 0} (f : List X → Format E X) (Holds : List X → X → Type 0) (spelled : X → List Expected)
     (rule : (before : List X) → IsSpelled (f before) (Holds before) spelled) where
   collected : (n : ℕ) (before all : List X) (ts rest : List Piece) → Says (turns n (collecting f) before) ts all rest
-      → (xs : List X) × (all ≡ before ++ xs) × (length xs ≡ n) × AllAfter Holds before xs × Spells (flat_map spelled xs) ts rest
+      → (xs : List X) × (all ≡ before ++ xs) × (length xs ≡ n) × AllAfter Holds before xs
+      × Spells (flat_map spelled xs) ts rest
   unfolding Says turns and_then
   collected zero before all ts rest h = ([], h.0 ∙ sym (append-nil before), refl, tt, h.1)
   collected (suc n) before all ts rest h =
@@ -52,12 +56,16 @@ module _ {E X : Type 0} (f : List X → Format E X) (Holds : List X → X → Ty
       let x = one.0 in
       let state : round.0 ≡ before ++ x ∷ [] = one.3.0 in
       let place : round.1 ≡ one.1 = one.3.1 in
-      let others = collected n (before ++ x ∷ []) all one.1 rest (subst (λ (m : List Piece). Says (turns n (collecting f) (before ++ x ∷ [])) m all rest) place (subst (λ (s : List X). Says (turns n (collecting f) s) round.1 all rest) state round.3)) in (
+      let others =
+      collected n (before ++ x ∷ []) all one.1 rest
+      (subst (λ (m : List Piece). Says (turns n (collecting f) (before ++ x ∷ [])) m all rest) place
+      (subst (λ (s : List X). Says (turns n (collecting f) s) round.1 all rest) state round.3)) in (
         x ∷ others.0,
         grouped all before others.0 x others.1,
         one_longer others.0 x n others.2,
         ((rule before).holds x ts one.1 one.2, others.3),
-        spells_both (spelled x) (flat_map spelled others.0) ts one.1 rest ((rule before).spells x ts one.1 one.2) others.4,
+        spells_both (spelled x) (flat_map spelled others.0) ts one.1 rest
+            ((rule before).spells x ts one.1 one.2) others.4,
       )
 
 -- ---- texts of words

@@ -1,5 +1,6 @@
 -- Numbers without a sign: their digits, and that what is printed is read back.
-use Rattle.std.proofs.Common.{◌≡◌, ℕ, zero, suc, ◌+◌, ◌*◌, ◌/◌, ◌%◌, ◌^◌, ◌<◌, true, List, [], ◌∷◌, ◌++◌, length, eqb, ltb, refl, ap, ◌∙◌, arith, inl, inr, pow-suc}
+use Rattle.std.proofs.Common.{◌≡◌, ℕ, zero, suc, ◌+◌, ◌*◌, ◌/◌, ◌%◌, ◌^◌, ◌<◌, true, List, [], ◌∷◌, ◌++◌, length, eqb}
+use Rattle.std.proofs.Common.{ltb, refl, ap, ◌∙◌, arith, inl, inr, pow-suc}
 use Rattle.std.specs.Prelude.{decimal}
 use Rattle.std.proofs.lemmas.Bool.{cases_Bool, cases_lt, and_parts, eqb-true, eq-eqb, le-leb, lt-ltb, ltb-true}
 use Rattle.std.proofs.lemmas.List.{length-append}
@@ -7,7 +8,10 @@ use Rattle.std.proofs.lemmas.List.Folds.{list_all-append}
 use Rattle.sbpl_fixed.specs.Tokens.{is_filled}
 use Rattle.sbpl_fixed.specs.Numbers.{is_digit, all_digits, number_after, number_of, is_whole, whole_part, decimals_part}
 use Rattle.sbpl_fixed.specs.Printed.{last_digits, milli_text}
-use Rattle.sbpl_fixed.specs.Unsigned.{digits_of, is_milli, milli_of, IsDigits, IsMilli, DigitsHaveValues, NoOthersAreDigits, MillisHaveValues, NoOthersAreMillis, DecimalsAreDigits, DecimalsAreReadBack, DecimalsAreWords, ThousandthsAreMillis, ThousandthsAreReadBack, ThousandthsAreWords}
+use Rattle.sbpl_fixed.specs.Unsigned.{digits_of, is_milli, milli_of, IsDigits, IsMilli, DigitsHaveValues}
+use Rattle.sbpl_fixed.specs.Unsigned.{NoOthersAreDigits, MillisHaveValues, NoOthersAreMillis}
+use Rattle.sbpl_fixed.specs.Unsigned.{DecimalsAreDigits, DecimalsAreReadBack, DecimalsAreWords}
+use Rattle.sbpl_fixed.specs.Unsigned.{ThousandthsAreMillis, ThousandthsAreReadBack, ThousandthsAreWords}
 use Rattle.sbpl_fixed.proofs.Forms.{parted, point_parts}
 use Rattle.std.proofs.lemmas.Fmt.{decimal_step_wide, decimal_digit}
 use Rattle.sbpl_fixed.proofs.ReadBack.{number_push, last_number, last_are_digits, last_length, digits_filled}
@@ -25,13 +29,22 @@ digits_from_test text e =
 
 pub no_others_are_digits : NoOthersAreDigits
 unfolding digits_of
-no_others_are_digits end text = elim (cases_Bool (is_whole text)) [ inl e ↦ inr (digits_from_test text e) | inr e ↦ inl (rw e refl) ]
+no_others_are_digits end text =
+    elim (cases_Bool (is_whole text)) [ inl e ↦ inr (digits_from_test text e) | inr e ↦ inl (rw e refl) ]
 
 pub millis_have_values : MillisHaveValues
 unfolding milli_of
 millis_have_values end text whole decimals w =
     let parts = parted whole (46 ∷ []) decimals w.whole_digits.digits_only (inl refl) in
-    rw (w.parts, parts.0, parts.1, lt-ltb 0 (length whole) w.whole_digits.some, w.whole_digits.digits_only, w.decimal_digits, eq-eqb (length decimals) 3 w.three) refl
+    rw (
+      w.parts,
+      parts.0,
+      parts.1,
+      lt-ltb 0 (length whole) w.whole_digits.some,
+      w.whole_digits.digits_only,
+      w.decimal_digits,
+      eq-eqb (length decimals) 3 w.three,
+    ) refl
 
 pub no_others_are_millis : NoOthersAreMillis
 unfolding milli_of
@@ -42,7 +55,10 @@ no_others_are_millis end text =
           let rest = and_parts (all_digits (decimals_part text)) (eqb (length (decimals_part text)) 3) both.1 in
           let three = eqb-true (length (decimals_part text)) 3 rest.1 in
           let point = point_parts text in
-          let is : point.0 ≡ 46 ∷ [] = elim point.2 [ inl q ↦ q | inr q ↦ absurd (let none : length (decimals_part text) ≡ 0 = rw q.1 refl in omega arith) ] in
+          let is : point.0 ≡ 46 ∷ [] = elim point.2 [
+            | inl q ↦ q
+            | inr q ↦ absurd (let none : length (decimals_part text) ≡ 0 = rw q.1 refl in omega arith)
+          ] in
           inr (
             whole_part text,
             decimals_part text,
@@ -62,14 +78,24 @@ one_digit : (n : ℕ) → n < 10 → IsDigits (decimal n) × (number_of (decimal
 unfolding number_after
 one_digit n lt =
     rw (decimal_digit n lt) (
-      record { digits_only = rw (le-leb 48 (48 + n) (omega arith), le-leb (48 + n) 57 (omega arith)) refl; some = omega arith },
+      record {
+        digits_only = rw (le-leb 48 (48 + n) (omega arith), le-leb (48 + n) 57 (omega arith)) refl;
+        some = omega arith;
+      },
       omega arith,
     )
 
-one_more_digit : (n : ℕ) (ds : List ℕ) (d : ℕ) → d < 10 → IsDigits ds × (number_of ds ≡ n) → IsDigits (ds ++ (48 + d) ∷ []) × (number_of (ds ++ (48 + d) ∷ []) ≡ n * 10 + d)
+one_more_digit : (n : ℕ) (ds : List ℕ) (d : ℕ) → d < 10 → IsDigits ds × (number_of ds ≡ n)
+    → IsDigits (ds ++ (48 + d) ∷ []) × (number_of (ds ++ (48 + d) ∷ []) ≡ n * 10 + d)
 one_more_digit n ds d lt w = (
   record {
-    digits_only = rw (list_all-append is_digit ds ((48 + d) ∷ []), w.0.digits_only, le-leb 48 (48 + d) (omega arith), le-leb (48 + d) 57 (omega arith)) refl;
+    digits_only =
+        rw (
+          list_all-append is_digit ds ((48 + d) ∷ []),
+          w.0.digits_only,
+          le-leb 48 (48 + d) (omega arith),
+          le-leb (48 + d) 57 (omega arith),
+        ) refl;
     some = omega (arith, length-append ds ((48 + d) ∷ []));
   },
   number_push 0 ds (48 + d) ∙ omega (arith, w.1),
@@ -83,7 +109,9 @@ decimal_is (suc k) n lt small =
       | inl one ↦ one_digit n one
       | inr two ↦ (
           let shorter : n / 10 < 10 ^ k = omega (arith, lt, pow-suc 10 k) in
-          let more = one_more_digit (n / 10) (decimal (n / 10)) (n % 10) (omega arith) (decimal_is k (n / 10) shorter (omega arith)) in
+          let more =
+          one_more_digit (n / 10) (decimal (n / 10)) (n % 10) (omega arith)
+          (decimal_is k (n / 10) shorter (omega arith)) in
           rw (decimal_step_wide n two (omega arith)) (more.0, more.1 ∙ omega arith)
           )
     ]
@@ -98,13 +126,23 @@ decimals_are_read_back end n small lt =
     digits_have_values end (decimal n) w.0 ∙ rw (w.1, lt-ltb n end lt) refl
 
 pub decimals_are_words : DecimalsAreWords
-decimals_are_words n small = let w = decimal_is 39 n small small in record { some = w.0.some; filled = digits_filled (decimal n) w.0.digits_only }
+decimals_are_words n small = let w = decimal_is 39 n small small in record {
+  some = w.0.some;
+  filled = digits_filled (decimal n) w.0.digits_only;
+}
 
-pub milli_is : (n : ℕ) → n < 10 ^ 39 → IsMilli (milli_text n) (decimal (n / 1000)) (last_digits 3 (n % 1000)) × (number_of (decimal (n / 1000)) * 1000 + number_of (last_digits 3 (n % 1000)) ≡ n)
+pub milli_is : (n : ℕ) → n < 10 ^ 39
+    → IsMilli (milli_text n) (decimal (n / 1000)) (last_digits 3 (n % 1000))
+    × (number_of (decimal (n / 1000)) * 1000 + number_of (last_digits 3 (n % 1000)) ≡ n)
 milli_is n small =
     let w = decimal_is 39 (n / 1000) (omega arith) (omega arith) in
     let last = last_number 3 (n % 1000) (omega arith) in (
-      record { parts = refl; whole_digits = w.0; decimal_digits = last_are_digits 3 (n % 1000); three = last_length 3 (n % 1000) },
+      record {
+        parts = refl;
+        whole_digits = w.0;
+        decimal_digits = last_are_digits 3 (n % 1000);
+        three = last_length 3 (n % 1000);
+      },
       omega (arith, w.1, last),
     )
 
@@ -115,11 +153,16 @@ pub thousandths_are_read_back : ThousandthsAreReadBack
 unfolding milli_of
 thousandths_are_read_back end n small lt =
     let w = milli_is n small in
-    millis_have_values end (milli_text n) (decimal (n / 1000)) (last_digits 3 (n % 1000)) w.0 ∙ rw (w.1, lt-ltb n end lt) refl
+    millis_have_values end (milli_text n) (decimal (n / 1000)) (last_digits 3 (n % 1000)) w.0
+    ∙ rw (w.1, lt-ltb n end lt) refl
 
 pub thousandths_are_words : ThousandthsAreWords
 thousandths_are_words n small =
     let w = milli_is n small in record {
       some = omega (arith, length-append (decimal (n / 1000)) (46 ∷ last_digits 3 (n % 1000)));
-      filled = rw (list_all-append is_filled (decimal (n / 1000)) (46 ∷ last_digits 3 (n % 1000)), digits_filled (decimal (n / 1000)) w.0.whole_digits.digits_only) (digits_filled (last_digits 3 (n % 1000)) w.0.decimal_digits);
+      filled =
+          rw (
+            list_all-append is_filled (decimal (n / 1000)) (46 ∷ last_digits 3 (n % 1000)),
+            digits_filled (decimal (n / 1000)) w.0.whole_digits.digits_only,
+          ) (digits_filled (last_digits 3 (n % 1000)) w.0.decimal_digits);
     }

@@ -1,5 +1,6 @@
 -- What is known once all seats are back and the line is empty.
-use Rattle.std.proofs.Common.{◌≡◌, ℕ, ◌+◌, ◌≤◌, List, [], ◌++◌, map, length, sum_by, arith, sym, ap, subst, ◌∙◌, append-nil}
+use Rattle.std.proofs.Common.{◌≡◌, ℕ, ◌+◌, ◌≤◌, List, [], ◌++◌, map, length, sum_by, arith, sym, ap}
+use Rattle.std.proofs.Common.{subst, ◌∙◌, append-nil}
 use Rattle.std.proofs.lemmas.List.{length-map}
 use Rattle.std.specs.List.{All}
 use Rattle.std.proofs.lemmas.List.Elements.{All-weaker}
@@ -18,26 +19,32 @@ use Rattle.sbpl_frontier.proofs.Summing.{each_of, posts_of, puts_of, puts_within
 use Rattle.sbpl_frontier.proofs.Tying.{count_came}
 
 module _ (book : Book) (k : Standing) (taken : ℕ) (line : Drained) (seats : List Tally) (before : List Sent)
-    (tied : AreTied book k taken line) (ended : line.ended ≡ map sent_in seats ++ before) (brought : AreBrought line []) where
+    (tied : AreTied book k taken line) (ended : line.ended ≡ map sent_in seats ++ before)
+    (brought : AreBrought line []) where
   came : length line.came ≡ posts_in book.journal
   came = sym (length-map line.came event_of) ∙ ap length (sym tied.posts) ∙ count_came book.journal
 
   all_come : sum_by posts_of seats ≤ posts_in book.journal
   all_come =
       let count : sum_by puts_of (map sent_in seats ++ before) ≤ length line.came =
-      subst (λ (sents : List Sent). sum_by puts_of sents ≤ length line.came) ended (subst (λ (posts : List Post). sum_by puts_of line.ended ≤ length posts) (append-nil line.came) brought.count) in
+      subst (λ (sents : List Sent). sum_by puts_of sents ≤ length line.came) ended
+      (subst (λ (posts : List Post). sum_by puts_of line.ended ≤ length posts) (append-nil line.came) brought.count) in
       omega (arith, puts_within seats before, count, came)
 
   -- no arc is out, and each judgement that was posted has come back
-  pub none_out : sum_by posts_of seats ≡ sum_by (λ (s : Tally). s.takes) seats → taken ≡ sum_by (λ (s : Tally). s.takes) seats
+  pub none_out : sum_by posts_of seats ≡ sum_by (λ (s : Tally). s.takes) seats
+      → taken ≡ sum_by (λ (s : Tally). s.takes) seats
       → posts_in book.journal + length book.frontier.out ≡ takes_in book.journal
       → (length book.frontier.out ≡ 0) × (posts_in book.journal ≡ sum_by posts_of seats)
-  none_out even whole back = (omega (arith, even, whole, back, all_come, tied.takes), omega (arith, even, whole, back, all_come, tied.takes))
+  none_out even whole back =
+      (omega (arith, even, whole, back, all_come, tied.takes), omega (arith, even, whole, back, all_come, tied.takes))
 
   pub have_come : HaveCome book.journal seats
   have_come =
       let Brings : Sent → Type 0 = λ (s : Sent). of s.seat line.came ≡ s.posts in
-      let each : All Brings line.ended = All-weaker (λ (s : Sent). of s.seat (line.came ++ []) ≡ s.posts) Brings (λ s is. ap (of s.seat) (sym (append-nil line.came)) ∙ is) line.ended brought.each in
+      let each : All Brings line.ended =
+      All-weaker (λ (s : Sent). of s.seat (line.came ++ []) ≡ s.posts) Brings
+      (λ s is. ap (of s.seat) (sym (append-nil line.came)) ∙ is) line.ended brought.each in
       record {
         came = line.came;
         all = tied.posts;

@@ -1,5 +1,6 @@
 -- Sums and lists of seats.
-use Rattle.std.proofs.Common.{◌≡◌, ℕ, zero, suc, ◌+◌, ◌≤◌, List, [], ◌∷◌, ◌++◌, map, length, sum_by, arith, refl, length-append}
+use Rattle.std.proofs.Common.{◌≡◌, ℕ, zero, suc, ◌+◌, ◌≤◌, List, [], ◌∷◌, ◌++◌, map, length, sum_by}
+use Rattle.std.proofs.Common.{arith, refl, length-append}
 use Rattle.std.specs.List.{All}
 use Rattle.std.proofs.lemmas.List.Elements.{All-append, All-cons, All-head, All-nil, All-tail}
 use Rattle.std.proofs.lemmas.List.Sums.{sum_by-append, sum_by-cons}
@@ -23,7 +24,9 @@ DidNothing s = (s.takes ≡ 0) × (s.posts ≡ [])
 
 pub none_done : (count : ℕ) → All DidNothing (fresh_seats count)
 none_done zero = All-nil DidNothing
-none_done (suc count) = All-append DidNothing (fresh_seats count) (fresh count ∷ []) (none_done count) (All-cons DidNothing (fresh count) [] (refl, refl) (All-nil DidNothing))
+none_done (suc count) =
+    All-append DidNothing (fresh_seats count) (fresh count ∷ []) (none_done count)
+    (All-cons DidNothing (fresh count) [] (refl, refl) (All-nil DidNothing))
 
 -- ---- what the workers in these seats put in, and others
 
@@ -34,13 +37,20 @@ abbrev pub puts_of : Sent → ℕ
 puts_of sent = length sent.posts
 
 -- all senders together put in no fewer than these seats
-pub puts_within : (seats : List Tally) (more : List Sent) → sum_by posts_of seats ≤ sum_by puts_of (map sent_in seats ++ more)
+pub puts_within : (seats : List Tally) (more : List Sent)
+    → sum_by posts_of seats ≤ sum_by puts_of (map sent_in seats ++ more)
 puts_within [] more = omega arith
 puts_within (seat ∷ rest) more =
-    omega (arith, sum_by-cons posts_of seat rest, sum_by-cons puts_of (sent_in seat) (map sent_in rest ++ more), puts_within rest more)
+    omega (
+      arith,
+      sum_by-cons posts_of seat rest,
+      sum_by-cons puts_of (sent_in seat) (map sent_in rest ++ more),
+      puts_within rest more,
+    )
 
 -- what is true of all is true of these
-pub each_of : (P : Sent → Type 0) (seats : List Tally) (more : List Sent) → All P (map sent_in seats ++ more) → All (λ (s : Tally). P (sent_in s)) seats
+pub each_of : (P : Sent → Type 0) (seats : List Tally) (more : List Sent) → All P (map sent_in seats ++ more)
+    → All (λ (s : Tally). P (sent_in s)) seats
 each_of P [] more all = All-nil (λ (s : Tally). P (sent_in s))
 each_of P (seat ∷ rest) more all =
     All-cons (λ (s : Tally). P (sent_in s)) seat rest (All-head P (sent_in seat) (map sent_in rest ++ more) all)

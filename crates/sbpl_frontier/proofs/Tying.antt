@@ -1,5 +1,6 @@
 -- What the events of a call do to what the values under the lock agree on.
-use Rattle.std.proofs.Common.{◌≡◌, ℕ, ◌+◌, Option, List, [], ◌∷◌, ◌++◌, map, length, arith, sym, ap, refl, ◌∙◌, append-nil}
+use Rattle.std.proofs.Common.{◌≡◌, ℕ, ◌+◌, Option, List, [], ◌∷◌, ◌++◌, map, length, arith, sym, ap}
+use Rattle.std.proofs.Common.{refl, ◌∙◌, append-nil}
 use Rattle.std.proofs.lemmas.List.{map-append}
 use Rattle.std.proofs.lemmas.List.Elements.{filter-append}
 use Rattle.sbpl_claims.specs.Standing.{Standing}
@@ -37,7 +38,8 @@ count_came (Posted ticket cost ∷ rest) = omega (arith, count_came rest)
 
 -- ---- openings
 
-opening_tied : (q : Query) (s : ℕ) (old new : Book) (k : Standing) (taken : ℕ) (line : Drained) → IsNextOpening q old s new → AreTied old k taken line → AreTied new k taken line
+opening_tied : (q : Query) (s : ℕ) (old new : Book) (k : Standing) (taken : ℕ) (line : Drained)
+    → IsNextOpening q old s new → AreTied old k taken line → AreTied new k taken line
 opening_tied q s old new k taken line is tied = record {
   out = tied.out ∙ sym is.opening.out;
   next = tied.next ∙ sym is.opening.next;
@@ -45,17 +47,20 @@ opening_tied q s old new k taken line is tied = record {
   posts = ap came_in is.journal ∙ came_then old.journal (Opened s) ∙ append-nil (came_in old.journal) ∙ tied.posts;
 }
 
-openings_tied : (q : Query) (states : List ℕ) (old new : Book) (k : Standing) (taken : ℕ) (line : Drained) → AreOpenings q states old new → AreTied old k taken line → AreTied new k taken line
+openings_tied : (q : Query) (states : List ℕ) (old new : Book) (k : Standing) (taken : ℕ) (line : Drained)
+    → AreOpenings q states old new → AreTied old k taken line → AreTied new k taken line
 openings_tied q [] old new k taken line same tied = rw same tied
 openings_tied q (s ∷ rest) old new k taken line (mid, is, further) tied =
     openings_tied q rest mid new k taken line further (opening_tied q s old mid k taken line is tied)
 
-pub opens_tied : (q : Query) (old new : Book) (k : Standing) (taken : ℕ) (line : Drained) → OpensTo q old new → AreTied old k taken line → AreTied new k taken line
+pub opens_tied : (q : Query) (old new : Book) (k : Standing) (taken : ℕ) (line : Drained) → OpensTo q old new
+    → AreTied old k taken line → AreTied new k taken line
 opens_tied q old new k taken line (states, are) tied = openings_tied q states old new k taken line are tied
 
 -- ---- an arc that is handed out
 
-pub taken_tied : (seat : ℕ) (old new : Book) (number state arc : ℕ) (k l : Standing) (taken : ℕ) (line : Drained) → IsHandedOut seat old number state arc new
+pub taken_tied : (seat : ℕ) (old new : Book) (number state arc : ℕ) (k l : Standing) (taken : ℕ) (line : Drained)
+    → IsHandedOut seat old number state arc new
     → l.out ≡ k.out ++ (record { ticket = k.next; state = state; arc = arc }) ∷ [] → l.next ≡ k.next + 1
     → AreTied old k taken line → AreTied new l (taken + 1) line
 taken_tied seat old new number state arc k l taken line is out next tied =
@@ -64,12 +69,15 @@ taken_tied seat old new number state arc k l taken line is out next tied =
       out = out ∙ (rw (tied.out, ticket) (sym is.taking.out));
       next = omega (arith, next, tied.next, is.taking.next);
       takes = omega (arith, ap takes_in is.journal, takes_then old.journal (Taken number seat state arc), tied.takes);
-      posts = ap came_in is.journal ∙ came_then old.journal (Taken number seat state arc) ∙ append-nil (came_in old.journal) ∙ tied.posts;
+      posts =
+          ap came_in is.journal ∙ came_then old.journal (Taken number seat state arc)
+          ∙ append-nil (came_in old.journal) ∙ tied.posts;
     }
 
 -- ---- a judgement that comes back
 
-pub posted_tied : (q : Query) (old new : Book) (leg : Leg) (cost : Option ℕ) (post : Post) (k l : Standing) (taken : ℕ) (line : Drained)
+pub posted_tied : (q : Query) (old new : Book) (leg : Leg) (cost : Option ℕ) (post : Post) (k l : Standing)
+    (taken : ℕ) (line : Drained)
     → IsPosting q.network old.frontier leg cost new.frontier
     → new.journal ≡ old.journal ++ Posted leg.ticket cost ∷ [] → leg.ticket ≡ post.ticket → cost ≡ post.cost
     → l.out ≡ without leg.ticket k.out → l.next ≡ k.next
@@ -80,6 +88,9 @@ posted_tied q old new leg cost post k l taken line is journal ticket paid out ne
       out = out ∙ (rw tied.out (sym is.out));
       next = next ∙ tied.next ∙ sym is.next;
       takes = omega (arith, ap takes_in journal, takes_then old.journal (Posted leg.ticket cost), tied.takes);
-      posts = ap came_in journal ∙ came_then old.journal (Posted leg.ticket cost) ∙ ap (λ (es : List Event). es ++ Posted leg.ticket cost ∷ []) tied.posts
-          ∙ ap (λ (e : Event). map event_of line.came ++ e ∷ []) event ∙ sym (map-append event_of line.came (post ∷ []));
+      posts =
+          ap came_in journal ∙ came_then old.journal (Posted leg.ticket cost)
+          ∙ ap (λ (es : List Event). es ++ Posted leg.ticket cost ∷ []) tied.posts
+          ∙ ap (λ (e : Event). map event_of line.came ++ e ∷ []) event
+          ∙ sym (map-append event_of line.came (post ∷ []));
     }

@@ -1,9 +1,11 @@
 -- Entries of the queue are put aside and put back.
-use Rattle.std.proofs.Common.{◌≡◌, ◌≢◌, ℕ, suc, ◌<◌, ◌⊎◌, Some, None, List, [], ◌∷◌, ◌++◌, length, slice_index_or, arith, ⊎_elim, inl, inr, refl, sym, ◌∙◌, ap, length-append}
+use Rattle.std.proofs.Common.{◌≡◌, ◌≢◌, ℕ, suc, ◌<◌, ◌⊎◌, Some, None, List, [], ◌∷◌, ◌++◌, length, slice_index_or}
+use Rattle.std.proofs.Common.{arith, ⊎_elim, inl, inr, refl, sym, ◌∙◌, ap, length-append}
 use Rattle.std.specs.List.{All, Contains}
 use Rattle.std.proofs.lemmas.Bool.{cases_eq}
 use Rattle.std.proofs.lemmas.Option.{none-some, same_Some}
-use Rattle.std.proofs.lemmas.List.Elements.{All-cons, All-contains, All-get_or, All-head, All-nil, All-push, All-tail, All-weaker}
+use Rattle.std.proofs.lemmas.List.Elements.{All-cons, All-contains, All-get_or, All-head, All-nil}
+use Rattle.std.proofs.lemmas.List.Elements.{All-push, All-tail, All-weaker}
 use Rattle.std.proofs.lemmas.List.Quantifiers.{all_pairs_push}
 use Rattle.sbpl_graph.specs.Network.{Network}
 use Rattle.sbpl_labels.specs.Marks.{Marks}
@@ -12,7 +14,8 @@ use Rattle.sbpl_open.specs.Entries.{key_of}
 use Rattle.sbpl_open.specs.KeyOrder.{ComesBefore, IsBelow}
 use Rattle.sbpl_open.specs.OpenList.{ChangesKey, IsLeast, OpenList, key_at}
 use Rattle.sbpl_frontier_rules.specs.declared.leg.Leg.{Leg}
-use Rattle.sbpl_frontier_core.specs.Clear.{AreAside, ArePopped, HaveSameKeys, IsClear, IsClearIn, IsClearOfAll, NoneBelow}
+use Rattle.sbpl_frontier_core.specs.Clear.{AreAside, ArePopped, HaveSameKeys, IsClear}
+use Rattle.sbpl_frontier_core.specs.Clear.{IsClearIn, IsClearOfAll, NoneBelow}
 
 -- one of the entries is of this state
 abbrev pub IsAmong : List Entry → ℕ → Type 0
@@ -32,10 +35,12 @@ among_or_not (first ∷ rest) s =
     (cases_eq first.state s)
 
 -- what holds of all but the last and of the last
-pub all_front : (P : Entry → Type 0) (entries : List Entry) (entry : Entry) → All P (entries ++ entry ∷ []) → All P entries
+pub all_front : (P : Entry → Type 0) (entries : List Entry) (entry : Entry)
+    → All P (entries ++ entry ∷ []) → All P entries
 all_front P [] entry all = All-nil P
 all_front P (first ∷ rest) entry all =
-    All-cons P first rest (All-head P first (rest ++ entry ∷ []) all) (all_front P rest entry (All-tail P first (rest ++ entry ∷ []) all))
+    All-cons P first rest (All-head P first (rest ++ entry ∷ []) all)
+    (all_front P rest entry (All-tail P first (rest ++ entry ∷ []) all))
 
 pub all_last : (P : Entry → Type 0) (entries : List Entry) (entry : Entry) → All P (entries ++ entry ∷ []) → P entry
 all_last P [] entry all = All-head P entry [] all
@@ -60,7 +65,8 @@ aside_back {f} {g} {g'} aside entry here change = record {
       (λ (at : s ≡ entry.state).
       rw at (change.at ∙ sym (all_last (λ (e : Entry). key_at f e.state ≡ Some (key_of e)) aside entry here.there)))
       (λ (apart : s ≢ entry.state).
-      change.others s apart ∙ here.others s (All-push (λ (e : Entry). e.state ≢ s) aside entry none (λ same. apart (sym same))))
+      change.others s apart
+      ∙ here.others s (All-push (λ (e : Entry). e.state ≢ s) aside entry none (λ same. apart (sym same))))
       (cases_eq s entry.state);
 }
 
@@ -86,7 +92,9 @@ module _ {n : Network} {eps : ℕ} {m : Marks} {out : List Leg} {goal : ℕ × �
     aside = none_aside f;
     gone = All-nil (λ (entry : Entry). key_at f entry.state ≡ None);
     below = All-nil (λ (entry : Entry). IsBelow (key_of entry) goal);
-    before = All-nil (λ (entry : Entry). (s : ℕ) (key : ℕ × ℕ) → key_at f s ≡ Some key → ComesBefore (key_of entry) entry.state key s);
+    before =
+        All-nil (λ (entry : Entry).
+        (s : ℕ) (key : ℕ × ℕ) → key_at f s ≡ Some key → ComesBefore (key_of entry) entry.state key s);
     apart = λ i j d first inside. absurd (omega arith);
     held = All-nil (λ (entry : Entry). IsClearIn n eps m out f entry.state (key_of entry) → ⊥);
     few = omega arith;
@@ -94,7 +102,8 @@ module _ {n : Network} {eps : ℕ} {m : Marks} {out : List Leg} {goal : ℕ × �
 
   module _ {popped : List Entry} {rest : OpenList} (here : ArePopped n eps m out goal f popped rest) where
     -- what is still in the queue was not popped
-    pub left_not_popped : (s : ℕ) (key : ℕ × ℕ) → key_at rest s ≡ Some key → All (λ (entry : Entry). entry.state ≢ s) popped
+    pub left_not_popped : (s : ℕ) (key : ℕ × ℕ) → key_at rest s ≡ Some key
+        → All (λ (entry : Entry). entry.state ≢ s) popped
     left_not_popped s key there =
         All-weaker (λ (entry : Entry). key_at rest entry.state ≡ None) (λ (entry : Entry). entry.state ≢ s)
         (λ entry gone at. none-some key (sym gone ∙ ap (key_at rest) at ∙ there)) popped here.gone
@@ -109,13 +118,15 @@ module _ {n : Network} {eps : ℕ} {m : Marks} {out : List Leg} {goal : ℕ × �
         ⊎_elim inl (λ none. inr (here.aside.others s none ∙ there)) (among_or_not popped s)
 
     -- the first that is left, where it is clear of the legs and of all popped ones, is clear of all that come before it
-    pub clear_in : {s : ℕ} {key : ℕ × ℕ} → IsLeast rest s key → IsClearOfAll n eps m out popped s → IsClearIn n eps m out f s key
+    pub clear_in : {s : ℕ} {key : ℕ × ℕ} → IsLeast rest s key → IsClearOfAll n eps m out popped s
+        → IsClearIn n eps m out f s key
     clear_in {s} {key} least clear = record {
       of_legs = clear.of_legs;
       of_earlier = λ p other there before.
           ⊎_elim
           (λ (among : IsAmong popped p).
-          rw (← among.2) (All-contains (λ (entry : Entry). IsClear n eps m s entry.state) popped among.0 clear.of_others among.1))
+          rw (← among.2)
+          (All-contains (λ (entry : Entry). IsClear n eps m s entry.state) popped among.0 clear.of_others among.1))
           (λ (left : key_at rest p ≡ Some other).
           ⊎_elim
           (λ (at : p ≡ s).
@@ -128,19 +139,23 @@ module _ {n : Network} {eps : ℕ} {m : Marks} {out : List Leg} {goal : ℕ × �
     }
 
     -- and the other way round
-    pub clear_of_all : {s : ℕ} {key : ℕ × ℕ} → IsLeast rest s key → IsClearIn n eps m out f s key → IsClearOfAll n eps m out popped s
+    pub clear_of_all : {s : ℕ} {key : ℕ × ℕ} → IsLeast rest s key → IsClearIn n eps m out f s key
+        → IsClearOfAll n eps m out popped s
     clear_of_all {s} {key} least clear = record {
       of_legs = clear.of_legs;
       of_others = λ k d inside.
           let entry = slice_index_or popped k d in
           clear.of_earlier entry.state (key_of entry)
           (All-get_or (λ (e : Entry). key_at f e.state ≡ Some (key_of e)) popped k d inside here.aside.there)
-          (All-get_or (λ (e : Entry). (u : ℕ) (other : ℕ × ℕ) → key_at rest u ≡ Some other → ComesBefore (key_of e) e.state other u) popped k d inside here.before s key least.there);
+          (All-get_or (λ (e : Entry). (u : ℕ) (other : ℕ × ℕ) → key_at rest u ≡ Some other
+          → ComesBefore (key_of e) e.state other u) popped k d inside here.before s key least.there);
     }
 
     -- one more is popped
-    pub popped_more : {rest' : OpenList} (entry : Entry) → IsLeast rest entry.state (key_of entry) → IsBelow (key_of entry) goal
-        → (IsClearOfAll n eps m out popped entry.state → ⊥) → length popped < 64 → ChangesKey rest rest' entry.state None
+    pub popped_more : {rest' : OpenList} (entry : Entry) → IsLeast rest entry.state (key_of entry)
+        → IsBelow (key_of entry) goal
+        → (IsClearOfAll n eps m out popped entry.state → ⊥) → length popped < 64
+        → ChangesKey rest rest' entry.state None
         → ArePopped n eps m out goal f (popped ++ entry ∷ []) rest'
     popped_more {rest'} entry least low not_clear few change =
         let s = entry.state in
@@ -148,7 +163,9 @@ module _ {n : Network} {eps : ℕ} {m : Marks} {out : List Leg} {goal : ℕ × �
         record {
           aside = record {
             states = change.states ∙ here.aside.states;
-            there = All-push (λ (e : Entry). key_at f e.state ≡ Some (key_of e)) popped entry here.aside.there (left_was s (key_of entry) least.there);
+            there =
+                All-push (λ (e : Entry). key_at f e.state ≡ Some (key_of e)) popped entry here.aside.there
+                (left_was s (key_of entry) least.there);
             others = λ u none.
                 change.others u (λ at. all_last (λ (e : Entry). e.state ≢ u) popped entry none (sym at))
                 ∙ here.aside.others u (all_front (λ (e : Entry). e.state ≢ u) popped entry none);
@@ -161,14 +178,19 @@ module _ {n : Network} {eps : ℕ} {m : Marks} {out : List Leg} {goal : ℕ × �
               change.at;
           below = All-push (λ (e : Entry). IsBelow (key_of e) goal) popped entry here.below low;
           before =
-              All-push (λ (e : Entry). (u : ℕ) (key : ℕ × ℕ) → key_at rest' u ≡ Some key → ComesBefore (key_of e) e.state key u) popped entry
+              All-push (λ (e : Entry).
+              (u : ℕ) (key : ℕ × ℕ) → key_at rest' u ≡ Some key → ComesBefore (key_of e) e.state key u) popped entry
               (λ k d inside u key there.
               let other : u ≢ s = λ at. none-some key (sym change.at ∙ sym (ap (key_at rest') at) ∙ there) in
-              All-get_or (λ (e : Entry). (x : ℕ) (y : ℕ × ℕ) → key_at rest x ≡ Some y → ComesBefore (key_of e) e.state y x) popped k d inside here.before u key (sym (change.others u other) ∙ there))
+              All-get_or (λ (e : Entry).
+              (x : ℕ) (y : ℕ × ℕ) → key_at rest x ≡ Some y → ComesBefore (key_of e) e.state y x)
+              popped k d inside here.before u key (sym (change.others u other) ∙ there))
               (λ u key there.
               let other : u ≢ s = λ at. none-some key (sym change.at ∙ sym (ap (key_at rest') at) ∙ there) in
               least.first u key (sym (change.others u other) ∙ there) other);
-          apart = all_pairs_push (λ (a b : Entry). a.state ≢ b.state) popped entry here.apart (λ k d inside. All-get_or (λ (e : Entry). e.state ≢ s) popped k d inside apart);
+          apart =
+              all_pairs_push (λ (a b : Entry). a.state ≢ b.state) popped entry here.apart
+              (λ k d inside. All-get_or (λ (e : Entry). e.state ≢ s) popped k d inside apart);
           held =
               All-push (λ (e : Entry). IsClearIn n eps m out f e.state (key_of e) → ⊥) popped entry here.held
               (λ clear. not_clear (clear_of_all least clear));

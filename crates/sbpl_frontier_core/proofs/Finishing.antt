@@ -8,7 +8,8 @@ use Rattle.sbpl_open.specs.OpenList.{OpenList}
 use Rattle.sbpl_search.specs.Query.{Query}
 use Rattle.sbpl_frontier_rules.specs.Events.{IsFirst, IsIdle}
 use Rattle.sbpl_frontier_rules.specs.Frontier.{Frontier, is_opened}
-use Rattle.sbpl_frontier_rules.specs.Laws.{EachOpensOnce, EventsKeep, FirstIsKept, IdleIsExact, IdleShows, IsLawful, MayBegin, SettledAtOne}
+use Rattle.sbpl_frontier_rules.specs.Laws.{EachOpensOnce, EventsKeep, FirstIsKept, IdleIsExact, IdleShows}
+use Rattle.sbpl_frontier_rules.specs.Laws.{IsLawful, MayBegin, SettledAtOne}
 use Rattle.sbpl_serial.specs.Marked.{closed_at}
 use Rattle.sbpl_frontier_core.specs.Book.{Book}
 use Rattle.sbpl_frontier_core.specs.Finished.{IsFinished, IsGivenUp}
@@ -19,8 +20,10 @@ use Rattle.sbpl_frontier_core.specs.Waiting.{HoldsOver}
 use Rattle.sbpl_frontier_core.proofs.Choosing.{open_key}
 use Rattle.sbpl_frontier_core.proofs.Parting.{parts_kept}
 
-module _ {q : Query} {opening : Marks} {before : Counts} {keeps : Bool} {f : Frontier} {log : Log} {queue : OpenList} {expanded : List ℕ} {state : ℕ} {aside : Room}
-    (here : AreCoreParts q opening before keeps f log queue expanded state aside) (first : FirstIsKept) (each : EventsKeep) (once : EachOpensOnce) where
+module _ {q : Query} {opening : Marks} {before : Counts} {keeps : Bool} {f : Frontier} {log : Log} {queue : OpenList}
+    {expanded : List ℕ} {state : ℕ} {aside : Room}
+    (here : AreCoreParts q opening before keeps f log queue expanded state aside) (first : FirstIsKept)
+    (each : EventsKeep) (once : EachOpensOnce) where
   pub finished : IdleIsExact → IdleShows → SettledAtOne → IsIdle f
       → IsFinished q opening before keeps (record { frontier = f; journal = log.events }) f.labels f.counts log
   finished exact shows settled idle =
@@ -40,7 +43,9 @@ module _ {q : Query} {opening : Marks} {before : Counts} {keeps : Bool} {f : Fro
         kept = kept;
         supported = at.1;
         shows = λ low is. shows q f low here.lawful kept idle is;
-        once = once q opening before log.events here.replay.first f here.lawful here.may_begin here.replay.begins here.replay.leads;
+        once =
+            once q opening before log.events here.replay.first f here.lawful here.may_begin
+            here.replay.begins here.replay.leads;
         settled = λ one. settled q f here.lawful one kept;
       }
 
@@ -50,11 +55,14 @@ module _ {q : Query} {opening : Marks} {before : Counts} {keeps : Bool} {f : Fro
     counts_are = refl;
     replay = here.replay;
     kept = parts_kept first each here;
-    once = once q opening before log.events here.replay.first f here.lawful here.may_begin here.replay.begins here.replay.leads;
+    once =
+        once q opening before log.events here.replay.first f here.lawful here.may_begin
+        here.replay.begins here.replay.leads;
   }
 
 -- the overconsistent states are in the queue or were expanded
-pub over_held : {q : Query} {opening : Marks} {before : Counts} {keeps : Bool} {f : Frontier} {log : Log} {queue : OpenList} {expanded : List ℕ} {state : ℕ} {aside : Room}
+pub over_held : {q : Query} {opening : Marks} {before : Counts} {keeps : Bool} {f : Frontier} {log : Log}
+    {queue : OpenList} {expanded : List ℕ} {state : ℕ} {aside : Room}
     → AreCoreParts q opening before keeps f log queue expanded state aside
     → HoldsOver (record { marks = f.opened; queue = queue; expanded = expanded }) f.labels
 over_held {q} {f = f} {queue = queue} here = record {
@@ -71,7 +79,8 @@ over_held {q} {f = f} {queue = queue} here = record {
 -- a frontier with these labels and counts before its first event
 first_book : Marks → Counts → Book
 first_book m counts = record {
-  frontier = record { labels = m; opened = replicate (states_of m) false; ready = []; out = []; next = 0; counts = counts };
+  frontier =
+      record { labels = m; opened = replicate (states_of m) false; ready = []; out = []; next = 0; counts = counts };
   journal = [];
 }
 
@@ -95,7 +104,8 @@ begins_so m counts = record {
 }
 
 -- a pass that could not begin leaves what it was given
-pub not_begun : {q : Query} {m : Marks} {counts : Counts} → FirstIsKept → EachOpensOnce → IsLawful q → MayBegin q m counts → IsPassGivenUp q m counts m counts
+pub not_begun : {q : Query} {m : Marks} {counts : Counts} → FirstIsKept → EachOpensOnce → IsLawful q
+    → MayBegin q m counts → IsPassGivenUp q m counts m counts
 unfolding first_book
 not_begun {q} {m} {counts} first once lawful may =
     let begins = begins_so m counts in

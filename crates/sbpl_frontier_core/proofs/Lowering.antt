@@ -1,5 +1,6 @@
 -- The low, state by state.
-use Rattle.std.proofs.Common.{◌≡◌, ◌≢◌, ℕ, ◌+◌, ◌<◌, ◌≤◌, ◌⊎◌, List, take, length, ◌++◌, ◌∷◌, [], slice_index_or, arith, ⊎_elim, inl, inr, sym, ◌∙◌, ap}
+use Rattle.std.proofs.Common.{◌≡◌, ◌≢◌, ℕ, ◌+◌, ◌<◌, ◌≤◌, ◌⊎◌, List, take, length, ◌++◌, ◌∷◌, [], slice_index_or, arith}
+use Rattle.std.proofs.Common.{⊎_elim, inl, inr, sym, ◌∙◌, ap}
 use Rattle.std.specs.List.{Contains}
 use Rattle.std.proofs.lemmas.Bool.{cases_eq}
 use Rattle.std.proofs.lemmas.List.{take_more}
@@ -29,7 +30,8 @@ module _ {m : Marks} {goal : ℕ} {h : ℕ → ℕ} where
   }
 
   -- the same for other states, all of which were looked at
-  pub low_same : {among among' : ℕ → Type 0} {low : ℕ} → IsLowOf m goal h among low → ((s : ℕ) → among' s → among s) → IsLowOf m goal h among' low
+  pub low_same : {among among' : ℕ → Type 0} {low : ℕ} → IsLowOf m goal h among low → ((s : ℕ) → among' s → among s)
+      → IsLowOf m goal h among' low
   low_same was told = record {
     at_goal = was.at_goal;
     unsettled = λ s it differ. was.unsettled s (told s it) differ;
@@ -37,7 +39,8 @@ module _ {m : Marks} {goal : ℕ} {h : ℕ → ℕ} where
   }
 
   -- all states whose g and v differ were looked at
-  pub low_of_all : {among : ℕ → Type 0} {low : ℕ} → IsLowOf m goal h among low → ((s : ℕ) → s < states_of m → v_of m s ≢ g_of m s → among s)
+  pub low_of_all : {among : ℕ → Type 0} {low : ℕ} → IsLowOf m goal h among low
+      → ((s : ℕ) → s < states_of m → v_of m s ≢ g_of m s → among s)
       → IsLow (states_of m) goal (g_of m) (v_of m) h low
   low_of_all was all = record {
     at_goal = was.at_goal;
@@ -56,5 +59,7 @@ before_next at k s (i, below, is) =
 pub among_next : (states : List ℕ) (k s : ℕ) → k < length states → Contains (take (k + 1) states) s
     → Contains (take k states) s ⊎ (s ≡ slice_index_or states k 0)
 among_next states k s inside among =
-    let split : Contains (take k states ++ slice_index_or states k 0 ∷ []) s = rw (take_more states k 0 inside) at among in
-    ⊎_elim inl (λ (at : slice_index_or states k 0 ≡ s). inr (sym at)) (Contains-push_cases (take k states) (slice_index_or states k 0) s split)
+    let split : Contains (take k states ++ slice_index_or states k 0 ∷ []) s =
+    rw (take_more states k 0 inside) at among in
+    ⊎_elim inl (λ (at : slice_index_or states k 0 ≡ s). inr (sym at))
+    (Contains-push_cases (take k states) (slice_index_or states k 0) s split)

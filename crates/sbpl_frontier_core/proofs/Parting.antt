@@ -1,5 +1,6 @@
 -- The parts of a core stay together over each event.
-use Rattle.std.proofs.Common.{◌≡◌, ℕ, ◌≢◌, ◌+◌, ◌-◌, ◌^◌, ◌<◌, ◌≤◌, Bool, true, false, Option, Some, None, List, [], ◌∷◌, ◌++◌, length, slice_set, arith, ⊎_elim, refl, sym, ◌∙◌, ap, length-append}
+use Rattle.std.proofs.Common.{◌≡◌, ℕ, ◌≢◌, ◌+◌, ◌-◌, ◌^◌, ◌<◌, ◌≤◌, Bool, true, false, Option, Some, None, List, []}
+use Rattle.std.proofs.Common.{◌∷◌, ◌++◌, length, slice_set, arith, ⊎_elim, refl, sym, ◌∙◌, ap, length-append}
 use Rattle.std.specs.List.{Contains}
 use Rattle.std.proofs.lemmas.Bool.{cases_eq, true≢false}
 use Rattle.std.proofs.lemmas.List.{get_or-set_other, length-set}
@@ -28,9 +29,11 @@ use Rattle.sbpl_frontier_core.proofs.Cursors.{all_from, few_within}
 use Rattle.sbpl_frontier_core.proofs.Replaying.{fewer_without, kept_by_replay, replay_push}
 
 -- the first ready arc is taken
-pub taking : (n : Network) (labels : Marks) (opened : List Bool) (state from : ℕ) (out out' : List Leg) (next : ℕ) (counts : Counts) (arc : ℕ)
+pub taking : (n : Network) (labels : Marks) (opened : List Bool) (state from : ℕ) (out out' : List Leg) (next : ℕ)
+    (counts : Counts) (arc : ℕ)
     → IsFirstHead n state from arc → out' ≡ out ++ record { ticket = next; state = state; arc = arc } ∷ []
-    → IsTaking (frontier_of n labels opened state from out next counts) (record { ticket = next; state = state; arc = arc })
+    → IsTaking (frontier_of n labels opened state from out next counts)
+    (record { ticket = next; state = state; arc = arc })
     (frontier_of n labels opened state (arc + 1) out' (next + 1) counts)
 taking n labels opened state from out out' next counts arc head pushed = record {
   before = [];
@@ -46,26 +49,32 @@ taking n labels opened state from out out' next counts arc head pushed = record 
 }
 
 -- a state is opened
-pub opening_of : (q : Query) (labels labels' : Marks) (opened opened' : List Bool) (state from : ℕ) (out : List Leg) (next : ℕ) (counts counts' : Counts) (s : ℕ)
+pub opening_of : (q : Query) (labels labels' : Marks) (opened opened' : List Bool) (state from : ℕ) (out : List Leg)
+    (next : ℕ) (counts counts' : Counts) (s : ℕ)
     → arcs_from q.network state from ≡ [] → MayOpen q (frontier_of q.network labels opened state from out next counts) s
     → ChangesRow labels labels' s (record { g = g_of labels s; v = g_of labels s; back = back_of labels s })
     → opened' ≡ slice_set opened s true → counts' ≡ record counts { plan = counts.plan + 1; run = counts.run + 1 }
-    → IsOpening q (frontier_of q.network labels opened state from out next counts) s (frontier_of q.network labels' opened' s 0 out next counts')
-opening_of q labels labels' opened opened' state from out next counts counts' s none_ready may settled marked counted = record {
-  may = may;
-  settled = settled;
-  opened = marked;
-  ready = rw none_ready (all_from q.network s);
-  counted = counted;
-  out = refl;
-  next = refl;
-}
+    → IsOpening q (frontier_of q.network labels opened state from out next counts) s
+    (frontier_of q.network labels' opened' s 0 out next counts')
+opening_of q labels labels' opened opened' state from out next counts counts' s none_ready may settled marked counted =
+    record {
+      may = may;
+      settled = settled;
+      opened = marked;
+      ready = rw none_ready (all_from q.network s);
+      counted = counted;
+      out = refl;
+      next = refl;
+    }
 
 -- a judgement is applied
-pub posting_of : (n : Network) (labels labels' : Marks) (opened : List Bool) (state from : ℕ) (out out' : List Leg) (next : ℕ) (counts : Counts) (leg : Leg)
-    (cost head : Option ℕ) → Contains out leg → cost ≡ n.cost leg.state leg.arc → IsRelaxed n labels labels' leg.state leg.arc head
+pub posting_of : (n : Network) (labels labels' : Marks) (opened : List Bool) (state from : ℕ) (out out' : List Leg)
+    (next : ℕ) (counts : Counts) (leg : Leg)
+    (cost head : Option ℕ) → Contains out leg → cost ≡ n.cost leg.state leg.arc
+    → IsRelaxed n labels labels' leg.state leg.arc head
     → out' ≡ without leg.ticket out
-    → IsPosting n (frontier_of n labels opened state from out next counts) leg cost (frontier_of n labels' opened state from out' next counts)
+    → IsPosting n (frontier_of n labels opened state from out next counts) leg cost
+    (frontier_of n labels' opened state from out' next counts)
 posting_of n labels labels' opened state from out out' next counts leg cost head was judged relaxed taken = record {
   was_out = was;
   judged = judged;
@@ -79,19 +88,23 @@ posting_of n labels labels' opened state from out out' next counts leg cost head
 }
 
 -- no state is added by an arc
-pub head_lowered : (n : Network) (old new : Marks) (s k : ℕ) (head : Option ℕ) → IsRelaxed n old new s k head → states_of new ≡ states_of old
+pub head_lowered : (n : Network) (old new : Marks) (s k : ℕ) (head : Option ℕ) → IsRelaxed n old new s k head
+    → states_of new ≡ states_of old
 head_lowered n old new s k None relaxed = ap states_of relaxed.0
 head_lowered n old new s k (Some t) relaxed = relaxed.1.changed.states
 
 module _ {q : Query} {opening : Marks} {before : Counts} {keeps : Bool} where
   -- the laws of the events hold of the frontier
-  pub parts_kept : {f : Frontier} {log : Log} {queue : OpenList} {expanded : List ℕ} {state : ℕ} {aside : Room} → FirstIsKept → EventsKeep
+  pub parts_kept : {f : Frontier} {log : Log} {queue : OpenList} {expanded : List ℕ} {state : ℕ} {aside : Room}
+      → FirstIsKept → EventsKeep
       → AreCoreParts q opening before keeps f log queue expanded state aside → IsKept q f
   parts_kept first each here = kept_by_replay first each here.lawful here.may_begin here.replay
 
-  pub parts_taken : {f f' : Frontier} {log log' : Log} {queue : OpenList} {expanded : List ℕ} {state : ℕ} {aside : Room} (seat : ℕ) (leg : Leg)
+  pub parts_taken : {f f' : Frontier} {log log' : Log} {queue : OpenList} {expanded : List ℕ} {state : ℕ}
+      {aside : Room} (seat : ℕ) (leg : Leg)
       → AreCoreParts q opening before keeps f log queue expanded state aside → IsTaking f leg f'
-      → log'.events ≡ log.events ++ Taken leg.ticket seat leg.state leg.arc ∷ [] → log'.keeps ≡ log.keeps → length f.out + 1 ≤ log'.spare
+      → log'.events ≡ log.events ++ Taken leg.ticket seat leg.state leg.arc ∷ [] → log'.keeps ≡ log.keeps
+      → length f.out + 1 ≤ log'.spare
       → AreCoreParts q opening before keeps f' log' queue expanded state aside
   parts_taken {f} {f'} {log} {log'} seat leg here taking pushed same room = record {
     lawful = here.lawful;
@@ -116,15 +129,21 @@ module _ {q : Query} {opening : Marks} {before : Counts} {keeps : Bool} where
   }
 
   -- where an arc is ready the next ticket has a small number
-  pub fewer_tickets : {f : Frontier} {log : Log} {queue : OpenList} {expanded : List ℕ} {state : ℕ} {aside : Room} {arc : ℕ × ℕ} {rest : List (ℕ × ℕ)}
-      → AreCoreParts q opening before keeps f log queue expanded state aside → AreCounts f.counts → f.ready ≡ arc ∷ rest → f.next < 2 ^ 42
+  pub fewer_tickets : {f : Frontier} {log : Log} {queue : OpenList} {expanded : List ℕ} {state : ℕ} {aside : Room}
+      {arc : ℕ × ℕ} {rest : List (ℕ × ℕ)}
+      → AreCoreParts q opening before keeps f log queue expanded state aside → AreCounts f.counts
+      → f.ready ≡ arc ∷ rest → f.next < 2 ^ 42
   fewer_tickets here counts ready = omega (arith, here.counted, counts.within_run, ap length ready)
 
-  pub parts_opened : {f f' : Frontier} {log log' : Log} {queue queue' : OpenList} {expanded expanded' : List ℕ} {state : ℕ} {aside : Room} (s : ℕ)
-      → AreCoreParts q opening before keeps f log queue expanded state aside → f.ready ≡ [] → IsOpening q f s f' → f'.ready ≡ arcs_from q.network s 0
+  pub parts_opened : {f f' : Frontier} {log log' : Log} {queue queue' : OpenList} {expanded expanded' : List ℕ}
+      {state : ℕ} {aside : Room} (s : ℕ)
+      → AreCoreParts q opening before keeps f log queue expanded state aside → f.ready ≡ [] → IsOpening q f s f'
+      → f'.ready ≡ arcs_from q.network s 0
       → log'.events ≡ log.events ++ Opened s ∷ [] → log'.keeps ≡ log.keeps → length f.out ≤ log'.spare
-      → AreQueued q.eps q.guide (is_opened f') f'.labels queue' → expanded' ≡ expanded ++ s ∷ [] → AreCoreParts q opening before keeps f' log' queue' expanded' s aside
-  parts_opened {f} {f'} {log} {log'} {expanded = expanded} s here none_ready opening ready pushed same room queued listed =
+      → AreQueued q.eps q.guide (is_opened f') f'.labels queue' → expanded' ≡ expanded ++ s ∷ []
+      → AreCoreParts q opening before keeps f' log' queue' expanded' s aside
+  parts_opened {f} {f'} {log} {log'} {expanded = expanded} s here none_ready opening ready pushed
+      same room queued listed =
       let inside : s < q.network.states = omega (arith, opening.may.inside, here.states) in
       record {
         lawful = here.lawful;
@@ -139,7 +158,9 @@ module _ {q : Query} {opening : Marks} {before : Counts} {keeps : Bool} where
             (⊎_elim
             (λ (at : u ≡ s). rw at (Contains-push expanded s))
             (λ (apart : u ≢ s).
-            let was : is_opened f u ≡ true = sym (ap (λ (marks : List Bool). closed_at marks u) opening.opened ∙ get_or-set_other f.opened s u true false apart) ∙ is in
+            let was : is_opened f u ≡ true =
+            sym (ap (λ (marks : List Bool). closed_at marks u) opening.opened
+            ∙ get_or-set_other f.opened s u true false apart) ∙ is in
             Contains-append_left expanded (s ∷ []) u (here.listed u was))
             (cases_eq u s));
         listed_inside = rw listed (All-push (λ (u : ℕ). u < q.network.states) expanded s here.listed_inside inside);
@@ -157,10 +178,13 @@ module _ {q : Query} {opening : Marks} {before : Counts} {keeps : Bool} where
       }
 
   -- a judgement is applied
-  pub parts_posted : {f f' : Frontier} {log log' : Log} {queue queue' : OpenList} {expanded : List ℕ} {state : ℕ} {aside : Room} (leg : Leg) (cost : Option ℕ)
-      → AreCoreParts q opening before keeps f log queue expanded state aside → IsPosting q.network f leg cost f' → states_of f'.labels ≡ states_of f.labels
+  pub parts_posted : {f f' : Frontier} {log log' : Log} {queue queue' : OpenList} {expanded : List ℕ} {state : ℕ}
+      {aside : Room} (leg : Leg) (cost : Option ℕ)
+      → AreCoreParts q opening before keeps f log queue expanded state aside → IsPosting q.network f leg cost f'
+      → states_of f'.labels ≡ states_of f.labels
       → log'.events ≡ log.events ++ Posted leg.ticket cost ∷ [] → log'.keeps ≡ log.keeps → log.spare ≤ log'.spare + 1
-      → AreQueued q.eps q.guide (is_opened f') f'.labels queue' → AreCoreParts q opening before keeps f' log' queue' expanded state aside
+      → AreQueued q.eps q.guide (is_opened f') f'.labels queue'
+      → AreCoreParts q opening before keeps f' log' queue' expanded state aside
   parts_posted {f} {f'} {log} {log'} leg cost here posting states pushed same room queued = record {
     lawful = here.lawful;
     may_begin = here.may_begin;
@@ -182,8 +206,10 @@ module _ {q : Query} {opening : Marks} {before : Counts} {keeps : Bool} where
   }
 
   -- a pass begins
-  pub parts_first : {f : Frontier} {log : Log} {queue : OpenList} {expanded : List ℕ} {state : ℕ} {aside : Room} → IsLawful q → MayBegin q opening before
-      → IsFirst opening before f → log.events ≡ [] → log.keeps ≡ keeps → q.goal < q.network.states → state < q.network.states
+  pub parts_first : {f : Frontier} {log : Log} {queue : OpenList} {expanded : List ℕ} {state : ℕ} {aside : Room}
+      → IsLawful q → MayBegin q opening before
+      → IsFirst opening before f → log.events ≡ [] → log.keeps ≡ keeps → q.goal < q.network.states
+      → state < q.network.states
       → AreQueued q.eps q.guide (is_opened f) f.labels queue → expanded ≡ [] → aside.entries ≡ [] → 64 ≤ aside.size
       → AreCoreParts q opening before keeps f log queue expanded state aside
   parts_first {f} {log} lawful may first empty same goal cursor queued unlisted none room = record {
@@ -206,7 +232,8 @@ module _ {q : Query} {opening : Marks} {before : Counts} {keeps : Bool} where
 
   -- room is made in the journal
   pub parts_reserved : {f : Frontier} {log log' : Log} {queue : OpenList} {expanded : List ℕ} {state : ℕ} {aside : Room}
-      → AreCoreParts q opening before keeps f log queue expanded state aside → log'.events ≡ log.events → log'.keeps ≡ log.keeps → log.spare ≤ log'.spare
+      → AreCoreParts q opening before keeps f log queue expanded state aside → log'.events ≡ log.events
+      → log'.keeps ≡ log.keeps → log.spare ≤ log'.spare
       → AreCoreParts q opening before keeps f log' queue expanded state aside
   parts_reserved here events keeps spare = record {
     lawful = here.lawful;
@@ -227,8 +254,10 @@ module _ {q : Query} {opening : Marks} {before : Counts} {keeps : Bool} where
   }
 
   -- states were put aside and back
-  pub parts_searched : {f : Frontier} {log : Log} {queue queue' : OpenList} {expanded : List ℕ} {state : ℕ} {aside aside' : Room}
-      → AreCoreParts q opening before keeps f log queue expanded state aside → HaveSameKeys queue queue' → aside'.entries ≡ [] → aside'.size ≡ aside.size
+  pub parts_searched : {f : Frontier} {log : Log} {queue queue' : OpenList} {expanded : List ℕ}
+      {state : ℕ} {aside aside' : Room}
+      → AreCoreParts q opening before keeps f log queue expanded state aside → HaveSameKeys queue queue'
+      → aside'.entries ≡ [] → aside'.size ≡ aside.size
       → AreCoreParts q opening before keeps f log queue' expanded state aside'
   parts_searched here same none size = record {
     lawful = here.lawful;

@@ -1,5 +1,6 @@
 -- How often an arc is among those that are ready or out.
-use Rattle.std.proofs.Common.{◌≡◌, ◌≢◌, ℕ, zero, suc, ◌+◌, ◌<◌, ◌≤◌, true, false, not, nat_eq, cond, Option, Some, None, List, [], ◌∷◌, ◌++◌, IsSome, arith, ⊎_elim, refl, sym, ap}
+use Rattle.std.proofs.Common.{◌≡◌, ◌≢◌, ℕ, zero, suc, ◌+◌, ◌<◌, ◌≤◌, true, false, not, nat_eq, cond, Option, Some, None}
+use Rattle.std.proofs.Common.{List, [], ◌∷◌, ◌++◌, IsSome, arith, ⊎_elim, refl, sym, ap}
 use Rattle.std.proofs.lemmas.Bool.{cases_eq, cases_lt}
 use Rattle.std.proofs.lemmas.Bool.Decides.{nat_tests}
 use Rattle.sbpl_graph.specs.Network.{Network}
@@ -20,7 +21,8 @@ due_from_some count some = grind (arith, nat_tests)
 
 pub some_from_due : (count : ℕ) → not (nat_eq count 0) ≡ true → 0 < count
 some_from_due count due =
-    ⊎_elim (λ (none : count ≡ 0). absurd (grind (arith, nat_tests))) (λ (some : count ≢ 0). omega arith) (cases_eq count 0)
+    ⊎_elim (λ (none : count ≡ 0). absurd (grind (arith, nat_tests)))
+    (λ (some : count ≢ 0). omega arith) (cases_eq count 0)
 
 -- 1 where arc j of a is arc k of s, and 0 where it is not
 abbrev pub one_at : (a j s k : ℕ) → ℕ
@@ -41,7 +43,8 @@ same_from_one a j s k some =
     (cases_eq a s)
 
 -- lists joined
-pub ready_append : (xs ys : List (ℕ × ℕ)) (s k : ℕ) → times_ready (xs ++ ys) s k ≡ times_ready xs s k + times_ready ys s k
+pub ready_append : (xs ys : List (ℕ × ℕ)) (s k : ℕ)
+    → times_ready (xs ++ ys) s k ≡ times_ready xs s k + times_ready ys s k
 ready_append [] ys s k = omega arith
 ready_append (arc ∷ rest) ys s k = omega (arith, ready_append rest ys s k)
 
@@ -54,7 +57,8 @@ headed_few : (head : Option ℕ) (s i a j : ℕ) → times_ready (with_head head
 headed_few None s i a j = omega arith
 headed_few (Some t) s i a j = omega (arith, one_few s i a j)
 
-headed_is : (head : Option ℕ) (s i a j : ℕ) → 0 < times_ready (with_head head (s, i)) a j → (a ≡ s) × (j ≡ i) × IsSome head
+headed_is : (head : Option ℕ) (s i a j : ℕ) → 0 < times_ready (with_head head (s, i)) a j
+    → (a ≡ s) × (j ≡ i) × IsSome head
 headed_is None s i a j some = absurd (omega arith)
 headed_is (Some t) s i a j some = let same = same_from_one s i a j (omega arith) in (sym same.0, sym same.1, refl)
 
@@ -113,11 +117,15 @@ module _ (n : Network) (s : ℕ) where
       (cases_eq j i)
 
 -- an arc that is handed out stays as often due
-pub due_taken : (old new : Frontier) (leg : Leg) → IsTaking old leg new → (s k : ℕ) → times_due new s k ≡ times_due old s k
+pub due_taken : (old new : Frontier) (leg : Leg) → IsTaking old leg new → (s k : ℕ)
+    → times_due new s k ≡ times_due old s k
 due_taken old new leg taking s k =
-    let was : times_ready old.ready s k ≡ times_ready (taking.before ++ (leg.state, leg.arc) ∷ taking.after) s k = ap (λ arcs. times_ready arcs s k) taking.was_ready in
-    let is : times_ready new.ready s k ≡ times_ready (taking.before ++ taking.after) s k = ap (λ arcs. times_ready arcs s k) taking.ready in
-    let out : times_out new.out s k ≡ times_out (old.out ++ leg ∷ []) s k = ap (λ legs. times_out legs s k) taking.out in
+    let was : times_ready old.ready s k ≡ times_ready (taking.before ++ (leg.state, leg.arc) ∷ taking.after) s k =
+    ap (λ arcs. times_ready arcs s k) taking.was_ready in
+    let is : times_ready new.ready s k ≡ times_ready (taking.before ++ taking.after) s k =
+    ap (λ arcs. times_ready arcs s k) taking.ready in
+    let out : times_out new.out s k ≡ times_out (old.out ++ leg ∷ []) s k =
+    ap (λ legs. times_out legs s k) taking.out in
     omega (
       arith,
       ready_append taking.before ((leg.state, leg.arc) ∷ taking.after) s k,

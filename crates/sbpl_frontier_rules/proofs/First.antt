@@ -35,7 +35,9 @@ first_kept q m counts f may first =
 
 pub idle_is_exact : IdleIsExact
 idle_is_exact q f kept idle =
-    let settled = kept_used none_pending kept.arcs (λ s k t c rest arc near. inl (idle_from_none (times_due f s k) (none_due f idle s k))) in
+    let settled =
+    kept_used none_pending kept.arcs
+    (λ s k t c rest arc near. inl (idle_from_none (times_due f s k) (none_due f idle s k))) in
     let exact = exact_from_kept settled in (
       exact,
       supported_from_exact (λ s inside. kept.labels.labels s (omega (arith, kept.states))) exact,

@@ -1,5 +1,6 @@
 -- What a list of events opens: each state at most once.
-use Rattle.std.proofs.Common.{◌≡◌, ◌≢◌, ℕ, zero, suc, ◌+◌, ◌<◌, ◌≤◌, Bool, true, false, cond, Option, Some, None, List, [], ◌∷◌, length, slice_set, arith, ⊎_elim, refl, sym, ap, ◌∙◌}
+use Rattle.std.proofs.Common.{◌≡◌, ◌≢◌, ℕ, zero, suc, ◌+◌, ◌<◌, ◌≤◌, Bool, true, false, cond, Option, Some, None, List}
+use Rattle.std.proofs.Common.{[], ◌∷◌, length, slice_set, arith, ⊎_elim, refl, sym, ap, ◌∙◌}
 use Rattle.std.proofs.lemmas.Bool.{cases_eq, eq-eqb, ne_eqb, false≢true}
 use Rattle.std.proofs.lemmas.List.{length-set}
 use Rattle.sbpl_graph.specs.Network.{Network}
@@ -37,7 +38,8 @@ marked_none (mark ∷ rest) none =
     let own : mark ≡ false = none 0 in
     rw own (omega (arith, marked_none rest (λ s. none (suc s))))
 
-marked_more : (marks : List Bool) (s : ℕ) → s < length marks → closed_at marks s ≡ false → marked (slice_set marks s true) ≡ marked marks + 1
+marked_more : (marks : List Bool) (s : ℕ) → s < length marks → closed_at marks s ≡ false
+    → marked (slice_set marks s true) ≡ marked marks + 1
 marked_more [] s inside fresh = absurd (omega arith)
 marked_more (mark ∷ rest) zero inside fresh = let own : mark ≡ false = fresh in rw own (omega arith)
 marked_more (mark ∷ rest) (suc s) inside fresh = omega (arith, marked_more rest s (omega arith) fresh)
@@ -54,7 +56,8 @@ record HasOpened (events : List Event) (old new : Frontier) : Type 0 where
   opened : (s : ℕ) → 0 < opened_times s events → is_opened new s ≡ true
   total : marked new.opened ≡ marked old.opened + openings events
   marks : length new.opened ≡ length old.opened
-  counted : new.counts ≡ record old.counts { plan = old.counts.plan + openings events; run = old.counts.run + openings events }
+  counted : new.counts
+      ≡ record old.counts { plan = old.counts.plan + openings events; run = old.counts.run + openings events }
   start : new.labels.start ≡ old.labels.start
   states : states_of new.labels ≡ states_of old.labels
 
@@ -81,14 +84,19 @@ record IsQuiet (old mid : Frontier) : Type 0 where
   start : mid.labels.start ≡ old.labels.start
   states : states_of mid.labels ≡ states_of old.labels
 
-opened_quiet : {e : Event} {rest : List Event} {old mid new : Frontier} → ((s : ℕ) → opens s e ≡ 0) → is_opening e ≡ 0 → IsQuiet old mid
+opened_quiet : {e : Event} {rest : List Event} {old mid new : Frontier} → ((s : ℕ) → opens s e ≡ 0)
+    → is_opening e ≡ 0 → IsQuiet old mid
     → HasOpened rest mid new → HasOpened (e ∷ rest) old new
 opened_quiet {e} {rest} {old} {mid} {new} opens_not no_opening quiet later =
-    let still : (s : ℕ) → is_opened old s ≡ true → is_opened mid s ≡ true = λ s was. ap (λ marks. closed_at marks s) quiet.opened ∙ was in
+    let still : (s : ℕ) → is_opened old s ≡ true → is_opened mid s ≡ true =
+    λ s was. ap (λ marks. closed_at marks s) quiet.opened ∙ was in
     let total : marked mid.opened ≡ marked old.opened = ap marked quiet.opened in
     let plan : old.counts.plan + openings rest ≡ old.counts.plan + openings (e ∷ rest) = omega arith in
     let run : old.counts.run + openings rest ≡ old.counts.run + openings (e ∷ rest) = omega arith in
-    let counted : new.counts ≡ record old.counts { plan = old.counts.plan + openings rest; run = old.counts.run + openings rest } = rw quiet.counts at later.counted in
+    let counted : new.counts ≡ record old.counts {
+      plan = old.counts.plan + openings rest;
+      run = old.counts.run + openings rest;
+    } = rw quiet.counts at later.counted in
     record {
       none = λ s was. omega (arith, opens_not s, later.none s (still s was));
       each = λ s. omega (arith, opens_not s, later.each s);
@@ -102,20 +110,25 @@ opened_quiet {e} {rest} {old} {mid} {new} opens_not no_opening quiet later =
     }
 
 -- the opening of a state comes before
-opened_more : {q : Query} {s : ℕ} {rest : List Event} {old mid new : Frontier} → s < length old.opened → IsOpening q old s mid
+opened_more : {q : Query} {s : ℕ} {rest : List Event} {old mid new : Frontier}
+    → s < length old.opened → IsOpening q old s mid
     → HasOpened rest mid new → HasOpened (Opened s ∷ rest) old new
 opened_more {q} {s} {rest} {old} {mid} {new} inside opening later =
     let here = opened_here old.opened mid.opened s inside opening.opened in
-    let still : (u : ℕ) → is_opened old u ≡ true → is_opened mid u ≡ true = λ u was. opened_still old.opened mid.opened s u inside opening.opened was in
-    let total : marked mid.opened ≡ marked old.opened + 1 = ap marked opening.opened ∙ marked_more old.opened s inside opening.may.fresh in
+    let still : (u : ℕ) → is_opened old u ≡ true → is_opened mid u ≡ true =
+    λ u was. opened_still old.opened mid.opened s u inside opening.opened was in
+    let total : marked mid.opened ≡ marked old.opened + 1 =
+    ap marked opening.opened ∙ marked_more old.opened s inside opening.may.fresh in
     let plan : old.counts.plan + 1 + openings rest ≡ old.counts.plan + (1 + openings rest) = omega arith in
     let run : old.counts.run + 1 + openings rest ≡ old.counts.run + (1 + openings rest) = omega arith in
-    let counted : new.counts ≡ record old.counts { plan = old.counts.plan + 1 + openings rest; run = old.counts.run + 1 + openings rest } =
+    let counted : new.counts
+    ≡ record old.counts { plan = old.counts.plan + 1 + openings rest; run = old.counts.run + 1 + openings rest } =
     rw opening.counted at later.counted
     in
     record {
       none = λ u was.
-          let apart : s ≢ u = λ same. let own : is_opened old s ≡ true = rw same was in absurd (false≢true (sym opening.may.fresh ∙ own)) in
+          let apart : s ≢ u =
+          λ same. let own : is_opened old s ≡ true = rw same was in absurd (false≢true (sym opening.may.fresh ∙ own)) in
           rw (ne_eqb s u apart) (omega (arith, later.none u (still u was)));
       each = λ u.
           ⊎_elim
@@ -147,11 +160,13 @@ relaxed_same : (n : Network) (old new : Marks) (s k : ℕ) (head : Option ℕ) �
 relaxed_same n old new s k None relaxed = (ap (λ (m : Marks). m.start) relaxed.0, ap states_of relaxed.0)
 relaxed_same n old new s k (Some t) (c, by) = (by.changed.start, by.changed.states)
 
-opened_all : (q : Query) (events : List Event) (old new : Frontier) → length old.opened ≡ states_of old.labels → AreEvents q events old new
+opened_all : (q : Query) (events : List Event) (old new : Frontier) → length old.opened ≡ states_of old.labels
+    → AreEvents q events old new
     → HasOpened events old new
 opened_all q [] old new marks same = rw same (opened_none old)
 opened_all q (Opened s ∷ rest) old new marks (mid, opening, further) =
-    let marks' : length mid.opened ≡ states_of mid.labels = ap length opening.opened ∙ length-set old.opened s true ∙ marks ∙ sym opening.settled.states in
+    let marks' : length mid.opened ≡ states_of mid.labels =
+    ap length opening.opened ∙ length-set old.opened s true ∙ marks ∙ sym opening.settled.states in
     opened_more (omega (arith, opening.may.inside)) opening (opened_all q rest mid new marks' further)
 opened_all q (Taken ticket seat s k ∷ rest) old new marks (mid, taking, further) =
     let quiet : IsQuiet old mid =
@@ -162,11 +177,14 @@ opened_all q (Taken ticket seat s k ∷ rest) old new marks (mid, taking, furthe
       states = ap states_of taking.labels;
     }
     in
-    opened_quiet (λ u. refl) refl quiet (opened_all q rest mid new (ap length quiet.opened ∙ marks ∙ sym quiet.states) further)
+    opened_quiet (λ u. refl) refl quiet
+    (opened_all q rest mid new (ap length quiet.opened ∙ marks ∙ sym quiet.states) further)
 opened_all q (Posted ticket cost ∷ rest) old new marks (mid, (leg, same, posting), further) =
     let labels = relaxed_same q.network old.labels mid.labels leg.state leg.arc posting.head posting.relaxed in
-    let quiet : IsQuiet old mid = record { opened = posting.opened; counts = posting.counts; start = labels.0; states = labels.1 } in
-    opened_quiet (λ u. refl) refl quiet (opened_all q rest mid new (ap length quiet.opened ∙ marks ∙ sym quiet.states) further)
+    let quiet : IsQuiet old mid =
+    record { opened = posting.opened; counts = posting.counts; start = labels.0; states = labels.1 } in
+    opened_quiet (λ u. refl) refl quiet
+    (opened_all q rest mid new (ap length quiet.opened ∙ marks ∙ sym quiet.states) further)
 
 pub each_opens_once : OpeningBounded → EachOpensOnce
 each_opens_once bounded q m before events old new lawful may first run =
@@ -178,10 +196,12 @@ each_opens_once bounded q m before events old new lawful may first run =
       each = has.each;
       few = omega (arith, has.total, marked_few new.opened, has.marks, first.marks);
       unfinished = λ out.
-          let state_inside : out.state < length new.opened = omega (arith, out.is_open.inside, kept.states, kept.marks) in
+          let state_inside : out.state < length new.opened =
+          omega (arith, out.is_open.inside, kept.states, kept.marks) in
           let fresh : is_opened new out.state ≡ false =
           ⊎_elim
-          (λ (under : IsUnder new.labels out.state). absurd (omega (arith, kept.none_under.at out.state (omega (arith, kept.marks)))))
+          (λ (under : IsUnder new.labels out.state).
+          absurd (omega (arith, kept.none_under.at out.state (omega (arith, kept.marks)))))
           (λ (over : IsOver new.labels out.state × (is_opened new out.state ≡ false)). over.1)
           out.is_open.inconsistent
           in

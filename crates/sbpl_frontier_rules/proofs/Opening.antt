@@ -1,5 +1,6 @@
 -- Opening a state keeps a frontier.
-use Rattle.std.proofs.Common.{◌≡◌, ◌≢◌, ℕ, ◌+◌, ◌*◌, ◌<◌, ◌≤◌, Bool, true, false, List, length, slice_set, arith, ⊎_elim, sym, ap, ◌∙◌}
+use Rattle.std.proofs.Common.{◌≡◌, ◌≢◌, ℕ, ◌+◌, ◌*◌, ◌<◌, ◌≤◌, Bool, true, false, List, length, slice_set, arith}
+use Rattle.std.proofs.Common.{⊎_elim, sym, ap, ◌∙◌}
 use Rattle.std.proofs.lemmas.Bool.{cases_eq, cases_lt, false≢true}
 use Rattle.std.proofs.lemmas.List.{get_or-set_same, get_or-set_other, length-set}
 use Rattle.sbpl_graph.specs.Network.{IsFreeArc}
@@ -14,17 +15,20 @@ use Rattle.sbpl_serial.specs.Marked.{closed_at}
 use Rattle.sbpl_frontier_rules.specs.Frontier.{Frontier, arcs_of, is_due, times_due, times_out, times_ready}
 use Rattle.sbpl_frontier_rules.specs.Events.{IsOpening}
 use Rattle.sbpl_frontier_rules.specs.Kept.{IsKept, IsOfOpened}
-use Rattle.sbpl_frontier_rules.proofs.Counting.{idle_from_none, none_from_idle, due_from_some, some_from_due, ready_append, arc_below, arcs_below_few, arcs_below_has}
+use Rattle.sbpl_frontier_rules.proofs.Counting.{idle_from_none, none_from_idle, due_from_some, some_from_due}
+use Rattle.sbpl_frontier_rules.proofs.Counting.{ready_append, arc_below, arcs_below_few, arcs_below_has}
 use Rattle.sbpl_frontier_rules.proofs.Labelling.{labels_settled}
 
 -- the state is opened, and no other state is
 pub opened_here : (old new : List Bool) (s : ℕ) → s < length old → new ≡ slice_set old s true → closed_at new s ≡ true
 opened_here old new s inside set = ap (λ marks. closed_at marks s) set ∙ get_or-set_same old s true false inside
 
-pub opened_else : (old new : List Bool) (s x : ℕ) → new ≡ slice_set old s true → x ≢ s → closed_at new x ≡ closed_at old x
+pub opened_else : (old new : List Bool) (s x : ℕ) → new ≡ slice_set old s true → x ≢ s
+    → closed_at new x ≡ closed_at old x
 opened_else old new s x set apart = ap (λ marks. closed_at marks x) set ∙ get_or-set_other old s x true false apart
 
-pub opened_still : (old new : List Bool) (s x : ℕ) → s < length old → new ≡ slice_set old s true → closed_at old x ≡ true → closed_at new x ≡ true
+pub opened_still : (old new : List Bool) (s x : ℕ) → s < length old → new ≡ slice_set old s true
+    → closed_at old x ≡ true → closed_at new x ≡ true
 opened_still old new s x inside set was =
     ⊎_elim
     (λ (at : x ≡ s). rw at (opened_here old new s inside set))
@@ -59,7 +63,12 @@ module _ {q : Query} {old new : Frontier} {s : ℕ} (kept : IsKept q old) (openi
       ⊎_elim
       (λ (was : 0 < times_due old a j).
       let of = kept.of_opened a j (due_from_some (times_due old a j) was) in
-      record { source = of.source; number = of.number; headed = of.headed; opened = opened_still old.opened new.opened s a inside opening.opened of.opened })
+      record {
+        source = of.source;
+        number = of.number;
+        headed = of.headed;
+        opened = opened_still old.opened new.opened s a inside opening.opened of.opened;
+      })
       (λ (none : times_due old a j ≤ 0).
       let of = arc_below q.network s (q.network.fan s) a j (omega arith) in
       rw of.state (record {
@@ -83,19 +92,22 @@ module _ {q : Query} {old new : Frontier} {s : ℕ} (kept : IsKept q old) (openi
       (cases_lt 0 (times_ready (arcs_of q.network s) a j))
 
   -- an arc that is idle now was so before, and is of another state
-  opening_idle : (a j t c : ℕ) → is_due new a j ≡ false → IsFreeArc q.network a j t c → (a ≢ s) × (is_due old a j ≡ false)
+  opening_idle : (a j t c : ℕ) → is_due new a j ≡ false → IsFreeArc q.network a j t c
+      → (a ≢ s) × (is_due old a j ≡ false)
   opening_idle a j t c idle arc =
       let none = none_from_idle (times_due new a j) idle in
       let counts = due_opened a j in (
         λ (at : a ≡ s).
             let own : IsFreeArc q.network s j t c = rw (← at) arc in
-            let has : 1 ≤ times_ready (arcs_of q.network s) a j = rw at (arcs_below_has q.network s (q.network.fan s) j t own.number own.head) in
+            let has : 1 ≤ times_ready (arcs_of q.network s) a j =
+            rw at (arcs_below_has q.network s (q.network.fan s) j t own.number own.head) in
             absurd (omega arith),
         idle_from_none (times_due old a j) (omega arith),
       )
 
   -- a frontier stays kept where g of the state that is opened is bounded
-  pub opening_kept : ((arcs : List ℕ) (cost : ℕ) → IsFreePath q.network old.labels.start arcs s cost → 1000 * g_of old.labels s ≤ q.eps * cost)
+  pub opening_kept : ((arcs : List ℕ) (cost : ℕ) → IsFreePath q.network old.labels.start arcs s cost
+      → 1000 * g_of old.labels s ≤ q.eps * cost)
       → IsKept q new
   opening_kept bound =
       let change = opening.settled in

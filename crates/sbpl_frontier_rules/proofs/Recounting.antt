@@ -25,13 +25,15 @@ both_more c a b =
     let run : c.run + a + b ≡ c.run + (a + b) = omega arith in
     λ i. record { per_plan = c.per_plan; plan = plan i; run = run i }
 
-independent_with : (q : Query) (f : Frontier) (c : Counts) (s : ℕ) → IsIndependent q f s → IsIndependent q (with_counts f c) s
+independent_with : (q : Query) (f : Frontier) (c : Counts) (s : ℕ) → IsIndependent q f s
+    → IsIndependent q (with_counts f c) s
 independent_with q f c s is = record {
   of_busy = λ p busy. is.of_busy p (record { opened = busy.opened; arc = busy.arc; due = busy.due });
   of_earlier = is.of_earlier;
 }
 
-opening_with : (q : Query) (old new : Frontier) (s : ℕ) (c : Counts) → c.plan < c.per_plan → c.run < 2 ^ 30 → IsOpening q old s new
+opening_with : (q : Query) (old new : Frontier) (s : ℕ) (c : Counts) → c.plan < c.per_plan
+    → c.run < 2 ^ 30 → IsOpening q old s new
     → IsOpening q (with_counts old c) s (with_counts new (counted_with c 1))
 opening_with q old new s c plan run is = record {
   may = record {
@@ -52,7 +54,8 @@ opening_with q old new s c plan run is = record {
 
 event_with : (q : Query) (e : Event) (old new : Frontier) (c : Counts) → HasRoom c (is_opening e) → IsEvent q old e new
     → IsEvent q (with_counts old c) e (with_counts new (counted_with c (is_opening e)))
-event_with q (Opened s) old new c room is = opening_with q old new s c (let p = room.of_plan in omega (arith, p)) (let r = room.of_run in omega (arith, r)) is
+event_with q (Opened s) old new c room is =
+    opening_with q old new s c (let p = room.of_plan in omega (arith, p)) (let r = room.of_run in omega (arith, r)) is
 event_with q (Taken ticket seat s k) old new c room is = record {
   before = is.before;
   after = is.after;
@@ -87,9 +90,11 @@ counts_are_free q (e ∷ rest) old new c (mid, one, others) room =
     let p = room.of_plan in
     let r = room.of_run in
     let own : HasRoom c (is_opening e) = record { of_plan = omega (arith, p); of_run = omega (arith, r) } in
-    let left : HasRoom (counted_with c (is_opening e)) (openings rest) = record { of_plan = omega (arith, p); of_run = omega (arith, r) } in
+    let left : HasRoom (counted_with c (is_opening e)) (openings rest) =
+    record { of_plan = omega (arith, p); of_run = omega (arith, r) } in
     let further = counts_are_free q rest mid new (counted_with c (is_opening e)) others left in (
       with_counts mid (counted_with c (is_opening e)),
       event_with q e old mid c own one,
-      subst (λ (d : Counts). AreEvents q rest (with_counts mid (counted_with c (is_opening e))) (with_counts new d)) (both_more c (is_opening e) (openings rest)) further,
+      subst (λ (d : Counts). AreEvents q rest (with_counts mid (counted_with c (is_opening e))) (with_counts new d))
+          (both_more c (is_opening e) (openings rest)) further,
     )

@@ -14,7 +14,8 @@ use Rattle.sbpl_frontier_rules.proofs.Legs.{fewer_without}
 use Rattle.sbpl_frontier_rules.proofs.Replaying.{OpeningBounded, events_kept}
 
 -- one event
-event_back : (q : Query) (e : Event) (old new : Frontier) → IsKept q old → IsEvent q old e new → is_posting e + length new.out ≡ is_taking e + length old.out
+event_back : (q : Query) (e : Event) (old new : Frontier) → IsKept q old → IsEvent q old e new
+    → is_posting e + length new.out ≡ is_taking e + length old.out
 event_back q (Opened s) old new kept opening = omega (arith, ap length opening.out)
 event_back q (Taken ticket seat s k) old new kept taking =
     let leg : Leg = record { ticket = ticket; state = s; arc = k } in
@@ -23,7 +24,8 @@ event_back q (Posted ticket cost) old new kept (leg, same, posting) =
     omega (arith, ap length posting.out, fewer_without old.out leg kept.tickets_differ posting.was_out)
 
 module _ (bounded : OpeningBounded) where
-  events_back : (q : Query) (events : List Event) (old new : Frontier) → IsLawful q → IsKept q old → AreEvents q events old new
+  events_back : (q : Query) (events : List Event) (old new : Frontier) → IsLawful q → IsKept q old
+      → AreEvents q events old new
       → posts_in events + length new.out ≡ takes_in events + length old.out
   events_back q [] old new lawful kept same = rw same refl
   events_back q (e ∷ rest) old new lawful kept (mid, event, further) =
@@ -32,4 +34,8 @@ module _ (bounded : OpeningBounded) where
 
   pub takes_come_back : TakesComeBack
   takes_come_back q m before events old new lawful begins first are =
-      omega (arith, events_back q events old new lawful (first_kept q m before old begins first) are, ap length first.none_out)
+      omega (
+        arith,
+        events_back q events old new lawful (first_kept q m before old begins first) are,
+        ap length first.none_out,
+      )

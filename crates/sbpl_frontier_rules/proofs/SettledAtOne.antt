@@ -1,5 +1,6 @@
 -- With inflation one each opened state of a kept frontier has v = g: back arcs make a path that costs no more than g.
-use Rattle.std.proofs.Common.{◌≡◌, ◌≢◌, ℕ, zero, suc, ◌+◌, ◌*◌, ◌<◌, ◌≤◌, Bool, true, false, Option, Some, None, List, [], ◌∷◌, ◌++◌, length, arith, ⊎_elim, refl, sym, ◌∙◌}
+use Rattle.std.proofs.Common.{◌≡◌, ◌≢◌, ℕ, zero, suc, ◌+◌, ◌*◌, ◌<◌, ◌≤◌, Bool, true, false, Option, Some, None, List}
+use Rattle.std.proofs.Common.{[], ◌∷◌, ◌++◌, length, arith, ⊎_elim, refl, sym, ◌∙◌}
 use Rattle.std.proofs.lemmas.Bool.{cases_eq, cases_lt, true≢false}
 use Rattle.std.proofs.lemmas.List.{get_or_past}
 use Rattle.sbpl_graph.specs.declared.TheConstants.{FAR}
@@ -19,7 +20,8 @@ pub record IsReached (n : Network) (start : ℕ) (g : ℕ → ℕ) (t : ℕ) : T
   pub path : IsFreePath n start arcs t cost
   pub cheap : cost ≤ g t
 
-module _ {n : Network} {start : ℕ} {g v : ℕ → ℕ} {back : ℕ → Option (ℕ × ℕ)} {pending : ℕ → ℕ → Bool} (sound : IsSound n)
+module _ {n : Network} {start : ℕ} {g v : ℕ → ℕ} {back : ℕ → Option (ℕ × ℕ)}
+    {pending : ℕ → ℕ → Bool} (sound : IsSound n)
     (kept : AreKept n start g v back pending) (under : NoneUnder n.states g v) where
   -- where no state is underconsistent, back arcs lead to each state of finite g, one of lower g at a time
   reached_below : (count t : ℕ) → g t < count → t < n.states → g t < FAR → IsReached n start g t
@@ -27,7 +29,8 @@ module _ {n : Network} {start : ℕ} {g v : ℕ → ℕ} {back : ℕ → Option 
   reached_below (suc count) t below inside near =
       ⊎_elim
       (λ (at : t ≡ start). record { arcs = []; cost = 0; path = (sym at, refl); cheap = omega arith })
-      (λ (apart : t ≢ start). by_arc (λ p lower place finite. reached_below count p (omega arith) place finite) apart (back t) refl)
+      (λ (apart : t ≢ start).
+      by_arc (λ p lower place finite. reached_below count p (omega arith) place finite) apart (back t) refl)
       (cases_eq t start)
     where
       by_arc : ((p : ℕ) → g p < g t → p < n.states → g p < FAR → IsReached n start g p) → t ≢ start
@@ -67,5 +70,6 @@ settled_at_one q f lawful one kept s opened =
     let over = kept.none_under.at s inside in
     let near = kept.bounded.near s opened in
     let way = reached lawful.sound kept.arcs kept.none_under s inside (omega arith) in
-    let within : 1000 * v_of f.labels s ≤ 1000 * way.cost = rw one at (kept.bounded.within s way.arcs way.cost opened way.path) in
+    let within : 1000 * v_of f.labels s ≤ 1000 * way.cost =
+    rw one at (kept.bounded.within s way.arcs way.cost opened way.path) in
     omega (arith, way.cheap)

@@ -1,5 +1,6 @@
 -- A state that may be opened has a bounded g: the walk along a free path to it.
-use Rattle.std.proofs.Common.{◌≡◌, ℕ, ◌+◌, ◌-◌, ◌*◌, ◌<◌, ◌≤◌, true, false, List, [], ◌∷◌, ◌++◌, arith, ⊎_elim, inl, inr, refl, sym, subst, ◌∙◌}
+use Rattle.std.proofs.Common.{◌≡◌, ℕ, ◌+◌, ◌-◌, ◌*◌, ◌<◌, ◌≤◌, true, false, List, [], ◌∷◌, ◌++◌, arith, ⊎_elim, inl}
+use Rattle.std.proofs.Common.{inr, refl, sym, subst, ◌∙◌}
 use Rattle.std.proofs.Math.Nat.{mul-le-mul_left, mul-le-mul_right}
 use Rattle.std.proofs.lemmas.Bool.{cases_Bool, cases_lt, false_from_ne_true, true≢false}
 use Rattle.sbpl_graph.specs.declared.TheConstants.{FAR}
@@ -26,7 +27,8 @@ path_then n s (j ∷ rest) u a k t c path arc =
     (path.0, path.1, path.2 + c, path.3, path_then n path.0 rest u path.2 k t c path.4 arc, omega arith)
 
 -- the gap between two states is at most the cost of each free path from the one to the other
-pub gap_at_most : (n : Network) → HasGaps n → (p : ℕ) (arcs : List ℕ) (s cost : ℕ) → s < n.states → IsFreePath n p arcs s cost
+pub gap_at_most : (n : Network) → HasGaps n → (p : ℕ) (arcs : List ℕ) (s cost : ℕ) → s < n.states
+    → IsFreePath n p arcs s cost
     → n.gap p s ≤ cost
 gap_at_most n gaps p [] s cost inside path =
     let none : n.gap p s ≡ 0 = rw path.0 (gaps.to_itself s inside) in omega arith
@@ -46,7 +48,8 @@ guide_falls n goal h consistent p (k ∷ rest) s cost path =
     omega (arith, path.5)
 
 -- one arc further: at an inflation of at least one its cost is added at least once
-more_times : (eps spent next g c : ℕ) → 1000 ≤ eps → g ≤ next + c → 1000 * next ≤ eps * spent → 1000 * g ≤ eps * (spent + c)
+more_times : (eps spent next g c : ℕ) → 1000 ≤ eps → g ≤ next + c → 1000 * next ≤ eps * spent
+    → 1000 * g ≤ eps * (spent + c)
 more_times eps spent next g c one above within =
     let once = mul-le-mul_right c one in omega arith
 
@@ -56,7 +59,8 @@ module _ (q : Query) (f : Frontier) (s : ℕ) (lawful : IsLawful q) (kept : IsKe
   inside = omega (arith, may.inside, kept.states)
 
   -- from a state of bounded g that s is clear of, s has a bounded g
-  by_clear : (p spent rest : ℕ) → 1000 * g_of f.labels p ≤ q.eps * spent → q.network.gap p s ≤ rest → IsClearOf q f.labels s p
+  by_clear : (p spent rest : ℕ) → 1000 * g_of f.labels p ≤ q.eps * spent → q.network.gap p s ≤ rest
+      → IsClearOf q f.labels s p
       → 1000 * g_of f.labels s ≤ q.eps * (spent + rest)
   by_clear p spent rest within gap clear =
       let most = mul-le-mul_left q.eps gap in
@@ -71,7 +75,8 @@ module _ (q : Query) (f : Frontier) (s : ℕ) (lawful : IsLawful q) (kept : IsKe
       let most = mul-le-mul_left q.eps falls in omega arith
 
   -- so from each open state of bounded g: it comes before s, which is clear of it, or its key does not begin with less
-  by_open : (p spent rest : ℕ) → 1000 * g_of f.labels p ≤ q.eps * spent → q.network.gap p s ≤ rest → q.guide p ≤ rest + q.guide s
+  by_open : (p spent rest : ℕ) → 1000 * g_of f.labels p ≤ q.eps * spent → q.network.gap p s ≤ rest
+      → q.guide p ≤ rest + q.guide s
       → IsOpenIn f p → IsOver f.labels p → 1000 * g_of f.labels s ≤ q.eps * (spent + rest)
   by_open p spent rest within gap falls is_open over =
       let own = key_over q.eps q.guide f.labels s may.over in
@@ -82,11 +87,13 @@ module _ (q : Query) (f : Frontier) (s : ℕ) (lawful : IsLawful q) (kept : IsKe
       (λ after. by_order p spent rest within falls after)
       (cases_lt (1000 * g_of f.labels p + q.eps * q.guide p) (1000 * g_of f.labels s + q.eps * q.guide s))
 
-  -- The walk: these arcs lead to p, whose g is finite and bounded by what they cost, and more arcs lead from p to s. Where p is
+  -- The walk: these arcs lead to p, whose g is finite and bounded
+  -- by what they cost, and more arcs lead from p to s. Where p is
   -- busy with the next arc or open, the walk ends there; otherwise the next state has a bounded g too.
   walk : (arcs : List ℕ) (p spent : ℕ) → p < q.network.states → IsFreePath q.network f.labels.start arcs p spent
       → g_of f.labels p < FAR → 1000 * g_of f.labels p ≤ q.eps * spent
-      → (more : List ℕ) (rest : ℕ) → IsFreePath q.network p more s rest → 1000 * g_of f.labels s ≤ q.eps * (spent + rest)
+      → (more : List ℕ) (rest : ℕ) → IsFreePath q.network p more s rest
+      → 1000 * g_of f.labels s ≤ q.eps * (spent + rest)
   walk arcs p spent place path near within [] rest on =
       let same : g_of f.labels s ≡ g_of f.labels p = rw on.0 refl in
       let most : q.eps * spent ≤ q.eps * (spent + rest) = mul-le-mul_left q.eps (omega arith) in
@@ -122,16 +129,19 @@ module _ (q : Query) (f : Frontier) (s : ℕ) (lawful : IsLawful q) (kept : IsKe
       false_from_ne_true _ (λ due. true≢false (sym (kept.of_opened p k due).opened ∙ fresh)) in
       ⊎_elim
       (λ (over : IsOver f.labels p).
-      by_open p spent rest within gap falls (record { inside = omega (arith, kept.states); inconsistent = inr (over, fresh) }) over)
+      by_open p spent rest within gap falls
+      (record { inside = omega (arith, kept.states); inconsistent = inr (over, fresh) }) over)
       (λ (settled : v_of f.labels p ≤ g_of f.labels p). onward idle (omega arith) (omega arith))
       (cases_lt (g_of f.labels p) (v_of f.labels p)))
       (cases_Bool (is_opened f p))
 
 -- over a kept frontier g of a state that may be opened is at most the inflation times the cost of every free path to it
-pub opening_bounded : (q : Query) (f : Frontier) (s : ℕ) → IsLawful q → IsKept q f → MayOpen q f s → (arcs : List ℕ) (cost : ℕ)
+pub opening_bounded : (q : Query) (f : Frontier) (s : ℕ) → IsLawful q → IsKept q f → MayOpen q f s
+    → (arcs : List ℕ) (cost : ℕ)
     → IsFreePath q.network f.labels.start arcs s cost → 1000 * g_of f.labels s ≤ q.eps * cost
 opening_bounded q f s lawful kept may arcs cost path =
     let at_start = kept.arcs.from_start in
     let place : f.labels.start < q.network.states = omega (arith, kept.labels.start_inside, kept.states) in
-    let whole = walk q f s lawful kept may [] f.labels.start 0 place (refl, refl) (omega arith) (omega arith) arcs cost path in
+    let whole =
+    walk q f s lawful kept may [] f.labels.start 0 place (refl, refl) (omega arith) (omega arith) arcs cost path in
     omega arith

@@ -26,7 +26,8 @@ fit_opened {start = start} {g = g} from_start far_g far_v = record {
 }
 
 -- a settled label fits one expansion more
-pub fit_settled : {states : ℕ} {g v : ℕ → ℕ} {back : ℕ → Option (ℕ × ℕ)} {g' v' : ℕ → ℕ} {back' : ℕ → Option (ℕ × ℕ)} {count : ℕ} (s : ℕ)
+pub fit_settled : {states : ℕ} {g v : ℕ → ℕ} {back : ℕ → Option (ℕ × ℕ)} {g' v' : ℕ → ℕ}
+    {back' : ℕ → Option (ℕ × ℕ)} {count : ℕ} (s : ℕ)
     → FitCount states g v count → SettlesState g v back g' v' back' s → FitCount states g' v' (count + 1)
 fit_settled {g = g} {v = v} {g' = g'} {v' = v'} {count = count} s fit settles = record {
   near_g = λ u inside near. omega (arith, settles.same_g u, fit.near_g u inside (omega (arith, settles.same_g u)));
@@ -42,7 +43,8 @@ fit_settled {g = g} {v = v} {g' = g'} {v' = v'} {count = count} s fit settles = 
 }
 
 -- a label that is lowered by one arc from a finite v still fits
-pub fit_lowered : {states : ℕ} {g v : ℕ → ℕ} {back : ℕ → Option (ℕ × ℕ)} {g' v' : ℕ → ℕ} {back' : ℕ → Option (ℕ × ℕ)} {count : ℕ} (t s k c : ℕ)
+pub fit_lowered : {states : ℕ} {g v : ℕ → ℕ} {back : ℕ → Option (ℕ × ℕ)} {g' v' : ℕ → ℕ} {back' : ℕ → Option (ℕ × ℕ)}
+    {count : ℕ} (t s k c : ℕ)
     → FitCount states g v count → s < states → v s < FAR → c < 2 ^ 32 → LowersState g v back g' v' back' t s k (v s + c)
     → FitCount states g' v' count
 fit_lowered {g = g} {v = v} {g' = g'} {v' = v'} {count = count} t s k c fit source near small lowers = record {
@@ -61,6 +63,7 @@ fit_lowered {g = g} {v = v} {g' = g'} {v' = v'} {count = count} t s k c fit sour
 }
 
 -- within a run's expansions a way over one more arc is a label
-pub fit_small : {states : ℕ} {g v : ℕ → ℕ} {count : ℕ} (s c : ℕ) → FitCount states g v count → count ≤ 2 ^ 30 → s < states
+pub fit_small : {states : ℕ} {g v : ℕ → ℕ} {count : ℕ} (s c : ℕ) → FitCount states g v count
+    → count ≤ 2 ^ 30 → s < states
     → v s < FAR → c < 2 ^ 32 → v s + c < 2 ^ 62
 fit_small s c fit few inside near small = omega (arith, fit.near_v s inside near)

@@ -1,5 +1,6 @@
 -- Labels stay kept, at any test of pending arcs, as states are opened and arcs are used.
-use Rattle.std.proofs.Common.{◌≡◌, ◌≢◌, ℕ, ◌+◌, ◌<◌, ◌≤◌, ◌⊎◌, Option, Some, None, Bool, false, refl, sym, ap, arith, ⊎_elim, inl, inr, ◌∙◌}
+use Rattle.std.proofs.Common.{◌≡◌, ◌≢◌, ℕ, ◌+◌, ◌<◌, ◌≤◌, ◌⊎◌, Option, Some, None, Bool, false, refl, sym, ap, arith}
+use Rattle.std.proofs.Common.{⊎_elim, inl, inr, ◌∙◌}
 use Rattle.std.proofs.lemmas.Bool.{cases_lt, cases_eq}
 use Rattle.std.proofs.lemmas.Bool.Decides.{nat_tests}
 use Rattle.sbpl_graph.specs.declared.TheConstants.{FAR}
@@ -36,7 +37,8 @@ before_not_pending s k a j before = grind (arith, nat_tests)
 module _ {n : Network} {start : ℕ} {g v : ℕ → ℕ} {back : ℕ → Option (ℕ × ℕ)} where
   -- arcs stop being pending once they are used
   pub kept_used : {pending : ℕ → ℕ → Bool} (pending' : ℕ → ℕ → Bool) → AreKept n start g v back pending
-      → ((s k t c : ℕ) → pending' s k ≡ false → IsFreeArc n s k t c → v s < FAR → (pending s k ≡ false) ⊎ (g t ≤ v s + c))
+      → ((s k t c : ℕ) → pending' s k ≡ false → IsFreeArc n s k t c → v s < FAR
+      → (pending s k ≡ false) ⊎ (g t ≤ v s + c))
       → AreKept n start g v back pending'
   kept_used pending' kept done = record {
     from_start = kept.from_start;
@@ -77,13 +79,15 @@ module _ {n : Network} {start : ℕ} {g v : ℕ → ℕ} {back : ℕ → Option 
       ⊎_elim
       (λ before. inl (before_not_pending s k a j before))
       (λ from.
-      ⊎_elim (λ same. let at : j ≡ k = omega arith in inr (same, at)) (λ other. inl (other_not_pending s k a j other)) (cases_eq a s))
+      ⊎_elim (λ same. let at : j ≡ k = omega arith in inr (same, at))
+      (λ other. inl (other_not_pending s k a j other)) (cases_eq a s))
       (cases_lt j k))
       (not_pending s (k + 1) a j idle))
       given
 
   -- after its last arc a state has none pending
-  pub kept_done : (s k : ℕ) → AreKept n start g v back (pending_from s k) → n.fan s ≤ k → AreKept n start g v back none_pending
+  pub kept_done : (s k : ℕ) → AreKept n start g v back (pending_from s k) → n.fan s ≤ k
+      → AreKept n start g v back none_pending
   kept_done s k kept over =
       kept_used none_pending kept
       (λ a j t c idle arc near.
@@ -126,7 +130,8 @@ module _ {n : Network} {start : ℕ} {g v : ℕ → ℕ} {back : ℕ → Option 
   supported_from_exact labels exact = record { labels = labels; from_start = exact.from_start; along = exact.least }
 
   -- opened labels are exact
-  pub opened_exact : g start ≡ 0 → ((s : ℕ) → s < n.states → s ≢ start → g s ≡ FAR) → ((s : ℕ) → s < n.states → v s ≡ FAR)
+  pub opened_exact : g start ≡ 0 → ((s : ℕ) → s < n.states → s ≢ start → g s ≡ FAR)
+      → ((s : ℕ) → s < n.states → v s ≡ FAR)
       → ((s : ℕ) → back s ≡ None) → AreExact n start g v back
   opened_exact from_start far_g far_v no_arc = record {
     from_start = from_start;
@@ -138,7 +143,8 @@ module _ {n : Network} {start : ℕ} {g v : ℕ → ℕ} {back : ℕ → Option 
   }
 
 -- What holds after a change of one state.
-module _ {n : Network} {start : ℕ} {g v : ℕ → ℕ} {back : ℕ → Option (ℕ × ℕ)} {g' v' : ℕ → ℕ} {back' : ℕ → Option (ℕ × ℕ)} where
+module _ {n : Network} {start : ℕ} {g v : ℕ → ℕ} {back : ℕ → Option (ℕ × ℕ)} {g' v' : ℕ → ℕ}
+    {back' : ℕ → Option (ℕ × ℕ)} where
   -- a state is opened, and its arcs become pending, whatever else is
   pub kept_opened : {pending : ℕ → ℕ → Bool} (pending' : ℕ → ℕ → Bool) (s : ℕ) → AreKept n start g v back pending
       → g s < v s → v s ≤ FAR → SettlesState g v back g' v' back' s
@@ -156,7 +162,8 @@ module _ {n : Network} {start : ℕ} {g v : ℕ → ℕ} {back : ℕ → Option 
         let by_old : back t ≡ Some (a, j) = let same = settles.same_back t in cc in
         let found = kept.supports t a j inside other by_old in
         let lower : v' a ≤ v a =
-        ⊎_elim (λ (at : a ≡ s). let settled : v' a ≡ g a = rw at settles.settled in let was : g a < v a = rw at over in omega arith)
+        ⊎_elim (λ (at : a ≡ s).
+        let settled : v' a ≡ g a = rw at settles.settled in let was : g a < v a = rw at over in omega arith)
         (λ (apart : a ≢ s). omega (arith, settles.other_v a apart)) (cases_eq a s) in (
           found.0,
           record {
@@ -187,7 +194,8 @@ module _ {n : Network} {start : ℕ} {g v : ℕ → ℕ} {back : ℕ → Option 
       → t ≢ start → v s < FAR → v s + c < FAR → v s + c < g t → LowersState g v back g' v' back' t s k (v s + c)
       → AreKept n start g' v' back' pending
   kept_lowered s k t c kept arc other near small lower lowers = record {
-    from_start = let apart : start ≢ t = λ e. other (sym e) in omega (arith, lowers.other_g start apart, kept.from_start);
+    from_start =
+        let apart : start ≢ t = λ e. other (sym e) in omega (arith, lowers.other_g start apart, kept.from_start);
     none_at_start =
         let apart : start ≢ t = λ e. other (sym e) in
         let same = lowers.other_back start apart in
@@ -196,7 +204,8 @@ module _ {n : Network} {start : ℕ} {g v : ℕ → ℕ} {back : ℕ → Option 
     used = λ a j u d idle free near'.
         let due = kept.used a j u d idle free (omega (arith, lowers.same_v a)) in
         ⊎_elim
-        (λ (at : u ≡ t). let now : g' u ≡ v s + c = rw at lowers.lowered in let was : v s + c < g u = rw at lower in omega (arith, lowers.same_v a))
+        (λ (at : u ≡ t). let now : g' u ≡ v s + c = rw at lowers.lowered in
+        let was : v s + c < g u = rw at lower in omega (arith, lowers.same_v a))
         (λ (apart : u ≢ t). omega (arith, lowers.other_g u apart, lowers.same_v a))
         (cases_eq u t);
     supports = λ u a j inside apart_start by.
@@ -225,7 +234,8 @@ module _ {n : Network} {start : ℕ} {g v : ℕ → ℕ} {back : ℕ → Option 
         (cases_eq u t);
     far_without_arc = λ u inside apart_start none.
         ⊎_elim
-        (λ (at : u ≡ t). let by_new : back' u ≡ Some (s, k) = rw at lowers.by in absurd (some_not_none (sym by_new ∙ none)))
+        (λ (at : u ≡ t).
+        let by_new : back' u ≡ Some (s, k) = rw at lowers.by in absurd (some_not_none (sym by_new ∙ none)))
         (λ (apart : u ≢ t).
         let was : back u ≡ None = let same = lowers.other_back u apart in cc in
         omega (arith, lowers.other_g u apart, kept.far_without_arc u inside apart_start was))
@@ -252,7 +262,8 @@ module _ {states : ℕ} {g v : ℕ → ℕ} {back : ℕ → Option (ℕ × ℕ)}
         (cases_eq u s);
   }
 
-  pub none_under_lowered : (t s k value : ℕ) → NoneUnder states g v → value < g t → LowersState g v back g' v' back' t s k value
+  pub none_under_lowered : (t s k value : ℕ) → NoneUnder states g v → value < g t
+      → LowersState g v back g' v' back' t s k value
       → NoneUnder states g' v'
   none_under_lowered t s k value under lower lowers = record {
     at = λ u inside.

@@ -26,7 +26,8 @@ pub label_at_most : (x : ℕ) → IsLabel x → x ≤ FAR
 label_at_most x label = ⊎_elim (λ e. omega arith) (λ small. omega arith) label
 
 -- a free path from a state ends at a state
-pub end_inside : (n : Network) → IsSound n → (s : ℕ) (arcs : List ℕ) (t cost : ℕ) → s < n.states → IsFreePath n s arcs t cost
+pub end_inside : (n : Network) → IsSound n → (s : ℕ) (arcs : List ℕ) (t cost : ℕ) → s < n.states
+    → IsFreePath n s arcs t cost
     → t < n.states
 end_inside n sound s [] t cost inside p = subst (λ x. x < n.states) p.0 inside
 end_inside n sound s (k ∷ ks) t cost inside p =

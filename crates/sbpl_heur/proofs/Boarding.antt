@@ -1,24 +1,30 @@
 -- The laws of the reversed cell graph.
-use Rattle.std.proofs.Common.{◌≡◌, ℕ, ◌+◌, ◌*◌, ◌<◌, ◌≤◌, ◌^◌, ◌&&◌, inl, inr, max, List, length, slice_get, slice_index, Option, Some, None, IfSome, get_or, option_and_then, option_map, nat_lt, refl, ap, sym, ◌∙◌, arith, subst}
+use Rattle.std.proofs.Common.{◌≡◌, ℕ, ◌+◌, ◌*◌, ◌<◌, ◌≤◌, ◌^◌, ◌&&◌, inl, inr, max, List, length, slice_get}
+use Rattle.std.proofs.Common.{slice_index, Option, Some, None, IfSome, get_or, option_and_then, option_map, nat_lt}
+use Rattle.std.proofs.Common.{refl, ap, sym, ◌∙◌, arith, subst}
 use Rattle.std.proofs.Math.Nat.{mul-le-mul}
 use Rattle.std.proofs.lemmas.Bool.{and_from, lt-ltb, le-ltb, cond-true, cond-false, cases_lt}
 use Rattle.std.proofs.lemmas.Bool.Decides.{nat_tests}
 use Rattle.std.proofs.lemmas.Grind.{merely}
-use Rattle.std.proofs.lemmas.Option.{cond_some, none-some, same_Some, slice_get_within, slice_get-get_or, get_or_from_slice_get}
+use Rattle.std.proofs.lemmas.Option.{cond_some, none-some, same_Some, slice_get_within}
+use Rattle.std.proofs.lemmas.Option.{slice_get-get_or, get_or_from_slice_get}
 use Rattle.sbpl_graph.specs.Network.{IsFreeArc}
 use Rattle.sbpl_graph.specs.Laws.{IsSound, HasExactTails, HasGaps}
 use Rattle.sbpl_cfg.specs.Environment.{Environment}
 use Rattle.sbpl_heur.specs.declared.hop.Hop.{Hop}
-use Rattle.sbpl_heur.specs.Boards.{Board, IsBoard, map_of, cell_count, cell_before, cell_after, step_cost, board_head, board_cost, board_tail, board_network}
+use Rattle.sbpl_heur.specs.Boards.{Board, IsBoard, map_of, cell_count, cell_before, cell_after, step_cost, board_head}
+use Rattle.sbpl_heur.specs.Boards.{board_cost, board_tail, board_network}
 use Rattle.sbpl_heur.specs.Weights.{IsHopArc}
 use Rattle.sbpl_heur.proofs.Locating.{before_leads, leads_before, after_leads, leads_after}
 
 -- an answer that is computed from another is Some only where the other is
-pub then_some : {X Y : Type 0} (f : X → Option Y) (o : Option X) (y : Y) → option_and_then f o ≡ Some y → (x : X) × (o ≡ Some x) × (f x ≡ Some y)
+pub then_some : {X Y : Type 0} (f : X → Option Y) (o : Option X) (y : Y) → option_and_then f o ≡ Some y
+    → (x : X) × (o ≡ Some x) × (f x ≡ Some y)
 then_some f None y is = absurd (none-some y is)
 then_some f (Some x) y is = (x, refl, is)
 
-pub map_some : {X Y : Type 0} (f : X → Y) (o : Option X) (y : Y) → option_map f o ≡ Some y → (x : X) × (o ≡ Some x) × (f x ≡ y)
+pub map_some : {X Y : Type 0} (f : X → Y) (o : Option X) (y : Y) → option_map f o ≡ Some y
+    → (x : X) × (o ≡ Some x) × (f x ≡ y)
 map_some f None y is = absurd (none-some y is)
 map_some f (Some x) y is = (x, refl, same_Some (f x) y is)
 
@@ -33,23 +39,30 @@ pub head_leads : (b : Board) (q k p : ℕ) → board_head b q k ≡ Some p → L
 unfolding board_head
 head_leads b q k p is = elim (cases_lt q (cell_count b)) [
   | inl inside ↦
-      let some = then_some (cell_before b.env q) (slice_get b.hops k) p (sym (cond-true (nat_lt q (cell_count b)) _ _ (lt-ltb q (cell_count b) inside)) ∙ is) in
+      let some =
+      then_some (cell_before b.env q) (slice_get b.hops k) p
+      (sym (cond-true (nat_lt q (cell_count b)) _ _ (lt-ltb q (cell_count b) inside)) ∙ is) in
       record { inside = inside; hop = some.0; at = some.1; before = some.2 }
   | inr beyond ↦ absurd (grind (arith, nat_tests))
 ]
 
 pub leads_head : (b : Board) (q k p : ℕ) → LeadsBack b q k p → board_head b q k ≡ Some p
 unfolding board_head
-leads_head b q k p leads = cond-true (nat_lt q (cell_count b)) _ _ (lt-ltb q (cell_count b) leads.inside) ∙ ap (option_and_then (cell_before b.env q)) leads.at ∙ leads.before
+leads_head b q k p leads =
+    cond-true (nat_lt q (cell_count b)) _ _ (lt-ltb q (cell_count b) leads.inside)
+    ∙ ap (option_and_then (cell_before b.env q)) leads.at ∙ leads.before
 
 -- no arc leads from the state that is no cell, and each other arc leads where its hop leads backwards
 pub head_past : (b : Board) (q k : ℕ) → q ≡ cell_count b → board_head b q k ≡ None
 unfolding board_head
 head_past b q k past = cond-false (nat_lt q (cell_count b)) _ _ (le-ltb q (cell_count b) (omega arith))
 
-pub head_read : (b : Board) (q k : ℕ) (h : Hop) (r : Option ℕ) → q < cell_count b → slice_get b.hops k ≡ Some h → r ≡ cell_before b.env q h → r ≡ board_head b q k
+pub head_read : (b : Board) (q k : ℕ) (h : Hop) (r : Option ℕ) → q < cell_count b → slice_get b.hops k ≡ Some h
+    → r ≡ cell_before b.env q h → r ≡ board_head b q k
 unfolding board_head
-head_read b q k h r inside at is = is ∙ sym (cond-true (nat_lt q (cell_count b)) _ _ (lt-ltb q (cell_count b) inside) ∙ ap (option_and_then (cell_before b.env q)) at)
+head_read b q k h r inside at is = is
+    ∙ sym (cond-true (nat_lt q (cell_count b)) _ _ (lt-ltb q (cell_count b) inside)
+    ∙ ap (option_and_then (cell_before b.env q)) at)
 
 -- a step that is free, and what it costs
 pub record IsFreeStep (e : Environment) (h : Hop) (start end c : ℕ) : Type 0 where
@@ -58,9 +71,12 @@ pub record IsFreeStep (e : Environment) (h : Hop) (start end c : ℕ) : Type 0 w
   pub end_inscribed : end < e.inscribed
   pub product : c ≡ h.cost * (max start end + 1)
 
-pub step_free : (e : Environment) (h : Hop) (start end c : ℕ) → step_cost e h start end ≡ Some c → IsFreeStep e h start end c
+pub step_free : (e : Environment) (h : Hop) (start end c : ℕ) → step_cost e h start end ≡ Some c
+    → IsFreeStep e h start end c
 step_free e h start end c is =
-    let some = cond_some (nat_lt start e.obsthresh && (nat_lt end e.obsthresh && nat_lt end e.inscribed)) (h.cost * (max start end + 1)) c is in
+    let some =
+    cond_some (nat_lt start e.obsthresh && (nat_lt end e.obsthresh && nat_lt end e.inscribed))
+    (h.cost * (max start end + 1)) c is in
     record {
       start_below = grind (arith, nat_tests);
       end_below = grind (arith, nat_tests);
@@ -68,9 +84,11 @@ step_free e h start end c is =
       product = sym some.1;
     }
 
-pub free_step : (e : Environment) (h : Hop) (start end c : ℕ) → IsFreeStep e h start end c → step_cost e h start end ≡ Some c
+pub free_step : (e : Environment) (h : Hop) (start end c : ℕ) → IsFreeStep e h start end c
+    → step_cost e h start end ≡ Some c
 free_step e h start end c free =
-    cond-true _ _ _ (and_from _ _ (lt-ltb start e.obsthresh free.start_below) (and_from _ _ (lt-ltb end e.obsthresh free.end_below) (lt-ltb end e.inscribed free.end_inscribed))) ∙ ap Some (sym free.product)
+    cond-true _ _ _ (and_from _ _ (lt-ltb start e.obsthresh free.start_below) (and_from _ _
+    (lt-ltb end e.obsthresh free.end_below) (lt-ltb end e.inscribed free.end_inscribed))) ∙ ap Some (sym free.product)
 
 -- an arc that is free
 pub record IsFreeBack (b : Board) (q k p c : ℕ) : Type 0 where
@@ -80,22 +98,30 @@ pub record IsFreeBack (b : Board) (q k p c : ℕ) : Type 0 where
 pub cost_free : (b : Board) (q k c : ℕ) → board_cost b q k ≡ Some c → (p : ℕ) × IsFreeBack b q k p c
 unfolding board_cost
 cost_free b q k c is =
-    let hop = then_some (λ h. option_and_then (λ p. step_cost b.env h (slice_index b.costs p) (slice_index b.costs q)) (board_head b q k)) (slice_get b.hops k) c is in
-    let cell = then_some (λ p. step_cost b.env hop.0 (slice_index b.costs p) (slice_index b.costs q)) (board_head b q k) c hop.2 in
+    let hop =
+    then_some (λ h. option_and_then (λ p. step_cost b.env h (slice_index b.costs p) (slice_index b.costs q))
+    (board_head b q k)) (slice_get b.hops k) c is in
+    let cell =
+    then_some (λ p. step_cost b.env hop.0 (slice_index b.costs p) (slice_index b.costs q)) (board_head b q k) c hop.2 in
     let leads = head_leads b q k cell.0 cell.1 in
     let same : hop.0 ≡ leads.hop = same_Some hop.0 leads.hop (sym hop.1 ∙ leads.at) in (
       cell.0,
       record {
         leads = leads;
-        free = step_free b.env leads.hop (slice_index b.costs cell.0) (slice_index b.costs q) c (subst (λ h. step_cost b.env h (slice_index b.costs cell.0) (slice_index b.costs q) ≡ Some c) same cell.2);
+        free =
+            step_free b.env leads.hop (slice_index b.costs cell.0) (slice_index b.costs q) c
+            (subst (λ h. step_cost b.env h (slice_index b.costs cell.0) (slice_index b.costs q) ≡ Some c) same cell.2);
       },
     )
 
 pub free_cost : (b : Board) (q k p c : ℕ) → IsFreeBack b q k p c → board_cost b q k ≡ Some c
 unfolding board_cost
 free_cost b q k p c back =
-    ap (option_and_then (λ h. option_and_then (λ p. step_cost b.env h (slice_index b.costs p) (slice_index b.costs q)) (board_head b q k))) back.leads.at
-    ∙ ap (option_and_then (λ p. step_cost b.env back.leads.hop (slice_index b.costs p) (slice_index b.costs q))) (leads_head b q k p back.leads) ∙ free_step b.env back.leads.hop (slice_index b.costs p) (slice_index b.costs q) c back.free
+    ap (option_and_then (λ h. option_and_then (λ p. step_cost b.env h (slice_index b.costs p) (slice_index b.costs q))
+    (board_head b q k))) back.leads.at
+    ∙ ap (option_and_then (λ p. step_cost b.env back.leads.hop (slice_index b.costs p) (slice_index b.costs q)))
+    (leads_head b q k p back.leads)
+    ∙ free_step b.env back.leads.hop (slice_index b.costs p) (slice_index b.costs q) c back.free
 
 -- an element that was read
 pub read_at : (xs : List ℕ) (i r : ℕ) → i < length xs → r ≡ get_or xs i r → slice_index xs i ≡ r
@@ -106,28 +132,38 @@ pub cost_none : (b : Board) (q k : ℕ) → board_head b q k ≡ None → board_
 unfolding board_cost
 cost_none b q k none = none_by (slice_get b.hops k)
   where
-    none_by : (o : Option Hop) → option_and_then (λ h. option_and_then (λ p. step_cost b.env h (slice_index b.costs p) (slice_index b.costs q)) (board_head b q k)) o ≡ None
+    none_by : (o : Option Hop)
+        → option_and_then (λ h. option_and_then (λ p. step_cost b.env h (slice_index b.costs p) (slice_index b.costs q))
+        (board_head b q k)) o ≡ None
     none_by None = refl
-    none_by (Some h) = ap (option_and_then (λ p. step_cost b.env h (slice_index b.costs p) (slice_index b.costs q))) none
+    none_by (Some h) =
+        ap (option_and_then (λ p. step_cost b.env h (slice_index b.costs p) (slice_index b.costs q))) none
 
-pub cost_read : (b : Board) (q k p : ℕ) (h : Hop) (r : Option ℕ) → slice_get b.hops k ≡ Some h → board_head b q k ≡ Some p → r ≡ step_cost b.env h (slice_index b.costs p) (slice_index b.costs q) → r ≡ board_cost b q k
+pub cost_read : (b : Board) (q k p : ℕ) (h : Hop) (r : Option ℕ) → slice_get b.hops k ≡ Some h
+    → board_head b q k ≡ Some p
+    → r ≡ step_cost b.env h (slice_index b.costs p) (slice_index b.costs q) → r ≡ board_cost b q k
 unfolding board_cost
 cost_read b q k p h r at head is =
     is
     ∙ sym
-    (ap (option_and_then (λ h. option_and_then (λ p. step_cost b.env h (slice_index b.costs p) (slice_index b.costs q)) (board_head b q k))) at
+    (ap (option_and_then (λ h.
+    option_and_then (λ p. step_cost b.env h (slice_index b.costs p) (slice_index b.costs q)) (board_head b q k))) at
     ∙ ap (option_and_then (λ p. step_cost b.env h (slice_index b.costs p) (slice_index b.costs q))) head)
 
 pub tail_past : (b : Board) (p j : ℕ) → p ≡ cell_count b → board_tail b p j ≡ None
 unfolding board_tail
 tail_past b p j past = cond-false (nat_lt p (cell_count b)) _ _ (le-ltb p (cell_count b) (omega arith))
 
-pub tail_read : (b : Board) (p j : ℕ) (h : Hop) (o : Option ℕ) → p < cell_count b → slice_get b.hops j ≡ Some h → o ≡ cell_after b.env p h → option_map (λ (q : ℕ). (q, j)) o ≡ board_tail b p j
+pub tail_read : (b : Board) (p j : ℕ) (h : Hop) (o : Option ℕ) → p < cell_count b → slice_get b.hops j ≡ Some h
+    → o ≡ cell_after b.env p h → option_map (λ (q : ℕ). (q, j)) o ≡ board_tail b p j
 unfolding board_tail
 tail_read b p j h o inside at is =
-    ap (option_map (λ (q : ℕ). (q, j))) is ∙ sym (cond-true (nat_lt p (cell_count b)) _ _ (lt-ltb p (cell_count b) inside) ∙ ap (option_and_then (λ h. option_map (λ (q : ℕ). (q, j)) (cell_after b.env p h))) at)
+    ap (option_map (λ (q : ℕ). (q, j))) is
+    ∙ sym (cond-true (nat_lt p (cell_count b)) _ _ (lt-ltb p (cell_count b) inside)
+    ∙ ap (option_and_then (λ h. option_map (λ (q : ℕ). (q, j)) (cell_after b.env p h))) at)
 
-pub tail_none : (b : Board) (p j : ℕ) (h : Hop) → p < cell_count b → slice_get b.hops j ≡ Some h → None ≡ cell_after b.env p h → None ≡ board_tail b p j
+pub tail_none : (b : Board) (p j : ℕ) (h : Hop) → p < cell_count b → slice_get b.hops j ≡ Some h
+    → None ≡ cell_after b.env p h → None ≡ board_tail b p j
 tail_none b p j h inside at is = tail_read b p j h None inside at is
 
 module _ (b : Board) (is : IsBoard b) where
@@ -168,7 +204,8 @@ module _ (b : Board) (is : IsBoard b) where
   free_of_arc q k p c arc =
       let end_inside : q < length b.costs = slice_get_within b.costs q arc.step.end arc.step.end_is in
       let start_inside : p < length b.costs = slice_get_within b.costs p arc.step.start arc.step.start_is in
-      let start : slice_index b.costs p ≡ arc.step.start = get_or_from_slice_get b.costs p arc.step.start 0 arc.step.start_is in
+      let start : slice_index b.costs p ≡ arc.step.start =
+      get_or_from_slice_get b.costs p arc.step.start 0 arc.step.start_is in
       let end : slice_index b.costs q ≡ arc.step.end = get_or_from_slice_get b.costs q arc.step.end 0 arc.step.end_is in
       let leads : LeadsBack b q k p = record {
         inside = end_inside;
@@ -199,9 +236,11 @@ module _ (b : Board) (is : IsBoard b) where
       let start = is.bytes p in
       let end = is.bytes q in
       let high : max (slice_index b.costs p) (slice_index b.costs q) + 1 ≤ 256 = omega arith in
-      let most : back.leads.hop.cost * (max (slice_index b.costs p) (slice_index b.costs q) + 1) ≤ 16777215 * 256 = mul-le-mul light.1 high in
+      let most : back.leads.hop.cost * (max (slice_index b.costs p) (slice_index b.costs q) + 1) ≤ 16777215 * 256 =
+      mul-le-mul light.1 high in
       let some : 1 ≤ max (slice_index b.costs p) (slice_index b.costs q) + 1 = omega arith in
-      let least : 1 * 1 ≤ back.leads.hop.cost * (max (slice_index b.costs p) (slice_index b.costs q) + 1) = mul-le-mul light.0 some in
+      let least : 1 * 1 ≤ back.leads.hop.cost * (max (slice_index b.costs p) (slice_index b.costs q) + 1) =
+      mul-le-mul light.0 some in
       (omega (arith, least, back.free.product), omega (arith, most, back.free.product))
 
   pub some_positive : (q k : ℕ) (r : Option ℕ) → r ≡ board_cost b q k → IfSome r (λ c. 1 ≤ c)
@@ -209,17 +248,21 @@ module _ (b : Board) (is : IsBoard b) where
   some_positive q k (Some c) is = let free = cost_free b q k c (sym is) in (back_cost q k free.0 c free.1).0
 
   -- no arc costs less than its hop at the cost of the cell that the arc starts from
-  pub cost_floor : (q k e : ℕ) (h : Hop) → slice_get b.hops k ≡ Some h → slice_index b.costs q ≡ e → (c : ℕ) → board_cost b q k ≡ Some c → h.cost * (e + 1) ≤ c
+  pub cost_floor : (q k e : ℕ) (h : Hop) → slice_get b.hops k ≡ Some h → slice_index b.costs q ≡ e → (c : ℕ)
+      → board_cost b q k ≡ Some c → h.cost * (e + 1) ≤ c
   cost_floor q k e h at cost c costs =
       let free = cost_free b q k c costs in
       let hop = free.1.leads.hop in
       let same : h ≡ hop = same_Some h hop (sym at ∙ free.1.leads.at) in
       let one : hop.cost ≤ hop.cost = omega arith in
-      let more : slice_index b.costs q + 1 ≤ max (slice_index b.costs free.0) (slice_index b.costs q) + 1 = omega arith in
-      let most : hop.cost * (slice_index b.costs q + 1) ≤ hop.cost * (max (slice_index b.costs free.0) (slice_index b.costs q) + 1) = mul-le-mul one more in
+      let more : slice_index b.costs q + 1 ≤ max (slice_index b.costs free.0) (slice_index b.costs q) + 1 =
+      omega arith in
+      let most : hop.cost * (slice_index b.costs q + 1)
+      ≤ hop.cost * (max (slice_index b.costs free.0) (slice_index b.costs q) + 1) = mul-le-mul one more in
       rw (same, ← cost) (omega (arith, most, free.1.free.product))
 
-  pub floor_fits : (q k e : ℕ) (h : Hop) → slice_get b.hops k ≡ Some h → slice_index b.costs q ≡ e → h.cost * (e + 1) ≤ 16777215 * 256
+  pub floor_fits : (q k e : ℕ) (h : Hop) → slice_get b.hops k ≡ Some h → slice_index b.costs q ≡ e
+      → h.cost * (e + 1) ≤ 16777215 * 256
   floor_fits q k e h at cost =
       let byte = is.bytes q in
       let high : e + 1 ≤ 256 = omega (arith, byte, cost) in
@@ -235,7 +278,8 @@ module _ (b : Board) (is : IsBoard b) where
   pub few_cells : cell_count b ≤ 2097152
   few_cells =
       let cells : b.env.width * b.env.height ≤ b.env.width * b.env.height = omega arith in
-      let count : b.env.width * b.env.height * 4 ≤ b.env.width * b.env.height * b.env.headings = mul-le-mul cells is.env.headings.0 in
+      let count : b.env.width * b.env.height * 4 ≤ b.env.width * b.env.height * b.env.headings =
+      mul-le-mul cells is.env.headings.0 in
       omega (arith, is.cells, count, is.env.states)
 
   pub sound : IsSound (board_network b)
@@ -247,9 +291,11 @@ module _ (b : Board) (is : IsBoard b) where
         let leads = head_leads b s k t head in
         let at = before_leads b.env b.costs leads.hop t s leads.before in
         omega (arith, at.1, is.cells);
-    cost_at_least_one = λ s k c state number cost. let free = cost_free b s k c cost in (back_cost s k free.0 c free.1).0;
+    cost_at_least_one =
+        λ s k c state number cost. let free = cost_free b s k c cost in (back_cost s k free.0 c free.1).0;
     cost_fits = λ s k c state number cost. let free = cost_free b s k c cost in (back_cost s k free.0 c free.1).1;
-    free_has_head = λ s k c state number cost. let free = cost_free b s k c cost in rw (leads_head b s k free.0 free.1.leads) refl;
+    free_has_head =
+        λ s k c state number cost. let free = cost_free b s k c cost in rw (leads_head b s k free.0 free.1.leads) refl;
   }
 
   -- tail j of cell t is arc j of the cell to which hop j leads
@@ -257,11 +303,14 @@ module _ (b : Board) (is : IsBoard b) where
   unfolding board_tail
   tail_leads t j s k tail = elim (cases_lt t (cell_count b)) [
     | inl inside ↦
-        let some = then_some (λ h. option_map (λ (q : ℕ). (q, j)) (cell_after b.env t h)) (slice_get b.hops j) (s, k) (sym (cond-true (nat_lt t (cell_count b)) _ _ (lt-ltb t (cell_count b) inside)) ∙ tail) in
+        let some =
+        then_some (λ h. option_map (λ (q : ℕ). (q, j)) (cell_after b.env t h)) (slice_get b.hops j) (s, k)
+        (sym (cond-true (nat_lt t (cell_count b)) _ _ (lt-ltb t (cell_count b) inside)) ∙ tail) in
         let cell = map_some (λ (q : ℕ). (q, j)) (cell_after b.env t some.0) (s, k) some.2 in
         let source : cell.0 ≡ s = ap (λ (a : ℕ × ℕ). a.0) cell.2 in
         let number : j ≡ k = ap (λ (a : ℕ × ℕ). a.1) cell.2 in
-        let after : cell_after b.env t some.0 ≡ Some s = subst (λ x. cell_after b.env t some.0 ≡ Some x) source cell.1 in
+        let after : cell_after b.env t some.0 ≡ Some s =
+        subst (λ x. cell_after b.env t some.0 ≡ Some x) source cell.1 in
         let leads = after_leads b.env b.costs some.0 t s after in (
           record {
             inside = omega (arith, leads.1, is.cells);
@@ -280,19 +329,26 @@ module _ (b : Board) (is : IsBoard b) where
       let leads = head_leads b s k t head in
       let at = before_leads b.env b.costs leads.hop t s leads.before in
       let inside : t < cell_count b = omega (arith, at.1, is.cells) in
-      cond-true (nat_lt t (cell_count b)) _ _ (lt-ltb t (cell_count b) inside) ∙ ap (option_and_then (λ h. option_map (λ (q : ℕ). (q, k)) (cell_after b.env t h))) leads.at
-      ∙ ap (option_map (λ (q : ℕ). (q, k))) (leads_after b.env b.costs leads.hop t s wide (omega (arith, leads.inside, is.cells)) at.0)
+      cond-true (nat_lt t (cell_count b)) _ _ (lt-ltb t (cell_count b) inside)
+      ∙ ap (option_and_then (λ h. option_map (λ (q : ℕ). (q, k)) (cell_after b.env t h))) leads.at
+      ∙ ap (option_map (λ (q : ℕ). (q, k)))
+      (leads_after b.env b.costs leads.hop t s wide (omega (arith, leads.inside, is.cells)) at.0)
 
   pub exact_tails : HasExactTails (board_network b)
   exact_tails = record {
     few_tails = λ t state. is.few_hops;
     tails_are_arcs = λ t j s k tail.
         let leads = (tail_leads t j s k tail.tail).0 in
-        record { source = omega (arith, leads.inside); number = slice_get_within b.hops k leads.hop leads.at; head = leads_head b s k t leads };
+        record {
+          source = omega (arith, leads.inside);
+          number = slice_get_within b.hops k leads.hop leads.at;
+          head = leads_head b s k t leads;
+        };
     arcs_are_tails = λ t s k arc.
         let leads = head_leads b s k t arc.head in
         let at = before_leads b.env b.costs leads.hop t s leads.before in
-        merely (k, record { target = omega (arith, at.1, is.cells); number = arc.number; tail = arc_tail t s k arc.head });
+        merely
+        (k, record { target = omega (arith, at.1, is.cells); number = arc.number; tail = arc_tail t s k arc.head });
     tails_differ = λ t i j s k first second. (tail_leads t i s k first.tail).1 ∙ sym (tail_leads t j s k second.tail).1;
   }
 

@@ -1,5 +1,6 @@
 -- Walks by hops are walks of cells.
-use Rattle.std.proofs.Common.{◌≡◌, ℕ, ◌*◌, ◌^◌, ◌<◌, ◌≤◌, inl, inr, min, List, [], ◌∷◌, slice_get, Some, sym, ◌∙◌, arith, subst}
+use Rattle.std.proofs.Common.{◌≡◌, ℕ, ◌*◌, ◌^◌, ◌<◌, ◌≤◌, inl, inr, min, List, [], ◌∷◌, slice_get, Some, sym}
+use Rattle.std.proofs.Common.{◌∙◌, arith, subst}
 use Rattle.std.proofs.lemmas.Bool.{cases_lt}
 use Rattle.sbpl_graph.specs.declared.TheConstants.{FAR}
 use Rattle.sbpl_cfg.specs.Environment.{Environment}
@@ -13,7 +14,9 @@ use Rattle.sbpl_heur.specs.Boards.{AreLight}
 use Rattle.sbpl_heur.specs.Weights.{IsHopArc, IsHopWalk, AreLeast}
 use Rattle.sbpl_heur.specs.Caps.{IsFarthestReached}
 
-pub light_hops : (e : Environment) (prims : List Primitive) (hops : List Hop) → ((i : ℕ) (p : Primitive) → slice_get prims i ≡ Some p → (1 ≤ primitive_cost e p) × (primitive_cost e p ≤ most_cost)) → AreHops e prims hops → AreLight hops
+pub light_hops : (e : Environment) (prims : List Primitive) (hops : List Hop)
+    → ((i : ℕ) (p : Primitive) → slice_get prims i ≡ Some p
+    → (1 ≤ primitive_cost e p) × (primitive_cost e p ≤ most_cost)) → AreHops e prims hops → AreLight hops
 light_hops e prims hops cheap are j h at =
     let least = (are.each j h at).least in
     let cost = cheap least.place least.owner least.stands in
@@ -23,31 +26,48 @@ module _ (e : Environment) (prims : List Primitive) (m : CellMap) (hops : List H
   arc_of_hop : (a b j weight : ℕ) → IsHopArc e m hops a b j weight → IsCellArc e prims m a b weight
   arc_of_hop a b j weight arc =
       let hop = are.each j arc.hop arc.at in
-      record { dx = arc.hop.dx; dy = arc.hop.dy; moves = hop.moves; cost = arc.hop.cost; least = hop.least; step = arc.step }
+      record {
+        dx = arc.hop.dx;
+        dy = arc.hop.dy;
+        moves = hop.moves;
+        cost = arc.hop.cost;
+        least = hop.least;
+        step = arc.step;
+      }
 
   hop_of_arc : (a b weight : ℕ) → IsCellArc e prims m a b weight → (j : ℕ) × IsHopArc e m hops a b j weight
   hop_of_arc a b weight arc =
       let owner = arc.least.owner in
-      let there = are.all arc.least.place owner arc.least.stands (λ zero. arc.moves (sym arc.least.column ∙ zero.0, sym arc.least.row ∙ zero.1)) in
+      let there =
+      are.all arc.least.place owner arc.least.stands
+      (λ zero. arc.moves (sym arc.least.column ∙ zero.0, sym arc.least.row ∙ zero.1)) in
       let hop = are.each there.0 there.1 there.2 in
       let column : arc.dx ≡ there.1.dx = sym arc.least.column ∙ sym there.3 in
       let row : arc.dy ≡ there.1.dy = sym arc.least.row ∙ sym there.4 in
       let low = hop.least.least arc.least.place owner arc.least.stands (sym there.3) (sym there.4) in
-      let high = arc.least.least hop.least.place hop.least.owner hop.least.stands (hop.least.column ∙ sym column) (hop.least.row ∙ sym row) in
+      let high =
+      arc.least.least hop.least.place hop.least.owner hop.least.stands (hop.least.column ∙ sym column)
+      (hop.least.row ∙ sym row) in
       let cost : arc.cost ≡ there.1.cost = omega (arith, low, high, hop.least.own, arc.least.own) in (
         there.0,
         record {
           hop = there.1;
           at = there.2;
-          step = subst (λ z. IsCellStep e m there.1.dx there.1.dy z a b weight) cost (subst (λ z. IsCellStep e m there.1.dx z arc.cost a b weight) row (subst (λ z. IsCellStep e m z arc.dy arc.cost a b weight) column arc.step));
+          step =
+              subst (λ z. IsCellStep e m there.1.dx there.1.dy z a b weight) cost
+              (subst (λ z. IsCellStep e m there.1.dx z arc.cost a b weight) row
+              (subst (λ z. IsCellStep e m z arc.dy arc.cost a b weight) column arc.step));
         },
       )
 
-  to_walk : (cells : List ℕ) (goal a weight : ℕ) → IsHopWalk e m hops a cells goal weight → IsWalk e prims m a cells goal weight
+  to_walk : (cells : List ℕ) (goal a weight : ℕ) → IsHopWalk e m hops a cells goal weight
+      → IsWalk e prims m a cells goal weight
   to_walk [] goal a weight walk = walk
-  to_walk (b ∷ cells) goal a weight (j, first, rest, arc, walk, sum) = (first, rest, arc_of_hop a b j first arc, to_walk cells goal b rest walk, sum)
+  to_walk (b ∷ cells) goal a weight (j, first, rest, arc, walk, sum) =
+      (first, rest, arc_of_hop a b j first arc, to_walk cells goal b rest walk, sum)
 
-  from_walk : (cells : List ℕ) (goal a weight : ℕ) → IsWalk e prims m a cells goal weight → IsHopWalk e m hops a cells goal weight
+  from_walk : (cells : List ℕ) (goal a weight : ℕ) → IsWalk e prims m a cells goal weight
+      → IsHopWalk e m hops a cells goal weight
   from_walk [] goal a weight walk = walk
   from_walk (b ∷ cells) goal a weight (first, rest, arc, walk, sum) =
       let hop = hop_of_arc a b first arc in
@@ -55,7 +75,8 @@ module _ (e : Environment) (prims : List Primitive) (m : CellMap) (hops : List H
 
   module _ (goal : ℕ) (d : ℕ → ℕ) (found : AreLeast e m hops goal d) where
     -- a walk shows that the cell is reached, and weighs no less than its distance
-    at_most : (a : ℕ) → a < m.width * m.height → (cells : List ℕ) (weight : ℕ) → IsWalk e prims m a cells goal weight → (d a < 2 ^ 55) × (d a ≤ weight)
+    at_most : (a : ℕ) → a < m.width * m.height → (cells : List ℕ) (weight : ℕ) → IsWalk e prims m a cells goal weight
+        → (d a < 2 ^ 55) × (d a ≤ weight)
     at_most a inside cells weight walk = found.least a cells weight inside (from_walk cells goal a weight walk)
 
     pub least_walk : (a : ℕ) → a < m.width * m.height → d a < FAR → IsLeastWalk e prims m goal a (d a)
@@ -73,7 +94,8 @@ module _ (e : Environment) (prims : List Primitive) (m : CellMap) (hops : List H
     -- the greatest distance of a reached cell
     farthest_is : (far : ℕ) → IsFarthestReached d (m.width * m.height) far → IsFarthest e prims m goal far
     farthest_is far is =
-        let greatest : (a other : ℕ) → a < m.width * m.height → IsLeastWalk e prims m goal a other → other ≤ far = λ a other inside low.
+        let greatest : (a other : ℕ) → a < m.width * m.height → IsLeastWalk e prims m goal a other → other ≤ far =
+        λ a other inside low.
         let most = at_most a inside low.cells other low.walk in
         let near : d a < FAR = omega (arith, most.0) in
         let some = found.attained a inside near in
@@ -83,19 +105,23 @@ module _ (e : Environment) (prims : List Primitive) (m : CellMap) (hops : List H
           | inl none ↦ record {
             cell = goal;
             inside = found.goal_inside;
-            attained = subst (λ x. IsLeastWalk e prims m goal goal x) (found.at_goal ∙ sym none) (least_walk goal found.goal_inside (omega (arith, found.at_goal)));
+            attained =
+                subst (λ x. IsLeastWalk e prims m goal goal x) (found.at_goal ∙ sym none)
+                (least_walk goal found.goal_inside (omega (arith, found.at_goal)));
             greatest = greatest;
           }
           | inr (a, inside, same, near) ↦ record {
             cell = a;
             inside = inside;
-            attained = subst (λ x. IsLeastWalk e prims m goal a x) same (least_walk a inside (omega (arith, same, near)));
+            attained =
+                subst (λ x. IsLeastWalk e prims m goal a x) same (least_walk a inside (omega (arith, same, near)));
             greatest = greatest;
           }
         ]
 
     -- a distance capped at the greatest of a reached cell is the cell bound
-    pub cell_bound : (far a : ℕ) → IsFarthestReached d (m.width * m.height) far → a < m.width * m.height → IsCellBound e prims m goal a (min (d a) far)
+    pub cell_bound : (far a : ℕ) → IsFarthestReached d (m.width * m.height) far → a < m.width * m.height
+        → IsCellBound e prims m goal a (min (d a) far)
     cell_bound far a is inside = elim (cases_lt (d a) FAR) [
       | inl near ↦
           let whole : min (d a) far ≡ d a = omega (arith, is.none_above a inside near) in
@@ -106,7 +132,8 @@ module _ (e : Environment) (prims : List Primitive) (m : CellMap) (hops : List H
     ]
 
     -- it is small
-    pub bound_small : (far a : ℕ) → IsFarthestReached d (m.width * m.height) far → a < m.width * m.height → min (d a) far < 2 ^ 55
+    pub bound_small : (far a : ℕ) → IsFarthestReached d (m.width * m.height) far → a < m.width * m.height
+        → min (d a) far < 2 ^ 55
     bound_small far a is inside =
         let small : far < 2 ^ 55 = elim is.attained [
           | inl none ↦ omega arith

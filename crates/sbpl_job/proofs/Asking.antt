@@ -36,7 +36,8 @@ with_help command.Demo = refl
 with_help command.Nav = refl
 with_help command.NavCheck = refl
 
-none_by : (words : List Word) → ((c : Command) → job_of_words words c ≡ None) → (o : Option Command) → option_and_then (job_of_words words) o ≡ None
+none_by : (words : List Word) → ((c : Command) → job_of_words words c ≡ None) → (o : Option Command)
+    → option_and_then (job_of_words words) o ≡ None
 none_by words none None = refl
 none_by words none (Some c) = none c
 
@@ -49,6 +50,8 @@ pub asked_no_job : (words : List Word) → IsSome (asked_for words) → job_of w
 asked_no_job [] some = refl
 asked_no_job (word ∷ []) some = none_by [] alone (command_named word)
 asked_no_job (word ∷ (help ∷ [])) some =
-    let is_help : help ≡ codes "--help" = (bytes_eq-Decides help (codes "--help")).0 (was_so (bytes_eq help (codes "--help")) (option_map asked.HelpOf (command_named word)) some) in
+    let is_help : help ≡ codes "--help" =
+    (bytes_eq-Decides help (codes "--help")).0
+    (was_so (bytes_eq help (codes "--help")) (option_map asked.HelpOf (command_named word)) some) in
     ap (λ (w : Word). job_of (word ∷ (w ∷ []))) is_help ∙ none_by (codes "--help" ∷ []) with_help (command_named word)
 asked_no_job (word ∷ (help ∷ (next ∷ words))) some = cc

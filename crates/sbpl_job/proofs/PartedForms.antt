@@ -1,10 +1,13 @@
 -- Words divide into forms.
-use Rattle.std.proofs.Common.{◌≡◌, ◌≢◌, ◌∙◌, ◌<◌, ◌+◌, ◌⊎◌, ℕ, Bool, true, false, not, zero, suc, refl, sym, ap, ap₂, subst, arith, inl, inr, List, [], ◌∷◌, ◌++◌, take, length, get_or, Option, Some, None, option_map, is_some, if◌then◌else◌}
+use Rattle.std.proofs.Common.{◌≡◌, ◌≢◌, ◌∙◌, ◌<◌, ◌+◌, ◌⊎◌, ℕ, Bool, true, false, not, zero, suc, refl, sym, ap, ap₂}
+use Rattle.std.proofs.Common.{subst, arith, inl, inr, List, [], ◌∷◌, ◌++◌, take, length, get_or, Option, Some, None}
+use Rattle.std.proofs.Common.{option_map, is_some, if◌then◌else◌}
 use Rattle.std.specs.Prelude.{option_and_then}
 use Rattle.std.specs.List.{All, AllPairs, after_first, before_first, flat_map, list_any, position_or_len}
 use Rattle.std.specs.Option.{option_map_or}
 use Rattle.std.specs.Str.{bytes_eq}
-use Rattle.std.proofs.lemmas.Bool.{and_from, and_parts, and_right, cases_Bool, eqb-true, not-true, or_from, or_parts, true≢false}
+use Rattle.std.proofs.lemmas.Bool.{and_from, and_parts, and_right, cases_Bool, eqb-true, not-true}
+use Rattle.std.proofs.lemmas.Bool.{or_from, or_parts, true≢false}
 use Rattle.std.proofs.lemmas.List.{length-drop}
 use Rattle.std.proofs.lemmas.List.Elements.{All-cons, All-head, All-nil, All-tail}
 use Rattle.std.proofs.lemmas.List.Kept.{AllPairs-cons}
@@ -14,8 +17,11 @@ use Rattle.std.proofs.lemmas.Slice.Eq.{bytes_eq-Decides}
 use Rattle.sbpl_job.specs.declared.words.Command.{Command}
 use Rattle.sbpl_job.specs.declared.words.Setting.{Setting}
 use Rattle.sbpl_job.specs.declared.words.Setting.TheVariants as setting
-use Rattle.sbpl_job.specs.Words.{Given, Parts, is_equals, is_joined, is_plain_word, no_parts, once, parts_after, parts_in, parts_of, setting_named, setting_of, spaced, spaced_word, stands_once, takes, with_given, with_plain}
-use Rattle.sbpl_job.specs.Forms.{Form, Plain, Apart, Joined, name_of, form_words, plain_of, given_of, IsFit, Differ, ArePartsOf, PartsAreOfForms, NoPartsWithoutForms}
+use Rattle.sbpl_job.specs.Words.{Given, Parts, is_equals, is_joined, is_plain_word, no_parts, once, parts_after}
+use Rattle.sbpl_job.specs.Words.{parts_in, parts_of, setting_named, setting_of, spaced, spaced_word, stands_once}
+use Rattle.sbpl_job.specs.Words.{takes, with_given, with_plain}
+use Rattle.sbpl_job.specs.Forms.{Form, Plain, Apart, Joined, name_of, form_words, plain_of, given_of, IsFit, Differ}
+use Rattle.sbpl_job.specs.Forms.{ArePartsOf, PartsAreOfForms, NoPartsWithoutForms}
 use Rattle.sbpl_job.proofs.Finding.{is_name, taken}
 
 abbrev Word : Type 0
@@ -35,14 +41,16 @@ chosen : {X : Type 0} (b : Bool) (o : Option X) (x : X) → (if b then o else No
 chosen true o x e = (refl, e)
 chosen false o x e = absurd (none-some x e)
 
-mapped : {X Y : Type 0} (f : X → Y) (o : Option X) (y : Y) → option_map f o ≡ Some y → (x : X) × (o ≡ Some x) × (f x ≡ y)
+mapped : {X Y : Type 0} (f : X → Y) (o : Option X) (y : Y) → option_map f o ≡ Some y
+    → (x : X) × (o ≡ Some x) × (f x ≡ y)
 mapped f (Some x) y e = (x, refl, same_Some (f x) y e)
 mapped f None y e = absurd (none-some y e)
 
 -- ---- names and plain words
 
 apart_bytes : (x y : Word) → x ≢ y → bytes_eq x y ≡ false
-apart_bytes x y apart = elim (cases_Bool (bytes_eq x y)) [ inl same ↦ absurd (apart ((bytes_eq-Decides x y).0 same)) | inr other ↦ other ]
+apart_bytes x y apart =
+    elim (cases_Bool (bytes_eq x y)) [ inl same ↦ absurd (apart ((bytes_eq-Decides x y).0 same)) | inr other ↦ other ]
 
 named : (s : Setting) → setting_named (name_of s) ≡ Some s
 named setting.Changes = refl
@@ -75,7 +83,9 @@ name_differs s x plain = apart_bytes (name_of s) x (name_is_not s x plain)
 
 -- the setting of a name that the command takes, and of a plain word
 by_name : (c : Command) (s : Setting) → takes c s ≡ true → setting_of c (name_of s) ≡ Some s
-by_name c s takes_it = ap (option_and_then (λ t. if takes c t then Some t else None)) (named s) ∙ ap (λ b. if b then Some s else None) takes_it
+by_name c s takes_it =
+    ap (option_and_then (λ t. if takes c t then Some t else None)) (named s)
+    ∙ ap (λ b. if b then Some s else None) takes_it
 
 -- a name that has a setting
 record IsNameOf (c : Command) (x : Word) (s : Setting) : Type 0 where
@@ -140,10 +150,12 @@ plain_is_long [] plain = absurd (true≢false (sym plain))
 plain_is_long (b ∷ bs) plain = omega arith
 
 -- a word with something after its first '=' is put together again
-rejoined : (x : Word) → is_plain_word (after_first is_equals x) ≡ true → x ≡ before_first is_equals x ++ (61 ∷ after_first is_equals x)
+rejoined : (x : Word) → is_plain_word (after_first is_equals x) ≡ true
+    → x ≡ before_first is_equals x ++ (61 ∷ after_first is_equals x)
 rejoined x plain =
     let some = plain_is_long (after_first is_equals x) plain in
-    let inside : position_or_len is_equals x < length x = omega (arith, some, length-drop (position_or_len is_equals x + 1) x) in
+    let inside : position_or_len is_equals x < length x =
+    omega (arith, some, length-drop (position_or_len is_equals x + 1) x) in
     let there = eqb-true (get_or x (position_or_len is_equals x) 0) 61 (passes_at_first is_equals x 0 inside) in
     split_at_first is_equals x 0 inside ∙ ap (λ b. before_first is_equals x ++ (b ∷ after_first is_equals x)) there
 
@@ -158,10 +170,15 @@ front_is_plain (b ∷ bs) s plain e =
     true≢false (sym plain ∙ ap (λ n. is_plain_word (n ∷ bs)) dash)
 
 not_joined : (c : Command) (x : Word) → is_joined c x ≡ false → spaced_word c x ≡ x ∷ []
-not_joined c x e = ap (λ b. option_map_or (λ (parts : Word × Word). parts.0 ∷ (parts.1 ∷ [])) (if b then Some (before_first is_equals x, after_first is_equals x) else None) (x ∷ [])) e
+not_joined c x e =
+    ap (λ b. option_map_or (λ (parts : Word × Word). parts.0 ∷ (parts.1 ∷ []))
+    (if b then Some (before_first is_equals x, after_first is_equals x) else None) (x ∷ [])) e
 
-is_split : (c : Command) (x : Word) → is_joined c x ≡ true → spaced_word c x ≡ before_first is_equals x ∷ (after_first is_equals x ∷ [])
-is_split c x e = ap (λ b. option_map_or (λ (parts : Word × Word). parts.0 ∷ (parts.1 ∷ [])) (if b then Some (before_first is_equals x, after_first is_equals x) else None) (x ∷ [])) e
+is_split : (c : Command) (x : Word) → is_joined c x ≡ true
+    → spaced_word c x ≡ before_first is_equals x ∷ (after_first is_equals x ∷ [])
+is_split c x e =
+    ap (λ b. option_map_or (λ (parts : Word × Word). parts.0 ∷ (parts.1 ∷ []))
+    (if b then Some (before_first is_equals x, after_first is_equals x) else None) (x ∷ [])) e
 
 -- the parts of a word that has both
 record IsSplit (c : Command) (x : Word) (s : Setting) : Type 0 where
@@ -171,7 +188,8 @@ record IsSplit (c : Command) (x : Word) (s : Setting) : Type 0 where
 
 split_parts : (c : Command) (x : Word) → is_joined c x ≡ true → (s : Setting) × IsSplit c x s
 split_parts c x e =
-    let both = and_parts (is_some (setting_of c (before_first is_equals x))) (is_plain_word (after_first is_equals x)) e in
+    let both =
+    and_parts (is_some (setting_of c (before_first is_equals x))) (is_plain_word (after_first is_equals x)) e in
     let found = it_is (setting_of c (before_first is_equals x)) both.0 in
     let it = the_name c (before_first is_equals x) found.0 found.1 in
     (found.0, record { name = it.name; takes_it = it.takes_it; plain = both.1 })
@@ -183,14 +201,19 @@ spaced_plain c x plain = elim (cases_Bool (is_joined c x)) [
 ]
 
 spaced_name : (c : Command) (s : Setting) → spaced_word c (name_of s) ≡ name_of s ∷ []
-spaced_name c s = not_joined c (name_of s) (and_right (is_some (setting_of c (before_first is_equals (name_of s)))) (is_plain_word (after_first is_equals (name_of s))) (ap is_plain_word (name_is_whole s)))
+spaced_name c s =
+    not_joined c (name_of s) (and_right (is_some (setting_of c (before_first is_equals (name_of s))))
+    (is_plain_word (after_first is_equals (name_of s))) (ap is_plain_word (name_is_whole s)))
 
-spaced_joined : (c : Command) (s : Setting) (value : Word) → takes c s ≡ true → is_plain_word value ≡ true → spaced_word c (name_of s ++ (61 ∷ value)) ≡ name_of s ∷ (value ∷ [])
+spaced_joined : (c : Command) (s : Setting) (value : Word) → takes c s ≡ true → is_plain_word value ≡ true
+    → spaced_word c (name_of s ++ (61 ∷ value)) ≡ name_of s ∷ (value ∷ [])
 spaced_joined c s value takes_it plain =
     let x = name_of s ++ (61 ∷ value) in
-    let has : is_some (setting_of c (before_first is_equals x)) ≡ true = ap (λ n. is_some (setting_of c n)) (split_before s value) ∙ ap is_some (by_name c s takes_it) in
+    let has : is_some (setting_of c (before_first is_equals x)) ≡ true =
+    ap (λ n. is_some (setting_of c n)) (split_before s value) ∙ ap is_some (by_name c s takes_it) in
     let good : is_plain_word (after_first is_equals x) ≡ true = ap is_plain_word (split_after s value) ∙ plain in
-    is_split c x (and_from _ _ has good) ∙ ap₂ (λ (a b : Word). a ∷ (b ∷ [])) (split_before s value) (split_after s value)
+    is_split c x (and_from _ _ has good)
+    ∙ ap₂ (λ (a b : Word). a ∷ (b ∷ [])) (split_before s value) (split_after s value)
 
 -- ---- from forms to parts
 
@@ -203,40 +226,51 @@ spaced_form (Joined s value) = name_of s ∷ (value ∷ [])
 abbrev parts_by : List Form → Parts
 parts_by fs = record { plain = flat_map plain_of fs; given = flat_map given_of fs }
 
-spaced_forms : (fs : List Form) (c : Command) → All (IsFit c) fs → spaced c (flat_map form_words fs) ≡ flat_map spaced_form fs
+spaced_forms : (fs : List Form) (c : Command) → All (IsFit c) fs
+    → spaced c (flat_map form_words fs) ≡ flat_map spaced_form fs
 spaced_forms [] c fit = refl
 spaced_forms (Plain x ∷ fs) c fit =
-    ap₂ (λ (a b : List Word). a ++ b) (spaced_plain c x (All-head (IsFit c) (Plain x) fs fit)) (spaced_forms fs c (All-tail (IsFit c) (Plain x) fs fit))
+    ap₂ (λ (a b : List Word). a ++ b) (spaced_plain c x (All-head (IsFit c) (Plain x) fs fit))
+    (spaced_forms fs c (All-tail (IsFit c) (Plain x) fs fit))
 spaced_forms (Apart s value ∷ fs) c fit =
     let here : IsFit c (Apart s value) = All-head (IsFit c) (Apart s value) fs fit in
     ap₂ (λ (a b : List Word). a ++ b) (spaced_name c s)
-    (ap₂ (λ (a b : List Word). a ++ b) (spaced_plain c value here.1) (spaced_forms fs c (All-tail (IsFit c) (Apart s value) fs fit)))
+    (ap₂ (λ (a b : List Word). a ++ b) (spaced_plain c value here.1)
+    (spaced_forms fs c (All-tail (IsFit c) (Apart s value) fs fit)))
 spaced_forms (Joined s value ∷ fs) c fit =
     let here : IsFit c (Joined s value) = All-head (IsFit c) (Joined s value) fs fit in
-    ap₂ (λ (a b : List Word). a ++ b) (spaced_joined c s value here.0 here.1) (spaced_forms fs c (All-tail (IsFit c) (Joined s value) fs fit))
+    ap₂ (λ (a b : List Word). a ++ b) (spaced_joined c s value here.0 here.1)
+    (spaced_forms fs c (All-tail (IsFit c) (Joined s value) fs fit))
 
-parts_name : (c : Command) (s : Setting) (value : Word) (xs : List Word) (p : Parts) → takes c s ≡ true → is_plain_word value ≡ true → parts_after c None xs ≡ Some p
+parts_name : (c : Command) (s : Setting) (value : Word) (xs : List Word) (p : Parts) → takes c s ≡ true
+    → is_plain_word value ≡ true → parts_after c None xs ≡ Some p
     → parts_after c None (name_of s ∷ (value ∷ xs)) ≡ Some (with_given s value p)
 parts_name c s value xs p takes_it plain more =
     ap (option_and_then (λ t. parts_after c (Some t) (value ∷ xs))) (by_name c s takes_it)
     ∙ ap (λ b. if b then option_map (with_given s value) (parts_after c None xs) else None) plain
     ∙ ap (option_map (with_given s value)) more
 
-parts_plain : (c : Command) (x : Word) (xs : List Word) (p : Parts) → is_plain_word x ≡ true → parts_after c None xs ≡ Some p → parts_after c None (x ∷ xs) ≡ Some (with_plain x p)
+parts_plain : (c : Command) (x : Word) (xs : List Word) (p : Parts) → is_plain_word x ≡ true
+    → parts_after c None xs ≡ Some p → parts_after c None (x ∷ xs) ≡ Some (with_plain x p)
 parts_plain c x xs p plain more =
-    ap (λ b. if b then option_map (with_plain x) (parts_after c None xs) else option_and_then (λ s. parts_after c (Some s) xs) (setting_of c x)) plain
+    ap (λ b. if b then option_map (with_plain x) (parts_after c None xs)
+    else option_and_then (λ s. parts_after c (Some s) xs) (setting_of c x)) plain
     ∙ ap (option_map (with_plain x)) more
 
-parts_forms : (fs : List Form) (c : Command) → All (IsFit c) fs → parts_after c None (flat_map spaced_form fs) ≡ Some (parts_by fs)
+parts_forms : (fs : List Form) (c : Command) → All (IsFit c) fs
+    → parts_after c None (flat_map spaced_form fs) ≡ Some (parts_by fs)
 parts_forms [] c fit = refl
 parts_forms (Plain x ∷ fs) c fit =
-    parts_plain c x (flat_map spaced_form fs) (parts_by fs) (All-head (IsFit c) (Plain x) fs fit) (parts_forms fs c (All-tail (IsFit c) (Plain x) fs fit))
+    parts_plain c x (flat_map spaced_form fs) (parts_by fs) (All-head (IsFit c) (Plain x) fs fit)
+    (parts_forms fs c (All-tail (IsFit c) (Plain x) fs fit))
 parts_forms (Apart s value ∷ fs) c fit =
     let here : IsFit c (Apart s value) = All-head (IsFit c) (Apart s value) fs fit in
-    parts_name c s value (flat_map spaced_form fs) (parts_by fs) here.0 here.1 (parts_forms fs c (All-tail (IsFit c) (Apart s value) fs fit))
+    parts_name c s value (flat_map spaced_form fs) (parts_by fs) here.0 here.1
+    (parts_forms fs c (All-tail (IsFit c) (Apart s value) fs fit))
 parts_forms (Joined s value ∷ fs) c fit =
     let here : IsFit c (Joined s value) = All-head (IsFit c) (Joined s value) fs fit in
-    parts_name c s value (flat_map spaced_form fs) (parts_by fs) here.0 here.1 (parts_forms fs c (All-tail (IsFit c) (Joined s value) fs fit))
+    parts_name c s value (flat_map spaced_form fs) (parts_by fs) here.0 here.1
+    (parts_forms fs c (All-tail (IsFit c) (Joined s value) fs fit))
 
 -- ---- no setting twice
 
@@ -244,43 +278,60 @@ abbrev IsOther : Setting → Given → Type 0
 IsOther s h = s ≢ h.setting
 
 -- a name stands in no form that does not give its setting
-absent_at : (s t : Setting) (value : Word) (xs : List Word) → s ≢ t → is_plain_word value ≡ true → list_any (bytes_eq (name_of s)) xs ≡ false
+absent_at : (s t : Setting) (value : Word) (xs : List Word) → s ≢ t → is_plain_word value ≡ true
+    → list_any (bytes_eq (name_of s)) xs ≡ false
     → list_any (bytes_eq (name_of s)) (name_of t ∷ (value ∷ xs)) ≡ false
 absent_at s t value xs apart plain more =
-    or_from (bytes_eq (name_of s) (name_of t)) _ (names_differ s t apart) (or_from (bytes_eq (name_of s) value) _ (name_differs s value plain) more)
+    or_from (bytes_eq (name_of s) (name_of t)) _ (names_differ s t apart)
+    (or_from (bytes_eq (name_of s) value) _ (name_differs s value plain) more)
 
-absent : (fs : List Form) (c : Command) (s : Setting) → All (IsFit c) fs → All (IsOther s) (flat_map given_of fs) → list_any (bytes_eq (name_of s)) (flat_map spaced_form fs) ≡ false
+absent : (fs : List Form) (c : Command) (s : Setting) → All (IsFit c) fs → All (IsOther s) (flat_map given_of fs)
+    → list_any (bytes_eq (name_of s)) (flat_map spaced_form fs) ≡ false
 absent [] c s fit others = refl
 absent (Plain x ∷ fs) c s fit others =
-    or_from (bytes_eq (name_of s) x) _ (name_differs s x (All-head (IsFit c) (Plain x) fs fit)) (absent fs c s (All-tail (IsFit c) (Plain x) fs fit) others)
+    or_from (bytes_eq (name_of s) x) _ (name_differs s x (All-head (IsFit c) (Plain x) fs fit))
+    (absent fs c s (All-tail (IsFit c) (Plain x) fs fit) others)
 absent (Apart t value ∷ fs) c s fit others =
     let here : IsFit c (Apart t value) = All-head (IsFit c) (Apart t value) fs fit in
     let g : Given = record { setting = t; value = value } in
-    absent_at s t value (flat_map spaced_form fs) (All-head (IsOther s) g (flat_map given_of fs) others) here.1 (absent fs c s (All-tail (IsFit c) (Apart t value) fs fit) (All-tail (IsOther s) g (flat_map given_of fs) others))
+    absent_at s t value (flat_map spaced_form fs) (All-head (IsOther s) g (flat_map given_of fs) others) here.1
+    (absent fs c s (All-tail (IsFit c) (Apart t value) fs fit) (All-tail (IsOther s) g (flat_map given_of fs) others))
 absent (Joined t value ∷ fs) c s fit others =
     let here : IsFit c (Joined t value) = All-head (IsFit c) (Joined t value) fs fit in
     let g : Given = record { setting = t; value = value } in
-    absent_at s t value (flat_map spaced_form fs) (All-head (IsOther s) g (flat_map given_of fs) others) here.1 (absent fs c s (All-tail (IsFit c) (Joined t value) fs fit) (All-tail (IsOther s) g (flat_map given_of fs) others))
+    absent_at s t value (flat_map spaced_form fs) (All-head (IsOther s) g (flat_map given_of fs) others) here.1
+    (absent fs c s (All-tail (IsFit c) (Joined t value) fs fit) (All-tail (IsOther s) g (flat_map given_of fs) others))
 
 -- and the other way round
-others_at : (s t : Setting) (value : Word) (xs : List Word) (gs : List Given) → list_any (bytes_eq (name_of s)) (name_of t ∷ (value ∷ xs)) ≡ false
-    → (list_any (bytes_eq (name_of s)) xs ≡ false → All (IsOther s) gs) → All (IsOther s) (record { setting = t; value = value } ∷ gs)
+others_at : (s t : Setting) (value : Word) (xs : List Word) (gs : List Given)
+    → list_any (bytes_eq (name_of s)) (name_of t ∷ (value ∷ xs)) ≡ false
+    → (list_any (bytes_eq (name_of s)) xs ≡ false → All (IsOther s) gs)
+    → All (IsOther s) (record { setting = t; value = value } ∷ gs)
 others_at s t value xs gs none more =
     let first = or_parts (bytes_eq (name_of s) (name_of t)) (list_any (bytes_eq (name_of s)) (value ∷ xs)) none in
     let second = or_parts (bytes_eq (name_of s) value) (list_any (bytes_eq (name_of s)) xs) first.1 in
     All-cons (IsOther s) (record { setting = t; value = value }) gs (settings_differ s t first.0) (more second.1)
 
-others : (fs : List Form) (s : Setting) → list_any (bytes_eq (name_of s)) (flat_map spaced_form fs) ≡ false → All (IsOther s) (flat_map given_of fs)
+others : (fs : List Form) (s : Setting) → list_any (bytes_eq (name_of s)) (flat_map spaced_form fs) ≡ false
+    → All (IsOther s) (flat_map given_of fs)
 others [] s none = All-nil (IsOther s)
-others (Plain x ∷ fs) s none = others fs s (or_parts (bytes_eq (name_of s) x) (list_any (bytes_eq (name_of s)) (flat_map spaced_form fs)) none).1
-others (Apart t value ∷ fs) s none = others_at s t value (flat_map spaced_form fs) (flat_map given_of fs) none (others fs s)
-others (Joined t value ∷ fs) s none = others_at s t value (flat_map spaced_form fs) (flat_map given_of fs) none (others fs s)
+others (Plain x ∷ fs) s none =
+    others fs s (or_parts (bytes_eq (name_of s) x) (list_any (bytes_eq (name_of s)) (flat_map spaced_form fs)) none).1
+others (Apart t value ∷ fs) s none =
+    others_at s t value (flat_map spaced_form fs) (flat_map given_of fs) none (others fs s)
+others (Joined t value ∷ fs) s none =
+    others_at s t value (flat_map spaced_form fs) (flat_map given_of fs) none (others fs s)
 
 plain_once : (c : Command) (x : Word) (xs : List Word) → is_plain_word x ≡ true → stands_once c x xs ≡ true
-plain_once c x xs plain = ap (λ (o : Option Setting). not (option_map_or (λ _. list_any (bytes_eq x) xs) o false)) (plain_sets_nothing c x plain)
+plain_once c x xs plain =
+    ap (λ (o : Option Setting). not (option_map_or (λ _. list_any (bytes_eq x) xs) o false))
+    (plain_sets_nothing c x plain)
 
-name_once : (c : Command) (s : Setting) (xs : List Word) → takes c s ≡ true → stands_once c (name_of s) xs ≡ not (list_any (bytes_eq (name_of s)) xs)
-name_once c s xs takes_it = ap (λ (o : Option Setting). not (option_map_or (λ _. list_any (bytes_eq (name_of s)) xs) o false)) (by_name c s takes_it)
+name_once : (c : Command) (s : Setting) (xs : List Word) → takes c s ≡ true
+    → stands_once c (name_of s) xs ≡ not (list_any (bytes_eq (name_of s)) xs)
+name_once c s xs takes_it =
+    ap (λ (o : Option Setting). not (option_map_or (λ _. list_any (bytes_eq (name_of s)) xs) o false))
+    (by_name c s takes_it)
 
 pairs_head : (g : Given) (gs : List Given) → AllPairs Differ (g ∷ gs) → All (IsOther g.setting) gs
 pairs_head g gs pairs k d lt = pairs 0 (suc k) d (omega arith) (omega arith)
@@ -288,42 +339,53 @@ pairs_head g gs pairs k d lt = pairs 0 (suc k) d (omega arith) (omega arith)
 pairs_tail : (g : Given) (gs : List Given) → AllPairs Differ (g ∷ gs) → AllPairs Differ gs
 pairs_tail g gs pairs i j d lt within = pairs (suc i) (suc j) d (omega arith) (omega arith)
 
-once_at : (c : Command) (s : Setting) (value : Word) (xs : List Word) → takes c s ≡ true → is_plain_word value ≡ true → list_any (bytes_eq (name_of s)) xs ≡ false → once c xs ≡ true
+once_at : (c : Command) (s : Setting) (value : Word) (xs : List Word) → takes c s ≡ true → is_plain_word value ≡ true
+    → list_any (bytes_eq (name_of s)) xs ≡ false → once c xs ≡ true
     → once c (name_of s ∷ (value ∷ xs)) ≡ true
 once_at c s value xs takes_it plain none more =
     let no_more = or_from (bytes_eq (name_of s) value) _ (name_differs s value plain) none in
     and_from (stands_once c (name_of s) (value ∷ xs)) _ (name_once c s (value ∷ xs) takes_it ∙ ap not no_more)
     (and_from (stands_once c value xs) _ (plain_once c value xs plain) more)
 
-once_forms : (fs : List Form) (c : Command) → All (IsFit c) fs → AllPairs Differ (flat_map given_of fs) → once c (flat_map spaced_form fs) ≡ true
+once_forms : (fs : List Form) (c : Command) → All (IsFit c) fs → AllPairs Differ (flat_map given_of fs)
+    → once c (flat_map spaced_form fs) ≡ true
 once_forms [] c fit pairs = refl
 once_forms (Plain x ∷ fs) c fit pairs =
-    and_from (stands_once c x (flat_map spaced_form fs)) _ (plain_once c x (flat_map spaced_form fs) (All-head (IsFit c) (Plain x) fs fit)) (once_forms fs c (All-tail (IsFit c) (Plain x) fs fit) pairs)
+    and_from (stands_once c x (flat_map spaced_form fs)) _ (plain_once c x (flat_map spaced_form fs)
+    (All-head (IsFit c) (Plain x) fs fit)) (once_forms fs c (All-tail (IsFit c) (Plain x) fs fit) pairs)
 once_forms (Apart s value ∷ fs) c fit pairs =
     let here : IsFit c (Apart s value) = All-head (IsFit c) (Apart s value) fs fit in
     let more = All-tail (IsFit c) (Apart s value) fs fit in
     let g : Given = record { setting = s; value = value } in
-    once_at c s value (flat_map spaced_form fs) here.0 here.1 (absent fs c s more (pairs_head g (flat_map given_of fs) pairs)) (once_forms fs c more (pairs_tail g (flat_map given_of fs) pairs))
+    once_at c s value (flat_map spaced_form fs) here.0 here.1 (absent fs c s more
+    (pairs_head g (flat_map given_of fs) pairs)) (once_forms fs c more (pairs_tail g (flat_map given_of fs) pairs))
 once_forms (Joined s value ∷ fs) c fit pairs =
     let here : IsFit c (Joined s value) = All-head (IsFit c) (Joined s value) fs fit in
     let more = All-tail (IsFit c) (Joined s value) fs fit in
     let g : Given = record { setting = s; value = value } in
-    once_at c s value (flat_map spaced_form fs) here.0 here.1 (absent fs c s more (pairs_head g (flat_map given_of fs) pairs)) (once_forms fs c more (pairs_tail g (flat_map given_of fs) pairs))
+    once_at c s value (flat_map spaced_form fs) here.0 here.1 (absent fs c s more
+    (pairs_head g (flat_map given_of fs) pairs)) (once_forms fs c more (pairs_tail g (flat_map given_of fs) pairs))
 
-pairs_at : (c : Command) (s : Setting) (value : Word) (fs : List Form) → takes c s ≡ true → once c (name_of s ∷ (value ∷ flat_map spaced_form fs)) ≡ true
-    → (once c (flat_map spaced_form fs) ≡ true → AllPairs Differ (flat_map given_of fs)) → AllPairs Differ (record { setting = s; value = value } ∷ flat_map given_of fs)
+pairs_at : (c : Command) (s : Setting) (value : Word) (fs : List Form) → takes c s ≡ true
+    → once c (name_of s ∷ (value ∷ flat_map spaced_form fs)) ≡ true
+    → (once c (flat_map spaced_form fs) ≡ true → AllPairs Differ (flat_map given_of fs))
+    → AllPairs Differ (record { setting = s; value = value } ∷ flat_map given_of fs)
 pairs_at c s value fs takes_it single more =
     let xs = flat_map spaced_form fs in
     let first = and_parts (stands_once c (name_of s) (value ∷ xs)) (once c (value ∷ xs)) single in
     let second = and_parts (stands_once c value xs) (once c xs) first.1 in
-    let none = not-true (list_any (bytes_eq (name_of s)) (value ∷ xs)) (sym (name_once c s (value ∷ xs) takes_it) ∙ first.0) in
+    let none =
+    not-true (list_any (bytes_eq (name_of s)) (value ∷ xs)) (sym (name_once c s (value ∷ xs) takes_it) ∙ first.0) in
     let after = or_parts (bytes_eq (name_of s) value) (list_any (bytes_eq (name_of s)) xs) none in
-    AllPairs-cons Differ (record { setting = s; value = value }) (flat_map given_of fs) (others fs s after.1) (more second.1)
+    AllPairs-cons Differ (record { setting = s; value = value }) (flat_map given_of fs)
+    (others fs s after.1) (more second.1)
 
-pairs_forms : (fs : List Form) (c : Command) → All (IsFit c) fs → once c (flat_map spaced_form fs) ≡ true → AllPairs Differ (flat_map given_of fs)
+pairs_forms : (fs : List Form) (c : Command) → All (IsFit c) fs → once c (flat_map spaced_form fs) ≡ true
+    → AllPairs Differ (flat_map given_of fs)
 pairs_forms [] c fit single = λ i j d lt within. absurd (omega arith)
 pairs_forms (Plain x ∷ fs) c fit single =
-    pairs_forms fs c (All-tail (IsFit c) (Plain x) fs fit) (and_parts (stands_once c x (flat_map spaced_form fs)) (once c (flat_map spaced_form fs)) single).1
+    pairs_forms fs c (All-tail (IsFit c) (Plain x) fs fit)
+    (and_parts (stands_once c x (flat_map spaced_form fs)) (once c (flat_map spaced_form fs)) single).1
 pairs_forms (Apart s value ∷ fs) c fit single =
     let here : IsFit c (Apart s value) = All-head (IsFit c) (Apart s value) fs fit in
     pairs_at c s value fs here.0 single (pairs_forms fs c (All-tail (IsFit c) (Apart s value) fs fit))
@@ -353,7 +415,8 @@ abbrev Continues : Command → Option Setting → List Word → Parts → Type 0
 Continues c None words p = HasForms c words p
 Continues c (Some s) words p = HasValue c s words p
 
-with_form : (c : Command) (f : Form) (words rest : List Word) (p q : Parts) → IsFit c f → words ≡ form_words f ++ rest → (h : HasForms c rest q) → p ≡ parts_by (f ∷ h.forms) → HasForms c words p
+with_form : (c : Command) (f : Form) (words rest : List Word) (p q : Parts) → IsFit c f → words ≡ form_words f ++ rest
+    → (h : HasForms c rest q) → p ≡ parts_by (f ∷ h.forms) → HasForms c words p
 with_form c f words rest p q fit spelled h parts = record {
   forms = f ∷ h.forms;
   fit = All-cons (IsFit c) f h.forms fit h.fit;
@@ -362,26 +425,34 @@ with_form c f words rest p q fit spelled h parts = record {
 }
 
 -- the value of a setting is the next word, and is plain
-value_next : (c : Command) (s : Setting) (x : Word) (xs : List Word) (p : Parts) → parts_after c (Some s) (x ∷ xs) ≡ Some p
+value_next : (c : Command) (s : Setting) (x : Word) (xs : List Word) (p : Parts)
+    → parts_after c (Some s) (x ∷ xs) ≡ Some p
     → (is_plain_word x ≡ true) × ((q : Parts) × (parts_after c None xs ≡ Some q) × (with_given s x q ≡ p))
 value_next c s x xs p h =
     let both = chosen (is_plain_word x) (option_map (with_given s x) (parts_after c None xs)) p h in
     (both.0, mapped (with_given s x) (parts_after c None xs) p both.1)
 
 -- a word that is no value is the name of a setting, which awaits its value
-bound_by : (c : Command) (xs : List Word) (o : Option Setting) (p : Parts) → option_and_then (λ s. parts_after c (Some s) xs) o ≡ Some p → (s : Setting) × (o ≡ Some s) × (parts_after c (Some s) xs ≡ Some p)
+bound_by : (c : Command) (xs : List Word) (o : Option Setting) (p : Parts)
+    → option_and_then (λ s. parts_after c (Some s) xs) o ≡ Some p
+    → (s : Setting) × (o ≡ Some s) × (parts_after c (Some s) xs ≡ Some p)
 bound_by c xs (Some s) p h = (s, refl, h)
 bound_by c xs None p h = absurd (none-some p h)
 
 abbrev awaits : (c : Command) (x : Word) (xs : List Word) → Bool → Option Parts
-awaits c x xs b = if b then option_map (with_plain x) (parts_after c None xs) else option_and_then (λ s. parts_after c (Some s) xs) (setting_of c x)
+awaits c x xs b =
+    if b then option_map (with_plain x) (parts_after c None xs)
+    else option_and_then (λ s. parts_after c (Some s) xs) (setting_of c x)
 
 -- a word that is no name with its value
 one_word : (c : Command) (x : Word) (words : List Word) (p : Parts) → parts_after c None (x ∷ spaced c words) ≡ Some p
-    → ((a : Option Setting) (q : Parts) → parts_after c a (spaced c words) ≡ Some q → Continues c a words q) → HasForms c (x ∷ words) p
+    → ((a : Option Setting) (q : Parts) → parts_after c a (spaced c words) ≡ Some q → Continues c a words q)
+    → HasForms c (x ∷ words) p
 one_word c x words p h more = elim (cases_Bool (is_plain_word x)) [
   | inl plain ↦
-      let it = mapped (with_plain x) (parts_after c None (spaced c words)) p (sym (ap (awaits c x (spaced c words)) plain) ∙ h) in
+      let it =
+      mapped (with_plain x) (parts_after c None (spaced c words)) p
+      (sym (ap (awaits c x (spaced c words)) plain) ∙ h) in
       let q = it.0 in
       let m : HasForms c words q = more None q it.1 in
       with_form c (Plain x) (x ∷ words) words p q plain refl m (sym it.2 ∙ ap (with_plain x) m.parts)
@@ -390,39 +461,65 @@ one_word c x words p h more = elim (cases_Bool (is_plain_word x)) [
       let s = it.0 in
       let name = the_name c x s it.1 in
       let m : HasValue c s words p = more (Some s) p it.2 in
-      with_form c (Apart s m.value) (x ∷ words) m.rest p m.left (name.takes_it, m.plain) (ap₂ (λ (a : Word) (b : List Word). a ∷ b) name.name m.words_are) m.forms (m.parts ∙ ap (with_given s m.value) m.forms.parts)
+      with_form c (Apart s m.value) (x ∷ words) m.rest p m.left (name.takes_it, m.plain)
+      (ap₂ (λ (a : Word) (b : List Word). a ∷ b) name.name m.words_are) m.forms
+      (m.parts ∙ ap (with_given s m.value) m.forms.parts)
 ]
 
 -- a name with its value
-both_in_one : (c : Command) (x : Word) (words : List Word) (p : Parts) (s : Setting) → IsSplit c x s → parts_after c None (before_first is_equals x ∷ (after_first is_equals x ∷ spaced c words)) ≡ Some p
+both_in_one : (c : Command) (x : Word) (words : List Word) (p : Parts) (s : Setting) → IsSplit c x s
+    → parts_after c None (before_first is_equals x ∷ (after_first is_equals x ∷ spaced c words)) ≡ Some p
     → ((q : Parts) → parts_after c None (spaced c words) ≡ Some q → HasForms c words q) → HasForms c (x ∷ words) p
 both_in_one c x words p s cut h more =
     let value = after_first is_equals x in
-    let named_so : parts_after c None (name_of s ∷ (value ∷ spaced c words)) ≡ Some p = ap (λ (n : Word). parts_after c None (n ∷ (value ∷ spaced c words))) (sym cut.name) ∙ h in
-    let awaited : parts_after c (Some s) (value ∷ spaced c words) ≡ Some p = sym (ap (option_and_then (λ t. parts_after c (Some t) (value ∷ spaced c words))) (by_name c s cut.takes_it)) ∙ named_so in
+    let named_so : parts_after c None (name_of s ∷ (value ∷ spaced c words)) ≡ Some p =
+    ap (λ (n : Word). parts_after c None (n ∷ (value ∷ spaced c words))) (sym cut.name) ∙ h in
+    let awaited : parts_after c (Some s) (value ∷ spaced c words) ≡ Some p =
+    sym (ap (option_and_then (λ t. parts_after c (Some t) (value ∷ spaced c words))) (by_name c s cut.takes_it))
+    ∙ named_so in
     let it = value_next c s value (spaced c words) p awaited in
     let q = it.1.0 in
     let m : HasForms c words q = more q it.1.1 in
-    let spelled : x ≡ name_of s ++ (61 ∷ value) = rejoined x cut.plain ∙ ap (λ (n : Word). n ++ (61 ∷ value)) cut.name in
-    with_form c (Joined s value) (x ∷ words) words p q (cut.takes_it, cut.plain) (ap (λ (y : Word). y ∷ words) spelled) m (sym it.1.2 ∙ ap (with_given s value) m.parts)
+    let spelled : x ≡ name_of s ++ (61 ∷ value) =
+    rejoined x cut.plain ∙ ap (λ (n : Word). n ++ (61 ∷ value)) cut.name in
+    with_form c (Joined s value) (x ∷ words) words p q (cut.takes_it, cut.plain) (ap (λ (y : Word). y ∷ words) spelled)
+    m (sym it.1.2 ∙ ap (with_given s value) m.parts)
 
-continues : (words : List Word) (c : Command) (a : Option Setting) (p : Parts) → parts_after c a (spaced c words) ≡ Some p → Continues c a words p
-continues [] c None p h = record { forms = []; fit = All-nil (IsFit c); spelled = refl; parts = sym (same_Some no_parts p h) }
+continues : (words : List Word) (c : Command) (a : Option Setting) (p : Parts)
+    → parts_after c a (spaced c words) ≡ Some p → Continues c a words p
+continues [] c None p h =
+    record { forms = []; fit = All-nil (IsFit c); spelled = refl; parts = sym (same_Some no_parts p h) }
 continues [] c (Some s) p h = absurd (none-some p h)
 continues (x ∷ words) c None p h = elim (cases_Bool (is_joined c x)) [
   | inl both ↦
       let it = split_parts c x both in
-      both_in_one c x words p it.0 it.1 (ap (λ (l : List Word). parts_after c None (l ++ spaced c words)) (sym (is_split c x both)) ∙ h) (continues words c None)
-  | inr other ↦ one_word c x words p (ap (λ (l : List Word). parts_after c None (l ++ spaced c words)) (sym (not_joined c x other)) ∙ h) (continues words c)
+      both_in_one c x words p it.0 it.1
+      (ap (λ (l : List Word). parts_after c None (l ++ spaced c words)) (sym (is_split c x both)) ∙ h)
+      (continues words c None)
+  | inr other ↦
+      one_word c x words p (ap (λ (l : List Word). parts_after c None (l ++ spaced c words))
+      (sym (not_joined c x other)) ∙ h) (continues words c)
 ]
 continues (x ∷ words) c (Some s) p h = elim (cases_Bool (is_joined c x)) [
   | inl both ↦
       let it = split_parts c x both in
-      let next = value_next c s (before_first is_equals x) (after_first is_equals x ∷ spaced c words) p (ap (λ (l : List Word). parts_after c (Some s) (l ++ spaced c words)) (sym (is_split c x both)) ∙ h) in
+      let next =
+      value_next c s (before_first is_equals x) (after_first is_equals x ∷ spaced c words) p
+      (ap (λ (l : List Word). parts_after c (Some s) (l ++ spaced c words)) (sym (is_split c x both)) ∙ h) in
       absurd (name_is_not it.0 (before_first is_equals x) next.0 (sym it.1.name))
   | inr other ↦
-      let next = value_next c s x (spaced c words) p (ap (λ (l : List Word). parts_after c (Some s) (l ++ spaced c words)) (sym (not_joined c x other)) ∙ h) in
-      record { value = x; rest = words; left = next.1.0; words_are = refl; plain = next.0; forms = continues words c None next.1.0 next.1.1; parts = sym next.1.2 }
+      let next =
+      value_next c s x (spaced c words) p
+      (ap (λ (l : List Word). parts_after c (Some s) (l ++ spaced c words)) (sym (not_joined c x other)) ∙ h) in
+      record {
+        value = x;
+        rest = words;
+        left = next.1.0;
+        words_are = refl;
+        plain = next.0;
+        forms = continues words c None next.1.0 next.1.1;
+        parts = sym next.1.2;
+      }
 ]
 
 -- ---- both
@@ -431,7 +528,8 @@ parts_to : (c : Command) (words : List Word) (p : Parts) → parts_of c words �
 parts_to c words p h =
     let both = chosen (once c (spaced c words)) (parts_after c None (spaced c words)) p h in
     let it : HasForms c words p = continues words c None p both.1 in
-    let same : spaced c words ≡ flat_map spaced_form it.forms = ap (spaced c) it.spelled ∙ spaced_forms it.forms c it.fit in
+    let same : spaced c words ≡ flat_map spaced_form it.forms =
+    ap (spaced c) it.spelled ∙ spaced_forms it.forms c it.fit in
     let pairs = pairs_forms it.forms c it.fit (ap (once c) (sym same) ∙ both.0) in
     record {
       forms = it.forms;
@@ -444,11 +542,17 @@ parts_to c words p h =
 
 parts_from : (c : Command) (words : List Word) (p : Parts) → ArePartsOf c words p → parts_of c words ≡ Some p
 parts_from c words p it =
-    let same : spaced c words ≡ flat_map spaced_form it.forms = ap (spaced c) it.spelled ∙ spaced_forms it.forms c it.fit in
+    let same : spaced c words ≡ flat_map spaced_form it.forms =
+    ap (spaced c) it.spelled ∙ spaced_forms it.forms c it.fit in
     let pairs = subst (λ (gs : List Given). AllPairs Differ gs) it.given it.single in
-    let plain_and_given : (a b : List Word) (g h : List Given) → a ≡ b → g ≡ h → ◌≡◌ {A = Parts} (record { plain = a; given = g }) (record { plain = b; given = h }) = λ a b g h e f. ap₂ (λ (x : List Word) (y : List Given). record { plain = x; given = y }) e f in
-    ap (parts_in c) same ∙ ap (λ b. if b then parts_after c None (flat_map spaced_form it.forms) else None) (once_forms it.forms c it.fit pairs)
-    ∙ parts_forms it.forms c it.fit ∙ ap (λ (q : Parts). Some q) (sym (plain_and_given p.plain (flat_map plain_of it.forms) p.given (flat_map given_of it.forms) it.plain it.given))
+    let plain_and_given : (a b : List Word) (g h : List Given) → a ≡ b → g ≡ h
+    → ◌≡◌ {A = Parts} (record { plain = a; given = g }) (record { plain = b; given = h }) =
+    λ a b g h e f. ap₂ (λ (x : List Word) (y : List Given). record { plain = x; given = y }) e f in
+    ap (parts_in c) same ∙ ap (λ b. if b then parts_after c None (flat_map spaced_form it.forms) else None)
+    (once_forms it.forms c it.fit pairs)
+    ∙ parts_forms it.forms c it.fit
+    ∙ ap (λ (q : Parts). Some q)
+    (sym (plain_and_given p.plain (flat_map plain_of it.forms) p.given (flat_map given_of it.forms) it.plain it.given))
 
 pub parts_are_of_forms : PartsAreOfForms
 parts_are_of_forms c words p = (parts_to c words p, parts_from c words p)

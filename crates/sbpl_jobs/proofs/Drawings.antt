@@ -11,6 +11,8 @@ read_as x = Ok x
 pub same_ok : {X E : Type 0} (x y : X) → read_as {E = E} y ≡ read_as x → x ≡ y
 same_ok x y h = cc
 
-pub only_memory : (ps qs : Primitives) (e : SweepFault) → NoneTooWide qs 0 → ps ≡ qs → IsCause ps 0 e → e ≡ sweep.NoMemory
-only_memory ps qs (sweep.TooWide i) none same cause = absurd (subst (λ (rs : Primitives). NoneTooWide rs 0) (sym same) none i cause.here)
+pub only_memory : (ps qs : Primitives) (e : SweepFault) → NoneTooWide qs 0 → ps ≡ qs
+    → IsCause ps 0 e → e ≡ sweep.NoMemory
+only_memory ps qs (sweep.TooWide i) none same cause =
+    absurd (subst (λ (rs : Primitives). NoneTooWide rs 0) (sym same) none i cause.here)
 only_memory ps qs sweep.NoMemory none same cause = refl

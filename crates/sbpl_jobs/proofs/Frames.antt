@@ -8,7 +8,8 @@ none_falls_on f g h p q name = let a = p name in let b = q name in omega arith
 
 -- nothing was read or written
 pub same_state : (s : DeskState) → ReadsOnly s s
-same_state s = record { held = λ name. refl; written = λ name. refl; reads = λ name. omega arith; writes = λ name. omega arith }
+same_state s =
+    record { held = λ name. refl; written = λ name. refl; reads = λ name. omega arith; writes = λ name. omega arith }
 
 pub reads_on : (s t u : DeskState) → ReadsOnly s t → ReadsOnly t u → ReadsOnly s u
 reads_on s t u p q = record {
@@ -35,8 +36,14 @@ pub writes_after : (U : Names) (s t u : DeskState) → ReadsOnly s t → WritesO
 writes_after U s t u p q = writes_on U s t u (no_writes U s t p) q
 
 -- some more names
-pub writes_more : (U V : Names) (s t : DeskState) → ((name : List ℕ) → U name → V name) → WritesOnly U s t → WritesOnly V s t
-writes_more U V s t on p = record { held = p.held; others = λ name other. p.others name (λ is. other (on name is)); reads = p.reads; writes = p.writes }
+pub writes_more : (U V : Names) (s t : DeskState) → ((name : List ℕ) → U name → V name)
+    → WritesOnly U s t → WritesOnly V s t
+writes_more U V s t on p = record {
+  held = p.held;
+  others = λ name other. p.others name (λ is. other (on name is));
+  reads = p.reads;
+  writes = p.writes;
+}
 
 pub nothing_done : (U : Names) (s : DeskState) → WritesOnly U s s
 nothing_done U s = no_writes U s s (same_state s)

@@ -1,5 +1,7 @@
 -- How the making of plans goes on from one to the next.
-use Rattle.std.proofs.Common.{◌≡◌, ◌⊎◌, ℕ, suc, add-zero, ◌+◌, ◌≤◌, true, false, List, [], ◌∷◌, ◌++◌, flat_map, length, slice_get, Option, Some, None, Result, Ok, Err, refl, sym, ◌∙◌, ap, subst, append_assoc, append-nil, arith, inl, inr}
+use Rattle.std.proofs.Common.{◌≡◌, ◌⊎◌, ℕ, suc, add-zero, ◌+◌, ◌≤◌, true, false, List, [], ◌∷◌, ◌++◌, flat_map, length}
+use Rattle.std.proofs.Common.{slice_get, Option, Some, None, Result, Ok, Err, refl, sym, ◌∙◌, ap, subst, append_assoc}
+use Rattle.std.proofs.Common.{append-nil, arith, inl, inr}
 use Rattle.std.proofs.lemmas.Option.{slice_get_within}
 use Rattle.sbpl_desk.specs.Desk.{NoneFalls, Stays}
 use Rattle.sbpl_desk.specs.declared.desk.WriteStop.{WriteStop}
@@ -28,14 +30,19 @@ use Rattle.sbpl_jobs.proofs.Writings.{ends_as_after, none_made, status_ends}
 
 -- ---- plans in turn
 
-module _ {W : Type 0} (by : Known W) (written_of : PlanRecord → List Write) (w : W) (batches : List (List change.Write)) (how : SearchJob) (outputs : Outputs) (starts : ℕ → ℕ) (goal : ℕ) where
+module _ {W : Type 0} (by : Known W) (written_of : PlanRecord → List Write) (w : W) (batches : List (List change.Write))
+    (how : SearchJob) (outputs : Outputs) (starts : ℕ → ℕ) (goal : ℕ) where
   -- how the plans from plan k on end, where these entries were published before and after
   abbrev Ends : (k : ℕ) (log shown : List Entry) → Option Carried → (a b : DeskState) → (status : ℕ) → Type 0
-  Ends k log shown before a b status = EndsPlans by written_of w batches how outputs starts goal k log shown before a b status
+  Ends k log shown before a b status =
+      EndsPlans by written_of w batches how outputs starts goal k log shown before a b status
 
   -- plan k was made and told, and then the others ended so
-  one_more : (k : ℕ) (log shown : List Entry) (before : Option Carried) (carried : Carried) (r : PlanRecord) (a b c : DeskState) (status : ℕ) → IsMapAfter (by.on.cells.map w) batches k carried.map → IsPlanOf by (by.on.cells.over w carried.map) how outputs (starts k) goal k log before carried r
-      → AreAppended a b (written_of r) → NoneFalls a.write_faults b.write_faults → Ends (k + 1) (with_plan log r) shown (Some carried) b c status → Ends k log shown before a c status
+  one_more : (k : ℕ) (log shown : List Entry) (before : Option Carried) (carried : Carried) (r : PlanRecord)
+      (a b c : DeskState) (status : ℕ) → IsMapAfter (by.on.cells.map w) batches k carried.map
+      → IsPlanOf by (by.on.cells.over w carried.map) how outputs (starts k) goal k log before carried r
+      → AreAppended a b (written_of r) → NoneFalls a.write_faults b.write_faults
+      → Ends (k + 1) (with_plan log r) shown (Some carried) b c status → Ends k log shown before a c status
   one_more k log shown before carried r a b c status after plan made low e =
       let count : k + 1 + length e.records ≡ k + suc (length e.records) = omega arith in
       record {
@@ -48,11 +55,16 @@ module _ {W : Type 0} (by : Known W) (written_of : PlanRecord → List Write) (w
         shown_is = e.shown_is ∙ ap (λ (n : ℕ). with_paths (with_plans (with_plan log r) e.records) n 0 e.broken) count;
         few = let rest = e.few in omega arith;
         all_made = λ is. let rest = e.all_made is in omega arith;
-        ends = rw (append_assoc (written_of r) (flat_map written_of e.records) (end_writes e.all)) (ends_as_after a b c (written_of r) (flat_map written_of e.records ++ end_writes e.all) (plans_status e.all) status made low e.ends);
+        ends =
+            rw (append_assoc (written_of r) (flat_map written_of e.records) (end_writes e.all))
+            (ends_as_after a b c (written_of r) (flat_map written_of e.records ++ end_writes e.all) (plans_status e.all)
+            status made low e.ends);
       }
 
   -- memory ran out before plan k was made, or in it
-  pub breaks_off : (k : ℕ) (log shown : List Entry) (before : Option Carried) (found : List Found) (a b : DeskState) → k ≤ length batches + 1 → IsBrokenIn by w batches how outputs starts goal k found → shown ≡ with_paths log k 0 found
+  pub breaks_off : (k : ℕ) (log shown : List Entry) (before : Option Carried) (found : List Found) (a b : DeskState)
+      → k ≤ length batches + 1 → IsBrokenIn by w batches how outputs starts goal k found
+      → shown ≡ with_paths log k 0 found
       → Stays a.written b.written → Ends k log shown before a b 9
   breaks_off k log shown before found a b inside broken shown_is same = record {
     records = [];
@@ -68,11 +80,13 @@ module _ {W : Type 0} (by : Known W) (written_of : PlanRecord → List Write) (w
   }
 
   -- memory ran out before plan k was begun
-  pub no_more : (k : ℕ) (log : List Entry) (before : Option Carried) (a b : DeskState) → k ≤ length batches + 1 → Stays a.written b.written → Ends k log log before a b 9
+  pub no_more : (k : ℕ) (log : List Entry) (before : Option Carried) (a b : DeskState) → k ≤ length batches + 1
+      → Stays a.written b.written → Ends k log log before a b 9
   no_more k log before a b inside same = breaks_off k log log before [] a b inside (inl refl) refl same
 
   -- plan k was the last, and so was the last line
-  all_told : (k : ℕ) (log : List Entry) (before : Option Carried) (a b : DeskState) (status : ℕ) → k ≡ length batches + 1 → EndsAs a b (last_write ∷ []) 0 status → Ends k log log before a b status
+  all_told : (k : ℕ) (log : List Entry) (before : Option Carried) (a b : DeskState) (status : ℕ)
+      → k ≡ length batches + 1 → EndsAs a b (last_write ∷ []) 0 status → Ends k log log before a b status
   all_told k log before a b status last ends = record {
     records = [];
     all = true;
@@ -87,8 +101,11 @@ module _ {W : Type 0} (by : Known W) (written_of : PlanRecord → List Write) (w
   }
 
   -- plan k was made, but was not told
-  untold : (k : ℕ) (log : List Entry) (before : Option Carried) (carried : Carried) (r : PlanRecord) (a b : DeskState) (status : ℕ) (e : WriteStop) → k ≤ length batches → IsMapAfter (by.on.cells.map w) batches k carried.map → IsPlanOf by (by.on.cells.over w carried.map) how outputs (starts k) goal k log before carried r
-      → EndsIn {T = Unit {0}} a b (written_of r) (Err e) → status ≡ status_after {T = Unit {0}} 9 (Err e) → Ends k log (with_plan log r) before a b status
+  untold : (k : ℕ) (log : List Entry) (before : Option Carried) (carried : Carried) (r : PlanRecord) (a b : DeskState)
+      (status : ℕ) (e : WriteStop) → k ≤ length batches → IsMapAfter (by.on.cells.map w) batches k carried.map
+      → IsPlanOf by (by.on.cells.over w carried.map) how outputs (starts k) goal k log before carried r
+      → EndsIn {T = Unit {0}} a b (written_of r) (Err e) → status ≡ status_after {T = Unit {0}} 9 (Err e)
+      → Ends k log (with_plan log r) before a b status
   untold k log before carried r a b status e inside after plan ends is = record {
     records = r ∷ [];
     all = false;
@@ -99,12 +116,16 @@ module _ {W : Type 0} (by : Known W) (written_of : PlanRecord → List Write) (w
     shown_is = refl;
     few = omega arith;
     all_made = λ no_way. absurd (cc);
-    ends = subst (λ (l : List Write). EndsAs a b l 9 status) (sym (append-nil (written_of r ++ []) ∙ append-nil (written_of r))) (status_ends a b (written_of r) 9 status (Err e) ends is);
+    ends =
+        subst (λ (l : List Write). EndsAs a b l 9 status) (sym (append-nil (written_of r ++ [])
+        ∙ append-nil (written_of r))) (status_ends a b (written_of r) 9 status (Err e) ends is);
   }
 
-  -- the plans before plan k were made and told, and the map is that after the first k batches; these entries were published before the first
+  -- the plans before plan k were made and told, and the map is that after the first k batches; these entries were
+  -- published before the first
   -- of them, and these after the last
-  pub record IsGoing (now : W) (k start : ℕ) (first log : List Entry) (r : Standing by.Note) (a b : DeskState) : Type 0 where
+  pub record IsGoing (now : W) (k start : ℕ) (first log : List Entry) (r : Standing by.Note)
+      (a b : DeskState) : Type 0 where
     pub same : now ≡ by.on.cells.over w (by.on.cells.map now)
     pub inside : k ≤ length batches
     pub after : IsMapAfter (by.on.cells.map w) batches k (by.on.cells.map now)
@@ -113,9 +134,13 @@ module _ {W : Type 0} (by : Known W) (written_of : PlanRecord → List Write) (w
     pub set : IsSetFor by.direction how start goal r
     pub before : Option Carried
     pub goes_on : GoesOnFrom by.means by.on by.direction now (by.direction.from start goal) before r
-    pub ends : (c : DeskState) (status : ℕ) (shown : List Entry) → Ends k log shown before b c status → Ends 0 first shown None a c status
+    pub ends : (c : DeskState) (status : ℕ) (shown : List Entry) → Ends k log shown before b c status
+        → Ends 0 first shown None a c status
 
-  pub sets_out : (start : ℕ) (log : List Entry) (r : Standing by.Note) (a : DeskState) → IsTerrain by.on.network by.on.cells → IsMapAfter (by.on.cells.map w) batches 0 (by.on.cells.map w) → by.on.cells.is_made w → start ≡ starts 0 → IsSetFor by.direction how start goal r → GoesOnFrom by.means by.on by.direction w (by.direction.from start goal) None r → IsGoing w 0 start log log r a a
+  pub sets_out : (start : ℕ) (log : List Entry) (r : Standing by.Note) (a : DeskState)
+      → IsTerrain by.on.network by.on.cells → IsMapAfter (by.on.cells.map w) batches 0 (by.on.cells.map w)
+      → by.on.cells.is_made w → start ≡ starts 0 → IsSetFor by.direction how start goal r
+      → GoesOnFrom by.means by.on by.direction w (by.direction.from start goal) None r → IsGoing w 0 start log log r a a
   sets_out start log r a law first kept start_is set begun = record {
     same = sym (law.present w);
     inside = omega arith;
@@ -128,90 +153,142 @@ module _ {W : Type 0} (by : Known W) (written_of : PlanRecord → List Write) (w
     ends = λ c status shown e. e;
   }
 
-  pub at_last : (now : W) (k n start : ℕ) (first log : List Entry) (r : Standing by.Note) (a b : DeskState) → k ≡ n → IsGoing now k start first log r a b → IsGoing now n start first log r a b
+  pub at_last : (now : W) (k n start : ℕ) (first log : List Entry) (r : Standing by.Note) (a b : DeskState) → k ≡ n
+      → IsGoing now k start first log r a b → IsGoing now n start first log r a b
   at_last now k n start first log r a b same going = subst (λ (i : ℕ). IsGoing now i start first log r a b) same going
 
-  module _ (now : W) (k start : ℕ) (first log shown : List Entry) (r s : Standing by.Note) (a b c : DeskState) (going : IsGoing now k start first log r a b) where
-    on_that : (before : Option Carried) (p : PlanRecord) → IsPlanOf by now how outputs start goal k log before (carried_of (by.on.cells.map now) s) p → IsPlanOf by (by.on.cells.over w (by.on.cells.map now)) how outputs (starts k) goal k log before (carried_of (by.on.cells.map now) s) p
-    on_that before p plan = subst (λ (x : ℕ). IsPlanOf by (by.on.cells.over w (by.on.cells.map now)) how outputs x goal k log before (carried_of (by.on.cells.map now) s) p) going.start_is
-        (subst (λ (v : W). IsPlanOf by v how outputs start goal k log before (carried_of (by.on.cells.map now) s) p) going.same plan)
+  module _ (now : W) (k start : ℕ) (first log shown : List Entry) (r s : Standing by.Note) (a b c : DeskState)
+      (going : IsGoing now k start first log r a b) where
+    on_that : (before : Option Carried) (p : PlanRecord)
+        → IsPlanOf by now how outputs start goal k log before (carried_of (by.on.cells.map now) s) p
+        → IsPlanOf by (by.on.cells.over w (by.on.cells.map now)) how outputs (starts k) goal k log before
+        (carried_of (by.on.cells.map now) s) p
+    on_that before p plan =
+        subst (λ (x : ℕ). IsPlanOf by (by.on.cells.over w (by.on.cells.map now)) how outputs x goal k log before
+        (carried_of (by.on.cells.map now) s) p) going.start_is
+        (subst (λ (v : W). IsPlanOf by v how outputs start goal k log before (carried_of (by.on.cells.map now) s) p)
+        going.same plan)
 
-    broken_on_that : (before : Option Carried) (found : List Found) → (found ≡ []) ⊎ IsBrokenOff by now how outputs start goal before found → IsBrokenIn by w batches how outputs starts goal k found
+    broken_on_that : (before : Option Carried) (found : List Found)
+        → (found ≡ []) ⊎ IsBrokenOff by now how outputs start goal before found
+        → IsBrokenIn by w batches how outputs starts goal k found
     broken_on_that before found (inl none) = inl none
     broken_on_that before found (inr broken) = inr (
       by.on.cells.map now,
       before,
       going.after,
-      subst (λ (x : ℕ). IsBrokenOff by (by.on.cells.over w (by.on.cells.map now)) how outputs x goal before found) going.start_is
+      subst (λ (x : ℕ). IsBrokenOff by (by.on.cells.over w (by.on.cells.map now)) how outputs x goal before found)
+          going.start_is
           (subst (λ (v : W). IsBrokenOff by v how outputs start goal before found) going.same broken),
     )
 
     -- what holds of the plan that is made next
     abbrev pub NextEnds : Result (Unit {0}) WriteStop → Type 0
-    NextEnds result = (before : Option Carried) → GoesOnFrom by.means by.on by.direction now (by.direction.from start goal) before r → EndsOnePlan by written_of now how outputs start goal k log shown before (carried_of (by.on.cells.map now) s) b c result
+    NextEnds result =
+        (before : Option Carried) → GoesOnFrom by.means by.on by.direction now (by.direction.from start goal) before r
+        → EndsOnePlan by written_of now how outputs start goal k log shown before
+        (carried_of (by.on.cells.map now) s) b c result
 
     -- the next plan was not told
-    pub stops : (status : ℕ) (e : WriteStop) → NextEnds (Err e) → status ≡ status_after {T = Unit {0}} 9 (Err e) → Ends 0 first shown None a c status
+    pub stops : (status : ℕ) (e : WriteStop) → NextEnds (Err e) → status ≡ status_after {T = Unit {0}} 9 (Err e)
+        → Ends 0 first shown None a c status
     stops status e made is = going.ends c status shown (elim (made going.before going.goes_on) [
       | inl (out, same, part) ↦
           subst (λ (n : ℕ). Ends k log shown going.before b c n) (sym (is ∙ nine out))
-          (breaks_off k log shown going.before part.found b c (let room = going.inside in omega arith) (broken_on_that going.before part.found part.broken) part.shown_is same)
+          (breaks_off k log shown going.before part.found b c (let room = going.inside in omega arith)
+          (broken_on_that going.before part.found part.broken) part.shown_is same)
       | inr (p, made_so, ends) ↦
           subst (λ (l : List Entry). Ends k log l going.before b c status) (sym made_so.shown_is)
-          (untold k log going.before (carried_of (by.on.cells.map now) s) p b c status e going.inside going.after (on_that going.before p made_so.plan) ends is)
+          (untold k log going.before (carried_of (by.on.cells.map now) s) p b c status e going.inside going.after
+          (on_that going.before p made_so.plan) ends is)
     ])
       where
         nine : e ≡ NoMemory → status_after {T = Unit {0}} 9 (Err e) ≡ 9
         nine out = rw out refl
 
     -- it was told, and then the others ended so
-    pub tells : (d : DeskState) (status : ℕ) (later : List Entry) → NextEnds (Ok tt) → NoneFalls b.write_faults c.write_faults → Ends (k + 1) shown later (Some (carried_of (by.on.cells.map now) s)) c d status → Ends 0 first later None a d status
+    pub tells : (d : DeskState) (status : ℕ) (later : List Entry) → NextEnds (Ok tt)
+        → NoneFalls b.write_faults c.write_faults
+        → Ends (k + 1) shown later (Some (carried_of (by.on.cells.map now) s)) c d status
+        → Ends 0 first later None a d status
     tells d status later made low e =
         let told = made going.before going.goes_on in
         going.ends d status later
-        (one_more k log later going.before (carried_of (by.on.cells.map now) s) told.0 b c d status going.after (on_that going.before told.0 told.1.plan) told.2 low
-        (subst (λ (l : List Entry). Ends (k + 1) l later (Some (carried_of (by.on.cells.map now) s)) c d status) told.1.shown_is e))
+        (one_more k log later going.before (carried_of (by.on.cells.map now) s) told.0 b c d status going.after
+        (on_that going.before told.0 told.1.plan) told.2 low
+        (subst (λ (l : List Entry). Ends (k + 1) l later (Some (carried_of (by.on.cells.map now) s)) c d status)
+        told.1.shown_is e))
 
     -- it was the last, and the last line was written
-    pub tells_last : (d : DeskState) (status : ℕ) → NextEnds (Ok tt) → NoneFalls b.write_faults c.write_faults → k ≡ length batches → EndsAs c d (last_write ∷ []) 0 status → Ends 0 first shown None a d status
-    tells_last d status made low last ends = tells d status shown made low (all_told (k + 1) shown (Some (carried_of (by.on.cells.map now) s)) c d status (omega arith) ends)
+    pub tells_last : (d : DeskState) (status : ℕ) → NextEnds (Ok tt) → NoneFalls b.write_faults c.write_faults
+        → k ≡ length batches → EndsAs c d (last_write ∷ []) 0 status → Ends 0 first shown None a d status
+    tells_last d status made low last ends =
+        tells d status shown made low
+        (all_told (k + 1) shown (Some (carried_of (by.on.cells.map now) s)) c d status (omega arith) ends)
 
     -- it was told, and memory ran out while the map was changed
     pub tells_no_more : NextEnds (Ok tt) → NoneFalls b.write_faults c.write_faults → Ends 0 first shown None a c 9
-    tells_no_more made low = tells c 9 shown made low (no_more (k + 1) shown (Some (carried_of (by.on.cells.map now) s)) c c (let room = going.inside in omega arith) (λ name. refl))
+    tells_no_more made low =
+        tells c 9 shown made low (no_more (k + 1) shown (Some (carried_of (by.on.cells.map now) s)) c c
+        (let room = going.inside in omega arith) (λ name. refl))
 
     -- it was told, then the map was changed, and then the start moved
-    pub changes : IsTerrain by.on.network by.on.cells → (next : W) (next_start : ℕ) (t u : Standing by.Note) (batch : List change.Write)
-        → ((first m m' : CellMap) (bs : List (List change.Write)) (n : ℕ) (l : List change.Write) → IsMapAfter first bs n m → slice_get bs n ≡ Some l → AreWritten m l m' → IsMapAfter first bs (n + 1) m')
-        → NextEnds (Ok tt) → NoneFalls b.write_faults c.write_faults → IsSetFor by.direction how start goal s → slice_get batches k ≡ Some batch → AreWritten (by.on.cells.map now) batch (by.on.cells.map next) → next ≡ by.on.cells.over now (by.on.cells.map next) → by.on.cells.is_made next
-        → BeginsWith by.means by.on.network by.on.cells by.direction now next s.search.labels t.search.labels t.search.raised → StaysTheSame s t → t.counts ≡ s.counts
-        → next_start ≡ starts (k + 1) → (by.direction.moves ≡ false → next_start ≡ start) → Follows by.direction next_start t u → IsGoing next (k + 1) next_start first shown u a c
-    changes terrain next next_start t u batch law made low set at written others kept begins stays counts start_is still follows = record {
-      same = others ∙ ap (λ (v : W). by.on.cells.over v (by.on.cells.map next)) going.same ∙ terrain.again w (by.on.cells.map now) (by.on.cells.map next);
-      inside = let room = slice_get_within batches k batch at in omega arith;
-      after = law (by.on.cells.map w) (by.on.cells.map now) (by.on.cells.map next) batches k batch going.after at written;
-      kept = kept;
-      start_is = start_is;
-      set = record {
-        between = follows.between start goal still (record { from = stays.start ∙ set.between.from; to = stays.goal ∙ set.between.to });
-        budget_is = ap (λ (n : Counts). n.per_plan) follows.counts ∙ stays.per_plan ∙ set.budget_is;
-      };
-      before = Some (carried_of (by.on.cells.map now) s);
-      goes_on = record {
-        begins = subst (λ (v : W). BeginsWith by.means by.on.network by.on.cells by.direction v next s.search.labels u.search.labels u.search.raised) (sym back)
-            (subst (λ (l : List ℕ). BeginsWith by.means by.on.network by.on.cells by.direction now next s.search.labels u.search.labels l) (sym follows.raised)
-            (subst (λ (m : Marks). BeginsWith by.means by.on.network by.on.cells by.direction now next s.search.labels m t.search.raised) (sym follows.labels) begins));
-        counted = ap (λ (n : Counts). n.run) (sym counts ∙ sym follows.counts);
-      };
-      ends = λ d status later e. tells d status later made low e;
-    }
+    pub changes : IsTerrain by.on.network by.on.cells
+        → (next : W) (next_start : ℕ) (t u : Standing by.Note) (batch : List change.Write)
+        → ((first m m' : CellMap) (bs : List (List change.Write)) (n : ℕ) (l : List change.Write)
+        → IsMapAfter first bs n m → slice_get bs n ≡ Some l → AreWritten m l m' → IsMapAfter first bs (n + 1) m')
+        → NextEnds (Ok tt) → NoneFalls b.write_faults c.write_faults → IsSetFor by.direction how start goal s
+        → slice_get batches k ≡ Some batch → AreWritten (by.on.cells.map now) batch (by.on.cells.map next)
+        → next ≡ by.on.cells.over now (by.on.cells.map next) → by.on.cells.is_made next
+        → BeginsWith by.means by.on.network by.on.cells by.direction now next s.search.labels t.search.labels
+        t.search.raised → StaysTheSame s t → t.counts ≡ s.counts
+        → next_start ≡ starts (k + 1) → (by.direction.moves ≡ false → next_start ≡ start)
+        → Follows by.direction next_start t u → IsGoing next (k + 1) next_start first shown u a c
+    changes terrain next next_start t u batch law made low set at written others kept begins stays counts start_is
+        still follows = record {
+          same =
+              others ∙ ap (λ (v : W). by.on.cells.over v (by.on.cells.map next)) going.same
+              ∙ terrain.again w (by.on.cells.map now) (by.on.cells.map next);
+          inside = let room = slice_get_within batches k batch at in omega arith;
+          after =
+              law (by.on.cells.map w) (by.on.cells.map now) (by.on.cells.map next) batches k
+              batch going.after at written;
+          kept = kept;
+          start_is = start_is;
+          set = record {
+            between =
+                follows.between start goal still
+                (record { from = stays.start ∙ set.between.from; to = stays.goal ∙ set.between.to });
+            budget_is = ap (λ (n : Counts). n.per_plan) follows.counts ∙ stays.per_plan ∙ set.budget_is;
+          };
+          before = Some (carried_of (by.on.cells.map now) s);
+          goes_on = record {
+            begins =
+                subst (λ (v : W). BeginsWith by.means by.on.network by.on.cells by.direction v next s.search.labels
+                u.search.labels u.search.raised) (sym back)
+                (subst
+                (λ (l : List ℕ). BeginsWith by.means by.on.network by.on.cells by.direction now next s.search.labels
+                u.search.labels l) (sym follows.raised)
+                (subst
+                (λ (m : Marks). BeginsWith by.means by.on.network by.on.cells by.direction now next s.search.labels m
+                t.search.raised) (sym follows.labels) begins));
+            counted = ap (λ (n : Counts). n.run) (sym counts ∙ sym follows.counts);
+          };
+          ends = λ d status later e. tells d status later made low e;
+        }
       where
         back : by.on.cells.over next (by.on.cells.map now) ≡ now
-        back = ap (λ (v : W). by.on.cells.over v (by.on.cells.map now)) others ∙ terrain.again now (by.on.cells.map next) (by.on.cells.map now) ∙ terrain.present now
+        back =
+            ap (λ (v : W). by.on.cells.over v (by.on.cells.map now)) others
+            ∙ terrain.again now (by.on.cells.map next) (by.on.cells.map now) ∙ terrain.present now
 
 -- plans by the planner that was asked for
-pub ends_by : {W : Type 0} {on : Site W} {written_of : PlanRecord → List Write} {w : W} {batches : List (List change.Write)} {how : SearchJob} {outputs : Outputs} {starts : ℕ → ℕ} {goal : ℕ} {log shown : List Entry} {a b : DeskState} {status : ℕ}
-    (p : Planner) → how.planner ≡ p → EndsPlans (known on p) written_of w batches how outputs starts goal 0 log shown None a b status
+pub ends_by : {W : Type 0} {on : Site W} {written_of : PlanRecord → List Write} {w : W}
+    {batches : List (List change.Write)} {how : SearchJob} {outputs : Outputs} {starts : ℕ → ℕ} {goal : ℕ}
+    {log shown : List Entry} {a b : DeskState} {status : ℕ}
+    (p : Planner) → how.planner ≡ p
+    → EndsPlans (known on p) written_of w batches how outputs starts goal 0 log shown None a b status
     → EndsPlans (known on how.planner) written_of w batches how outputs starts goal 0 log shown None a b status
 ends_by {W} {on} {written_of} {w} {batches} {how} {outputs} {starts} {goal} {log} {shown} {a} {b} {status} p is ends =
-    subst (λ (x : Planner). EndsPlans (known on x) written_of w batches how outputs starts goal 0 log shown None a b status) (sym is) ends
+    subst (λ (x : Planner).
+    EndsPlans (known on x) written_of w batches how outputs starts goal 0 log shown None a b status) (sym is) ends

@@ -18,7 +18,8 @@ first_arc n s k ks path =
     record { state = path.2.3.source; number = path.2.3.number; head = search rules }
 
 -- after the first arc the path goes on from its head
-pub path_after : (n : Network) (s k u : ℕ) (ks : List ℕ) → IsPathFrom n s (k ∷ ks) → n.head s k ≡ Some u → IsPathFrom n u ks
+pub path_after : (n : Network) (s k u : ℕ) (ks : List ℕ) → IsPathFrom n s (k ∷ ks)
+    → n.head s k ≡ Some u → IsPathFrom n u ks
 path_after n s k u ks path head =
     let arc : n.head s k ≡ Some path.2.0 = path.2.3.head in
     let same : path.2.0 ≡ u = cc in
@@ -26,10 +27,15 @@ path_after n s k u ks path head =
 
 -- steps so far that are completed by those of the arcs that are left
 abbrev pub Completes : {W : Type 0} → Site W → W → ℕ → List ℕ → ℕ → List ℕ → List PathStep → Type 0
-Completes on w from arcs at left steps = (others : List PathStep) → AreSteps on w at left others → AreSteps on w from arcs (steps ++ others)
+Completes on w from arcs at left steps =
+    (others : List PathStep) → AreSteps on w at left others → AreSteps on w from arcs (steps ++ others)
 
-pub one_more : {W : Type 0} (on : Site W) (w : W) (from at k u : ℕ) (arcs ks : List ℕ) (steps : List PathStep) (step : PathStep) → Completes on w from arcs at (k ∷ ks) steps → (on.network w).head at k ≡ Some u → on.wording.step w at k u step → Completes on w from arcs u ks (steps ++ step ∷ [])
-one_more on w from at k u arcs ks steps step done head is others more = rw append_assoc (done (step ∷ others) (u, head, is, more))
+pub one_more : {W : Type 0} (on : Site W) (w : W) (from at k u : ℕ) (arcs ks : List ℕ) (steps : List PathStep)
+    (step : PathStep) → Completes on w from arcs at (k ∷ ks) steps → (on.network w).head at k ≡ Some u
+    → on.wording.step w at k u step → Completes on w from arcs u ks (steps ++ step ∷ [])
+one_more on w from at k u arcs ks steps step done head is others more =
+    rw append_assoc (done (step ∷ others) (u, head, is, more))
 
-pub all_done : {W : Type 0} (on : Site W) (w : W) (from at : ℕ) (arcs : List ℕ) (steps : List PathStep) → Completes on w from arcs at [] steps → AreSteps on w from arcs steps
+pub all_done : {W : Type 0} (on : Site W) (w : W) (from at : ℕ) (arcs : List ℕ) (steps : List PathStep)
+    → Completes on w from arcs at [] steps → AreSteps on w from arcs steps
 all_done on w from at arcs steps done = subst (λ l. AreSteps on w from arcs l) (append-nil steps) (done [] tt)

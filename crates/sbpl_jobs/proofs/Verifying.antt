@@ -1,5 +1,6 @@
 -- How the checking of sections ends, from how its parts end.
-use Rattle.std.proofs.Common.{◌≡◌, ℕ, zero, suc, ◌+◌, ◌≤◌, ◌∙◌, List, [], ◌∷◌, length, Some, None, Result, Ok, Err, IfOk, IfErr, ◌<◌, refl, sym, ap, subst, arith, inl}
+use Rattle.std.proofs.Common.{◌≡◌, ℕ, zero, suc, ◌+◌, ◌≤◌, ◌∙◌, List, [], ◌∷◌, length, Some, None, Result, Ok, Err}
+use Rattle.std.proofs.Common.{IfOk, IfErr, ◌<◌, refl, sym, ap, subst, arith, inl}
 use Rattle.sbpl_graph.specs.Network.{Network}
 use Rattle.sbpl_fixed.specs.Formats.{Left, start_at}
 use Rattle.sbpl_fixed.specs.Tokens.{Piece}
@@ -12,7 +13,8 @@ use Rattle.sbpl_cost.specs.Lattices.{network_of}
 use Rattle.sbpl_cost.specs.World.{World}
 use Rattle.sbpl_promises.specs.declared.section_stop.SectionStop.{SectionStop}
 use Rattle.sbpl_promises.specs.declared.section_stop.SectionStop.TheVariants as section
-use Rattle.sbpl_promises.specs.Checked.{AreChecked, Case, Ground, IsGroundAfter, IsSectionStop, IsShownHolding, IsStoppedIn, IsTrailing, case_of, from_in, ground, to_in}
+use Rattle.sbpl_promises.specs.Checked.{AreChecked, Case, Ground, IsGroundAfter, IsSectionStop, IsShownHolding}
+use Rattle.sbpl_promises.specs.Checked.{IsStoppedIn, IsTrailing, case_of, from_in, ground, to_in}
 use Rattle.sbpl_promises.specs.Intents.{checked_status, checked_writes, last_write, stop_status, stop_writes}
 use Rattle.sbpl_report.specs.Refusals.{label_fault_text}
 use Rattle.sbpl_back.specs.Reversed.{reversed}
@@ -30,13 +32,15 @@ use Rattle.sbpl_jobs.proofs.Frames.{nothing_done}
 use Rattle.sbpl_jobs.proofs.Moving.{start_first}
 
 -- another map has the same number of states
-pub same_states : {W : Type 0} (network : W → Network) (cells : Cells W) → IsTerrain network cells → (w v : W) → cells.is_made w → cells.is_made v → v ≡ cells.over w (cells.map v) → (network w).states ≡ (network v).states
+pub same_states : {W : Type 0} (network : W → Network) (cells : Cells W) → IsTerrain network cells → (w v : W)
+    → cells.is_made w → cells.is_made v → v ≡ cells.over w (cells.map v) → (network w).states ≡ (network v).states
 same_states network cells law w v made now same =
     let there : cells.is_made (cells.over w (cells.map v)) = subst cells.is_made same now in
     sym (law.rest w (cells.map v) made there).states ∙ ap (λ u. (network u).states) (sym same)
 
 -- a token is left after the last section
-pub some_left : (left : Left) (t : Piece) (ts : List Piece) (a b : DeskState) (status : ℕ) → left.tokens ≡ t ∷ ts → EndsAs a b (to_output (label_fault_text (fault.Trailing t.place)) ∷ []) 10 status → EndsText left a b status
+pub some_left : (left : Left) (t : Piece) (ts : List Piece) (a b : DeskState) (status : ℕ) → left.tokens ≡ t ∷ ts
+    → EndsAs a b (to_output (label_fault_text (fault.Trailing t.place)) ∷ []) 10 status → EndsText left a b status
 some_left left t ts a b status some ends = record {
   end = Some (section.Fault (fault.Trailing t.place));
   is_end = subst (λ (l : List Piece). IsTrailing l (section.Fault (fault.Trailing t.place))) (sym some) refl;
@@ -44,12 +48,14 @@ some_left left t ts a b status some ends = record {
 }
 
 -- no token is left
-pub none_left : (left : Left) (a b : DeskState) (status : ℕ) → left.tokens ≡ [] → EndsAs a b (last_write ∷ []) 0 status → EndsText left a b status
+pub none_left : (left : Left) (a b : DeskState) (status : ℕ) → left.tokens ≡ [] → EndsAs a b (last_write ∷ []) 0 status
+    → EndsText left a b status
 none_left left a b status none ends = record { end = None; is_end = none; ends = λ goals plan. ends }
 
 module _ {W : Type 0} {on : Site W} {d : Direction W} (c : Case on d) where
   -- a section does not hold on its graph
-  stopped_in : (n : Ground) (plan : ℕ) (left : Left) (s : SectionStop) → IsGroundAfter c plan n → IsSectionStop n (from_in c plan) (to_in c plan) plan left s → IsStoppedIn c plan left s
+  stopped_in : (n : Ground) (plan : ℕ) (left : Left) (s : SectionStop) → IsGroundAfter c plan n
+      → IsSectionStop n (from_in c plan) (to_in c plan) plan left s → IsStoppedIn c plan left s
   stopped_in n plan left (section.Flaw f) after is = (n, after, is)
   stopped_in n plan left (section.Fault f) after is = (n, after, is)
   stopped_in n plan left section.NoMemory after is = tt
@@ -69,21 +75,29 @@ module _ {W : Type 0} {on : Site W} {d : Direction W} (c : Case on d) where
   }
 
   -- after the last section
-  pub ends_text : (plan : ℕ) (left : Left) (a b : DeskState) (status : ℕ) → EndsText left a b status → EndsSections c plan 0 left a b status
-  ends_text plan left a b status e = record { outcomes = []; end = e.end; checked = e.is_end; ends = e.ends (to_in c) plan }
+  pub ends_text : (plan : ℕ) (left : Left) (a b : DeskState) (status : ℕ) → EndsText left a b status
+      → EndsSections c plan 0 left a b status
+  ends_text plan left a b status e =
+      record { outcomes = []; end = e.end; checked = e.is_end; ends = e.ends (to_in c) plan }
 
-  module _ (n : Ground) (from to plan : ℕ) (after : IsGroundAfter c plan n) (from_is : from_in c plan ≡ from) (to_is : to_in c plan ≡ to) where
+  module _ (n : Ground) (from to plan : ℕ) (after : IsGroundAfter c plan n) (from_is : from_in c plan ≡ from)
+      (to_is : to_in c plan ≡ to) where
     -- it holds for the case too
-    holds_in : (left rest : Left) (o : Outcome) → IsShownHolding n from to plan left o rest → IsShownHolding n (from_in c plan) (to_in c plan) plan left o rest
-    holds_in left rest o is = subst (λ (x : ℕ). IsShownHolding n x (to_in c plan) plan left o rest) (sym from_is) (subst (λ (y : ℕ). IsShownHolding n from y plan left o rest) (sym to_is) is)
+    holds_in : (left rest : Left) (o : Outcome) → IsShownHolding n from to plan left o rest
+        → IsShownHolding n (from_in c plan) (to_in c plan) plan left o rest
+    holds_in left rest o is =
+        subst (λ (x : ℕ). IsShownHolding n x (to_in c plan) plan left o rest) (sym from_is)
+        (subst (λ (y : ℕ). IsShownHolding n from y plan left o rest) (sym to_is) is)
 
     -- the next section does not hold, or memory ran out, or it holds and the line that says so was not written
-    pub ends_there : (more : ℕ) (left : Left) (a b : DeskState) (status : ℕ) → EndsAtSection n from to plan left a b status → EndsSections c plan (suc more) left a b status
+    pub ends_there : (more : ℕ) (left : Left) (a b : DeskState) (status : ℕ)
+        → EndsAtSection n from to plan left a b status → EndsSections c plan (suc more) left a b status
     ends_there more left a b status (stopped s is ends) = record {
       outcomes = [];
       end = Some s;
       checked = stopped_in n plan left s after
-          (subst (λ (x : ℕ). IsSectionStop n x (to_in c plan) plan left s) (sym from_is) (subst (λ (y : ℕ). IsSectionStop n from y plan left s) (sym to_is) is));
+          (subst (λ (x : ℕ). IsSectionStop n x (to_in c plan) plan left s) (sym from_is)
+          (subst (λ (y : ℕ). IsSectionStop n from y plan left s) (sym to_is) is));
       ends = subst (λ (y : ℕ). EndsAs a b (stop_writes y plan s) (stop_status s) status) (sym to_is) ends;
     }
     ends_there more left a b status (unwritten o rest e is ends status_is) = record {
@@ -93,12 +107,14 @@ module _ {W : Type 0} {on : Site W} {d : Direction W} (c : Case on d) where
       ends = status_ends a b (to_output (holds_text plan o) ∷ []) 9 status (Err e) ends status_is;
     }
 
-    pub all_ends_there : {A : Type 0} (r : Result A ℕ) (more : ℕ) (left : Left) (a b : DeskState) → IfErr r (EndsAtSection n from to plan left a b) → IfErr r (EndsSections c plan (suc more) left a b)
+    pub all_ends_there : {A : Type 0} (r : Result A ℕ) (more : ℕ) (left : Left) (a b : DeskState)
+        → IfErr r (EndsAtSection n from to plan left a b) → IfErr r (EndsSections c plan (suc more) left a b)
     all_ends_there (Ok x) more left a b ends = tt
     all_ends_there (Err status) more left a b ends = ends_there more left a b status ends
 
     -- it holds, and the line that says so was written
-    pub holds_there : (a b : DeskState) (left rest : Left) → HoldsAndPrints n from to plan left rest a b → HoldsInCase c plan left rest a b
+    pub holds_there : (a b : DeskState) (left rest : Left) → HoldsAndPrints n from to plan left rest a b
+        → HoldsInCase c plan left rest a b
     holds_there a b left rest is = record {
       ground = n;
       is_ground = after;
@@ -106,12 +122,16 @@ module _ {W : Type 0} {on : Site W} {d : Direction W} (c : Case on d) where
     }
 
   -- the section of a plan holds, the line that says so was written, and then the checking of the others ended so
-  pub goes_on : (plan more : ℕ) (a b d : DeskState) (status : ℕ) (left rest : Left) → HoldsInCase c plan left rest a b → NoneFalls a.write_faults b.write_faults → EndsSections c (plan + 1) more rest b d status → EndsSections c plan (suc more) left a d status
+  pub goes_on : (plan more : ℕ) (a b d : DeskState) (status : ℕ) (left rest : Left) → HoldsInCase c plan left rest a b
+      → NoneFalls a.write_faults b.write_faults → EndsSections c (plan + 1) more rest b d status
+      → EndsSections c plan (suc more) left a d status
   goes_on plan more a b d status left rest is low ends = record {
     outcomes = is.prints.outcome ∷ ends.outcomes;
     end = ends.end;
     checked = (is.ground, is.is_ground, rest, is.prints.holds, ends.checked);
-    ends = ends_as_after a b d (to_output (holds_text plan is.prints.outcome) ∷ []) (checked_writes (to_in c) (plan + 1) ends.outcomes ends.end) (checked_status ends.end) status is.prints.line low ends.ends;
+    ends =
+        ends_as_after a b d (to_output (holds_text plan is.prints.outcome) ∷ []) (checked_writes (to_in c) (plan + 1)
+        ends.outcomes ends.end) (checked_status ends.end) status is.prints.line low ends.ends;
   }
 
   -- from and to which states a plan is searched
@@ -130,7 +150,9 @@ module _ {W : Type 0} {on : Site W} {d : Direction W} (c : Case on d) where
 -- ---- plans in a case
 
 -- the heuristic guides the checking of a plan forwards
-pub ground_forwards : {W : Type 0} {on : Site W} (says : W → ℕ → (ℕ → ℕ) → Type 0) (c : Case on (forwards on.network says)) (k : ℕ) (w : W) (start goal : ℕ) (guide : ℕ → ℕ) → IsPlanIn c k w start goal → says w goal guide → IsGroundAfter c k (ground (on.network w) guide)
+pub ground_forwards : {W : Type 0} {on : Site W} (says : W → ℕ → (ℕ → ℕ) → Type 0)
+    (c : Case on (forwards on.network says)) (k : ℕ) (w : W) (start goal : ℕ) (guide : ℕ → ℕ)
+    → IsPlanIn c k w start goal → says w goal guide → IsGroundAfter c k (ground (on.network w) guide)
 ground_forwards {W} {on} says c k w start goal guide is best = record {
   map = on.cells.map w;
   after = is.after;
@@ -140,13 +162,16 @@ ground_forwards {W} {on} says c k w start goal guide is best = record {
 }
 
 -- and the gap from the start backwards
-pub ground_backwards : (c : Case lattice_site (backwards network_of)) (k : ℕ) (w v : World) (start goal : ℕ) (f : StartIn) → IsPlanIn c k w start goal → v ≡ w → f ≡ record { world = w; start = start } → IsGroundAfter c k (ground (reversed (network_of v)) (from_start f))
+pub ground_backwards : (c : Case lattice_site (backwards network_of)) (k : ℕ) (w v : World) (start goal : ℕ)
+    (f : StartIn) → IsPlanIn c k w start goal → v ≡ w → f ≡ record { world = w; start = start }
+    → IsGroundAfter c k (ground (reversed (network_of v)) (from_start f))
 ground_backwards c k w v start goal f is same made = record {
   map = w.map;
   after = is.after;
   is_world = subst lattice_site.cells.is_made is.same is.is_world;
   network = ap (λ (u : World). reversed (network_of u)) (same ∙ is.same);
-  guide = λ s inside. ap (λ (x : StartIn). from_start x s) made ∙ ap (λ (v : World). (network_of v).gap start s) is.same ∙ ap (λ (a : ℕ). (network_of (lattice_site.cells.over c.world w.map)).gap a s) (sym is.start_is);
+  guide = λ s inside. ap (λ (x : StartIn). from_start x s) made ∙ ap (λ (v : World). (network_of v).gap start s) is.same
+      ∙ ap (λ (a : ℕ). (network_of (lattice_site.cells.over c.world w.map)).gap a s) (sym is.start_is);
 }
 
 -- what holds of a value holds of it in another way
@@ -154,9 +179,11 @@ pub ok_so : {A E : Type 0} (r : Result A E) (P Q : A → Type 0) → ((x : A) �
 ok_so (Ok x) P Q so is = so x is
 ok_so (Err e) P Q so is = tt
 
--- how far the checking of a text has come, where what guides the search is made for the present world: the sections of the first k
+-- how far the checking of a text has come, where what guides the
+-- search is made for the present world: the sections of the first k
 -- maps hold, and however it ends from there on it ends from the first section on
-pub record IsCheckedTo {W : Type 0} (on : Site W) (d : Direction W) (first now : W) (Made : Type 0) (course : Course) (start here goal : ℕ) (text : List ℕ) (k at : ℕ) (s t : DeskState) : Type 0 where
+pub record IsCheckedTo {W : Type 0} (on : Site W) (d : Direction W) (first now : W) (Made : Type 0) (course : Course)
+    (start here goal : ℕ) (text : List ℕ) (k at : ℕ) (s t : DeskState) : Type 0 where
   pub leads : (more : ℕ) → k + more ≡ length course.batches → (u : DeskState) (status : ℕ)
       → EndsSections (case_of on d first course start goal) k (suc more) (start_at text at) t u status
       → EndsSections (case_of on d first course start goal) 0 (suc (length course.batches)) (start_at text 0) s u status
@@ -171,7 +198,10 @@ pub record IsCheckedTo {W : Type 0} (on : Site W) (d : Direction W) (first now :
   pub frame : WritesOnly IsOutput s t
 
 -- plan k of the text is planned in the present world
-pub plan_in : {W : Type 0} (on : Site W) (d : Direction W) (first now : W) (Made : Type 0) (course : Course) (start here goal : ℕ) (text : List ℕ) (k at : ℕ) (s t : DeskState) → IsCheckedTo on d first now Made course start here goal text k at s t → IsPlanIn (case_of on d first course start goal) k now here goal
+pub plan_in : {W : Type 0} (on : Site W) (d : Direction W) (first now : W) (Made : Type 0) (course : Course)
+    (start here goal : ℕ) (text : List ℕ) (k at : ℕ) (s t : DeskState)
+    → IsCheckedTo on d first now Made course start here goal text k at s t
+    → IsPlanIn (case_of on d first course start goal) k now here goal
 plan_in on d first now Made course start here goal text k at s t so = record {
   after = so.map_after;
   same = so.other_parts;
@@ -181,12 +211,16 @@ plan_in on d first now Made course start here goal text k at s t so = record {
 }
 
 -- at the first section
-pub none_checked : {W : Type 0} (on : Site W) (d : Direction W) (w : W) (Made : Type 0) (course : Course) (start goal : ℕ) (text : List ℕ) (s : DeskState) → IsTerrain on.network on.cells → Made → IsMapAfter (on.cells.map w) course.batches 0 (on.cells.map w) → on.cells.is_made w → start < (on.network w).states
+pub none_checked : {W : Type 0} (on : Site W) (d : Direction W) (w : W) (Made : Type 0) (course : Course)
+    (start goal : ℕ) (text : List ℕ) (s : DeskState) → IsTerrain on.network on.cells → Made
+    → IsMapAfter (on.cells.map w) course.batches 0 (on.cells.map w) → on.cells.is_made w → start < (on.network w).states
     → IsCheckedTo on d w w Made course start start goal text 0 0 s s
 none_checked on d w Made course start goal text s law made after kept state = record {
   made = made;
   state = state;
-  leads = λ more is u status ends. subst (λ (m : ℕ). EndsSections (case_of on d w course start goal) 0 (suc m) (start_at text 0) s u status) (let same : more ≡ length course.batches = omega arith in same) ends;
+  leads = λ more is u status ends.
+      subst (λ (m : ℕ). EndsSections (case_of on d w course start goal) 0 (suc m) (start_at text 0) s u status)
+      (let same : more ≡ length course.batches = omega arith in same) ends;
   far = omega arith;
   map_after = after;
   other_parts = sym (law.present w);

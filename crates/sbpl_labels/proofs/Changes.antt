@@ -5,7 +5,8 @@ use Rattle.sbpl_graph.specs.Kept.{SettlesState, LowersState}
 use Rattle.sbpl_labels.specs.declared.row.Row.{Row}
 use Rattle.sbpl_labels.specs.Marks.{Marks, ChangesRow, g_of, v_of, back_of}
 
-pub settles_state : {old new : Marks} (s : ℕ) → ChangesRow old new s (record { g = g_of old s; v = g_of old s; back = back_of old s })
+pub settles_state : {old new : Marks} (s : ℕ)
+    → ChangesRow old new s (record { g = g_of old s; v = g_of old s; back = back_of old s })
     → SettlesState (g_of old) (v_of old) (back_of old) (g_of new) (v_of new) (back_of new) s
 settles_state {old} {new} s change = record {
   settled = ap (λ (r : Row). r.v) change.at;

@@ -10,16 +10,22 @@ use Rattle.sbpl_labels.specs.CutOff.{IsCutOff}
 
 module _ {goal : ℕ} {g v h : ℕ → ℕ} where
   pub low_of_none : IsLow 0 goal g v h (g goal)
-  low_of_none = record { at_goal = omega arith; unsettled = λ s inside differ. absurd (omega arith); greatest = λ x at_goal others. at_goal }
+  low_of_none = record {
+    at_goal = omega arith;
+    unsettled = λ s inside differ. absurd (omega arith);
+    greatest = λ x at_goal others. at_goal;
+  }
 
-  pub low_kept : {s low : ℕ} (least : ℕ) → IsLow s goal g v h low → v s ≡ g s → least ≡ low → IsLow (s + 1) goal g v h least
+  pub low_kept : {s low : ℕ} (least : ℕ) → IsLow s goal g v h low → v s ≡ g s → least ≡ low
+      → IsLow (s + 1) goal g v h least
   low_kept {s} {low} least is same e = record {
     at_goal = let at_goal = is.at_goal in omega arith;
     unsettled =
         below_more (λ k. v k ≢ g k → least ≤ g k + h k) s
         (λ k inside differ. let above = is.unsettled k inside differ in omega arith)
         (λ differ. absurd (differ same));
-    greatest = λ x at_goal others. let below = is.greatest x at_goal (λ k inside. others k (omega arith)) in omega arith;
+    greatest =
+        λ x at_goal others. let below = is.greatest x at_goal (λ k inside. others k (omega arith)) in omega arith;
   }
 
   pub low_lowered : {s low : ℕ} (least : ℕ) → IsLow s goal g v h low → v s ≢ g s → least ≡ min low (g s + h s)
@@ -51,7 +57,12 @@ module _ {goal : ℕ} {g v h : ℕ → ℕ} where
 
 -- supported labels by which the goal is cut off leave no free path to it
 pub cut_off_leaves_none : {goal states : ℕ} {g v : ℕ → ℕ} (n : Network) (start : ℕ) → n.states ≡ states → IsSound n
-    → AreSupported n start g v → IsCutOff states goal g v → (arcs : List ℕ) (cost : ℕ) → IsFreePath n start arcs goal cost → ⊥
+    → AreSupported n start g v → IsCutOff states goal g v → (arcs : List ℕ) (cost : ℕ)
+    → IsFreePath n start arcs goal cost → ⊥
 cut_off_leaves_none {goal} {states} {g} {v} n start same sound supported cut =
     none_holds_lem n start goal g v sound
-    (record { supported = supported; goal_is_far = cut.goal_is_far; closed = λ s inside near. cut.closed s (omega arith) near })
+    (record {
+      supported = supported;
+      goal_is_far = cut.goal_is_far;
+      closed = λ s inside near. cut.closed s (omega arith) near;
+    })

@@ -15,7 +15,8 @@ use Rattle.sbpl_labels.specs.Rows.{SetsRow}
 module _ {m : Marks} {states start : ℕ} (opened : AreInitial m states start) where
   pub exact_where_opened : (n : Network) → n.states ≡ states → AreExact n start (g_of m) (v_of m) (back_of m)
   exact_where_opened n same =
-      opened_exact opened.from_start (λ s inside other. opened.far_g s (omega arith) other) (λ s inside. opened.far_v s (omega arith)) opened.no_arc
+      opened_exact opened.from_start (λ s inside other. opened.far_g s (omega arith) other)
+      (λ s inside. opened.far_v s (omega arith)) opened.no_arc
 
   pub not_under_where_opened : start < states → NoneUnder states (g_of m) (v_of m)
   not_under_where_opened inside = record {

@@ -1,5 +1,7 @@
 -- A walk along back arcs, one arc at a time.
-use Rattle.std.proofs.Common.{◌≡◌, ◌≢◌, ℕ, zero, suc, ◌+◌, ◌<◌, ◌≤◌, ◌++◌, min, cond, nat_lt, Option, Some, None, List, [], ◌∷◌, length, reverse, refl, sym, subst, ap, arith, ⊎_elim, ◌∙◌, add-one, length-append}
+use Rattle.std.proofs.Common.{◌≡◌, ◌≢◌, ℕ, zero, suc, ◌+◌, ◌<◌, ◌≤◌, ◌++◌, min, cond, nat_lt, Option, Some}
+use Rattle.std.proofs.Common.{None, List, [], ◌∷◌, length, reverse, refl, sym, subst, ap, arith, ⊎_elim}
+use Rattle.std.proofs.Common.{◌∙◌, add-one, length-append}
 use Rattle.std.proofs.lemmas.Bool.{cases_eq, cases_lt}
 use Rattle.std.proofs.lemmas.Bool.Decides.{nat_tests}
 use Rattle.std.proofs.lemmas.List.{length-reverse, reverse-append}
@@ -115,8 +117,10 @@ chain_stops back goal place s on none (suc j) u past at =
         nothing_is_none u found)
         (cases_lt place j)
 
--- where a walk is: the arcs that it has followed are a free path to the goal along back arcs, and cost what the labels say
-pub record Walking (n : Network) (g v : ℕ → ℕ) (back : ℕ → Option (ℕ × ℕ)) (goal here cost : ℕ) (arcs : List ℕ) : Type 0 where
+-- where a walk is: the arcs that it has followed are a free path
+-- to the goal along back arcs, and cost what the labels say
+pub record Walking (n : Network) (g v : ℕ → ℕ) (back : ℕ → Option (ℕ × ℕ)) (goal here cost : ℕ)
+    (arcs : List ℕ) : Type 0 where
   pub inside : here < n.states
   pub near : least_of g v here < FAR
   pub paid : cost + least_of g v here ≤ g goal
@@ -127,7 +131,8 @@ pub record Walking (n : Network) (g v : ℕ → ℕ) (back : ℕ → Option (ℕ
   pub counted : length arcs ≤ above g (least_of g v here) n.states
 
 module _ {n : Network} {start : ℕ} {g v : ℕ → ℕ} {back : ℕ → Option (ℕ × ℕ)} {goal here cost : ℕ} {arcs : List ℕ}
-    (exact : AreExact n start g v back) (walking : Walking n g v back goal here cost arcs) (over : g here ≤ v here) where
+    (exact : AreExact n start g v back) (walking : Walking n g v back goal here cost arcs)
+    (over : g here ≤ v here) where
   -- the back arc of a state on the walk gives its label
   pub arc_gives : {s k : ℕ} → back here ≡ Some (s, k) → (c : ℕ) × GivesLabel n g v s k here c
   arc_gives {s} {k} by =
@@ -162,7 +167,8 @@ module _ {n : Network} {start : ℕ} {g v : ℕ → ℕ} {back : ℕ → Option 
       omega arith
 
   -- there is room for one more arc
-  pub room_for_one : {s k : ℕ} → back here ≡ Some (s, k) → (c : ℕ) → n.cost s k ≡ Some c → 1 ≤ c → length arcs < n.states
+  pub room_for_one : {s k : ℕ} → back here ≡ Some (s, k) → (c : ℕ) → n.cost s k ≡ Some c → 1 ≤ c
+      → length arcs < n.states
   room_for_one {s} {k} by c price some =
       let counted = counted_next by c price some in
       let most = above_most g (least_of g v s) n.states in
@@ -212,7 +218,8 @@ module _ {n : Network} {start : ℕ} {g v : ℕ → ℕ} {back : ℕ → Option 
             (λ (past : length arcs ≤ i).
             ⊎_elim
             (λ (same : i ≡ length arcs). at_end i u same on)
-            (λ (other : i ≢ length arcs). absurd (chain_stops back goal (length arcs) here walking.place none i u (omega arith) on))
+            (λ (other : i ≢ length arcs).
+            absurd (chain_stops back goal (length arcs) here walking.place none i u (omega arith) on))
             (cases_eq i (length arcs)))
             (cases_lt i (length arcs));
         followed = subst (λ x. IsBackPath back x (reverse arcs) goal) at walking.followed;

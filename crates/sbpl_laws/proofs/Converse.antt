@@ -1,5 +1,6 @@
 -- Which status follows from what a desk tells of the files.
-use Rattle.std.proofs.Common.{◌≡◌, ℕ, ◌^◌, ◌<◌, ◌≤◌, ◌⊎◌, Bool, false, List, [], Option, Some, None, length, sym, ◌∙◌, ap, refl, subst, arith, inl, inr}
+use Rattle.std.proofs.Common.{◌≡◌, ℕ, ◌^◌, ◌<◌, ◌≤◌, ◌⊎◌, Bool, false, List, [], Option, Some, None, length, sym, ◌∙◌}
+use Rattle.std.proofs.Common.{ap, refl, subst, arith, inl, inr}
 use Rattle.sbpl_cfg.specs.declared.fault.EnvFault.{EnvFault}
 use Rattle.sbpl_cfg.specs.Environment.{Environment}
 use Rattle.sbpl_mprim.specs.declared.fault.PrimFault.{PrimFault}
@@ -22,14 +23,23 @@ use Rattle.sbpl_job.specs.declared.job.Sources.{Sources}
 use Rattle.sbpl_report.specs.declared.refusal.Input.TheVariants as input
 use Rattle.sbpl_report.specs.declared.refusal.Refusal.{Refusal}
 use Rattle.sbpl_report.specs.declared.refusal.Refusal.TheVariants as refusal
-use Rattle.sbpl_promises.specs.Causes.{AtName, IsCause, IsChangesCause, IsEarlyCause, IsFaultyChanges, IsFaultyFor, IsGridCause, IsJobCause, IsLabelsCause, IsReadText, IsTooLong, NoneTooDear, ReadsCourse, ReadsEnvironment, ReadsGrid, ReadsPrimitives, ReadsWorld, check_files, grid_files, grid_scope, lattice_files, plan_files, scope_of}
+use Rattle.sbpl_promises.specs.Causes.{AtName, IsCause, IsChangesCause, IsEarlyCause, IsFaultyChanges, IsFaultyFor}
+use Rattle.sbpl_promises.specs.Causes.{IsGridCause, IsJobCause, IsLabelsCause, IsReadText, IsTooLong, NoneTooDear}
+use Rattle.sbpl_promises.specs.Causes.{ReadsCourse, ReadsEnvironment, ReadsGrid, ReadsPrimitives, ReadsWorld}
+use Rattle.sbpl_promises.specs.Causes.{check_files, grid_files, grid_scope, lattice_files, plan_files, scope_of}
 use Rattle.sbpl_promises.specs.WorldFiles.{WorldFiles}
 use Rattle.sbpl_promises.specs.declared.course.Course.{Course}
 use Rattle.sbpl_job.specs.Jobs.{may_move, moves_in}
-use Rattle.sbpl_promises.specs.Intents.{Intent, Refused, Planned, Checked, Listed, Demonstrated, OutOfMemory, intent_status}
+use Rattle.sbpl_promises.specs.Intents.{Intent, Refused, Planned, Checked, Listed}
+use Rattle.sbpl_promises.specs.Intents.{Demonstrated, OutOfMemory, intent_status}
 use Rattle.sbpl_report.specs.Refusals.{refusal_status}
-use Rattle.sbpl_promises.specs.Promises.{AreGood, GivesIntent, IsNoCheck, IsOrFailed, Tells, TellsChangeFault, TellsCourse, TellsEnvironment, TellsEnvironmentFault, TellsGrid, TellsGridFault, TellsPrimitiveFault, TellsPrimitives, TellsScope, TellsTooMuch, TellsWorld, changes_of, grid_of, sources_of}
-use Rattle.sbpl_promises.specs.Texts.{HasChangeFault, HasEnvironmentFault, HasGridFault, HasPrimitiveFault, IsChangeText, IsEnvironmentText, IsGridText, IsPrimitiveText, Scope, scope_for, still}
+use Rattle.sbpl_promises.specs.Promises.{AreGood, GivesIntent, IsNoCheck, IsOrFailed, Tells, TellsChangeFault}
+use Rattle.sbpl_promises.specs.Promises.{TellsCourse, TellsEnvironment, TellsEnvironmentFault, TellsGrid}
+use Rattle.sbpl_promises.specs.Promises.{TellsGridFault, TellsPrimitiveFault, TellsPrimitives, TellsScope, TellsTooMuch}
+use Rattle.sbpl_promises.specs.Promises.{TellsWorld, changes_of, grid_of, sources_of}
+use Rattle.sbpl_promises.specs.Texts.{HasChangeFault, HasEnvironmentFault, HasGridFault}
+use Rattle.sbpl_promises.specs.Texts.{HasPrimitiveFault, IsChangeText, IsEnvironmentText, IsGridText}
+use Rattle.sbpl_promises.specs.Texts.{IsPrimitiveText, Scope, scope_for, still}
 use Rattle.sbpl_promises.specs.Writing.{Names, Told}
 use Rattle.sbpl_promises.specs.Clear.{TextsAreClear}
 
@@ -40,7 +50,8 @@ told_is held text t tells read = let P : Option (List ℕ) → Type 0 = λ h. Is
 
 pub too_long_not_short : (held : Option (List ℕ)) (text : List ℕ) → Tells held text → IsTooLong held → ⊥
 too_long_not_short held text tells long =
-    let more : 2 ^ 30 < length text = (let P : Option (List ℕ) → Type 0 = λ h. IsTooLong h in subst P tells.held_bytes long) in
+    let more : 2 ^ 30 < length text =
+    (let P : Option (List ℕ) → Type 0 = λ h. IsTooLong h in subst P tells.held_bytes long) in
     let few : length text ≤ 2 ^ 30 = tells.short in omega arith
 
 pub too_much_not_read : (held : Option (List ℕ)) (t : List ℕ) → TellsTooMuch held → IsReadText held t → ⊥
@@ -50,71 +61,103 @@ too_much_not_read held t (text, tells, long) read =
     let few' : length text ≤ 2 ^ 30 = subst (λ l. length l ≤ 2 ^ 30) same few in omega arith
 
 -- the environment that was read stands in the text that the desk tells
-said_text : (held : Told) (from : Sources) (e : Environment) (cells text : List ℕ) → Tells (held from.env) text → ReadsEnvironment held from e cells → IsEnvironmentText text e cells
-said_text held from e cells text tells says = subst (λ t. IsEnvironmentText t e cells) (told_is _ text says.text tells.held_bytes says.read) says.stands
+said_text : (held : Told) (from : Sources) (e : Environment) (cells text : List ℕ) → Tells (held from.env) text
+    → ReadsEnvironment held from e cells → IsEnvironmentText text e cells
+said_text held from e cells text tells says =
+    subst (λ t. IsEnvironmentText t e cells) (told_is _ text says.text tells.held_bytes says.read) says.stands
 
 -- where a fault is told, no environment was read
-not_said : TextsAreClear → (held : Told) (from : Sources) (f : EnvFault) (e : Environment) (cells : List ℕ) → TellsEnvironmentFault held from f → ReadsEnvironment held from e cells → ⊥
-not_said clear held from f e cells (text, tells, faulty) says = clear.environment_fault text e cells f (said_text held from e cells text tells says) faulty
+not_said : TextsAreClear → (held : Told) (from : Sources) (f : EnvFault) (e : Environment) (cells : List ℕ)
+    → TellsEnvironmentFault held from f → ReadsEnvironment held from e cells → ⊥
+not_said clear held from f e cells (text, tells, faulty) says =
+    clear.environment_fault text e cells f (said_text held from e cells text tells says) faulty
 
 -- where too much is told, no environment was read
-not_said_long : (held : Told) (from : Sources) (e : Environment) (cells : List ℕ) → TellsTooMuch (held from.env) → ReadsEnvironment held from e cells → ⊥
+not_said_long : (held : Told) (from : Sources) (e : Environment) (cells : List ℕ) → TellsTooMuch (held from.env)
+    → ReadsEnvironment held from e cells → ⊥
 not_said_long held from e cells much says = too_much_not_read _ says.text much says.read
 
 -- the environment that was read is the one that is told
-pub same_environment : TextsAreClear → (held : Told) (from : Sources) (e d : Environment) (cells : List ℕ) → TellsEnvironment held from e → ReadsEnvironment held from d cells → d ≡ e
-same_environment clear held from e d cells (text, others, tells, stands) says = (clear.environment text d e cells others (said_text held from d cells text tells says) stands).0
+pub same_environment : TextsAreClear → (held : Told) (from : Sources) (e d : Environment) (cells : List ℕ)
+    → TellsEnvironment held from e → ReadsEnvironment held from d cells → d ≡ e
+same_environment clear held from e d cells (text, others, tells, stands) says =
+    (clear.environment text d e cells others (said_text held from d cells text tells says) stands).0
 
 -- the scope that a world which was read gives a change file is the one that is told
-pub same_scope : TextsAreClear → (held : Told) (from : Sources) (moving : Bool) (s : Scope) (w : World) → TellsScope held from moving s → ReadsWorld held from w → scope_of moving w ≡ s
+pub same_scope : TextsAreClear → (held : Told) (from : Sources) (moving : Bool) (s : Scope) (w : World)
+    → TellsScope held from moving s → ReadsWorld held from w → scope_of moving w ≡ s
 same_scope clear held from moving s w (text, e, cells, tells, stands, is) says =
-    let both = clear.environment text w.env e says.cells cells (said_text held from w.env says.cells text tells says.environment) stands in
+    let both =
+    clear.environment text w.env e says.cells cells
+    (said_text held from w.env says.cells text tells says.environment) stands in
     ap (λ (m : CellMap). scope_for moving w.env m) says.map
-    ∙ ap (λ (d : Environment). scope_for moving d (record { width = d.width; height = d.height; costs = says.cells })) both.0
+    ∙ ap (λ (d : Environment).
+    scope_for moving d (record { width = d.width; height = d.height; costs = says.cells })) both.0
     ∙ ap (λ (l : List ℕ). scope_for moving e (record { width = e.width; height = e.height; costs = l })) both.1 ∙ sym is
 
 -- where an environment is told, no fault of it was read
-not_faulty : TextsAreClear → (held : Told) (from : Sources) (e : Environment) (f : EnvFault) (t : List ℕ) → TellsEnvironment held from e → IsReadText (held from.env) t → HasEnvironmentFault t f → ⊥
+not_faulty : TextsAreClear → (held : Told) (from : Sources) (e : Environment) (f : EnvFault) (t : List ℕ)
+    → TellsEnvironment held from e → IsReadText (held from.env) t → HasEnvironmentFault t f → ⊥
 not_faulty clear held from e f t (text, cells, tells, stands) read faulty =
-    clear.environment_fault text e cells f stands (subst (λ u. HasEnvironmentFault u f) (told_is _ text t tells.held_bytes read) faulty)
+    clear.environment_fault text e cells f stands
+    (subst (λ u. HasEnvironmentFault u f) (told_is _ text t tells.held_bytes read) faulty)
 
-environment_not_long : (held : Told) (from : Sources) (e : Environment) → TellsEnvironment held from e → IsTooLong (held from.env) → ⊥
+environment_not_long : (held : Told) (from : Sources) (e : Environment) → TellsEnvironment held from e
+    → IsTooLong (held from.env) → ⊥
 environment_not_long held from e (text, cells, tells, stands) long = too_long_not_short _ text tells long
 
 -- the primitives that were read for an environment stand in the text that the desk tells
-said_primitives : (held : Told) (from : Sources) (e : Environment) (ps : Primitives) (text : List ℕ) → Tells (held from.prims) text → ReadsPrimitives held from e ps → IsPrimitiveText e text ps
-said_primitives held from e ps text tells says = subst (λ t. IsPrimitiveText e t ps) (told_is _ text says.text tells.held_bytes says.read) says.stands
+said_primitives : (held : Told) (from : Sources) (e : Environment) (ps : Primitives) (text : List ℕ)
+    → Tells (held from.prims) text → ReadsPrimitives held from e ps → IsPrimitiveText e text ps
+said_primitives held from e ps text tells says =
+    subst (λ t. IsPrimitiveText e t ps) (told_is _ text says.text tells.held_bytes says.read) says.stands
 
 -- where a fault of the primitives is told, none were read
-faulty_not_said : TextsAreClear → (held : Told) (from : Sources) (env d : Environment) (cells : List ℕ) (ps : Primitives) (f : PrimFault) → TellsEnvironment held from env → TellsPrimitiveFault held from env f → ReadsEnvironment held from d cells → ReadsPrimitives held from d ps → ⊥
+faulty_not_said : TextsAreClear
+    → (held : Told) (from : Sources) (env d : Environment) (cells : List ℕ) (ps : Primitives) (f : PrimFault)
+    → TellsEnvironment held from env → TellsPrimitiveFault held from env f → ReadsEnvironment held from d cells
+    → ReadsPrimitives held from d ps → ⊥
 faulty_not_said clear held from env d cells ps f told (text, tells, faulty) first second =
     let same : d ≡ env = same_environment clear held from env d cells told first in
-    let stands : IsPrimitiveText env text ps = subst (λ x. IsPrimitiveText x text ps) same (said_primitives held from d ps text tells second) in
+    let stands : IsPrimitiveText env text ps =
+    subst (λ x. IsPrimitiveText x text ps) same (said_primitives held from d ps text tells second) in
     clear.primitive_fault text env ps f stands faulty
 
 -- where primitives are told, no fault of them was read
-primitives_not_faulty : TextsAreClear → (held : Told) (from : Sources) (env d : Environment) (cells : List ℕ) (ps : Primitives) (f : PrimFault) → TellsEnvironment held from env → TellsPrimitives held from env ps → ReadsEnvironment held from d cells → IsFaultyFor held from d f → ⊥
+primitives_not_faulty : TextsAreClear
+    → (held : Told) (from : Sources) (env d : Environment) (cells : List ℕ) (ps : Primitives) (f : PrimFault)
+    → TellsEnvironment held from env → TellsPrimitives held from env ps → ReadsEnvironment held from d cells
+    → IsFaultyFor held from d f → ⊥
 primitives_not_faulty clear held from env d cells ps f told (text, tells, stands) first faulty =
     let same : d ≡ env = same_environment clear held from env d cells told first in
-    let here : HasPrimitiveFault d text f = subst (λ t. HasPrimitiveFault d t f) (told_is _ text faulty.text tells.held_bytes faulty.read) faulty.faulty in
+    let here : HasPrimitiveFault d text f =
+    subst (λ t. HasPrimitiveFault d t f) (told_is _ text faulty.text tells.held_bytes faulty.read) faulty.faulty in
     clear.primitive_fault text env ps f stands (subst (λ x. HasPrimitiveFault x text f) same here)
 
 -- the primitives that were read are those that are told
-pub same_primitives : TextsAreClear → (held : Told) (from : Sources) (env d : Environment) (cells : List ℕ) (ps qs : Primitives) → TellsEnvironment held from env → TellsPrimitives held from env ps → ReadsEnvironment held from d cells → ReadsPrimitives held from d qs → qs ≡ ps
+pub same_primitives : TextsAreClear
+    → (held : Told) (from : Sources) (env d : Environment) (cells : List ℕ) (ps qs : Primitives)
+    → TellsEnvironment held from env → TellsPrimitives held from env ps → ReadsEnvironment held from d cells
+    → ReadsPrimitives held from d qs → qs ≡ ps
 same_primitives clear held from env d cells ps qs told (text, tells, stands) first second =
     let same : d ≡ env = same_environment clear held from env d cells told first in
-    clear.primitives text env qs ps (subst (λ x. IsPrimitiveText x text qs) same (said_primitives held from d qs text tells second)) stands
+    clear.primitives text env qs ps
+    (subst (λ x. IsPrimitiveText x text qs) same (said_primitives held from d qs text tells second)) stands
 
 -- where a course is told, no fault of the changes was read
-course_not_faulty : TextsAreClear → (held : Told) (name : List ℕ) (s : Scope) (c : Course) (f : ChangeFault) → TellsCourse held (Some name) s c → IsFaultyChanges held name s f → ⊥
+course_not_faulty : TextsAreClear → (held : Told) (name : List ℕ) (s : Scope) (c : Course) (f : ChangeFault)
+    → TellsCourse held (Some name) s c → IsFaultyChanges held name s f → ⊥
 course_not_faulty clear held name s c f (text, tells, stands) faulty =
-    clear.change_fault s text c f stands (subst (λ t. HasChangeFault s t f) (told_is _ text faulty.text tells.held_bytes faulty.read) faulty.faulty)
+    clear.change_fault s text c f stands
+    (subst (λ t. HasChangeFault s t f) (told_is _ text faulty.text tells.held_bytes faulty.read) faulty.faulty)
 
-course_not_long : (held : Told) (name : List ℕ) (s : Scope) (c : Course) → TellsCourse held (Some name) s c → IsTooLong (held name) → ⊥
+course_not_long : (held : Told) (name : List ℕ) (s : Scope) (c : Course) → TellsCourse held (Some name) s c
+    → IsTooLong (held name) → ⊥
 course_not_long held name s c (text, tells, stands) long = too_long_not_short _ text tells long
 
 -- the course that was read is the one that is told
-pub same_course : TextsAreClear → (held : Told) (changes : Option (List ℕ)) (s : Scope) (c d : Course) → TellsCourse held changes s c → ReadsCourse held changes s d → d ≡ c
+pub same_course : TextsAreClear → (held : Told) (changes : Option (List ℕ)) (s : Scope) (c d : Course)
+    → TellsCourse held changes s c → ReadsCourse held changes s d → d ≡ c
 same_course clear held None s c d told says = says ∙ sym told
 same_course clear held (Some name) s c d (text, tells, stands) (t, read, also) =
     clear.changes s text d c (subst (λ u. IsChangeText s u d) (told_is _ text t tells.held_bytes read) also) stands
@@ -147,20 +190,27 @@ pub record HasRead {W : Type 0} (held : Told) (f : WorldFiles W) (changes : Opti
   pub stands : ReadsCourse held changes (f.scope world) course
 
 -- the file of labels is tried after the others
-labels_course : {W : Type 0} (held : Told) (Failed : Names) (f : WorldFiles W) (changes : Option (List ℕ)) (labels : List ℕ) (r : Refusal) → IsLabelsCause held Failed f changes labels r → HasRead held f changes
-labels_course held Failed f changes labels (refusal.Read input.Labels) (w, course, says, stands, at) = record { world = w; course = course; says = says; stands = stands }
-labels_course held Failed f changes labels (refusal.Length input.Labels) (w, course, says, stands, at) = record { world = w; course = course; says = says; stands = stands }
+labels_course : {W : Type 0} (held : Told) (Failed : Names) (f : WorldFiles W) (changes : Option (List ℕ))
+    (labels : List ℕ) (r : Refusal) → IsLabelsCause held Failed f changes labels r → HasRead held f changes
+labels_course held Failed f changes labels (refusal.Read input.Labels) (w, course, says, stands, at) =
+    record { world = w; course = course; says = says; stands = stands }
+labels_course held Failed f changes labels (refusal.Length input.Labels) (w, course, says, stands, at) =
+    record { world = w; course = course; says = says; stands = stands }
 labels_course held Failed f changes labels _ cause = absurd cause
 
 -- a file of labels was not read: the reading failed, or it is too long
-pub labels_refused : {W : Type 0} (held : Told) (Failed : Names) (f : WorldFiles W) (changes : Option (List ℕ)) (labels : List ℕ) (wanted : ℕ) (r : Refusal) → (IsTooLong (held labels) → IsOrFailed wanted 8) → IsLabelsCause held Failed f changes labels r
+pub labels_refused : {W : Type 0} (held : Told) (Failed : Names) (f : WorldFiles W) (changes : Option (List ℕ))
+    (labels : List ℕ) (wanted : ℕ) (r : Refusal) → (IsTooLong (held labels) → IsOrFailed wanted 8)
+    → IsLabelsCause held Failed f changes labels r
     → IsOrFailed wanted (refusal_status r)
 labels_refused held Failed f changes labels wanted (refusal.Read x) long cause = failed_read wanted
-labels_refused held Failed f changes labels wanted (refusal.Length input.Labels) long (w, course, says, stands, at) = long at
+labels_refused held Failed f changes labels wanted (refusal.Length input.Labels) long (w, course, says, stands, at) =
+    long at
 labels_refused held Failed f changes labels wanted _ long cause = absurd cause
 
 -- the change file is tried where the others stand for a world
-pub changes_world : {W : Type 0} (held : Told) (Failed : Names) (f : WorldFiles W) (changes : Option (List ℕ)) (r : Refusal) → IsChangesCause held Failed f changes r → (w : W) × f.stand_for held w
+pub changes_world : {W : Type 0} (held : Told) (Failed : Names) (f : WorldFiles W) (changes : Option (List ℕ))
+    (r : Refusal) → IsChangesCause held Failed f changes r → (w : W) × f.stand_for held w
 changes_world held Failed f changes (refusal.Changes x) (w, says, at) = (w, says)
 changes_world held Failed f changes (refusal.Read input.Changes) (w, says, at) = (w, says)
 changes_world held Failed f changes (refusal.Length input.Changes) (w, says, at) = (w, says)
@@ -172,11 +222,14 @@ IsMore (Refused r) = ⊥
 IsMore OutOfMemory = ⊥
 IsMore _ = Unit {0}
 
--- A job reads a world and a course of these files: it is refused for one of them, or it is a check and they were read; and what else it
+-- A job reads a world and a course of these files: it is refused for
+-- one of them, or it is a check and they were read; and what else it
 -- means to do, it does after it read them.
 pub record IsReadFrom {W : Type 0} (j : Job) (f : WorldFiles W) (changes : Option (List ℕ)) : Type 1 where
-  pub cause : (held : Told) (Failed : Names) (r : Refusal) → IsJobCause held Failed j r → IsEarlyCause held Failed f changes r ⊎ (HasRead held f changes × (IsNoCheck j → ⊥))
-  pub more : (held : Told) (Failed : Names) (i : Intent) → IsMore i → GivesIntent held Failed j i → HasRead held f changes
+  pub cause : (held : Told) (Failed : Names) (r : Refusal) → IsJobCause held Failed j r
+      → IsEarlyCause held Failed f changes r ⊎ (HasRead held f changes × (IsNoCheck j → ⊥))
+  pub more : (held : Told) (Failed : Names) (i : Intent) → IsMore i → GivesIntent held Failed j i
+      → HasRead held f changes
 
 same_sources : (s t : Sources) → ◌≡◌ {A = Option Sources} (Some s) (Some t) → s ≡ t
 same_sources s t is = cc
@@ -184,8 +237,10 @@ same_sources s t is = cc
 plan_reads : (p : PlanJob) → IsReadFrom (job.Plan p) (plan_files p) p.changes
 plan_reads p = record { cause = λ held Failed r cause. inl cause; more = more }
   where
-    more : (held : Told) (Failed : Names) (i : Intent) → IsMore i → GivesIntent held Failed (job.Plan p) i → HasRead held (plan_files p) p.changes
-    more held Failed (Planned records all log broken) is gives = record { world = gives.world; course = gives.course; says = gives.says; stands = gives.changes_say }
+    more : (held : Told) (Failed : Names) (i : Intent) → IsMore i → GivesIntent held Failed (job.Plan p) i
+        → HasRead held (plan_files p) p.changes
+    more held Failed (Planned records all log broken) is gives =
+        record { world = gives.world; course = gives.course; says = gives.says; stands = gives.changes_say }
     more held Failed (Refused r) is gives = absurd is
     more held Failed OutOfMemory is gives = absurd is
     more held Failed _ is gives = absurd gives
@@ -193,12 +248,16 @@ plan_reads p = record { cause = λ held Failed r cause. inl cause; more = more }
 pub check_reads : (c : CheckJob) → IsReadFrom (job.Check c) (check_files c) c.changes
 check_reads c = record { cause = cause; more = more }
   where
-    cause : (held : Told) (Failed : Names) (r : Refusal) → IsJobCause held Failed (job.Check c) r → IsEarlyCause held Failed (check_files c) c.changes r ⊎ (HasRead held (check_files c) c.changes × (IsNoCheck (job.Check c) → ⊥))
+    cause : (held : Told) (Failed : Names) (r : Refusal) → IsJobCause held Failed (job.Check c) r
+        → IsEarlyCause held Failed (check_files c) c.changes r
+        ⊎ (HasRead held (check_files c) c.changes × (IsNoCheck (job.Check c) → ⊥))
     cause held Failed r (inl x) = inl x
     cause held Failed r (inr x) = inr (labels_course held Failed (check_files c) c.changes c.labels r x, λ none. none)
 
-    more : (held : Told) (Failed : Names) (i : Intent) → IsMore i → GivesIntent held Failed (job.Check c) i → HasRead held (check_files c) c.changes
-    more held Failed (Checked goals os end) is gives = record { world = gives.world; course = gives.course; says = gives.says; stands = gives.changes_say }
+    more : (held : Told) (Failed : Names) (i : Intent) → IsMore i → GivesIntent held Failed (job.Check c) i
+        → HasRead held (check_files c) c.changes
+    more held Failed (Checked goals os end) is gives =
+        record { world = gives.world; course = gives.course; says = gives.says; stands = gives.changes_say }
     more held Failed (Refused r) is gives = absurd is
     more held Failed OutOfMemory is gives = absurd is
     more held Failed _ is gives = absurd gives
@@ -206,7 +265,8 @@ check_reads c = record { cause = cause; more = more }
 sweep_reads : (from : Sources) → IsReadFrom (job.Sweep from) (lattice_files from false) None
 sweep_reads from = record { cause = λ held Failed r cause. inl (inl cause); more = more }
   where
-    more : (held : Told) (Failed : Names) (i : Intent) → IsMore i → GivesIntent held Failed (job.Sweep from) i → HasRead held (lattice_files from false) None
+    more : (held : Told) (Failed : Names) (i : Intent) → IsMore i → GivesIntent held Failed (job.Sweep from) i
+        → HasRead held (lattice_files from false) None
     more held Failed (Listed w) is gives = record { world = w; course = still []; says = gives.0; stands = refl }
     more held Failed (Refused r) is gives = absurd is
     more held Failed OutOfMemory is gives = absurd is
@@ -215,8 +275,10 @@ sweep_reads from = record { cause = λ held Failed r cause. inl (inl cause); mor
 nav_reads : (n : NavJob) → IsReadFrom (job.Nav n) (grid_files n.env) n.changes
 nav_reads n = record { cause = λ held Failed r cause. inl cause; more = more }
   where
-    more : (held : Told) (Failed : Names) (i : Intent) → IsMore i → GivesIntent held Failed (job.Nav n) i → HasRead held (grid_files n.env) n.changes
-    more held Failed (Planned records all log broken) is gives = record { world = gives.world; course = gives.course; says = gives.says; stands = gives.changes_say }
+    more : (held : Told) (Failed : Names) (i : Intent) → IsMore i → GivesIntent held Failed (job.Nav n) i
+        → HasRead held (grid_files n.env) n.changes
+    more held Failed (Planned records all log broken) is gives =
+        record { world = gives.world; course = gives.course; says = gives.says; stands = gives.changes_say }
     more held Failed (Refused r) is gives = absurd is
     more held Failed OutOfMemory is gives = absurd is
     more held Failed _ is gives = absurd gives
@@ -224,12 +286,17 @@ nav_reads n = record { cause = λ held Failed r cause. inl cause; more = more }
 nav_check_reads : (n : NavCheckJob) → IsReadFrom (job.NavCheck n) (grid_files n.env) n.changes
 nav_check_reads n = record { cause = cause; more = more }
   where
-    cause : (held : Told) (Failed : Names) (r : Refusal) → IsJobCause held Failed (job.NavCheck n) r → IsEarlyCause held Failed (grid_files n.env) n.changes r ⊎ (HasRead held (grid_files n.env) n.changes × (IsNoCheck (job.NavCheck n) → ⊥))
+    cause : (held : Told) (Failed : Names) (r : Refusal) → IsJobCause held Failed (job.NavCheck n) r
+        → IsEarlyCause held Failed (grid_files n.env) n.changes r
+        ⊎ (HasRead held (grid_files n.env) n.changes × (IsNoCheck (job.NavCheck n) → ⊥))
     cause held Failed r (inl x) = inl x
-    cause held Failed r (inr x) = inr (labels_course held Failed (grid_files n.env) n.changes n.labels r x, λ none. none)
+    cause held Failed r (inr x) =
+        inr (labels_course held Failed (grid_files n.env) n.changes n.labels r x, λ none. none)
 
-    more : (held : Told) (Failed : Names) (i : Intent) → IsMore i → GivesIntent held Failed (job.NavCheck n) i → HasRead held (grid_files n.env) n.changes
-    more held Failed (Checked goals os end) is gives = record { world = gives.world; course = gives.course; says = gives.says; stands = gives.changes_say }
+    more : (held : Told) (Failed : Names) (i : Intent) → IsMore i → GivesIntent held Failed (job.NavCheck n) i
+        → HasRead held (grid_files n.env) n.changes
+    more held Failed (Checked goals os end) is gives =
+        record { world = gives.world; course = gives.course; says = gives.says; stands = gives.changes_say }
     more held Failed (Refused r) is gives = absurd is
     more held Failed OutOfMemory is gives = absurd is
     more held Failed _ is gives = absurd gives
@@ -239,37 +306,54 @@ same_env a b is = cc
 
 -- a job on a grid reads its file
 pub grid_reads : (j : Job) (env : List ℕ) → grid_of j ≡ Some env → IsReadFrom j (grid_files env) (changes_of j)
-grid_reads (job.Nav n) env is = subst (λ (e : List ℕ). IsReadFrom (job.Nav n) (grid_files e) n.changes) (same_env n.env env is) (nav_reads n)
-grid_reads (job.NavCheck n) env is = subst (λ (e : List ℕ). IsReadFrom (job.NavCheck n) (grid_files e) n.changes) (same_env n.env env is) (nav_check_reads n)
+grid_reads (job.Nav n) env is =
+    subst (λ (e : List ℕ). IsReadFrom (job.Nav n) (grid_files e) n.changes) (same_env n.env env is) (nav_reads n)
+grid_reads (job.NavCheck n) env is =
+    subst (λ (e : List ℕ). IsReadFrom (job.NavCheck n) (grid_files e) n.changes)
+    (same_env n.env env is) (nav_check_reads n)
 grid_reads (job.Plan p) env is = absurd cc
 grid_reads (job.Check c) env is = absurd cc
 grid_reads (job.Sweep from) env is = absurd cc
 grid_reads (job.Demo d) env is = absurd cc
 
 -- a job on a lattice reads its files
-pub lattice_reads : (j : Job) (from : Sources) → sources_of j ≡ Some from → IsReadFrom j (lattice_files from (moves_in j)) (changes_of j)
-lattice_reads (job.Plan p) from is = subst (λ (s : Sources). IsReadFrom (job.Plan p) (lattice_files s (may_move p.search.planner)) p.changes) (same_sources p.sources from is) (plan_reads p)
-lattice_reads (job.Check c) from is = subst (λ (s : Sources). IsReadFrom (job.Check c) (lattice_files s c.back) c.changes) (same_sources c.sources from is) (check_reads c)
-lattice_reads (job.Sweep s) from is = subst (λ (t : Sources). IsReadFrom (job.Sweep s) (lattice_files t false) None) (same_sources s from is) (sweep_reads s)
+pub lattice_reads : (j : Job) (from : Sources) → sources_of j ≡ Some from
+    → IsReadFrom j (lattice_files from (moves_in j)) (changes_of j)
+lattice_reads (job.Plan p) from is =
+    subst (λ (s : Sources). IsReadFrom (job.Plan p) (lattice_files s (may_move p.search.planner)) p.changes)
+    (same_sources p.sources from is) (plan_reads p)
+lattice_reads (job.Check c) from is =
+    subst (λ (s : Sources). IsReadFrom (job.Check c) (lattice_files s c.back) c.changes)
+    (same_sources c.sources from is) (check_reads c)
+lattice_reads (job.Sweep s) from is =
+    subst (λ (t : Sources). IsReadFrom (job.Sweep s) (lattice_files t false) None)
+    (same_sources s from is) (sweep_reads s)
 lattice_reads (job.Demo d) from is = absurd cc
 lattice_reads (job.Nav n) from is = absurd cc
 lattice_reads (job.NavCheck n) from is = absurd cc
 
 -- A job whose files stand for no world and course means nothing but a refusal, or memory runs out.
-pub by_intent : {W : Type 0} (held : Told) (Failed : Names) (wanted : ℕ) (j : Job) (f : WorldFiles W) (changes : Option (List ℕ)) (i : Intent) → IsReadFrom j f changes → ((r : Refusal) → IsJobCause held Failed j r → IsOrFailed wanted (refusal_status r))
+pub by_intent : {W : Type 0} (held : Told) (Failed : Names) (wanted : ℕ) (j : Job) (f : WorldFiles W)
+    (changes : Option (List ℕ)) (i : Intent) → IsReadFrom j f changes
+    → ((r : Refusal) → IsJobCause held Failed j r → IsOrFailed wanted (refusal_status r))
     → (HasRead held f changes → ⊥) → GivesIntent held Failed j i → IsOrFailed wanted (intent_status i)
 by_intent held Failed wanted j f changes (Refused r) reads refused none gives = refused r gives
 by_intent held Failed wanted j f changes OutOfMemory reads refused none gives = no_memory wanted
-by_intent held Failed wanted j f changes (Planned records all log broken) reads refused none gives = absurd (none (reads.more held Failed (Planned records all log broken) tt gives))
-by_intent held Failed wanted j f changes (Checked goals os end) reads refused none gives = absurd (none (reads.more held Failed (Checked goals os end) tt gives))
-by_intent held Failed wanted j f changes (Listed w) reads refused none gives = absurd (none (reads.more held Failed (Listed w) tt gives))
-by_intent held Failed wanted j f changes (Demonstrated w count records all log broken) reads refused none gives = absurd (none (reads.more held Failed (Demonstrated w count records all log broken) tt gives))
+by_intent held Failed wanted j f changes (Planned records all log broken) reads refused none gives =
+    absurd (none (reads.more held Failed (Planned records all log broken) tt gives))
+by_intent held Failed wanted j f changes (Checked goals os end) reads refused none gives =
+    absurd (none (reads.more held Failed (Checked goals os end) tt gives))
+by_intent held Failed wanted j f changes (Listed w) reads refused none gives =
+    absurd (none (reads.more held Failed (Listed w) tt gives))
+by_intent held Failed wanted j f changes (Demonstrated w count records all log broken) reads refused none gives =
+    absurd (none (reads.more held Failed (Demonstrated w count records all log broken) tt gives))
 
 same_name : (a b : List ℕ) → ◌≡◌ {A = Option (List ℕ)} (Some a) (Some b) → a ≡ b
 same_name a b is = cc
 
 -- a name that there is
-named : (changes : Option (List ℕ)) (P : List ℕ → Type 0) → AtName changes P → (name : List ℕ) × (changes ≡ Some name) × P name
+named : (changes : Option (List ℕ)) (P : List ℕ → Type 0) → AtName changes P
+    → (name : List ℕ) × (changes ≡ Some name) × P name
 named None P at = absurd at
 named (Some name) P at = (name, refl, at)
 
@@ -278,9 +362,12 @@ pub record AreGoodFiles {W : Type 0} (held : Told) (Failed : Names) (f : WorldFi
   pub refused : (wanted : ℕ) (r : Refusal) → f.refused held Failed r → IsOrFailed wanted (refusal_status r)
   pub scope : (w : W) → f.stand_for held w → f.scope w ≡ s
 
-module _ (clear : TextsAreClear) (held : Told) (Failed : Names) {W : Type 0} (f : WorldFiles W) (changes : Option (List ℕ)) (s : Scope) (good : AreGoodFiles held Failed f s) where
+module _ (clear : TextsAreClear) (held : Told) (Failed : Names) {W : Type 0} (f : WorldFiles W)
+    (changes : Option (List ℕ)) (s : Scope) (good : AreGoodFiles held Failed f s) where
   -- where the files are good, a job is refused for the change file alone
-  good_refused : (wanted : ℕ) → ((name : List ℕ) (x : ChangeFault) → changes ≡ Some name → IsFaultyChanges held name s x → IsOrFailed wanted 5) → ((name : List ℕ) → changes ≡ Some name → IsTooLong (held name) → IsOrFailed wanted 8)
+  good_refused : (wanted : ℕ)
+      → ((name : List ℕ) (x : ChangeFault) → changes ≡ Some name → IsFaultyChanges held name s x → IsOrFailed wanted 5)
+      → ((name : List ℕ) → changes ≡ Some name → IsTooLong (held name) → IsOrFailed wanted 8)
       → (r : Refusal) → IsEarlyCause held Failed f changes r → IsOrFailed wanted (refusal_status r)
   good_refused wanted faulty long r (inl cause) = good.refused wanted r cause
   good_refused wanted faulty long r (inr cause) = by_changes r cause
@@ -290,21 +377,27 @@ module _ (clear : TextsAreClear) (held : Told) (Failed : Names) {W : Type 0} (f 
           let found = named changes (λ name. IsFaultyChanges held name (f.scope w) x) at in
           faulty found.0 x found.1 (subst (λ (t : Scope). IsFaultyChanges held found.0 t x) (good.scope w says) found.2)
       by_changes (refusal.Read x) p = failed_read wanted
-      by_changes (refusal.Length input.Changes) (w, says, at) = let found = named changes (λ name. IsTooLong (held name)) at in long found.0 found.1 found.2
+      by_changes (refusal.Length input.Changes) (w, says, at) =
+          let found = named changes (λ name. IsTooLong (held name)) at in long found.0 found.1 found.2
       by_changes _ p = absurd p
 
   -- and not even for that, where it stands for a course: then only a failed read is left
-  pub all_good : (c : Course) (wanted : ℕ) → TellsCourse held changes s c → (r : Refusal) → IsEarlyCause held Failed f changes r → IsOrFailed wanted (refusal_status r)
+  pub all_good : (c : Course) (wanted : ℕ) → TellsCourse held changes s c → (r : Refusal)
+      → IsEarlyCause held Failed f changes r → IsOrFailed wanted (refusal_status r)
   all_good c wanted told =
       good_refused wanted
-      (λ name x is faulty. absurd (course_not_faulty clear held name s c x (subst (λ (o : Option (List ℕ)). TellsCourse held o s c) is told) faulty))
-      (λ name is long. absurd (course_not_long held name s c (subst (λ (o : Option (List ℕ)). TellsCourse held o s c) is told) long))
+      (λ name x is faulty. absurd (course_not_faulty clear held name s c x
+      (subst (λ (o : Option (List ℕ)). TellsCourse held o s c) is told) faulty))
+      (λ name is long.
+      absurd (course_not_long held name s c (subst (λ (o : Option (List ℕ)). TellsCourse held o s c) is told) long))
 
   -- a change file that is too long
-  pub changes_long : (name : List ℕ) → changes ≡ Some name → TellsTooMuch (held name) → (r : Refusal) → IsEarlyCause held Failed f changes r → IsOrFailed 8 (refusal_status r)
+  pub changes_long : (name : List ℕ) → changes ≡ Some name → TellsTooMuch (held name) → (r : Refusal)
+      → IsEarlyCause held Failed f changes r → IsOrFailed 8 (refusal_status r)
   changes_long name is much =
       good_refused 8
-      (λ other x also faulty. absurd (too_much_not_read (held name) faulty.text much (subst (λ (n : List ℕ). IsReadText (held n) faulty.text) (same_name other name (sym also ∙ is)) faulty.read)))
+      (λ other x also faulty. absurd (too_much_not_read (held name) faulty.text much
+      (subst (λ (n : List ℕ). IsReadText (held n) faulty.text) (same_name other name (sym also ∙ is)) faulty.read)))
       (λ other also long. inl refl)
 
   pub changes_long_none : (name : List ℕ) → changes ≡ Some name → TellsTooMuch (held name) → HasRead held f changes → ⊥
@@ -313,35 +406,44 @@ module _ (clear : TextsAreClear) (held : Told) (Failed : Names) {W : Type 0} (f 
       too_much_not_read (held name) said.0 much said.1
 
   -- a faulty change file
-  pub changes_faulty : (x : ChangeFault) → TellsChangeFault held changes s x → (r : Refusal) → IsEarlyCause held Failed f changes r → IsOrFailed 5 (refusal_status r)
+  pub changes_faulty : (x : ChangeFault) → TellsChangeFault held changes s x → (r : Refusal)
+      → IsEarlyCause held Failed f changes r → IsOrFailed 5 (refusal_status r)
   changes_faulty x (name, text, is, tells, faulty) =
       good_refused 5
       (λ other y also p. inl refl)
-      (λ other also long. absurd (too_long_not_short (held name) text tells (subst (λ (n : List ℕ). IsTooLong (held n)) (same_name other name (sym also ∙ is)) long)))
+      (λ other also long. absurd (too_long_not_short (held name) text tells
+      (subst (λ (n : List ℕ). IsTooLong (held n)) (same_name other name (sym also ∙ is)) long)))
 
   pub changes_faulty_none : (x : ChangeFault) → TellsChangeFault held changes s x → HasRead held f changes → ⊥
   changes_faulty_none x (name, text, is, tells, faulty) c =
       let said = subst (λ (o : Option (List ℕ)). ReadsCourse held o (f.scope c.world) c.course) is c.stands in
-      let here : IsChangeText (f.scope c.world) text c.course = subst (λ (t : List ℕ). IsChangeText (f.scope c.world) t c.course) (told_is (held name) text said.0 tells.held_bytes said.1) said.2 in
-      clear.change_fault s text c.course x (subst (λ (t : Scope). IsChangeText t text c.course) (good.scope c.world c.says) here) faulty
+      let here : IsChangeText (f.scope c.world) text c.course =
+      subst (λ (t : List ℕ). IsChangeText (f.scope c.world) t c.course)
+      (told_is (held name) text said.0 tells.held_bytes said.1) said.2 in
+      clear.change_fault s text c.course x
+      (subst (λ (t : Scope). IsChangeText t text c.course) (good.scope c.world c.says) here) faulty
 
 module _ (clear : TextsAreClear) (held : Told) (Failed : Names) (from : Sources) where
   -- a faulty environment
-  pub environment_faulty : (f : EnvFault) → TellsEnvironmentFault held from f → (r : Refusal) → IsCause held Failed from r → IsOrFailed 3 (refusal_status r)
+  pub environment_faulty : (f : EnvFault) → TellsEnvironmentFault held from f → (r : Refusal)
+      → IsCause held Failed from r → IsOrFailed 3 (refusal_status r)
   environment_faulty f tells (refusal.Environment x) p = inl refl
   environment_faulty f tells (refusal.Primitives x) p = absurd (not_said clear held from f _ _ tells p.environment)
   environment_faulty f tells (refusal.TooWide x) p = absurd (not_said clear held from f _ _ tells p.environment)
   environment_faulty f tells (refusal.TooDear x) p = absurd (not_said clear held from f _ _ tells p.environment)
   environment_faulty f tells (refusal.Read x) p = failed_read 3
   environment_faulty f tells (refusal.Length input.Environment) p = absurd (too_long_not_short _ tells.0 tells.1 p)
-  environment_faulty f tells (refusal.Length input.Primitives) p = absurd (not_said clear held from f _ _ tells p.environment)
+  environment_faulty f tells (refusal.Length input.Primitives) p =
+      absurd (not_said clear held from f _ _ tells p.environment)
   environment_faulty f tells _ p = absurd p
 
-  pub environment_faulty_none : (f : EnvFault) → TellsEnvironmentFault held from f → (w : World) → ReadsWorld held from w → ⊥
+  pub environment_faulty_none : (f : EnvFault) → TellsEnvironmentFault held from f → (w : World)
+      → ReadsWorld held from w → ⊥
   environment_faulty_none f tells w p = not_said clear held from f _ _ tells p.environment
 
   -- an environment file that is too long
-  pub environment_long : TellsTooMuch (held from.env) → (r : Refusal) → IsCause held Failed from r → IsOrFailed 8 (refusal_status r)
+  pub environment_long : TellsTooMuch (held from.env) → (r : Refusal) → IsCause held Failed from r
+      → IsOrFailed 8 (refusal_status r)
   environment_long much (refusal.Environment x) p = absurd (too_much_not_read _ p.text much p.read)
   environment_long much (refusal.Primitives x) p = absurd (not_said_long held from _ _ much p.environment)
   environment_long much (refusal.TooWide x) p = absurd (not_said_long held from _ _ much p.environment)
@@ -354,64 +456,93 @@ module _ (clear : TextsAreClear) (held : Told) (Failed : Names) (from : Sources)
   environment_long_none much w p = not_said_long held from _ _ much p.environment
 
   -- a primitive file that is too long
-  pub primitives_long : (env : Environment) → TellsEnvironment held from env → TellsTooMuch (held from.prims) → (r : Refusal) → IsCause held Failed from r → IsOrFailed 8 (refusal_status r)
-  primitives_long env told much (refusal.Environment x) p = absurd (not_faulty clear held from env x p.text told p.read p.faulty)
-  primitives_long env told much (refusal.Primitives x) p = absurd (too_much_not_read _ p.primitives.text much p.primitives.read)
-  primitives_long env told much (refusal.TooWide x) p = absurd (too_much_not_read _ p.primitives.text much p.primitives.read)
-  primitives_long env told much (refusal.TooDear x) p = absurd (too_much_not_read _ p.primitives.text much p.primitives.read)
+  pub primitives_long : (env : Environment) → TellsEnvironment held from env → TellsTooMuch (held from.prims)
+      → (r : Refusal) → IsCause held Failed from r → IsOrFailed 8 (refusal_status r)
+  primitives_long env told much (refusal.Environment x) p =
+      absurd (not_faulty clear held from env x p.text told p.read p.faulty)
+  primitives_long env told much (refusal.Primitives x) p =
+      absurd (too_much_not_read _ p.primitives.text much p.primitives.read)
+  primitives_long env told much (refusal.TooWide x) p =
+      absurd (too_much_not_read _ p.primitives.text much p.primitives.read)
+  primitives_long env told much (refusal.TooDear x) p =
+      absurd (too_much_not_read _ p.primitives.text much p.primitives.read)
   primitives_long env told much (refusal.Read x) p = failed_read 8
   primitives_long env told much (refusal.Length x) p = inl refl
   primitives_long env told much _ p = absurd p
 
-  pub primitives_long_none : (env : Environment) → TellsEnvironment held from env → TellsTooMuch (held from.prims) → (w : World) → ReadsWorld held from w → ⊥
+  pub primitives_long_none : (env : Environment) → TellsEnvironment held from env → TellsTooMuch (held from.prims)
+      → (w : World) → ReadsWorld held from w → ⊥
   primitives_long_none env told much w p = too_much_not_read _ p.primitives.text much p.primitives.read
 
   -- faulty primitives
-  pub primitives_faulty : (env : Environment) (f : PrimFault) → TellsEnvironment held from env → TellsPrimitiveFault held from env f → (r : Refusal) → IsCause held Failed from r → IsOrFailed 4 (refusal_status r)
-  primitives_faulty env f told tells (refusal.Environment x) p = absurd (not_faulty clear held from env x p.text told p.read p.faulty)
+  pub primitives_faulty : (env : Environment) (f : PrimFault) → TellsEnvironment held from env
+      → TellsPrimitiveFault held from env f → (r : Refusal) → IsCause held Failed from r
+      → IsOrFailed 4 (refusal_status r)
+  primitives_faulty env f told tells (refusal.Environment x) p =
+      absurd (not_faulty clear held from env x p.text told p.read p.faulty)
   primitives_faulty env f told tells (refusal.Primitives x) p = inl refl
   primitives_faulty env f told tells (refusal.TooWide x) p = inl refl
   primitives_faulty env f told tells (refusal.TooDear x) p = inl refl
   primitives_faulty env f told tells (refusal.Read x) p = failed_read 4
-  primitives_faulty env f told tells (refusal.Length input.Environment) p = absurd (environment_not_long held from env told p)
-  primitives_faulty env f told tells (refusal.Length input.Primitives) p = absurd (too_long_not_short _ tells.0 tells.1 p.holds)
+  primitives_faulty env f told tells (refusal.Length input.Environment) p =
+      absurd (environment_not_long held from env told p)
+  primitives_faulty env f told tells (refusal.Length input.Primitives) p =
+      absurd (too_long_not_short _ tells.0 tells.1 p.holds)
   primitives_faulty env f told tells _ p = absurd p
 
-  pub primitives_faulty_none : (env : Environment) (f : PrimFault) → TellsEnvironment held from env → TellsPrimitiveFault held from env f → (w : World) → ReadsWorld held from w → ⊥
-  primitives_faulty_none env f told tells w p = faulty_not_said clear held from env _ _ _ f told tells p.environment p.primitives
+  pub primitives_faulty_none : (env : Environment) (f : PrimFault) → TellsEnvironment held from env
+      → TellsPrimitiveFault held from env f → (w : World) → ReadsWorld held from w → ⊥
+  primitives_faulty_none env f told tells w p =
+      faulty_not_said clear held from env _ _ _ f told tells p.environment p.primitives
 
   -- good primitives, of which none, or one, passes a limit
-  pub primitives_good : (env : Environment) (ps : Primitives) → TellsEnvironment held from env → TellsPrimitives held from env ps → (wanted : ℕ) → ((i : ℕ) → IsFirstTooWide ps from.radius i → IsOrFailed wanted 4) → ((i : ℕ) → NoneTooWide ps from.radius → IsFirstTooDear env ps.items i → IsOrFailed wanted 4) → (r : Refusal) → IsCause held Failed from r → IsOrFailed wanted (refusal_status r)
-  primitives_good env ps told tells wanted wide dear (refusal.Environment x) p = absurd (not_faulty clear held from env x p.text told p.read p.faulty)
-  primitives_good env ps told tells wanted wide dear (refusal.Primitives x) p = absurd (primitives_not_faulty clear held from env _ _ ps x told tells p.environment p.primitives)
+  pub primitives_good : (env : Environment) (ps : Primitives) → TellsEnvironment held from env
+      → TellsPrimitives held from env ps → (wanted : ℕ)
+      → ((i : ℕ) → IsFirstTooWide ps from.radius i → IsOrFailed wanted 4)
+      → ((i : ℕ) → NoneTooWide ps from.radius → IsFirstTooDear env ps.items i → IsOrFailed wanted 4) → (r : Refusal)
+      → IsCause held Failed from r → IsOrFailed wanted (refusal_status r)
+  primitives_good env ps told tells wanted wide dear (refusal.Environment x) p =
+      absurd (not_faulty clear held from env x p.text told p.read p.faulty)
+  primitives_good env ps told tells wanted wide dear (refusal.Primitives x) p =
+      absurd (primitives_not_faulty clear held from env _ _ ps x told tells p.environment p.primitives)
   primitives_good env ps told tells wanted wide dear (refusal.TooWide x) p =
-      wide x (subst (λ (qs : Primitives). IsFirstTooWide qs from.radius x) (same_primitives clear held from env _ _ ps _ told tells p.environment p.primitives) p.wide)
+      wide x (subst (λ (qs : Primitives). IsFirstTooWide qs from.radius x)
+      (same_primitives clear held from env _ _ ps _ told tells p.environment p.primitives) p.wide)
   primitives_good env ps told tells wanted wide dear (refusal.TooDear x) p =
       let same = same_primitives clear held from env _ _ ps _ told tells p.environment p.primitives in
       dear x (subst (λ (qs : Primitives). NoneTooWide qs from.radius) same p.narrow)
-      (subst (λ (e : Environment). IsFirstTooDear e ps.items x) (same_environment clear held from env _ _ told p.environment) (subst (λ (qs : Primitives). IsFirstTooDear p.env qs.items x) same p.dear))
+      (subst (λ (e : Environment). IsFirstTooDear e ps.items x) (same_environment clear held from env _ _ told
+      p.environment) (subst (λ (qs : Primitives). IsFirstTooDear p.env qs.items x) same p.dear))
   primitives_good env ps told tells wanted wide dear (refusal.Read x) p = failed_read wanted
-  primitives_good env ps told tells wanted wide dear (refusal.Length input.Environment) p = absurd (environment_not_long held from env told p)
-  primitives_good env ps told tells wanted wide dear (refusal.Length input.Primitives) p = absurd (too_long_not_short _ tells.0 tells.1 p.holds)
+  primitives_good env ps told tells wanted wide dear (refusal.Length input.Environment) p =
+      absurd (environment_not_long held from env told p)
+  primitives_good env ps told tells wanted wide dear (refusal.Length input.Primitives) p =
+      absurd (too_long_not_short _ tells.0 tells.1 p.holds)
   primitives_good env ps told tells wanted wide dear _ p = absurd p
 
   -- a primitive that is too wide
-  pub too_wide_none : (env : Environment) (ps : Primitives) (i : ℕ) → TellsEnvironment held from env → TellsPrimitives held from env ps → IsFirstTooWide ps from.radius i → (w : World) → ReadsWorld held from w → ⊥
+  pub too_wide_none : (env : Environment) (ps : Primitives) (i : ℕ) → TellsEnvironment held from env
+      → TellsPrimitives held from env ps → IsFirstTooWide ps from.radius i → (w : World) → ReadsWorld held from w → ⊥
   too_wide_none env ps i told tells wide w p =
       let same = same_primitives clear held from env _ _ ps _ told tells p.environment p.primitives in
       none_is_widest ps from.radius i (subst (λ (qs : Primitives). NoneTooWide qs from.radius) same p.narrow) wide
 
   -- a primitive that is too dear
-  pub too_dear_none : (env : Environment) (ps : Primitives) (i : ℕ) → TellsEnvironment held from env → TellsPrimitives held from env ps → IsFirstTooDear env ps.items i → (w : World) → ReadsWorld held from w → ⊥
+  pub too_dear_none : (env : Environment) (ps : Primitives) (i : ℕ) → TellsEnvironment held from env
+      → TellsPrimitives held from env ps → IsFirstTooDear env ps.items i → (w : World) → ReadsWorld held from w → ⊥
   too_dear_none env ps i told tells dear w p =
       let same = same_primitives clear held from env _ _ ps _ told tells p.environment p.primitives in
       let like = same_environment clear held from env _ _ told p.environment in
-      none_is_first env ps i (subst (λ (e : Environment). NoneTooDear e ps) like (subst (λ (qs : Primitives). NoneTooDear w.env qs) same p.cheap)) dear
+      none_is_first env ps i (subst (λ (e : Environment). NoneTooDear e ps) like
+      (subst (λ (qs : Primitives). NoneTooDear w.env qs) same p.cheap)) dear
 
   -- good files of a lattice are
-  pub good_files : (moving : Bool) (s : Scope) → AreGood held from moving s → AreGoodFiles held Failed (lattice_files from moving) s
+  pub good_files : (moving : Bool) (s : Scope) → AreGood held from moving s
+      → AreGoodFiles held Failed (lattice_files from moving) s
   good_files moving s good = record {
-    refused = λ wanted. primitives_good good.env good.prims good.environment good.primitives wanted (λ k h. absurd (none_is_widest good.prims from.radius k good.narrow h)) (λ k n h. absurd (none_is_first good.env good.prims k good.cheap h));
+    refused = λ wanted. primitives_good good.env good.prims good.environment good.primitives wanted
+        (λ k h. absurd (none_is_widest good.prims from.radius k good.narrow h))
+        (λ k n h. absurd (none_is_first good.env good.prims k good.cheap h));
     scope = λ w says. same_scope clear held from moving s w good.scope says;
   }
 
@@ -428,13 +559,21 @@ module _ (clear : TextsAreClear) (held : Told) (Failed : Names) (from : Sources)
   }
     where
       by_text : TellsEnvironment held from w.env → TellsScope held from moving (scope_of moving w)
-      by_text (text, cells, told, stands) = (text, w.env, tells.says.cells, told, said_text held from w.env tells.says.cells text told tells.says.environment, ap (λ (m : CellMap). scope_for moving w.env m) tells.says.map)
+      by_text (text, cells, told, stands) = (
+        text,
+        w.env,
+        tells.says.cells,
+        told,
+        said_text held from w.env tells.says.cells text told tells.says.environment,
+        ap (λ (m : CellMap). scope_for moving w.env m) tells.says.map,
+      )
 
 -- ---- grids
 
 module _ (clear : TextsAreClear) (held : Told) (Failed : Names) (env : List ℕ) where
   -- a faulty environment file
-  pub grid_faulty : (f : NavFault) → TellsGridFault held env f → (r : Refusal) → IsGridCause held Failed env r → IsOrFailed 3 (refusal_status r)
+  pub grid_faulty : (f : NavFault) → TellsGridFault held env f → (r : Refusal) → IsGridCause held Failed env r
+      → IsOrFailed 3 (refusal_status r)
   grid_faulty f tells (refusal.Grid x) p = inl refl
   grid_faulty f tells (refusal.Read x) p = failed_read 3
   grid_faulty f tells (refusal.Length input.Environment) p = absurd (too_long_not_short _ tells.0 tells.1 p)
@@ -442,10 +581,12 @@ module _ (clear : TextsAreClear) (held : Told) (Failed : Names) (env : List ℕ)
 
   pub grid_faulty_none : (f : NavFault) → TellsGridFault held env f → (w : GridWorld) → ReadsGrid held env w → ⊥
   grid_faulty_none f (text, tells, faulty) w says =
-      clear.grid_fault text w.env says.cells f (subst (λ (t : List ℕ). IsGridText t w.env says.cells) (told_is (held env) text says.text tells.held_bytes says.read) says.stands) faulty
+      clear.grid_fault text w.env says.cells f (subst (λ (t : List ℕ). IsGridText t w.env says.cells)
+      (told_is (held env) text says.text tells.held_bytes says.read) says.stands) faulty
 
   -- one that is too long
-  pub grid_long : TellsTooMuch (held env) → (r : Refusal) → IsGridCause held Failed env r → IsOrFailed 8 (refusal_status r)
+  pub grid_long : TellsTooMuch (held env) → (r : Refusal) → IsGridCause held Failed env r
+      → IsOrFailed 8 (refusal_status r)
   grid_long much (refusal.Grid x) p = absurd (too_much_not_read _ p.text much p.read)
   grid_long much (refusal.Read x) p = failed_read 8
   grid_long much (refusal.Length x) p = inl refl
@@ -457,17 +598,23 @@ module _ (clear : TextsAreClear) (held : Told) (Failed : Names) (env : List ℕ)
   -- where a world is told, it is the one that is read
   pub same_grid : (w v : GridWorld) → TellsGrid held env w → ReadsGrid held env v → v ≡ w
   same_grid w v tells says =
-      let own : IsGridText tells.text v.env says.cells = subst (λ (t : List ℕ). IsGridText t v.env says.cells) (told_is (held env) tells.text says.text tells.told.held_bytes says.read) says.stands in
+      let own : IsGridText tells.text v.env says.cells =
+      subst (λ (t : List ℕ). IsGridText t v.env says.cells)
+      (told_is (held env) tells.text says.text tells.told.held_bytes says.read) says.stands in
       let both = clear.grid tells.text v.env w.env says.cells tells.cells own tells.stands in
       grid_by v w says.cells tells.cells both.0 both.1 says.map tells.map
 
-  told_grid_refused : (w : GridWorld) → TellsGrid held env w → (wanted : ℕ) (r : Refusal) → IsGridCause held Failed env r → IsOrFailed wanted (refusal_status r)
+  told_grid_refused : (w : GridWorld) → TellsGrid held env w → (wanted : ℕ) (r : Refusal)
+      → IsGridCause held Failed env r → IsOrFailed wanted (refusal_status r)
   told_grid_refused w tells wanted (refusal.Grid x) p =
-      absurd (clear.grid_fault tells.text w.env tells.cells x tells.stands (subst (λ (t : List ℕ). HasGridFault t x) (told_is (held env) tells.text p.text tells.told.held_bytes p.read) p.faulty))
+      absurd (clear.grid_fault tells.text w.env tells.cells x tells.stands (subst (λ (t : List ℕ). HasGridFault t x)
+      (told_is (held env) tells.text p.text tells.told.held_bytes p.read) p.faulty))
   told_grid_refused w tells wanted (refusal.Read x) p = failed_read wanted
-  told_grid_refused w tells wanted (refusal.Length input.Environment) p = absurd (too_long_not_short _ tells.text tells.told p)
+  told_grid_refused w tells wanted (refusal.Length input.Environment) p =
+      absurd (too_long_not_short _ tells.text tells.told p)
   told_grid_refused w tells wanted _ p = absurd p
 
   -- such a file is a good one
   pub good_grid : (w : GridWorld) → TellsGrid held env w → AreGoodFiles held Failed (grid_files env) (grid_scope w)
-  good_grid w tells = record { refused = told_grid_refused w tells; scope = λ v says. ap grid_scope (same_grid w v tells says) }
+  good_grid w tells =
+      record { refused = told_grid_refused w tells; scope = λ v says. ap grid_scope (same_grid w v tells says) }

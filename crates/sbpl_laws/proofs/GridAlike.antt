@@ -39,7 +39,8 @@ grids_alike = record {
       let sizes : l.width * l.height ≡ m.width * m.height = λ i. wide i * high i in
       states_are (over_map w l) ∙ sizes ∙ sym (states_are (over_map w m));
   reads = λ w v s k x y a r. subst (λ (u : GridWorld). ReadsCell u s k x y) a r;
-  says = λ w v goal h k a same x y s inside. x s inside ∙ ap (λ (n : Network). n.gap s goal) same ∙ sym (y s (subst (λ (n : Network). s < n.states) same inside));
+  says = λ w v goal h k a same x y s inside. x s inside ∙ ap (λ (n : Network). n.gap s goal) same
+      ∙ sym (y s (subst (λ (n : Network). s < n.states) same inside));
   moved = λ w v goal h a same x. subst (λ (u : GridWorld). IsOctile u goal h) a x;
   starts = λ w v s t a x y. x ∙ ap (λ (u : GridWorld). u.env.start) a ∙ sym y;
   ends = λ w v s t a x y. x ∙ ap (λ (u : GridWorld). u.env.end) a ∙ sym y;

@@ -1,5 +1,6 @@
 -- The files of a job call for one refusal, or for none.
-use Rattle.std.proofs.Common.{◌≡◌, ◌⊎◌, ℕ, ◌^◌, ◌<◌, ◌≤◌, Bool, Option, Some, None, List, IsSome, IfSome, length, refl, sym, ap, subst, ◌∙◌, arith, inl, inr}
+use Rattle.std.proofs.Common.{◌≡◌, ◌⊎◌, ℕ, ◌^◌, ◌<◌, ◌≤◌, Bool, Option, Some, None, List, IsSome, IfSome, length, refl}
+use Rattle.std.proofs.Common.{sym, ap, subst, ◌∙◌, arith, inl, inr}
 use Rattle.std.proofs.lemmas.Bool.{cases_lt, false≢true}
 use Rattle.sbpl_cfg.specs.declared.fault.EnvFault.{EnvFault}
 use Rattle.sbpl_cfg.specs.Environment.{Environment}
@@ -15,13 +16,17 @@ use Rattle.sbpl_report.specs.declared.refusal.Input.{Input}
 use Rattle.sbpl_report.specs.declared.refusal.Input.TheVariants as input
 use Rattle.sbpl_report.specs.declared.refusal.Refusal.{Refusal}
 use Rattle.sbpl_report.specs.declared.refusal.Refusal.TheVariants as refusal
-use Rattle.sbpl_promises.specs.Causes.{AtName, IsCause, IsChangesCause, IsCheckCause, IsEarlyCause, IsEarlyInput, IsFaultyChanges, IsFaultyEnvironment, IsFaultyFor, IsFaultyGrid, IsGridCause, IsLabelsCause, IsReadText, IsSource, IsTooLong, ReadsCourse, ReadsEnvironment, ReadsGrid, ReadsPrimitives, ReadsWorld, grid_files, lattice_files}
+use Rattle.sbpl_promises.specs.Causes.{AtName, IsCause, IsChangesCause, IsCheckCause, IsEarlyCause, IsEarlyInput}
+use Rattle.sbpl_promises.specs.Causes.{IsFaultyChanges, IsFaultyEnvironment, IsFaultyFor, IsFaultyGrid, IsGridCause}
+use Rattle.sbpl_promises.specs.Causes.{IsLabelsCause, IsReadText, IsSource, IsTooLong, ReadsCourse, ReadsEnvironment}
+use Rattle.sbpl_promises.specs.Causes.{ReadsGrid, ReadsPrimitives, ReadsWorld, grid_files, lattice_files}
 use Rattle.sbpl_nav2d.specs.World.{GridWorld}
 use Rattle.sbpl_nav2d.specs.declared.fault.NavFault.{NavFault}
 use Rattle.sbpl_promises.specs.declared.course.Course.{Course}
 use Rattle.sbpl_promises.specs.Clear.{TextsAreClear}
 use Rattle.sbpl_promises.specs.WorldFiles.{WorldFiles}
-use Rattle.sbpl_promises.specs.Texts.{HasChangeFault, HasEnvironmentFault, HasGridFault, HasPrimitiveFault, IsChangeText, IsEnvironmentText, IsGridText, IsPrimitiveText, Scope}
+use Rattle.sbpl_promises.specs.Texts.{HasChangeFault, HasEnvironmentFault, HasGridFault, HasPrimitiveFault}
+use Rattle.sbpl_promises.specs.Texts.{IsChangeText, IsEnvironmentText, IsGridText, IsPrimitiveText, Scope}
 use Rattle.sbpl_promises.specs.Writing.{IsNamed, Names, Told}
 use Rattle.sbpl_laws.proofs.Converse.{none_is_first, none_is_widest}
 use Rattle.sbpl_laws.proofs.SamePlanned.{StandForOne, read_once}
@@ -43,9 +48,13 @@ one_widest ps radius i j x y = elim (cases_lt i j) [
 
 one_dearest : (e : Environment) (ps : List Primitive) (i j : ℕ) → IsFirstTooDear e ps i → IsFirstTooDear e ps j → i ≡ j
 one_dearest e ps i j x y = elim (cases_lt i j) [
-  | inl less ↦ absurd (let cheap = y.before i x.here.0 less x.here.1 in let dear : most_cost < primitive_cost e x.here.0 = x.here.2 in omega arith)
+  | inl less ↦
+      absurd (let cheap = y.before i x.here.0 less x.here.1 in
+      let dear : most_cost < primitive_cost e x.here.0 = x.here.2 in omega arith)
   | inr most ↦ elim (cases_lt j i) [
-    | inl less ↦ absurd (let cheap = x.before j y.here.0 less y.here.1 in let dear : most_cost < primitive_cost e y.here.0 = y.here.2 in omega arith)
+    | inl less ↦
+        absurd (let cheap = x.before j y.here.0 less y.here.1 in
+        let dear : most_cost < primitive_cost e y.here.0 = y.here.2 in omega arith)
     | inr least ↦ omega arith
   ]
 ]
@@ -71,11 +80,14 @@ AreUnfit from e ps r =
     ⊎ ((i : ℕ) × (r ≡ refusal.TooDear i) × NoneTooWide ps from.radius × IsFirstTooDear e ps.items i)
 
 abbrev IsSecondBad : Told → Sources → Environment → Refusal → Type 0
-IsSecondBad held from e r = AreBadPrimitives held from e r ⊎ ((ps : Primitives) × ReadsPrimitives held from e ps × AreUnfit from e ps r)
+IsSecondBad held from e r =
+    AreBadPrimitives held from e r ⊎ ((ps : Primitives) × ReadsPrimitives held from e ps × AreUnfit from e ps r)
 
 -- the files of a lattice call for this refusal
 abbrev pub AreBadSources : Told → Sources → Refusal → Type 0
-AreBadSources held from r = IsBadEnvironment held from r ⊎ ((e : Environment) × (cells : List ℕ) × ReadsEnvironment held from e cells × IsSecondBad held from e r)
+AreBadSources held from r =
+    IsBadEnvironment held from r
+    ⊎ ((e : Environment) × (cells : List ℕ) × ReadsEnvironment held from e cells × IsSecondBad held from e r)
 
 -- the change file is faulty or too long
 abbrev AreBadChanges : Told → Scope → Refusal → List ℕ → Type 0
@@ -101,39 +113,63 @@ named_at : (o : Option (List ℕ)) (P : List ℕ → Type 0) → AtName o P → 
 named_at None P at = absurd at
 named_at (Some name) P at = (name, refl, at)
 
-at_name_on : (o : Option (List ℕ)) (P Q : List ℕ → Type 0) → ((name : List ℕ) → P name → Q name) → AtName o P → AtName o Q
+at_name_on : (o : Option (List ℕ)) (P Q : List ℕ → Type 0) → ((name : List ℕ) → P name → Q name)
+    → AtName o P → AtName o Q
 at_name_on None P Q on at = at
 at_name_on (Some name) P Q on at = on name at
 
 -- why a job is refused for the files of its lattice is one of these, or a read failed
-pub source_cause : (held : Told) (Failed : Names) (from : Sources) (r : Refusal) → IsCause held Failed from r → AreBadSources held from r ⊎ IsFailedRead (IsSource from) Failed r
+pub source_cause : (held : Told) (Failed : Names) (from : Sources) (r : Refusal) → IsCause held Failed from r
+    → AreBadSources held from r ⊎ IsFailedRead (IsSource from) Failed r
 source_cause held Failed from (refusal.Environment x) c = inl (inl (inl (x, refl, c)))
-source_cause held Failed from (refusal.Primitives x) c = inl (inr (c.env, c.cells, c.environment, inl (inl (x, refl, c.primitives))))
-source_cause held Failed from (refusal.TooWide i) c = inl (inr (c.env, c.cells, c.environment, inr (c.prims, c.primitives, inl (i, refl, c.wide))))
-source_cause held Failed from (refusal.TooDear i) c = inl (inr (c.env, c.cells, c.environment, inr (c.prims, c.primitives, inr (i, refl, c.narrow, c.dear))))
-source_cause held Failed from (refusal.Read input.Environment) c = inr (input.Environment, refl, (from.env, inl refl, c))
-source_cause held Failed from (refusal.Read input.Primitives) c = inr (input.Primitives, refl, (from.prims, inr refl, c.holds))
+source_cause held Failed from (refusal.Primitives x) c =
+    inl (inr (c.env, c.cells, c.environment, inl (inl (x, refl, c.primitives))))
+source_cause held Failed from (refusal.TooWide i) c =
+    inl (inr (c.env, c.cells, c.environment, inr (c.prims, c.primitives, inl (i, refl, c.wide))))
+source_cause held Failed from (refusal.TooDear i) c =
+    inl (inr (c.env, c.cells, c.environment, inr (c.prims, c.primitives, inr (i, refl, c.narrow, c.dear))))
+source_cause held Failed from (refusal.Read input.Environment) c =
+    inr (input.Environment, refl, (from.env, inl refl, c))
+source_cause held Failed from (refusal.Read input.Primitives) c =
+    inr (input.Primitives, refl, (from.prims, inr refl, c.holds))
 source_cause held Failed from (refusal.Length input.Environment) c = inl (inl (inr (refl, c)))
-source_cause held Failed from (refusal.Length input.Primitives) c = inl (inr (c.env, c.cells, c.environment, inl (inr (refl, c.holds))))
+source_cause held Failed from (refusal.Length input.Primitives) c =
+    inl (inr (c.env, c.cells, c.environment, inl (inr (refl, c.holds))))
 source_cause held Failed from _ c = absurd c
 
-course_cause : {W : Type 0} (held : Told) (Failed : Names) (f : WorldFiles W) (changes : Option (List ℕ)) (r : Refusal) → IsChangesCause held Failed f changes r → IsBadCourse held f changes r ⊎ IsFailedRead (IsNamed changes) Failed r
+course_cause : {W : Type 0} (held : Told) (Failed : Names) (f : WorldFiles W) (changes : Option (List ℕ)) (r : Refusal)
+    → IsChangesCause held Failed f changes r → IsBadCourse held f changes r ⊎ IsFailedRead (IsNamed changes) Failed r
 course_cause held Failed f changes (refusal.Changes x) (w, says, at) =
-    inl (w, says, at_name_on changes (λ name. IsFaultyChanges held name (f.scope w) x) (AreBadChanges held (f.scope w) (refusal.Changes x)) (λ name faulty. inl (x, refl, faulty)) at)
+    inl (
+      w,
+      says,
+      at_name_on changes (λ name. IsFaultyChanges held name (f.scope w) x)
+          (AreBadChanges held (f.scope w) (refusal.Changes x)) (λ name faulty. inl (x, refl, faulty)) at,
+    )
 course_cause held Failed f changes (refusal.Read input.Changes) (w, says, at) =
     let found = named_at changes Failed at in
     inr (input.Changes, refl, (found.0, found.1, found.2))
 course_cause held Failed f changes (refusal.Length input.Changes) (w, says, at) =
-    inl (w, says, at_name_on changes (λ name. IsTooLong (held name)) (AreBadChanges held (f.scope w) (refusal.Length input.Changes)) (λ name long. inr (refl, long)) at)
+    inl (
+      w,
+      says,
+      at_name_on changes (λ name. IsTooLong (held name)) (AreBadChanges held (f.scope w) (refusal.Length input.Changes))
+          (λ name long. inr (refl, long)) at,
+    )
 course_cause held Failed f changes _ c = absurd c
 
-labels_cause : {W : Type 0} (held : Told) (Failed : Names) (f : WorldFiles W) (changes : Option (List ℕ)) (labels : List ℕ) (r : Refusal) → IsLabelsCause held Failed f changes labels r → AreBadLabels held f changes labels r ⊎ IsFailedRead (λ name. name ≡ labels) Failed r
-labels_cause held Failed f changes labels (refusal.Read input.Labels) (w, course, says, changes_say, rose) = inr (input.Labels, refl, (labels, refl, rose))
-labels_cause held Failed f changes labels (refusal.Length input.Labels) (w, course, says, changes_say, long) = inl (w, course, says, changes_say, (refl, long))
+labels_cause : {W : Type 0} (held : Told) (Failed : Names) (f : WorldFiles W) (changes : Option (List ℕ))
+    (labels : List ℕ) (r : Refusal) → IsLabelsCause held Failed f changes labels r
+    → AreBadLabels held f changes labels r ⊎ IsFailedRead (λ name. name ≡ labels) Failed r
+labels_cause held Failed f changes labels (refusal.Read input.Labels) (w, course, says, changes_say, rose) =
+    inr (input.Labels, refl, (labels, refl, rose))
+labels_cause held Failed f changes labels (refusal.Length input.Labels) (w, course, says, changes_say, long) =
+    inl (w, course, says, changes_say, (refl, long))
 labels_cause held Failed f changes labels _ c = absurd c
 
 -- a read that failed of a file with one property failed of one with another that follows
-failed_on : (P Q Failed : Names) (r : Refusal) → ((name : List ℕ) → P name → Q name) → IsFailedRead P Failed r → IsFailedRead Q Failed r
+failed_on : (P Q Failed : Names) (r : Refusal) → ((name : List ℕ) → P name → Q name) → IsFailedRead P Failed r
+    → IsFailedRead Q Failed r
 failed_on P Q Failed r on (i, is, (name, one, failed)) = (i, is, (name, on name one, failed))
 
 -- ---- two of them are the same
@@ -146,53 +182,69 @@ module _ (clear : TextsAreClear) (held : Told) where
     one_environment r u (inl (f, is, x)) (inl (g, also, y)) =
         let text : y.text ≡ x.text = read_once (held from.env) y.text x.text told_env y.read x.read in
         let own : HasEnvironmentFault x.text g = subst (λ (t : List ℕ). HasEnvironmentFault t g) text y.faulty in
-        is ∙ ap (λ (e : EnvFault). refusal.Environment e) (clear.one_environment_fault x.text f g x.faulty own) ∙ sym also
-    one_environment r u (inl (f, is, x)) (inr (also, long)) = absurd (read_is_short (held from.env) x.text told_env x.read long)
-    one_environment r u (inr (is, long)) (inl (g, also, y)) = absurd (read_is_short (held from.env) y.text told_env y.read long)
+        is ∙ ap (λ (e : EnvFault). refusal.Environment e) (clear.one_environment_fault x.text f g x.faulty own)
+        ∙ sym also
+    one_environment r u (inl (f, is, x)) (inr (also, long)) =
+        absurd (read_is_short (held from.env) x.text told_env x.read long)
+    one_environment r u (inr (is, long)) (inl (g, also, y)) =
+        absurd (read_is_short (held from.env) y.text told_env y.read long)
     one_environment r u (inr (is, long)) (inr (also, too)) = is ∙ sym also
 
-    not_environment : (r : Refusal) (e : Environment) (cells : List ℕ) → IsBadEnvironment held from r → ReadsEnvironment held from e cells → ⊥
+    not_environment : (r : Refusal) (e : Environment) (cells : List ℕ) → IsBadEnvironment held from r
+        → ReadsEnvironment held from e cells → ⊥
     not_environment r e cells (inl (f, is, x)) says =
         let text : says.text ≡ x.text = read_once (held from.env) says.text x.text told_env says.read x.read in
-        let own : IsEnvironmentText x.text e cells = subst (λ (t : List ℕ). IsEnvironmentText t e cells) text says.stands in
+        let own : IsEnvironmentText x.text e cells =
+        subst (λ (t : List ℕ). IsEnvironmentText t e cells) text says.stands in
         clear.environment_fault x.text e cells f own x.faulty
     not_environment r e cells (inr (is, long)) says = read_is_short (held from.env) says.text told_env says.read long
 
-    same_said : (e d : Environment) (cells others : List ℕ) → ReadsEnvironment held from e cells → ReadsEnvironment held from d others → d ≡ e
+    same_said : (e d : Environment) (cells others : List ℕ) → ReadsEnvironment held from e cells
+        → ReadsEnvironment held from d others → d ≡ e
     same_said e d cells others x y =
         let text : y.text ≡ x.text = read_once (held from.env) y.text x.text told_env y.read x.read in
-        let own : IsEnvironmentText x.text d others = subst (λ (t : List ℕ). IsEnvironmentText t d others) text y.stands in
+        let own : IsEnvironmentText x.text d others =
+        subst (λ (t : List ℕ). IsEnvironmentText t d others) text y.stands in
         (clear.environment x.text d e others cells own x.stands).0
 
     -- the primitives, for an environment
 
-    one_primitives : (e : Environment) (r u : Refusal) → AreBadPrimitives held from e r → AreBadPrimitives held from e u → r ≡ u
+    one_primitives : (e : Environment) (r u : Refusal) → AreBadPrimitives held from e r
+        → AreBadPrimitives held from e u → r ≡ u
     one_primitives e r u (inl (f, is, x)) (inl (g, also, y)) =
         let text : y.text ≡ x.text = read_once (held from.prims) y.text x.text told_prims y.read x.read in
         let own : HasPrimitiveFault e x.text g = subst (λ (t : List ℕ). HasPrimitiveFault e t g) text y.faulty in
-        is ∙ ap (λ (p : PrimFault). refusal.Primitives p) (clear.one_primitive_fault x.text e f g x.faulty own) ∙ sym also
-    one_primitives e r u (inl (f, is, x)) (inr (also, long)) = absurd (read_is_short (held from.prims) x.text told_prims x.read long)
-    one_primitives e r u (inr (is, long)) (inl (g, also, y)) = absurd (read_is_short (held from.prims) y.text told_prims y.read long)
+        is ∙ ap (λ (p : PrimFault). refusal.Primitives p) (clear.one_primitive_fault x.text e f g x.faulty own)
+        ∙ sym also
+    one_primitives e r u (inl (f, is, x)) (inr (also, long)) =
+        absurd (read_is_short (held from.prims) x.text told_prims x.read long)
+    one_primitives e r u (inr (is, long)) (inl (g, also, y)) =
+        absurd (read_is_short (held from.prims) y.text told_prims y.read long)
     one_primitives e r u (inr (is, long)) (inr (also, too)) = is ∙ sym also
 
-    not_primitives : (e : Environment) (r : Refusal) (ps : Primitives) → AreBadPrimitives held from e r → ReadsPrimitives held from e ps → ⊥
+    not_primitives : (e : Environment) (r : Refusal) (ps : Primitives) → AreBadPrimitives held from e r
+        → ReadsPrimitives held from e ps → ⊥
     not_primitives e r ps (inl (f, is, x)) says =
         let text : says.text ≡ x.text = read_once (held from.prims) says.text x.text told_prims says.read x.read in
         let own : IsPrimitiveText e x.text ps = subst (λ (t : List ℕ). IsPrimitiveText e t ps) text says.stands in
         clear.primitive_fault x.text e ps f own x.faulty
     not_primitives e r ps (inr (is, long)) says = read_is_short (held from.prims) says.text told_prims says.read long
 
-    same_listed : (e : Environment) (ps qs : Primitives) → ReadsPrimitives held from e ps → ReadsPrimitives held from e qs → qs ≡ ps
+    same_listed : (e : Environment) (ps qs : Primitives) → ReadsPrimitives held from e ps
+        → ReadsPrimitives held from e qs → qs ≡ ps
     same_listed e ps qs x y =
         let text : y.text ≡ x.text = read_once (held from.prims) y.text x.text told_prims y.read x.read in
         let own : IsPrimitiveText e x.text qs = subst (λ (t : List ℕ). IsPrimitiveText e t qs) text y.stands in
         clear.primitives x.text e qs ps own x.stands
 
-    one_unfit : (e : Environment) (ps : Primitives) (r u : Refusal) → AreUnfit from e ps r → AreUnfit from e ps u → r ≡ u
-    one_unfit e ps r u (inl (i, is, x)) (inl (j, also, y)) = is ∙ ap (λ (n : ℕ). refusal.TooWide n) (one_widest ps from.radius i j x y) ∙ sym also
+    one_unfit : (e : Environment) (ps : Primitives) (r u : Refusal) → AreUnfit from e ps r
+        → AreUnfit from e ps u → r ≡ u
+    one_unfit e ps r u (inl (i, is, x)) (inl (j, also, y)) =
+        is ∙ ap (λ (n : ℕ). refusal.TooWide n) (one_widest ps from.radius i j x y) ∙ sym also
     one_unfit e ps r u (inl (i, is, x)) (inr (j, also, narrow, y)) = absurd (none_is_widest ps from.radius i narrow x)
     one_unfit e ps r u (inr (i, is, narrow, x)) (inl (j, also, y)) = absurd (none_is_widest ps from.radius j narrow y)
-    one_unfit e ps r u (inr (i, is, narrow, x)) (inr (j, also, too, y)) = is ∙ ap (λ (n : ℕ). refusal.TooDear n) (one_dearest e ps.items i j x y) ∙ sym also
+    one_unfit e ps r u (inr (i, is, narrow, x)) (inr (j, also, too, y)) =
+        is ∙ ap (λ (n : ℕ). refusal.TooDear n) (one_dearest e ps.items i j x y) ∙ sym also
 
     one_second : (e : Environment) (r u : Refusal) → IsSecondBad held from e r → IsSecondBad held from e u → r ≡ u
     one_second e r u (inl x) (inl y) = one_primitives e r u x y
@@ -206,50 +258,64 @@ module _ (clear : TextsAreClear) (held : Told) where
     one_source r u (inl x) (inr (d, others, says, y)) = absurd (not_environment r d others x says)
     one_source r u (inr (e, cells, says, x)) (inl y) = absurd (not_environment u e cells y says)
     one_source r u (inr (e, cells, says, x)) (inr (d, others, also, y)) =
-        one_second e r u x (subst (λ (v : Environment). IsSecondBad held from v u) (same_said e d cells others says also) y)
+        one_second e r u x
+        (subst (λ (v : Environment). IsSecondBad held from v u) (same_said e d cells others says also) y)
 
     -- where the files stand for a world there is none
 
-    fits_world : (w : World) (e : Environment) (ps : Primitives) (r : Refusal) → ReadsWorld held from w → w.env ≡ e → w.prims ≡ ps → AreUnfit from e ps r → ⊥
-    fits_world w e ps r says env prims (inl (i, is, x)) = none_is_widest w.prims from.radius i says.narrow (subst (λ (l : Primitives). IsFirstTooWide l from.radius i) (sym prims) x)
+    fits_world : (w : World) (e : Environment) (ps : Primitives) (r : Refusal) → ReadsWorld held from w → w.env ≡ e
+        → w.prims ≡ ps → AreUnfit from e ps r → ⊥
+    fits_world w e ps r says env prims (inl (i, is, x)) =
+        none_is_widest w.prims from.radius i says.narrow
+        (subst (λ (l : Primitives). IsFirstTooWide l from.radius i) (sym prims) x)
     fits_world w e ps r says env prims (inr (i, is, narrow, x)) =
         let own : IsFirstTooDear w.env w.prims.items i = rw (env, prims) x in
         none_is_first w.env w.prims i says.cheap own
 
-    second_world : (w : World) (e : Environment) (r : Refusal) → ReadsWorld held from w → w.env ≡ e → IsSecondBad held from e r → ⊥
+    second_world : (w : World) (e : Environment) (r : Refusal) → ReadsWorld held from w → w.env ≡ e
+        → IsSecondBad held from e r → ⊥
     second_world w e r says env (inl x) =
-        not_primitives e r w.prims x (subst (λ (d : Environment). ReadsPrimitives held from d w.prims) env says.primitives)
+        not_primitives e r w.prims x
+        (subst (λ (d : Environment). ReadsPrimitives held from d w.prims) env says.primitives)
     second_world w e r says env (inr (ps, also, x)) =
-        let own : ReadsPrimitives held from e w.prims = subst (λ (d : Environment). ReadsPrimitives held from d w.prims) env says.primitives in
+        let own : ReadsPrimitives held from e w.prims =
+        subst (λ (d : Environment). ReadsPrimitives held from d w.prims) env says.primitives in
         fits_world w e ps r says env (same_listed e ps w.prims also own) x
 
     pub not_world : (w : World) (r : Refusal) → AreBadSources held from r → ReadsWorld held from w → ⊥
     not_world w r (inl x) says = not_environment r w.env says.cells x says.environment
-    not_world w r (inr (e, cells, also, x)) says = second_world w e r says (same_said e w.env cells says.cells also says.environment) x
+    not_world w r (inr (e, cells, also, x)) says =
+        second_world w e r says (same_said e w.env cells says.cells also says.environment) x
 
   -- ---- the changes, in a world that the files stand for
 
-  one_changes : (s : Scope) (r u : Refusal) (name : List ℕ) → IsSome (held name) → AreBadChanges held s r name → AreBadChanges held s u name → r ≡ u
+  one_changes : (s : Scope) (r u : Refusal) (name : List ℕ) → IsSome (held name) → AreBadChanges held s r name
+      → AreBadChanges held s u name → r ≡ u
   one_changes s r u name told (inl (f, is, x)) (inl (g, also, y)) =
       let text : y.text ≡ x.text = read_once (held name) y.text x.text told y.read x.read in
       let own : HasChangeFault s x.text g = subst (λ (t : List ℕ). HasChangeFault s t g) text y.faulty in
       is ∙ ap (λ (c : ChangeFault). refusal.Changes c) (clear.one_change_fault s x.text f g x.faulty own) ∙ sym also
-  one_changes s r u name told (inl (f, is, x)) (inr (also, long)) = absurd (read_is_short (held name) x.text told x.read long)
-  one_changes s r u name told (inr (is, long)) (inl (g, also, y)) = absurd (read_is_short (held name) y.text told y.read long)
+  one_changes s r u name told (inl (f, is, x)) (inr (also, long)) =
+      absurd (read_is_short (held name) x.text told x.read long)
+  one_changes s r u name told (inr (is, long)) (inl (g, also, y)) =
+      absurd (read_is_short (held name) y.text told y.read long)
   one_changes s r u name told (inr (is, long)) (inr (also, too)) = is ∙ sym also
 
-  not_changes : (s : Scope) (r : Refusal) (c : Course) (name : List ℕ) → IsSome (held name) → AreBadChanges held s r name → ReadsCourse held (Some name) s c → ⊥
+  not_changes : (s : Scope) (r : Refusal) (c : Course) (name : List ℕ) → IsSome (held name)
+      → AreBadChanges held s r name → ReadsCourse held (Some name) s c → ⊥
   not_changes s r c name told (inl (f, is, x)) (t, read, stands) =
       let text : t ≡ x.text = read_once (held name) t x.text told read x.read in
       let own : IsChangeText s x.text c = subst (λ (l : List ℕ). IsChangeText s l c) text stands in
       clear.change_fault s x.text c f own x.faulty
   not_changes s r c name told (inr (is, long)) (t, read, stands) = read_is_short (held name) t told read long
 
-  at_course : (s : Scope) (o : Option (List ℕ)) (r u : Refusal) → IfSome o (λ name. IsSome (held name)) → AtName o (AreBadChanges held s r) → AtName o (AreBadChanges held s u) → r ≡ u
+  at_course : (s : Scope) (o : Option (List ℕ)) (r u : Refusal) → IfSome o (λ name. IsSome (held name))
+      → AtName o (AreBadChanges held s r) → AtName o (AreBadChanges held s u) → r ≡ u
   at_course s None r u told x y = absurd x
   at_course s (Some name) r u told x y = one_changes s r u name told x y
 
-  off_course : (s : Scope) (o : Option (List ℕ)) (r : Refusal) (c : Course) → IfSome o (λ name. IsSome (held name)) → AtName o (AreBadChanges held s r) → ReadsCourse held o s c → ⊥
+  off_course : (s : Scope) (o : Option (List ℕ)) (r : Refusal) (c : Course) → IfSome o (λ name. IsSome (held name))
+      → AtName o (AreBadChanges held s r) → ReadsCourse held o s c → ⊥
   off_course s None r c told x says = x
   off_course s (Some name) r c told x says = not_changes s r c name told x says
 
@@ -260,7 +326,9 @@ pub record CallForOne {W : Type 0} (held : Told) (f : WorldFiles W) (Bad : Refus
   pub none : (w : W) (r : Refusal) → Bad r → f.stand_for held w → ⊥
 
 -- those of a lattice do
-pub lattices_call_for_one : (clear : TextsAreClear) (held : Told) (from : Sources) (moving : Bool) → IsSome (held from.env) → IsSome (held from.prims) → CallForOne held (lattice_files from moving) (AreBadSources held from)
+pub lattices_call_for_one : (clear : TextsAreClear) (held : Told) (from : Sources) (moving : Bool)
+    → IsSome (held from.env) → IsSome (held from.prims)
+    → CallForOne held (lattice_files from moving) (AreBadSources held from)
 lattices_call_for_one clear held from moving told_env told_prims = record {
   cause = λ Failed r. source_cause held Failed from r;
   one = one_source clear held from told_env told_prims;
@@ -273,7 +341,8 @@ IsBadGrid held env r =
     ((f : NavFault) × (r ≡ refusal.Grid f) × IsFaultyGrid held env f)
     ⊎ ((r ≡ refusal.Length input.Environment) × IsTooLong (held env))
 
-grid_cause : (held : Told) (Failed : Names) (env : List ℕ) (r : Refusal) → IsGridCause held Failed env r → IsBadGrid held env r ⊎ IsFailedRead (λ name. name ≡ env) Failed r
+grid_cause : (held : Told) (Failed : Names) (env : List ℕ) (r : Refusal) → IsGridCause held Failed env r
+    → IsBadGrid held env r ⊎ IsFailedRead (λ name. name ≡ env) Failed r
 grid_cause held Failed env (refusal.Grid x) c = inl (inl (x, refl, c))
 grid_cause held Failed env (refusal.Read input.Environment) c = inr (input.Environment, refl, (env, refl, c))
 grid_cause held Failed env (refusal.Length input.Environment) c = inl (inr (refl, c))
@@ -292,7 +361,8 @@ module _ (clear : TextsAreClear) (held : Told) (env : List ℕ) (told : IsSome (
   not_grid : (w : GridWorld) (r : Refusal) → IsBadGrid held env r → ReadsGrid held env w → ⊥
   not_grid w r (inl (f, is, x)) says =
       let text : says.text ≡ x.text = read_once (held env) says.text x.text told says.read x.read in
-      let own : IsGridText x.text w.env says.cells = subst (λ (t : List ℕ). IsGridText t w.env says.cells) text says.stands in
+      let own : IsGridText x.text w.env says.cells =
+      subst (λ (t : List ℕ). IsGridText t w.env says.cells) text says.stands in
       clear.grid_fault x.text w.env says.cells f own x.faulty
   not_grid w r (inr (is, long)) says = read_is_short (held env) says.text told says.read long
 
@@ -300,23 +370,34 @@ module _ (clear : TextsAreClear) (held : Told) (env : List ℕ) (told : IsSome (
   pub grids_call_for_one : CallForOne held (grid_files env) (IsBadGrid held env)
   grids_call_for_one = record { cause = λ Failed r. grid_cause held Failed env r; one = one_grid; none = not_grid }
 
-module _ (clear : TextsAreClear) (held : Told) {W : Type 0} (f : WorldFiles W) (Alike : W → W → Type 0) (stand : StandForOne held f Alike) (Bad : Refusal → Type 0) (calls : CallForOne held f Bad)
+module _ (clear : TextsAreClear) (held : Told) {W : Type 0} (f : WorldFiles W) (Alike : W → W → Type 0)
+    (stand : StandForOne held f Alike) (Bad : Refusal → Type 0) (calls : CallForOne held f Bad)
     (changes : Option (List ℕ)) (told_changes : IfSome changes (λ name. IsSome (held name))) where
   one_bad_course : (r u : Refusal) → IsBadCourse held f changes r → IsBadCourse held f changes u → r ≡ u
   one_bad_course r u (w, says, x) (v, also, y) =
-      at_course clear held (f.scope w) changes r u told_changes x (subst (λ (s : Scope). AtName changes (AreBadChanges held s u)) (stand.scope w v (stand.one w v says also)) y)
+      at_course clear held (f.scope w) changes r u told_changes x
+      (subst (λ (s : Scope). AtName changes (AreBadChanges held s u)) (stand.scope w v (stand.one w v says also)) y)
 
-  not_course : (w : W) (c : Course) (r : Refusal) → IsBadCourse held f changes r → f.stand_for held w → ReadsCourse held changes (f.scope w) c → ⊥
+  not_course : (w : W) (c : Course) (r : Refusal) → IsBadCourse held f changes r → f.stand_for held w
+      → ReadsCourse held changes (f.scope w) c → ⊥
   not_course w c r (v, also, x) says course =
-      off_course clear held (f.scope w) changes r c told_changes (subst (λ (s : Scope). AtName changes (AreBadChanges held s r)) (stand.scope w v (stand.one w v says also)) x) course
+      off_course clear held (f.scope w) changes r c told_changes (subst (λ (s : Scope).
+      AtName changes (AreBadChanges held s r)) (stand.scope w v (stand.one w v says also)) x) course
 
   -- what calls for a refusal before a plan is made
   abbrev pub IsEarlyBad : Refusal → Type 0
   IsEarlyBad r = Bad r ⊎ IsBadCourse held f changes r
 
-  pub early_bad : (Failed : Names) (r : Refusal) → IsEarlyCause held Failed f changes r → IsEarlyBad r ⊎ IsFailedRead (IsEarlyInput f changes) Failed r
-  early_bad Failed r (inl c) = elim (calls.cause Failed r c) [ inl bad ↦ inl (inl bad) | inr out ↦ inr (failed_on f.names (IsEarlyInput f changes) Failed r (λ name is. inl is) out) ]
-  early_bad Failed r (inr c) = elim (course_cause held Failed f changes r c) [ inl bad ↦ inl (inr bad) | inr out ↦ inr (failed_on (IsNamed changes) (IsEarlyInput f changes) Failed r (λ name is. inr is) out) ]
+  pub early_bad : (Failed : Names) (r : Refusal) → IsEarlyCause held Failed f changes r
+      → IsEarlyBad r ⊎ IsFailedRead (IsEarlyInput f changes) Failed r
+  early_bad Failed r (inl c) = elim (calls.cause Failed r c) [
+    | inl bad ↦ inl (inl bad)
+    | inr out ↦ inr (failed_on f.names (IsEarlyInput f changes) Failed r (λ name is. inl is) out)
+  ]
+  early_bad Failed r (inr c) = elim (course_cause held Failed f changes r c) [
+    | inl bad ↦ inl (inr bad)
+    | inr out ↦ inr (failed_on (IsNamed changes) (IsEarlyInput f changes) Failed r (λ name is. inr is) out)
+  ]
 
   pub one_early : (r u : Refusal) → IsEarlyBad r → IsEarlyBad u → r ≡ u
   one_early r u (inl x) (inl y) = calls.one r u x y
@@ -324,7 +405,8 @@ module _ (clear : TextsAreClear) (held : Told) {W : Type 0} (f : WorldFiles W) (
   one_early r u (inr x) (inl y) = absurd (calls.none x.0 u y x.1)
   one_early r u (inr x) (inr y) = one_bad_course r u x y
 
-  pub not_early : (w : W) (c : Course) (r : Refusal) → IsEarlyBad r → f.stand_for held w → ReadsCourse held changes (f.scope w) c → ⊥
+  pub not_early : (w : W) (c : Course) (r : Refusal) → IsEarlyBad r → f.stand_for held w
+      → ReadsCourse held changes (f.scope w) c → ⊥
   not_early w c r (inl x) says course = calls.none w r x says
   not_early w c r (inr x) says course = not_course w c r x says course
 
@@ -333,9 +415,20 @@ module _ (clear : TextsAreClear) (held : Told) {W : Type 0} (f : WorldFiles W) (
     abbrev pub IsCheckBad : Refusal → Type 0
     IsCheckBad r = IsEarlyBad r ⊎ AreBadLabels held f changes labels r
 
-    pub check_bad : (Failed : Names) (r : Refusal) → IsCheckCause held Failed f changes labels r → IsCheckBad r ⊎ IsFailedRead (λ name. IsEarlyInput f changes name ⊎ (name ≡ labels)) Failed r
-    check_bad Failed r (inl c) = elim (early_bad Failed r c) [ inl bad ↦ inl (inl bad) | inr out ↦ inr (failed_on (IsEarlyInput f changes) (λ name. IsEarlyInput f changes name ⊎ (name ≡ labels)) Failed r (λ name is. inl is) out) ]
-    check_bad Failed r (inr c) = elim (labels_cause held Failed f changes labels r c) [ inl bad ↦ inl (inr bad) | inr out ↦ inr (failed_on (λ name. name ≡ labels) (λ name. IsEarlyInput f changes name ⊎ (name ≡ labels)) Failed r (λ name is. inr is) out) ]
+    pub check_bad : (Failed : Names) (r : Refusal) → IsCheckCause held Failed f changes labels r
+        → IsCheckBad r ⊎ IsFailedRead (λ name. IsEarlyInput f changes name ⊎ (name ≡ labels)) Failed r
+    check_bad Failed r (inl c) = elim (early_bad Failed r c) [
+      | inl bad ↦ inl (inl bad)
+      | inr out ↦
+          inr (failed_on (IsEarlyInput f changes) (λ name. IsEarlyInput f changes name ⊎ (name ≡ labels)) Failed r
+          (λ name is. inl is) out)
+    ]
+    check_bad Failed r (inr c) = elim (labels_cause held Failed f changes labels r c) [
+      | inl bad ↦ inl (inr bad)
+      | inr out ↦
+          inr (failed_on (λ name. name ≡ labels) (λ name. IsEarlyInput f changes name ⊎ (name ≡ labels)) Failed r
+          (λ name is. inr is) out)
+    ]
 
     pub one_check : (r u : Refusal) → IsCheckBad r → IsCheckBad u → r ≡ u
     one_check r u (inl x) (inl y) = one_early r u x y
@@ -343,6 +436,8 @@ module _ (clear : TextsAreClear) (held : Told) {W : Type 0} (f : WorldFiles W) (
     one_check r u (inr (w, c, says, course, x)) (inl y) = absurd (not_early w c u y says course)
     one_check r u (inr (w, c, says, course, x)) (inr (v, d, also, too, y)) = x.0 ∙ sym y.0
 
-    pub not_check : IsSome (held labels) → (w : W) (c : Course) (text : List ℕ) (r : Refusal) → IsCheckBad r → f.stand_for held w → ReadsCourse held changes (f.scope w) c → IsReadText (held labels) text → ⊥
+    pub not_check : IsSome (held labels) → (w : W) (c : Course) (text : List ℕ) (r : Refusal) → IsCheckBad r
+        → f.stand_for held w → ReadsCourse held changes (f.scope w) c → IsReadText (held labels) text → ⊥
     not_check told w c text r (inl x) says course read = not_early w c r x says course
-    not_check told w c text r (inr (v, d, also, too, x)) says course read = read_is_short (held labels) text told read x.1
+    not_check told w c text r (inr (v, d, also, too, x)) says course read =
+        read_is_short (held labels) text told read x.1

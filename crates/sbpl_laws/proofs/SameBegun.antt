@@ -25,7 +25,8 @@ pub record AreBegun (count : ℕ) (a b : Marks) (xs ys : List ℕ) : Type 0 wher
 
 module _ {W : Type 0} (on : Site W) (Alike : W → W → Type 0) (alike : AreAlike on Alike) where
   -- alike worlds have one set of states that a change touches
-  touched_on : (end : ArcEnd) (w v : W) (now : CellMap) → Alike w v → on.network w ≡ on.network v → (t : ℕ) → IsAffected on.network on.cells end w now t → IsAffected on.network on.cells end v now t
+  touched_on : (end : ArcEnd) (w v : W) (now : CellMap) → Alike w v → on.network w ≡ on.network v → (t : ℕ)
+      → IsAffected on.network on.cells end w now t → IsAffected on.network on.cells end v now t
   touched_on end w v now a same t is =
       let r = is.reads in
       let reading : IsEndReading on.network on.cells end v is.x is.y t = record {
@@ -36,10 +37,16 @@ module _ {W : Type 0} (on : Site W) (Alike : W → W → Type 0) (alike : AreAli
         reads = alike.reads w v r.source r.number is.x is.y a r.reads;
         at = r.at;
       } in
-      record { x = is.x; y = is.y; changed = subst (λ (m : CellMap). cost_at now is.x is.y ≢ cost_at m is.x is.y) (alike.map w v a) is.changed; reads = reading }
+      record {
+        x = is.x;
+        y = is.y;
+        changed = subst (λ (m : CellMap). cost_at now is.x is.y ≢ cost_at m is.x is.y) (alike.map w v a) is.changed;
+        reads = reading;
+      }
 
   module _ (w v : W) (a : Alike w v) where
-    -- what plans leave to the next one: labels of all states, the start's with no back arc, and a map that gives one graph
+    -- what plans leave to the next one: labels of all states, the
+    -- start's with no back arc, and a map that gives one graph
     pub record IsCarried (b : Carried) : Type 0 where
       pub made : on.cells.is_made (on.cells.over w b.map)
       pub states : states_of b.labels ≡ (on.network (on.cells.over w b.map)).states
@@ -51,35 +58,58 @@ module _ {W : Type 0} (on : Site W) (Alike : W → W → Type 0) (alike : AreAli
     AreCarried (Some b) = IsCarried b
 
     module _ (initial : InitialLabelsAreOne) where
-      initial_begun : (m : CellMap) (start : ℕ) (x y : Marks) (xs ys : List ℕ) → on.network (on.cells.over w m) ≡ on.network (on.cells.over v m)
-          → AreInitial x (on.network (on.cells.over w m)).states start × (xs ≡ []) → AreInitial y (on.network (on.cells.over v m)).states start × (ys ≡ [])
+      initial_begun : (m : CellMap) (start : ℕ) (x y : Marks) (xs ys : List ℕ)
+          → on.network (on.cells.over w m) ≡ on.network (on.cells.over v m)
+          → AreInitial x (on.network (on.cells.over w m)).states start × (xs ≡ [])
+          → AreInitial y (on.network (on.cells.over v m)).states start × (ys ≡ [])
           → AreBegun (on.network (on.cells.over w m)).states x y xs ys
       initial_begun m start x y xs ys same p q =
-          let own : AreInitial y (on.network (on.cells.over w m)).states start = subst (λ (n : Network). AreInitial y n.states start) (sym same) q.0 in
-          record { same = initial x y _ start p.0 own; raised = p.1 ∙ sym q.1; states = p.0.states; no_arc = p.0.no_arc x.start }
+          let own : AreInitial y (on.network (on.cells.over w m)).states start =
+          subst (λ (n : Network). AreInitial y n.states start) (sym same) q.0 in
+          record {
+            same = initial x y _ start p.0 own;
+            raised = p.1 ∙ sym q.1;
+            states = p.0.states;
+            no_arc = p.0.no_arc x.start;
+          }
 
-      module _ {Note : Type 0} (means : Meaning Note) (law : AreBeginningsDetermined means) (d : Direction W) (goes : GoesAlike on Alike d) where
-        with_begun : (m : CellMap) (left : Carried) (x y : Marks) (xs ys : List ℕ) → on.cells.is_made (on.cells.over w m) → on.network (on.cells.over w m) ≡ on.network (on.cells.over v m) → IsCarried left
-            → BeginsWith means on.network on.cells d (on.cells.over (on.cells.over w m) left.map) (on.cells.over w m) left.labels x xs
-            → BeginsWith means on.network on.cells d (on.cells.over (on.cells.over v m) left.map) (on.cells.over v m) left.labels y ys
+      module _ {Note : Type 0} (means : Meaning Note) (law : AreBeginningsDetermined means) (d : Direction W)
+          (goes : GoesAlike on Alike d) where
+        with_begun : (m : CellMap) (left : Carried) (x y : Marks) (xs ys : List ℕ)
+            → on.cells.is_made (on.cells.over w m)
+            → on.network (on.cells.over w m) ≡ on.network (on.cells.over v m) → IsCarried left
+            → BeginsWith means on.network on.cells d (on.cells.over (on.cells.over w m) left.map)
+            (on.cells.over w m) left.labels x xs
+            → BeginsWith means on.network on.cells d (on.cells.over (on.cells.over v m) left.map)
+            (on.cells.over v m) left.labels y ys
             → AreBegun (on.network (on.cells.over w m)).states x y xs ys
         with_begun m left x y xs ys made same carried p q =
             let here : W = on.cells.over w m in
             let there : W = on.cells.over v m in
             let n : Network = d.network here in
-            let own : means.begun n q.touched left.labels y ys = subst (λ (k : Network). means.begun k q.touched left.labels y ys) (sym (goes.network here there same)) q.begun in
-            let old : Alike (on.cells.over here left.map) (on.cells.over there left.map) = alike.over here there left.map (alike.over w v m a) in
+            let own : means.begun n q.touched left.labels y ys =
+            subst (λ (k : Network). means.begun k q.touched left.labels y ys)
+            (sym (goes.network here there same)) q.begun in
+            let old : Alike (on.cells.over here left.map) (on.cells.over there left.map) =
+            alike.over here there left.map (alike.over w v m a) in
             let graph : on.network (on.cells.over here left.map) ≡ on.network (on.cells.over there left.map) =
-            subst (λ (u : W). on.network u ≡ on.network (on.cells.over there left.map)) (sym (alike.again w m left.map)) (subst (λ (u : W). on.network (on.cells.over w left.map) ≡ on.network u) (sym (alike.again v m left.map)) carried.graph)
+            subst (λ (u : W). on.network u ≡ on.network (on.cells.over there left.map)) (sym (alike.again w m left.map))
+            (subst (λ (u : W). on.network (on.cells.over w left.map) ≡ on.network u)
+            (sym (alike.again v m left.map)) carried.graph)
             in
             let maps : on.cells.map here ≡ on.cells.map there = alike.map here there (alike.over w v m a) in
             let both : means.repairs ≡ true → (t : ℕ) → Contains p.touched t ↔ Contains q.touched t = λ repairs t. (
-              λ among. (q.are_touched repairs t).1 (subst (λ (l : CellMap). IsAffected on.network on.cells d.touched (on.cells.over there left.map) l t) maps
-                  (touched_on d.touched (on.cells.over here left.map) (on.cells.over there left.map) (on.cells.map here) old graph t ((p.are_touched repairs t).0 among))),
-              λ among. (p.are_touched repairs t).1 (subst (λ (l : CellMap). IsAffected on.network on.cells d.touched (on.cells.over here left.map) l t) (sym maps)
-                  (touched_on d.touched (on.cells.over there left.map) (on.cells.over here left.map) (on.cells.map there) (alike.back _ _ old) (sym graph) t ((q.are_touched repairs t).0 among))),
+              λ among. (q.are_touched repairs t).1 (subst
+                  (λ (l : CellMap). IsAffected on.network on.cells d.touched (on.cells.over there left.map) l t) maps
+                  (touched_on d.touched (on.cells.over here left.map) (on.cells.over there left.map) (on.cells.map here)
+                  old graph t ((p.are_touched repairs t).0 among))),
+              λ among. (p.are_touched repairs t).1 (subst (λ (l : CellMap).
+                  IsAffected on.network on.cells d.touched (on.cells.over here left.map) l t) (sym maps)
+                  (touched_on d.touched (on.cells.over there left.map) (on.cells.over here left.map)
+                  (on.cells.map there) (alike.back _ _ old) (sym graph) t ((q.are_touched repairs t).0 among))),
             ) in
-            let all : states_of left.labels ≡ n.states = carried.states ∙ alike.sized w left.map m carried.made made ∙ sym (goes.states here) in
+            let all : states_of left.labels ≡ n.states =
+            carried.states ∙ alike.sized w left.map m carried.made made ∙ sym (goes.states here) in
             record {
               same = (law.one n p.touched q.touched left.labels x y xs ys both p.begun own).0;
               raised = (law.one n p.touched q.touched left.labels x y xs ys both p.begun own).1;
@@ -87,7 +117,10 @@ module _ {W : Type 0} (on : Site W) (Alike : W → W → Type 0) (alike : AreAli
               no_arc = law.no_arc n p.touched left.labels x xs carried.no_arc p.begun;
             }
 
-        pub one_begun : (m : CellMap) (from : ℕ) (before : Option Carried) (x y : Marks) (xs ys : List ℕ) → on.cells.is_made (on.cells.over w m) → on.network (on.cells.over w m) ≡ on.network (on.cells.over v m)
-            → AreCarried before → Begins means on d (on.cells.over w m) from before x xs → Begins means on d (on.cells.over v m) from before y ys → AreBegun (on.network (on.cells.over w m)).states x y xs ys
+        pub one_begun : (m : CellMap) (from : ℕ) (before : Option Carried) (x y : Marks) (xs ys : List ℕ)
+            → on.cells.is_made (on.cells.over w m) → on.network (on.cells.over w m) ≡ on.network (on.cells.over v m)
+            → AreCarried before → Begins means on d (on.cells.over w m) from before x xs
+            → Begins means on d (on.cells.over v m) from before y ys
+            → AreBegun (on.network (on.cells.over w m)).states x y xs ys
         one_begun m from None x y xs ys made same carried p q = initial_begun m from x y xs ys same p q
         one_begun m from (Some left) x y xs ys made same carried p q = with_begun m left x y xs ys made same carried p q

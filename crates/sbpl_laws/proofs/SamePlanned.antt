@@ -9,7 +9,8 @@ use Rattle.sbpl_job.specs.declared.job.SearchJob.{SearchJob}
 use Rattle.sbpl_job.specs.declared.job.Sources.{Sources}
 use Rattle.sbpl_report.specs.declared.record.PlanRecord.{PlanRecord}
 use Rattle.sbpl_promises.specs.Asked.{is_determined}
-use Rattle.sbpl_promises.specs.Causes.{ArePlanned, IsReadText, ReadsCourse, ReadsWorld, grid_files, grid_scope, lattice_files, scope_of}
+use Rattle.sbpl_promises.specs.Causes.{ArePlanned, IsReadText, ReadsCourse, ReadsWorld, grid_files}
+use Rattle.sbpl_promises.specs.Causes.{grid_scope, lattice_files, scope_of}
 use Rattle.sbpl_promises.specs.declared.course.Course.{Course}
 use Rattle.sbpl_promises.specs.Determined.{AreAlikeWorlds, FewAreFirst, RecordsAreOne}
 use Rattle.sbpl_plan.specs.declared.found.Found.{Found}
@@ -36,17 +37,24 @@ alike_scopes moving w v alike =
 
 module _ (clear : TextsAreClear) (held : Told) where
   -- the files stand for one world except for how cells stand in the tables of sweeps
-  pub one_world : (from : Sources) (w v : World) → IsSome (held from.env) → IsSome (held from.prims) → ReadsWorld held from w → ReadsWorld held from v → AreAlikeWorlds w v
+  pub one_world : (from : Sources) (w v : World) → IsSome (held from.env) → IsSome (held from.prims)
+      → ReadsWorld held from w → ReadsWorld held from v → AreAlikeWorlds w v
   one_world from w v told_env told_prims x y =
-      let text : y.environment.text ≡ x.environment.text = read_once (held from.env) y.environment.text x.environment.text told_env y.environment.read x.environment.read in
-      let stands : IsEnvironmentText x.environment.text v.env y.cells = subst (λ (t : List ℕ). IsEnvironmentText t v.env y.cells) text y.environment.stands in
+      let text : y.environment.text ≡ x.environment.text =
+      read_once (held from.env) y.environment.text x.environment.text told_env y.environment.read x.environment.read in
+      let stands : IsEnvironmentText x.environment.text v.env y.cells =
+      subst (λ (t : List ℕ). IsEnvironmentText t v.env y.cells) text y.environment.stands in
       let envs = clear.environment x.environment.text v.env w.env y.cells x.cells stands x.environment.stands in
-      let file : y.primitives.text ≡ x.primitives.text = read_once (held from.prims) y.primitives.text x.primitives.text told_prims y.primitives.read x.primitives.read in
-      let said : IsPrimitiveText v.env x.primitives.text v.prims = subst (λ (t : List ℕ). IsPrimitiveText v.env t v.prims) file y.primitives.stands in
-      let own : IsPrimitiveText w.env x.primitives.text v.prims = subst (λ (e : Environment). IsPrimitiveText e x.primitives.text v.prims) envs.0 said in
+      let file : y.primitives.text ≡ x.primitives.text =
+      read_once (held from.prims) y.primitives.text x.primitives.text told_prims y.primitives.read x.primitives.read in
+      let said : IsPrimitiveText v.env x.primitives.text v.prims =
+      subst (λ (t : List ℕ). IsPrimitiveText v.env t v.prims) file y.primitives.stands in
+      let own : IsPrimitiveText w.env x.primitives.text v.prims =
+      subst (λ (e : Environment). IsPrimitiveText e x.primitives.text v.prims) envs.0 said in
       let env = envs.0 in
       let cells = envs.1 in
-      let maps : ◌≡◌ {A = CellMap} (record { width = v.env.width; height = v.env.height; costs = y.cells }) (record { width = w.env.width; height = w.env.height; costs = x.cells }) =
+      let maps : ◌≡◌ {A = CellMap} (record { width = v.env.width; height = v.env.height; costs = y.cells })
+      (record { width = w.env.width; height = w.env.height; costs = x.cells }) =
       λ i. record { width = (env i).width; height = (env i).height; costs = cells i }
       in
       record {
@@ -66,9 +74,12 @@ module _ (clear : TextsAreClear) (held : Told) where
       clear.changes s x.0 c d x.2 own
 
 -- a grid's world comes of its environment and its cells
-pub grid_by : (w v : GridWorld) (cells others : List ℕ) → w.env ≡ v.env → cells ≡ others → w.map ≡ record { width = w.env.width; height = w.env.height; costs = cells } → v.map ≡ record { width = v.env.width; height = v.env.height; costs = others } → w ≡ v
+pub grid_by : (w v : GridWorld) (cells others : List ℕ) → w.env ≡ v.env → cells ≡ others
+    → w.map ≡ record { width = w.env.width; height = w.env.height; costs = cells }
+    → v.map ≡ record { width = v.env.width; height = v.env.height; costs = others } → w ≡ v
 grid_by w v cells others env same x y =
-    let maps : ◌≡◌ {A = CellMap} (record { width = w.env.width; height = w.env.height; costs = cells }) (record { width = v.env.width; height = v.env.height; costs = others }) =
+    let maps : ◌≡◌ {A = CellMap} (record { width = w.env.width; height = w.env.height; costs = cells })
+    (record { width = v.env.width; height = v.env.height; costs = others }) =
     λ i. record { width = (env i).width; height = (env i).height; costs = same i }
     in
     let map : w.map ≡ v.map = x ∙ maps ∙ sym y in
@@ -79,35 +90,50 @@ pub record StandForOne {W : Type 0} (held : Told) (f : WorldFiles W) (Alike : W 
   pub one : (w v : W) → f.stand_for held w → f.stand_for held v → Alike w v
   pub scope : (w v : W) → Alike w v → f.scope v ≡ f.scope w
 
-module _ (clear : TextsAreClear) (held : Told) {W : Type 0} (f : WorldFiles W) (Alike : W → W → Type 0) (stand : StandForOne held f Alike) where
+module _ (clear : TextsAreClear) (held : Told) {W : Type 0} (f : WorldFiles W) (Alike : W → W → Type 0)
+    (stand : StandForOne held f Alike) where
   -- records of plans are the first few of any records of all of them
-  pub few_planned : FewAreFirst f.on Alike → (changes : Option (List ℕ)) (search : SearchJob) (outputs : Outputs) (log : List Entry) (rs us : List PlanRecord) (all : Bool) (broken also : List Found) → IfSome changes (λ name. IsSome (held name))
-      → is_determined search.planner ≡ true → ArePlanned held f changes search outputs rs all log broken → ArePlanned held f changes search outputs us true log also → (rest : List PlanRecord) × (us ≡ rs ++ rest)
+  pub few_planned : FewAreFirst f.on Alike
+      → (changes : Option (List ℕ)) (search : SearchJob) (outputs : Outputs) (log : List Entry)
+      (rs us : List PlanRecord) (all : Bool) (broken also : List Found) → IfSome changes (λ name. IsSome (held name))
+      → is_determined search.planner ≡ true → ArePlanned held f changes search outputs rs all log broken
+      → ArePlanned held f changes search outputs us true log also → (rest : List PlanRecord) × (us ≡ rs ++ rest)
   few_planned first changes search outputs log rs us all broken also told_changes determined x y =
       let alike = stand.one x.world y.world x.says y.says in
-      let read : ReadsCourse held changes (f.scope x.world) y.course = subst (λ (s : Scope). ReadsCourse held changes s y.course) (stand.scope x.world y.world alike) y.changes_say in
-      let course : x.course ≡ y.course = one_course clear held changes (f.scope x.world) x.course y.course told_changes x.changes_say read in
-      let plans : ArePlans f.on y.world x.course search outputs us true log also = subst (λ (c : Course). ArePlans f.on y.world c search outputs us true log also) (sym course) y.plans in
+      let read : ReadsCourse held changes (f.scope x.world) y.course =
+      subst (λ (s : Scope). ReadsCourse held changes s y.course) (stand.scope x.world y.world alike) y.changes_say in
+      let course : x.course ≡ y.course =
+      one_course clear held changes (f.scope x.world) x.course y.course told_changes x.changes_say read in
+      let plans : ArePlans f.on y.world x.course search outputs us true log also =
+      subst (λ (c : Course). ArePlans f.on y.world c search outputs us true log also) (sym course) y.plans in
       first x.world y.world x.course search outputs log rs us all broken also determined alike x.plans plans
 
-  pub one_planned : RecordsAreOne f.on Alike → (changes : Option (List ℕ)) (search : SearchJob) (outputs : Outputs) (log : List Entry) (rs us : List PlanRecord) (broken also : List Found) → IfSome changes (λ name. IsSome (held name))
-      → is_determined search.planner ≡ true → ArePlanned held f changes search outputs rs true log broken → ArePlanned held f changes search outputs us true log also → rs ≡ us
+  pub one_planned : RecordsAreOne f.on Alike
+      → (changes : Option (List ℕ)) (search : SearchJob) (outputs : Outputs) (log : List Entry)
+      (rs us : List PlanRecord) (broken also : List Found) → IfSome changes (λ name. IsSome (held name))
+      → is_determined search.planner ≡ true → ArePlanned held f changes search outputs rs true log broken
+      → ArePlanned held f changes search outputs us true log also → rs ≡ us
   one_planned one changes search outputs log rs us broken also told_changes determined x y =
       let alike = stand.one x.world y.world x.says y.says in
-      let read : ReadsCourse held changes (f.scope x.world) y.course = subst (λ (s : Scope). ReadsCourse held changes s y.course) (stand.scope x.world y.world alike) y.changes_say in
-      let course : x.course ≡ y.course = one_course clear held changes (f.scope x.world) x.course y.course told_changes x.changes_say read in
-      let plans : ArePlans f.on y.world x.course search outputs us true log also = subst (λ (c : Course). ArePlans f.on y.world c search outputs us true log also) (sym course) y.plans in
+      let read : ReadsCourse held changes (f.scope x.world) y.course =
+      subst (λ (s : Scope). ReadsCourse held changes s y.course) (stand.scope x.world y.world alike) y.changes_say in
+      let course : x.course ≡ y.course =
+      one_course clear held changes (f.scope x.world) x.course y.course told_changes x.changes_say read in
+      let plans : ArePlans f.on y.world x.course search outputs us true log also =
+      subst (λ (c : Course). ArePlans f.on y.world c search outputs us true log also) (sym course) y.plans in
       one x.world y.world x.course search outputs log rs us broken also determined alike x.plans plans
 
 -- those of a lattice do
-pub lattices_stand_for_one : (clear : TextsAreClear) (held : Told) (from : Sources) (moving : Bool) → IsSome (held from.env) → IsSome (held from.prims) → StandForOne held (lattice_files from moving) AreAlikeWorlds
+pub lattices_stand_for_one : (clear : TextsAreClear) (held : Told) (from : Sources) (moving : Bool)
+    → IsSome (held from.env) → IsSome (held from.prims) → StandForOne held (lattice_files from moving) AreAlikeWorlds
 lattices_stand_for_one clear held from moving told_env told_prims = record {
   one = λ w v. one_world clear held from w v told_env told_prims;
   scope = alike_scopes moving;
 }
 
 -- those of a grid stand for one world
-pub grids_stand_for_one : (clear : TextsAreClear) (held : Told) (env : List ℕ) → IsSome (held env) → StandForOne held (grid_files env) AreOneGrid
+pub grids_stand_for_one : (clear : TextsAreClear) (held : Told) (env : List ℕ) → IsSome (held env)
+    → StandForOne held (grid_files env) AreOneGrid
 grids_stand_for_one clear held env told = record {
   one = λ w v x y.
       let text : y.text ≡ x.text = read_once (held env) y.text x.text told y.read x.read in

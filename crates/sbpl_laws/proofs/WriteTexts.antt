@@ -1,5 +1,7 @@
 -- That no write of a job is empty, and how many writes there are of plans.
-use Rattle.std.proofs.Common.{◌≡◌, ◌≢◌, ℕ, ◌+◌, ◌*◌, ◌<◌, Bool, true, false, List, [], ◌∷◌, ◌++◌, flat_map, length, map, get_or, slice_get, Option, Some, None, refl, sym, subst, arith, inl, inr, length-append, if◌then◌else◌}
+use Rattle.std.proofs.Common.{◌≡◌, ◌≢◌, ℕ, ◌+◌, ◌*◌, ◌<◌, Bool, true, false, List, [], ◌∷◌, ◌++◌, flat_map}
+use Rattle.std.proofs.Common.{length, map, get_or, slice_get, Option, Some, None, refl, sym, subst, arith, inl}
+use Rattle.std.proofs.Common.{inr, length-append, if◌then◌else◌}
 use Rattle.std.proofs.Math.Nat.{suc-mul}
 use Rattle.std.proofs.lemmas.List.Elements.{All-append, All-cons, All-from_get_or, All-map, All-nil}
 use Rattle.std.proofs.lemmas.List.FromFn.{get_or-range_with_len, length-range_with_len}
@@ -33,7 +35,9 @@ use Rattle.sbpl_promises.specs.Asked.{known}
 use Rattle.sbpl_promises.specs.GridSite.{grid_site, grid_wording}
 use Rattle.sbpl_promises.specs.LatticeSite.{lattice_site, lattice_wording}
 use Rattle.sbpl_promises.specs.Sites.{start_after}
-use Rattle.sbpl_promises.specs.Intents.{Intent, Refused, Planned, Checked, Listed, Demonstrated, OutOfMemory, checked_writes, end_writes, incumbent_writes, labels_writes, last_write, section_writes, stop_writes, trace_writes, writes_of}
+use Rattle.sbpl_promises.specs.Intents.{Intent, Refused, Planned, Checked, Listed, Demonstrated, OutOfMemory}
+use Rattle.sbpl_promises.specs.Intents.{checked_writes, end_writes, incumbent_writes, labels_writes, last_write}
+use Rattle.sbpl_promises.specs.Intents.{section_writes, stop_writes, trace_writes, writes_of}
 use Rattle.sbpl_report.specs.Refusals.{fault_text, refusal_text, unread_text}
 use Rattle.sbpl_report.specs.Shown.{labels_text}
 use Rattle.sbpl_report.specs.Listing.{listing_at, listing_text, listings, prim_text}
@@ -152,15 +156,19 @@ section_full o P r there =
     let written = asked_full o.labels P r.labels there in
     let traced = named_full o.trace (trace_text r) (trace_full r) in
     let shown = named_full o.incumbent (incumbent_text r.incumbent) (incumbent_full r.incumbent) in
-    one_more (to_output (section_text r)) _ (report_full r) (both (labels_writes o r) (trace_writes o r ++ incumbent_writes o r) written (both (trace_writes o r) (incumbent_writes o r) traced shown))
+    one_more (to_output (section_text r)) _ (report_full r) (both (labels_writes o r)
+    (trace_writes o r ++ incumbent_writes o r) written (both (trace_writes o r) (incumbent_writes o r) traced shown))
 
-module _ {W : Type 0} (by : Known W) (w : W) (batches : List (List change.Write)) (how : SearchJob) (o : Outputs) (starts : ℕ → ℕ) (goal : ℕ) where
-  records_full : (k : ℕ) (log : List Entry) (before : Option Carried) (rs : List PlanRecord) → AreRecords by w batches how o starts goal k log before rs
+module _ {W : Type 0} (by : Known W) (w : W) (batches : List (List change.Write)) (how : SearchJob) (o : Outputs)
+    (starts : ℕ → ℕ) (goal : ℕ) where
+  records_full : (k : ℕ) (log : List Entry) (before : Option Carried) (rs : List PlanRecord)
+      → AreRecords by w batches how o starts goal k log before rs
       → NoneEmpty (flat_map (section_writes o) rs)
   records_full k log before [] each = no_writes
   records_full k log before (r ∷ rs) (carried, after, is, rest) =
       let own = section_full o _ r is.searched.labels in
-      both (section_writes o r) (flat_map (section_writes o) rs) own (records_full (k + 1) (with_plan log r) (Some carried) rs rest)
+      both (section_writes o r) (flat_map (section_writes o) rs) own
+      (records_full (k + 1) (with_plan log r) (Some carried) rs rest)
 
 lines_full : (rs : List PlanRecord) → NoneEmpty (flat_map (λ (r : PlanRecord). to_output (plan_line r) ∷ []) rs)
 lines_full [] = no_writes
@@ -171,7 +179,8 @@ stop_full goal plan (section.Flaw f) = one_write _ (flaw_full goal plan f)
 stop_full goal plan (section.Fault f) = one_write _ (fault_full _ _ _ _)
 stop_full goal plan section.NoMemory = no_writes
 
-checked_full : (goals : ℕ → ℕ) (plan : ℕ) (os : List Outcome) (end : Option SectionStop) → NoneEmpty (checked_writes goals plan os end)
+checked_full : (goals : ℕ → ℕ) (plan : ℕ) (os : List Outcome) (end : Option SectionStop)
+    → NoneEmpty (checked_writes goals plan os end)
 checked_full goals plan [] None = last_full
 checked_full goals plan [] (Some e) = stop_full (goals plan) plan e
 checked_full goals plan (o ∷ os) end = one_more _ _ (holds_full plan o) (checked_full goals (plan + 1) os end)
@@ -215,17 +224,22 @@ module _ (held : Told) (from : Sources) (w : World) (says : ReadsWorld held from
 
 -- ---- what a job means to do
 
-intent_full : (held : Told) (Failed : Names) (j : Job) (i : Intent) → GivesIntent held Failed j i → NoneEmpty (writes_of j i)
+intent_full : (held : Told) (Failed : Names) (j : Job) (i : Intent) → GivesIntent held Failed j i
+    → NoneEmpty (writes_of j i)
 intent_full held Failed j (Refused r) gives = one_write _ (refusal_full j r)
 intent_full held Failed j OutOfMemory gives = no_writes
 intent_full held Failed (job.Plan p) (Planned records all log broken) gives =
     let plans = gives.plans in
-    let sections = records_full (known lattice_site p.search.planner) gives.world gives.course.batches p.search p.outputs (start_after lattice_wording gives.world plans.start gives.course.moves) plans.goal 0 log None records plans.each in
+    let sections =
+    records_full (known lattice_site p.search.planner) gives.world gives.course.batches p.search p.outputs
+    (start_after lattice_wording gives.world plans.start gives.course.moves) plans.goal 0 log None records plans.each in
     both _ _ sections (end_full all)
 intent_full held Failed (job.Check c) (Checked goals os end) gives = checked_full goals 0 os end
 intent_full held Failed (job.Nav n) (Planned records all log broken) gives =
     let plans = gives.plans in
-    let sections = records_full (known grid_site n.search.planner) gives.world gives.course.batches n.search n.outputs (start_after grid_wording gives.world plans.start gives.course.moves) plans.goal 0 log None records plans.each in
+    let sections =
+    records_full (known grid_site n.search.planner) gives.world gives.course.batches n.search n.outputs
+    (start_after grid_wording gives.world plans.start gives.course.moves) plans.goal 0 log None records plans.each in
     both _ _ sections (end_full all)
 intent_full held Failed (job.NavCheck n) (Checked goals os end) gives = checked_full goals 0 os end
 intent_full held Failed (job.Sweep from) (Listed w) gives = both _ _ (listed_full held from w gives.0) last_full
@@ -247,7 +261,11 @@ section_length o r =
     let labels = named_length o.labels (labels_text r.labels) in
     let trace = named_length o.trace (trace_text r) in
     let shown = named_length o.incumbent (incumbent_text r.incumbent) in
-    omega (arith, length-append (labels_writes o r) (trace_writes o r ++ incumbent_writes o r), length-append (trace_writes o r) (incumbent_writes o r))
+    omega (
+      arith,
+      length-append (labels_writes o r) (trace_writes o r ++ incumbent_writes o r),
+      length-append (trace_writes o r) (incumbent_writes o r),
+    )
 
 -- where each record has as many
 all_lengths : (f : PlanRecord → List Write) (m : ℕ) → ((r : PlanRecord) → length (f r) ≡ m) → (rs : List PlanRecord)

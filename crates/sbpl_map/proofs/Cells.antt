@@ -1,5 +1,7 @@
 -- Where the cells of a map stand in its list of costs.
-use Rattle.std.proofs.Common.{◌≡◌, ◌≢◌, ℕ, ℤ, pos, negsuc, ◌+◌, ◌*◌, ◌<◌, ◌≤◌, ◌&&◌, List, [], ◌∷◌, zero, suc, inl, inr, option_and_then, length, slice_get, set, get_or, length-set, Option, Some, None, IfSome, nat_lt, refl, ap, sym, ◌∙◌, arith}
+use Rattle.std.proofs.Common.{◌≡◌, ◌≢◌, ℕ, ℤ, pos, negsuc, ◌+◌, ◌*◌, ◌<◌, ◌≤◌, ◌&&◌, List, [], ◌∷◌, zero, suc, inl, inr}
+use Rattle.std.proofs.Common.{option_and_then, length, slice_get, set, get_or, length-set, Option, Some, None, IfSome}
+use Rattle.std.proofs.Common.{nat_lt, refl, ap, sym, ◌∙◌, arith}
 use Rattle.std.proofs.lemmas.Bool.Decides.{nat_tests}
 use Rattle.std.proofs.lemmas.Option.{cond_some, none-some, slice_get-get_or}
 use Rattle.std.proofs.lemmas.Nat.{same_from_place, mul-add-lt}
@@ -37,12 +39,14 @@ index_below m x y p kept e =
     let h = mul-add-lt at.row m.width at.column m.height at.high at.right in
     omega (arith, kept.cells, at.index, h)
 
-pub within : (m : CellMap) (x y : ℤ) → IsCellMap m → (o : Option ℕ) → o ≡ index_in m x y → IfSome o (λ i. i < length m.costs)
+pub within : (m : CellMap) (x y : ℤ) → IsCellMap m → (o : Option ℕ) → o ≡ index_in m x y
+    → IfSome o (λ i. i < length m.costs)
 within m x y kept None e = tt
 within m x y kept (Some p) e = index_below m x y p kept (sym e)
 
 -- two cells with one index are one cell
-pub one_cell : (m : CellMap) (x y u v : ℤ) (p q : ℕ) → index_in m x y ≡ Some p → index_in m u v ≡ Some q → q ≡ p → (u ≡ x) × (v ≡ y)
+pub one_cell : (m : CellMap) (x y u v : ℤ) (p q : ℕ) → index_in m x y ≡ Some p → index_in m u v ≡ Some q
+    → q ≡ p → (u ≡ x) × (v ≡ y)
 one_cell m x y u v p q e f same =
     let a = stands_at m x y p e in
     let b = stands_at m u v q f in
@@ -50,7 +54,8 @@ one_cell m x y u v p q e f same =
     (b.x_is ∙ ap pos one.1 ∙ sym a.x_is, b.y_is ∙ ap pos one.0 ∙ sym a.y_is)
 
 -- the cost at a cell's index is the cell's
-pub cost_read : (m : CellMap) (costs : List ℕ) (x y : ℤ) (p r : ℕ) → IsCellMap m → costs ≡ m.costs → index_in m x y ≡ Some p → r ≡ get_or costs p r → cost_at m x y ≡ Some r
+pub cost_read : (m : CellMap) (costs : List ℕ) (x y : ℤ) (p r : ℕ) → IsCellMap m → costs ≡ m.costs
+    → index_in m x y ≡ Some p → r ≡ get_or costs p r → cost_at m x y ≡ Some r
 cost_read m costs x y p r kept same e s =
     let h = index_below m x y p kept e in
     rw (e, slice_get-get_or m.costs p r h, ← same) (ap Some (sym s))
@@ -68,7 +73,8 @@ slice_get-set_other (x ∷ xs) (suc i) zero y h = refl
 slice_get-set_other (x ∷ xs) (suc i) (suc j) y h = slice_get-set_other xs i j y (λ e. h (ap suc e))
 
 -- what stands at other indices is unchanged
-others_unchanged : (costs : List ℕ) (p c : ℕ) (o : Option ℕ) → ((q : ℕ) → o ≡ Some q → q ≢ p) → option_and_then (slice_get (set costs p c)) o ≡ option_and_then (slice_get costs) o
+others_unchanged : (costs : List ℕ) (p c : ℕ) (o : Option ℕ) → ((q : ℕ) → o ≡ Some q → q ≢ p)
+    → option_and_then (slice_get (set costs p c)) o ≡ option_and_then (slice_get costs) o
 others_unchanged costs p c None other = refl
 others_unchanged costs p c (Some q) other = slice_get-set_other costs p q c (other q refl)
 
@@ -92,7 +98,8 @@ low_after (x ∷ xs) (suc i) c zero b low le = low zero
 low_after (x ∷ xs) (suc i) c (suc k) b low le = low_after xs i c k b (λ j. low (suc j)) le
 
 -- a map stays one when a cost is written
-pub kept_by_write : (m : CellMap) (p c : ℕ) → IsCellMap m → c ≤ 255 → IsCellMap (record { width = m.width; height = m.height; costs = set m.costs p c })
+pub kept_by_write : (m : CellMap) (p c : ℕ) → IsCellMap m → c ≤ 255
+    → IsCellMap (record { width = m.width; height = m.height; costs = set m.costs p c })
 kept_by_write m p c kept le = record {
   width = kept.width;
   height = kept.height;

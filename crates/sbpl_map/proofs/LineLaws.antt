@@ -1,16 +1,20 @@
 -- What is judged of a line is what it tells, or its fault.
-use Rattle.std.proofs.Common.{◌≡◌, ℕ, ℤ, pos, negsuc, ◌||◌, ◌&&◌, true, false, nat_lt, List, [], ◌∷◌, codes, Option, Some, None, Result, Ok, Err, refl, sym, ap, ◌∙◌, inl, inr, arith}
+use Rattle.std.proofs.Common.{◌≡◌, ℕ, ℤ, pos, negsuc, ◌||◌, ◌&&◌, true, false, nat_lt, List, [], ◌∷◌, codes, Option}
+use Rattle.std.proofs.Common.{Some, None, Result, Ok, Err, refl, sym, ap, ◌∙◌, inl, inr, arith}
 use Rattle.std.specs.Prelude.{◌≢◌, ◌<ℤ◌, ◌≤ℤ◌, ◌⊎◌, bytes_eq}
-use Rattle.std.proofs.lemmas.Bool.{cases_Bool, false≢true, or_cases, or_parts, or_from, or_left, or_right, and_parts, and_from, ltb-true, ltb-false, le-ltb, lt-ltb, false_from_ne_true}
+use Rattle.std.proofs.lemmas.Bool.{cases_Bool, false≢true, or_cases, or_parts, or_from, or_left, or_right, and_parts}
+use Rattle.std.proofs.lemmas.Bool.{and_from, ltb-true, ltb-false, le-ltb, lt-ltb, false_from_ne_true}
 use Rattle.std.proofs.lemmas.Int.{ints}
 use Rattle.std.proofs.lemmas.Slice.Eq.{bytes_eq-Decides}
 use Rattle.sbpl_fixed.specs.Numbers.{whole_of}
 use Rattle.sbpl_fixed.specs.declared.fault.NumFault.{NumFault}
 use Rattle.sbpl_fixed.specs.declared.fault.NumFault.TheVariants.{Form, Size}
 use Rattle.sbpl_map.specs.CellMap.{CellMap}
-use Rattle.sbpl_map.specs.ChangeText.{cell_line, start_line, HasThree, IsNoStart, IsNumberBelow, Give, IsCellOnMap, LineTells}
+use Rattle.sbpl_map.specs.ChangeText.{cell_line, start_line, HasThree, IsNoStart, IsNumberBelow}
+use Rattle.sbpl_map.specs.ChangeText.{Give, IsCellOnMap, LineTells}
 use Rattle.sbpl_map.specs.LineFaults.{IsOther, IsNoNumber, IsOutside, HaveNoNumber, AreOutside, AreOffMap, HasLineFault}
-use Rattle.sbpl_map.specs.Reading.{Three, lacks_form, in_range, on_map, measured, numbers, cell_said, start_said, started, three, ended, judged}
+use Rattle.sbpl_map.specs.Reading.{Three, lacks_form, in_range, on_map, measured, numbers, cell_said, start_said}
+use Rattle.sbpl_map.specs.Reading.{started, three, ended, judged}
 use Rattle.sbpl_map.specs.declared.said.Said.{Said}
 use Rattle.sbpl_map.specs.declared.said.Said.TheVariants.{Nothing, Cell, Start, Replan}
 use Rattle.sbpl_map.specs.declared.fault.ChangeFault.{ChangeFault}

@@ -1,13 +1,16 @@
 -- What the lines of a text give is what the text stands for, or its first fault.
-use Rattle.std.proofs.Common.{◌≡◌, ◌≢◌, ℕ, ◌+◌, true, List, [], ◌∷◌, ◌++◌, length, Option, None, Result, Ok, Err, refl, sym, ap, subst, ◌∙◌, inl, inr, arith, add-zero, append-nil, append_assoc}
+use Rattle.std.proofs.Common.{◌≡◌, ◌≢◌, ℕ, ◌+◌, true, List, [], ◌∷◌, ◌++◌, length, Option, None, Result, Ok, Err, refl}
+use Rattle.std.proofs.Common.{sym, ap, subst, ◌∙◌, inl, inr, arith, add-zero, append-nil, append_assoc}
 use Rattle.std.specs.Prelude.{◌⊎◌}
 use Rattle.std.specs.List.{AllByRecursion, flat_map}
 use Rattle.std.specs.Str.Lines.{lines}
 use Rattle.sbpl_map.specs.CellMap.{CellMap}
 use Rattle.sbpl_map.specs.Fields.{fields, has_some}
-use Rattle.sbpl_map.specs.ChangeText.{Given, HasNoStarts, IsNoStart, LineTells, lines_with_fields, LinesTell, said_by, spelled_batch, StandsFor}
+use Rattle.sbpl_map.specs.ChangeText.{Given, HasNoStarts, IsNoStart, LineTells, lines_with_fields, LinesTell}
+use Rattle.sbpl_map.specs.ChangeText.{said_by, spelled_batch, StandsFor}
 use Rattle.sbpl_map.specs.LineFaults.{HasLineFault, AreSound, IsFirstFault, LacksReplan, HasTextFault}
-use Rattle.sbpl_map.specs.Reading.{judged, Drafted, nothing_read, drafted, closed_of, closed, then_on, reads_on, told_by}
+use Rattle.sbpl_map.specs.Reading.{judged, Drafted, nothing_read, drafted, closed_of, closed}
+use Rattle.sbpl_map.specs.Reading.{then_on, reads_on, told_by}
 use Rattle.sbpl_map.specs.declared.said.Said.{Said}
 use Rattle.sbpl_map.specs.declared.said.Said.TheVariants.{Nothing, Cell, Start, Replan}
 use Rattle.sbpl_map.specs.declared.fault.ChangeFault.{ChangeFault}
@@ -51,7 +54,8 @@ fits_none : (left : List (List Given)) → Fits [] left
 fits_none [] = refl
 fits_none (gs ∷ more) = tt
 
-record StandFor (m : CellMap) (headings : Option ℕ) (text_lines : List (List ℕ)) (d : Drafted) (told : List (List Given))
+record StandFor (m : CellMap) (headings : Option ℕ) (text_lines : List (List ℕ)) (d : Drafted)
+    (told : List (List Given))
     : Type 0 where
   left : List (List Given)
   said : LinesTell m headings (lines_with_fields text_lines) (flat_map spelled_batch left)

@@ -1,12 +1,16 @@
 -- What the texts of writes alone, and those of writes and moves, stand for; and that they are alike without starts.
-use Rattle.std.proofs.Common.{◌≡◌, ◌≢◌, ℕ, ◌<◌, List, [], ◌∷◌, map, length, Option, Some, None, Result, Ok, Err, refl, sym, ap, subst, ◌∙◌, inl, inr, arith}
+use Rattle.std.proofs.Common.{◌≡◌, ◌≢◌, ℕ, ◌<◌, List, [], ◌∷◌, map, length, Option, Some, None, Result, Ok, Err, refl}
+use Rattle.std.proofs.Common.{sym, ap, subst, ◌∙◌, inl, inr, arith}
 use Rattle.std.specs.Prelude.{◌⊎◌, ◌↔◌, IfOk, IfErr}
 use Rattle.std.specs.List.{AllByRecursion, filter_map, flat_map, last_or}
 use Rattle.std.specs.Str.Lines.{lines}
 use Rattle.sbpl_cfg.specs.declared.pose.Place.{Place}
 use Rattle.sbpl_fixed.specs.Formats.{Answers}
 use Rattle.sbpl_map.specs.CellMap.{CellMap}
-use Rattle.sbpl_map.specs.ChangeText.{ArePlacesOnMap, AreOnMap, Given, HasNoStarts, IsCellOnMap, IsMovesText, IsMovesTextOf, IsPlaceOnMap, IsText, IsTextOf, IsWriteOnMap, LinesTell, StandsFor, lines_with_fields, no_moves, place_in, place_of, spelled_batch, writes_alone, writes_of}
+use Rattle.sbpl_map.specs.ChangeText.{ArePlacesOnMap, AreOnMap, Given, HasNoStarts, IsCellOnMap, IsMovesText}
+use Rattle.sbpl_map.specs.ChangeText.{IsMovesTextOf, IsPlaceOnMap, IsText, IsTextOf, IsWriteOnMap, LinesTell}
+use Rattle.sbpl_map.specs.ChangeText.{StandsFor, lines_with_fields, no_moves, place_in, place_of}
+use Rattle.sbpl_map.specs.ChangeText.{spelled_batch, writes_alone, writes_of}
 use Rattle.sbpl_map.specs.LineFaults.{HasFault, HasMovesFault, HasTextFault, IsFaulty, IsMovesFaulty}
 use Rattle.sbpl_map.specs.Reading.{alone, parted, told_by}
 use Rattle.sbpl_map.specs.declared.write.Write.{Write}

@@ -3,7 +3,8 @@ use Rattle.std.proofs.Common.{arith, ◌∙◌}
 use Rattle.sbpl_desk.specs.Desk.{DeskState, ReadsOnly}
 
 -- what is only read, and then only read again, is only read
-pub ReadsOnly-through : (before between after : DeskState) → ReadsOnly before between → ReadsOnly between after → ReadsOnly before after
+pub ReadsOnly-through : (before between after : DeskState) → ReadsOnly before between → ReadsOnly between after
+    → ReadsOnly before after
 ReadsOnly-through before between after first second = record {
   held = λ name. second.held name ∙ first.held name;
   written = λ name. second.written name ∙ first.written name;

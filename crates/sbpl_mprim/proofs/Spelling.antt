@@ -1,5 +1,6 @@
 -- What a format says, token by token.
-use Rattle.std.proofs.Common.{◌≡◌, ℕ, ◌≤◌, ℤ, pos, negsuc, Bool, true, false, ◌&&◌, List, [], ◌∷◌, ◌++◌, Result, Ok, Err, refl, ap, subst, arith}
+use Rattle.std.proofs.Common.{◌≡◌, ℕ, ◌≤◌, ℤ, pos, negsuc, Bool, true, false, ◌&&◌, List, [], ◌∷◌, ◌++◌, Result, Ok}
+use Rattle.std.proofs.Common.{Err, refl, ap, subst, arith}
 use Rattle.std.specs.Prelude.{if◌then◌else◌, int_le, bytes_eq, ◌≤ℤ◌, unsigned_abs}
 use Rattle.std.proofs.lemmas.Int.{ints}
 use Rattle.std.proofs.lemmas.Slice.Eq.{bytes_eq-Decides}
@@ -7,7 +8,8 @@ use Rattle.sbpl_fixed.specs.Tokens.{Piece}
 use Rattle.sbpl_fixed.specs.Numbers.{whole_of, nano_of}
 use Rattle.sbpl_fixed.specs.declared.fault.NumFault.{NumFault}
 use Rattle.sbpl_fixed.specs.declared.fault.NumFault.TheVariants.{Form, Size}
-use Rattle.sbpl_fixed.specs.Formats.{Miss, out_of_range, no_word, Format, item, ended, wrong, done, fixed, whole, nano, within, Says}
+use Rattle.sbpl_fixed.specs.Formats.{Miss, out_of_range, no_word, Format, item, ended, wrong, done, fixed, whole}
+use Rattle.sbpl_fixed.specs.Formats.{nano, within, Says}
 use Rattle.sbpl_cfg.specs.Environment.{IsWithin}
 use Rattle.sbpl_mprim.specs.Text.{Saying, a_word, a_whole, a_nano, Means, AreMeant}
 
@@ -19,7 +21,8 @@ Spells headings [] ts rest = rest ≡ ts
 Spells headings (s ∷ ss) [] rest = ⊥
 Spells headings (s ∷ ss) (t ∷ ts) rest = Means headings s t.bytes × Spells headings ss ts rest
 
-pub spells_all : (headings : ℕ) (ss : List Saying) (ts : List Piece) → AreMeant headings ss ts → Spells headings ss ts []
+pub spells_all : (headings : ℕ) (ss : List Saying) (ts : List Piece) → AreMeant headings ss ts
+    → Spells headings ss ts []
 unfolding AreMeant Spells
 spells_all headings [] [] h = refl
 spells_all headings [] (t ∷ ts) h = absurd h
@@ -41,17 +44,20 @@ pub none_spelled : (headings : ℕ) (ts rest : List Piece) → Spells headings [
 unfolding Spells
 none_spelled headings ts rest h = h
 
-pub spells_append : (headings : ℕ) (ss us : List Saying) (ts mid rest : List Piece) → Spells headings ss ts mid → Spells headings us mid rest → Spells headings (ss ++ us) ts rest
+pub spells_append : (headings : ℕ) (ss us : List Saying) (ts mid rest : List Piece) → Spells headings ss ts mid
+    → Spells headings us mid rest → Spells headings (ss ++ us) ts rest
 unfolding Spells
 spells_append headings [] us ts mid rest h k = subst (λ (l : List Piece). Spells headings us l rest) h k
 spells_append headings (s ∷ ss) us [] mid rest h k = absurd h
 spells_append headings (s ∷ ss) us (t ∷ ts) mid rest h k = (h.0, spells_append headings ss us ts mid rest h.1 k)
 
-pub spells_split : (headings : ℕ) (ss us : List Saying) (ts rest : List Piece) → Spells headings (ss ++ us) ts rest → (mid : List Piece) × Spells headings ss ts mid × Spells headings us mid rest
+pub spells_split : (headings : ℕ) (ss us : List Saying) (ts rest : List Piece) → Spells headings (ss ++ us) ts rest
+    → (mid : List Piece) × Spells headings ss ts mid × Spells headings us mid rest
 unfolding Spells
 spells_split headings [] us ts rest h = (ts, refl, h)
 spells_split headings (s ∷ ss) us [] rest h = absurd h
-spells_split headings (s ∷ ss) us (t ∷ ts) rest h = let k = spells_split headings ss us ts rest h.1 in (k.0, (h.0, k.1), k.2)
+spells_split headings (s ∷ ss) us (t ∷ ts) rest h =
+    let k = spells_split headings ss us ts rest h.1 in (k.0, (h.0, k.1), k.2)
 
 -- ---- numbers in a range
 
@@ -70,11 +76,19 @@ was_read n = Ok n
 abbrev ranged : Bool → Bool → ℤ → Result ℤ Miss
 ranged a b n = if a && b then Ok n else Err out_of_range
 
-pub within_tells : (low high v : ℤ) (r : Result ℤ NumFault) → within low high r ≡ Ok v → (r ≡ Ok v) × IsWithin low high v
+pub within_tells : (low high v : ℤ) (r : Result ℤ NumFault) → within low high r ≡ Ok v
+    → (r ≡ Ok v) × IsWithin low high v
 within_tells low high v (Ok n) e =
-    let go : (a b : Bool) → int_le low n ≡ a → int_le n high ≡ b → ranged a b n ≡ Ok v → (was_read n ≡ was_read v) × IsWithin low high v = elim [
+    let go : (a b : Bool) → int_le low n ≡ a → int_le n high ≡ b → ranged a b n ≡ Ok v
+    → (was_read n ≡ was_read v) × IsWithin low high v = elim [
       | true ↦ elim [
-        | true ↦ λ p q h. let same : n ≡ v = cc in (ap was_read same, (subst (λ (z : ℤ). low ≤ℤ z) same (int_le_tells low n p), subst (λ (z : ℤ). z ≤ℤ high) same (int_le_tells n high q)))
+        | true ↦ λ p q h. let same : n ≡ v = cc in (
+          ap was_read same,
+          (
+            subst (λ (z : ℤ). low ≤ℤ z) same (int_le_tells low n p),
+            subst (λ (z : ℤ). z ≤ℤ high) same (int_le_tells n high q),
+          ),
+        )
         | false ↦ λ p q h. absurd cc
       ]
       | false ↦ λ b p q h. absurd cc
@@ -83,7 +97,8 @@ within_tells low high v (Ok n) e =
 within_tells low high v (Err Form) e = absurd cc
 within_tells low high v (Err Size) e = absurd cc
 
-pub natural_is : (high : ℕ) (n : ℤ) → IsWithin (pos 0) (pos high) n → (n ≡ pos (unsigned_abs n)) × (unsigned_abs n ≤ high)
+pub natural_is : (high : ℕ) (n : ℤ) → IsWithin (pos 0) (pos high) n
+    → (n ≡ pos (unsigned_abs n)) × (unsigned_abs n ≤ high)
 natural_is high (pos n) w = (refl, omega (arith, ints, w.1))
 natural_is high (negsuc n) w = absurd (omega (arith, ints, w.0))
 
@@ -105,8 +120,10 @@ fixed_ok word bytes e = let t : bytes_eq bytes word ≡ true = (bytes_eq-Decides
 
 -- ---- the first item, when a format says something
 
--- an item said a value, and the format goes on after it; that token's saying comes before those of the tokens that follow
-pub record Found {E A : Type 0} (headings : ℕ) (more : ℕ → ℤ → Format E A) (saying : ℤ → Saying) (range : ℤ → Type 0) (ts : List Piece) (x : A) (rest : List Piece) : Type 0 where
+-- an item said a value, and the format goes on after it; that
+-- token's saying comes before those of the tokens that follow
+pub record Found {E A : Type 0} (headings : ℕ) (more : ℕ → ℤ → Format E A) (saying : ℤ → Saying) (range : ℤ → Type 0)
+    (ts : List Piece) (x : A) (rest : List Piece) : Type 0 where
   pub place : ℕ
   pub value : ℤ
   pub after : List Piece
@@ -114,7 +131,8 @@ pub record Found {E A : Type 0} (headings : ℕ) (more : ℕ → ℤ → Format 
   pub says : Says (more place value) after x rest
   pub front : (ss : List Saying) → Spells headings ss after rest → Spells headings (saying value ∷ ss) ts rest
 
-pub found_word : {E A : Type 0} (headings : ℕ) (word : List ℕ) (more : ℕ → ℤ → Format E A) (ts : List Piece) (x : A) (rest : List Piece)
+pub found_word : {E A : Type 0} (headings : ℕ) (word : List ℕ) (more : ℕ → ℤ → Format E A) (ts : List Piece)
+    (x : A) (rest : List Piece)
     → Says (item (fixed word) more) ts x rest → Found headings more (λ _. a_word word) (λ _. Unit {0}) ts x rest
 unfolding Says Spells
 found_word headings word more [] x rest h = absurd h
@@ -127,7 +145,8 @@ found_word headings word more (t ∷ ts) x rest h = record {
   front = λ ss k. (fixed_tells word t.bytes h.0 h.1, k);
 }
 
-pub found_whole : {E A : Type 0} (headings : ℕ) (low high : ℤ) (more : ℕ → ℤ → Format E A) (ts : List Piece) (x : A) (rest : List Piece)
+pub found_whole : {E A : Type 0} (headings : ℕ) (low high : ℤ) (more : ℕ → ℤ → Format E A) (ts : List Piece)
+    (x : A) (rest : List Piece)
     → Says (item (whole low high) more) ts x rest → Found headings more a_whole (IsWithin low high) ts x rest
 unfolding Says Spells
 found_whole headings low high more [] x rest h = absurd h
@@ -135,7 +154,8 @@ found_whole headings low high more (t ∷ ts) x rest h =
     let told = within_tells low high h.0 (whole_of t.bytes) h.1 in
     record { place = t.place; value = h.0; after = ts; within = told.1; says = h.2; front = λ ss k. (told.0, k) }
 
-pub found_nano : {E A : Type 0} (headings : ℕ) (low high : ℤ) (more : ℕ → ℤ → Format E A) (ts : List Piece) (x : A) (rest : List Piece)
+pub found_nano : {E A : Type 0} (headings : ℕ) (low high : ℤ) (more : ℕ → ℤ → Format E A) (ts : List Piece)
+    (x : A) (rest : List Piece)
     → Says (item (nano low high) more) ts x rest → Found headings more a_nano (IsWithin low high) ts x rest
 unfolding Says Spells
 found_nano headings low high more [] x rest h = absurd h
@@ -149,43 +169,55 @@ found_nano headings low high more (t ∷ ts) x rest h =
 abbrev pub SaysSome : {E A : Type 0} → (A → Type 0) → Format E A → List Piece → List Piece → Type 0
 SaysSome {E} {A} P f ts rest = (x : A) × P x × Says f ts x rest
 
-pub say_word : {E A : Type 0} (P : A → Type 0) (headings : ℕ) (word : List ℕ) (more : ℕ → ℤ → Format E A) (ss : List Saying) (ts rest : List Piece)
-    → Spells headings (a_word word ∷ ss) ts rest → ((place : ℕ) (us : List Piece) → Spells headings ss us rest → SaysSome P (more place (pos 0)) us rest)
+pub say_word : {E A : Type 0} (P : A → Type 0) (headings : ℕ) (word : List ℕ) (more : ℕ → ℤ → Format E A)
+    (ss : List Saying) (ts rest : List Piece)
+    → Spells headings (a_word word ∷ ss) ts rest
+    → ((place : ℕ) (us : List Piece) → Spells headings ss us rest → SaysSome P (more place (pos 0)) us rest)
     → SaysSome P (item (fixed word) more) ts rest
 unfolding Says Spells
 say_word P headings word more ss [] rest h k = absurd h
-say_word P headings word more ss (t ∷ ts) rest h k = let s = k t.place ts h.1 in (s.0, s.1, (pos 0, fixed_ok word t.bytes h.0, s.2))
+say_word P headings word more ss (t ∷ ts) rest h k =
+    let s = k t.place ts h.1 in (s.0, s.1, (pos 0, fixed_ok word t.bytes h.0, s.2))
 
-pub say_whole : {E A : Type 0} (P : A → Type 0) (headings : ℕ) (low high n : ℤ) (more : ℕ → ℤ → Format E A) (ss : List Saying) (ts rest : List Piece) → IsWithin low high n
-    → Spells headings (a_whole n ∷ ss) ts rest → ((place : ℕ) (us : List Piece) → Spells headings ss us rest → SaysSome P (more place n) us rest)
+pub say_whole : {E A : Type 0} (P : A → Type 0) (headings : ℕ) (low high n : ℤ) (more : ℕ → ℤ → Format E A)
+    (ss : List Saying) (ts rest : List Piece) → IsWithin low high n
+    → Spells headings (a_whole n ∷ ss) ts rest
+    → ((place : ℕ) (us : List Piece) → Spells headings ss us rest → SaysSome P (more place n) us rest)
     → SaysSome P (item (whole low high) more) ts rest
 unfolding Says Spells
 say_whole P headings low high n more ss [] rest w h k = absurd h
-say_whole P headings low high n more ss (t ∷ ts) rest w h k = let s = k t.place ts h.1 in (s.0, s.1, (n, within_ok low high n (whole_of t.bytes) h.0 w, s.2))
+say_whole P headings low high n more ss (t ∷ ts) rest w h k =
+    let s = k t.place ts h.1 in (s.0, s.1, (n, within_ok low high n (whole_of t.bytes) h.0 w, s.2))
 
-pub say_nano : {E A : Type 0} (P : A → Type 0) (headings : ℕ) (low high n : ℤ) (more : ℕ → ℤ → Format E A) (ss : List Saying) (ts rest : List Piece) → IsWithin low high n
-    → Spells headings (a_nano n ∷ ss) ts rest → ((place : ℕ) (us : List Piece) → Spells headings ss us rest → SaysSome P (more place n) us rest)
+pub say_nano : {E A : Type 0} (P : A → Type 0) (headings : ℕ) (low high n : ℤ) (more : ℕ → ℤ → Format E A)
+    (ss : List Saying) (ts rest : List Piece) → IsWithin low high n
+    → Spells headings (a_nano n ∷ ss) ts rest
+    → ((place : ℕ) (us : List Piece) → Spells headings ss us rest → SaysSome P (more place n) us rest)
     → SaysSome P (item (nano low high) more) ts rest
 unfolding Says Spells
 say_nano P headings low high n more ss [] rest w h k = absurd h
-say_nano P headings low high n more ss (t ∷ ts) rest w h k = let s = k t.place ts h.1 in (s.0, s.1, (n, within_ok low high n (nano_of t.bytes) h.0 w, s.2))
+say_nano P headings low high n more ss (t ∷ ts) rest w h k =
+    let s = k t.place ts h.1 in (s.0, s.1, (n, within_ok low high n (nano_of t.bytes) h.0 w, s.2))
 
 -- ---- parts one after the other, and tests in the middle
 
-pub found_test : {E A : Type 0} (b : Bool) (e : E) (f : Format E A) (ts : List Piece) (x : A) (rest : List Piece) → Says (if b then wrong e else f) ts x rest
+pub found_test : {E A : Type 0} (b : Bool) (e : E) (f : Format E A) (ts : List Piece) (x : A) (rest : List Piece)
+    → Says (if b then wrong e else f) ts x rest
     → (b ≡ false) × Says f ts x rest
 unfolding Says
 found_test true e f ts x rest h = absurd h
 found_test false e f ts x rest h = (refl, h)
 
-pub say_test : {E A : Type 0} (b : Bool) (e : E) (f : Format E A) (ts : List Piece) (x : A) (rest : List Piece) → b ≡ false → Says f ts x rest
+pub say_test : {E A : Type 0} (b : Bool) (e : E) (f : Format E A) (ts : List Piece) (x : A) (rest : List Piece)
+    → b ≡ false → Says f ts x rest
     → Says (if b then wrong e else f) ts x rest
 say_test b e f ts x rest p h = rw p h
 
 abbrev pub just : {E A : Type 0} → A → Format E A
 just x = done x
 
-pub found_done : {A : Type 0} (E : Type 0) (y : A) (ts : List Piece) (x : A) (rest : List Piece) → Says (just {E = E} y) ts x rest → (x ≡ y) × (rest ≡ ts)
+pub found_done : {A : Type 0} (E : Type 0) (y : A) (ts : List Piece) (x : A) (rest : List Piece)
+    → Says (just {E = E} y) ts x rest → (x ≡ y) × (rest ≡ ts)
 unfolding Says
 found_done E y ts x rest h = h
 
@@ -194,21 +226,25 @@ unfolding Says
 say_done E x ts rest e = (refl, e)
 
 -- what a format says of just one value
-pub just_said : {E A : Type 0} (y : A) (f : Format E A) (ts rest : List Piece) → SaysSome (λ x. x ≡ y) f ts rest → Says f ts y rest
+pub just_said : {E A : Type 0} (y : A) (f : Format E A) (ts rest : List Piece)
+    → SaysSome (λ x. x ≡ y) f ts rest → Says f ts y rest
 just_said {E} {A} y f ts rest h = subst (λ (x : A). Says f ts x rest) h.1 h.2
 
-pub found_yes : {E A : Type 0} (b : Bool) (e : E) (f : Format E A) (ts : List Piece) (x : A) (rest : List Piece) → Says (if b then f else wrong e) ts x rest
+pub found_yes : {E A : Type 0} (b : Bool) (e : E) (f : Format E A) (ts : List Piece) (x : A) (rest : List Piece)
+    → Says (if b then f else wrong e) ts x rest
     → (b ≡ true) × Says f ts x rest
 unfolding Says
 found_yes true e f ts x rest h = (refl, h)
 found_yes false e f ts x rest h = absurd h
 
-pub say_yes : {E A : Type 0} (b : Bool) (e : E) (f : Format E A) (ts : List Piece) (x : A) (rest : List Piece) → b ≡ true → Says f ts x rest
+pub say_yes : {E A : Type 0} (b : Bool) (e : E) (f : Format E A) (ts : List Piece) (x : A) (rest : List Piece)
+    → b ≡ true → Says f ts x rest
     → Says (if b then f else wrong e) ts x rest
 say_yes b e f ts x rest p h = rw p h
 
 -- nothing stands after the last token
-pub found_end : {A : Type 0} (E : Type 0) (y : A) (ts : List Piece) (x : A) (rest : List Piece) → Says (ended (just {E = E} y)) ts x rest → (ts ≡ []) × (x ≡ y)
+pub found_end : {A : Type 0} (E : Type 0) (y : A) (ts : List Piece) (x : A) (rest : List Piece)
+    → Says (ended (just {E = E} y)) ts x rest → (ts ≡ []) × (x ≡ y)
 unfolding Says
 found_end E y [] x rest h = (refl, h.0)
 found_end E y (t ∷ ts) x rest h = absurd h

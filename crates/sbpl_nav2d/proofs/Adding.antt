@@ -1,5 +1,7 @@
 -- Ends of arcs are appended to a list, one kind of arcs after another.
-use Rattle.std.proofs.Common.{◌≡◌, ℕ, ℤ, pos, ◌+◌, ◌*◌, ◌<◌, ◌≤◌, ◌+ℤ◌, ◌⊎◌, inl, inr, true, false, zero, suc, List, [], ◌∷◌, ◌++◌, slice_get, Option, Some, None, IfSome, IfNone, refl, sym, ap, ◌∙◌, subst, append_assoc, append-nil, length-append, arith}
+use Rattle.std.proofs.Common.{◌≡◌, ℕ, ℤ, pos, ◌+◌, ◌*◌, ◌<◌, ◌≤◌, ◌+ℤ◌, ◌⊎◌, inl, inr, true, false, zero, suc, List, []}
+use Rattle.std.proofs.Common.{◌∷◌, ◌++◌, slice_get, Option, Some, None, IfSome, IfNone, refl, sym, ap, ◌∙◌, subst}
+use Rattle.std.proofs.Common.{append_assoc, append-nil, length-append, arith}
 use Rattle.std.specs.List.{AllByRecursion, cons_option}
 use Rattle.std.proofs.lemmas.Bool.{cases_lt}
 use Rattle.std.proofs.lemmas.Option.{none-some, same_Some}
@@ -24,7 +26,8 @@ use Rattle.sbpl_nav2d.proofs.Places.{found, same_cell, state_again, state_here, 
 
 -- ---- lists of arcs
 
-ends_append : (end : ArcEnd) (n : Network) (ar bs : List (ℕ × ℕ)) (ts us : List ℕ) → AreAtEnd end n ar ts → AreAtEnd end n bs us
+ends_append : (end : ArcEnd) (n : Network) (ar bs : List (ℕ × ℕ)) (ts us : List ℕ)
+    → AreAtEnd end n ar ts → AreAtEnd end n bs us
     → AreAtEnd end n (ar ++ bs) (ts ++ us)
 ends_append end n [] bs [] us h k = k
 ends_append end n [] bs (t ∷ ts) us h k = absurd h
@@ -66,7 +69,8 @@ adds_none end n P old new most none same = record {
 }
 
 -- just one arc of a kind
-pub adds_one : (end : ArcEnd) (n : Network) (P : ℕ → ℕ → Type 0) (old new : List ℕ) (s k head t : ℕ) → IsArc n s k head → t ≡ state_at_end end (s, head) → P s k
+pub adds_one : (end : ArcEnd) (n : Network) (P : ℕ → ℕ → Type 0) (old new : List ℕ) (s k head t : ℕ) → IsArc n s k head
+    → t ≡ state_at_end end (s, head) → P s k
     → ((a b u : ℕ) → IsArc n a b u → P a b → (a ≡ s) × (b ≡ k)) → new ≡ old ++ t ∷ [] → Adds end n P old new 1
 adds_one end n P old new s k head t arc at is alone kept = record {
   added = t ∷ [];
@@ -79,7 +83,8 @@ adds_one end n P old new s k head t arc at is alone kept = record {
 }
 
 -- the arcs of two kinds are those of a third
-pub adds_both : (end : ArcEnd) (n : Network) (P Q R : ℕ → ℕ → Type 0) (old mid new : List ℕ) (x y most : ℕ) → Adds end n P old mid x
+pub adds_both : (end : ArcEnd) (n : Network) (P Q R : ℕ → ℕ → Type 0) (old mid new : List ℕ) (x y most : ℕ)
+    → Adds end n P old mid x
     → Adds end n Q mid new y
     → ((s k : ℕ) → P s k → R s k) → ((s k : ℕ) → Q s k → R s k) → ((s k t : ℕ) → IsArc n s k t → R s k → P s k ⊎ Q s k)
     → x + y ≤ most → Adds end n R old new most
@@ -99,7 +104,8 @@ adds_both end n P Q R old mid new x y most a b first second either bound = recor
 }
 
 -- the arcs of one kind are those of another
-pub adds_by : (end : ArcEnd) (n : Network) (P R : ℕ → ℕ → Type 0) (old new : List ℕ) (x most : ℕ) → Adds end n P old new x
+pub adds_by : (end : ArcEnd) (n : Network) (P R : ℕ → ℕ → Type 0) (old new : List ℕ) (x most : ℕ)
+    → Adds end n P old new x
     → ((s k : ℕ) → P s k → R s k) → ((s k t : ℕ) → IsArc n s k t → R s k → P s k) → x ≤ most → Adds end n R old new most
 adds_by end n P R old new x most a there back bound = record {
   added = a.added;
@@ -124,7 +130,8 @@ extends_on old mid new a b =
 pub extends_same : (old new : List ℕ) → new ≡ old → Extends old new
 extends_same old new same = record { added = []; kept = same ∙ sym (append-nil old) }
 
-pub extends_by : (end : ArcEnd) (n : Network) (P : ℕ → ℕ → Type 0) (old new : List ℕ) (most : ℕ) → Adds end n P old new most
+pub extends_by : (end : ArcEnd) (n : Network) (P : ℕ → ℕ → Type 0) (old new : List ℕ) (most : ℕ)
+    → Adds end n P old new most
     → Extends old new
 extends_by end n P old new most a = record { added = a.added; kept = a.kept }
 
@@ -154,7 +161,8 @@ module _ (end : ArcEnd) (w : GridWorld) (k : ℕ) (offset cell : Cell) where
   pushed None old new some none kept =
       adds_none end (network_of w) (ReadsAs w k offset cell) old new 1 none (kept ∙ append-nil old)
   pushed (Some t) old new some none kept =
-      adds_one end (network_of w) (ReadsAs w k offset cell) old new some.source k some.head t some.arc some.at some.reads
+      adds_one end (network_of w) (ReadsAs w k offset cell) old new some.source k some.head t
+      some.arc some.at some.reads
       (λ a b u arc is. (
         one_state w a some.source
             (source_is w k offset cell a b is ∙ sym (source_is w k offset cell some.source k some.reads)),
@@ -278,17 +286,20 @@ module _ (end : ArcEnd) (w : GridWorld) (k : ℕ) (cell : Cell) where
       (λ s n t arc is. elim
       (reads_either s n is) [ inl h ↦ h | inr h ↦ absurd (let no : true ≡ false = sym h.0 ∙ d in cc) ]) bound
 
-  pub diagonal_added : (old mid new : List ℕ) (most : ℕ) → is_diagonal k ≡ true → Adds end (network_of w) ByEnds old mid 2
+  pub diagonal_added : (old mid new : List ℕ) (most : ℕ) → is_diagonal k ≡ true
+      → Adds end (network_of w) ByEnds old mid 2
       → Adds end (network_of w) BySides mid new 2 → 4 ≤ most
       → Adds end (network_of w) (ReadsIn w k cell) old new most
   diagonal_added old mid new most d ends sides bound =
-      adds_both end (network_of w) ByEnds BySides (ReadsIn w k cell) old mid new 2 2 most ends sides by_ends (by_sides d)
+      adds_both end (network_of w) ByEnds BySides (ReadsIn w k cell) old mid new 2 2 most ends
+      sides by_ends (by_sides d)
       (λ s n t arc is. elim (reads_either s n is) [ inl h ↦ inl h | inr h ↦ inr h.1 ]) bound
 
 -- ---- all directions in turn
 
 module _ (end : ArcEnd) (w : GridWorld) (cell : Cell) where
-  pub no_direction : (old new : List ℕ) (most : ℕ) → new ≡ old → Adds end (network_of w) (ReadsBelow w 0 cell) old new most
+  pub no_direction : (old new : List ℕ) (most : ℕ) → new ≡ old
+      → Adds end (network_of w) (ReadsBelow w 0 cell) old new most
   no_direction old new most same =
       adds_none end (network_of w) (ReadsBelow w 0 cell) old new most
       (λ s n t arc is. let before = is.before in absurd (omega arith)) same
@@ -318,7 +329,8 @@ record IsEndOf (end : ArcEnd) (n : Network) (P : ℕ → ℕ → Type 0) (t : �
   at : t ≡ state_at_end end (source, head)
   is : P source number
 
-ends_sound : (end : ArcEnd) (n : Network) (P : ℕ → ℕ → Type 0) (arcs : List (ℕ × ℕ)) (added : List ℕ) (i t : ℕ) → AreAtEnd end n arcs added
+ends_sound : (end : ArcEnd) (n : Network) (P : ℕ → ℕ → Type 0) (arcs : List (ℕ × ℕ)) (added : List ℕ) (i t : ℕ)
+    → AreAtEnd end n arcs added
     → AllByRecursion (λ (a : ℕ × ℕ). P a.0 a.1) arcs → slice_get added i ≡ Some t → IsEndOf end n P t
 ends_sound end n P [] [] i t h all e = absurd (none-some t e)
 ends_sound end n P [] (u ∷ us) i t h all e = absurd h
@@ -332,20 +344,24 @@ same_head n s k a b t u source number here there =
     let own : n.head s k ≡ Some u = ap (λ x. n.head x k) source ∙ ap (λ x. n.head a x) number ∙ there in
     same_Some t u (sym here ∙ own)
 
-ends_complete : (end : ArcEnd) (n : Network) (arcs : List (ℕ × ℕ)) (added : List ℕ) (s k head t : ℕ) → AreAtEnd end n arcs added
-    → IsAmong s k arcs → n.head s k ≡ Some head → t ≡ state_at_end end (s, head) → (i : ℕ) × (slice_get added i ≡ Some t)
+ends_complete : (end : ArcEnd) (n : Network) (arcs : List (ℕ × ℕ)) (added : List ℕ) (s k head t : ℕ)
+    → AreAtEnd end n arcs added
+    → IsAmong s k arcs → n.head s k ≡ Some head → t ≡ state_at_end end (s, head)
+    → (i : ℕ) × (slice_get added i ≡ Some t)
 ends_complete end n [] added s k head t h among e at = absurd among
 ends_complete end n (a ∷ ar) [] s k head t h among e at = absurd h
 ends_complete end n (a ∷ ar) (u ∷ us) s k head t h (inl is) e at =
     let one : head ≡ h.0.0 = same_head n s k a.0 a.1 head h.0.0 is.0 is.1 e h.0.1.head in
-    let same : u ≡ t = h.0.2 ∙ ap (λ x. state_at_end end (x, h.0.0)) (sym is.0) ∙ ap (λ x. state_at_end end (s, x)) (sym one) ∙ sym at in
+    let same : u ≡ t =
+    h.0.2 ∙ ap (λ x. state_at_end end (x, h.0.0)) (sym is.0) ∙ ap (λ x. state_at_end end (s, x)) (sym one) ∙ sym at in
     (0, ap (λ x. Some x) same)
 ends_complete end n (a ∷ ar) (u ∷ us) s k head t h (inr is) e at =
     let rest = ends_complete end n ar us s k head t h.1 is e at in
     (suc rest.0, rest.1)
 
 -- the end of an arc is a state
-end_is_state : (end : ArcEnd) (n : Network) (s t z : ℕ) → s < n.states → t < n.states → z ≡ state_at_end end (s, t) → z < n.states
+end_is_state : (end : ArcEnd) (n : Network) (s t z : ℕ) → s < n.states → t < n.states
+    → z ≡ state_at_end end (s, t) → z < n.states
 end_is_state end.Source n s t z source head is = subst (λ x. x < n.states) (sym is) source
 end_is_state end.Head n s t z source head is = subst (λ x. x < n.states) (sym is) head
 
@@ -355,7 +371,8 @@ adds_few_ends end w cell old new a =
     let n = network_of w in
     let each : (s k t : ℕ) → IsArc n s k t → ReadsCell w s k cell.x cell.y → IsAmong s k a.arcs = λ s k t arc reads.
     a.each s k t arc (record { before = rw fan_is at arc.number; reads = reads }) in
-    let sound : (i t : ℕ) → slice_get a.added i ≡ Some t → IsEndReading network_of grid_cells end w cell.x cell.y t = λ i t e.
+    let sound : (i t : ℕ) → slice_get a.added i ≡ Some t → IsEndReading network_of grid_cells end w cell.x cell.y t =
+    λ i t e.
     let of = ends_sound end n (ReadsBelow w 8 cell) a.arcs a.added i t a.ends a.sound e in
     record { source = of.source; number = of.number; head = of.head; arc = of.arc; reads = of.is.reads; at = of.at } in
     record {
@@ -367,7 +384,9 @@ adds_few_ends end w cell old new a =
             (each h.source h.number h.head h.arc h.reads) h.arc.head h.at;
         states = λ i t e.
             let h = sound i t e in
-            let inside : h.head < n.states = subst (λ (x : ℕ). h.head < x) (sym (states_are w)) (found w _ h.head (sym (head_is w h.source h.number) ∙ h.arc.head)).inside in
+            let inside : h.head < n.states =
+            subst (λ (x : ℕ). h.head < x) (sym (states_are w))
+            (found w _ h.head (sym (head_is w h.source h.number) ∙ h.arc.head)).inside in
             end_is_state end n h.source h.head t h.arc.source inside h.at;
       };
       arcs = a.arcs;

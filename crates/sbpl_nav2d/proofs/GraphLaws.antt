@@ -1,5 +1,6 @@
 -- A grid keeps the laws of a graph.
-use Rattle.std.proofs.Common.{◌≡◌, ℕ, pos, ◌+◌, ◌*◌, ◌^◌, ◌<◌, ◌≤◌, ◌+ℤ◌, inl, inr, List, Option, Some, None, option_and_then, IsSome, IsSomeAnd, slice_get, refl, ap, sym, subst, ◌∙◌, arith}
+use Rattle.std.proofs.Common.{◌≡◌, ℕ, pos, ◌+◌, ◌*◌, ◌^◌, ◌<◌, ◌≤◌, ◌+ℤ◌, inl, inr, List, Option, Some, None}
+use Rattle.std.proofs.Common.{option_and_then, IsSome, IsSomeAnd, slice_get, refl, ap, sym, subst, ◌∙◌, arith}
 use Rattle.std.specs.Int.{abs_diff}
 use Rattle.std.proofs.Math.Nat.{mul-le-mul}
 use Rattle.std.proofs.lemmas.Bool.{cases_Bool}

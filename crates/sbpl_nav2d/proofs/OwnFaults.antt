@@ -5,12 +5,15 @@ use Rattle.sbpl_fixed.specs.Formats.{done}
 use Rattle.sbpl_fixed.specs.Tokens.{tokens}
 use Rattle.sbpl_fixed.specs.declared.fault.TextFault.{TextFault}
 use Rattle.sbpl_fixed.specs.declared.fault.TextFault.TheVariants as common
-use Rattle.sbpl_fixed.specs.OwnFaults.{Spares, and_then_spares, done_spares, right_spares, spared, turns_spare, wrong_spares}
+use Rattle.sbpl_fixed.specs.OwnFaults.{Spares, and_then_spares, done_spares, right_spares}
+use Rattle.sbpl_fixed.specs.OwnFaults.{spared, turns_spare, wrong_spares}
 use Rattle.sbpl_nav2d.specs.declared.fault.NavFault.{NavFault}
 use Rattle.sbpl_nav2d.specs.declared.fault.NavFault.TheVariants.{NoMemory, TooLarge, StartOff, EndOff}
 use Rattle.sbpl_nav2d.specs.declared.parts.Size.{Size}
 use Rattle.sbpl_nav2d.specs.Faults.{told}
-use Rattle.sbpl_nav2d.specs.Format.{size_format, obsthresh_format, spot_format, start_spot_format, end_spot_format, start_format, end_format, numbers_format, cost_format, grid_format, environment_format}
+use Rattle.sbpl_nav2d.specs.Format.{size_format, obsthresh_format, spot_format, start_spot_format}
+use Rattle.sbpl_nav2d.specs.Format.{end_spot_format, start_format, end_format, numbers_format}
+use Rattle.sbpl_nav2d.specs.Format.{cost_format, grid_format, environment_format}
 use Rattle.sbpl_nav2d.specs.Text.{HasFault}
 
 told_spares : (t : TextFault) → told t ≢ NoMemory

@@ -1,5 +1,7 @@
 -- The format of a grid's environment and its list of tokens say the same.
-use Rattle.std.proofs.Common.{◌≡◌, ℕ, ℤ, pos, negsuc, zero, suc, ◌*◌, ◌/◌, ◌<◌, ◌≤◌, ◌≤ℤ◌, true, false, nat_lt, List, [], ◌∷◌, ◌++◌, length, map, codes, Ok, refl, sym, ap, subst, ◌∙◌, append_assoc, append-nil, arith}
+use Rattle.std.proofs.Common.{◌≡◌, ℕ, ℤ, pos, negsuc, zero, suc, ◌*◌, ◌/◌, ◌<◌, ◌≤◌, ◌≤ℤ◌, true, false, nat_lt}
+use Rattle.std.proofs.Common.{List, [], ◌∷◌, ◌++◌, length, map, codes, Ok, refl, sym, ap, subst, ◌∙◌}
+use Rattle.std.proofs.Common.{append_assoc, append-nil, arith}
 use Rattle.std.specs.Prelude.{nat_abs}
 use Rattle.std.specs.List.{AllByRecursion}
 use Rattle.std.proofs.lemmas.Bool.{and_from, and_parts, ltb-false, ltb-true, le-ltb, lt-ltb}
@@ -14,11 +16,14 @@ use Rattle.sbpl_fixed.specs.Parts.{says_both, says_parts}
 use Rattle.sbpl_fixed.specs.declared.placed.Placed.{Placed}
 use Rattle.sbpl_cfg.specs.Environment.{IsWithin}
 use Rattle.sbpl_cfg.specs.Text.{Said, word, number, spelled_grid}
-use Rattle.sbpl_cfg.proofs.Items.{Begins, all_begins, append_begins, at_end, begins_all, begins_append, fixed_is, if_right, is_fixed, is_within, unless_wrong, within_is}
+use Rattle.sbpl_cfg.proofs.Items.{Begins, all_begins, append_begins, at_end, begins_all, begins_append, fixed_is}
+use Rattle.sbpl_cfg.proofs.Items.{if_right, is_fixed, is_within, unless_wrong, within_is}
 use Rattle.sbpl_nav2d.specs.declared.parts.Size.{Size}
 use Rattle.sbpl_nav2d.specs.declared.parts.Spot.{Spot}
 use Rattle.sbpl_nav2d.specs.Environment.{NavEnvironment, IsNavEnvironment, column_of, row_of}
-use Rattle.sbpl_nav2d.specs.Format.{size_format, obsthresh_format, spot_format, start_spot_format, end_spot_format, start_format, end_format, numbers_format, cost_format, grid_format, environment_format, is_on_map, state_of}
+use Rattle.sbpl_nav2d.specs.Format.{size_format, obsthresh_format, spot_format, start_spot_format, end_spot_format}
+use Rattle.sbpl_nav2d.specs.Format.{start_format, end_format, numbers_format, cost_format, grid_format}
+use Rattle.sbpl_nav2d.specs.Format.{environment_format, is_on_map, state_of}
 use Rattle.sbpl_nav2d.specs.Text.{IsTextOf, spelled, spelled_numbers, spelled_state}
 
 -- ---- numbers of zero or more

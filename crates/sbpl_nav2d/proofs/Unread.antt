@@ -1,5 +1,6 @@
 -- Arcs cost the same on two maps on which the cells that they read do.
-use Rattle.std.proofs.Common.{◌≡◌, ℕ, ℤ, pos, negsuc, ◌+◌, ◌*◌, ◌+ℤ◌, ◌≢◌, ◌⊎◌, inl, inr, Bool, true, false, Option, option_map, refl, sym, ap, ◌∙◌, subst, arith}
+use Rattle.std.proofs.Common.{◌≡◌, ℕ, ℤ, pos, negsuc, ◌+◌, ◌*◌, ◌+ℤ◌, ◌≢◌, ◌⊎◌, inl, inr, Bool, true, false, Option}
+use Rattle.std.proofs.Common.{option_map, refl, sym, ap, ◌∙◌, subst, arith}
 use Rattle.std.specs.Ordering.{int_eq}
 use Rattle.std.proofs.Math.Path.{fun_ext}
 use Rattle.std.proofs.lemmas.Bool.{cases_Bool}
@@ -52,7 +53,8 @@ module _ (w : GridWorld) (m : CellMap) (size : HasSize w m) where
   same_gap a b = gap_is (over_map w m) a b ∙ ap (λ n. gap_of n a b) size.width ∙ sym (gap_is w a b)
 
 -- another map changes costs alone
-pub maps_change_costs_alone : (w : GridWorld) (m : CellMap) → HasSize w m → DifferInCostsAlone (network_of (over_map w m)) (network_of w)
+pub maps_change_costs_alone : (w : GridWorld) (m : CellMap) → HasSize w m
+    → DifferInCostsAlone (network_of (over_map w m)) (network_of w)
 maps_change_costs_alone w m size = record {
   states = states_are (over_map w m) ∙ ap (λ n. n * m.height) size.width ∙ ap (λ n. w.map.width * n) size.height
       ∙ sym (states_are w);
@@ -111,7 +113,8 @@ same_greatest w m s k limit same =
     ]
 
 -- where all cells that an arc reads cost the same on another map, so does the arc
-pub unread_arcs_cost_the_same : (w : GridWorld) (m : CellMap) (s k : ℕ) → HasSize w m → ((x y : ℤ) → ReadsCell w s k x y → cost_at m x y ≡ cost_at w.map x y)
+pub unread_arcs_cost_the_same : (w : GridWorld) (m : CellMap) (s k : ℕ) → HasSize w m
+    → ((x y : ℤ) → ReadsCell w s k x y → cost_at m x y ≡ cost_at w.map x y)
     → (network_of (over_map w m)).cost s k ≡ (network_of w).cost s k
 unread_arcs_cost_the_same w m s k size same =
     let price : Option ℕ → Option ℕ = option_map (λ greatest. step_cost k * (greatest + 1)) in

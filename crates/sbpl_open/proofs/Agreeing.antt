@@ -1,5 +1,6 @@
 -- The table of slots goes on agreeing with the heap.
-use Rattle.std.proofs.Common.{◌≡◌, ◌≢◌, ℕ, ◌+◌, ◌-◌, ◌<◌, ◌≤◌, List, [], ◌∷◌, ◌++◌, length, slice_index, slice_set, arith, ⊎_elim, refl, sym, ◌∙◌, ap}
+use Rattle.std.proofs.Common.{◌≡◌, ◌≢◌, ℕ, ◌+◌, ◌-◌, ◌<◌, ◌≤◌, List, [], ◌∷◌, ◌++◌, length, slice_index, slice_set}
+use Rattle.std.proofs.Common.{arith, ⊎_elim, refl, sym, ◌∙◌, ap}
 use Rattle.std.proofs.lemmas.Grind.{elements}
 use Rattle.std.proofs.lemmas.List.{length_push, get_or_append_left, get_or_push}
 use Rattle.std.proofs.lemmas.Bool.{cases_eq, cases_lt}
@@ -24,7 +25,8 @@ pub record IsPlaced (old new : List ℕ) (s u a b : ℕ) : Type 0 where
   pub others : (x : ℕ) → x ≢ s → x ≢ u → slice_index new x ≡ slice_index old x
 
 -- two states have changed slots
-pub agreed_swapped : {heap heap' : List Entry} {slots slots' : List ℕ} (a b : ℕ) → a < length heap → b < length heap → AreAgreed heap slots
+pub agreed_swapped : {heap heap' : List Entry} {slots slots' : List ℕ} (a b : ℕ) → a < length heap
+    → b < length heap → AreAgreed heap slots
     → length heap' ≡ length heap → IsSwapped (entry_at heap) (entry_at heap') a b
     → IsPlaced slots slots' (state_at heap a) (state_at heap b) (a + 1) (b + 1) → AreAgreed heap' slots'
 agreed_swapped {heap} {heap'} {slots} {slots'} a b in_a in_b agreed same swapped placed =
@@ -49,9 +51,12 @@ agreed_swapped {heap} {heap'} {slots} {slots'} a b in_a in_b agreed same swapped
           (λ (at : i ≡ b). rw at (ap (slice_index slots') second ∙ placed.first))
           (λ (apart' : i ≢ b).
           let here = agreed.placed i (omega arith) in
-          let not_s : state_at heap i ≢ state_at heap a = λ e. apart (omega (arith, ap (slice_index slots) e, agreed.placed a in_a)) in
-          let not_u : state_at heap i ≢ state_at heap b = λ e. apart' (omega (arith, ap (slice_index slots) e, agreed.placed b in_b)) in
-          ap (λ (e : Entry). slice_index slots' e.state) (swapped.others i apart apart') ∙ placed.others (state_at heap i) not_s not_u ∙ here)
+          let not_s : state_at heap i ≢ state_at heap a =
+          λ e. apart (omega (arith, ap (slice_index slots) e, agreed.placed a in_a)) in
+          let not_u : state_at heap i ≢ state_at heap b =
+          λ e. apart' (omega (arith, ap (slice_index slots) e, agreed.placed b in_b)) in
+          ap (λ (e : Entry). slice_index slots' e.state) (swapped.others i apart apart')
+          ∙ placed.others (state_at heap i) not_s not_u ∙ here)
           (cases_eq i b))
           (cases_eq i a);
       found = λ x i is.
@@ -74,8 +79,10 @@ agreed_swapped {heap} {heap'} {slots} {slots'} a b in_a in_b agreed same swapped
     }
 
 -- one more state at the end
-pub agreed_pushed : {heap heap' : List Entry} {slots slots' : List ℕ} (s : ℕ) → s < length slots → slice_index slots s ≡ 0
-    → AreAgreed heap slots → length heap' ≡ length heap + 1 → ((i : ℕ) → i < length heap → state_at heap' i ≡ state_at heap i)
+pub agreed_pushed : {heap heap' : List Entry} {slots slots' : List ℕ} (s : ℕ) → s < length slots
+    → slice_index slots s ≡ 0
+    → AreAgreed heap slots → length heap' ≡ length heap + 1
+    → ((i : ℕ) → i < length heap → state_at heap' i ≡ state_at heap i)
     → state_at heap' (length heap) ≡ s → IsPlaced slots slots' s s (length heap + 1) (length heap + 1)
     → AreAgreed heap' slots'
 agreed_pushed {heap} {heap'} {slots} {slots'} s state absent agreed longer same last placed = record {
@@ -108,7 +115,8 @@ agreed_pushed {heap} {heap'} {slots} {slots'} s state absent agreed longer same 
 }
 
 -- the last state leaves
-pub agreed_popped : {heap heap' : List Entry} {slots slots' : List ℕ} (s : ℕ) → AreAgreed heap slots → length heap ≡ length heap' + 1
+pub agreed_popped : {heap heap' : List Entry} {slots slots' : List ℕ} (s : ℕ) → AreAgreed heap slots
+    → length heap ≡ length heap' + 1
     → ((i : ℕ) → i < length heap' → state_at heap' i ≡ state_at heap i) → state_at heap (length heap') ≡ s
     → IsPlaced slots slots' s s 0 0 → AreAgreed heap' slots'
 agreed_popped {heap} {heap'} {slots} {slots'} s agreed shorter same last placed = record {
@@ -131,7 +139,8 @@ agreed_popped {heap} {heap'} {slots} {slots'} s agreed shorter same last placed 
 }
 
 -- the last state has closed the gap that another left
-pub agreed_closed : {heap heap' : List Entry} {slots slots' : List ℕ} (gap last : ℕ) → AreAgreed heap slots → length heap ≡ last + 1
+pub agreed_closed : {heap heap' : List Entry} {slots slots' : List ℕ} (gap last : ℕ) → AreAgreed heap slots
+    → length heap ≡ last + 1
     → length heap' ≡ last → gap < last → state_at heap' gap ≡ state_at heap last
     → ((i : ℕ) → i < last → i ≢ gap → state_at heap' i ≡ state_at heap i)
     → IsPlaced slots slots' (state_at heap gap) (state_at heap last) (gap + 1) 0 → AreAgreed heap' slots'
@@ -146,8 +155,10 @@ agreed_closed {heap} {heap'} {slots} {slots'} gap last agreed longer len before 
       (λ (at : i ≡ gap). rw at (ap (slice_index slots') own ∙ placed.second))
       (λ (apart : i ≢ gap).
       let here = agreed.placed i (omega arith) in
-      let not_s : state_at heap i ≢ state_at heap gap = λ e. apart (omega (arith, ap (slice_index slots) e, agreed.placed gap (omega arith))) in
-      let not_u : state_at heap i ≢ state_at heap last = λ e. omega (arith, ap (slice_index slots) e, agreed.placed last (omega arith)) in
+      let not_s : state_at heap i ≢ state_at heap gap =
+      λ e. apart (omega (arith, ap (slice_index slots) e, agreed.placed gap (omega arith))) in
+      let not_u : state_at heap i ≢ state_at heap last =
+      λ e. omega (arith, ap (slice_index slots) e, agreed.placed last (omega arith)) in
       ap (slice_index slots') (same i (omega arith) apart) ∙ placed.others (state_at heap i) not_s not_u ∙ here)
       (cases_eq i gap);
   found = λ x i is.
@@ -169,7 +180,8 @@ agreed_closed {heap} {heap'} {slots} {slots'} gap last agreed longer len before 
 }
 
 -- in an empty heap there is no state
-pub absent_all : {heap : List Entry} {slots : List ℕ} → AreAgreed heap slots → length heap ≡ 0 → (s : ℕ) → slice_index slots s ≡ 0
+pub absent_all : {heap : List Entry} {slots : List ℕ} → AreAgreed heap slots → length heap ≡ 0 → (s : ℕ)
+    → slice_index slots s ≡ 0
 absent_all {heap} {slots} agreed none s =
     ⊎_elim
     (λ (absent : slice_index slots s ≡ 0). absent)
@@ -184,7 +196,8 @@ pub place_at : {heap : List Entry} {slots : List ℕ} (s : ℕ) → AreAgreed he
 place_at {heap} {slots} s agreed there = agreed.found s (slice_index slots s - 1) (omega arith)
 
 -- only known states are there
-pub state_of : {heap : List Entry} {slots : List ℕ} (s : ℕ) → AreAgreed heap slots → 0 < slice_index slots s → s < length slots
+pub state_of : {heap : List Entry} {slots : List ℕ} (s : ℕ) → AreAgreed heap slots
+    → 0 < slice_index slots s → s < length slots
 state_of {heap} {slots} s agreed there =
     let was = place_at s agreed there in
     let here = agreed.inside (slice_index slots s - 1) was.0 in
@@ -204,7 +217,8 @@ agreed_alike {heap} {heap'} {slots} {slots'} agreed len states same same_place =
 }
 
 -- the last entry leaves the lists
-pub agreed_pop : (heap prefix : List Entry) (slots : List ℕ) (last : Entry) → heap ≡ prefix ++ last ∷ [] → AreAgreed heap slots
+pub agreed_pop : (heap prefix : List Entry) (slots : List ℕ) (last : Entry)
+    → heap ≡ prefix ++ last ∷ [] → AreAgreed heap slots
     → AreAgreed prefix (slice_set slots last.state 0)
 agreed_pop heap prefix slots last is agreed =
     let placed : IsPlaced slots (slice_set slots last.state 0) last.state last.state 0 0 = record {
@@ -214,5 +228,7 @@ agreed_pop heap prefix slots last is agreed =
       others = λ x apart apart'. grind (arith, elements);
     } in
     agreed_popped last.state agreed (ap length is ∙ length_push prefix last)
-    (λ i inside. sym (ap (λ (xs : List Entry). state_at xs i) is ∙ ap state_in (get_or_append_left prefix (last ∷ []) no_entry i inside)))
-    (ap (λ (xs : List Entry). state_at xs (length prefix)) is ∙ ap state_in (get_or_push prefix last no_entry (length prefix) refl)) placed
+    (λ i inside. sym (ap (λ (xs : List Entry). state_at xs i) is
+    ∙ ap state_in (get_or_append_left prefix (last ∷ []) no_entry i inside)))
+    (ap (λ (xs : List Entry). state_at xs (length prefix)) is
+    ∙ ap state_in (get_or_push prefix last no_entry (length prefix) refl)) placed

@@ -1,5 +1,6 @@
 -- A heap that lacks a state has room for it.
-use Rattle.std.proofs.Common.{◌≡◌, ◌≢◌, ℕ, zero, suc, ◌+◌, ◌<◌, ◌≤◌, ◌&&◌, nat_lt, nat_le, if◌then◌else◌, List, length, slice_index, arith, ⊎_elim}
+use Rattle.std.proofs.Common.{◌≡◌, ◌≢◌, ℕ, zero, suc, ◌+◌, ◌<◌, ◌≤◌, ◌&&◌, nat_lt, nat_le, if◌then◌else◌, List, length}
+use Rattle.std.proofs.Common.{slice_index, arith, ⊎_elim}
 use Rattle.std.proofs.lemmas.Bool.{cases_eq}
 use Rattle.std.proofs.lemmas.Bool.Decides.{nat_tests}
 use Rattle.sbpl_open.specs.declared.entry.Entry.{Entry}
@@ -52,19 +53,26 @@ unfolding count
 count_more slots zero j = omega arith
 count_more slots (suc n) j = omega (arith, hit_more (slice_index slots n) j, count_more slots n j)
 
-count_next : (slots : List ℕ) (n j s : ℕ) → s < n → slice_index slots s ≡ j + 1 → count slots n j < count slots n (j + 1)
+count_next : (slots : List ℕ) (n j s : ℕ) → s < n → slice_index slots s ≡ j + 1
+    → count slots n j < count slots n (j + 1)
 unfolding count
 count_next slots zero j s inside at = absurd (omega arith)
 count_next slots (suc n) j s inside at =
     ⊎_elim
     (λ (own : s ≡ n).
     let here : slice_index slots n ≡ j + 1 = rw (← own) at in
-    omega (arith, hit_before (slice_index slots n) j here, hit_after (slice_index slots n) j here, count_more slots n j))
+    omega (
+      arith,
+      hit_before (slice_index slots n) j here,
+      hit_after (slice_index slots n) j here,
+      count_more slots n j,
+    ))
     (λ (apart : s ≢ n).
     omega (arith, hit_more (slice_index slots n) j, count_next slots n j s (omega arith) at))
     (cases_eq s n)
 
-count_all : {heap : List Entry} {slots : List ℕ} → AreAgreed heap slots → (j : ℕ) → j ≤ length heap → j ≤ count slots (length slots) j
+count_all : {heap : List Entry} {slots : List ℕ} → AreAgreed heap slots → (j : ℕ) → j ≤ length heap
+    → j ≤ count slots (length slots) j
 count_all agreed zero below = omega arith
 count_all {heap} {slots} agreed (suc j) below =
     let inside : j < length heap = omega arith in
@@ -79,7 +87,12 @@ states_at_most {heap} {slots} agreed =
     omega (arith, count_all agreed (length heap) (omega arith), count_at_most slots (length slots) (length heap))
 
 -- fewer, where one is not there
-pub states_fewer : {heap : List Entry} {slots : List ℕ} (s : ℕ) → AreAgreed heap slots → s < length slots → slice_index slots s ≡ 0
+pub states_fewer : {heap : List Entry} {slots : List ℕ} (s : ℕ) → AreAgreed heap slots → s < length slots
+    → slice_index slots s ≡ 0
     → length heap < length slots
 states_fewer {heap} {slots} s agreed inside absent =
-    omega (arith, count_all agreed (length heap) (omega arith), count_absent slots (length slots) (length heap) s inside absent)
+    omega (
+      arith,
+      count_all agreed (length heap) (omega arith),
+      count_absent slots (length slots) (length heap) s inside absent,
+    )

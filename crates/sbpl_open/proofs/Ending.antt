@@ -1,17 +1,21 @@
 -- Entries that come into the heap and leave it.
-use Rattle.std.proofs.Common.{◌≡◌, ◌≢◌, ℕ, ◌+◌, ◌-◌, ◌<◌, ◌≤◌, None, List, [], ◌∷◌, ◌++◌, length, take, slice_index, slice_set, arith, ⊎_elim, refl, sym, ap, ◌∙◌, length-set}
+use Rattle.std.proofs.Common.{◌≡◌, ◌≢◌, ℕ, ◌+◌, ◌-◌, ◌<◌, ◌≤◌, None, List, [], ◌∷◌, ◌++◌, length, take, slice_index}
+use Rattle.std.proofs.Common.{slice_set, arith, ⊎_elim, refl, sym, ap, ◌∙◌, length-set}
 use Rattle.std.proofs.lemmas.Bool.{cases_eq}
-use Rattle.std.proofs.lemmas.List.{get_or-set_same, get_or-set_other, get_or_append_left, get_or-take, length-take-le, length_push}
+use Rattle.std.proofs.lemmas.List.{get_or-set_same, get_or-set_other, get_or_append_left}
+use Rattle.std.proofs.lemmas.List.{get_or-take, length-take-le, length_push}
 use Rattle.sbpl_open.specs.declared.entry.Entry.{Entry}
 use Rattle.sbpl_open.specs.Entries.{entry_at, no_entry, state_at}
 use Rattle.sbpl_open.specs.Heap.{AreAgreed, HasHole, IsHeap, KeyChanges, filled, placed_at, rank, rank_at}
-use Rattle.sbpl_open.proofs.Agreeing.{IsPlaced, agreed_alike, agreed_closed, agreed_popped, agreed_pushed, place_at, state_of}
+use Rattle.sbpl_open.proofs.Agreeing.{IsPlaced, agreed_alike, agreed_closed, agreed_popped}
+use Rattle.sbpl_open.proofs.Agreeing.{agreed_pushed, place_at, state_of}
 use Rattle.sbpl_open.proofs.Keeping.{keys_closed, keys_left}
 use Rattle.sbpl_open.proofs.Ordering.{heap_alike, heap_pushed, heap_rekeyed}
 use Rattle.sbpl_open.proofs.Sifting.{filled_other, filled_own, length_filled}
 
 -- the slot of the entry's state stands open for it
-pub hole_there : {heap : List Entry} {slots : List ℕ} (entry : Entry) → AreAgreed heap slots → IsHeap (length heap) (rank_at heap)
+pub hole_there : {heap : List Entry} {slots : List ℕ} (entry : Entry) → AreAgreed heap slots
+    → IsHeap (length heap) (rank_at heap)
     → 0 < slice_index slots entry.state → HasHole heap slots (slice_index slots entry.state - 1) entry
 hole_there {heap} {slots} entry agreed ordered there =
     let s = entry.state in
@@ -38,12 +42,15 @@ hole_there {heap} {slots} entry agreed ordered there =
     }
 
 -- what a longer heap holds below its end
-pushed_same : (heap : List Entry) (entry : Entry) (i : ℕ) → i < length heap → entry_at (heap ++ entry ∷ []) i ≡ entry_at heap i
+pushed_same : (heap : List Entry) (entry : Entry) (i : ℕ) → i < length heap
+    → entry_at (heap ++ entry ∷ []) i ≡ entry_at heap i
 pushed_same heap entry i inside = get_or_append_left heap (entry ∷ []) no_entry i inside
 
 -- one more slot at the end stands open for an entry whose state is not there
-pub hole_pushed : {heap : List Entry} {slots : List ℕ} (entry : Entry) → AreAgreed heap slots → IsHeap (length heap) (rank_at heap)
-    → slice_index slots entry.state ≡ 0 → entry.state < length slots → HasHole (heap ++ entry ∷ []) slots (length heap) entry
+pub hole_pushed : {heap : List Entry} {slots : List ℕ} (entry : Entry) → AreAgreed heap slots
+    → IsHeap (length heap) (rank_at heap)
+    → slice_index slots entry.state ≡ 0 → entry.state < length slots
+    → HasHole (heap ++ entry ∷ []) slots (length heap) entry
 hole_pushed {heap} {slots} entry agreed ordered absent known =
     let longer = heap ++ entry ∷ [] in
     let at = length heap in
@@ -61,7 +68,8 @@ hole_pushed {heap} {slots} entry agreed ordered absent known =
       inside = omega arith;
       agreed =
           agreed_pushed s known absent agreed (length_filled longer at entry ∙ more)
-          (λ i within. ap (λ (e : Entry). e.state) (same i within)) (ap (λ (e : Entry). e.state) (filled_own longer at entry (omega arith))) placed;
+          (λ i within. ap (λ (e : Entry). e.state) (same i within)) (ap (λ (e : Entry). e.state)
+          (filled_own longer at entry (omega arith))) placed;
       ordered = rw more (heap_pushed ordered (λ i within. ap rank (same i within)));
     }
 
@@ -83,9 +91,15 @@ module _ (heap : List Entry) (slots : List ℕ) (s gap last : ℕ) (agreed : Are
 
     moved_apart : state_at heap last ≢ s
     moved_apart same =
-        omega (arith, ap (slice_index slots) (same ∙ sym own), agreed.placed last (omega arith), agreed.placed gap (omega arith))
+        omega (
+          arith,
+          ap (slice_index slots) (same ∙ sym own),
+          agreed.placed last (omega arith),
+          agreed.placed gap (omega arith),
+        )
 
-    closed_placed : IsPlaced slots (placed_at (slice_set slots s 0) gap (entry_at heap last)) s (state_at heap last) (gap + 1) 0
+    closed_placed : IsPlaced slots (placed_at (slice_set slots s 0) gap (entry_at heap last)) s
+        (state_at heap last) (gap + 1) 0
     closed_placed =
         let shorter = length-set slots s 0 in
         record {
@@ -95,10 +109,12 @@ module _ (heap : List Entry) (slots : List ℕ) (s gap last : ℕ) (agreed : Are
               ∙ get_or-set_same slots s 0 0 known;
           second = get_or-set_same (slice_set slots s 0) (state_at heap last) (gap + 1) 0 (omega (arith, moved_known));
           others = λ x apart apart'.
-              get_or-set_other (slice_set slots s 0) (state_at heap last) x (gap + 1) 0 apart' ∙ get_or-set_other slots s x 0 0 apart;
+              get_or-set_other (slice_set slots s 0) (state_at heap last) x (gap + 1) 0 apart'
+              ∙ get_or-set_other slots s x 0 0 apart;
         }
 
-    closed_same : (i : ℕ) → i < last → i ≢ gap → entry_at (filled (take last heap) gap (entry_at heap last)) i ≡ entry_at heap i
+    closed_same : (i : ℕ) → i < last → i ≢ gap
+        → entry_at (filled (take last heap) gap (entry_at heap last)) i ≡ entry_at heap i
     closed_same i inside apart = filled_other (take last heap) gap i (entry_at heap last) apart ∙ front_same i inside
 
     closed_own : entry_at (filled (take last heap) gap (entry_at heap last)) gap ≡ entry_at heap last
@@ -110,12 +126,15 @@ module _ (heap : List Entry) (slots : List ℕ) (s gap last : ℕ) (agreed : Are
         record {
           inside = omega (arith, front_len);
           agreed =
-              agreed_closed gap last agreed len (length_filled (take last heap) gap (entry_at heap last) ∙ front_len) before
-              (ap (λ (e : Entry). e.state) closed_own) (λ i inside apart. ap (λ (e : Entry). e.state) (closed_same i inside apart)) (rw own closed_placed);
+              agreed_closed gap last agreed len
+              (length_filled (take last heap) gap (entry_at heap last) ∙ front_len) before
+              (ap (λ (e : Entry). e.state) closed_own)
+              (λ i inside apart. ap (λ (e : Entry). e.state) (closed_same i inside apart)) (rw own closed_placed);
           ordered = rw front_len (heap_rekeyed gap fewer (λ i inside apart. ap rank (closed_same i inside apart)));
         }
 
-    pub keys_closing : KeyChanges heap slots (filled (take last heap) gap (entry_at heap last)) (placed_at (slice_set slots s 0) gap (entry_at heap last)) s None
+    pub keys_closing : KeyChanges heap slots (filled (take last heap) gap (entry_at heap last))
+        (placed_at (slice_set slots s 0) gap (entry_at heap last)) s None
     keys_closing = keys_closed s gap last agreed len own closed_own closed_same closed_placed
 
   module _ (not_before : last ≤ gap) (inside : gap < length heap) where

@@ -1,5 +1,6 @@
 -- Keys stay with their states.
-use Rattle.std.proofs.Common.{◌≡◌, ◌≢◌, ℕ, ◌+◌, ◌-◌, ◌<◌, Option, Some, None, List, length, slice_index, arith, ⊎_elim, refl, sym, ◌∙◌, ap}
+use Rattle.std.proofs.Common.{◌≡◌, ◌≢◌, ℕ, ◌+◌, ◌-◌, ◌<◌, Option, Some, None, List, length, slice_index, arith, ⊎_elim}
+use Rattle.std.proofs.Common.{refl, sym, ◌∙◌, ap}
 use Rattle.std.proofs.lemmas.Bool.{cases_eq, lt-ltb}
 use Rattle.sbpl_open.specs.declared.entry.Entry.{Entry}
 use Rattle.sbpl_open.specs.Entries.{key_of, entry_at, state_at}
@@ -17,7 +18,8 @@ key_missing heap slots s absent = rw absent refl
 
 -- a state's entry is the same, at whatever slot
 key_moved : (heap heap' : List Entry) (slots slots' : List ℕ) (s i j : ℕ) → slice_index slots s ≡ i + 1
-    → slice_index slots' s ≡ j + 1 → entry_at heap' j ≡ entry_at heap i → key_where heap' slots' s ≡ key_where heap slots s
+    → slice_index slots' s ≡ j + 1 → entry_at heap' j ≡ entry_at heap i
+    → key_where heap' slots' s ≡ key_where heap slots s
 key_moved heap heap' slots slots' s i j at at' same =
     key_present heap' slots' s j at' ∙ ap (λ (e : Entry). Some (key_of e)) same ∙ sym (key_present heap slots s i at)
 
@@ -38,17 +40,20 @@ key_unmoved {heap} {slots} heap' slots' s agreed same_place same =
     (cases_eq (slice_index slots s) 0)
 
 -- two entries have changed slots
-pub keys_swapped : {heap : List Entry} {slots : List ℕ} (heap' : List Entry) (slots' : List ℕ) (a b : ℕ) → a < length heap → b < length heap
+pub keys_swapped : {heap : List Entry} {slots : List ℕ} (heap' : List Entry) (slots' : List ℕ) (a b : ℕ)
+    → a < length heap → b < length heap
     → AreAgreed heap slots → IsSwapped (entry_at heap) (entry_at heap') a b
     → IsPlaced slots slots' (state_at heap a) (state_at heap b) (a + 1) (b + 1) → SameKeys heap slots heap' slots'
 keys_swapped {heap} {slots} heap' slots' a b in_a in_b agreed swapped placed = λ s.
     ⊎_elim
     (λ (own : s ≡ state_at heap a).
-    key_moved heap heap' slots slots' s a b (ap (slice_index slots) own ∙ agreed.placed a in_a) (ap (slice_index slots') own ∙ placed.first) swapped.at_second)
+    key_moved heap heap' slots slots' s a b (ap (slice_index slots) own ∙ agreed.placed a in_a)
+    (ap (slice_index slots') own ∙ placed.first) swapped.at_second)
     (λ (not_a : s ≢ state_at heap a).
     ⊎_elim
     (λ (own : s ≡ state_at heap b).
-    key_moved heap heap' slots slots' s b a (ap (slice_index slots) own ∙ agreed.placed b in_b) (ap (slice_index slots') own ∙ placed.second) swapped.at_first)
+    key_moved heap heap' slots slots' s b a (ap (slice_index slots) own ∙ agreed.placed b in_b)
+    (ap (slice_index slots') own ∙ placed.second) swapped.at_first)
     (λ (not_b : s ≢ state_at heap b).
     key_unmoved heap' slots' s agreed (placed.others s not_a not_b)
     (λ i inside is.
@@ -66,7 +71,8 @@ keys_closed {heap} {heap'} {slots} {slots'} s gap last agreed longer own moved s
   others = λ u apart.
       ⊎_elim
       (λ (is : u ≡ state_at heap last).
-      key_moved heap heap' slots slots' u last gap (ap (slice_index slots) is ∙ agreed.placed last (omega arith)) (ap (slice_index slots') is ∙ placed.second) moved)
+      key_moved heap heap' slots slots' u last gap (ap (slice_index slots) is ∙ agreed.placed last (omega arith))
+      (ap (slice_index slots') is ∙ placed.second) moved)
       (λ (apart' : u ≢ state_at heap last).
       key_unmoved heap' slots' u agreed (placed.others u apart apart')
       (λ i within is.
@@ -90,5 +96,7 @@ keys_left {heap} {heap'} {slots} {slots'} s last agreed longer own same placed =
 
 -- a change, and then the same keys
 pub changes_then : {heap heap' heap'' : List Entry} {slots slots' slots'' : List ℕ} {s : ℕ} {key : Option (ℕ × ℕ)}
-    → KeyChanges heap slots heap' slots' s key → SameKeys heap' slots' heap'' slots'' → KeyChanges heap slots heap'' slots'' s key
-changes_then {s = s} change same = record { at = same s ∙ change.at; others = λ u apart. same u ∙ change.others u apart }
+    → KeyChanges heap slots heap' slots' s key → SameKeys heap' slots' heap'' slots''
+    → KeyChanges heap slots heap'' slots'' s key
+changes_then {s = s} change same =
+    record { at = same s ∙ change.at; others = λ u apart. same u ∙ change.others u apart }

@@ -7,7 +7,8 @@ use Rattle.sbpl_open.specs.Entries.{key_of}
 use Rattle.sbpl_open.specs.Heap.{rank, parent, IsHeap, IsHeapBut, IsNotBefore, IsFirstChild}
 
 -- the state of lower rank comes before the other
-pub before_from_rank : (a b : Entry) → a.second < 2 ^ 64 → b.second < 2 ^ 64 → a.state < 2 ^ 32 → b.state < 2 ^ 32 → rank a ≤ rank b
+pub before_from_rank : (a b : Entry) → a.second < 2 ^ 64 → b.second < 2 ^ 64 → a.state < 2 ^ 32
+    → b.state < 2 ^ 32 → rank a ≤ rank b
     → a.state ≢ b.state → ComesBefore (key_of a) a.state (key_of b) b.state
 before_from_rank a b small small' state state' low apart =
     ⊎_elim
@@ -39,7 +40,8 @@ module _ {len : ℕ} {r : ℕ → ℕ} (heap : IsHeap len r) where
   first_least i inside = first_within (i + 1) i (omega arith) inside
 
 -- one more state at the end
-pub heap_pushed : {len : ℕ} {r r' : ℕ → ℕ} → IsHeap len r → ((i : ℕ) → i < len → r' i ≡ r i) → IsHeapBut (len + 1) r' len
+pub heap_pushed : {len : ℕ} {r r' : ℕ → ℕ} → IsHeap len r → ((i : ℕ) → i < len → r' i ≡ r i)
+    → IsHeapBut (len + 1) r' len
 heap_pushed {len} {r} {r'} heap same = record {
   upward = λ i some inside apart off.
       let here = heap.upward i some (omega arith) in
@@ -68,7 +70,8 @@ heap_rekeyed {len} {r} {r'} hole heap same = record {
 }
 
 -- the same ranks at fewer slots
-pub heap_alike : {len len' : ℕ} {r r' : ℕ → ℕ} → IsHeap len r → len' ≤ len → ((i : ℕ) → i < len' → r' i ≡ r i) → IsHeap len' r'
+pub heap_alike : {len len' : ℕ} {r r' : ℕ → ℕ} → IsHeap len r → len' ≤ len
+    → ((i : ℕ) → i < len' → r' i ≡ r i) → IsHeap len' r'
 heap_alike {len} {len'} {r} {r'} heap fewer same = record {
   upward = λ i some inside.
       let here = heap.upward i some (omega arith) in
@@ -78,7 +81,8 @@ heap_alike {len} {len'} {r} {r'} heap fewer same = record {
 }
 
 -- what was above the hole has moved down into it
-pub heap_up : {len : ℕ} {r r' : ℕ → ℕ} (hole : ℕ) → IsHeapBut len r hole → 0 < hole → hole < len → r hole ≤ r (parent hole)
+pub heap_up : {len : ℕ} {r r' : ℕ → ℕ} (hole : ℕ) → IsHeapBut len r hole → 0 < hole → hole < len
+    → r hole ≤ r (parent hole)
     → r' hole ≡ r (parent hole) → ((i : ℕ) → i ≢ hole → i ≢ parent hole → r' i ≡ r i) → IsHeapBut len r' (parent hole)
 heap_up {len} {r} {r'} hole but below inside lower down same = record {
   upward = λ i some within apart off.

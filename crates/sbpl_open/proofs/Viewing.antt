@@ -1,5 +1,7 @@
 -- The heap as a finite map.
-use Rattle.std.proofs.Common.{◌≡◌, ◌≢◌, ℕ, zero, suc, ◌+◌, ◌-◌, ◌^◌, ◌<◌, ◌≤◌, ◌↔◌, Bool, true, false, IsTrue, IsSome, if◌then◌else◌, Option, Some, None, List, [], ◌∷◌, length, slice_get, slice_index, slice_index_or, arith, ⊎_elim, refl, sym, ap, ◌∙◌, subst}
+use Rattle.std.proofs.Common.{◌≡◌, ◌≢◌, ℕ, zero, suc, ◌+◌, ◌-◌, ◌^◌, ◌<◌, ◌≤◌, ◌↔◌, Bool, true, false, IsTrue, IsSome}
+use Rattle.std.proofs.Common.{if◌then◌else◌, Option, Some, None, List, [], ◌∷◌, length, slice_get, slice_index}
+use Rattle.std.proofs.Common.{slice_index_or, arith, ⊎_elim, refl, sym, ap, ◌∙◌, subst}
 use Rattle.std.proofs.lemmas.Bool.{cases_eq, cases_lt, ltb-true}
 use Rattle.std.proofs.lemmas.Option.{cond_some, none-some, same_Some}
 use Rattle.std.proofs.lemmas.List.{get_or_past}
@@ -56,7 +58,8 @@ module _ (heap : List Entry) (slots : List ℕ) where
 
     pub there_key : (s : ℕ) → IsSome (key_at m s) → 0 < slice_index slots s
     there_key s is =
-        ltb-true 0 (slice_index slots s) ((some_there (is_there slots s) (key_of (entry_at heap (slice_index slots s - 1)))).1 (rw key_view at is))
+        ltb-true 0 (slice_index slots s)
+        ((some_there (is_there slots s) (key_of (entry_at heap (slice_index slots s - 1)))).1 (rw key_view at is))
 
     pub empty_view : ((s : ℕ) → slice_index slots s ≡ 0) → IsEmpty m
     empty_view absent = record { none = λ s. key_absent s (absent s) }
@@ -64,7 +67,8 @@ module _ (heap : List Entry) (slots : List ℕ) where
   pub states_fresh : (s : ℕ) → length slots ≡ s → states_of (record { keys = keys_of heap slots }) ≡ s
   states_fresh s states = states_are ∙ states
 
-  pub empty_fresh : ((s : ℕ) → s < length slots → slice_index slots s ≡ 0) → IsEmpty (record { keys = keys_of heap slots })
+  pub empty_fresh : ((s : ℕ) → s < length slots → slice_index slots s ≡ 0)
+      → IsEmpty (record { keys = keys_of heap slots })
   empty_fresh absent =
       empty_view refl
       (λ s.
@@ -74,7 +78,8 @@ module _ (heap : List Entry) (slots : List ℕ) where
       (cases_lt s (length slots)))
 
 -- what has changed of the heap has changed of the map
-pub changes_view : (heap : List Entry) (slots : List ℕ) (heap' : List Entry) (slots' : List ℕ) (s : ℕ) (key : Option (ℕ × ℕ)) {m : OpenList}
+pub changes_view : (heap : List Entry) (slots : List ℕ) (heap' : List Entry) (slots' : List ℕ) (s : ℕ)
+    (key : Option (ℕ × ℕ)) {m : OpenList}
     → record { keys = keys_of heap slots } ≡ m → length slots' ≡ length slots → KeyChanges heap slots heap' slots' s key
     → ChangesKey m (record { keys = keys_of heap' slots' }) s key
 changes_view heap slots heap' slots' s key view states change = record {
@@ -91,7 +96,8 @@ pub small_put : {heap heap' : List Entry} {slots slots' : List ℕ} {s first sec
 small_put {heap' = heap'} {slots' = slots'} {s = s} {first = first} {second = second} small change fits u key is =
     ⊎_elim
     (λ (own : u ≡ s).
-    let same : (first, second) ≡ key = same_Some (first, second) key (sym change.at ∙ sym (ap (key_where heap' slots') own) ∙ is) in
+    let same : (first, second) ≡ key =
+    same_Some (first, second) key (sym change.at ∙ sym (ap (key_where heap' slots') own) ∙ is) in
     rw (← ap (λ (k : ℕ × ℕ). k.1) same) fits)
     (λ (apart : u ≢ s). small u key (sym (change.others u apart) ∙ is))
     (cases_eq u s)
@@ -107,31 +113,38 @@ small_left {heap' = heap'} {slots' = slots'} {s = s} small change u key is =
     (cases_eq u s)
 
 -- what is at the first slot is the least
-pub least_view : (heap : List Entry) (slots : List ℕ) (room : ℕ) (entry : Entry) {m : OpenList} → record { keys = keys_of heap slots } ≡ m
+pub least_view : (heap : List Entry) (slots : List ℕ) (room : ℕ) (entry : Entry) {m : OpenList}
+    → record { keys = keys_of heap slots } ≡ m
     → AreParts heap slots room → 0 < length heap → entry_at heap 0 ≡ entry → IsLeast m entry.state (key_of entry)
 least_view heap slots room entry {m} view parts some at =
     let state = ap (λ (e : Entry). e.state) at in
     let known : entry.state < length slots = omega (arith, parts.agreed.inside 0 some, state) in
-    let placed : slice_index slots entry.state ≡ 0 + 1 = ap (slice_index slots) (sym state) ∙ parts.agreed.placed 0 some in
+    let placed : slice_index slots entry.state ≡ 0 + 1 =
+    ap (slice_index slots) (sym state) ∙ parts.agreed.placed 0 some in
     record {
       inside = omega (arith, states_view heap slots view);
       there = key_listed heap slots view entry.state 0 placed ∙ ap (λ (e : Entry). Some (key_of e)) at;
       first = λ u other is apart.
           let slot = slice_index slots u - 1 in
-          let found = cond_some (is_there slots u) (key_of (entry_at heap slot)) other (sym (key_view heap slots view u) ∙ is) in
+          let found =
+          cond_some (is_there slots u) (key_of (entry_at heap slot)) other (sym (key_view heap slots view u) ∙ is) in
           let there : 0 < slice_index slots u = ltb-true 0 (slice_index slots u) found.0 in
           let own = place_at u parts.agreed there in
           let low = first_least parts.ordered slot own.0 in
           let few = parts.few in
           let known_u = state_of u parts.agreed there in
           let at_place : slice_index slots u ≡ slot + 1 = omega arith in
-          let small_first = parts.small entry.state (key_of (entry_at heap 0)) (key_present heap slots entry.state 0 placed) in
+          let small_first =
+          parts.small entry.state (key_of (entry_at heap 0)) (key_present heap slots entry.state 0 placed) in
           let small_other = parts.small u (key_of (entry_at heap slot)) (key_present heap slots u slot at_place) in
           let state_u = own.1 in
-          let before = before_from_rank (entry_at heap 0) (entry_at heap slot) small_first small_other (omega arith) (omega arith) low (λ e. apart (sym own.1 ∙ sym e ∙ state)) in
+          let before =
+          before_from_rank (entry_at heap 0) (entry_at heap slot) small_first small_other (omega arith) (omega arith)
+          low (λ e. apart (sym own.1 ∙ sym e ∙ state)) in
           subst (λ (k : ℕ × ℕ). ComesBefore (key_of entry) entry.state k u) found.1
           (subst (λ (x : ℕ). ComesBefore (key_of entry) entry.state (key_of (entry_at heap slot)) x) own.1
-          (subst (λ (e : Entry). ComesBefore (key_of e) e.state (key_of (entry_at heap slot)) (state_at heap slot)) at before));
+          (subst (λ (e : Entry). ComesBefore (key_of e) e.state (key_of (entry_at heap slot)) (state_at heap slot))
+          at before));
     }
 
 -- a list without a first element is empty

@@ -1,5 +1,6 @@
 -- What a pass shows at its end.
-use Rattle.std.proofs.Common.{◌≡◌, ℕ, ◌*◌, ◌+◌, ◌<◌, ◌≤◌, Bool, true, false, if◌then◌else◌, List, [], Some, refl, sym, subst, arith}
+use Rattle.std.proofs.Common.{◌≡◌, ℕ, ◌*◌, ◌+◌, ◌<◌, ◌≤◌, Bool, true, false, if◌then◌else◌, List, [], Some, refl}
+use Rattle.std.proofs.Common.{sym, subst, arith}
 use Rattle.sbpl_graph.specs.Network.{Network}
 use Rattle.sbpl_graph.specs.Certificate.{ShowBound, ShowNone}
 use Rattle.sbpl_labels.specs.Chain.{chain_at}
@@ -22,13 +23,21 @@ use Rattle.sbpl_plan.specs.Looking.{WalkFinds}
 use Rattle.sbpl_plan.specs.Passing.{EndsPass, inquiry_of}
 
 -- labels that show that there is no path cut the goal off
-cut_off : (n : Network) (start goal states : ℕ) (g v : ℕ → ℕ) → states ≡ n.states → ShowNone n start goal g v → IsCutOff states goal g v
-cut_off n start goal states g v same shows = record { goal_is_far = shows.goal_is_far; closed = λ s inside near. shows.closed s (subst (λ (x : ℕ). s < x) same inside) near }
+cut_off : (n : Network) (start goal states : ℕ) (g v : ℕ → ℕ) → states ≡ n.states → ShowNone n start goal g v
+    → IsCutOff states goal g v
+cut_off n start goal states g v same shows = record {
+  goal_is_far = shows.goal_is_far;
+  closed = λ s inside near. shows.closed s (subst (λ (x : ℕ). s < x) same inside) near;
+}
 
 -- labels that show that every path costs at least g of the goal give the bound 1.000
-tight_found : (n : Network) (h : ℕ → ℕ) (goal : ℕ) (m : Marks) (arcs : List ℕ) (f : Found) → states_of m ≡ n.states → ((i u : ℕ) → chain_at (back_of m) goal i ≡ Some u → g_of m u ≤ v_of m u) → ShowBound n m.start goal (g_of m) (v_of m) h (g_of m goal) → WalkFinds n h goal m arcs f → IsTight f
+tight_found : (n : Network) (h : ℕ → ℕ) (goal : ℕ) (m : Marks) (arcs : List ℕ) (f : Found) → states_of m ≡ n.states
+    → ((i u : ℕ) → chain_at (back_of m) goal i ≡ Some u → g_of m u ≤ v_of m u)
+    → ShowBound n m.start goal (g_of m) (v_of m) h (g_of m goal) → WalkFinds n h goal m arcs f → IsTight f
 tight_found n h goal m arcs (found.Path cost bound) same unbroken shows finds =
-    let low : g_of m goal ≤ finds.low = finds.low_is.greatest (g_of m goal) (omega arith) (λ s inside differ. shows.unsettled s (subst (λ (x : ℕ). s < x) same inside) differ) in
+    let low : g_of m goal ≤ finds.low =
+    finds.low_is.greatest (g_of m goal) (omega arith)
+    (λ s inside differ. shows.unsettled s (subst (λ (x : ℕ). s < x) same inside) differ) in
     let cheap : cost ≤ g_of m goal = finds.walk.cheap in
     let least : bound ≤ 1000 = finds.bound_is.least 1000 (omega arith) (omega arith) in
     let some : 1000 ≤ bound = finds.bound_is.at_least_one in omega arith
@@ -39,13 +48,18 @@ tight_found n h goal m arcs found.Broken same unbroken shows finds =
     let kept : g_of m finds.0.0 ≤ v_of m finds.0.0 = unbroken broken.place finds.0.0 broken.on_chain in omega arith
 
 -- a pass that leads on, and what was told of it
-module _ {Note : Type 0} (means : Meaning Note) (n : Network) (h : ℕ → ℕ) (ask : Ask) (eps : ℕ) (old new : State Note) (before after : Counts) (end : PassEnd) (spent : Bool) (was_spent : spent ≡ true → end ≡ Spent) (rested : spent ≡ false → end ≡ Rest) (fresh : IsStartFresh old.labels) (sized : states_of new.labels ≡ n.states) (passed : IsPassed means (query n h eps old.goal) old new before after end) where
+module _ {Note : Type 0} (means : Meaning Note) (n : Network) (h : ℕ → ℕ) (ask : Ask) (eps : ℕ) (old new : State Note)
+    (before after : Counts) (end : PassEnd) (spent : Bool) (was_spent : spent ≡ true → end ≡ Spent)
+    (rested : spent ≡ false → end ≡ Rest) (fresh : IsStartFresh old.labels) (sized : states_of new.labels ≡ n.states)
+    (passed : IsPassed means (query n h eps old.goal) old new before after end) where
   ends_pass : (b : Bool) → spent ≡ b → EndsPass means (query n h eps old.goal) new.notes new.labels b
   ends_pass true is = passed.goes_on (was_spent is)
   ends_pass false is = passed.rests (rested is)
 
-  module _ (p : Pass Note) (arcs : List ℕ) (inflation : p.inflation ≡ eps) (expanded : p.expanded ≡ means.expansions new.notes) (told : p.trace ≡ (if ask.traced then new.notes else [])) where
-    to_own_goal : WalkFinds n h old.goal new.labels arcs p.found → IsIteration means (inquiry_of n h old.goal ask) eps old new before after arcs spent p
+  module _ (p : Pass Note) (arcs : List ℕ) (inflation : p.inflation ≡ eps) (expanded : p.expanded
+      ≡ means.expansions new.notes) (told : p.trace ≡ (if ask.traced then new.notes else [])) where
+    to_own_goal : WalkFinds n h old.goal new.labels arcs p.found
+        → IsIteration means (inquiry_of n h old.goal ask) eps old new before after arcs spent p
     to_own_goal finds = record {
       pass = record {
         inflation = inflation;
@@ -59,7 +73,9 @@ module _ {Note : Type 0} (means : Meaning Note) (n : Network) (h : ℕ → ℕ) 
       };
       found = finds;
       leaves = record {
-        counted = subst (λ (k : ℕ). after ≡ record before { plan = before.plan + k; run = before.run + k }) (sym expanded) passed.counted;
+        counted =
+            subst (λ (k : ℕ). after ≡ record before { plan = before.plan + k; run = before.run + k })
+            (sym expanded) passed.counted;
         ready = passed.ready;
         fresh = passed.fresh fresh;
         start = passed.start;
@@ -70,12 +86,16 @@ module _ {Note : Type 0} (means : Meaning Note) (n : Network) (h : ℕ → ℕ) 
       traced = (expanded, told);
       is_spent = λ is. passed.is_spent (was_spent is);
       few = subst (λ (k : ℕ). k ≤ means.most * states_of old.labels) (sym expanded) passed.few;
-      unfinished = λ is. subst (λ (k : ℕ). k < means.most * states_of old.labels) (sym expanded) (passed.unfinished (was_spent is));
-      none_at_rest = λ is one far. cut_off n new.labels.start old.goal (states_of new.labels) (g_of new.labels) (v_of new.labels) sized (passed.none (rested is) one far);
-      tight_at_rest = λ is one. tight_found n h old.goal new.labels arcs p.found sized (passed.unbroken (rested is)) (passed.tight (rested is) one) finds;
+      unfinished = λ is.
+          subst (λ (k : ℕ). k < means.most * states_of old.labels) (sym expanded) (passed.unfinished (was_spent is));
+      none_at_rest = λ is one far. cut_off n new.labels.start old.goal (states_of new.labels) (g_of new.labels)
+          (v_of new.labels) sized (passed.none (rested is) one far);
+      tight_at_rest = λ is one. tight_found n h old.goal new.labels arcs p.found sized (passed.unbroken (rested is))
+          (passed.tight (rested is) one) finds;
     }
 
-    pub iteration_of : (goal : ℕ) → goal ≡ old.goal → WalkFinds n h goal new.labels arcs p.found → IsIteration means (inquiry_of n h goal ask) eps old new before after arcs spent p
+    pub iteration_of : (goal : ℕ) → goal ≡ old.goal → WalkFinds n h goal new.labels arcs p.found
+        → IsIteration means (inquiry_of n h goal ask) eps old new before after arcs spent p
     iteration_of goal is finds =
         subst (λ (t : ℕ). IsIteration means (inquiry_of n h t ask) eps old new before after arcs spent p) (sym is)
         (to_own_goal (subst (λ (t : ℕ). WalkFinds n h t new.labels arcs p.found) is finds))

@@ -1,5 +1,6 @@
 -- The low of labels with a path is above 0, unless the path costs nothing.
-use Rattle.std.proofs.Common.{◌≡◌, ◌≢◌, ℕ, ◌+◌, ◌<◌, ◌≤◌, List, [], ◌∷◌, Option, Some, None, refl, sym, ◌∙◌, ap, subst, arith, inl, inr}
+use Rattle.std.proofs.Common.{◌≡◌, ◌≢◌, ℕ, ◌+◌, ◌<◌, ◌≤◌, List, [], ◌∷◌, Option, Some, None, refl, sym, ◌∙◌, ap, subst}
+use Rattle.std.proofs.Common.{arith, inl, inr}
 use Rattle.std.proofs.lemmas.Bool.{cases_lt}
 use Rattle.std.proofs.lemmas.List.{get_or_past}
 use Rattle.sbpl_graph.specs.declared.TheConstants.{FAR}
@@ -13,7 +14,8 @@ use Rattle.sbpl_labels.specs.Marks.{Marks, states_of, g_of, v_of, back_of, no_ro
 use Rattle.sbpl_labels.specs.declared.row.Row.{Row}
 use Rattle.sbpl_search.specs.Ready.{IsStartFresh}
 
-module _ (n : Network) (m : Marks) (sound : IsSound n) (same : states_of m ≡ n.states) (exact : AreExact n m.start (g_of m) (v_of m) (back_of m)) where
+module _ (n : Network) (m : Marks) (sound : IsSound n) (same : states_of m ≡ n.states)
+    (exact : AreExact n m.start (g_of m) (v_of m) (back_of m)) where
   -- each label but the start's is above 0
   label_some : (t : ℕ) (back : Option (ℕ × ℕ)) → t < n.states → t ≢ m.start → back_of m t ≡ back → 1 ≤ g_of m t
   label_some t None inside other is = let far = exact.far_without_arc t inside other is in omega arith
@@ -36,7 +38,9 @@ module _ (n : Network) (m : Marks) (sound : IsSound n) (same : states_of m ≡ n
   start_settled : (arcs : List ℕ) (t : ℕ) → arcs ≢ [] → IsBackPath (back_of m) m.start arcs t → v_of m m.start < FAR
   start_settled [] t some path = absurd (some refl)
   start_settled (k ∷ ks) t some (u, back, rest) =
-      let other : u ≢ m.start = (λ is. absurd (let none = subst (λ (x : ℕ). back_of m x ≡ Some (m.start, k)) is back in let no = exact.none_at_start in cc (no, none))) in
+      let other : u ≢ m.start =
+      (λ is. absurd (let none = subst (λ (x : ℕ). back_of m x ≡ Some (m.start, k)) is back in
+      let no = exact.none_at_start in cc (no, none))) in
       let given = exact.gives u m.start k (back_inside u m.start k back) other back in
       given.1.near
 
@@ -44,11 +48,16 @@ module _ (n : Network) (m : Marks) (sound : IsSound n) (same : states_of m ≡ n
   dear_has_arcs [] s t cost path dear = λ is. let none : cost ≡ 0 = path.1 in omega arith
   dear_has_arcs (k ∷ ks) s t cost path dear = λ is. cc
 
-  pub low_some : (h : ℕ → ℕ) (goal low cost : ℕ) (arcs : List ℕ) → goal < n.states → IsStartFresh m → IsLow (states_of m) goal (g_of m) (v_of m) h low → IsWalk n m.start (g_of m) (v_of m) (back_of m) goal cost arcs → 0 < cost → 1 ≤ low
+  pub low_some : (h : ℕ → ℕ) (goal low cost : ℕ) (arcs : List ℕ) → goal < n.states → IsStartFresh m
+      → IsLow (states_of m) goal (g_of m) (v_of m) h low
+      → IsWalk n m.start (g_of m) (v_of m) (back_of m) goal cost arcs → 0 < cost → 1 ≤ low
   low_some h goal low cost arcs inside fresh is walk dear =
       let cheap : cost ≤ g_of m goal = walk.cheap in
-      let near : v_of m m.start < FAR = start_settled arcs goal (dear_has_arcs arcs m.start goal cost walk.path dear) walk.followed in
-      let zero : v_of m m.start ≡ g_of m m.start = elim fresh [ inl far ↦ absurd (omega arith) | inr none ↦ none ∙ sym exact.from_start ] in
+      let near : v_of m m.start < FAR =
+      start_settled arcs goal (dear_has_arcs arcs m.start goal cost walk.path dear) walk.followed in
+      let zero : v_of m m.start ≡ g_of m m.start =
+      elim fresh [ inl far ↦ absurd (omega arith) | inr none ↦ none ∙ sym exact.from_start ] in
       is.greatest 1 (omega arith) (λ s here differ.
       let other : s ≢ m.start = (λ at. differ (subst (λ (x : ℕ). v_of m x ≡ g_of m x) (sym at) zero)) in
-      let some : 1 ≤ g_of m s = label_some s (back_of m s) (subst (λ (x : ℕ). s < x) same here) other refl in omega arith)
+      let some : 1 ≤ g_of m s =
+      label_some s (back_of m s) (subst (λ (x : ℕ). s < x) same here) other refl in omega arith)

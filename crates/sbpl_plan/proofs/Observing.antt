@@ -13,15 +13,24 @@ use Rattle.sbpl_plan.specs.Observed.{AreTold}
 
 module _ {Note O : Type 0} (told : O → (pass cost bound : ℕ) → O → Type 0) where
   -- told of some passes, and then of more
-  pub told_both : (k : ℕ) (ps qs : List (Pass Note)) (a b c : O) → AreTold told k ps a b → AreTold told (k + length ps) qs b c → AreTold told k (ps ++ qs) a c
+  pub told_both : (k : ℕ) (ps qs : List (Pass Note)) (a b c : O) → AreTold told k ps a b
+      → AreTold told (k + length ps) qs b c → AreTold told k (ps ++ qs) a c
   told_both k [] qs a b c first rest =
-      subst (λ (x : O). AreTold told k qs x c) first (subst (λ (n : ℕ). AreTold told n qs b c) (let e : k + 0 ≡ k = omega arith in e) rest)
-  told_both k (p ∷ ps) qs a b c first rest =
-      (first.0, first.1, told_both (k + 1) ps qs first.0 b c first.2 (subst (λ (n : ℕ). AreTold told n qs b c) (let e : k + suc (length ps) ≡ k + 1 + length ps = omega arith in e) rest))
+      subst (λ (x : O). AreTold told k qs x c) first
+      (subst (λ (n : ℕ). AreTold told n qs b c) (let e : k + 0 ≡ k = omega arith in e) rest)
+  told_both k (p ∷ ps) qs a b c first rest = (
+    first.0,
+    first.1,
+    told_both (k + 1) ps qs first.0 b c first.2 (subst (λ (n : ℕ). AreTold told n qs b c)
+        (let e : k + suc (length ps) ≡ k + 1 + length ps = omega arith in e) rest),
+  )
 
   -- told of the passes that were made so far, and then of more
-  pub told_on : (ps qs : List (Pass Note)) (a b c : O) → AreTold told 0 ps a b → AreTold told (length ps) qs b c → AreTold told 0 (ps ++ qs) a c
-  told_on ps qs a b c first rest = told_both 0 ps qs a b c first (subst (λ (n : ℕ). AreTold told n qs b c) (let e : length ps ≡ 0 + length ps = omega arith in e) rest)
+  pub told_on : (ps qs : List (Pass Note)) (a b c : O) → AreTold told 0 ps a b → AreTold told (length ps) qs b c
+      → AreTold told 0 (ps ++ qs) a c
+  told_on ps qs a b c first rest =
+      told_both 0 ps qs a b c first
+      (subst (λ (n : ℕ). AreTold told n qs b c) (let e : length ps ≡ 0 + length ps = omega arith in e) rest)
 
 -- the bound of a cost of one word is far below what an observer is told at most
 pub bound_below : (cost low b : ℕ) → cost < 2 ^ 64 → IsBound cost low b → b < 2 ^ 100
@@ -30,16 +39,20 @@ bound_below cost zero b small is =
     let least : b ≤ 1000 = is.least 1000 (omega arith) (omega arith) in
     omega arith
 bound_below cost (suc low) b small is =
-    let enough : (1000 + 1000 * cost) * 1 ≤ (1000 + 1000 * cost) * suc low = mul-le-mul_left (1000 + 1000 * cost) (let one : 1 ≤ suc low = omega arith in one) in
+    let enough : (1000 + 1000 * cost) * 1 ≤ (1000 + 1000 * cost) * suc low =
+    mul-le-mul_left (1000 + 1000 * cost) (let one : 1 ≤ suc low = omega arith in one) in
     let least : b ≤ 1000 + 1000 * cost = is.least (1000 + 1000 * cost) (omega arith) (omega arith) in
     omega arith
 
-found_below : (n : Network) (h : ℕ → ℕ) (goal : ℕ) (m : Marks) (arcs : List ℕ) (cost bound : ℕ) → IsPathFound n h goal m arcs cost bound → bound < 2 ^ 100
+found_below : (n : Network) (h : ℕ → ℕ) (goal : ℕ) (m : Marks) (arcs : List ℕ) (cost bound : ℕ)
+    → IsPathFound n h goal m arcs cost bound → bound < 2 ^ 100
 found_below n h goal m arcs cost bound finds =
     let near : g_of m goal < FAR = finds.walk.near in
     let cheap : cost ≤ g_of m goal = finds.walk.cheap in
     bound_below cost finds.low bound (omega arith) finds.bound_is
 
 -- and so is the bound of the path that a walk gave
-pub finds_below : (n : Network) (h : ℕ → ℕ) (goal : ℕ) (m : Marks) (arcs : List ℕ) (f : Found) (cost bound : ℕ) → WalkFinds n h goal m arcs f → f ≡ found.Path cost bound → bound < 2 ^ 100
-finds_below n h goal m arcs f cost bound finds is = found_below n h goal m arcs cost bound (subst (λ (x : Found). WalkFinds n h goal m arcs x) is finds)
+pub finds_below : (n : Network) (h : ℕ → ℕ) (goal : ℕ) (m : Marks) (arcs : List ℕ) (f : Found) (cost bound : ℕ)
+    → WalkFinds n h goal m arcs f → f ≡ found.Path cost bound → bound < 2 ^ 100
+finds_below n h goal m arcs f cost bound finds is =
+    found_below n h goal m arcs cost bound (subst (λ (x : Found). WalkFinds n h goal m arcs x) is finds)

@@ -1,5 +1,7 @@
 -- How passes add up to a plan.
-use Rattle.std.proofs.Common.{◌≡◌, ◌≢◌, ℕ, ◌+◌, ◌-◌, ◌*◌, ◌/◌, ◌<◌, ◌≤◌, ◌^◌, max, Bool, true, false, List, [], ◌∷◌, ◌++◌, length, Result, Ok, Err, refl, sym, ◌∙◌, ap, subst, arith, inl, inr, append_assoc, length-append, add-zero}
+use Rattle.std.proofs.Common.{◌≡◌, ◌≢◌, ℕ, ◌+◌, ◌-◌, ◌*◌, ◌/◌, ◌<◌, ◌≤◌, ◌^◌, max, Bool, true, false, List, [], ◌∷◌}
+use Rattle.std.proofs.Common.{◌++◌, length, Result, Ok, Err, refl, sym, ◌∙◌, ap, subst, arith, inl, inr}
+use Rattle.std.proofs.Common.{append_assoc, length-append, add-zero}
 use Rattle.std.specs.Prelude.{OnErr}
 use Rattle.std.proofs.Math.Nat.{add-mul, div-eq_of_lt, div-eq-sub-div}
 use Rattle.std.proofs.lemmas.Bool.{cases_lt}
@@ -25,18 +27,23 @@ use Rattle.sbpl_plan.specs.ReadyAfter.{IsReadyAfter}
 use Rattle.sbpl_plan.proofs.Results.{outcome_is_known, outcome_is_true, run_is_spent}
 
 -- from an inflation there can be at least one more pass than from the next one
-more_passes : (step eps : ℕ) → 1 ≤ step → 1000 ≤ eps → eps ≢ 1000 → 1 + most_passes step (lowered step eps) ≤ most_passes step eps
+more_passes : (step eps : ℕ) → 1 ≤ step → 1000 ≤ eps → eps ≢ 1000
+    → 1 + most_passes step (lowered step eps) ≤ most_passes step eps
 more_passes step eps some low other = elim (cases_lt eps (1000 + step)) [
   | inl near ↦
       let over : step ≤ eps - 1000 + (step - 1) = omega arith in
-      let none : (max 1000 (eps - step) - 1000 + (step - 1)) / step ≡ 0 = div-eq_of_lt {n = max 1000 (eps - step) - 1000 + (step - 1)} {m = step} (omega arith) in
-      let one : (eps - 1000 + (step - 1)) / step ≡ (eps - 1000 + (step - 1) - step) / step + 1 = div-eq-sub-div {m = step} {n = eps - 1000 + (step - 1)} (omega arith) over in
+      let none : (max 1000 (eps - step) - 1000 + (step - 1)) / step ≡ 0 =
+      div-eq_of_lt {n = max 1000 (eps - step) - 1000 + (step - 1)} {m = step} (omega arith) in
+      let one : (eps - 1000 + (step - 1)) / step ≡ (eps - 1000 + (step - 1) - step) / step + 1 =
+      div-eq-sub-div {m = step} {n = eps - 1000 + (step - 1)} (omega arith) over in
       omega arith
   | inr far ↦
       let over : step ≤ eps - 1000 + (step - 1) = omega arith in
       let same : max 1000 (eps - step) - 1000 + (step - 1) ≡ eps - 1000 + (step - 1) - step = omega arith in
-      let less : (max 1000 (eps - step) - 1000 + (step - 1)) / step ≡ (eps - 1000 + (step - 1) - step) / step = ap (λ x. x / step) same in
-      let one : (eps - 1000 + (step - 1)) / step ≡ (eps - 1000 + (step - 1) - step) / step + 1 = div-eq-sub-div {m = step} {n = eps - 1000 + (step - 1)} (omega arith) over in
+      let less : (max 1000 (eps - step) - 1000 + (step - 1)) / step ≡ (eps - 1000 + (step - 1) - step) / step =
+      ap (λ x. x / step) same in
+      let one : (eps - 1000 + (step - 1)) / step ≡ (eps - 1000 + (step - 1) - step) / step + 1 =
+      div-eq-sub-div {m = step} {n = eps - 1000 + (step - 1)} (omega arith) over in
       omega arith
 ]
 
@@ -45,15 +52,21 @@ expansions_of_both [] qs = omega arith
 expansions_of_both (p ∷ ps) qs = let more = expansions_of_both ps qs in omega arith
 
 -- counts that grow twice
-grows_twice : (before mid after : Counts) (a b c : ℕ) → c ≡ a + b → mid ≡ record before { plan = before.plan + a; run = before.run + a } → after ≡ record mid { plan = mid.plan + b; run = mid.run + b } → after ≡ record before { plan = before.plan + c; run = before.run + c }
+grows_twice : (before mid after : Counts) (a b c : ℕ) → c ≡ a + b
+    → mid ≡ record before { plan = before.plan + a; run = before.run + a }
+    → after ≡ record mid { plan = mid.plan + b; run = mid.run + b }
+    → after ≡ record before { plan = before.plan + c; run = before.run + c }
 grows_twice before mid after a b c sum one two =
     two ∙ ap (λ (m : Counts). record m { plan = m.plan + b; run = m.run + b }) one
-    ∙ ap (λ (x : ℕ). record before { plan = x; run = before.run + a + b }) (let e : before.plan + a + b ≡ before.plan + c = omega arith in e)
-    ∙ ap (λ (x : ℕ). record before { plan = before.plan + c; run = x }) (let e : before.run + a + b ≡ before.run + c = omega arith in e)
+    ∙ ap (λ (x : ℕ). record before { plan = x; run = before.run + a + b })
+    (let e : before.plan + a + b ≡ before.plan + c = omega arith in e)
+    ∙ ap (λ (x : ℕ). record before { plan = before.plan + c; run = x })
+    (let e : before.run + a + b ≡ before.run + c = omega arith in e)
 
 grows_by_none : (before : Counts) → before ≡ record before { plan = before.plan + 0; run = before.run + 0 }
 grows_by_none before =
-    ap (λ (x : ℕ). record before { plan = x }) (sym (add-zero before.plan)) ∙ ap (λ (x : ℕ). record before { plan = before.plan + 0; run = x }) (sym (add-zero before.run))
+    ap (λ (x : ℕ). record before { plan = x }) (sym (add-zero before.plan))
+    ∙ ap (λ (x : ℕ). record before { plan = before.plan + 0; run = x }) (sym (add-zero before.run))
 
 -- one more pass, with at most a given number of expansions
 one_more : (a b c l k s : ℕ) → c ≡ a + b → k ≡ l + 1 → a ≤ l * s → b ≤ s → c ≤ k * s
@@ -62,11 +75,14 @@ one_more a b c l k s sum count most few = rw (count, add-mul l 1 s) (let one : 1
 one_less : (a b c l k s : ℕ) → c ≡ a + b → k ≡ l + 1 → a ≤ l * s → b < s → c < k * s
 one_less a b c l k s sum count most few = rw (count, add-mul l 1 s) (let one : 1 * s ≡ s = omega arith in omega arith)
 
-expansions_more : {Note : Type 0} (ps : List (Pass Note)) (p : Pass Note) → expansions (ps ++ p ∷ []) ≡ expansions ps + p.expanded
+expansions_more : {Note : Type 0} (ps : List (Pass Note)) (p : Pass Note)
+    → expansions (ps ++ p ∷ []) ≡ expansions ps + p.expanded
 expansions_more ps p = let both = expansions_of_both ps (p ∷ []) in omega arith
 
 -- a search that goes on twice
-ready_twice : {Note : Type 0} (means : Meaning Note) (n : Network) (a b c : ℕ) (old mid new : State Note) (before between after : Counts) → c ≡ a + b → IsReadyAfter means n a old mid before between → IsReadyAfter means n b mid new between after → IsReadyAfter means n c old new before after
+ready_twice : {Note : Type 0} (means : Meaning Note) (n : Network) (a b c : ℕ) (old mid new : State Note)
+    (before between after : Counts) → c ≡ a + b → IsReadyAfter means n a old mid before between
+    → IsReadyAfter means n b mid new between after → IsReadyAfter means n c old new before after
 ready_twice means n a b c old mid new before between after sum one two = record {
   counted = grows_twice before between after a b c sum one.counted two.counted;
   ready = two.ready;
@@ -77,83 +93,123 @@ ready_twice means n a b c old mid new before between after sum one two = record 
 }
 
 -- passes were made, none of them the last, and the next one has this inflation
-pub record AreGoingOn {Note : Type 0} (means : Meaning Note) (q : Inquiry) (old now : State Note) (before after : Counts) (passes : List (Pass Note)) (eps : ℕ) : Type 0 where
-  pub leads : (ps : List (Pass Note)) (new : Marks) (spent : Bool) → ArePasses means q eps now.labels ps new spent → ArePasses means q q.ask.first old.labels (passes ++ ps) new spent
-  pub prefix : (ps : List (Pass Note)) (new : Marks) → AreFirstPasses means q eps now.labels ps new → AreFirstPasses means q q.ask.first old.labels (passes ++ ps) new
+pub record AreGoingOn {Note : Type 0} (means : Meaning Note) (q : Inquiry) (old now : State Note)
+    (before after : Counts) (passes : List (Pass Note)) (eps : ℕ) : Type 0 where
+  pub leads : (ps : List (Pass Note)) (new : Marks) (spent : Bool) → ArePasses means q eps now.labels ps new spent
+      → ArePasses means q q.ask.first old.labels (passes ++ ps) new spent
+  pub prefix : (ps : List (Pass Note)) (new : Marks) → AreFirstPasses means q eps now.labels ps new
+      → AreFirstPasses means q q.ask.first old.labels (passes ++ ps) new
   pub leaves : IsReadyAfter means q.network (expansions passes) old now before after
   pub many : length passes + most_passes q.ask.step eps ≤ most_passes q.ask.step q.ask.first
   pub spread : expansions passes ≤ length passes * (means.most * states_of old.labels)
 
 -- the last of some passes did this, with others before it
-end_with_more : {Note : Type 0} (means : Meaning Note) (ask : Ask) (passes : List (Pass Note)) (p : Pass Note) (notes : List Note) → EndWith means ask (p ∷ []) notes → EndWith means ask (passes ++ p ∷ []) notes
+end_with_more : {Note : Type 0} (means : Meaning Note) (ask : Ask) (passes : List (Pass Note)) (p : Pass Note)
+    (notes : List Note) → EndWith means ask (p ∷ []) notes → EndWith means ask (passes ++ p ∷ []) notes
 end_with_more means ask [] p notes is = is
 end_with_more means ask (a ∷ []) p notes is = is
 end_with_more means ask (a ∷ b ∷ ps) p notes is = end_with_more means ask (b ∷ ps) p notes is
 
 module _ {Note : Type 0} (means : Meaning Note) (q : Inquiry) (old : State Note) (before : Counts) where
-  pub begins : means.ready q.network old.labels before.run → IsStartFresh old.labels → AreGoingOn means q old old before before [] q.ask.first
+  pub begins : means.ready q.network old.labels before.run → IsStartFresh old.labels
+      → AreGoingOn means q old old before before [] q.ask.first
   begins ready fresh = record {
     leads = λ ps new spent made. made;
     prefix = λ ps new made. made;
-    leaves = record { counted = grows_by_none before; ready = ready; fresh = fresh; start = refl; states = refl; same_goal = refl };
+    leaves = record {
+      counted = grows_by_none before;
+      ready = ready;
+      fresh = fresh;
+      start = refl;
+      states = refl;
+      same_goal = refl;
+    };
     many = omega arith;
     spread = omega arith;
   }
 
-  module _ (now new : State Note) (mid after : Counts) (passes : List (Pass Note)) (eps : ℕ) (so : AreGoingOn means q old now before mid passes eps) where
-    part_after : (Later Told : List (Pass Note) → Type 0) → ((ps : List (Pass Note)) → Later ps → Told (passes ++ ps)) → IsPartOfPlan means q eps now new mid after Later → IsPartOfPlan means q q.ask.first old new before after Told
+  module _ (now new : State Note) (mid after : Counts) (passes : List (Pass Note)) (eps : ℕ)
+      (so : AreGoingOn means q old now before mid passes eps) where
+    part_after : (Later Told : List (Pass Note) → Type 0) → ((ps : List (Pass Note)) → Later ps → Told (passes ++ ps))
+        → IsPartOfPlan means q eps now new mid after Later → IsPartOfPlan means q q.ask.first old new before after Told
     part_after Later Told tells part = record {
       passes = passes ++ part.passes;
       told = tells part.passes part.told;
       made = so.prefix part.passes new.labels part.made;
-      leaves = ready_twice means q.network _ _ _ old now new before mid after (expansions_of_both passes part.passes) so.leaves part.leaves;
+      leaves =
+          ready_twice means q.network _ _ _ old now new before mid after
+          (expansions_of_both passes part.passes) so.leaves part.leaves;
     }
 
-    module _ (arcs : List ℕ) (spent : Bool) (p : Pass Note) (t : IsIteration means q eps now new mid after arcs spent p) where
+    module _ (arcs : List ℕ) (spent : Bool) (p : Pass Note)
+        (t : IsIteration means q eps now new mid after arcs spent p) where
       leaves_more : IsReadyAfter means q.network (expansions (passes ++ p ∷ [])) old new before after
-      leaves_more = ready_twice means q.network _ _ _ old now new before mid after (expansions_more passes p) so.leaves t.leaves
+      leaves_more =
+          ready_twice means q.network _ _ _ old now new before mid after (expansions_more passes p) so.leaves t.leaves
 
       -- a pass after them that is not the last
       not_spent : (b : Bool) → spent ≡ b → (EndsPlan q eps new.labels spent p.found → ⊥) → spent ≡ false
       not_spent true is not = absurd (not (inr (inr (inl is))))
       not_spent false is not = is
 
-      pub goes_on : IsAsk q.ask → 1000 ≤ eps → (EndsPlan q eps new.labels spent p.found → ⊥) → AreGoingOn means q old new before after (passes ++ p ∷ []) (lowered q.ask.step eps)
+      pub goes_on : IsAsk q.ask → 1000 ≤ eps → (EndsPlan q eps new.labels spent p.found → ⊥)
+          → AreGoingOn means q old new before after (passes ++ p ∷ []) (lowered q.ask.step eps)
       goes_on asked low not =
           let rested : spent ≡ false = not_spent spent refl not in
-          let pass : IsPass means q eps now.labels new.labels false p = subst (λ (b : Bool). IsPass means q eps now.labels new.labels b p) rested t.pass in
-          let on : EndsPlan q eps new.labels false p.found → ⊥ = subst (λ (b : Bool). EndsPlan q eps new.labels b p.found → ⊥) rested not in
+          let pass : IsPass means q eps now.labels new.labels false p =
+          subst (λ (b : Bool). IsPass means q eps now.labels new.labels b p) rested t.pass in
+          let on : EndsPlan q eps new.labels false p.found → ⊥ =
+          subst (λ (b : Bool). EndsPlan q eps new.labels b p.found → ⊥) rested not in
           record {
-            leads = λ ps m last made. subst (λ (l : List (Pass Note)). ArePasses means q q.ask.first old.labels l m last) (sym (append_assoc passes (p ∷ []) ps)) (so.leads (p ∷ ps) m last (inr (new.labels, pass, on, made)));
-            prefix = λ ps m made. subst (λ (l : List (Pass Note)). AreFirstPasses means q q.ask.first old.labels l m) (sym (append_assoc passes (p ∷ []) ps)) (so.prefix (p ∷ ps) m (inr (new.labels, pass, on, made)));
+            leads =
+                λ ps m last made. subst (λ (l : List (Pass Note)). ArePasses means q q.ask.first old.labels l m last)
+                (sym (append_assoc passes (p ∷ []) ps)) (so.leads (p ∷ ps) m last (inr (new.labels, pass, on, made)));
+            prefix = λ ps m made. subst (λ (l : List (Pass Note)). AreFirstPasses means q q.ask.first old.labels l m)
+                (sym (append_assoc passes (p ∷ []) ps)) (so.prefix (p ∷ ps) m (inr (new.labels, pass, on, made)));
             leaves = leaves_more;
-            many = let more = more_passes q.ask.step eps asked.step_low low (λ one. not (inr (inr (inr one)))) in let sum = so.many in rw (length-append passes (p ∷ [])) (omega arith);
-            spread = one_more _ _ _ _ _ _ (expansions_more passes p) (length-append passes (p ∷ [])) so.spread (subst (λ k. p.expanded ≤ means.most * k) so.leaves.states t.few);
+            many =
+                let more = more_passes q.ask.step eps asked.step_low low (λ one. not (inr (inr (inr one)))) in
+                let sum = so.many in rw (length-append passes (p ∷ [])) (omega arith);
+            spread =
+                one_more _ _ _ _ _ _ (expansions_more passes p) (length-append passes (p ∷ [])) so.spread
+                (subst (λ k. p.expanded ≤ means.most * k) so.leaves.states t.few);
           }
 
       -- a pass after them that is the last, with the result
-      module _ (o : Outcome FoundPath) (asked : IsAsk q.ask) (last : EndsPlan q eps new.labels spent p.found) (is : IsResultOf q.network q.guide q.goal new.labels o) (sized : states_of new.labels ≡ q.network.states) where
+      module _ (o : Outcome FoundPath) (asked : IsAsk q.ask) (last : EndsPlan q eps new.labels spent p.found)
+          (is : IsResultOf q.network q.guide q.goal new.labels o)
+          (sized : states_of new.labels ≡ q.network.states) where
         few_passes : length (passes ++ p ∷ []) ≤ most_passes q.ask.step q.ask.first
         few_passes = let sum = so.many in rw (length-append passes (p ∷ [])) (omega arith)
 
         known : AgreesWithFound p.found o → spent ≡ false → IsConclusive q.ask.bound o
         known agrees rested =
-            outcome_is_known q eps new.labels arcs p.found o asked.bound_low (subst (λ (b : Bool). EndsPlan q eps new.labels b p.found) rested last)
+            outcome_is_known q eps new.labels arcs p.found o asked.bound_low
+            (subst (λ (b : Bool). EndsPlan q eps new.labels b p.found) rested last)
             (t.none_at_rest rested) (t.tight_at_rest rested) t.found agrees is
 
-        enough : spent ≡ true → before.plan + most_passes q.ask.step q.ask.first * (means.most * q.network.states) ≤ before.per_plan → after.run ≡ 2 ^ 30
+        enough : spent ≡ true
+            → before.plan + most_passes q.ask.step q.ask.first * (means.most * q.network.states) ≤ before.per_plan
+            → after.run ≡ 2 ^ 30
         enough ran_out room =
-            run_is_spent before after (expansions (passes ++ p ∷ [])) (length (passes ++ p ∷ [])) (most_passes q.ask.step q.ask.first) (means.most * states_of old.labels)
+            run_is_spent before after (expansions (passes ++ p ∷ [])) (length (passes ++ p ∷ []))
+            (most_passes q.ask.step q.ask.first) (means.most * states_of old.labels)
             leaves_more.counted (t.is_spent ran_out)
-            (one_less _ _ _ _ _ _ (expansions_more passes p) (length-append passes (p ∷ [])) so.spread (subst (λ k. p.expanded < means.most * k) so.leaves.states (t.unfinished ran_out)))
+            (one_less _ _ _ _ _ _ (expansions_more passes p) (length-append passes (p ∷ [])) so.spread
+            (subst (λ k. p.expanded < means.most * k) so.leaves.states (t.unfinished ran_out)))
             few_passes
-            (subst (λ k. before.plan + most_passes q.ask.step q.ask.first * (means.most * k) ≤ before.per_plan) (sym sized ∙ leaves_more.states) room)
+            (subst (λ k. before.plan + most_passes q.ask.step q.ask.first * (means.most * k) ≤ before.per_plan)
+            (sym sized ∙ leaves_more.states) room)
 
-        pub planned_of : AgreesWithFound p.found o → BoundHolds → NoneHolds → IsSound q.network → IsConsistent q.network q.goal q.guide → AreCounts after → IsPlanned means q old new before after (record { passes = passes ++ p ∷ []; spent = spent; outcome = o })
+        pub planned_of : AgreesWithFound p.found o → BoundHolds → NoneHolds → IsSound q.network
+            → IsConsistent q.network q.goal q.guide → AreCounts after
+            → IsPlanned means q old new before after (record { passes = passes ++ p ∷ []; spent = spent; outcome = o })
         planned_of agrees bounds nones sound consistent counts = record {
           passes = so.leads (p ∷ []) new.labels spent (inl (refl, t.pass, last));
           outcome = is;
-          so = outcome_is_true q.network q.guide q.goal new.labels old.labels.start o bounds nones sound consistent sized t.supported leaves_more.start is;
+          so =
+              outcome_is_true q.network q.guide q.goal new.labels old.labels.start o bounds nones sound consistent sized
+              t.supported leaves_more.start is;
           answered = known agrees;
           traced = end_with_more means q.ask passes p new.notes t.traced;
           leaves = leaves_more;
@@ -170,18 +226,29 @@ on_err (Ok x) P h = tt
 on_err (Err e) P h = h
 
 -- before the first pass no part of a plan was made
-pub part_of_none : {Note : Type 0} (means : Meaning Note) (q : Inquiry) (eps : ℕ) (old : State Note) (before : Counts) (Told : List (Pass Note) → Type 0)
-    → Told [] → means.ready q.network old.labels before.run → IsStartFresh old.labels → IsPartOfPlan means q eps old old before before Told
+pub part_of_none : {Note : Type 0} (means : Meaning Note) (q : Inquiry) (eps : ℕ) (old : State Note) (before : Counts)
+    (Told : List (Pass Note) → Type 0)
+    → Told [] → means.ready q.network old.labels before.run → IsStartFresh old.labels
+    → IsPartOfPlan means q eps old old before before Told
 part_of_none means q eps old before Told told ready fresh = record {
   passes = [];
   told = told;
   made = refl;
-  leaves = record { counted = grows_by_none before; ready = ready; fresh = fresh; start = refl; states = refl; same_goal = refl };
+  leaves = record {
+    counted = grows_by_none before;
+    ready = ready;
+    fresh = fresh;
+    start = refl;
+    states = refl;
+    same_goal = refl;
+  };
 }
 
 -- an iteration is a part of a plan
-pub part_of_one : {Note : Type 0} (means : Meaning Note) (q : Inquiry) (eps : ℕ) (old new : State Note) (before after : Counts) (arcs : List ℕ) (spent : Bool) (p : Pass Note) (Told : List (Pass Note) → Type 0)
-    → Told (p ∷ []) → IsIteration means q eps old new before after arcs spent p → IsPartOfPlan means q eps old new before after Told
+pub part_of_one : {Note : Type 0} (means : Meaning Note) (q : Inquiry) (eps : ℕ) (old new : State Note)
+    (before after : Counts) (arcs : List ℕ) (spent : Bool) (p : Pass Note) (Told : List (Pass Note) → Type 0)
+    → Told (p ∷ []) → IsIteration means q eps old new before after arcs spent p
+    → IsPartOfPlan means q eps old new before after Told
 part_of_one means q eps old new before after arcs spent p Told told t = record {
   passes = p ∷ [];
   told = told;
@@ -190,10 +257,13 @@ part_of_one means q eps old new before after arcs spent p Told told t = record {
 }
 
 -- memory runs out after passes that were made
-pub runs_out_after : {Note : Type 0} (means : Meaning Note) (q : Inquiry) (old now new : State Note) (before mid after : Counts) (passes : List (Pass Note)) (eps : ℕ)
+pub runs_out_after : {Note : Type 0} (means : Meaning Note) (q : Inquiry) (old now new : State Note)
+    (before mid after : Counts) (passes : List (Pass Note)) (eps : ℕ)
     (Later Told : List (Pass Note) → Type 0) → ((ps : List (Pass Note)) → Later ps → Told (passes ++ ps))
-    → AreGoingOn means q old now before mid passes eps → RunsOutOfMemory means q eps now new mid after Later → RunsOutOfMemory means q q.ask.first old new before after Told
-runs_out_after means q old now new before mid after passes eps Later Told tells so (inl part) = inl (part_after means q old before now new mid after passes eps so Later Told tells part)
+    → AreGoingOn means q old now before mid passes eps → RunsOutOfMemory means q eps now new mid after Later
+    → RunsOutOfMemory means q q.ask.first old new before after Told
+runs_out_after means q old now new before mid after passes eps Later Told tells so (inl part) =
+    inl (part_after means q old before now new mid after passes eps so Later Told tells part)
 runs_out_after means q old now new before mid after passes eps Later Told tells so (inr cut) = inr (record {
   mid = cut.mid;
   between = cut.between;

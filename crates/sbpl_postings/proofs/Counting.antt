@@ -1,5 +1,6 @@
 -- The posts of one seat among others.
-use Rattle.std.proofs.Common.{◌≡◌, ◌≢◌, ℕ, ◌+◌, ◌≤◌, Bool, true, false, not, nat_eq, cond, true≢false, List, [], ◌∷◌, ◌++◌, length, sum_by, arith, sym, refl, ap, ◌∙◌, append-nil}
+use Rattle.std.proofs.Common.{◌≡◌, ◌≢◌, ℕ, ◌+◌, ◌≤◌, Bool, true, false, not, nat_eq, cond, true≢false, List, [], ◌∷◌}
+use Rattle.std.proofs.Common.{◌++◌, length, sum_by, arith, sym, refl, ap, ◌∙◌, append-nil}
 use Rattle.std.specs.List.{All, filter}
 use Rattle.std.proofs.lemmas.Bool.{eq-eqb, eqb-true, ne_eqb}
 use Rattle.std.proofs.lemmas.List.Elements.{All-cons, All-head, All-nil, All-tail, filter-append}
@@ -10,10 +11,12 @@ use Rattle.sbpl_postings.specs.Posts.{of}
 use Rattle.sbpl_postings.specs.declared.post.Post.{Post}
 use Rattle.sbpl_postings.specs.declared.post.Sent.{Sent}
 
-pub all_with : {X : Type 0} (P Q R : X → Type 0) → ((x : X) → P x → Q x → R x) → (xs : List X) → All P xs → All Q xs → All R xs
+pub all_with : {X : Type 0} (P Q R : X → Type 0) → ((x : X) → P x → Q x → R x) → (xs : List X)
+    → All P xs → All Q xs → All R xs
 all_with P Q R both [] first second = All-nil R
 all_with P Q R both (x ∷ xs) first second =
-    All-cons R x xs (both x (All-head P x xs first) (All-head Q x xs second)) (all_with P Q R both xs (All-tail P x xs first) (All-tail Q x xs second))
+    All-cons R x xs (both x (All-head P x xs first) (All-head Q x xs second))
+    (all_with P Q R both xs (All-tail P x xs first) (All-tail Q x xs second))
 
 -- ---- one more post
 
@@ -38,7 +41,8 @@ pub of_none : (seat : ℕ) (all : List Post) → All (λ (p : Post). p.seat ≢ 
 of_none seat [] none = refl
 of_none seat (p ∷ rest) none =
     let Differs : Post → Type 0 = λ (q : Post). q.seat ≢ seat in
-    ap (λ (b : Bool). cond b (p ∷ of seat rest) (of seat rest)) (ne_eqb p.seat seat (All-head Differs p rest none)) ∙ of_none seat rest (All-tail Differs p rest none)
+    ap (λ (b : Bool). cond b (p ∷ of seat rest) (of seat rest)) (ne_eqb p.seat seat (All-head Differs p rest none))
+    ∙ of_none seat rest (All-tail Differs p rest none)
 
 -- ---- how many
 
@@ -52,10 +56,12 @@ not_false : (b : Bool) → not b ≡ false → b ≡ true
 not_false true e = refl
 not_false false e = absurd (true≢false e)
 
-skipped : (seat : ℕ) (p : Post) (keeps : Bool) (rs rest : List Post) → (keeps ≡ false → nat_eq p.seat seat ≡ false) → of seat rs ≡ of seat rest
+skipped : (seat : ℕ) (p : Post) (keeps : Bool) (rs rest : List Post) → (keeps ≡ false → nat_eq p.seat seat ≡ false)
+    → of seat rs ≡ of seat rest
     → of seat (cond keeps (p ∷ rs) rs) ≡ of seat (p ∷ rest)
 skipped seat p true rs rest none same = ap (λ (ps : List Post). cond (nat_eq p.seat seat) (p ∷ ps) ps) same
-skipped seat p false rs rest none same = same ∙ ap (λ (b : Bool). cond b (p ∷ of seat rest) (of seat rest)) (sym (none refl))
+skipped seat p false rs rest none same =
+    same ∙ ap (λ (b : Bool). cond b (p ∷ of seat rest) (of seat rest)) (sym (none refl))
 
 of_others : (seat gone : ℕ) (all : List Post) → seat ≢ gone → of seat (others gone all) ≡ of seat all
 of_others seat gone [] other = refl
@@ -68,13 +74,16 @@ abbrev Brings : List Post → Sent → Type 0
 Brings all sent = of sent.seat all ≡ sent.posts
 
 -- there are not fewer posts than different seats put in
-pub brought_count : (sents : List Sent) (all : List Post) → AreApart sents → All (Brings all) sents → sum_by (λ (s : Sent). length s.posts) sents ≤ length all
+pub brought_count : (sents : List Sent) (all : List Post) → AreApart sents → All (Brings all) sents
+    → sum_by (λ (s : Sent). length s.posts) sents ≤ length all
 brought_count [] all apart brings = omega arith
 brought_count (s ∷ rest) all apart brings =
     let Other : Sent → Type 0 = λ (t : Sent). t.seat ≢ s.seat in
     let further : All (Brings (others s.seat all)) rest =
-    all_with Other (Brings all) (Brings (others s.seat all)) (λ t other is. of_others t.seat s.seat all other ∙ is) rest apart.0 (All-tail (Brings all) s rest brings) in
+    all_with Other (Brings all) (Brings (others s.seat all)) (λ t other is. of_others t.seat s.seat all other ∙ is) rest
+    apart.0 (All-tail (Brings all) s rest brings) in
     let less = brought_count rest (others s.seat all) apart.1 further in
     let mine : length (of s.seat all) ≡ length s.posts = ap length (All-head (Brings all) s rest brings) in
-    let parted : length (of s.seat all) + length (others s.seat all) ≡ length all = length-filter_both (is_of s.seat) (is_other s.seat) (λ p. refl) all in
+    let parted : length (of s.seat all) + length (others s.seat all) ≡ length all =
+    length-filter_both (is_of s.seat) (is_other s.seat) (λ p. refl) all in
     omega (arith, sum_by-cons (λ (t : Sent). length t.posts) s rest, less, mine, parted)

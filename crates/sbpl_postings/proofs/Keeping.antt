@@ -1,5 +1,6 @@
 -- Each step of the queue keeps the rule.
-use Rattle.std.proofs.Common.{◌≡◌, ◌≢◌, ℕ, zero, suc, ◌<◌, ◌⊎◌, List, [], ◌∷◌, ◌++◌, length, set, arith, subst, sym, refl, ap, ◌∙◌, inl, inr, ⊎_elim, length-set, append_assoc}
+use Rattle.std.proofs.Common.{◌≡◌, ◌≢◌, ℕ, zero, suc, ◌<◌, ◌⊎◌, List, [], ◌∷◌, ◌++◌, length, set, arith, subst, sym}
+use Rattle.std.proofs.Common.{refl, ap, ◌∙◌, inl, inr, ⊎_elim, length-set, append_assoc}
 use Rattle.std.specs.List.{All}
 use Rattle.std.proofs.lemmas.List.Elements.{All-cons, All-nil, All-push, All-weaker}
 use mathlib.Core.Option.{some, some-injective, some-ne-none}
@@ -9,7 +10,8 @@ use Rattle.sbpl_postings.specs.Drained.{Drained}
 use Rattle.sbpl_postings.specs.Known.{drained_of, sent_of, whole}
 use Rattle.sbpl_postings.specs.Kept.{AreBrought, AreKept, IsDrain, IsKept, IsSender, IsWhole}
 use Rattle.sbpl_postings.specs.Posts.{of}
-use Rattle.sbpl_postings.specs.Steps.{drained_with, ended_with, fresh_sender, none_made, nothing_came, one_more, sent_with}
+use Rattle.sbpl_postings.specs.Steps.{drained_with, ended_with, fresh_sender, none_made}
+use Rattle.sbpl_postings.specs.Steps.{nothing_came, one_more, sent_with}
 use Rattle.sbpl_postings.specs.declared.post.Post.{Post}
 use Rattle.sbpl_postings.specs.declared.post.Sent.{Sent}
 use Rattle.sbpl_postings.specs.declared.known.Known.{Known}
@@ -21,16 +23,20 @@ abbrev Other : Sent → Sent → Type 0
 Other sent other = other.seat ≢ sent.seat
 
 -- a drain's pass and a sender's are not the same
-not_both : (views : List Known) (place : ℕ) (now : Drained) (sent : Sent) → IsDrain views place now → IsSender views place sent → ⊥
+not_both : (views : List Known) (place : ℕ) (now : Drained) (sent : Sent) → IsDrain views place now
+    → IsSender views place sent → ⊥
 not_both views place now sent drain sender = absurd (cc (some-injective (whole now) (One sent) (sym drain ∙ sender)))
 
 -- what the drain's pass knows is what the rule has of it
-pub kept_at : (items : List Post) (views : List Known) (place : ℕ) (now : Drained) → IsKept items views → IsDrain views place now → AreKept place now (now.came ++ items) views
+pub kept_at : (items : List Post) (views : List Known) (place : ℕ) (now : Drained) → IsKept items views
+    → IsDrain views place now → AreKept place now (now.came ++ items) views
 kept_at items views place now (drain, was, kept) at =
     let here : place ≡ drain = kept.alone place now at in
-    let there : get_elem? views drain ≡ some (whole now) = subst (λ (p : ℕ). get_elem? views p ≡ some (whole now)) here at in
+    let there : get_elem? views drain ≡ some (whole now) =
+    subst (λ (p : ℕ). get_elem? views p ≡ some (whole now)) here at in
     let same : was ≡ now = ap drained_of (some-injective (whole was) (whole now) (sym kept.drains ∙ there)) in
-    subst (λ (p : ℕ). AreKept p now (now.came ++ items) views) (sym here) (subst (λ (d : Drained). AreKept drain d (d.came ++ items) views) same kept)
+    subst (λ (p : ℕ). AreKept p now (now.came ++ items) views) (sym here)
+    (subst (λ (d : Drained). AreKept drain d (d.came ++ items) views) same kept)
 
 -- ---- nothing is made
 
@@ -60,7 +66,8 @@ first_kept = (
 
 -- ---- a posting is put in
 
-module _ (items : List Post) (views : List Known) (at : ℕ) (sent : Sent) (post : Post) (mine : post.seat ≡ sent.seat) (is : IsSender views at sent) where
+module _ (items : List Post) (views : List Known) (at : ℕ) (sent : Sent) (post : Post) (mine : post.seat ≡ sent.seat)
+    (is : IsSender views at sent) where
   abbrev then : Sent
   then = sent_with sent post
 
@@ -68,7 +75,8 @@ module _ (items : List Post) (views : List Known) (at : ℕ) (sent : Sent) (post
   after = set views at (One then)
 
   -- a sender now: the one that put it in, or another that was there
-  sender_then : (seat : ℕ) (x : Sent) → IsSender after seat x → ((seat ≡ at) × (then ≡ x)) ⊎ ((seat ≢ at) × IsSender views seat x)
+  sender_then : (seat : ℕ) (x : Sent) → IsSender after seat x
+      → ((seat ≡ at) × (then ≡ x)) ⊎ ((seat ≢ at) × IsSender views seat x)
   sender_then seat x now =
       ⊎_elim
       (λ (here : (seat ≡ at) × (One then ≡ One x)). inl (here.0, ap sent_of here.1))
@@ -86,10 +94,13 @@ module _ (items : List Post) (views : List Known) (at : ℕ) (sent : Sent) (post
     live_then seat x has =
         ⊎_elim
         (λ (here : (seat ≡ at) × (then ≡ x)).
-        subst (IsWhole now.made more) here.1
-        ((kept.live at sent is).0, of_here sent.seat all post mine ∙ ap (λ (ps : List Post). ps ++ post ∷ []) (kept.live at sent is).1))
+        subst (IsWhole now.made more) here.1 (
+          (kept.live at sent is).0,
+          of_here sent.seat all post mine ∙ ap (λ (ps : List Post). ps ++ post ∷ []) (kept.live at sent is).1,
+        ))
         (λ (there : (seat ≢ at) × IsSender views seat x).
-        let other : post.seat ≢ x.seat = λ e. kept.apart at seat sent x (λ same. there.0 (sym same)) is there.1 (sym mine ∙ e) in
+        let other : post.seat ≢ x.seat =
+        λ e. kept.apart at seat sent x (λ same. there.0 (sym same)) is there.1 (sym mine ∙ e) in
         ((kept.live seat x there.1).0, of_else x.seat all post other ∙ (kept.live seat x there.1).1))
         (sender_then seat x has)
 
@@ -99,11 +110,13 @@ module _ (items : List Post) (views : List Known) (at : ℕ) (sent : Sent) (post
         (λ (here : (a ≡ at) × (then ≡ x)).
         ⊎_elim
         (λ (same : (b ≡ at) × (then ≡ y)). absurd (differ (here.0 ∙ sym same.0)))
-        (λ (there : (b ≢ at) × IsSender views b y). λ e. kept.apart at b sent y (λ same. there.0 (sym same)) is there.1 (ap (λ (s : Sent). s.seat) here.1 ∙ e))
+        (λ (there : (b ≢ at) × IsSender views b y).
+        λ e. kept.apart at b sent y (λ same. there.0 (sym same)) is there.1 (ap (λ (s : Sent). s.seat) here.1 ∙ e))
         (sender_then b y also))
         (λ (there : (a ≢ at) × IsSender views a x).
         ⊎_elim
-        (λ (same : (b ≡ at) × (then ≡ y)). λ e. kept.apart a at x sent there.0 there.1 is (e ∙ sym (ap (λ (s : Sent). s.seat) same.1)))
+        (λ (same : (b ≡ at) × (then ≡ y)).
+        λ e. kept.apart a at x sent there.0 there.1 is (e ∙ sym (ap (λ (s : Sent). s.seat) same.1)))
         (λ (far : (b ≢ at) × IsSender views b y). kept.apart a b x y differ there.1 far.1)
         (sender_then b y also))
         (sender_then a x has)
@@ -111,7 +124,8 @@ module _ (items : List Post) (views : List Known) (at : ℕ) (sent : Sent) (post
     left_then : (seat : ℕ) (x : Sent) → IsSender after seat x → All (Other x) now.ended
     left_then seat x has =
         ⊎_elim
-        (λ (here : (seat ≡ at) × (then ≡ x)). subst (λ (s : Sent). All (Other s) now.ended) here.1 (kept.left at sent is))
+        (λ (here : (seat ≡ at) × (then ≡ x)).
+        subst (λ (s : Sent). All (Other s) now.ended) here.1 (kept.left at sent is))
         (λ (there : (seat ≢ at) × IsSender views seat x). kept.left seat x there.1)
         (sender_then seat x has)
 
@@ -125,23 +139,28 @@ module _ (items : List Post) (views : List Known) (at : ℕ) (sent : Sent) (post
           (at_set views at other (One then) (whole than) drain);
       live = live_then;
       ended = all_with (Other sent) (IsWhole now.made all) (IsWhole now.made more)
-          (λ e other whole. (whole.0, of_else e.seat all post (λ same. other (sym same ∙ mine)) ∙ whole.1)) now.ended (kept.left at sent is) kept.ended;
+          (λ e other whole. (whole.0, of_else e.seat all post (λ same. other (sym same ∙ mine)) ∙ whole.1)) now.ended
+          (kept.left at sent is) kept.ended;
       apart = apart_then;
       left = left_then;
       differ = kept.differ;
-      below = All-push (λ (p : Post). p.seat < now.made) all post kept.below (let fits : sent.seat < now.made = (kept.live at sent is).0 in omega (arith, mine));
+      below =
+          All-push (λ (p : Post). p.seat < now.made) all post kept.below
+          (let fits : sent.seat < now.made = (kept.live at sent is).0 in omega (arith, mine));
     }
 
   pub pushed_kept : IsKept items views → IsKept (items ++ post ∷ []) after
   pushed_kept (place, now, kept) = (
     place,
     now,
-    subst (λ (all : List Post). AreKept place now all after) (append_assoc now.came items (post ∷ [])) (pushed_then place now (now.came ++ items) kept),
+    subst (λ (all : List Post). AreKept place now all after) (append_assoc now.came items (post ∷ []))
+        (pushed_then place now (now.came ++ items) kept),
   )
 
 -- ---- a posting is taken out
 
-module _ (items : List Post) (views : List Known) (place : ℕ) (now : Drained) (post : Post) (kept : AreKept place now (now.came ++ post ∷ items) views) where
+module _ (items : List Post) (views : List Known) (place : ℕ) (now : Drained) (post : Post)
+    (kept : AreKept place now (now.came ++ post ∷ items) views) where
   abbrev taken : Drained
   taken = drained_with now post
 
@@ -172,11 +191,17 @@ module _ (items : List Post) (views : List Known) (place : ℕ) (now : Drained) 
   }
 
   pub popped_kept : IsKept items less
-  popped_kept = (place, taken, subst (λ (all : List Post). AreKept place taken all less) (sym (append_assoc now.came (post ∷ []) items)) popped_same)
+  popped_kept = (
+    place,
+    taken,
+    subst (λ (all : List Post). AreKept place taken all less)
+        (sym (append_assoc now.came (post ∷ []) items)) popped_same,
+  )
 
 -- ---- a sender is made
 
-module _ (items : List Post) (views : List Known) (place : ℕ) (now : Drained) (kept : AreKept place now (now.came ++ items) views) where
+module _ (items : List Post) (views : List Known) (place : ℕ) (now : Drained)
+    (kept : AreKept place now (now.came ++ items) views) where
   abbrev next : Drained
   next = one_more now
 
@@ -213,7 +238,9 @@ module _ (items : List Post) (views : List Known) (place : ℕ) (now : Drained) 
   older at x is = (kept.live at x is).0
 
   none_yet : of now.made all ≡ []
-  none_yet = of_none now.made all (All-weaker (λ (p : Post). p.seat < now.made) (λ (p : Post). p.seat ≢ now.made) (λ p less e. omega (arith, less, e)) all kept.below)
+  none_yet =
+      of_none now.made all (All-weaker (λ (p : Post). p.seat < now.made) (λ (p : Post). p.seat ≢ now.made)
+      (λ p less e. omega (arith, less, e)) all kept.below)
 
   more_apart : (a b : ℕ) (x y : Sent) → a ≢ b → IsSender longer a x → IsSender longer b y → x.seat ≢ y.seat
   more_apart a b x y differ is also =
@@ -221,11 +248,13 @@ module _ (items : List Post) (views : List Known) (place : ℕ) (now : Drained) 
       (λ (first : IsSender views a x).
       ⊎_elim
       (λ (second : IsSender views b y). kept.apart a b x y differ first second)
-      (λ (new : (b ≡ length views) × (fresh ≡ y)). λ e. let less = older a x first in let seat : now.made ≡ y.seat = ap (λ (s : Sent). s.seat) new.1 in omega (arith, less, seat, e))
+      (λ (new : (b ≡ length views) × (fresh ≡ y)). λ e. let less = older a x first in
+      let seat : now.made ≡ y.seat = ap (λ (s : Sent). s.seat) new.1 in omega (arith, less, seat, e))
       (sender_more b y also))
       (λ (new : (a ≡ length views) × (fresh ≡ x)).
       ⊎_elim
-      (λ (second : IsSender views b y). λ e. let less = older b y second in let seat : now.made ≡ x.seat = ap (λ (s : Sent). s.seat) new.1 in omega (arith, less, seat, e))
+      (λ (second : IsSender views b y). λ e. let less = older b y second in
+      let seat : now.made ≡ x.seat = ap (λ (s : Sent). s.seat) new.1 in omega (arith, less, seat, e))
       (λ (both : (b ≡ length views) × (fresh ≡ y)). absurd (differ (new.0 ∙ sym both.0)))
       (sender_more b y also))
       (sender_more a x is)
@@ -260,16 +289,20 @@ module _ (items : List Post) (views : List Known) (place : ℕ) (now : Drained) 
           (λ (earlier : IsSender views at x). kept.left at x earlier)
           (λ (new : (at ≡ length views) × (fresh ≡ x)).
           subst (λ (s : Sent). All (Other s) now.ended) new.1
-          (All-weaker (IsWhole now.made all) (Other fresh) (λ s whole e. let less = whole.0 in omega (arith, less, e)) now.ended kept.ended))
+          (All-weaker (IsWhole now.made all) (Other fresh)
+          (λ s whole e. let less = whole.0 in omega (arith, less, e)) now.ended kept.ended))
           (sender_more at x is);
       differ = kept.differ;
-      below = All-weaker (λ (p : Post). p.seat < now.made) (λ (p : Post). p.seat < next.made) (λ p less. omega (arith, less)) all kept.below;
+      below =
+          All-weaker (λ (p : Post). p.seat < now.made) (λ (p : Post). p.seat < next.made)
+          (λ p less. omega (arith, less)) all kept.below;
     },
   )
 
 -- ---- a sender has ended
 
-module _ (items : List Post) (views : List Known) (place : ℕ) (now : Drained) (at : ℕ) (sent : Sent) (kept : AreKept place now (now.came ++ items) views) (other : ¬ (at ≡ place))
+module _ (items : List Post) (views : List Known) (place : ℕ) (now : Drained) (at : ℕ) (sent : Sent)
+    (kept : AreKept place now (now.came ++ items) views) (other : ¬ (at ≡ place))
     (there : IsSender (set views place (whole (ended_with now sent))) at sent) where
   abbrev gone : Drained
   gone = ended_with now sent
@@ -296,7 +329,9 @@ module _ (items : List Post) (views : List Known) (place : ℕ) (now : Drained) 
     place,
     gone,
     record {
-      drains = set_else (set views place (whole gone)) at place Nothing (λ e. other (sym e)) ∙ set_here views place (whole gone) (at_inside views place (whole now) kept.drains);
+      drains =
+          set_else (set views place (whole gone)) at place Nothing (λ e. other (sym e))
+          ∙ set_here views place (whole gone) (at_inside views place (whole now) kept.drains);
       alone = λ seat than drain.
           ⊎_elim
           (λ (here : (seat ≡ at) × (Nothing ≡ whole than)). absurd (cc (here.1)))
@@ -311,7 +346,8 @@ module _ (items : List Post) (views : List Known) (place : ℕ) (now : Drained) 
       apart = λ a b x y differ is also. kept.apart a b x y differ (sender_left a x is).1 (sender_left b y also).1;
       left = λ seat x is.
           let left = sender_left seat x is in
-          All-cons (Other x) sent now.ended (kept.apart at seat sent x (λ e. left.0 (sym e)) was left.1) (kept.left seat x left.1);
+          All-cons (Other x) sent now.ended (kept.apart at seat sent x (λ e. left.0 (sym e)) was left.1)
+          (kept.left seat x left.1);
       differ = (kept.left at sent was, kept.differ);
       below = kept.below;
     },
@@ -319,16 +355,19 @@ module _ (items : List Post) (views : List Known) (place : ℕ) (now : Drained) 
 
 -- ---- what the rule tells the drain
 
-pub brought : (items : List Post) (views : List Known) (place : ℕ) (now : Drained) → AreKept place now (now.came ++ items) views → AreBrought now items
+pub brought : (items : List Post) (views : List Known) (place : ℕ) (now : Drained)
+    → AreKept place now (now.came ++ items) views → AreBrought now items
 brought items views place now kept =
     let all : List Post = now.came ++ items in
     let Brings : Sent → Type 0 = λ (s : Sent). of s.seat all ≡ s.posts in
-    let each : All Brings now.ended = All-weaker (IsWhole now.made all) Brings (λ s whole. whole.1) now.ended kept.ended in
+    let each : All Brings now.ended =
+    All-weaker (IsWhole now.made all) Brings (λ s whole. whole.1) now.ended kept.ended in
     record { each = each; count = brought_count now.ended all kept.differ each }
 
 -- ---- what the rule says of a sender that has not ended
 
-pub in_order : (items : List Post) (views : List Known) (place at : ℕ) (now : Drained) (sent : Sent) → IsKept items views → IsDrain views place now → IsSender views at sent
+pub in_order : (items : List Post) (views : List Known) (place at : ℕ) (now : Drained) (sent : Sent)
+    → IsKept items views → IsDrain views place now → IsSender views at sent
     → of sent.seat now.came ++ of sent.seat items ≡ sent.posts
 in_order items views place at now sent kept drain sender =
     sym (of_both sent.seat now.came items) ∙ ((kept_at items views place now kept drain).live at sent sender).1

@@ -15,7 +15,8 @@ module _ {T : Type 0} (f : T → Post) where
   abbrev Holds : List T → List Known → Type 0
   Holds items views = IsKept (map f items) views
 
-  pub pushes : (n at : ℕ) (v : Known) (x : T) → v ≡ One (sent_of v) → (f x).seat ≡ (sent_of v).seat → Pushes Holds n at v x (λ w. w ≡ pushed v (f x))
+  pub pushes : (n at : ℕ) (v : Known) (x : T) → v ≡ One (sent_of v) → (f x).seat ≡ (sent_of v).seat
+      → Pushes Holds n at v x (λ w. w ≡ pushed v (f x))
   pushes n at v x one mine items views room kept is = (
     pushed v (f x),
     subst (λ (posts : List Post). IsKept posts (set views at (pushed v (f x)))) (sym (map-append f items (x ∷ [])))
@@ -26,16 +27,24 @@ module _ {T : Type 0} (f : T → Post) where
   pub pops : (at : ℕ) (v : Known) → v ≡ whole (drained_of v) → Pops Holds at v (λ x w. w ≡ popped v (f x))
   pops at v all x items views kept is = (
     popped v (f x),
-    popped_kept (map f items) views at (drained_of v) (f x) (kept_at (f x ∷ map f items) views at (drained_of v) kept (is ∙ ap some all)),
+    popped_kept (map f items) views at (drained_of v) (f x)
+        (kept_at (f x ∷ map f items) views at (drained_of v) kept (is ∙ ap some all)),
     refl,
   )
 
-  pub learns : (at : ℕ) (v : Known) → v ≡ whole (drained_of v) → Learns Holds at v (λ items. AreBrought (drained_of v) (map f items))
-  learns at v all items views kept is = brought (map f items) views at (drained_of v) (kept_at (map f items) views at (drained_of v) kept (is ∙ ap some all))
+  pub learns : (at : ℕ) (v : Known) → v ≡ whole (drained_of v)
+      → Learns Holds at v (λ items. AreBrought (drained_of v) (map f items))
+  learns at v all items views kept is =
+      brought (map f items) views at (drained_of v)
+      (kept_at (map f items) views at (drained_of v) kept (is ∙ ap some all))
 
   pub forks : (at : ℕ) (v : Known) → v ≡ whole (drained_of v) → Forks Holds at v (seated v) (sender_made v)
-  forks at v all items views kept is = seated_kept (map f items) views at (drained_of v) (kept_at (map f items) views at (drained_of v) kept (is ∙ ap some all))
+  forks at v all items views kept is =
+      seated_kept (map f items) views at (drained_of v)
+      (kept_at (map f items) views at (drained_of v) kept (is ∙ ap some all))
 
-  pub merges : (at : ℕ) (v : Known) (other : ℕ) (w : Known) → v ≡ whole (drained_of v) → w ≡ One (sent_of w) → Merges Holds at v other w (joined v w) Nothing
+  pub merges : (at : ℕ) (v : Known) (other : ℕ) (w : Known) → v ≡ whole (drained_of v) → w ≡ One (sent_of w)
+      → Merges Holds at v other w (joined v w) Nothing
   merges at v other w all one items views kept is apart there =
-      joined_kept (map f items) views at (drained_of v) other (sent_of w) (kept_at (map f items) views at (drained_of v) kept (is ∙ ap some all)) apart (there ∙ ap some one)
+      joined_kept (map f items) views at (drained_of v) other (sent_of w)
+      (kept_at (map f items) views at (drained_of v) kept (is ∙ ap some all)) apart (there ∙ ap some one)

@@ -1,5 +1,6 @@
 -- Labels before and after a change of the map, and what is left where memory runs out.
-use Rattle.std.proofs.Common.{◌≡◌, ℕ, ◌+◌, ◌^◌, ◌<◌, List, slice_index_or, Result, Ok, Err, sym, ◌∙◌, ap, subst, arith, inl, inr}
+use Rattle.std.proofs.Common.{◌≡◌, ℕ, ◌+◌, ◌^◌, ◌<◌, List, slice_index_or, Result, Ok, Err, sym, ◌∙◌, ap, subst}
+use Rattle.std.proofs.Common.{arith, inl, inr}
 use Rattle.std.specs.Prelude.{OnErr}
 use Rattle.std.proofs.lemmas.List.{get_or_default}
 use Rattle.sbpl_graph.specs.Network.{IsFreeArc, Network}
@@ -23,37 +24,51 @@ use Rattle.sbpl_cost.specs.World.{World}
 use Rattle.sbpl_terrain.specs.declared.arc_end.ArcEnd.TheVariants as end
 use Rattle.sbpl_cost.specs.Lattices.{network_of}
 use Rattle.sbpl_graph.specs.Laws.{HasExactTails}
-use Rattle.sbpl_replan.specs.Replanning.{IsReadyBack, IsReadyIn, Replanning, Standing, StandsOutOfMemory, at_plan, gap_from, inquiry}
+use Rattle.sbpl_replan.specs.Replanning.{IsReadyBack, IsReadyIn, Replanning, Standing, StandsOutOfMemory}
+use Rattle.sbpl_replan.specs.Replanning.{at_plan, gap_from, inquiry}
 use Rattle.sbpl_serial.specs.declared.step.Step.{Step}
 
 -- another map gives a graph that differs in what arcs cost alone
-pub differ : {W : Type 0} (network : W → Network) (cells : Cells W) → IsTerrain network cells → (w v : W) → v ≡ cells.over w (cells.map v) → cells.is_made w → cells.is_made v
+pub differ : {W : Type 0} (network : W → Network) (cells : Cells W) → IsTerrain network cells → (w v : W)
+    → v ≡ cells.over w (cells.map v) → cells.is_made w → cells.is_made v
     → DifferInCostsAlone (network v) (network w)
 differ network cells is w v others made_before made_after =
-    subst (λ u. DifferInCostsAlone (network u) (network w)) (sym others) (is.rest w (cells.map v) made_before (subst cells.is_made others made_after))
+    subst (λ u. DifferInCostsAlone (network u) (network w)) (sym others)
+    (is.rest w (cells.map v) made_before (subst cells.is_made others made_after))
 
 -- so it has the same number of states
-pub same_states : {W : Type 0} (network : W → Network) (cells : Cells W) → IsTerrain network cells → (w v : W) → v ≡ cells.over w (cells.map v) → cells.is_made w → cells.is_made v
+pub same_states : {W : Type 0} (network : W → Network) (cells : Cells W) → IsTerrain network cells → (w v : W)
+    → v ≡ cells.over w (cells.map v) → cells.is_made w → cells.is_made v
     → (network v).states ≡ (network w).states
-same_states network cells is w v others made_before made_after = (differ network cells is w v others made_before made_after).states
+same_states network cells is w v others made_before made_after =
+    (differ network cells is w v others made_before made_after).states
 
 -- over the map of before it is what it was
-pub as_before : {W : Type 0} (network : W → Network) (cells : Cells W) → IsTerrain network cells → (w v : W) → v ≡ cells.over w (cells.map v) → cells.over v (cells.map w) ≡ w
-as_before network cells is w v others = ap (λ u. cells.over u (cells.map w)) others ∙ is.again w (cells.map v) (cells.map w) ∙ is.present w
+pub as_before : {W : Type 0} (network : W → Network) (cells : Cells W) → IsTerrain network cells → (w v : W)
+    → v ≡ cells.over w (cells.map v) → cells.over v (cells.map w) ≡ w
+as_before network cells is w v others =
+    ap (λ u. cells.over u (cells.map w)) others ∙ is.again w (cells.map v) (cells.map w) ∙ is.present w
 
--- labels that are exact on one graph can be repaired for another that keeps the arcs into each state that is not touched
-pub changeable : ExactWhereSame → (n n' : Network) (m : Marks) (touched : List ℕ) → n'.states ≡ n.states → AreUsable n m (2 ^ 30) → AreStates n' touched → KeepArcsElsewhere end.Head n n' touched → IsChangeable n' touched m
+-- labels that are exact on one graph can be repaired for another
+-- that keeps the arcs into each state that is not touched
+pub changeable : ExactWhereSame → (n n' : Network) (m : Marks) (touched : List ℕ) → n'.states ≡ n.states
+    → AreUsable n m (2 ^ 30) → AreStates n' touched → KeepArcsElsewhere end.Head n n' touched
+    → IsChangeable n' touched m
 changeable law n n' m touched same is among kept = record {
-  inside = λ k d here. subst (λ (states : ℕ). slice_index_or touched k d < states) (same ∙ sym is.states) (among (slice_index_or touched k d) (k, here, get_or_default touched k (slice_index_or touched k d) d here));
+  inside = λ k d here. subst (λ (states : ℕ). slice_index_or touched k d < states) (same ∙ sym is.states)
+      (among (slice_index_or touched k d) (k, here, get_or_default touched k (slice_index_or touched k d) d here));
   fits = rw is.states is.fits;
   untouched = λ t inside apart none.
       law n n' m.start _ _ _ is.exact t (subst (λ (states : ℕ). t < states) is.states inside) apart
       (record { kept = λ s k c free. (kept s k t c none).0 free; none_new = λ s k c free. (kept s k t c none).1 free });
 }
 
--- a free arc of the one reversed graph is one of the other, where the tails are the same and the arc stays free at its cost
-turned_arc : ArcsTurnRound → ArcsTurnBack → (n n' : Network) → HasExactTails n → HasExactTails n' → n'.tail_fan ≡ n.tail_fan → n'.tail ≡ n.tail → n'.states ≡ n.states
-    → (s j t c : ℕ) → ((k : ℕ) → IsFreeArc n t k s c → IsFreeArc n' t k s c) → IsFreeArc (reversed n) s j t c → IsFreeArc (reversed n') s j t c
+-- a free arc of the one reversed graph is one of the other, where
+-- the tails are the same and the arc stays free at its cost
+turned_arc : ArcsTurnRound → ArcsTurnBack → (n n' : Network) → HasExactTails n → HasExactTails n'
+    → n'.tail_fan ≡ n.tail_fan → n'.tail ≡ n.tail → n'.states ≡ n.states
+    → (s j t c : ℕ) → ((k : ℕ) → IsFreeArc n t k s c → IsFreeArc n' t k s c) → IsFreeArc (reversed n) s j t c
+    → IsFreeArc (reversed n') s j t c
 turned_arc round back n n' tails tails' fans same states s j t c stays free =
     let at = round n s j t c tails free in
     back n' s j t at.0 c tails' (record {
@@ -63,16 +78,21 @@ turned_arc round back n n' tails tails' fans same states s j t c stays free =
     }) (stays at.0 at.2)
 
 -- and so it is over the reversed graph, where the arcs from each state that is not touched are kept
-pub changeable_back : ExactWhereSame → ArcsTurnRound → ArcsTurnBack → (n n' : Network) (m : Marks) (touched : List ℕ) → HasExactTails n → HasExactTails n' → DifferInCostsAlone n' n
-    → AreUsable (reversed n) m (2 ^ 30) → AreStates n' touched → KeepArcsElsewhere end.Source n n' touched → IsChangeable (reversed n') touched m
+pub changeable_back : ExactWhereSame → ArcsTurnRound → ArcsTurnBack → (n n' : Network) (m : Marks) (touched : List ℕ)
+    → HasExactTails n → HasExactTails n' → DifferInCostsAlone n' n
+    → AreUsable (reversed n) m (2 ^ 30) → AreStates n' touched → KeepArcsElsewhere end.Source n n' touched
+    → IsChangeable (reversed n') touched m
 changeable_back law round back n n' m touched tails tails' differ is among kept = record {
-  inside = λ k d here. subst (λ (x : ℕ). slice_index_or touched k d < x) (differ.states ∙ sym is.states) (among (slice_index_or touched k d) (k, here, get_or_default touched k (slice_index_or touched k d) d here));
+  inside = λ k d here. subst (λ (x : ℕ). slice_index_or touched k d < x) (differ.states ∙ sym is.states)
+      (among (slice_index_or touched k d) (k, here, get_or_default touched k (slice_index_or touched k d) d here));
   fits = rw is.states is.fits;
   untouched = λ t inside apart none.
       law (reversed n) (reversed n') m.start _ _ _ is.exact t (subst (λ (x : ℕ). t < x) is.states inside) apart
       (record {
-        kept = λ s j c free. turned_arc round back n n' tails tails' differ.tail_fan differ.tail differ.states s j t c (λ k arc. (kept t k s c none).0 arc) free;
-        none_new = λ s j c free. turned_arc round back n' n tails' tails (sym differ.tail_fan) (sym differ.tail) (sym differ.states) s j t c (λ k arc. (kept t k s c none).1 arc) free;
+        kept = λ s j c free. turned_arc round back n n' tails tails' differ.tail_fan differ.tail differ.states s j t c
+            (λ k arc. (kept t k s c none).0 arc) free;
+        none_new = λ s j c free. turned_arc round back n' n tails' tails (sym differ.tail_fan) (sym differ.tail)
+            (sym differ.states) s j t c (λ k arc. (kept t k s c none).1 arc) free;
       });
 }
 
@@ -82,8 +102,10 @@ on_err_so (Ok x) P Q so h = tt
 on_err_so (Err e) P Q so h = so h
 
 -- what is left where memory ran out in a plan
-pub stands : {Note : Type 0} (means : Meaning Note) (q : Inquiry) (Ready : Type 0) (Told : List (Pass Note) → Type 0) (old new : Standing Note) → AreCounts new.counts
-    → (means.ready q.network new.search.labels new.counts.run → new.search.goal ≡ old.search.goal → IsStartFresh new.search.labels → Ready)
+pub stands : {Note : Type 0} (means : Meaning Note) (q : Inquiry) (Ready : Type 0) (Told : List (Pass Note) → Type 0)
+    (old new : Standing Note) → AreCounts new.counts
+    → (means.ready q.network new.search.labels new.counts.run → new.search.goal ≡ old.search.goal
+    → IsStartFresh new.search.labels → Ready)
     → RunsOutOfMemory means q q.ask.first old.search new.search (at_plan old.counts) new.counts Told
     → StandsOutOfMemory means q Ready Told old new
 stands means q Ready Told old new are again (inl part) = inl (record {
@@ -93,18 +115,26 @@ stands means q Ready Told old new are again (inl part) = inl (record {
       let budget : new.counts.per_plan ≡ old.counts.per_plan = ap (λ (c : Counts). c.per_plan) part.leaves.counted in
       omega (arith, are.within_plan);
   ready = again part.leaves.ready part.leaves.same_goal part.leaves.fresh;
-  same = record { start = part.leaves.start; goal = part.leaves.same_goal; per_plan = ap (λ (c : Counts). c.per_plan) part.leaves.counted };
+  same = record {
+    start = part.leaves.start;
+    goal = part.leaves.same_goal;
+    per_plan = ap (λ (c : Counts). c.per_plan) part.leaves.counted;
+  };
 })
 stands means q Ready Told old new are again (inr cut) = inr cut
 
 -- another plan may begin where the search went on to the same goal on the same map
-pub ready_again : {Note H W : Type 0} (means : Meaning Note) (network : W → Network) (is_made_for : H → W → ℕ → Type 0) (w : W) (r : Replanning Note H) (search : State Note) (counts : Counts)
-    → IsReadyIn means network is_made_for w r → means.ready (network w) search.labels counts.run → search.goal ≡ r.search.goal → IsStartFresh search.labels
+pub ready_again : {Note H W : Type 0} (means : Meaning Note) (network : W → Network) (is_made_for : H → W → ℕ → Type 0)
+    (w : W) (r : Replanning Note H) (search : State Note) (counts : Counts)
+    → IsReadyIn means network is_made_for w r → means.ready (network w) search.labels counts.run
+    → search.goal ≡ r.search.goal → IsStartFresh search.labels
     → IsReadyIn means network is_made_for w (record r { search = search; counts = counts })
-ready_again means network is_made_for w r search counts ready labels same fresh = record { to_goal = same ∙ ready.to_goal; made = ready.made; labels = labels; fresh = fresh }
+ready_again means network is_made_for w r search counts ready labels same fresh =
+    record { to_goal = same ∙ ready.to_goal; made = ready.made; labels = labels; fresh = fresh }
 
 pub ready_again_back : (n : Network) (s : Standing Step) (search : State Step) (counts : Counts) → IsReadyBack n s
-    → AreUsable (reversed n) search.labels counts.run → search.goal ≡ s.search.goal → IsStartFresh search.labels → IsReadyBack n (record { search = search; counts = counts })
+    → AreUsable (reversed n) search.labels counts.run → search.goal ≡ s.search.goal → IsStartFresh search.labels
+    → IsReadyBack n (record { search = search; counts = counts })
 ready_again_back n s search counts ready labels same fresh = record {
   goal = subst (λ (t : ℕ). t < n.states) (sym same) ready.goal;
   labels = labels;
@@ -112,8 +142,11 @@ ready_again_back n s search counts ready labels same fresh = record {
 }
 
 -- what stays the same over a plan backwards
-pub back_inquiry : (w b : World) (f : StartIn) (s : Standing Step) (start : ℕ) (ask : Ask) → b ≡ w → f ≡ record { world = w; start = start } → s.search.goal ≡ start
-    → inquiry_of (reversed (network_of b)) (from_start f) start ask ≡ inquiry (backwards network_of) w (gap_from s (network_of w)) s ask
+pub back_inquiry : (w b : World) (f : StartIn) (s : Standing Step) (start : ℕ) (ask : Ask) → b ≡ w
+    → f ≡ record { world = w; start = start } → s.search.goal ≡ start
+    → inquiry_of (reversed (network_of b)) (from_start f) start ask
+    ≡ inquiry (backwards network_of) w (gap_from s (network_of w)) s ask
 back_inquiry w b f s start ask b_is f_is start_is =
-    let guide : from_start f ≡ gap_from s (network_of w) = ap from_start f_is ∙ (λ i t. (network_of w).gap ((sym start_is) i) t) in
+    let guide : from_start f ≡ gap_from s (network_of w) =
+    ap from_start f_is ∙ (λ i t. (network_of w).gap ((sym start_is) i) t) in
     λ i. inquiry_of (reversed (network_of (b_is i))) (guide i) ((sym start_is) i) ask

@@ -18,14 +18,18 @@ pub record Agree (a b : Marks) (s : ℕ) : Type 0 where
   pub back : back_of a s ≡ back_of b s
 
 -- labels with the same start and the same rows are equal
-pub same_marks : (a b : Marks) → a.start ≡ b.start → states_of a ≡ states_of b → ((s : ℕ) → s < states_of a → Agree a b s) → a ≡ b
+pub same_marks : (a b : Marks) → a.start ≡ b.start → states_of a ≡ states_of b
+    → ((s : ℕ) → s < states_of a → Agree a b s) → a ≡ b
 same_marks a b start states agree =
-    let rows : a.rows ≡ b.rows = ext_get_or no_row a.rows b.rows states (λ s inside. same_row (row_at a s) (row_at b s) (agree s inside).g (agree s inside).v (agree s inside).back) in
+    let rows : a.rows ≡ b.rows =
+    ext_get_or no_row a.rows b.rows states
+    (λ s inside. same_row (row_at a s) (row_at b s) (agree s inside).g (agree s inside).v (agree s inside).back) in
     λ i. record { start = start i; rows = rows i }
 
 module _ (n : Network) (v : ℕ → ℕ) (t : ℕ) {g g' : ℕ} where
   -- of two first ways neither is before the other, and each gives the least
-  pub same_recomputed : (back back' : Option (ℕ × ℕ)) → IsRecomputed n v t g back → IsRecomputed n v t g' back' → (g ≡ g') × (back ≡ back')
+  pub same_recomputed : (back back' : Option (ℕ × ℕ)) → IsRecomputed n v t g back → IsRecomputed n v t g' back'
+      → (g ≡ g') × (back ≡ back')
   same_recomputed None None is is' = (is.0 ∙ sym is'.0, refl)
   same_recomputed None (Some (s', k')) is is' = absurd (is.1 is'.0 s' k' is'.1 is'.2.way)
   same_recomputed (Some (s, k)) None is is' = absurd (is'.1 is.0 s k is.1 is.2.way)
@@ -35,10 +39,12 @@ module _ (n : Network) (v : ℕ → ℕ) (t : ℕ) {g g' : ℕ} where
       let same : g ≡ g' = omega (arith, is.2.gives, is'.2.gives) in
       let number : is.0 ≡ is'.0 =
       ⊎_elim
-      (λ (before : is.0 < is'.0). let less = is'.2.first is.0 s k is.1 before is.2.way in absurd (omega (arith, is.2.gives)))
+      (λ (before : is.0 < is'.0).
+      let less = is'.2.first is.0 s k is.1 before is.2.way in absurd (omega (arith, is.2.gives)))
       (λ (later : is'.0 ≤ is.0).
       ⊎_elim
-      (λ (before : is'.0 < is.0). let less = is.2.first is'.0 s' k' is'.1 before is'.2.way in absurd (omega (arith, is'.2.gives)))
+      (λ (before : is'.0 < is.0).
+      let less = is.2.first is'.0 s' k' is'.1 before is'.2.way in absurd (omega (arith, is'.2.gives)))
       (λ (other : is.0 ≤ is'.0). omega arith)
       (cases_lt is'.0 is.0))
       (cases_lt is.0 is'.0)

@@ -1,5 +1,6 @@
 -- No state is taken more than three times: raised and lowered before it is closed, and raised once more.
-use Rattle.std.proofs.Common.{◌≡◌, ◌≢◌, ℕ, zero, suc, ◌+◌, ◌*◌, ◌<◌, ◌≤◌, Bool, true, false, cond, nat_eq, nat_lt, List, [], ◌∷◌, ◌++◌, length, arith, ⊎_elim, refl, sym, ◌∙◌, ap, length-append}
+use Rattle.std.proofs.Common.{◌≡◌, ◌≢◌, ℕ, zero, suc, ◌+◌, ◌*◌, ◌<◌, ◌≤◌, Bool, true, false, cond, nat_eq, nat_lt, List}
+use Rattle.std.proofs.Common.{[], ◌∷◌, ◌++◌, length, arith, ⊎_elim, refl, sym, ◌∙◌, ap, length-append}
 use Rattle.std.proofs.lemmas.Bool.{cases_eq, eq-eqb, ne_eqb}
 use Rattle.std.proofs.lemmas.Bool.Decides.{nat_tests}
 use Rattle.sbpl_graph.specs.declared.TheConstants.{FAR}
@@ -35,7 +36,8 @@ pub sum_same : (f f' : ℕ → ℕ) (s n : ℕ) → n ≤ s → ((u : ℕ) → u
 sum_same f f' s zero past others = refl
 sum_same f f' s (suc n) past others = omega (arith, sum_same f f' s n (omega arith) others, others n (omega arith))
 
-pub sum_less : (f f' : ℕ → ℕ) (s n : ℕ) → s < n → f' s + 1 ≤ f s → ((u : ℕ) → u ≢ s → f' u ≡ f u) → sum_below f' n + 1 ≤ sum_below f n
+pub sum_less : (f f' : ℕ → ℕ) (s n : ℕ) → s < n → f' s + 1 ≤ f s → ((u : ℕ) → u ≢ s → f' u ≡ f u)
+    → sum_below f' n + 1 ≤ sum_below f n
 sum_less f f' s zero inside less others = absurd (omega arith)
 sum_less f f' s (suc n) inside less others =
     ⊎_elim
@@ -50,10 +52,12 @@ sum_few f (suc n) few = omega (arith, sum_few f n few, few n)
 pub sum_some : (f : ℕ → ℕ) (s n : ℕ) → s < n → f s ≤ sum_below f n
 sum_some f s zero inside = absurd (omega arith)
 sum_some f s (suc n) inside =
-    ⊎_elim (λ (at : n ≡ s). rw at (omega arith)) (λ (apart : n ≢ s). omega (arith, sum_some f s n (omega arith))) (cases_eq n s)
+    ⊎_elim (λ (at : n ≡ s). rw at (omega arith))
+    (λ (apart : n ≢ s). omega (arith, sum_some f s n (omega arith))) (cases_eq n s)
 
 -- one more step
-pub times_push : (s : ℕ) (steps : List Step) (step : Step) → times s (steps ++ step ∷ []) ≡ times s steps + cond (nat_eq step.state s) 1 0
+pub times_push : (s : ℕ) (steps : List Step) (step : Step)
+    → times s (steps ++ step ∷ []) ≡ times s steps + cond (nat_eq step.state s) 1 0
 times_push s [] step = omega arith
 times_push s (first ∷ rest) step = omega (arith, times_push s rest step)
 
@@ -62,7 +66,8 @@ pub record AreCounted (states : ℕ) (trace : List Step) (closed : ℕ → Bool)
   pub each : (s : ℕ) → times s trace + left (closed s) (v s) ≤ 3
   pub total : length trace + sum_below (λ s. left (closed s) (v s)) states ≤ 3 * states
 
-pub counted_none : {states : ℕ} {trace : List Step} (closed : ℕ → Bool) (v : ℕ → ℕ) → trace ≡ [] → AreCounted states trace closed v
+pub counted_none : {states : ℕ} {trace : List Step} (closed : ℕ → Bool) (v : ℕ → ℕ) → trace ≡ []
+    → AreCounted states trace closed v
 counted_none {states} {trace} closed v empty =
     let none : length trace ≡ 0 = rw empty refl in
     record {
@@ -70,7 +75,8 @@ counted_none {states} {trace} closed v empty =
       total = omega (arith, sum_few (λ s. left (closed s) (v s)) states (λ s. left_few (closed s) (v s)));
     }
 
-pub counted_more : {states : ℕ} {trace trace' : List Step} {closed closed' : ℕ → Bool} {v v' : ℕ → ℕ} (step : Step) → AreCounted states trace closed v
+pub counted_more : {states : ℕ} {trace trace' : List Step} {closed closed' : ℕ → Bool} {v v' : ℕ → ℕ} (step : Step)
+    → AreCounted states trace closed v
     → step.state < states → left (closed' step.state) (v' step.state) + 1 ≤ left (closed step.state) (v step.state)
     → ((u : ℕ) → u ≢ step.state → closed' u ≡ closed u) → ((u : ℕ) → u ≢ step.state → v' u ≡ v u)
     → trace' ≡ trace ++ step ∷ [] → AreCounted states trace' closed' v'
@@ -80,7 +86,8 @@ counted_more {states} {trace} {trace'} {closed} {closed'} {v} {v'} step counted 
     let longer : length trace' ≡ length trace + 1 = ap length pushed ∙ length-append trace (step ∷ []) in
     record {
       each = λ s.
-          let more : times s trace' ≡ times s trace + cond (nat_eq step.state s) 1 0 = ap (times s) pushed ∙ times_push s trace step in
+          let more : times s trace' ≡ times s trace + cond (nat_eq step.state s) 1 0 =
+          ap (times s) pushed ∙ times_push s trace step in
           ⊎_elim
           (λ (at : step.state ≡ s).
           let test : nat_eq step.state s ≡ true = eq-eqb step.state s at in
@@ -93,11 +100,16 @@ counted_more {states} {trace} {trace'} {closed} {closed'} {v} {v'} step counted 
           omega (arith, counted.each s, same s (λ e. apart (sym e))))
           (cases_eq step.state s);
       total =
-          omega (arith, counted.total, sum_less (λ s. left (closed s) (v s)) (λ s. left (closed' s) (v' s)) step.state states inside less same);
+          omega (
+            arith,
+            counted.total,
+            sum_less (λ s. left (closed s) (v s)) (λ s. left (closed' s) (v' s)) step.state states inside less same,
+          );
     }
 
 -- where a state can still be taken there is room for its step
-pub counted_room : {states : ℕ} {trace : List Step} {closed : ℕ → Bool} {v : ℕ → ℕ} (s : ℕ) → AreCounted states trace closed v
+pub counted_room : {states : ℕ} {trace : List Step} {closed : ℕ → Bool} {v : ℕ → ℕ} (s : ℕ)
+    → AreCounted states trace closed v
     → s < states → 1 ≤ left (closed s) (v s) → length trace < 3 * states
 counted_room {states} {trace} {closed} {v} s counted inside some =
     omega (arith, counted.total, sum_some (λ s. left (closed s) (v s)) s states inside)

@@ -17,13 +17,15 @@ module _ {q : Query} {closed : ℕ → Bool} {m : Marks} where
   pub rest_at_rest : IsAtRest q closed m → (Rest ≡ Rest) ↔ IsAtRest q closed m
   rest_at_rest rest = (λ _. rest, λ _. refl)
 
-  pub spent_at_rest : {counts : Counts} → IsAtRest q closed m → (Rest ≡ Spent) ↔ (IsSpent counts × ((s : ℕ) × IsNext q closed m s))
+  pub spent_at_rest : {counts : Counts} → IsAtRest q closed m
+      → (Rest ≡ Spent) ↔ (IsSpent counts × ((s : ℕ) × IsNext q closed m s))
   spent_at_rest rest =
       (λ e. absurd (rest_not_spent e), λ both. absurd (rest.none_below both.1.0 both.1.1.is_open both.1.1.below_goal))
 
   -- what it answers where a state is next and the budget is spent
   pub rest_at_next : {s : ℕ} → IsNext q closed m s → (Spent ≡ Rest) ↔ IsAtRest q closed m
-  rest_at_next {s} next = (λ e. absurd (rest_not_spent (sym e)), λ rest. absurd (rest.none_below s next.is_open next.below_goal))
+  rest_at_next {s} next =
+      (λ e. absurd (rest_not_spent (sym e)), λ rest. absurd (rest.none_below s next.is_open next.below_goal))
 
   pub spent_at_next : {counts : Counts} {s : ℕ} → IsSpent counts → IsNext q closed m s
       → (Spent ≡ Spent) ↔ (IsSpent counts × ((s : ℕ) × IsNext q closed m s))
@@ -35,7 +37,8 @@ module _ {q : Query} {closed : ℕ → Bool} {m : Marks} where
   rest_above {s} rest inside over fresh =
       ⊎_elim
       (λ (low : 1000 * g_of m s + q.eps * q.guide s < 1000 * g_of m q.goal).
-      let below : IsBelow (key_at q.eps q.guide m s) (goal_key_at q m) = rw (key_over q.eps q.guide m s over) (inl low) in
+      let below : IsBelow (key_at q.eps q.guide m s) (goal_key_at q m) =
+      rw (key_over q.eps q.guide m s over) (inl low) in
       absurd (rest.none_below s (record { inside = inside; inconsistent = inr (over, fresh) }) below))
       (λ above. above)
       (cases_lt (1000 * g_of m s + q.eps * q.guide s) (1000 * g_of m q.goal))

@@ -23,13 +23,15 @@ use Rattle.sbpl_serial.proofs.Ending.{rest_not_spent, rest_at_rest, rest_at_next
 use Rattle.sbpl_serial.proofs.Starting.{run_start}
 use Rattle.sbpl_serial.proofs.Unbroken.{chain_unbroken}
 
-module _ {q : Query} {closed : ℕ → Bool} {m : Marks} (rest : IsAtRest q closed m) (one : q.eps ≡ 1000) (ordered : AreOrdered q.guide closed m) where
+module _ {q : Query} {closed : ℕ → Bool} {m : Marks} (rest : IsAtRest q closed m) (one : q.eps ≡ 1000)
+    (ordered : AreOrdered q.guide closed m) where
   -- at rest an underconsistent state has a key that is not below the goal's
   under_above : {s : ℕ} → s < states_of m → IsUnder m s → g_of m q.goal ≤ v_of m s + q.guide s
   under_above {s} inside under =
       ⊎_elim
       (λ (low : 1000 * (v_of m s + q.guide s) < 1000 * g_of m q.goal).
-      let below : IsBelow (key_at q.eps q.guide m s) (goal_key_at q m) = rw (key_under q.eps q.guide m s under) (inl low) in
+      let below : IsBelow (key_at q.eps q.guide m s) (goal_key_at q m) =
+      rw (key_under q.eps q.guide m s under) (inl low) in
       absurd (rest.none_below s (record { inside = inside; inconsistent = inl under }) below))
       (λ (above : 1000 * g_of m q.goal ≤ 1000 * (v_of m s + q.guide s)). omega arith)
       (cases_lt (1000 * (v_of m s + q.guide s)) (1000 * g_of m q.goal))
@@ -45,7 +47,8 @@ module _ {q : Query} {closed : ℕ → Bool} {m : Marks} (rest : IsAtRest q clos
       omega arith)
       (cases_Bool (closed s))
 
-  pub rest_shows_bound : states_of m ≡ q.network.states → IsConsistent q.network q.goal q.guide → AreSupported q.network m.start (g_of m) (v_of m)
+  pub rest_shows_bound : states_of m ≡ q.network.states → IsConsistent q.network q.goal q.guide
+      → AreSupported q.network m.start (g_of m) (v_of m)
       → ShowBound q.network m.start q.goal (g_of m) (v_of m) q.guide (g_of m q.goal)
   rest_shows_bound states consistent supported = record {
     supported = supported;
@@ -59,7 +62,8 @@ module _ {q : Query} {closed : ℕ → Bool} {m : Marks} (rest : IsAtRest q clos
   }
 
   pub rest_shows_none : states_of m ≡ q.network.states → ((s : ℕ) → s < states_of m → q.guide s < 2 ^ 55) → AreLabels m
-      → AreSupported q.network m.start (g_of m) (v_of m) → g_of m q.goal ≡ FAR → ShowNone q.network m.start q.goal (g_of m) (v_of m)
+      → AreSupported q.network m.start (g_of m) (v_of m) → g_of m q.goal ≡ FAR
+      → ShowNone q.network m.start q.goal (g_of m) (v_of m)
   rest_shows_none states bounded labels supported far = record {
     supported = supported;
     goal_is_far = far;
@@ -78,7 +82,8 @@ module _ {q : Query} {closed : ℕ → Bool} {m : Marks} (rest : IsAtRest q clos
   }
 
 -- a budget that has more than the steps made is not spent
-pub not_spent : (before counts : Counts) {steps most : ℕ} → counts ≡ record before { plan = before.plan + steps; run = before.run + steps }
+pub not_spent : (before counts : Counts) {steps most : ℕ}
+    → counts ≡ record before { plan = before.plan + steps; run = before.run + steps }
     → IsSpent counts → steps < most → before.plan + most ≤ before.per_plan → before.run + most ≤ 2 ^ 30 → ⊥
 not_spent before counts {steps} {most} counted spent fewer plan run =
     let used : counts.plan ≡ before.plan + steps = ap (λ (x : Counts). x.plan) counted in
@@ -90,24 +95,31 @@ not_spent before counts {steps} {most} counted spent fewer plan run =
     spent
 
 -- What the labels of a pass show.
-module _ {n : Network} {h : ℕ → ℕ} {eps : ℕ} {old now : SerialState} {before counts : Counts} (here : IsPassing (query n h eps old.goal) old now before counts)
+module _ {n : Network} {h : ℕ → ℕ} {eps : ℕ} {old now : SerialState} {before counts : Counts}
+    (here : IsPassing (query n h eps old.goal) old now before counts)
     (labels : AreLabels now.labels) where
   passing_supported : AreSupported n now.labels.start (g_of now.labels) (v_of now.labels)
-  passing_supported = supported_from_exact (λ s inside. labels.labels s (omega (arith, here.usable.states))) here.usable.exact
+  passing_supported =
+      supported_from_exact (λ s inside. labels.labels s (omega (arith, here.usable.states))) here.usable.exact
 
-  passing_shows_none : IsAtRest (query n h eps old.goal) (closed_by now) now.labels → eps ≡ 1000 → ((s : ℕ) → s < n.states → h s < 2 ^ 55)
+  passing_shows_none : IsAtRest (query n h eps old.goal) (closed_by now) now.labels → eps ≡ 1000
+      → ((s : ℕ) → s < n.states → h s < 2 ^ 55)
       → g_of now.labels old.goal ≡ FAR → ShowNone n now.labels.start old.goal (g_of now.labels) (v_of now.labels)
   passing_shows_none rest one bounded far =
-      rest_shows_none rest one (here.ordered one) here.usable.states (λ s inside. bounded s (omega (arith, here.usable.states))) labels passing_supported far
+      rest_shows_none rest one (here.ordered one) here.usable.states
+      (λ s inside. bounded s (omega (arith, here.usable.states))) labels passing_supported far
 
-  passing_shows_bound : IsAtRest (query n h eps old.goal) (closed_by now) now.labels → eps ≡ 1000 → IsConsistent n old.goal h
+  passing_shows_bound : IsAtRest (query n h eps old.goal) (closed_by now) now.labels → eps ≡ 1000
+      → IsConsistent n old.goal h
       → ShowBound n now.labels.start old.goal (g_of now.labels) (v_of now.labels) h (g_of now.labels old.goal)
   passing_shows_bound rest one consistent =
       rest_shows_bound rest one (here.ordered one) here.usable.states consistent passing_supported
 
   -- a pass that rests
-  pub passed_at_rest : IsSound n → IsConsistent n old.goal h → ((s : ℕ) → s < n.states → h s < 2 ^ 55) → old.goal < states_of now.labels
-      → g_of old.labels old.labels.start ≡ 0 → IsAtRest (query n h eps old.goal) (closed_by now) now.labels → IsSerialPass (query n h eps old.goal) old now before counts Rest
+  pub passed_at_rest : IsSound n → IsConsistent n old.goal h → ((s : ℕ) → s < n.states → h s < 2 ^ 55)
+      → old.goal < states_of now.labels
+      → g_of old.labels old.labels.start ≡ 0 → IsAtRest (query n h eps old.goal) (closed_by now) now.labels
+      → IsSerialPass (query n h eps old.goal) old now before counts Rest
   passed_at_rest sound consistent bounded inside zero rest = record {
     run = here.run;
     thrice = λ s. omega (arith, here.taken.each s);
@@ -116,7 +128,8 @@ module _ {n : Network} {h : ℕ → ℕ} {eps : ℕ} {old now : SerialState} {be
     spent = spent_at_rest rest;
     unfinished = λ e. absurd (rest_not_spent e);
     enough = λ _ _. refl;
-    unbroken = λ _ i u at. chain_unbroken {q = query n h eps old.goal} sound consistent here.usable.exact here.usable.states inside rest i u at;
+    unbroken = λ _ i u at. chain_unbroken {q = query n h eps old.goal} sound consistent here.usable.exact
+        here.usable.states inside rest i u at;
     settled = λ one s closed. (here.ordered one).settled s closed;
     none = λ _ one far. passing_shows_none rest one bounded far;
     tight = λ _ one. passing_shows_bound rest one consistent;
@@ -126,11 +139,13 @@ module _ {n : Network} {h : ℕ → ℕ} {eps : ℕ} {old now : SerialState} {be
     start = here.same_start;
     states = here.same_states;
     goal = here.same_goal;
-    fresh = λ fresh. (run_start (query n h eps old.goal) none_closed now.trace old.labels now.labels here.run (record { zero = zero; fresh = fresh })).fresh;
+    fresh = λ fresh. (run_start (query n h eps old.goal) none_closed now.trace old.labels now.labels here.run
+        (record { zero = zero; fresh = fresh })).fresh;
   }
 
   -- a pass that is spent while a state is next
-  pub passed_at_next : g_of old.labels old.labels.start ≡ 0 → (s : ℕ) → IsNext (query n h eps old.goal) (closed_by now) now.labels s → IsSpent counts
+  pub passed_at_next : g_of old.labels old.labels.start ≡ 0 → (s : ℕ)
+      → IsNext (query n h eps old.goal) (closed_by now) now.labels s → IsSpent counts
       → IsSerialPass (query n h eps old.goal) old now before counts Spent
   passed_at_next zero s next spent =
       let room = passing_room here labels next in
@@ -152,5 +167,6 @@ module _ {n : Network} {h : ℕ → ℕ} {eps : ℕ} {old now : SerialState} {be
         start = here.same_start;
         states = here.same_states;
         goal = here.same_goal;
-        fresh = λ fresh. (run_start (query n h eps old.goal) none_closed now.trace old.labels now.labels here.run (record { zero = zero; fresh = fresh })).fresh;
+        fresh = λ fresh. (run_start (query n h eps old.goal) none_closed now.trace old.labels now.labels here.run
+            (record { zero = zero; fresh = fresh })).fresh;
       }

@@ -1,8 +1,11 @@
 -- A run from labels none of which is underconsistent only lowers, and takes no state twice.
-use Rattle.std.proofs.Common.{◌≡◌, ◌≢◌, ℕ, ◌+◌, ◌*◌, ◌^◌, ◌<◌, ◌≤◌, zero, suc, Bool, true, false, not, ◌||◌, ◌&&◌, cond, nat_eq, MatchBool, List, [], ◌∷◌, length, slice_index_or, arith, ⊎_elim, inl, inr, refl, sym, ap, ◌∙◌}
+use Rattle.std.proofs.Common.{◌≡◌, ◌≢◌, ℕ, ◌+◌, ◌*◌, ◌^◌, ◌<◌, ◌≤◌, zero, suc, Bool, true, false, not, ◌||◌, ◌&&◌, cond}
+use Rattle.std.proofs.Common.{nat_eq, MatchBool, List, [], ◌∷◌, length, slice_index_or, arith, ⊎_elim, inl, inr, refl}
+use Rattle.std.proofs.Common.{sym, ap, ◌∙◌}
 use Rattle.std.proofs.Math.Nat.{mul-le-mul_right}
 use Rattle.std.specs.List.{All, AllPairs}
-use Rattle.std.proofs.lemmas.Bool.{cases_eq, cases_lt, cases_Bool, or_parts, or_cases, eqb-true, eqb-false, eq-eqb, ne_eqb, true≢false, false≢true}
+use Rattle.std.proofs.lemmas.Bool.{cases_eq, cases_lt, cases_Bool, or_parts, or_cases, eqb-true, eqb-false, eq-eqb}
+use Rattle.std.proofs.lemmas.Bool.{ne_eqb, true≢false, false≢true}
 use Rattle.std.proofs.lemmas.List.Elements.{All-cons, All-nil}
 use Rattle.std.proofs.lemmas.List.{get_or_past}
 use Rattle.std.proofs.lemmas.List.Kept.{AllPairs-cons}
@@ -19,7 +22,8 @@ use Rattle.sbpl_labels.specs.declared.pass_end.PassEnd.TheVariants.{Rest, Spent}
 use Rattle.sbpl_search.specs.Query.{Query}
 use Rattle.sbpl_serial.specs.declared.step.Step.{Step}
 use Rattle.sbpl_serial.specs.Passed.{IsSerialPass, IsForwardPass}
-use Rattle.sbpl_serial.specs.Run.{IsOpen, IsOver, IsUnder, IsNext, IsSerialRun, IsExpansion, IsAtRest, LowersHeads, RaisesState, none_closed, closed_with, closed_after}
+use Rattle.sbpl_serial.specs.Run.{IsOpen, IsOver, IsUnder, IsNext, IsSerialRun, IsExpansion, IsAtRest, LowersHeads}
+use Rattle.sbpl_serial.specs.Run.{RaisesState, none_closed, closed_with, closed_after}
 use Rattle.sbpl_serial.specs.Serial.{SerialState}
 use Rattle.sbpl_serial.specs.Times.{times}
 use Rattle.sbpl_serial.proofs.Counting.{sum_below, sum_less, sum_some}
@@ -43,21 +47,26 @@ lesser {old = old} u step =
     (λ (apart : u ≢ old.start). (step.heads u apart).at_most)
     (cases_eq u old.start)
 
-lowers_by : (n : Network) (old new : Marks) (s : ℕ) (raised : Bool) → (IsUnder old s → ⊥) → MatchBool raised (RaisesState n old new s) (LowersHeads n old new s)
+lowers_by : (n : Network) (old new : Marks) (s : ℕ) (raised : Bool) → (IsUnder old s → ⊥)
+    → MatchBool raised (RaisesState n old new s) (LowersHeads n old new s)
     → (raised ≡ false) × LowersHeads n old new s
 lowers_by n old new s true not_under step = absurd (not_under step.under)
 lowers_by n old new s false not_under step = (refl, step)
 
-closed_lowered : (step : Step) (closed : ℕ → Bool) (u : ℕ) → step.raised ≡ false → closed_with step closed u ≡ (nat_eq step.state u || closed u)
+closed_lowered : (step : Step) (closed : ℕ → Bool) (u : ℕ) → step.raised ≡ false
+    → closed_with step closed u ≡ (nat_eq step.state u || closed u)
 closed_lowered step closed u lowered = rw lowered refl
 
-module _ {q : Query} {closed : ℕ → Bool} {old : Marks} (new : Marks) (step : Step) (next : IsNext q closed old step.state) (by : IsExpansion q.network old step new)
+module _ {q : Query} {closed : ℕ → Bool} {old : Marks} (new : Marks) (step : Step)
+    (next : IsNext q closed old step.state) (by : IsExpansion q.network old step new)
     (forward : AreForward closed old) where
   not_under : IsUnder old step.state → ⊥
   not_under under = omega (arith, under, forward.none_under.at step.state next.is_open.inside)
 
   fresh : closed step.state ≡ false
-  fresh = ⊎_elim (λ (under : IsUnder old step.state). absurd (not_under under)) (λ (over : IsOver old step.state × (closed step.state ≡ false)). over.1) next.is_open.inconsistent
+  fresh =
+      ⊎_elim (λ (under : IsUnder old step.state). absurd (not_under under))
+      (λ (over : IsOver old step.state × (closed step.state ≡ false)). over.1) next.is_open.inconsistent
 
   lowers_it : (step.raised ≡ false) × LowersHeads q.network old new step.state
   lowers_it = lowers_by q.network old new step.state step.raised not_under by
@@ -74,7 +83,8 @@ module _ {q : Query} {closed : ℕ → Bool} {old : Marks} (new : Marks) (step :
               let was = forward.none_under.at u (omega (arith, inside, step_by.same_states)) in
               let less = lesser u step_by in
               ⊎_elim
-              (λ (own : u ≡ step.state). let less_own = lesser step.state step_by in rw own (omega (arith, step_by.settled, less_own)))
+              (λ (own : u ≡ step.state).
+              let less_own = lesser step.state step_by in rw own (omega (arith, step_by.settled, less_own)))
               (λ (apart : u ≢ step.state). omega (arith, step_by.other_v u apart, was, less))
               (cases_eq u step.state);
         };
@@ -85,7 +95,8 @@ module _ {q : Query} {closed : ℕ → Bool} {old : Marks} (new : Marks) (step :
             (cases_eq u step.state);
         near = λ u is.
             ⊎_elim
-            (λ (own : nat_eq step.state u ≡ true). let at : step.state ≡ u = eqb-true _ _ own in rw (← at) (omega (arith, step_by.settled, low)))
+            (λ (own : nat_eq step.state u ≡ true).
+            let at : step.state ≡ u = eqb-true _ _ own in rw (← at) (omega (arith, step_by.settled, low)))
             (λ (was : closed u ≡ true).
             let apart : u ≢ step.state = λ e. true≢false (sym was ∙ ap closed e ∙ fresh) in
             omega (arith, step_by.other_v u apart, forward.near u was))
@@ -112,7 +123,8 @@ record RunsForward (states : ℕ) (closed : ℕ → Bool) (steps : List Step) (n
   total : length steps + sum_below (open_by (closed_after closed steps)) states ≤ sum_below (open_by closed) states
   now : AreForward (closed_after closed steps) new
 
-along : (q : Query) (steps : List Step) (closed : ℕ → Bool) (old new : Marks) → IsSerialRun q closed steps old new → AreForward closed old → RunsForward (states_of old) closed steps new
+along : (q : Query) (steps : List Step) (closed : ℕ → Bool) (old new : Marks) → IsSerialRun q closed steps old new
+    → AreForward closed old → RunsForward (states_of old) closed steps new
 along q [] closed old new run forward = record {
   lowered = All-nil (λ (step : Step). step.raised ≡ false);
   all_fresh = All-nil (λ (step : Step). closed step.state ≡ false);
@@ -128,11 +140,16 @@ along q (step ∷ rest) closed old new run forward =
     let other = open_other run.0 step run.1 run.2 forward in
     let later = along q rest (closed_with step closed) run.0 new run.3 (forward_more run.0 step run.1 run.2 forward) in
     let parts : All (λ (x : Step). (nat_eq step.state x.state ≡ false) × (closed x.state ≡ false)) rest =
-    λ k d inside. or_parts _ _ (sym (closed_lowered step closed (slice_index_or rest k d).state lowered) ∙ later.all_fresh k d inside) in
+    λ k d inside. or_parts _ _
+    (sym (closed_lowered step closed (slice_index_or rest k d).state lowered) ∙ later.all_fresh k d inside) in
     record {
       lowered = All-cons (λ (x : Step). x.raised ≡ false) step rest lowered later.lowered;
-      all_fresh = All-cons (λ (x : Step). closed x.state ≡ false) step rest (fresh run.0 step run.1 run.2 forward) (λ k d inside. (parts k d inside).1);
-      once = AllPairs-cons (λ (a b : Step). a.state ≢ b.state) step rest (λ k d inside. eqb-false _ _ (parts k d inside).0) later.once;
+      all_fresh =
+          All-cons (λ (x : Step). closed x.state ≡ false) step rest (fresh run.0 step run.1 run.2 forward)
+          (λ k d inside. (parts k d inside).1);
+      once =
+          AllPairs-cons (λ (a b : Step). a.state ≢ b.state) step rest
+          (λ k d inside. eqb-false _ _ (parts k d inside).0) later.once;
       each = λ s.
           ⊎_elim
           (λ (at : s ≡ step.state).
@@ -150,7 +167,9 @@ along q (step ∷ rest) closed old new run forward =
           let inside : step.state < states_of old = run.1.is_open.inside in
           let same : states_of run.0 ≡ states_of old = by.same_states in
           let all = rw same at later.total in
-          let less = sum_less (open_by closed) (open_by (closed_with step closed)) step.state (states_of old) inside (omega (arith, own.0, own.1)) other in
+          let less =
+          sum_less (open_by closed) (open_by (closed_with step closed)) step.state (states_of old) inside
+          (omega (arith, own.0, own.1)) other in
           omega (arith, all, less);
       now = later.now;
     }
@@ -171,7 +190,8 @@ module _ {q : Query} {closed : ℕ → Bool} {m : Marks} where
     goal_is_far = far;
     closed = λ s at g_near.
         let inside : s < states_of m = omega arith in
-        let product : q.eps * q.guide s ≤ 100000 * 2 ^ 55 = omega (arith, mul-le-mul_right (q.guide s) eps, bounded s inside) in
+        let product : q.eps * q.guide s ≤ 100000 * 2 ^ 55 =
+        omega (arith, mul-le-mul_right (q.guide s) eps, bounded s inside) in
         ⊎_elim
         (λ settled. settled)
         (λ (v_far : FAR ≤ v_of m s).
@@ -204,22 +224,30 @@ forward_from m none labels = record {
 }
 
 -- a state that is next can be taken once more
-one_left : {q : Query} {closed : ℕ → Bool} {m : Marks} {s : ℕ} → AreForward closed m → IsNext q closed m s → open_by closed s ≡ 1
+one_left : {q : Query} {closed : ℕ → Bool} {m : Marks} {s : ℕ} → AreForward closed m
+    → IsNext q closed m s → open_by closed s ≡ 1
 one_left {closed = closed} {m = m} {s = s} forward next =
     let is : closed s ≡ false =
-    ⊎_elim (λ (under : IsUnder m s). absurd (omega (arith, under, forward.none_under.at s next.is_open.inside))) (λ (over : IsOver m s × (closed s ≡ false)). over.1) next.is_open.inconsistent in
+    ⊎_elim (λ (under : IsUnder m s). absurd (omega (arith, under, forward.none_under.at s next.is_open.inside)))
+    (λ (over : IsOver m s × (closed s ≡ false)). over.1) next.is_open.inconsistent in
     rw is refl
 
 -- with a budget for each state a pass rests
-rests_where_ample : {q : Query} {old now : SerialState} {before counts : Counts} (end : PassEnd) → IsSerialPass q old now before counts end
-    → (end ≡ Spent → length now.trace < states_of old.labels) → before.plan + states_of old.labels ≤ before.per_plan → before.run + states_of old.labels ≤ 2 ^ 30 → end ≡ Rest
+rests_where_ample : {q : Query} {old now : SerialState} {before counts : Counts} (end : PassEnd)
+    → IsSerialPass q old now before counts end
+    → (end ≡ Spent → length now.trace < states_of old.labels) → before.plan + states_of old.labels ≤ before.per_plan
+    → before.run + states_of old.labels ≤ 2 ^ 30 → end ≡ Rest
 rests_where_ample Rest passed unfinished plan run = refl
-rests_where_ample {before = before} {counts = counts} Spent passed unfinished plan run = absurd (not_spent before counts passed.counted (passed.spent.0 refl).0 (unfinished refl) plan run)
+rests_where_ample {before = before} {counts = counts} Spent passed unfinished plan run =
+    absurd (not_spent before counts passed.counted (passed.spent.0 refl).0 (unfinished refl) plan run)
 
-module _ {n : Network} {h : ℕ → ℕ} {eps : ℕ} {old now : SerialState} {before counts : Counts} (none : NoneUnder (states_of old.labels) (g_of old.labels) (v_of old.labels))
-    (was : AreLabels old.labels) (labels : AreLabels now.labels) (eps_high : eps ≤ 100000) (bounded : (s : ℕ) → s < n.states → h s < 2 ^ 55) where
+module _ {n : Network} {h : ℕ → ℕ} {eps : ℕ} {old now : SerialState} {before counts : Counts}
+    (none : NoneUnder (states_of old.labels) (g_of old.labels) (v_of old.labels))
+    (was : AreLabels old.labels) (labels : AreLabels now.labels) (eps_high : eps ≤ 100000)
+    (bounded : (s : ℕ) → s < n.states → h s < 2 ^ 55) where
   -- so a pass only lowers
-  pub forward_pass : (end : PassEnd) → IsSerialPass (record { network = n; guide = h; eps = eps; goal = old.goal }) old now before counts end
+  pub forward_pass : (end : PassEnd)
+      → IsSerialPass (record { network = n; guide = h; eps = eps; goal = old.goal }) old now before counts end
       → IsForwardPass (record { network = n; guide = h; eps = eps; goal = old.goal }) old now before counts end
   forward_pass end passed =
       let forward = along _ now.trace none_closed old.labels now.labels passed.run (forward_from old.labels none was) in
@@ -229,7 +257,12 @@ module _ {n : Network} {h : ℕ → ℕ} {eps : ℕ} {old now : SerialState} {be
       let (s, next) = (passed.spent.0 spent).1 in
       let inside : s < states_of old.labels = omega (arith, next.is_open.inside, passed.states) in
       let one : open_by (closed_after none_closed now.trace) s ≡ 1 = one_left forward.now next in
-      omega (arith, forward.total, ones, sum_some (open_by (closed_after none_closed now.trace)) s (states_of old.labels) inside) in
+      omega (
+        arith,
+        forward.total,
+        ones,
+        sum_some (open_by (closed_after none_closed now.trace)) s (states_of old.labels) inside,
+      ) in
       record {
         lowered = forward.lowered;
         once = forward.once;
@@ -238,6 +271,7 @@ module _ {n : Network} {h : ℕ → ℕ} {eps : ℕ} {old now : SerialState} {be
         unfinished = unfinished;
         enough = λ plan run. rests_where_ample end passed unfinished plan run;
         none = λ rest far.
-            rest_shows_none (passed.rest.0 rest) labels eps_high passed.usable.states (λ s inside. bounded s (omega (arith, passed.usable.states))) forward.now.near passed.supported far;
+            rest_shows_none (passed.rest.0 rest) labels eps_high passed.usable.states
+            (λ s inside. bounded s (omega (arith, passed.usable.states))) forward.now.near passed.supported far;
         none_under = record { at = λ s inside. forward.now.none_under.at s (omega (arith, passed.usable.states)) };
       }

@@ -1,5 +1,6 @@
 -- A serial run is determined.
-use Rattle.std.proofs.Common.{◌≡◌, ◌≢◌, ℕ, ◌<◌, ◌≤◌, Bool, List, [], ◌∷◌, ◌++◌, length, arith, ⊎_elim, refl, sym, ap, ◌∙◌}
+use Rattle.std.proofs.Common.{◌≡◌, ◌≢◌, ℕ, ◌<◌, ◌≤◌, Bool, List, [], ◌∷◌, ◌++◌, length, arith, ⊎_elim, refl}
+use Rattle.std.proofs.Common.{sym, ap, ◌∙◌}
 use Rattle.std.proofs.lemmas.Bool.{cases_eq, cases_lt}
 use Rattle.std.proofs.lemmas.List.{append-nil, length-append}
 use Rattle.sbpl_labels.specs.Marks.{Marks}
@@ -15,17 +16,20 @@ one_before : (a b : ℕ × ℕ) (s u : ℕ) → ComesBefore a s b u → ComesBef
 one_before a b s u before later = grind arith
 
 -- at most one state is next
-pub same_next : {q : Query} {closed : ℕ → Bool} {m : Marks} {s u : ℕ} → IsNext q closed m s → IsNext q closed m u → s ≡ u
+pub same_next : {q : Query} {closed : ℕ → Bool} {m : Marks} {s u : ℕ} → IsNext q closed m s
+    → IsNext q closed m u → s ≡ u
 same_next {q} {closed} {m} {s} {u} a b =
     ⊎_elim
     (λ (same : s ≡ u). same)
     (λ (apart : s ≢ u).
     absurd
-    (one_before (key_at q.eps q.guide m s) (key_at q.eps q.guide m u) s u (a.first u b.is_open (λ e. apart (sym e))) (b.first s a.is_open apart)))
+    (one_before (key_at q.eps q.guide m s) (key_at q.eps q.guide m u) s u (a.first u b.is_open (λ e. apart (sym e)))
+    (b.first s a.is_open apart)))
     (cases_eq s u)
 
 -- the longer of two runs goes on from the shorter
-leads_on : (q : Query) (xs ys : List Step) (closed : ℕ → Bool) (old a b : Marks) → IsSerialRun q closed xs old a → IsSerialRun q closed ys old b
+leads_on : (q : Query) (xs ys : List Step) (closed : ℕ → Bool) (old a b : Marks) → IsSerialRun q closed xs old a
+    → IsSerialRun q closed ys old b
     → length xs ≤ length ys → GoesOn q closed xs ys a b
 leads_on q [] ys closed old a b left right few =
     let run : IsSerialRun q closed ys a b = rw left right in
@@ -46,17 +50,21 @@ nothing_added xs ys [] prefix same = refl
 nothing_added xs ys (x ∷ rest) prefix same = absurd (omega (arith, simp length-append at (ap length prefix)))
 
 -- a run of no steps changes nothing
-run_of_none : (q : Query) (closed : ℕ → Bool) (rest : List Step) (a b : Marks) → rest ≡ [] → IsSerialRun q closed rest a b → b ≡ a
+run_of_none : (q : Query) (closed : ℕ → Bool) (rest : List Step) (a b : Marks) → rest ≡ []
+    → IsSerialRun q closed rest a b → b ≡ a
 run_of_none q closed rest a b none run = rw none at run
 
 pub equal_runs_agree : EqualRunsAgree
 equal_runs_agree q closed old xs ys a b runs same =
     let on = runs_go_on q closed old xs ys a b runs (omega arith) in
-    let none = nothing_added xs ys on.rest on.prefix same in
-    (sym (on.prefix ∙ ap (λ (r : List Step). xs ++ r) none ∙ append-nil xs), sym (run_of_none q (closed_after closed xs) on.rest a b none on.further))
+    let none = nothing_added xs ys on.rest on.prefix same in (
+      sym (on.prefix ∙ ap (λ (r : List Step). xs ++ r) none ∙ append-nil xs),
+      sym (run_of_none q (closed_after closed xs) on.rest a b none on.further),
+    )
 
 -- where nothing is next a run has no step
-none_at_rest : (q : Query) (closed : ℕ → Bool) (rest : List Step) (a b : Marks) → IsAtRest q closed a → IsSerialRun q closed rest a b → rest ≡ []
+none_at_rest : (q : Query) (closed : ℕ → Bool) (rest : List Step) (a b : Marks) → IsAtRest q closed a
+    → IsSerialRun q closed rest a b → rest ≡ []
 none_at_rest q closed [] a b still run = refl
 none_at_rest q closed (x ∷ rest) a b still run = absurd (still.none_below x.state run.1.is_open run.1.below_goal)
 

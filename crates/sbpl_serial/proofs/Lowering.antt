@@ -1,5 +1,6 @@
 -- The low, state by state.
-use Rattle.std.proofs.Common.{◌≡◌, ◌≢◌, ℕ, suc, ◌+◌, ◌<◌, ◌≤◌, ◌⊎◌, Bool, true, false, nat_eq, List, [], ◌∷◌, slice_index_or, length, arith, ⊎_elim, inl, inr, sym, ◌∙◌, ap}
+use Rattle.std.proofs.Common.{◌≡◌, ◌≢◌, ℕ, suc, ◌+◌, ◌<◌, ◌≤◌, ◌⊎◌, Bool, true, false, nat_eq, List, [], ◌∷◌}
+use Rattle.std.proofs.Common.{slice_index_or, length, arith, ⊎_elim, inl, inr, sym, ◌∙◌, ap}
 use Rattle.std.proofs.lemmas.Bool.{cases_Bool, cases_eq, cases_lt, false≢true, eqb-true, or_cases}
 use Rattle.sbpl_graph.specs.Bound.{IsLow}
 use Rattle.sbpl_labels.specs.Marks.{Marks, states_of, g_of, v_of}
@@ -40,7 +41,8 @@ module _ {m : Marks} {goal : ℕ} {h : ℕ → ℕ} where
   }
 
   -- the same for other states, all of which were looked at
-  pub low_same : {among among' : ℕ → Type 0} {low : ℕ} → IsLowOf m goal h among low → ((s : ℕ) → among' s → among s) → IsLowOf m goal h among' low
+  pub low_same : {among among' : ℕ → Type 0} {low : ℕ} → IsLowOf m goal h among low → ((s : ℕ) → among' s → among s)
+      → IsLowOf m goal h among' low
   low_same was told = record {
     at_goal = was.at_goal;
     unsettled = λ s it differ. was.unsettled s (told s it) differ;
@@ -48,7 +50,8 @@ module _ {m : Marks} {goal : ℕ} {h : ℕ → ℕ} where
   }
 
   -- all states whose g and v differ were looked at
-  pub low_of_all : {among : ℕ → Type 0} {low : ℕ} → IsLowOf m goal h among low → ((s : ℕ) → s < states_of m → v_of m s ≢ g_of m s → among s)
+  pub low_of_all : {among : ℕ → Type 0} {low : ℕ} → IsLowOf m goal h among low
+      → ((s : ℕ) → s < states_of m → v_of m s ≢ g_of m s → among s)
       → IsLow (states_of m) goal (g_of m) (v_of m) h low
   low_of_all was all = record {
     at_goal = was.at_goal;
@@ -79,7 +82,8 @@ among_before (step ∷ rest) s is =
 
 -- a state whose g and v differ is in the queue, or among the steps that have closed it
 pub in_either : {m : Marks} {closed : ℕ → Bool} (queue : OpenList) (steps : List Step) → AreWaiting m queue closed
-    → ((s : ℕ) → closed s ≡ closed_after none_closed steps s) → (s : ℕ) → s < states_of m → v_of m s ≢ g_of m s → IsInEither queue steps s
+    → ((s : ℕ) → closed s ≡ closed_after none_closed steps s) → (s : ℕ) → s < states_of m → v_of m s ≢ g_of m s
+    → IsInEither queue steps s
 in_either {m} {closed} queue steps waiting by_steps s inside differ =
     ⊎_elim
     (λ (is : closed s ≡ true).
@@ -92,6 +96,8 @@ in_either {m} {closed} queue steps waiting by_steps s inside differ =
     (waiting s
     (record {
       inside = inside;
-      inconsistent = ⊎_elim (λ (over : g_of m s < v_of m s). inr (over, fresh)) (λ (under : v_of m s ≤ g_of m s). inl (omega (arith, differ))) (cases_lt (g_of m s) (v_of m s));
+      inconsistent =
+          ⊎_elim (λ (over : g_of m s < v_of m s). inr (over, fresh))
+          (λ (under : v_of m s ≤ g_of m s). inl (omega (arith, differ))) (cases_lt (g_of m s) (v_of m s));
     })))
     (cases_Bool (closed s))

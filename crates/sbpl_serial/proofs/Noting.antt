@@ -1,5 +1,6 @@
 -- States are noted in the queue one after the other.
-use Rattle.std.proofs.Common.{◌≡◌, ◌≢◌, ℕ, ◌+◌, ◌<◌, Bool, true, false, nat_eq, IsSome, List, [], ◌∷◌, ◌++◌, length, slice_index, arith, ⊎_elim, sym, ◌∙◌, ap}
+use Rattle.std.proofs.Common.{◌≡◌, ◌≢◌, ℕ, ◌+◌, ◌<◌, Bool, true, false, nat_eq, IsSome, List, [], ◌∷◌, ◌++◌, length}
+use Rattle.std.proofs.Common.{slice_index, arith, ⊎_elim, sym, ◌∙◌, ap}
 use Rattle.std.specs.List.{Contains}
 use Rattle.std.proofs.lemmas.Bool.{cases_eq, or_cases, eqb-true}
 use Rattle.std.proofs.lemmas.List.{get_or_default}
@@ -18,8 +19,10 @@ pub record AreNoted (m : Marks) (states : List ℕ) (old now : OpenList) (i : �
   pub noted : (s j : ℕ) → j < i → slice_index states j ≡ s → g_of m s ≢ v_of m s → IsSome (open_list.key_at now s)
 
 pub noted_more : {m : Marks} {states : List ℕ} {old now now' : OpenList} (i : ℕ) → AreNoted m states old now i
-    → open_list.states_of now' ≡ open_list.states_of now → ((s : ℕ) → IsSome (open_list.key_at now s) → IsSome (open_list.key_at now' s))
-    → (g_of m (slice_index states i) ≢ v_of m (slice_index states i) → IsSome (open_list.key_at now' (slice_index states i)))
+    → open_list.states_of now' ≡ open_list.states_of now
+    → ((s : ℕ) → IsSome (open_list.key_at now s) → IsSome (open_list.key_at now' s))
+    → (g_of m (slice_index states i) ≢ v_of m (slice_index states i)
+    → IsSome (open_list.key_at now' (slice_index states i)))
     → AreNoted m states old now' (i + 1)
 noted_more {m} {states} {old} {now} {now'} i here size kept own = record {
   size = size ∙ here.size;
@@ -35,7 +38,8 @@ noted_more {m} {states} {old} {now} {now'} i here size kept own = record {
 
 pub noted_all : {m : Marks} {states : List ℕ} {old now : OpenList} → AreNoted m states old now (length states)
     → (s : ℕ) → Contains states s → g_of m s ≢ v_of m s → IsSome (open_list.key_at now s)
-noted_all {states = states} here s among = here.noted s among.0 among.1 (get_or_default states among.0 0 s among.1 ∙ among.2)
+noted_all {states = states} here s among =
+    here.noted s among.0 among.1 (get_or_default states among.0 0 s among.1 ∙ among.2)
 
 -- the states of some steps are noted, and none has left
 pub record AreTakenNoted (m : Marks) (steps : List Step) (old now : OpenList) : Type 0 where
@@ -44,7 +48,8 @@ pub record AreTakenNoted (m : Marks) (steps : List Step) (old now : OpenList) : 
   pub noted : (s : ℕ) → is_among steps s ≡ true → g_of m s ≢ v_of m s → IsSome (open_list.key_at now s)
 
 pub taken_more : {m : Marks} {old now now' : OpenList} (steps : List Step) (step : Step) → AreTakenNoted m steps old now
-    → open_list.states_of now' ≡ open_list.states_of now → ((s : ℕ) → IsSome (open_list.key_at now s) → IsSome (open_list.key_at now' s))
+    → open_list.states_of now' ≡ open_list.states_of now
+    → ((s : ℕ) → IsSome (open_list.key_at now s) → IsSome (open_list.key_at now' s))
     → (g_of m step.state ≢ v_of m step.state → IsSome (open_list.key_at now' step.state))
     → AreTakenNoted m (steps ++ step ∷ []) old now'
 taken_more {m} {old} {now} {now'} steps step here size kept own = record {

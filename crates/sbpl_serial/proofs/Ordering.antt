@@ -1,5 +1,6 @@
 -- At inflation one the closed states stay settled, and none of them comes later than an open state.
-use Rattle.std.proofs.Common.{◌≡◌, ◌≢◌, ℕ, ◌+◌, ◌*◌, ◌<◌, ◌≤◌, ◌⊎◌, Bool, true, false, Option, Some, None, min, arith, ⊎_elim, inl, inr, refl, sym, ◌∙◌, ap, subst, nat_eq}
+use Rattle.std.proofs.Common.{◌≡◌, ◌≢◌, ℕ, ◌+◌, ◌*◌, ◌<◌, ◌≤◌, ◌⊎◌, Bool, true, false, Option, Some, None, min, arith}
+use Rattle.std.proofs.Common.{⊎_elim, inl, inr, refl, sym, ◌∙◌, ap, subst, nat_eq}
 use Rattle.std.proofs.lemmas.Bool.{cases_eq, cases_lt, or_cases, or_parts, eqb-true, true≢false}
 use Rattle.std.proofs.lemmas.Bool.Decides.{nat_tests}
 use Rattle.std.proofs.lemmas.Option.{none-some}
@@ -49,7 +50,8 @@ ordered_none none = record {
 }
 
 -- the key of an underconsistent state
-pub key_under : (eps : ℕ) (h : ℕ → ℕ) (m : Marks) (s : ℕ) → IsUnder m s → key_at eps h m s ≡ (1000 * (v_of m s + h s), v_of m s)
+pub key_under : (eps : ℕ) (h : ℕ → ℕ) (m : Marks) (s : ℕ) → IsUnder m s
+    → key_at eps h m s ≡ (1000 * (v_of m s + h s), v_of m s)
 key_under eps h m s under = grind (arith, nat_tests)
 
 -- at inflation one a key is made from the lesser label
@@ -73,23 +75,28 @@ pub open_differs : {closed : ℕ → Bool} {m : Marks} {u : ℕ} → IsOpen clos
 open_differs it = ⊎_elim (λ under. inl under) (λ over. inr over.0) it.inconsistent
 
 -- what recomputing gives is no less than every way from a finite v
-recomputed_above : (n : Network) (v : ℕ → ℕ) (t g least : ℕ) (back : Option (ℕ × ℕ)) → IsRecomputed n v t g back → least ≤ FAR
+recomputed_above : (n : Network) (v : ℕ → ℕ) (t g least : ℕ) (back : Option (ℕ × ℕ))
+    → IsRecomputed n v t g back → least ≤ FAR
     → ((a k c : ℕ) → IsFreeArc n a k t c → v a < FAR → least ≤ v a + c) → least ≤ g
 recomputed_above n v t g least None is label ways = omega (arith, is.0)
 recomputed_above n v t g least (Some (a, k)) is label ways =
     omega (arith, is.2.gives, ways a k is.1 is.2.way.free is.2.way.near)
 
 -- g after the raising of s is g before it, or no less, and g before it was that of a way over s
-pub raise_cases : {n : Network} {old new : Marks} {s : ℕ} (t : ℕ) → AreExact n old.start (g_of old) (v_of old) (back_of old) → AreLabels old
+pub raise_cases : {n : Network} {old new : Marks} {s : ℕ} (t : ℕ)
+    → AreExact n old.start (g_of old) (v_of old) (back_of old) → AreLabels old
     → states_of old ≡ n.states → RaisesState n old new s → (back : Option (ℕ × ℕ)) → back_of old t ≡ back
-    → (g_of new t ≡ g_of old t) ⊎ ((k : ℕ) × (c : ℕ) × IsFreeArc n s k t c × (g_of old t ≡ v_of old s + c) × (g_of old t ≤ g_of new t))
-raise_cases {s = s} t exact labels states step None is = inl (step.other_g t (λ apart k by. none-some (s, k) (sym is ∙ by)))
+    → (g_of new t ≡ g_of old t)
+    ⊎ ((k : ℕ) × (c : ℕ) × IsFreeArc n s k t c × (g_of old t ≡ v_of old s + c) × (g_of old t ≤ g_of new t))
+raise_cases {s = s} t exact labels states step None is =
+    inl (step.other_g t (λ apart k by. none-some (s, k) (sym is ∙ by)))
 raise_cases {n} {old} {new} {s} t exact labels states step (Some (a, l)) is =
     ⊎_elim
     (λ (at : a ≡ s).
     let own : back_of old t ≡ Some (s, l) = subst (λ b. back_of old t ≡ Some (b, l)) at is in
     let inside = back_inside old own in
-    let apart : t ≢ old.start = λ e. none-some (s, l) (sym exact.none_at_start ∙ ap (λ u. back_of old u) (sym e) ∙ own) in
+    let apart : t ≢ old.start =
+    λ e. none-some (s, l) (sym exact.none_at_start ∙ ap (λ u. back_of old u) (sym e) ∙ own) in
     let given = exact.gives t s l (omega arith) apart own in
     let above =
     recomputed_above n (v_of new) t (g_of new t) (g_of old t) (back_of new t) (step.heads t l apart own)
@@ -111,7 +118,8 @@ module _ {q : Query} {closed : ℕ → Bool} {old : Marks} {s : ℕ} (one : q.ep
       (λ (at : u ≡ s). rw at (record { sums = omega arith; ties = λ same. omega arith }))
       (λ (apart : u ≢ s).
       let before =
-      rw (key_low q.guide old s one (open_differs next.is_open), key_low q.guide old u one (open_differs open_u)) at (next.first u open_u apart) in
+      rw (key_low q.guide old s one (open_differs next.is_open), key_low q.guide old u one (open_differs open_u))
+      at (next.first u open_u apart) in
       let sums : 1000 * (low_of old s + q.guide s) ≤ 1000 * (low_of old u + q.guide u) = before_first _ _ _ _ before in
       record {
         sums = omega arith;
@@ -143,7 +151,8 @@ module _ {q : Query} {closed : ℕ → Bool} {old : Marks} {s : ℕ} (one : q.ep
 
     not_closed : closed s ≡ false
     not_closed =
-        ⊎_elim (λ (under : IsUnder old s). absurd (omega (arith, step.over))) (λ (over : IsOver old s × (closed s ≡ false)). over.1) next.is_open.inconsistent
+        ⊎_elim (λ (under : IsUnder old s). absurd (omega (arith, step.over)))
+        (λ (over : IsOver old s × (closed s ≡ false)). over.1) next.is_open.inconsistent
 
     closed_same : (x : ℕ) → closed x ≡ true → g_of new x ≡ g_of old x
     closed_same x is =
@@ -152,11 +161,13 @@ module _ {q : Query} {closed : ℕ → Bool} {old : Marks} {s : ℕ} (one : q.ep
         (λ found. absurd (not_along x found.0 found.1 is found.2 (omega (arith, over_low, found.3, found.4))))
         (lesser_cases x step)
 
-    open_after : (u : ℕ) → IsOpen (closed_with (lowers s) closed) new u → IsNoLater (g_of old s) (q.guide s) (low_of new u) (q.guide u)
+    open_after : (u : ℕ) → IsOpen (closed_with (lowers s) closed) new u
+        → IsNoLater (g_of old s) (q.guide s) (low_of new u) (q.guide u)
     open_after u open_u =
         let apart : u ≢ s = λ e.
         let settled : v_of new u ≡ g_of new u = rw e (step.settled ∙ sym own_same) in
-        ⊎_elim (λ (under : IsUnder new u). absurd (omega arith)) (λ (over : IsOver new u). absurd (omega arith)) (open_differs open_u) in
+        ⊎_elim (λ (under : IsUnder new u). absurd (omega arith)) (λ (over : IsOver new u). absurd (omega arith))
+        (open_differs open_u) in
         let same_v = step.other_v u apart in
         let inside : u < states_of old = omega (arith, open_u.inside, step.same_states) in
         ⊎_elim
@@ -174,10 +185,12 @@ module _ {q : Query} {closed : ℕ → Bool} {old : Marks} {s : ℕ} (one : q.ep
         (λ found.
         ⊎_elim
         (λ (under : v_of old u < g_of old s + found.1).
-        let was : IsOpen closed old u = record { inside = inside; inconsistent = inl (omega (arith, found.3, found.4)) } in
+        let was : IsOpen closed old u =
+        record { inside = inside; inconsistent = inl (omega (arith, found.3, found.4)) } in
         let low : low_of new u ≡ low_of old u = omega (arith, found.3, found.4) in
         rw (low, ← over_low) (first_open u was))
-        (λ (above : g_of old s + found.1 ≤ v_of old u). along (g_of old s) (low_of new u) found.0 u found.1 found.2 (omega (arith, found.3)))
+        (λ (above : g_of old s + found.1 ≤ v_of old u).
+        along (g_of old s) (low_of new u) found.0 u found.1 found.2 (omega (arith, found.3)))
         (cases_lt (v_of old u) (g_of old s + found.1)))
         (lesser_cases u step)
 
@@ -202,7 +215,8 @@ module _ {q : Query} {closed : ℕ → Bool} {old : Marks} {s : ℕ} (one : q.ep
           (or_cases _ _ is);
     }
 
-  module _ {new : Marks} (exact : AreExact q.network old.start (g_of old) (v_of old) (back_of old)) (labels : AreLabels old)
+  module _ {new : Marks} (exact : AreExact q.network old.start (g_of old) (v_of old) (back_of old))
+      (labels : AreLabels old)
       (states : states_of old ≡ q.network.states) (step : RaisesState q.network old new s) where
     under_low : low_of old s ≡ v_of old s
     under_low = omega (arith, step.under)
@@ -221,11 +235,13 @@ module _ {q : Query} {closed : ℕ → Bool} {old : Marks} {s : ℕ} (one : q.ep
     raised_after : (u : ℕ) → IsOpen closed new u → IsNoLater (v_of old s) (q.guide s) (low_of new u) (q.guide u)
     raised_after u open_u =
         let inside : u < states_of old = omega (arith, open_u.inside, step.same_states) in
-        let near : v_of old s < FAR = omega (arith, step.under, label_at_most _ (labels.labels s next.is_open.inside).0) in
+        let near : v_of old s < FAR =
+        omega (arith, step.under, label_at_most _ (labels.labels s next.is_open.inside).0) in
         ⊎_elim
         (λ (at : u ≡ s).
         let above : v_of old s ≤ low_of new s =
-        ⊎_elim (λ same. omega (arith, same, step.raised, step.under)) (λ found. omega (arith, found.4, step.raised, step.under)) (cases s) in
+        ⊎_elim (λ same. omega (arith, same, step.raised, step.under))
+        (λ found. omega (arith, found.4, step.raised, step.under)) (cases s) in
         rw at (record { sums = omega arith; ties = λ same. above }))
         (λ (apart : u ≢ s).
         let same_v = step.other_v u apart in
@@ -233,7 +249,9 @@ module _ {q : Query} {closed : ℕ → Bool} {old : Marks} {s : ℕ} (one : q.ep
         (λ (same : g_of new u ≡ g_of old u).
         let was : IsOpen closed old u = record {
           inside = inside;
-          inconsistent = ⊎_elim (λ under. inl (omega (arith, under))) (λ over. inr (omega (arith, over.0), over.1)) open_u.inconsistent;
+          inconsistent =
+              ⊎_elim (λ under. inl (omega (arith, under)))
+              (λ over. inr (omega (arith, over.0), over.1)) open_u.inconsistent;
         } in
         let low : low_of new u ≡ low_of old u = omega arith in
         rw (low, ← under_low) (first_open u was))
@@ -252,7 +270,8 @@ module _ {q : Query} {closed : ℕ → Bool} {old : Marks} {s : ℕ} (one : q.ep
     pub ordered_raised : AreOrdered q.guide closed new
     ordered_raised = record {
       settled = λ x is.
-          let apart : x ≢ s = λ e. let own : v_of old s ≡ g_of old s = rw (← e) (ordered.settled x is) in absurd (omega (arith, step.under)) in
+          let apart : x ≢ s = λ e.
+          let own : v_of old s ≡ g_of old s = rw (← e) (ordered.settled x is) in absurd (omega (arith, step.under)) in
           step.other_v x apart ∙ ordered.settled x is ∙ sym (raised_same x is);
       later = λ x u is open_u.
           let before = rw under_low at (ordered.later x s is (next.is_open)) in

@@ -1,5 +1,6 @@
 -- A pass from its beginning on.
-use Rattle.std.proofs.Common.{◌≡◌, ◌≢◌, ℕ, ◌+◌, ◌*◌, ◌<◌, ◌≤◌, Bool, true, false, List, [], ◌∷◌, ◌++◌, length, arith, ⊎_elim, refl, sym, ◌∙◌, ap, add-zero, length-append}
+use Rattle.std.proofs.Common.{◌≡◌, ◌≢◌, ℕ, ◌+◌, ◌*◌, ◌<◌, ◌≤◌, Bool, true, false, List, [], ◌∷◌, ◌++◌, length, arith}
+use Rattle.std.proofs.Common.{⊎_elim, refl, sym, ◌∙◌, ap, add-zero, length-append}
 use Rattle.std.proofs.lemmas.Bool.{eq-eqb, ne_eqb, or_left}
 use Rattle.sbpl_graph.specs.Laws.{IsSound, IsConsistent}
 use Rattle.sbpl_graph.specs.Exact.{AreExact}
@@ -9,13 +10,15 @@ use Rattle.sbpl_labels.specs.Marks.{Marks, AreLabels, states_of, g_of, v_of, bac
 use Rattle.sbpl_serial.specs.declared.step.Step.{Step}
 use Rattle.sbpl_serial.specs.Queue.{AreQueued}
 use Rattle.sbpl_search.specs.Query.{Query}
-use Rattle.sbpl_serial.specs.Run.{IsOver, IsUnder, IsNext, IsSerialRun, IsExpansion, LowersHeads, RaisesState, none_closed, closed_with, closed_after}
+use Rattle.sbpl_serial.specs.Run.{IsOver, IsUnder, IsNext, IsSerialRun, IsExpansion, LowersHeads, RaisesState}
+use Rattle.sbpl_serial.specs.Run.{none_closed, closed_with, closed_after}
 use Rattle.sbpl_serial.specs.Serial.{SerialState}
 use Rattle.sbpl_search.specs.Ready.{AreUsable}
 use Rattle.sbpl_serial.proofs.Closing.{closed_after_push}
 use Rattle.sbpl_serial.proofs.Opening.{open_alike}
 use Rattle.sbpl_serial.specs.Taken.{IsTaken, step_of}
-use Rattle.sbpl_serial.proofs.Counting.{AreCounted, left, left_near, left_lowered, left_raised, counted_none, counted_more, counted_room}
+use Rattle.sbpl_serial.proofs.Counting.{AreCounted, left, left_near, left_lowered, left_raised}
+use Rattle.sbpl_serial.proofs.Counting.{counted_none, counted_more, counted_room}
 use Rattle.sbpl_serial.proofs.Ordering.{AreOrdered, ordered_none, ordered_lowered, ordered_raised}
 
 -- the states that the steps of a search have closed
@@ -35,7 +38,8 @@ pub record IsPassing (q : Query) (old now : SerialState) (before counts : Counts
   pub queued : AreQueued q.eps q.guide (closed_by now) now.labels now.queue
 
 -- the counts rise by one with each step
-pub counts_more : (before counts counts' : Counts) (steps steps' : ℕ) → counts ≡ record before { plan = before.plan + steps; run = before.run + steps }
+pub counts_more : (before counts counts' : Counts) (steps steps' : ℕ)
+    → counts ≡ record before { plan = before.plan + steps; run = before.run + steps }
     → counts' ≡ record counts { plan = counts.plan + 1; run = counts.run + 1 } → steps' ≡ steps + 1
     → counts' ≡ record before { plan = before.plan + steps'; run = before.run + steps' }
 counts_more before counts counts' steps steps' was spent more =
@@ -44,14 +48,17 @@ counts_more before counts counts' steps steps' was spent more =
     rw (spent, was, plan, run) refl
 
 -- one more state is taken
-pub run_push : (q : Query) (closed : ℕ → Bool) (steps : List Step) (old m new : Marks) (step : Step) → IsSerialRun q closed steps old m
-    → IsNext q (closed_after closed steps) m step.state → IsExpansion q.network m step new → IsSerialRun q closed (steps ++ step ∷ []) old new
+pub run_push : (q : Query) (closed : ℕ → Bool) (steps : List Step) (old m new : Marks) (step : Step)
+    → IsSerialRun q closed steps old m
+    → IsNext q (closed_after closed steps) m step.state → IsExpansion q.network m step new
+    → IsSerialRun q closed (steps ++ step ∷ []) old new
 run_push q closed [] old m new step is next by = (new, rw (← is) next, rw (← is) by, refl)
 run_push q closed (first ∷ rest) old m new step run next by =
     (run.0, run.1, run.2, run_push q (closed_with first closed) rest run.0 m new step run.3 next by)
 
 -- what is ordered by one test is ordered by another that answers alike
-ordered_alike : {h : ℕ → ℕ} {closed closed' : ℕ → Bool} {m : Marks} → ((u : ℕ) → closed u ≡ closed' u) → AreOrdered h closed m
+ordered_alike : {h : ℕ → ℕ} {closed closed' : ℕ → Bool} {m : Marks}
+    → ((u : ℕ) → closed u ≡ closed' u) → AreOrdered h closed m
     → AreOrdered h closed' m
 ordered_alike {closed = closed} {closed' = closed'} same ordered = record {
   settled = λ x is. ordered.settled x (same x ∙ is);
@@ -59,7 +66,8 @@ ordered_alike {closed = closed} {closed' = closed'} same ordered = record {
 }
 
 -- at its beginning no step was made
-pub passing_none : {q : Query} {old now : SerialState} {counts : Counts} → now.labels ≡ old.labels → now.goal ≡ old.goal → now.trace ≡ []
+pub passing_none : {q : Query} {old now : SerialState} {counts : Counts} → now.labels ≡ old.labels
+    → now.goal ≡ old.goal → now.trace ≡ []
     → AreUsable q.network old.labels counts.run → AreQueued q.eps q.guide none_closed now.labels now.queue
     → IsPassing q old now counts counts
 passing_none {q} {old} {now} {counts} same goal empty usable queued =
@@ -77,7 +85,8 @@ passing_none {q} {old} {now} {counts} same goal empty usable queued =
     }
 
 -- a state that is next can still be taken
-pub next_left : {q : Query} {closed : ℕ → Bool} {m : Marks} {s : ℕ} → AreLabels m → IsNext q closed m s → 1 ≤ left (closed s) (v_of m s)
+pub next_left : {q : Query} {closed : ℕ → Bool} {m : Marks} {s : ℕ} → AreLabels m → IsNext q closed m s
+    → 1 ≤ left (closed s) (v_of m s)
 next_left {closed = closed} {m = m} {s = s} labels next =
     let label = label_at_most _ (labels.labels s next.is_open.inside).0 in
     ⊎_elim
@@ -86,14 +95,17 @@ next_left {closed = closed} {m = m} {s = s} labels next =
     next.is_open.inconsistent
 
 -- so there is room for its step
-pub passing_room : {q : Query} {old now : SerialState} {before counts : Counts} {s : ℕ} → IsPassing q old now before counts → AreLabels now.labels
+pub passing_room : {q : Query} {old now : SerialState} {before counts : Counts} {s : ℕ}
+    → IsPassing q old now before counts → AreLabels now.labels
     → IsNext q (closed_by now) now.labels s → length now.trace < 3 * states_of old.labels
 passing_room {s = s} here labels next =
     counted_room s here.taken (omega (arith, next.is_open.inside, here.same_states)) (next_left labels next)
 
 -- what one step leaves to be taken, and that it keeps the order at inflation one
-module _ {q : Query} {closed : ℕ → Bool} {old : Marks} (new : Marks) {s : ℕ} (labels : AreLabels old) (next : IsNext q closed old s)
-    (exact : AreExact q.network old.start (g_of old) (v_of old) (back_of old)) (states : states_of old ≡ q.network.states)
+module _ {q : Query} {closed : ℕ → Bool} {old : Marks} (new : Marks) {s : ℕ} (labels : AreLabels old)
+    (next : IsNext q closed old s)
+    (exact : AreExact q.network old.start (g_of old) (v_of old) (back_of old))
+    (states : states_of old ≡ q.network.states)
     (sound : IsSound q.network) (consistent : IsConsistent q.network q.goal q.guide) where
   step_left : (raised : Bool) → IsExpansion q.network old (step_of s raised) new
       → left (closed_with (step_of s raised) closed s) (v_of new s) + 1 ≤ left (closed s) (v_of old s)
@@ -104,24 +116,29 @@ module _ {q : Query} {closed : ℕ → Bool} {old : Marks} (new : Marks) {s : �
   step_left false by =
       let step : LowersHeads q.network old new s = by in
       let fresh : closed s ≡ false =
-      ⊎_elim (λ (under : IsUnder old s). absurd (omega (arith, step.over))) (λ (over : IsOver old s × (closed s ≡ false)). over.1) next.is_open.inconsistent in
+      ⊎_elim (λ (under : IsUnder old s). absurd (omega (arith, step.over)))
+      (λ (over : IsOver old s × (closed s ≡ false)). over.1) next.is_open.inconsistent in
       let own : closed_with (step_of s false) closed s ≡ true = or_left _ _ (eq-eqb s s refl) in
       left_lowered (closed s) (closed_with (step_of s false) closed s) (v_of old s) (v_of new s) fresh own
 
-  step_v : (raised : Bool) → IsExpansion q.network old (step_of s raised) new → (u : ℕ) → u ≢ s → v_of new u ≡ v_of old u
+  step_v : (raised : Bool) → IsExpansion q.network old (step_of s raised) new → (u : ℕ) → u ≢ s
+      → v_of new u ≡ v_of old u
   step_v true by u apart = let step : RaisesState q.network old new s = by in step.other_v u apart
   step_v false by u apart = let step : LowersHeads q.network old new s = by in step.other_v u apart
 
-  step_start : (raised : Bool) → IsExpansion q.network old (step_of s raised) new → (new.start ≡ old.start) × (states_of new ≡ states_of old)
+  step_start : (raised : Bool) → IsExpansion q.network old (step_of s raised) new
+      → (new.start ≡ old.start) × (states_of new ≡ states_of old)
   step_start true by = let step : RaisesState q.network old new s = by in (step.same_start, step.same_states)
   step_start false by = let step : LowersHeads q.network old new s = by in (step.same_start, step.same_states)
 
-  step_ordered : (raised : Bool) → IsExpansion q.network old (step_of s raised) new → q.eps ≡ 1000 → AreOrdered q.guide closed old
+  step_ordered : (raised : Bool) → IsExpansion q.network old (step_of s raised) new → q.eps ≡ 1000
+      → AreOrdered q.guide closed old
       → AreOrdered q.guide (closed_with (step_of s raised) closed) new
   step_ordered true by one ordered = ordered_raised one sound consistent next ordered exact labels states by
   step_ordered false by one ordered = ordered_lowered one sound consistent next ordered by
 
-closed_other : (raised : Bool) (closed : ℕ → Bool) (s u : ℕ) → u ≢ s → closed_with (step_of s raised) closed u ≡ closed u
+closed_other : (raised : Bool) (closed : ℕ → Bool) (s u : ℕ) → u ≢ s
+    → closed_with (step_of s raised) closed u ≡ closed u
 closed_other true closed s u apart = refl
 closed_other false closed s u apart = rw (ne_eqb s u (λ e. apart (sym e))) refl
 
@@ -132,7 +149,8 @@ pub passing_more : {q : Query} {old now now' : SerialState} {before counts count
     → ((count : ℕ) → AreUsable q.network now.labels count → AreUsable q.network now'.labels (count + 1))
     → now'.goal ≡ now.goal → counts' ≡ record counts { plan = counts.plan + 1; run = counts.run + 1 }
     → AreQueued q.eps q.guide (closed_by now') now'.labels now'.queue → IsPassing q old now' before counts'
-passing_more {q} {old} {now} {now'} {before} {counts} {counts'} s sound consistent labels here next (raised, by) usable goal spent queued =
+passing_more {q} {old} {now} {now'} {before} {counts} {counts'} s sound consistent labels here next (raised, by)
+    usable goal spent queued =
     let step = step_of s raised in
     let exact = here.usable.exact in
     let states = here.usable.states in
@@ -146,7 +164,8 @@ passing_more {q} {old} {now} {now'} {before} {counts} {counts'} s sound consiste
       same_states = kept.1 ∙ here.same_states;
       usable = rw spent (usable counts.run here.usable);
       counted = counts_more before counts counts' (length now.trace) (length now'.trace) here.counted spent longer;
-      run = rw by.traced (run_push q none_closed now.trace old.labels now.labels now'.labels step here.run next by.step);
+      run =
+          rw by.traced (run_push q none_closed now.trace old.labels now.labels now'.labels step here.run next by.step);
       taken =
           counted_more step here.taken (omega (arith, next.is_open.inside, here.same_states))
           (rw (closed' s) (step_left now'.labels labels next exact states sound consistent raised by.step))

@@ -1,6 +1,8 @@
 -- The queue goes on holding the open states.
-use Rattle.std.proofs.Common.{◌≡◌, ◌≢◌, ℕ, ◌<◌, ◌≤◌, Bool, true, false, not, ◌||◌, ◌&&◌, ◌⊎◌, nat_eq, Option, Some, None, MatchOption, List, [], ◌∷◌, ◌++◌, arith, ⊎_elim, inl, inr, refl, sym, ◌∙◌, ap}
-use Rattle.std.proofs.lemmas.Bool.{cases_eq, cases_lt, cases_Bool, or_cases, or_left, or_right, and_parts, eq-eqb, ne_eqb, true≢false}
+use Rattle.std.proofs.Common.{◌≡◌, ◌≢◌, ℕ, ◌<◌, ◌≤◌, Bool, true, false, not, ◌||◌, ◌&&◌, ◌⊎◌, nat_eq, Option, Some}
+use Rattle.std.proofs.Common.{None, MatchOption, List, [], ◌∷◌, ◌++◌, arith, ⊎_elim, inl, inr, refl, sym, ◌∙◌, ap}
+use Rattle.std.proofs.lemmas.Bool.{cases_eq, cases_lt, cases_Bool, or_cases, or_left, or_right, and_parts}
+use Rattle.std.proofs.lemmas.Bool.{eq-eqb, ne_eqb, true≢false}
 use Rattle.std.proofs.lemmas.List.{get_or_past}
 use Rattle.sbpl_graph.specs.Network.{Network}
 use Rattle.sbpl_labels.specs.declared.row.Row.{Row}
@@ -36,7 +38,8 @@ or_false true = refl
 or_false false = refl
 
 -- One more state among those that are looked at.
-pub among_push : (steps : List Step) (step : Step) (u : ℕ) → is_among (steps ++ step ∷ []) u ≡ is_among steps u || nat_eq step.state u
+pub among_push : (steps : List Step) (step : Step) (u : ℕ)
+    → is_among (steps ++ step ∷ []) u ≡ is_among steps u || nat_eq step.state u
 among_push [] step u = grind arith
 among_push (first ∷ rest) step u = grind (arith, among_push rest step u)
 
@@ -44,7 +47,8 @@ among_own : (steps : List Step) (step : Step) (u : ℕ) → u ≡ step.state →
 among_own steps step u at =
     among_push steps step u ∙ or_right (is_among steps u) (nat_eq step.state u) (eq-eqb step.state u (sym at))
 
-among_before : (steps : List Step) (step : Step) (u : ℕ) → u ≢ step.state → is_among (steps ++ step ∷ []) u ≡ is_among steps u
+among_before : (steps : List Step) (step : Step) (u : ℕ) → u ≢ step.state
+    → is_among (steps ++ step ∷ []) u ≡ is_among steps u
 among_before steps step u apart =
     among_push steps step u ∙ rw (ne_eqb step.state u (λ e. apart (sym e))) (or_false (is_among steps u))
 
@@ -56,7 +60,8 @@ among_closed closed (step ∷ rest) s is =
     ⊎_elim
     (λ (before : closed_with step closed s ≡ true).
     ⊎_elim
-    (λ (own : (not step.raised && nat_eq step.state s) ≡ true). inr (or_left (nat_eq step.state s) (is_among rest s) (and_parts (not step.raised) (nat_eq step.state s) own).1))
+    (λ (own : (not step.raised && nat_eq step.state s) ≡ true).
+    inr (or_left (nat_eq step.state s) (is_among rest s) (and_parts (not step.raised) (nat_eq step.state s) own).1))
     (λ (was : closed s ≡ true). inl was)
     (or_cases (not step.raised && nat_eq step.state s) (closed s) before))
     (λ (later : is_among rest s ≡ true). inr (or_right (nat_eq step.state s) (is_among rest s) later))
@@ -84,7 +89,8 @@ module _ (eps : ℕ) (h : ℕ → ℕ) where
 
   -- where nothing of the state has changed
   queued_still : (closed closed' : ℕ → Bool) (m m' : Marks) (s : ℕ) (key : Option (ℕ × ℕ)) → states_of m' ≡ states_of m
-      → row_at m' s ≡ row_at m s → closed' s ≡ closed s → IsQueued eps h closed m s key → IsQueued eps h closed' m' s key
+      → row_at m' s ≡ row_at m s → closed' s ≡ closed s → IsQueued eps h closed m s key
+      → IsQueued eps h closed' m' s key
   queued_still closed closed' m m' s key states row same =
       let same_g : g_of m' s ≡ g_of m s = ap (λ (r : Row). r.g) row in
       let same_v : v_of m' s ≡ v_of m s = ap (λ (r : Row). r.v) row in
@@ -101,13 +107,16 @@ module _ (eps : ℕ) (h : ℕ → ℕ) where
   }
 
   -- the labels of t change, or its test
-  pub unplaced : (closed closed' : ℕ → Bool) (m m' : Marks) {f : OpenList} (t : ℕ) → AreQueued eps h closed m f → t < states_of m
-      → states_of m' ≡ states_of m → ((u : ℕ) → u ≢ t → row_at m' u ≡ row_at m u) → ((u : ℕ) → u ≢ t → closed' u ≡ closed u)
+  pub unplaced : (closed closed' : ℕ → Bool) (m m' : Marks) {f : OpenList} (t : ℕ)
+      → AreQueued eps h closed m f → t < states_of m
+      → states_of m' ≡ states_of m → ((u : ℕ) → u ≢ t → row_at m' u ≡ row_at m u)
+      → ((u : ℕ) → u ≢ t → closed' u ≡ closed u)
       → AreQueuedBut eps h closed' m' f t
   unplaced closed closed' m m' {f} t queued inside states rows same = record {
     inside = omega arith;
     states = queued.states ∙ sym states;
-    others = λ u apart. queued_still closed closed' m m' u (open_list.key_at f u) states (rows u apart) (same u apart) (queued.each u);
+    others = λ u apart.
+        queued_still closed closed' m m' u (open_list.key_at f u) states (rows u apart) (same u apart) (queued.each u);
   }
 
   -- an arc has lowered its head, or none
@@ -116,17 +125,21 @@ module _ (eps : ℕ) (h : ℕ → ℕ) where
   relaxed_unplaced n m m' s k None queued relaxed = rw relaxed.0 queued
   relaxed_unplaced n {closed} m m' s k (Some t) queued relaxed =
       let by : LowersHead n m m' s k t relaxed.0 = relaxed.1 in
-      unplaced closed closed m m' t queued (label_inside m t _ by.lower) by.changed.states by.changed.others (λ u apart. refl)
+      unplaced closed closed m m' t queued (label_inside m t _ by.lower) by.changed.states
+      by.changed.others (λ u apart. refl)
 
   -- one more state is given its key
-  pub refilled_more : {m : Marks} {f f' : OpenList} (steps : List Step) (step : Step) (key : Option (ℕ × ℕ)) → AreRefilled eps h steps m f
-      → IsQueued eps h none_closed m step.state key → ChangesKey f f' step.state key → AreRefilled eps h (steps ++ step ∷ []) m f'
+  pub refilled_more : {m : Marks} {f f' : OpenList} (steps : List Step) (step : Step) (key : Option (ℕ × ℕ))
+      → AreRefilled eps h steps m f
+      → IsQueued eps h none_closed m step.state key → ChangesKey f f' step.state key
+      → AreRefilled eps h (steps ++ step ∷ []) m f'
   refilled_more {m} {f} {f'} steps step key here own change = record {
     states = change.states ∙ here.states;
     among = λ u is.
         ⊎_elim
         (λ (at : u ≡ step.state). rw (at, change.at) own)
-        (λ (apart : u ≢ step.state). rw (change.others u apart) (here.among u (sym (among_before steps step u apart) ∙ is)))
+        (λ (apart : u ≢ step.state).
+        rw (change.others u apart) (here.among u (sym (among_before steps step u apart) ∙ is)))
         (cases_eq u step.state);
     absent = λ u none.
         let apart : u ≢ step.state = λ e. true≢false (sym (among_own steps step u e) ∙ none) in
@@ -134,16 +147,19 @@ module _ (eps : ℕ) (h : ℕ → ℕ) where
   }
 
   -- the same for a key in another form
-  pub refilled_step : {K : Type 0} (pair : K → ℕ × ℕ) {m : Marks} {f f' : OpenList} (steps : List Step) (step : Step) (key : Option K)
+  pub refilled_step : {K : Type 0} (pair : K → ℕ × ℕ) {m : Marks} {f f' : OpenList} (steps : List Step)
+      (step : Step) (key : Option K)
       → AreRefilled eps h steps m f
-      → MatchOption key (IsOpen none_closed m step.state → ⊥) (λ k. IsOpen none_closed m step.state × (pair k ≡ key_at eps h m step.state))
+      → MatchOption key (IsOpen none_closed m step.state → ⊥)
+      (λ k. IsOpen none_closed m step.state × (pair k ≡ key_at eps h m step.state))
       → MatchOption key (ChangesKey f f' step.state None) (λ k. ChangesKey f f' step.state (Some (pair k)))
       → AreRefilled eps h (steps ++ step ∷ []) m f'
   refilled_step pair steps step None here own change = refilled_more steps step None here own change
   refilled_step pair steps step (Some k) here own change = refilled_more steps step (Some (pair k)) here own change
 
   -- where every state whose g and v differ was among them, the queue holds all open states
-  pub refilled_all : {m : Marks} {f : OpenList} (steps : List Step) → ((s : ℕ) → IsOpen none_closed m s → is_among steps s ≡ true)
+  pub refilled_all : {m : Marks} {f : OpenList} (steps : List Step)
+      → ((s : ℕ) → IsOpen none_closed m s → is_among steps s ≡ true)
       → AreRefilled eps h steps m f → AreQueued eps h none_closed m f
   refilled_all {m} {f} steps among here = record {
     states = here.states;
@@ -155,7 +171,8 @@ module _ (eps : ℕ) (h : ℕ → ℕ) where
   }
 
   -- then no open state is lost
-  pub queued_waiting : {closed : ℕ → Bool} {m : Marks} {f : OpenList} → AreQueued eps h closed m f → AreWaiting m f closed
+  pub queued_waiting : {closed : ℕ → Bool} {m : Marks} {f : OpenList}
+      → AreQueued eps h closed m f → AreWaiting m f closed
   queued_waiting {closed} {m} {f} queued = λ s it.
       let there = some_queued closed m s (open_list.key_at f s) (queued.each s) it in
       rw there refl

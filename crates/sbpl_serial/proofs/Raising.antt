@@ -15,7 +15,8 @@ use Rattle.sbpl_labels.specs.Marks.{Marks, AreLabels, ChangesRow, states_of, g_o
 use Rattle.sbpl_labels.specs.Recomputed.{IsRecomputed, Recomputes}
 use Rattle.sbpl_serial.specs.Run.{IsUnder, RaisesState}
 use Rattle.sbpl_search.specs.Changed.{IsExactAt}
-use Rattle.sbpl_serial.specs.Raised.{IsRaising, IsReturned, RaisingBegins, RaisingEnds, RaisingGoesOn, RaisingLowersNone}
+use Rattle.sbpl_serial.specs.Raised.{IsRaising, IsReturned, RaisingBegins}
+use Rattle.sbpl_serial.specs.Raised.{RaisingEnds, RaisingGoesOn, RaisingLowersNone}
 use Rattle.sbpl_serial.proofs.Repairing.{recomputed_alike}
 use Rattle.sbpl_serial.proofs.Exactness.{exact_recomputed, exact_everywhere, exact_at}
 
@@ -34,7 +35,8 @@ module _ {n : Network} (old : Marks) (s : ℕ) (exact : AreExact n old.start (g_
   pub head_by : (t k : ℕ) → back_of old t ≡ Some (s, k) → (t ≢ old.start) × (k < n.fan s) × (n.head s k ≡ Some t)
   head_by t k by =
       let inside = back_inside old by in
-      let apart : t ≢ old.start = λ e. none-some (s, k) (sym exact.none_at_start ∙ ap (λ u. back_of old u) (sym e) ∙ by) in
+      let apart : t ≢ old.start =
+      λ e. none-some (s, k) (sym exact.none_at_start ∙ ap (λ u. back_of old u) (sym e) ∙ by) in
       let given = exact.gives t s k (omega arith) apart by in
       (apart, given.1.free.number, given.1.free.head)
 
@@ -71,7 +73,8 @@ module _ {n : Network} (old : Marks) (s : ℕ) (exact : AreExact n old.start (g_
         omega (arith, here.raised)
 
     -- a state that now has arc i as its back arc had it before
-    pub had_arc : (t : ℕ) → back_of m t ≡ Some (s, i) → (was : Option (ℕ × ℕ)) → back_of old t ≡ was → back_of old t ≡ Some (s, i)
+    pub had_arc : (t : ℕ) → back_of m t ≡ Some (s, i) → (was : Option (ℕ × ℕ)) → back_of old t ≡ was
+        → back_of old t ≡ Some (s, i)
     had_arc t by None is =
         sym (here.other_back t (λ k below at. none-some (s, k) (sym is ∙ at))) ∙ by
     had_arc t by (Some (a, l)) is =
@@ -89,7 +92,8 @@ module _ {n : Network} (old : Marks) (s : ℕ) (exact : AreExact n old.start (g_
 
     -- t, whose back arc is arc i, is recomputed
     pub raising_other : {m' : Marks} (t : ℕ) → n.head s i ≡ Some t → back_of m t ≡ Some (s, i) → Recomputes n m m' t
-        → ((count : ℕ) → FitCount (states_of m) (g_of m) (v_of m) count → FitCount (states_of m) (g_of m') (v_of m') count)
+        → ((count : ℕ) → FitCount (states_of m) (g_of m) (v_of m) count
+        → FitCount (states_of m) (g_of m') (v_of m') count)
         → IsRaising n old m' s (i + 1)
     raising_other {m'} t head by recomputes fits =
         let had = had_arc t by (back_of old t) refl in
@@ -107,12 +111,15 @@ module _ {n : Network} (old : Marks) (s : ℕ) (exact : AreExact n old.start (g_
           other_v = λ u other. same_v u ∙ here.other_v u other;
           heads = λ u k below by_k.
               ⊎_elim
-              (λ (at : u ≡ t). rw at (recomputed_alike n (v_of m) (v_of m') t (g_of m' t) (back_of m' t) same_v recomputes.recomputed))
+              (λ (at : u ≡ t).
+              rw at (recomputed_alike n (v_of m) (v_of m') t (g_of m' t) (back_of m' t) same_v recomputes.recomputed))
               (λ (other : u ≢ t).
               let before : k ≢ i =
-              λ e. other (same_Some u t (sym (head_by u i (subst (λ j. back_of old u ≡ Some (s, j)) e by_k)).2 ∙ head)) in
+              λ e.
+              other (same_Some u t (sym (head_by u i (subst (λ j. back_of old u ≡ Some (s, j)) e by_k)).2 ∙ head)) in
               let was = here.heads u k (omega arith) by_k in
-              let now = subst (λ (r : Row). IsRecomputed n (v_of m) u r.g r.back) (sym (recomputes.others u other)) was in
+              let now =
+              subst (λ (r : Row). IsRecomputed n (v_of m) u r.g r.back) (sym (recomputes.others u other)) was in
               recomputed_alike n (v_of m) (v_of m') u (g_of m' u) (back_of m' u) same_v now)
               (cases_eq u t);
           other_g = λ u others.
@@ -120,7 +127,8 @@ module _ {n : Network} (old : Marks) (s : ℕ) (exact : AreExact n old.start (g_
               ap (λ (r : Row). r.g) (recomputes.others u other) ∙ here.other_g u (λ k below. others k (omega arith));
           other_back = λ u others.
               let other : u ≢ t = λ e. others i (omega arith) (rw e had) in
-              ap (λ (r : Row). r.back) (recomputes.others u other) ∙ here.other_back u (λ k below. others k (omega arith));
+              ap (λ (r : Row). r.back) (recomputes.others u other)
+              ∙ here.other_back u (λ k below. others k (omega arith));
           fits = λ count fit.
               let now = here.fits count fit in
               rw (← size) (fits count (rw size now));
@@ -128,7 +136,8 @@ module _ {n : Network} (old : Marks) (s : ℕ) (exact : AreExact n old.start (g_
 
     -- whatever arc i is
     pub raising_more : {m' : Marks} (head : Option ℕ) → IsReturned n m m' s i head
-        → ((count : ℕ) → FitCount (states_of m) (g_of m) (v_of m) count → FitCount (states_of m) (g_of m') (v_of m') count)
+        → ((count : ℕ) → FitCount (states_of m) (g_of m) (v_of m) count
+        → FitCount (states_of m) (g_of m') (v_of m') count)
         → IsRaising n old m' s (i + 1)
     raising_more None returned fits = rw returned.0 (raising_same returned.1)
     raising_more (Some t) returned fits = raising_other t returned.head returned.by returned.recomputes fits
@@ -156,7 +165,8 @@ module _ {n : Network} (old : Marks) (s : ℕ) (exact : AreExact n old.start (g_
         let same_back = here.other_back t (λ k below. others k) in
         record {
           least = λ a k c arc near.
-              let other : a ≢ s = λ e. let near_s : v_of new s < FAR = rw (← e) near in absurd (omega (arith, here.raised)) in
+              let other : a ≢ s =
+              λ e. let near_s : v_of new s < FAR = rw (← e) near in absurd (omega (arith, here.raised)) in
               omega (arith, same_g, here.other_v a other, was.least a k c arc (omega (arith, here.other_v a other)));
           gives = λ a k by.
               let by_old : back_of old t ≡ Some (a, k) = sym same_back ∙ by in
@@ -174,9 +184,11 @@ module _ {n : Network} (old : Marks) (s : ℕ) (exact : AreExact n old.start (g_
         }
 
     -- and each state is exact
-    raised_at : IsSound n → HasExactTails n → AreLabels new → (t : ℕ) → t < n.states → t ≢ old.start → (back : Option (ℕ × ℕ))
+    raised_at : IsSound n → HasExactTails n → AreLabels new → (t : ℕ) → t < n.states → t ≢ old.start
+        → (back : Option (ℕ × ℕ))
         → back_of old t ≡ back → IsExactAt n (v_of new) t (g_of new t) (back_of new t)
-    raised_at sound tails labels t inside apart None is = kept_at t inside apart (λ k by. none-some (s, k) (sym is ∙ by))
+    raised_at sound tails labels t inside apart None is =
+        kept_at t inside apart (λ k by. none-some (s, k) (sym is ∙ by))
     raised_at sound tails labels t inside apart (Some (a, l)) is =
         ⊎_elim
         (λ (at : a ≡ s).
@@ -187,7 +199,8 @@ module _ {n : Network} (old : Marks) (s : ℕ) (exact : AreExact n old.start (g_
         (λ (other : a ≢ s). kept_at t inside apart (λ k by. other (same_arc a l s k (sym is ∙ by)).0))
         (cases_eq a s)
 
-    pub exact_raised : IsSound n → HasExactTails n → AreLabels new → AreExact n new.start (g_of new) (v_of new) (back_of new)
+    pub exact_raised : IsSound n → HasExactTails n → AreLabels new
+        → AreExact n new.start (g_of new) (v_of new) (back_of new)
     exact_raised sound tails labels =
         exact_everywhere labels (here.same_states ∙ states) sound
         (λ t inside apart.
@@ -225,7 +238,8 @@ raising_begins n old m s by =
         near_v = λ u inside near.
             ⊎_elim
             (λ (at : u ≡ s). let here : v_of m s < FAR = rw (← at) near in absurd (omega (arith, raised)))
-            (λ (other : u ≢ s). omega (arith, other_v u other, fit.near_v u inside (omega (arith, other_v u other, near))))
+            (λ (other : u ≢ s).
+            omega (arith, other_v u other, fit.near_v u inside (omega (arith, other_v u other, near))))
             (cases_eq u s);
       };
     }
@@ -233,12 +247,18 @@ raising_begins n old m s by =
 module _ (n : Network) (old m new : Marks) (s i : ℕ) (states : states_of old ≡ n.states) (labels : AreLabels old)
     (exact : AreExact n old.start (g_of old) (v_of old) (back_of old)) (here : IsRaising n old m s i) where
   -- what is recomputed comes from a state other than s, over an arc that was there
-  no_less_than : (t g : ℕ) (back : Option (ℕ × ℕ)) → t < states_of old → IsRecomputed n (v_of m) t g back → g_of old t ≤ g
+  no_less_than : (t g : ℕ) (back : Option (ℕ × ℕ)) → t < states_of old
+      → IsRecomputed n (v_of m) t g back → g_of old t ≤ g
   no_less_than t g None inside is = omega (arith, is.0, label_at_most _ (labels.labels t inside).0)
   no_less_than t g (Some (a, l)) inside is =
       let way = is.2.way in
       let other : a ≢ s = λ e. let near_s : v_of m s < FAR = rw (← e) way.near in absurd (omega (arith, here.raised)) in
-      omega (arith, is.2.gives, here.other_v a other, exact.least a l t is.1 way.free (omega (arith, here.other_v a other, way.near)))
+      omega (
+        arith,
+        is.2.gives,
+        here.other_v a other,
+        exact.least a l t is.1 way.free (omega (arith, here.other_v a other, way.near)),
+      )
 
   -- the head of an arc that is its back arc had its g until then
   grown_head : (t : ℕ) → back_of m t ≡ Some (s, i) → Recomputes n m new t → g_of m t ≤ g_of new t
@@ -257,10 +277,12 @@ module _ (n : Network) (old m new : Marks) (s i : ℕ) (states : states_of old �
 
 -- it goes on
 pub raising_goes_on : RaisingGoesOn
-raising_goes_on n old m new s i head states exact here returned fits = raising_more old s exact states i here head returned fits
+raising_goes_on n old m new s i head states exact here returned fits =
+    raising_more old s exact states i here head returned fits
 
 pub raising_lowers_none : RaisingLowersNone
-raising_lowers_none n old m new s i head states labels exact here returned = grown n old m new s i states labels exact here head returned
+raising_lowers_none n old m new s i head states labels exact here returned =
+    grown n old m new s i states labels exact here head returned
 
 -- and it ends
 pub raising_ends : RaisingEnds

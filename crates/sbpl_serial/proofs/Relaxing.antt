@@ -6,7 +6,8 @@ use Rattle.sbpl_graph.specs.Network.{Network, IsFreeArc}
 use Rattle.sbpl_graph.specs.Laws.{IsSound}
 use Rattle.sbpl_graph.specs.Fit.{FitCount}
 use Rattle.sbpl_graph.specs.Kept.{AreKept, NoneUnder, pending_from, none_pending}
-use Rattle.sbpl_graph.proofs.Keeping.{kept_from_exact, kept_settled, kept_lowered, kept_next_from, kept_done, exact_from_kept, none_under_settled, none_under_lowered}
+use Rattle.sbpl_graph.proofs.Keeping.{kept_from_exact, kept_settled, kept_lowered, kept_next_from, kept_done}
+use Rattle.sbpl_graph.proofs.Keeping.{exact_from_kept, none_under_settled, none_under_lowered}
 use Rattle.sbpl_graph.proofs.Fitting.{fit_settled, fit_lowered, fit_small}
 use Rattle.sbpl_labels.specs.Marks.{Marks, ChangesRow, states_of, g_of, v_of, back_of}
 use Rattle.sbpl_serial.specs.Run.{IsFirstArc, IsOver, LowersHeads}
@@ -14,8 +15,10 @@ use Rattle.sbpl_serial.specs.Relaxed.{LowersHead, IsRelaxed}
 use Rattle.sbpl_search.specs.Ready.{AreUsable}
 use Rattle.sbpl_labels.proofs.Changes.{settles_state, lowers_state}
 
--- g' is the lesser of g and the ways to t over the free arcs of s below number i; where that is lower, back' is the first that gives it
-pub record GetsLesserBelow (n : Network) (s i v t g : ℕ) (back : Option (ℕ × ℕ)) (g' : ℕ) (back' : Option (ℕ × ℕ)) : Type 0 where
+-- g' is the lesser of g and the ways to t over the free arcs of s below
+-- number i; where that is lower, back' is the first that gives it
+pub record GetsLesserBelow (n : Network) (s i v t g : ℕ) (back : Option (ℕ × ℕ)) (g' : ℕ)
+    (back' : Option (ℕ × ℕ)) : Type 0 where
   pub at_most : g' ≤ g
   pub least : (k c : ℕ) → k < i → IsFreeArc n s k t c → g' ≤ v + c
   pub same : g' ≡ g → back' ≡ back
@@ -73,12 +76,14 @@ pub record IsExpanding (n : Network) (old m : Marks) (s i : ℕ) : Type 0 where
   pub same_states : states_of m ≡ states_of old
   pub settled : v_of m s ≡ g_of old s
   pub other_v : (u : ℕ) → u ≢ s → v_of m u ≡ v_of old u
-  pub heads : (t : ℕ) → t ≢ old.start → GetsLesserBelow n s i (g_of old s) t (g_of old t) (back_of old t) (g_of m t) (back_of m t)
+  pub heads : (t : ℕ) → t ≢ old.start
+      → GetsLesserBelow n s i (g_of old s) t (g_of old t) (back_of old t) (g_of m t) (back_of m t)
   pub start_g : g_of m old.start ≡ g_of old old.start
   pub start_back : back_of m old.start ≡ back_of old old.start
   pub kept : AreKept n old.start (g_of m) (v_of m) (back_of m) (pending_from s i)
   pub none_under : NoneUnder n.states (g_of old) (v_of old) → NoneUnder n.states (g_of m) (v_of m)
-  pub fits : (count : ℕ) → FitCount n.states (g_of old) (v_of old) count → FitCount n.states (g_of m) (v_of m) (count + 1)
+  pub fits : (count : ℕ) → FitCount n.states (g_of old) (v_of old) count
+      → FitCount n.states (g_of m) (v_of m) (count + 1)
 
 module _ {n : Network} {old : Marks} (s : ℕ) where
   -- s is settled
@@ -118,11 +123,13 @@ module _ {n : Network} {old : Marks} (s : ℕ) where
           at_most = so_far.at_most;
           least = λ k c below arc.
               ⊎_elim
-              (λ (at : k ≡ i). let arc' : IsFreeArc n s i t c = rw (← at) arc in omega (arith, given t c arc', here.settled))
+              (λ (at : k ≡ i).
+              let arc' : IsFreeArc n s i t c = rw (← at) arc in omega (arith, given t c arc', here.settled))
               (λ (other : k ≢ i). so_far.least k c (omega arith) arc)
               (cases_eq k i);
           same = so_far.same;
-          lower = λ lower. let found = so_far.lower lower in (found.0, found.1, found.2, found.3, omega (arith, found.4));
+          lower =
+              λ lower. let found = so_far.lower lower in (found.0, found.1, found.2, found.3, omega (arith, found.4));
         };
     start_g = here.start_g;
     start_back = here.start_back;
@@ -150,7 +157,8 @@ module _ {n : Network} {old : Marks} (s : ℕ) where
         heads = λ u u_apart.
             ⊎_elim
             (λ (at : u ≡ t).
-            let so_far : GetsLesserBelow n s i (g_of old s) t (g_of old t) (back_of old t) (g_of m t) (back_of m t) = here.heads t apart in
+            let so_far : GetsLesserBelow n s i (g_of old s) t (g_of old t) (back_of old t) (g_of m t) (back_of m t) =
+            here.heads t apart in
             let lesser = lesser_at c so_far by.free (omega (arith, by.lower)) in
             rw (at, lowers.lowered, lowers.by, value) lesser)
             (λ (other : u ≢ t).
@@ -179,7 +187,8 @@ module _ {n : Network} {old : Marks} (s : ℕ) where
   expanding_more i (Some t) sound here near fit relaxed = expanding_lowered i t relaxed.0 sound here near fit relaxed.1
 
   -- after the last arc the labels are usable for one expansion more
-  pub usable_all : {m : Marks} {i count : ℕ} → IsExpanding n old m s i → n.fan s ≤ i → AreUsable n old count → AreUsable n m (count + 1)
+  pub usable_all : {m : Marks} {i count : ℕ} → IsExpanding n old m s i → n.fan s ≤ i → AreUsable n old count
+      → AreUsable n m (count + 1)
   usable_all {m} {i} {count} here over usable = record {
     states = here.same_states ∙ usable.states;
     exact = rw here.same_start (exact_from_kept (kept_done s i here.kept over));

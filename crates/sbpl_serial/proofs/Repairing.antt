@@ -1,5 +1,6 @@
 -- States are recomputed one after the other.
-use Rattle.std.proofs.Common.{◌≡◌, ◌≢◌, ℕ, ◌+◌, ◌<◌, ◌⊎◌, Option, Some, None, List, length, slice_index, arith, ⊎_elim, inl, inr, sym, ◌∙◌, ap, subst}
+use Rattle.std.proofs.Common.{◌≡◌, ◌≢◌, ℕ, ◌+◌, ◌<◌, ◌⊎◌, Option, Some, None, List, length, slice_index, arith, ⊎_elim}
+use Rattle.std.proofs.Common.{inl, inr, sym, ◌∙◌, ap, subst}
 use Rattle.std.proofs.lemmas.Bool.{cases_eq}
 use Rattle.std.proofs.lemmas.List.{get_or_default}
 use Rattle.std.specs.List.{Contains}
@@ -14,7 +15,8 @@ use Rattle.sbpl_serial.specs.Run.{IsOver, IsUnder}
 use Rattle.sbpl_serial.proofs.Exactness.{contains_or_not}
 
 -- what is a way by one v is a way by an equal one
-way_alike : {n : Network} {v v' : ℕ → ℕ} {t j s k c : ℕ} → ((u : ℕ) → v' u ≡ v u) → IsWay n v t j s k c → IsWay n v' t j s k c
+way_alike : {n : Network} {v v' : ℕ → ℕ} {t j s k c : ℕ} → ((u : ℕ) → v' u ≡ v u)
+    → IsWay n v t j s k c → IsWay n v' t j s k c
 way_alike {s = s} same way = record { tail = way.tail; free = way.free; near = omega (arith, same s, way.near) }
 
 -- what is recomputed by one v is recomputed by an equal one
@@ -37,10 +39,12 @@ pub record AreRepairedBelow (n : Network) (touched : List ℕ) (i : ℕ) (old m 
   pub same_start : m.start ≡ old.start
   pub same_states : states_of m ≡ states_of old
   pub same_v : (t : ℕ) → v_of m t ≡ v_of old t
-  pub recomputed : (t j : ℕ) → j < i → slice_index touched j ≡ t → t ≢ old.start → IsRecomputed n (v_of old) t (g_of m t) (back_of m t)
+  pub recomputed : (t j : ℕ) → j < i → slice_index touched j ≡ t → t ≢ old.start
+      → IsRecomputed n (v_of old) t (g_of m t) (back_of m t)
   pub others : (t : ℕ) → ((j : ℕ) → j < i → slice_index touched j ≢ t) → row_at m t ≡ row_at old t
   pub start_row : row_at m old.start ≡ row_at old old.start
-  pub fits : (count : ℕ) → FitCount (states_of old) (g_of old) (v_of old) count → FitCount (states_of old) (g_of m) (v_of m) count
+  pub fits : (count : ℕ) → FitCount (states_of old) (g_of old) (v_of old) count
+      → FitCount (states_of old) (g_of m) (v_of m) count
 
 module _ {n : Network} {touched : List ℕ} {old m m' : Marks} (i : ℕ) where
   -- the next touched state is the start
@@ -53,7 +57,8 @@ module _ {n : Network} {touched : List ℕ} {old m m' : Marks} (i : ℕ) where
         same_v = here.same_v;
         recomputed = λ t j below own apart.
             ⊎_elim
-            (λ (e : j ≡ i). let own_i : slice_index touched i ≡ t = rw e at own in absurd (apart (sym own_i ∙ at ∙ here.same_start)))
+            (λ (e : j ≡ i).
+            let own_i : slice_index touched i ≡ t = rw e at own in absurd (apart (sym own_i ∙ at ∙ here.same_start)))
             (λ (before : j ≢ i). here.recomputed t j (omega arith) own apart)
             (cases_eq j i);
         others = λ t none. here.others t (λ j below. none j (omega arith));
@@ -63,8 +68,10 @@ module _ {n : Network} {touched : List ℕ} {old m m' : Marks} (i : ℕ) where
       rw same more
 
   -- the next touched state is another
-  pub repaired_other : AreRepairedBelow n touched i old m → slice_index touched i ≢ m.start → Recomputes n m m' (slice_index touched i)
-      → ((count : ℕ) → FitCount (states_of m) (g_of m) (v_of m) count → FitCount (states_of m) (g_of m') (v_of m') count)
+  pub repaired_other : AreRepairedBelow n touched i old m → slice_index touched i ≢ m.start
+      → Recomputes n m m' (slice_index touched i)
+      → ((count : ℕ) → FitCount (states_of m) (g_of m) (v_of m) count
+      → FitCount (states_of m) (g_of m') (v_of m') count)
       → AreRepairedBelow n touched (i + 1) old m'
   repaired_other here apart by fits =
       let same_v : (t : ℕ) → v_of m' t ≡ v_of m t =
@@ -80,7 +87,8 @@ module _ {n : Network} {touched : List ℕ} {old m m' : Marks} (i : ℕ) where
         recomputed = λ t j below own not_start.
             ⊎_elim
             (λ (at : t ≡ slice_index touched i).
-            rw at (recomputed_alike _ _ _ _ _ (back_of m' (slice_index touched i)) (λ u. sym (here.same_v u)) by.recomputed))
+            rw at (recomputed_alike _ _ _ _ _ (back_of m' (slice_index touched i))
+            (λ u. sym (here.same_v u)) by.recomputed))
             (λ (other : t ≢ slice_index touched i).
             let before : j ≢ i = λ e. other (sym own ∙ ap (λ k. slice_index touched k) e) in
             subst (λ (r : Row). IsRecomputed n (v_of old) t r.g r.back) (sym (by.others t other))
@@ -97,9 +105,11 @@ module _ {n : Network} {touched : List ℕ} {old m m' : Marks} (i : ℕ) where
             rw (← here.same_states) (fits count (rw here.same_states now));
       }
 
-  pub repaired_more : AreRepairedBelow n touched i old m → (slice_index touched i ≢ m.start → Recomputes n m m' (slice_index touched i))
+  pub repaired_more : AreRepairedBelow n touched i old m
+      → (slice_index touched i ≢ m.start → Recomputes n m m' (slice_index touched i))
       → (slice_index touched i ≡ m.start → m' ≡ m)
-      → ((count : ℕ) → FitCount (states_of m) (g_of m) (v_of m) count → FitCount (states_of m) (g_of m') (v_of m') count)
+      → ((count : ℕ) → FitCount (states_of m) (g_of m) (v_of m) count
+      → FitCount (states_of m) (g_of m') (v_of m') count)
       → AreRepairedBelow n touched (i + 1) old m'
   repaired_more here by same fits =
       ⊎_elim
@@ -108,7 +118,8 @@ module _ {n : Network} {touched : List ℕ} {old m m' : Marks} (i : ℕ) where
       (cases_eq (slice_index touched i) m.start)
 
 -- after the last one all are recomputed
-pub repaired_all : {n : Network} {touched : List ℕ} {old new : Marks} → AreRepairedBelow n touched (length touched) old new
+pub repaired_all : {n : Network} {touched : List ℕ} {old new : Marks}
+    → AreRepairedBelow n touched (length touched) old new
     → AreRepaired n touched old new
 repaired_all {n} {touched} {old} {new} here = record {
   same_start = here.same_start;

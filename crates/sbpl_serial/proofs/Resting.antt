@@ -1,5 +1,6 @@
 -- The least open state is next, or there is rest.
-use Rattle.std.proofs.Common.{◌≡◌, ◌≢◌, ℕ, ◌↔◌, Bool, true, false, IsTrue, IfSome, Some, None, refl, arith, ⊎_elim, sym, ap, ◌∙◌}
+use Rattle.std.proofs.Common.{◌≡◌, ◌≢◌, ℕ, ◌↔◌, Bool, true, false, IsTrue, IfSome, Some, None, refl, arith, ⊎_elim}
+use Rattle.std.proofs.Common.{sym, ap, ◌∙◌}
 use Rattle.std.proofs.lemmas.Bool.{cases_eq, false≢true}
 use Rattle.std.specs.Bool.{then_some}
 use Rattle.sbpl_labels.specs.Marks.{Marks}
@@ -30,7 +31,8 @@ first_below f goal s key false least tells = λ u other is below.
     (cases_eq u s)
 
 -- the least state of the queue is next, or there is rest
-pub next_from_queue : (q : Query) {closed : ℕ → Bool} {m : Marks} {f : OpenList} (s : ℕ) → AreQueued q.eps q.guide closed m f
+pub next_from_queue : (q : Query) {closed : ℕ → Bool} {m : Marks} {f : OpenList} (s : ℕ)
+    → AreQueued q.eps q.guide closed m f
     → IsFirstBelow f (goal_key_at q m) (Some s) → IsNext q closed m s
 next_from_queue q {closed} {m} {f} s queued (key, least, below) =
     let own : IsQueued q.eps q.guide closed m s (Some key) = rw least.there at (queued.each s) in
@@ -45,7 +47,8 @@ next_from_queue q {closed} {m} {f} s queued (key, least, below) =
 pub rest_from_queue : (q : Query) {closed : ℕ → Bool} {m : Marks} {f : OpenList} → AreQueued q.eps q.guide closed m f
     → IsFirstBelow f (goal_key_at q m) None → IsAtRest q closed m
 rest_from_queue q {closed} {m} {f} queued none = record {
-  none_below = λ u open_u below. none u (key_at q.eps q.guide m u) (some_queued q.eps q.guide closed m u (open_list.key_at f u) (queued.each u) open_u) below;
+  none_below = λ u open_u below. none u (key_at q.eps q.guide m u)
+      (some_queued q.eps q.guide closed m u (open_list.key_at f u) (queued.each u) open_u) below;
 }
 
 -- what holds of the state holds where the test gives it

@@ -1,5 +1,6 @@
 -- A step is determined: what it takes and what it leaves.
-use Rattle.std.proofs.Common.{◌≡◌, ◌≢◌, ℕ, ◌<◌, ◌≤◌, Bool, true, false, MatchBool, Option, Some, None, arith, ⊎_elim, refl, sym, ap, ◌∙◌}
+use Rattle.std.proofs.Common.{◌≡◌, ◌≢◌, ℕ, ◌<◌, ◌≤◌, Bool, true, false, MatchBool, Option, Some, None, arith, ⊎_elim}
+use Rattle.std.proofs.Common.{refl, sym, ap, ◌∙◌}
 use Rattle.std.proofs.lemmas.Bool.{cases_lt, cases_eq}
 use Rattle.sbpl_graph.specs.Network.{Network}
 use Rattle.sbpl_graph.proofs.Keeping.{same_arc}
@@ -22,7 +23,8 @@ module _ {n : Network} {s v t g g1 g2 : ℕ} {back back1 back2 : Option (ℕ × 
 
 module _ {n : Network} {s v t g g1 g2 : ℕ} {back back1 back2 : Option (ℕ × ℕ)} where
   -- the lesser label and its arc are determined
-  pub same_lesser : GetsLesser n s v t g back g1 back1 → GetsLesser n s v t g back g2 back2 → (g1 ≡ g2) × (back1 ≡ back2)
+  pub same_lesser : GetsLesser n s v t g back g1 back1 → GetsLesser n s v t g back g2 back2
+      → (g1 ≡ g2) × (back1 ≡ back2)
   same_lesser a b =
       let down = no_less a b in
       let up = no_less b a in
@@ -33,10 +35,12 @@ module _ {n : Network} {s v t g g1 g2 : ℕ} {back back1 back2 : Option (ℕ × 
       let right = b.lower (omega arith) in
       let number : left.0 ≡ right.0 =
       ⊎_elim
-      (λ (before : left.0 < right.0). let less = right.2.first left.0 left.1 before left.2.free in absurd (omega (arith, left.2.gives)))
+      (λ (before : left.0 < right.0).
+      let less = right.2.first left.0 left.1 before left.2.free in absurd (omega (arith, left.2.gives)))
       (λ (later : right.0 ≤ left.0).
       ⊎_elim
-      (λ (before : right.0 < left.0). let less = left.2.first right.0 right.1 before right.2.free in absurd (omega (arith, right.2.gives)))
+      (λ (before : right.0 < left.0).
+      let less = left.2.first right.0 right.1 before right.2.free in absurd (omega (arith, right.2.gives)))
       (λ (other : left.0 ≤ right.0). omega arith)
       (cases_lt right.0 left.0))
       (cases_lt left.0 right.0)
@@ -68,7 +72,9 @@ module _ {n : Network} {old new new' : Marks} {s : ℕ} where
   }
 
   lowered_one : LowersHeads n old new s → LowersHeads n old new' s → new ≡ new'
-  lowered_one a b = same_marks new new' (a.same_start ∙ sym b.same_start) (a.same_states ∙ sym b.same_states) (λ t _. lowered_rows a b t)
+  lowered_one a b =
+      same_marks new new' (a.same_start ∙ sym b.same_start) (a.same_states ∙ sym b.same_states)
+      (λ t _. lowered_rows a b t)
 
   -- raising determines v of each state
   raised_v : RaisesState n old new s → RaisesState n old new' s → (t : ℕ) → v_of new t ≡ v_of new' t
@@ -79,7 +85,8 @@ module _ {n : Network} {old new new' : Marks} {s : ℕ} where
       (cases_eq t s)
 
   -- a state whose back arc does not begin at s keeps its label
-  raised_kept : RaisesState n old new s → RaisesState n old new' s → (t : ℕ) → (t ≢ old.start → (k : ℕ) → back_of old t ≢ Some (s, k)) → Agree new new' t
+  raised_kept : RaisesState n old new s → RaisesState n old new' s → (t : ℕ)
+      → (t ≢ old.start → (k : ℕ) → back_of old t ≢ Some (s, k)) → Agree new new' t
   raised_kept a b t other = record {
     g = a.other_g t other ∙ sym (b.other_g t other);
     v = raised_v a b t;
@@ -87,15 +94,18 @@ module _ {n : Network} {old new new' : Marks} {s : ℕ} where
   }
 
   -- and each other state but the start is recomputed
-  raised_again : RaisesState n old new s → RaisesState n old new' s → (t k : ℕ) → t ≢ old.start → back_of old t ≡ Some (s, k) → Agree new new' t
+  raised_again : RaisesState n old new s → RaisesState n old new' s → (t k : ℕ) → t ≢ old.start
+      → back_of old t ≡ Some (s, k) → Agree new new' t
   raised_again a b t k apart by =
       let vs : v_of new ≡ v_of new' = λ i u. raised_v a b u i in
       let own : IsRecomputed n (v_of new') t (g_of new t) (back_of new t) = rw vs at (a.heads t k apart by) in
       let one = same_recomputed n (v_of new') t (back_of new t) (back_of new' t) own (b.heads t k apart by) in
       record { g = one.0; v = raised_v a b t; back = one.1 }
 
-  raised_rows : RaisesState n old new s → RaisesState n old new' s → (t : ℕ) (back : Option (ℕ × ℕ)) → back_of old t ≡ back → Agree new new' t
-  raised_rows a b t None by = raised_kept a b t (λ _ k e. let none : ◌≡◌ {A = Option (ℕ × ℕ)} None (Some (s, k)) = sym by ∙ e in absurd (cc))
+  raised_rows : RaisesState n old new s → RaisesState n old new' s → (t : ℕ) (back : Option (ℕ × ℕ))
+      → back_of old t ≡ back → Agree new new' t
+  raised_rows a b t None by =
+      raised_kept a b t (λ _ k e. let none : ◌≡◌ {A = Option (ℕ × ℕ)} None (Some (s, k)) = sym by ∙ e in absurd (cc))
   raised_rows a b t (Some (u, l)) by =
       ⊎_elim
       (λ (at : t ≡ old.start). raised_kept a b t (λ apart. absurd (apart at)))
@@ -107,11 +117,14 @@ module _ {n : Network} {old new new' : Marks} {s : ℕ} where
       (cases_eq t old.start)
 
   raised_one : RaisesState n old new s → RaisesState n old new' s → new ≡ new'
-  raised_one a b = same_marks new new' (a.same_start ∙ sym b.same_start) (a.same_states ∙ sym b.same_states) (λ t _. raised_rows a b t (back_of old t) refl)
+  raised_one a b =
+      same_marks new new' (a.same_start ∙ sym b.same_start) (a.same_states ∙ sym b.same_states)
+      (λ t _. raised_rows a b t (back_of old t) refl)
 
 module _ (n : Network) (old : Marks) (s : ℕ) {new new' : Marks} where
   -- a state is raised or lowered, and not both, and the new labels are determined
-  pub same_raised : (r r' : Bool) → MatchBool r (RaisesState n old new s) (LowersHeads n old new s) → MatchBool r' (RaisesState n old new' s) (LowersHeads n old new' s)
+  pub same_raised : (r r' : Bool) → MatchBool r (RaisesState n old new s) (LowersHeads n old new s)
+      → MatchBool r' (RaisesState n old new' s) (LowersHeads n old new' s)
       → (r ≡ r') × (new ≡ new')
   same_raised true true a b = (refl, raised_one a b)
   same_raised true false a b = absurd (omega (arith, a.under, b.over))
@@ -119,7 +132,8 @@ module _ (n : Network) (old : Marks) (s : ℕ) {new new' : Marks} where
   same_raised false false a b = (refl, lowered_one a b)
 
 -- two steps of one state are equal
-pub same_step : (n : Network) (old : Marks) {new new' : Marks} (x y : Step) → x.state ≡ y.state → IsExpansion n old x new → IsExpansion n old y new' → (x ≡ y) × (new ≡ new')
+pub same_step : (n : Network) (old : Marks) {new new' : Marks} (x y : Step) → x.state ≡ y.state
+    → IsExpansion n old x new → IsExpansion n old y new' → (x ≡ y) × (new ≡ new')
 same_step n old {new} {new'} x y at a b =
     let own : MatchBool y.raised (RaisesState n old new' x.state) (LowersHeads n old new' x.state) = rw at b in
     let one = same_raised n old x.state x.raised y.raised a own in

@@ -1,5 +1,6 @@
 -- At rest no state on the chain of back arcs from the goal is underconsistent.
-use Rattle.std.proofs.Common.{◌≡◌, ◌≢◌, ℕ, zero, suc, ◌+◌, ◌<◌, ◌≤◌, Bool, Option, Some, None, arith, ⊎_elim, inl, refl, sym, ◌∙◌, ap, option_map, option_and_then}
+use Rattle.std.proofs.Common.{◌≡◌, ◌≢◌, ℕ, zero, suc, ◌+◌, ◌<◌, ◌≤◌, Bool, Option, Some, None, arith, ⊎_elim, inl, refl}
+use Rattle.std.proofs.Common.{sym, ◌∙◌, ap, option_map, option_and_then}
 use Rattle.std.proofs.lemmas.Bool.{cases_lt}
 use Rattle.std.proofs.lemmas.Option.{none-some, same_Some}
 use Rattle.sbpl_graph.specs.Laws.{IsSound, IsConsistent}
@@ -22,17 +23,20 @@ step_back : (back : ℕ → Option (ℕ × ℕ)) (before : Option ℕ) (u : ℕ)
 step_back back None u is = absurd (none-some u is)
 step_back back (Some p) u is = (p, (from_arc (back p) u is).0, refl, (from_arc (back p) u is).1)
 
-module _ {q : Query} {closed : ℕ → Bool} {m : Marks} (sound : IsSound q.network) (consistent : IsConsistent q.network q.goal q.guide)
+module _ {q : Query} {closed : ℕ → Bool} {m : Marks} (sound : IsSound q.network)
+    (consistent : IsConsistent q.network q.goal q.guide)
     (exact : AreExact q.network m.start (g_of m) (v_of m) (back_of m)) (states : states_of m ≡ q.network.states)
     (goal : q.goal < states_of m) (rest : IsAtRest q closed m) where
   -- no underconsistent state has a v below g of the goal and v plus its guide at most g of the goal
-  not_under : (u : ℕ) → u < states_of m → (IsUnder m u → (v_of m u + q.guide u ≤ g_of m q.goal) × (v_of m u < g_of m q.goal))
+  not_under : (u : ℕ) → u < states_of m
+      → (IsUnder m u → (v_of m u + q.guide u ≤ g_of m q.goal) × (v_of m u < g_of m q.goal))
       → g_of m u ≤ v_of m u
   not_under u inside near =
       ⊎_elim
       (λ (under : IsUnder m u).
       let close = near under in
-      let below : IsBelow (key_at q.eps q.guide m u) (goal_key_at q m) = rw (key_under q.eps q.guide m u under) (grind (arith, close)) in
+      let below : IsBelow (key_at q.eps q.guide m u) (goal_key_at q m) =
+      rw (key_under q.eps q.guide m u under) (grind (arith, close)) in
       absurd (rest.none_below u (record { inside = inside; inconsistent = inl under }) below))
       (λ over. over)
       (cases_lt (v_of m u) (g_of m u))
@@ -47,13 +51,15 @@ module _ {q : Query} {closed : ℕ → Bool} {m : Marks} (sound : IsSound q.netw
   on_chain (suc i) u at =
       let back = step_back (back_of m) (chain_at (back_of m) q.goal i) u at in
       let before = on_chain i back.0 back.2 in
-      let apart : back.0 ≢ m.start = λ e. none-some (u, back.1) (sym exact.none_at_start ∙ ap (λ x. back_of m x) (sym e) ∙ back.3) in
+      let apart : back.0 ≢ m.start =
+      λ e. none-some (u, back.1) (sym exact.none_at_start ∙ ap (λ x. back_of m x) (sym e) ∙ back.3) in
       let given = exact.gives back.0 u back.1 (omega (arith, before.0)) apart back.3 in
       let arc = given.1.free in
       let some = sound.cost_at_least_one u back.1 given.0 arc.source arc.number arc.cost in
       let falls = consistent.along u back.1 back.0 given.0 arc in
       let inside : u < states_of m = omega (arith, arc.source) in
-      let over = not_under u inside (λ under. (omega (arith, given.1.sum, before.2), omega (arith, given.1.sum, before.2))) in
+      let over =
+      not_under u inside (λ under. (omega (arith, given.1.sum, before.2), omega (arith, given.1.sum, before.2))) in
       (inside, over, omega (arith, given.1.sum, before.2))
 
   pub chain_unbroken : (i u : ℕ) → chain_at (back_of m) q.goal i ≡ Some u → g_of m u ≤ v_of m u

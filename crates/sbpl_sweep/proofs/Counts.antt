@@ -1,5 +1,6 @@
 -- Counting cells in order.
-use Rattle.std.proofs.Common.{◌≡◌, ℕ, zero, suc, ◌+◌, ◌-◌, ◌≤◌, inl, inr, List, [], ◌∷◌, length, sum_by, slice_get, Some, refl, ap, sym, ◌∙◌, arith, subst}
+use Rattle.std.proofs.Common.{◌≡◌, ℕ, zero, suc, ◌+◌, ◌-◌, ◌≤◌, inl, inr, List, [], ◌∷◌, length, sum_by, slice_get}
+use Rattle.std.proofs.Common.{Some, refl, ap, sym, ◌∙◌, arith, subst}
 use Rattle.std.proofs.lemmas.Bool.{cases_lt}
 use Rattle.std.proofs.lemmas.List.Sums.{sum_by-cons}
 use Rattle.std.proofs.lemmas.Option.{slice_get_within, same_Some}
@@ -25,7 +26,9 @@ module _ (few many : List Cell) (few_ordered : AreInOrder few) (many_ordered : A
       elim (cases_lt earlier.0 there.0) [
         | inl less_j ↦ let bound = earlier.2 in (there.0, there.1, omega (arith, bound))
         | inr more_j ↦ elim (cases_lt there.0 earlier.0) [
-          | inl back ↦ absurd (not_before_itself c (before_before c previous.0 c (later many many_ordered there.0 earlier.0 c previous.0 back there.1 earlier.1) step))
+          | inl back ↦
+              absurd (not_before_itself c (before_before c previous.0 c
+              (later many many_ordered there.0 earlier.0 c previous.0 back there.1 earlier.1) step))
           | inr same_j ↦
               let same : there.0 ≡ earlier.0 = omega arith in
               let equal = same_Some c previous.0 (sym there.1 ∙ ap (slice_get many) same ∙ earlier.1) in
@@ -45,7 +48,9 @@ module _ (few many : List Cell) (few_ordered : AreInOrder few) (many_ordered : A
   ]
 
 -- where no list is longer, the lists together are not
-pub together_no_more : (xs ys : List (List Cell)) → length xs ≡ length ys → ((i : ℕ) (a b : List Cell) → slice_get xs i ≡ Some a → slice_get ys i ≡ Some b → length a ≤ length b) → sum_by cell_count xs ≤ sum_by cell_count ys
+pub together_no_more : (xs ys : List (List Cell)) → length xs ≡ length ys
+    → ((i : ℕ) (a b : List Cell) → slice_get xs i ≡ Some a → slice_get ys i ≡ Some b → length a ≤ length b)
+    → sum_by cell_count xs ≤ sum_by cell_count ys
 together_no_more [] ys same each = omega arith
 together_no_more (x ∷ xs) [] same each = absurd (omega arith)
 together_no_more (x ∷ xs) (y ∷ ys) same each =

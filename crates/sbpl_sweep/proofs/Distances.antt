@@ -1,5 +1,6 @@
 -- How far a point lies from cells on one axis, counted from its own cell.
-use Rattle.std.proofs.Common.{◌≡◌, ℕ, zero, suc, ℤ, pos, negsuc, ◌+◌, ◌*◌, ◌≤◌, ◌+ℤ◌, ◌-ℤ◌, ◌*ℤ◌, ◌<ℤ◌, ◌≤ℤ◌, inl, inr, ◌⊎◌, refl, ap, sym, ◌∙◌, arith, int_lt, true, false}
+use Rattle.std.proofs.Common.{◌≡◌, ℕ, zero, suc, ℤ, pos, negsuc, ◌+◌, ◌*◌, ◌≤◌, ◌+ℤ◌, ◌-ℤ◌, ◌*ℤ◌, ◌<ℤ◌, ◌≤ℤ◌, inl, inr}
+use Rattle.std.proofs.Common.{◌⊎◌, refl, ap, sym, ◌∙◌, arith, int_lt, true, false}
 use Rattle.std.proofs.lemmas.Bool.{cond-true, cond-false}
 use Rattle.std.specs.Int.RustNames.{unsigned_abs}
 use Rattle.std.proofs.lemmas.Int.{ints}
@@ -30,7 +31,8 @@ after_it : (low high p : ℤ) (d : ℕ) → low ≤ℤ high → p ≡ high +ℤ 
 after_it low high p zero h e = inside_it low high p (omega (arith, ints)) (omega (arith, ints))
 after_it low high p (suc d) h e =
     let value : unsigned_abs (p -ℤ high) ≡ suc d = omega (arith, ints) in
-    cond-false (int_lt p low) _ _ (is_not_less p low (omega (arith, ints))) ∙ cond-true (int_lt high p) _ _ (is_less high p (omega (arith, ints))) ∙ value
+    cond-false (int_lt p low) _ _ (is_not_less p low (omega (arith, ints)))
+    ∙ cond-true (int_lt high p) _ _ (is_less high p (omega (arith, ints))) ∙ value
 
 one_more : (m : ℤ) → m +ℤ pos 1 ≡ suc_ℤ m
 one_more (pos n) = omega (arith, ints)
@@ -45,7 +47,9 @@ scaled s a zero =
     ap (λ z. pos s *ℤ z) none ∙ sym nothing
 scaled s a (suc k) =
     let longer : a +ℤ pos (suc k) ≡ (a +ℤ pos k) +ℤ pos 1 = omega (arith, ints) in
-    let step = *ℤ_comm (pos s) (suc_ℤ (a +ℤ pos k)) ∙ suc_ℤ-*ℤ (a +ℤ pos k) (pos s) ∙ ap (λ z. z +ℤ pos s) (*ℤ_comm (a +ℤ pos k) (pos s)) in
+    let step =
+    *ℤ_comm (pos s) (suc_ℤ (a +ℤ pos k)) ∙ suc_ℤ-*ℤ (a +ℤ pos k) (pos s)
+    ∙ ap (λ z. z +ℤ pos s) (*ℤ_comm (a +ℤ pos k) (pos s)) in
     let so_far = scaled s a k in
     let sum : ((pos s *ℤ a) +ℤ pos (s * k)) +ℤ pos s ≡ (pos s *ℤ a) +ℤ pos (s * suc k) = omega (arith, ints) in
     ap (λ z. pos s *ℤ z) (longer ∙ one_more (a +ℤ pos k)) ∙ step ∙ ap (λ z. z +ℤ pos s) so_far ∙ sum
@@ -56,25 +60,32 @@ scaled_back s a k =
     let whole = sym (scaled s (a -ℤ pos k) k) ∙ ap (λ z. pos s *ℤ z) there in
     omega (arith, ints)
 
-module _ (cell offset : ℤ) (side : ℕ) (a : Axis) (side_is : pos side ≡ pos 2 *ℤ cell) (axis : IsAxis side (cell +ℤ (pos 2 *ℤ offset)) a) where
+module _ (cell offset : ℤ) (side : ℕ) (a : Axis) (side_is : pos side ≡ pos 2 *ℤ cell)
+    (axis : IsAxis side (cell +ℤ (pos 2 *ℤ offset)) a) where
   pub distance_own : distance_to_cell cell offset a.own ≡ 0
   distance_own =
       let next = scaled side a.own 1 in
-      inside_it (pos 2 *ℤ cell *ℤ a.own) (pos 2 *ℤ cell *ℤ (a.own +ℤ pos 1)) (cell +ℤ (pos 2 *ℤ offset)) (rw (← side_is) (omega (arith, ints, axis.start))) (rw (← side_is) (omega (arith, ints, axis.start, axis.whole)))
+      inside_it (pos 2 *ℤ cell *ℤ a.own) (pos 2 *ℤ cell *ℤ (a.own +ℤ pos 1)) (cell +ℤ (pos 2 *ℤ offset))
+      (rw (← side_is) (omega (arith, ints, axis.start))) (rw (← side_is) (omega (arith, ints, axis.start, axis.whole)))
 
   pub distance_after : (n : ℕ) → distance_to_cell cell offset (a.own +ℤ pos (n + 1)) ≡ a.after + side * n
   distance_after n =
       let low = scaled side a.own (n + 1) in
-      before_it (pos 2 *ℤ cell *ℤ (a.own +ℤ pos (n + 1))) (pos 2 *ℤ cell *ℤ ((a.own +ℤ pos (n + 1)) +ℤ pos 1)) (cell +ℤ (pos 2 *ℤ offset)) (a.after + side * n) (omega (arith, axis.some)) (rw (← side_is) (omega (arith, ints, axis.start, axis.whole)))
+      before_it (pos 2 *ℤ cell *ℤ (a.own +ℤ pos (n + 1))) (pos 2 *ℤ cell *ℤ ((a.own +ℤ pos (n + 1)) +ℤ pos 1))
+      (cell +ℤ (pos 2 *ℤ offset)) (a.after + side * n) (omega (arith, axis.some))
+      (rw (← side_is) (omega (arith, ints, axis.start, axis.whole)))
 
   pub distance_before : (n : ℕ) → distance_to_cell cell offset (a.own -ℤ pos (n + 1)) ≡ a.before + side * n
   distance_before n =
       let low = scaled_back side a.own (n + 1) in
       let high = scaled side (a.own -ℤ pos (n + 1)) 1 in
-      after_it (pos 2 *ℤ cell *ℤ (a.own -ℤ pos (n + 1))) (pos 2 *ℤ cell *ℤ ((a.own -ℤ pos (n + 1)) +ℤ pos 1)) (cell +ℤ (pos 2 *ℤ offset)) (a.before + side * n) (rw (← side_is) (omega (arith, ints))) (rw (← side_is) (omega (arith, ints, axis.start, axis.whole)))
+      after_it (pos 2 *ℤ cell *ℤ (a.own -ℤ pos (n + 1))) (pos 2 *ℤ cell *ℤ ((a.own -ℤ pos (n + 1)) +ℤ pos 1))
+      (cell +ℤ (pos 2 *ℤ offset)) (a.before + side * n) (rw (← side_is) (omega (arith, ints)))
+      (rw (← side_is) (omega (arith, ints, axis.start, axis.whole)))
 
 -- a whole number is another one, or above it, or below it
-by_difference : (x a d : ℤ) → x ≡ a +ℤ d → (x ≡ a) ⊎ (((n : ℕ) × (x ≡ a +ℤ pos (n + 1))) ⊎ ((n : ℕ) × (x ≡ a -ℤ pos (n + 1))))
+by_difference : (x a d : ℤ) → x ≡ a +ℤ d
+    → (x ≡ a) ⊎ (((n : ℕ) × (x ≡ a +ℤ pos (n + 1))) ⊎ ((n : ℕ) × (x ≡ a -ℤ pos (n + 1))))
 by_difference x a (pos zero) e = inl (omega (arith, ints))
 by_difference x a (pos (suc n)) e = inr (inl (n, omega (arith, ints)))
 by_difference x a (negsuc n) e = inr (inr (n, omega (arith, ints)))

@@ -1,5 +1,6 @@
 -- A point sweeps no more cells than its motion has poses.
-use Rattle.std.proofs.Common.{◌≡◌, ℕ, zero, suc, ◌+◌, ◌≤◌, true, false, inl, inr, List, [], ◌∷◌, take, map, sum_by, slice_get, Some, refl, ap, sym, ◌∙◌, arith, subst, ℤ}
+use Rattle.std.proofs.Common.{◌≡◌, ℕ, zero, suc, ◌+◌, ◌≤◌, true, false, inl, inr, List, [], ◌∷◌, take, map, sum_by}
+use Rattle.std.proofs.Common.{slice_get, Some, refl, ap, sym, ◌∙◌, arith, subst, ℤ}
 use Rattle.std.specs.List.{IsDistinct, AllByRecursion, list_any}
 use Rattle.std.proofs.lemmas.Bool.{cases_Bool}
 use Rattle.std.proofs.lemmas.Bool.Decides.{Decides-int_eq}
@@ -27,7 +28,8 @@ swept_is_centre cell poses x y h = elim h [ inl centre ↦ centre | inr touched 
 -- ---- cells in order are all different
 
 eq_itself : (c : Cell) → cell_eq c c ≡ true
-eq_itself c = let row = (Decides-int_eq c.y c.y).1 refl in let column = (Decides-int_eq c.x c.x).1 refl in rw (row, column) refl
+eq_itself c =
+    let row = (Decides-int_eq c.y c.y).1 refl in let column = (Decides-int_eq c.x c.x).1 refl in rw (row, column) refl
 
 not_eq : (a b : Cell) → IsBefore a b → cell_eq a b ≡ false
 not_eq a b h = elim (cases_Bool (cell_eq a b)) [
@@ -35,7 +37,8 @@ not_eq a b h = elim (cases_Bool (cell_eq a b)) [
   | inr e ↦ e
 ]
 
-all_not_eq : (c : Cell) (cells : List Cell) → ((i : ℕ) (d : Cell) → slice_get cells i ≡ Some d → IsBefore c d) → AllByRecursion (λ d. cell_eq c d ≡ false) cells
+all_not_eq : (c : Cell) (cells : List Cell) → ((i : ℕ) (d : Cell) → slice_get cells i ≡ Some d → IsBefore c d)
+    → AllByRecursion (λ d. cell_eq c d ≡ false) cells
 all_not_eq c [] h = tt
 all_not_eq c (d ∷ ds) h = (not_eq c d (h 0 d refl), all_not_eq c ds (λ i e at. h (suc i) e at))
 
@@ -74,13 +77,15 @@ at_any q (c ∷ cs) h = elim (cases_Bool (cell_eq q c)) [
 abbrev own_cells : ℤ → List Pose → List Cell
 own_cells cell poses = map (cell_of_pose cell) poses
 
-swept_is_own : (cell : ℤ) (poses : List Pose) (q : Cell) → IsSwept cell 0 poses q.x q.y → list_any (cell_eq q) (own_cells cell poses) ≡ true
+swept_is_own : (cell : ℤ) (poses : List Pose) (q : Cell) → IsSwept cell 0 poses q.x q.y
+    → list_any (cell_eq q) (own_cells cell poses) ≡ true
 swept_is_own cell poses q h =
     let centre = swept_is_centre cell poses q.x q.y h in
     let by_row : ℤ → Cell = λ v. record { y = v; x = offset_cell cell centre.pose.x } in
     let by_column : ℤ → Cell = λ v. record { y = q.y; x = v } in
     let same : cell_of_pose cell centre.pose ≡ q = ap by_row centre.row ∙ ap by_column centre.column in
-    any_at q (own_cells cell poses) centre.number (made_at (cell_of_pose cell) poses centre.number centre.pose centre.stands ∙ ap (λ z. Some z) same)
+    any_at q (own_cells cell poses) centre.number
+    (made_at (cell_of_pose cell) poses centre.number centre.pose centre.stands ∙ ap (λ z. Some z) same)
 
 pub points_sweep_few_cells : PointsSweepFewCells
 points_sweep_few_cells cell poses cells h =
@@ -93,13 +98,16 @@ points_sweep_few_cells cell poses cells h =
 
 -- ---- primitives
 
-lists_are_short : (cell : ℤ) (motions : List Primitive) (lists : List (List Cell)) → AreSomeSweptByEach cell 0 motions lists → sum_by cell_count lists ≤ sum_by pose_count motions
+lists_are_short : (cell : ℤ) (motions : List Primitive) (lists : List (List Cell))
+    → AreSomeSweptByEach cell 0 motions lists → sum_by cell_count lists ≤ sum_by pose_count motions
 lists_are_short cell [] [] h = omega arith
 lists_are_short cell [] (cells ∷ lists) h = absurd (omega (arith, h.count))
 lists_are_short cell (p ∷ ps) [] h = absurd (omega (arith, h.count))
 lists_are_short cell (p ∷ ps) (cells ∷ lists) h =
     let first = points_sweep_few_cells cell p.poses cells (h.each 0 p cells refl refl) in
-    let rest = lists_are_short cell ps lists (record { count = omega (arith, h.count); each = λ i q found at there. h.each (suc i) q found at there }) in
+    let rest =
+    lists_are_short cell ps lists
+    (record { count = omega (arith, h.count); each = λ i q found at there. h.each (suc i) q found at there }) in
     omega (arith, first, rest, sum_by-cons pose_count p ps, sum_by-cons cell_count cells lists)
 
 pub few_poses_are_narrow : FewPosesAreNarrow

@@ -1,5 +1,6 @@
 -- The cells that the first poses of a motion sweep.
-use Rattle.std.proofs.Common.{◌≡◌, ℕ, zero, suc, ℤ, pos, ◌+◌, ◌*◌, ◌<◌, ◌≤◌, ◌+ℤ◌, ◌≤ℤ◌, ◌⊎◌, inl, inr, List, [], ◌∷◌, length, slice_get, Some, Result, Err, refl, ap, sym, ◌∙◌, arith, subst}
+use Rattle.std.proofs.Common.{◌≡◌, ℕ, zero, suc, ℤ, pos, ◌+◌, ◌*◌, ◌<◌, ◌≤◌, ◌+ℤ◌, ◌≤ℤ◌, ◌⊎◌, inl, inr, List, [], ◌∷◌}
+use Rattle.std.proofs.Common.{length, slice_get, Some, Result, Err, refl, ap, sym, ◌∙◌, arith, subst}
 use Rattle.std.proofs.lemmas.Bool.{cases_lt}
 use Rattle.std.proofs.lemmas.Int.{ints}
 use Rattle.std.proofs.lemmas.Option.{slice_get_within, same_Some, none-some}
@@ -25,18 +26,22 @@ use Rattle.sbpl_sweep.proofs.Steps.{root_lt}
 pub record AreSweptBefore (cell : ℤ) (radius : ℕ) (poses : List Pose) (k : ℕ) (bands : List Band) : Type 0 where
   pub each : (x y : ℤ) → IsCovered bands x y → IsSwept cell radius poses x y
   pub own : (j : ℕ) (p : Pose) (x y : ℤ) → j < k → slice_get poses j ≡ Some p → IsOwn cell p x y → IsCovered bands x y
-  pub near : (j : ℕ) (p : Pose) (x y : ℤ) → j < k → slice_get poses j ≡ Some p → IsNear cell radius p x y → IsCovered bands x y
+  pub near : (j : ℕ) (p : Pose) (x y : ℤ) → j < k → slice_get poses j ≡ Some p
+      → IsNear cell radius p x y → IsCovered bands x y
   pub bounded : AreBounded bands
 
-pub swept_of : (cell : ℤ) (radius : ℕ) (poses : List Pose) (j : ℕ) (p : Pose) (x y : ℤ) → slice_get poses j ≡ Some p → IsOwn cell p x y ⊎ IsNear cell radius p x y → IsSwept cell radius poses x y
-swept_of cell radius poses j p x y at (inl own) = inl (record { number = j; pose = p; stands = at; column = own.0; row = own.1 })
+pub swept_of : (cell : ℤ) (radius : ℕ) (poses : List Pose) (j : ℕ) (p : Pose) (x y : ℤ) → slice_get poses j ≡ Some p
+    → IsOwn cell p x y ⊎ IsNear cell radius p x y → IsSwept cell radius poses x y
+swept_of cell radius poses j p x y at (inl own) =
+    inl (record { number = j; pose = p; stands = at; column = own.0; row = own.1 })
 swept_of cell radius poses j p x y at (inr near) = inr (record { number = j; pose = p; stands = at; near = near })
 
 -- what a disc sweeps is not far from its own cell
 below_root : (a b r : ℕ) → a * a + b * b < r * r → a < r
 below_root a b r h = root_lt a r (omega arith)
 
-disc_bounded : (cell : ℤ) (radius : ℕ) (p : Pose) (d : Disc) (x y : ℤ) → IsDisc cell radius p d → IsInBounds d → IsOwn cell p x y ⊎ IsNear cell radius p x y → x ≤ℤ pos 1000000000000000
+disc_bounded : (cell : ℤ) (radius : ℕ) (p : Pose) (d : Disc) (x y : ℤ) → IsDisc cell radius p d → IsInBounds d
+    → IsOwn cell p x y ⊎ IsNear cell radius p x y → x ≤ℤ pos 1000000000000000
 disc_bounded cell radius p d x y disc bounds (inl own) =
     let same = own_cell cell p.x d.side d.column disc.side_is disc.column in
     let is : x ≡ d.column.own = sym own.0 ∙ same in
@@ -48,8 +53,12 @@ disc_bounded cell radius p d x y disc bounds (inr near) =
       | inl is ↦ omega (arith, ints, is, high)
       | inr (inr (n, is)) ↦ omega (arith, ints, is, high)
       | inr (inl (n, is)) ↦
-          let away = ap (λ z. distance_to_cell cell p.x z) is ∙ distance_after cell p.x d.side d.column disc.side_is disc.column n in
-          let at = near_by (d.column.after + d.side * n) (distance_to_cell cell p.y y) d.radius (distance_to_cell cell p.x x) (distance_to_cell cell p.y y) (2 * radius) (sym away) refl disc.twice near in
+          let away =
+          ap (λ z. distance_to_cell cell p.x z) is
+          ∙ distance_after cell p.x d.side d.column disc.side_is disc.column n in
+          let at =
+          near_by (d.column.after + d.side * n) (distance_to_cell cell p.y y) d.radius (distance_to_cell cell p.x x)
+          (distance_to_cell cell p.y y) (2 * radius) (sym away) refl disc.twice near in
           let less = below_root (d.column.after + d.side * n) (distance_to_cell cell p.y y) d.radius at in
           let times = mul-le-mul_right {m = 1} {n = d.side} n bounds.side.0 in
           let small = bounds.radius in
@@ -58,10 +67,14 @@ disc_bounded cell radius p d x y disc bounds (inr near) =
     ]
 
 -- one more pose
-pub swept_more : (cell : ℤ) (radius : ℕ) (poses : List Pose) (k : ℕ) (p : Pose) (d : Disc) (old new : List Band) → slice_get poses k ≡ Some p → IsDisc cell radius p d → IsInBounds d → AddsDisc cell radius p old new
+pub swept_more : (cell : ℤ) (radius : ℕ) (poses : List Pose) (k : ℕ) (p : Pose) (d : Disc) (old new : List Band)
+    → slice_get poses k ≡ Some p → IsDisc cell radius p d → IsInBounds d → AddsDisc cell radius p old new
     → AreSweptBefore cell radius poses k old → AreSweptBefore cell radius poses (k + 1) new
 swept_more cell radius poses k p d old new at disc bounds added before = record {
-  each = λ x y c. elim (added.each x y c) [ inl earlier ↦ before.each x y earlier | inr here ↦ swept_of cell radius poses k p x y at here ];
+  each = λ x y c. elim (added.each x y c) [
+    | inl earlier ↦ before.each x y earlier
+    | inr here ↦ swept_of cell radius poses k p x y at here
+  ];
   own = λ j q x y h there own. elim (cases_lt j k) [
     | inl less_j ↦ added.kept x y (before.own j q x y less_j there own)
     | inr more_j ↦
@@ -76,10 +89,14 @@ swept_more cell radius poses k p d old new at disc bounds added before = record 
         let same = same_Some q p (sym there ∙ ap (slice_get poses) last ∙ at) in
         added.near x y (subst (λ z. IsNear cell radius z x y) same near)
   ];
-  bounded = λ x y c. elim (added.each x y c) [ inl earlier ↦ before.bounded x y earlier | inr here ↦ disc_bounded cell radius p d x y disc bounds here ];
+  bounded = λ x y c. elim (added.each x y c) [
+    | inl earlier ↦ before.bounded x y earlier
+    | inr here ↦ disc_bounded cell radius p d x y disc bounds here
+  ];
 }
 
-pub swept_same : (cell : ℤ) (radius : ℕ) (poses : List Pose) (k : ℕ) (old new : List Band) → CoverTheSame old new → AreSweptBefore cell radius poses k old → AreSweptBefore cell radius poses k new
+pub swept_same : (cell : ℤ) (radius : ℕ) (poses : List Pose) (k : ℕ) (old new : List Band) → CoverTheSame old new
+    → AreSweptBefore cell radius poses k old → AreSweptBefore cell radius poses k new
 swept_same cell radius poses k old new same before = record {
   each = λ x y c. before.each x y (same.each x y c);
   own = λ j p x y h at own. same.kept x y (before.own j p x y h at own);
@@ -88,7 +105,9 @@ swept_same cell radius poses k old new same before = record {
 }
 
 -- all poses
-pub swept_all : (cell : ℤ) (radius : ℕ) (poses : List Pose) (k : ℕ) (bands : List Band) (cells : List Cell) → length poses ≤ k → AreSweptBefore cell radius poses k bands → AreCovered bands cells → AreFewSwept cell radius poses cells
+pub swept_all : (cell : ℤ) (radius : ℕ) (poses : List Pose) (k : ℕ) (bands : List Band) (cells : List Cell)
+    → length poses ≤ k → AreSweptBefore cell radius poses k bands → AreCovered bands cells
+    → AreFewSwept cell radius poses cells
 swept_all cell radius poses k bands cells end before listed = record {
   swept = record {
     each = λ i c at. before.each c.x c.y (listed.some.each c.x c.y (record { number = i; stands = at }));
@@ -98,11 +117,16 @@ swept_all cell radius poses k bands cells end before listed = record {
   few = listed.few;
 } where
   covered : (x y : ℤ) → IsSwept cell radius poses x y → IsCovered bands x y
-  covered x y (inl c) = let within = slice_get_within poses c.number c.pose c.stands in before.own c.number c.pose x y (omega arith) c.stands (c.column, c.row)
-  covered x y (inr t) = let within = slice_get_within poses t.number t.pose t.stands in before.near t.number t.pose x y (omega arith) t.stands t.near
+  covered x y (inl c) =
+      let within = slice_get_within poses c.number c.pose c.stands in
+      before.own c.number c.pose x y (omega arith) c.stands (c.column, c.row)
+  covered x y (inr t) =
+      let within = slice_get_within poses t.number t.pose t.stands in
+      before.near t.number t.pose x y (omega arith) t.stands t.near
 
 -- bands that cover too many cells
-pub too_many_swept : (cell : ℤ) (radius : ℕ) (poses : List Pose) (k : ℕ) (bands : List Band) → AreSweptBefore cell radius poses k bands → CoverTooMany bands → SweepsMoreThan cell radius poses most_cells
+pub too_many_swept : (cell : ℤ) (radius : ℕ) (poses : List Pose) (k : ℕ) (bands : List Band)
+    → AreSweptBefore cell radius poses k bands → CoverTooMany bands → SweepsMoreThan cell radius poses most_cells
 too_many_swept cell radius poses k bands before (cells, some, more) = (
   cells,
   record {
@@ -112,7 +136,8 @@ too_many_swept cell radius poses k bands before (cells, some, more) = (
   more,
 )
 
-pub stop_swept : (cell : ℤ) (radius : ℕ) (poses : List Pose) (k : ℕ) (bands : List Band) (e : Stop) → AreSweptBefore cell radius poses k bands → IsStopOf bands e → IsSweepStop cell radius poses e
+pub stop_swept : (cell : ℤ) (radius : ℕ) (poses : List Pose) (k : ℕ) (bands : List Band) (e : Stop)
+    → AreSweptBefore cell radius poses k bands → IsStopOf bands e → IsSweepStop cell radius poses e
 stop_swept cell radius poses k bands TooMany before stop = too_many_swept cell radius poses k bands before stop
 stop_swept cell radius poses k bands NoMemory before stop = tt
 
@@ -126,7 +151,8 @@ unfolding row_cells
 length-row_cells y x zero = refl
 length-row_cells y x (suc n) = ap suc (length-row_cells y (x +ℤ pos 1) n)
 
-row_cell_at : (y x : ℤ) (n i : ℕ) (c : Cell) → slice_get (row_cells y x n) i ≡ Some c → (c ≡ record { y = y; x = x +ℤ pos i }) × (i < n)
+row_cell_at : (y x : ℤ) (n i : ℕ) (c : Cell) → slice_get (row_cells y x n) i ≡ Some c
+    → (c ≡ record { y = y; x = x +ℤ pos i }) × (i < n)
 unfolding row_cells
 row_cell_at y x zero i c at = absurd (none-some c at)
 row_cell_at y x (suc n) zero c at =
@@ -140,14 +166,16 @@ row_cell_at y x (suc n) (suc i) c at =
     let within = rest.1 in
     (rest.0 ∙ ap by sum, omega (arith, within))
 
-pub wide_swept : (cell : ℤ) (radius : ℕ) (poses : List Pose) (k : ℕ) (p : Pose) → slice_get poses k ≡ Some p → HasWideRow cell radius p → SweepsMoreThan cell radius poses most_cells
+pub wide_swept : (cell : ℤ) (radius : ℕ) (poses : List Pose) (k : ℕ) (p : Pose) → slice_get poses k ≡ Some p
+    → HasWideRow cell radius p → SweepsMoreThan cell radius poses most_cells
 wide_swept cell radius poses k p at wide = (
   row_cells wide.row wide.first 65537,
   record {
     each = λ i c here.
         let is = row_cell_at wide.row wide.first 65537 i c here in
         let within = is.1 in
-        subst (λ (z : Cell). IsSwept cell radius poses z.x z.y) (sym is.0) (swept_of cell radius poses k p (wide.first +ℤ pos i) wide.row at (wide.all i (omega (arith, within))));
+        subst (λ (z : Cell). IsSwept cell radius poses z.x z.y) (sym is.0)
+        (swept_of cell radius poses k p (wide.first +ℤ pos i) wide.row at (wide.all i (omega (arith, within))));
     ordered = λ i a b at_a at_b.
         let is_a = row_cell_at wide.row wide.first 65537 i a at_a in
         let is_b = row_cell_at wide.row wide.first 65537 (i + 1) b at_b in
@@ -161,7 +189,8 @@ wide_swept cell radius poses k p at wide = (
 abbrev pub stopped : Stop → Result (Unit {0}) Stop
 stopped e = Err e
 
-pub stop_wide : (cell : ℤ) (radius : ℕ) (poses : List Pose) (k : ℕ) (p : Pose) (e : Stop) → slice_get poses k ≡ Some p → (stopped e ≡ stopped TooMany → HasWideRow cell radius p) → IsSweepStop cell radius poses e
+pub stop_wide : (cell : ℤ) (radius : ℕ) (poses : List Pose) (k : ℕ) (p : Pose) (e : Stop) → slice_get poses k ≡ Some p
+    → (stopped e ≡ stopped TooMany → HasWideRow cell radius p) → IsSweepStop cell radius poses e
 stop_wide cell radius poses k p TooMany at wide = wide_swept cell radius poses k p at (wide refl)
 stop_wide cell radius poses k p NoMemory at wide = tt
 

@@ -1,5 +1,6 @@
 -- The cells that judging motions reads, motion by motion.
-use Rattle.std.proofs.Common.{◌≡◌, ℕ, zero, suc, ℤ, pos, ◌+◌, ◌-◌, ◌<◌, inl, inr, ◌⊎◌, List, [], ◌∷◌, ◌++◌, length, take, map, slice_get, sum_by, Some, refl, ap, sym, ◌∙◌, arith, subst}
+use Rattle.std.proofs.Common.{◌≡◌, ℕ, zero, suc, ℤ, pos, ◌+◌, ◌-◌, ◌<◌, inl, inr, ◌⊎◌, List, [], ◌∷◌, ◌++◌, length}
+use Rattle.std.proofs.Common.{take, map, slice_get, sum_by, Some, refl, ap, sym, ◌∙◌, arith, subst}
 use Rattle.std.proofs.lemmas.Bool.{cases_lt}
 use Rattle.std.proofs.lemmas.Grind.{common_steps}
 use Rattle.std.proofs.lemmas.List.{length-append, length-map}
@@ -18,14 +19,16 @@ use Rattle.sbpl_sweep.specs.Centres.{AreSwept}
 use Rattle.sbpl_sweep.specs.Tables.{HaveSwept}
 use Rattle.sbpl_sweep.specs.Reads.{IsRead, HaveReads}
 use Rattle.sbpl_sweep.specs.Reads.IsRead.{at_source, at_target, at_centre, at_swept}
-use Rattle.sbpl_sweep.specs.ReadTables.{IsAmong, source_cell, read_by, IsReadOf, AddsSource, AreReadCells, AddsReads, AreReadsOf}
+use Rattle.sbpl_sweep.specs.ReadTables.{IsAmong, source_cell, read_by, IsReadOf, AddsSource}
+use Rattle.sbpl_sweep.specs.ReadTables.{AreReadCells, AddsReads, AreReadsOf}
 use Rattle.sbpl_sweep.proofs.Listings.{later, not_before_itself}
 use Rattle.sbpl_sweep.proofs.Lists.{made_at, made_from, there_is, in_first, in_second, from_either}
 
 -- ---- the cells of one motion
 
 -- in a list that is in order no cell stands twice
-pub once_in_order : (cells : List Cell) → AreInOrder cells → (i j : ℕ) (c : Cell) → slice_get cells i ≡ Some c → slice_get cells j ≡ Some c → i ≡ j
+pub once_in_order : (cells : List Cell) → AreInOrder cells → (i j : ℕ) (c : Cell) → slice_get cells i ≡ Some c
+    → slice_get cells j ≡ Some c → i ≡ j
 once_in_order cells ordered i j c at_i at_j = elim (cases_lt i j) [
   | inl less ↦ absurd (not_before_itself c (later cells ordered i j c c less at_i at_j))
   | inr more ↦ elim (cases_lt j i) [
@@ -52,7 +55,8 @@ module _ (cells : List Cell) (ordered : AreInOrder cells) (away : IsAmong cells 
   each_read zero c at = inl (sym (same_Some source_cell c at))
   each_read (suc i) c at = inr (i, at)
 
-  once_read : (i j : ℕ) (c : Cell) → slice_get (source_cell ∷ cells) i ≡ Some c → slice_get (source_cell ∷ cells) j ≡ Some c → i ≡ j
+  once_read : (i j : ℕ) (c : Cell) → slice_get (source_cell ∷ cells) i ≡ Some c
+      → slice_get (source_cell ∷ cells) j ≡ Some c → i ≡ j
   once_read zero zero c at_i at_j = refl
   once_read zero (suc j) c at_i at_j = absurd (away (j, at_j ∙ sym at_i))
   once_read (suc i) zero c at_i at_j = absurd (away (i, at_i ∙ sym at_j))
@@ -70,7 +74,8 @@ module _ (cells : List Cell) (ordered : AreInOrder cells) (away : IsAmong cells 
   }
 
 -- the source cell's read, and then those of the swept cells
-pub reads_added : (prim : ℕ) (cells : List Cell) (old mid new : List Read) → AreInOrder cells → AddsSource prim cells old mid → new ≡ mid ++ map (read_by prim) cells → AddsReads prim cells old new
+pub reads_added : (prim : ℕ) (cells : List Cell) (old mid new : List Read) → AreInOrder cells
+    → AddsSource prim cells old mid → new ≡ mid ++ map (read_by prim) cells → AddsReads prim cells old new
 reads_added prim cells old mid new ordered (inl (same, among)) added = record {
   cells = cells;
   are = read_swept cells ordered among;
@@ -79,7 +84,9 @@ reads_added prim cells old mid new ordered (inl (same, among)) added = record {
 reads_added prim cells old mid new ordered (inr (pushed, away)) added = record {
   cells = source_cell ∷ cells;
   are = read_first cells ordered away;
-  added = added ∙ ap (λ l. l ++ map (read_by prim) cells) pushed ∙ push_append old (read_by prim source_cell) (map (read_by prim) cells);
+  added =
+      added ∙ ap (λ l. l ++ map (read_by prim) cells) pushed
+      ∙ push_append old (read_by prim source_cell) (map (read_by prim) cells);
 } where
   push_append : (xs : List Read) (y : Read) (ys : List Read) → (xs ++ y ∷ []) ++ ys ≡ xs ++ y ∷ ys
   push_append [] y ys = refl
@@ -87,9 +94,12 @@ reads_added prim cells old mid new ordered (inr (pushed, away)) added = record {
 
 -- ---- motion by motion
 
-module _ (table : List (List Cell)) (n : ℕ) (old new : List Read) (cells : List Cell) (at : slice_get table n ≡ Some cells) (so_far : AreReadsOf table n old) (adds : AddsReads n cells old new) where
+module _ (table : List (List Cell)) (n : ℕ) (old new : List Read) (cells : List Cell)
+    (at : slice_get table n ≡ Some cells) (so_far : AreReadsOf table n old) (adds : AddsReads n cells old new) where
   -- a read was there before or is one of the last motion's
-  where_read : (j : ℕ) (r : Read) → slice_get new j ≡ Some r → (slice_get old j ≡ Some r) ⊎ ((i : ℕ) × (j ≡ length old + i) × ((c : Cell) × (slice_get adds.cells i ≡ Some c) × (read_by n c ≡ r)))
+  where_read : (j : ℕ) (r : Read) → slice_get new j ≡ Some r
+      → (slice_get old j ≡ Some r)
+      ⊎ ((i : ℕ) × (j ≡ length old + i) × ((c : Cell) × (slice_get adds.cells i ≡ Some c) × (read_by n c ≡ r)))
   where_read j r there =
       elim (from_either old (map (read_by n) adds.cells) j r (ap (λ l. slice_get l j) (sym adds.added) ∙ there)) [
         | inl front ↦ inl front
@@ -97,15 +107,19 @@ module _ (table : List (List Cell)) (n : ℕ) (old new : List Read) (cells : Lis
       ]
 
   read_kept : (j : ℕ) (r : Read) → slice_get old j ≡ Some r → slice_get new j ≡ Some r
-  read_kept j r there = ap (λ l. slice_get l j) adds.added ∙ in_first old (map (read_by n) adds.cells) j (slice_get_within old j r there) ∙ there
+  read_kept j r there =
+      ap (λ l. slice_get l j) adds.added
+      ∙ in_first old (map (read_by n) adds.cells) j (slice_get_within old j r there) ∙ there
 
   read_last : (c : Cell) → IsAmong adds.cells c → (j : ℕ) × (slice_get new j ≡ Some (read_by n c))
   read_last c (i, there) = (
     length old + i,
-    ap (λ l. slice_get l (length old + i)) adds.added ∙ in_second old (map (read_by n) adds.cells) i (length old + i) refl ∙ made_at (read_by n) adds.cells i c there,
+    ap (λ l. slice_get l (length old + i)) adds.added
+        ∙ in_second old (map (read_by n) adds.cells) i (length old + i) refl ∙ made_at (read_by n) adds.cells i c there,
   )
 
-  each_more : (j : ℕ) (r : Read) → slice_get new j ≡ Some r → (r.prim < n + 1) × ((swept : List Cell) → slice_get table r.prim ≡ Some swept → IsReadOf swept r.cell)
+  each_more : (j : ℕ) (r : Read) → slice_get new j ≡ Some r
+      → (r.prim < n + 1) × ((swept : List Cell) → slice_get table r.prim ≡ Some swept → IsReadOf swept r.cell)
   each_more j r there = elim (where_read j r there) [
     | inl front ↦ let was = so_far.each j r front in let less = was.0 in (omega (arith, less), was.1)
     | inr last ↦
@@ -115,11 +129,13 @@ module _ (table : List (List Cell)) (n : ℕ) (old new : List Read) (cells : Lis
           omega (arith, place),
           λ swept stands.
               let list = same_Some cells swept (sym at ∙ ap (slice_get table) place ∙ stands) in
-              subst (λ l. IsReadOf l r.cell) list (subst (λ z. IsReadOf cells z) (ap (λ (q : Read). q.cell) same) (adds.are.each last.0 c last.2.1)),
+              subst (λ l. IsReadOf l r.cell) list
+              (subst (λ z. IsReadOf cells z) (ap (λ (q : Read). q.cell) same) (adds.are.each last.0 c last.2.1)),
         )
   ]
 
-  all_more : (i : ℕ) (swept : List Cell) (c : Cell) → i < n + 1 → slice_get table i ≡ Some swept → IsReadOf swept c → (j : ℕ) × (slice_get new j ≡ Some (read_by i c))
+  all_more : (i : ℕ) (swept : List Cell) (c : Cell) → i < n + 1 → slice_get table i ≡ Some swept → IsReadOf swept c
+      → (j : ℕ) × (slice_get new j ≡ Some (read_by i c))
   all_more i swept c h there read = elim (cases_lt i n) [
     | inl less ↦ let was = so_far.all i swept c less there read in (was.0, read_kept was.0 (read_by i c) was.1)
     | inr more ↦
@@ -180,7 +196,8 @@ module _ (cell : ℤ) (radius : ℕ) (p : Primitive) (cells : List Cell) (are : 
   is_read c (inl same) = at_source (ap (λ (z : Cell). z.x) same) (ap (λ (z : Cell). z.y) same)
   is_read c (inr (i, at)) = at_swept (are.each i c at)
 
-  is_read_of : (headings : ℕ) → IsPrimitive cell headings p → (x y : ℤ) → IsRead cell radius p x y → IsReadOf cells (record { y = y; x = x })
+  is_read_of : (headings : ℕ) → IsPrimitive cell headings p → (x y : ℤ) → IsRead cell radius p x y
+      → IsReadOf cells (record { y = y; x = x })
   is_read_of headings good x y (at_source column row) =
       let by_row : ℤ → Cell = λ v. record { y = v; x = x } in
       let by_column : ℤ → Cell = λ v. record { y = pos 0; x = v } in
@@ -193,7 +210,8 @@ module _ (cell : ℤ) (radius : ℕ) (p : Primitive) (cells : List Cell) (are : 
   is_read_of headings good x y (at_centre lies) = inr (are.all x y (inl lies))
   is_read_of headings good x y (at_swept touched) = inr (are.all x y touched)
 
-pub have_reads : (prims : Primitives) (radius : ℕ) (table : List (List Cell)) (reads : List Read) → ((i : ℕ) (p : Primitive) → slice_get prims.items i ≡ Some p → IsPrimitive prims.cell prims.headings p)
+pub have_reads : (prims : Primitives) (radius : ℕ) (table : List (List Cell)) (reads : List Read)
+    → ((i : ℕ) (p : Primitive) → slice_get prims.items i ≡ Some p → IsPrimitive prims.cell prims.headings p)
     → HaveSwept prims radius table → AreReadsOf table (length table) reads → HaveReads prims radius reads
 have_reads prims radius table reads good have are = record {
   each = λ j r at.
@@ -206,12 +224,14 @@ have_reads prims radius table reads good have are = record {
   all = λ i p x y at read.
       let entry = have.each i p at in
       let within = slice_get_within table i entry.0 entry.1 in
-      are.all i entry.0 (record { y = y; x = x }) within entry.1 (is_read_of prims.cell radius p entry.0 entry.2 prims.headings (good i p at) x y read);
+      are.all i entry.0 (record { y = y; x = x }) within entry.1
+      (is_read_of prims.cell radius p entry.0 entry.2 prims.headings (good i p at) x y read);
   once = are.once;
 }
 
 -- the cells that a primitive sweeps are in order
-pub swept_in_order : (prims : Primitives) (radius : ℕ) (table : List (List Cell)) → HaveSwept prims radius table → (i : ℕ) (cells : List Cell) → slice_get table i ≡ Some cells → AreInOrder cells
+pub swept_in_order : (prims : Primitives) (radius : ℕ) (table : List (List Cell)) → HaveSwept prims radius table
+    → (i : ℕ) (cells : List Cell) → slice_get table i ≡ Some cells → AreInOrder cells
 swept_in_order prims radius table have i cells at =
     let within = slice_get_within table i cells at in
     let count = have.count in

@@ -1,5 +1,6 @@
 -- The tails of the sample graph.
-use Rattle.std.proofs.Common.{◌≡◌, ℕ, ◌+◌, ◌*◌, ◌/◌, ◌%◌, ◌<◌, ◌≤◌, ◌==◌, Option, Some, List, slice_index_or, nat_lt, ap, sym, ◌∙◌, arith}
+use Rattle.std.proofs.Common.{◌≡◌, ℕ, ◌+◌, ◌*◌, ◌/◌, ◌%◌, ◌<◌, ◌≤◌, ◌==◌, Option, Some, List, slice_index_or, nat_lt}
+use Rattle.std.proofs.Common.{ap, sym, ◌∙◌, arith}
 use Rattle.std.proofs.lemmas.Bool.{eqb-true, eq-eqb, ltb-true, lt-ltb, cond-true}
 use Rattle.std.proofs.lemmas.Grind.{merely}
 use Rattle.std.proofs.lemmas.Option.{cond_some}
@@ -23,7 +24,11 @@ module _ (count : ℕ) (arcs : List (ℕ × ℕ)) (heights : List ℕ) where
   tail_at : (t j s k : ℕ) → IsTail (counted count arcs heights) t j s k → IsAt arcs t j s k
   tail_at t j s k tail =
       let parts = cond_some {A = ℕ × ℕ} (head_at arcs j == t) (pair_of j) (s, k) tail.tail in
-      record { head = eqb-true (head_at arcs j) t parts.0; state = ap (λ (p : ℕ × ℕ). p.0) parts.1; number = ap (λ (p : ℕ × ℕ). p.1) parts.1 }
+      record {
+        head = eqb-true (head_at arcs j) t parts.0;
+        state = ap (λ (p : ℕ × ℕ). p.0) parts.1;
+        number = ap (λ (p : ℕ × ℕ). p.1) parts.1;
+      }
 
   tail_is_arc : (t j s k : ℕ) → IsTail (counted count arcs heights) t j s k → IsArc (counted count arcs heights) s k t
   tail_is_arc t j s k tail =
@@ -37,7 +42,8 @@ module _ (count : ℕ) (arcs : List (ℕ × ℕ)) (heights : List ℕ) where
         head = cond-true (nat_lt (head_at arcs (2 * s + k)) count) _ _ (lt-ltb _ _ inside) ∙ ap (λ n. Some n) head;
       }
 
-  tail_of_arc : (t s k : ℕ) → IsArc (counted count arcs heights) s k t → (j : ℕ) × IsTail (counted count arcs heights) t j s k
+  tail_of_arc : (t s k : ℕ) → IsArc (counted count arcs heights) s k t
+      → (j : ℕ) × IsTail (counted count arcs heights) t j s k
   tail_of_arc t s k arc =
       let parts = cond_some (nat_lt (head_at arcs (2 * s + k)) count) (head_at arcs (2 * s + k)) t arc.head in
       let inside = ltb-true _ _ parts.0 in
@@ -49,11 +55,14 @@ module _ (count : ℕ) (arcs : List (ℕ × ℕ)) (heights : List ℕ) where
         record {
           target = omega (arith, inside, parts.1);
           number = omega (arith, arc.source, arc.number);
-          tail = cond-true (head_at arcs (2 * s + k) == t) _ _ (eq-eqb _ _ parts.1) ∙ ap by_state state ∙ ap by_number number;
+          tail =
+              cond-true (head_at arcs (2 * s + k) == t) _ _ (eq-eqb _ _ parts.1)
+              ∙ ap by_state state ∙ ap by_number number;
         },
       )
 
-  tails_differ : (t i j s k : ℕ) → IsTail (counted count arcs heights) t i s k → IsTail (counted count arcs heights) t j s k → i ≡ j
+  tails_differ : (t i j s k : ℕ) → IsTail (counted count arcs heights) t i s k
+      → IsTail (counted count arcs heights) t j s k → i ≡ j
   tails_differ t i j s k first second =
       let a = tail_at t i s k first in
       let b = tail_at t j s k second in

@@ -12,13 +12,23 @@ tail_is_arc t j s k tail =
     let state : 1 - t ≡ s = ap (λ (a : ℕ × ℕ). a.0) same in
     let number : j ≡ k = ap (λ (a : ℕ × ℕ). a.1) same in
     let back : 1 - s ≡ t = omega (arith, state, tail.target) in
-    record { source = omega (arith, state); number = omega (arith, number, tail.number); head = ap (λ (n : ℕ). Some n) back }
+    record {
+      source = omega (arith, state);
+      number = omega (arith, number, tail.number);
+      head = ap (λ (n : ℕ). Some n) back;
+    }
 
 tail_of_arc : (t s k : ℕ) → IsArc pair s k t → (j : ℕ) × IsTail pair t j s k
 tail_of_arc t s k arc =
     let head : 1 - s ≡ t = same_Some (1 - s) t arc.head in
-    let state : 1 - t ≡ s = omega (arith, head, arc.source) in
-    (k, record { target = omega (arith, head); number = omega (arith, arc.number); tail = ap (λ (n : ℕ). Some (n, k)) state })
+    let state : 1 - t ≡ s = omega (arith, head, arc.source) in (
+      k,
+      record {
+        target = omega (arith, head);
+        number = omega (arith, arc.number);
+        tail = ap (λ (n : ℕ). Some (n, k)) state;
+      },
+    )
 
 same_number : (t i j s k : ℕ) → IsTail pair t i s k → IsTail pair t j s k → i ≡ j
 same_number t i j s k first second =

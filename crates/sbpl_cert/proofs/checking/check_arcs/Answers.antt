@@ -18,7 +18,8 @@ returns-in_err-check_arcs_of g c =
         c.row.result.state,
         c.in_err-check_arcs_of.ensures.arcs,
         λ u below.
-            earlier_states l is (λ s. (k : ℕ) → IsArcKept n l.g l.v s k) (λ s inside g_far v_far k t d arc near. absurd (omega (arith, v_far, near))) c.loop-i.i at
+            earlier_states l is (λ s. (k : ℕ) → IsArcKept n l.g l.v s k)
+            (λ s inside g_far v_far k t d arc near. absurd (omega (arith, v_far, near))) c.loop-i.i at
             c.loop-i.invariant u (omega (arith, below, c.row.ensures.state)),
       );
     })

@@ -22,7 +22,8 @@ returns-then-low-most g c =
         λ same. c.if-row.true (sym g_is ∙ sym same ∙ v_is),
         omega (arith, most, c.if-low-most.true),
         λ u below.
-            earlier_states l is (λ s. IsLowKept l.g l.v h c.args.low s) (λ s inside g_far v_far differ. absurd (differ (v_far ∙ sym g_far))) c.loop-i.i at
+            earlier_states l is (λ s. IsLowKept l.g l.v h c.args.low s)
+            (λ s inside g_far v_far differ. absurd (differ (v_far ∙ sym g_far))) c.loop-i.i at
             c.loop-i.invariant u (omega (arith, below, c.row-row.ensures.state)),
       );
     }

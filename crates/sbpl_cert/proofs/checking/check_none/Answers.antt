@@ -19,7 +19,8 @@ returns-then-row g c =
         omega (arith, g_is, c.if-row-lt-FAR.true),
         elim c.if-row.either [ inl goal_there ↦ inl goal_there | inr far ↦ inr (v_is ∙ far.1) ],
         λ u below.
-            earlier_states l is (λ s. IsSettled c.args.goal l.g l.v s) (λ s inside g_far v_far near. absurd (omega (arith, g_far, near))) c.loop-i.i at
+            earlier_states l is (λ s. IsSettled c.args.goal l.g l.v s)
+            (λ s inside g_far v_far near. absurd (omega (arith, g_far, near))) c.loop-i.i at
             c.loop-i.invariant u (omega (arith, below, c.row-row.ensures.state)),
       );
     }

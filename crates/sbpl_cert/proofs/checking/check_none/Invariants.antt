@@ -3,4 +3,6 @@ use Rattle.sbpl_cert.specs.Checking.{IsSettled}
 use Rattle.sbpl_cert.proofs.checking.check_none.Given as goal
 
 abbrev pub invariant-loop-i : goal.invariant-loop-i
-invariant-loop-i g l = (j : ℕ) → j < l.i → IsSettled l.goal (g.T.LabelTable.labelling l.labels).g (g.T.LabelTable.labelling l.labels).v ((g.T.LabelTable.labelling l.labels).state j)
+invariant-loop-i g l = (j : ℕ) → j < l.i
+    → IsSettled l.goal (g.T.LabelTable.labelling l.labels).g (g.T.LabelTable.labelling l.labels).v
+    ((g.T.LabelTable.labelling l.labels).state j)

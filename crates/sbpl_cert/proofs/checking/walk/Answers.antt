@@ -7,5 +7,7 @@ loop-i-preserved g c =
     record {
       inside = c.in-Some.ensures.inside;
       small = omega (arith, c.in-Some.ensures.small);
-      path = rw c.from-sum.ensures (one_step_more (g.G.Graph.network c.args.graph.now) c.args.start c.args.arcs.now c.loop-i.i c.loop-i.at c.loop-i.sum c.in-Some.head c.in-Some.cost (omega arith) c.loop-i.invariant.path c.in-Some.ensures.free);
+      path = rw c.from-sum.ensures
+          (one_step_more (g.G.Graph.network c.args.graph.now) c.args.start c.args.arcs.now c.loop-i.i c.loop-i.at
+          c.loop-i.sum c.in-Some.head c.in-Some.cost (omega arith) c.loop-i.invariant.path c.in-Some.ensures.free);
     }

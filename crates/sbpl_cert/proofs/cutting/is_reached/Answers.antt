@@ -18,12 +18,16 @@ false_is_false is = cc
 
 pub loop-j-preserved : goal.loop-j-preserved
 loop-j-preserved g c =
-    none_more (λ i. IsReachedBy (g.G.Graph.network c.args.graph.now) (kept_v (g_of c.args.labels.now) (g.H.Guide.distance c.args.guide.now) c.args.low) c.args.t i) c.loop-j.j c.loop-j.invariant
+    none_more (λ i. IsReachedBy (g.G.Graph.network c.args.graph.now) (kept_v (g_of c.args.labels.now)
+    (g.H.Guide.distance c.args.guide.now) c.args.low) c.args.t i) c.loop-j.j c.loop-j.invariant
     (λ there. false_is_false (c.if-is_reached_by.ensures.unreached there))
 
 pub returns-clause-unreached : goal.returns-clause-unreached
 returns-clause-unreached g c = λ w.
     absurd
     (not_there
-    (c.states-states.ensures.tails.arcs_are_tails c.args.t w.0 w.1 (record { source = w.3.source; number = w.3.number; head = w.3.head }))
-    (λ found. c.loop-j.invariant found.0 (omega (arith, found.1.number, c.loop-j-test.false, c.tail_fan-j-end.ensures.value)) (w.0, w.1, w.2, found.1, w.3, w.4)))
+    (c.states-states.ensures.tails.arcs_are_tails c.args.t w.0 w.1
+    (record { source = w.3.source; number = w.3.number; head = w.3.head }))
+    (λ found.
+    c.loop-j.invariant found.0 (omega (arith, found.1.number, c.loop-j-test.false, c.tail_fan-j-end.ensures.value))
+    (w.0, w.1, w.2, found.1, w.3, w.4)))

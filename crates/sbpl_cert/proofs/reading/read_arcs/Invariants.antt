@@ -6,4 +6,6 @@ use Rattle.sbpl_cert.proofs.reading.read_arcs.Given as goal
 
 -- what is left to read completes what was to be read
 abbrev pub invariant-loop : goal.invariant-loop
-invariant-loop l = reads told (turns (l.count - l.counter) arc_turn l.arcs.items) l.reader ≡ reads told (turns l.count arc_turn l.initial.arcs.items) l.initial.reader
+invariant-loop l =
+    reads told (turns (l.count - l.counter) arc_turn l.arcs.items) l.reader
+    ≡ reads told (turns l.count arc_turn l.initial.arcs.items) l.initial.reader

@@ -8,7 +8,8 @@ use Rattle.sbpl_cert.proofs.sparse_set.find.Goals as goal
 pub returns : goal.returns
 returns c =
     let facts = c.binary_search_by_key.ensures in
-    let by_key = facts.position (λ (row : SparseRow). row.state) (answers_always _ _ _ (λ f a r g called. search rules)) in
+    let by_key =
+    facts.position (λ (row : SparseRow). row.state) (answers_always _ _ _ (λ f a r g called. search rules)) in
     record {
       found = rw c.ok.ensures.value (found_by c.args.rows.now c.requires.upwards c.args.s _ facts.bound by_key);
       none = rw c.ok.ensures.value (none_by c.args.rows.now c.requires.upwards c.args.s _ facts.bound by_key);

@@ -7,17 +7,23 @@ pub returns-clause-ok : goal.returns-clause-ok
 returns-clause-ok c =
     on_ok_weaker c.put_last_label.result
     (λ last.
-    sparse_head_grows c.args.plan c.args.states c.args.rows c.args.low _ _ _ _ _ _ c.in_ok-put_sparse_title.ensures.ok c.in_ok-put.ensures.ok c.in_ok-put_number.ensures.ok c.in_ok-put-2.ensures.ok last)
+    sparse_head_grows c.args.plan c.args.states c.args.rows c.args.low _ _ _ _ _ _ c.in_ok-put_sparse_title.ensures.ok
+    c.in_ok-put.ensures.ok c.in_ok-put_number.ensures.ok c.in_ok-put-2.ensures.ok last)
     c.put_last_label.ensures.ok
 
 pub returns-in_err-put-clause-kept : goal.returns-in_err-put-clause-kept
 returns-in_err-put-clause-kept c = kept _ _ _ c.put_sparse_title.ensures.kept c.put.ensures.kept
 
 pub returns-in_err-put_number-clause-kept : goal.returns-in_err-put_number-clause-kept
-returns-in_err-put_number-clause-kept c = kept _ _ _ c.put_sparse_title.ensures.kept (kept _ _ _ c.put.ensures.kept c.put_number.ensures.kept)
+returns-in_err-put_number-clause-kept c =
+    kept _ _ _ c.put_sparse_title.ensures.kept (kept _ _ _ c.put.ensures.kept c.put_number.ensures.kept)
 
 pub returns-in_err-put-2-clause-kept : goal.returns-in_err-put-2-clause-kept
-returns-in_err-put-2-clause-kept c = kept _ _ _ c.put_sparse_title.ensures.kept (kept _ _ _ c.put.ensures.kept (kept _ _ _ c.put_number.ensures.kept c.put-2.ensures.kept))
+returns-in_err-put-2-clause-kept c =
+    kept _ _ _ c.put_sparse_title.ensures.kept
+    (kept _ _ _ c.put.ensures.kept (kept _ _ _ c.put_number.ensures.kept c.put-2.ensures.kept))
 
 pub returns-clause-kept : goal.returns-clause-kept
-returns-clause-kept c = kept _ _ _ c.put_sparse_title.ensures.kept (kept _ _ _ c.put.ensures.kept (kept _ _ _ c.put_number.ensures.kept (kept _ _ _ c.put-2.ensures.kept c.put_last_label.ensures.kept)))
+returns-clause-kept c =
+    kept _ _ _ c.put_sparse_title.ensures.kept (kept _ _ _ c.put.ensures.kept
+    (kept _ _ _ c.put_number.ensures.kept (kept _ _ _ c.put-2.ensures.kept c.put_last_label.ensures.kept)))

@@ -1,6 +1,7 @@
 use Rattle.std.proofs.Common.{subst, arith}
 use Rattle.sbpl_cfg.specs.Place.{turn_of, IsCellOf, IsInBin}
-use Rattle.sbpl_cfg.proofs.PlaceLaws.{IsCellOf-cell_of, cell_of_is, IsTurnOf-turn_of, IsInBin-heading_of, heading_of_is, heading_of-lt}
+use Rattle.sbpl_cfg.proofs.PlaceLaws.{IsCellOf-cell_of, cell_of_is, IsTurnOf-turn_of}
+use Rattle.sbpl_cfg.proofs.PlaceLaws.{IsInBin-heading_of, heading_of_is, heading_of-lt}
 use Rattle.sbpl_cfg.proofs.place.places_in_plain_words.Goals as goal
 
 pub returns-clause-cell : goal.returns-clause-cell

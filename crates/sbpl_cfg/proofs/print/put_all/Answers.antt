@@ -10,6 +10,9 @@ returns c =
     let height : c.env.inside.height ≡ e.height = ap (λ x. x.height) c.env.view_is in
     let grid = rw (width, height) at c.in_ok-put_grid.ensures.ok in
     record {
-      ok = after_lines _ (size_lines e) _ (heading_lines e) _ (threshold_lines e) _ (rate_lines e) _ (end_lines e) _ (grid_lines e.height e.width c.args.cells.now) _
-          c.in_ok-put_size.ensures.ok c.in_ok-put_headings.ensures.ok c.in_ok-put_thresholds.ensures.ok c.in_ok-put_rates.ensures.ok c.in_ok-put_ends.ensures.ok grid;
+      ok =
+          after_lines _ (size_lines e) _ (heading_lines e) _ (threshold_lines e) _ (rate_lines e) _ (end_lines e) _
+          (grid_lines e.height e.width c.args.cells.now) _
+          c.in_ok-put_size.ensures.ok c.in_ok-put_headings.ensures.ok c.in_ok-put_thresholds.ensures.ok
+          c.in_ok-put_rates.ensures.ok c.in_ok-put_ends.ensures.ok grid;
     }

@@ -7,5 +7,6 @@ use Rattle.sbpl_cfg.proofs.print.put_grid.Given as goal
 abbrev pub invariant-loop-y : goal.invariant-loop-y
 invariant-loop-y l = record {
   size : length l.rest + l.width * l._y ≡ l.width * l.height;
-  text : l.out.items ++ lines_text (grid_lines (l.height - l._y) l.width l.rest) ≡ l.fn.out.items ++ lines_text (grid_lines l.height l.width l.cells);
+  text : l.out.items ++ lines_text (grid_lines (l.height - l._y) l.width l.rest)
+      ≡ l.fn.out.items ++ lines_text (grid_lines l.height l.width l.cells);
 }

@@ -7,4 +7,5 @@ use Rattle.sbpl_cfg.proofs.read.costs.Given as goal
 -- what is left to read completes all that is to be read
 abbrev pub invariant-loop : goal.invariant-loop
 invariant-loop l =
-    reads told (turns (l.count - l.counter) cost_format l.costs.items) l.reader ≡ reads told (turns l.count cost_format []) l.initial.reader
+    reads told (turns (l.count - l.counter) cost_format l.costs.items) l.reader
+    ≡ reads told (turns l.count cost_format []) l.initial.reader

@@ -14,12 +14,16 @@ returns-clause-found c =
     let view : (Environment × List ℕ) → Environment × List ℕ = λ y. y in
     IfOk-weaker c.environment.result _ _ (λ x h. text_said text x h)
     (found_if_answered told (environment_format (says_headings text)) text NoMemory view c.environment.result
-    (answers_given told (environment_format (says_headings text)) text NoMemory view c.environment.result c.environment.new.reader (rw (c.new.ensures.start, c.says_headings-said.ensures.said) at c.environment.ensures.read)))
+    (answers_given told (environment_format (says_headings text)) text NoMemory view c.environment.result
+    c.environment.new.reader
+    (rw (c.new.ensures.start, c.says_headings-said.ensures.said) at c.environment.ensures.read)))
 
 pub returns-clause-only : goal.returns-clause-only
 returns-clause-only c x h =
     let text = c.args.text.now in
     let view : (Environment × List ℕ) → Environment × List ℕ = λ y. y in
     only_if_answered told (environment_format (says_headings text)) text NoMemory view c.environment.result
-    (answers_given told (environment_format (says_headings text)) text NoMemory view c.environment.result c.environment.new.reader (rw (c.new.ensures.start, c.says_headings-said.ensures.said) at c.environment.ensures.read))
+    (answers_given told (environment_format (says_headings text)) text NoMemory view c.environment.result
+    c.environment.new.reader
+    (rw (c.new.ensures.start, c.says_headings-said.ensures.said) at c.environment.ensures.read))
     x (says_text text x h)

@@ -22,7 +22,8 @@ returns-clause-either c text = elim (said_or_faulty told (environment_format (sa
 pub returns-clause-not_both : goal.returns-clause-not_both
 returns-clause-not_both c text f h k =
     let x : Environment × List ℕ = (h.0, h.1) in
-    said_or_faulty_alone told (environment_format (says_headings text)) (start text) f (let s = says_text text x h.2 in (x, s.0, s.1)) k
+    said_or_faulty_alone told (environment_format (says_headings text)) (start text) f
+    (let s = says_text text x h.2 in (x, s.0, s.1)) k
 
 pub returns-clause-one_value : goal.returns-clause-one_value
 returns-clause-one_value c text e d cells others h k =
@@ -34,7 +35,8 @@ returns-clause-one_value c text e d cells others h k =
     (ap (λ (p : Environment × List ℕ). p.0) same.0, ap (λ (p : Environment × List ℕ). p.1) same.0)
 
 pub returns-clause-one_fault : goal.returns-clause-one_fault
-returns-clause-one_fault c text f g h k = faulty_once told (environment_format (says_headings text)) (start text) f g h k
+returns-clause-one_fault c text f g h k =
+    faulty_once told (environment_format (says_headings text)) (start text) f g h k
 
 pub returns-clause-left_out : goal.returns-clause-left_out
 returns-clause-left_out c = left_out_is_usual

@@ -9,6 +9,7 @@ load-requires c = (
   c.requires.table,
   c.requires.word,
   λ s kept long at small.
-      let next = settled_next s.views c.args.keeper.now.id c.args.keeper.now.me.0 (ap (λ me. me.0) c.requires.joined) kept at in
+      let next =
+      settled_next s.views c.args.keeper.now.id c.args.keeper.now.me.0 (ap (λ me. me.0) c.requires.joined) kept at in
       (settled c.args.keeper.now.me.0, keeps, tt, next.1, (next.0, refl)),
 )

@@ -9,12 +9,17 @@ use Rattle.sbpl_cost.proofs.checked.around_table.Goals as goal
 
 pub loop-i-preserved : goal.loop-i-preserved
 loop-i-preserved c =
-    filled_more (λ k strips. (p : Primitive) → slice_get c.args.prims.now.items k ≡ Some p → AreAround c.args.prims.now.cell c.args.sweeps.now.radius p strips) c.loop-i.table c.push.new.self c.loop-i.i c.as_slice.result.now c.loop-i.invariant c.in_ok-push.ensures.added
+    filled_more (λ k strips. (p : Primitive) → slice_get c.args.prims.now.items k ≡ Some p
+    → AreAround c.args.prims.now.cell c.args.sweeps.now.radius p strips)
+    c.loop-i.table c.push.new.self c.loop-i.i c.as_slice.result.now c.loop-i.invariant c.in_ok-push.ensures.added
     (λ p h.
     let second = c.requires.sweeps.swept.each c.loop-i.i p h in
-    let swept = subst (λ cells. AreSwept c.args.prims.now.cell c.args.sweeps.now.radius p.poses cells) (same_Some second.0 c.swept.result.now (sym second.1 ∙ c.swept.ensures.cells)) second.2 in
+    let swept =
+    subst (λ cells. AreSwept c.args.prims.now.cell c.args.sweeps.now.radius p.poses cells)
+    (same_Some second.0 c.swept.result.now (sym second.1 ∙ c.swept.ensures.cells)) second.2 in
     subst (λ strips. AreAround c.args.prims.now.cell c.args.sweeps.now.radius p strips) (sym c.as_slice.ensures.value)
-    (around_from c.args.prims.now.cell c.args.sweeps.now.radius p c.swept.result.now c.in_ok-strips.strips.items swept c.in_ok-strips.ensures.cells))
+    (around_from c.args.prims.now.cell c.args.sweeps.now.radius p c.swept.result.now c.in_ok-strips.strips.items swept
+    c.in_ok-strips.ensures.cells))
 
 pub returns : goal.returns
 returns c = record {

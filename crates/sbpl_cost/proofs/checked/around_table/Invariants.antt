@@ -5,4 +5,5 @@ use Rattle.sbpl_cost.proofs.Filling.{IsFilled}
 use Rattle.sbpl_cost.proofs.checked.around_table.Given as goal
 
 abbrev pub invariant-loop-i : goal.invariant-loop-i
-invariant-loop-i l = IsFilled (λ k strips. (p : Primitive) → slice_get l.prims.items k ≡ Some p → AreAround l.prims.cell l.sweeps.radius p strips) l.table l.i
+invariant-loop-i l = IsFilled (λ k strips.
+    (p : Primitive) → slice_get l.prims.items k ≡ Some p → AreAround l.prims.cell l.sweeps.radius p strips) l.table l.i

@@ -9,5 +9,6 @@ use Rattle.sbpl_cost.proofs.checked.reach_table.Given as goal
 abbrev pub invariant-loop-i : goal.invariant-loop-i
 invariant-loop-i l =
     IsFilled
-    (λ k r. (p : Primitive) (strips : List Strip) → slice_get l.prims.items k ≡ Some p → slice_get l.around k ≡ Some strips → IsReach r × LieWithin r (cells_in strips))
+    (λ k r. (p : Primitive) (strips : List Strip) → slice_get l.prims.items k ≡ Some p
+    → slice_get l.around k ≡ Some strips → IsReach r × LieWithin r (cells_in strips))
     l.table.items l.i

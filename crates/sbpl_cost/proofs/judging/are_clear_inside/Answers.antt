@@ -3,7 +3,8 @@ use Rattle.std.proofs.lemmas.Option.{slice_get-get_or}
 use Rattle.sbpl_cost.specs.declared.strip.Strip.{Strip}
 use Rattle.sbpl_cost.proofs.Clearing.{below_strips, blocked_strips, empty_below, near_first, near_strip}
 use Rattle.sbpl_cost.proofs.Reaching.{first_on_map, last_on_map, strip_on_map}
-use Rattle.sbpl_cost.proofs.judging.are_clear_inside.Goals.{else-strip-gt0-via-then-strip-gt0+else-not-is_clear_inside, else-strip-gt0-via-else-strip-gt0}
+use Rattle.sbpl_cost.proofs.judging.are_clear_inside.Goals.{else-strip-gt0-via-then-strip-gt0+else-not-is_clear_inside}
+use Rattle.sbpl_cost.proofs.judging.are_clear_inside.Goals.{else-strip-gt0-via-else-strip-gt0}
 use Rattle.sbpl_cost.proofs.judging.are_clear_inside.Goals as goal
 
 abbrev no_strip : Strip
@@ -13,32 +14,40 @@ pub is_clear_inside-requires-clause-near : goal.is_clear_inside-requires-clause-
 is_clear_inside-requires-clause-near c =
     let at = slice_get-get_or c.args.strips.now c.loop-strip.strip-index no_strip c.loop-strip-test.true in
     near_first (get_or c.args.strips.now c.loop-strip.strip-index no_strip) c.if-strip-gt0.true
-    (near_strip c.args.strips.now c.loop-strip.strip-index (get_or c.args.strips.now c.loop-strip.strip-index no_strip) at c.requires.cells)
+    (near_strip c.args.strips.now c.loop-strip.strip-index
+    (get_or c.args.strips.now c.loop-strip.strip-index no_strip) at c.requires.cells)
 
 pub is_clear_inside-requires-clause-first : goal.is_clear_inside-requires-clause-first
 is_clear_inside-requires-clause-first c =
     let at = slice_get-get_or c.args.strips.now c.loop-strip.strip-index no_strip c.loop-strip-test.true in
     let strip : Strip = get_or c.args.strips.now c.loop-strip.strip-index no_strip in
-    first_on_map c.args.map.now c.args.x c.args.y strip c.if-strip-gt0.true (strip_on_map c.args.map.now c.args.x c.args.y c.args.strips.now c.loop-strip.strip-index strip at c.requires.inside)
+    first_on_map c.args.map.now c.args.x c.args.y strip c.if-strip-gt0.true (strip_on_map c.args.map.now c.args.x
+    c.args.y c.args.strips.now c.loop-strip.strip-index strip at c.requires.inside)
 
 pub is_clear_inside-requires-clause-last : goal.is_clear_inside-requires-clause-last
 is_clear_inside-requires-clause-last c =
     let at = slice_get-get_or c.args.strips.now c.loop-strip.strip-index no_strip c.loop-strip-test.true in
     let strip : Strip = get_or c.args.strips.now c.loop-strip.strip-index no_strip in
-    last_on_map c.args.map.now c.args.x c.args.y strip c.if-strip-gt0.true (strip_on_map c.args.map.now c.args.x c.args.y c.args.strips.now c.loop-strip.strip-index strip at c.requires.inside)
+    last_on_map c.args.map.now c.args.x c.args.y strip c.if-strip-gt0.true (strip_on_map c.args.map.now c.args.x
+    c.args.y c.args.strips.now c.loop-strip.strip-index strip at c.requires.inside)
 
 pub returns-then-not-is_clear_inside-clause-blocked : goal.returns-then-not-is_clear_inside-clause-blocked
 returns-then-not-is_clear_inside-clause-blocked c = λ same.
     let at = slice_get-get_or c.args.strips.now c.loop-strip.strip-index no_strip c.loop-strip-test.true in
-    blocked_strips c.args.map.now (pos c.args.x) (pos c.args.y) c.args.limit c.args.strips.now c.loop-strip.strip-index (get_or c.args.strips.now c.loop-strip.strip-index no_strip) at (c.if-not-is_clear_inside.ensures.blocked same)
+    blocked_strips c.args.map.now (pos c.args.x) (pos c.args.y) c.args.limit c.args.strips.now c.loop-strip.strip-index
+    (get_or c.args.strips.now c.loop-strip.strip-index no_strip) at (c.if-not-is_clear_inside.ensures.blocked same)
 
 pub loop-strip-preserved : goal.loop-strip-preserved
 loop-strip-preserved c =
     let at = slice_get-get_or c.args.strips.now c.loop-strip.strip-index no_strip c.loop-strip-test.true in
     let strip : Strip = get_or c.args.strips.now c.loop-strip.strip-index no_strip in
     elim c.else-strip-gt0.branch [
-      | else-strip-gt0-via-then-strip-gt0+else-not-is_clear_inside w ↦ below_strips c.args.map.now (pos c.args.x) (pos c.args.y) c.args.limit c.args.strips.now c.loop-strip.strip-index strip at c.loop-strip.invariant (w.is_clear_inside.ensures.below w.if-not-is_clear_inside.false)
+      | else-strip-gt0-via-then-strip-gt0+else-not-is_clear_inside w ↦
+          below_strips c.args.map.now (pos c.args.x) (pos c.args.y) c.args.limit c.args.strips.now
+          c.loop-strip.strip-index strip at c.loop-strip.invariant
+          (w.is_clear_inside.ensures.below w.if-not-is_clear_inside.false)
       | else-strip-gt0-via-else-strip-gt0 w ↦
-          below_strips c.args.map.now (pos c.args.x) (pos c.args.y) c.args.limit c.args.strips.now c.loop-strip.strip-index strip at c.loop-strip.invariant
+          below_strips c.args.map.now (pos c.args.x) (pos c.args.y) c.args.limit c.args.strips.now
+          c.loop-strip.strip-index strip at c.loop-strip.invariant
           (empty_below c.args.map.now (pos c.args.x) (pos c.args.y) c.args.limit strip w.if-strip-gt0.false)
     ]

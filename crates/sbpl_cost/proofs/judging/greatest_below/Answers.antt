@@ -5,7 +5,11 @@ use Rattle.sbpl_cost.proofs.judging.greatest_below.Goals as goal
 
 pub cost_near-requires : goal.cost_near-requires
 cost_near-requires c =
-    record { cell = c.requires.cells c.loop-cell.cell-index _ (slice_get-get_or c.args.cells.now c.loop-cell.cell-index _ c.loop-cell-test.true) }
+    record {
+      cell =
+          c.requires.cells c.loop-cell.cell-index _
+          (slice_get-get_or c.args.cells.now c.loop-cell.cell-index _ c.loop-cell-test.true);
+    }
 
 pub returns-in_default-clause-blocked : goal.returns-in_default-clause-blocked
 returns-in_default-clause-blocked c = record {
@@ -18,5 +22,7 @@ returns-in_default-clause-blocked c = record {
 pub loop-cell-preserved : goal.loop-cell-preserved
 loop-cell-preserved c =
     rw c.max-greatest.ensures
-    (greatest_more c.args.map.now c.args.cells.now (pos c.args.x) (pos c.args.y) c.args.limit c.args.least c.loop-cell.greatest c.loop-cell.cell-index c.in-Some.cost _
-    (slice_get-get_or c.args.cells.now c.loop-cell.cell-index _ c.loop-cell-test.true) c.in-Some.ensures.cost c.in-Some.ensures.below c.loop-cell.invariant)
+    (greatest_more c.args.map.now c.args.cells.now (pos c.args.x) (pos c.args.y) c.args.limit c.args.least
+    c.loop-cell.greatest c.loop-cell.cell-index c.in-Some.cost _
+    (slice_get-get_or c.args.cells.now c.loop-cell.cell-index _ c.loop-cell-test.true) c.in-Some.ensures.cost
+    c.in-Some.ensures.below c.loop-cell.invariant)

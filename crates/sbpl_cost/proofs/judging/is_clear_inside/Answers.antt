@@ -19,15 +19,21 @@ right c = omega (arith, ints, from_is c, c.requires.last)
 
 pub none_between-requires : goal.none_between-requires
 none_between-requires c =
-    rw c.width.ensures.value (record { inside = ends_inside c.args.map.now c.args.limit c.args.walls.now c.width.ensures.kept c.requires.walls c.moved.result c.moved-2.result c.args.strip.len c.requires.some (high c) (right c) })
+    rw c.width.ensures.value (record {
+      inside =
+          ends_inside c.args.map.now c.args.limit c.args.walls.now c.width.ensures.kept c.requires.walls c.moved.result
+          c.moved-2.result c.args.strip.len c.requires.some (high c) (right c);
+    })
 
 pub returns-clause-below : goal.returns-clause-below
 returns-clause-below c = λ clear.
-    clear_below c.args.map.now c.args.limit c.width.ensures.kept c.args.x c.args.y c.args.strip c.args.walls.now c.requires.walls c.moved.result c.moved-2.result (row_is c.before) (from_is c.before)
+    clear_below c.args.map.now c.args.limit c.width.ensures.kept c.args.x c.args.y c.args.strip c.args.walls.now
+    c.requires.walls c.moved.result c.moved-2.result (row_is c.before) (from_is c.before)
     (high c.before) (right c.before) (rw (← c.width.ensures.value) (c.none_between.ensures.none clear))
 
 pub returns-clause-blocked : goal.returns-clause-blocked
 returns-clause-blocked c = λ wall.
     let some = rw c.width.ensures.value at c.none_between.ensures.some wall in
-    wall_blocks c.args.map.now c.args.limit c.width.ensures.kept c.args.x c.args.y c.args.strip c.args.walls.now c.requires.walls c.moved.result c.moved-2.result (row_is c.before) (from_is c.before)
+    wall_blocks c.args.map.now c.args.limit c.width.ensures.kept c.args.x c.args.y c.args.strip c.args.walls.now
+    c.requires.walls c.moved.result c.moved-2.result (row_is c.before) (from_is c.before)
     (high c.before) (right c.before) some.0 some.1 some.2 some.3

@@ -7,4 +7,8 @@ pub returns : goal.returns
 returns c =
     let p = c.args.source in
     let prim = c.args.prim.now in
-    record { value = same_state c.args.env.now (pos p.x +ℤ prim.dx) (pos p.y +ℤ prim.dy) _ _ prim.to _ c.state_in.ensures.value (omega (arith, ints)) (omega (arith, ints)) }
+    record {
+      value =
+          same_state c.args.env.now (pos p.x +ℤ prim.dx) (pos p.y +ℤ prim.dy) _ _ prim.to _ c.state_in.ensures.value
+          (omega (arith, ints)) (omega (arith, ints));
+    }

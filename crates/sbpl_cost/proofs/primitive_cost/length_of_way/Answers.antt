@@ -5,15 +5,19 @@ use Rattle.sbpl_cost.proofs.primitive_cost.length_of_way.Goals as goal
 
 pub pose_distance-total-requires-clause-p_in_range :
     goal.pose_distance-total-requires-clause-p_in_range
-pose_distance-total-requires-clause-p_in_range c = c.requires.in_range (c.loop-i.i - 1) _ (slice_get-get_or c.args.poses.now (c.loop-i.i - 1) _ (omega arith))
+pose_distance-total-requires-clause-p_in_range c =
+    c.requires.in_range (c.loop-i.i - 1) _ (slice_get-get_or c.args.poses.now (c.loop-i.i - 1) _ (omega arith))
 
 pub pose_distance-total-requires-clause-q_in_range :
     goal.pose_distance-total-requires-clause-q_in_range
-pose_distance-total-requires-clause-q_in_range c = c.requires.in_range c.loop-i.i _ (slice_get-get_or c.args.poses.now c.loop-i.i _ (omega arith))
+pose_distance-total-requires-clause-q_in_range c =
+    c.requires.in_range c.loop-i.i _ (slice_get-get_or c.args.poses.now c.loop-i.i _ (omega arith))
 
 pub loop-i-preserved : goal.loop-i-preserved
 loop-i-preserved c =
-    let on = way_length-drop c.args.poses.now c.loop-i.i c.pose_distance-total.result _ c.loop-i.auto.i c.loop-i-test.true c.pose_distance-total.ensures.value in
+    let on =
+    way_length-drop c.args.poses.now c.loop-i.i c.pose_distance-total.result _ c.loop-i.auto.i c.loop-i-test.true
+    c.pose_distance-total.ensures.value in
     let e : c.loop-i.i + 1 - 1 ≡ c.loop-i.i = omega arith in
     record { left = rw e (omega (arith, on)); small = omega arith; within = omega arith }
 

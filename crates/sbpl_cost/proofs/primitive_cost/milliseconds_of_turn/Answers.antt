@@ -13,9 +13,12 @@ pub returns-clause-value : goal.returns-clause-value
 returns-clause-value c =
     let fits : SFits w64 c.env.inside.turn45 = search rules in
     let turn45 = simp to_z-of_z at c.unsigned_abs.ensures.value in
-    let turned : 8000 * c.from-bins.result * c.from-turn45.result ≡ 8000 * heading_gap c.env.inside.headings c.args.p.now.from c.args.p.now.to * unsigned_abs c.env.inside.turn45 = rw (c.from-bins.ensures, c.bins_turned.ensures.bins, c.from-turn45.ensures, turn45) in
+    let turned : 8000 * c.from-bins.result * c.from-turn45.result
+    ≡ 8000 * heading_gap c.env.inside.headings c.args.p.now.from c.args.p.now.to * unsigned_abs c.env.inside.turn45 =
+    rw (c.from-bins.ensures, c.bins_turned.ensures.bins, c.from-turn45.ensures, turn45) in
     let timed : c.from-all_bins.result * 1000000000 ≡ c.env.inside.headings * 10 ^ 9 = rw c.from-all_bins.ensures in
-    rw (← c.env.view_is) (ceiling-is _ _ _ _ _ turned timed (omega arith) c.ceil_div.ensures.enough c.ceil_div.ensures.least)
+    rw (← c.env.view_is)
+    (ceiling-is _ _ _ _ _ turned timed (omega arith) c.ceil_div.ensures.enough c.ceil_div.ensures.least)
 
 pub returns-clause-positive : goal.returns-clause-positive
 returns-clause-positive c = λ differ.
@@ -33,6 +36,8 @@ returns-clause-small c =
     let fits : SFits w64 c.env.inside.turn45 = search rules in
     let turn45 = simp to_z-of_z at c.unsigned_abs.ensures.value in
     let timed : c.from-turn45.result ≤ 1000000000000 = omega (arith, ints) in
-    let few = mul-le (8000 * c.from-bins.result) c.from-turn45.result (8000 * 4294967296) 1000000000000 (omega arith) timed in
-    let least = c.ceil_div.ensures.least (8000 * c.from-bins.result * c.from-turn45.result) (le-mul_of_pos_right _ (omega arith)) in
+    let few =
+    mul-le (8000 * c.from-bins.result) c.from-turn45.result (8000 * 4294967296) 1000000000000 (omega arith) timed in
+    let least =
+    c.ceil_div.ensures.least (8000 * c.from-bins.result * c.from-turn45.result) (le-mul_of_pos_right _ (omega arith)) in
     omega arith

@@ -15,7 +15,8 @@ returns-clause-value c =
     let speed = simp to_z-of_z at c.unsigned_abs.ensures.value in
     let way = rw c.as_slice.ensures.items at c.length_of_way.ensures.value in
     let gone : 1000 * c.from-way.result ≡ 1000 * way_length c.args.p.now.poses = rw (c.from-way.ensures, way) in
-    rw (← c.env.view_is) (ceiling-is _ _ _ _ _ gone (c.from.ensures ∙ speed) (omega (arith, ints)) c.ceil_div.ensures.enough c.ceil_div.ensures.least)
+    rw (← c.env.view_is) (ceiling-is _ _ _ _ _ gone (c.from.ensures ∙ speed) (omega (arith, ints))
+    c.ceil_div.ensures.enough c.ceil_div.ensures.least)
 
 pub returns-clause-positive : goal.returns-clause-positive
 returns-clause-positive c = λ goes.

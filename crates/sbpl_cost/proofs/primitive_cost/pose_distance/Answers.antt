@@ -11,7 +11,8 @@ returns-clause-value c =
     let qy : SFits w64 c.args.q.now.y = search rules in
     let along_x = simp to_z-of_z at c.squared_difference.ensures.value in
     let along_y = simp to_z-of_z at c.squared_difference-2.ensures.value in
-    let same : c.squared_difference.result + c.squared_difference-2.result ≡ squared_distance c.args.p.now c.args.q.now = rw (along_x, along_y) in
+    let same : c.squared_difference.result + c.squared_difference-2.result
+    ≡ squared_distance c.args.p.now c.args.q.now = rw (along_x, along_y) in
     root_above-is _ _ _ same c.ceil_root.ensures.enough c.ceil_root.ensures.least
 
 pub returns-clause-small : goal.returns-clause-small

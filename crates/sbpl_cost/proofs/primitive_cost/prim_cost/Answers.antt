@@ -11,12 +11,21 @@ returns-then-cost-from-clause-value c =
 
 pub returns-then-cost-from-clause-positive : goal.returns-then-cost-from-clause-positive
 returns-then-cost-from-clause-positive c =
-    let some = time-some _ _ c.milliseconds_of_way.result c.milliseconds_of_turn.result c.args.p.now c.requires.primitive c.milliseconds_of_way.ensures.positive c.milliseconds_of_turn.ensures.positive in
+    let some =
+    time-some _ _ c.milliseconds_of_way.result c.milliseconds_of_turn.result c.args.p.now c.requires.primitive
+    c.milliseconds_of_way.ensures.positive c.milliseconds_of_turn.ensures.positive in
     let mult = (c.requires.primitive.mult).0 in
     product-some c.from.result c.max-time.result (omega arith) (omega arith)
 
 pub returns-else-cost-from-clause-none : goal.returns-else-cost-from-clause-none
 unfolding primitive_cost
 returns-else-cost-from-clause-none c =
-    let is : c.from.result * c.max-time.result ≡ c.args.p.now.mult * max (linear_time c.args.env.now c.args.p.now) (angular_time c.args.env.now c.args.p.now) = rw (c.from.ensures, c.max-time.ensures, c.milliseconds_of_way.ensures.value, c.milliseconds_of_turn.ensures.value) in
+    let is : c.from.result * c.max-time.result
+    ≡ c.args.p.now.mult * max (linear_time c.args.env.now c.args.p.now) (angular_time c.args.env.now c.args.p.now) =
+    rw (
+      c.from.ensures,
+      c.max-time.ensures,
+      c.milliseconds_of_way.ensures.value,
+      c.milliseconds_of_turn.ensures.value,
+    ) in
     rw (← is) (omega arith)

@@ -16,7 +16,8 @@ no_strip = record { y = pos 0; from = pos 0; len = 0 }
 pub with-reach-requires-clause-near : goal.with-reach-requires-clause-near
 with-reach-requires-clause-near c =
     let at = slice_get-get_or c.args.strips.now c.loop-strip.strip-index no_strip c.loop-strip-test.true in
-    near_strip c.args.strips.now c.loop-strip.strip-index (get_or c.args.strips.now c.loop-strip.strip-index no_strip) at c.requires.near
+    near_strip c.args.strips.now c.loop-strip.strip-index
+    (get_or c.args.strips.now c.loop-strip.strip-index no_strip) at c.requires.near
 
 pub loop-strip-preserved : goal.loop-strip-preserved
 loop-strip-preserved c =
@@ -24,15 +25,22 @@ loop-strip-preserved c =
     let strip : Strip = get_or c.args.strips.now c.loop-strip.strip-index no_strip in
     elim c.if-strip-gt0.branch [
       | then-strip-gt0 w ↦
-          subst (λ (r : Reach). IsReach r × LieWithin r (cells_in (take (c.loop-strip.strip-index + 1) c.args.strips.now))) (sym w.reach-is) (
+          subst (λ (r : Reach).
+          IsReach r × LieWithin r (cells_in (take (c.loop-strip.strip-index + 1) c.args.strips.now))) (sym w.reach-is) (
             w.with-reach.ensures.reach,
             within_more w.with-reach.result c.args.strips.now c.loop-strip.strip-index strip at
-                (kept_within c.loop-strip.reach w.with-reach.result _ w.with-reach.ensures.far c.loop-strip.invariant.1) w.with-reach.ensures.within,
+                (kept_within c.loop-strip.reach w.with-reach.result _ w.with-reach.ensures.far
+                c.loop-strip.invariant.1) w.with-reach.ensures.within,
           )
       | else-strip-gt0 w ↦
-          subst (λ (r : Reach). IsReach r × LieWithin r (cells_in (take (c.loop-strip.strip-index + 1) c.args.strips.now))) (sym w.reach-is)
-          (c.loop-strip.invariant.0, within_more c.loop-strip.reach c.args.strips.now c.loop-strip.strip-index strip at c.loop-strip.invariant.1 (empty_within strip c.loop-strip.reach w.if-strip-gt0.false))
+          subst (λ (r : Reach).
+          IsReach r × LieWithin r (cells_in (take (c.loop-strip.strip-index + 1) c.args.strips.now))) (sym w.reach-is) (
+            c.loop-strip.invariant.0,
+            within_more c.loop-strip.reach c.args.strips.now c.loop-strip.strip-index strip at c.loop-strip.invariant.1
+                (empty_within strip c.loop-strip.reach w.if-strip-gt0.false),
+          )
     ]
 
 pub returns-clause-within : goal.returns-clause-within
-returns-clause-within c = rw (take_all c.loop-strip.strip-index c.args.strips.now c.loop-strip-test.false) at c.loop-strip.invariant.1
+returns-clause-within c =
+    rw (take_all c.loop-strip.strip-index c.args.strips.now c.loop-strip-test.false) at c.loop-strip.invariant.1

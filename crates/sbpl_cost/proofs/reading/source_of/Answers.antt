@@ -7,4 +7,8 @@ pub returns : goal.returns
 returns c =
     let cell = c.args.cell in
     let near = c.requires.near in
-    record { value = same_place c.args.env.now (pos c.args.x -ℤ cell.x) (pos c.args.y -ℤ cell.y) _ _ c.args.t _ c.place_on_map.ensures.value (omega (arith, ints, near.0, near.1)) (omega (arith, ints, near.0, near.1)) }
+    record {
+      value =
+          same_place c.args.env.now (pos c.args.x -ℤ cell.x) (pos c.args.y -ℤ cell.y) _ _ c.args.t _
+          c.place_on_map.ensures.value (omega (arith, ints, near.0, near.1)) (omega (arith, ints, near.0, near.1));
+    }

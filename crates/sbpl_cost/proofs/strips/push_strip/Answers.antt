@@ -4,4 +4,5 @@ use Rattle.sbpl_cost.proofs.Stripping.{strips_then}
 use Rattle.sbpl_cost.proofs.strips.push_strip.Goals as goal
 
 pub returns-in_ok-push : goal.returns-in_ok-push
-returns-in_ok-push c = record { added = ap cells_in c.in_ok-push.ensures.items ∙ strips_then c.args.strips.now.items c.args.strip }
+returns-in_ok-push c =
+    record { added = ap cells_in c.in_ok-push.ensures.items ∙ strips_then c.args.strips.now.items c.args.strip }

@@ -5,8 +5,12 @@ use Rattle.sbpl_cost.proofs.tables.entering_table.Goals as goal
 
 pub loop-t-preserved : goal.loop-t-preserved
 loop-t-preserved c =
-    filled_more (λ k places. places ≡ entering c.args.prims.now.items k) c.loop-t.table c.push.new.self c.loop-t.t c.as_slice.result.now c.loop-t.invariant c.in_ok-push.ensures.added
+    filled_more (λ k places. places ≡ entering c.args.prims.now.items k) c.loop-t.table c.push.new.self c.loop-t.t
+    c.as_slice.result.now c.loop-t.invariant c.in_ok-push.ensures.added
     (c.as_slice.ensures.value ∙ c.in_ok-places.ensures.places)
 
 pub returns : goal.returns
-returns c = record { table = λ t h. let entry = c.loop-t.invariant.1 t (omega (arith, h, c.headings-t-end.ensures.headings)) in entry.1 ∙ ap (λ l. Some l) entry.2 }
+returns c = record {
+  table = λ t h. let entry = c.loop-t.invariant.1 t (omega (arith, h, c.headings-t-end.ensures.headings)) in
+      entry.1 ∙ ap (λ l. Some l) entry.2;
+}

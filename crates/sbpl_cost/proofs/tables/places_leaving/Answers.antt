@@ -8,9 +8,14 @@ pub loop-i-preserved : goal.loop-i-preserved
 loop-i-preserved c =
     elim c.if-get-t.branch [
       | then-get-t+in_ok-push w ↦
-          let yes = indices_yes (λ p. p.from == c.args.t) c.args.prims.now.items c.loop-i.i c.get.result.now c.get.ensures.prim (eq-eqb _ _ w.if-get-t.true) in
-          ap (λ v. v.items) w.places-is ∙ w.in_ok-push.ensures.items ∙ ap (λ l. l ++ c.loop-i.i ∷ []) c.loop-i.invariant ∙ sym yes
+          let yes =
+          indices_yes (λ p. p.from == c.args.t) c.args.prims.now.items c.loop-i.i c.get.result.now c.get.ensures.prim
+          (eq-eqb _ _ w.if-get-t.true) in
+          ap (λ v. v.items) w.places-is ∙ w.in_ok-push.ensures.items
+          ∙ ap (λ l. l ++ c.loop-i.i ∷ []) c.loop-i.invariant ∙ sym yes
       | else-get-t w ↦
-          let no = indices_no (λ p. p.from == c.args.t) c.args.prims.now.items c.loop-i.i c.get.result.now c.get.ensures.prim (ne_eqb _ _ w.if-get-t.false) in
+          let no =
+          indices_no (λ p. p.from == c.args.t) c.args.prims.now.items c.loop-i.i c.get.result.now c.get.ensures.prim
+          (ne_eqb _ _ w.if-get-t.false) in
           ap (λ v. v.items) w.places-is ∙ c.loop-i.invariant ∙ sym no
     ]

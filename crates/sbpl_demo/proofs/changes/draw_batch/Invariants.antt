@@ -8,6 +8,7 @@ use Rattle.sbpl_demo.proofs.changes.draw_batch.Given as goal
 -- the first changes are written
 abbrev pub invariant-loop : goal.invariant-loop
 invariant-loop l = record {
-  text : l.out.items ≡ l.fn.out.items ++ lines_text (map write_line (writes l.width l.height l.counter l.fn.draws.word));
+  text : l.out.items
+      ≡ l.fn.out.items ++ lines_text (map write_line (writes l.width l.height l.counter l.fn.draws.word));
   word : l.draws.word ≡ word_after (3 * l.counter) l.fn.draws.word;
 }

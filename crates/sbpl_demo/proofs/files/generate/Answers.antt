@@ -17,20 +17,25 @@ returns-clause-env_said c =
     let w = c.args.width in
     let h = c.args.height in
     let said = c.texts_are_environments_or_faulty.ensures.printed (environment w h) (costs w h c.args.seed)
-    (is_environment w h c.requires.width.0 c.requires.width.1 c.requires.height.0 c.requires.height.1) (is_grid w h c.args.seed) in
+    (is_environment w h c.requires.width.0 c.requires.width.1 c.requires.height.0 c.requires.height.1)
+    (is_grid w h c.args.seed) in
     IfOk-weaker c.draw_files.result _ _ (λ demo is. rw is said) c.draw_files.ensures.env
 
 pub returns-clause-prims_said : goal.returns-clause-prims_said
 returns-clause-prims_said c =
-    let said = c.texts_are_primitives_or_faulty.ensures.worded primitives (head_lines ++ flat_map motion_lines (motions 16)) are_primitives file_shown in
+    let said =
+    c.texts_are_primitives_or_faulty.ensures.worded primitives (head_lines ++ flat_map motion_lines (motions 16))
+    are_primitives file_shown in
     IfOk-weaker c.draw_files.result _ _ (λ demo is. rw is said) c.draw_files.ensures.prims
 
 pub returns-clause-changes_said : goal.returns-clause-changes_said
 returns-clause-changes_said c =
     let w = c.args.width in
     let h = c.args.height in
-    let said = λ (m : CellMap) (wide : m.width ≡ w) (high : m.height ≡ h). c.texts_are_changes_or_faulty.ensures.printed m (changes_drawn w h c.args.seed)
-    (are_changes w h c.args.seed m c.requires.width.0 c.requires.width.1 c.requires.height.0 c.requires.height.1 wide high) in
+    let said = λ (m : CellMap) (wide : m.width ≡ w) (high : m.height ≡ h).
+    c.texts_are_changes_or_faulty.ensures.printed m (changes_drawn w h c.args.seed)
+    (are_changes w h c.args.seed m c.requires.width.0 c.requires.width.1 c.requires.height.0
+    c.requires.height.1 wide high) in
     IfOk-weaker c.draw_files.result _ _ (λ demo is m wide high. rw is (said m wide high)) c.draw_files.ensures.changes
 
 pub returns-clause-narrow : goal.returns-clause-narrow

@@ -4,10 +4,12 @@ use Rattle.sbpl_demo.proofs.Texts.{grown, primitives_head}
 use Rattle.sbpl_demo.proofs.primitives.primitives.Goals as goal
 
 pub loop-heading-init : goal.loop-heading-init
-loop-heading-init c = head_written _ _ _ primitives_head c.new-text.ensures.items c.in_ok-extend_from_slice.ensures.items
+loop-heading-init c =
+    head_written _ _ _ primitives_head c.new-text.ensures.items c.in_ok-extend_from_slice.ensures.items
 
 pub loop-heading-preserved : goal.loop-heading-preserved
-loop-heading-preserved c = grown _ _ _ _ _ _ (motions_next c.loop-heading.heading) c.loop-heading.invariant c.in_ok-put_heading.ensures.ok
+loop-heading-preserved c =
+    grown _ _ _ _ _ _ (motions_next c.loop-heading.heading) c.loop-heading.invariant c.in_ok-put_heading.ensures.ok
 
 pub returns : goal.returns
 returns c =

@@ -1,4 +1,5 @@
-use Rattle.sbpl_fixed.proofs.Items.{words_are_met, words_are_missed, numbers_are_met, numbers_without_form, numbers_out_of_range}
+use Rattle.sbpl_fixed.proofs.Items.{words_are_met, words_are_missed, numbers_are_met}
+use Rattle.sbpl_fixed.proofs.Items.{numbers_without_form, numbers_out_of_range}
 use Rattle.sbpl_fixed.proofs.formats.items_in_plain_words.Goals as goal
 
 pub returns-clause-word : goal.returns-clause-word

@@ -1,4 +1,5 @@
-use Rattle.sbpl_fixed.proofs.Forms.{wholes_have_values, no_others_are_whole, decimals_have_values, no_others_are_decimals, zeros_after, write_numbers}
+use Rattle.sbpl_fixed.proofs.Forms.{wholes_have_values, no_others_are_whole, decimals_have_values}
+use Rattle.sbpl_fixed.proofs.Forms.{no_others_are_decimals, zeros_after, write_numbers}
 use Rattle.sbpl_fixed.proofs.number.numbers_are_read_by_parts.Goals as goal
 
 pub returns-clause-wholes : goal.returns-clause-wholes

@@ -12,10 +12,13 @@ loop-rest-preserved c =
       low = omega arith;
       high = omega arith;
       small = omega arith;
-      text = rw c.byte_before-begin.ensures.text (decimal_longer l.rest (drop l.begin l.buffer) c.loop-rest-test.true l.invariant.small ∙ l.invariant.text);
+      text =
+          rw c.byte_before-begin.ensures.text
+          (decimal_longer l.rest (drop l.begin l.buffer) c.loop-rest-test.true l.invariant.small ∙ l.invariant.text);
     }
 
 pub returns-clause-text : goal.returns-clause-text
 returns-clause-text c =
     let l = c.loop-rest in
-    rw c.byte_before.ensures.text (decimal_last l.rest (drop l.begin l.buffer) c.loop-rest-test.false ∙ l.invariant.text)
+    rw c.byte_before.ensures.text
+    (decimal_last l.rest (drop l.begin l.buffer) c.loop-rest-test.false ∙ l.invariant.text)

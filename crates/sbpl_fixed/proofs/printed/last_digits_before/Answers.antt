@@ -9,7 +9,9 @@ loop-preserved c =
     let one : suc (c.args.count - (l.counter + 1)) ≡ c.args.count - l.counter = omega arith in
     record {
       place = omega arith;
-      text = rw c.byte_before-begin.ensures.text (last_digits_longer (c.args.count - (l.counter + 1)) l.rest (drop l.begin l.buffer) ∙ rw one l.invariant.text);
+      text =
+          rw c.byte_before-begin.ensures.text (last_digits_longer (c.args.count - (l.counter + 1)) l.rest
+          (drop l.begin l.buffer) ∙ rw one l.invariant.text);
     }
 
 pub returns-clause-text : goal.returns-clause-text

@@ -6,5 +6,6 @@ abbrev pub invariant-loop : goal.invariant-loop
 invariant-loop l =
     record {
       place : l.begin + l.counter ≡ l.at;
-      text : last_digits (l.count - l.counter) l.rest ++ drop l.begin l.buffer ≡ last_digits l.count l.n ++ drop l.at l.fn.buffer;
+      text : last_digits (l.count - l.counter) l.rest ++ drop l.begin l.buffer
+          ≡ last_digits l.count l.n ++ drop l.at l.fn.buffer;
     }

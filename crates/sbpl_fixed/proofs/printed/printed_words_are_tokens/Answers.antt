@@ -1,4 +1,5 @@
-use Rattle.sbpl_fixed.proofs.ReadBack.{nanos_are_words, wholes_are_words, words_are_tokens, last_words_are_tokens, blanks_part_tokens}
+use Rattle.sbpl_fixed.proofs.ReadBack.{nanos_are_words, wholes_are_words, words_are_tokens}
+use Rattle.sbpl_fixed.proofs.ReadBack.{last_words_are_tokens, blanks_part_tokens}
 use Rattle.sbpl_fixed.proofs.printed.printed_words_are_tokens.Goals as goal
 
 pub returns-clause-nanos : goal.returns-clause-nanos

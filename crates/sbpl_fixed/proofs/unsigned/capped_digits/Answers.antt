@@ -6,12 +6,19 @@ use Rattle.sbpl_fixed.proofs.unsigned.capped_digits.Goals.{then-longer-cap, else
 pub loop-digit-preserved : goal.loop-digit-preserved
 loop-digit-preserved c =
     let digit = digit_at c.args.digits.now c.loop-digit.digit-index c.requires.digits (omega arith) in
-    let next : c.if-longer-cap.value ≡ min c.args.cap (c.loop-digit.value * 10 + (get_or c.args.digits.now c.loop-digit.digit-index 0 - 48)) =
+    let next : c.if-longer-cap.value
+    ≡ min c.args.cap (c.loop-digit.value * 10 + (get_or c.args.digits.now c.loop-digit.digit-index 0 - 48)) =
     elim c.if-longer-cap.branch [ then-longer-cap w ↦ omega arith | else-longer-cap w ↦ omega arith ] in
     record {
       bound = omega arith;
-      number = capped_more c.args.cap c.loop-digit.value c.if-longer-cap.value c.loop-digit.digit-index c.args.digits.now _ (omega arith) next c.loop-digit.invariant.number;
+      number =
+          capped_more c.args.cap c.loop-digit.value c.if-longer-cap.value c.loop-digit.digit-index c.args.digits.now _
+          (omega arith) next c.loop-digit.invariant.number;
     }
 
 pub returns : goal.returns
-returns c = record { number = capped_done c.args.cap c.loop-digit.value c.loop-digit.digit-index c.args.digits.now _ (omega arith) c.loop-digit.invariant.bound c.loop-digit.invariant.number }
+returns c = record {
+  number =
+      capped_done c.args.cap c.loop-digit.value c.loop-digit.digit-index c.args.digits.now _ (omega arith)
+      c.loop-digit.invariant.bound c.loop-digit.invariant.number;
+}

@@ -1,4 +1,7 @@
-use Rattle.sbpl_fixed.proofs.UnsignedText.{digits_have_values, no_others_are_digits, millis_have_values, no_others_are_millis, decimals_are_digits, decimals_are_read_back, decimals_are_words, thousandths_are_millis, thousandths_are_read_back, thousandths_are_words}
+use Rattle.sbpl_fixed.proofs.UnsignedText.{digits_have_values, no_others_are_digits, millis_have_values}
+use Rattle.sbpl_fixed.proofs.UnsignedText.{no_others_are_millis, decimals_are_digits, decimals_are_read_back}
+use Rattle.sbpl_fixed.proofs.UnsignedText.{decimals_are_words, thousandths_are_millis}
+use Rattle.sbpl_fixed.proofs.UnsignedText.{thousandths_are_read_back, thousandths_are_words}
 use Rattle.sbpl_fixed.proofs.unsigned.unsigned_numbers_are_their_digits.Goals as goal
 
 pub returns : goal.returns

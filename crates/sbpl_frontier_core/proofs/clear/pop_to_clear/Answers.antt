@@ -21,6 +21,7 @@ loop-goal-preserved g c =
     let entry : Entry = record { first = c.in-Some.key.0; second = c.in-Some.key.1; state = c.in-Some.s } in
     let clear = rw c.deref.ensures.value at c.if-is_clear.ensures.clear in (
       rw c.push_reserved.ensures.items
-          (popped_more c.loop-goal.invariant.0 entry c.in-Some.ensures.least (c.if-not-is_below.ensures.below.0 refl) (λ is. false≢true (clear.1 is)) (omega arith) c.leave.ensures.changed),
+          (popped_more c.loop-goal.invariant.0 entry c.in-Some.ensures.least (c.if-not-is_below.ensures.below.0 refl)
+          (λ is. false≢true (clear.1 is)) (omega arith) c.leave.ensures.changed),
       omega (arith, c.loop-goal.invariant.1, c.push_reserved.ensures.capacity),
     )

@@ -8,7 +8,8 @@ use Rattle.sbpl_frontier_core.proofs.low.low_among.Goals as goal
 pub loop-s-init : goal.loop-s-init
 loop-s-init g c =
     low_same c.low_of_queue-low.ensures.low
-    (λ s told. ⊎_elim (λ (queued : IsInQueue c.args.queue.now s). queued) (λ (among : Contains (take 0 c.args.states.now) s). absurd (omega (arith, among.1))) told)
+    (λ s told. ⊎_elim (λ (queued : IsInQueue c.args.queue.now s). queued)
+    (λ (among : Contains (take 0 c.args.states.now) s). absurd (omega (arith, among.1))) told)
 
 pub loop-s-preserved : goal.loop-s-preserved
 loop-s-preserved g c =
@@ -16,12 +17,14 @@ loop-s-preserved g c =
     let i = c.loop-s.s-index in
     let inside = c.requires.inside i 0 c.loop-s-test.true in
     low_same
-    (low_more c.loop-s.invariant inside c.low_with-low.ensures.falls c.low_with-low.ensures.own c.low_with-low.ensures.greatest)
+    (low_more c.loop-s.invariant inside c.low_with-low.ensures.falls c.low_with-low.ensures.own
+    c.low_with-low.ensures.greatest)
     (λ s told.
     ⊎_elim
     (λ (queued : IsInQueue c.args.queue.now s). inl (inl queued))
     (λ (among : Contains (take (i + 1) states) s).
-    ⊎_elim (λ (before : Contains (take i states) s). inl (inr before)) (λ (at : s ≡ slice_index_or states i 0). inr at) (among_next states i s c.loop-s-test.true among))
+    ⊎_elim (λ (before : Contains (take i states) s). inl (inr before)) (λ (at : s ≡ slice_index_or states i 0). inr at)
+    (among_next states i s c.loop-s-test.true among))
     told)
 
 pub returns : goal.returns

@@ -10,5 +10,6 @@ loop-entry-preserved g c =
     let listed = c.entries-entries.ensures.listed i c.loop-entry-test.true in
     let inside = key_inside c.args.queue.now (state_at c.entries-entries.result.now i) (rw listed refl) in
     low_same
-    (low_more c.loop-entry.invariant (omega (arith, inside, c.requires.states)) c.low_with-low.ensures.falls c.low_with-low.ensures.own c.low_with-low.ensures.greatest)
+    (low_more c.loop-entry.invariant (omega (arith, inside, c.requires.states)) c.low_with-low.ensures.falls
+    c.low_with-low.ensures.own c.low_with-low.ensures.greatest)
     (before_next _ i)

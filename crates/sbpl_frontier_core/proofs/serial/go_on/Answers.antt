@@ -11,21 +11,34 @@ apply-requires g c =
     record {
       out =
           rw (c.judge.ensures.number, c.judge.ensures.state, c.judge.ensures.arc, answers.gives.taking.out)
-          (Contains-push answers.mid.frontier.out (record { ticket = c.in-Ok-Job.ticket.number; state = c.in-Ok-Job.ticket.state; arc = c.in-Ok-Job.ticket.arc }));
+          (Contains-push answers.mid.frontier.out (record {
+            ticket = c.in-Ok-Job.ticket.number;
+            state = c.in-Ok-Job.ticket.state;
+            arc = c.in-Ok-Job.ticket.arc;
+          }));
     }
 
 pub arcs-smaller : goal.arcs-smaller
 arcs-smaller g c =
     let answers = rw c.in-Ok-Job.field-0-is at c.in-Ok-Job.ensures.answers in
     let same = opens_keep g.N.Pass.query c.arcs.core answers.mid answers.opens in
-    omega (arith, same.1, answers.gives.taking.ticket, answers.gives.taking.next, answers.gives.few, c.apply.ensures.posted.next)
+    omega (
+      arith,
+      same.1,
+      answers.gives.taking.ticket,
+      answers.gives.taking.next,
+      answers.gives.few,
+      c.apply.ensures.posted.next,
+    )
 
 pub arcs-preserved : goal.arcs-preserved
 arcs-preserved g c =
     let answers = rw c.in-Ok-Job.field-0-is at c.in-Ok-Job.ensures.answers in
     let same = opens_keep g.N.Pass.query c.arcs.core answers.mid answers.opens in
-    let leg : Leg = record { ticket = c.in-Ok-Job.ticket.number; state = c.in-Ok-Job.ticket.state; arc = c.in-Ok-Job.ticket.arc } in
-    let one : c.next.new.self.frontier.out ≡ leg ∷ [] = answers.gives.taking.out ∙ ap (λ (out : List Leg). out ++ leg ∷ []) (same.0 ∙ c.arcs.invariant) in
+    let leg : Leg =
+    record { ticket = c.in-Ok-Job.ticket.number; state = c.in-Ok-Job.ticket.state; arc = c.in-Ok-Job.ticket.arc } in
+    let one : c.next.new.self.frontier.out ≡ leg ∷ [] =
+    answers.gives.taking.out ∙ ap (λ (out : List Leg). out ++ leg ∷ []) (same.0 ∙ c.arcs.invariant) in
     c.apply.ensures.posted.out ∙ ap (λ (ticket : ℕ). without ticket c.next.new.self.frontier.out) c.judge.ensures.number
     ∙ ap (without leg.ticket) one ∙ none_without leg
 

@@ -8,7 +8,8 @@ returns g c = record {
       (record {
         sound = c.states-states.ensures.sound;
         gaps = c.states-states.ensures.gaps;
-        consistent = g.met.H.Guide.consistent c.args.guide.now (g.G.Graph.network c.args.graph.now) c.args.goal c.requires.guide;
+        consistent =
+            g.met.H.Guide.consistent c.args.guide.now (g.G.Graph.network c.args.graph.now) c.args.goal c.requires.guide;
         inflation = c.requires.eps_low;
       })
       (record { labels = c.start-start.ensures.labels; ready = c.requires.ready; counts = c.used-used.ensures.counts });

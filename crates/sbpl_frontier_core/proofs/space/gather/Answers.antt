@@ -15,7 +15,8 @@ loop-entry-preserved c =
     let here = c.loop-entry.invariant in
     let listed = c.entries-entries.ensures.listed i c.loop-entry-test.true in
     let inside = key_inside c.args.queue.now s (rw listed refl) in (
-      rw c.push_reserved.ensures.items (All-push (λ (u : ℕ). u < open_list.states_of c.args.queue.now) old s here.0 inside),
+      rw c.push_reserved.ensures.items
+          (All-push (λ (u : ℕ). u < open_list.states_of c.args.queue.now) old s here.0 inside),
       λ j below.
           rw c.push_reserved.ensures.items
           (⊎_elim
@@ -23,7 +24,13 @@ loop-entry-preserved c =
           (λ (after : i ≤ j). let at : j ≡ i = omega arith in rw at (Contains-push old s))
           (cases_lt j i)),
       λ u was. rw c.push_reserved.ensures.items (Contains-append_left old (s ∷ []) u (here.2 u was)),
-      omega (arith, here.3, ap length c.push_reserved.ensures.items, length-append old (s ∷ []), c.push_reserved.ensures.capacity),
+      omega (
+        arith,
+        here.3,
+        ap length c.push_reserved.ensures.items,
+        length-append old (s ∷ []),
+        c.push_reserved.ensures.capacity,
+      ),
     )
 
 pub returns-clause-gathered : goal.returns-clause-gathered

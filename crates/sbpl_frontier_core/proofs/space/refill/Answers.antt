@@ -13,6 +13,7 @@ loop-s-preserved g c =
     rw (take_more states i 0 c.loop-s-test.true)
     (elim c.match-over_key.branch [
       | in-Some w ↦ rw w.queue-is
-          (filled_put (take i states) s (w.in-Some.key.0, w.in-Some.key.1) c.loop-s.invariant inside w.in-Some.ensures.key.0 w.in-Some.ensures.key.1 w.put.ensures.changed)
+          (filled_put (take i states) s (w.in-Some.key.0, w.in-Some.key.1) c.loop-s.invariant inside
+          w.in-Some.ensures.key.0 w.in-Some.ensures.key.1 w.put.ensures.changed)
       | in_default w ↦ rw w.queue-is (filled_left (take i states) s c.loop-s.invariant w.in_default.ensures.key)
     ])

@@ -3,4 +3,6 @@ use Rattle.sbpl_labels.specs.Marks.{g_of}
 use Rattle.sbpl_heur.proofs.best.weigh.Given as goal
 
 abbrev pub invariant-loop-cell : goal.invariant-loop-cell
-invariant-loop-cell l = (length l.distances.items ≡ length l.initial.distances.items) × ((a : ℕ) → a < l.cell → slice_index l.distances.items a ≡ g_of l.walks.labels a)
+invariant-loop-cell l =
+    (length l.distances.items ≡ length l.initial.distances.items)
+    × ((a : ℕ) → a < l.cell → slice_index l.distances.items a ≡ g_of l.walks.labels a)

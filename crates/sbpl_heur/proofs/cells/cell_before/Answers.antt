@@ -11,7 +11,11 @@ returns-clause-value c =
     let fits_y : FitsSigned w64 y = search rules in
     let fits_dx : FitsSigned w32 c.args.hop.now.dx = search rules in
     let fits_dy : FitsSigned w32 c.args.hop.now.dy = search rules in
-    let column = ap pos (sym c.column_of.ensures.column) ∙ c.coordinate_before-x.ensures.before ∙ ap (λ z. x +ℤ z) (to_z-of_z w32 c.args.hop.now.dx fits_dx) in
-    let row = ap pos (sym c.row_of.ensures.row) ∙ c.coordinate_before-y.ensures.before ∙ ap (λ z. y +ℤ z) (to_z-of_z w32 c.args.hop.now.dy fits_dy) in
+    let column =
+    ap pos (sym c.column_of.ensures.column) ∙ c.coordinate_before-x.ensures.before
+    ∙ ap (λ z. x +ℤ z) (to_z-of_z w32 c.args.hop.now.dx fits_dx) in
+    let row =
+    ap pos (sym c.row_of.ensures.row) ∙ c.coordinate_before-y.ensures.before
+    ∙ ap (λ z. y +ℤ z) (to_z-of_z w32 c.args.hop.now.dy fits_dy) in
     let found = rw (to_z-of_z w64 x fits_x, to_z-of_z w64 y fits_y) at c.cell_in.ensures.value in
     found ∙ before_is c.args.env.now c.args.cell c.args.hop.now x y column row

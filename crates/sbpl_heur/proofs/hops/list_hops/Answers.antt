@@ -10,12 +10,19 @@ loop-i-preserved c =
     let prims = c.args.lattice.now.prims.items in
     elim c.if-moves.branch [
       | then-moves w ↦ rw w.hops-is (
-        moved e prims c.loop-i.i c.hop_of-hop.result c.loop-i.hops.items w.include.new.hops.items c.hop_of-hop.ensures.hop (c.moves.ensures.moves.0 w.if-moves.true) c.loop-i.invariant.0 w.include.ensures.includes,
-        omega (arith, one_more c.loop-i.hops.items w.include.new.hops.items c.hop_of-hop.result w.include.ensures.includes, c.loop-i.invariant.1),
+        moved e prims c.loop-i.i c.hop_of-hop.result c.loop-i.hops.items w.include.new.hops.items
+            c.hop_of-hop.ensures.hop (c.moves.ensures.moves.0 w.if-moves.true) c.loop-i.invariant.0
+            w.include.ensures.includes,
+        omega (
+          arith,
+          one_more c.loop-i.hops.items w.include.new.hops.items c.hop_of-hop.result w.include.ensures.includes,
+          c.loop-i.invariant.1,
+        ),
         w.include.ensures.room ∙ c.loop-i.invariant.2,
       )
       | else-moves w ↦ rw w.hops-is (
-        stayed e prims c.loop-i.i c.hop_of-hop.result c.loop-i.hops.items c.hop_of-hop.ensures.hop (λ moves. false≢true (sym w.if-moves.false ∙ c.moves.ensures.moves.1 moves)) c.loop-i.invariant.0,
+        stayed e prims c.loop-i.i c.hop_of-hop.result c.loop-i.hops.items c.hop_of-hop.ensures.hop
+            (λ moves. false≢true (sym w.if-moves.false ∙ c.moves.ensures.moves.1 moves)) c.loop-i.invariant.0,
         omega (arith, c.loop-i.invariant.1),
         c.loop-i.invariant.2,
       )
@@ -24,4 +31,5 @@ loop-i-preserved c =
 pub returns-clause-hops : goal.returns-clause-hops
 returns-clause-hops c =
     all_hops c.args.lattice.now.env c.args.lattice.now.prims.items c.loop-i.hops.items c.loop-i.i
-    (omega (arith, c.loop-i-test.false, c.len-i-end.ensures.count, ap (λ p. length p.items) c.prims.ensures.prims)) c.loop-i.invariant.0
+    (omega (arith, c.loop-i-test.false, c.len-i-end.ensures.count, ap (λ p. length p.items) c.prims.ensures.prims))
+    c.loop-i.invariant.0

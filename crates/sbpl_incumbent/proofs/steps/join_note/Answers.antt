@@ -12,7 +12,8 @@ join_pass-requires c = (
     (
       search rules,
       λ x views kept at apart there.
-          learn_step (entry_in x) views c.args.reader.now.id (cell_view c.args.reader.now) kept at c.requires.reader c.args.note.id (cell_view c.args.note) c.requires.note apart there,
+          learn_step (entry_in x) views c.args.reader.now.id (cell_view c.args.reader.now) kept at c.requires.reader
+          c.args.note.id (cell_view c.args.note) c.requires.note apart there,
     ),
   ),
 )

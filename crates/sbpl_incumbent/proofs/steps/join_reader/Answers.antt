@@ -12,7 +12,8 @@ join_pass-requires c = (
     (
       search rules,
       λ x views kept at apart there.
-          join_step (entry_in x) views c.args.publisher.now.id (cell_view c.args.publisher.now) kept at c.requires.publisher c.args.reader.id (cell_view c.args.reader) c.requires.reader apart there,
+          join_step (entry_in x) views c.args.publisher.now.id (cell_view c.args.publisher.now) kept
+          at c.requires.publisher c.args.reader.id (cell_view c.args.reader) c.requires.reader apart there,
     ),
   ),
 )

@@ -14,8 +14,12 @@ swap_as-requires g c = (
       search rules,
       λ x views kept at.
           let v = cell_view c.args.publisher.now in
-          let entry = entry_in c.args.slip in
-          (published_with v entry, publish_step (entry_in x) views c.args.publisher.now.id v kept at c.requires.publisher entry c.requires.number c.requires.fit, refl),
+          let entry = entry_in c.args.slip in (
+            published_with v entry,
+            publish_step (entry_in x) views c.args.publisher.now.id v kept at c.requires.publisher entry
+                c.requires.number c.requires.fit,
+            refl,
+          ),
     ),
   ),
 )

@@ -5,4 +5,14 @@ use Rattle.sbpl_incumbent.specs.Slips.{entry_in}
 use Rattle.sbpl_incumbent.proofs.steps.split_note.Goals as goal
 
 pub split_pass-requires : goal.split_pass-requires
-split_pass-requires c = (search rules, (search rules, (search rules, λ x views kept at. note_step (entry_in x) views c.args.publisher.now.id (cell_view c.args.publisher.now) kept at c.requires.publisher)))
+split_pass-requires c = (
+  search rules,
+  (
+    search rules,
+    (
+      search rules,
+      λ x views kept at. note_step (entry_in x) views c.args.publisher.now.id (cell_view c.args.publisher.now)
+          kept at c.requires.publisher,
+    ),
+  ),
+)

@@ -8,7 +8,8 @@ use Rattle.sbpl_job.proofs.line.with_plain.Goals as goal
 pub returns : goal.returns
 returns c =
     let local : c.help.result.global ≡ false = rw (c.help.ensures, c.required.ensures) c.new.ensures.optional.1 in
-    let ruled : rule_of c.help.result ≡ plain_rule c.args.id.now = rw (c.help.ensures, c.required.ensures) (ap (λ (r : Rule). record r { required = true }) c.new.ensures.rule) in
+    let ruled : rule_of c.help.result ≡ plain_rule c.args.id.now =
+    rw (c.help.ensures, c.required.ensures) (ap (λ (r : Rule). record r { required = true }) c.new.ensures.rule) in
     record {
       app = λ a is.
           let entry : app_of c.in_ok-line.field-0 ≡ a = subst (λ line. IsLine line a) c.in_ok-line.was is in

@@ -7,7 +7,8 @@ use Rattle.sbpl_job.specs.Jobs.{Settings, nav_in, nav_on}
 use Rattle.sbpl_job.specs.Words.{Names}
 use Rattle.sbpl_job.proofs.read.nav_of.Goals as goal
 
-names_nav : (env name : List ℕ) (changes : Option (List ℕ)) (set : Settings) (r : Result Job JobFault) → name ≡ env → changes ≡ set setting.Changes
+names_nav : (env name : List ℕ) (changes : Option (List ℕ)) (set : Settings) (r : Result Job JobFault) → name ≡ env
+    → changes ≡ set setting.Changes
     → Names (nav_on name changes set) r → Names (nav_in env set) r
 names_nav env name changes set r is_env is_set named =
     subst (λ (o : Option (List ℕ)). Names (nav_on env o set) r) is_set
@@ -15,4 +16,5 @@ names_nav env name changes set r is_env is_set named =
 
 pub returns-clause-job : goal.returns-clause-job
 returns-clause-job c =
-    names_nav _ _ c.in_ok-changes.changes (set_in c.args.matches.now) _ c.in_ok-env.ensures.name (search rules) c.nav_on.ensures.job
+    names_nav _ _ c.in_ok-changes.changes (set_in c.args.matches.now) _ c.in_ok-env.ensures.name
+    (search rules) c.nav_on.ensures.job

@@ -6,5 +6,6 @@ use Rattle.sbpl_job.proofs.words.joined_parts.Goals as goal
 
 pub returns-in_err-name : goal.returns-in_err-name
 returns-in_err-name c = record {
-  joined = ap (option_map both_texts) c.from_residual.ensures ∙ sym (unjoined c.args.command c.args.word.now (search rules));
+  joined =
+      ap (option_map both_texts) c.from_residual.ensures ∙ sym (unjoined c.args.command c.args.word.now (search rules));
 }

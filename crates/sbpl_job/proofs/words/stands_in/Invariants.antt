@@ -5,4 +5,5 @@ use Rattle.sbpl_job.specs.Words.{texts}
 use Rattle.sbpl_job.proofs.words.stands_in.Given as goal
 
 abbrev pub invariant-loop-other : goal.invariant-loop-other
-invariant-loop-other l = list_any (bytes_eq l.word) (texts l.words) ≡ list_any (bytes_eq l.word) (texts (drop l.other-index l.words))
+invariant-loop-other l =
+    list_any (bytes_eq l.word) (texts l.words) ≡ list_any (bytes_eq l.word) (texts (drop l.other-index l.words))

@@ -13,7 +13,9 @@ returns-clause-ends g c =
     let w = c.in_ok-lattice.lattice in
     let course = c.in_ok-lattice.course in
     let ends = c.check_either_way-status.ensures.ends in
-    let case = case_of lattice_site (checked_direction lattice_site c.args.job.now.back) w course c.ends-start.result.0 c.ends-start.result.1 in
+    let case =
+    case_of lattice_site (checked_direction lattice_site c.args.job.now.back) w course c.ends-start.result.0
+    c.ends-start.result.1 in
     λ log. record {
       intent = Checked (to_in case) ends.outcomes ends.end;
       gives = record {
@@ -31,11 +33,15 @@ returns-clause-ends g c =
           start_is = c.ends-start.ensures.start;
           goal_is = c.ends-start.ensures.goal;
           goals_are = refl;
-          checked = subst (λ (t : List ℕ). AreChecked IsShownHolding case 0 (suc (length course.batches)) (start_at t 0) ends.outcomes ends.end) c.as_slice.ensures.value ends.checked;
+          checked =
+              subst (λ (t : List ℕ). AreChecked IsShownHolding case 0 (suc (length course.batches)) (start_at t 0)
+              ends.outcomes ends.end) c.as_slice.ensures.value ends.checked;
         };
       };
-      ends = ends_since _ _ _ _ _ _ c.in_ok-lattice.ensures.frame.written c.in_ok-lattice.ensures.frame.writes ends.ends;
-      others = λ name no. c.check_either_way-status.ensures.frame.others name no ∙ c.in_ok-lattice.ensures.frame.written name;
+      ends =
+          ends_since _ _ _ _ _ _ c.in_ok-lattice.ensures.frame.written c.in_ok-lattice.ensures.frame.writes ends.ends;
+      others = λ name no.
+          c.check_either_way-status.ensures.frame.others name no ∙ c.in_ok-lattice.ensures.frame.written name;
       begins = tt;
       published = refl;
     }

@@ -5,5 +5,7 @@ use Rattle.sbpl_jobs.proofs.drawn.sweeps_of.Goals as goal
 
 pub unreachable-requires : goal.unreachable-requires
 unreachable-requires c =
-    let is = only_memory c.args.prims.now primitives c.in-Err.field-0 c.requires.narrow c.requires.prims c.in-Err.ensures.cause in
+    let is =
+    only_memory c.args.prims.now primitives c.in-Err.field-0 c.requires.narrow c.requires.prims
+    c.in-Err.ensures.cause in
     search rules

@@ -9,4 +9,5 @@ returns-in-Ok-clause-ends g c = by_job c.in-Ok.job c.in-Ok.ensures.job c.end_job
 
 pub returns-in-Ok-clause-frame : goal.returns-in-Ok-clause-frame
 returns-in-Ok-clause-frame g c =
-    subst (λ (o : Option Job). WritesOnly (MayBeWritten o) (g.D.Desk.state c.args.desk.now) (g.D.Desk.state c.end_job-status.new.desk)) (sym c.in-Ok.ensures.job) c.end_job-status.ensures.frame
+    subst (λ (o : Option Job). WritesOnly (MayBeWritten o) (g.D.Desk.state c.args.desk.now)
+    (g.D.Desk.state c.end_job-status.new.desk)) (sym c.in-Ok.ensures.job) c.end_job-status.ensures.frame

@@ -15,8 +15,10 @@ returns-clause-ends g c =
     let e = c.plans_forwards.ensures.ends in
     let j = c.args.job.now in
     let count : 0 + length e.records ≡ length e.records = omega arith in
-    ended _ (g.D.Desk.state c.read_grid_course.new.desk) _ _ _ (job.Nav j) (Planned e.records e.all c.args.publisher.now.published e.broken) _
-    refl (e.shown_is ∙ ap (λ (n : ℕ). with_paths (with_plans c.args.publisher.now.published e.records) n 0 e.broken) count)
+    ended _ (g.D.Desk.state c.read_grid_course.new.desk) _ _ _ (job.Nav j)
+    (Planned e.records e.all c.args.publisher.now.published e.broken) _
+    refl (e.shown_is
+    ∙ ap (λ (n : ℕ). with_paths (with_plans c.args.publisher.now.published e.records) n 0 e.broken) count)
     (record {
       world = c.in_ok-nav.nav;
       course = c.in_ok-nav.course;
@@ -28,7 +30,10 @@ returns-clause-ends g c =
         start_is = c.ends-start.ensures.start;
         goal_is = c.ends-start.ensures.goal;
         each = e.each;
-        broken_in = subst (λ (n : ℕ). IsBrokenIn (known grid_site j.search.planner) c.in_ok-nav.nav c.in_ok-nav.course.batches j.search j.outputs (start_after grid_wording c.in_ok-nav.nav c.ends-start.result.0 c.in_ok-nav.course.moves) c.ends-start.result.1 n e.broken) count e.broken_in;
+        broken_in =
+            subst (λ (n : ℕ). IsBrokenIn (known grid_site j.search.planner) c.in_ok-nav.nav c.in_ok-nav.course.batches
+            j.search j.outputs (start_after grid_wording c.in_ok-nav.nav c.ends-start.result.0 c.in_ok-nav.course.moves)
+            c.ends-start.result.1 n e.broken) count e.broken_in;
         none_broken = e.none_broken;
         few = let count = e.few in omega arith;
         all_made = λ is. let count = e.all_made is in omega arith;

@@ -5,12 +5,16 @@ use Rattle.sbpl_jobs.proofs.Frames.{reads_on}
 use Rattle.sbpl_jobs.proofs.nav_job.read_nav_check.Goals as goal
 
 pub returns-in-Err-clause-stop : goal.returns-in-Err-clause-stop
-returns-in-Err-clause-stop g c = early_stop (g.D.Desk.state c.args.desk.now) (g.D.Desk.state c.read_grid_course.new.desk) (grid_files c.args.job.now.env) c.args.job.now.changes c.args.job.now.labels c.in-Err.stop c.in-Err.ensures.stop
+returns-in-Err-clause-stop g c =
+    early_stop (g.D.Desk.state c.args.desk.now) (g.D.Desk.state c.read_grid_course.new.desk)
+    (grid_files c.args.job.now.env) c.args.job.now.changes c.args.job.now.labels c.in-Err.stop c.in-Err.ensures.stop
 
 pub returns-in-Err-read_file-clause-stop : goal.returns-in-Err-read_file-clause-stop
 returns-in-Err-read_file-clause-stop g c =
     let course = c.in-Ok.ensures.course in
-    labels_stop (g.D.Desk.state c.args.desk.now) (g.D.Desk.state c.read_grid_course.new.desk) (g.D.Desk.state c.read_file.new.desk) (grid_files c.args.job.now.env) c.args.job.now.changes c.args.job.now.labels c.in-Ok.read.0 c.in-Ok.read.1 c.in-Err-read_file.stop
+    labels_stop (g.D.Desk.state c.args.desk.now) (g.D.Desk.state c.read_grid_course.new.desk)
+    (g.D.Desk.state c.read_file.new.desk) (grid_files c.args.job.now.env) c.args.job.now.changes c.args.job.now.labels
+    c.in-Ok.read.0 c.in-Ok.read.1 c.in-Err-read_file.stop
     course.says course.course_is c.in-Ok.ensures.frame c.in-Err-read_file.ensures.stop
 
 pub returns-in-Err-read_file-clause-frame : goal.returns-in-Err-read_file-clause-frame
@@ -20,4 +24,6 @@ pub returns-in-Ok-read_file-clause-frame : goal.returns-in-Ok-read_file-clause-f
 returns-in-Ok-read_file-clause-frame g c = reads_on _ _ _ c.in-Ok.ensures.frame c.read_file.ensures.frame
 
 pub returns-in-Ok-read_file-clause-text : goal.returns-in-Ok-read_file-clause-text
-returns-in-Ok-read_file-clause-text g c = subst (λ (o : Option (List ℕ)). IsReadText o c.in-Ok-read_file.text.items) (c.in-Ok.ensures.frame.held c.args.job.now.labels) c.in-Ok-read_file.ensures.text
+returns-in-Ok-read_file-clause-text g c =
+    subst (λ (o : Option (List ℕ)). IsReadText o c.in-Ok-read_file.text.items)
+    (c.in-Ok.ensures.frame.held c.args.job.now.labels) c.in-Ok-read_file.ensures.text

@@ -18,7 +18,9 @@ loop-arc-init g c = record { left = c.requires.path; done = λ others so. rw c.i
 pub step-head-requires : goal.step-head-requires
 step-head-requires g c =
     let split = left_is c.args.arcs.now c.loop-arc.arc-index c.loop-arc-test.true in
-    let first = first_arc _ _ _ _ (subst (λ (l : List ℕ). IsPathFrom (g.W.Graph.network c.args.world.now) c.loop-arc.at l) split c.loop-arc.invariant.left) in
+    let first =
+    first_arc _ _ _ _ (subst (λ (l : List ℕ). IsPathFrom (g.W.Graph.network c.args.world.now) c.loop-arc.at l) split
+    c.loop-arc.invariant.left) in
     record { state = first.state; number = first.number; head = first.head }
 
 pub loop-arc-preserved : goal.loop-arc-preserved
@@ -26,11 +28,16 @@ loop-arc-preserved g c =
     let w = c.args.world.now in
     let on : Site _ = site_of g.W.Graph.network g.W.Terrain.cells g.W.Best.Heuristic.says g.W.Workspace.wording in
     let split = left_is c.args.arcs.now c.loop-arc.arc-index c.loop-arc-test.true in
-    let left = subst (λ (l : List ℕ). IsPathFrom (g.W.Graph.network w) c.loop-arc.at l) split c.loop-arc.invariant.left in
-    let done = subst (λ (l : List ℕ). Completes on w c.args.from c.args.arcs.now c.loop-arc.at l c.loop-arc.steps.items) split c.loop-arc.invariant.done in
+    let left =
+    subst (λ (l : List ℕ). IsPathFrom (g.W.Graph.network w) c.loop-arc.at l) split c.loop-arc.invariant.left in
+    let done =
+    subst (λ (l : List ℕ). Completes on w c.args.from c.args.arcs.now c.loop-arc.at l c.loop-arc.steps.items) split
+    c.loop-arc.invariant.done in
     record {
       left = path_after _ _ _ _ _ left c.step-head.ensures.head;
-      done = rw c.in_ok-push.ensures.items (one_more on w _ _ _ _ _ _ _ _ done c.step-head.ensures.head c.step-head.ensures.step);
+      done =
+          rw c.in_ok-push.ensures.items
+          (one_more on w _ _ _ _ _ _ _ _ done c.step-head.ensures.head c.step-head.ensures.step);
     }
 
 pub returns : goal.returns
@@ -38,5 +45,7 @@ returns g c =
     let w = c.args.world.now in
     let on : Site _ = site_of g.W.Graph.network g.W.Terrain.cells g.W.Best.Heuristic.says g.W.Workspace.wording in
     let over = none_left c.args.arcs.now c.loop-arc.arc-index c.loop-arc-test.false in
-    let done = subst (λ (l : List ℕ). Completes on w c.args.from c.args.arcs.now c.loop-arc.at l c.loop-arc.steps.items) over c.loop-arc.invariant.done in
+    let done =
+    subst (λ (l : List ℕ). Completes on w c.args.from c.args.arcs.now c.loop-arc.at l c.loop-arc.steps.items) over
+    c.loop-arc.invariant.done in
     record { steps = rw c.of.ensures.steps (all_done on w _ c.loop-arc.at _ _ done) }

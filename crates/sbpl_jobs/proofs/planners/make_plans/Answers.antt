@@ -13,4 +13,5 @@ is_back planner.AdStar is = absurd cc
 is_back planner.Epase is = absurd cc
 
 pub returns-then-may_move-clause-ends : goal.returns-then-may_move-clause-ends
-returns-then-may_move-clause-ends g c = ends_by planner.Back (is_back _ (sym c.may_move.ensures.value ∙ c.if-may_move.true)) c.plans_by_back.ensures.ends
+returns-then-may_move-clause-ends g c =
+    ends_by planner.Back (is_back _ (sym c.may_move.ensures.value ∙ c.if-may_move.true)) c.plans_by_back.ensures.ends

@@ -6,4 +6,5 @@ use Rattle.sbpl_jobs.proofs.section_check.check_either.Goals as goal
 
 pub returns-in-Sparse-clause-none : goal.returns-in-Sparse-clause-none
 returns-in-Sparse-clause-none g c =
-    subst (λ (s : Section). OnOk c.check_sparse.result (HasNoFlaw (g.G.Graph.network c.args.graph.now) c.args.start c.args.goal (claim_by (g.H.Guide.distance c.args.guide.now) s))) (sym c.in-Sparse.is) c.check_sparse.ensures.none
+    subst (λ (s : Section). OnOk c.check_sparse.result (HasNoFlaw (g.G.Graph.network c.args.graph.now) c.args.start
+    c.args.goal (claim_by (g.H.Guide.distance c.args.guide.now) s))) (sym c.in-Sparse.is) c.check_sparse.ensures.none

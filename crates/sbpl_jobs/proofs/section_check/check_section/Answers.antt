@@ -5,7 +5,10 @@ use Rattle.sbpl_cert.specs.Versions.{IsOf, arcs_of}
 use Rattle.sbpl_jobs.proofs.section_check.check_section.Goals as goal
 
 pub check_either-requires-clause-of : goal.check_either-requires-clause-of
-check_either-requires-clause-of g c = (c.args.plan, subst (λ n. IsOf c.args.plan n c.in_ok-section.section) c.states.ensures.value c.in_ok-section.ensures.of)
+check_either-requires-clause-of g c = (
+  c.args.plan,
+  subst (λ n. IsOf c.args.plan n c.in_ok-section.section) c.states.ensures.value c.in_ok-section.ensures.of,
+)
 
 pub returns-in-Ok-clause-holds : goal.returns-in-Ok-clause-holds
 returns-in-Ok-clause-holds g c =
@@ -19,5 +22,7 @@ returns-in-Ok-clause-holds g c =
         no_flaw = c.in-Ok.ensures.none;
       };
       shows = c.in-Ok.ensures.shows;
-      so = subst (λ (o : Outcome). IsSo (g.G.Graph.network c.args.graph.now) c.args.start c.args.goal (arcs_of c.in_ok-section.section) o) (sym c.outcome.ensures.value) c.in-Ok.ensures.so;
+      so =
+          subst (λ (o : Outcome). IsSo (g.G.Graph.network c.args.graph.now) c.args.start c.args.goal
+          (arcs_of c.in_ok-section.section) o) (sym c.outcome.ensures.value) c.in-Ok.ensures.so;
     }

@@ -10,4 +10,5 @@ returns-clause-least c =
     let low = c.from-2.ensures in
     let q = c.div_ceil-thousandths.ensures in
     cc in
-    bound_rounded_up c.args.cost c.args.low c.div_ceil-thousandths.result c.max.result (omega arith) quotient c.max.ensures
+    bound_rounded_up c.args.cost c.args.low c.div_ceil-thousandths.result c.max.result
+    (omega arith) quotient c.max.ensures

@@ -11,8 +11,21 @@ use Rattle.sbpl_laws.proofs.facts.records_are_determined.Goals as goal
 pub returns : goal.returns
 returns c =
     let run = c.run_is_determined.ensures in
-    let by_ara : IsPlannerDetermined ara = record { passes = run.determined; beginnings = run.anew; plans = c.plan_is_determined.ensures.passes } in
-    let by_adstar : IsPlannerDetermined adstar = record { passes = run.determined; beginnings = run.repaired; plans = c.plan_is_determined-2.ensures.passes } in
-    let first = few_are_first lattice_site AreAlikeWorlds (lattices_alike c.alike_worlds_are_one_graph.ensures.law) (of_each by_ara by_adstar) c.paths_turn_round.ensures.once run.initial c.plan_is_determined.ensures.outcome c.cut_rows_are_one.ensures.one c.writes_lead_to_the_next_map.ensures.one_map in
-    let on_grids = few_are_first grid_site AreOneGrid grids_alike (of_each by_ara by_adstar) c.paths_turn_round.ensures.once run.initial c.plan_is_determined.ensures.outcome c.cut_rows_are_one.ensures.one c.writes_lead_to_the_next_map.ensures.one_map in
-    record { law = records_are_one lattice_site AreAlikeWorlds first; few = first; grids = records_are_one grid_site AreOneGrid on_grids; few_on_grids = on_grids }
+    let by_ara : IsPlannerDetermined ara =
+    record { passes = run.determined; beginnings = run.anew; plans = c.plan_is_determined.ensures.passes } in
+    let by_adstar : IsPlannerDetermined adstar =
+    record { passes = run.determined; beginnings = run.repaired; plans = c.plan_is_determined-2.ensures.passes } in
+    let first =
+    few_are_first lattice_site AreAlikeWorlds (lattices_alike c.alike_worlds_are_one_graph.ensures.law)
+    (of_each by_ara by_adstar) c.paths_turn_round.ensures.once run.initial c.plan_is_determined.ensures.outcome
+    c.cut_rows_are_one.ensures.one c.writes_lead_to_the_next_map.ensures.one_map in
+    let on_grids =
+    few_are_first grid_site AreOneGrid grids_alike (of_each by_ara by_adstar) c.paths_turn_round.ensures.once
+    run.initial c.plan_is_determined.ensures.outcome c.cut_rows_are_one.ensures.one
+    c.writes_lead_to_the_next_map.ensures.one_map in
+    record {
+      law = records_are_one lattice_site AreAlikeWorlds first;
+      few = first;
+      grids = records_are_one grid_site AreOneGrid on_grids;
+      few_on_grids = on_grids;
+    }

@@ -3,9 +3,13 @@ use Rattle.sbpl_laws.proofs.facts.texts_are_clear.Goals as goal
 
 pub returns : goal.returns
 returns c = record {
-  files = texts_clear c.texts_are_environments_or_faulty.ensures.one_value c.texts_are_environments_or_faulty.ensures.not_both c.texts_are_environments_or_faulty.ensures.one_fault
-      c.texts_are_primitives_or_faulty.ensures.one_value c.texts_are_primitives_or_faulty.ensures.not_both c.texts_are_primitives_or_faulty.ensures.one_fault
-      c.texts_are_grids_or_faulty.ensures.one_value c.texts_are_grids_or_faulty.ensures.not_both c.texts_are_grids_or_faulty.ensures.one_fault
+  files =
+      texts_clear c.texts_are_environments_or_faulty.ensures.one_value
+      c.texts_are_environments_or_faulty.ensures.not_both c.texts_are_environments_or_faulty.ensures.one_fault
+      c.texts_are_primitives_or_faulty.ensures.one_value c.texts_are_primitives_or_faulty.ensures.not_both
+      c.texts_are_primitives_or_faulty.ensures.one_fault
+      c.texts_are_grids_or_faulty.ensures.one_value c.texts_are_grids_or_faulty.ensures.not_both
+      c.texts_are_grids_or_faulty.ensures.one_fault
       (one_course_for c.texts_are_changes_or_faulty.ensures.one_value c.texts_are_moves_or_faulty.ensures.one_value)
       (not_both_for c.texts_are_changes_or_faulty.ensures.not_both c.texts_are_moves_or_faulty.ensures.not_both)
       (one_fault_for c.texts_are_changes_or_faulty.ensures.one_fault c.texts_are_moves_or_faulty.ensures.one_fault);

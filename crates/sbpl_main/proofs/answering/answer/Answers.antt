@@ -54,7 +54,8 @@ pub returns-in-None-clause-asked : goal.returns-in-None-clause-asked
 returns-in-None-clause-asked g c = λ some. absurd (none_asked _ (sym c.read_asked.ensures.asked ∙ c.in-None.is) some)
 
 pub returns-in-None-clause-unwritten : goal.returns-in-None-clause-unwritten
-returns-in-None-clause-unwritten g c = λ some. absurd (none_asked _ (sym c.read_asked.ensures.asked ∙ c.in-None.is) some)
+returns-in-None-clause-unwritten g c =
+    λ some. absurd (none_asked _ (sym c.read_asked.ensures.asked ∙ c.in-None.is) some)
 
 pub returns-in-None-clause-run : goal.returns-in-None-clause-run
 returns-in-None-clause-run g c = λ _. c.run_with-status.ensures.promises
@@ -66,7 +67,8 @@ pub returns-in-None-clause-board : goal.returns-in-None-clause-board
 returns-in-None-clause-board g c = c.run_with-status.ensures.board
 
 pub returns-in-None-clause-unpublished : goal.returns-in-None-clause-unpublished
-returns-in-None-clause-unpublished g c = λ some. absurd (none_asked _ (sym c.read_asked.ensures.asked ∙ c.in-None.is) some)
+returns-in-None-clause-unpublished g c =
+    λ some. absurd (none_asked _ (sym c.read_asked.ensures.asked ∙ c.in-None.is) some)
 
 pub returns-in-None-clause-quiet : goal.returns-in-None-clause-quiet
 returns-in-None-clause-quiet g c = c.explain.ensures.quiet

@@ -1,4 +1,5 @@
-use Rattle.sbpl_map.proofs.Texts.{moves_faulty, moves_fault_given, moves_found, moves_given, moves_on, one_for_each, places_on}
+use Rattle.sbpl_map.proofs.Texts.{moves_faulty, moves_fault_given, moves_found, moves_given}
+use Rattle.sbpl_map.proofs.Texts.{moves_on, one_for_each, places_on}
 use Rattle.sbpl_map.proofs.read.read_moves.Goals as goal
 
 pub returns-clause-found : goal.returns-clause-found

@@ -1,5 +1,6 @@
 use Rattle.std.proofs.Common.{sym, ap, ◌∙◌}
-use Rattle.sbpl_map.proofs.Texts.{Course, moves_fault_given, moves_given, moves_of, moves_or_fault, same_course, same_batches, same_fault}
+use Rattle.sbpl_map.proofs.Texts.{Course, moves_fault_given, moves_given, moves_of, moves_or_fault}
+use Rattle.sbpl_map.proofs.Texts.{same_course, same_batches, same_fault}
 use Rattle.sbpl_map.proofs.text.texts_are_moves_or_faulty.Goals as goal
 
 pub returns-clause-either : goal.returns-clause-either

@@ -4,8 +4,10 @@ use Rattle.sbpl_job.specs.declared.job.Job.{Job}
 use Rattle.sbpl_message.specs.Reasons.{IsOnEnvironment, IsOnEnvironmentOf}
 use Rattle.sbpl_message.proofs.reason.on_named_job.Goals as goal
 
-of_named : {M : Type 0} (items : M → List ℕ) (desk : DeskState) (named : Option Job) (j : Job) (message : Option M) → named ≡ Some j
-    → IfSome message (λ m. IsOnEnvironment desk j (items m)) → IfSome message (λ m. IsOnEnvironmentOf desk named (items m))
+of_named : {M : Type 0} (items : M → List ℕ) (desk : DeskState) (named : Option Job) (j : Job) (message : Option M)
+    → named ≡ Some j
+    → IfSome message (λ m. IsOnEnvironment desk j (items m))
+    → IfSome message (λ m. IsOnEnvironmentOf desk named (items m))
 of_named items desk named j (Some m) is on = (j, is, on)
 of_named items desk named j None is on = tt
 

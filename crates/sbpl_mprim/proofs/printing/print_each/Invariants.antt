@@ -5,4 +5,5 @@ use Rattle.sbpl_mprim.specs.Printed.{prim_lines}
 use Rattle.sbpl_mprim.proofs.printing.print_each.Given as goal
 
 abbrev pub invariant-loop-prim : goal.invariant-loop-prim
-invariant-loop-prim l = l.out.items ≡ l.initial.out.items ++ lines_text (flat_map prim_lines (take l.prim-index l.prims))
+invariant-loop-prim l =
+    l.out.items ≡ l.initial.out.items ++ lines_text (flat_map prim_lines (take l.prim-index l.prims))

@@ -5,7 +5,10 @@ use Rattle.sbpl_mprim.proofs.text.texts_are_primitives_or_faulty.Goals as goal
 
 pub returns : goal.returns
 returns c = record {
-  format = λ text ps sizes. (λ h. file_found ps.cell ps.headings text ps.items sizes.cell_is sizes.some sizes.few h, λ h. file_said ps text h);
+  format = λ text ps sizes. (
+    λ h. file_found ps.cell ps.headings text ps.items sizes.cell_is sizes.some sizes.few h,
+    λ h. file_said ps text h,
+  );
   either = each_is_either;
   not_both = never_both;
   one_value = one_value;

@@ -11,15 +11,18 @@ if_none None P h = h
 if_none (Some t) P h = tt
 
 -- where the head is looked for
-there_is : (cell offset from step there : Cell) (k : ℕ) → there ≡ moved from step → from ≡ moved_back cell offset → step ≡ direction k
+there_is : (cell offset from step there : Cell) (k : ℕ) → there ≡ moved from step
+    → from ≡ moved_back cell offset → step ≡ direction k
     → there ≡ moved (moved_back cell offset) (direction k)
-there_is cell offset from step there k is from_is step_is = is ∙ ap (λ a. moved a step) from_is ∙ ap (moved (moved_back cell offset)) step_is
+there_is cell offset from step there k is from_is step_is =
+    is ∙ ap (λ a. moved a step) from_is ∙ ap (moved (moved_back cell offset)) step_is
 
 pub returns-in_err-source-clause-no_state : goal.returns-in_err-source-clause-no_state
 returns-in_err-source-clause-no_state c =
     let none : state_at c.args.nav.now.map (moved_back c.args.cell c.args.offset) ≡ None =
     ap (state_at c.args.nav.now.map) (sym c.moved_back-from.ensures.cell) ∙ sym c.in_err-source.ensures.value in
-    if_none _ _ (no_source c.args.end c.args.nav.now c.args.k c.args.offset c.args.cell c.env-env.ensures.kept c.requires.number none)
+    if_none _ _ (no_source c.args.end c.args.nav.now c.args.k c.args.offset c.args.cell
+    c.env-env.ensures.kept c.requires.number none)
 
 pub returns-in_err-head-clause-no_state : goal.returns-in_err-head-clause-no_state
 returns-in_err-head-clause-no_state c =
@@ -27,7 +30,8 @@ returns-in_err-head-clause-no_state c =
     c.moved.ensures.cell c.moved_back-from.ensures.cell c.direction.ensures.value in
     let none : state_at c.args.nav.now.map (moved (moved_back c.args.cell c.args.offset) (direction c.args.k)) ≡ None =
     ap (state_at c.args.nav.now.map) (sym there) ∙ sym c.in_err-head.ensures.value in
-    if_none _ _ (no_end c.args.end c.args.nav.now c.args.k c.args.offset c.args.cell c.env-env.ensures.kept c.requires.number none)
+    if_none _ _ (no_end c.args.end c.args.nav.now c.args.k c.args.offset c.args.cell
+    c.env-env.ensures.kept c.requires.number none)
 
 pub returns-in-Source-clause-state : goal.returns-in-Source-clause-state
 returns-in-Source-clause-state c =

@@ -14,7 +14,8 @@ returns-clause-added c =
     c.push_some.new.states.items c.end_reading.ensures.state c.end_reading.ensures.no_state
     c.in_ok-push_some.ensures.added in
     on_ok_weaker c.push_some-2.result (λ kept.
-    let second = pushed c.args.end w c.args.k c.args.that c.args.cell c.end_reading-2.result c.push_some.new.states.items
+    let second =
+    pushed c.args.end w c.args.k c.args.that c.args.cell c.end_reading-2.result c.push_some.new.states.items
     c.push_some-2.new.states.items c.end_reading-2.ensures.state c.end_reading-2.ensures.no_state kept in
     adds_both c.args.end (network_of w) This That
     (λ s n. This s n ⊎ That s n)

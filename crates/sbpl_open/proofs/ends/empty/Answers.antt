@@ -4,7 +4,8 @@ use Rattle.sbpl_open.proofs.ends.empty.Goals as goal
 
 pub loop-entry-preserved : goal.loop-entry-preserved
 loop-entry-preserved c = (
-  agreed_pop c.loop-entry.heap.items c.pop.new.self.items c.loop-entry.slots c.in-Some.entry c.in-Some.ensures.items c.loop-entry.invariant.0,
+  agreed_pop c.loop-entry.heap.items c.pop.new.self.items c.loop-entry.slots c.in-Some.entry c.in-Some.ensures.items
+      c.loop-entry.invariant.0,
   c.in-Some.ensures.capacity ∙ c.loop-entry.invariant.1,
 )
 

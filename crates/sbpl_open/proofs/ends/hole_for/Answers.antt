@@ -13,5 +13,7 @@ returns-then-slot-gt0-clause-hole c = hole_there c.args.entry c.requires.agreed 
 
 pub returns-clause-hole : goal.returns-clause-hole
 returns-clause-hole c =
-    let at : c.len.result - 1 ≡ length c.args.heap.now.items = omega (arith, c.len.ensures, c.push_reserved.ensures.len) in
-    rw (c.push_reserved.ensures.items, at) (hole_pushed c.args.entry c.requires.agreed c.requires.ordered (omega arith) c.requires.state)
+    let at : c.len.result - 1 ≡ length c.args.heap.now.items =
+    omega (arith, c.len.ensures, c.push_reserved.ensures.len) in
+    rw (c.push_reserved.ensures.items, at)
+    (hole_pushed c.args.entry c.requires.agreed c.requires.ordered (omega arith) c.requires.state)

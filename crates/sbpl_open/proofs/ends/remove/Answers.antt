@@ -23,9 +23,11 @@ sift-requires-clause-hole c =
     let last = c.len-last.result - 1 in
     let slot = place_at c.args.s c.requires.agreed c.requires.there in
     let len : length heap ≡ last + 1 = omega (arith, c.len-last.ensures, slot.0) in
-    let moved : c.index-moved.result.now ≡ entry_at heap last = get_or_read heap last c.index-moved.result.now (omega arith) c.index-moved.ensures no_entry in
+    let moved : c.index-moved.result.now ≡ entry_at heap last =
+    get_or_read heap last c.index-moved.result.now (omega arith) c.index-moved.ensures no_entry in
     rw (c.deref_mut.ensures.value ∙ c.truncate.ensures.items, moved)
-    (hole_closing heap c.args.slots.now c.args.s (slice_index c.args.slots.now c.args.s - 1) last c.requires.agreed c.requires.ordered len slot.1 c.if-gap-last.true)
+    (hole_closing heap c.args.slots.now c.args.s (slice_index c.args.slots.now c.args.s - 1) last c.requires.agreed
+    c.requires.ordered len slot.1 c.if-gap-last.true)
 
 pub returns-then-gap-last-clause-keys : goal.returns-then-gap-last-clause-keys
 returns-then-gap-last-clause-keys c =
@@ -33,10 +35,12 @@ returns-then-gap-last-clause-keys c =
     let last = c.len-last.result - 1 in
     let slot = place_at c.args.s c.requires.agreed c.requires.there in
     let len : length heap ≡ last + 1 = omega (arith, c.len-last.ensures, slot.0) in
-    let moved : c.index-moved.result.now ≡ entry_at heap last = get_or_read heap last c.index-moved.result.now (omega arith) c.index-moved.ensures no_entry in
+    let moved : c.index-moved.result.now ≡ entry_at heap last =
+    get_or_read heap last c.index-moved.result.now (omega arith) c.index-moved.ensures no_entry in
     let kept = rw (c.deref_mut.ensures.value ∙ c.truncate.ensures.items, moved) at c.sift.ensures.keys in
     rw (with_items_is c.truncate.new.self c.sift.new.heap (omega arith))
-    (changes_then (keys_closing heap c.args.slots.now c.args.s (slice_index c.args.slots.now c.args.s - 1) last c.requires.agreed c.requires.ordered len slot.1 c.if-gap-last.true) kept)
+    (changes_then (keys_closing heap c.args.slots.now c.args.s (slice_index c.args.slots.now c.args.s - 1) last
+    c.requires.agreed c.requires.ordered len slot.1 c.if-gap-last.true) kept)
 
 pub returns-else-gap-last-clause-agreed : goal.returns-else-gap-last-clause-agreed
 returns-else-gap-last-clause-agreed c =
@@ -45,7 +49,8 @@ returns-else-gap-last-clause-agreed c =
     let slot = place_at c.args.s c.requires.agreed c.requires.there in
     let len : length heap ≡ last + 1 = omega (arith, c.len-last.ensures, slot.0) in
     rw c.truncate.ensures.items
-    (agreed_leaving heap c.args.slots.now c.args.s (slice_index c.args.slots.now c.args.s - 1) last c.requires.agreed c.requires.ordered len slot.1 c.if-gap-last.false slot.0)
+    (agreed_leaving heap c.args.slots.now c.args.s (slice_index c.args.slots.now c.args.s - 1) last c.requires.agreed
+    c.requires.ordered len slot.1 c.if-gap-last.false slot.0)
 
 pub returns-else-gap-last-clause-keys : goal.returns-else-gap-last-clause-keys
 returns-else-gap-last-clause-keys c =
@@ -54,12 +59,15 @@ returns-else-gap-last-clause-keys c =
     let slot = place_at c.args.s c.requires.agreed c.requires.there in
     let len : length heap ≡ last + 1 = omega (arith, c.len-last.ensures, slot.0) in
     rw c.truncate.ensures.items
-    (keys_leaving heap c.args.slots.now c.args.s (slice_index c.args.slots.now c.args.s - 1) last c.requires.agreed c.requires.ordered len slot.1 c.if-gap-last.false slot.0)
+    (keys_leaving heap c.args.slots.now c.args.s (slice_index c.args.slots.now c.args.s - 1) last c.requires.agreed
+    c.requires.ordered len slot.1 c.if-gap-last.false slot.0)
 
 pub returns-then-gap-last-clause-agreed : goal.returns-then-gap-last-clause-agreed
-returns-then-gap-last-clause-agreed c = rw (with_items_is c.truncate.new.self c.sift.new.heap (omega arith)) c.sift.ensures.agreed
+returns-then-gap-last-clause-agreed c =
+    rw (with_items_is c.truncate.new.self c.sift.new.heap (omega arith)) c.sift.ensures.agreed
 
 pub returns-then-gap-last-clause-ordered : goal.returns-then-gap-last-clause-ordered
 returns-then-gap-last-clause-ordered c =
     let same : length c.deref_mut.result.now ≡ length c.sift.new.heap = omega arith in
-    rw (with_items_is c.truncate.new.self c.sift.new.heap (omega arith)) (subst (λ (n : ℕ). IsHeap n (rank_at c.sift.new.heap)) same c.sift.ensures.ordered)
+    rw (with_items_is c.truncate.new.self c.sift.new.heap (omega arith))
+    (subst (λ (n : ℕ). IsHeap n (rank_at c.sift.new.heap)) same c.sift.ensures.ordered)

@@ -14,7 +14,8 @@ pub fill-requires-clause-state : goal.fill-requires-clause-state
 fill-requires-clause-state c =
     let child = c.in-Some.ensures.child in
     let apart = child_apart c.loop-below.heap c.loop-below.hole c.in-Some.below child in
-    next_known c.loop-below.heap c.loop-below.slots c.loop-below.hole c.in-Some.below c.args.entry c.loop-below.invariant.0.stands child.inside apart
+    next_known c.loop-below.heap c.loop-below.slots c.loop-below.hole c.in-Some.below c.args.entry
+    c.loop-below.invariant.0.stands child.inside apart
 
 pub loop-below-preserved : goal.loop-below-preserved
 loop-below-preserved c =
@@ -23,7 +24,8 @@ loop-below-preserved c =
     let lower : rank (entry_at c.loop-below.heap c.in-Some.below) ≤ rank c.args.entry = omega arith in
     rw (c.fill.ensures.heap, c.fill.ensures.slots) (
       moves_down c.loop-below.heap c.loop-below.slots c.loop-below.hole c.in-Some.below c.args.entry moving child lower,
-      moves_after c.loop-below.heap c.loop-below.slots c.loop-below.hole c.in-Some.below c.args.entry moving child lower,
+      moves_after c.loop-below.heap c.loop-below.slots c.loop-below.hole c.in-Some.below
+          c.args.entry moving child lower,
     )
 
 pub returns-then-not-comes_before-clause-hole : goal.returns-then-not-comes_before-clause-hole

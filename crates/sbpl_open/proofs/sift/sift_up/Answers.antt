@@ -12,7 +12,8 @@ fill-requires-clause-few c =
 pub fill-requires-clause-state : goal.fill-requires-clause-state
 fill-requires-clause-state c =
     let stands = c.loop-hole.invariant.stands in
-    next_known c.loop-hole.heap c.loop-hole.slots c.loop-hole.hole (parent c.loop-hole.hole) c.args.entry stands (omega (arith, stands.inside)) (omega arith)
+    next_known c.loop-hole.heap c.loop-hole.slots c.loop-hole.hole (parent c.loop-hole.hole) c.args.entry stands
+    (omega (arith, stands.inside)) (omega arith)
 
 pub loop-hole-preserved : goal.loop-hole-preserved
 loop-hole-preserved c =

@@ -14,6 +14,7 @@ unknown_agrees found.Broken is = tt
 
 pub returns : goal.returns
 returns c = record {
-  outcome = λ n h finds. cut_or_unknown n h _ _ _ _ finds c.in-None.is (λ cut. let yes = c.if-shows_none.ensures.cut_off.1 cut in let no : ⊥ = cc yes in no);
+  outcome = λ n h finds. cut_or_unknown n h _ _ _ _ finds c.in-None.is
+      (λ cut. let yes = c.if-shows_none.ensures.cut_off.1 cut in let no : ⊥ = cc yes in no);
   agrees = unknown_agrees _ c.in-None.is;
 }

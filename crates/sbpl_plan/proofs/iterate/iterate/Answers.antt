@@ -8,18 +8,27 @@ use Rattle.std.proofs.Common.{inl}
 
 pub returns-clause-iteration : goal.returns-clause-iteration
 returns-clause-iteration g c =
-    iteration_of g.S.Search.meaning _ _ _ _ _ _ _ _ _ _ (c.is_spent-spent.ensures.spent.0) (c.is_spent-spent.ensures.rest.0) c.requires.fresh
-    (g.met.S.Search.usable _ _ _ c.in_ok-end.ensures.passed.ready).states c.in_ok-end.ensures.passed _ _ refl c.expanded-expanded.ensures.value
+    iteration_of g.S.Search.meaning _ _ _ _ _ _ _ _ _ _ (c.is_spent-spent.ensures.spent.0)
+    (c.is_spent-spent.ensures.rest.0) c.requires.fresh
+    (g.met.S.Search.usable _ _ _ c.in_ok-end.ensures.passed.ready).states c.in_ok-end.ensures.passed _ _ refl
+    c.expanded-expanded.ensures.value
     c.in_ok-trace.ensures.told
     _ c.requires.goal c.look-found.ensures.found
 
 pub returns-in_err-trace-clause-memory : goal.returns-in_err-trace-clause-memory
 returns-in_err-trace-clause-memory g c =
     let new : State g.row.S-Note.Denot = g.S.Search.state c.pass.new.self in
-    on_err c.from_residual-in_err-trace.result _ (inl (part_of_one g.S.Search.meaning _ _ _ _ _ _ _ _ (record { inflation = c.args.eps; expanded = c.expanded-expanded.result; found = c.look-found.result; trace = if c.args.ask.now.traced then new.notes else [] })
+    on_err c.from_residual-in_err-trace.result _ (inl (part_of_one g.S.Search.meaning _ _ _ _ _ _ _ _ (record {
+      inflation = c.args.eps;
+      expanded = c.expanded-expanded.result;
+      found = c.look-found.result;
+      trace = if c.args.ask.now.traced then new.notes else [];
+    })
     _ (c.tell.new.observer, c.tell.ensures.told, refl)
-    (iteration_of g.S.Search.meaning _ _ _ _ _ _ _ _ _ _ (c.is_spent-spent.ensures.spent.0) (c.is_spent-spent.ensures.rest.0) c.requires.fresh
-    (g.met.S.Search.usable _ _ _ c.in_ok-end.ensures.passed.ready).states c.in_ok-end.ensures.passed _ _ refl c.expanded-expanded.ensures.value
+    (iteration_of g.S.Search.meaning _ _ _ _ _ _ _ _ _ _ (c.is_spent-spent.ensures.spent.0)
+    (c.is_spent-spent.ensures.rest.0) c.requires.fresh
+    (g.met.S.Search.usable _ _ _ c.in_ok-end.ensures.passed.ready).states c.in_ok-end.ensures.passed _ _ refl
+    c.expanded-expanded.ensures.value
     refl _ c.requires.goal c.look-found.ensures.found)))
 
 pub tell-requires-clause-bound : goal.tell-requires-clause-bound

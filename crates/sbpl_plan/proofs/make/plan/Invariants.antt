@@ -7,7 +7,8 @@ use Rattle.sbpl_plan.proofs.make.plan.Given as goal
 
 abbrev pub invariant-loop-passes : goal.invariant-loop-passes
 invariant-loop-passes g l = record {
-  going_on : AreGoingOn g.S.Search.meaning (inquiry_of (g.G.Graph.network l.graph) (g.H.Guide.distance l.guide) l.goal l.ask) (g.S.Search.state l.fn.search) (g.S.Search.state l.search) l.fn.budget l.budget l.passes.items l.eps;
+  going_on : AreGoingOn g.S.Search.meaning (inquiry_of (g.G.Graph.network l.graph) (g.H.Guide.distance l.guide) l.goal
+      l.ask) (g.S.Search.state l.fn.search) (g.S.Search.state l.search) l.fn.budget l.budget l.passes.items l.eps;
   low : 1000 ≤ l.eps;
   high : l.eps ≤ 100000;
   room : states_of (g.S.Search.state l.fn.search).labels ≤ vec_capacity l.arcs;

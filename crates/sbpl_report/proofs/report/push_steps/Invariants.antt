@@ -4,4 +4,5 @@ use Rattle.sbpl_report.proofs.report.push_steps.Given as goal
 
 -- what is written, and the lines that are left, are what stood before and all lines
 abbrev pub invariant-loop-step : goal.invariant-loop-step
-invariant-loop-step l = l.out.items ++ flat_map step_text (drop l.step-index l.steps) ≡ l.fn.out.items ++ flat_map step_text l.steps
+invariant-loop-step l =
+    l.out.items ++ flat_map step_text (drop l.step-index l.steps) ≡ l.fn.out.items ++ flat_map step_text l.steps

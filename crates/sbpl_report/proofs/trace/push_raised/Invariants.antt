@@ -4,4 +4,5 @@ use Rattle.sbpl_report.proofs.trace.push_raised.Given as goal
 
 -- what is written, and the lines that are left, are what stood before and all lines
 abbrev pub invariant-loop-state : goal.invariant-loop-state
-invariant-loop-state l = l.out.items ++ flat_map raise_text (drop l.state-index l.states) ≡ l.fn.out.items ++ flat_map raise_text l.states
+invariant-loop-state l =
+    l.out.items ++ flat_map raise_text (drop l.state-index l.states) ≡ l.fn.out.items ++ flat_map raise_text l.states

@@ -2,4 +2,9 @@ use Rattle.sbpl_serial.proofs.Raising.{raising_begins, raising_ends, raising_goe
 use Rattle.sbpl_serial.proofs.facts.raising_goes_arc_by_arc.Goals as goal
 
 pub returns : goal.returns
-returns c = record { begins = raising_begins; goes_on = raising_goes_on; lowers_none = raising_lowers_none; ends = raising_ends }
+returns c = record {
+  begins = raising_begins;
+  goes_on = raising_goes_on;
+  lowers_none = raising_lowers_none;
+  ends = raising_ends;
+}

@@ -7,7 +7,9 @@ use Rattle.sbpl_serial.proofs.low.low_of_queue.Goals as goal
 pub loop-entry-preserved : goal.loop-entry-preserved
 loop-entry-preserved g c =
     let listed = c.entries-entries.ensures.listed c.loop-entry.entry-index c.loop-entry-test.true in
-    let inside = queued_inside c.args.queue.now (state_at c.entries-entries.result.now c.loop-entry.entry-index) (rw listed refl) in
+    let inside =
+    queued_inside c.args.queue.now (state_at c.entries-entries.result.now c.loop-entry.entry-index) (rw listed refl) in
     low_same
-    (low_more c.loop-entry.invariant (omega (arith, inside, c.requires.states)) c.low_with-low.ensures.falls c.low_with-low.ensures.own c.low_with-low.ensures.greatest)
+    (low_more c.loop-entry.invariant (omega (arith, inside, c.requires.states)) c.low_with-low.ensures.falls
+    c.low_with-low.ensures.own c.low_with-low.ensures.greatest)
     (before_next _ c.loop-entry.entry-index)

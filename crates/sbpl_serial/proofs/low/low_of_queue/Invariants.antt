@@ -4,4 +4,5 @@ use Rattle.sbpl_serial.proofs.Lowering.{IsBefore}
 use Rattle.sbpl_serial.proofs.low.low_of_queue.Given as goal
 
 abbrev pub invariant-loop-entry : goal.invariant-loop-entry
-invariant-loop-entry g l = IsLowOf l.labels l.goal (g.H.Guide.distance l.guide) (IsBefore (state_at l.entries) l.entry-index) l.low
+invariant-loop-entry g l =
+    IsLowOf l.labels l.goal (g.H.Guide.distance l.guide) (IsBefore (state_at l.entries) l.entry-index) l.low

@@ -10,4 +10,5 @@ loop-step-preserved c =
     let i = c.loop-step.step-index in
     let none : Step = record { state = 0; raised = false } in
     rw (take_more steps i none c.loop-step-test.true)
-    (taken_more (take i steps) (slice_index_or steps i none) c.loop-step.invariant c.note.ensures.states c.note.ensures.kept c.note.ensures.noted)
+    (taken_more (take i steps) (slice_index_or steps i none) c.loop-step.invariant c.note.ensures.states
+    c.note.ensures.kept c.note.ensures.noted)

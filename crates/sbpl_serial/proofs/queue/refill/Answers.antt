@@ -11,4 +11,5 @@ loop-step-preserved g c =
     let none : Step = record { state = 0; raised = false } in
     let step = slice_index_or steps i none in
     rw (take_more steps i none c.loop-step-test.true)
-    (refilled_step _ _ (λ key. (key.0, key.1)) (take i steps) step c.key_of-key.result c.loop-step.invariant c.key_of-key.ensures.key c.change.ensures.changed)
+    (refilled_step _ _ (λ key. (key.0, key.1)) (take i steps) step c.key_of-key.result c.loop-step.invariant
+    c.key_of-key.ensures.key c.change.ensures.changed)

@@ -5,11 +5,13 @@ use Rattle.sbpl_serial.proofs.raise.raise.Goals as goal
 
 pub requeue-requires-in-loop-k-clause-unplaced : goal.requeue-requires-in-loop-k-clause-unplaced
 requeue-requires-in-loop-k-clause-unplaced g c =
-    returned_unplaced _ _ (g.G.Graph.network c.args.graph.now) _ _ _ _ _ c.loop-k.invariant.1 c.recompute_head-head.ensures.returned
+    returned_unplaced _ _ (g.G.Graph.network c.args.graph.now) _ _ _ _ _ c.loop-k.invariant.1
+    c.recompute_head-head.ensures.returned
 
 pub loop-k-preserved : goal.loop-k-preserved
 loop-k-preserved g c = (
-  raising_more c.args.labels.now c.args.s c.requires.usable.exact c.requires.usable.states c.loop-k.k c.loop-k.invariant.0 _
+  raising_more c.args.labels.now c.args.s c.requires.usable.exact c.requires.usable.states
+      c.loop-k.k c.loop-k.invariant.0 _
       c.recompute_head-head.ensures.returned c.recompute_head-head.ensures.fits,
   c.requeue-in-loop-k.ensures.queued,
 )
@@ -26,7 +28,8 @@ returns-clause-usable g c = λ count usable.
       states = here.same_states ∙ usable.states;
       exact =
           exact_raised c.args.labels.now c.args.s c.requires.usable.exact c.requires.usable.states here
-          (omega (arith, c.loop-k-test.false, c.fan-k-end.ensures.value)) c.states-states.ensures.sound c.states-states.ensures.tails
+          (omega (arith, c.loop-k-test.false, c.fan-k-end.ensures.value)) c.states-states.ensures.sound
+          c.states-states.ensures.tails
           c.start-raised.ensures.labels;
       fits = here.fits count usable.fits;
     }

@@ -4,7 +4,8 @@ use Rattle.sbpl_serial.proofs.repair.recompute_all.Goals as goal
 
 pub loop-t-preserved : goal.loop-t-preserved
 loop-t-preserved g c =
-    repaired_more c.loop-t.t-index c.loop-t.invariant c.recompute.ensures.recomputed c.recompute.ensures.start c.recompute.ensures.fits
+    repaired_more c.loop-t.t-index c.loop-t.invariant c.recompute.ensures.recomputed c.recompute.ensures.start
+    c.recompute.ensures.fits
 
 pub returns-clause-repaired : goal.returns-clause-repaired
 returns-clause-repaired g c =

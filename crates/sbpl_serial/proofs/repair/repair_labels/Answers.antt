@@ -7,7 +7,8 @@ pub returns-clause-repaired : goal.returns-clause-repaired
 returns-clause-repaired g c = record {
   repaired = c.recompute_all.ensures.repaired;
   exact =
-      exact_repaired c.states-states.ensures.sound c.states-states.ensures.tails c.start-start.ensures.labels c.requires.states c.recompute_all.ensures.repaired
+      exact_repaired c.states-states.ensures.sound c.states-states.ensures.tails c.start-start.ensures.labels
+      c.requires.states c.recompute_all.ensures.repaired
       (λ t inside apart none. c.requires.changeable.untouched t (omega (arith, c.requires.states)) apart none);
 }
 

@@ -7,4 +7,8 @@ use Rattle.sbpl_sweep.proofs.centres.sort_cells.Goals as goal
 pub returns : goal.returns
 returns c =
     let is = dedup_is _ _ _ c.dedup.ensures.filtered in
-    record { sorted = ordered_cells _ c.sort.new.self.items _ total-law laws-law matches_eq-law c.in_ok-sort.ensures.permutation c.in_ok-sort.ensures.sorted is }
+    record {
+      sorted =
+          ordered_cells _ c.sort.new.self.items _ total-law laws-law matches_eq-law c.in_ok-sort.ensures.permutation
+          c.in_ok-sort.ensures.sorted is;
+    }

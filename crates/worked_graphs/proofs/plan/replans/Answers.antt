@@ -7,5 +7,6 @@ change-requires-clause-changeable c = record {
   inside = search rules;
   fits = search rules;
   untouched = λ t inside apart none.
-      absurd (none (touched_both c.as_slice.result.now t c.as_slice.ensures (omega (arith, c.requires.states)) (λ zero. apart (omega (arith, c.requires.start)))));
+      absurd (none (touched_both c.as_slice.result.now t c.as_slice.ensures (omega (arith, c.requires.states))
+      (λ zero. apart (omega (arith, c.requires.start)))));
 }

@@ -9,4 +9,5 @@ pub new-requires-clause-labels : goal.new-requires-clause-labels
 new-requires-clause-labels c =
     let n = reversed (network_of c.args.lattice.now) in
     let ready = c.in-Ok.ensures.ready n 0 (sym c.states.ensures.value) in
-    subst (λ (m : Marks). AreUsable n m 0) (sym c.from.ensures.labels) (record { states = ready.states; exact = ready.exact; fits = ready.fits })
+    subst (λ (m : Marks). AreUsable n m 0) (sym c.from.ensures.labels)
+    (record { states = ready.states; exact = ready.exact; fits = ready.fits })

@@ -9,4 +9,10 @@ pub is_path-is-requires : goal.is_path-is-requires
 is_path-is-requires c =
     let to = c.args.plans.now.search.goal in
     let from = c.start-from.ensures.value ∙ ap (λ (m : Marks). m.start) c.labels.ensures.value in
-    record { so = (to, subst (λ (s : ℕ). IsTrueOutcome (reversed (network_of c.args.lattice.now)) s to c.in-Ok.planned.outcome) (sym from) c.in-Ok.ensures.planned.so) }
+    record {
+      so = (
+        to,
+        subst (λ (s : ℕ). IsTrueOutcome (reversed (network_of c.args.lattice.now)) s to c.in-Ok.planned.outcome)
+            (sym from) c.in-Ok.ensures.planned.so,
+      );
+    }

@@ -10,4 +10,5 @@ abbrev pub ghosts-posts_from-M-Second : goal.ghosts-posts_from-M-Second
 ghosts-posts_from-M-Second g a = record { takes = a.takes.name; parts = 2 }
 
 abbrev pub ghosts-posts_from-N-Pass : goal.ghosts-posts_from-N-Pass
-ghosts-posts_from-N-Pass g a = record { query = query pair (λ s. 0) 1000 1; counts = a.budget; opening = a.labels; keeps = false }
+ghosts-posts_from-N-Pass g a =
+    record { query = query pair (λ s. 0) 1000 1; counts = a.budget; opening = a.labels; keeps = false }

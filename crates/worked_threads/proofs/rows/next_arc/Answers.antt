@@ -7,5 +7,9 @@ apply-requires g c =
     record {
       out =
           rw (c.judge.ensures.number, c.judge.ensures.state, c.judge.ensures.arc, answers.gives.taking.out)
-          (Contains-push answers.mid.frontier.out (record { ticket = c.in-Ok-Job.ticket.number; state = c.in-Ok-Job.ticket.state; arc = c.in-Ok-Job.ticket.arc }));
+          (Contains-push answers.mid.frontier.out (record {
+            ticket = c.in-Ok-Job.ticket.number;
+            state = c.in-Ok-Job.ticket.state;
+            arc = c.in-Ok-Job.ticket.arc;
+          }));
     }

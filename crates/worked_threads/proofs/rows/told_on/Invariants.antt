@@ -11,4 +11,9 @@ abbrev pub ghosts-told_from-M-Second : goal.ghosts-told_from-M-Second
 ghosts-told_from-M-Second g a = record { takes = a.takes.name; parts = 1 }
 
 abbrev pub ghosts-told_from-N-Pass : goal.ghosts-told_from-N-Pass
-ghosts-told_from-N-Pass g a = record { query = query (network_of a.lattice.now) (distance_in a.best.now) 1000 a.goal; counts = a.budget; opening = a.labels; keeps = true }
+ghosts-told_from-N-Pass g a = record {
+  query = query (network_of a.lattice.now) (distance_in a.best.now) 1000 a.goal;
+  counts = a.budget;
+  opening = a.labels;
+  keeps = true;
+}

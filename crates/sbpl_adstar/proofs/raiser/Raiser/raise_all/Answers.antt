@@ -9,7 +9,9 @@ use Rattle.sbpl_adstar.proofs.raiser.Raiser.raise_all.Goals as goal
 
 pub raises-init : goal.raises-init
 raises-init g c = record {
-  turn = turn_none (g.G.Graph.network c.args.graph.now) c.args.labels.now c.list_under.new.list.items c.list_under.ensures.listed c.list_under.ensures.under;
+  turn =
+      turn_none (g.G.Graph.network c.args.graph.now) c.args.labels.now c.list_under.new.list.items
+      c.list_under.ensures.listed c.list_under.ensures.under;
   usable = λ count usable. usable;
   room = c.list_under.ensures.room ∙ c.clear.ensures.capacity ∙ ap (λ (r : _). r.room) c.self.view_is;
 }
@@ -23,15 +25,18 @@ raise-requires-clause-usable g c = c.raises.invariant.usable (2 ^ 30) c.requires
 pub raise-requires-clause-state : goal.raise-requires-clause-state
 raise-requires-clause-state g c =
     let here = c.raises.invariant.turn in
-    let before : c.raises.next < length c.raises.self-inside.raised.items = omega (arith, c.raises-test.true, c.len.ensures, c.raises.self-inside.raised.ok.0) in
+    let before : c.raises.next < length c.raises.self-inside.raised.items =
+    omega (arith, c.raises-test.true, c.len.ensures, c.raises.self-inside.raised.ok.0) in
     here.listed.inside c.index-s.result.now (c.raises.next, before, sym c.index-s.ensures)
 
 pub raise-requires-clause-under : goal.raise-requires-clause-under
 raise-requires-clause-under g c =
     let here = c.raises.invariant.turn in
     let items = c.raises.self-inside.raised.items in
-    let before : c.raises.next < length items = omega (arith, c.raises-test.true, c.len.ensures, c.raises.self-inside.raised.ok.0) in
-    let own : slice_index items c.raises.next ≡ c.index-s.result.now = get_or_default items c.raises.next 0 c.index-s.result.now before ∙ sym c.index-s.ensures in
+    let before : c.raises.next < length items =
+    omega (arith, c.raises-test.true, c.len.ensures, c.raises.self-inside.raised.ok.0) in
+    let own : slice_index items c.raises.next ≡ c.index-s.result.now =
+    get_or_default items c.raises.next 0 c.index-s.result.now before ∙ sym c.index-s.ensures in
     subst (IsUnder c.raises.labels) own (here.waiting c.raises.next (omega arith) before)
 
 pub raise-requires-clause-listed : goal.raise-requires-clause-listed
@@ -41,18 +46,31 @@ pub raises-smaller : goal.raises-smaller
 raises-smaller g c =
     let listed = c.raises.invariant.turn.listed in
     let most = few c.raises.self-inside.raised.items _ listed.inside listed.once in
-    omega (arith, most, c.raises.invariant.turn.states, c.raises-test.true, c.len.ensures, c.raises.self-inside.raised.ok.0)
+    omega (
+      arith,
+      most,
+      c.raises.invariant.turn.states,
+      c.raises-test.true,
+      c.len.ensures,
+      c.raises.self-inside.raised.ok.0,
+    )
 
 pub raises-preserved : goal.raises-preserved
 raises-preserved g c =
     let n = g.G.Graph.network c.args.graph.now in
     let here = c.raises.invariant.turn in
     let items = c.raises.self-inside.raised.items in
-    let before : c.raises.next < length items = omega (arith, c.raises-test.true, c.len.ensures, c.raises.self-inside.raised.ok.0) in
-    let own : c.index-s.result.now ≡ slice_index items c.raises.next = c.index-s.ensures ∙ sym (get_or_default items c.raises.next 0 c.index-s.result.now before) in
-    let step : RaisesState n c.raises.labels c.raise.new.labels (slice_index items c.raises.next) = subst (λ (s : ℕ). RaisesState n c.raises.labels c.raise.new.labels s) own c.raise.ensures.raised in
+    let before : c.raises.next < length items =
+    omega (arith, c.raises-test.true, c.len.ensures, c.raises.self-inside.raised.ok.0) in
+    let own : c.index-s.result.now ≡ slice_index items c.raises.next =
+    c.index-s.ensures ∙ sym (get_or_default items c.raises.next 0 c.index-s.result.now before) in
+    let step : RaisesState n c.raises.labels c.raise.new.labels (slice_index items c.raises.next) =
+    subst (λ (s : ℕ). RaisesState n c.raises.labels c.raise.new.labels s) own c.raise.ensures.raised in
     record {
-      turn = turn_more c.raises.next here before step c.raise.ensures.listed (λ t other under. c.raise.ensures.others t (λ e. other (e ∙ own)) under) c.raise.ensures.added c.raise.ensures.grown (c.raises.invariant.usable (2 ^ 30) c.requires.usable).exact.from_start;
+      turn =
+          turn_more c.raises.next here before step c.raise.ensures.listed
+          (λ t other under. c.raise.ensures.others t (λ e. other (e ∙ own)) under) c.raise.ensures.added
+          c.raise.ensures.grown (c.raises.invariant.usable (2 ^ 30) c.requires.usable).exact.from_start;
       usable = λ count usable. c.raise.ensures.usable count (c.raises.invariant.usable count usable);
       room = c.raise.ensures.room ∙ c.raises.invariant.room;
     }
@@ -61,7 +79,8 @@ pub returns-clause-raised : goal.returns-clause-raised
 returns-clause-raised g c =
     let here = c.raises.invariant.turn in
     let over = c.raises-test.false in
-    let all : length c.raises.self-inside.raised.items ≤ c.raises.next = omega (arith, over, c.len.ensures, c.raises.self-inside.raised.ok.0) in
+    let all : length c.raises.self-inside.raised.items ≤ c.raises.next =
+    omega (arith, over, c.len.ensures, c.raises.self-inside.raised.ok.0) in
     let usable = c.raises.invariant.usable (2 ^ 30) c.requires.usable in
     record {
       in_turn = all_raised c.raises.next here all;
@@ -73,7 +92,8 @@ returns-clause-raised g c =
 pub returns-clause-ready : goal.returns-clause-ready
 returns-clause-ready g c = λ count usable.
     let here = c.raises.invariant.turn in
-    let all : length c.raises.self-inside.raised.items ≤ c.raises.next = omega (arith, c.raises-test.false, c.len.ensures, c.raises.self-inside.raised.ok.0) in
+    let all : length c.raises.self-inside.raised.items ≤ c.raises.next =
+    omega (arith, c.raises-test.false, c.len.ensures, c.raises.self-inside.raised.ok.0) in
     let now = c.raises.invariant.usable count usable in
     let none = none_under c.raises.next c.start-start.ensures.labels here all in
     record {
@@ -92,7 +112,8 @@ returns-clause-fresh g c = turn_fresh c.raises.next c.raises.invariant.turn
 pub returns-clause-inside : goal.returns-clause-inside
 returns-clause-inside g c =
     let here = c.raises.invariant.turn in
-    all_by (λ (s : ℕ). s < states_of c.args.labels.now) c.raises.self-inside.raised.items (λ s among. omega (arith, here.listed.inside s among, here.states))
+    all_by (λ (s : ℕ). s < states_of c.args.labels.now) c.raises.self-inside.raised.items
+    (λ s among. omega (arith, here.listed.inside s among, here.states))
 
 pub returns-clause-start : goal.returns-clause-start
 returns-clause-start g c = c.raises.invariant.turn.start

@@ -7,7 +7,8 @@ use Rattle.sbpl_adstar.proofs.raiser.Raiser.raise_all.Given as goal
 abbrev pub invariant-raises : goal.invariant-raises
 invariant-raises g l = record {
   turn : IsTurn (g.G.Graph.network l.graph) l.fn.labels l.labels l.self-inside.raised.items l.next;
-  usable : (count : ℕ) → AreUsable (g.G.Graph.network l.graph) l.fn.labels count → AreUsable (g.G.Graph.network l.graph) l.labels count;
+  usable : (count : ℕ) → AreUsable (g.G.Graph.network l.graph) l.fn.labels count
+      → AreUsable (g.G.Graph.network l.graph) l.labels count;
   room : vec_capacity l.self-inside.raised ≡ l.fn.self.room;
 }
 

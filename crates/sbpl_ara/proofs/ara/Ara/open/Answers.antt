@@ -5,4 +5,5 @@ use Rattle.sbpl_ara.proofs.ara.Ara.open.Goals as goal
 pub returns-clause-fresh : goal.returns-clause-fresh
 returns-clause-fresh c =
     let initial = c.in_ok-serial.ensures.opened in
-    inl (ap (λ (s : ℕ). v_of c.in_ok-serial.serial.labels s) initial.start ∙ initial.far_v c.args.start c.requires.start)
+    inl (ap (λ (s : ℕ). v_of c.in_ok-serial.serial.labels s) initial.start
+    ∙ initial.far_v c.args.start c.requires.start)

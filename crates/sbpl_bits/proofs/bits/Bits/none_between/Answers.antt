@@ -10,5 +10,6 @@ returns-then-not-none_in-clause-some c _ =
     let place : c.loop-at.at / 64 < length words = omega arith in
     let word = c.index.ensures ∙ get_or_default_zero words (c.loop-at.at / 64) c.index.result.now place in
     let same = word ∙ ap (λ f. get_or f.words (c.loop-at.at / 64) 0) c.self.view_is in
-    found c.args.self.now c.index.result.now c.args.from c.loop-at.at c.min.result c.args.to same c.loop-at.invariant.begun (omega arith)
+    found c.args.self.now c.index.result.now c.args.from c.loop-at.at c.min.result c.args.to same
+    c.loop-at.invariant.begun (omega arith)
     (omega (arith, c.min.ensures)) (omega (arith, c.min.ensures)) (c.none_in.ensures.some c.if-not-none_in.true)

@@ -12,8 +12,10 @@ poses_first true i j = rw (and-true j) refl
 poses_first false i j = rw (and-false j, and-false i) refl
 
 -- tests of eleven fields, one after the other
-all_fields : (a b c d e f g h k i j : Bool) {r s t u v w x y z m n : Bool} → r ≡ a → s ≡ r && b → t ≡ s && c → u ≡ t && d → v ≡ u && e → w ≡ v && f
-    → x ≡ w && g → y ≡ x && h → z ≡ y && k → m ≡ z && i → n ≡ m && j → n ≡ a && (b && (c && (d && (e && (f && (g && (h && (i && (j && k)))))))))
+all_fields : (a b c d e f g h k i j : Bool) {r s t u v w x y z m n : Bool} → r ≡ a → s ≡ r && b → t ≡ s && c
+    → u ≡ t && d → v ≡ u && e → w ≡ v && f
+    → x ≡ w && g → y ≡ x && h → z ≡ y && k → m ≡ z && i → n ≡ m && j
+    → n ≡ a && (b && (c && (d && (e && (f && (g && (h && (i && (j && k)))))))))
 all_fields a b c d e f g h k i j p q r s t u v w x y z =
     rw (z, y, x, w, v, u, t, s, r, q, p) (simp and_assoc (rw (poses_first k i j) refl))
 
@@ -25,7 +27,8 @@ returns c =
     let height : c.and_eq.result ≡ c.eq.result && nat_eq e.height d.height = search rules in
     let obsthresh : c.and_eq-2.result ≡ c.and_eq.result && nat_eq e.obsthresh d.obsthresh = search rules in
     let inscribed : c.and_eq-3.result ≡ c.and_eq-2.result && nat_eq e.inscribed d.inscribed = search rules in
-    let circumscribed : c.and_eq-4.result ≡ c.and_eq-3.result && int_eq e.circumscribed d.circumscribed = search rules in
+    let circumscribed : c.and_eq-4.result ≡ c.and_eq-3.result && int_eq e.circumscribed d.circumscribed =
+    search rules in
     let cell : c.and_eq-5.result ≡ c.and_eq-4.result && int_eq e.cell d.cell = search rules in
     let speed : c.and_eq-6.result ≡ c.and_eq-5.result && int_eq e.speed d.speed = search rules in
     let turn45 : c.and_eq-7.result ≡ c.and_eq-6.result && int_eq e.turn45 d.turn45 = search rules in

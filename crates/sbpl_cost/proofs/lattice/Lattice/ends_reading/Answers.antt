@@ -8,4 +8,5 @@ add_ends-requires-clause-reads c = rw c.reads.ensures.reads (readable _ c.self.i
 pub returns-clause-ends : goal.returns-clause-ends
 returns-clause-ends c =
     let added = rw c.reads.ensures.reads at c.in_ok-add_ends.ensures.added in
-    rw (← c.self.view_is) (adds_ends _ c.self.invariant.world c.args.end (pos c.args.x) (pos c.args.y) c.args.into.now.items c.add_ends.new.into.items added)
+    rw (← c.self.view_is) (adds_ends _ c.self.invariant.world c.args.end (pos c.args.x) (pos c.args.y)
+    c.args.into.now.items c.add_ends.new.into.items added)

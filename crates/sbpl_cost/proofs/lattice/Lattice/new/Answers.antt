@@ -9,7 +9,8 @@ use Rattle.sbpl_cost.specs.World.{IsWorld}
 use Rattle.sbpl_cost.proofs.lattice.Lattice.new.Goals as goal
 
 -- the parts are those of a world
-world : (c : goal.After-copy_of) → IsWorld (record { env = c.copy_of.result; prims = c.args.prims; sweeps = c.args.sweeps; map = c.args.map })
+world : (c : goal.After-copy_of)
+    → IsWorld (record { env = c.copy_of.result; prims = c.args.prims; sweeps = c.args.sweeps; map = c.args.map })
 world c =
     let env : IsEnvironment c.copy_of.result = search rules in
     let prims : ArePrimitives c.args.prims = search rules in
@@ -35,12 +36,16 @@ invariant_of-result c = record {
   entering = c.in_ok-costs.ensures.entering;
   numbers = c.in_ok-costs.ensures.numbers;
   tail_numbers = c.in_ok-costs.ensures.tail_numbers;
-  costs = c.in_ok-costs.ensures.costs ∙ ap (λ (e : Environment). map (primitive_cost e) c.args.prims.items) (sym c.copy_of.ensures.same);
+  costs =
+      c.in_ok-costs.ensures.costs
+      ∙ ap (λ (e : Environment). map (primitive_cost e) c.args.prims.items) (sym c.copy_of.ensures.same);
   along = c.in_ok-costs.ensures.along;
   around = c.in_ok-costs.ensures.around;
   reaches = c.in_ok-costs.ensures.reaches;
   walls = search rules;
-  fractions = subst (λ (e : Environment). AreGaps e c.args.prims.items c.new-gaps.result) (sym c.copy_of.ensures.same) c.new-gaps.ensures.gaps;
+  fractions =
+      subst (λ (e : Environment). AreGaps e c.args.prims.items c.new-gaps.result) (sym c.copy_of.ensures.same)
+      c.new-gaps.ensures.gaps;
 }
 
 pub returns-clause-kept : goal.returns-clause-kept

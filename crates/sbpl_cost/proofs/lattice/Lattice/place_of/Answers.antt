@@ -5,4 +5,15 @@ use Rattle.sbpl_cost.proofs.lattice.Lattice.place_of.Goals as goal
 pub place_at-requires : goal.place_at-requires
 place_at-requires c =
     let state = rw (← c.self.view_is) at c.requires.state in
-    record { state = omega (arith, state, states_are (record { env = c.self.inside.env; prims = c.self.inside.prims; sweeps = c.self.inside.sweeps; map = c.self.inside.map })) }
+    record {
+      state = omega (
+        arith,
+        state,
+        states_are (record {
+          env = c.self.inside.env;
+          prims = c.self.inside.prims;
+          sweeps = c.self.inside.sweeps;
+          map = c.self.inside.map;
+        }),
+      );
+    }

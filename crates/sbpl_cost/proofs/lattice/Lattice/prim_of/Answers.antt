@@ -9,5 +9,7 @@ leaving_at-requires-clause-number c =
 pub returns-clause-primitive : goal.returns-clause-primitive
 returns-clause-primitive c =
     let place = rw (← c.self.view_is) at c.leaving_at.ensures.place in
-    let found = found_by _ c.args.s c.args.k c.heading_of.result c.leaving_at.result c.self.invariant.world c.heading_of.ensures.value place in
+    let found =
+    found_by _ c.args.s c.args.k c.heading_of.result c.leaving_at.result c.self.invariant.world
+    c.heading_of.ensures.value place in
     rw (← c.self.view_is) (found.0, found.1.by)

@@ -14,7 +14,11 @@ pub overflow_add-last : goal.overflow_add-last
 overflow_add-last c =
     let from = near_from c.args.strip c.requires.some c.requires.near in
     let last = near_last c.args.strip c.requires.some c.requires.near in
-    rw (to_z-of_z w64 c.args.strip.from (fits c.args.strip.from from), to_z-of_z w64 c.from.result (count_fits c), c.from.ensures) (fits (c.args.strip.from +ℤ pos (c.args.strip.len - 1)) last)
+    rw (
+      to_z-of_z w64 c.args.strip.from (fits c.args.strip.from from),
+      to_z-of_z w64 c.from.result (count_fits c),
+      c.from.ensures,
+    ) (fits (c.args.strip.from +ℤ pos (c.args.strip.len - 1)) last)
 
 -- the distances of the first cell, of the last one and of the row, and that the reach has them
 first_far : (c : goal.After-max-2) → nat_abs c.args.strip.from ≤ c.max.result
@@ -28,7 +32,12 @@ sum_is c =
     let from = near_from c.args.strip c.requires.some c.requires.near in
     let last = near_last c.args.strip c.requires.some c.requires.near in
     let count : SFits w64 c.from.result = record { sfits = omega (arith, ints, c.from.ensures, from.0, last.1) } in
-    rw (to_z-of_z w64 c.args.strip.from (fits c.args.strip.from from), to_z-of_z w64 c.from.result count, c.from.ensures, to_z-of_z w64 (c.args.strip.from +ℤ pos (c.args.strip.len - 1)) (fits _ last)) at c.unsigned_abs-2.ensures.value
+    rw (
+      to_z-of_z w64 c.args.strip.from (fits c.args.strip.from from),
+      to_z-of_z w64 c.from.result count,
+      c.from.ensures,
+      to_z-of_z w64 (c.args.strip.from +ℤ pos (c.args.strip.len - 1)) (fits _ last),
+    ) at c.unsigned_abs-2.ensures.value
 
 last_far : (c : goal.After-max-2) → nat_abs (c.args.strip.from +ℤ pos (c.args.strip.len - 1)) ≤ c.max.result
 last_far c = omega (arith, c.max.ensures, c.max-columns.ensures, sum_is c)
@@ -43,11 +52,16 @@ returns-clause-reach c =
     let from = near_from c.args.strip c.requires.some c.requires.near in
     let is = rw (to_z-of_z w64 c.args.strip.from (fits c.args.strip.from from)) at c.unsigned_abs.ensures.value in
     let first = near_distance c.args.strip.from from in
-    let last = near_distance (c.args.strip.from +ℤ pos (c.args.strip.len - 1)) (near_last c.args.strip c.requires.some c.requires.near) in
-    let row = near_distance c.args.strip.y (near_row c.args.strip c.requires.some c.requires.near) in
-    (omega (arith, c.requires.reach.0, c.max.ensures, c.max-columns.ensures, is, sum_is c, first, last), omega (arith, c.requires.reach.1, c.max-2.ensures, row_is c, row))
+    let last =
+    near_distance (c.args.strip.from +ℤ pos (c.args.strip.len - 1))
+    (near_last c.args.strip c.requires.some c.requires.near) in
+    let row = near_distance c.args.strip.y (near_row c.args.strip c.requires.some c.requires.near) in (
+      omega (arith, c.requires.reach.0, c.max.ensures, c.max-columns.ensures, is, sum_is c, first, last),
+      omega (arith, c.requires.reach.1, c.max-2.ensures, row_is c, row),
+    )
 
 pub returns-clause-within : goal.returns-clause-within
 returns-clause-within c =
-    strip_within c.args.strip (record { columns = c.max.result; rows = c.max-2.result }) (up_to _ c.max.result (first_far c)) (up_to _ c.max.result (last_far c))
+    strip_within c.args.strip (record { columns = c.max.result; rows = c.max-2.result })
+    (up_to _ c.max.result (first_far c)) (up_to _ c.max.result (last_far c))
     (up_to c.args.strip.y c.max-2.result (omega (arith, c.max-2.ensures, row_is c)))

@@ -10,8 +10,13 @@ returns-clause-out g c =
     let line = ap (λ (s : Sight). s.line) c.locked.view_is in
     let ended = ap (λ (d : Drained). d.ended) line ∙ c.receive_all.ensures.ended ∙ c.end_all-all_takes.ensures.ended in
     let brought = rw (← line) at c.receive_all.ensures.brought in
-    let whole = sym (c.audit.ensures.whole (c.end_all-all_takes.ensures.parts ∙ c.requires.all)) ∙ c.end_all-all_takes.ensures.takes in
-    let none = none_out c.locked.inside.core c.locked.inside.keeper c.locked.inside.takes.total c.locked.inside.drain c.args.seats.items c.into_inner-locked.result.line.ended c.locked.invariant.1 ended brought c.requires.even whole c.seen-seen.ensures.back in
+    let whole =
+    sym (c.audit.ensures.whole (c.end_all-all_takes.ensures.parts ∙ c.requires.all))
+    ∙ c.end_all-all_takes.ensures.takes in
+    let none =
+    none_out c.locked.inside.core c.locked.inside.keeper c.locked.inside.takes.total c.locked.inside.drain
+    c.args.seats.items c.into_inner-locked.result.line.ended c.locked.invariant.1 ended brought c.requires.even whole
+    c.seen-seen.ensures.back in
     nil_from_length _ none.0
 
 pub returns-clause-posts : goal.returns-clause-posts
@@ -19,12 +24,17 @@ returns-clause-posts g c =
     let line = ap (λ (s : Sight). s.line) c.locked.view_is in
     let ended = ap (λ (d : Drained). d.ended) line ∙ c.receive_all.ensures.ended ∙ c.end_all-all_takes.ensures.ended in
     let brought = rw (← line) at c.receive_all.ensures.brought in
-    let whole = sym (c.audit.ensures.whole (c.end_all-all_takes.ensures.parts ∙ c.requires.all)) ∙ c.end_all-all_takes.ensures.takes in
-    (none_out c.locked.inside.core c.locked.inside.keeper c.locked.inside.takes.total c.locked.inside.drain c.args.seats.items c.into_inner-locked.result.line.ended c.locked.invariant.1 ended brought c.requires.even whole c.seen-seen.ensures.back).1
+    let whole =
+    sym (c.audit.ensures.whole (c.end_all-all_takes.ensures.parts ∙ c.requires.all))
+    ∙ c.end_all-all_takes.ensures.takes in
+    (none_out c.locked.inside.core c.locked.inside.keeper c.locked.inside.takes.total c.locked.inside.drain
+    c.args.seats.items c.into_inner-locked.result.line.ended c.locked.invariant.1 ended brought c.requires.even whole
+    c.seen-seen.ensures.back).1
 
 pub returns-clause-come : goal.returns-clause-come
 returns-clause-come g c =
     let line = ap (λ (s : Sight). s.line) c.locked.view_is in
     let ended = ap (λ (d : Drained). d.ended) line ∙ c.receive_all.ensures.ended ∙ c.end_all-all_takes.ensures.ended in
     let brought = rw (← line) at c.receive_all.ensures.brought in
-    have_come c.locked.inside.core c.locked.inside.keeper c.locked.inside.takes.total c.locked.inside.drain c.args.seats.items c.into_inner-locked.result.line.ended c.locked.invariant.1 ended brought
+    have_come c.locked.inside.core c.locked.inside.keeper c.locked.inside.takes.total c.locked.inside.drain
+    c.args.seats.items c.into_inner-locked.result.line.ended c.locked.invariant.1 ended brought

@@ -9,8 +9,16 @@ posted_alike a b n m x y seats numbers costs = cc
 
 pub returns : goal.returns
 returns g c = record {
-  posted = elim c.match-push.branch [ in-Err w ↦ (let back = w.in-Err.ensures.full in rw (w.seat-is, w.post_again.ensures.posted) (posted_alike _ _ _ _ _ _ (rw back.1 c.seat.view_is) (rw back.0 (ap (λ (p : Post). p.ticket) c.new-posting.ensures.post)) (rw back.0 (ap (λ (p : Post). p.cost) c.new-posting.ensures.post)))) | in_default w ↦ rw (w.seat-is, w.in_default.ensures.pushed, c.new-posting.ensures.post, ← c.seat.view_is) refl ];
+  posted = elim c.match-push.branch [
+    | in-Err w ↦
+        (let back = w.in-Err.ensures.full in
+        rw (w.seat-is, w.post_again.ensures.posted) (posted_alike _ _ _ _ _ _ (rw back.1 c.seat.view_is)
+        (rw back.0 (ap (λ (p : Post). p.ticket) c.new-posting.ensures.post))
+        (rw back.0 (ap (λ (p : Post). p.cost) c.new-posting.ensures.post))))
+    | in_default w ↦ rw (w.seat-is, w.in_default.ensures.pushed, c.new-posting.ensures.post, ← c.seat.view_is) refl
+  ];
 }
 
 pub post_again-requires : goal.post_again-requires
-post_again-requires g c = record { seat = rw c.in-Err.ensures.full.0 (ap (λ (p : Post). p.seat) c.new-posting.ensures.post) }
+post_again-requires g c =
+    record { seat = rw c.in-Err.ensures.full.0 (ap (λ (p : Post). p.seat) c.new-posting.ensures.post) }

@@ -9,7 +9,8 @@ requeue-requires-clause-unplaced g c =
     let here = c.self.invariant in
     let may = rw (← c.self.view_is) at c.requires.may in
     rw (here.1, here.4)
-    (opened_unplaced g.N.Pass.query.eps g.N.Pass.query.guide inside.opened c.insert.new.self inside.labels c.settle.new.self inside.queue c.args.s _ here.5.queued may.inside c.settle.ensures.settled c.insert.ensures.closed)
+    (opened_unplaced g.N.Pass.query.eps g.N.Pass.query.guide inside.opened c.insert.new.self inside.labels
+    c.settle.new.self inside.queue c.args.s _ here.5.queued may.inside c.settle.ensures.settled c.insert.ensures.closed)
 
 pub invariant_of-self-2 : goal.invariant_of-self-2
 invariant_of-self-2 g c =
@@ -19,14 +20,18 @@ invariant_of-self-2 g c =
     let may = rw (← c.self.view_is) at c.requires.may in
     let noted = rw c.reserve.ensures.events at c.push.ensures.events in
     let queued = rw (here.1, here.4) at c.requeue.ensures.queued in
-    let step = opening_of g.N.Pass.query inside.labels c.settle.new.self inside.opened c.insert.new.self inside.state inside.from inside.out.items inside.next inside.budget c.spend.new.self c.args.s none_ready may c.settle.ensures.settled c.insert.ensures.closed c.spend.ensures.counted in (
+    let step =
+    opening_of g.N.Pass.query inside.labels c.settle.new.self inside.opened c.insert.new.self inside.state inside.from
+    inside.out.items inside.next inside.budget c.spend.new.self c.args.s none_ready may c.settle.ensures.settled
+    c.insert.ensures.closed c.spend.ensures.counted in (
       here.0,
       here.1,
       here.2,
       here.3,
       here.4,
       parts_opened c.args.s here.5 none_ready step refl noted (c.push.ensures.keeps ∙ c.reserve.ensures.keeps)
-          (omega (arith, c.in_ok-reserve.ensures.room, c.push.ensures.spare)) queued (rw c.reserve-2.ensures.items at c.push_reserved.ensures.items),
+          (omega (arith, c.in_ok-reserve.ensures.room, c.push.ensures.spare)) queued
+          (rw c.reserve-2.ensures.items at c.push_reserved.ensures.items),
     )
 
 pub returns-clause-opened : goal.returns-clause-opened
@@ -36,7 +41,10 @@ returns-clause-opened g c =
     let may = rw (← c.self.view_is) at c.requires.may in
     let first = rw (← c.self.view_is) at c.requires.first in
     let noted = rw c.reserve.ensures.events at c.push.ensures.events in
-    let step = opening_of g.N.Pass.query inside.labels c.settle.new.self inside.opened c.insert.new.self inside.state inside.from inside.out.items inside.next inside.budget c.spend.new.self c.args.s none_ready may c.settle.ensures.settled c.insert.ensures.closed c.spend.ensures.counted in
+    let step =
+    opening_of g.N.Pass.query inside.labels c.settle.new.self inside.opened c.insert.new.self inside.state inside.from
+    inside.out.items inside.next inside.budget c.spend.new.self c.args.s none_ready may c.settle.ensures.settled
+    c.insert.ensures.closed c.spend.ensures.counted in
     rw (← c.self.view_is) (record { none_ready = none_ready; first = first; opening = step; journal = noted })
 
 pub invariant_of-self : goal.invariant_of-self
@@ -58,5 +66,6 @@ invariant_of-self-in_err-reserve-2 g c =
       here.2,
       here.3,
       here.4,
-      rw c.reserve-2.ensures.items (parts_reserved here.5 c.reserve.ensures.events c.reserve.ensures.keeps c.reserve.ensures.spare),
+      rw c.reserve-2.ensures.items
+          (parts_reserved here.5 c.reserve.ensures.events c.reserve.ensures.keeps c.reserve.ensures.spare),
     )

@@ -6,6 +6,7 @@ returns g c =
     let laws = c.events_keep.ensures in
     let idle = rw (← c.self.view_is) at c.requires.idle in
     record {
-      finished = rw (← c.self.view_is) (finished c.self.invariant.5 laws.first laws.each laws.once laws.exact laws.shows laws.settled idle);
+      finished = rw (← c.self.view_is)
+          (finished c.self.invariant.5 laws.first laws.each laws.once laws.exact laws.shows laws.settled idle);
       over = over_held c.self.invariant.5;
     }

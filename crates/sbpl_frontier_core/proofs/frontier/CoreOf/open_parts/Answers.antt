@@ -33,7 +33,9 @@ invariant_of-result g c =
           (record {
             sound = rw network at c.states-states.ensures.sound;
             gaps = rw network at c.states-states.ensures.gaps;
-            consistent = rw (network, guide, to) at (g.met.H.Guide.consistent c.args.guide.now (g.G.Graph.network c.args.graph.now) c.args.goal c.requires.guide);
+            consistent =
+                rw (network, guide, to) at (g.met.H.Guide.consistent c.args.guide.now
+                (g.G.Graph.network c.args.graph.now) c.args.goal c.requires.guide);
             inflation = omega (arith, c.requires.eps_low, eps);
           })
           (record {
@@ -50,5 +52,6 @@ invariant_of-result g c =
             none_out = c.new.ensures.items;
             next = refl;
           })
-          c.open.ensures.empty (c.open.ensures.keeps ∙ c.requires.keeps) (omega (arith, inside, to)) inside queued unlisted c.space.invariant.2 c.space.invariant.3,
+          c.open.ensures.empty (c.open.ensures.keeps ∙ c.requires.keeps) (omega (arith, inside, to)) inside queued
+          unlisted c.space.invariant.2 c.space.invariant.3,
     )

@@ -9,13 +9,16 @@ invariant_of-self-2 g c =
     let head = rw here.0 at c.in-Some.ensures.first in
     let pushed = rw c.reserve-2.ensures.items at c.push_reserved.ensures.items in
     let noted = rw c.reserve.ensures.events at c.push.ensures.events in
-    let step = taking g.N.Pass.query.network inside.labels inside.opened inside.state inside.from inside.out.items c.push_reserved.new.self.items inside.next inside.budget c.in-Some.arc head pushed in (
+    let step =
+    taking g.N.Pass.query.network inside.labels inside.opened inside.state inside.from inside.out.items
+    c.push_reserved.new.self.items inside.next inside.budget c.in-Some.arc head pushed in (
       here.0,
       here.1,
       here.2,
       here.3,
       here.4,
-      parts_taken c.args.seat (record { ticket = inside.next; state = inside.state; arc = c.in-Some.arc }) here.5 step noted
+      parts_taken c.args.seat (record { ticket = inside.next; state = inside.state; arc = c.in-Some.arc })
+          here.5 step noted
           (c.push.ensures.keeps ∙ c.reserve.ensures.keeps)
           (omega (arith, c.in_ok-reserve.ensures.room, c.push.ensures.spare)),
     )
@@ -27,7 +30,9 @@ returns-clause-taken g c =
     let head = rw here.0 at c.in-Some.ensures.first in
     let pushed = rw c.reserve-2.ensures.items at c.push_reserved.ensures.items in
     let noted = rw c.reserve.ensures.events at c.push.ensures.events in
-    let step = taking g.N.Pass.query.network inside.labels inside.opened inside.state inside.from inside.out.items c.push_reserved.new.self.items inside.next inside.budget c.in-Some.arc head pushed in
+    let step =
+    taking g.N.Pass.query.network inside.labels inside.opened inside.state inside.from inside.out.items
+    c.push_reserved.new.self.items inside.next inside.budget c.in-Some.arc head pushed in
     rw (← c.self.view_is)
     (record {
       first = head.first;
@@ -55,5 +60,6 @@ invariant_of-self-in_err-reserve-2 g c =
       here.2,
       here.3,
       here.4,
-      rw c.reserve-2.ensures.items (parts_reserved here.5 c.reserve.ensures.events c.reserve.ensures.keeps c.reserve.ensures.spare),
+      rw c.reserve-2.ensures.items
+          (parts_reserved here.5 c.reserve.ensures.events c.reserve.ensures.keeps c.reserve.ensures.spare),
     )

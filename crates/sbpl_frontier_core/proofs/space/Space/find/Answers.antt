@@ -20,7 +20,8 @@ loop-s-preserved c =
         c.loop-s.invariant.0,
         λ u below over.
             ⊎_elim
-            (λ (at : u ≡ i). let same : IsOver c.args.labels.now i = rw (sym at) over in absurd (omega (arith, w.if-g-v.false, c.g.ensures.value, c.v.ensures.value)))
+            (λ (at : u ≡ i). let same : IsOver c.args.labels.now i = rw (sym at) over in
+            absurd (omega (arith, w.if-g-v.false, c.g.ensures.value, c.v.ensures.value)))
             (λ (apart : u ≢ i). c.loop-s.invariant.1 u (omega arith) over)
             (cases_eq u i),
       )

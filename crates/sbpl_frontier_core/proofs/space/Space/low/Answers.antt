@@ -10,5 +10,7 @@ low_among-requires g c =
       known = c.requires.known;
       queue = states;
       inside = rw c.deref.ensures.value (λ k d within. omega (arith, c.self.invariant.1 k d within, states));
-      all = rw c.deref.ensures.value (λ s inside differ. over s inside (omega (arith, c.requires.none_under.at s inside, differ)));
+      all =
+          rw c.deref.ensures.value
+          (λ s inside differ. over s inside (omega (arith, c.requires.none_under.at s inside, differ)));
     }

@@ -36,6 +36,8 @@ loop-s-preserved c =
 
 pub returns-clause-noted : goal.returns-clause-noted
 returns-clause-noted c = λ s among over.
-    let same : slice_index c.args.states.now among.0 ≡ s = get_or_default c.args.states.now among.0 0 s among.1 ∙ among.2 in
+    let same : slice_index c.args.states.now among.0 ≡ s =
+    get_or_default c.args.states.now among.0 0 s among.1 ∙ among.2 in
     subst (Waits c.loop-s.self) same
-    (c.loop-s.invariant.noted among.0 (omega (arith, among.1, c.loop-s-test.false)) (subst (IsOver c.args.labels.now) (sym same) over))
+    (c.loop-s.invariant.noted among.0 (omega (arith, among.1, c.loop-s-test.false))
+    (subst (IsOver c.args.labels.now) (sym same) over))

@@ -7,4 +7,5 @@ use Rattle.sbpl_frontier_core.proofs.space.Space.restart.Goals as goal
 pub returns-clause-over : goal.returns-clause-over
 returns-clause-over c = λ m initial.
     initial_held c.note.new.self m (open_list.states_of c.args.self.now.queue) c.args.start
-    (c.note.ensures.states ∙ c.clear.ensures.states ∙ ap (λ (w : Waiting). open_list.states_of w.queue) c.self.view_is) c.note.ensures.noted initial
+    (c.note.ensures.states ∙ c.clear.ensures.states
+    ∙ ap (λ (w : Waiting). open_list.states_of w.queue) c.self.view_is) c.note.ensures.noted initial

@@ -1,7 +1,8 @@
 use Rattle.std.proofs.Common.{◌≡◌, ◌*◌, ◌/◌, length, arith, ap, sym, ◌∙◌, refl, vec_capacity}
 use Rattle.sbpl_labels.specs.Marks.{g_of}
 use Rattle.sbpl_heur.specs.Boards.{cell_count, map_of}
-use Rattle.sbpl_heur.proofs.Rebuilt.{IsRebuilt, board_in_world, least_alike, same_map, cells_of_map, goal_inside, rebuilt_best, rebuilt_guide}
+use Rattle.sbpl_heur.proofs.Rebuilt.{IsRebuilt, board_in_world, least_alike, same_map, cells_of_map}
+use Rattle.sbpl_heur.proofs.Rebuilt.{goal_inside, rebuilt_best, rebuilt_guide}
 use Rattle.sbpl_heur.proofs.best.Best.rebuild.Goals as goal
 
 pub follow-requires-clause-same_size : goal.follow-requires-clause-same_size
@@ -9,7 +10,8 @@ follow-requires-clause-same_size c =
     let w = c.args.lattice.now in
     let fits = rw (← c.self.view_is) at c.requires.fits in
     let world = c.env-env.ensures.kept in
-    ap length (c.costs.ensures.value ∙ ap (λ m. m.costs) c.map.ensures.map) ∙ world.map.cells ∙ cells_of_map w world ∙ sym fits.cells ∙ sym c.self.invariant.cells
+    ap length (c.costs.ensures.value ∙ ap (λ m. m.costs) c.map.ensures.map) ∙ world.map.cells ∙ cells_of_map w world
+    ∙ sym fits.cells ∙ sym c.self.invariant.cells
 
 pub follow-requires-clause-room : goal.follow-requires-clause-room
 follow-requires-clause-room c =
@@ -19,18 +21,25 @@ follow-requires-clause-room c =
 pub follow-requires-clause-board : goal.follow-requires-clause-board
 follow-requires-clause-board c =
     let w = c.args.lattice.now in
-    board_in_world w c.env-env.ensures.kept c.list_hops.new.hops.items c.list_hops.ensures.hops c.list_hops.ensures.few c.env-env.result.now c.costs.result.now c.as_slice.result.now _ c.env-env.ensures.env
+    board_in_world w c.env-env.ensures.kept c.list_hops.new.hops.items c.list_hops.ensures.hops c.list_hops.ensures.few
+    c.env-env.result.now c.costs.result.now c.as_slice.result.now _ c.env-env.ensures.env
     (c.costs.ensures.value ∙ ap (λ m. m.costs) c.map.ensures.map) c.as_slice.ensures.value
 
 rebuilt : (c : goal.After-turn)
-    → IsRebuilt c.args.lattice.now c.self.inside.goal c.list_hops.new.hops.items c.weigh.new.distances.items (record { goal = c.self.inside.goal; cells = c.cap.new.distances.items; turns = c.turn.new.turns.items; room = vec_capacity c.list_hops.new.hops })
+    → IsRebuilt c.args.lattice.now c.self.inside.goal c.list_hops.new.hops.items c.weigh.new.distances.items (record {
+      goal = c.self.inside.goal;
+      cells = c.cap.new.distances.items;
+      turns = c.turn.new.turns.items;
+      room = vec_capacity c.list_hops.new.hops;
+    })
 rebuilt c =
     let w = c.args.lattice.now in
     let fits = rw (← c.self.view_is) at c.requires.fits in
     let world = c.env-env.ensures.kept in
     let board = c.follow.ensures.board in
     let costs = c.costs.ensures.value ∙ ap (λ m. m.costs) c.map.ensures.map in
-    let entries : length c.weigh.new.distances.items ≡ w.map.width * w.map.height = c.weigh.ensures.size ∙ fits.cells ∙ sym (cells_of_map w world) in
+    let entries : length c.weigh.new.distances.items ≡ w.map.width * w.map.height =
+    c.weigh.ensures.size ∙ fits.cells ∙ sym (cells_of_map w world) in
     record {
       world = world;
       arcs = c.lattice_has_its_arcs.ensures.law w world;
@@ -40,9 +49,12 @@ rebuilt c =
       hops_are = c.list_hops.ensures.hops;
       entries = entries;
       least =
-          least_alike w c.follow.new.self.board c.list_hops.new.hops.items c.follow.new.self.labels.start _ (g_of c.follow.new.self.labels) _ (ap (λ z. z.env) board ∙ c.env-env.ensures.env)
-          (ap map_of board ∙ same_map w c.env-env.result.now c.costs.result.now world c.env-env.ensures.env costs) (ap (λ z. z.hops) board ∙ c.as_slice.ensures.value)
-          (c.follow.ensures.start ∙ c.self.invariant.start ∙ ap (λ n. c.self.inside.goal / n) fits.turns) (λ a within. c.weigh.ensures.weights a (omega (arith, within, entries, c.weigh.ensures.size))) c.follow.ensures.least;
+          least_alike w c.follow.new.self.board c.list_hops.new.hops.items c.follow.new.self.labels.start _
+          (g_of c.follow.new.self.labels) _ (ap (λ z. z.env) board ∙ c.env-env.ensures.env)
+          (ap map_of board ∙ same_map w c.env-env.result.now c.costs.result.now world c.env-env.ensures.env costs)
+          (ap (λ z. z.hops) board ∙ c.as_slice.ensures.value)
+          (c.follow.ensures.start ∙ c.self.invariant.start ∙ ap (λ n. c.self.inside.goal / n) fits.turns) (λ a within.
+          c.weigh.ensures.weights a (omega (arith, within, entries, c.weigh.ensures.size))) c.follow.ensures.least;
       capped = c.cap.ensures.capped;
       turned = c.turn.ensures.turns;
       count = c.turn.ensures.size ∙ c.headings_of-headings.ensures.value ∙ ap (λ e. e.headings) c.env-env.ensures.env;
@@ -56,8 +68,12 @@ invariant_of-self c =
     let guide = rebuilt_guide _ _ _ _ _ is in
     record {
       table = guide.table;
-      cells = ap cell_count c.follow.ensures.board ∙ ap length (c.costs.ensures.value ∙ ap (λ m. m.costs) c.map.ensures.map) ∙ is.world.map.cells ∙ sym is.entries ∙ sym is.capped.size;
-      start = c.follow.ensures.start ∙ c.self.invariant.start ∙ ap (λ n. c.self.inside.goal / n) (fits.turns ∙ sym is.count);
+      cells =
+          ap cell_count c.follow.ensures.board ∙ ap length (c.costs.ensures.value ∙ ap (λ m. m.costs) c.map.ensures.map)
+          ∙ is.world.map.cells ∙ sym is.entries ∙ sym is.capped.size;
+      start =
+          c.follow.ensures.start ∙ c.self.invariant.start
+          ∙ ap (λ n. c.self.inside.goal / n) (fits.turns ∙ sym is.count);
       hops = ap (λ z. z.room) c.follow.ensures.board ∙ c.self.invariant.hops ∙ sym c.list_hops.ensures.room;
     }
 

@@ -18,5 +18,12 @@ returns c =
     let turn = get_or_read b.turns.items _ _ (rw count inside.1) c.index.ensures 0 in
     record {
       value = rw (← c.self.view_is) (cc (cell, turn, count, c.max.ensures));
-      small = omega (arith, c.max.ensures, cell, turn, table.cells (c.args.s / c.len-headings.result), table.turns (c.args.s % c.len-headings.result));
+      small = omega (
+        arith,
+        c.max.ensures,
+        cell,
+        turn,
+        table.cells (c.args.s / c.len-headings.result),
+        table.turns (c.args.s % c.len-headings.result),
+      );
     }

@@ -7,7 +7,8 @@ use Rattle.sbpl_heur.proofs.cells.CellsGraph.floor.Goals as goal
 pub returns-then-s-count : goal.returns-then-s-count
 returns-then-s-count c = record {
   positive = omega arith;
-  floor = λ d costs. (let free = cost_free c.args.self.now c.args.s c.args.k d costs in (back_cost c.args.self.now c.count.ensures.kept c.args.s c.args.k free.0 d free.1).0);
+  floor = λ d costs. (let free = cost_free c.args.self.now c.args.s c.args.k d costs in
+      (back_cost c.args.self.now c.count.ensures.kept c.args.s c.args.k free.0 d free.1).0);
 }
 
 module _ (c : goal.After-from) where
@@ -18,15 +19,20 @@ module _ (c : goal.After-from) where
 
   cost_at : slice_index c.self.inside.costs.items c.args.s ≡ c.from.result
   cost_at =
-      let inside : c.args.s < cell_count c.args.self.now = omega (arith, c.requires.state, c.count.ensures.value, c.if-s-count.false) in
+      let inside : c.args.s < cell_count c.args.self.now =
+      omega (arith, c.requires.state, c.count.ensures.value, c.if-s-count.false) in
       let here = rw (← c.self.view_is) at inside in
       read_at c.self.inside.costs.items c.args.s c.index-2.result.now here c.index-2.ensures ∙ sym c.from.ensures
 
 pub overflow_mul-result : goal.overflow_mul-result
-overflow_mul-result c = omega (arith, floor_fits _ c.self.invariant c.args.s c.args.k c.from.result c.index.result.now (hop_at c) (cost_at c))
+overflow_mul-result c = omega (
+  arith,
+  floor_fits _ c.self.invariant c.args.s c.args.k c.from.result c.index.result.now (hop_at c) (cost_at c),
+)
 
 pub returns : goal.returns
 returns c = record {
   positive = floor_some _ c.self.invariant c.args.k c.from.result c.index.result.now (hop_at c);
-  floor = rw (← c.self.view_is) (cost_floor _ c.self.invariant c.args.s c.args.k c.from.result c.index.result.now (hop_at c) (cost_at c));
+  floor = rw (← c.self.view_is)
+      (cost_floor _ c.self.invariant c.args.s c.args.k c.from.result c.index.result.now (hop_at c) (cost_at c));
 }

@@ -13,9 +13,17 @@ invariant_of-self c =
     let count = ap (λ z. length z.costs) made in
     let hops = ap (λ z. length z.hops) made in
     let opened = c.reset.ensures.opened in
-    let ready = c.reset.ensures.ready (board_network b) c.self.inside.budget.run (omega (arith, parts.usable.states, count, view_count, c.requires.same_size)) in
+    let ready =
+    c.reset.ensures.ready (board_network b) c.self.inside.budget.run
+    (omega (arith, parts.usable.states, count, view_count, c.requires.same_size)) in
     record {
-      board = subst IsBoard (sym (made ∙ ap (λ n. record { env = c.args.env.now; costs = c.args.costs.now; hops = c.args.hops.now; room = n }) view)) c.requires.board;
+      board =
+          subst IsBoard (sym (made ∙ ap (λ n. record {
+            env = c.args.env.now;
+            costs = c.args.costs.now;
+            hops = c.args.hops.now;
+            room = n;
+          }) view)) c.requires.board;
       start = omega (arith, opened.start, parts.start, count, view_count, c.requires.same_size);
       goal = omega (arith, c.reset.ensures.goal, parts.goal, count, view_count, c.requires.same_size);
       usable = record { states = ready.states; exact = ready.exact; fits = ready.fits };

@@ -16,5 +16,6 @@ loop-s-preserved g c =
 
 pub returns-clause-bound : goal.returns-clause-bound
 returns-clause-bound g c = λ n same sound guides supported.
-    low_bounds n c.args.self.now.start (omega arith) sound (g.met.H.Guide.consistent c.args.guide.now n c.args.goal guides)
+    low_bounds n c.args.self.now.start (omega arith) sound
+    (g.met.H.Guide.consistent c.args.guide.now n c.args.goal guides)
     supported c.loop-s.invariant

@@ -2,7 +2,9 @@ use Rattle.sbpl_labels.proofs.Opened.{opened_rows, exact_where_opened, not_under
 use Rattle.sbpl_labels.proofs.labels.Labels.open.Goals as goal
 
 pub returns-clause-opened : goal.returns-clause-opened
-returns-clause-opened c = opened_rows c.args.states c.args.start c.in_ok-rows.ensures.count c.requires.start c.in_ok-rows.ensures.rows c.set_way.ensures.set
+returns-clause-opened c =
+    opened_rows c.args.states c.args.start c.in_ok-rows.ensures.count c.requires.start
+    c.in_ok-rows.ensures.rows c.set_way.ensures.set
 
 pub returns-clause-exact : goal.returns-clause-exact
 returns-clause-exact c = exact_where_opened (returns-clause-opened c)

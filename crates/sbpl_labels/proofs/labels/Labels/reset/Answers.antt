@@ -5,7 +5,8 @@ use Rattle.sbpl_labels.proofs.labels.Labels.reset.Goals as goal
 pub returns-clause-opened : goal.returns-clause-opened
 returns-clause-opened c =
     rw (← c.self.view_is)
-    (opened_rows (length c.self.inside.rows) c.self.inside.start c.fill.ensures.count c.self.invariant.start_inside c.fill.ensures.rows c.set_way.ensures.set)
+    (opened_rows (length c.self.inside.rows) c.self.inside.start c.fill.ensures.count c.self.invariant.start_inside
+    c.fill.ensures.rows c.set_way.ensures.set)
 
 pub returns-clause-exact : goal.returns-clause-exact
 returns-clause-exact c = exact_where_opened (returns-clause-opened c)

@@ -13,7 +13,9 @@ over g c = omega arith
 by : (g : _) (c : In-Some g) → back_of c.args.self.now c.loop-into.at ≡ Some (c.in-Some.s, c.in-Some.k)
 by g c = sym c.back.ensures.value ∙ c.in-Some.is
 
-given : (g : _) (c : In-Some g) → (x : ℕ) × GivesLabel (g.G.Graph.network c.args.graph.now) (g_of c.args.self.now) (v_of c.args.self.now) c.in-Some.s c.in-Some.k c.loop-into.at x
+given : (g : _) (c : In-Some g)
+    → (x : ℕ) × GivesLabel (g.G.Graph.network c.args.graph.now) (g_of c.args.self.now) (v_of c.args.self.now)
+    c.in-Some.s c.in-Some.k c.loop-into.at x
 given g c = arc_gives c.requires.exact c.loop-into.invariant.0 (over g c) (by g c)
 
 pub judge-requires-clause-state : goal.judge-requires-clause-state
@@ -28,7 +30,8 @@ unwrap-requires g c =
     rw (c.judge.ensures.value, arc) refl
 
 -- the cost of that arc
-price : (g : _) (c : After-from-cost g) → (g.G.Graph.network c.args.graph.now).cost c.in-Some.s c.in-Some.k ≡ Some c.from-cost.result
+price : (g : _) (c : After-from-cost g)
+    → (g.G.Graph.network c.args.graph.now).cost c.in-Some.s c.in-Some.k ≡ Some c.from-cost.result
 price g c = sym c.judge.ensures.value ∙ c.unwrap.ensures ∙ ap Some (sym c.from-cost.ensures)
 
 some_cost : (g : _) (c : After-from-cost g) → 1 ≤ c.from-cost.result
@@ -51,7 +54,8 @@ loop-into-smaller g c =
 pub loop-into-preserved : goal.loop-into-preserved
 loop-into-preserved g c =
     let at = goal.at.loop-into-preserved g c in (
-      rw c.push_reserved.ensures.items (walk_on c.requires.exact c.loop-into.invariant.0 (over g at.In-Some) (by g at.In-Some) c.from-cost.result (price g at.After-from-cost) (some_cost g at.After-from-cost)),
+      rw c.push_reserved.ensures.items (walk_on c.requires.exact c.loop-into.invariant.0 (over g at.In-Some)
+          (by g at.In-Some) c.from-cost.result (price g at.After-from-cost) (some_cost g at.After-from-cost)),
       c.push_reserved.ensures.capacity ∙ c.loop-into.invariant.1,
     )
 

@@ -5,11 +5,20 @@ use Rattle.sbpl_labels.proofs.Columns.{rows_size, row_at_is}
 use Rattle.sbpl_labels.proofs.rows.Rows.back.Goals as goal
 
 pub index-requires : goal.index-requires
-index-requires c = omega (arith, c.requires.state, rows_size _ _ _ c.self.view_is c.self.invariant, c.self.invariant.0, c.self.invariant.1)
+index-requires c = omega (
+  arith,
+  c.requires.state,
+  rows_size _ _ _ c.self.view_is c.self.invariant,
+  c.self.invariant.0,
+  c.self.invariant.1,
+)
 
 pub returns : goal.returns
 returns c =
     let size = rows_size _ _ _ c.self.view_is c.self.invariant in
     record {
-      value = c.index.ensures ∙ get_or_default c.self.inside.back.items c.args.s c.index.result.now None (omega (arith, c.requires.state, size, c.self.invariant.0, c.self.invariant.1)) ∙ sym (ap (λ (r : Row). r.back) (row_at_is _ _ _ c.self.view_is c.self.invariant c.args.s));
+      value =
+          c.index.ensures ∙ get_or_default c.self.inside.back.items c.args.s c.index.result.now None
+          (omega (arith, c.requires.state, size, c.self.invariant.0, c.self.invariant.1))
+          ∙ sym (ap (λ (r : Row). r.back) (row_at_is _ _ _ c.self.view_is c.self.invariant c.args.s));
     }

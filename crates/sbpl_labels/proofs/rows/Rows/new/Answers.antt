@@ -9,11 +9,13 @@ returns-clause-count c =
     let is_g : c.in_ok-g.g.items ≡ replicate c.args.count c.args.row.g = search rules in
     let is_v : c.in_ok-v.v.items ≡ replicate c.args.count c.args.row.v = search rules in
     let is_back : c.in_ok-back.back.items ≡ replicate c.args.count c.args.row.back = search rules in
-    rw (is_g, is_v, is_back, same_rows c.args.count c.args.row.g c.args.row.v c.args.row.back) (length-replicate c.args.count c.args.row)
+    rw (is_g, is_v, is_back, same_rows c.args.count c.args.row.g c.args.row.v c.args.row.back)
+    (length-replicate c.args.count c.args.row)
 
 pub returns-clause-rows : goal.returns-clause-rows
 returns-clause-rows c = λ s at.
     let is_g : c.in_ok-g.g.items ≡ replicate c.args.count c.args.row.g = search rules in
     let is_v : c.in_ok-v.v.items ≡ replicate c.args.count c.args.row.v = search rules in
     let is_back : c.in_ok-back.back.items ≡ replicate c.args.count c.args.row.back = search rules in
-    rw (is_g, is_v, is_back, same_rows c.args.count c.args.row.g c.args.row.v c.args.row.back) (get_or-replicate c.args.count s c.args.row no_row at)
+    rw (is_g, is_v, is_back, same_rows c.args.count c.args.row.g c.args.row.v c.args.row.back)
+    (get_or-replicate c.args.count s c.args.row no_row at)

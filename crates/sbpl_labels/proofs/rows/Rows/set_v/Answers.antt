@@ -3,7 +3,8 @@ use Rattle.sbpl_labels.proofs.Columns.{rows_size, v_set}
 use Rattle.sbpl_labels.proofs.rows.Rows.set_v.Goals as goal
 
 pub index_mut-requires : goal.index_mut-requires
-index_mut-requires c = omega (arith, c.requires.state, rows_size _ _ _ c.self.view_is c.self.invariant, c.self.invariant.0)
+index_mut-requires c =
+    omega (arith, c.requires.state, rows_size _ _ _ c.self.view_is c.self.invariant, c.self.invariant.0)
 
 pub returns : goal.returns
 returns c = record { set = v_set _ _ _ c.self.view_is c.self.invariant c.args.s c.args.v c.requires.state }

@@ -5,12 +5,16 @@ use Rattle.sbpl_map.proofs.map.Map.set.Goals as goal
 
 pub index-was-requires : goal.index-was-requires
 index-was-requires c =
-    let index = rw (to_z-of_z w64 c.args.x c.ranges.x, to_z-of_z w64 c.args.y c.ranges.y, ← c.self.view_is) at c.in-Some.ensures.value in
+    let index =
+    rw (to_z-of_z w64 c.args.x c.ranges.x, to_z-of_z w64 c.args.y c.ranges.y, ← c.self.view_is)
+    at c.in-Some.ensures.value in
     omega (arith, index_below _ _ _ _ c.self.invariant (sym index))
 
 pub index_mut-requires : goal.index_mut-requires
 index_mut-requires c =
-    let index = rw (to_z-of_z w64 c.args.x c.ranges.x, to_z-of_z w64 c.args.y c.ranges.y, ← c.self.view_is) at c.in-Some.ensures.value in
+    let index =
+    rw (to_z-of_z w64 c.args.x c.ranges.x, to_z-of_z w64 c.args.y c.ranges.y, ← c.self.view_is)
+    at c.in-Some.ensures.value in
     omega (arith, index_below _ _ _ _ c.self.invariant (sym index))
 
 pub invariant_of-self : goal.invariant_of-self
@@ -27,5 +31,7 @@ returns-clause-old c =
 
 pub returns-clause-changes : goal.returns-clause-changes
 returns-clause-changes c =
-    let index = rw (to_z-of_z w64 c.args.x c.ranges.x, to_z-of_z w64 c.args.y c.ranges.y, ← c.self.view_is) at c.in-Some.ensures.value in
+    let index =
+    rw (to_z-of_z w64 c.args.x c.ranges.x, to_z-of_z w64 c.args.y c.ranges.y, ← c.self.view_is)
+    at c.in-Some.ensures.value in
     rw (← c.self.view_is) (cell_changed _ _ _ _ _ c.self.invariant (sym index))

@@ -7,5 +7,6 @@ use Rattle.sbpl_nav2d.proofs.nav.Nav.ends_reading.Goals as goal
 pub returns-clause-ends : goal.returns-clause-ends
 returns-clause-ends c =
     on_ok_weaker c.add_ends.result
-    (adds_few_ends c.args.end c.args.self.now (by (pos c.args.x) (pos c.args.y)) c.args.into.now.items c.add_ends.new.into.items)
+    (adds_few_ends c.args.end c.args.self.now (by (pos c.args.x) (pos c.args.y)) c.args.into.now.items
+    c.add_ends.new.into.items)
     c.add_ends.ensures.added

@@ -3,4 +3,5 @@ use Rattle.std.proofs.lemmas.Int.{to_z-of_z}
 use Rattle.sbpl_nav2d.proofs.nav.NavTerrain.set.Goals as goal
 
 pub returns-clause-on_map : goal.returns-clause-on_map
-returns-clause-on_map c = rw (to_z-of_z w64 c.args.x c.ranges.x, to_z-of_z w64 c.args.y c.ranges.y) at c.set.ensures.on_map
+returns-clause-on_map c =
+    rw (to_z-of_z w64 c.args.x c.ranges.x, to_z-of_z w64 c.args.y c.ranges.y) at c.set.ensures.on_map

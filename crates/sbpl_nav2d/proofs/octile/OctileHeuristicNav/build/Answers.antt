@@ -10,14 +10,19 @@ inside : (w : GridWorld) (t : ℕ) → IsGridWorld w → t < (network_of w).stat
 inside w t is_world below = subst (λ (n : ℕ). t < n) (sym (states_of_env w is_world)) below
 
 pub to-requires : goal.to-requires
-to-requires c = record { state = subst (λ (e : NavEnvironment). c.args.goal < e.width * e.height) (sym c.env.ensures.env) (inside c.args.nav.now c.args.goal c.env.ensures.kept c.requires.goal) }
+to-requires c = record {
+  state =
+      subst (λ (e : NavEnvironment). c.args.goal < e.width * e.height) (sym c.env.ensures.env)
+      (inside c.args.nav.now c.args.goal c.env.ensures.kept c.requires.goal);
+}
 
 pub returns : goal.returns
 returns c = record {
   made = record {
     goal_is = ap (λ (o : OctileTo). o.goal) c.to.ensures.made;
     inside = inside c.args.nav.now c.args.goal c.env.ensures.kept c.requires.goal;
-    width_is = ap (λ (o : OctileTo). o.width) c.to.ensures.made ∙ ap (λ (e : NavEnvironment). e.width) c.env.ensures.env;
+    width_is =
+        ap (λ (o : OctileTo). o.width) c.to.ensures.made ∙ ap (λ (e : NavEnvironment). e.width) c.env.ensures.env;
     guides = c.to.ensures.guides c.args.nav.now c.env.ensures.kept (sym c.env.ensures.env);
   };
 }

@@ -9,11 +9,14 @@ returns c = record {
   made = λ m goal made.
       let w = c.args.nav.now in
       let o = c.args.self.now in
-      let inside : o.goal < w.env.width * w.env.height = subst (λ (t : ℕ). t < w.env.width * w.env.height) (sym made.goal_is) made.inside in
+      let inside : o.goal < w.env.width * w.env.height =
+      subst (λ (t : ℕ). t < w.env.width * w.env.height) (sym made.goal_is) made.inside in
       record {
         goal_is = made.goal_is;
         inside = made.inside;
         width_is = made.width_is;
-        guides = subst (λ (t : ℕ). IsGuideTo o (network_of w) t) made.goal_is (guides w o c.env-env.ensures.kept made.width_is inside);
+        guides =
+            subst (λ (t : ℕ). IsGuideTo o (network_of w) t) made.goal_is
+            (guides w o c.env-env.ensures.kept made.width_is inside);
       };
 }

@@ -13,5 +13,7 @@ returns c =
     let h = c.self.inside.heap.items in
     let p = c.self.inside.slots.items in
     let states = states_view h p c.self.view_is in
-    let read : c.index.result.now ≡ slice_index p c.args.s = get_or_read p c.args.s c.index.result.now (omega arith) c.index.ensures 0 in
-    rw (read, key_view h p c.self.view_is c.args.s) (record { there = some_there (is_there p c.args.s) (key_of (entry_at h (slice_index p c.args.s - 1))) })
+    let read : c.index.result.now ≡ slice_index p c.args.s =
+    get_or_read p c.args.s c.index.result.now (omega arith) c.index.ensures 0 in
+    rw (read, key_view h p c.self.view_is c.args.s)
+    (record { there = some_there (is_there p c.args.s) (key_of (entry_at h (slice_index p c.args.s - 1))) })

@@ -10,7 +10,8 @@ returns-in_err-entry c =
     let h = c.self.inside.heap.items in
     let p = c.self.inside.slots.items in
     let none = length_none h (rw c.deref.ensures.value at c.in_err-entry.ensures.value) in
-    rw c.from_residual.ensures (record { least = empty_view h p c.self.view_is (absent_all c.self.invariant.agreed none) })
+    rw c.from_residual.ensures
+    (record { least = empty_view h p c.self.view_is (absent_all c.self.invariant.agreed none) })
 
 pub returns : goal.returns
 returns c =
@@ -18,5 +19,8 @@ returns c =
     let p = c.self.inside.slots.items in
     let found = sym (rw c.deref.ensures.value at c.in_ok-entry.ensures.value) in
     let some : 0 < length h = slice_get_within h 0 c.in_ok-entry.field-0.now found in
-    let at : entry_at h 0 ≡ c.in_ok-entry.field-0.now = get_or_from_slice_get h 0 c.in_ok-entry.field-0.now no_entry found in
-    record { least = rw c.key.ensures.key (least_view h p _ c.in_ok-entry.field-0.now c.self.view_is c.self.invariant some at) }
+    let at : entry_at h 0 ≡ c.in_ok-entry.field-0.now =
+    get_or_from_slice_get h 0 c.in_ok-entry.field-0.now no_entry found in
+    record {
+      least = rw c.key.ensures.key (least_view h p _ c.in_ok-entry.field-0.now c.self.view_is c.self.invariant some at);
+    }

@@ -10,7 +10,8 @@ pub remove-requires-clause-there : goal.remove-requires-clause-there
 remove-requires-clause-there c =
     let p = c.self.inside.slots.items in
     let states = states_view c.self.inside.heap.items p c.self.view_is in
-    let read : c.index.result.now ≡ slice_index p c.args.s = get_or_read p c.args.s c.index.result.now (omega arith) c.index.ensures 0 in
+    let read : c.index.result.now ≡ slice_index p c.args.s =
+    get_or_read p c.args.s c.index.result.now (omega arith) c.index.ensures 0 in
     rw (c.deref_mut.ensures.value, ← read) c.if-index-gt0.true
 
 pub returns-then-index-gt0-clause-changed : goal.returns-then-index-gt0-clause-changed
@@ -27,7 +28,8 @@ returns-then-index-gt0-clause-unchanged c = λ none.
     let h = c.self.inside.heap.items in
     let p = c.self.inside.slots.items in
     let states = states_view h p c.self.view_is in
-    let read : c.index.result.now ≡ slice_index p c.args.s = get_or_read p c.args.s c.index.result.now (omega arith) c.index.ensures 0 in
+    let read : c.index.result.now ≡ slice_index p c.args.s =
+    get_or_read p c.args.s c.index.result.now (omega arith) c.index.ensures 0 in
     let there : 0 < slice_index p c.args.s = rw (← read) c.if-index-gt0.true in
     let key = key_listed h p c.self.view_is c.args.s (slice_index p c.args.s - 1) (omega arith) in
     absurd cc
@@ -37,7 +39,8 @@ returns-else-index-gt0-clause-changed c =
     let h = c.self.inside.heap.items in
     let p = c.self.inside.slots.items in
     let states = states_view h p c.self.view_is in
-    let read : c.index.result.now ≡ slice_index p c.args.s = get_or_read p c.args.s c.index.result.now (omega arith) c.index.ensures 0 in
+    let read : c.index.result.now ≡ slice_index p c.args.s =
+    get_or_read p c.args.s c.index.result.now (omega arith) c.index.ensures 0 in
     let absent : slice_index p c.args.s ≡ 0 = omega arith in
     record { states = refl; at = key_absent h p c.self.view_is c.args.s absent; others = λ u apart. refl }
 

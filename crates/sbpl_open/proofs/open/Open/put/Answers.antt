@@ -6,7 +6,11 @@ use Rattle.sbpl_open.proofs.open.Open.put.Goals as goal
 
 pub hole_for-hole-requires-clause-state : goal.hole_for-hole-requires-clause-state
 hole_for-hole-requires-clause-state c =
-    omega (arith, ap length c.deref.ensures.value, states_view c.self.inside.heap.items c.self.inside.slots.items c.self.view_is)
+    omega (
+      arith,
+      ap length c.deref.ensures.value,
+      states_view c.self.inside.heap.items c.self.inside.slots.items c.self.view_is,
+    )
 
 pub invariant_of-self : goal.invariant_of-self
 invariant_of-self c =
@@ -33,4 +37,8 @@ returns c =
     let states : length c.sift.new.slots ≡ length p = omega arith in
     let put = rw c.deref.ensures.value at c.hole_for-hole.ensures.keys in
     let kept = rw (c.deref_mut.ensures.value, c.deref_mut-2.ensures.value) at c.sift.ensures.keys in
-    record { changed = changes_view h p _ _ c.args.s _ c.self.view_is (ap length slots ∙ states) (rw (heap, slots) (changes_then put kept)) }
+    record {
+      changed =
+          changes_view h p _ _ c.args.s _ c.self.view_is (ap length slots ∙ states)
+          (rw (heap, slots) (changes_then put kept));
+    }

@@ -16,7 +16,8 @@ invariant_of-self g c =
     (ap length c.insert.ensures.closed ∙ length-set inside.closed c.args.s true)
     (λ u.
     rw c.insert.ensures.closed
-    (closed_at_push inside.closed none_closed inside.steps.items c.args.s (omega (arith, parts.closed_states, opened.inside)) parts.closed_by_steps u))
+    (closed_at_push inside.closed none_closed inside.steps.items c.args.s
+    (omega (arith, parts.closed_states, opened.inside)) parts.closed_by_steps u))
     c.push.ensures.pushed c.push.ensures.room queued.states (queued_waiting _ _ queued)
 
 pub returns-clause-queued : goal.returns-clause-queued
@@ -25,7 +26,8 @@ returns-clause-queued g c =
     queued_alike _ _ _ _ (λ u. sym (parts.closed_by_steps u)) c.expand.ensures.queued
 
 pub returns-clause-taken : goal.returns-clause-taken
-returns-clause-taken g c = rw (← c.self.view_is) (record { step = c.expand.ensures.lowered; traced = c.push.ensures.pushed })
+returns-clause-taken g c =
+    rw (← c.self.view_is) (record { step = c.expand.ensures.lowered; traced = c.push.ensures.pushed })
 
 pub returns-clause-usable : goal.returns-clause-usable
 returns-clause-usable g c = rw (← c.self.view_is) c.expand.ensures.usable

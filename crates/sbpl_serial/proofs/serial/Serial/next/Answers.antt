@@ -8,4 +8,5 @@ returns-clause-next c =
     let inside = c.self.inside in
     let tells = simp (c.from.ensures, c.g-g.ensures.value) at c.is_below.ensures.below in
     rw (← c.self.view_is, c.then_some.ensures)
-    (first_below inside.queue (goal_key (g_of inside.labels inside.goal)) c.in_ok-s.s _ c.is_below.result c.in_ok-s.ensures.least tells)
+    (first_below inside.queue (goal_key (g_of inside.labels inside.goal)) c.in_ok-s.s _ c.is_below.result
+    c.in_ok-s.ensures.least tells)

@@ -8,5 +8,7 @@ pub invariant_of-result : goal.invariant_of-result
 invariant_of-result c =
     let opened = c.in_ok-labels.ensures.opened in
     let same = opened.states in
-    together_none (omega (arith, c.requires.goal)) (omega (arith, c.in_ok-closed.ensures.states)) c.in_ok-closed.ensures.none c.in_ok-steps.ensures.empty (omega (arith, c.in_ok-steps.ensures.room))
-    (omega (arith, c.put.ensures.changed.states, c.in_ok-queue.ensures.states)) (opened_waiting none_closed _ _ c.args.start _ opened refl c.put.ensures.changed)
+    together_none (omega (arith, c.requires.goal)) (omega (arith, c.in_ok-closed.ensures.states))
+    c.in_ok-closed.ensures.none c.in_ok-steps.ensures.empty (omega (arith, c.in_ok-steps.ensures.room))
+    (omega (arith, c.put.ensures.changed.states, c.in_ok-queue.ensures.states))
+    (opened_waiting none_closed _ _ c.args.start _ opened refl c.put.ensures.changed)

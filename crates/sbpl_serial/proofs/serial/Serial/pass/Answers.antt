@@ -16,43 +16,64 @@ expansions-init g c =
 pub take-requires-clause-room : goal.take-requires-clause-room
 take-requires-clause-room g c =
     let here = c.expansions.invariant in
-    let next = next_from_queue (query (g.G.Graph.network c.args.graph.now) (g.H.Guide.distance c.args.guide.now) c.args.eps c.args.self.now.goal) c.in-Some.s here.queued (rw here.same_goal at c.in-Some.ensures.next) in
+    let next =
+    next_from_queue (query (g.G.Graph.network c.args.graph.now) (g.H.Guide.distance c.args.guide.now) c.args.eps
+    c.args.self.now.goal) c.in-Some.s here.queued (rw here.same_goal at c.in-Some.ensures.next) in
     omega (arith, passing_room here c.in-Some.ensures.labels next, here.same_states)
 
 pub expansions-preserved : goal.expansions-preserved
 expansions-preserved g c =
     let here = c.expansions.invariant in
-    let next = next_from_queue (query (g.G.Graph.network c.args.graph.now) (g.H.Guide.distance c.args.guide.now) c.args.eps c.args.self.now.goal) c.in-Some.s here.queued (rw here.same_goal at c.in-Some.ensures.next) in
+    let next =
+    next_from_queue (query (g.G.Graph.network c.args.graph.now) (g.H.Guide.distance c.args.guide.now) c.args.eps
+    c.args.self.now.goal) c.in-Some.s here.queued (rw here.same_goal at c.in-Some.ensures.next) in
     let consistent = g.met.H.Guide.consistent c.args.guide.now _ _ c.requires.guide in
     let take = c.take.ensures in
-    passing_more c.in-Some.s c.states-states.ensures.sound consistent c.in-Some.ensures.labels here next take.taken take.usable take.goal c.spend.ensures.counted take.queued
+    passing_more c.in-Some.s c.states-states.ensures.sound consistent c.in-Some.ensures.labels here next take.taken
+    take.usable take.goal c.spend.ensures.counted take.queued
 
 pub returns-clause-passed : goal.returns-clause-passed
 returns-clause-passed g c =
     let here = c.expansions.invariant in
-    let rest = rest_from_queue (query (g.G.Graph.network c.args.graph.now) (g.H.Guide.distance c.args.guide.now) c.args.eps c.args.self.now.goal) here.queued (rw here.same_goal at c.in_default.ensures.next) in
-    passed_at_rest here c.in_default.ensures.labels c.states-states.ensures.sound (g.met.H.Guide.consistent c.args.guide.now _ _ c.requires.guide) (λ s inside. g.met.H.Guide.bounded c.args.guide.now _ _ s c.requires.guide inside)
+    let rest =
+    rest_from_queue (query (g.G.Graph.network c.args.graph.now) (g.H.Guide.distance c.args.guide.now) c.args.eps
+    c.args.self.now.goal) here.queued (rw here.same_goal at c.in_default.ensures.next) in
+    passed_at_rest here c.in_default.ensures.labels c.states-states.ensures.sound
+    (g.met.H.Guide.consistent c.args.guide.now _ _ c.requires.guide)
+    (λ s inside. g.met.H.Guide.bounded c.args.guide.now _ _ s c.requires.guide inside)
     (rw here.same_goal at c.in_default.ensures.inside) c.requires.usable.exact.from_start rest
 
 pub returns-clause-forward : goal.returns-clause-forward
 returns-clause-forward g c = λ none.
     let here = c.expansions.invariant in
-    let rest = rest_from_queue (query (g.G.Graph.network c.args.graph.now) (g.H.Guide.distance c.args.guide.now) c.args.eps c.args.self.now.goal) here.queued (rw here.same_goal at c.in_default.ensures.next) in
+    let rest =
+    rest_from_queue (query (g.G.Graph.network c.args.graph.now) (g.H.Guide.distance c.args.guide.now) c.args.eps
+    c.args.self.now.goal) here.queued (rw here.same_goal at c.in_default.ensures.next) in
     let was = subst (λ (a : SerialState). AreLabels a.labels) c.self.view_is c.start-start.ensures.labels in
-    forward_pass none was c.in_default.ensures.labels c.requires.eps_high (λ s inside. g.met.H.Guide.bounded c.args.guide.now _ _ s c.requires.guide inside) _
-    (passed_at_rest here c.in_default.ensures.labels c.states-states.ensures.sound (g.met.H.Guide.consistent c.args.guide.now _ _ c.requires.guide) (λ s inside. g.met.H.Guide.bounded c.args.guide.now _ _ s c.requires.guide inside)
+    forward_pass none was c.in_default.ensures.labels c.requires.eps_high
+    (λ s inside. g.met.H.Guide.bounded c.args.guide.now _ _ s c.requires.guide inside) _
+    (passed_at_rest here c.in_default.ensures.labels c.states-states.ensures.sound
+    (g.met.H.Guide.consistent c.args.guide.now _ _ c.requires.guide)
+    (λ s inside. g.met.H.Guide.bounded c.args.guide.now _ _ s c.requires.guide inside)
     (rw here.same_goal at c.in_default.ensures.inside) c.requires.usable.exact.from_start rest)
 
 pub returns-then-spent-clause-passed : goal.returns-then-spent-clause-passed
 returns-then-spent-clause-passed g c =
     let here = c.expansions.invariant in
-    let next = next_from_queue (query (g.G.Graph.network c.args.graph.now) (g.H.Guide.distance c.args.guide.now) c.args.eps c.args.self.now.goal) c.in-Some.s here.queued (rw here.same_goal at c.in-Some.ensures.next) in
-    passed_at_next here c.in-Some.ensures.labels c.requires.usable.exact.from_start c.in-Some.s next (c.if-spent.ensures.spent.0 refl)
+    let next =
+    next_from_queue (query (g.G.Graph.network c.args.graph.now) (g.H.Guide.distance c.args.guide.now) c.args.eps
+    c.args.self.now.goal) c.in-Some.s here.queued (rw here.same_goal at c.in-Some.ensures.next) in
+    passed_at_next here c.in-Some.ensures.labels c.requires.usable.exact.from_start c.in-Some.s next
+    (c.if-spent.ensures.spent.0 refl)
 
 pub returns-then-spent-clause-forward : goal.returns-then-spent-clause-forward
 returns-then-spent-clause-forward g c = λ none.
     let here = c.expansions.invariant in
-    let next = next_from_queue (query (g.G.Graph.network c.args.graph.now) (g.H.Guide.distance c.args.guide.now) c.args.eps c.args.self.now.goal) c.in-Some.s here.queued (rw here.same_goal at c.in-Some.ensures.next) in
+    let next =
+    next_from_queue (query (g.G.Graph.network c.args.graph.now) (g.H.Guide.distance c.args.guide.now) c.args.eps
+    c.args.self.now.goal) c.in-Some.s here.queued (rw here.same_goal at c.in-Some.ensures.next) in
     let was = subst (λ (a : SerialState). AreLabels a.labels) c.self.view_is c.start-start.ensures.labels in
-    forward_pass none was c.in-Some.ensures.labels c.requires.eps_high (λ s inside. g.met.H.Guide.bounded c.args.guide.now _ _ s c.requires.guide inside) _
-    (passed_at_next here c.in-Some.ensures.labels c.requires.usable.exact.from_start c.in-Some.s next (c.if-spent.ensures.spent.0 refl))
+    forward_pass none was c.in-Some.ensures.labels c.requires.eps_high
+    (λ s inside. g.met.H.Guide.bounded c.args.guide.now _ _ s c.requires.guide inside) _
+    (passed_at_next here c.in-Some.ensures.labels c.requires.usable.exact.from_start c.in-Some.s next
+    (c.if-spent.ensures.spent.0 refl))

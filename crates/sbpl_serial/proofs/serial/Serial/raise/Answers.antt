@@ -19,7 +19,8 @@ returns-clause-queued g c =
     queued_alike _ _ _ _ (λ u. sym (parts.closed_by_steps u)) c.raise.ensures.queued
 
 pub returns-clause-taken : goal.returns-clause-taken
-returns-clause-taken g c = rw (← c.self.view_is) (record { step = c.raise.ensures.raised; traced = c.push.ensures.pushed })
+returns-clause-taken g c =
+    rw (← c.self.view_is) (record { step = c.raise.ensures.raised; traced = c.push.ensures.pushed })
 
 pub returns-clause-usable : goal.returns-clause-usable
 returns-clause-usable g c = rw (← c.self.view_is) c.raise.ensures.usable

@@ -9,5 +9,7 @@ invariant_of-self c =
     let parts = c.self.invariant in
     let opened = c.reset.ensures.opened in
     let same = opened.states in
-    together_none (omega (arith, parts.goal_inside)) (omega (arith, c.clear.ensures.states, parts.closed_states)) c.clear.ensures.none c.clear-2.ensures.empty (omega (arith, c.clear-2.ensures.room, parts.enough_room))
-    (omega (arith, c.put.ensures.changed.states, c.clear-3.ensures.states, parts.queue_states)) (opened_waiting none_closed _ _ c.start.result _ opened (c.start.ensures.value ∙ opened.start) c.put.ensures.changed)
+    together_none (omega (arith, parts.goal_inside)) (omega (arith, c.clear.ensures.states, parts.closed_states))
+    c.clear.ensures.none c.clear-2.ensures.empty (omega (arith, c.clear-2.ensures.room, parts.enough_room))
+    (omega (arith, c.put.ensures.changed.states, c.clear-3.ensures.states, parts.queue_states)) (opened_waiting
+    none_closed _ _ c.start.result _ opened (c.start.ensures.value ∙ opened.start) c.put.ensures.changed)

@@ -33,11 +33,14 @@ starts-preserved g c =
       omega (arith, held.2, pushed.ensures.len, c.in-Some.ensures.len),
       rw pushed.ensures.capacity held.3,
       held.4,
-      alike_with pushed.new.self.items c.starts.places.items c.job-done.result.seat pushed.ensures.items held.5 c.job-done.result.even,
+      alike_with pushed.new.self.items c.starts.places.items c.job-done.result.seat pushed.ensures.items
+          held.5 c.job-done.result.even,
     )
 
 pub joins-init : goal.joins-init
-joins-init g c = let held = c.starts.invariant in (refl {a = vec_len c.starts.places + vec_len c.starts.handles}, omega (arith, held.2, held.3), held.5)
+joins-init g c =
+    let held = c.starts.invariant in
+    (refl {a = vec_len c.starts.places + vec_len c.starts.handles}, omega (arith, held.2, held.3), held.5)
 
 pub joins-preserved : goal.joins-preserved
 joins-preserved g c =
@@ -45,7 +48,8 @@ joins-preserved g c =
     let pushed = c.push_reserved-in-Some-pop in (
       omega (arith, held.0, pushed.ensures.len, c.in-Some-pop.ensures.len),
       rw pushed.ensures.capacity held.1,
-      alike_with pushed.new.self.items c.joins.places.items c.join-done.result.seat pushed.ensures.items held.2 c.join-done.result.even,
+      alike_with pushed.new.self.items c.joins.places.items c.join-done.result.seat pushed.ensures.items held.2
+          c.join-done.result.even,
     )
 
 pub returns : goal.returns

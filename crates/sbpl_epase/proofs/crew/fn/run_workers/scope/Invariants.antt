@@ -2,7 +2,8 @@ use Rattle.std.proofs.Common.{◌≡◌, ◌+◌, ◌≤◌, All, length, sum_by
 use Rattle.sbpl_epase.proofs.crew.fn.run_workers.scope.Given as goal
 
 abbrev pub invariant-starts : goal.invariant-starts
-invariant-starts g l = (g.G.Graph.network l.floor.graph.now ≡ g.N.Pass.query.network) × All (λ s. length s.posts ≡ s.takes) l.rest.items
+invariant-starts g l =
+    (g.G.Graph.network l.floor.graph.now ≡ g.N.Pass.query.network) × All (λ s. length s.posts ≡ s.takes) l.rest.items
     × (vec_len l.places + vec_len l.handles + vec_len l.rest ≡ vec_len l.initial.rest)
     × (vec_len l.initial.rest ≤ vec_capacity l.places) × (vec_len l.initial.rest ≤ vec_capacity l.handles)
     × (sum_by (λ s. length s.posts) l.places.items ≡ sum_by (λ s. s.takes) l.places.items)
