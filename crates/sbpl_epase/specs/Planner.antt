@@ -1,5 +1,5 @@
 -- What ePA*SE means as a planner.
-use Rattle.std.specs.Prelude.{◌≡◌, ℕ, true, List}
+use Rattle.std.specs.Prelude.{◌≡◌, ℕ, true, List, []}
 use Rattle.sbpl_graph.specs.Network.{Network}
 use Rattle.sbpl_labels.specs.Counts.{Counts}
 use Rattle.sbpl_labels.specs.Marks.{Marks}
@@ -14,12 +14,16 @@ use Rattle.sbpl_frontier_rules.specs.Frontier.{Frontier}
 use Rattle.sbpl_frontier_rules.specs.Journal.{opened_times, openings}
 use Rattle.sbpl_frontier_rules.specs.Passes.{ArePass, LeavesOpen, LeavesRest, Replays}
 
--- memory ran out after some events, which led to the labels and the counts that there are; an arc may be ready or out
+-- memory ran out after some events, which led to the labels and the counts that there are; an arc may be ready or out; nothing is told
+-- of that pass, nor of the one before, and the goal and the list of the states that were raised stay
 pub record IsCutAfterEvents (q : Query) (old new : State Event) (before after : Counts) : Type 0 where
   pub events : List Event
   pub last : Frontier
   pub replay : Replays q before events old.labels new.labels last
   pub counts : after ≡ last.counts
+  pub untold : new.notes ≡ []
+  pub goal : new.goal ≡ old.goal
+  pub raised : new.raised ≡ old.raised
 
 -- a plan begins with labels that are repaired and then raised: the touched states are recomputed, and states are raised in turn until
 -- none is underconsistent

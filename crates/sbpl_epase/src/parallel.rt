@@ -5,6 +5,7 @@ ghost use Rattle.sbpl_search.specs.Query.{query};
 ghost use Rattle.sbpl_frontier_rules.specs.Events.{IsOutOfBudget, IsRest};
 ghost use Rattle.sbpl_frontier_core.specs.Book.{IsReplay};
 ghost use Rattle.sbpl_frontier_core.specs.Passes.{EndsSo};
+ghost use Rattle.sbpl_frontier_core.specs.Seats.{AreTakenIn};
 ghost use Rattle.sbpl_epase.specs.Making.{CanPass, Leaves};
 
 use crate::crew::run_workers;
@@ -44,6 +45,8 @@ pub fn parallel_pass<
     requires graph { G.network graph.now ≡ N.query.network }
     ensures ends { IfOk result (λ core. IsRest N.query core.frontier ⊎ IsOutOfBudget N.query core.frontier) }
     ensures replay { IfOk result (λ core. IsReplay N.query N.opening N.counts core.journal core.frontier) }
+    // One worker sits in seat 0.
+    ensures alone { workers ≡ 1 → IfOk result (λ core. AreTakenIn 0 core.journal) }
 {
     match pass_of(rt, alloc, core, graph, workers, gate) {
         Ok((core, _end)) => {
@@ -76,6 +79,7 @@ fn pass_of<
     requires empty { core.journal ≡ [] }
     requires graph { G.network graph.now ≡ N.query.network }
     ensures ends { IfOk result (λ r. EndsSo N.query r.1 r.0.frontier) }
+    ensures alone { workers ≡ 1 → IfOk result (λ r. AreTakenIn 0 r.0.journal) }
 {
     if workers == 1 {
         let _out = core.out();
@@ -200,6 +204,8 @@ pub fn parallel_pass_parts<
     requires few { workers ≤ 64 }
     requires can { CanPass (query (G.network graph.now) (H.distance guide.now) eps goal) (H.guides guide.now (G.network graph.now) goal) parts }
     ensures left { Leaves (query (G.network graph.now) (H.distance guide.now) eps goal) parts keeps result }
+    // One worker sits in seat 0.
+    ensures alone { workers ≡ 1 → IfOk result (λ r. AreTakenIn 0 r.journal.events) }
 {
     parts_as::<Brand, R, T, G, H>(
         rt, gate, workers, alloc, graph, guide, parts, goal, eps, keeps,
@@ -233,6 +239,7 @@ fn parts_as<
     requires keeps { keeps ≡ N.keeps }
     requires can { CanPass (query (G.network graph.now) (H.distance guide.now) eps goal) (H.guides guide.now (G.network graph.now) goal) parts }
     ensures left { Leaves N.query parts keeps result }
+    ensures alone { workers ≡ 1 → IfOk result (λ r. AreTakenIn 0 r.journal.events) }
 {
     nothing_begun(graph, guide, &parts.labels, goal, eps, &parts.budget);
     let core = CoreOf::<'_, G, H, N, Unseen>::open_parts(

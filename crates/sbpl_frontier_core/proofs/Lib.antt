@@ -5,6 +5,7 @@ pub mod Replaying
 pub mod Parting
 pub mod Choosing
 pub mod Answering
+pub mod Seating
 pub mod Finishing
 pub mod Placing
 pub mod Lowering

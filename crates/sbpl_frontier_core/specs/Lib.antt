@@ -12,3 +12,4 @@ pub mod Choices
 pub mod Given
 pub mod Finished
 pub mod Passes
+pub mod Seats

@@ -4,6 +4,7 @@ ghost use Rattle.std.specs.Prelude.{◌≡◌, ◌≤◌, [], IfOk};
 ghost use Rattle.sbpl_search.specs.Query.{query};
 ghost use Rattle.sbpl_search.specs.Ready.{AreReady};
 ghost use Rattle.sbpl_frontier_core.specs.Passes.{EndsSo, IsPassGivenUp};
+ghost use Rattle.sbpl_frontier_core.specs.Seats.{AreTakenIn};
 
 use crate::{CoreOf, Gate, Next, Pass, Past, judge};
 use sbpl_fixed::NoMemory;
@@ -21,6 +22,8 @@ pub fn go_on<'g, T: Gate, G: Graph, H: Guide, N: Pass, U: Past>(
     requires out { core.frontier.out ≡ [] }
     requires graph { G.network graph.now ≡ N.query.network }
     ensures ends { IfOk result (λ r. EndsSo N.query r.1 r.0.frontier) }
+    // The journal tells no other seat, where it told none before.
+    ensures seat { AreTakenIn 0 core.entry.journal → IfOk result (λ r. AreTakenIn 0 r.0.journal) }
 {
     let mut core = core;
     'arcs: loop {

@@ -1,8 +1,11 @@
-use Rattle.std.proofs.Common.{◌≡◌, ℕ, List, [], ◌∷◌, ◌++◌, length, arith, ap, ◌∙◌}
-use Rattle.std.proofs.lemmas.List.Elements.{Contains-push}
+use Rattle.std.proofs.Common.{◌≡◌, ℕ, List, [], ◌∷◌, ◌++◌, length, arith, ap, refl, ◌∙◌}
+use Rattle.std.proofs.lemmas.List.Elements.{All-push, Contains-push}
+use Rattle.sbpl_frontier_rules.specs.declared.event.Event.TheVariants.{Posted, Taken}
 use Rattle.sbpl_frontier_rules.specs.declared.leg.Leg.{Leg}
 use Rattle.sbpl_frontier_rules.specs.Frontier.{without}
+use Rattle.sbpl_frontier_core.specs.Seats.{IsTakenIn}
 use Rattle.sbpl_frontier_core.proofs.Answering.{none_without, opens_keep}
+use Rattle.sbpl_frontier_core.proofs.Seating.{opens_taken}
 use Rattle.sbpl_frontier_core.proofs.serial.go_on.Goals as goal
 
 pub apply-requires : goal.apply-requires
@@ -38,13 +41,33 @@ arcs-preserved g c =
     let leg : Leg =
     record { ticket = c.in-Ok-Job.ticket.number; state = c.in-Ok-Job.ticket.state; arc = c.in-Ok-Job.ticket.arc } in
     let one : c.next.new.self.frontier.out ≡ leg ∷ [] =
-    answers.gives.taking.out ∙ ap (λ (out : List Leg). out ++ leg ∷ []) (same.0 ∙ c.arcs.invariant) in
-    c.apply.ensures.posted.out ∙ ap (λ (ticket : ℕ). without ticket c.next.new.self.frontier.out) c.judge.ensures.number
-    ∙ ap (without leg.ticket) one ∙ none_without leg
+    answers.gives.taking.out ∙ ap (λ (out : List Leg). out ++ leg ∷ []) (same.0 ∙ c.arcs.invariant.0) in
+    let t = c.in-Ok-Job.ticket in (
+      c.apply.ensures.posted.out
+          ∙ ap (λ (ticket : ℕ). without ticket c.next.new.self.frontier.out) c.judge.ensures.number
+          ∙ ap (without leg.ticket) one ∙ none_without leg,
+      λ first.
+          let opened = opens_taken g.N.Pass.query 0 c.arcs.core answers.mid answers.opens (c.arcs.invariant.1 first) in
+          let event = Taken t.number 0 t.state t.arc in
+          let taken = All-push (IsTakenIn 0) answers.mid.journal event opened refl in
+          rw (c.apply.ensures.journal, answers.gives.journal)
+          (All-push (IsTakenIn 0) (answers.mid.journal ++ event ∷ [])
+          (Posted c.judge.result.number c.judge.result.cost) taken tt),
+    )
 
 pub unreachable-requires : goal.unreachable-requires
 unreachable-requires g c =
     let answers = rw c.in-Ok-NotYet.field-0-is at c.in-Ok-NotYet.ensures.answers in
     let same = opens_keep g.N.Pass.query c.arcs.core answers.mid answers.opens in
     let waits = answers.not_yet.0 tt in
-    omega (arith, waits.some_out, ap length (same.0 ∙ c.arcs.invariant))
+    omega (arith, waits.some_out, ap length (same.0 ∙ c.arcs.invariant.0))
+
+pub returns-in-Ok-Over-clause-seat : goal.returns-in-Ok-Over-clause-seat
+returns-in-Ok-Over-clause-seat g c first =
+    let answers = rw c.in-Ok-Over.field-0-is at c.in-Ok-Over.ensures.answers in
+    rw answers.gives (opens_taken g.N.Pass.query 0 c.arcs.core answers.mid answers.opens (c.arcs.invariant.1 first))
+
+pub returns-in-Ok-Spent-clause-seat : goal.returns-in-Ok-Spent-clause-seat
+returns-in-Ok-Spent-clause-seat g c first =
+    let answers = rw c.in-Ok-Spent.field-0-is at c.in-Ok-Spent.ensures.answers in
+    rw answers.gives (opens_taken g.N.Pass.query 0 c.arcs.core answers.mid answers.opens (c.arcs.invariant.1 first))
