@@ -1,9 +1,12 @@
 -- Ends of arcs are appended to a list, one kind of arcs after another.
-use Rattle.std.proofs.Common.{◌≡◌, ℕ, ℤ, pos, ◌+◌, ◌*◌, ◌<◌, ◌≤◌, ◌+ℤ◌, ◌⊎◌, inl, inr, true, false, zero, suc, List, []}
-use Rattle.std.proofs.Common.{◌∷◌, ◌++◌, slice_get, Option, Some, None, IfSome, IfNone, refl, sym, ap, ◌∙◌, subst}
-use Rattle.std.proofs.Common.{append_assoc, append-nil, length-append, arith}
-use Rattle.std.specs.List.{AllByRecursion, cons_option}
+use Rattle.std.proofs.Common.{◌≡◌, ◌≢◌, ℕ, ℤ, pos, ◌+◌, ◌*◌, ◌<◌, ◌≤◌, ◌+ℤ◌, ◌⊎◌, inl, inr, true, false, zero}
+use Rattle.std.proofs.Common.{suc, List, [], ◌∷◌, ◌++◌, slice_get, Option, Some, None, IfSome, IfNone, refl, sym, ap}
+use Rattle.std.proofs.Common.{◌∙◌, subst, append_assoc, append-nil, length-append, arith}
+use Rattle.std.specs.List.{All, AllByRecursion, AllPairs, cons_option}
 use Rattle.std.proofs.lemmas.Bool.{cases_lt}
+use Rattle.std.proofs.lemmas.Int.{ints}
+use Rattle.std.proofs.lemmas.List.Elements.{All-append, All-cons, All-nil}
+use Rattle.std.proofs.lemmas.List.Kept.{AllPairs-cons}
 use Rattle.std.proofs.lemmas.Option.{none-some, same_Some}
 use Rattle.sbpl_graph.specs.Network.{Network, IsArc}
 use Rattle.sbpl_nav2d.specs.declared.cell.Cell.{Cell}
@@ -22,6 +25,7 @@ use Rattle.sbpl_nav2d.specs.Reads.{ReadsCell}
 use Rattle.sbpl_nav2d.specs.Reading.{AddsFewEnds, AreAtEnd, IsAmong}
 use Rattle.sbpl_nav2d.specs.Adding.{Adds, Extends, IsEndBy, ReadsAs, ReadsBelow, ReadsIn}
 use Rattle.sbpl_nav2d.proofs.Networks.{states_are, fan_is, head_is}
+use Rattle.sbpl_nav2d.proofs.Steps.{is_direction}
 use Rattle.sbpl_nav2d.proofs.Places.{found, same_cell, state_again, state_here, back_again, forth_again}
 
 -- ---- lists of arcs
@@ -53,6 +57,28 @@ all_weaker : (P Q : ℕ × ℕ → Type 0) (ar : List (ℕ × ℕ)) → ((a : �
 all_weaker P Q [] f h = tt
 all_weaker P Q (a ∷ ar) f h = (f a h.0, all_weaker P Q ar f h.1)
 
+-- ---- arcs that differ
+
+abbrev Differ : ℕ × ℕ → ℕ × ℕ → Type 0
+Differ a b = a ≢ b
+
+differ_from : (P Q : ℕ × ℕ → Type 0) (a : ℕ × ℕ) (bs : List (ℕ × ℕ)) → P a → AllByRecursion Q bs
+    → ((b : ℕ × ℕ) → P b → Q b → ⊥) → All (Differ a) bs
+differ_from P Q a [] p all none = All-nil (Differ a)
+differ_from P Q a (b ∷ bs) p all none =
+    All-cons (Differ a) b bs (λ same. none b (subst P same p) all.0) (differ_from P Q a bs p all.1 none)
+
+-- arcs of one kind differ from those of another
+apart_append : (P Q : ℕ × ℕ → Type 0) (ar bs : List (ℕ × ℕ)) → AllByRecursion P ar → AllByRecursion Q bs
+    → ((b : ℕ × ℕ) → P b → Q b → ⊥) → AllPairs Differ ar → AllPairs Differ bs → AllPairs Differ (ar ++ bs)
+apart_append P Q [] bs all_p all_q none one two = two
+apart_append P Q (a ∷ ar) bs all_p all_q none one two =
+    AllPairs-cons Differ a (ar ++ bs)
+    (All-append (Differ a) ar bs (λ j d inside. one 0 (suc j) d (omega arith) (omega (arith, inside)))
+    (differ_from P Q a bs all_p.0 all_q none))
+    (apart_append P Q ar bs all_p.1 all_q none
+    (λ i j d before inside. one (suc i) (suc j) d (omega (arith, before)) (omega (arith, inside))) two)
+
 -- ---- kinds of arcs
 
 -- no arc of a kind
@@ -65,6 +91,7 @@ adds_none end n P old new most none same = record {
   ends = tt;
   sound = tt;
   each = λ s k t arc is. absurd (none s k t arc is);
+  apart = λ i j d before inside. absurd (omega (arith, inside));
   few = omega arith;
 }
 
@@ -79,16 +106,18 @@ adds_one end n P old new s k head t arc at is alone kept = record {
   ends = ((head, arc, at), tt);
   sound = (is, tt);
   each = λ a b u other of. inl (alone a b u other of);
+  apart = λ i j d before inside. absurd (omega (arith, before, inside));
   few = omega arith;
 }
 
--- the arcs of two kinds are those of a third
+-- the arcs of two kinds, of which none is of both, are those of a third
 pub adds_both : (end : ArcEnd) (n : Network) (P Q R : ℕ → ℕ → Type 0) (old mid new : List ℕ) (x y most : ℕ)
     → Adds end n P old mid x
     → Adds end n Q mid new y
+    → ((s k : ℕ) → P s k → Q s k → ⊥)
     → ((s k : ℕ) → P s k → R s k) → ((s k : ℕ) → Q s k → R s k) → ((s k t : ℕ) → IsArc n s k t → R s k → P s k ⊎ Q s k)
     → x + y ≤ most → Adds end n R old new most
-adds_both end n P Q R old mid new x y most a b first second either bound = record {
+adds_both end n P Q R old mid new x y most a b none first second either bound = record {
   added = a.added ++ b.added;
   kept = b.kept ∙ ap (λ (l : List ℕ). l ++ b.added) a.kept ∙ append_assoc old a.added b.added;
   arcs = a.arcs ++ b.arcs;
@@ -100,6 +129,9 @@ adds_both end n P Q R old mid new x y most a b first second either bound = recor
     | inl h ↦ among_first s k a.arcs b.arcs (a.each s k t arc h)
     | inr h ↦ among_second s k a.arcs b.arcs (b.each s k t arc h)
   ];
+  apart =
+      apart_append (λ (p : ℕ × ℕ). P p.0 p.1) (λ (p : ℕ × ℕ). Q p.0 p.1) a.arcs b.arcs a.sound b.sound
+      (λ b p q. none b.0 b.1 p q) a.apart b.apart;
   few = let one = a.few in let two = b.few in omega (arith, length-append a.added b.added);
 }
 
@@ -114,6 +146,7 @@ adds_by end n P R old new x most a there back bound = record {
   ends = a.ends;
   sound = all_weaker (λ (p : ℕ × ℕ). P p.0 p.1) (λ (p : ℕ × ℕ). R p.0 p.1) a.arcs (λ p h. there p.0 p.1 h) a.sound;
   each = λ s k t arc is. a.each s k t arc (back s k t arc is);
+  apart = a.apart;
   few = let one = a.few in omega arith;
 }
 
@@ -152,6 +185,37 @@ source_is : (w : GridWorld) (k : ℕ) (offset cell : Cell) (s n : ℕ) → Reads
     → cell_of w s ≡ moved_back cell offset
 source_is w k offset cell s n reads =
     sym (back_again (cell_of w s) offset) ∙ ap (λ c. moved_back c offset) reads.cell_is
+
+-- it reads the cell as this far and as that far only where these are the same
+offset_x : (w : GridWorld) (k : ℕ) (this that cell : Cell) (s n : ℕ) → ReadsAs w k this cell s n
+    → ReadsAs w k that cell s n → this.x ≡ that.x
+offset_x w k this that cell s n a b =
+    let same : (cell_of w s).x +ℤ this.x ≡ (cell_of w s).x +ℤ that.x =
+    ap (λ (c : Cell). c.x) a.cell_is ∙ sym (ap (λ (c : Cell). c.x) b.cell_is) in
+    omega (arith, ints, same)
+
+offset_y : (w : GridWorld) (k : ℕ) (this that cell : Cell) (s n : ℕ) → ReadsAs w k this cell s n
+    → ReadsAs w k that cell s n → this.y ≡ that.y
+offset_y w k this that cell s n a b =
+    let same : (cell_of w s).y +ℤ this.y ≡ (cell_of w s).y +ℤ that.y =
+    ap (λ (c : Cell). c.y) a.cell_is ∙ sym (ap (λ (c : Cell). c.y) b.cell_is) in
+    omega (arith, ints, same)
+
+pub not_both : (w : GridWorld) (k : ℕ) (this that cell : Cell) → this ≢ that → (s n : ℕ)
+    → ReadsAs w k this cell s n → ReadsAs w k that cell s n → ⊥
+not_both w k this that cell apart s n a b =
+    apart (same_cell this that (offset_x w k this that cell s n a b) (offset_y w k this that cell s n a b))
+
+-- no step leads nowhere, and that of a diagonal leads along both
+pub none_or_step : (k : ℕ) (step : Cell) → k < 8 → step ≡ direction k → by (pos 0) (pos 0) ≢ step
+none_or_step k step few is same =
+    let at : direction k ≡ by (pos 0) (pos 0) = sym is ∙ sym same in
+    (is_direction k few).moves (ap (λ (c : Cell). c.x) at) (ap (λ (c : Cell). c.y) at)
+
+pub side_or_side : (k : ℕ) (step : Cell) → k < 8 → is_diagonal k ≡ true → step ≡ direction k
+    → by step.x (pos 0) ≢ by (pos 0) step.y
+side_or_side k step few d is same =
+    ((is_direction k few).diagonal d).0 (sym (ap (λ (c : Cell). c.x) is) ∙ ap (λ (c : Cell). c.x) same)
 
 module _ (end : ArcEnd) (w : GridWorld) (k : ℕ) (offset cell : Cell) where
   pub pushed : (o : Option ℕ) (old new : List ℕ) → IfSome o (IsEndBy end w k offset cell (network_of w))
@@ -256,6 +320,17 @@ module _ (end : ArcEnd) (w : GridWorld) (k : ℕ) (cell : Cell) where
   by_sides d s n (inl h) = as_read w k along_x cell s n (beside_along_x d refl refl) h
   by_sides d s n (inr h) = as_read w k along_y cell s n (beside_along_y d refl refl) h
 
+  -- on a diagonal the source and the head are not beside the arc
+  ends_or_sides : k < 8 → is_diagonal k ≡ true → (s n : ℕ) → ByEnds s n → BySides s n → ⊥
+  ends_or_sides few d s n (inl a) (inl b) =
+      ((is_direction k few).diagonal d).0 (sym (offset_x w k none along_x cell s n a b))
+  ends_or_sides few d s n (inl a) (inr b) =
+      ((is_direction k few).diagonal d).1 (sym (offset_y w k none along_y cell s n a b))
+  ends_or_sides few d s n (inr a) (inl b) =
+      ((is_direction k few).diagonal d).1 (offset_y w k (direction k) along_x cell s n a b)
+  ends_or_sides few d s n (inr a) (inr b) =
+      ((is_direction k few).diagonal d).0 (offset_x w k (direction k) along_y cell s n a b)
+
   read_by : (s n : ℕ) (dx dy : ℤ) → n ≡ k → IsReadAt n dx dy → (cell_of w s).x +ℤ dx ≡ cell.x
       → (cell_of w s).y +ℤ dy ≡ cell.y → ByEnds s n ⊎ ((is_diagonal k ≡ true) × BySides s n)
   read_by s n dx dy number (at_source x y) column row =
@@ -286,13 +361,13 @@ module _ (end : ArcEnd) (w : GridWorld) (k : ℕ) (cell : Cell) where
       (λ s n t arc is. elim
       (reads_either s n is) [ inl h ↦ h | inr h ↦ absurd (let no : true ≡ false = sym h.0 ∙ d in cc) ]) bound
 
-  pub diagonal_added : (old mid new : List ℕ) (most : ℕ) → is_diagonal k ≡ true
+  pub diagonal_added : (old mid new : List ℕ) (most : ℕ) → k < 8 → is_diagonal k ≡ true
       → Adds end (network_of w) ByEnds old mid 2
       → Adds end (network_of w) BySides mid new 2 → 4 ≤ most
       → Adds end (network_of w) (ReadsIn w k cell) old new most
-  diagonal_added old mid new most d ends sides bound =
+  diagonal_added old mid new most few d ends sides bound =
       adds_both end (network_of w) ByEnds BySides (ReadsIn w k cell) old mid new 2 2 most ends
-      sides by_ends (by_sides d)
+      sides (ends_or_sides few d) by_ends (by_sides d)
       (λ s n t arc is. elim (reads_either s n is) [ inl h ↦ inl h | inr h ↦ inr h.1 ]) bound
 
 -- ---- all directions in turn
@@ -310,6 +385,7 @@ module _ (end : ArcEnd) (w : GridWorld) (cell : Cell) where
   next_direction k old mid new x y most before now bound =
       adds_both end (network_of w) (ReadsBelow w k cell) (ReadsIn w k cell)
       (ReadsBelow w (k + 1) cell) old mid new x y most before now
+      (λ s n below here. let less = below.before in let same = here.number_is in omega arith)
       (λ s n is. record { before = let less = is.before in omega arith; reads = is.reads })
       (λ s n is. record { before = let same = is.number_is in omega arith; reads = is.reads })
       (λ s n t arc is. elim (cases_lt n k) [
@@ -392,5 +468,6 @@ adds_few_ends end w cell old new a =
       arcs = a.arcs;
       ends = a.ends;
       each = each;
+      apart = a.apart;
       few = a.few;
     }

@@ -1,6 +1,6 @@
 -- Ends of arcs that are appended to a list.
-use Rattle.std.specs.Prelude.{◌≡◌, ℕ, ◌<◌, ◌≤◌, ◌++◌, List, length}
-use Rattle.std.specs.List.{AllByRecursion}
+use Rattle.std.specs.Prelude.{◌≡◌, ◌≢◌, ℕ, ◌<◌, ◌≤◌, ◌++◌, List, length}
+use Rattle.std.specs.List.{AllByRecursion, AllPairs}
 use Rattle.sbpl_graph.specs.Network.{Network, IsArc}
 use Rattle.sbpl_nav2d.specs.declared.cell.Cell.{Cell}
 use Rattle.sbpl_nav2d.specs.Directions.{moved}
@@ -24,6 +24,7 @@ pub record Adds (end : ArcEnd) (n : Network) (P : ℕ → ℕ → Type 0) (old n
   pub ends : AreAtEnd end n arcs added
   pub sound : AllByRecursion (λ (a : ℕ × ℕ). P a.0 a.1) arcs
   pub each : (s k t : ℕ) → IsArc n s k t → P s k → IsAmong s k arcs
+  pub apart : AllPairs (λ (a b : ℕ × ℕ). a ≢ b) arcs
   pub few : length added ≤ most
 
 -- an arc in direction k reads a cell as this far from its source

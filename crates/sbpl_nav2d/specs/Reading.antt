@@ -1,5 +1,6 @@
 -- Which arcs of a grid read a cell.
-use Rattle.std.specs.Prelude.{◌≡◌, ℕ, ℤ, ◌≤◌, ◌⊎◌, List, [], ◌∷◌, length}
+use Rattle.std.specs.Prelude.{◌≡◌, ◌≢◌, ℕ, ℤ, ◌≤◌, ◌⊎◌, List, [], ◌∷◌, length}
+use Rattle.std.specs.List.{AllPairs}
 use Rattle.sbpl_graph.specs.Network.{Network, IsArc}
 use Rattle.sbpl_terrain.specs.Ends.{at_end}
 use Rattle.sbpl_terrain.specs.Reading.{AddsEnds}
@@ -23,12 +24,13 @@ IsAmong s k [] = ⊥
 IsAmong s k (a ∷ arcs) = ((s ≡ a.0) × (k ≡ a.1)) ⊎ IsAmong s k arcs
 
 -- The states at this end of all arcs that read cell (x, y), and no other states, were appended to a list: one for each of these
--- arcs, and at most 24 in all.
+-- arcs, none of which is counted twice, and at most 24 in all.
 pub record AddsFewEnds (end : ArcEnd) (w : GridWorld) (x y : ℤ) (old new : List ℕ) : Type 0 where
   pub adds : AddsEnds network_of grid_cells end w x y old new
   pub arcs : List (ℕ × ℕ)
   pub ends : AreAtEnd end (network_of w) arcs adds.added
   pub each : (s k t : ℕ) → IsArc (network_of w) s k t → ReadsCell w s k x y → IsAmong s k arcs
+  pub apart : AllPairs (λ (a b : ℕ × ℕ). a ≢ b) arcs
   pub few : length adds.added ≤ 24
 
 -- ---- costs

@@ -1,6 +1,6 @@
 //! Which arcs read a cell.
 
-ghost use Rattle.std.specs.Prelude.{◌≡◌, ℕ, ◌+◌, ◌*◌, ◌%◌, ◌<◌, ◌++◌, ◌⊎◌, [], pos, IfSome, IfNone, OnOk, OnErr};
+ghost use Rattle.std.specs.Prelude.{◌≡◌, ◌≢◌, ℕ, ◌+◌, ◌*◌, ◌%◌, ◌<◌, ◌++◌, ◌⊎◌, [], pos, IfSome, IfNone, OnOk, OnErr};
 ghost use Rattle.std.specs.List.{cons_option};
 ghost use Rattle.sbpl_graph.specs.Network.{IsArc};
 ghost use Rattle.sbpl_nav2d.specs.Directions.{by, is_diagonal, IsNear, IsStep};
@@ -58,6 +58,7 @@ fn push_pair(
     requires near { IsNear 0 cell }
     requires this { IsStep this }
     requires that { IsStep that }
+    requires apart { this ≢ that }
     ensures added { OnOk result (Adds end (network_of nav.now)
         (λ s n. ReadsAs nav.now k this cell s n ⊎ ReadsAs nav.now k that cell s n) into.old.items into.new.items 2) }
     ensures front { OnErr result (Extends into.old.items into.new.items) }

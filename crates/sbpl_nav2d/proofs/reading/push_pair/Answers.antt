@@ -2,7 +2,7 @@ use Rattle.std.proofs.Common.{ℕ, ◌⊎◌, inl, inr, arith}
 use Rattle.std.proofs.lemmas.Result.{on_ok_weaker}
 use Rattle.sbpl_nav2d.specs.Adding.{ReadsAs}
 use Rattle.sbpl_nav2d.specs.Grids.{network_of}
-use Rattle.sbpl_nav2d.proofs.Adding.{pushed, adds_both}
+use Rattle.sbpl_nav2d.proofs.Adding.{pushed, adds_both, not_both}
 use Rattle.sbpl_nav2d.proofs.reading.push_pair.Goals as goal
 
 pub returns-clause-added : goal.returns-clause-added
@@ -20,4 +20,5 @@ returns-clause-added c =
     adds_both c.args.end (network_of w) This That
     (λ s n. This s n ⊎ That s n)
     c.args.into.now.items c.push_some.new.states.items c.push_some-2.new.states.items 1 1 2 first second
+    (not_both w c.args.k c.args.this c.args.that c.args.cell c.requires.apart)
     (λ s n h. inl h) (λ s n h. inr h) (λ s n t arc h. h) (omega arith)) c.push_some-2.ensures.added
