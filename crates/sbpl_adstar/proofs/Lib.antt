@@ -1,3 +1,4 @@
 mod Occurrences
 mod Listing
 mod Raising
+mod Joining

@@ -1,8 +1,9 @@
 -- The underconsistent states are listed.
-use Rattle.std.proofs.Common.{◌≡◌, ◌≢◌, ℕ, ◌+◌, ◌<◌, ◌≤◌, List, [], ◌∷◌, ◌++◌, length, slice_index, arith, ⊎_elim, inl}
-use Rattle.std.proofs.Common.{sym, ◌∙◌, subst}
+use Rattle.std.proofs.Common.{◌≡◌, ◌≢◌, ℕ, ◌+◌, ◌<◌, ◌≤◌, List, [], ◌∷◌, ◌++◌, length, get_or, slice_index, arith}
+use Rattle.std.proofs.Common.{⊎_elim, inl, sym, ◌∙◌, subst}
 use Rattle.std.proofs.lemmas.Bool.{cases_eq}
 use Rattle.std.proofs.lemmas.List.{get_or_default}
+use Rattle.std.proofs.lemmas.List.Quantifiers.{all_pairs_push}
 use Rattle.std.proofs.lemmas.List.Elements.{Contains-append_left, Contains-get_or, Contains-push, Contains-push_cases}
 use Rattle.std.proofs.lemmas.List.Kept.{AllPairs-from_increasing}
 use Rattle.std.specs.List.{All, AllPairs, Contains}
@@ -10,21 +11,30 @@ use Rattle.std.specs.List.Sorted.{IsStrictlyIncreasing}
 use Rattle.sbpl_labels.specs.Marks.{Marks, states_of}
 use Rattle.sbpl_serial.specs.Run.{IsUnder}
 use Rattle.sbpl_adstar.specs.Listed.{AreListed}
-use Rattle.sbpl_adstar.proofs.Occurrences.{few, once_push}
+use Rattle.sbpl_adstar.proofs.Occurrences.{few}
 
--- the list has the underconsistent ones of the first i states, each once
+-- the list has the underconsistent ones of the first i states, upwards
 pub record IsListing (m : Marks) (states : List ℕ) (i : ℕ) (list : List ℕ) : Type 0 where
   pub among : (s : ℕ) → Contains list s → (j : ℕ) × (j < i) × (slice_index states j ≡ s)
   pub under : (s : ℕ) → Contains list s → IsUnder m s
   pub all : (j : ℕ) → j < i → IsUnder m (slice_index states j) → Contains list (slice_index states j)
-  pub once : AllPairs (λ (s t : ℕ). s ≢ t) list
+  pub upwards : AllPairs (λ (s t : ℕ). s < t) list
+
+-- what comes upwards is there once
+apart : (list : List ℕ) → AllPairs (λ (s t : ℕ). s < t) list → AllPairs (λ (s t : ℕ). s ≢ t) list
+apart list upwards a b d before inside same = omega (arith, upwards a b d before inside, same)
+
+-- and each number is below the next
+pub listing_upwards : {m : Marks} {states : List ℕ} {list : List ℕ} (i : ℕ) → IsListing m states i list
+    → IsStrictlyIncreasing list
+listing_upwards {m} {states} {list} i here k inside = here.upwards k (k + 1) 0 (omega arith) inside
 
 pub listing_none : (m : Marks) (states : List ℕ) → IsListing m states 0 []
 listing_none m states = record {
   among = λ s among. absurd (omega (arith, among.1));
   under = λ s among. absurd (omega (arith, among.1));
   all = λ j before under. absurd (omega (arith, before));
-  once = λ a b d before inside. absurd (omega (arith, before, inside));
+  upwards = λ a b d before inside. absurd (omega (arith, before, inside));
 }
 
 module _ {m : Marks} {states : List ℕ} {list : List ℕ} (i : ℕ) (here : IsListing m states i list) where
@@ -37,15 +47,15 @@ module _ {m : Marks} {states : List ℕ} {list : List ℕ} (i : ℕ) (here : IsL
         (λ (at : j ≡ i). absurd (none (rw at at under)))
         (λ (apart : j ≢ i). here.all j (omega arith) under)
         (cases_eq j i);
-    once = here.once;
+    upwards = here.upwards;
   }
 
   pub listing_more : IsStrictlyIncreasing states → i < length states → IsUnder m (slice_index states i)
       → IsListing m states (i + 1) (list ++ slice_index states i ∷ [])
   listing_more upwards inside own =
       let s : ℕ = slice_index states i in
-      let new : Contains list s → ⊥ =
-      λ among. let at = here.among s among in
+      let above : (k : ℕ) (d : ℕ) → k < length list → get_or list k d < s =
+      λ k d within. let at = here.among (get_or list k d) (Contains-get_or list k d within) in
       let less : slice_index states at.0 < slice_index states i =
       AllPairs-from_increasing states upwards at.0 i 0 at.1 inside in omega (arith, less, at.2)
       in
@@ -67,7 +77,7 @@ module _ {m : Marks} {states : List ℕ} {list : List ℕ} (i : ℕ) (here : IsL
             (λ (apart : j ≢ i).
             Contains-append_left list (s ∷ []) (slice_index states j) (here.all j (omega arith) under))
             (cases_eq j i);
-        once = once_push list s new here.once;
+        upwards = all_pairs_push (λ (a b : ℕ). a < b) list s here.upwards above;
       }
 
   -- each is a state, as those are
@@ -80,7 +90,7 @@ module _ {m : Marks} {states : List ℕ} {list : List ℕ} (i : ℕ) (here : IsL
 
   -- there is room for them
   pub room_for : i ≤ length states → All (λ (t : ℕ). t < states_of m) states → length list ≤ states_of m
-  room_for within inside = few list (states_of m) (listed_inside within inside) here.once
+  room_for within inside = few list (states_of m) (listed_inside within inside) (apart list here.upwards)
 
 -- all of them
 pub listing_all : {m : Marks} {states : List ℕ} {list : List ℕ} → IsListing m states (length states) list
@@ -93,7 +103,7 @@ listing_all {m} {states} {list} here inside under = record {
       let same : slice_index states at.0 ≡ s = get_or_default states at.0 0 s at.1 ∙ at.2 in
       subst (Contains list) same (here.all at.0 at.1 (subst (IsUnder m) (sym same) own));
   only = λ s among. inl (here.under s among);
-  once = here.once;
+  once = apart list here.upwards;
 }
 
 -- what holds of what is there holds of each

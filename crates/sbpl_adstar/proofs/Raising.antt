@@ -1,13 +1,13 @@
 -- States are raised in turn, and listed as they become underconsistent.
 use Rattle.std.proofs.Common.{◌≡◌, ◌≢◌, ℕ, ◌+◌, ◌-◌, ◌<◌, ◌≤◌, ◌⊎◌, Option, Some, None, List, [], ◌∷◌, ◌++◌, length}
-use Rattle.std.proofs.Common.{slice_index, take, arith, ⊎_elim, inl, inr, refl, sym, ◌∙◌, ap, subst}
+use Rattle.std.proofs.Common.{slice_index, take, drop, arith, ⊎_elim, inl, inr, refl, sym, ◌∙◌, ap, subst}
 use Rattle.std.proofs.lemmas.Bool.{cases_eq, cases_lt}
-use Rattle.std.proofs.lemmas.List.{append-nil, append_assoc, get_or_append_left, get_or-append-add, get_or_default}
-use Rattle.std.proofs.lemmas.List.{length-append, take-append-le, take_all, take_more}
-use Rattle.std.proofs.lemmas.List.Elements.{All-append, All-nil, All-weaker, Contains-append_left}
-use Rattle.std.proofs.lemmas.List.Elements.{Contains-get_or, Contains-push, Contains-push_cases}
+use Rattle.std.proofs.lemmas.List.{drop_all, drop-append-le, drop_more, get_or_append_left, get_or-append-add}
+use Rattle.std.proofs.lemmas.List.{get_or_default, length-append, take-append-le, take_all, take_more}
+use Rattle.std.proofs.lemmas.List.Elements.{Contains-append_left, Contains-get_or, Contains-push, Contains-push_cases}
 use Rattle.std.proofs.lemmas.Option.{none-some, same_Some}
 use Rattle.std.specs.List.{All, Contains}
+use Rattle.std.specs.List.Sorted.{IsStrictlyIncreasing}
 use Rattle.sbpl_graph.specs.declared.TheConstants.{FAR}
 use Rattle.sbpl_graph.specs.Kept.{NoneUnder}
 use Rattle.sbpl_graph.specs.Network.{Network}
@@ -18,12 +18,12 @@ use Rattle.sbpl_labels.specs.Recomputed.{Recomputes}
 use Rattle.sbpl_search.specs.Ready.{IsStartFresh}
 use Rattle.sbpl_serial.specs.Raised.{ChangesV, IsReturned, ReturnsHead}
 use Rattle.sbpl_serial.specs.Run.{IsOver, IsUnder, RaisesState}
-use Rattle.sbpl_adstar.specs.Listed.{AddsUnder, AreListed}
-use Rattle.sbpl_adstar.specs.Raised.{AreRaised}
+use Rattle.sbpl_adstar.specs.Listed.{AddsBecome, AreListed}
+use Rattle.sbpl_adstar.specs.Raised.{AreRaised, AreUnder, RaisesFirst}
 use Rattle.sbpl_adstar.proofs.Occurrences.{once_push}
 
 -- a state whose v is infinite is not underconsistent
-far_not_under : (m : Marks) (s : ℕ) → AreLabels m → s < states_of m → v_of m s ≡ FAR → IsUnder m s → ⊥
+pub far_not_under : (m : Marks) (s : ℕ) → AreLabels m → s < states_of m → v_of m s ≡ FAR → IsUnder m s → ⊥
 far_not_under m s labels inside far under =
     omega (arith, far, under, label_at_most (g_of m s) (labels.labels s inside).0)
 
@@ -165,33 +165,27 @@ module _ (n : Network) (m new : Marks) (s k : ℕ) where
             once = once_push list t not_listed here.once;
           }
 
--- ---- over all arcs
-
--- what was appended before stays underconsistent, and more is appended
-pub adds_more : {m new : Marks} {first old list : List ℕ} → AddsUnder m first old
-    → ((u : ℕ) → IsUnder m u → IsUnder new u) → AddsUnder new old list → AddsUnder new first list
-adds_more {m} {new} {first} {old} {list} before stay now = record {
-  more = before.more ++ now.more;
-  added = now.added ∙ ap (λ (xs : List ℕ). xs ++ now.more) before.added ∙ append_assoc first before.more now.more;
-  under =
-      All-append (IsUnder new) before.more now.more
-      (All-weaker (IsUnder m) (IsUnder new) stay before.more before.under) now.under;
-}
-
-pub adds_none : (m : Marks) (list : List ℕ) → AddsUnder m list list
-adds_none m list = record { more = []; added = sym (append-nil list); under = All-nil (IsUnder m) }
-
 -- ---- one state after the other
 
 -- one more state is raised
-pub raised_more : (n : Network) (old m new : Marks) (xs : List ℕ) (s : ℕ) → AreRaised n old xs m → RaisesState n m new s
-    → AreRaised n old (xs ++ s ∷ []) new
-raised_more n old m new [] s same step = (new, subst (λ (a : Marks). RaisesState n a new s) same step, refl)
-raised_more n old m new (x ∷ xs) s (mid, first, rest) step = (mid, first, raised_more n mid m new xs s rest step)
+pub raised_more : (n : Network) (old m new : Marks) (waiting xs left later : List ℕ) (s : ℕ)
+    → AreRaised n old waiting xs m left → RaisesFirst n m left s new later
+    → AreRaised n old waiting (xs ++ s ∷ []) new later
+raised_more n old m new waiting [] left later s same step = (
+  new,
+  later,
+  subst (λ (a : Marks). RaisesFirst n a waiting s new later) same.1
+      (subst (λ (ws : List ℕ). RaisesFirst n m ws s new later) same.0 step),
+  (refl, refl),
+)
+raised_more n old m new waiting (x ∷ xs) left later s (mid, ws, first, rest) step =
+    (mid, ws, first, raised_more n mid m new ws xs left later s rest step)
 
--- the first i states of the list are raised, and the others are underconsistent
+-- the first i states of the list are raised, and the others wait and are underconsistent
 pub record IsTurn (n : Network) (old m : Marks) (list : List ℕ) (i : ℕ) : Type 0 where
-  pub raised : AreRaised n old (take i list) m
+  pub first : List ℕ
+  pub at_first : AreUnder old first
+  pub raised : AreRaised n old first (take i list) m (drop i list)
   pub listed : AreListed m list
   pub done : (j : ℕ) → j < i → v_of m (slice_index list j) ≡ FAR
   pub waiting : (j : ℕ) → i ≤ j → j < length list → IsUnder m (slice_index list j)
@@ -201,9 +195,11 @@ pub record IsTurn (n : Network) (old m : Marks) (list : List ℕ) (i : ℕ) : Ty
   pub states : states_of m ≡ states_of old
 
 pub turn_none : (n : Network) (m : Marks) (list : List ℕ) → AreListed m list
-    → All (IsUnder m) list → IsTurn n m m list 0
-turn_none n m list listed under = record {
-  raised = refl;
+    → All (IsUnder m) list → IsStrictlyIncreasing list → IsTurn n m m list 0
+turn_none n m list listed under upwards = record {
+  first = list;
+  at_first = record { under = under; all = listed.all; upwards = upwards };
+  raised = (refl, refl);
   listed = listed;
   done = λ j before. absurd (omega (arith, before));
   waiting = λ j from inside. under j 0 inside;
@@ -216,7 +212,8 @@ turn_none n m list listed under = record {
 module _ {n : Network} {old m new : Marks} {list longer : List ℕ} (i : ℕ) (here : IsTurn n old m list i)
     (before : i < length list)
     (step : RaisesState n m new (slice_index list i)) (listed : AreListed new longer)
-    (others : (t : ℕ) → t ≢ slice_index list i → IsUnder m t → IsUnder new t) (added : AddsUnder new list longer)
+    (others : (t : ℕ) → t ≢ slice_index list i → IsUnder m t → IsUnder new t)
+    (added : AddsBecome m new (slice_index list i) list longer)
     (grown : (t : ℕ) → g_of m t ≤ g_of new t) (zero_g : g_of m m.start ≡ 0) where
   -- the list is as it was, and more
   front : (j : ℕ) → j < length list → slice_index longer j ≡ slice_index list j
@@ -238,11 +235,26 @@ module _ {n : Network} {old m new : Marks} {list longer : List ℕ} (i : ℕ) (h
       let under : IsUnder m m.start = subst (IsUnder m) (sym at ∙ sym here.start) step.under in
       omega (arith, under, zero_g)
 
+  -- it waited first, and those that become underconsistent by it wait last
+  in_turn : RaisesFirst n m (drop i list) (slice_index list i) new (drop (i + 1) longer)
+  in_turn = record {
+    rest = drop (i + 1) list;
+    more = added.more;
+    first = drop_more list i 0 before;
+    raises = step;
+    become = added.become;
+    after = ap (λ (xs : List ℕ). drop (i + 1) xs) added.added
+        ∙ drop-append-le (i + 1) list added.more (omega (arith, before));
+  }
+
   pub turn_more : IsTurn n old new longer (i + 1)
   turn_more = record {
+    first = here.first;
+    at_first = here.at_first;
     raised =
-        subst (λ (xs : List ℕ). AreRaised n old xs new) (sym parted)
-        (raised_more n old m new (take i list) (slice_index list i) here.raised step);
+        subst (λ (xs : List ℕ). AreRaised n old here.first xs new (drop (i + 1) longer)) (sym parted)
+        (raised_more n old m new here.first (take i list) (drop i list) (drop (i + 1) longer) (slice_index list i)
+        here.raised in_turn);
     listed = listed;
     done = λ j below.
         ⊎_elim
@@ -286,7 +298,7 @@ module _ {n : Network} {old m new : Marks} {list longer : List ℕ} (i : ℕ) (h
           ∙ ap (λ (k : ℕ). slice_index (list ++ added.more) k) (sym at)
           ∙ get_or-append-add list added.more (j - length list) 0
           in
-          subst (IsUnder new) (sym own) (added.under (j - length list) 0 (omega (arith, long, past, inside)))
+          subst (IsUnder new) (sym own) (added.become.under (j - length list) 0 (omega (arith, long, past, inside)))
 
 -- after the last turn no state is underconsistent
 pub none_under : {n : Network} {old m : Marks} {list : List ℕ} (i : ℕ) → AreLabels m → IsTurn n old m list i
@@ -304,10 +316,11 @@ none_under {n} {old} {m} {list} i labels here over = record {
 }
 
 -- and all of the list was raised
-pub all_raised : {n : Network} {old m : Marks} {list : List ℕ} (i : ℕ) → IsTurn n old m list i → length list ≤ i
-    → AreRaised n old list m
+pub all_raised : {n : Network} {old m : Marks} {list : List ℕ} (i : ℕ) (here : IsTurn n old m list i)
+    → length list ≤ i → AreRaised n old here.first list m []
 all_raised {n} {old} {m} {list} i here over =
-    subst (λ (xs : List ℕ). AreRaised n old xs m) (take_all i list over) here.raised
+    subst (λ (ws : List ℕ). AreRaised n old here.first list m ws) (drop_all i list over)
+    (subst (λ (xs : List ℕ). AreRaised n old here.first xs m (drop i list)) (take_all i list over) here.raised)
 
 -- the start is fresh as it was
 pub turn_fresh : {n : Network} {old m : Marks} {list : List ℕ} (i : ℕ) → IsTurn n old m list i

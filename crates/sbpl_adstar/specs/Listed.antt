@@ -4,6 +4,7 @@ use Rattle.std.specs.List.{All, AllPairs, Contains}
 use Rattle.sbpl_graph.specs.declared.TheConstants.{FAR}
 use Rattle.sbpl_labels.specs.Marks.{Marks, states_of, v_of}
 use Rattle.sbpl_serial.specs.Run.{IsUnder}
+use Rattle.sbpl_adstar.specs.Raised.{BecomeUnder}
 
 -- the list has each underconsistent state, and otherwise only states whose v is infinite, each once
 pub record AreListed (m : Marks) (list : List ℕ) : Type 0 where
@@ -17,3 +18,9 @@ pub record AddsUnder (m : Marks) (old new : List ℕ) : Type 0 where
   pub more : List ℕ
   pub added : new ≡ old ++ more
   pub under : All (IsUnder m) more
+
+-- the states were appended that became underconsistent where s was raised
+pub record AddsBecome (old new : Marks) (s : ℕ) (list longer : List ℕ) : Type 0 where
+  pub more : List ℕ
+  pub added : longer ≡ list ++ more
+  pub become : BecomeUnder old new s more

@@ -8,7 +8,7 @@ ghost use Rattle.sbpl_labels.specs.Marks.{Marks, states_of, g_of, v_of, back_of}
 ghost use Rattle.sbpl_search.specs.Ready.{AreReady, AreUsable, IsStartFresh};
 ghost use Rattle.sbpl_serial.specs.Raised.{IsReturned};
 ghost use Rattle.sbpl_serial.specs.Run.{IsOver, IsUnder, RaisesState};
-ghost use Rattle.sbpl_adstar.specs.Listed.{AddsUnder, AreListed};
+ghost use Rattle.sbpl_adstar.specs.Listed.{AddsBecome, AddsUnder, AreListed};
 ghost use Rattle.sbpl_adstar.specs.Raised.{IsRaisedBy};
 
 use sbpl_fixed::NoMemory;
@@ -102,7 +102,7 @@ fn is_under(labels: &Labels, s: u32) -> bool
     labels.v(s) < labels.g(s)
 }
 
-/// Lists the underconsistent ones of these states, among which all are.
+/// Lists the underconsistent ones of these states, among which all are, upwards.
 fn list_under(list: &mut Vec<u32>, labels: &Labels, states: &[u32])
     requires empty { list.old.items ≡ [] }
     requires room { states_of labels.now ≤ vec_capacity list.old }
@@ -111,6 +111,7 @@ fn list_under(list: &mut Vec<u32>, labels: &Labels, states: &[u32])
     requires under { (s : ℕ) → s < states_of labels.now → IsUnder labels.now s → Contains states.now s }
     ensures listed { AreListed labels.now list.new.items }
     ensures under { All (IsUnder labels.now) list.new.items }
+    ensures upwards { IsStrictlyIncreasing list.new.items }
     ensures room { vec_capacity list.new ≡ vec_capacity list.old }
 {
     for s in states {
@@ -120,7 +121,8 @@ fn list_under(list: &mut Vec<u32>, labels: &Labels, states: &[u32])
     }
 }
 
-/// Raises the underconsistent state `s`, and lists the states that become underconsistent by it.
+/// Raises the underconsistent state `s`, and lists the states that become underconsistent by it, by the numbers of the arcs of `s`
+/// that were their back arcs upwards.
 fn raise<G: Graph>(list: &mut Vec<u32>, graph: &G, labels: &mut Labels, s: u32)
     requires room { states_of labels.old ≤ vec_capacity list.old }
     requires usable { AreUsable (G.network graph.now) labels.old (2 ^ 30) }
@@ -133,7 +135,7 @@ fn raise<G: Graph>(list: &mut Vec<u32>, graph: &G, labels: &mut Labels, s: u32)
     ensures listed { AreListed labels.new list.new.items }
     ensures grown { (t : ℕ) → g_of labels.old t ≤ g_of labels.new t }
     ensures others { (t : ℕ) → t ≢ s → IsUnder labels.old t → IsUnder labels.new t }
-    ensures added { AddsUnder labels.new list.old.items list.new.items }
+    ensures added { AddsBecome labels.old labels.new s list.old.items list.new.items }
     ensures room { vec_capacity list.new ≡ vec_capacity list.old }
 {
     raising_goes_arc_by_arc();

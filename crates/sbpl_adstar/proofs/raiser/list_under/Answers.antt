@@ -2,7 +2,7 @@ use Rattle.std.proofs.Common.{◌≡◌, ◌+◌, ◌∷◌, [], length, slice_i
 use Rattle.std.proofs.lemmas.Bool.{false≢true}
 use Rattle.std.proofs.lemmas.List.{length-append}
 use Rattle.sbpl_serial.specs.Run.{IsUnder}
-use Rattle.sbpl_adstar.proofs.Listing.{listing_all, listing_more, listing_passed, room_for}
+use Rattle.sbpl_adstar.proofs.Listing.{listing_all, listing_more, listing_passed, listing_upwards, room_for}
 use Rattle.sbpl_adstar.proofs.raiser.list_under.Goals as goal
 use Rattle.sbpl_adstar.proofs.raiser.list_under.Goals.{then-is_under, else-is_under}
 
@@ -44,3 +44,6 @@ returns-clause-listed c =
     let all : c.loop-s.s-index ≡ length c.args.states.now =
     omega (arith, c.loop-s-test.false, c.loop-s.auto.s-index-end) in
     listing_all (rw all at c.loop-s.invariant.0) c.requires.inside c.requires.under
+
+pub returns-clause-upwards : goal.returns-clause-upwards
+returns-clause-upwards c = listing_upwards c.loop-s.s-index c.loop-s.invariant.0

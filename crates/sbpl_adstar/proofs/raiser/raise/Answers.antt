@@ -1,5 +1,6 @@
 use Rattle.std.proofs.Common.{arith, ◌∙◌}
-use Rattle.sbpl_adstar.proofs.Raising.{adds_more, adds_none, changed_g, listed_raised, under_other}
+use Rattle.sbpl_adstar.proofs.Joining.{become_all, below_more, below_none}
+use Rattle.sbpl_adstar.proofs.Raising.{changed_g, listed_raised, under_other}
 use Rattle.sbpl_adstar.proofs.raiser.raise.Goals as goal
 
 pub loop-k-init : goal.loop-k-init
@@ -11,7 +12,7 @@ loop-k-init g c =
       listed =
           listed_raised c.args.labels.now c.raise.new.self c.args.s by c.start-before.ensures.labels c.requires.state
           c.args.list.now.items c.requires.listed;
-      added = adds_none c.raise.new.self c.args.list.now.items;
+      added = below_none c.args.labels.now c.raise.new.self c.args.s c.args.list.now.items;
       grown = λ t. omega (arith, changed_g c.args.labels.now c.raise.new.self c.args.s by t);
       others = λ t other under. under_other c.args.labels.now c.raise.new.self c.args.s by t other under;
       room = omega arith;
@@ -37,7 +38,11 @@ loop-k-preserved g c =
     record {
       raising = on;
       listed = c.recompute_listed.ensures.listed;
-      added = adds_more here.added c.recompute_listed.ensures.stay c.recompute_listed.ensures.added;
+      added =
+          below_more n c.args.labels.now c.loop-k.labels new c.args.s c.loop-k.k c.args.list.now.items
+          c.loop-k.list.items c.recompute_listed.new.list.items returned.0 here.raising returned.1 here.added
+          c.recompute_listed.ensures.stay here.listed c.recompute_listed.ensures.listed
+          c.recompute_listed.ensures.added;
       grown = λ t. omega (arith, here.grown t, c.recompute_listed.ensures.grown t);
       others = λ t other under. c.recompute_listed.ensures.stay t (here.others t other under);
       room = c.recompute_listed.ensures.room ∙ here.room;
@@ -67,3 +72,16 @@ returns-clause-usable g c = λ count usable.
       exact = ended.1;
       fits = here.raising.fits count usable.fits;
     }
+
+pub returns-clause-added : goal.returns-clause-added
+returns-clause-added g c =
+    let n = g.G.Graph.network c.args.graph.now in
+    let here = c.loop-k.invariant in
+    let ended =
+    c.raising_goes_arc_by_arc.ensures.ends n c.args.labels.now c.loop-k.labels c.args.s c.loop-k.k
+    c.states-states.ensures.sound c.states-states.ensures.tails c.requires.usable.states c.start-after.ensures.labels
+    c.requires.usable.exact here.raising
+    (omega (arith, c.loop-k-test.false, c.fan-k-end.ensures.value)) c.requires.under
+    in
+    become_all n c.args.labels.now c.loop-k.labels c.args.s c.loop-k.k c.args.list.now.items c.loop-k.list.items ended.0
+    c.start-after.ensures.labels c.requires.listed here.listed here.added

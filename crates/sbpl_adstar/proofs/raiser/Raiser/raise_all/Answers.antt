@@ -2,6 +2,7 @@ use Rattle.std.proofs.Common.{◌≡◌, ℕ, ◌<◌, ◌≤◌, ◌^◌, lengt
 use Rattle.std.proofs.lemmas.List.{get_or_default}
 use Rattle.sbpl_labels.specs.Marks.{states_of}
 use Rattle.sbpl_serial.specs.Run.{IsUnder, RaisesState}
+use Rattle.sbpl_adstar.specs.Listed.{AddsBecome}
 use Rattle.sbpl_adstar.proofs.Listing.{all_by}
 use Rattle.sbpl_adstar.proofs.Occurrences.{few}
 use Rattle.sbpl_adstar.proofs.Raising.{all_raised, none_under, turn_fresh, turn_more, turn_none}
@@ -11,7 +12,7 @@ pub raises-init : goal.raises-init
 raises-init g c = record {
   turn =
       turn_none (g.G.Graph.network c.args.graph.now) c.args.labels.now c.list_under.new.list.items
-      c.list_under.ensures.listed c.list_under.ensures.under;
+      c.list_under.ensures.listed c.list_under.ensures.under c.list_under.ensures.upwards;
   usable = λ count usable. usable;
   room = c.list_under.ensures.room ∙ c.clear.ensures.capacity ∙ ap (λ (r : _). r.room) c.self.view_is;
 }
@@ -66,10 +67,14 @@ raises-preserved g c =
     c.index-s.ensures ∙ sym (get_or_default items c.raises.next 0 c.index-s.result.now before) in
     let step : RaisesState n c.raises.labels c.raise.new.labels (slice_index items c.raises.next) =
     subst (λ (s : ℕ). RaisesState n c.raises.labels c.raise.new.labels s) own c.raise.ensures.raised in
+    let added : AddsBecome c.raises.labels c.raise.new.labels (slice_index items c.raises.next) items
+    c.raise.new.list.items =
+    subst (λ (s : ℕ). AddsBecome c.raises.labels c.raise.new.labels s items c.raise.new.list.items) own
+    c.raise.ensures.added in
     record {
       turn =
           turn_more c.raises.next here before step c.raise.ensures.listed
-          (λ t other under. c.raise.ensures.others t (λ e. other (e ∙ own)) under) c.raise.ensures.added
+          (λ t other under. c.raise.ensures.others t (λ e. other (e ∙ own)) under) added
           c.raise.ensures.grown (c.raises.invariant.usable (2 ^ 30) c.requires.usable).exact.from_start;
       usable = λ count usable. c.raise.ensures.usable count (c.raises.invariant.usable count usable);
       room = c.raise.ensures.room ∙ c.raises.invariant.room;
@@ -83,6 +88,8 @@ returns-clause-raised g c =
     omega (arith, over, c.len.ensures, c.raises.self-inside.raised.ok.0) in
     let usable = c.raises.invariant.usable (2 ^ 30) c.requires.usable in
     record {
+      waiting = here.first;
+      first = here.at_first;
       in_turn = all_raised c.raises.next here all;
       once = here.listed.once;
       none_under = none_under c.raises.next c.start-start.ensures.labels here all;
