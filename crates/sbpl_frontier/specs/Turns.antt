@@ -1,9 +1,10 @@
 -- What a worker is told.
-use Rattle.std.specs.Prelude.{◌≡◌, ◌+◌, List, ⊤}
+use Rattle.std.specs.Prelude.{◌≡◌, ℕ, ◌+◌, List, [], ◌∷◌, ◌++◌, ⊤}
 use Rattle.sbpl_labels.specs.Counts.{Counts}
 use Rattle.sbpl_labels.specs.Marks.{Marks}
 use Rattle.sbpl_search.specs.Query.{Query}
 use Rattle.sbpl_frontier_rules.specs.declared.event.Event.{Event}
+use Rattle.sbpl_frontier_rules.specs.declared.event.Event.TheVariants.{Taken}
 use Rattle.sbpl_frontier_rules.specs.Events.{IsOutOfBudget, IsRest}
 use Rattle.sbpl_frontier_rules.specs.Frontier.{Frontier}
 use Rattle.sbpl_frontier_core.specs.declared.name.Pass.{Ghosts as PassGhosts}
@@ -22,6 +23,11 @@ module _ {N : Type 0} {P : PassGhosts N} {U : Type 0} {M : Type 0} where
   abbrev pub Gives : (old : Tally) → Turn N U M P → (new : Tally) → Type 0
   Gives old (Job t claim) new = (claim ≡ record { ticket = t.number; state = t.state; arc = t.arc }) × (new ≡ record old { takes = old.takes + 1 })
   Gives old _ new = new ≡ old
+
+  -- a job is the last event of the journal: its arc was handed out under its ticket, to the worker in this seat
+  abbrev pub IsToldLast : (seat : ℕ) → Turn N U M P → List Event → Type 0
+  IsToldLast seat (Job t claim) events = (before : List Event) × (events ≡ before ++ Taken t.number seat t.state t.arc ∷ [])
+  IsToldLast seat _ events = ⊤
 
   -- every other answer shows its cause: the journal leads to a frontier at which the core gives this answer
   abbrev pub Shows : Query → Marks → Counts → Turn N U M P → Type 0

@@ -4,7 +4,7 @@ ghost use Rattle.std.specs.Prelude.{◌≡◌, ◌+◌, ◌<◌, [], ◌++◌, I
 ghost use Rattle.sbpl_frontier_core.specs.Answers.{OpensTo};
 ghost use Rattle.sbpl_postings.specs.Kept.{AreBrought};
 ghost use Rattle.sbpl_frontier.specs.Tally.{sent_in};
-ghost use Rattle.sbpl_frontier.specs.Turns.{Gives, Shows};
+ghost use Rattle.sbpl_frontier.specs.Turns.{Gives, IsToldLast, Shows};
 
 use crate::ledgers::TakesOf;
 use crate::{Seat, Second, Turn};
@@ -47,6 +47,8 @@ impl<'g, G: Graph, H: Guide, N: Pass, U: Past, M: Second, L: Lined> Locked<'g, G
         ensures opened { OnErr result (OpensTo N.query self.old.book self.new.book) }
         ensures line { self.new.line ≡ self.old.line }
         ensures shows { IfOk result (λ turn. Shows N.query N.opening N.counts turn) }
+        // The journal ends with a job that is handed out, in the name of this seat.
+        ensures told { IfOk result (λ turn. IsToldLast seat.old.number turn self.new.book.journal) }
     {
         match self.core.next(seat.number)? {
             Next::Job(ticket) => {

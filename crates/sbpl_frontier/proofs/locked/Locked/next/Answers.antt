@@ -46,3 +46,8 @@ returns-in-Job-clause-gives g c =
       rw (c.make-claim.ensures.claim, c.state.ensures.value, c.arc.ensures.value, ticket) refl,
       rw (← c.seat.view_is, c.add.ensures.amount) refl,
     )
+
+pub returns-in-Job-clause-told : goal.returns-in-Job-clause-told
+returns-in-Job-clause-told g c =
+    let answers = rw c.in-Job.is at c.in_ok-ticket.ensures.answers in
+    (answers.mid.journal, rw (← c.seat.view_is) answers.gives.journal)
