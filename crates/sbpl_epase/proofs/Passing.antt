@@ -175,10 +175,10 @@ module _ (q : Query) (m : Marks) (before : Counts) (events : List Event) (first 
   )
 
   pub passed : (end : PassEnd) (old new : State Event) → old.labels ≡ m → new.labels ≡ last.labels → new.notes ≡ events
-      → new.goal ≡ old.goal → old.goal ≡ q.goal
+      → new.goal ≡ old.goal → new.raised ≡ old.raised → old.goal ≡ q.goal
       → (end ≡ Rest → IsRest q last) → (end ≡ Spent → IsOutOfBudget q last)
       → IsPassed epase q old new before last.counts end
-  passed end old new from to noted same_goal goal rest spent = record {
+  passed end old new from to noted same_goal same_raised goal rest spent = record {
     leads = rw (from, to, noted) are_pass;
     rests = λ is. rw (to, noted) (rest_same by_events q last.labels (rest is).rest);
     goes_on = λ is.
@@ -198,6 +198,7 @@ module _ (q : Query) (m : Marks) (before : Counts) (events : List Event) (first 
     start = rw (to, from) opens.start;
     states = rw (to, from) opens.states;
     goal = same_goal;
+    raised = same_raised;
     fresh = λ was.
         let from_start : g_of first.labels first.labels.start ≡ 0 = rw is_first.labels begins.labels.from_start in
         let at_first : IsStartFresh first.labels = rw (is_first.labels, ← from) was in
@@ -225,9 +226,9 @@ module _ (q : Query) (m left : Marks) (before after : Counts) (keeps : Bool) (lo
     (once : EachOpensOnce) (free : CountsAreFree) (marked : OpenedByEvents) (fresh : StartStaysFresh)
     (small : (s : ℕ) → s < q.network.states → q.guide s < 2 ^ 55) where
   pub finished_passed : (old new : State Event) → old.labels ≡ m → new.labels ≡ left → new.notes ≡ log.events
-      → new.goal ≡ old.goal → old.goal ≡ q.goal
+      → new.goal ≡ old.goal → new.raised ≡ old.raised → old.goal ≡ q.goal
       → IsPassed epase q old new before after end
-  finished_passed old new from to noted same_goal goal =
+  finished_passed old new from to noted same_goal same_raised goal =
       let f = finished.frontier in
       let is = finished.finished in
       let replay = is.replay in
@@ -235,7 +236,7 @@ module _ (q : Query) (m left : Marks) (before after : Counts) (keeps : Bool) (lo
       passed q m before log.events replay.first f lawful begins replay.begins replay.leads
       (idle_of q end f finished.ends)
       first_kept events_keep idle_exact settled once free marked fresh small end old new from
-      (to ∙ is.labels_are) noted same_goal goal
+      (to ∙ is.labels_are) noted same_goal same_raised goal
       (rest_of q end f finished.ends) (spent_of q end f finished.ends)
       in
       subst (λ (c : Counts). IsPassed epase q old new before c end) (sym is.counts_are) by

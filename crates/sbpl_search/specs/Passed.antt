@@ -16,7 +16,8 @@ use Rattle.sbpl_search.specs.State.{State}
 -- says, each expansion is counted, and it is spent only where the budget is and something is left to expand, so not after it
 -- has taken each state as often as it may. At rest no state on the chain of back arcs from the goal is underconsistent; with
 -- inflation one the labels then show that there is no path where the goal's is infinite, and that each path costs at least g of
--- the goal. The labels may begin another pass, and support a bound.
+-- the goal. The labels may begin another pass, and support a bound. The list of the states that were raised for the plan stays as
+-- it is.
 pub record IsPassed {Note : Type 0} (means : Meaning Note) (q : Query) (old new : State Note) (before after : Counts) (end : PassEnd) : Type 0 where
   pub leads : means.leads q new.notes old.labels new.labels
   pub rests : end ≡ Rest → means.rests q new.notes new.labels
@@ -34,4 +35,5 @@ pub record IsPassed {Note : Type 0} (means : Meaning Note) (q : Query) (old new 
   pub start : new.labels.start ≡ old.labels.start
   pub states : states_of new.labels ≡ states_of old.labels
   pub goal : new.goal ≡ old.goal
+  pub raised : new.raised ≡ old.raised
   pub fresh : IsStartFresh old.labels → IsStartFresh new.labels

@@ -41,7 +41,7 @@ returns-in-Ok-clause-passed g c =
     (finished_passed q c.unwrap-labels.result c.in-Ok.passed.parts.labels c.replace-taken.result
     c.in-Ok.passed.parts.budget c.args.traced c.in-Ok.passed.journal c.in-Ok.passed.end lawful begins finished
     laws.first laws.each laws.exact laws.settled laws.once laws.free laws.marked laws.start small _ _ own
-    refl refl same_goal refl)
+    refl refl same_goal (ap (λ (s : Seeker _). s.search.raised) c.self.view_is) refl)
 
 pub pass_by-requires-clause-makes : goal.pass_by-requires-clause-makes
 pass_by-requires-clause-makes g c = rw (ap (λ (s : Seeker _). s.make) c.self.view_is) c.requires.serves
