@@ -43,12 +43,12 @@ sets_out n t path so_far none some = record {
 left_is : (xs : List ℕ) (i : ℕ) → i < length xs → drop i xs ≡ get_or xs i 0 ∷ drop (i + 1) xs
 left_is xs i here = rw (add-one, drop-cons xs i 0)
 
-module _ (n : Network) (tails : HasExactTails n) (t : ℕ) (path : List ℕ) (at i : ℕ) (so_far : List ℕ)
+module _ {n : Network} (tails : HasExactTails n) {t : ℕ} {path : List ℕ} {at : ℕ} (i : ℕ) {so_far : List ℕ}
     (walked : IsWalked n t path at (drop i path) so_far) where
   -- over the next arc
-  pub walks_on : (u k : ℕ) → i < length path → n.tail at (get_or path i 0) ≡ Some (u, k)
+  pub walks_on : {u k : ℕ} → i < length path → n.tail at (get_or path i 0) ≡ Some (u, k)
       → IsWalked n t path u (drop (i + 1) path) (so_far ++ k ∷ [])
-  walks_on u k here tail = record {
+  walks_on {u} {k} here tail = record {
     some = walked.some;
     leads = λ s c free.
         let rest = walked.leads s c free in

@@ -59,11 +59,11 @@ grid_lines-more zero width cells h = absurd (omega arith)
 grid_lines-more (suc rows) width cells h = rw sub-one refl
 
 -- one more row of a grid
-pub grid_more : (old out next row below rest : List ℕ) (height width y : ℕ) → y < height → row ≡ take width rest
-    → below ≡ drop width rest
+pub grid_more : {old next row below : List ℕ} (out rest : List ℕ) (height width y : ℕ) → y < height
+    → row ≡ take width rest → below ≡ drop width rest
     → next ≡ out ++ line_text (map decimal row) → out ++ lines_text (grid_lines (height - y) width rest) ≡ old
     → next ++ lines_text (grid_lines (height - (y + 1)) width below) ≡ old
-grid_more old out next row below rest height width y more at after wrote before =
+grid_more {next} {row} {below} out rest height width y more at after wrote before =
     let step : grid_lines (height - y) width rest ≡ map decimal row ∷ grid_lines (height - (y + 1)) width below =
     rw (at, after, grid_lines-more (height - y) width rest (omega arith))
     (ap (λ n. map decimal (take width rest) ∷ grid_lines n width (drop width rest)) (omega arith)) in
@@ -71,10 +71,10 @@ grid_more old out next row below rest height width y more at after wrote before 
     (rw step at before)
 
 -- no row is left
-pub grid_done : (old out rest : List ℕ) (height width y : ℕ) → height ≤ y
+pub grid_done : {old out : List ℕ} (rest : List ℕ) (height width y : ℕ) → height ≤ y
     → out ++ lines_text (grid_lines (height - y) width rest) ≡ old → out ≡ old
 unfolding grid_lines
-grid_done old out rest height width y done before =
+grid_done {out} rest height width y done before =
     let none : height - y ≡ 0 = omega arith in
     sym (append-nil out) ∙ (rw none at before)
 
@@ -82,12 +82,9 @@ lines_append : (a b : List (List (List ℕ))) → lines_text (a ++ b) ≡ lines_
 lines_append a b = flat_map-append line_text a b
 
 -- six runs of lines, one after the other
-pub after_lines : (out : List ℕ) (a : List (List (List ℕ))) (o : List ℕ) (b : List (List (List ℕ))) (p : List ℕ)
-    (c : List (List (List ℕ))) (q : List ℕ)
-    (d : List (List (List ℕ))) (r : List ℕ) (e : List (List (List ℕ))) (s : List ℕ)
-    (f : List (List (List ℕ))) (t : List ℕ)
+pub after_lines : {o p q r s t : List ℕ} (out : List ℕ) (a b c d e f : List (List (List ℕ)))
     → o ≡ out ++ lines_text a → p ≡ o ++ lines_text b → q ≡ p ++ lines_text c → r ≡ q ++ lines_text d
     → s ≡ r ++ lines_text e → t ≡ s ++ lines_text f
     → t ≡ out ++ lines_text (a ++ (b ++ (c ++ (d ++ (e ++ f)))))
-after_lines out a o b p c q d r e s f t h i j k l m =
+after_lines out a b c d e f h i j k l m =
     rw (m, l, k, j, i, h, lines_append, lines_append, lines_append, lines_append, lines_append) (simp append_assoc)

@@ -1,5 +1,5 @@
 -- Texts that are appended one after the other.
-use Rattle.std.proofs.Common.{◌≡◌, ℕ, ◌+◌, ◌/◌, ◌%◌, ◌<◌, ◌≤◌, List, [], ◌∷◌, ◌++◌, append_assoc, append-nil, ap, sym}
+use Rattle.std.proofs.Common.{◌≡◌, ℕ, ◌+◌, ◌/◌, ◌%◌, ◌<◌, ◌≤◌, List, [], ◌∷◌, ◌++◌, append_assoc, ap, sym}
 use Rattle.std.proofs.Common.{◌∙◌, refl, arith}
 use Rattle.std.specs.Prelude.{codes, decimal}
 use Rattle.std.proofs.lemmas.Fmt.{decimal_digit, decimal_step}
@@ -7,18 +7,10 @@ use Rattle.sbpl_fixed.specs.Printed.{line_text, lines_text}
 use Rattle.sbpl_demo.specs.Primitives.{head_lines}
 
 -- a text grows by one more part
-pub grown : (old part more all out new : List ℕ) → all ≡ part ++ more → out ≡ old ++ part
+pub grown : {all out new : List ℕ} (old part more : List ℕ) → all ≡ part ++ more → out ≡ old ++ part
     → new ≡ out ++ more → new ≡ old ++ all
-grown old part more all out new parts is adds =
+grown old part more parts is adds =
     adds ∙ ap (λ l. l ++ more) is ∙ append_assoc old part more ∙ ap (λ l. old ++ l) (sym parts)
-
-pub after_five : (a b c d e f : List ℕ) {p q r s t : List ℕ} → p ≡ a ++ b → q ≡ p ++ c → r ≡ q ++ d → s ≡ r ++ e
-    → t ≡ s ++ f → t ≡ a ++ (b ++ (c ++ (d ++ (e ++ (f ++ [])))))
-after_five a b c d e f h i j k l = rw (l, k, j, i, h) (simp (append_assoc, append-nil))
-
-pub five_written : (a b c d e f : List ℕ) {p q r s t : List ℕ} → p ≡ a ++ b → q ≡ p ++ c → r ≡ q ++ d → s ≡ r ++ e
-    → t ≡ s ++ f → t ≡ a ++ (b ++ (c ++ (d ++ (e ++ f))))
-five_written a b c d e f h i j k l = rw (l, k, j, i, h) (simp append_assoc)
 
 -- a line of three words, and of four
 pub line_three : (a u v w : List ℕ) {b c d : List ℕ} → b ≡ a ++ (u ++ 32 ∷ []) → c ≡ b ++ (v ++ 32 ∷ [])

@@ -59,11 +59,11 @@ opens_tied q old new k taken line (states, are) tied = openings_tied q states ol
 
 -- ---- an arc that is handed out
 
-pub taken_tied : (seat : ℕ) (old new : Book) (number state arc : ℕ) (k l : Standing) (taken : ℕ) (line : Drained)
+pub taken_tied : {seat : ℕ} {old new : Book} {number state arc taken : ℕ} {line : Drained} (k l : Standing)
     → IsHandedOut seat old number state arc new
     → l.out ≡ k.out ++ (record { ticket = k.next; state = state; arc = arc }) ∷ [] → l.next ≡ k.next + 1
     → AreTied old k taken line → AreTied new l (taken + 1) line
-taken_tied seat old new number state arc k l taken line is out next tied =
+taken_tied {seat} {old} {number} {state} {arc} k l is out next tied =
     let ticket : k.next ≡ number = tied.next ∙ sym is.taking.ticket in
     record {
       out = out ∙ (rw (tied.out, ticket) (sym is.taking.out));

@@ -191,7 +191,7 @@ pub ended : (s t u : DeskState) (old new : List Entry) (j : Job) (i : Intent) (s
 ended s t u old new j i status begins published gives same ends others = record {
   intent = i;
   gives = gives;
-  ends = ends_since s t u _ _ status same.written same.writes ends;
+  ends = ends_since same.written same.writes ends;
   others = λ name other. others name other ∙ same.written name;
   begins = begins;
   published = published;

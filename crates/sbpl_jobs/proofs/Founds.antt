@@ -149,9 +149,11 @@ module _ {W : Type 0} (by : Known W) (w : W) (guide : ℕ → ℕ) (start goal k
   stands_broken Ready old new asked is_guide begins same to (inr cut) =
       broken_by old asked cut.mid.labels cut.part.passes is_guide begins same to cut.part.made cut.part.told
 
-  -- before the first pass nothing was published
-  pub none_published : shown ≡ log → IsPublishedInPart by w how outputs start goal k log shown before
-  none_published same = record { found = []; broken = inl refl; shown_is = same }
+-- before the first pass nothing was published
+pub none_published : {W : Type 0} {by : Known W} {w : W} {start goal k : ℕ} {how : SearchJob} {outputs : Outputs}
+    {log shown : List Entry} {before : Option Carried} → shown ≡ log
+    → IsPublishedInPart by w how outputs start goal k log shown before
+none_published same = record { found = []; broken = inl refl; shown_is = same }
 
 -- passes with what they did as lines have as many expansions
 pub expansions_traced : {Note : Type 0} (line : Note → TraceLine) (ps : List (Pass Note))

@@ -30,20 +30,52 @@ use Rattle.sbpl_jobs.proofs.Writings.{ends_as_after, none_made, status_ends}
 
 -- ---- plans in turn
 
-module _ {W : Type 0} (by : Known W) (written_of : PlanRecord → List Write) (w : W) (batches : List (List change.Write))
-    (how : SearchJob) (outputs : Outputs) (starts : ℕ → ℕ) (goal : ℕ) where
+-- What the plans of a run share: how they are known and written, the first world, the batches of changes to its map,
+-- what is asked, where each plan starts, and the goal.
+pub record Plans (W : Type 0) : Type 1 where
+  pub by : Known W
+  pub written_of : PlanRecord → List Write
+  pub world : W
+  pub batches : List (List change.Write)
+  pub how : SearchJob
+  pub outputs : Outputs
+  pub starts : ℕ → ℕ
+  pub goal : ℕ
+
+module _ {W : Type 0} (plans : Plans W) where
+  open plans use {by, written_of, world as w, batches, how, outputs, starts, goal}
+
   -- how the plans from plan k on end, where these entries were published before and after
   abbrev Ends : (k : ℕ) (log shown : List Entry) → Option Carried → (a b : DeskState) → (status : ℕ) → Type 0
   Ends k log shown before a b status =
       EndsPlans by written_of w batches how outputs starts goal k log shown before a b status
 
+  -- the plans before plan k were made and told, and the map is that after the first k batches; these entries were
+  -- published before the first
+  -- of them, and these after the last
+  pub record IsGoing (now : W) (k start : ℕ) (first log : List Entry) (r : Standing by.Note)
+      (a b : DeskState) : Type 0 where
+    pub same : now ≡ by.on.cells.over w (by.on.cells.map now)
+    pub inside : k ≤ length batches
+    pub after : IsMapAfter (by.on.cells.map w) batches k (by.on.cells.map now)
+    pub kept : by.on.cells.is_made now
+    pub start_is : start ≡ starts k
+    pub set : IsSetFor by.direction how start goal r
+    pub before : Option Carried
+    pub goes_on : GoesOnFrom by.means by.on by.direction now (by.direction.from start goal) before r
+    pub ends : (c : DeskState) (status : ℕ) (shown : List Entry) → Ends k log shown before b c status
+        → Ends 0 first shown None a c status
+
+module _ {W : Type 0} {plans : Plans W} where
+  open plans use {by, written_of, world as w, batches, how, outputs, starts, goal}
+
   -- plan k was made and told, and then the others ended so
-  one_more : (k : ℕ) (log shown : List Entry) (before : Option Carried) (carried : Carried) (r : PlanRecord)
-      (a b c : DeskState) (status : ℕ) → IsMapAfter (by.on.cells.map w) batches k carried.map
+  one_more : {k : ℕ} {log shown : List Entry} {before : Option Carried} {a b c : DeskState} {status : ℕ}
+      (carried : Carried) (r : PlanRecord) → IsMapAfter (by.on.cells.map w) batches k carried.map
       → IsPlanOf by (by.on.cells.over w carried.map) how outputs (starts k) goal k log before carried r
       → AreAppended a b (written_of r) → NoneFalls a.write_faults b.write_faults
-      → Ends (k + 1) (with_plan log r) shown (Some carried) b c status → Ends k log shown before a c status
-  one_more k log shown before carried r a b c status after plan made low e =
+      → Ends plans (k + 1) (with_plan log r) shown (Some carried) b c status → Ends plans k log shown before a c status
+  one_more {k} {log} {a} {b} {c} {status} carried r after plan made low e =
       let count : k + 1 + length e.records ≡ k + suc (length e.records) = omega arith in
       record {
         records = r ∷ e.records;
@@ -62,11 +94,11 @@ module _ {W : Type 0} (by : Known W) (written_of : PlanRecord → List Write) (w
       }
 
   -- memory ran out before plan k was made, or in it
-  pub breaks_off : (k : ℕ) (log shown : List Entry) (before : Option Carried) (found : List Found) (a b : DeskState)
+  pub breaks_off : {k : ℕ} {log shown : List Entry} {before : Option Carried} {a b : DeskState} (found : List Found)
       → k ≤ length batches + 1 → IsBrokenIn by w batches how outputs starts goal k found
       → shown ≡ with_paths log k 0 found
-      → Stays a.written b.written → Ends k log shown before a b 9
-  breaks_off k log shown before found a b inside broken shown_is same = record {
+      → Stays a.written b.written → Ends plans k log shown before a b 9
+  breaks_off {k} {log} {a} {b} found inside broken shown_is same = record {
     records = [];
     all = false;
     broken = found;
@@ -80,14 +112,14 @@ module _ {W : Type 0} (by : Known W) (written_of : PlanRecord → List Write) (w
   }
 
   -- memory ran out before plan k was begun
-  pub no_more : (k : ℕ) (log : List Entry) (before : Option Carried) (a b : DeskState) → k ≤ length batches + 1
-      → Stays a.written b.written → Ends k log log before a b 9
-  no_more k log before a b inside same = breaks_off k log log before [] a b inside (inl refl) refl same
+  pub no_more : {k : ℕ} {log : List Entry} {before : Option Carried} {a b : DeskState} → k ≤ length batches + 1
+      → Stays a.written b.written → Ends plans k log log before a b 9
+  no_more inside same = breaks_off [] inside (inl refl) refl same
 
   -- plan k was the last, and so was the last line
-  all_told : (k : ℕ) (log : List Entry) (before : Option Carried) (a b : DeskState) (status : ℕ)
-      → k ≡ length batches + 1 → EndsAs a b (last_write ∷ []) 0 status → Ends k log log before a b status
-  all_told k log before a b status last ends = record {
+  all_told : {k : ℕ} {log : List Entry} {before : Option Carried} {a b : DeskState} {status : ℕ}
+      → k ≡ length batches + 1 → EndsAs a b (last_write ∷ []) 0 status → Ends plans k log log before a b status
+  all_told last ends = record {
     records = [];
     all = true;
     broken = [];
@@ -101,12 +133,13 @@ module _ {W : Type 0} (by : Known W) (written_of : PlanRecord → List Write) (w
   }
 
   -- plan k was made, but was not told
-  untold : (k : ℕ) (log : List Entry) (before : Option Carried) (carried : Carried) (r : PlanRecord) (a b : DeskState)
-      (status : ℕ) (e : WriteStop) → k ≤ length batches → IsMapAfter (by.on.cells.map w) batches k carried.map
+  untold : {k : ℕ} {log : List Entry} {before : Option Carried} {a b : DeskState} {status : ℕ}
+      (carried : Carried) (r : PlanRecord) (e : WriteStop)
+      → k ≤ length batches → IsMapAfter (by.on.cells.map w) batches k carried.map
       → IsPlanOf by (by.on.cells.over w carried.map) how outputs (starts k) goal k log before carried r
       → EndsIn {T = Unit {0}} a b (written_of r) (Err e) → status ≡ status_after {T = Unit {0}} 9 (Err e)
-      → Ends k log (with_plan log r) before a b status
-  untold k log before carried r a b status e inside after plan ends is = record {
+      → Ends plans k log (with_plan log r) before a b status
+  untold {a} {b} {status} carried r e inside after plan ends is = record {
     records = r ∷ [];
     all = false;
     broken = [];
@@ -118,30 +151,15 @@ module _ {W : Type 0} (by : Known W) (written_of : PlanRecord → List Write) (w
     all_made = λ no_way. absurd (cc);
     ends =
         subst (λ (l : List Write). EndsAs a b l 9 status) (sym (append-nil (written_of r ++ [])
-        ∙ append-nil (written_of r))) (status_ends a b (written_of r) 9 status (Err e) ends is);
+        ∙ append-nil (written_of r))) (status_ends (Err e) ends is);
   }
 
-  -- the plans before plan k were made and told, and the map is that after the first k batches; these entries were
-  -- published before the first
-  -- of them, and these after the last
-  pub record IsGoing (now : W) (k start : ℕ) (first log : List Entry) (r : Standing by.Note)
-      (a b : DeskState) : Type 0 where
-    pub same : now ≡ by.on.cells.over w (by.on.cells.map now)
-    pub inside : k ≤ length batches
-    pub after : IsMapAfter (by.on.cells.map w) batches k (by.on.cells.map now)
-    pub kept : by.on.cells.is_made now
-    pub start_is : start ≡ starts k
-    pub set : IsSetFor by.direction how start goal r
-    pub before : Option Carried
-    pub goes_on : GoesOnFrom by.means by.on by.direction now (by.direction.from start goal) before r
-    pub ends : (c : DeskState) (status : ℕ) (shown : List Entry) → Ends k log shown before b c status
-        → Ends 0 first shown None a c status
-
-  pub sets_out : (start : ℕ) (log : List Entry) (r : Standing by.Note) (a : DeskState)
+  pub sets_out : {start : ℕ} {log : List Entry} {r : Standing by.Note} {a : DeskState}
       → IsTerrain by.on.network by.on.cells → IsMapAfter (by.on.cells.map w) batches 0 (by.on.cells.map w)
       → by.on.cells.is_made w → start ≡ starts 0 → IsSetFor by.direction how start goal r
-      → GoesOnFrom by.means by.on by.direction w (by.direction.from start goal) None r → IsGoing w 0 start log log r a a
-  sets_out start log r a law first kept start_is set begun = record {
+      → GoesOnFrom by.means by.on by.direction w (by.direction.from start goal) None r
+      → IsGoing plans w 0 start log log r a a
+  sets_out law first kept start_is set begun = record {
     same = sym (law.present w);
     inside = omega arith;
     after = first;
@@ -153,12 +171,14 @@ module _ {W : Type 0} (by : Known W) (written_of : PlanRecord → List Write) (w
     ends = λ c status shown e. e;
   }
 
-  pub at_last : (now : W) (k n start : ℕ) (first log : List Entry) (r : Standing by.Note) (a b : DeskState) → k ≡ n
-      → IsGoing now k start first log r a b → IsGoing now n start first log r a b
-  at_last now k n start first log r a b same going = subst (λ (i : ℕ). IsGoing now i start first log r a b) same going
+  pub at_last : {now : W} {k start : ℕ} {first log : List Entry} {r : Standing by.Note} {a b : DeskState} (n : ℕ)
+      → k ≡ n → IsGoing plans now k start first log r a b → IsGoing plans now n start first log r a b
+  at_last {now} {start} {first} {log} {r} {a} {b} n same going =
+      subst (λ (i : ℕ). IsGoing plans now i start first log r a b) same going
 
-  module _ (now : W) (k start : ℕ) (first log shown : List Entry) (r s : Standing by.Note) (a b c : DeskState)
-      (going : IsGoing now k start first log r a b) where
+  module _ {now : W} {k start : ℕ} {first log : List Entry} {r : Standing by.Note} {a b : DeskState}
+      (shown : List Entry) (s : Standing by.Note) (c : DeskState)
+      (going : IsGoing plans now k start first log r a b) where
     on_that : (before : Option Carried) (p : PlanRecord)
         → IsPlanOf by now how outputs start goal k log before (carried_of (by.on.cells.map now) s) p
         → IsPlanOf by (by.on.cells.over w (by.on.cells.map now)) how outputs (starts k) goal k log before
@@ -190,16 +210,16 @@ module _ {W : Type 0} (by : Known W) (written_of : PlanRecord → List Write) (w
         (carried_of (by.on.cells.map now) s) b c result
 
     -- the next plan was not told
-    pub stops : (status : ℕ) (e : WriteStop) → NextEnds (Err e) → status ≡ status_after {T = Unit {0}} 9 (Err e)
-        → Ends 0 first shown None a c status
-    stops status e made is = going.ends c status shown (elim (made going.before going.goes_on) [
+    pub stops : {status : ℕ} (e : WriteStop) → NextEnds (Err e) → status ≡ status_after {T = Unit {0}} 9 (Err e)
+        → Ends plans 0 first shown None a c status
+    stops {status} e made is = going.ends c status shown (elim (made going.before going.goes_on) [
       | inl (out, same, part) ↦
-          subst (λ (n : ℕ). Ends k log shown going.before b c n) (sym (is ∙ nine out))
-          (breaks_off k log shown going.before part.found b c (let room = going.inside in omega arith)
+          subst (λ (n : ℕ). Ends plans k log shown going.before b c n) (sym (is ∙ nine out))
+          (breaks_off part.found (let room = going.inside in omega arith)
           (broken_on_that going.before part.found part.broken) part.shown_is same)
       | inr (p, made_so, ends) ↦
-          subst (λ (l : List Entry). Ends k log l going.before b c status) (sym made_so.shown_is)
-          (untold k log going.before (carried_of (by.on.cells.map now) s) p b c status e going.inside going.after
+          subst (λ (l : List Entry). Ends plans k log l going.before b c status) (sym made_so.shown_is)
+          (untold (carried_of (by.on.cells.map now) s) p e going.inside going.after
           (on_that going.before p made_so.plan) ends is)
     ])
       where
@@ -207,30 +227,26 @@ module _ {W : Type 0} (by : Known W) (written_of : PlanRecord → List Write) (w
         nine out = rw out refl
 
     -- it was told, and then the others ended so
-    pub tells : (d : DeskState) (status : ℕ) (later : List Entry) → NextEnds (Ok tt)
+    pub tells : {d : DeskState} {status : ℕ} {later : List Entry} → NextEnds (Ok tt)
         → NoneFalls b.write_faults c.write_faults
-        → Ends (k + 1) shown later (Some (carried_of (by.on.cells.map now) s)) c d status
-        → Ends 0 first later None a d status
-    tells d status later made low e =
+        → Ends plans (k + 1) shown later (Some (carried_of (by.on.cells.map now) s)) c d status
+        → Ends plans 0 first later None a d status
+    tells {d} {status} {later} made low e =
         let told = made going.before going.goes_on in
         going.ends d status later
-        (one_more k log later going.before (carried_of (by.on.cells.map now) s) told.0 b c d status going.after
+        (one_more (carried_of (by.on.cells.map now) s) told.0 going.after
         (on_that going.before told.0 told.1.plan) told.2 low
-        (subst (λ (l : List Entry). Ends (k + 1) l later (Some (carried_of (by.on.cells.map now) s)) c d status)
+        (subst (λ (l : List Entry). Ends plans (k + 1) l later (Some (carried_of (by.on.cells.map now) s)) c d status)
         told.1.shown_is e))
 
     -- it was the last, and the last line was written
-    pub tells_last : (d : DeskState) (status : ℕ) → NextEnds (Ok tt) → NoneFalls b.write_faults c.write_faults
-        → k ≡ length batches → EndsAs c d (last_write ∷ []) 0 status → Ends 0 first shown None a d status
-    tells_last d status made low last ends =
-        tells d status shown made low
-        (all_told (k + 1) shown (Some (carried_of (by.on.cells.map now) s)) c d status (omega arith) ends)
+    pub tells_last : {d : DeskState} {status : ℕ} → NextEnds (Ok tt) → NoneFalls b.write_faults c.write_faults
+        → k ≡ length batches → EndsAs c d (last_write ∷ []) 0 status → Ends plans 0 first shown None a d status
+    tells_last made low last ends = tells made low (all_told (omega arith) ends)
 
     -- it was told, and memory ran out while the map was changed
-    pub tells_no_more : NextEnds (Ok tt) → NoneFalls b.write_faults c.write_faults → Ends 0 first shown None a c 9
-    tells_no_more made low =
-        tells c 9 shown made low (no_more (k + 1) shown (Some (carried_of (by.on.cells.map now) s)) c c
-        (let room = going.inside in omega arith) (λ name. refl))
+    pub tells_no_more : NextEnds (Ok tt) → NoneFalls b.write_faults c.write_faults → Ends plans 0 first shown None a c 9
+    tells_no_more made low = tells made low (no_more (let room = going.inside in omega arith) (λ name. refl))
 
     -- it was told, then the map was changed, and then the start moved
     pub changes : IsTerrain by.on.network by.on.cells
@@ -243,7 +259,7 @@ module _ {W : Type 0} (by : Known W) (written_of : PlanRecord → List Write) (w
         → BeginsWith by.means by.on.network by.on.cells by.direction now next s.search.labels t.search.labels
         t.search.raised → StaysTheSame s t → t.counts ≡ s.counts
         → next_start ≡ starts (k + 1) → (by.direction.moves ≡ false → next_start ≡ start)
-        → Follows by.direction next_start t u → IsGoing next (k + 1) next_start first shown u a c
+        → Follows by.direction next_start t u → IsGoing plans next (k + 1) next_start first shown u a c
     changes terrain next next_start t u batch law made low set at written others kept begins stays counts start_is
         still follows = record {
           same =
@@ -274,7 +290,7 @@ module _ {W : Type 0} (by : Known W) (written_of : PlanRecord → List Write) (w
                 t.search.raised) (sym follows.labels) begins));
             counted = ap (λ (n : Counts). n.run) (sym counts ∙ sym follows.counts);
           };
-          ends = λ d status later e. tells d status later made low e;
+          ends = λ d status later e. tells made low e;
         }
       where
         back : by.on.cells.over next (by.on.cells.map now) ≡ now

@@ -23,9 +23,10 @@ begins before whole =
     record { first = []; parted = refl; made = none_made before before (λ n. refl); low = λ n. omega arith }
 
 -- what is left was made, or its making ended so
-pub makes_rest : (T : Type 0) (before mid after : DeskState) (whole left : List Write) (r : Result T WriteStop)
-    → Makes before mid whole left → EndsIn {T = T} mid after left r → EndsIn {T = T} before after whole r
-makes_rest T before mid after whole left r so ends =
+pub makes_rest : {before mid : DeskState} {whole left : List Write} (T : Type 0) (after : DeskState)
+    (r : Result T WriteStop) → Makes before mid whole left → EndsIn {T = T} mid after left r
+    → EndsIn {T = T} before after whole r
+makes_rest {before} {mid} {left} T after r so ends =
     subst (λ (l : List Write). EndsIn {T = T} before after l r) (sym so.parted)
     (ends_after T before mid after so.first left r so.made so.low ends)
 
@@ -41,11 +42,11 @@ makes_one T before mid after whole left w x so ends low = record {
 }
 
 -- the next write ended the making
-pub makes_no_more : (S T : Type 0) (before mid after : DeskState) (whole left : List Write) (w : Write) (e : WriteStop)
-    → Makes before mid whole (w ∷ left) → EndsIn {T = S} mid after (w ∷ []) (Err e)
+pub makes_no_more : {before mid : DeskState} {whole left : List Write} {w : Write} (S T : Type 0) (after : DeskState)
+    (e : WriteStop) → Makes before mid whole (w ∷ left) → EndsIn {T = S} mid after (w ∷ []) (Err e)
     → EndsIn {T = T} before after whole (Err e)
-makes_no_more S T before mid after whole left w e so ends =
-    makes_rest T before mid after whole (w ∷ left) (Err e) so (ends_first S T mid after (w ∷ []) left e ends)
+makes_no_more {mid} {left} {w} S T after e so ends =
+    makes_rest T after (Err e) so (ends_first S T mid after (w ∷ []) left e ends)
 
 -- the writes of a listing from a primitive on
 abbrev pub writes_from : World → ℕ → List Write

@@ -39,18 +39,18 @@ same_states network cells law w v made now same =
     sym (law.rest w (cells.map v) made there).states ∙ ap (λ u. (network u).states) (sym same)
 
 -- a token is left after the last section
-pub some_left : (left : Left) (t : Piece) (ts : List Piece) (a b : DeskState) (status : ℕ) → left.tokens ≡ t ∷ ts
+pub some_left : {left : Left} {t : Piece} {ts : List Piece} {a b : DeskState} {status : ℕ} → left.tokens ≡ t ∷ ts
     → EndsAs a b (to_output (label_fault_text (fault.Trailing t.place)) ∷ []) 10 status → EndsText left a b status
-some_left left t ts a b status some ends = record {
+some_left {t} some ends = record {
   end = Some (section.Fault (fault.Trailing t.place));
   is_end = subst (λ (l : List Piece). IsTrailing l (section.Fault (fault.Trailing t.place))) (sym some) refl;
   ends = λ goals plan. ends;
 }
 
 -- no token is left
-pub none_left : (left : Left) (a b : DeskState) (status : ℕ) → left.tokens ≡ [] → EndsAs a b (last_write ∷ []) 0 status
+pub none_left : {left : Left} {a b : DeskState} {status : ℕ} → left.tokens ≡ [] → EndsAs a b (last_write ∷ []) 0 status
     → EndsText left a b status
-none_left left a b status none ends = record { end = None; is_end = none; ends = λ goals plan. ends }
+none_left none ends = record { end = None; is_end = none; ends = λ goals plan. ends }
 
 module _ {W : Type 0} {on : Site W} {d : Direction W} (c : Case on d) where
   -- a section does not hold on its graph
@@ -80,7 +80,7 @@ module _ {W : Type 0} {on : Site W} {d : Direction W} (c : Case on d) where
   ends_text plan left a b status e =
       record { outcomes = []; end = e.end; checked = e.is_end; ends = e.ends (to_in c) plan }
 
-  module _ (n : Ground) (from to plan : ℕ) (after : IsGroundAfter c plan n) (from_is : from_in c plan ≡ from)
+  module _ {n : Ground} {from to : ℕ} (plan : ℕ) (after : IsGroundAfter c plan n) (from_is : from_in c plan ≡ from)
       (to_is : to_in c plan ≡ to) where
     -- it holds for the case too
     holds_in : (left rest : Left) (o : Outcome) → IsShownHolding n from to plan left o rest
@@ -104,7 +104,7 @@ module _ {W : Type 0} {on : Site W} {d : Direction W} (c : Case on d) where
       outcomes = o ∷ [];
       end = Some section.NoMemory;
       checked = (n, after, rest, holds_in left rest o is, out_of_memory (plan + 1) more rest);
-      ends = status_ends a b (to_output (holds_text plan o) ∷ []) 9 status (Err e) ends status_is;
+      ends = status_ends (Err e) ends status_is;
     }
 
     pub all_ends_there : {A : Type 0} (r : Result A ℕ) (more : ℕ) (left : Left) (a b : DeskState)
@@ -113,19 +113,19 @@ module _ {W : Type 0} {on : Site W} {d : Direction W} (c : Case on d) where
     all_ends_there (Err status) more left a b ends = ends_there more left a b status ends
 
     -- it holds, and the line that says so was written
-    pub holds_there : (a b : DeskState) (left rest : Left) → HoldsAndPrints n from to plan left rest a b
+    pub holds_there : {a b : DeskState} {left rest : Left} → HoldsAndPrints n from to plan left rest a b
         → HoldsInCase c plan left rest a b
-    holds_there a b left rest is = record {
+    holds_there {left} {rest} is = record {
       ground = n;
       is_ground = after;
       prints = record { outcome = is.outcome; holds = holds_in left rest is.outcome is.holds; line = is.line };
     }
 
   -- the section of a plan holds, the line that says so was written, and then the checking of the others ended so
-  pub goes_on : (plan more : ℕ) (a b d : DeskState) (status : ℕ) (left rest : Left) → HoldsInCase c plan left rest a b
+  pub goes_on : {a b d : DeskState} {status : ℕ} {left rest : Left} (plan more : ℕ) → HoldsInCase c plan left rest a b
       → NoneFalls a.write_faults b.write_faults → EndsSections c (plan + 1) more rest b d status
       → EndsSections c plan (suc more) left a d status
-  goes_on plan more a b d status left rest is low ends = record {
+  goes_on {a} {b} {d} {status} {rest} plan more is low ends = record {
     outcomes = is.prints.outcome ∷ ends.outcomes;
     end = ends.end;
     checked = (is.ground, is.is_ground, rest, is.prints.holds, ends.checked);
@@ -198,11 +198,11 @@ pub record IsCheckedTo {W : Type 0} (on : Site W) (d : Direction W) (first now :
   pub frame : WritesOnly IsOutput s t
 
 -- plan k of the text is planned in the present world
-pub plan_in : {W : Type 0} (on : Site W) (d : Direction W) (first now : W) (Made : Type 0) (course : Course)
-    (start here goal : ℕ) (text : List ℕ) (k at : ℕ) (s t : DeskState)
+pub plan_in : {W : Type 0} {on : Site W} {d : Direction W} {first now : W} {Made : Type 0} {course : Course}
+    {start here goal : ℕ} {text : List ℕ} {k at : ℕ} {s t : DeskState}
     → IsCheckedTo on d first now Made course start here goal text k at s t
     → IsPlanIn (case_of on d first course start goal) k now here goal
-plan_in on d first now Made course start here goal text k at s t so = record {
+plan_in so = record {
   after = so.map_after;
   same = so.other_parts;
   is_world = so.kept;
@@ -211,11 +211,11 @@ plan_in on d first now Made course start here goal text k at s t so = record {
 }
 
 -- at the first section
-pub none_checked : {W : Type 0} (on : Site W) (d : Direction W) (w : W) (Made : Type 0) (course : Course)
-    (start goal : ℕ) (text : List ℕ) (s : DeskState) → IsTerrain on.network on.cells → Made
+pub none_checked : {W : Type 0} {w : W} {Made : Type 0} {course : Course} {start goal : ℕ} {text : List ℕ}
+    {s : DeskState} (on : Site W) (d : Direction W) → IsTerrain on.network on.cells → Made
     → IsMapAfter (on.cells.map w) course.batches 0 (on.cells.map w) → on.cells.is_made w → start < (on.network w).states
     → IsCheckedTo on d w w Made course start start goal text 0 0 s s
-none_checked on d w Made course start goal text s law made after kept state = record {
+none_checked {w} {course} {start} {goal} {text} {s} on d law made after kept state = record {
   made = made;
   state = state;
   leads = λ more is u status ends.

@@ -162,19 +162,19 @@ ends_after T a b c ws vs (Err Failed) p low q = cut_after a b c ws vs p low q
 ends_after T a b c ws vs (Err NoMemory) p low q = stopped_after a b c ws vs p q
 
 -- the status that answers how writing ended
-pub status_ends : (a b : DeskState) (ws : List Write) (wanted status : ℕ) (r : Result (Unit {0}) WriteStop)
+pub status_ends : {a b : DeskState} {ws : List Write} {wanted status : ℕ} (r : Result (Unit {0}) WriteStop)
     → EndsIn {T = Unit {0}} a b ws r → status ≡ status_after wanted r → EndsAs a b ws wanted status
-status_ends a b ws wanted status (Ok x) p is = inl (is, p)
-status_ends a b ws wanted status (Err Failed) p is = inr (inl (is, p))
-status_ends a b ws wanted status (Err NoMemory) p is = inr (inr (is, p))
+status_ends (Ok x) p is = inl (is, p)
+status_ends (Err Failed) p is = inr (inl (is, p))
+status_ends (Err NoMemory) p is = inr (inr (is, p))
 
 -- nothing was written before
-pub ends_since : (a b c : DeskState) (ws : List Write) (wanted status : ℕ) → Stays a.written b.written
+pub ends_since : {a b c : DeskState} {ws : List Write} {wanted status : ℕ} → Stays a.written b.written
     → NoneFalls a.write_faults b.write_faults → EndsAs b c ws wanted status → EndsAs a c ws wanted status
-ends_since a b c ws wanted status same low (inl (is, p)) = inl (is, made_both a b c [] ws (none_made a b same) p)
-ends_since a b c ws wanted status same low (inr (inl (is, p))) =
+ends_since {a} {b} {c} {ws} same low (inl (is, p)) = inl (is, made_both a b c [] ws (none_made a b same) p)
+ends_since {a} {b} {c} {ws} same low (inr (inl (is, p))) =
     inr (inl (is, cut_after a b c [] ws (none_made a b same) low p))
-ends_since a b c ws wanted status same low (inr (inr (is, p))) =
+ends_since {a} {b} {c} {ws} same low (inr (inr (is, p))) =
     inr (inr (is, stopped_after a b c [] ws (none_made a b same) p))
 
 -- writes were made, and then a run ended so

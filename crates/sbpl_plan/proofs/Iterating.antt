@@ -48,15 +48,15 @@ tight_found n h goal m arcs found.Broken same unbroken shows finds =
     let kept : g_of m finds.0.0 ≤ v_of m finds.0.0 = unbroken broken.place finds.0.0 broken.on_chain in omega arith
 
 -- a pass that leads on, and what was told of it
-module _ {Note : Type 0} (means : Meaning Note) (n : Network) (h : ℕ → ℕ) (ask : Ask) (eps : ℕ) (old new : State Note)
-    (before after : Counts) (end : PassEnd) (spent : Bool) (was_spent : spent ≡ true → end ≡ Spent)
+module _ {Note : Type 0} (means : Meaning Note) {n : Network} {h : ℕ → ℕ} {eps : ℕ} {old new : State Note}
+    {before after : Counts} {end : PassEnd} {spent : Bool} (was_spent : spent ≡ true → end ≡ Spent)
     (rested : spent ≡ false → end ≡ Rest) (fresh : IsStartFresh old.labels) (sized : states_of new.labels ≡ n.states)
     (passed : IsPassed means (query n h eps old.goal) old new before after end) where
   ends_pass : (b : Bool) → spent ≡ b → EndsPass means (query n h eps old.goal) new.notes new.labels b
   ends_pass true is = passed.goes_on (was_spent is)
   ends_pass false is = passed.rests (rested is)
 
-  module _ (p : Pass Note) (arcs : List ℕ) (inflation : p.inflation ≡ eps) (expanded : p.expanded
+  module _ {ask : Ask} {p : Pass Note} {arcs : List ℕ} (inflation : p.inflation ≡ eps) (expanded : p.expanded
       ≡ means.expansions new.notes) (told : p.trace ≡ (if ask.traced then new.notes else [])) where
     to_own_goal : WalkFinds n h old.goal new.labels arcs p.found
         → IsIteration means (inquiry_of n h old.goal ask) eps old new before after arcs spent p
@@ -94,8 +94,8 @@ module _ {Note : Type 0} (means : Meaning Note) (n : Network) (h : ℕ → ℕ) 
           (passed.tight (rested is) one) finds;
     }
 
-    pub iteration_of : (goal : ℕ) → goal ≡ old.goal → WalkFinds n h goal new.labels arcs p.found
+    pub iteration_of : {goal : ℕ} → goal ≡ old.goal → WalkFinds n h goal new.labels arcs p.found
         → IsIteration means (inquiry_of n h goal ask) eps old new before after arcs spent p
-    iteration_of goal is finds =
+    iteration_of {goal} is finds =
         subst (λ (t : ℕ). IsIteration means (inquiry_of n h t ask) eps old new before after arcs spent p) (sym is)
         (to_own_goal (subst (λ (t : ℕ). WalkFinds n h t new.labels arcs p.found) is finds))

@@ -14,7 +14,7 @@ use Rattle.sbpl_labels.specs.Marks.{Marks, states_of, g_of, v_of, back_of, no_ro
 use Rattle.sbpl_labels.specs.declared.row.Row.{Row}
 use Rattle.sbpl_search.specs.Ready.{IsStartFresh}
 
-module _ (n : Network) (m : Marks) (sound : IsSound n) (same : states_of m ≡ n.states)
+module _ {n : Network} (m : Marks) (sound : IsSound n) (same : states_of m ≡ n.states)
     (exact : AreExact n m.start (g_of m) (v_of m) (back_of m)) where
   -- each label but the start's is above 0
   label_some : (t : ℕ) (back : Option (ℕ × ℕ)) → t < n.states → t ≢ m.start → back_of m t ≡ back → 1 ≤ g_of m t
@@ -48,10 +48,10 @@ module _ (n : Network) (m : Marks) (sound : IsSound n) (same : states_of m ≡ n
   dear_has_arcs [] s t cost path dear = λ is. let none : cost ≡ 0 = path.1 in omega arith
   dear_has_arcs (k ∷ ks) s t cost path dear = λ is. cc
 
-  pub low_some : (h : ℕ → ℕ) (goal low cost : ℕ) (arcs : List ℕ) → goal < n.states → IsStartFresh m
+  pub low_some : {h : ℕ → ℕ} {goal low cost : ℕ} {arcs : List ℕ} → goal < n.states → IsStartFresh m
       → IsLow (states_of m) goal (g_of m) (v_of m) h low
       → IsWalk n m.start (g_of m) (v_of m) (back_of m) goal cost arcs → 0 < cost → 1 ≤ low
-  low_some h goal low cost arcs inside fresh is walk dear =
+  low_some {goal} {cost} {arcs} inside fresh is walk dear =
       let cheap : cost ≤ g_of m goal = walk.cheap in
       let near : v_of m m.start < FAR =
       start_settled arcs goal (dear_has_arcs arcs m.start goal cost walk.path dear) walk.followed in

@@ -6,9 +6,7 @@ use Rattle.sbpl_graph.specs.Bound.{IsBound}
 use Rattle.sbpl_graph.specs.Network.{Network}
 use Rattle.sbpl_labels.specs.Marks.{Marks, g_of}
 use Rattle.sbpl_plan.specs.declared.passes.Pass.{Pass}
-use Rattle.sbpl_plan.specs.declared.found.Found.{Found}
-use Rattle.sbpl_plan.specs.declared.found.Found.TheVariants as found
-use Rattle.sbpl_plan.specs.Looking.{IsPathFound, WalkFinds}
+use Rattle.sbpl_plan.specs.Looking.{IsPathFound}
 use Rattle.sbpl_plan.specs.Observed.{AreTold}
 
 module _ {Note O : Type 0} (told : O → (pass cost bound : ℕ) → O → Type 0) where
@@ -44,15 +42,10 @@ bound_below cost (suc low) b small is =
     let least : b ≤ 1000 + 1000 * cost = is.least (1000 + 1000 * cost) (omega arith) (omega arith) in
     omega arith
 
-found_below : (n : Network) (h : ℕ → ℕ) (goal : ℕ) (m : Marks) (arcs : List ℕ) (cost bound : ℕ)
+-- and so is the bound of a path that was found
+pub found_below : {n : Network} {h : ℕ → ℕ} {goal : ℕ} {m : Marks} {arcs : List ℕ} {cost bound : ℕ}
     → IsPathFound n h goal m arcs cost bound → bound < 2 ^ 100
-found_below n h goal m arcs cost bound finds =
+found_below {goal} {m} {cost} {bound} finds =
     let near : g_of m goal < FAR = finds.walk.near in
     let cheap : cost ≤ g_of m goal = finds.walk.cheap in
     bound_below cost finds.low bound (omega arith) finds.bound_is
-
--- and so is the bound of the path that a walk gave
-pub finds_below : (n : Network) (h : ℕ → ℕ) (goal : ℕ) (m : Marks) (arcs : List ℕ) (f : Found) (cost bound : ℕ)
-    → WalkFinds n h goal m arcs f → f ≡ found.Path cost bound → bound < 2 ^ 100
-finds_below n h goal m arcs f cost bound finds is =
-    found_below n h goal m arcs cost bound (subst (λ (x : Found). WalkFinds n h goal m arcs x) is finds)

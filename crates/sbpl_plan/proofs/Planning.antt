@@ -69,11 +69,11 @@ grows_by_none before =
     ∙ ap (λ (x : ℕ). record before { plan = before.plan + 0; run = x }) (sym (add-zero before.run))
 
 -- one more pass, with at most a given number of expansions
-one_more : (a b c l k s : ℕ) → c ≡ a + b → k ≡ l + 1 → a ≤ l * s → b ≤ s → c ≤ k * s
-one_more a b c l k s sum count most few = rw (count, add-mul l 1 s) (let one : 1 * s ≡ s = omega arith in omega arith)
+one_more : {c k : ℕ} (a b l s : ℕ) → c ≡ a + b → k ≡ l + 1 → a ≤ l * s → b ≤ s → c ≤ k * s
+one_more a b l s sum count most few = rw (count, add-mul l 1 s) (let one : 1 * s ≡ s = omega arith in omega arith)
 
-one_less : (a b c l k s : ℕ) → c ≡ a + b → k ≡ l + 1 → a ≤ l * s → b < s → c < k * s
-one_less a b c l k s sum count most few = rw (count, add-mul l 1 s) (let one : 1 * s ≡ s = omega arith in omega arith)
+one_less : {c k : ℕ} (a b l s : ℕ) → c ≡ a + b → k ≡ l + 1 → a ≤ l * s → b < s → c < k * s
+one_less a b l s sum count most few = rw (count, add-mul l 1 s) (let one : 1 * s ≡ s = omega arith in omega arith)
 
 expansions_more : {Note : Type 0} (ps : List (Pass Note)) (p : Pass Note)
     → expansions (ps ++ p ∷ []) ≡ expansions ps + p.expanded
@@ -110,7 +110,7 @@ end_with_more means ask [] p notes is = is
 end_with_more means ask (a ∷ []) p notes is = is
 end_with_more means ask (a ∷ b ∷ ps) p notes is = end_with_more means ask (b ∷ ps) p notes is
 
-module _ {Note : Type 0} (means : Meaning Note) (q : Inquiry) (old : State Note) (before : Counts) where
+module _ {Note : Type 0} (means : Meaning Note) {q : Inquiry} {old : State Note} {before : Counts} where
   pub begins : means.ready q.network old.labels before.run → IsStartFresh old.labels
       → AreGoingOn means q old old before before [] q.ask.first
   begins ready fresh = record {
@@ -128,7 +128,7 @@ module _ {Note : Type 0} (means : Meaning Note) (q : Inquiry) (old : State Note)
     spread = omega arith;
   }
 
-  module _ (now new : State Note) (mid after : Counts) (passes : List (Pass Note)) (eps : ℕ)
+  module _ {now new : State Note} {mid after : Counts} {passes : List (Pass Note)} {eps : ℕ}
       (so : AreGoingOn means q old now before mid passes eps) where
     part_after : (Later Told : List (Pass Note) → Type 0) → ((ps : List (Pass Note)) → Later ps → Told (passes ++ ps))
         → IsPartOfPlan means q eps now new mid after Later → IsPartOfPlan means q q.ask.first old new before after Told
@@ -141,7 +141,7 @@ module _ {Note : Type 0} (means : Meaning Note) (q : Inquiry) (old : State Note)
           (expansions_of_both passes part.passes) so.leaves part.leaves;
     }
 
-    module _ (arcs : List ℕ) (spent : Bool) (p : Pass Note)
+    module _ {arcs : List ℕ} {spent : Bool} {p : Pass Note}
         (t : IsIteration means q eps now new mid after arcs spent p) where
       leaves_more : IsReadyAfter means q.network (expansions (passes ++ p ∷ [])) old new before after
       leaves_more =
@@ -171,7 +171,7 @@ module _ {Note : Type 0} (means : Meaning Note) (q : Inquiry) (old : State Note)
                 let more = more_passes q.ask.step eps asked.step_low low (λ one. not (inr (inr (inr one)))) in
                 let sum = so.many in rw (length-append passes (p ∷ [])) (omega arith);
             spread =
-                one_more _ _ _ _ _ _ (expansions_more passes p) (length-append passes (p ∷ [])) so.spread
+                one_more _ _ _ _ (expansions_more passes p) (length-append passes (p ∷ [])) so.spread
                 (subst (λ k. p.expanded ≤ means.most * k) so.leaves.states t.few);
           }
 
@@ -195,7 +195,7 @@ module _ {Note : Type 0} (means : Meaning Note) (q : Inquiry) (old : State Note)
             run_is_spent before after (expansions (passes ++ p ∷ [])) (length (passes ++ p ∷ []))
             (most_passes q.ask.step q.ask.first) (means.most * states_of old.labels)
             leaves_more.counted (t.is_spent ran_out)
-            (one_less _ _ _ _ _ _ (expansions_more passes p) (length-append passes (p ∷ [])) so.spread
+            (one_less _ _ _ _ (expansions_more passes p) (length-append passes (p ∷ [])) so.spread
             (subst (λ k. p.expanded < means.most * k) so.leaves.states (t.unfinished ran_out)))
             few_passes
             (subst (λ k. before.plan + most_passes q.ask.step q.ask.first * (means.most * k) ≤ before.per_plan)
@@ -245,11 +245,11 @@ part_of_none means q eps old before Told told ready fresh = record {
 }
 
 -- an iteration is a part of a plan
-pub part_of_one : {Note : Type 0} (means : Meaning Note) (q : Inquiry) (eps : ℕ) (old new : State Note)
-    (before after : Counts) (arcs : List ℕ) (spent : Bool) (p : Pass Note) (Told : List (Pass Note) → Type 0)
+pub part_of_one : {Note : Type 0} (means : Meaning Note) {q : Inquiry} {eps : ℕ} {old new : State Note}
+    {before after : Counts} {arcs : List ℕ} {spent : Bool} {p : Pass Note} {Told : List (Pass Note) → Type 0}
     → Told (p ∷ []) → IsIteration means q eps old new before after arcs spent p
     → IsPartOfPlan means q eps old new before after Told
-part_of_one means q eps old new before after arcs spent p Told told t = record {
+part_of_one means {q} {old} {new} {before} {after} {spent} {p} told t = record {
   passes = p ∷ [];
   told = told;
   made = inl (refl, (spent, t.pass));
@@ -257,17 +257,17 @@ part_of_one means q eps old new before after arcs spent p Told told t = record {
 }
 
 -- memory runs out after passes that were made
-pub runs_out_after : {Note : Type 0} (means : Meaning Note) (q : Inquiry) (old now new : State Note)
-    (before mid after : Counts) (passes : List (Pass Note)) (eps : ℕ)
+pub runs_out_after : {Note : Type 0} (means : Meaning Note) {q : Inquiry} {old now new : State Note}
+    {before mid after : Counts} {passes : List (Pass Note)} {eps : ℕ}
     (Later Told : List (Pass Note) → Type 0) → ((ps : List (Pass Note)) → Later ps → Told (passes ++ ps))
     → AreGoingOn means q old now before mid passes eps → RunsOutOfMemory means q eps now new mid after Later
     → RunsOutOfMemory means q q.ask.first old new before after Told
-runs_out_after means q old now new before mid after passes eps Later Told tells so (inl part) =
-    inl (part_after means q old before now new mid after passes eps so Later Told tells part)
-runs_out_after means q old now new before mid after passes eps Later Told tells so (inr cut) = inr (record {
+runs_out_after means Later Told tells so (inl part) =
+    inl (part_after means so Later Told tells part)
+runs_out_after means Later Told tells so (inr cut) = inr (record {
   mid = cut.mid;
   between = cut.between;
-  part = part_after means q old before now cut.mid mid cut.between passes eps so Later Told tells cut.part;
+  part = part_after means so Later Told tells cut.part;
   inflation = cut.inflation;
   cut = cut.cut;
 })

@@ -119,15 +119,6 @@ module _ (eps : ℕ) (h : ℕ → ℕ) where
         queued_still closed closed' m m' u (open_list.key_at f u) states (rows u apart) (same u apart) (queued.each u);
   }
 
-  -- an arc has lowered its head, or none
-  pub relaxed_unplaced : (n : Network) {closed : ℕ → Bool} (m m' : Marks) {f : OpenList} (s k : ℕ) (head : Option ℕ)
-      → AreQueued eps h closed m f → IsRelaxed n m m' s k head → IsUnplaced eps h closed m' f head
-  relaxed_unplaced n m m' s k None queued relaxed = rw relaxed.0 queued
-  relaxed_unplaced n {closed} m m' s k (Some t) queued relaxed =
-      let by : LowersHead n m m' s k t relaxed.0 = relaxed.1 in
-      unplaced closed closed m m' t queued (label_inside m t _ by.lower) by.changed.states
-      by.changed.others (λ u apart. refl)
-
   -- one more state is given its key
   pub refilled_more : {m : Marks} {f f' : OpenList} (steps : List Step) (step : Step) (key : Option (ℕ × ℕ))
       → AreRefilled eps h steps m f
@@ -176,3 +167,13 @@ module _ (eps : ℕ) (h : ℕ → ℕ) where
   queued_waiting {closed} {m} {f} queued = λ s it.
       let there = some_queued closed m s (open_list.key_at f s) (queued.each s) it in
       rw there refl
+
+-- an arc has lowered its head, or none
+pub relaxed_unplaced : {eps : ℕ} {h : ℕ → ℕ} {closed : ℕ → Bool} {m : Marks} {f : OpenList} (n : Network) (m' : Marks)
+    (s k : ℕ) (head : Option ℕ) → AreQueued eps h closed m f → IsRelaxed n m m' s k head
+    → IsUnplaced eps h closed m' f head
+relaxed_unplaced n m' s k None queued relaxed = rw relaxed.0 queued
+relaxed_unplaced {eps} {h} {closed} {m} n m' s k (Some t) queued relaxed =
+    let by : LowersHead n m m' s k t relaxed.0 = relaxed.1 in
+    unplaced eps h closed closed m m' t queued (label_inside m t _ by.lower) by.changed.states
+    by.changed.others (λ u apart. refl)

@@ -11,14 +11,14 @@ pub loop-number-preserved : goal.loop-number-preserved
 loop-number-preserved c =
     subst (λ (l : List ℕ). IsWalked (network_of c.args.lattice.now) c.args.from c.args.path.now c.unwrap-source.result.0
     (drop (c.loop-number.number-index + 1) c.args.path.now) l) (sym c.in_ok-push.ensures.items)
-    (walks_on _ c.states-states.ensures.tails _ _ c.loop-number.at c.loop-number.number-index _ c.loop-number.invariant
-    _ _ c.loop-number-test.true (sym c.tail.ensures.value ∙ c.unwrap-source.ensures))
+    (walks_on c.states-states.ensures.tails c.loop-number.number-index c.loop-number.invariant
+    c.loop-number-test.true (sym c.tail.ensures.value ∙ c.unwrap-source.ensures))
 
 pub returns : goal.returns
 returns c = record {
   turned = λ s cost free.
       subst (λ (l : List ℕ). IsPathTurned (network_of c.args.lattice.now) c.args.from c.args.path.now s cost l)
       (sym c.reverse.ensures.items)
-      (walked_out _ c.states-states.ensures.tails _ _ c.loop-number.at c.loop-number.number-index _
-      c.loop-number.invariant c.loop-number-test.false s cost free);
+      (walked_out c.states-states.ensures.tails c.loop-number.number-index c.loop-number.invariant
+      c.loop-number-test.false s cost free);
 }

@@ -4,16 +4,16 @@ use Rattle.sbpl_cert.proofs.reading.read_arcs.Goals as goal
 
 pub loop-preserved : goal.loop-preserved
 loop-preserved c =
-    round _ c.args.count c.loop.counter _ _ _ _ _ _ c.loop-test.true c.loop.invariant c.in_ok-read_arc.ensures.read
+    round _ c.args.count c.loop.counter _ _ _ c.loop-test.true c.loop.invariant c.in_ok-read_arc.ensures.read
 
 pub returns-in_err-read_arc : goal.returns-in_err-read_arc
 returns-in_err-read_arc c =
     let p = err_from_is_err_and c.from_residual.result c.from_residual.ensures.1 in
     record {
       read =
-          rw (p.1, p.2) (fault _ c.args.count c.loop.counter _ _ _ _ _ _ c.loop-test.true c.loop.invariant
+          rw (p.1, p.2) (fault _ c.args.count c.loop.counter _ _ _ c.loop-test.true c.loop.invariant
           c.in_err-read_arc.ensures.read);
     }
 
 pub returns : goal.returns
-returns c = record { read = over _ c.args.count c.loop.counter _ _ _ _ c.loop-test.false c.loop.invariant }
+returns c = record { read = over _ c.args.count c.loop.counter _ c.loop-test.false c.loop.invariant }

@@ -7,7 +7,7 @@ pub returns-clause-ok : goal.returns-clause-ok
 returns-clause-ok c =
     let plan = rw c.from.ensures at c.in_ok-put_number.ensures.ok in
     on_ok_weaker c.put_last_label.result
-    (λ last. head_grows c.args.plan c.args.states c.args.low _ _ _ _ _ _ _ c.in_ok-put.ensures.ok plan
+    (λ last. head_grows c.args.plan c.args.states c.args.low _ c.in_ok-put.ensures.ok plan
     c.in_ok-put-2.ensures.ok c.in_ok-put_number-2.ensures.ok c.in_ok-put-3.ensures.ok last)
     c.put_last_label.ensures.ok
 

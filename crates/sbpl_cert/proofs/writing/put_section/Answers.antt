@@ -14,7 +14,7 @@ returns-clause-ok c =
       labels = c.set.inside.labels;
     } in
     rw (← c.set.view_is) (on_ok_weaker c.put.result
-    (λ last. section_grows s _ _ _ _ _ _ _ c.as_slice-rows.ensures.items c.as_slice.ensures.items
+    (λ last. section_grows s _ c.as_slice-rows.ensures.items c.as_slice.ensures.items
     c.in_ok-put_head.ensures.ok c.in_ok-put_outcome.ensures.ok c.in_ok-put_rows.ensures.ok last)
     c.put.ensures.ok)
 

@@ -17,7 +17,7 @@ returns-clause-ok c =
     } in
     rw (← c.set.view_is) (on_ok_weaker c.put.result
     (λ last.
-    sparse_grows s _ _ _ _ _ _ _ c.as_slice-rows.ensures.items c.as_slice.ensures.items
+    sparse_grows s _ c.as_slice-rows.ensures.items c.as_slice.ensures.items
     c.in_ok-put_sparse_head.ensures.ok c.in_ok-put_outcome.ensures.ok c.in_ok-put_sparse_rows.ensures.ok last)
     c.put.ensures.ok)
 

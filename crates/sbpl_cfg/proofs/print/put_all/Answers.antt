@@ -11,8 +11,8 @@ returns c =
     let grid = rw (width, height) at c.in_ok-put_grid.ensures.ok in
     record {
       ok =
-          after_lines _ (size_lines e) _ (heading_lines e) _ (threshold_lines e) _ (rate_lines e) _ (end_lines e) _
-          (grid_lines e.height e.width c.args.cells.now) _
+          after_lines _ (size_lines e) (heading_lines e) (threshold_lines e) (rate_lines e) (end_lines e)
+          (grid_lines e.height e.width c.args.cells.now)
           c.in_ok-put_size.ensures.ok c.in_ok-put_headings.ensures.ok c.in_ok-put_thresholds.ensures.ok
           c.in_ok-put_rates.ensures.ok c.in_ok-put_ends.ensures.ok grid;
     }

@@ -9,7 +9,7 @@ loop-heading-init c =
 
 pub loop-heading-preserved : goal.loop-heading-preserved
 loop-heading-preserved c =
-    grown _ _ _ _ _ _ (motions_next c.loop-heading.heading) c.loop-heading.invariant c.in_ok-put_heading.ensures.ok
+    grown _ _ _ (motions_next c.loop-heading.heading) c.loop-heading.invariant c.in_ok-put_heading.ensures.ok
 
 pub returns : goal.returns
 returns c =

@@ -1,8 +1,7 @@
-use Rattle.std.proofs.Common.{◌≡◌, ◌++◌, ◌∙◌, ap, sym, rules}
+use Rattle.std.proofs.Common.{◌≡◌, ◌++◌, append_assoc, rules}
 use Rattle.sbpl_fixed.specs.Printed.{lines_text}
 use Rattle.sbpl_demo.specs.Primitives.{backward, far, forward, left, motion_lines, right, way_along}
 use Rattle.sbpl_demo.proofs.Steps as steps
-use Rattle.sbpl_demo.proofs.Texts.{five_written}
 use Rattle.sbpl_demo.proofs.primitives.put_heading.Goals as goal
 
 pub returns : goal.returns
@@ -19,7 +18,5 @@ returns c =
     let f : c.put_motion-5.new.out.items
     ≡ c.put_motion-4.new.out.items ++ lines_text (motion_lines (far c.args.from step)) = search rules in
     record {
-      ok =
-          five_written _ _ _ _ _ _ a b d e f
-          ∙ ap (λ text. c.args.out.now.items ++ text) (sym (steps.five_written c.args.from));
+      ok = rw (f, e, d, b, a, steps.five_written c.args.from) (simp append_assoc);
     }

@@ -8,7 +8,7 @@ loop-j-init c = rw (poses_none c.args.motion.now, append-nil c.args.out.now.item
 
 pub loop-j-preserved : goal.loop-j-preserved
 loop-j-preserved c =
-    grown _ _ _ _ _ _ (poses_next c.args.motion.now c.loop-j.j) c.loop-j.invariant c.in_ok-put_pose.ensures.ok
+    grown _ _ _ (poses_next c.args.motion.now c.loop-j.j) c.loop-j.invariant c.in_ok-put_pose.ensures.ok
 
 pub returns : goal.returns
 returns c =

@@ -39,7 +39,7 @@ returns-clause-ends g c =
         };
       };
       ends =
-          ends_since _ _ _ _ _ _ c.in_ok-lattice.ensures.frame.written c.in_ok-lattice.ensures.frame.writes ends.ends;
+          ends_since c.in_ok-lattice.ensures.frame.written c.in_ok-lattice.ensures.frame.writes ends.ends;
       others = λ name no.
           c.check_either_way-status.ensures.frame.others name no ∙ c.in_ok-lattice.ensures.frame.written name;
       begins = tt;

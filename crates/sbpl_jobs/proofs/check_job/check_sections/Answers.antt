@@ -17,7 +17,7 @@ use Rattle.sbpl_jobs.proofs.check_job.check_sections.Goals.{After-batches-last, 
 pub loop-k-init : goal.loop-k-init
 loop-k-init g c =
     none_checked (site_of g.W.Graph.network g.W.Terrain.cells g.W.Best.Heuristic.says g.W.Workspace.wording)
-    g.S.Searched.direction _ _ _ _ _ _ _ c.is_terrain.ensures.law c.requires.searched
+    g.S.Searched.direction c.is_terrain.ensures.law c.requires.searched
     (c.writes_lead_to_the_next_map.ensures.first _ _) c.requires.kept c.requires.start
 
 -- the map now has as many states as the first
@@ -36,7 +36,7 @@ returns-in-Err-clause-ends g c =
     so.leads (length course.batches - k) whole _ c.in-Err.status
     (c.in-Err.ensures.ends (case_of (site_of g.W.Graph.network g.W.Terrain.cells g.W.Best.Heuristic.says
     g.W.Workspace.wording) g.S.Searched.direction c.args.world.now course c.args.start c.args.goal)
-    (length course.batches - k) (plan_in _ _ _ _ _ _ _ _ _ _ _ _ _ _ so))
+    (length course.batches - k) (plan_in so))
 
 pub write_batch-requires : goal.write_batch-requires
 write_batch-requires g c = record {
@@ -51,7 +51,10 @@ after_batch : (g : _) (c : After-write_batch g)
     → IsMapAfter (g.W.Terrain.cells.map c.args.world.now) c.args.course.now.batches (c.loop-k.k + 1)
     (g.W.Terrain.cells.map c.write_batch.new.world)
 after_batch g c =
-    c.writes_lead_to_the_next_map.ensures.next _ _ _ _ _ _ c.loop-k.invariant.map_after c.batch.ensures.writes
+    let cells = g.W.Terrain.cells in
+    c.writes_lead_to_the_next_map.ensures.next (cells.map c.args.world.now) (cells.map c.loop-k.world)
+    (cells.map c.write_batch.new.world) c.args.course.now.batches c.loop-k.k _ c.loop-k.invariant.map_after
+    c.batch.ensures.writes
     c.write_batch.ensures.written
 
 -- and the rest is as at first
@@ -126,7 +129,7 @@ loop-k-preserved g c =
     let case : Case on g.S.Searched.direction = case_of on g.S.Searched.direction w course c.args.start c.args.goal in
     record {
       leads = λ more whole after status ends. so.leads (suc more) (let is = whole in omega arith) after status
-          (goes_on case k (suc more) _ _ _ _ _ _ (c.in-Ok.ensures.holds case (plan_in _ _ _ _ _ _ _ _ _ _ _ _ _ _ so))
+          (goes_on case k (suc more) (c.in-Ok.ensures.holds case (plan_in so))
           c.check_plan.ensures.frame.writes ends);
       made = c.rebuild.ensures.made (g.W.Terrain.cells.map c.loop-k.world) c.args.goal (made_before g at);
       far = omega (arith, here);
@@ -167,11 +170,11 @@ returns-in-Ok-check_plan-clause-ends g c =
     let count = c.batches-last.ensures.value in
     let plan =
     subst (λ (p : ℕ). IsPlanIn case p c.loop-k.world c.loop-k.start c.args.goal) last
-    (plan_in _ _ _ _ _ _ _ _ _ _ _ _ _ _ so) in
+    (plan_in so) in
     so.leads 0 (omega (arith, last, count)) _ _
     (subst (λ (p : ℕ). EndsSections case p 1 (start_at c.args.text.now c.loop-k.at) (g.D.Desk.state c.loop-k.desk)
     (g.D.Desk.state c.end_sections.new.desk) c.end_sections.result) (sym last)
-    (goes_on case c.batches-last.result 0 _ _ _ _ _ _ (c.in-Ok-check_plan.ensures.holds case plan)
+    (goes_on case c.batches-last.result 0 (c.in-Ok-check_plan.ensures.holds case plan)
     c.check_plan-2.ensures.frame.writes
     (ends_text case (c.batches-last.result + 1) _ _ _ _ c.end_sections.ensures.ends)))
 
@@ -186,7 +189,7 @@ returns-in-Err-check_plan-clause-ends g c =
     let count = c.batches-last.ensures.value in
     let plan =
     subst (λ (p : ℕ). IsPlanIn case p c.loop-k.world c.loop-k.start c.args.goal) last
-    (plan_in _ _ _ _ _ _ _ _ _ _ _ _ _ _ so) in
+    (plan_in so) in
     so.leads 0 (omega (arith, last, count)) _ _
     (subst (λ (p : ℕ). EndsSections case p 1 (start_at c.args.text.now c.loop-k.at) (g.D.Desk.state c.loop-k.desk)
     (g.D.Desk.state c.check_plan-2.new.desk) c.in-Err-check_plan.status) (sym last)

@@ -3,9 +3,9 @@ use Rattle.sbpl_jobs.proofs.Writings.{status_ends}
 use Rattle.sbpl_jobs.proofs.check_job.end_sections.Goals as goal
 
 pub returns-in-Some-clause-ends : goal.returns-in-Some-clause-ends
-returns-in-Some-clause-ends g c = some_left _ _ _ _ _ _ c.in-Some.ensures.first c.tell_fault.ensures.ends
+returns-in-Some-clause-ends g c = some_left c.in-Some.ensures.first c.tell_fault.ensures.ends
 
 pub returns-in-None-clause-ends : goal.returns-in-None-clause-ends
 returns-in-None-clause-ends g c =
-    none_left _ _ _ _ c.in-None.ensures.first
-    (status_ends _ _ _ _ _ _ c.write_last.ensures.ends c.status_after.ensures.status)
+    none_left c.in-None.ensures.first
+    (status_ends _ c.write_last.ensures.ends c.status_after.ensures.status)

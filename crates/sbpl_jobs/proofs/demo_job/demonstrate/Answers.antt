@@ -40,7 +40,7 @@ returns-in-Err-clause-ends g c =
       },
     )
     (same_state _)
-    (status_ends _ _ _ 9 _ (Err c.in-Err.stop) c.in-Err.ensures.ends c.status_after.ensures.status)
+    (status_ends (Err c.in-Err.stop) c.in-Err.ensures.ends c.status_after.ensures.status)
     c.write_first.ensures.frame.others
 
 pub returns-clause-ends : goal.returns-clause-ends

@@ -37,7 +37,7 @@ returns-clause-ends g c =
               ends.outcomes ends.end) c.as_slice.ensures.value ends.checked;
         };
       };
-      ends = ends_since _ _ _ _ _ _ c.in_ok-nav.ensures.frame.written c.in_ok-nav.ensures.frame.writes ends.ends;
+      ends = ends_since c.in_ok-nav.ensures.frame.written c.in_ok-nav.ensures.frame.writes ends.ends;
       others = λ name no. c.check_text-status.ensures.frame.others name no ∙ c.in_ok-nav.ensures.frame.written name;
       begins = tt;
       published = refl;

@@ -228,9 +228,9 @@ promises_by on w start goal asked expanded planned (Err e) joins within none mar
 pub returns-clause-promises : goal.returns-clause-promises
 returns-clause-promises g c =
     let bound = ap (λ (a : Ask). a.bound) c.ask_of-ask.ensures.ask in
-    promises_by (site_of g.W.Graph.network g.W.Terrain.cells g.W.Best.Heuristic.says g.W.Workspace.wording) _ _ _ _ _
-    c.in_ok-planned.planned _ c.record_of.ensures.joins c.record_of.ensures.within_the_bound c.record_of.ensures.none
-    c.record_of.ensures.marked
+    promises_by (site_of g.W.Graph.network g.W.Terrain.cells g.W.Best.Heuristic.says g.W.Workspace.wording)
+    c.args.world.now c.args.start c.args.goal _ _ c.in_ok-planned.planned c.record_of.result
+    c.record_of.ensures.joins c.record_of.ensures.within_the_bound c.record_of.ensures.none c.record_of.ensures.marked
     (λ is. subst (λ (b : ℕ). search.IsConclusive b c.in_ok-planned.planned.outcome) bound
     (c.in_ok-planned.ensures.planned.answered is)) c.record_of.ensures.answered
 
@@ -271,7 +271,7 @@ returns-clause-shown g c =
 
 pub returns-in_err-raised-clause-broken : goal.returns-in_err-raised-clause-broken
 returns-in_err-raised-clause-broken g c =
-    λ before goes. on_err_is _ c.from_residual.result (none_published _ _ (λ s. 0) _ _ _ _ _ _ _ _ refl)
+    λ before goes. on_err_is _ c.from_residual.result (none_published refl)
 
 pub returns-in_err-planned-clause-broken : goal.returns-in_err-planned-clause-broken
 returns-in_err-planned-clause-broken g c = λ before goes.

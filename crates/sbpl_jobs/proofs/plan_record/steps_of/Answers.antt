@@ -37,7 +37,8 @@ loop-arc-preserved g c =
       left = path_after _ _ _ _ _ left c.step-head.ensures.head;
       done =
           rw c.in_ok-push.ensures.items
-          (one_more on w _ _ _ _ _ _ _ _ done c.step-head.ensures.head c.step-head.ensures.step);
+          (one_more on w c.args.from c.loop-arc.at _ c.args.arcs.now _ c.loop-arc.steps.items _ done
+          c.step-head.ensures.head c.step-head.ensures.step);
     }
 
 pub returns : goal.returns

@@ -13,7 +13,7 @@ use Rattle.sbpl_jobs.proofs.Frames.{nothing_done, writes_more, writes_on}
 pub loop-k-init : goal.loop-k-init
 loop-k-init g c = record {
   going =
-      sets_out _ _ _ _ _ _ _ _ _ _ _ _ c.is_terrain.ensures.law
+      sets_out c.is_terrain.ensures.law
       (c.writes_lead_to_the_next_map.ensures.first (g.W.Terrain.cells.map c.args.world.now) c.args.course.now.batches)
       c.requires.kept (sym (start_first g.W.Workspace.wording c.args.world.now c.args.start c.args.course.now.moves))
       c.requires.set c.requires.begun;
@@ -31,8 +31,8 @@ make_plan-requires-clause-goal g c =
 
 pub returns-in-Err-clause-ends : goal.returns-in-Err-clause-ends
 returns-in-Err-clause-ends g c =
-    stops _ _ _ _ _ _ _ _ _ _ _ _ _ _ _ (g.R.Replan.standing c.make_plan.new.replanner) _ _ _ c.loop-k.invariant.going _
-    c.in-Err.stop c.in-Err.ensures.ends c.status_after.ensures.status
+    stops _ (g.R.Replan.standing c.make_plan.new.replanner) _ c.loop-k.invariant.going c.in-Err.stop
+    c.in-Err.ensures.ends c.status_after.ensures.status
 
 pub change-requires-clause-on_map : goal.change-requires-clause-on_map
 change-requires-clause-on_map g c =
@@ -41,8 +41,8 @@ change-requires-clause-on_map g c =
 
 pub returns-in-Err-change-clause-ends : goal.returns-in-Err-change-clause-ends
 returns-in-Err-change-clause-ends g c =
-    tells_no_more _ _ _ _ _ _ _ _ _ _ _ _ _ _ _ (g.R.Replan.standing c.make_plan.new.replanner) _ _ _
-    c.loop-k.invariant.going c.in_default.ensures.ends c.make_plan.ensures.frame.writes
+    tells_no_more _ (g.R.Replan.standing c.make_plan.new.replanner) _ c.loop-k.invariant.going
+    c.in_default.ensures.ends c.make_plan.ensures.frame.writes
 
 pub start_at-start-requires-clause-place : goal.start_at-start-requires-clause-place
 start_at-start-requires-clause-place g c =
@@ -56,7 +56,8 @@ start_at-start-requires-clause-place g c =
     ∙ c.is_terrain.ensures.law.again w (cells.map c.loop-k.world) (cells.map now) in
     let alike = alike_over on g.met.W.Workspace.places_stay w now same in
     let next =
-    c.writes_lead_to_the_next_map.ensures.next _ _ _ _ _ _ going.after c.batch.ensures.writes
+    c.writes_lead_to_the_next_map.ensures.next (cells.map w) (cells.map c.loop-k.world) (cells.map now)
+    c.args.course.now.batches c.loop-k.k _ going.after c.batch.ensures.writes
     c.in_default-change.ensures.written in
     let here : c.loop-k.k < length c.args.course.now.batches =
     (let test = c.loop-k-test.true in let count = c.batches-k-end.ensures.value in omega arith) in
@@ -99,7 +100,7 @@ loop-k-preserved g c =
     alike c.place_in.ensures.place c.start_at-start.ensures.state in
     record {
       going =
-          changes _ _ _ _ _ _ _ _ _ _ _ _ _ _ _ (g.R.Replan.standing c.make_plan.new.replanner) _ _ _ going
+          changes _ (g.R.Replan.standing c.make_plan.new.replanner) _ going
           c.is_terrain.ensures.law now c.start_at-start.result (g.R.Replan.standing c.change.new.self)
           (g.R.Replan.standing c.follow.new.self) c.batch.result.now c.writes_lead_to_the_next_map.ensures.next
           c.in_default.ensures.ends c.make_plan.ensures.frame.writes c.in_default.ensures.set c.batch.ensures.writes
@@ -122,16 +123,16 @@ make_plan-requires-2-clause-goal g c =
 
 pub returns-in-Ok-clause-ends : goal.returns-in-Ok-clause-ends
 returns-in-Ok-clause-ends g c =
-    tells_last _ _ _ _ _ _ _ _ _ c.batches-last.result _ _ _ _ _ (g.R.Replan.standing c.make_plan-2.new.replanner) _ _ _
-    (at_last _ _ _ _ _ _ _ _ _ _ _ _ _ _ _ _ _ (omega (
+    tells_last _ (g.R.Replan.standing c.make_plan-2.new.replanner) _
+    (at_last c.batches-last.result (omega (
       arith,
       c.loop-k-test.false,
       c.loop-k.auto.k-end,
       c.batches-k-end.ensures.value,
       c.batches-last.ensures.value,
-    )) c.loop-k.invariant.going) _ _ c.in-Ok.ensures.ends c.make_plan-2.ensures.frame.writes
+    )) c.loop-k.invariant.going) c.in-Ok.ensures.ends c.make_plan-2.ensures.frame.writes
     c.batches-last.ensures.value
-    (status_ends _ _ _ _ _ _ c.write_last.ensures.ends c.status_after-in-Ok.ensures.status)
+    (status_ends _ c.write_last.ensures.ends c.status_after-in-Ok.ensures.status)
 
 pub returns-in-Ok-clause-frame : goal.returns-in-Ok-clause-frame
 returns-in-Ok-clause-frame g c =
@@ -140,12 +141,12 @@ returns-in-Ok-clause-frame g c =
 
 pub returns-in-Err-make_plan-clause-ends : goal.returns-in-Err-make_plan-clause-ends
 returns-in-Err-make_plan-clause-ends g c =
-    stops _ _ _ _ _ _ _ _ _ c.batches-last.result _ _ _ _ _ (g.R.Replan.standing c.make_plan-2.new.replanner) _ _ _
-    (at_last _ _ _ _ _ _ _ _ _ _ _ _ _ _ _ _ _ (omega (
+    stops _ (g.R.Replan.standing c.make_plan-2.new.replanner) _
+    (at_last c.batches-last.result (omega (
       arith,
       c.loop-k-test.false,
       c.loop-k.auto.k-end,
       c.batches-k-end.ensures.value,
       c.batches-last.ensures.value,
-    )) c.loop-k.invariant.going) _ c.in-Err-make_plan.stop c.in-Err-make_plan.ensures.ends
+    )) c.loop-k.invariant.going) c.in-Err-make_plan.stop c.in-Err-make_plan.ensures.ends
     c.status_after-in-Err-make_plan.ensures.status

@@ -10,8 +10,8 @@ pub returns-in-Ok-clause-ends : goal.returns-in-Ok-clause-ends
 returns-in-Ok-clause-ends g c = λ log.
     ended _ (g.D.Desk.state c.read_lattice.new.desk) _ log log (job.Sweep c.args.from.now) (Listed c.in-Ok.lattice) _ tt
     refl (c.in-Ok.ensures.says, c.in-Ok.ensures.kept) c.read_lattice.ensures.frame
-    (status_ends _ _ _ _ _ _ c.write_listings.ensures.ends
-    c.status_after-status.ensures.status) c.write_listings.ensures.frame.others
+    (status_ends _ c.write_listings.ensures.ends c.status_after-status.ensures.status)
+    c.write_listings.ensures.frame.others
 
 pub returns-in-Ok-clause-frame : goal.returns-in-Ok-clause-frame
 returns-in-Ok-clause-frame g c = writes_after _ _ _ _ c.read_lattice.ensures.frame c.write_listings.ensures.frame

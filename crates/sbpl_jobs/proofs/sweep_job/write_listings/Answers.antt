@@ -15,7 +15,7 @@ returns-in-Err-clause-ends g c =
     let so =
     subst (λ (l : List Write). Makes (g.D.Desk.state c.args.desk.now) (g.D.Desk.state c.loop-i.desk) (writes_from w 0)
     l) (one_from w c.loop-i.i here) c.loop-i.invariant.makes in
-    makes_no_more (Unit {0}) (Unit {0}) _ _ _ _ _ _ c.in-Err.stop so c.in-Err.ensures.ends
+    makes_no_more (Unit {0}) (Unit {0}) _ c.in-Err.stop so c.in-Err.ensures.ends
 
 pub loop-i-preserved : goal.loop-i-preserved
 loop-i-preserved g c =
@@ -43,4 +43,4 @@ returns-clause-ends g c =
     let so =
     subst (λ (l : List Write). Makes (g.D.Desk.state c.args.desk.now) (g.D.Desk.state c.loop-i.desk) (writes_from w 0)
     l) (none_from w c.loop-i.i past) c.loop-i.invariant.makes in
-    makes_rest (Unit {0}) _ _ _ _ _ _ so c.write_last.ensures.ends
+    makes_rest (Unit {0}) _ _ so c.write_last.ensures.ends

@@ -14,7 +14,7 @@ use Rattle.sbpl_plan.proofs.make.plan.Goals as goal
 
 pub returns-in_err-pass-clause-memory : goal.returns-in_err-pass-clause-memory
 returns-in_err-pass-clause-memory g c =
-    on_err c.from_residual-in_err-pass.result _ (runs_out_after g.S.Search.meaning _ _ _ _ _ _ _ _ _
+    on_err c.from_residual-in_err-pass.result _ (runs_out_after g.S.Search.meaning
     (λ ps. AreTold g.O.Observer.told c.loop-passes.number ps c.loop-passes.observer c.iterate.new.observer)
     (λ ps. AreTold g.O.Observer.told 0 ps c.args.observer.now c.iterate.new.observer)
     (λ ps later. told_on g.O.Observer.told _ ps _ _ _ c.loop-passes.invariant.told (subst (λ (n : ℕ).
@@ -24,13 +24,13 @@ returns-in_err-pass-clause-memory g c =
 pub returns-in_err-push-clause-memory : goal.returns-in_err-push-clause-memory
 returns-in_err-push-clause-memory g c =
     on_err c.from_residual-in_err-push.result _
-    (runs_out_after g.S.Search.meaning _ _ _ _ _ _ _ _ _
+    (runs_out_after g.S.Search.meaning
     (λ ps. AreTold g.O.Observer.told c.loop-passes.number ps c.loop-passes.observer c.iterate.new.observer)
     (λ ps. AreTold g.O.Observer.told 0 ps c.args.observer.now c.iterate.new.observer)
     (λ ps later. told_on g.O.Observer.told _ ps _ _ _ c.loop-passes.invariant.told (subst (λ (n : ℕ).
     AreTold g.O.Observer.told n ps c.loop-passes.observer c.iterate.new.observer) c.loop-passes.invariant.number later))
     c.loop-passes.invariant.going_on
-    (inl (part_of_one g.S.Search.meaning _ _ _ _ _ _ _ _ _ _ (c.iterate.new.observer, c.in_ok-pass.ensures.told, refl)
+    (inl (part_of_one g.S.Search.meaning (c.iterate.new.observer, c.in_ok-pass.ensures.told, refl)
     c.in_ok-pass.ensures.iteration)))
 
 pub returns-then-is_last-clause-planned : goal.returns-then-is_last-clause-planned
@@ -52,8 +52,8 @@ returns-then-is_last-clause-planned g c =
     (g.S.Search.state c.iterate.new.search) c.args.budget.now c.iterate.new.budget
     (record { passes = ps; spent = c.in_ok-pass.spent; outcome = c.outcome_of-outcome.result }))
     (sym (c.of.ensures.items ∙ c.in_ok-push.ensures.items))
-    (planned_of g.S.Search.meaning q _ _ _ _ _ _ _ _ c.loop-passes.invariant.going_on _ _ _ t _ c.requires.asked last
-    result (g.met.S.Search.usable _ _ _ t.leaves.ready).states
+    (planned_of g.S.Search.meaning c.loop-passes.invariant.going_on t _ c.requires.asked last result
+    (g.met.S.Search.usable _ _ _ t.leaves.ready).states
     c.outcome_of-outcome.ensures.agrees c.bound_holds.ensures.every_path c.none_holds.ensures.no_path
     c.states.ensures.sound (g.met.H.Guide.consistent c.args.guide.now _ _ c.requires.guide) c.used-used.ensures.counts)
 
@@ -67,8 +67,8 @@ loop-passes-preserved g c =
     EndsPlan q c.loop-passes.eps m c.in_ok-pass.spent c.in_ok-pass.pass.found) (sym c.labels.ensures.value) last) in
     let no : ⊥ = cc (yes, c.if-is_last.false) in no) in
     let on =
-    goes_on g.S.Search.meaning q _ _ _ _ _ _ _ _ c.loop-passes.invariant.going_on _ _ _ c.in_ok-pass.ensures.iteration
-    c.requires.asked c.loop-passes.invariant.low not in
+    goes_on g.S.Search.meaning c.loop-passes.invariant.going_on c.in_ok-pass.ensures.iteration c.requires.asked
+    c.loop-passes.invariant.low not in
     let high = c.loop-passes.invariant.high in
     let is = c.lowered-eps.ensures.lowered in
     record {

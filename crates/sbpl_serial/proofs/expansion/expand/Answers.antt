@@ -16,7 +16,7 @@ loop-k-init g c =
 
 pub requeue-requires-in-loop-k-clause-unplaced : goal.requeue-requires-in-loop-k-clause-unplaced
 requeue-requires-in-loop-k-clause-unplaced g c =
-    relaxed_unplaced _ _ (g.G.Graph.network c.args.graph.now) _ _ _ _ _ c.loop-k.invariant.1
+    relaxed_unplaced (g.G.Graph.network c.args.graph.now) _ c.args.s c.loop-k.k _ c.loop-k.invariant.1
     c.relax-head.ensures.relaxed
 
 pub loop-k-preserved : goal.loop-k-preserved

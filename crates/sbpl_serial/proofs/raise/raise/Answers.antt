@@ -5,7 +5,7 @@ use Rattle.sbpl_serial.proofs.raise.raise.Goals as goal
 
 pub requeue-requires-in-loop-k-clause-unplaced : goal.requeue-requires-in-loop-k-clause-unplaced
 requeue-requires-in-loop-k-clause-unplaced g c =
-    returned_unplaced _ _ (g.G.Graph.network c.args.graph.now) _ _ _ _ _ c.loop-k.invariant.1
+    returned_unplaced (g.G.Graph.network c.args.graph.now) _ c.args.s c.loop-k.k _ c.loop-k.invariant.1
     c.recompute_head-head.ensures.returned
 
 pub loop-k-preserved : goal.loop-k-preserved

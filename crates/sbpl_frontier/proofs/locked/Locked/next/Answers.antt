@@ -13,7 +13,7 @@ invariant_of-self-in-Job g c =
     let out =
     rw (c.make-claim.ensures.claim, c.state.ensures.value, c.arc.ensures.value) at c.make-claim.ensures.out in (
       c.self.invariant.0,
-      rw c.add.ensures.total (taken_tied _ answers.mid _ _ _ _ c.self.inside.keeper c.make-claim.new.self _ _
+      rw c.add.ensures.total (taken_tied c.self.inside.keeper c.make-claim.new.self
           answers.gives out c.make-claim.ensures.next mid),
     )
 

@@ -1,7 +1,7 @@
 use Rattle.std.proofs.Common.{◌<◌, length, length-set, slice_get, arith, ap, sym, ◌∙◌, subst}
 use Rattle.std.specs.List.{All, Contains}
 use Rattle.sbpl_graph.specs.Fit.{FitCount}
-use Rattle.sbpl_labels.specs.Marks.{states_of, g_of, v_of}
+use Rattle.sbpl_labels.specs.Marks.{states_of, back_of, g_of, v_of}
 use Rattle.sbpl_heur.proofs.Hopping.{beside_set}
 use Rattle.sbpl_heur.proofs.Touching.{same_arcs, fits_more}
 use Rattle.sbpl_heur.proofs.walks.Walks.write.Goals as goal
@@ -20,7 +20,8 @@ repair-requires-clause-changeable c =
           subst (λ n. FitCount n (g_of m) (v_of m) 1073741824) (sym usable.states)
           (fits_more _ _ _ _ 1073741824 (omega (arith, c.used-used.ensures.counts.within_run)) usable.fits);
       untouched = λ t state beside absent.
-          c.exact_where_same.ensures.every_state _ _ _ _ _ _ usable.exact t (omega (arith, state, usable.states)) beside
+          c.exact_where_same.ensures.every_state _ _ m.start (g_of m) (v_of m) (back_of m) usable.exact t
+          (omega (arith, state, usable.states)) beside
           (same_arcs b c.set.new.self c.self.invariant.board c.set.ensures.kept c.args.cell (ap (λ z. z.env) set)
           (ap (λ z. z.hops) set) (ap (λ z. length z.costs) set ∙ length-set b.costs c.args.cell c.args.cost)
           (λ i apart. ap (λ z. slice_get z.costs i) set ∙ beside_set b.costs c.args.cell i c.args.cost apart)

@@ -7,8 +7,8 @@ returns-clause-holds g c = λ case plan.
     let after =
     ground_forwards g.H.Heuristic.says case c.args.plan w c.args.start c.args.goal _ plan
     (g.met.H.Heuristic.says_so _ w c.args.goal c.requires.made) in
-    ok_so _ _ _ (λ next holds. holds_there case _ _ _ c.args.plan after (from_is case c.args.plan w c.args.start
-    c.args.goal plan) (to_is case c.args.plan w c.args.start c.args.goal plan) _ _ _ _ holds) c.check_next.ensures.holds
+    ok_so _ _ _ (λ next holds. holds_there case c.args.plan after (from_is case c.args.plan w c.args.start
+    c.args.goal plan) (to_is case c.args.plan w c.args.start c.args.goal plan) holds) c.check_next.ensures.holds
 
 pub returns-clause-ends : goal.returns-clause-ends
 returns-clause-ends g c = λ case more plan.
@@ -16,5 +16,5 @@ returns-clause-ends g c = λ case more plan.
     let after =
     ground_forwards g.H.Heuristic.says case c.args.plan w c.args.start c.args.goal _ plan
     (g.met.H.Heuristic.says_so _ w c.args.goal c.requires.made) in
-    all_ends_there case _ _ _ c.args.plan after (from_is case c.args.plan w c.args.start c.args.goal plan)
+    all_ends_there case c.args.plan after (from_is case c.args.plan w c.args.start c.args.goal plan)
     (to_is case c.args.plan w c.args.start c.args.goal plan) _ more _ _ _ c.check_next.ensures.ends
