@@ -1,6 +1,7 @@
 //! The one public call: does the job that words name, at a desk.
 
-ghost use Rattle.std.specs.Prelude.{◌≡◌, ◌^◌, ◌<◌, [], List, length};
+ghost use Rattle.std.specs.Prelude.{◌≡◌, ◌^◌, ◌<◌, [], List, length, map, string_bytes};
+ghost use Rattle.sbpl_headline.specs.Headline.{IsHeadline};
 ghost use Rattle.sbpl_promises.specs.Promises.{MayBeWritten};
 ghost use Rattle.sbpl_promises.specs.Published.{Entry};
 ghost use Rattle.sbpl_promises.specs.Run.{job_named};
@@ -10,6 +11,7 @@ ghost use Rattle.sbpl_promises.specs.Writing.{WritesOnly};
 use sbpl_desk::Desk;
 use sbpl_epase::Gate;
 use sbpl_fixed::NoMemory;
+use sbpl_headline::promises_show_the_headline;
 use sbpl_incumbent::{Board, Publisher};
 use sbpl_jobs::end_run;
 use sbpl_laws::runs_keep_promises;
@@ -39,11 +41,14 @@ pub fn run_with<R: Threads + Wait + Sync, D: Desk, T: Gate + Sync>(
     requires few { length publisher.old.published < 2 ^ 62 }
     // Every promise, with what each status says, and what was published.
     ensures promises { RunPromises (job_named words.now) (D.state desk.old) (D.state desk.new) publisher.old.published publisher.new.published result }
+    // The headline, of `plan` and `nav`, in definitions of its own.
+    ensures headline { IsHeadline (map string_bytes words.now) (D.state desk.old) (D.state desk.new) result }
     ensures board { publisher.new.board ≡ publisher.old.board }
     // Nothing that is held changes, nothing is written under names other than the job's, and no count falls.
     ensures frame { WritesOnly (MayBeWritten (job_named words.now)) (D.state desk.old) (D.state desk.new) }
 {
     runs_keep_promises();
+    promises_show_the_headline();
     end_run(rt, alloc, words, desk, gate, board, publisher)
 }
 
@@ -57,10 +62,13 @@ pub fn run<R: Threads + Wait + Sync, D: Desk, T: Gate + Sync>(
 ) -> u8
     // Every promise, with what each status says, where nothing was published before.
     ensures promises { (published : List Entry) × RunPromises (job_named words.now) (D.state desk.old) (D.state desk.new) [] published result }
+    // The headline, of `plan` and `nav`, in definitions of its own.
+    ensures headline { IsHeadline (map string_bytes words.now) (D.state desk.old) (D.state desk.new) result }
     // Nothing that is held changes, nothing is written under names other than the job's, and no count falls.
     ensures frame { WritesOnly (MayBeWritten (job_named words.now)) (D.state desk.old) (D.state desk.new) }
 {
     runs_keep_promises();
+    promises_show_the_headline();
     match Board::new(alloc) {
         Ok((board, mut publisher)) => run_with(
             rt,

@@ -3,6 +3,7 @@
 ghost use Rattle.std.specs.Prelude.{◌≡◌, ◌<◌, ◌^◌, false, length, None, IsSome, map, string_bytes};
 ghost use Rattle.std.specs.Io.KnownBytes.{Keeps};
 ghost use Rattle.sbpl_desk.specs.Desk.{ReadsOnly, Rose};
+ghost use Rattle.sbpl_headline.specs.Headline.{IsHeadline};
 ghost use Rattle.sbpl_promises.specs.Run.{IsOrUnwritten, IsStatus, MayBeWritten, job_named};
 ghost use Rattle.sbpl_promises.specs.RunPromises.{RunPromises};
 ghost use Rattle.sbpl_promises.specs.Writing.{IsOutput, WritesOnly, output};
@@ -82,6 +83,8 @@ pub fn answer<R: Threads + Wait + Sync, D: Desk, T: Gate + Sync, E: io::Write>(
     ensures unwritten { IsSome (asked_for (map string_bytes words.now)) → result ≡ 7 → Rose ((D.state desk.old).write_faults output) ((D.state desk.new).write_faults output) }
     // All other words get what `run_with` promises, of this status.
     ensures run { asked_for (map string_bytes words.now) ≡ None → RunPromises (job_named words.now) (D.state desk.old) (D.state desk.new) publisher.old.published publisher.new.published result }
+    // And the headline, of `plan` and `nav`, in definitions of its own.
+    ensures headline { asked_for (map string_bytes words.now) ≡ None → IsHeadline (map string_bytes words.now) (D.state desk.old) (D.state desk.new) result }
     ensures statuses { IsStatus result }
     // The publisher stays the board's, and where help or the version is told nothing is published.
     ensures board { publisher.new.board ≡ publisher.old.board }

@@ -27,6 +27,10 @@ returns-in-Some-clause-unwritten g c = λ _. c.tell.ensures.write
 pub returns-in-Some-clause-run : goal.returns-in-Some-clause-run
 returns-in-Some-clause-run g c = λ none. absurd (not_asked _ _ c.in-Some.is (c.read_asked.ensures.asked ∙ none))
 
+pub returns-in-Some-clause-headline : goal.returns-in-Some-clause-headline
+returns-in-Some-clause-headline g c =
+    λ none. absurd (not_asked _ _ c.in-Some.is (c.read_asked.ensures.asked ∙ none))
+
 pub returns-in-Some-clause-statuses : goal.returns-in-Some-clause-statuses
 returns-in-Some-clause-statuses g c = told_status c.tell.result c.tell.ensures.told
 
@@ -59,6 +63,9 @@ returns-in-None-clause-unwritten g c =
 
 pub returns-in-None-clause-run : goal.returns-in-None-clause-run
 returns-in-None-clause-run g c = λ _. c.run_with-status.ensures.promises
+
+pub returns-in-None-clause-headline : goal.returns-in-None-clause-headline
+returns-in-None-clause-headline g c = λ _. c.run_with-status.ensures.headline
 
 pub returns-in-None-clause-statuses : goal.returns-in-None-clause-statuses
 returns-in-None-clause-statuses g c = c.run_with-status.ensures.promises.statuses

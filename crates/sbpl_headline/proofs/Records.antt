@@ -1,0 +1,140 @@
+-- The records of plans at a site are told: each has its number, and the spots of its path are those of states.
+use Rattle.std.proofs.Common.{◌≡◌, ℕ, zero, suc, ◌+◌, List, [], ◌∷◌, Option, Some, None, slice_get}
+use Rattle.std.proofs.Common.{refl, sym, ap, subst, ◌∙◌, add-one, add-zero, zero-add, arith}
+use Rattle.std.proofs.lemmas.Option.{same_Some}
+use Rattle.sbpl_cfg.specs.declared.pose.Place.{Place}
+use Rattle.sbpl_cost.specs.States.{place_of}
+use Rattle.sbpl_cost.specs.World.{World}
+use Rattle.sbpl_map.specs.CellMap.{CellMap}
+use Rattle.sbpl_map.specs.MapAfter.{IsMapAfter}
+use Rattle.sbpl_map.specs.declared.write.Write.{Write}
+use Rattle.sbpl_nav2d.specs.World.{GridWorld}
+use Rattle.sbpl_job.specs.declared.job.Outputs.{Outputs}
+use Rattle.sbpl_job.specs.declared.job.Planner.{Planner}
+use Rattle.sbpl_job.specs.declared.job.SearchJob.{SearchJob}
+use Rattle.sbpl_plan.specs.declared.result.Outcome.{Outcome}
+use Rattle.sbpl_plan.specs.declared.result.Outcome.TheVariants as outcome
+use Rattle.sbpl_report.specs.declared.record.PathRecord.{PathRecord}
+use Rattle.sbpl_report.specs.declared.record.PathStep.{PathStep}
+use Rattle.sbpl_report.specs.declared.record.PlanRecord.{PlanRecord}
+use Rattle.sbpl_report.specs.declared.record.Spot.{Spot}
+use Rattle.sbpl_report.specs.declared.record.Spot.TheVariants as spot
+use Rattle.sbpl_promises.specs.Asked.{Known, known}
+use Rattle.sbpl_promises.specs.GridSite.{grid_site}
+use Rattle.sbpl_promises.specs.Headline.{AreRecords, AreSteps, Carried, IsPlanOf, Joins}
+use Rattle.sbpl_promises.specs.LatticeSite.{lattice_site}
+use Rattle.sbpl_promises.specs.Published.{Entry, with_plan}
+use Rattle.sbpl_headline.specs.Path.{Plan}
+use Rattle.sbpl_headline.specs.Report.{pose_words, square_words}
+use Rattle.sbpl_headline.proofs.Plans.{square_at, told_plan, told_plans}
+use Rattle.sbpl_headline.proofs.Printing.{AreRecordsTold, AreSpotsTold, IsResultTold, IsSpotTold}
+use Rattle.sbpl_headline.proofs.Printing.{pose_line, square_line}
+use Rattle.sbpl_headline.proofs.Told.{square_of}
+
+module _ {P W : Type 0} (at : Spot → P) (places : ℕ → P) (by : Known W) (w : W) (batches : List (List Write))
+    (how : SearchJob) (outputs : Outputs) (starts : ℕ → ℕ) (goal : ℕ) where
+  -- a plan at a site, told: of this record, made on the map after k batches, as plan k
+  pub record IsToldPlan (k : ℕ) (p : Plan P) : Type 0 where
+    pub made : PlanRecord
+    pub log : List Entry
+    pub before : Option Carried
+    pub carried : Carried
+    pub map_is : IsMapAfter (by.on.cells.map w) batches k carried.map
+    pub plan : IsPlanOf by (by.on.cells.over w carried.map) how outputs (starts k) goal k log before carried made
+    pub told : told_plan at (places k) made ≡ p
+
+  -- the plan at a place of the told ones, of plans from plan k on
+  plan_from : (records : List PlanRecord) (k : ℕ) (log : List Entry) (before : Option Carried)
+      → AreRecords by w batches how outputs starts goal k log before records
+      → (j : ℕ) (p : Plan P) → slice_get (told_plans at places k records) j ≡ Some p
+      → IsToldPlan (k + j) p
+  plan_from [] k log before each j p here = absurd cc
+  plan_from (r ∷ rs) k log before (carried, map_is, plan, each) zero p here =
+      subst (λ (i : ℕ). IsToldPlan i p) (sym (add-zero k)) (record {
+        made = r;
+        log = log;
+        before = before;
+        carried = carried;
+        map_is = map_is;
+        plan = plan;
+        told = same_Some _ p here;
+      })
+  plan_from (r ∷ rs) k log before (carried, map_is, plan, each) (suc j) p here =
+      let next =
+      subst (λ (i : ℕ). AreRecords by w batches how outputs starts goal i (with_plan log r) (Some carried) rs)
+      (add-one k) each in
+      let number : suc k + j ≡ k + suc j = omega arith in
+      subst (λ (i : ℕ). IsToldPlan i p) number
+      (plan_from rs (suc k) (with_plan log r) (Some carried) next j p here)
+
+  -- the plan at a place of the told ones, of all plans
+  pub plan_at : (records : List PlanRecord) (log : List Entry)
+      → AreRecords by w batches how outputs starts goal 0 log None records
+      → (k : ℕ) (p : Plan P) → slice_get (told_plans at places 0 records) k ≡ Some p
+      → IsToldPlan k p
+  plan_at records log each k p here =
+      subst (λ (i : ℕ). IsToldPlan i p) (zero-add k)
+      (plan_from records 0 log None each k p here)
+
+module _ {P W : Type 0} (at : Spot → P) (words : P → List (List ℕ)) (by : Known W) (w : W)
+    (same : (m : CellMap) (s : ℕ) → by.on.wording.spot (by.on.cells.over w m) s ≡ by.on.wording.spot w s)
+    (spot_told : (v : W) (s : ℕ) → IsSpotTold at words (by.on.wording.spot v s))
+    (step_told : (v : W) (s k t : ℕ) (step : PathStep) → by.on.wording.step v s k t step
+    → IsSpotTold at words step.spot) where
+  -- the spots of steps
+  spots_told : (v : W) (s : ℕ) (arcs : List ℕ) (steps : List PathStep) → AreSteps by.on v s arcs steps
+      → AreSpotsTold at words steps
+  spots_told v s [] [] are = tt
+  spots_told v s [] (x ∷ xs) are = absurd are
+  spots_told v s (k ∷ ks) [] are = absurd are
+  spots_told v s (k ∷ ks) (x ∷ xs) (t, head, step, steps) = (step_told v s k t x step, spots_told v t ks xs steps)
+
+  -- the spots of a result
+  result_told : (v : W) (start goal : ℕ) (place : P) (o : Outcome PathRecord) → at (by.on.wording.spot v start) ≡ place
+      → Joins by.on v start goal o → IsResultTold at words place o
+  result_told v start goal place (outcome.Path path) is joins = (
+    ap at joins.from ∙ is,
+    subst (IsSpotTold at words) (sym joins.from) (spot_told v start),
+    spots_told v start path.arcs path.steps joins.steps,
+  )
+  result_told v start goal place outcome.NoPath is joins = tt
+  result_told v start goal place outcome.Unknown is joins = tt
+
+  -- the records of plans
+  pub records_told : (batches : List (List Write)) (how : SearchJob) (outputs : Outputs) (starts : ℕ → ℕ) (goal : ℕ)
+      (records : List PlanRecord) (k : ℕ) (log : List Entry) (before : Option Carried)
+      → AreRecords by w batches how outputs starts goal k log before records
+      → AreRecordsTold at words (λ j. at (by.on.wording.spot w (starts j))) k records
+  records_told batches how outputs starts goal [] k log before each = tt
+  records_told batches how outputs starts goal (r ∷ rs) k log before (carried, map_is, plan, each) =
+      let v : W = by.on.cells.over w carried.map in
+      let next =
+      subst (λ (i : ℕ). AreRecords by w batches how outputs starts goal i (with_plan log r) (Some carried) rs)
+      (add-one k) each in (
+        plan.number,
+        result_told v (starts k) goal _ r.outcome (ap at (same carried.map (starts k))) plan.promises.joins,
+        records_told batches how outputs starts goal rs (suc k) (with_plan log r) (Some carried) next,
+      )
+
+-- ---- a grid, and a lattice
+
+-- the records of plans on a grid are told by their squares
+pub records_on_grid : (p : Planner) (w : GridWorld) (batches : List (List Write)) (how : SearchJob) (outputs : Outputs)
+    (starts : ℕ → ℕ) (goal : ℕ) (records : List PlanRecord) (log : List Entry)
+    → AreRecords (known grid_site p) w batches how outputs starts goal 0 log None records
+    → AreRecordsTold square_at square_words (λ j. square_of w.env.width (starts j)) 0 records
+records_on_grid p w batches how outputs starts goal records log each =
+    records_told square_at square_words (known grid_site p) w (λ m s. refl) (λ v s. square_line _ _)
+    (λ v s k t step is. subst (IsSpotTold square_at square_words) (sym is.spot) (square_line _ _))
+    batches how outputs starts goal records 0 log None each
+
+-- and those of plans on a lattice by their places, where a pose stands for its own
+pub records_on_lattice : (at : Spot → Place) → ((q : Place) → at (spot.Pose q) ≡ q)
+    → (p : Planner) (w : World) (batches : List (List Write)) (how : SearchJob) (outputs : Outputs)
+    (starts : ℕ → ℕ) (goal : ℕ) (records : List PlanRecord) (log : List Entry)
+    → AreRecords (known lattice_site p) w batches how outputs starts goal 0 log None records
+    → AreRecordsTold at pose_words (λ j. at (spot.Pose (place_of w.env (starts j)))) 0 records
+records_on_lattice at poses p w batches how outputs starts goal records log each =
+    records_told at pose_words (known lattice_site p) w (λ m s. refl) (λ v s. pose_line at poses (place_of v.env s))
+    (λ v s k t step is. subst (IsSpotTold at pose_words) (sym is.spot) (pose_line at poses (place_of v.env t)))
+    batches how outputs starts goal records 0 log None each

@@ -1,0 +1,11 @@
+pub mod Numbers
+pub mod Files
+pub mod Words
+pub mod Map
+pub mod Cost
+pub mod Motion
+pub mod Grid
+pub mod Path
+pub mod Report
+pub mod Headline
+pub mod Law

@@ -1,0 +1,7 @@
+//! The headline of `plan` and `nav` in definitions of its own, which stand on little else, and the law that what a run promises shows
+//! it.
+#![tactic(auto)]
+
+mod law;
+
+pub use law::promises_show_the_headline;
