@@ -1,6 +1,16 @@
-//! Which field of a file stands at a place.
+//! Which field of a file stands at a place, and what must stand there.
 
 use sbpl_fixed::next_token;
+
+/// What must stand after a word of a file.
+pub(crate) struct Row {
+    /// The word.
+    pub(crate) word: &'static str,
+    /// What must stand right after it, one token later, and so on.
+    pub(crate) values: &'static [&'static str],
+    /// What must stand further on.
+    pub(crate) next: &'static str,
+}
 
 /// Whether a token is a word of a file: it ends with a colon.
 fn is_word(token: &[u8]) -> bool {
@@ -34,4 +44,19 @@ pub(crate) fn word_before(text: &[u8], place: usize) -> (&[u8], usize) {
         at = token.to;
     }
     (word, after)
+}
+
+/// What must stand this many tokens after a word of a file with these rows. Where none of its words stands before, its start is wanted.
+pub(crate) fn wanted_after(
+    rows: &[Row],
+    start: &'static str,
+    word: &[u8],
+    after: usize,
+) -> &'static str {
+    for row in rows {
+        if is_named(word, row.word) {
+            return row.values.get(after).unwrap_or(&row.next);
+        }
+    }
+    start
 }

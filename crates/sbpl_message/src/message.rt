@@ -1,12 +1,12 @@
 //! The text of a message.
 
 ghost use Rattle.std.specs.Prelude.{◌≡◌, ◌++◌, IfOk, OnOk, decimal, map, take};
-ghost use Rattle.sbpl_message.specs.Lines.{column_of, filled_at, line_of};
+ghost use Rattle.sbpl_lines.specs.Lines.{column_of, filled_at, line_of};
 ghost use Rattle.sbpl_message.specs.Messages.{dots, found_text, message_text, plain_text, quoted_text, shown, shown_byte, spot_text};
 
-use crate::lines::{filled_at, line_and_column};
 use itoa::Buffer;
 use sbpl_fixed::NoMemory;
+use sbpl_lines::{filled_at, line_and_column};
 use std::alloc::{AllocError, Global};
 
 /// How many bytes of what stands in a file a message shows.

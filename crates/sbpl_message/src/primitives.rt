@@ -4,95 +4,84 @@ ghost use Rattle.std.specs.Prelude.{IfOk};
 ghost use Rattle.sbpl_mprim.specs.Faults.{place_of};
 ghost use Rattle.sbpl_message.specs.Messages.{IsMessageAt};
 
-use crate::field::{is_named, word_before};
+use crate::field::{Row, is_named, wanted_after, word_before};
 use crate::message::message_at;
 use sbpl_fixed::NoMemory;
 use sbpl_mprim::PrimFault;
 use std::alloc::Global;
 
-/// What must stand after the words at the head of the file, this many tokens after the word.
-fn wanted_of_head(word: &[u8], after: usize) -> Option<&'static str> {
-    if is_named(word, "resolution_m:") {
-        return Some(match after {
-            0 => "resolution_m must be a decimal from 0.000000001 to 1000",
-            _ => "numberofangles: must stand here",
-        });
-    }
-    if is_named(word, "numberofangles:") {
-        return Some(match after {
-            0 => "numberofangles must be a whole number from 1 to 64",
-            _ => "totalnumberofprimitives: must stand here",
-        });
-    }
-    if is_named(word, "totalnumberofprimitives:") {
-        return Some(match after {
-            0 => "totalnumberofprimitives must be a whole number from 0 to 4096",
-            _ => "primID: must stand here",
-        });
-    }
-    None
-}
+/// What must stand where no word stands before.
+const START: &str = "resolution_m: must stand here";
 
-/// What must stand after the words of a primitive up to its end.
-fn wanted_of_ends(word: &[u8], after: usize) -> Option<&'static str> {
-    if is_named(word, "primID:") {
-        return Some(match after {
-            0 => "primID must be a whole number from 0 to 65535",
-            _ => "startangle_c: must stand here",
-        });
-    }
-    if is_named(word, "startangle_c:") {
-        return Some(match after {
-            0 => "startangle_c must be a whole number from 0 to 15, one less than numberofangles",
-            _ => "endpose_c: must stand here",
-        });
-    }
-    if is_named(word, "endpose_c:") {
-        return Some(match after {
-            0 => "dx of endpose_c must be a whole number from -32767 to 32767",
-            1 => "dy of endpose_c must be a whole number from -32767 to 32767",
-            2 => "the heading of endpose_c must be a whole number from -32767 to 32767",
-            _ => "additionalactioncostmult: must stand here",
-        });
-    }
-    None
-}
+/// The word whose values are a number of poses and then the poses.
+const POSES_WORD: &str = "intermediateposes:";
 
-/// What must stand after the words of a primitive's multiplier and poses.
-fn wanted_of_poses(word: &[u8], after: usize) -> Option<&'static str> {
-    if is_named(word, "additionalactioncostmult:") {
-        return Some(match after {
-            0 => "additionalactioncostmult must be a whole number from 0 to 16777215",
-            _ => "intermediateposes: must stand here",
-        });
-    }
-    if is_named(word, "intermediateposes:") {
-        if after == 0 {
-            return Some("intermediateposes must be a whole number from 0 to 200000");
-        }
-        return Some(match after % 3 {
-            1 => "x of a pose must be a decimal from -1000 to 1000",
-            2 => "y of a pose must be a decimal from -1000 to 1000",
-            _ => "theta of a pose must be a decimal from -1000000000 to 1000000000",
-        });
-    }
-    None
-}
+/// What must stand after each word of a primitive file. After the poses of a primitive the next one begins.
+const ROWS: [Row; 8] = [
+    Row {
+        word: "resolution_m:",
+        values: &["resolution_m must be a decimal from 0.000000001 to 1000"],
+        next: "numberofangles: must stand here",
+    },
+    Row {
+        word: "numberofangles:",
+        values: &["numberofangles must be a whole number from 1 to 64"],
+        next: "totalnumberofprimitives: must stand here",
+    },
+    Row {
+        word: "totalnumberofprimitives:",
+        values: &["totalnumberofprimitives must be a whole number from 0 to 4096"],
+        next: "primID: must stand here",
+    },
+    Row {
+        word: "primID:",
+        values: &["primID must be a whole number from 0 to 65535"],
+        next: "startangle_c: must stand here",
+    },
+    Row {
+        word: "startangle_c:",
+        values: &["startangle_c must be a whole number from 0 to 15, one less than numberofangles"],
+        next: "endpose_c: must stand here",
+    },
+    Row {
+        word: "endpose_c:",
+        values: &[
+            "dx of endpose_c must be a whole number from -32767 to 32767",
+            "dy of endpose_c must be a whole number from -32767 to 32767",
+            "the heading of endpose_c must be a whole number from -32767 to 32767",
+        ],
+        next: "additionalactioncostmult: must stand here",
+    },
+    Row {
+        word: "additionalactioncostmult:",
+        values: &["additionalactioncostmult must be a whole number from 0 to 16777215"],
+        next: "intermediateposes: must stand here",
+    },
+    Row {
+        word: POSES_WORD,
+        values: &["intermediateposes must be a whole number from 0 to 200000"],
+        next: "primID: must stand here",
+    },
+];
 
-/// What must stand this many tokens after a word of the file, or at its start where no word stands before.
-fn wanted_after(word: &[u8], after: usize) -> &'static str {
-    wanted_of_head(word, after)
-        .or(wanted_of_ends(word, after))
-        .or(wanted_of_poses(word, after))
-        .unwrap_or("resolution_m: must stand here")
-}
+/// What each number of a pose must be.
+const POSE: [&str; 3] = [
+    "x of a pose must be a decimal from -1000 to 1000",
+    "y of a pose must be a decimal from -1000 to 1000",
+    "theta of a pose must be a decimal from -1000000000 to 1000000000",
+];
 
-/// The word that must stand this many tokens after a word of the file. After the poses of a primitive it is that of the next one.
+/// The word or the number that must stand this many tokens after a word of the file.
 fn wanted_word(word: &[u8], after: usize) -> &'static str {
-    if is_named(word, "intermediateposes:") && after > 0 {
-        "primID: must stand here"
+    wanted_after(&ROWS, START, word, after)
+}
+
+/// The number that must stand this many tokens after a word of the file.
+fn wanted_number(word: &[u8], after: usize) -> &'static str {
+    if after > 0 && is_named(word, POSES_WORD) {
+        POSE[(after - 1) % 3]
     } else {
-        wanted_after(word, after)
+        wanted_word(word, after)
     }
 }
 
@@ -125,7 +114,7 @@ fn wanted(text: &[u8], fault: &PrimFault) -> &'static str {
         }
         PrimFault::Number(place) | PrimFault::Range(place) => {
             let (word, after) = word_before(text, *place);
-            wanted_after(word, after)
+            wanted_number(word, after)
         }
         _ => wanted_of_primitive(fault),
     }

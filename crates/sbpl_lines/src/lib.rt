@@ -1,9 +1,10 @@
-//! Lines and columns of a text.
+//! Lines and columns of a text, and the token that stands at a place.
+#![tactic(auto)]
 
 ghost use Rattle.std.specs.Prelude.{◌≡◌, ◌≤◌, drop, length, reverse, take};
 ghost use Rattle.std.specs.List.{count_by, prefix_len};
 ghost use Rattle.sbpl_fixed.specs.Tokens.{is_blank, is_filled};
-ghost use Rattle.sbpl_message.specs.Lines.{column_of, filled_at, is_in_line, is_line_feed, line_of};
+ghost use Rattle.sbpl_lines.specs.Lines.{column_of, filled_at, is_in_line, is_line_feed, line_of};
 
 /// How many line feeds a text has.
 fn line_feeds(text: &[u8]) -> usize
@@ -61,7 +62,7 @@ fn from_place(text: &[u8], place: usize) -> &[u8]
 }
 
 /// The bytes from a place to the next blank: the token that begins there, and none at the end of the text.
-pub(crate) fn filled_at(text: &[u8], place: usize) -> &[u8]
+pub fn filled_at(text: &[u8], place: usize) -> &[u8]
     ensures filled { result.now ≡ filled_at text.now place }
 {
     let rest = from_place(text, place);
