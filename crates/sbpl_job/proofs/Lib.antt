@@ -5,3 +5,4 @@ pub mod Reading
 pub mod Naming
 pub mod PartedForms
 pub mod Asking
+mod Lining

@@ -1,8 +1,10 @@
 -- The command line of each command, as it is given to clap.
 use Rattle.std.specs.Prelude.{◌≡◌, ℕ, zero, suc, true, List, [], ◌∷◌, Option, Some, None, Result, IfOk, codes}
+use Rattle.std.specs.Option.{option_map_or}
 use Rattle.clap.specs.Walk.{Rule, Text}
 use Rattle.clap.specs.Simple.{App, Shape, app_of, filled_from, new_rule, new_shape}
 use Rattle.clap.specs.declared.builder.command.Command.{Command as Built}
+use Rattle.sbpl_job.specs.declared.arguments.Argument.{Argument}
 use Rattle.sbpl_job.specs.declared.words.Command.{Command}
 use Rattle.sbpl_job.specs.declared.words.Command.TheVariants as command
 
@@ -34,6 +36,10 @@ plain_rule id = record (new_rule id) { required = true }
 
 abbrev pub option_rule : Text → Rule
 option_rule id = record (new_rule id) { long = Some id; value_names = 1 }
+
+-- what clap is told of an argument: it is an option where its value has a name
+abbrev pub rule_for : Argument → Rule
+rule_for a = option_map_or (λ _. option_rule a.id.now) a.value (plain_rule a.id.now)
 
 -- the options of a plan on any graph: how to search, when to end, and what to write
 abbrev pub plan_options : List Rule

@@ -22,7 +22,7 @@ fn has_plus(text: &str) -> bool
 }
 
 /// A seed: one to twenty digits, below 2^64.
-pub(crate) fn read_seed(text: &str) -> Result<u64, JobFault>
+pub fn read_seed(text: &str) -> Result<u64, JobFault>
     ensures seed { Names (seed_in text.now) result }
     ensures range { IfOk result (λ s. s < 2 ^ 64) }
 {
@@ -37,7 +37,7 @@ pub(crate) fn read_seed(text: &str) -> Result<u64, JobFault>
 }
 
 /// A width or a height, 8 to 512 cells.
-pub(crate) fn read_extent(text: &str) -> Result<u32, JobFault>
+pub fn read_extent(text: &str) -> Result<u32, JobFault>
     ensures extent { Names (extent_in (whole_of text.now)) result }
     ensures range { IfOk result (λ n. (8 ≤ n) × (n ≤ 512)) }
 {

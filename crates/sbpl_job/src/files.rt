@@ -102,7 +102,7 @@ fn output_of(
 }
 
 /// The form of labels of this version.
-pub(crate) fn form_named(version: &str) -> Result<LabelForm, JobFault>
+pub fn form_named(version: &str) -> Result<LabelForm, JobFault>
     ensures form { Names (form_named version.now) result }
 {
     match version {

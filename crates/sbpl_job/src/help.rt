@@ -1,13 +1,11 @@
-//! Texts for people: help and the version.
+//! Words that ask for help or for the version.
 
 ghost use Rattle.std.specs.Prelude.{◌≡◌, IsSome, None, map, string_bytes};
 ghost use Rattle.sbpl_job.specs.Asked.{asked_for, asked_of};
 ghost use Rattle.sbpl_job.specs.Jobs.{job_named};
 
-use crate::line::line_of;
 use crate::read::command_named;
 use crate::words::Command;
-use std::alloc::{AllocError, Global};
 
 /// What words ask to be told instead of a job.
 #[derive(Clone, Copy, Debug, PartialEq, Eq)]
@@ -18,69 +16,6 @@ pub enum Asked {
     HelpOf(Command),
     /// `--version` or `-V`: which version the program is.
     Version,
-}
-
-/// The program and its version.
-const VERSION: &str = "temjoask 0.1.0\n";
-
-/// How the program is called.
-const USAGE: &str = "\
-usage: temjoask plan ENV MPRIM [--changes F] [--radius M] [--planner P] [--workers N] [--first E] [--step E] [--bound B] [--budget N] [--labels F [--labels-as V]] [--trace F] [--incumbent F]
-       temjoask check ENV MPRIM LABELS [--changes F] [--radius M] [--planner back]
-       temjoask sweep ENV MPRIM [--radius M]
-       temjoask demo SEED W H
-       temjoask nav ENV [--changes F] [--planner P] [--workers N] [--first E] [--step E] [--bound B] [--budget N] [--labels F [--labels-as V]] [--trace F] [--incumbent F]
-       temjoask navcheck ENV LABELS [--changes F]
-       temjoask [COMMAND] --help
-       temjoask --version
-";
-
-/// What the program does.
-const ABOUT: &str = "\
-Temjoask plans on SBPL's state lattice, and on grids with eight neighbours, with a proved bound on the cost of each path.
-
-";
-
-/// What the exit statuses say.
-const STATUSES: &str = "
-Statuses:
-  0   done
-  1   a section of labels has a flaw
-  2   the words name no job
-  3   the environment has a fault
-  4   the primitives have a fault
-  5   the changes have a fault
-  6   a file could not be read
-  7   an output could not be written
-  8   a file is longer than 2^30 bytes
-  9   out of memory
-  10  the text of labels has a fault
-";
-
-/// How a command is called, without its words.
-fn call_of(command: Command) -> &'static str {
-    match command {
-        Command::Plan => "temjoask plan",
-        Command::Check => "temjoask check",
-        Command::Sweep => "temjoask sweep",
-        Command::Demo => "temjoask demo",
-        Command::Nav => "temjoask nav",
-        Command::NavCheck => "temjoask navcheck",
-    }
-}
-
-/// An example of a command.
-fn example_of(command: Command) -> &'static str {
-    match command {
-        Command::Plan =>
-            "\nExample: temjoask plan hall.cfg robot.mprim --radius 0.2 --first 3 --labels hall.labels\n",
-        Command::Check =>
-            "\nExample: temjoask check hall.cfg robot.mprim hall.labels --radius 0.2\n",
-        Command::Sweep => "\nExample: temjoask sweep hall.cfg robot.mprim --radius 0.2\n",
-        Command::Demo => "\nExample: temjoask demo 7 32 32\n",
-        Command::Nav => "\nExample: temjoask nav yard.cfg --first 3 --labels yard.labels\n",
-        Command::NavCheck => "\nExample: temjoask navcheck yard.cfg yard.labels\n",
-    }
 }
 
 /// What one word asks for, where it stands alone.
@@ -112,36 +47,5 @@ pub fn read_asked(words: &[String]) -> Option<Asked>
             }
         }
         _ => None,
-    }
-}
-
-/// The words and the settings of a command.
-fn words_of(alloc: Global, command: Command) -> Result<String, AllocError> {
-    let mut line = line_of(alloc, command)?.bin_name(call_of(command))?;
-    line.render_help()
-}
-
-/// The help of a command: its words and settings, the statuses, and an example.
-fn help_of(alloc: Global, command: Command) -> Result<String, AllocError> {
-    let mut text = words_of(alloc, command)?;
-    text.push_str(STATUSES)?;
-    text.push_str(example_of(command))?;
-    Ok(text)
-}
-
-/// The help of the program.
-fn whole_help(alloc: Global) -> Result<String, AllocError> {
-    let mut text = String::from_str(alloc, ABOUT)?;
-    text.push_str(USAGE)?;
-    text.push_str(STATUSES)?;
-    Ok(text)
-}
-
-/// The text that is asked for.
-pub fn told(alloc: Global, asked: Asked) -> Result<String, AllocError> {
-    match asked {
-        Asked::Help => whole_help(alloc),
-        Asked::HelpOf(command) => help_of(alloc, command),
-        Asked::Version => String::from_str(alloc, VERSION),
     }
 }

@@ -1,6 +1,7 @@
 //! The job that the program's words name.
 #![tactic(auto)]
 
+mod arguments;
 mod demo;
 mod files;
 mod help;
@@ -10,14 +11,16 @@ mod name;
 mod read;
 mod values;
 mod words;
-mod wrong;
 
-pub use help::{Asked, read_asked, told};
+pub use demo::{read_extent, read_seed};
+pub use files::form_named;
+pub use help::{Asked, read_asked};
 pub use job::{
     CheckJob, DemoJob, Job, JobFault, LabelForm, NavCheckJob, NavJob, Outputs, PlanJob, Planner,
     SearchJob, Sources,
 };
+pub use line::line_of;
 pub use name::Name;
-pub use read::read_job;
-pub use words::{Command, Setting, words_part_into_forms};
-pub use wrong::wrong_words;
+pub use read::{command_named, read_job};
+pub use values::{back_of, budget_of, milli_by, planner_of, radius_of, workers_of};
+pub use words::{Command, Setting, spaced_words, words_part_into_forms};

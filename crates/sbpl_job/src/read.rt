@@ -18,7 +18,7 @@ use clap::ArgMatches;
 use std::alloc::Global;
 
 /// The command of this name.
-pub(crate) fn command_named(word: &str) -> Option<Command>
+pub fn command_named(word: &str) -> Option<Command>
     ensures command { result ≡ command_named word.now }
 {
     match word {

@@ -33,7 +33,7 @@ fn read_radius(metres: &str) -> Result<u64, JobFault>
 }
 
 /// The radius of the robot in nanometres; 0 where it is not given.
-pub(crate) fn radius_of(matches: &ArgMatches) -> Result<u64, JobFault>
+pub fn radius_of(matches: &ArgMatches) -> Result<u64, JobFault>
     ensures radius { Names (radius_by (set_in matches.now Settings.Radius)) result }
     ensures range { IfOk result (λ r. r ≤ 10 ^ 12) }
 {
@@ -68,7 +68,7 @@ fn milli_of(nano: u64, low: u32, high: u32) -> Result<u32, JobFault>
 }
 
 /// The thousandths that a text gives, in their range, or a default where there is none.
-fn milli_by(text: Option<&str>, default: u32, low: u32, high: u32) -> Result<u32, JobFault>
+pub fn milli_by(text: Option<&str>, default: u32, low: u32, high: u32) -> Result<u32, JobFault>
     requires low { low ≤ default }
     requires high { default ≤ high }
     ensures milli { Names (milli_by default low high (option_map text_of text.entry)) result }
@@ -92,7 +92,7 @@ fn read_budget(text: &str) -> Result<u64, JobFault>
 }
 
 /// How many states a plan may expand; 2^30 where it is not given.
-fn budget_of(matches: &ArgMatches) -> Result<u64, JobFault>
+pub fn budget_of(matches: &ArgMatches) -> Result<u64, JobFault>
     ensures budget { Names (budget_by (set_in matches.now Settings.Budget)) result }
     ensures range { IfOk result (λ b. (1 ≤ b) × (b ≤ 2 ^ 30)) }
 {
@@ -103,7 +103,7 @@ fn budget_of(matches: &ArgMatches) -> Result<u64, JobFault>
 }
 
 /// How to search; by Anytime D* where it is not given.
-fn planner_of(matches: &ArgMatches) -> Result<Planner, JobFault>
+pub fn planner_of(matches: &ArgMatches) -> Result<Planner, JobFault>
     ensures planner { Names (planner_by (set_in matches.now Settings.Planner)) result }
 {
     match matches.get_str("planner") {
@@ -160,7 +160,7 @@ fn workers_given(planner: Planner, text: &str) -> Result<u32, JobFault>
 }
 
 /// How many workers evaluate the edges of a planner; 1 where it is not given.
-fn workers_of(planner: Planner, matches: &ArgMatches) -> Result<u32, JobFault>
+pub fn workers_of(planner: Planner, matches: &ArgMatches) -> Result<u32, JobFault>
     ensures workers { Names (workers_by planner (set_in matches.now Settings.Workers)) result }
     ensures range { IfOk result (λ w. (1 ≤ w) × (w ≤ most_workers)) }
     ensures none { IfOk result (λ w. has_workers planner ≡ false → w ≡ 1) }
@@ -172,7 +172,7 @@ fn workers_of(planner: Planner, matches: &ArgMatches) -> Result<u32, JobFault>
 }
 
 /// Whether the labels of `check` are those of the planner `back`, the only one that can be set there.
-pub(crate) fn back_of(matches: &ArgMatches) -> Result<bool, JobFault>
+pub fn back_of(matches: &ArgMatches) -> Result<bool, JobFault>
     ensures back { Names (back_by (set_in matches.now Settings.Planner)) result }
 {
     match matches.get_str("planner") {
@@ -214,63 +214,4 @@ pub(crate) fn grid_search_of(matches: &ArgMatches) -> Result<SearchJob, JobFault
         return Err(JobFault::Words);
     }
     Ok(search)
-}
-
-/// The setting of the planner, its workers or its budget whose value is wrong, and what the value must be.
-fn wrong_planner(matches: &ArgMatches) -> Option<(&'static str, &'static str)> {
-    let Ok(planner) = planner_of(matches) else {
-        return Some(("planner", "--planner must be ad, ara, back or epase"));
-    };
-    if workers_of(planner, matches).is_err() {
-        return Some((
-            "workers",
-            "--workers must be a whole number from 1 to 64, and goes with --planner epase",
-        ));
-    }
-    if budget_of(matches).is_err() {
-        return Some((
-            "budget",
-            "--budget must be a whole number from 1 to 1073741824",
-        ));
-    }
-    None
-}
-
-/// The planner of `check`, where it is wrong, and what it must be.
-pub(crate) fn wrong_back(matches: &ArgMatches) -> Option<(&'static str, &'static str)> {
-    if back_of(matches).is_err() {
-        return Some(("planner", "--planner must be back"));
-    }
-    None
-}
-
-/// The setting of `plan` whose value is wrong, and what the value must be.
-pub(crate) fn wrong_search(matches: &ArgMatches) -> Option<(&'static str, &'static str)> {
-    if milli_by(matches.get_str("first"), 1000, 1000, 100_000).is_err() {
-        return Some((
-            "first",
-            "--first must be a decimal from 1 to 100, in whole thousandths",
-        ));
-    }
-    if milli_by(matches.get_str("step"), 500, 1, 99_000).is_err() {
-        return Some((
-            "step",
-            "--step must be a decimal from 0.001 to 99, in whole thousandths",
-        ));
-    }
-    if milli_by(matches.get_str("bound"), 1000, 1000, 100_000).is_err() {
-        return Some((
-            "bound",
-            "--bound must be a decimal from 1 to 100, in whole thousandths",
-        ));
-    }
-    wrong_planner(matches)
-}
-
-/// The setting of `nav` whose value is wrong, and what the value must be.
-pub(crate) fn wrong_grid_search(matches: &ArgMatches) -> Option<(&'static str, &'static str)> {
-    match planner_of(matches) {
-        Ok(planner) if !planner.may_move() => wrong_search(matches),
-        _ => Some(("planner", "--planner must be ad, ara or epase")),
-    }
 }

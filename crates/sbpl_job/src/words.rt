@@ -127,7 +127,7 @@ fn joined_parts(command: Command, word: &str) -> Option<(&str, &str)>
 }
 
 /// The words in the spaced form.
-pub(crate) fn spaced_words(
+pub fn spaced_words(
     alloc: Global,
     command: Command,
     words: &[String],

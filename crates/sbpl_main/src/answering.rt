@@ -12,8 +12,9 @@ ghost use Rattle.sbpl_message.specs.Reasons.{has_message};
 
 use sbpl_cli::{Gate, run_with};
 use sbpl_desk::{Desk, WriteStop};
+use sbpl_help::told;
 use sbpl_incumbent::{Board, Publisher};
-use sbpl_job::{Asked, read_asked, told};
+use sbpl_job::{Asked, read_asked};
 use sbpl_message::message_for;
 use std::alloc::Global;
 use std::io;

@@ -1,6 +1,7 @@
 //! Lists of words, and the jobs that they name.
 
-use sbpl_job::{Job, JobFault, Name, read_asked, read_job, told};
+use sbpl_help::told;
+use sbpl_job::{Job, JobFault, Name, read_asked, read_job};
 use std::alloc::Global;
 
 /// Words that name a job, and after the arrow that job as a line: of `plan` its environment, primitives and changes, the radius, the

@@ -1,12 +1,8 @@
 //! What is wrong with words that name no job, told in one line.
 
-use crate::demo::{read_extent, read_seed};
-use crate::files::form_named;
-use crate::line::line_of;
-use crate::read::command_named;
-use crate::values::{radius_of, wrong_back, wrong_grid_search, wrong_search};
-use crate::words::{Command, spaced_words};
+use crate::value::{id_of, wanted, wrong_value};
 use clap::ArgMatches;
+use sbpl_job::{Command, command_named, line_of, spaced_words};
 use std::alloc::{AllocError, Global};
 
 /// What `clap` says of words, without its usage, in one line.
@@ -32,61 +28,17 @@ fn one_line(alloc: Global, text: &str) -> Result<String, AllocError> {
     Ok(line)
 }
 
-/// The setting whose value is wrong, and what the value must be.
-fn wrong_value(command: Command, matches: &ArgMatches) -> Option<(&'static str, &'static str)> {
-    if radius_of(matches).is_err() {
-        return Some((
-            "radius",
-            "--radius must be a decimal from 0 to 1000, in metres",
-        ));
-    }
-    let wrong = match command {
-        Command::Plan => wrong_search(matches),
-        Command::Nav => wrong_grid_search(matches),
-        Command::Check => wrong_back(matches),
-        Command::Demo => wrong_demo(matches),
-        Command::Sweep | Command::NavCheck => None,
-    };
-    wrong.or(wrong_form(matches))
-}
-
-/// The form of labels, where it is wrong or stands without them, and what it must be.
-fn wrong_form(matches: &ArgMatches) -> Option<(&'static str, &'static str)> {
-    let version = matches.get_str("labels-as")?;
-    if matches.get_str("labels").is_some() && form_named(version).is_ok() {
-        None
-    } else {
-        Some((
-            "labels-as",
-            "--labels-as must be 1 or 2, and goes with --labels",
-        ))
-    }
-}
-
-/// The word of `demo` that is wrong, and what it must be.
-fn wrong_demo(matches: &ArgMatches) -> Option<(&'static str, &'static str)> {
-    if read_seed(matches.get_str("SEED").unwrap_or("")).is_err() {
-        return Some(("SEED", "SEED must be a whole number from 0 to 2^64 - 1"));
-    }
-    if read_extent(matches.get_str("W").unwrap_or("")).is_err() {
-        return Some(("W", "W must be a whole number from 8 to 512"));
-    }
-    if read_extent(matches.get_str("H").unwrap_or("")).is_err() {
-        return Some(("H", "H must be a whole number from 8 to 512"));
-    }
-    None
-}
-
 /// What is wrong with words that `clap` takes and whose values are right: the files that are written.
 const WRONG_OUTPUTS: &str =
     "the files of --labels, --trace and --incumbent must differ from each other and from each file that is read";
 
 /// What is wrong with words that `clap` takes.
 fn wrong_in(alloc: Global, command: Command, matches: &ArgMatches) -> Result<String, AllocError> {
-    let Some((id, wanted)) = wrong_value(command, matches) else {
+    let Some(value) = wrong_value(command, matches) else {
         return String::from_str(alloc, WRONG_OUTPUTS);
     };
-    let found = matches.get_str(id).unwrap_or("");
+    let wanted = wanted(value);
+    let found = matches.get_str(id_of(value)).unwrap_or("");
     format!(in alloc; "{wanted}, found \"{found}\"")
 }
 
