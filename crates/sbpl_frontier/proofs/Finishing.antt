@@ -1,15 +1,17 @@
 -- What is known once all seats are back and the line is empty.
-use Rattle.std.proofs.Common.{◌≡◌, ℕ, ◌+◌, ◌≤◌, List, [], ◌++◌, map, length, sum_by, arith, sym, ap}
+use Rattle.std.proofs.Common.{◌≡◌, ℕ, ◌+◌, ◌≤◌, List, [], ◌∷◌, ◌++◌, map, length, sum_by, arith, sym, ap}
 use Rattle.std.proofs.Common.{subst, ◌∙◌, append-nil}
 use Rattle.std.proofs.lemmas.List.{length-map}
 use Rattle.std.specs.List.{All}
-use Rattle.std.proofs.lemmas.List.Elements.{All-weaker}
+use Rattle.std.proofs.lemmas.List.Elements.{All-cons, All-head, All-nil, All-tail, All-weaker}
+use Rattle.std.proofs.lemmas.List.Sums.{sum_by-cons}
 use Rattle.sbpl_claims.specs.Standing.{Standing}
 use Rattle.sbpl_frontier_core.specs.Book.{Book}
 use Rattle.sbpl_frontier_rules.specs.Journal.{posts_in, takes_in}
 use Rattle.sbpl_postings.specs.Drained.{Drained}
 use Rattle.sbpl_postings.specs.Kept.{AreBrought}
 use Rattle.sbpl_postings.specs.Posts.{of}
+use Rattle.sbpl_postings.specs.Steps.{ended_with}
 use Rattle.sbpl_postings.specs.declared.post.Post.{Post}
 use Rattle.sbpl_postings.specs.declared.post.Sent.{Sent}
 use Rattle.sbpl_frontier.specs.Come.{HaveCome, event_of}
@@ -17,6 +19,22 @@ use Rattle.sbpl_frontier.specs.Tally.{Tally, sent_in}
 use Rattle.sbpl_frontier.specs.Tied.{AreTied}
 use Rattle.sbpl_frontier.proofs.Summing.{each_of, posts_of, puts_of, puts_within}
 use Rattle.sbpl_frontier.proofs.Tying.{count_came}
+
+-- what came back of a worker that goes on, where all that it put in has come out of the line
+pub own_come : (book : Book) (k : Standing) (taken : ℕ) (line : Drained) (seat : Tally) → AreTied book k taken line
+    → of seat.number line.came ≡ seat.posts → HaveCome book.journal (seat ∷ [])
+own_come book k taken line seat tied come =
+    let Brings : Tally → Type 0 = λ (s : Tally). of s.number line.came ≡ s.posts in
+    record { came = line.came; all = tied.posts; each = All-cons Brings seat [] come (All-nil Brings) }
+
+-- what the rule tells where one sender more has ended, it tells of those before
+pub brought_before : (line : Drained) (sent : Sent) (items : List Post) → AreBrought (ended_with line sent) items
+    → AreBrought line items
+brought_before line sent items brought =
+    let Brings : Sent → Type 0 = λ (s : Sent). of s.seat (line.came ++ items) ≡ s.posts in record {
+      each = All-tail Brings sent line.ended brought.each;
+      count = omega (arith, brought.count, sum_by-cons puts_of sent line.ended);
+    }
 
 module _ (book : Book) (k : Standing) (taken : ℕ) (line : Drained) (seats : List Tally) (before : List Sent)
     (tied : AreTied book k taken line) (ended : line.ended ≡ map sent_in seats ++ before)

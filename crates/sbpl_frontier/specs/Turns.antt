@@ -12,6 +12,7 @@ use Rattle.sbpl_frontier_core.specs.Answers.{IsWaiting}
 use Rattle.sbpl_frontier_core.specs.Book.{IsReplay}
 use Rattle.sbpl_frontier.specs.declared.turn.Turn.{Turn}
 use Rattle.sbpl_frontier.specs.declared.turn.Turn.TheVariants.{Job, NotYet, Over, Spent}
+use Rattle.sbpl_frontier.specs.Come.{HaveCome}
 use Rattle.sbpl_frontier.specs.Tally.{Tally}
 
 -- these events lead from the beginning of the pass to a frontier of this kind
@@ -28,6 +29,13 @@ module _ {N : Type 0} {P : PassGhosts N} {U : Type 0} {M : Type 0} where
   abbrev pub IsToldLast : (seat : ℕ) → Turn N U M P → List Event → Type 0
   IsToldLast seat (Job t claim) events = (before : List Event) × (events ≡ before ++ Taken t.number seat t.state t.arc ∷ [])
   IsToldLast seat _ events = ⊤
+
+  -- the journal of every other answer has all judgements that the worker in this seat posted, in its order, whole and once
+  abbrev pub ShowsOwn : (seat : Tally) → Turn N U M P → Type 0
+  ShowsOwn seat (Job t claim) = ⊤
+  ShowsOwn seat (NotYet seen) = HaveCome seen (seat ∷ [])
+  ShowsOwn seat (Over seen) = HaveCome seen (seat ∷ [])
+  ShowsOwn seat (Spent seen) = HaveCome seen (seat ∷ [])
 
   -- every other answer shows its cause: the journal leads to a frontier at which the core gives this answer
   abbrev pub Shows : Query → Marks → Counts → Turn N U M P → Type 0

@@ -3,8 +3,10 @@
 ghost use Rattle.std.specs.Prelude.{◌≡◌, ◌+◌, ◌<◌, [], ◌++◌, IfOk, IsFalse, OnErr, map, sum_by, vec_len};
 ghost use Rattle.sbpl_frontier_core.specs.Answers.{OpensTo};
 ghost use Rattle.sbpl_postings.specs.Kept.{AreBrought};
+ghost use Rattle.sbpl_postings.specs.Posts.{of};
+ghost use Rattle.sbpl_postings.specs.Steps.{ended_with};
 ghost use Rattle.sbpl_frontier.specs.Tally.{sent_in};
-ghost use Rattle.sbpl_frontier.specs.Turns.{Gives, IsToldLast, Shows};
+ghost use Rattle.sbpl_frontier.specs.Turns.{Gives, IsToldLast, Shows, ShowsOwn};
 
 use crate::ledgers::TakesOf;
 use crate::{Seat, Second, Turn};
@@ -12,7 +14,7 @@ use sbpl_claims::Keeper;
 use sbpl_fixed::NoMemory;
 use sbpl_frontier_core::{CoreOf, Next, Pass, Past};
 use sbpl_graph::{Graph, Guide};
-use sbpl_postings::{Drain, Lined, Queue};
+use sbpl_postings::{Drain, Lined, Queue, Sender};
 use std::marker::Model;
 use std::sync::Wait;
 use std::sync::ledger::{Book, Share};
@@ -40,13 +42,15 @@ impl<'g, G: Graph, H: Guide, N: Pass, U: Past, M: Second, L: Lined> Model
 }
 
 impl<'g, G: Graph, H: Guide, N: Pass, U: Past, M: Second, L: Lined> Locked<'g, G, H, N, U, M, L> {
-    /// What the worker in this seat is to do.
+    /// What the worker in this seat is to do, all of whose judgements have come out of the line.
     pub(crate) fn next(&mut self, seat: &mut Seat<N, M, L>) -> Result<Turn<N, U, M>, NoMemory>
+        requires come { of seat.old.number self.old.line.came ≡ seat.old.posts }
         ensures gives { IfOk result (λ turn. Gives seat.old turn seat.new) }
         ensures same { OnErr result (seat.new ≡ seat.old) }
         ensures opened { OnErr result (OpensTo N.query self.old.book self.new.book) }
         ensures line { self.new.line ≡ self.old.line }
         ensures shows { IfOk result (λ turn. Shows N.query N.opening N.counts turn) }
+        ensures own { IfOk result (λ turn. ShowsOwn seat.old turn) }
         // The journal ends with a job that is handed out, in the name of this seat.
         ensures told { IfOk result (λ turn. IsToldLast seat.old.number turn self.new.book.journal) }
     {
@@ -62,25 +66,47 @@ impl<'g, G: Graph, H: Guide, N: Pass, U: Past, M: Second, L: Lined> Locked<'g, G
         }
     }
 
-    /// Takes all judgements out of the line that are in it, and applies them.
-    pub(crate) fn receive_all<R: Wait>(&mut self, rt: &R, queue: &Queue<N, M, L>)
+    /// Takes all judgements out of the line that are in it, and applies them: all that this sender put in, and those that have ended.
+    pub(crate) fn receive_all<R: Wait>(
+        &mut self,
+        rt: &R,
+        queue: &Queue<N, M, L>,
+        sender: &mut Sender<N, M, L>,
+    )
         ensures ended { self.new.line.ended ≡ self.old.line.ended }
-        ensures brought { AreBrought self.new.line [] }
+        ensures sender { sender.new ≡ sender.old }
+        ensures brought { AreBrought (ended_with self.new.line sender.old) [] }
     {
         'postings: for _ in rt.forever() {
-            if !self.receive(rt, queue) {
+            if !self.receive(rt, queue, sender) {
                 return;
             }
         }
         unreachable!()
     }
 
-    /// Takes one judgement out of the line and applies it, whose ticket is out as its claim shows. It answers whether there was one.
-    fn receive<R: Wait>(&mut self, rt: &R, queue: &Queue<N, M, L>) -> bool
+    /// Takes all judgements out of the line that are in it, and applies them, once the senders of all seats have ended.
+    pub(crate) fn receive_rest<R: Wait>(&mut self, rt: &R, queue: &Queue<N, M, L>)
         ensures ended { self.new.line.ended ≡ self.old.line.ended }
-        ensures brought { IsFalse result → AreBrought self.new.line [] }
+        ensures brought { AreBrought self.new.line [] }
     {
-        let Some(posting) = self.drain.pop(rt, queue) else {
+        // This sender puts nothing in.
+        let mut sender = self.drain.sender(queue);
+        self.receive_all(rt, queue, &mut sender);
+    }
+
+    /// Takes one judgement out of the line and applies it, whose ticket is out as its claim shows. It answers whether there was one.
+    fn receive<R: Wait>(
+        &mut self,
+        rt: &R,
+        queue: &Queue<N, M, L>,
+        sender: &mut Sender<N, M, L>,
+    ) -> bool
+        ensures ended { self.new.line.ended ≡ self.old.line.ended }
+        ensures sender { sender.new ≡ sender.old }
+        ensures brought { IsFalse result → AreBrought (ended_with self.new.line sender.old) [] }
+    {
+        let Some(posting) = self.drain.pop(rt, queue, sender) else {
             return false;
         };
         let (judged, claim) = posting.open();

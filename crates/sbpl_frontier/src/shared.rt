@@ -5,7 +5,7 @@ ghost use Rattle.sbpl_frontier_rules.specs.Journal.{posts_in, takes_in};
 ghost use Rattle.sbpl_postings.specs.Posts.{post_of};
 ghost use Rattle.sbpl_frontier.specs.Come.{HaveCome};
 ghost use Rattle.sbpl_frontier.specs.Tally.{fresh_seats, posted};
-ghost use Rattle.sbpl_frontier.specs.Turns.{Gives, Shows};
+ghost use Rattle.sbpl_frontier.specs.Turns.{Gives, Shows, ShowsOwn};
 
 use crate::bell::Bell;
 use crate::ledgers::TakesOf;
@@ -80,9 +80,11 @@ impl<'g, G: Graph, H: Guide, N: Pass, U: Past, M: Second, L: Lined> Shared<'g, G
         ensures gives { IfOk result (λ turn. Gives seat.old turn seat.new) }
         ensures same { OnErr result (seat.new ≡ seat.old) }
         ensures shows { IfOk result (λ turn. Shows N.query N.opening N.counts turn) }
+        // No worker is told that there is nothing to do while a judgement that it brought itself waits in the line.
+        ensures own { IfOk result (λ turn. ShowsOwn seat.old turn) }
     {
         let mut locked = self.lock.lock(rt);
-        locked.receive_all(rt, &self.queue);
+        locked.receive_all(rt, &self.queue, &mut seat.sender);
         locked.next(seat)
     }
 
@@ -113,7 +115,7 @@ impl<'g, G: Graph, H: Guide, N: Pass, U: Past, M: Second, L: Lined> Shared<'g, G
         let mut locked = self.lock.lock(rt);
         let mut posting = posting;
         'fulls: for _ in rt.forever() {
-            locked.receive_all(rt, &self.queue);
+            locked.receive_all(rt, &self.queue, &mut seat.sender);
             match self.queue.push(rt, &mut seat.sender, posting) {
                 Ok(()) => return,
                 Err(back) => posting = back,
@@ -139,7 +141,7 @@ impl<'g, G: Graph, H: Guide, N: Pass, U: Past, M: Second, L: Lined> Shared<'g, G
         } = self;
         let mut locked = lock.into_inner();
         let mut all_takes = locked.end_all(&queue, seats);
-        locked.receive_all(rt, &queue);
+        locked.receive_rest(rt, &queue);
         let Locked {
             core,
             mut takes,

@@ -2,15 +2,15 @@
 use Rattle.std.proofs.Common.{◌≡◌, ◌≢◌, ℕ, zero, suc, ◌<◌, ◌⊎◌, List, [], ◌∷◌, ◌++◌, length, set, arith, subst, sym}
 use Rattle.std.proofs.Common.{refl, ap, ◌∙◌, inl, inr, ⊎_elim, length-set, append_assoc}
 use Rattle.std.specs.List.{All}
-use Rattle.std.proofs.lemmas.List.Elements.{All-cons, All-nil, All-push, All-weaker}
+use Rattle.std.proofs.lemmas.List.Elements.{All-cons, All-head, All-nil, All-push, All-tail, All-weaker}
 use mathlib.Core.Option.{some, some-injective, some-ne-none}
 use lib.ListN.{get_elem?}
 use Rattle.atomic_table.proofs.Lists.{at_longer, at_set, set_else, set_here}
 use Rattle.sbpl_postings.specs.Drained.{Drained}
 use Rattle.sbpl_postings.specs.Known.{drained_of, sent_of, whole}
-use Rattle.sbpl_postings.specs.Kept.{AreBrought, AreKept, IsDrain, IsKept, IsSender, IsWhole}
+use Rattle.sbpl_postings.specs.Kept.{AreApart, AreBrought, AreKept, IsDrain, IsKept, IsSender, IsWhole}
 use Rattle.sbpl_postings.specs.Posts.{of}
-use Rattle.sbpl_postings.specs.Steps.{drained_with, ended_with, fresh_sender, none_made}
+use Rattle.sbpl_postings.specs.Steps.{before_last, drained_with, ended_with, fresh_sender, last_of, none_made}
 use Rattle.sbpl_postings.specs.Steps.{nothing_came, one_more, sent_with}
 use Rattle.sbpl_postings.specs.declared.post.Post.{Post}
 use Rattle.sbpl_postings.specs.declared.post.Sent.{Sent}
@@ -198,6 +198,69 @@ module _ (items : List Post) (views : List Known) (place : ℕ) (now : Drained) 
         (sym (append_assoc now.came (post ∷ []) items)) popped_same,
   )
 
+-- ---- a pass is split off the drain's, which then knows this: a sender's
+
+module _ (views : List Known) (place : ℕ) (then : Drained) (sent : Sent) where
+  abbrev split : List Known
+  split = set views place (whole then) ++ One sent ∷ []
+
+  -- a sender now: one that was there, or the new one
+  sender_now : (at : ℕ) (x : Sent) → IsSender split at x → IsSender views at x ⊎ ((at ≡ length views) × (sent ≡ x))
+  sender_now at x is =
+      ⊎_elim
+      (λ (earlier : IsSender (set views place (whole then)) at x).
+      ⊎_elim
+      (λ (here : (at ≡ place) × (whole then ≡ One x)). absurd (cc (here.1)))
+      (λ (there : (at ≢ place) × IsSender views at x). inl there.1)
+      (at_set views place at (whole then) (One x) earlier))
+      (λ (last : (at ≡ length (set views place (whole then))) × (One sent ≡ One x)).
+      inr (last.0 ∙ length-set views place (whole then), ap sent_of last.1))
+      (at_end (set views place (whole then)) (One sent) (One x) at is)
+
+  drains_now : place < length views → IsDrain split place then
+  drains_now inside =
+      at_longer (set views place (whole then)) (One sent ∷ []) place (whole then)
+      (set_here views place (whole then) inside)
+
+  alone_now : ((other : ℕ) (than : Drained) → IsDrain views other than → other ≡ place) → (other : ℕ) (than : Drained)
+      → IsDrain split other than → other ≡ place
+  alone_now alone other than drain =
+      ⊎_elim
+      (λ (earlier : IsDrain (set views place (whole then)) other than).
+      ⊎_elim
+      (λ (here : (other ≡ place) × (whole then ≡ whole than)). here.0)
+      (λ (there : (other ≢ place) × IsDrain views other than). alone other than there.1)
+      (at_set views place other (whole then) (whole than) earlier))
+      (λ (last : (other ≡ length (set views place (whole then))) × (One sent ≡ whole than)). absurd (cc (last.1)))
+      (at_end (set views place (whole then)) (One sent) (whole than) other drain)
+
+  apart_now : ((a b : ℕ) (x y : Sent) → a ≢ b → IsSender views a x → IsSender views b y → x.seat ≢ y.seat)
+      → ((a : ℕ) (x : Sent) → IsSender views a x → sent.seat ≢ x.seat) → (a b : ℕ) (x y : Sent) → a ≢ b
+      → IsSender split a x → IsSender split b y → x.seat ≢ y.seat
+  apart_now apart new a b x y differ is also =
+      ⊎_elim
+      (λ (first : IsSender views a x).
+      ⊎_elim
+      (λ (second : IsSender views b y). apart a b x y differ first second)
+      (λ (here : (b ≡ length views) × (sent ≡ y)).
+      λ e. new a x first (ap (λ (s : Sent). s.seat) here.1 ∙ sym e))
+      (sender_now b y also))
+      (λ (here : (a ≡ length views) × (sent ≡ x)).
+      ⊎_elim
+      (λ (second : IsSender views b y). λ e. new b y second (ap (λ (s : Sent). s.seat) here.1 ∙ e))
+      (λ (both : (b ≡ length views) × (sent ≡ y)). absurd (differ (here.0 ∙ sym both.0)))
+      (sender_now b y also))
+      (sender_now a x is)
+
+  -- what holds of the senders that were there and of the new one holds of all
+  each_now : (P : Sent → Type 0) → ((at : ℕ) (x : Sent) → IsSender views at x → P x) → P sent → (at : ℕ) (x : Sent)
+      → IsSender split at x → P x
+  each_now P earlier new at x is =
+      ⊎_elim
+      (λ (was : IsSender views at x). earlier at x was)
+      (λ (here : (at ≡ length views) × (sent ≡ x)). subst P here.1 new)
+      (sender_now at x is)
+
 -- ---- a sender is made
 
 module _ (items : List Post) (views : List Known) (place : ℕ) (now : Drained)
@@ -211,29 +274,6 @@ module _ (items : List Post) (views : List Known) (place : ℕ) (now : Drained)
   abbrev all : List Post
   all = now.came ++ items
 
-  abbrev changed : List Known
-  changed = set views place (whole next)
-
-  abbrev longer : List Known
-  longer = changed ++ One fresh ∷ []
-
-  long : length changed ≡ length views
-  long = length-set views place (whole next)
-
-  inside : place < length views
-  inside = at_inside views place (whole now) kept.drains
-
-  sender_more : (at : ℕ) (x : Sent) → IsSender longer at x → IsSender views at x ⊎ ((at ≡ length views) × (fresh ≡ x))
-  sender_more at x is =
-      ⊎_elim
-      (λ (earlier : IsSender changed at x).
-      ⊎_elim
-      (λ (here : (at ≡ place) × (whole next ≡ One x)). absurd (cc (here.1)))
-      (λ (there : (at ≢ place) × IsSender views at x). inl there.1)
-      (at_set views place at (whole next) (One x) earlier))
-      (λ (last : (at ≡ length changed) × (One fresh ≡ One x)). inr (last.0 ∙ long, ap sent_of last.1))
-      (at_end changed (One fresh) (One x) at is)
-
   older : (at : ℕ) (x : Sent) → IsSender views at x → x.seat < now.made
   older at x is = (kept.live at x is).0
 
@@ -242,60 +282,104 @@ module _ (items : List Post) (views : List Known) (place : ℕ) (now : Drained)
       of_none now.made all (All-weaker (λ (p : Post). p.seat < now.made) (λ (p : Post). p.seat ≢ now.made)
       (λ p less e. omega (arith, less, e)) all kept.below)
 
-  more_apart : (a b : ℕ) (x y : Sent) → a ≢ b → IsSender longer a x → IsSender longer b y → x.seat ≢ y.seat
-  more_apart a b x y differ is also =
-      ⊎_elim
-      (λ (first : IsSender views a x).
-      ⊎_elim
-      (λ (second : IsSender views b y). kept.apart a b x y differ first second)
-      (λ (new : (b ≡ length views) × (fresh ≡ y)). λ e. let less = older a x first in
-      let seat : now.made ≡ y.seat = ap (λ (s : Sent). s.seat) new.1 in omega (arith, less, seat, e))
-      (sender_more b y also))
-      (λ (new : (a ≡ length views) × (fresh ≡ x)).
-      ⊎_elim
-      (λ (second : IsSender views b y). λ e. let less = older b y second in
-      let seat : now.made ≡ x.seat = ap (λ (s : Sent). s.seat) new.1 in omega (arith, less, seat, e))
-      (λ (both : (b ≡ length views) × (fresh ≡ y)). absurd (differ (new.0 ∙ sym both.0)))
-      (sender_more b y also))
-      (sender_more a x is)
+  newest : (at : ℕ) (x : Sent) → IsSender views at x → fresh.seat ≢ x.seat
+  newest at x is e = let less = older at x is in omega (arith, less, e)
 
   wider : (sent : Sent) → IsWhole now.made all sent → IsWhole next.made all sent
   wider sent is = (let less = is.0 in omega (arith, less), is.1)
 
-  pub seated_kept : IsKept items longer
+  pub seated_kept : IsKept items (set views place (whole next) ++ One fresh ∷ [])
   seated_kept = (
     place,
     next,
     record {
-      drains = at_longer changed (One fresh ∷ []) place (whole next) (set_here views place (whole next) inside);
-      alone = λ other than drain.
-          ⊎_elim
-          (λ (earlier : IsDrain changed other than).
-          ⊎_elim
-          (λ (here : (other ≡ place) × (whole next ≡ whole than)). here.0)
-          (λ (there : (other ≢ place) × IsDrain views other than). kept.alone other than there.1)
-          (at_set views place other (whole next) (whole than) earlier))
-          (λ (last : (other ≡ length changed) × (One fresh ≡ whole than)). absurd (cc (last.1)))
-          (at_end changed (One fresh) (whole than) other drain);
-      live = λ at x is.
-          ⊎_elim
-          (λ (earlier : IsSender views at x). wider x (kept.live at x earlier))
-          (λ (new : (at ≡ length views) × (fresh ≡ x)). subst (IsWhole next.made all) new.1 (omega arith, none_yet))
-          (sender_more at x is);
+      drains = drains_now views place next fresh (at_inside views place (whole now) kept.drains);
+      alone = alone_now views place next fresh kept.alone;
+      live = each_now views place next fresh (IsWhole next.made all) (λ at x is. wider x (kept.live at x is))
+          (omega arith, none_yet);
       ended = All-weaker (IsWhole now.made all) (IsWhole next.made all) wider now.ended kept.ended;
-      apart = more_apart;
-      left = λ at x is.
-          ⊎_elim
-          (λ (earlier : IsSender views at x). kept.left at x earlier)
-          (λ (new : (at ≡ length views) × (fresh ≡ x)).
-          subst (λ (s : Sent). All (Other s) now.ended) new.1
+      apart = apart_now views place next fresh kept.apart newest;
+      left = each_now views place next fresh (λ (s : Sent). All (Other s) now.ended) kept.left
           (All-weaker (IsWhole now.made all) (Other fresh)
-          (λ s whole e. let less = whole.0 in omega (arith, less, e)) now.ended kept.ended))
-          (sender_more at x is);
+          (λ s whole e. let less = whole.0 in omega (arith, less, e)) now.ended kept.ended);
       differ = kept.differ;
       below =
           All-weaker (λ (p : Post). p.seat < now.made) (λ (p : Post). p.seat < next.made)
           (λ p less. omega (arith, less)) all kept.below;
+    },
+  )
+
+-- ---- a sender goes on that ended last
+
+pub last_ended : (ended : List Sent) → 0 < length ended → ended ≡ last_of ended ∷ before_last ended
+last_ended [] has = absurd (omega (arith, has))
+last_ended (sent ∷ rest) has = refl
+
+module _ (items : List Post) (views : List Known) (place : ℕ) (now : Drained) (sent : Sent) (rest : List Sent)
+    (last : now.ended ≡ sent ∷ rest) (kept : AreKept place now (now.came ++ items) views) where
+  abbrev fewer_ended : Drained
+  fewer_ended = record now { ended = rest }
+
+  abbrev Wholes : Sent → Type 0
+  Wholes = IsWhole now.made (now.came ++ items)
+
+  wholes : All Wholes (sent ∷ rest)
+  wholes = subst (All Wholes) last kept.ended
+
+  others : (at : ℕ) (x : Sent) → IsSender views at x → All (Other x) (sent ∷ rest)
+  others at x is = subst (All (Other x)) last (kept.left at x is)
+
+  apart_ended : AreApart (sent ∷ rest)
+  apart_ended = subst AreApart last kept.differ
+
+  pub recalled_kept : IsKept items (set views place (whole fewer_ended) ++ One sent ∷ [])
+  recalled_kept = (
+    place,
+    fewer_ended,
+    record {
+      drains = drains_now views place fewer_ended sent (at_inside views place (whole now) kept.drains);
+      alone = alone_now views place fewer_ended sent kept.alone;
+      live = each_now views place fewer_ended sent Wholes kept.live (All-head Wholes sent rest wholes);
+      ended = All-tail Wholes sent rest wholes;
+      apart = apart_now views place fewer_ended sent kept.apart
+          (λ at x is. All-head (Other x) sent rest (others at x is));
+      left = each_now views place fewer_ended sent (λ (s : Sent). All (Other s) rest)
+          (λ at x is. All-tail (Other x) sent rest (others at x is)) apart_ended.0;
+      differ = apart_ended.1;
+      below = kept.below;
+    },
+  )
+
+-- ---- a pass is made that knows nothing
+
+module _ (items : List Post) (views : List Known) where
+  sender_before : (at : ℕ) (x : Sent) → IsSender (views ++ Nothing ∷ []) at x → IsSender views at x
+  sender_before at x is =
+      ⊎_elim
+      (λ (earlier : IsSender views at x). earlier)
+      (λ (last : (at ≡ length views) × (Nothing ≡ One x)). absurd (cc (last.1)))
+      (at_end views Nothing (One x) at is)
+
+  drain_before : (at : ℕ) (than : Drained) → IsDrain (views ++ Nothing ∷ []) at than → IsDrain views at than
+  drain_before at than is =
+      ⊎_elim
+      (λ (earlier : IsDrain views at than). earlier)
+      (λ (last : (at ≡ length views) × (Nothing ≡ whole than)). absurd (cc (last.1)))
+      (at_end views Nothing (whole than) at is)
+
+  pub spare_kept : IsKept items views → IsKept items (views ++ Nothing ∷ [])
+  spare_kept (place, now, kept) = (
+    place,
+    now,
+    record {
+      drains = at_longer views (Nothing ∷ []) place (whole now) kept.drains;
+      alone = λ other than drain. kept.alone other than (drain_before other than drain);
+      live = λ at x is. kept.live at x (sender_before at x is);
+      ended = kept.ended;
+      apart = λ a b x y differ is also. kept.apart a b x y differ (sender_before a x is) (sender_before b y also);
+      left = λ at x is. kept.left at x (sender_before at x is);
+      differ = kept.differ;
+      below = kept.below;
     },
   )
 

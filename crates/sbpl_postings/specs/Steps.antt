@@ -1,5 +1,5 @@
 -- What each step does to what the passes know.
-use Rattle.std.specs.Prelude.{◌+◌, [], ◌∷◌, ◌++◌}
+use Rattle.std.specs.Prelude.{◌+◌, List, [], ◌∷◌, ◌++◌}
 use Rattle.sbpl_postings.specs.Drained.{Drained}
 use Rattle.sbpl_postings.specs.Known.{drained_of, sent_of, whole}
 use Rattle.sbpl_postings.specs.declared.post.Post.{Post}
@@ -40,6 +40,21 @@ seated v = whole (one_more (drained_of v))
 
 abbrev pub sender_made : Known → Known
 sender_made v = One (fresh_sender (drained_of v))
+
+-- a sender that ended last goes on: it is as it was
+abbrev pub last_of : List Sent → Sent
+last_of [] = record { seat = 0; posts = [] }
+last_of (sent ∷ rest) = sent
+
+abbrev pub before_last : List Sent → List Sent
+before_last [] = []
+before_last (sent ∷ rest) = rest
+
+abbrev pub recalled : Known → Known
+recalled v = whole (record (drained_of v) { ended = before_last (drained_of v).ended })
+
+abbrev pub sender_recalled : Known → Known
+sender_recalled v = One (last_of (drained_of v).ended)
 
 -- a sender has ended
 abbrev pub ended_with : Drained → Sent → Drained

@@ -6,7 +6,7 @@ ghost use Rattle.sbpl_postings.specs.Posts.{post_of};
 ghost use Rattle.sbpl_postings.specs.Steps.{drained_with, ended_with, fresh_sender, one_more};
 
 use crate::rule::PostingPass;
-use crate::steps::{absorb_sender, pop_posting, split_sender};
+use crate::steps::{absorb_sender, pop_beside, split_sender};
 use crate::{Lined, Posting, Queue, Sender};
 use sbpl_claims::Naming;
 use sbpl_frontier_core::Pass;
@@ -46,12 +46,19 @@ impl<N: Pass, M: Naming, L: Lined> Drain<N, M, L> {
         }
     }
 
-    /// Takes out the posting that was put in first. Where there is none, all that the senders that have ended put in has come.
-    pub fn pop<R: Wait>(&mut self, rt: &R, queue: &Queue<N, M, L>) -> Option<Posting<N, M>>
+    /// Takes out the posting that was put in first. Where there is none, all that this sender and those that have ended put in has
+    /// come.
+    pub fn pop<R: Wait>(
+        &mut self,
+        rt: &R,
+        queue: &Queue<N, M, L>,
+        sender: &mut Sender<N, M, L>,
+    ) -> Option<Posting<N, M>>
         ensures came { IfSome result (λ posting. self.new ≡ drained_with self.old (post_of posting)) }
-        ensures none { IsNone result → (self.new ≡ self.old) × AreBrought self.old [] }
+        ensures none { IsNone result → (self.new ≡ self.old) × AreBrought (ended_with self.old sender.old) [] }
+        ensures sender { sender.new ≡ sender.old }
     {
-        pop_posting(rt, &queue.postings, &mut self.pass)
+        pop_beside(rt, &queue.postings, &mut self.pass, &mut sender.pass)
     }
 
     /// Takes a sender back, which puts no more in.

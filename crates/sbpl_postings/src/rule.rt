@@ -75,6 +75,28 @@ impl Split<Known> for Seated {
     ghost right = { sender_made };
 }
 
+/// A pass that knows nothing is made, for the place of a sender's.
+pub(crate) struct Spared;
+
+impl Split<Known> for Spared {
+    ghost use Rattle.sbpl_postings.specs.declared.known.Known.TheVariants.{Nothing};
+
+    ghost left = { λ v. v };
+
+    ghost right = { λ _. Nothing };
+}
+
+/// The sender that ended last goes on.
+pub(crate) struct Recalled;
+
+impl Split<Known> for Recalled {
+    ghost use Rattle.sbpl_postings.specs.Steps.{recalled, sender_recalled};
+
+    ghost left = { recalled };
+
+    ghost right = { sender_recalled };
+}
+
 /// A sender has ended, and the drain keeps what it put in.
 pub(crate) struct Ended;
 

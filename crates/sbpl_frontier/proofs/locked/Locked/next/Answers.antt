@@ -1,4 +1,6 @@
-use Rattle.std.proofs.Common.{◌≡◌, sym, refl, ◌∙◌}
+use Rattle.std.proofs.Common.{◌≡◌, ap, sym, refl, ◌∙◌}
+use Rattle.sbpl_frontier.specs.Tied.{Sight}
+use Rattle.sbpl_frontier.proofs.Finishing.{own_come}
 use Rattle.sbpl_frontier.proofs.Tying.{opens_tied, taken_tied}
 use Rattle.sbpl_frontier.proofs.locked.Locked.next.Goals as goal
 
@@ -51,3 +53,24 @@ pub returns-in-Job-clause-told : goal.returns-in-Job-clause-told
 returns-in-Job-clause-told g c =
     let answers = rw c.in-Job.is at c.in_ok-ticket.ensures.answers in
     (answers.mid.journal, rw (← c.seat.view_is) answers.gives.journal)
+
+pub returns-in-NotYet-clause-own : goal.returns-in-NotYet-clause-own
+returns-in-NotYet-clause-own g c =
+    let line = ap (λ (s : Sight). s.line) c.self.view_is in
+    let answers = rw c.in-NotYet.is at c.in_ok-ticket.ensures.answers in
+    let mid = opens_tied g.N.Pass.query _ answers.mid _ _ _ answers.opens c.self.invariant.1 in
+    rw (c.seen.ensures.value, answers.gives) (own_come answers.mid _ _ _ c.args.seat.now mid (rw line c.requires.come))
+
+pub returns-in-Over-clause-own : goal.returns-in-Over-clause-own
+returns-in-Over-clause-own g c =
+    let line = ap (λ (s : Sight). s.line) c.self.view_is in
+    let answers = rw c.in-Over.is at c.in_ok-ticket.ensures.answers in
+    let mid = opens_tied g.N.Pass.query _ answers.mid _ _ _ answers.opens c.self.invariant.1 in
+    rw (c.seen-in-Over.ensures.value, answers.gives) (own_come answers.mid _ _ _ c.args.seat.now mid (rw line c.requires.come))
+
+pub returns-in-Spent-clause-own : goal.returns-in-Spent-clause-own
+returns-in-Spent-clause-own g c =
+    let line = ap (λ (s : Sight). s.line) c.self.view_is in
+    let answers = rw c.in-Spent.is at c.in_ok-ticket.ensures.answers in
+    let mid = opens_tied g.N.Pass.query _ answers.mid _ _ _ answers.opens c.self.invariant.1 in
+    rw (c.seen-in-Spent.ensures.value, answers.gives) (own_come answers.mid _ _ _ c.args.seat.now mid (rw line c.requires.come))

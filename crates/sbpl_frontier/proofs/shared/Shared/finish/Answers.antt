@@ -8,8 +8,8 @@ use Rattle.sbpl_frontier.proofs.shared.Shared.finish.Goals as goal
 pub returns-clause-out : goal.returns-clause-out
 returns-clause-out g c =
     let line = ap (λ (s : Sight). s.line) c.locked.view_is in
-    let ended = ap (λ (d : Drained). d.ended) line ∙ c.receive_all.ensures.ended ∙ c.end_all-all_takes.ensures.ended in
-    let brought = rw (← line) at c.receive_all.ensures.brought in
+    let ended = ap (λ (d : Drained). d.ended) line ∙ c.receive_rest.ensures.ended ∙ c.end_all-all_takes.ensures.ended in
+    let brought = rw (← line) at c.receive_rest.ensures.brought in
     let whole =
     sym (c.audit.ensures.whole (c.end_all-all_takes.ensures.parts ∙ c.requires.all))
     ∙ c.end_all-all_takes.ensures.takes in
@@ -22,8 +22,8 @@ returns-clause-out g c =
 pub returns-clause-posts : goal.returns-clause-posts
 returns-clause-posts g c =
     let line = ap (λ (s : Sight). s.line) c.locked.view_is in
-    let ended = ap (λ (d : Drained). d.ended) line ∙ c.receive_all.ensures.ended ∙ c.end_all-all_takes.ensures.ended in
-    let brought = rw (← line) at c.receive_all.ensures.brought in
+    let ended = ap (λ (d : Drained). d.ended) line ∙ c.receive_rest.ensures.ended ∙ c.end_all-all_takes.ensures.ended in
+    let brought = rw (← line) at c.receive_rest.ensures.brought in
     let whole =
     sym (c.audit.ensures.whole (c.end_all-all_takes.ensures.parts ∙ c.requires.all))
     ∙ c.end_all-all_takes.ensures.takes in
@@ -34,7 +34,7 @@ returns-clause-posts g c =
 pub returns-clause-come : goal.returns-clause-come
 returns-clause-come g c =
     let line = ap (λ (s : Sight). s.line) c.locked.view_is in
-    let ended = ap (λ (d : Drained). d.ended) line ∙ c.receive_all.ensures.ended ∙ c.end_all-all_takes.ensures.ended in
-    let brought = rw (← line) at c.receive_all.ensures.brought in
+    let ended = ap (λ (d : Drained). d.ended) line ∙ c.receive_rest.ensures.ended ∙ c.end_all-all_takes.ensures.ended in
+    let brought = rw (← line) at c.receive_rest.ensures.brought in
     have_come c.locked.inside.core c.locked.inside.keeper c.locked.inside.takes.total c.locked.inside.drain
     c.args.seats.items c.into_inner-locked.result.line.ended c.locked.invariant.1 ended brought
