@@ -1,15 +1,16 @@
 //! The low of labels, found among the states that may be open.
 
-ghost use Rattle.std.specs.Prelude.{◌≡◌, ◌≢◌, ℕ, ◌+◌, ◌<◌, ◌≤◌, ◌⊎◌, IsSome};
+ghost use Rattle.std.specs.Prelude.{◌≡◌, ◌≢◌, ℕ, ◌<◌, ◌⊎◌};
 ghost use Rattle.std.specs.List.{All, Contains};
 ghost use Rattle.sbpl_graph.specs.Bound.{IsLow};
 ghost use Rattle.sbpl_labels.specs.Marks.{g_of, states_of, v_of};
 ghost use Rattle.sbpl_open.specs.OpenList as open_list;
-ghost use Rattle.sbpl_serial.specs.Low.{IsInQueue, IsLowOf};
+ghost use Rattle.sbpl_serial.specs.Low.{IsInQueue};
 
 use sbpl_graph::Guide;
 use sbpl_labels::Labels;
 use sbpl_open::Open;
+use sbpl_serial::{low_of_queue, low_with};
 
 /// The least of g of the goal and of g + h over those states of the queue and of the list whose g and v differ. It is the low of
 /// the labels where no other state's g and v differ.
@@ -34,37 +35,4 @@ pub(crate) fn low_among<H: Guide>(
         low = low_with(labels, guide, *s, low);
     }
     low
-}
-
-/// The least of g of the goal and of g + h over the states of the queue whose g and v differ.
-fn low_of_queue<H: Guide>(queue: &Open, labels: &Labels, guide: &H, goal: u32) -> u64
-    requires goal { goal < states_of labels.now }
-    requires known { (s : ℕ) → s < states_of labels.now → H.knows guide.now s }
-    requires states { open_list.states_of queue.now ≡ states_of labels.now }
-    ensures low { IsLowOf labels.now goal (H.distance guide.now) (IsInQueue queue.now) result }
-{
-    let entries = queue.entries();
-    let mut low = labels.g(goal);
-    for entry in entries {
-        low = low_with(labels, guide, entry.state, low);
-    }
-    low
-}
-
-/// The lesser of `low` and, where g and v of `s` differ, of g + h.
-fn low_with<H: Guide>(labels: &Labels, guide: &H, s: u32, low: u64) -> u64
-    requires state { s < states_of labels.now }
-    requires known { H.knows guide.now s }
-    ensures falls { result ≤ low }
-    ensures own { v_of labels.now s ≢ g_of labels.now s → result ≤ g_of labels.now s + H.distance guide.now s }
-    ensures greatest { (x : ℕ) → x ≤ low
-        → (v_of labels.now s ≢ g_of labels.now s → x ≤ g_of labels.now s + H.distance guide.now s)
-        → x ≤ result }
-{
-    let g = labels.g(s);
-    if labels.v(s) == g {
-        low
-    } else {
-        low.min(g + guide.to_goal(s))
-    }
 }

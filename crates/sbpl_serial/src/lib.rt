@@ -16,6 +16,7 @@ mod steps;
 
 pub use closed::Closed;
 pub use facts::{exact_where_same, raising_goes_arc_by_arc, run_is_determined};
+pub use low::{low_of_queue, low_with};
 pub use parts::Parts;
 pub use queue::requeue;
 pub use repair::repair_labels;

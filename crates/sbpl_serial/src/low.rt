@@ -14,7 +14,7 @@ use sbpl_labels::Labels;
 use sbpl_open::Open;
 
 /// The lesser of `low` and, where g and v of `s` differ, of g + h.
-fn low_with<H: Guide>(labels: &Labels, guide: &H, s: u32, low: u64) -> u64
+pub fn low_with<H: Guide>(labels: &Labels, guide: &H, s: u32, low: u64) -> u64
     requires state { s < states_of labels.now }
     requires known { H.knows guide.now s }
     ensures falls { result ≤ low }
@@ -32,7 +32,7 @@ fn low_with<H: Guide>(labels: &Labels, guide: &H, s: u32, low: u64) -> u64
 }
 
 /// The least of g of the goal and of g + h over the states of the queue whose g and v differ.
-fn low_of_queue<H: Guide>(queue: &Open, labels: &Labels, guide: &H, goal: u32) -> u64
+pub fn low_of_queue<H: Guide>(queue: &Open, labels: &Labels, guide: &H, goal: u32) -> u64
     requires goal { goal < states_of labels.now }
     requires known { (s : ℕ) → s < states_of labels.now → H.knows guide.now s }
     requires states { open_list.states_of queue.now ≡ states_of labels.now }
