@@ -10,7 +10,7 @@ pub mod Starting
 pub mod Asking
 pub mod Places
 pub mod Moving
-pub mod Leading
+pub mod LatticePaths
 pub mod Stepping
 pub mod Printing
 pub mod Counting

@@ -29,7 +29,7 @@ use Rattle.sbpl_headline.proofs.Asking.{NoDashes, asked_by, nav_asked, plan_aske
 use Rattle.sbpl_headline.proofs.Changing.{IsCourseTold, course_told, stays}
 use Rattle.sbpl_headline.proofs.GridPlans.{plans_on_grid}
 use Rattle.sbpl_headline.proofs.LatticePlans.{plans_on_lattice}
-use Rattle.sbpl_headline.proofs.Leading.{keeps, spot_place}
+use Rattle.sbpl_headline.proofs.LatticePaths.{keeps, spot_place}
 use Rattle.sbpl_headline.proofs.Mapping.{costs_are}
 use Rattle.sbpl_headline.proofs.Places.{place_of_pose}
 use Rattle.sbpl_headline.proofs.Reading.{environment_says, grid_says, primitives_say}
