@@ -7,10 +7,11 @@ ghost use Rattle.sbpl_promises.specs.Texts.{IsGridText};
 ghost use Rattle.sbpl_promises.specs.Writing.{ReadsOnly};
 
 use crate::files::{read_file, read_still};
+use sbpl_cfg::EnvFault;
 use sbpl_desk::Desk;
 use sbpl_job::Name;
 use sbpl_map::Map;
-use sbpl_nav2d::{Nav, NavFault, read_nav};
+use sbpl_nav2d::{Nav, read_nav};
 use sbpl_promises::Course;
 use sbpl_report::{Input, Refusal, Stop};
 use std::alloc::Global;
@@ -26,7 +27,7 @@ fn judge_grid(alloc: Global, text: &[u8]) -> Result<Nav, Stop>
             let map = Map::plain(env.width, env.height, grid);
             Ok(Nav::new(&env, map))
         }
-        Err(NavFault::NoMemory) => Err(Stop::NoMemory),
+        Err(EnvFault::NoMemory) => Err(Stop::NoMemory),
         Err(fault) => Err(Stop::Refused(Refusal::Grid(fault))),
     }
 }

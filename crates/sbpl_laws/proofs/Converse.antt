@@ -16,7 +16,6 @@ use Rattle.sbpl_job.specs.declared.job.PlanJob.{PlanJob}
 use Rattle.sbpl_job.specs.declared.job.NavJob.{NavJob}
 use Rattle.sbpl_job.specs.declared.job.NavCheckJob.{NavCheckJob}
 use Rattle.sbpl_nav2d.specs.World.{GridWorld}
-use Rattle.sbpl_nav2d.specs.declared.fault.NavFault.{NavFault}
 use Rattle.sbpl_laws.proofs.SamePlanned.{grid_by}
 use Rattle.sbpl_job.specs.declared.job.Job.TheVariants as job
 use Rattle.sbpl_job.specs.declared.job.Sources.{Sources}
@@ -572,14 +571,14 @@ module _ (clear : TextsAreClear) (held : Told) (Failed : Names) (from : Sources)
 
 module _ (clear : TextsAreClear) (held : Told) (Failed : Names) (env : List ℕ) where
   -- a faulty environment file
-  pub grid_faulty : (f : NavFault) → TellsGridFault held env f → (r : Refusal) → IsGridCause held Failed env r
+  pub grid_faulty : (f : EnvFault) → TellsGridFault held env f → (r : Refusal) → IsGridCause held Failed env r
       → IsOrFailed 3 (refusal_status r)
   grid_faulty f tells (refusal.Grid x) p = inl refl
   grid_faulty f tells (refusal.Read x) p = failed_read 3
   grid_faulty f tells (refusal.Length input.Environment) p = absurd (too_long_not_short _ tells.0 tells.1 p)
   grid_faulty f tells _ p = absurd p
 
-  pub grid_faulty_none : (f : NavFault) → TellsGridFault held env f → (w : GridWorld) → ReadsGrid held env w → ⊥
+  pub grid_faulty_none : (f : EnvFault) → TellsGridFault held env f → (w : GridWorld) → ReadsGrid held env w → ⊥
   grid_faulty_none f (text, tells, faulty) w says =
       clear.grid_fault text w.env says.cells f (subst (λ (t : List ℕ). IsGridText t w.env says.cells)
       (told_is (held env) text says.text tells.held_bytes says.read) says.stands) faulty

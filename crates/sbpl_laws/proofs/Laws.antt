@@ -13,7 +13,6 @@ use Rattle.sbpl_mprim.specs.Primitives.{Primitives}
 use Rattle.sbpl_mprim.specs.Text as primitives
 use Rattle.sbpl_nav2d.specs.Environment.{NavEnvironment}
 use Rattle.sbpl_nav2d.specs.Text as grids
-use Rattle.sbpl_nav2d.specs.declared.fault.NavFault.{NavFault}
 use Rattle.sbpl_cfg.specs.declared.pose.Place.{Place}
 use Rattle.sbpl_promises.specs.Clear.{TextsAreClear}
 use Rattle.sbpl_promises.specs.Texts.{HasChangeFault, IsChangeText, Scope}
@@ -31,8 +30,8 @@ pub texts_clear :
     → primitives.HasFault cell headings text g → f ≡ g)
     → ((text : List ℕ) (e d : NavEnvironment) (cells others : List ℕ) → grids.IsTextOf text e cells
     → grids.IsTextOf text d others → (e ≡ d) × (cells ≡ others))
-    → ((text : List ℕ) (f : NavFault) → grids.IsText text → grids.HasFault text f → ⊥)
-    → ((text : List ℕ) (f g : NavFault) → grids.HasFault text f → grids.HasFault text g → f ≡ g)
+    → ((text : List ℕ) (f : EnvFault) → grids.IsText text → grids.HasFault text f → ⊥)
+    → ((text : List ℕ) (f g : EnvFault) → grids.HasFault text f → grids.HasFault text g → f ≡ g)
     → ((s : Scope) (text : List ℕ) (c d : Course) → IsChangeText s text c → IsChangeText s text d → c ≡ d)
     → ((s : Scope) (text : List ℕ) (c : Course) (f : ChangeFault) → IsChangeText s text c → HasChangeFault s text f → ⊥)
     → ((s : Scope) (text : List ℕ) (f g : ChangeFault) → HasChangeFault s text f → HasChangeFault s text g → f ≡ g)

@@ -21,7 +21,6 @@ use Rattle.sbpl_promises.specs.Causes.{IsFaultyChanges, IsFaultyEnvironment, IsF
 use Rattle.sbpl_promises.specs.Causes.{IsLabelsCause, IsReadText, IsSource, IsTooLong, ReadsCourse, ReadsEnvironment}
 use Rattle.sbpl_promises.specs.Causes.{ReadsGrid, ReadsPrimitives, ReadsWorld, grid_files, lattice_files}
 use Rattle.sbpl_nav2d.specs.World.{GridWorld}
-use Rattle.sbpl_nav2d.specs.declared.fault.NavFault.{NavFault}
 use Rattle.sbpl_promises.specs.declared.course.Course.{Course}
 use Rattle.sbpl_promises.specs.Clear.{TextsAreClear}
 use Rattle.sbpl_promises.specs.WorldFiles.{WorldFiles}
@@ -338,7 +337,7 @@ lattices_call_for_one clear held from moving told_env told_prims = record {
 -- the environment file of a grid is faulty or too long
 abbrev pub IsBadGrid : Told → (env : List ℕ) → Refusal → Type 0
 IsBadGrid held env r =
-    ((f : NavFault) × (r ≡ refusal.Grid f) × IsFaultyGrid held env f)
+    ((f : EnvFault) × (r ≡ refusal.Grid f) × IsFaultyGrid held env f)
     ⊎ ((r ≡ refusal.Length input.Environment) × IsTooLong (held env))
 
 grid_cause : (held : Told) (Failed : Names) (env : List ℕ) (r : Refusal) → IsGridCause held Failed env r
@@ -353,7 +352,7 @@ module _ (clear : TextsAreClear) (held : Told) (env : List ℕ) (told : IsSome (
   one_grid r u (inl (f, is, x)) (inl (g, also, y)) =
       let text : y.text ≡ x.text = read_once (held env) y.text x.text told y.read x.read in
       let own : HasGridFault x.text g = subst (λ (t : List ℕ). HasGridFault t g) text y.faulty in
-      is ∙ ap (λ (e : NavFault). refusal.Grid e) (clear.one_grid_fault x.text f g x.faulty own) ∙ sym also
+      is ∙ ap (λ (e : EnvFault). refusal.Grid e) (clear.one_grid_fault x.text f g x.faulty own) ∙ sym also
   one_grid r u (inl (f, is, x)) (inr (also, long)) = absurd (read_is_short (held env) x.text told x.read long)
   one_grid r u (inr (is, long)) (inl (g, also, y)) = absurd (read_is_short (held env) y.text told y.read long)
   one_grid r u (inr (is, long)) (inr (also, too)) = is ∙ sym also

@@ -64,7 +64,6 @@ use Rattle.sbpl_laws.proofs.OneEnding.{OneMap, checked_ends_alike}
 use Rattle.sbpl_laws.proofs.GridAlike.{AreOneGrid, grids_alike}
 use Rattle.sbpl_promises.specs.GridSite.{grid_site}
 use Rattle.sbpl_nav2d.specs.World.{GridWorld}
-use Rattle.sbpl_nav2d.specs.declared.fault.NavFault.{NavFault}
 use Rattle.sbpl_job.specs.declared.job.NavCheckJob.{NavCheckJob}
 use Rattle.sbpl_laws.proofs.Converse.{HasRead, IsReadFrom, all_good, by_intent, changes_faulty, changes_faulty_none}
 use Rattle.sbpl_laws.proofs.Converse.{changes_long, changes_long_none, changes_world, environment_faulty}
@@ -619,7 +618,7 @@ module _ (before after : DeskState) (old new : List Entry) where
     -- ---- the same on a grid
 
     pub run_grid_faulty : TextsAreClear → EndsRun named before after old new status
-        → (j : Job) (env : List ℕ) (f : NavFault) → named ≡ Some j → grid_of j ≡ Some env
+        → (j : Job) (env : List ℕ) (f : EnvFault) → named ≡ Some j → grid_of j ≡ Some env
         → TellsGridFault held env f → IsOrFailed 3 status
     run_grid_faulty clear ends j env f names is tells =
         by_none j (grid_files env) (changes_of j) 3 (grid_reads j env is) ends names

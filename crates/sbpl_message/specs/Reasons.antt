@@ -1,11 +1,10 @@
 -- What a message for a status says.
 use Rattle.std.specs.Prelude.{◌≡◌, ℕ, ◌==◌, ◌||◌, Bool, List, Option, Some, IfSome}
-use Rattle.sbpl_cfg.specs.Faults as environments
+use Rattle.sbpl_cfg.specs.Faults.{place_of}
 use Rattle.sbpl_cfg.specs.Text as environment_texts
 use Rattle.sbpl_desk.specs.Desk.{DeskState}
 use Rattle.sbpl_job.specs.declared.job.Job.{Job}
 use Rattle.sbpl_job.specs.declared.job.Job.TheVariants as job
-use Rattle.sbpl_nav2d.specs.Faults as grids
 use Rattle.sbpl_nav2d.specs.Text as grid_texts
 use Rattle.sbpl_message.specs.Messages.{IsMessageAt}
 
@@ -27,10 +26,10 @@ pub record IsOnFault {F : Type 0} (HasFault : List ℕ → F → Type 0) (place_
 
 -- a message on the first fault of the environment file of a lattice, and of a grid
 abbrev pub IsOnLattice : (desk : DeskState) (name m : List ℕ) → Type 0
-IsOnLattice = IsOnFault environment_texts.HasFault environments.place_of
+IsOnLattice = IsOnFault environment_texts.HasFault place_of
 
 abbrev pub IsOnGrid : (desk : DeskState) (name m : List ℕ) → Type 0
-IsOnGrid = IsOnFault grid_texts.HasFault grids.place_of
+IsOnGrid = IsOnFault grid_texts.HasFault place_of
 
 -- a message on the first fault of the environment file of a job
 abbrev pub IsOnEnvironment : DeskState → Job → List ℕ → Type 0

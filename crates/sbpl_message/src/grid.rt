@@ -1,14 +1,14 @@
 //! Messages for faults of the environment files of grids.
 
 ghost use Rattle.std.specs.Prelude.{IfOk};
-ghost use Rattle.sbpl_nav2d.specs.Faults.{place_of};
+ghost use Rattle.sbpl_cfg.specs.Faults.{place_of};
 ghost use Rattle.sbpl_message.specs.Messages.{IsMessageAt};
 
 use crate::environment::{COST, HEIGHT, OBSTACLE, START, WIDTH};
 use crate::field::{Row, wanted_after, word_before};
 use crate::message::message_at;
+use sbpl_cfg::EnvFault;
 use sbpl_fixed::NoMemory;
-use sbpl_nav2d::NavFault;
 use std::alloc::Global;
 
 /// What must stand after each word of the environment file of a grid.
@@ -47,20 +47,20 @@ const ROWS: [Row; 5] = [
 ];
 
 /// What must stand at the place of a fault.
-fn wanted(text: &[u8], fault: &NavFault) -> &'static str {
+fn wanted(text: &[u8], fault: &EnvFault) -> &'static str {
     match fault {
-        NavFault::Word(place)
-        | NavFault::Number(place)
-        | NavFault::Range(place)
-        | NavFault::Ended(place) => {
+        EnvFault::Word(place)
+        | EnvFault::Number(place)
+        | EnvFault::Range(place)
+        | EnvFault::Ended(place) => {
             let (word, after) = word_before(text, *place);
             wanted_after(&ROWS, START, word, after)
         }
-        NavFault::Trailing(_) => "the file must end after the cost of the last cell",
-        NavFault::TooLarge(_) => "width times height must be at most 8388608",
-        NavFault::StartOff(_) => "the start must lie on the map",
-        NavFault::EndOff(_) => "the end must lie on the map",
-        NavFault::NoMemory => "there must be memory",
+        EnvFault::Trailing(_) => "the file must end after the cost of the last cell",
+        EnvFault::TooLarge(_) => "width times height must be at most 8388608",
+        EnvFault::StartOff(_) => "the start must lie on the map",
+        EnvFault::EndOff(_) => "the end must lie on the map",
+        EnvFault::NoMemory => "there must be memory",
     }
 }
 
@@ -69,7 +69,7 @@ pub fn grid_message(
     alloc: Global,
     name: &str,
     text: &[u8],
-    fault: &NavFault,
+    fault: &EnvFault,
 ) -> Result<Vec<u8>, NoMemory>
     // It has the line and the column of the fault's place, and shows the token that begins there.
     ensures message { IfOk result (λ m. IsMessageAt name.now text.now (place_of fault.now) m.items) }

@@ -24,7 +24,7 @@ use sbpl_help::wrong_words;
 use sbpl_job::{Job, Name, Sources, read_job};
 use sbpl_map::{ChangeFault, Map};
 use sbpl_mprim::{PrimFault, read_prims};
-use sbpl_nav2d::{NavFault, read_nav};
+use sbpl_nav2d::read_nav;
 use std::alloc::Global;
 
 /// Whether a status has a message.
@@ -59,7 +59,7 @@ fn on_grid<D: Desk>(alloc: Global, name: &Name, desk: &mut D) -> Option<Vec<u8>>
 {
     let text = text_of(alloc, name, desk)?;
     match read_nav(alloc, text.as_slice()) {
-        Ok(_) | Err(NavFault::NoMemory) => None,
+        Ok(_) | Err(EnvFault::NoMemory) => None,
         Err(fault) => grid_message(alloc, name.as_str(), text.as_slice(), &fault).ok(),
     }
 }

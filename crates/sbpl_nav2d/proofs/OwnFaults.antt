@@ -7,10 +7,10 @@ use Rattle.sbpl_fixed.specs.declared.fault.TextFault.{TextFault}
 use Rattle.sbpl_fixed.specs.declared.fault.TextFault.TheVariants as common
 use Rattle.sbpl_fixed.specs.OwnFaults.{Spares, and_then_spares, done_spares, right_spares}
 use Rattle.sbpl_fixed.specs.OwnFaults.{spared, turns_spare, wrong_spares}
-use Rattle.sbpl_nav2d.specs.declared.fault.NavFault.{NavFault}
-use Rattle.sbpl_nav2d.specs.declared.fault.NavFault.TheVariants.{NoMemory, TooLarge, StartOff, EndOff}
+use Rattle.sbpl_cfg.specs.declared.fault.EnvFault.{EnvFault}
+use Rattle.sbpl_cfg.specs.declared.fault.EnvFault.TheVariants.{NoMemory, TooLarge, StartOff, EndOff}
 use Rattle.sbpl_nav2d.specs.declared.parts.Size.{Size}
-use Rattle.sbpl_nav2d.specs.Faults.{told}
+use Rattle.sbpl_cfg.specs.Faults.{told}
 use Rattle.sbpl_nav2d.specs.Format.{size_format, obsthresh_format, spot_format, start_spot_format}
 use Rattle.sbpl_nav2d.specs.Format.{end_spot_format, start_format, end_format, numbers_format}
 use Rattle.sbpl_nav2d.specs.Format.{cost_format, grid_format, environment_format}
@@ -69,6 +69,6 @@ environment_spares =
     and_then_spares NoMemory numbers_format _ numbers_spare (λ _.
     and_then_spares NoMemory (grid_format _) _ (grid_spares _) (λ _. tt))
 
-pub no_memory_is_no_fault : (text : List ℕ) (f : NavFault) → HasFault text f → f ≢ NoMemory
+pub no_memory_is_no_fault : (text : List ℕ) (f : EnvFault) → HasFault text f → f ≢ NoMemory
 no_memory_is_no_fault text f h =
     spared NoMemory told environment_format (length text) (tokens text) f told_spares environment_spares h

@@ -2,8 +2,8 @@
 use Rattle.std.specs.Prelude.{ℕ, pos, nat_abs, ◌+◌, ◌*◌, nat_lt, Bool, ◌&&◌, if◌then◌else◌, List, [], ◌∷◌, ◌++◌, codes}
 use Rattle.sbpl_fixed.specs.Formats.{Format, item, wrong, done, ended, fixed, whole, and_then, turns}
 use Rattle.sbpl_fixed.specs.declared.placed.Placed.{Placed}
-use Rattle.sbpl_nav2d.specs.declared.fault.NavFault.{NavFault}
-use Rattle.sbpl_nav2d.specs.declared.fault.NavFault.TheVariants.{TooLarge, StartOff, EndOff}
+use Rattle.sbpl_cfg.specs.declared.fault.EnvFault.{EnvFault}
+use Rattle.sbpl_cfg.specs.declared.fault.EnvFault.TheVariants.{TooLarge, StartOff, EndOff}
 use Rattle.sbpl_nav2d.specs.declared.parts.Size.{Size}
 use Rattle.sbpl_nav2d.specs.declared.parts.Spot.{Spot}
 use Rattle.sbpl_nav2d.specs.Environment.{NavEnvironment}
@@ -17,7 +17,7 @@ abbrev pub state_of : Size → Spot → ℕ
 state_of size p = p.y * size.width + p.x
 
 -- the map's size; its fault, where there are too many states, is at the width
-unfoldable pub size_format : Format NavFault Size
+unfoldable pub size_format : Format EnvFault Size
 size_format =
     item (fixed (codes "discretization(cells):")) (λ _ _.
     item (whole (pos 1) (pos 8388608)) (λ place width.
@@ -26,40 +26,40 @@ size_format =
     else done (record { width = nat_abs width; height = nat_abs height }))))
 
 -- the cost from which a cell is an obstacle
-unfoldable pub obsthresh_format : Format NavFault ℕ
+unfoldable pub obsthresh_format : Format EnvFault ℕ
 obsthresh_format =
     item (fixed (codes "obsthresh:")) (λ _ _.
     item (whole (pos 0) (pos 255)) (λ _ value.
     done (nat_abs value)))
 
 -- a word and a cell after it, with the offset of its x
-unfoldable pub spot_format : List ℕ → Format NavFault (Placed Spot)
+unfoldable pub spot_format : List ℕ → Format EnvFault (Placed Spot)
 spot_format word =
     item (fixed word) (λ _ _.
     item (whole (pos 0) (pos 8388607)) (λ place x.
     item (whole (pos 0) (pos 8388607)) (λ _ y.
     done (record { value = record { x = nat_abs x; y = nat_abs y }; place = place }))))
 
-unfoldable pub start_spot_format : Format NavFault (Placed Spot)
+unfoldable pub start_spot_format : Format EnvFault (Placed Spot)
 start_spot_format = spot_format (codes "start(cells):")
 
-unfoldable pub end_spot_format : Format NavFault (Placed Spot)
+unfoldable pub end_spot_format : Format EnvFault (Placed Spot)
 end_spot_format = spot_format (codes "end(cells):")
 
 -- the start, which must be on the map
-unfoldable pub start_format : Size → Format NavFault ℕ
+unfoldable pub start_format : Size → Format EnvFault ℕ
 start_format size =
     and_then start_spot_format (λ p.
     if is_on_map size p.value then done (state_of size p.value) else wrong (StartOff p.place))
 
 -- the end, which must be on the map
-unfoldable pub end_format : Size → Format NavFault ℕ
+unfoldable pub end_format : Size → Format EnvFault ℕ
 end_format size =
     and_then end_spot_format (λ p.
     if is_on_map size p.value then done (state_of size p.value) else wrong (EndOff p.place))
 
 -- all numbers but the costs
-unfoldable pub numbers_format : Format NavFault NavEnvironment
+unfoldable pub numbers_format : Format EnvFault NavEnvironment
 numbers_format =
     and_then size_format (λ size.
     and_then obsthresh_format (λ obsthresh.
@@ -68,15 +68,15 @@ numbers_format =
     done (record { width = size.width; height = size.height; obsthresh = obsthresh; start = start; end = end })))))
 
 -- one more cost
-unfoldable pub cost_format : List ℕ → Format NavFault (List ℕ)
+unfoldable pub cost_format : List ℕ → Format EnvFault (List ℕ)
 cost_format cells = item (whole (pos 0) (pos 255)) (λ _ cost. done (cells ++ nat_abs cost ∷ []))
 
 -- a word, and this many costs
-unfoldable pub grid_format : ℕ → Format NavFault (List ℕ)
+unfoldable pub grid_format : ℕ → Format EnvFault (List ℕ)
 grid_format count = item (fixed (codes "environment:")) (λ _ _. turns count cost_format [])
 
 -- the whole file
-unfoldable pub environment_format : Format NavFault (NavEnvironment × List ℕ)
+unfoldable pub environment_format : Format EnvFault (NavEnvironment × List ℕ)
 environment_format =
     and_then numbers_format (λ e.
     and_then (grid_format (e.width * e.height)) (λ cells.

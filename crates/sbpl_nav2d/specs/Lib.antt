@@ -2,7 +2,6 @@ pub mod Adding
 pub mod Arc
 pub mod Directions
 pub mod Environment
-pub mod Faults
 pub mod Format
 pub mod Gap
 pub mod Grids

@@ -3,9 +3,9 @@ use Rattle.std.specs.Prelude.{◌≡◌, ◌≢◌, ℕ, pos, ◌*◌, ◌≤◌
 use Rattle.std.specs.List.{AllByRecursion}
 use Rattle.sbpl_fixed.specs.Meaning.{HasFirstFault}
 use Rattle.sbpl_cfg.specs.Text.{Said, word, number, AllMean, words_of, spelled_grid}
-use Rattle.sbpl_nav2d.specs.declared.fault.NavFault.{NavFault}
-use Rattle.sbpl_nav2d.specs.declared.fault.NavFault.TheVariants.{NoMemory}
-use Rattle.sbpl_nav2d.specs.Faults.{told}
+use Rattle.sbpl_cfg.specs.declared.fault.EnvFault.{EnvFault}
+use Rattle.sbpl_cfg.specs.declared.fault.EnvFault.TheVariants.{NoMemory}
+use Rattle.sbpl_cfg.specs.Faults.{told}
 use Rattle.sbpl_nav2d.specs.Format.{environment_format}
 use Rattle.sbpl_nav2d.specs.Environment.{NavEnvironment, IsNavEnvironment, column_of, row_of}
 
@@ -47,8 +47,8 @@ abbrev pub IsText : List ℕ → Type 0
 IsText text = (e : NavEnvironment) × (cells : List ℕ) × IsTextOf text e cells
 
 -- up to the fault's offset the text is what the format calls for, and there it fails in the way that the fault names
-abbrev pub HasFault : List ℕ → NavFault → Type 0
+abbrev pub HasFault : List ℕ → EnvFault → Type 0
 HasFault text f = HasFirstFault told environment_format text f
 
 abbrev pub IsFaulty : List ℕ → Type 0
-IsFaulty text = (f : NavFault) × (f ≢ NoMemory) × HasFault text f
+IsFaulty text = (f : EnvFault) × (f ≢ NoMemory) × HasFault text f

@@ -3,7 +3,6 @@
 
 mod cell;
 mod env;
-mod fault;
 mod judging;
 mod laws;
 mod nav;
@@ -14,7 +13,6 @@ mod reading;
 mod text;
 
 pub use env::NavEnv;
-pub use fault::NavFault;
 pub use laws::{gaps_in_plain_words, grids_have_their_tails, worlds_are_grids};
 pub use nav::Nav;
 pub use octile::Octile;

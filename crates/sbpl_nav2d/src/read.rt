@@ -2,17 +2,16 @@
 
 ghost use Rattle.std.specs.Prelude.{ℕ, List, Ok, Err, ◌≡◌, ◌≢◌, ◌*◌, ◌<◌, ◌≤◌, true, IfOk, IfErr};
 ghost use Rattle.sbpl_fixed.specs.Formats.{Answers, Gives, reads};
-ghost use Rattle.sbpl_nav2d.specs.declared.fault.NavFault.{NavFault};
-ghost use Rattle.sbpl_nav2d.specs.declared.fault.NavFault.TheVariants.{NoMemory};
+ghost use Rattle.sbpl_cfg.specs.Faults.{told};
+ghost use Rattle.sbpl_cfg.specs.declared.fault.EnvFault.{EnvFault};
+ghost use Rattle.sbpl_cfg.specs.declared.fault.EnvFault.TheVariants.{NoMemory};
 ghost use Rattle.sbpl_nav2d.specs.Environment.{NavEnvironment};
-ghost use Rattle.sbpl_nav2d.specs.Faults.{told};
 ghost use Rattle.sbpl_nav2d.specs.Format.{cost_format, end_format, end_spot_format, environment_format, grid_format, is_on_map, numbers_format, obsthresh_format, size_format, spot_format, start_format, start_spot_format, state_of};
 ghost use Rattle.sbpl_nav2d.specs.Text.{HasFault, IsTextOf};
 
 use crate::env::NavEnv;
-use crate::fault::NavFault;
 use crate::parts::{Size, Spot};
-use sbpl_cfg::Grid;
+use sbpl_cfg::{EnvFault, Grid};
 use sbpl_fixed::{Placed, Reader};
 use std::alloc::Global;
 
@@ -21,7 +20,7 @@ const MOST_STATES: u64 = 8_388_608;
 
 /// The map's size, which must leave room for the states.
 #[tactic(auto, unfolding(sbpl_fixed::specs::Formats::reads, crate::specs::Format::size_format))]
-fn size(reader: &mut Reader) -> Result<Size, NavFault>
+fn size(reader: &mut Reader) -> Result<Size, EnvFault>
     ensures read { Gives NoMemory (λ x. x) result reader.new (reads told size_format reader.old) }
     ensures width { IfOk result (λ x. (1 ≤ x.width) × (x.width ≤ 8388608)) }
     ensures height { IfOk result (λ x. (1 ≤ x.height) × (x.height ≤ 8388608)) }
@@ -31,7 +30,7 @@ fn size(reader: &mut Reader) -> Result<Size, NavFault>
     let width = reader.natural(1, 8_388_608)?;
     let height = reader.natural(1, 8_388_608)?;
     if u64::from(width.value) * u64::from(height.value) > MOST_STATES {
-        return Err(NavFault::TooLarge(width.place));
+        return Err(EnvFault::TooLarge(width.place));
     }
     Ok(Size {
         width: width.value,
@@ -41,7 +40,7 @@ fn size(reader: &mut Reader) -> Result<Size, NavFault>
 
 /// The cost from which a cell is an obstacle.
 #[tactic(auto, unfolding(sbpl_fixed::specs::Formats::reads, crate::specs::Format::obsthresh_format))]
-fn obsthresh(reader: &mut Reader) -> Result<u8, NavFault>
+fn obsthresh(reader: &mut Reader) -> Result<u8, EnvFault>
     ensures read { Gives NoMemory (λ x. x) result reader.new (reads told obsthresh_format reader.old) }
 {
     reader.word(b"obsthresh:")?;
@@ -50,7 +49,7 @@ fn obsthresh(reader: &mut Reader) -> Result<u8, NavFault>
 
 /// A word, and a cell after it, with the place of its x.
 #[tactic(auto, unfolding(sbpl_fixed::specs::Formats::reads, crate::specs::Format::spot_format))]
-fn spot(reader: &mut Reader, word: &[u8]) -> Result<Placed<Spot>, NavFault>
+fn spot(reader: &mut Reader, word: &[u8]) -> Result<Placed<Spot>, EnvFault>
     ensures read { Gives NoMemory (λ x. x) result reader.new (reads told (spot_format word.now) reader.old) }
 {
     reader.word(word)?;
@@ -84,7 +83,7 @@ fn state_of(size: &Size, p: &Spot) -> u32
 
 /// The start's word and cell.
 #[tactic(auto, unfolding(crate::specs::Format::start_spot_format))]
-fn start_spot(reader: &mut Reader) -> Result<Placed<Spot>, NavFault>
+fn start_spot(reader: &mut Reader) -> Result<Placed<Spot>, EnvFault>
     ensures read { Gives NoMemory (λ x. x) result reader.new (reads told start_spot_format reader.old) }
 {
     spot(reader, b"start(cells):")
@@ -92,21 +91,21 @@ fn start_spot(reader: &mut Reader) -> Result<Placed<Spot>, NavFault>
 
 /// The start, which must be on the map.
 #[tactic(auto, using(sbpl_fixed::specs::Parts::reading), unfolding(sbpl_fixed::specs::Formats::reads, crate::specs::Format::start_format))]
-fn start(reader: &mut Reader, size: &Size) -> Result<u32, NavFault>
+fn start(reader: &mut Reader, size: &Size) -> Result<u32, EnvFault>
     requires states { size.now.width * size.now.height ≤ 8388608 }
     ensures read { Gives NoMemory (λ x. x) result reader.new (reads told (start_format size.now) reader.old) }
     ensures inside { IfOk result (λ s. s < size.now.width * size.now.height) }
 {
     let spot = start_spot(reader)?;
     if !is_on_map(size, &spot.value) {
-        return Err(NavFault::StartOff(spot.place));
+        return Err(EnvFault::StartOff(spot.place));
     }
     Ok(state_of(size, &spot.value))
 }
 
 /// The end's word and cell.
 #[tactic(auto, unfolding(crate::specs::Format::end_spot_format))]
-fn end_spot(reader: &mut Reader) -> Result<Placed<Spot>, NavFault>
+fn end_spot(reader: &mut Reader) -> Result<Placed<Spot>, EnvFault>
     ensures read { Gives NoMemory (λ x. x) result reader.new (reads told end_spot_format reader.old) }
 {
     spot(reader, b"end(cells):")
@@ -114,21 +113,21 @@ fn end_spot(reader: &mut Reader) -> Result<Placed<Spot>, NavFault>
 
 /// The end, which must be on the map.
 #[tactic(auto, using(sbpl_fixed::specs::Parts::reading), unfolding(sbpl_fixed::specs::Formats::reads, crate::specs::Format::end_format))]
-fn end(reader: &mut Reader, size: &Size) -> Result<u32, NavFault>
+fn end(reader: &mut Reader, size: &Size) -> Result<u32, EnvFault>
     requires states { size.now.width * size.now.height ≤ 8388608 }
     ensures read { Gives NoMemory (λ x. x) result reader.new (reads told (end_format size.now) reader.old) }
     ensures inside { IfOk result (λ s. s < size.now.width * size.now.height) }
 {
     let spot = end_spot(reader)?;
     if !is_on_map(size, &spot.value) {
-        return Err(NavFault::EndOff(spot.place));
+        return Err(EnvFault::EndOff(spot.place));
     }
     Ok(state_of(size, &spot.value))
 }
 
 /// All numbers but the costs.
 #[tactic(auto, using(sbpl_fixed::specs::Parts::reading), unfolding(sbpl_fixed::specs::Formats::reads, crate::specs::Format::numbers_format))]
-fn numbers(reader: &mut Reader) -> Result<NavEnv, NavFault>
+fn numbers(reader: &mut Reader) -> Result<NavEnv, EnvFault>
     ensures read { Gives NoMemory (λ x. x) result reader.new (reads told numbers_format reader.old) }
 {
     let size = size(reader)?;
@@ -146,7 +145,7 @@ fn numbers(reader: &mut Reader) -> Result<NavEnv, NavFault>
 
 /// The costs of the cells, after their word.
 #[tactic(auto, using(sbpl_fixed::specs::Parts::reading), unfolding(sbpl_fixed::specs::Formats::reads, crate::specs::Format::cost_format, crate::specs::Format::grid_format))]
-fn costs(alloc: Global, reader: &mut Reader, count: u32) -> Result<Vec<u8>, NavFault>
+fn costs(alloc: Global, reader: &mut Reader, count: u32) -> Result<Vec<u8>, EnvFault>
     ensures read { Gives NoMemory (λ x. x.items) result reader.new (reads told (grid_format count) reader.old) }
 {
     reader.word(b"environment:")?;
@@ -160,7 +159,7 @@ fn costs(alloc: Global, reader: &mut Reader, count: u32) -> Result<Vec<u8>, NavF
 
 /// The whole file.
 #[tactic(auto, using(sbpl_fixed::specs::Parts::reading), unfolding(sbpl_fixed::specs::Formats::reads, crate::specs::Format::environment_format))]
-fn environment(alloc: Global, reader: &mut Reader) -> Result<(NavEnv, Grid), NavFault>
+fn environment(alloc: Global, reader: &mut Reader) -> Result<(NavEnv, Grid), EnvFault>
     ensures read { Gives NoMemory (λ x. x) result reader.new (reads told environment_format reader.old) }
 {
     let env = numbers(reader)?;
@@ -175,7 +174,7 @@ fn environment(alloc: Global, reader: &mut Reader) -> Result<(NavEnv, Grid), Nav
 /// offset: `TooLarge` comes directly after the height, `StartOff` and `EndOff` directly after their y. Only the costs
 /// take memory.
 #[tactic(auto, using(sbpl_fixed::proofs::Meaning::answering))]
-pub fn read_nav(alloc: Global, text: &[u8]) -> Result<(NavEnv, Grid), NavFault>
+pub fn read_nav(alloc: Global, text: &[u8]) -> Result<(NavEnv, Grid), EnvFault>
     // What is read is what the text stands for.
     ensures found { IfOk result (λ x. IsTextOf text.now x.0 x.1) }
     // What a text stands for is read, unless memory runs out.
@@ -184,7 +183,7 @@ pub fn read_nav(alloc: Global, text: &[u8]) -> Result<(NavEnv, Grid), NavFault>
     // A fault is the text's first one.
     ensures faulty { IfErr result (λ f. f ≢ NoMemory → HasFault text.now f) }
     // The first fault of a text is answered, unless memory runs out.
-    ensures only_faulty { (f : NavFault)
+    ensures only_faulty { (f : EnvFault)
         → HasFault text.now f → Answers NoMemory (λ y. y) result (Err f) }
 {
     environment(alloc, &mut Reader::new(text))

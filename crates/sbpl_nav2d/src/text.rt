@@ -2,7 +2,7 @@
 
 ghost use Rattle.std.specs.Prelude.{◌≡◌, ◌⊎◌, ◌↔◌, ℕ, List};
 ghost use Rattle.sbpl_fixed.specs.Meaning.{StandsFor};
-ghost use Rattle.sbpl_nav2d.specs.declared.fault.NavFault.{NavFault};
+ghost use Rattle.sbpl_cfg.specs.declared.fault.EnvFault.{EnvFault};
 ghost use Rattle.sbpl_nav2d.specs.Environment.{NavEnvironment};
 ghost use Rattle.sbpl_nav2d.specs.Format.{environment_format};
 ghost use Rattle.sbpl_nav2d.specs.Text.{HasFault, IsFaulty, IsText, IsTextOf};
@@ -14,8 +14,8 @@ pub fn texts_are_grids_or_faulty()
     ensures format { (text : List ℕ) (x : NavEnvironment × List ℕ)
         → StandsFor environment_format text x ↔ IsTextOf text x.0 x.1 }
     ensures either { (text : List ℕ) → IsText text ⊎ IsFaulty text }
-    ensures not_both { (text : List ℕ) (f : NavFault) → IsText text → HasFault text f → ⊥ }
+    ensures not_both { (text : List ℕ) (f : EnvFault) → IsText text → HasFault text f → ⊥ }
     ensures one_value { (text : List ℕ) (e d : NavEnvironment) (cells others : List ℕ)
         → IsTextOf text e cells → IsTextOf text d others → (e ≡ d) × (cells ≡ others) }
-    ensures one_fault { (text : List ℕ) (f g : NavFault) → HasFault text f → HasFault text g → f ≡ g }
+    ensures one_fault { (text : List ℕ) (f g : EnvFault) → HasFault text f → HasFault text g → f ≡ g }
 {}

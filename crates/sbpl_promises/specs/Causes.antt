@@ -41,7 +41,6 @@ use Rattle.sbpl_promises.specs.Headline.{ArePlans}
 use Rattle.sbpl_promises.specs.GridSite.{grid_site}
 use Rattle.sbpl_promises.specs.LatticeSite.{lattice_site}
 use Rattle.sbpl_nav2d.specs.World.{GridWorld}
-use Rattle.sbpl_nav2d.specs.declared.fault.NavFault.{NavFault}
 use Rattle.sbpl_promises.specs.Sites.{Site}
 use Rattle.sbpl_promises.specs.WorldFiles.{WorldFiles}
 use Rattle.sbpl_promises.specs.Published.{Entry}
@@ -274,7 +273,7 @@ pub record ReadsGrid (held : Told) (env : List ℕ) (w : GridWorld) : Type 0 whe
   pub map : w.map ≡ record { width = w.env.width; height = w.env.height; costs = cells }
 
 -- it has this first fault
-pub record IsFaultyGrid (held : Told) (env : List ℕ) (f : NavFault) : Type 0 where
+pub record IsFaultyGrid (held : Told) (env : List ℕ) (f : EnvFault) : Type 0 where
   pub text : List ℕ
   pub read : IsReadText (held env) text
   pub faulty : HasGridFault text f

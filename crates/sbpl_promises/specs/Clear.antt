@@ -16,7 +16,6 @@ use Rattle.sbpl_cert.specs.Text.{AreTokens, AreTokensOf, HasFault}
 use Rattle.sbpl_cert.specs.Versions.{claim_by}
 use Rattle.sbpl_promises.specs.declared.course.Course.{Course}
 use Rattle.sbpl_nav2d.specs.Environment.{NavEnvironment}
-use Rattle.sbpl_nav2d.specs.declared.fault.NavFault.{NavFault}
 use Rattle.sbpl_promises.specs.Texts.{HasChangeFault, HasEnvironmentFault, HasGridFault, HasPrimitiveFault, IsChangeText, IsEnvironmentText, IsGridText, IsPrimitiveText, Scope}
 
 -- an environment file, of a lattice or of a grid, a primitive file or a change file stands for one value or has one first fault, and never both
@@ -28,8 +27,8 @@ pub record TextsAreClear : Type 0 where
   pub primitive_fault : (text : List ℕ) (e : Environment) (ps : Primitives) (f : PrimFault) → IsPrimitiveText e text ps → HasPrimitiveFault e text f → ⊥
   pub one_primitive_fault : (text : List ℕ) (e : Environment) (f g : PrimFault) → HasPrimitiveFault e text f → HasPrimitiveFault e text g → f ≡ g
   pub grid : (text : List ℕ) (e d : NavEnvironment) (cells others : List ℕ) → IsGridText text e cells → IsGridText text d others → (e ≡ d) × (cells ≡ others)
-  pub grid_fault : (text : List ℕ) (e : NavEnvironment) (cells : List ℕ) (f : NavFault) → IsGridText text e cells → HasGridFault text f → ⊥
-  pub one_grid_fault : (text : List ℕ) (f g : NavFault) → HasGridFault text f → HasGridFault text g → f ≡ g
+  pub grid_fault : (text : List ℕ) (e : NavEnvironment) (cells : List ℕ) (f : EnvFault) → IsGridText text e cells → HasGridFault text f → ⊥
+  pub one_grid_fault : (text : List ℕ) (f g : EnvFault) → HasGridFault text f → HasGridFault text g → f ≡ g
   pub changes : (s : Scope) (text : List ℕ) (c d : Course) → IsChangeText s text c → IsChangeText s text d → c ≡ d
   pub change_fault : (s : Scope) (text : List ℕ) (c : Course) (f : ChangeFault) → IsChangeText s text c → HasChangeFault s text f → ⊥
   pub one_change_fault : (s : Scope) (text : List ℕ) (f g : ChangeFault) → HasChangeFault s text f → HasChangeFault s text g → f ≡ g

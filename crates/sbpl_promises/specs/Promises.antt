@@ -15,7 +15,6 @@ use Rattle.sbpl_cert.specs.declared.outcome.Outcome.{Outcome}
 use Rattle.sbpl_promises.specs.Asked.{Known, checked_direction}
 use Rattle.sbpl_promises.specs.Sites.{Site}
 use Rattle.sbpl_nav2d.specs.World.{GridWorld, IsGridWorld}
-use Rattle.sbpl_nav2d.specs.declared.fault.NavFault.{NavFault}
 use Rattle.sbpl_promises.specs.WorldFiles.{WorldFiles}
 use Rattle.sbpl_replan.specs.Directions.{Direction}
 use Rattle.sbpl_promises.specs.declared.section_stop.SectionStop.{SectionStop}
@@ -308,7 +307,7 @@ abbrev pub IsOnGrid : Option Job → (env : List ℕ) → Type 0
 IsOnGrid named env = AtJob named (λ j. grid_of j ≡ Some env)
 
 -- the desk tells that this environment file of a grid has this first fault
-abbrev pub TellsGridFault : Told → (env : List ℕ) → NavFault → Type 0
+abbrev pub TellsGridFault : Told → (env : List ℕ) → EnvFault → Type 0
 TellsGridFault held env f = (text : List ℕ) × Tells (held env) text × HasGridFault text f
 
 -- the desk tells that it stands for this world

@@ -12,7 +12,6 @@ pub use Rattle.sbpl_promises.specs.Promises.{AreGood, ReadsFrom, AtJob, EndsJob,
 pub use Rattle.sbpl_promises.specs.GridSite.{grid_site}
 pub use Rattle.sbpl_promises.specs.LatticeSite.{lattice_site}
 pub use Rattle.sbpl_nav2d.specs.World.{GridWorld}
-pub use Rattle.sbpl_nav2d.specs.declared.fault.NavFault.{NavFault}
 pub use Rattle.sbpl_job.specs.declared.job.NavCheckJob.{NavCheckJob}
 pub use Rattle.sbpl_promises.specs.declared.course.Course.{Course}
 pub use Rattle.sbpl_promises.specs.Texts.{Scope}

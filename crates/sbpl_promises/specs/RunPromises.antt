@@ -3,7 +3,7 @@ use Rattle.std.specs.Prelude.{◌≡◌, ◌≢◌, ◌⊎◌, ℕ, false, List,
 use Rattle.sbpl_desk.specs.Desk.{DeskState}
 use Rattle.sbpl_promises.specs.Published.{Entry}
 use Rattle.sbpl_promises.specs.Promises.{EndsRun}
-use Rattle.sbpl_promises.specs.Run.{AreGood, ArePrefixes, AreTold, AtJob, CallsFor, ChangeFault, CheckJob, Course, DemoJob, EndsJob, EndsWithoutMemory, EnvFault, Environment, GridWorld, Intent, IsCheckedIn, IsCutShort, IsDeterminedJob, IsDone, IsFaultFound, IsFirstTooDear, IsFirstTooWide, IsFlawFound, IsHolding, IsNoCheck, IsNoFailure, IsOnGrid, IsOrFailed, IsOrUnwritten, IsRefused, IsStatus, Job, NavCheckJob, NavFault, NoneRose, NoneTooWide, Outcome, PrimFault, Primitives, ReadsFrom, Scope, SectionStop, SomeRose, Sources, Tells, TellsChangeFault, TellsCourse, TellsEnvironment, TellsEnvironmentFault, TellsGrid, TellsGridFault, TellsPrimitiveFault, TellsPrimitives, TellsTooMuch, TellsWorld, World, changes_of, checked_direction, checked_status, grid_of, grid_scope, grid_site, intent_status, lattice_site, moves_in, scope_of, sources_of, words_writes, writes_of}
+use Rattle.sbpl_promises.specs.Run.{AreGood, ArePrefixes, AreTold, AtJob, CallsFor, ChangeFault, CheckJob, Course, DemoJob, EndsJob, EndsWithoutMemory, EnvFault, Environment, GridWorld, Intent, IsCheckedIn, IsCutShort, IsDeterminedJob, IsDone, IsFaultFound, IsFirstTooDear, IsFirstTooWide, IsFlawFound, IsHolding, IsNoCheck, IsNoFailure, IsOnGrid, IsOrFailed, IsOrUnwritten, IsRefused, IsStatus, Job, NavCheckJob, EnvFault, NoneRose, NoneTooWide, Outcome, PrimFault, Primitives, ReadsFrom, Scope, SectionStop, SomeRose, Sources, Tells, TellsChangeFault, TellsCourse, TellsEnvironment, TellsEnvironmentFault, TellsGrid, TellsGridFault, TellsPrimitiveFault, TellsPrimitives, TellsTooMuch, TellsWorld, World, changes_of, checked_direction, checked_status, grid_of, grid_scope, grid_site, intent_status, lattice_site, moves_in, scope_of, sources_of, words_writes, writes_of}
 use Rattle.sbpl_promises.specs.Writing.{AreAppended, IsCutAt, RunsOutAt, Stays}
 use Rattle.sbpl_promises.specs.declared.section_stop.SectionStop.TheVariants as Stops
 use Rattle.sbpl_job.specs.declared.job.Job.TheVariants as Jobs
@@ -48,7 +48,7 @@ pub record RunPromises (named : Option Job) (before after : DeskState) (old new 
   pub changes_long : (job : Job) (from : Sources) (s : Scope) (name : List ℕ) → named ≡ Some job → sources_of job ≡ Some from → AreGood before.held from (moves_in job) s → changes_of job ≡ Some name → TellsTooMuch (before.held name) → IsOrFailed 8 status
   pub changes_faulty : (job : Job) (from : Sources) (s : Scope) (f : ChangeFault) → named ≡ Some job → sources_of job ≡ Some from → AreGood before.held from (moves_in job) s → TellsChangeFault before.held (changes_of job) s f → IsOrFailed 5 status
   -- The same of a job on a grid, which has no primitives.
-  pub grid_faulty : (env : List ℕ) (f : NavFault) → IsOnGrid named env → TellsGridFault before.held env f → IsOrFailed 3 status
+  pub grid_faulty : (env : List ℕ) (f : EnvFault) → IsOnGrid named env → TellsGridFault before.held env f → IsOrFailed 3 status
   pub grid_long : (env : List ℕ) → IsOnGrid named env → TellsTooMuch (before.held env) → IsOrFailed 8 status
   pub grid_changes_long : (job : Job) (env : List ℕ) (w : GridWorld) (name : List ℕ) → named ≡ Some job → grid_of job ≡ Some env → TellsGrid before.held env w → changes_of job ≡ Some name → TellsTooMuch (before.held name) → IsOrFailed 8 status
   pub grid_changes_faulty : (job : Job) (env : List ℕ) (w : GridWorld) (f : ChangeFault) → named ≡ Some job → grid_of job ≡ Some env → TellsGrid before.held env w → TellsChangeFault before.held (changes_of job) (grid_scope w) f → IsOrFailed 5 status

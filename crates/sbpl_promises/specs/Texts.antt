@@ -15,7 +15,6 @@ use Rattle.sbpl_mprim.specs.Primitives.{Primitives}
 use Rattle.sbpl_mprim.specs.Text as primitives
 use Rattle.sbpl_nav2d.specs.Environment.{NavEnvironment}
 use Rattle.sbpl_nav2d.specs.Text as grids
-use Rattle.sbpl_nav2d.specs.declared.fault.NavFault.{NavFault}
 
 -- the text of an environment file stands for an environment and the costs of its cells
 abbrev pub IsEnvironmentText : List ℕ → Environment → List ℕ → Type 0
@@ -40,7 +39,7 @@ abbrev pub IsGridText : List ℕ → NavEnvironment → List ℕ → Type 0
 IsGridText text e cells = grids.IsTextOf text e cells
 
 -- the first fault of the text of the environment file of a grid
-abbrev pub HasGridFault : List ℕ → NavFault → Type 0
+abbrev pub HasGridFault : List ℕ → EnvFault → Type 0
 HasGridFault text f = grids.HasFault text f
 
 -- what a change file is read for: the map, and, where its lines can say where the robot is, the number of headings

@@ -11,7 +11,6 @@ use Rattle.sbpl_job.specs.declared.job.CheckJob.{CheckJob}
 use Rattle.sbpl_job.specs.declared.job.NavCheckJob.{NavCheckJob}
 use Rattle.sbpl_job.specs.declared.job.NavJob.{NavJob}
 use Rattle.sbpl_job.specs.declared.job.PlanJob.{PlanJob}
-use Rattle.sbpl_nav2d.specs.Faults as grids
 use Rattle.sbpl_job.specs.declared.job.Sources.{Sources}
 use Rattle.sbpl_cert.specs.Faults as faults
 use Rattle.sbpl_cert.specs.declared.fault.LabelFault.{LabelFault}
@@ -85,7 +84,7 @@ unread_text why name = codes "refused " ++ (why ++ (codes " " ++ (name ++ line_f
 -- the line of a refusal
 abbrev pub refusal_text : Job → Refusal → List ℕ
 refusal_text j (refusal.Environment f) = fault_text (codes "environment") (environments.number_of f) (environments.name_of f) (environments.place_of f)
-refusal_text j (refusal.Grid f) = fault_text (codes "environment") (grids.number_of f) (grids.name_of f) (grids.place_of f)
+refusal_text j (refusal.Grid f) = fault_text (codes "environment") (environments.number_of f) (environments.name_of f) (environments.place_of f)
 refusal_text j (refusal.Primitives f) = fault_text (codes "primitives") (primitives.number_of f) (primitives.name_of f) (primitives.place_of f)
 refusal_text j (refusal.TooWide i) = fault_text (codes "primitives") 14 (codes "TooWide") i
 refusal_text j (refusal.TooDear i) = fault_text (codes "primitives") 15 (codes "TooDear") i

@@ -6,7 +6,6 @@ ghost use Rattle.sbpl_report.specs.Refusals.{refusal_status};
 use sbpl_cfg::EnvFault;
 use sbpl_map::ChangeFault;
 use sbpl_mprim::PrimFault;
-use sbpl_nav2d::NavFault;
 
 /// A file that a job reads.
 #[derive(Clone, Copy)]
@@ -23,7 +22,7 @@ pub enum Refusal {
     /// The environment file of a lattice has a fault.
     Environment(EnvFault),
     /// The environment file of a grid has a fault.
-    Grid(NavFault),
+    Grid(EnvFault),
     /// The primitive file has a fault.
     Primitives(PrimFault),
     /// The primitive at this place of the file sweeps too many cells, or too many with those before it.

@@ -13,7 +13,6 @@ use sbpl_message::{
     words_message,
 };
 use sbpl_mprim::PrimFault;
-use sbpl_nav2d::NavFault;
 use std::alloc::Global;
 use std::process::Abort;
 
@@ -66,29 +65,29 @@ const YARD: &str =
     "discretization(cells): 3 2\nobsthresh: 100\nstart(cells): 0 0\nend(cells): 2 1\nenvironment:\n0 0 0\n0 2 0\n";
 
 /// Faults of it, and their messages.
-const GRIDS: [(NavFault, &str); 6] = [
+const GRIDS: [(EnvFault, &str); 6] = [
     (
-        NavFault::TooLarge(23),
+        EnvFault::TooLarge(23),
         "yard.cfg:1:24: width times height must be at most 8388608, found \"3\"\n",
     ),
     (
-        NavFault::Word(27),
+        EnvFault::Word(27),
         "yard.cfg:2:1: obsthresh: must stand here, found \"obsthresh:\"\n",
     ),
     (
-        NavFault::Word(42),
+        EnvFault::Word(42),
         "yard.cfg:3:1: start(cells): must stand here, found \"start(cells):\"\n",
     ),
     (
-        NavFault::Range(58),
+        EnvFault::Range(58),
         "yard.cfg:3:17: y of the start must be a whole number from 0 to 8388607, found \"0\"\n",
     ),
     (
-        NavFault::Number(97),
+        EnvFault::Number(97),
         "yard.cfg:7:3: the cost of a cell must be a whole number from 0 to 255, found \"2\"\n",
     ),
     (
-        NavFault::Trailing(99),
+        EnvFault::Trailing(99),
         "yard.cfg:7:5: the file must end after the cost of the last cell, found \"0\"\n",
     ),
 ];

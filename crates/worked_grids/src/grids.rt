@@ -1,15 +1,16 @@
 //! A grid as a graph.
 
 use crate::texts::HALL;
+use sbpl_cfg::EnvFault;
 use sbpl_graph::{Graph, Guide};
 use sbpl_map::Map;
-use sbpl_nav2d::{Nav, NavFault, Octile, read_nav};
+use sbpl_nav2d::{Nav, Octile, read_nav};
 use std::alloc::Global;
 use std::process::Abort;
 use std::test::Fail;
 
 /// The grid of a text.
-pub(crate) fn grid_of(alloc: Global, text: &str) -> Result<Nav, NavFault> {
+pub(crate) fn grid_of(alloc: Global, text: &str) -> Result<Nav, EnvFault> {
     let (env, grid) = read_nav(alloc, text.as_bytes())?;
     let map = Map::plain(env.width, env.height, grid);
     Ok(Nav::new(&env, map))
