@@ -1,10 +1,7 @@
-//! The program from its start: words that ask for help, and words that name a job.
+//! The program from its start: its words, its desks, and a terminal that shows the newest path.
 #![tactic(auto)]
 
-mod answering;
 mod program;
 mod progress;
 
-pub use answering::answer;
 pub use program::start;
-pub use sbpl_cli::{Gate, NoGate};

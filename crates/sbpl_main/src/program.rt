@@ -3,9 +3,8 @@
 ghost use Rattle.std.specs.Prelude.{◌≡◌, drop};
 ghost use Rattle.sbpl_promises.specs.Promises.{IsStatus};
 
-use crate::answering::{NO_MEMORY, answer};
 use crate::progress::answer_at_terminal;
-use sbpl_cli::NoGate;
+use sbpl_answer::{NO_MEMORY, NoGate, answer};
 use sbpl_desk::RealDesk;
 use sbpl_incumbent::Board;
 use std::io::IsTerminal;

@@ -3,8 +3,7 @@
 ghost use Rattle.std.specs.Prelude.{◌≡◌, ◌<◌, ◌^◌, length};
 ghost use Rattle.sbpl_promises.specs.Promises.{IsStatus};
 
-use crate::answering::{NO_MEMORY, answer};
-use sbpl_cli::NoGate;
+use sbpl_answer::{NO_MEMORY, NoGate, answer};
 use sbpl_desk::{Desk, ReadStop, RealDesk, WriteStop};
 use sbpl_incumbent::{Board, Entry, Publisher, Reader};
 use std::alloc::{AllocError, Global};

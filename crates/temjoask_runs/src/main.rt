@@ -9,9 +9,9 @@
 //! - Any other line says what the runs after it show.
 #![tactic(auto)]
 
+use sbpl_answer::{NoGate, answer};
 use sbpl_desk::RealDesk;
 use sbpl_incumbent::Board;
-use sbpl_main::{NoGate, answer};
 use std::rt::Files;
 use std::sync::Wait;
 use std::thread::Threads;

@@ -25,7 +25,7 @@ use std::thread::Threads;
 const NOT_WRITTEN: u8 = 7;
 
 /// The status where memory ran out.
-pub(crate) const NO_MEMORY: u8 = 9;
+pub const NO_MEMORY: u8 = 9;
 
 /// Writes the text that is asked for to the standard output, and answers the status.
 fn tell<D: Desk>(alloc: Global, asked: Asked, desk: &mut D) -> u8

@@ -2,7 +2,7 @@ use Rattle.std.proofs.Common.{◌≡◌, ℕ, None, Option, Some, IsSome, arith,
 use Rattle.std.proofs.lemmas.Bool.{false≢true}
 use Rattle.sbpl_promises.specs.Run.{IsOrUnwritten, IsStatus}
 use Rattle.sbpl_job.specs.declared.help.Asked.{Asked}
-use Rattle.sbpl_main.proofs.answering.answer.Goals as goal
+use Rattle.sbpl_answer.proofs.answering.answer.Goals as goal
 
 -- words that ask for something do not ask for nothing
 not_asked : (asked : Option Asked) (x : Asked) → asked ≡ Some x → asked ≡ None → ⊥
