@@ -9,7 +9,8 @@ use crate::writing::{OUTPUT, write_text};
 use sbpl_desk::{Desk, WriteStop};
 use sbpl_fixed::NoMemory;
 use sbpl_job::{Name, Outputs};
-use sbpl_report::{PlanRecord, incumbent_line, labels_text, section_of, trace_of};
+use sbpl_report::{PlanRecord, incumbent_line, labels_text, trace_of};
+use sbpl_section::section_of;
 use std::alloc::Global;
 
 /// Writes the section of a plan.

@@ -1,32 +1,16 @@
 //! The text of a message.
 
-ghost use Rattle.std.specs.Prelude.{◌≡◌, ◌++◌, IfOk, OnOk, decimal, map, take};
+ghost use Rattle.std.specs.Prelude.{◌≡◌, ◌++◌, IfOk, OnOk, map, take};
 ghost use Rattle.sbpl_lines.specs.Lines.{column_of, filled_at, line_of};
 ghost use Rattle.sbpl_message.specs.Messages.{dots, found_text, message_text, plain_text, quoted_text, shown, shown_byte, spot_text};
 
-use itoa::Buffer;
 use sbpl_fixed::NoMemory;
 use sbpl_lines::{filled_at, line_and_column};
+use sbpl_text::{push_bytes, push_number};
 use std::alloc::{AllocError, Global};
 
 /// How many bytes of what stands in a file a message shows.
 const MOST_SHOWN: usize = 40;
-
-/// Appends bytes.
-fn push_bytes(out: &mut Vec<u8>, bytes: &[u8]) -> Result<(), NoMemory>
-    ensures appended { OnOk result (out.new.items ≡ out.old.items ++ bytes.now) }
-{
-    out.extend_from_slice(bytes)?;
-    Ok(())
-}
-
-/// Appends a whole number.
-fn push_number(out: &mut Vec<u8>, number: usize) -> Result<(), NoMemory>
-    ensures appended { OnOk result (out.new.items ≡ out.old.items ++ decimal number) }
-{
-    out.extend_from_slice(Buffer::new().format(number as u64).as_bytes())?;
-    Ok(())
-}
 
 /// A byte as a message shows it: a byte that a terminal might act on is shown as `?`.
 fn shown_byte(byte: u8) -> u8
@@ -74,9 +58,9 @@ fn push_spot(out: &mut Vec<u8>, name: &str, line: usize, column: usize) -> Resul
 {
     push_bytes(out, name.as_bytes())?;
     push_bytes(out, b":")?;
-    push_number(out, line)?;
+    push_number(out, line as u64)?;
     push_bytes(out, b":")?;
-    push_number(out, column)?;
+    push_number(out, column as u64)?;
     push_bytes(out, b": ")
 }
 

@@ -3,10 +3,10 @@
 ghost use Rattle.std.specs.Prelude.{◌≡◌, ◌++◌, IfOk, OnOk};
 ghost use Rattle.sbpl_report.specs.Verdicts.{at_arc, at_goal, at_state, bound_text, flaw_kind, flaw_numbers, flaw_text, holds_text, limit_text, outcome_word, two_bounds, two_limits};
 
-use crate::report::{push_bytes, push_field, push_number};
 use sbpl_cert::{Flaw, Outcome};
 use sbpl_fixed::{NoMemory, print_milli};
 use sbpl_graph::FAR;
+use sbpl_text::{push_bytes, push_field, push_number};
 use std::alloc::Global;
 
 /// The word for what a plan answered.

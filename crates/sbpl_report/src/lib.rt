@@ -1,5 +1,5 @@
-//! What the program prints, as texts: sections of plans, their labels and traces, the lines of checks, of sweeps, of a
-//! demonstration and of refusals.
+//! What the program prints: the record of a plan, and as texts its labels, its trace and its line, the lines of checks, of sweeps,
+//! of a demonstration and of refusals.
 #![tactic(auto)]
 
 mod check_lines;
@@ -18,6 +18,6 @@ pub use parts::Steps;
 pub use record::{PathRecord, PathStep, PlanRecord, Raised, Spot, TraceLine};
 pub use refusal::{Input, Refusal, Stop};
 pub use refusal_lines::{fault_line, refusal_line};
-pub use report::{demo_line, incumbent_line, plan_line, section_of};
+pub use report::{demo_line, incumbent_line, plan_line};
 pub use sweep_lines::listing_at;
 pub use trace::{Traced, trace_of, traced_passes};

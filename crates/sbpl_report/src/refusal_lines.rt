@@ -4,10 +4,10 @@ ghost use Rattle.std.specs.Prelude.{◌≡◌, ◌++◌, OnOk, IfOk};
 ghost use Rattle.sbpl_report.specs.Refusals.{check_name, fault_text, input_name, label_fault_text, name_or_nothing, nav_check_name, nav_name, plan_name, refusal_text, sources_name, unread_text};
 
 use crate::refusal::{Input, Refusal};
-use crate::report::{push_bytes, push_field};
 use sbpl_cert::LabelFault;
 use sbpl_fixed::NoMemory;
 use sbpl_job::{CheckJob, Job, Name, NavCheckJob, NavJob, PlanJob, Sources};
+use sbpl_text::{push_bytes, push_field};
 use std::alloc::Global;
 
 /// Appends the line of a fault in a file.

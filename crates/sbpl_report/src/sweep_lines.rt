@@ -1,24 +1,14 @@
 //! The lines that list what a primitive costs and which cells it sweeps.
 
 ghost use Rattle.std.specs.Prelude.{◌≡◌, ◌<◌, ◌++◌, OnOk, IfOk, length};
-ghost use Rattle.std.specs.Fmt.{signed_decimal};
 ghost use Rattle.sbpl_report.specs.Listing.{cell_text, cells_text, offset_text, end_text, listing_at, listing_text, prim_text};
 
-use crate::report::{push_bytes, push_field};
-use itoa::Buffer;
 use sbpl_cost::Lattice;
 use sbpl_fixed::NoMemory;
 use sbpl_mprim::Prim;
 use sbpl_sweep::Cell;
+use sbpl_text::{push_bytes, push_field, push_signed};
 use std::alloc::Global;
-
-/// Appends a whole number with its sign.
-fn push_signed(out: &mut Vec<u8>, number: i64) -> Result<(), NoMemory>
-    ensures appended { OnOk result (out.new.items ≡ out.old.items ++ signed_decimal number) }
-{
-    out.extend_from_slice(Buffer::new().format(number).as_bytes())?;
-    Ok(())
-}
 
 /// Appends a cell.
 #[tactic(auto, unfolding(crate::specs::Listing::offset_text))]

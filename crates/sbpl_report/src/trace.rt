@@ -7,11 +7,11 @@ ghost use Rattle.sbpl_report.specs.declared.record.TraceLine.{TraceLine};
 ghost use Rattle.sbpl_report.specs.declared.record.TraceLine.TheVariants as Lines;
 
 use crate::record::{PlanRecord, TraceLine};
-use crate::report::{push_bytes, push_field, push_milli};
 use sbpl_fixed::NoMemory;
 use sbpl_frontier_rules::Event;
 use sbpl_plan::{Pass, Passes, Trace};
 use sbpl_serial::Step;
+use sbpl_text::{push_bytes, push_field, push_milli};
 use std::alloc::Global;
 
 /// What a planner notes, as a line of a trace.

@@ -1,0 +1,39 @@
+//! Pieces that are appended together.
+
+ghost use Rattle.std.specs.Prelude.{◌≡◌, ◌++◌, OnOk, flat_map};
+ghost use Rattle.sbpl_text.specs.Pieces.{piece_text};
+
+use crate::number::{push_bytes, push_number};
+use sbpl_fixed::{NoMemory, print_milli};
+
+/// A piece of a text.
+#[derive(Clone, Copy)]
+pub enum Piece<'a> {
+    /// Bytes as they are.
+    Bytes(&'a [u8]),
+    /// A whole number in digits.
+    Number(u64),
+    /// A number of thousandths, with a point and three digits.
+    Milli(u128),
+}
+
+/// Appends a piece.
+fn push_piece(out: &mut Vec<u8>, piece: Piece) -> Result<(), NoMemory>
+    ensures appended { OnOk result (out.new.items ≡ out.old.items ++ piece_text piece.entry) }
+{
+    match piece {
+        Piece::Bytes(bytes) => push_bytes(out, bytes),
+        Piece::Number(number) => push_number(out, number),
+        Piece::Milli(number) => print_milli(number, out),
+    }
+}
+
+/// Appends pieces in order.
+pub fn push_all(out: &mut Vec<u8>, pieces: &[Piece]) -> Result<(), NoMemory>
+    ensures appended { OnOk result (out.new.items ≡ out.old.items ++ flat_map piece_text pieces.now) }
+{
+    for piece in pieces {
+        push_piece(out, *piece)?;
+    }
+    Ok(())
+}
