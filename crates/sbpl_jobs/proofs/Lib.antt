@@ -1,11 +1,2 @@
-pub mod Frames
-pub mod Writings
-pub mod PathSteps
 pub mod Ends
 pub mod Makings
-pub mod OnMaps
-pub mod Verifying
-pub mod Going
-pub mod Drawings
-pub mod Moving
-pub mod Founds

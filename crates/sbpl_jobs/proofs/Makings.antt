@@ -9,7 +9,7 @@ use Rattle.sbpl_cost.specs.World.{World}
 use Rattle.sbpl_promises.specs.Intents.{last_write}
 use Rattle.sbpl_report.specs.Listing.{listing_at, listings}
 use Rattle.sbpl_promises.specs.Writing.{AreAppended, DeskState, EndsIn, IsOutput, Write, WritesOnly, to_output}
-use Rattle.sbpl_jobs.proofs.Writings.{ends_after, ends_first, made_both, none_made}
+use Rattle.sbpl_telling.proofs.Writings.{ends_after, ends_first, made_both, none_made}
 
 -- some of these writes were made, and these are left
 pub record Makes (before now : DeskState) (whole left : List Write) : Type 0 where

@@ -13,12 +13,6 @@ ghost use Rattle.sbpl_report.specs.Report.{demo_text};
 ghost use Rattle.sbpl_promises.specs.Texts.{still};
 ghost use Rattle.sbpl_promises.specs.Writing.{EndsIn, IsOutput, WritesOnly, to_output};
 
-use crate::drawn::draw;
-use crate::planners::plans_by_adstar;
-use crate::publishing::LiveBoard;
-use crate::telling::Lines;
-use crate::workspace::Workspace;
-use crate::writing::{OUTPUT, status_after, write_text};
 use sbpl_cost::Lattice;
 use sbpl_desk::{Desk, WriteStop};
 use sbpl_fixed::NoMemory;
@@ -26,8 +20,11 @@ use sbpl_graph::Graph;
 use sbpl_incumbent::Publisher;
 use sbpl_job::{DemoJob, LabelForm, Outputs, Planner, SearchJob};
 use sbpl_map::Changes;
+use sbpl_plans::{LiveBoard, plans_by_adstar};
 use sbpl_promises::Course;
 use sbpl_report::demo_line;
+use sbpl_telling::{Lines, OUTPUT, status_after, write_text};
+use sbpl_worlds::{Workspace, draw};
 use std::alloc::Global;
 use std::sync::Wait;
 

@@ -7,15 +7,13 @@ ghost use Rattle.sbpl_promises.specs.Causes.{JobStopsFor};
 ghost use Rattle.sbpl_promises.specs.Promises.{EndsJob};
 ghost use Rattle.sbpl_promises.specs.Writing.{IsOutputOf, ReadsOnly, WritesOnly};
 
-use crate::lattice::read_course;
-use crate::planners::make_plans;
-use crate::publishing::LiveBoard;
-use crate::workspace::Workspace;
 use sbpl_desk::Desk;
 use sbpl_epase::Gate;
 use sbpl_incumbent::Publisher;
 use sbpl_job::PlanJob;
+use sbpl_plans::{LiveBoard, make_plans};
 use sbpl_report::Stop;
+use sbpl_worlds::{Workspace, read_course};
 use std::alloc::Global;
 use std::sync::Wait;
 use std::thread::Threads;

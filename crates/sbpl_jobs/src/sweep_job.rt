@@ -10,13 +10,13 @@ ghost use Rattle.sbpl_promises.specs.Promises.{EndsJob};
 ghost use Rattle.sbpl_job.specs.Jobs.{IsJob};
 ghost use Rattle.sbpl_job.specs.declared.job.Job.TheVariants as Jobs;
 
-use crate::lattice::read_lattice;
-use crate::writing::{OUTPUT, status_after, write_last, write_text};
 use sbpl_cost::Lattice;
 use sbpl_desk::{Desk, WriteStop};
 use sbpl_fixed::NoMemory;
 use sbpl_job::Sources;
 use sbpl_report::{Stop, listing_at};
+use sbpl_telling::{OUTPUT, status_after, write_last, write_text};
+use sbpl_worlds::read_lattice;
 use std::alloc::Global;
 
 /// Writes the lines of the primitive at place `i` of the file.

@@ -4,8 +4,8 @@ use Rattle.sbpl_promises.specs.Checked.{AreChecked, IsShownHolding, case_of, to_
 use Rattle.sbpl_promises.specs.Asked.{checked_direction}
 use Rattle.sbpl_promises.specs.LatticeSite.{lattice_site}
 use Rattle.sbpl_promises.specs.Intents.{Checked}
-use Rattle.sbpl_jobs.proofs.Frames.{writes_after}
-use Rattle.sbpl_jobs.proofs.Writings.{ends_since}
+use Rattle.sbpl_telling.proofs.Frames.{writes_after}
+use Rattle.sbpl_telling.proofs.Writings.{ends_since}
 use Rattle.sbpl_jobs.proofs.check_job.check_labels.Goals as goal
 
 pub returns-clause-ends : goal.returns-clause-ends

@@ -13,9 +13,9 @@ use Rattle.sbpl_promises.specs.Sites.{start_after}
 use Rattle.sbpl_promises.specs.Published.{with_paths, with_plans}
 use Rattle.sbpl_job.specs.declared.job.SearchJob.{SearchJob}
 use Rattle.sbpl_jobs.proofs.Ends.{ended}
-use Rattle.sbpl_jobs.proofs.Writings.{ends_as_after, status_ends}
+use Rattle.sbpl_telling.proofs.Writings.{ends_as_after, status_ends}
 use Rattle.sbpl_jobs.proofs.demo_job.demonstrate.Goals as goal
-use Rattle.sbpl_jobs.proofs.Frames.{same_state, writes_on}
+use Rattle.sbpl_telling.proofs.Frames.{same_state, writes_on}
 
 pub returns-in-Err-clause-ends : goal.returns-in-Err-clause-ends
 returns-in-Err-clause-ends g c =

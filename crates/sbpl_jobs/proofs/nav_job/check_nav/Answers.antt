@@ -4,8 +4,8 @@ use Rattle.sbpl_promises.specs.Asked.{checked_direction}
 use Rattle.sbpl_promises.specs.Checked.{AreChecked, IsShownHolding, case_of, to_in}
 use Rattle.sbpl_promises.specs.GridSite.{grid_site}
 use Rattle.sbpl_promises.specs.Intents.{Checked}
-use Rattle.sbpl_jobs.proofs.Frames.{writes_after}
-use Rattle.sbpl_jobs.proofs.Writings.{ends_since}
+use Rattle.sbpl_telling.proofs.Frames.{writes_after}
+use Rattle.sbpl_telling.proofs.Writings.{ends_since}
 use Rattle.sbpl_jobs.proofs.nav_job.check_nav.Goals as goal
 
 pub returns-clause-ends : goal.returns-clause-ends

@@ -7,7 +7,7 @@ use Rattle.sbpl_promises.specs.Intents.{Planned}
 use Rattle.sbpl_promises.specs.Published.{with_paths, with_plans}
 use Rattle.sbpl_promises.specs.Sites.{start_after}
 use Rattle.sbpl_jobs.proofs.Ends.{ended}
-use Rattle.sbpl_jobs.proofs.Frames.{writes_after}
+use Rattle.sbpl_telling.proofs.Frames.{writes_after}
 use Rattle.sbpl_jobs.proofs.nav_job.end_nav.Goals as goal
 
 pub returns-clause-ends : goal.returns-clause-ends

@@ -9,7 +9,7 @@ use Rattle.sbpl_promises.specs.Sites.{start_after}
 use Rattle.sbpl_promises.specs.Published.{with_paths, with_plans}
 use Rattle.sbpl_promises.specs.Causes.{ReadsCourse, scope_of}
 use Rattle.sbpl_jobs.proofs.plan_job.end_plan.Goals as goal
-use Rattle.sbpl_jobs.proofs.Frames.{writes_after}
+use Rattle.sbpl_telling.proofs.Frames.{writes_after}
 
 pub returns-clause-ends : goal.returns-clause-ends
 returns-clause-ends g c =

@@ -1,0 +1,224 @@
+-- How the checking of sections ends, from how its parts end.
+use Rattle.std.proofs.Common.{◌≡◌, ℕ, zero, suc, ◌+◌, ◌≤◌, ◌∙◌, List, [], ◌∷◌, length, Some, None, Result, Ok, Err}
+use Rattle.std.proofs.Common.{IfOk, IfErr, ◌<◌, refl, sym, ap, subst, arith, inl}
+use Rattle.sbpl_fixed.specs.Formats.{Left, start_at}
+use Rattle.sbpl_fixed.specs.Tokens.{Piece}
+use Rattle.sbpl_desk.specs.Desk.{NoneFalls}
+use Rattle.sbpl_cert.specs.declared.fault.LabelFault.TheVariants as fault
+use Rattle.sbpl_cert.specs.declared.outcome.Outcome.{Outcome}
+use Rattle.sbpl_map.specs.MapAfter.{IsMapAfter}
+use Rattle.sbpl_terrain.specs.Cells.{IsTerrain}
+use Rattle.sbpl_cost.specs.Lattices.{network_of}
+use Rattle.sbpl_cost.specs.World.{World}
+use Rattle.sbpl_promises.specs.declared.section_stop.SectionStop.{SectionStop}
+use Rattle.sbpl_promises.specs.declared.section_stop.SectionStop.TheVariants as section
+use Rattle.sbpl_promises.specs.Checked.{AreChecked, Case, Ground, IsGroundAfter, IsSectionStop, IsShownHolding}
+use Rattle.sbpl_promises.specs.Checked.{IsStoppedIn, IsTrailing, case_of, from_in, ground, to_in}
+use Rattle.sbpl_promises.specs.Intents.{checked_status, checked_writes, last_write, stop_status, stop_writes}
+use Rattle.sbpl_report.specs.Refusals.{label_fault_text}
+use Rattle.sbpl_back.specs.Reversed.{reversed}
+use Rattle.sbpl_back.specs.Starts.{StartIn, from_start}
+use Rattle.sbpl_replan.specs.Directions.{Direction, backwards, forwards}
+use Rattle.sbpl_promises.specs.declared.course.Course.{Course}
+use Rattle.sbpl_promises.specs.LatticeSite.{lattice_site}
+use Rattle.sbpl_checks.specs.Checking.{EndsAtSection, EndsText, HoldsAndPrints, HoldsInCase, IsPlanIn, stopped}
+use Rattle.sbpl_checks.specs.Checking.{unwritten}
+use Rattle.sbpl_promises.specs.Promises.{EndsSections}
+use Rattle.sbpl_promises.specs.Sites.{Site, start_after}
+use Rattle.sbpl_report.specs.Verdicts.{holds_text}
+use Rattle.sbpl_promises.specs.Writing.{DeskState, EndsAs, IsOutput, WritesOnly, to_output}
+use Rattle.sbpl_telling.proofs.Writings.{ends_as_after, none_made, status_ends}
+use Rattle.sbpl_telling.proofs.Frames.{nothing_done}
+use Rattle.sbpl_worlds.proofs.Moving.{start_first}
+
+-- a token is left after the last section
+pub some_left : {left : Left} {t : Piece} {ts : List Piece} {a b : DeskState} {status : ℕ} → left.tokens ≡ t ∷ ts
+    → EndsAs a b (to_output (label_fault_text (fault.Trailing t.place)) ∷ []) 10 status → EndsText left a b status
+some_left {t} some ends = record {
+  end = Some (section.Fault (fault.Trailing t.place));
+  is_end = subst (λ (l : List Piece). IsTrailing l (section.Fault (fault.Trailing t.place))) (sym some) refl;
+  ends = λ goals plan. ends;
+}
+
+-- no token is left
+pub none_left : {left : Left} {a b : DeskState} {status : ℕ} → left.tokens ≡ [] → EndsAs a b (last_write ∷ []) 0 status
+    → EndsText left a b status
+none_left none ends = record { end = None; is_end = none; ends = λ goals plan. ends }
+
+module _ {W : Type 0} {on : Site W} {d : Direction W} (c : Case on d) where
+  -- a section does not hold on its graph
+  stopped_in : (n : Ground) (plan : ℕ) (left : Left) (s : SectionStop) → IsGroundAfter c plan n
+      → IsSectionStop n (from_in c plan) (to_in c plan) plan left s → IsStoppedIn c plan left s
+  stopped_in n plan left (section.Flaw f) after is = (n, after, is)
+  stopped_in n plan left (section.Fault f) after is = (n, after, is)
+  stopped_in n plan left section.NoMemory after is = tt
+
+  -- memory may run out anywhere
+  out_of_memory : (plan more : ℕ) (left : Left) → AreChecked IsShownHolding c plan more left [] (Some section.NoMemory)
+  out_of_memory plan zero left = tt
+  out_of_memory plan (suc more) left = tt
+
+  -- memory ran out before a section
+  pub runs_out : (plan more : ℕ) (left : Left) (a : DeskState) → EndsSections c plan more left a a 9
+  runs_out plan more left a = record {
+    outcomes = [];
+    end = Some section.NoMemory;
+    checked = out_of_memory plan more left;
+    ends = inl (refl, none_made a a (λ name. refl));
+  }
+
+  -- after the last section
+  pub ends_text : (plan : ℕ) (left : Left) (a b : DeskState) (status : ℕ) → EndsText left a b status
+      → EndsSections c plan 0 left a b status
+  ends_text plan left a b status e =
+      record { outcomes = []; end = e.end; checked = e.is_end; ends = e.ends (to_in c) plan }
+
+  module _ {n : Ground} {from to : ℕ} (plan : ℕ) (after : IsGroundAfter c plan n) (from_is : from_in c plan ≡ from)
+      (to_is : to_in c plan ≡ to) where
+    -- it holds for the case too
+    holds_in : (left rest : Left) (o : Outcome) → IsShownHolding n from to plan left o rest
+        → IsShownHolding n (from_in c plan) (to_in c plan) plan left o rest
+    holds_in left rest o is =
+        subst (λ (x : ℕ). IsShownHolding n x (to_in c plan) plan left o rest) (sym from_is)
+        (subst (λ (y : ℕ). IsShownHolding n from y plan left o rest) (sym to_is) is)
+
+    -- the next section does not hold, or memory ran out, or it holds and the line that says so was not written
+    pub ends_there : (more : ℕ) (left : Left) (a b : DeskState) (status : ℕ)
+        → EndsAtSection n from to plan left a b status → EndsSections c plan (suc more) left a b status
+    ends_there more left a b status (stopped s is ends) = record {
+      outcomes = [];
+      end = Some s;
+      checked = stopped_in n plan left s after
+          (subst (λ (x : ℕ). IsSectionStop n x (to_in c plan) plan left s) (sym from_is)
+          (subst (λ (y : ℕ). IsSectionStop n from y plan left s) (sym to_is) is));
+      ends = subst (λ (y : ℕ). EndsAs a b (stop_writes y plan s) (stop_status s) status) (sym to_is) ends;
+    }
+    ends_there more left a b status (unwritten o rest e is ends status_is) = record {
+      outcomes = o ∷ [];
+      end = Some section.NoMemory;
+      checked = (n, after, rest, holds_in left rest o is, out_of_memory (plan + 1) more rest);
+      ends = status_ends (Err e) ends status_is;
+    }
+
+    pub all_ends_there : {A : Type 0} (r : Result A ℕ) (more : ℕ) (left : Left) (a b : DeskState)
+        → IfErr r (EndsAtSection n from to plan left a b) → IfErr r (EndsSections c plan (suc more) left a b)
+    all_ends_there (Ok x) more left a b ends = tt
+    all_ends_there (Err status) more left a b ends = ends_there more left a b status ends
+
+    -- it holds, and the line that says so was written
+    pub holds_there : {a b : DeskState} {left rest : Left} → HoldsAndPrints n from to plan left rest a b
+        → HoldsInCase c plan left rest a b
+    holds_there {left} {rest} is = record {
+      ground = n;
+      is_ground = after;
+      prints = record { outcome = is.outcome; holds = holds_in left rest is.outcome is.holds; line = is.line };
+    }
+
+  -- the section of a plan holds, the line that says so was written, and then the checking of the others ended so
+  pub goes_on : {a b d : DeskState} {status : ℕ} {left rest : Left} (plan more : ℕ) → HoldsInCase c plan left rest a b
+      → NoneFalls a.write_faults b.write_faults → EndsSections c (plan + 1) more rest b d status
+      → EndsSections c plan (suc more) left a d status
+  goes_on {a} {b} {d} {status} {rest} plan more is low ends = record {
+    outcomes = is.prints.outcome ∷ ends.outcomes;
+    end = ends.end;
+    checked = (is.ground, is.is_ground, rest, is.prints.holds, ends.checked);
+    ends =
+        ends_as_after a b d (to_output (holds_text plan is.prints.outcome) ∷ []) (checked_writes (to_in c) (plan + 1)
+        ends.outcomes ends.end) (checked_status ends.end) status is.prints.line low ends.ends;
+  }
+
+  -- from and to which states a plan is searched
+  pub from_is : (k : ℕ) (w : W) (start goal : ℕ) → IsPlanIn c k w start goal → from_in c k ≡ d.from start goal
+  from_is k w start goal is =
+      let start_is = is.start_is in
+      let goal_is = is.goal_is in
+      λ i. d.from (start_is i) (goal_is i)
+
+  pub to_is : (k : ℕ) (w : W) (start goal : ℕ) → IsPlanIn c k w start goal → to_in c k ≡ d.to start goal
+  to_is k w start goal is =
+      let start_is = is.start_is in
+      let goal_is = is.goal_is in
+      λ i. d.to (start_is i) (goal_is i)
+
+-- ---- plans in a case
+
+-- the heuristic guides the checking of a plan forwards
+pub ground_forwards : {W : Type 0} {on : Site W} (says : W → ℕ → (ℕ → ℕ) → Type 0)
+    (c : Case on (forwards on.network says)) (k : ℕ) (w : W) (start goal : ℕ) (guide : ℕ → ℕ)
+    → IsPlanIn c k w start goal → says w goal guide → IsGroundAfter c k (ground (on.network w) guide)
+ground_forwards {W} {on} says c k w start goal guide is best = record {
+  map = on.cells.map w;
+  after = is.after;
+  is_world = subst on.cells.is_made is.same is.is_world;
+  network = ap on.network is.same;
+  guide = subst (λ (v : W). says v c.goal guide) is.same (subst (λ (g : ℕ). says w g guide) (sym is.goal_is) best);
+}
+
+-- and the gap from the start backwards
+pub ground_backwards : (c : Case lattice_site (backwards network_of)) (k : ℕ) (w v : World) (start goal : ℕ)
+    (f : StartIn) → IsPlanIn c k w start goal → v ≡ w → f ≡ record { world = w; start = start }
+    → IsGroundAfter c k (ground (reversed (network_of v)) (from_start f))
+ground_backwards c k w v start goal f is same made = record {
+  map = w.map;
+  after = is.after;
+  is_world = subst lattice_site.cells.is_made is.same is.is_world;
+  network = ap (λ (u : World). reversed (network_of u)) (same ∙ is.same);
+  guide = λ s inside. ap (λ (x : StartIn). from_start x s) made ∙ ap (λ (v : World). (network_of v).gap start s) is.same
+      ∙ ap (λ (a : ℕ). (network_of (lattice_site.cells.over c.world w.map)).gap a s) (sym is.start_is);
+}
+
+-- what holds of a value holds of it in another way
+pub ok_so : {A E : Type 0} (r : Result A E) (P Q : A → Type 0) → ((x : A) → P x → Q x) → IfOk r P → IfOk r Q
+ok_so (Ok x) P Q so is = so x is
+ok_so (Err e) P Q so is = tt
+
+-- how far the checking of a text has come, where what guides the
+-- search is made for the present world: the sections of the first k
+-- maps hold, and however it ends from there on it ends from the first section on
+pub record IsCheckedTo {W : Type 0} (on : Site W) (d : Direction W) (first now : W) (Made : Type 0) (course : Course)
+    (start here goal : ℕ) (text : List ℕ) (k at : ℕ) (s t : DeskState) : Type 0 where
+  pub leads : (more : ℕ) → k + more ≡ length course.batches → (u : DeskState) (status : ℕ)
+      → EndsSections (case_of on d first course start goal) k (suc more) (start_at text at) t u status
+      → EndsSections (case_of on d first course start goal) 0 (suc (length course.batches)) (start_at text 0) s u status
+  pub made : Made
+  pub far : k ≤ length course.batches
+  pub map_after : IsMapAfter (on.cells.map first) course.batches k (on.cells.map now)
+  pub other_parts : now ≡ on.cells.over first (on.cells.map now)
+  pub kept : on.cells.is_made now
+  pub start_is : start_after on.wording first start course.moves k ≡ here
+  pub state : here < (on.network now).states
+  pub inside : at ≤ length text
+  pub frame : WritesOnly IsOutput s t
+
+-- plan k of the text is planned in the present world
+pub plan_in : {W : Type 0} {on : Site W} {d : Direction W} {first now : W} {Made : Type 0} {course : Course}
+    {start here goal : ℕ} {text : List ℕ} {k at : ℕ} {s t : DeskState}
+    → IsCheckedTo on d first now Made course start here goal text k at s t
+    → IsPlanIn (case_of on d first course start goal) k now here goal
+plan_in so = record {
+  after = so.map_after;
+  same = so.other_parts;
+  is_world = so.kept;
+  start_is = so.start_is;
+  goal_is = refl;
+}
+
+-- at the first section
+pub none_checked : {W : Type 0} {w : W} {Made : Type 0} {course : Course} {start goal : ℕ} {text : List ℕ}
+    {s : DeskState} (on : Site W) (d : Direction W) → IsTerrain on.network on.cells → Made
+    → IsMapAfter (on.cells.map w) course.batches 0 (on.cells.map w) → on.cells.is_made w → start < (on.network w).states
+    → IsCheckedTo on d w w Made course start start goal text 0 0 s s
+none_checked {w} {course} {start} {goal} {text} {s} on d law made after kept state = record {
+  made = made;
+  state = state;
+  leads = λ more is u status ends.
+      subst (λ (m : ℕ). EndsSections (case_of on d w course start goal) 0 (suc m) (start_at text 0) s u status)
+      (let same : more ≡ length course.batches = omega arith in same) ends;
+  far = omega arith;
+  map_after = after;
+  other_parts = sym (law.present w);
+  kept = kept;
+  start_is = start_first on.wording w start course.moves;
+  inside = omega arith;
+  frame = nothing_done IsOutput s;
+}

@@ -1,0 +1,196 @@
+use Rattle.std.proofs.Common.{◌≡◌, ◌+◌, ◌-◌, ◌<◌, ℕ, suc, length, Option, sym, ◌∙◌, ap, subst, arith}
+use Rattle.sbpl_fixed.specs.Formats.{start_at}
+use Rattle.sbpl_promises.specs.Checked.{Case, case_of}
+use Rattle.sbpl_cfg.specs.declared.pose.Place.{Place}
+use Rattle.sbpl_map.specs.ChangeText.{IsPlaceOnMap}
+use Rattle.sbpl_map.specs.MapAfter.{IsMapAfter}
+use Rattle.sbpl_checks.specs.Checking.{IsPlanIn}
+use Rattle.sbpl_promises.specs.Promises.{EndsSections}
+use Rattle.sbpl_promises.specs.Sites.{Site, WordPlacesAlike, site_of}
+use Rattle.sbpl_telling.proofs.Frames.{writes_on}
+use Rattle.sbpl_worlds.proofs.Moving.{alike_over, move_on_map, next_is, within}
+use Rattle.sbpl_worlds.proofs.OnMaps.{batch_on_map, same_states}
+use Rattle.sbpl_checks.proofs.Verifying.{ends_text, goes_on, none_checked, plan_in}
+use Rattle.sbpl_checks.proofs.text_check.check_sections.Goals as goal
+use Rattle.sbpl_checks.proofs.text_check.check_sections.Goals.{After-batches-last, After-write_batch}
+
+pub loop-k-init : goal.loop-k-init
+loop-k-init g c =
+    none_checked (site_of g.W.Graph.network g.W.Terrain.cells g.W.Best.Heuristic.says g.W.Workspace.wording)
+    g.S.Searched.direction c.is_terrain.ensures.law c.requires.searched
+    (c.writes_lead_to_the_next_map.ensures.first _ _) c.requires.kept c.requires.start
+
+-- the map now has as many states as the first
+pub check_plan-requires-clause-goal : goal.check_plan-requires-clause-goal
+check_plan-requires-clause-goal g c =
+    subst (λ (n : ℕ). c.args.goal < n) (same_states g.W.Graph.network g.W.Terrain.cells c.is_terrain.ensures.law _ _
+    c.requires.kept c.loop-k.invariant.kept c.loop-k.invariant.other_parts) c.requires.goal
+
+pub returns-in-Err-clause-ends : goal.returns-in-Err-clause-ends
+returns-in-Err-clause-ends g c =
+    let so = c.loop-k.invariant in
+    let course = c.args.course.now in
+    let k = c.loop-k.k in
+    let whole : k + (length course.batches - k) ≡ length course.batches =
+    (let test = c.loop-k-test.true in let count = c.batches-k-end.ensures.value in omega arith) in
+    so.leads (length course.batches - k) whole _ c.in-Err.status
+    (c.in-Err.ensures.ends (case_of (site_of g.W.Graph.network g.W.Terrain.cells g.W.Best.Heuristic.says
+    g.W.Workspace.wording) g.S.Searched.direction c.args.world.now course c.args.start c.args.goal)
+    (length course.batches - k) (plan_in so))
+
+pub write_batch-requires : goal.write_batch-requires
+write_batch-requires g c = record {
+  on_map =
+      batch_on_map (g.W.Terrain.cells.map c.args.world.now) (g.W.Terrain.cells.map c.loop-k.world)
+      c.args.course.now.batches c.loop-k.k _ c.requires.course.1.on_map c.batch.ensures.writes
+      c.loop-k.invariant.map_after.width c.loop-k.invariant.map_after.height;
+}
+
+-- the map after the batch
+after_batch : (g : _) (c : After-write_batch g)
+    → IsMapAfter (g.W.Terrain.cells.map c.args.world.now) c.args.course.now.batches (c.loop-k.k + 1)
+    (g.W.Terrain.cells.map c.write_batch.new.world)
+after_batch g c =
+    let cells = g.W.Terrain.cells in
+    c.writes_lead_to_the_next_map.ensures.next (cells.map c.args.world.now) (cells.map c.loop-k.world)
+    (cells.map c.write_batch.new.world) c.args.course.now.batches c.loop-k.k _ c.loop-k.invariant.map_after
+    c.batch.ensures.writes
+    c.write_batch.ensures.written
+
+-- and the rest is as at first
+over_first : (g : _) (c : After-write_batch g)
+    → c.write_batch.new.world ≡ g.W.Terrain.cells.over c.args.world.now (g.W.Terrain.cells.map c.write_batch.new.world)
+over_first g c =
+    let cells = g.W.Terrain.cells in
+    c.write_batch.ensures.others
+    ∙ ap (λ v. cells.over v (cells.map c.write_batch.new.world)) c.loop-k.invariant.other_parts
+    ∙ c.is_terrain.ensures.law.again c.args.world.now (cells.map c.loop-k.world) (cells.map c.write_batch.new.world)
+
+alike_after : (g : _) (c : After-write_batch g)
+    → WordPlacesAlike g.W.Workspace.wording c.args.world.now c.write_batch.new.world
+alike_after g c =
+    alike_over (site_of g.W.Graph.network g.W.Terrain.cells g.W.Best.Heuristic.says g.W.Workspace.wording)
+    g.met.W.Workspace.places_stay c.args.world.now c.write_batch.new.world (over_first g c)
+
+-- before the batch the search was made for the world that the present one is on the old map
+made_before : (g : _) (c : After-write_batch g)
+    → g.S.Searched.is_made_for c.loop-k.searched
+    (g.W.Terrain.cells.over c.write_batch.new.world (g.W.Terrain.cells.map c.loop-k.world)) c.args.goal
+made_before g c =
+    let cells = g.W.Terrain.cells in
+    let old = c.loop-k.world in
+    let law = c.is_terrain.ensures.law in
+    let back : cells.over c.write_batch.new.world (cells.map old) ≡ old =
+    ap (λ v. cells.over v (cells.map old)) c.write_batch.ensures.others
+    ∙ law.again old (cells.map c.write_batch.new.world) (cells.map old) ∙ law.present old in
+    subst (λ v. g.S.Searched.is_made_for c.loop-k.searched v c.args.goal) (sym back) c.loop-k.invariant.made
+
+pub rebuild-requires : goal.rebuild-requires
+rebuild-requires g c = record {
+  made = (
+    g.W.Terrain.cells.map c.loop-k.world,
+    c.args.goal,
+    made_before g (goal.at.rebuild-requires g c).After-write_batch,
+  );
+}
+
+pub start_at-start-requires-clause-place : goal.start_at-start-requires-clause-place
+start_at-start-requires-clause-place g c =
+    let at = (goal.at.start_at-start-requires-clause-place g c).After-write_batch in
+    let cells = g.W.Terrain.cells in
+    let w = c.args.world.now in
+    let now = c.write_batch.new.world in
+    let moves = c.args.course.now.moves in
+    let next = after_batch g at in
+    let here : c.loop-k.k < length c.args.course.now.batches =
+    (let test = c.loop-k-test.true in let count = c.batches-k-end.ensures.value in omega arith) in
+    subst (λ (count : ℕ). IsPlaceOnMap (cells.map now) count c.place_in.result) (sym (alike_after g at).headings)
+    (subst (λ (o : Option Place). IsPlaceOnMap (cells.map now) (g.W.Workspace.wording.headings w) o)
+    (sym c.place_in.ensures.place)
+    (move_on_map (site_of g.W.Graph.network g.W.Terrain.cells g.W.Best.Heuristic.says g.W.Workspace.wording) w
+    (cells.map now) c.args.course.now.batches moves c.loop-k.k c.requires.course.1.moves here next.width next.height))
+
+pub start_at-start-requires-clause-start : goal.start_at-start-requires-clause-start
+start_at-start-requires-clause-start g c =
+    subst (λ (n : ℕ). c.loop-k.start < n) (same_states g.W.Graph.network g.W.Terrain.cells c.is_terrain.ensures.law _ _
+    c.loop-k.invariant.kept c.write_batch.ensures.kept c.write_batch.ensures.others) c.loop-k.invariant.state
+
+pub loop-k-preserved : goal.loop-k-preserved
+loop-k-preserved g c =
+    let at = (goal.at.loop-k-preserved g c).After-write_batch in
+    let so = c.loop-k.invariant in
+    let w = c.args.world.now in
+    let now = c.write_batch.new.world in
+    let course = c.args.course.now in
+    let on : Site _ = (site_of g.W.Graph.network g.W.Terrain.cells g.W.Best.Heuristic.says g.W.Workspace.wording) in
+    let k = c.loop-k.k in
+    let here : k < length course.batches =
+    (let test = c.loop-k-test.true in let count = c.batches-k-end.ensures.value in omega arith) in
+    let case : Case on g.S.Searched.direction = case_of on g.S.Searched.direction w course c.args.start c.args.goal in
+    record {
+      leads = λ more whole after status ends. so.leads (suc more) (let is = whole in omega arith) after status
+          (goes_on case k (suc more) (c.in-Ok.ensures.holds case (plan_in so))
+          c.check_plan.ensures.frame.writes ends);
+      made = c.rebuild.ensures.made (g.W.Terrain.cells.map c.loop-k.world) c.args.goal (made_before g at);
+      far = omega (arith, here);
+      map_after = after_batch g at;
+      other_parts = over_first g at;
+      kept = c.write_batch.ensures.kept;
+      start_is =
+          next_is g.W.Workspace.wording w now c.args.start course.moves k c.loop-k.start c.start_at-start.result
+          c.place_in.result (within on w course.batches course.moves k c.requires.course.1.moves here) so.start_is
+          (alike_after g at) c.place_in.ensures.place c.start_at-start.ensures.state;
+      state = c.start_at-start.ensures.inside;
+      inside = c.in-Ok.ensures.inside;
+      frame = writes_on _ _ _ _ so.frame c.check_plan.ensures.frame;
+    }
+
+pub check_plan-requires-2-clause-goal : goal.check_plan-requires-2-clause-goal
+check_plan-requires-2-clause-goal g c =
+    subst (λ (n : ℕ). c.args.goal < n) (same_states g.W.Graph.network g.W.Terrain.cells c.is_terrain.ensures.law _ _
+    c.requires.kept c.loop-k.invariant.kept c.loop-k.invariant.other_parts) c.requires.goal
+
+-- the loop ends at the last plan
+last_is : (g : _) (c : After-batches-last g) → c.loop-k.k ≡ c.batches-last.result
+last_is g c =
+    let test = c.loop-k-test.false in
+    let count = c.batches-k-end.ensures.value in
+    let far = c.loop-k.invariant.far in
+    let last = c.batches-last.ensures.value in
+    omega arith
+
+pub returns-in-Ok-check_plan-clause-ends : goal.returns-in-Ok-check_plan-clause-ends
+returns-in-Ok-check_plan-clause-ends g c =
+    let so = c.loop-k.invariant in
+    let course = c.args.course.now in
+    let on : Site _ = (site_of g.W.Graph.network g.W.Terrain.cells g.W.Best.Heuristic.says g.W.Workspace.wording) in
+    let case : Case on g.S.Searched.direction =
+    case_of on g.S.Searched.direction c.args.world.now course c.args.start c.args.goal in
+    let last = last_is g (goal.at.returns-in-Ok-check_plan-clause-ends g c).After-batches-last in
+    let count = c.batches-last.ensures.value in
+    let plan =
+    subst (λ (p : ℕ). IsPlanIn case p c.loop-k.world c.loop-k.start c.args.goal) last
+    (plan_in so) in
+    so.leads 0 (omega (arith, last, count)) _ _
+    (subst (λ (p : ℕ). EndsSections case p 1 (start_at c.args.text.now c.loop-k.at) (g.D.Desk.state c.loop-k.desk)
+    (g.D.Desk.state c.end_sections.new.desk) c.end_sections.result) (sym last)
+    (goes_on case c.batches-last.result 0 (c.in-Ok-check_plan.ensures.holds case plan)
+    c.check_plan-2.ensures.frame.writes
+    (ends_text case (c.batches-last.result + 1) _ _ _ _ c.end_sections.ensures.ends)))
+
+pub returns-in-Err-check_plan-clause-ends : goal.returns-in-Err-check_plan-clause-ends
+returns-in-Err-check_plan-clause-ends g c =
+    let so = c.loop-k.invariant in
+    let course = c.args.course.now in
+    let on : Site _ = (site_of g.W.Graph.network g.W.Terrain.cells g.W.Best.Heuristic.says g.W.Workspace.wording) in
+    let case : Case on g.S.Searched.direction =
+    case_of on g.S.Searched.direction c.args.world.now course c.args.start c.args.goal in
+    let last = last_is g (goal.at.returns-in-Err-check_plan-clause-ends g c).After-batches-last in
+    let count = c.batches-last.ensures.value in
+    let plan =
+    subst (λ (p : ℕ). IsPlanIn case p c.loop-k.world c.loop-k.start c.args.goal) last
+    (plan_in so) in
+    so.leads 0 (omega (arith, last, count)) _ _
+    (subst (λ (p : ℕ). EndsSections case p 1 (start_at c.args.text.now c.loop-k.at) (g.D.Desk.state c.loop-k.desk)
+    (g.D.Desk.state c.check_plan-2.new.desk) c.in-Err-check_plan.status) (sym last)
+    (c.in-Err-check_plan.ensures.ends case 0 plan))

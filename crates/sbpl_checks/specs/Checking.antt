@@ -1,0 +1,46 @@
+-- How the checking of labels goes on from one section to the next.
+use Rattle.std.specs.Prelude.{◌≡◌, ℕ, [], ◌∷◌, Option, Err}
+use Rattle.sbpl_desk.specs.declared.desk.WriteStop.{WriteStop}
+use Rattle.sbpl_map.specs.MapAfter.{IsMapAfter}
+use Rattle.sbpl_replan.specs.Directions.{Direction}
+use Rattle.sbpl_promises.specs.Sites.{Site}
+use Rattle.sbpl_fixed.specs.Formats.{Left}
+use Rattle.sbpl_cert.specs.declared.outcome.Outcome.{Outcome}
+use Rattle.sbpl_promises.specs.Checked.{Case, Ground, IsEndOfText, IsGroundAfter, IsSectionStop, IsShownHolding, from_in, to_in}
+use Rattle.sbpl_promises.specs.Intents.{checked_status, checked_writes, stop_status, stop_writes}
+use Rattle.sbpl_promises.specs.declared.section_stop.SectionStop.{SectionStop}
+use Rattle.sbpl_report.specs.Verdicts.{holds_text}
+use Rattle.sbpl_promises.specs.Writing.{AreAppended, DeskState, EndsAs, EndsIn, status_after, to_output}
+
+-- the section of a plan holds on a graph, and a line says so
+pub record HoldsAndPrints (n : Ground) (start goal plan : ℕ) (left rest : Left) (before after : DeskState) : Type 0 where
+  pub outcome : Outcome
+  pub holds : IsShownHolding n start goal plan left outcome rest
+  pub line : AreAppended before after (to_output (holds_text plan outcome) ∷ [])
+
+-- the section of a plan does not hold on a graph, or memory ran out, and what is written of that; or it holds, and the line that says so
+-- was not written
+pub data EndsAtSection (n : Ground) (start goal plan : ℕ) (left : Left) (before after : DeskState) (status : ℕ) : Type 0 where
+  stopped : (s : SectionStop) → IsSectionStop n start goal plan left s → EndsAs before after (stop_writes goal plan s) (stop_status s) status → EndsAtSection n start goal plan left before after status
+  unwritten : (o : Outcome) (rest : Left) (e : WriteStop) → IsShownHolding n start goal plan left o rest → EndsIn {T = Unit {0}} before after (to_output (holds_text plan o) ∷ []) (Err e) → status ≡ status_after {T = Unit {0}} 9 (Err e)
+      → EndsAtSection n start goal plan left before after status
+
+-- after the last section no token is left, or one is, and what is written of that
+pub record EndsText (left : Left) (before after : DeskState) (status : ℕ) : Type 0 where
+  pub end : Option SectionStop
+  pub is_end : IsEndOfText left end
+  pub ends : (goals : ℕ → ℕ) (plan : ℕ) → EndsAs before after (checked_writes goals plan [] end) (checked_status end) status
+
+-- plan k of a case is planned in this world, between these states
+pub record IsPlanIn {W : Type 0} {on : Site W} {d : Direction W} (c : Case on d) (k : ℕ) (w : W) (start goal : ℕ) : Type 0 where
+  pub after : IsMapAfter (on.cells.map c.world) c.batches k (on.cells.map w)
+  pub same : w ≡ on.cells.over c.world (on.cells.map w)
+  pub is_world : on.cells.is_made w
+  pub start_is : c.starts k ≡ start
+  pub goal_is : c.goal ≡ goal
+
+-- the section of plan k of a case holds, and a line says so
+pub record HoldsInCase {W : Type 0} {on : Site W} {d : Direction W} (c : Case on d) (k : ℕ) (left rest : Left) (before after : DeskState) : Type 0 where
+  pub ground : Ground
+  pub is_ground : IsGroundAfter c k ground
+  pub prints : HoldsAndPrints ground (from_in c k) (to_in c k) k left rest before after

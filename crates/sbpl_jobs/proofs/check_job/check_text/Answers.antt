@@ -1,9 +1,0 @@
-use Rattle.sbpl_promises.specs.Checked.{case_of}
-use Rattle.sbpl_promises.specs.Sites.{site_of}
-use Rattle.sbpl_jobs.proofs.Verifying.{runs_out}
-use Rattle.sbpl_jobs.proofs.check_job.check_text.Goals as goal
-
-pub returns-in-Err-clause-ends : goal.returns-in-Err-clause-ends
-returns-in-Err-clause-ends g c =
-    runs_out (case_of (site_of g.W.Graph.network g.W.Terrain.cells g.W.Best.Heuristic.says g.W.Workspace.wording)
-    g.S.Searched.direction c.args.world.now c.args.course.now c.args.start c.args.goal) _ _ _ _

@@ -1,0 +1,364 @@
+use Rattle.std.proofs.Common.{map, arith, ◌≡◌, ℕ, ◌+◌, ◌*◌, ◌^◌, ◌≤◌, length, Bool, true, false, MatchBool}
+use Rattle.std.proofs.Common.{if◌then◌else◌, List, [], Option, None, Some, Result, Ok, Err, IfOk, refl, sym, ◌∙◌, ap}
+use Rattle.std.proofs.Common.{subst, inl, inr, ◌⊎◌}
+use Rattle.std.proofs.lemmas.List.{length-map}
+use Rattle.std.specs.Option.{is_some}
+use Rattle.std.specs.Result.{IsErr}
+use Rattle.sbpl_cert.specs.declared.section.Section.{Section}
+use Rattle.sbpl_fixed.specs.declared.no_memory.NoMemory.{NoMemory}
+use Rattle.sbpl_job.specs.declared.job.Outputs.{Outputs}
+use Rattle.sbpl_job.specs.declared.job.SearchJob.{SearchJob}
+use Rattle.sbpl_labels.specs.Counts.{Counts}
+use Rattle.sbpl_labels.specs.Marks.{Marks}
+use Rattle.sbpl_plan.specs.declared.ask.Ask.{Ask}
+use Rattle.sbpl_plan.specs.declared.result.Planned.{Planned}
+use Rattle.sbpl_plan.specs.Outcomes as search
+use Rattle.sbpl_plan.specs.Outcomes.{IsResultOf, IsTrueOutcome}
+use Rattle.sbpl_plan.specs.Asked.{most_passes}
+use Rattle.sbpl_plan.specs.Passing.{ArePasses, expansions, inquiry_of}
+use Rattle.sbpl_replan.specs.Directions.{Direction}
+use Rattle.sbpl_replan.specs.Replanning.{GoesBetween, Standing, StaysTheSame, inquiry}
+use Rattle.sbpl_report.specs.Traces.{traced_pass}
+use Rattle.sbpl_plan.specs.declared.passes.Pass.{Pass}
+use Rattle.sbpl_report.specs.declared.record.TraceLine.{TraceLine}
+use Rattle.sbpl_promises.specs.Published.{Entry, founds, with_paths, with_plan}
+use Rattle.sbpl_plans.proofs.Founds.{broken_by, first_of_all, founds_traced, none_published}
+use Rattle.sbpl_plans.proofs.Founds.{on_err_is, stands_broken, expansions_traced}
+use Rattle.sbpl_report.specs.declared.record.PlanRecord.{PlanRecord}
+use Rattle.sbpl_promises.specs.Asked.{Known, ask_of}
+use Rattle.sbpl_promises.specs.Sites.{Site, site_of}
+use Rattle.sbpl_promises.specs.Headline.{Begins, Carried, IsKnownWithin, IsMarked, IsNoneThere, IsSearched, IsToldOf}
+use Rattle.sbpl_promises.specs.Headline.{IsWithinBound, Joins, KeepsPromises, expanded_before}
+use Rattle.sbpl_report.specs.Shown.{IsShown, IsThere}
+use Rattle.sbpl_plans.proofs.plan_record.make_record.Goals as goal
+
+-- a plan that was spent used up the budget, or the run's
+spends : (budget used per_plan run before : ℕ) → per_plan ≡ budget → run ≡ before + used
+    → (used ≡ per_plan) ⊎ (run ≡ 2 ^ 30) → (used ≡ budget) ⊎ (before + used ≡ 2 ^ 30)
+spends budget used per_plan run before same counted (inl all) = inl (all ∙ same)
+spends budget used per_plan run before same counted (inr all) = inr (sym counted ∙ all)
+
+marked_by : (spent : Bool) (budget before used expanded per_plan run : ℕ) (r : PlanRecord) → expanded ≡ used
+    → expansions r.passes ≡ used → MatchBool spent (r.spent ≡ Some expanded) (r.spent ≡ None)
+    → per_plan ≡ budget → run ≡ before + used → (spent ≡ true → (used ≡ per_plan) ⊎ (run ≡ 2 ^ 30))
+    → IsMarked budget before spent r
+marked_by true budget before used expanded per_plan run r is passes mark same counted spends_all = (
+  mark ∙ ap (λ (n : ℕ). Some n) (is ∙ sym passes),
+  rw passes (spends budget used per_plan run before same counted (spends_all refl)),
+)
+marked_by false budget before used expanded per_plan run r is passes mark same counted spends_all = mark
+
+-- what a plan used up of the run is the count of the run after it
+in_run : {per_plan used run : ℕ} (before : ℕ) → run ≡ before + used → (used ≡ per_plan) ⊎ (before + used ≡ 2 ^ 30)
+    → (used ≡ per_plan) ⊎ (run ≡ 2 ^ 30)
+in_run before rises (inl all) = inl all
+in_run before rises (inr all) = inr (rises ∙ all)
+
+-- what is known of a plan, and of its record, is that it was searched
+module _ {W : Type 0} (by : Known W) (w : W) (guide : ℕ → ℕ) (start goal : ℕ) (how : SearchJob) (outputs : Outputs)
+    (before : Option Carried) (begun final : Marks) (raised : List ℕ) (per_plan run used : ℕ)
+    (planned : Planned by.Note) (section : Option Section) where
+  searched_by : (asked : Ask) (wanted : Bool) (plan : ℕ) (r : Result PlanRecord NoMemory)
+      → by.direction.guides w start goal guide
+      → Begins by.means by.on by.direction w (by.direction.from start goal) before begun raised
+      → asked ≡ ask_of how outputs
+      → ArePasses by.means (inquiry_of (by.direction.network w) guide (by.direction.to start goal) asked) asked.first
+      begun planned.passes final planned.spent
+      → IsResultOf (by.direction.network w) guide (by.direction.to start goal) final planned.outcome
+      → per_plan ≡ how.budget → run ≡ expanded_before before + expansions planned.passes
+      → used ≡ expansions planned.passes
+      → (planned.spent ≡ true → (expansions planned.passes ≡ per_plan) ⊎ (run ≡ 2 ^ 30))
+      → expansions planned.passes ≤ per_plan → run ≤ 2 ^ 30
+      → length planned.passes ≤ most_passes asked.step asked.first
+      → (planned.spent ≡ true → most_passes asked.step asked.first * (by.means.most * (by.direction.network w).states)
+      ≤ how.budget → run ≡ 2 ^ 30)
+      → wanted ≡ is_some outputs.labels
+      → IsThere wanted (IsShown outputs.form (by.direction.network w) guide (by.direction.from start goal)
+      (by.direction.to start goal) plan final planned.outcome) section
+      → IfOk r (λ x. x.plan ≡ plan) → IfOk r (λ x. x.passes ≡ map (traced_pass by.line) planned.passes)
+      → IfOk r (λ x. x.expanded ≡ used)
+      → IfOk r (λ x. IsToldOf (by.direction.leads w start goal) planned.outcome x.outcome)
+      → IfOk r (λ x. x.labels ≡ section)
+      → IfOk r (λ x. x.raised ≡ (if asked.traced then raised else []))
+      → IfOk r (λ x. MatchBool planned.spent (x.spent ≡ Some used) (x.spent ≡ None))
+      → IfOk r (IsSearched by w how outputs start goal before
+      (record { map = by.on.cells.map w; labels = final; expanded = run }))
+  searched_by asked wanted plan (Err e) is_guide begins same passes outcome budget counted used_is spent within
+      within_run few enough asks shown number copied expanded told kept raises mark = tt
+  searched_by asked wanted plan (Ok x) is_guide begins same passes outcome budget counted used_is spent within
+      within_run few enough asks shown number copied expanded told kept raises mark =
+      let step = ap (λ (a : Ask). a.step) same in
+      let first = ap (λ (a : Ask). a.first) same in
+      let all : expansions x.passes ≡ expansions planned.passes =
+      ap expansions copied ∙ expansions_traced by.line planned.passes in
+      record {
+        guide = guide;
+        is_guide = is_guide;
+        begun = begun;
+        raised = raised;
+        begins = begins;
+        raises = subst (λ (a : Ask). x.raised ≡ (if a.traced then raised else [])) same raises;
+        spent = planned.spent;
+        notes = planned.passes;
+        passes =
+            subst (λ (a : Ask). ArePasses by.means (inquiry_of (by.direction.network w) guide
+            (by.direction.to start goal) a) a.first begun planned.passes final planned.spent) same passes;
+        lines = copied;
+        found = planned.outcome;
+        is_result = outcome;
+        told = told;
+        expanded = expanded ∙ used_is ∙ sym all;
+        counted = counted ∙ ap (λ (n : ℕ). expanded_before before + n) (sym all);
+        within_budget = omega (arith, expanded, used_is, budget, within);
+        within_run = within_run;
+        marked =
+            marked_by planned.spent how.budget (expanded_before before) (expansions planned.passes) used per_plan run x
+            used_is all mark budget counted spent;
+        few = rw (copied, length-map planned.passes (traced_pass by.line), sym step, sym first) few;
+        ample = rw (sym step, sym first) enough;
+        labels =
+            rw kept (subst (λ (b : Bool). IsThere b (IsShown outputs.form (by.direction.network w) guide
+            (by.direction.from start goal) (by.direction.to start goal) x.plan final planned.outcome) section) asks
+            (subst (λ (k : ℕ). IsThere wanted (IsShown outputs.form (by.direction.network w) guide (by.direction.from
+            start goal) (by.direction.to start goal) k final planned.outcome) section) (sym number) shown));
+      }
+
+-- after a plan it goes between the same states
+between_after : {Note W : Type 0} (d : Direction W) (start goal : ℕ) (old new : Standing Note)
+    → GoesBetween d start goal old → StaysTheSame old new → GoesBetween d start goal new
+between_after d start goal old new between same =
+    record { from = same.start ∙ between.from; to = same.goal ∙ between.to }
+
+pub section-requires-clause-between : goal.section-requires-clause-between
+section-requires-clause-between g c = between_after _ _ _ _ _ c.requires.set.between c.in_ok-planned.ensures.same
+
+pub section-requires-clause-found : goal.section-requires-clause-found
+section-requires-clause-found g c =
+    let d = g.R.Replan.direction in
+    let w = c.args.world.now in
+    let made = c.in_ok-planned.ensures.planned in
+    let labels = (g.R.Replan.standing c.plan_on.new.replanner).search.labels in
+    subst (λ (h : ℕ → ℕ). IsResultOf (d.network w) h (d.to c.args.start c.args.goal) labels
+    c.in_ok-planned.planned.outcome) (sym c.plan_on.ensures.guide)
+    (subst (λ (t : ℕ). IsResultOf (d.network w) (g.R.Replan.guide c.args.replanner.now w) t labels
+    c.in_ok-planned.planned.outcome) c.requires.set.between.to made.outcome)
+
+pub record_of-requires-clause-so : goal.record_of-requires-clause-so
+record_of-requires-clause-so g c =
+    let d = g.R.Replan.direction in
+    let w = c.args.world.now in
+    let made = c.in_ok-planned.ensures.planned in
+    subst (λ (s : ℕ). IsTrueOutcome (d.network w) s (d.to c.args.start c.args.goal) c.in_ok-planned.planned.outcome)
+    c.requires.set.between.from
+    (subst (λ (t : ℕ). IsTrueOutcome (d.network w) (g.R.Replan.standing c.args.replanner.now).search.labels.start t
+    c.in_ok-planned.planned.outcome) c.requires.set.between.to made.so)
+
+pub returns-clause-searched : goal.returns-clause-searched
+returns-clause-searched g c = λ before goes.
+    let d = g.R.Replan.direction in
+    let w = c.args.world.now in
+    let means = g.R.Replan.meaning in
+    let by : Known _ = record {
+      on = site_of g.W.Graph.network g.W.Terrain.cells g.W.Best.Heuristic.says g.W.Workspace.wording;
+      Note = g.row.R-Note.Denot;
+      means = means;
+      line = g.R.Note.Traced.line;
+      direction = d;
+    } in
+    let set = c.requires.set in
+    let planned = c.in_ok-planned.planned in
+    let made = c.in_ok-planned.ensures.planned in
+    let within = c.in_ok-planned.ensures.within in
+    let old = g.R.Replan.standing c.args.replanner.now in
+    let new = g.R.Replan.standing c.plan_on.new.replanner in
+    let guide = g.R.Replan.guide c.args.replanner.now w in
+    let to = d.to c.args.start c.args.goal in
+    let rises : new.counts.run ≡ old.counts.run + expansions planned.passes =
+    ap (λ (k : Counts). k.run) made.leaves.counted in
+    let run : new.counts.run ≡ expanded_before before + expansions planned.passes =
+    rises ∙ ap (λ (n : ℕ). n + expansions planned.passes) {y = expanded_before before} (sym goes.counted) in
+    let of_plan : new.counts.plan ≡ 0 + expansions planned.passes = ap (λ (k : Counts). k.plan) made.leaves.counted in
+    let used : c.expanded-expanded.result ≡ expansions planned.passes =
+    omega (arith, c.expanded-expanded.ensures.value, of_plan) in
+    searched_by by w guide c.args.start c.args.goal c.args.how.now c.args.outputs.now before old.search.labels
+    new.search.labels old.search.raised
+    old.counts.per_plan new.counts.run c.expanded-expanded.result planned c.in_ok-labels.labels c.ask_of-ask.result
+    c.is_some.result c.args.plan c.record_of.result
+    (g.met.R.Replan.guided c.args.replanner.now w c.args.start c.args.goal c.requires.ready set.between) goes.begins
+    c.ask_of-ask.ensures.ask
+    (subst (λ (t : ℕ). ArePasses means (inquiry_of (d.network w) guide t c.ask_of-ask.result) c.ask_of-ask.result.first
+    old.search.labels planned.passes new.search.labels planned.spent) set.between.to made.passes)
+    (subst (λ (t : ℕ). IsResultOf (d.network w) guide t new.search.labels planned.outcome) set.between.to made.outcome)
+    set.budget_is run used (λ is. in_run old.counts.run rises (within.used_up is)) within.of_plan
+    c.in_ok-planned.ensures.run made.few
+    (λ is ample. made.enough is (omega (arith, ample, set.budget_is)))
+    c.is_some.ensures
+    (subst (λ (h : ℕ → ℕ). IsThere c.is_some.result (IsShown c.args.outputs.now.form (d.network w) h
+    (d.from c.args.start c.args.goal) to c.args.plan new.search.labels planned.outcome) c.in_ok-labels.labels)
+    c.plan_on.ensures.guide c.in_ok-labels.ensures.shown)
+    c.record_of.ensures.number c.record_of.ensures.passes c.record_of.ensures.expanded c.record_of.ensures.told
+    c.record_of.ensures.labels
+    (subst (λ (l : List ℕ). IfOk c.record_of.result (λ x. x.raised ≡ l)) (c.in_ok-raised.ensures.told
+    ∙ ap (λ (l : List ℕ). if c.ask_of-ask.result.traced then l else []) c.raised.ensures.value)
+    c.record_of.ensures.raised)
+    c.record_of.ensures.marked
+
+-- a plan that is not marked as spent was not
+unmarked : (spent : Bool) (expanded : ℕ) (x : PlanRecord) → MatchBool spent (x.spent ≡ Some expanded) (x.spent ≡ None)
+    → x.spent ≡ None → spent ≡ false
+unmarked true expanded x mark is = cc
+unmarked false expanded x mark is = refl
+
+promises_by : {Note W : Type 0} (on : Site W) (w : W) (start goal asked expanded : ℕ) (planned : Planned Note)
+    (r : Result PlanRecord NoMemory) → IfOk r (λ x. Joins on w start goal x.outcome)
+    → IfOk r (λ x. IsWithinBound (on.network w) start goal x.outcome)
+    → IfOk r (λ x. IsNoneThere (on.network w) start goal x.outcome)
+    → IfOk r (λ x. MatchBool planned.spent (x.spent ≡ Some expanded) (x.spent ≡ None))
+    → (planned.spent ≡ false → search.IsConclusive asked planned.outcome)
+    → IfOk r (λ x. (a : ℕ) → search.IsConclusive a planned.outcome → IsKnownWithin a x.outcome)
+    → IfOk r (KeepsPromises on w start goal asked)
+promises_by on w start goal asked expanded planned (Ok x) joins within none mark known answered = record {
+  joins = joins;
+  within_the_bound = within;
+  none = none;
+  unless_spent = λ is. answered asked (known (unmarked planned.spent expanded x mark is));
+}
+promises_by on w start goal asked expanded planned (Err e) joins within none mark known answered = tt
+
+pub returns-clause-promises : goal.returns-clause-promises
+returns-clause-promises g c =
+    let bound = ap (λ (a : Ask). a.bound) c.ask_of-ask.ensures.ask in
+    promises_by (site_of g.W.Graph.network g.W.Terrain.cells g.W.Best.Heuristic.says g.W.Workspace.wording)
+    c.args.world.now c.args.start c.args.goal _ _ c.in_ok-planned.planned c.record_of.result
+    c.record_of.ensures.joins c.record_of.ensures.within_the_bound c.record_of.ensures.none c.record_of.ensures.marked
+    (λ is. subst (λ (b : ℕ). search.IsConclusive b c.in_ok-planned.planned.outcome) bound
+    (c.in_ok-planned.ensures.planned.answered is)) c.record_of.ensures.answered
+
+-- what is said of a value holds where there is none
+no_value : {A E : Type 0} (P : A → Type 0) (r : Result A E) → IsErr r → IfOk r P
+no_value P (Ok x) is = absurd (cc)
+no_value P (Err e) is = tt
+
+pub returns-in_err-planned-clause-searched : goal.returns-in_err-planned-clause-searched
+returns-in_err-planned-clause-searched g c =
+    λ before goes. no_value _ c.from_residual-in_err-planned.result c.from_residual-in_err-planned.ensures.0
+
+pub returns-in_err-raised-clause-searched : goal.returns-in_err-raised-clause-searched
+returns-in_err-raised-clause-searched g c = λ before goes. no_value _ c.from_residual.result c.from_residual.ensures.0
+
+pub returns-in_err-labels-clause-searched : goal.returns-in_err-labels-clause-searched
+returns-in_err-labels-clause-searched g c =
+    λ before goes. no_value _ c.from_residual-in_err-labels.result c.from_residual-in_err-labels.ensures.0
+
+-- ---- what was published
+
+shown_by : {Note : Type 0} (line : Note → TraceLine) (log shown : List Entry) (plan : ℕ) (ps : List (Pass Note))
+    (x : PlanRecord) → x.plan ≡ plan → x.passes ≡ map (traced_pass line) ps → shown ≡ with_paths log plan 0 (founds ps)
+    → shown ≡ with_plan log x
+shown_by line log shown plan ps x number passes is =
+    is ∙ sym (λ i. with_paths log (number i) 0 ((ap founds passes ∙ founds_traced line ps) i))
+
+if_shown : {Note E : Type 0} (line : Note → TraceLine) (log shown : List Entry) (plan : ℕ) (ps : List (Pass Note))
+    (r : Result PlanRecord E) → IfOk r (λ x. x.plan ≡ plan) → IfOk r (λ x. x.passes ≡ map (traced_pass line) ps)
+    → shown ≡ with_paths log plan 0 (founds ps) → IfOk r (λ x. shown ≡ with_plan log x)
+if_shown line log shown plan ps (Ok x) number passes is = shown_by line log shown plan ps x number passes is
+if_shown line log shown plan ps (Err e) number passes is = tt
+
+pub returns-clause-shown : goal.returns-clause-shown
+returns-clause-shown g c =
+    if_shown g.R.Note.Traced.line _ _ _ _ c.record_of.result c.record_of.ensures.number c.record_of.ensures.passes
+    (ap (λ p. p.published) c.newest_on.ensures.same ∙ c.in_ok-planned.ensures.shown)
+
+pub returns-in_err-raised-clause-broken : goal.returns-in_err-raised-clause-broken
+returns-in_err-raised-clause-broken g c =
+    λ before goes. on_err_is _ c.from_residual.result (none_published refl)
+
+pub returns-in_err-planned-clause-broken : goal.returns-in_err-planned-clause-broken
+returns-in_err-planned-clause-broken g c = λ before goes.
+    let d = g.R.Replan.direction in
+    let w = c.args.world.now in
+    let by : Known _ = record {
+      on = site_of g.W.Graph.network g.W.Terrain.cells g.W.Best.Heuristic.says g.W.Workspace.wording;
+      Note = g.row.R-Note.Denot;
+      means = g.R.Replan.meaning;
+      line = g.R.Note.Traced.line;
+      direction = d;
+    } in
+    let guide = g.R.Replan.guide c.args.replanner.now w in
+    on_err_is _ c.from_residual-in_err-planned.result
+    (stands_broken by w guide c.args.start c.args.goal c.args.plan c.args.how.now c.args.outputs.now _ _ before _
+    (g.R.Replan.standing c.args.replanner.now) (g.R.Replan.standing c.plan_on.new.replanner) c.ask_of-ask.result
+    (g.met.R.Replan.guided c.args.replanner.now w c.args.start c.args.goal c.requires.ready c.requires.set.between)
+    goes.begins c.ask_of-ask.ensures.ask c.requires.set.between.to c.in_err-planned.ensures.memory)
+
+pub returns-in_err-incumbent-clause-broken : goal.returns-in_err-incumbent-clause-broken
+returns-in_err-incumbent-clause-broken g c = λ before goes.
+    let by : Known _ = record {
+      on = site_of g.W.Graph.network g.W.Terrain.cells g.W.Best.Heuristic.says g.W.Workspace.wording;
+      Note = g.row.R-Note.Denot;
+      means = g.R.Replan.meaning;
+      line = g.R.Note.Traced.line;
+      direction = g.R.Replan.direction;
+    } in
+    let w = c.args.world.now in
+    let guide = g.R.Replan.guide c.args.replanner.now w in
+    let old = g.R.Replan.standing c.args.replanner.now in
+    let ask = c.ask_of-ask.result in
+    let planned = c.in_ok-planned.planned in
+    let left = (g.R.Replan.standing c.plan_on.new.replanner).search.labels in
+    on_err_is _ c.from_residual-in_err-incumbent.result
+    (broken_by by w guide c.args.start c.args.goal c.args.plan c.args.how.now c.args.outputs.now _ _ before
+    old ask left planned.passes
+    (g.met.R.Replan.guided c.args.replanner.now w c.args.start c.args.goal c.requires.ready
+    c.requires.set.between) goes.begins c.ask_of-ask.ensures.ask c.requires.set.between.to
+    (first_of_all by.means (inquiry by.direction w guide old ask) planned.passes ask.first old.search.labels left
+    planned.spent c.in_ok-planned.ensures.planned.passes)
+    (ap (λ p. p.published) c.newest_on.ensures.same ∙ c.in_ok-planned.ensures.shown))
+
+pub returns-in_err-labels-clause-broken : goal.returns-in_err-labels-clause-broken
+returns-in_err-labels-clause-broken g c = λ before goes.
+    let by : Known _ = record {
+      on = site_of g.W.Graph.network g.W.Terrain.cells g.W.Best.Heuristic.says g.W.Workspace.wording;
+      Note = g.row.R-Note.Denot;
+      means = g.R.Replan.meaning;
+      line = g.R.Note.Traced.line;
+      direction = g.R.Replan.direction;
+    } in
+    let w = c.args.world.now in
+    let guide = g.R.Replan.guide c.args.replanner.now w in
+    let old = g.R.Replan.standing c.args.replanner.now in
+    let ask = c.ask_of-ask.result in
+    let planned = c.in_ok-planned.planned in
+    let left = (g.R.Replan.standing c.plan_on.new.replanner).search.labels in
+    on_err_is _ c.from_residual-in_err-labels.result
+    (broken_by by w guide c.args.start c.args.goal c.args.plan c.args.how.now c.args.outputs.now _ _ before
+    old ask left planned.passes
+    (g.met.R.Replan.guided c.args.replanner.now w c.args.start c.args.goal c.requires.ready
+    c.requires.set.between) goes.begins c.ask_of-ask.ensures.ask c.requires.set.between.to
+    (first_of_all by.means (inquiry by.direction w guide old ask) planned.passes ask.first old.search.labels left
+    planned.spent c.in_ok-planned.ensures.planned.passes)
+    (ap (λ p. p.published) c.newest_on.ensures.same ∙ c.in_ok-planned.ensures.shown))
+
+pub returns-clause-broken : goal.returns-clause-broken
+returns-clause-broken g c = λ before goes.
+    let by : Known _ = record {
+      on = site_of g.W.Graph.network g.W.Terrain.cells g.W.Best.Heuristic.says g.W.Workspace.wording;
+      Note = g.row.R-Note.Denot;
+      means = g.R.Replan.meaning;
+      line = g.R.Note.Traced.line;
+      direction = g.R.Replan.direction;
+    } in
+    let w = c.args.world.now in
+    let guide = g.R.Replan.guide c.args.replanner.now w in
+    let old = g.R.Replan.standing c.args.replanner.now in
+    let ask = c.ask_of-ask.result in
+    let planned = c.in_ok-planned.planned in
+    let left = (g.R.Replan.standing c.plan_on.new.replanner).search.labels in
+    on_err_is _ c.record_of.result
+    (broken_by by w guide c.args.start c.args.goal c.args.plan c.args.how.now c.args.outputs.now _ _ before
+    old ask left planned.passes
+    (g.met.R.Replan.guided c.args.replanner.now w c.args.start c.args.goal c.requires.ready
+    c.requires.set.between) goes.begins c.ask_of-ask.ensures.ask c.requires.set.between.to
+    (first_of_all by.means (inquiry by.direction w guide old ask) planned.passes ask.first old.search.labels left
+    planned.spent c.in_ok-planned.ensures.planned.passes)
+    (ap (λ p. p.published) c.newest_on.ensures.same ∙ c.in_ok-planned.ensures.shown))

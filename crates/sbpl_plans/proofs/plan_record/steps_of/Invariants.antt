@@ -1,0 +1,13 @@
+use Rattle.std.proofs.Common.{drop}
+use Rattle.sbpl_promises.specs.Headline.{IsPathFrom}
+use Rattle.sbpl_promises.specs.Sites.{site_of}
+use Rattle.sbpl_plans.proofs.PathSteps.{Completes}
+use Rattle.sbpl_plans.proofs.plan_record.steps_of.Given as goal
+
+-- the arcs that are left are a free path from here, and their steps complete those so far
+abbrev pub invariant-loop-arc : goal.invariant-loop-arc
+invariant-loop-arc g l = record {
+  left : IsPathFrom (g.W.Graph.network l.world) l.at (drop l.arc-index l.arcs);
+  done : Completes (site_of g.W.Graph.network g.W.Terrain.cells g.W.Best.Heuristic.says g.W.Workspace.wording) l.world
+      l.from l.arcs l.at (drop l.arc-index l.arcs) l.steps.items;
+}

@@ -1,0 +1,12 @@
+use Rattle.sbpl_job.specs.declared.job.Planner.TheVariants as planner
+use Rattle.sbpl_plans.proofs.Going.{ends_by}
+use Rattle.sbpl_plans.proofs.planners.plans_forwards.Goals as goal
+
+pub returns-in-Ara-clause-ends : goal.returns-in-Ara-clause-ends
+returns-in-Ara-clause-ends g c = ends_by planner.Ara c.in-Ara.is c.plans_by_ara.ensures.ends
+
+pub returns-in-AdStar-clause-ends : goal.returns-in-AdStar-clause-ends
+returns-in-AdStar-clause-ends g c = ends_by planner.AdStar c.in-AdStar.is c.plans_by_adstar.ensures.ends
+
+pub returns-in-Epase-clause-ends : goal.returns-in-Epase-clause-ends
+returns-in-Epase-clause-ends g c = ends_by planner.Epase c.in-Epase.is c.plans_by_epase.ensures.ends

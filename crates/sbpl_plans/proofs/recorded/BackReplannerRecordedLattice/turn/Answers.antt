@@ -1,0 +1,18 @@
+use Rattle.std.proofs.Common.{subst}
+use Rattle.sbpl_back.specs.Reversed.{reversed}
+use Rattle.sbpl_cost.specs.Lattices.{network_of}
+use Rattle.sbpl_plan.specs.declared.result.FoundPath.{FoundPath}
+use Rattle.sbpl_plan.specs.declared.result.Outcome.{Outcome}
+use Rattle.sbpl_plan.specs.Outcomes.{IsTrueOutcome}
+use Rattle.sbpl_plans.proofs.recorded.BackReplannerRecordedLattice.turn.Goals as goal
+
+pub returns-in-NoPath-clause-so : goal.returns-in-NoPath-clause-so
+returns-in-NoPath-clause-so c = λ arcs cost free.
+    let n = network_of c.args.lattice.now in
+    let back =
+    c.paths_turn_round.ensures.backwards n c.args.start c.args.goal cost arcs c.states-states.ensures.sound
+    c.states-states.ensures.tails free in
+    let none =
+    subst (λ (o : Outcome FoundPath). IsTrueOutcome (reversed n) c.args.goal c.args.start o)
+    c.in-NoPath.is c.requires.so in
+    none back.0 cost back.2

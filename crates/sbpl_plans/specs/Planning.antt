@@ -1,0 +1,50 @@
+-- How plans go on from one to the next while they are made and told.
+use Rattle.std.specs.Prelude.{◌≡◌, ℕ, ◌⊎◌, List, [], Option, Result, Ok, Err}
+use Rattle.sbpl_desk.specs.declared.desk.WriteStop.{WriteStop}
+use Rattle.sbpl_desk.specs.declared.desk.WriteStop.TheVariants.{NoMemory}
+use Rattle.sbpl_map.specs.CellMap.{CellMap}
+use Rattle.sbpl_job.specs.declared.job.Outputs.{Outputs}
+use Rattle.sbpl_job.specs.declared.job.SearchJob.{SearchJob}
+use Rattle.sbpl_replan.specs.Directions.{Direction}
+use Rattle.sbpl_replan.specs.Replanning.{GoesBetween, Standing}
+use Rattle.sbpl_report.specs.declared.record.PlanRecord.{PlanRecord}
+use Rattle.sbpl_search.specs.Meaning.{Meaning}
+use Rattle.sbpl_promises.specs.Asked.{Known}
+use Rattle.sbpl_promises.specs.Sites.{Site}
+use Rattle.sbpl_plan.specs.declared.found.Found.{Found}
+use Rattle.sbpl_promises.specs.Headline.{Begins, Carried, IsBrokenOff, IsPlanOf, expanded_before}
+use Rattle.sbpl_promises.specs.Published.{Entry, with_paths, with_plan}
+use Rattle.sbpl_promises.specs.Writing.{AreAppended, DeskState, EndsIn, Stays, Write}
+
+-- the plans go from this start to this goal, with the budget that is asked
+pub record IsSetFor {Note W : Type 0} (d : Direction W) (how : SearchJob) (start goal : ℕ) (s : Standing Note) : Type 0 where
+  pub between : GoesBetween d start goal s
+  pub budget_is : s.counts.per_plan ≡ how.budget
+
+-- what the last plan on a map leaves to the next
+abbrev pub carried_of : {Note : Type 0} → CellMap → Standing Note → Carried
+carried_of m s = record { map = m; labels = s.search.labels; expanded = s.counts.run }
+
+-- the next plan in a world, whose search goes from this state, goes on from the plans before it
+pub record GoesOnFrom {Note W : Type 0} (means : Meaning Note) (on : Site W) (d : Direction W) (w : W) (from : ℕ) (before : Option Carried) (s : Standing Note) : Type 0 where
+  pub begins : Begins means on d w from before s.search.labels s.search.raised
+  pub counted : expanded_before before ≡ s.counts.run
+
+-- the record of plan k in a world, and what was published before it and after
+pub record IsPublishedPlan {W : Type 0} (by : Known W) (w : W) (how : SearchJob) (outputs : Outputs) (start goal k : ℕ) (log shown : List Entry) (before : Option Carried) (carried : Carried) (r : PlanRecord) : Type 0 where
+  pub plan : IsPlanOf by w how outputs start goal k log before carried r
+  pub shown_is : shown ≡ with_plan log r
+
+-- memory ran out in plan k in a world, and the paths that its passes so far found were published
+pub record IsPublishedInPart {W : Type 0} (by : Known W) (w : W) (how : SearchJob) (outputs : Outputs) (start goal k : ℕ) (log shown : List Entry) (before : Option Carried) : Type 0 where
+  pub found : List Found
+  pub broken : (found ≡ []) ⊎ IsBrokenOff by w how outputs start goal before found
+  pub shown_is : shown ≡ with_paths log k 0 found
+
+-- what is written of plan k in a world, and whether it was; what was published before it and after
+abbrev pub EndsOnePlan : {W : Type 0} → Known W → (PlanRecord → List Write) → W → SearchJob → Outputs → (start goal k : ℕ) → (log shown : List Entry) → Option Carried → Carried → (old new : DeskState) → Result (Unit {0}) WriteStop → Type 0
+EndsOnePlan by written_of w how outputs start goal k log shown before carried old new (Ok _) =
+    (r : PlanRecord) × IsPublishedPlan by w how outputs start goal k log shown before carried r × AreAppended old new (written_of r)
+EndsOnePlan by written_of w how outputs start goal k log shown before carried old new (Err e) =
+    ((e ≡ NoMemory) × Stays old.written new.written × IsPublishedInPart by w how outputs start goal k log shown before)
+    ⊎ ((r : PlanRecord) × IsPublishedPlan by w how outputs start goal k log shown before carried r × EndsIn {T = Unit {0}} old new (written_of r) (Err e))

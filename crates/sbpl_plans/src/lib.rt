@@ -1,0 +1,11 @@
+//! The plans of a job: made by the planner that it asks for, published, and told.
+#![tactic(auto)]
+
+mod plan_record;
+mod planners;
+mod plans;
+mod publishing;
+mod recorded;
+
+pub use planners::{make_plans, plans_by_adstar, plans_forwards};
+pub use publishing::LiveBoard;

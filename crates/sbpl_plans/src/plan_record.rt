@@ -1,0 +1,263 @@
+//! One plan on a world.
+
+ghost use Rattle.std.specs.Prelude.{map, [], if◌then◌else◌, ◌≡◌, ◌+◌, ◌^◌, ◌<◌, ◌≤◌, ℕ, length, IfOk, MatchBool, None, OnErr, Option, Some};
+ghost use Rattle.sbpl_promises.specs.Headline.{AreSteps, Carried, IsKnownWithin, IsNoneThere, IsPathFrom, IsSearched, IsWithinBound, KeepsPromises, Joins, JoinsStates, IsSameResult, IsToldOf};
+ghost use Rattle.sbpl_promises.specs.Sites.{site_of};
+ghost use Rattle.sbpl_report.specs.Traces.{traced_pass};
+ghost use Rattle.sbpl_plans.specs.Planning.{GoesOnFrom, IsPublishedInPart, IsSetFor, carried_of};
+ghost use Rattle.sbpl_promises.specs.Published.{founds, newest, with_paths, with_plan};
+ghost use Rattle.sbpl_plan.specs.Asked.{IsAsk, MOST_PASSES};
+ghost use Rattle.sbpl_plan.specs.Determined.{AreWithin};
+ghost use Rattle.sbpl_plan.specs.Planned.{IsPlanned};
+ghost use Rattle.sbpl_replan.specs.Replanning.{StandsOutOfMemory, StaysTheSame, at_plan, inquiry};
+ghost use Rattle.sbpl_job.specs.Jobs.{IsSearchJob};
+ghost use Rattle.sbpl_promises.specs.Asked.{ask_of};
+ghost use Rattle.sbpl_plan.specs.Outcomes.{IsTrueOutcome};
+ghost use Rattle.sbpl_plan.specs.Outcomes as Conclusions;
+ghost use Rattle.sbpl_plan.specs.declared.result.Outcome.TheVariants as Results;
+
+use crate::publishing::{LiveBoard, Publishes, newest_on};
+use crate::recorded::Recorded;
+use sbpl_cert::Section;
+use sbpl_fixed::NoMemory;
+use sbpl_incumbent::{Entry, Publisher};
+use sbpl_job::{Outputs, SearchJob};
+use sbpl_plan::{Ask, FoundPath, Outcome, Planned};
+use sbpl_report::{PathRecord, PlanRecord, Raised, Steps, Traced, traced_passes};
+use sbpl_worlds::Workspace;
+use std::alloc::Global;
+use std::sync::Wait;
+
+/// The steps of the free path that these arcs are, from a state.
+fn steps_of<W: Workspace>(
+    alloc: Global,
+    world: &W,
+    from: u32,
+    arcs: &[u32],
+) -> Result<Steps, NoMemory>
+    requires path { IsPathFrom (W.network world.now) from arcs.now }
+    ensures steps { IfOk result (AreSteps (site_of W.network W.cells W.Best.says W.wording) world.now from arcs.now) }
+{
+    let mut steps = Vec::with_capacity(alloc, arcs.len())?;
+    let mut at = from;
+    for arc in arcs {
+        let (head, step) = world.step(at, *arc);
+        steps.push(step)?;
+        at = head;
+    }
+    Ok(Steps::of(steps))
+}
+
+/// A path that a search found, step by step.
+fn path_of<W: Workspace>(
+    alloc: Global,
+    world: &W,
+    start: u32,
+    goal: u32,
+    found: FoundPath,
+) -> Result<PathRecord, NoMemory>
+    requires state { start < (W.network world.now).states }
+    requires so { IsTrueOutcome (W.network world.now) start goal (Results.Path found) }
+    ensures joins { IfOk result (JoinsStates (site_of W.network W.cells W.Best.says W.wording) world.now start goal) }
+    ensures arcs { IfOk result (λ p. p.arcs ≡ found.arcs) }
+    ensures cost { IfOk result (λ p. p.cost ≡ found.cost) }
+    ensures bound { IfOk result (λ p. p.bound ≡ found.bound) }
+{
+    let FoundPath { arcs, cost, bound } = found;
+    let steps = steps_of(alloc, world, start, arcs.as_slice())?;
+    Ok(PathRecord {
+        cost,
+        bound,
+        start: world.spot(start),
+        steps,
+        arcs,
+    })
+}
+
+/// The result of a plan, told step by step.
+fn outcome_of<W: Workspace>(
+    alloc: Global,
+    world: &W,
+    start: u32,
+    goal: u32,
+    found: Outcome<FoundPath>,
+) -> Result<Outcome<PathRecord>, NoMemory>
+    requires state { start < (W.network world.now).states }
+    requires so { IsTrueOutcome (W.network world.now) start goal found }
+    ensures told { IfOk result (IsSameResult found) }
+    ensures joins { IfOk result (Joins (site_of W.network W.cells W.Best.says W.wording) world.now start goal) }
+    ensures within_the_bound { IfOk result (IsWithinBound (W.network world.now) start goal) }
+    ensures none { IfOk result (IsNoneThere (W.network world.now) start goal) }
+    ensures answered { IfOk result (λ o. (asked : ℕ) → Conclusions.IsConclusive asked found → IsKnownWithin asked o) }
+{
+    match found {
+        Outcome::Path(path) => Ok(Outcome::Path(path_of(alloc, world, start, goal, path)?)),
+        Outcome::NoPath => Ok(Outcome::NoPath),
+        Outcome::Unknown => Ok(Outcome::Unknown),
+    }
+}
+
+/// What a search is asked for.
+fn ask_of(how: &SearchJob, outputs: &Outputs) -> Ask
+    ensures ask { result ≡ ask_of how.now outputs.now }
+{
+    Ask {
+        first: how.first,
+        step: how.step,
+        bound: how.bound,
+        traced: outputs.trace.is_some(),
+    }
+}
+
+/// The states that were raised before the passes of a plan, where they are to be told.
+fn raised_of(alloc: Global, raised: &[u32], traced: bool) -> Result<Raised, NoMemory>
+    ensures told { IfOk result (λ r. r ≡ (if traced then raised.now else [])) }
+{
+    let mut told = Vec::new(alloc);
+    if traced {
+        told.extend_from_slice(raised)?;
+    }
+    Ok(Raised::of(told))
+}
+
+/// How many states were expanded, where the last pass was spent.
+fn mark_of(spent: bool, expanded: u64) -> Option<u64>
+    ensures mark { MatchBool spent (result ≡ Some expanded) (result ≡ None) }
+{
+    if spent { Some(expanded) } else { None }
+}
+
+/// The record of plan `plan`, which expanded this number of states.
+fn record_of<W: Workspace, R: Recorded<W>>(
+    alloc: Global,
+    world: &W,
+    start: u32,
+    goal: u32,
+    plan: u32,
+    planned: Planned<R::Note>,
+    expanded: u64,
+    labels: Option<Section>,
+    raised: Raised,
+    incumbent: Option<Entry>,
+) -> Result<PlanRecord, NoMemory>
+where
+    R::Note: Traced,
+    requires start { start < (W.network world.now).states }
+    requires goal { goal < (W.network world.now).states }
+    requires so { IsTrueOutcome (R.direction.network world.now) (R.direction.from start goal) (R.direction.to start goal) planned.outcome }
+    ensures number { IfOk result (λ r. r.plan ≡ plan) }
+    ensures passes { IfOk result (λ r. r.passes ≡ map (traced_pass R.Note.line) planned.passes) }
+    ensures expanded { IfOk result (λ r. r.expanded ≡ expanded) }
+    ensures told { IfOk result (λ r. IsToldOf (R.direction.leads world.now start goal) planned.outcome r.outcome) }
+    ensures labels { IfOk result (λ r. r.labels ≡ labels) }
+    ensures raised { IfOk result (λ r. r.raised ≡ raised) }
+    ensures incumbent { IfOk result (λ r. r.incumbent ≡ incumbent) }
+    ensures marked { IfOk result (λ r. MatchBool planned.spent (r.spent ≡ Some expanded) (r.spent ≡ None)) }
+    ensures joins { IfOk result (λ r. Joins (site_of W.network W.cells W.Best.says W.wording) world.now start goal r.outcome) }
+    ensures within_the_bound { IfOk result (λ r. IsWithinBound (W.network world.now) start goal r.outcome) }
+    ensures none { IfOk result (λ r. IsNoneThere (W.network world.now) start goal r.outcome) }
+    ensures answered { IfOk result (λ r. (asked : ℕ) → Conclusions.IsConclusive asked planned.outcome → IsKnownWithin asked r.outcome) }
+{
+    let passes = traced_passes(alloc, planned.passes.as_slice())?;
+    let found = R::turn(alloc, world, start, goal, planned.outcome)?;
+    let outcome = outcome_of(alloc, world, start, goal, found)?;
+    Ok(PlanRecord {
+        plan,
+        raised,
+        passes,
+        expanded,
+        spent: mark_of(planned.spent, expanded),
+        outcome,
+        labels,
+        incumbent,
+    })
+}
+
+/// Makes a plan on the present map of a world, and publishes each path as soon as it is found.
+fn plan_on<W: Workspace, R: Recorded<W>, B: Wait>(
+    alloc: Global,
+    world: &W,
+    replanner: &mut R,
+    ask: &Ask,
+    plan: u32,
+    live: &LiveBoard<B>,
+    publisher: &mut Publisher,
+) -> Result<Planned<R::Note>, NoMemory>
+    requires ready { R.ready replanner.old world.now }
+    requires asked { IsAsk ask.now }
+    requires board { publisher.old.board ≡ live.now.board.now }
+    requires few { length publisher.old.published + MOST_PASSES < 2 ^ 63 }
+    ensures planned { IfOk result (IsPlanned R.meaning (inquiry R.direction world.now (R.guide replanner.old world.now) (R.standing replanner.old) ask.now) (R.standing replanner.old).search (R.standing replanner.new).search (at_plan (R.standing replanner.old).counts) (R.standing replanner.new).counts) }
+    ensures within { IfOk result (λ r. AreWithin (R.standing replanner.old).counts.per_plan (R.standing replanner.old).counts.run r.passes r.spent) }
+    ensures run { (R.standing replanner.new).counts.run ≤ 2 ^ 30 }
+    ensures ready { IfOk result (λ _. R.ready replanner.new world.now) }
+    ensures same { IfOk result (λ _. StaysTheSame (R.standing replanner.old) (R.standing replanner.new)) }
+    ensures guide { R.guide replanner.new world.now ≡ R.guide replanner.old world.now }
+    ensures shown { IfOk result (λ r. publisher.new.published ≡ with_paths publisher.old.published plan 0 (founds r.passes)) }
+    ensures memory { OnErr result (StandsOutOfMemory R.meaning (inquiry R.direction world.now (R.guide replanner.old world.now) (R.standing replanner.old) ask.now) (R.ready replanner.new world.now) (λ ps. publisher.new.published ≡ with_paths publisher.old.published plan 0 (founds ps)) (R.standing replanner.old) (R.standing replanner.new)) }
+    ensures board { publisher.new.board ≡ publisher.old.board }
+    ensures grown { length publisher.new.published ≤ length publisher.old.published + MOST_PASSES }
+{
+    let mut publishes = Publishes {
+        rt: live.rt,
+        board: live.board,
+        publisher,
+        plan,
+    };
+    replanner.plan(alloc, world, ask, &mut publishes)
+}
+
+/// Makes plan `plan` on the present map of a world, publishes each path as soon as it is found, and makes the plan's record.
+pub(crate) fn make_record<W: Workspace, R: Recorded<W>, B: Wait>(
+    alloc: Global,
+    world: &W,
+    replanner: &mut R,
+    how: &SearchJob,
+    outputs: &Outputs,
+    start: u32,
+    goal: u32,
+    plan: u32,
+    live: &LiveBoard<B>,
+    publisher: &mut Publisher,
+) -> Result<PlanRecord, NoMemory>
+where
+    R::Note: Traced,
+    requires start { start < (W.network world.now).states }
+    requires goal { goal < (W.network world.now).states }
+    requires board { publisher.old.board ≡ live.now.board.now }
+    requires few { length publisher.old.published + MOST_PASSES < 2 ^ 63 }
+    requires search { IsSearchJob how.now }
+    requires ready { R.ready replanner.old world.now }
+    requires set { IsSetFor R.direction how.now start goal (R.standing replanner.old) }
+    ensures number { IfOk result (λ r. r.plan ≡ plan) }
+    ensures promises { IfOk result (KeepsPromises (site_of W.network W.cells W.Best.says W.wording) world.now start goal how.now.bound) }
+    ensures searched { (before : Option Carried) → GoesOnFrom R.meaning (site_of W.network W.cells W.Best.says W.wording) R.direction world.now (R.direction.from start goal) before (R.standing replanner.old)
+        → IfOk result (IsSearched (record { on = site_of W.network W.cells W.Best.says W.wording; Note = R.Note; means = R.meaning; line = R.Note.line; direction = R.direction }) world.now how.now outputs.now start goal before (carried_of (W.cells.map world.now) (R.standing replanner.new))) }
+    ensures ready { IfOk result (λ _. R.ready replanner.new world.now) }
+    ensures set { IfOk result (λ _. IsSetFor R.direction how.now start goal (R.standing replanner.new)) }
+    ensures shown { IfOk result (λ r. publisher.new.published ≡ with_plan publisher.old.published r) }
+    ensures incumbent { IfOk result (λ r. r.incumbent ≡ newest publisher.new.published) }
+    ensures broken { (before : Option Carried) → GoesOnFrom R.meaning (site_of W.network W.cells W.Best.says W.wording) R.direction world.now (R.direction.from start goal) before (R.standing replanner.old)
+        → OnErr result (IsPublishedInPart (record { on = site_of W.network W.cells W.Best.says W.wording; Note = R.Note; means = R.meaning; line = R.Note.line; direction = R.direction }) world.now how.now outputs.now start goal plan publisher.old.published publisher.new.published before) }
+    ensures board { publisher.new.board ≡ publisher.old.board }
+    ensures grown { length publisher.new.published ≤ length publisher.old.published + MOST_PASSES }
+{
+    let ask = ask_of(how, outputs);
+    let raised = raised_of(alloc, replanner.raised(), ask.traced)?;
+    let planned = plan_on(alloc, world, replanner, &ask, plan, live, publisher)?;
+    let incumbent = newest_on(live, publisher)?;
+    let labels = replanner.section(
+        alloc,
+        world,
+        start,
+        goal,
+        plan,
+        &planned.outcome,
+        outputs.labels.is_some(),
+        outputs.form,
+    )?;
+    let expanded = replanner.expanded();
+    record_of::<W, R>(
+        alloc, world, start, goal, plan, planned, expanded, labels, raised, incumbent,
+    )
+}

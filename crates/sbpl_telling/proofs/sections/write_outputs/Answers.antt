@@ -1,0 +1,25 @@
+use Rattle.std.proofs.Common.{◌++◌, inl, inr}
+use Rattle.sbpl_promises.specs.Intents.{incumbent_writes, labels_writes, trace_writes}
+use Rattle.sbpl_telling.proofs.Writings.{ends_after, ends_first}
+use Rattle.sbpl_telling.proofs.sections.write_outputs.Goals as goal
+use Rattle.sbpl_telling.proofs.Frames.{writes_more, writes_on}
+
+pub returns-in-Ok-clause-ends : goal.returns-in-Ok-clause-ends
+returns-in-Ok-clause-ends g c =
+    ends_after _ _ _ _ (labels_writes c.args.outputs.now c.args.plan.now)
+    (trace_writes c.args.outputs.now c.args.plan.now ++ incumbent_writes c.args.outputs.now c.args.plan.now) _
+    c.in-Ok.ensures.ends c.write_labels.ensures.frame.writes c.write_last_outputs.ensures.ends
+
+pub returns-in-Err-clause-ends : goal.returns-in-Err-clause-ends
+returns-in-Err-clause-ends g c =
+    ends_first (Unit {0}) (Unit {0}) _ _ (labels_writes c.args.outputs.now c.args.plan.now)
+    (trace_writes c.args.outputs.now c.args.plan.now ++ incumbent_writes c.args.outputs.now c.args.plan.now)
+    c.in-Err.stop c.in-Err.ensures.ends
+
+pub returns-in-Ok-clause-frame : goal.returns-in-Ok-clause-frame
+returns-in-Ok-clause-frame g c =
+    writes_on _ _ _ _ (writes_more _ _ _ _ (λ name is. inr (inl is)) c.write_labels.ensures.frame)
+    c.write_last_outputs.ensures.frame
+
+pub returns-in-Err-clause-frame : goal.returns-in-Err-clause-frame
+returns-in-Err-clause-frame g c = writes_more _ _ _ _ (λ name is. inr (inl is)) c.write_labels.ensures.frame

@@ -1,0 +1,4 @@
+pub mod Reading
+pub mod OnMaps
+pub mod Moving
+pub mod Drawings

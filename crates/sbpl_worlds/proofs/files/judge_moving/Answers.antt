@@ -1,0 +1,14 @@
+use Rattle.std.proofs.Common.{ℕ, Some, true, ap, subst, ◌∙◌}
+use Rattle.sbpl_cfg.specs.Environment.{Environment}
+use Rattle.sbpl_map.specs.CellMap.{CellMap}
+use Rattle.sbpl_map.specs.LineFaults.{HasTextFault}
+use Rattle.sbpl_promises.specs.Causes.{scope_of}
+use Rattle.sbpl_worlds.proofs.files.judge_moving.Goals as goal
+
+pub returns-in-Err-clause-stop : goal.returns-in-Err-clause-stop
+returns-in-Err-clause-stop c = c.stop_for.ensures.stop (scope_of true c.args.lattice.now) c.args.text.now
+    (λ some. subst (λ (m : CellMap).
+    HasTextFault m (Some c.args.lattice.now.env.headings) c.args.text.now c.in-Err.fault) c.map.ensures.map
+    (subst (λ (n : ℕ). HasTextFault c.map.result.now (Some n) c.args.text.now c.in-Err.fault)
+    (ap (λ (e : Environment). e.headings) c.behind-lattice.view_is
+    ∙ ap (λ (e : Environment). e.headings) c.env.ensures.env) (c.in-Err.ensures.faulty some)))

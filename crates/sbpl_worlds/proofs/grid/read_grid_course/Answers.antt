@@ -1,0 +1,44 @@
+use Rattle.std.proofs.Common.{List, Option, IfSome, sym, subst}
+use Rattle.sbpl_cfg.specs.declared.pose.Place.{Place}
+use Rattle.sbpl_map.specs.CellMap.{CellMap}
+use Rattle.sbpl_map.specs.ChangeText.{AreOnMap}
+use Rattle.sbpl_promises.specs.Causes.{AreMovesIn, ChangesStopFor, ReadsCourse, grid_files, grid_scope}
+use Rattle.sbpl_promises.specs.GridSite.{grid_site}
+use Rattle.sbpl_promises.specs.Texts.{still_scope}
+use Rattle.sbpl_worlds.proofs.Reading.{course_since, course_stop, reads_on}
+use Rattle.sbpl_worlds.proofs.grid.read_grid_course.Goals as goal
+
+pub returns-in-Err-clause-stop : goal.returns-in-Err-clause-stop
+returns-in-Err-clause-stop g c =
+    let mid = g.D.Desk.state c.read_grid.new.desk in
+    let end = g.D.Desk.state c.read_still.new.desk in
+    course_stop _ mid end (grid_files c.args.env.now) c.args.changes.now c.in_ok-nav.nav c.in-Err.stop
+    c.in_ok-nav.ensures.says c.in_ok-nav.ensures.frame
+    (subst (λ (m : CellMap). ChangesStopFor mid end c.args.changes.now (still_scope m) c.in-Err.stop)
+    c.map.ensures.map c.in-Err.ensures.stop)
+
+pub returns-in-Ok-clause-course : goal.returns-in-Ok-clause-course
+returns-in-Ok-clause-course g c =
+    let later = (g.D.Desk.state c.read_grid.new.desk).held in
+    let w = c.in_ok-nav.nav in
+    let course = c.in-Ok.course in
+    record {
+      says = c.in_ok-nav.ensures.says;
+      is_world = c.in_ok-nav.ensures.kept;
+      course_is = course_since _ later c.args.changes.now (grid_scope w) course c.in_ok-nav.ensures.frame.held
+          (subst (λ (m : CellMap). ReadsCourse later c.args.changes.now (still_scope m) course)
+          c.map.ensures.map c.in-Ok.ensures.says);
+      in_world = record {
+        on_map = subst (λ (m : CellMap). AreOnMap m course.batches) c.map.ensures.map c.in-Ok.ensures.on_map;
+        moves =
+            subst (λ (o : Option (List (Option Place))). IfSome o (AreMovesIn grid_site w course.batches))
+            (sym c.in-Ok.ensures.stays) tt;
+        stays = λ is. c.in-Ok.ensures.stays;
+      };
+    }
+
+pub returns-in-Ok-clause-frame : goal.returns-in-Ok-clause-frame
+returns-in-Ok-clause-frame g c = reads_on _ _ _ c.in_ok-nav.ensures.frame c.read_still.ensures.frame
+
+pub returns-in-Err-clause-frame : goal.returns-in-Err-clause-frame
+returns-in-Err-clause-frame g c = reads_on _ _ _ c.in_ok-nav.ensures.frame c.read_still.ensures.frame

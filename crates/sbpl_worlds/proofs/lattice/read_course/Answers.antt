@@ -1,0 +1,28 @@
+use Rattle.sbpl_promises.specs.Causes.{lattice_files, scope_of}
+use Rattle.sbpl_worlds.proofs.Reading.{course_since, course_stop, reads_on}
+use Rattle.sbpl_worlds.proofs.lattice.read_course.Goals as goal
+
+pub returns-in-Err-clause-stop : goal.returns-in-Err-clause-stop
+returns-in-Err-clause-stop g c =
+    let mid = g.D.Desk.state c.read_lattice.new.desk in
+    let end = g.D.Desk.state c.read_change_file.new.desk in
+    course_stop _ mid end (lattice_files c.args.from.now c.args.moving) c.args.changes.now c.in_ok-lattice.lattice
+    c.in-Err.stop c.in_ok-lattice.ensures.says c.in_ok-lattice.ensures.frame c.in-Err.ensures.stop
+
+pub returns-in-Ok-clause-course : goal.returns-in-Ok-clause-course
+returns-in-Ok-clause-course g c =
+    let later = (g.D.Desk.state c.read_lattice.new.desk).held in
+    record {
+      says = c.in_ok-lattice.ensures.says;
+      is_world = c.in_ok-lattice.ensures.kept;
+      course_is =
+          course_since _ later c.args.changes.now (scope_of c.args.moving c.in_ok-lattice.lattice) c.in-Ok.course
+          c.in_ok-lattice.ensures.frame.held c.in-Ok.ensures.says;
+      in_world = c.in-Ok.ensures.in_world;
+    }
+
+pub returns-in-Ok-clause-frame : goal.returns-in-Ok-clause-frame
+returns-in-Ok-clause-frame g c = reads_on _ _ _ c.in_ok-lattice.ensures.frame c.read_change_file.ensures.frame
+
+pub returns-in-Err-clause-frame : goal.returns-in-Err-clause-frame
+returns-in-Err-clause-frame g c = reads_on _ _ _ c.in_ok-lattice.ensures.frame c.read_change_file.ensures.frame

@@ -1,0 +1,195 @@
+//! The files that a lattice is made of and the change file, read and judged.
+
+ghost use Rattle.std.specs.Prelude.{◌≡◌, ◌≢◌, ◌≤◌, ◌^◌, [], true, List, ℕ, None, length, IfOk, IfErr};
+ghost use Rattle.sbpl_promises.specs.LatticeSite.{lattice_site};
+ghost use Rattle.sbpl_promises.specs.Causes.{ChangesStopFor, IsChangesRefused, IsEnvironmentRefused, IsPrimitivesRefused, IsReadText, IsUnread, LatticeStopsFor, PrimitivesStopFor, IsCourseIn, ReadsCourse, ReadsEnvironment, ReadsPrimitives, scope_of};
+ghost use Rattle.sbpl_promises.specs.Texts.{HasChangeFault, IsChangeText, IsEnvironmentText, IsPrimitiveText, Scope, still_scope};
+ghost use Rattle.sbpl_map.specs.ChangeText.{AreOnMap};
+ghost use Rattle.sbpl_map.specs.declared.fault.ChangeFault.TheVariants as ChangeFaults;
+ghost use Rattle.sbpl_promises.specs.Writing.{ReadsOnly};
+
+use sbpl_cfg::{Env, EnvFault, Grid, read_env};
+use sbpl_cost::Lattice;
+use sbpl_desk::{Desk, ReadStop};
+use sbpl_fixed::NoMemory;
+use sbpl_job::{Name, Sources};
+use sbpl_map::{ChangeFault, Changes, Map, read_changes, read_moves};
+use sbpl_mprim::{PrimFault, Prims, read_prims};
+use sbpl_promises::Course;
+use sbpl_report::{Input, Refusal, Stop};
+use std::alloc::Global;
+
+/// The bytes of a file.
+pub fn read_file<D: Desk>(
+    alloc: Global,
+    name: &Name,
+    input: Input,
+    desk: &mut D,
+) -> Result<Vec<u8>, Stop>
+    ensures text { IfOk result (λ text. IsReadText ((D.state desk.old).held name.now) text.items) }
+    ensures stop { IfErr result (IsUnread (D.state desk.old) (D.state desk.new) name.now input) }
+    ensures frame { ReadsOnly (D.state desk.old) (D.state desk.new) }
+{
+    let mut text = Vec::new(alloc);
+    match desk.read(name.as_str(), &mut text) {
+        Ok(()) => Ok(text),
+        Err(ReadStop::Failed) => Err(Stop::Refused(Refusal::Read(input))),
+        Err(ReadStop::TooLong) => Err(Stop::Refused(Refusal::Length(input))),
+        Err(ReadStop::NoMemory) => Err(Stop::NoMemory),
+    }
+}
+
+/// The environment that a text stands for.
+fn judge_environment(alloc: Global, text: &[u8]) -> Result<(Env, Grid), Stop>
+    ensures stands { IfOk result (λ x. IsEnvironmentText text.now x.0 x.1) }
+    ensures stop { IfErr result (IsEnvironmentRefused text.now) }
+{
+    match read_env(alloc, text) {
+        Ok(found) => Ok(found),
+        Err(EnvFault::NoMemory) => Err(Stop::NoMemory),
+        Err(fault) => Err(Stop::Refused(Refusal::Environment(fault))),
+    }
+}
+
+/// The environment file.
+pub(crate) fn read_environment<D: Desk>(
+    alloc: Global,
+    from: &Sources,
+    desk: &mut D,
+) -> Result<(Env, Grid), Stop>
+    ensures says { IfOk result (λ x. ReadsEnvironment (D.state desk.old).held from.now x.0 x.1) }
+    ensures stop { IfErr result (LatticeStopsFor (D.state desk.old) (D.state desk.new) from.now) }
+    ensures frame { ReadsOnly (D.state desk.old) (D.state desk.new) }
+{
+    let text = read_file(alloc, &from.env, Input::Environment, desk)?;
+    judge_environment(alloc, text.as_slice())
+}
+
+/// The primitives that a text stands for, for this environment.
+fn judge_primitives(alloc: Global, text: &[u8], env: &Env) -> Result<Prims, Stop>
+    ensures stands { IfOk result (IsPrimitiveText env.now text.now) }
+    ensures stop { IfErr result (IsPrimitivesRefused env.now text.now) }
+{
+    match read_prims(alloc, text, env.cell, env.headings) {
+        Ok(prims) => Ok(prims),
+        Err(PrimFault::NoMemory) => Err(Stop::NoMemory),
+        Err(fault) => Err(Stop::Refused(Refusal::Primitives(fault))),
+    }
+}
+
+/// The primitive file, for this environment.
+pub(crate) fn read_primitives<D: Desk>(
+    alloc: Global,
+    from: &Sources,
+    env: &Env,
+    desk: &mut D,
+) -> Result<Prims, Stop>
+    ensures says { IfOk result (ReadsPrimitives (D.state desk.old).held from.now env.now) }
+    ensures stop { IfErr result (PrimitivesStopFor (D.state desk.old) (D.state desk.new) from.now env.now) }
+    ensures frame { ReadsOnly (D.state desk.old) (D.state desk.new) }
+{
+    let text = read_file(alloc, &from.prims, Input::Primitives, desk)?;
+    judge_primitives(alloc, text.as_slice(), env)
+}
+
+/// Why a change file with this fault is refused, or that memory ran out.
+fn stop_for(fault: ChangeFault) -> Stop
+    ensures stop { (s : Scope) (text : List ℕ) → (fault ≢ ChangeFaults.NoMemory → HasChangeFault s text fault) → IsChangesRefused s text result }
+{
+    match fault {
+        ChangeFault::NoMemory => Stop::NoMemory,
+        fault => Stop::Refused(Refusal::Changes(fault)),
+    }
+}
+
+/// The course that a text stands for, in which the robot stays where it is.
+fn judge_still(alloc: Global, text: &[u8], map: &Map) -> Result<Course, Stop>
+    requires short { length text.now ≤ 2 ^ 30 }
+    ensures stands { IfOk result (IsChangeText (still_scope map.now) text.now) }
+    ensures on_map { IfOk result (λ c. AreOnMap map.now c.batches) }
+    ensures stays { IfOk result (λ c. c.moves ≡ None) }
+    ensures stop { IfErr result (IsChangesRefused (still_scope map.now) text.now) }
+{
+    match read_changes(alloc, text, map) {
+        Ok(batches) => Ok(Course {
+            batches,
+            moves: None,
+        }),
+        Err(fault) => Err(stop_for(fault)),
+    }
+}
+
+/// The course that a text stands for, whose lines can say where the robot is.
+fn judge_moving(alloc: Global, text: &[u8], lattice: &Lattice) -> Result<Course, Stop>
+    requires short { length text.now ≤ 2 ^ 30 }
+    ensures stands { IfOk result (IsChangeText (scope_of true lattice.now) text.now) }
+    ensures in_world { IfOk result (IsCourseIn lattice_site true lattice.now) }
+    ensures stop { IfErr result (IsChangesRefused (scope_of true lattice.now) text.now) }
+{
+    match read_moves(alloc, text, lattice.map(), lattice.env().headings) {
+        Ok((batches, moves)) => Ok(Course {
+            batches,
+            moves: Some(moves),
+        }),
+        Err(fault) => Err(stop_for(fault)),
+    }
+}
+
+/// No batches: those of an empty text, which has no fault.
+fn no_changes(alloc: Global, map: &Map) -> Result<Changes, NoMemory>
+    ensures none { IfOk result (λ c. c ≡ []) }
+{
+    match read_changes(alloc, &[], map) {
+        Ok(changes) => Ok(changes),
+        Err(_) => Err(NoMemory),
+    }
+}
+
+/// The course of a change file in whose lines the robot stays where it is; one without batches where there is no such file.
+pub(crate) fn read_still<D: Desk>(
+    alloc: Global,
+    changes: &Option<Name>,
+    map: &Map,
+    desk: &mut D,
+) -> Result<Course, Stop>
+    ensures says { IfOk result (ReadsCourse (D.state desk.old).held changes.now (still_scope map.now)) }
+    ensures on_map { IfOk result (λ c. AreOnMap map.now c.batches) }
+    ensures stays { IfOk result (λ c. c.moves ≡ None) }
+    ensures stop { IfErr result (ChangesStopFor (D.state desk.old) (D.state desk.new) changes.now (still_scope map.now)) }
+    ensures frame { ReadsOnly (D.state desk.old) (D.state desk.new) }
+{
+    let Some(name) = changes else {
+        return match no_changes(alloc, map) {
+            Ok(batches) => Ok(Course {
+                batches,
+                moves: None,
+            }),
+            Err(NoMemory) => Err(Stop::NoMemory),
+        };
+    };
+    let text = read_file(alloc, name, Input::Changes, desk)?;
+    judge_still(alloc, text.as_slice(), map)
+}
+
+/// The course of the change file on a lattice; one without batches where there is no such file. Lines of the file can say where the
+/// robot is where it may move.
+pub(crate) fn read_change_file<D: Desk>(
+    alloc: Global,
+    changes: &Option<Name>,
+    moving: bool,
+    lattice: &Lattice,
+    desk: &mut D,
+) -> Result<Course, Stop>
+    ensures says { IfOk result (ReadsCourse (D.state desk.old).held changes.now (scope_of moving lattice.now)) }
+    ensures in_world { IfOk result (IsCourseIn lattice_site moving lattice.now) }
+    ensures stop { IfErr result (ChangesStopFor (D.state desk.old) (D.state desk.new) changes.now (scope_of moving lattice.now)) }
+    ensures frame { ReadsOnly (D.state desk.old) (D.state desk.new) }
+{
+    match changes {
+        Some(name) if moving => {
+            let text = read_file(alloc, name, Input::Changes, desk)?;
+            judge_moving(alloc, text.as_slice(), lattice)
+        }
+        _ => read_still(alloc, changes, lattice.map(), desk),
+    }
+}

@@ -1,0 +1,62 @@
+//! The grid that an environment file stands for, and the batches of its changes.
+
+ghost use Rattle.std.specs.Prelude.{◌≡◌, List, ℕ, IfErr, IfOk};
+ghost use Rattle.sbpl_nav2d.specs.World.{IsGridWorld};
+ghost use Rattle.sbpl_promises.specs.Causes.{AreRead, EarlyStopsFor, GridStopsFor, IsGridRefused, ReadsGrid, grid_files};
+ghost use Rattle.sbpl_promises.specs.Texts.{IsGridText};
+ghost use Rattle.sbpl_promises.specs.Writing.{ReadsOnly};
+
+use crate::files::{read_file, read_still};
+use sbpl_cfg::EnvFault;
+use sbpl_desk::Desk;
+use sbpl_job::Name;
+use sbpl_map::Map;
+use sbpl_nav2d::{Nav, read_nav};
+use sbpl_promises::Course;
+use sbpl_report::{Input, Refusal, Stop};
+use std::alloc::Global;
+
+/// The grid that a text stands for.
+fn judge_grid(alloc: Global, text: &[u8]) -> Result<Nav, Stop>
+    ensures stands { IfOk result (λ w. (cells : List ℕ) × IsGridText text.now w.env cells × (w.map ≡ record { width = w.env.width; height = w.env.height; costs = cells })) }
+    ensures kept { IfOk result IsGridWorld }
+    ensures stop { IfErr result (IsGridRefused text.now) }
+{
+    match read_nav(alloc, text) {
+        Ok((env, grid)) => {
+            let map = Map::plain(env.width, env.height, grid);
+            Ok(Nav::new(&env, map))
+        }
+        Err(EnvFault::NoMemory) => Err(Stop::NoMemory),
+        Err(fault) => Err(Stop::Refused(Refusal::Grid(fault))),
+    }
+}
+
+/// The grid of an environment file.
+fn read_grid<D: Desk>(alloc: Global, env: &Name, desk: &mut D) -> Result<Nav, Stop>
+    ensures says { IfOk result (ReadsGrid (D.state desk.old).held env.now) }
+    ensures kept { IfOk result IsGridWorld }
+    ensures stop { IfErr result (GridStopsFor (D.state desk.old) (D.state desk.new) env.now) }
+    ensures frame { ReadsOnly (D.state desk.old) (D.state desk.new) }
+{
+    let text = read_file(alloc, env, Input::Environment, desk)?;
+    judge_grid(alloc, text.as_slice())
+}
+
+/// The grid of an environment file, and the course of a change file.
+pub fn read_grid_course<D: Desk>(
+    alloc: Global,
+    env: &Name,
+    changes: &Option<Name>,
+    desk: &mut D,
+) -> Result<(Nav, Course), Stop>
+    ensures course { IfOk result (λ x. AreRead (D.state desk.old).held (grid_files env.now) changes.now x.0 x.1) }
+    ensures stop { IfErr result (EarlyStopsFor (D.state desk.old) (D.state desk.new) (grid_files env.now) changes.now) }
+    ensures frame { ReadsOnly (D.state desk.old) (D.state desk.new) }
+{
+    let nav = read_grid(alloc, env, desk)?;
+    match read_still(alloc, changes, nav.map(), desk) {
+        Ok(course) => Ok((nav, course)),
+        Err(stop) => Err(stop),
+    }
+}
