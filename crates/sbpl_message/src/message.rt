@@ -6,7 +6,8 @@ ghost use Rattle.sbpl_message.specs.Messages.{dots, found_text, message_text, pl
 
 use sbpl_fixed::NoMemory;
 use sbpl_lines::{filled_at, line_and_column};
-use sbpl_text::{push_bytes, push_number};
+use sbpl_text::Piece::{Bytes, Number};
+use sbpl_text::{push_all, push_bytes};
 use std::alloc::{AllocError, Global};
 
 /// How many bytes of what stands in a file a message shows.
@@ -56,12 +57,17 @@ fn push_shown(alloc: Global, out: &mut Vec<u8>, found: &[u8]) -> Result<(), NoMe
 fn push_spot(out: &mut Vec<u8>, name: &str, line: usize, column: usize) -> Result<(), NoMemory>
     ensures appended { OnOk result (out.new.items ≡ out.old.items ++ spot_text name.now line column) }
 {
-    push_bytes(out, name.as_bytes())?;
-    push_bytes(out, b":")?;
-    push_number(out, line as u64)?;
-    push_bytes(out, b":")?;
-    push_number(out, column as u64)?;
-    push_bytes(out, b": ")
+    push_all(
+        out,
+        &[
+            Bytes(name.as_bytes()),
+            Bytes(b":"),
+            Number(line as u64),
+            Bytes(b":"),
+            Number(column as u64),
+            Bytes(b": "),
+        ],
+    )
 }
 
 /// Appends what was found, between quotation marks.
@@ -121,13 +127,22 @@ pub(crate) fn message_at(
 
 /// The message on a whole file, or on the program.
 #[tactic(auto, unfolding(crate::specs::Messages::plain_text))]
-pub(crate) fn plain_message(alloc: Global, name: &str, what: &str) -> Result<Vec<u8>, NoMemory>
+pub(crate) fn plain_message<'a>(
+    alloc: Global,
+    name: &'a str,
+    what: &'a str,
+) -> Result<Vec<u8>, NoMemory>
     ensures text { IfOk result (λ m. m.items ≡ plain_text name.now what.now) }
 {
     let mut out = Vec::new(alloc);
-    push_bytes(&mut out, name.as_bytes())?;
-    push_bytes(&mut out, b": ")?;
-    push_bytes(&mut out, what.as_bytes())?;
-    push_bytes(&mut out, b"\n")?;
+    push_all(
+        &mut out,
+        &[
+            Bytes(name.as_bytes()),
+            Bytes(b": "),
+            Bytes(what.as_bytes()),
+            Bytes(b"\n"),
+        ],
+    )?;
     Ok(out)
 }

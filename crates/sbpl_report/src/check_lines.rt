@@ -6,7 +6,8 @@ ghost use Rattle.sbpl_report.specs.Verdicts.{at_arc, at_goal, at_state, bound_te
 use sbpl_cert::{Flaw, Outcome};
 use sbpl_fixed::{NoMemory, print_milli};
 use sbpl_graph::FAR;
-use sbpl_text::{push_bytes, push_field, push_number};
+use sbpl_text::Piece::{Bytes, Number};
+use sbpl_text::{push_all, push_bytes, push_number};
 use std::alloc::Global;
 
 /// The word for what a plan answered.
@@ -26,10 +27,16 @@ pub fn holds_line(alloc: Global, plan: u32, outcome: &Outcome) -> Result<Vec<u8>
     ensures text { IfOk result (λ line. line.items ≡ holds_text plan outcome.now) }
 {
     let mut line = Vec::new(alloc);
-    push_field(&mut line, b"plan ", u64::from(plan))?;
-    push_bytes(&mut line, b" ")?;
-    push_bytes(&mut line, outcome_word(outcome))?;
-    push_bytes(&mut line, b" holds\n")?;
+    push_all(
+        &mut line,
+        &[
+            Bytes(b"plan "),
+            Number(u64::from(plan)),
+            Bytes(b" "),
+            Bytes(outcome_word(outcome)),
+            Bytes(b" holds\n"),
+        ],
+    )?;
     Ok(line)
 }
 
@@ -59,9 +66,15 @@ fn push_limits(out: &mut Vec<u8>, first: u64, second: u64) -> Result<(), NoMemor
 fn push_at_arc(out: &mut Vec<u8>, state: u32, arc: u32, has: u64, most: u64) -> Result<(), NoMemory>
     ensures appended { OnOk result (out.new.items ≡ out.old.items ++ at_arc state arc has most) }
 {
-    push_number(out, u64::from(state))?;
-    push_field(out, b" ", u64::from(arc))?;
-    push_bytes(out, b" ")?;
+    push_all(
+        out,
+        &[
+            Number(u64::from(state)),
+            Bytes(b" "),
+            Number(u64::from(arc)),
+            Bytes(b" "),
+        ],
+    )?;
     push_limits(out, has, most)
 }
 
@@ -70,8 +83,7 @@ fn push_at_arc(out: &mut Vec<u8>, state: u32, arc: u32, has: u64, most: u64) -> 
 fn push_at_state(out: &mut Vec<u8>, state: u32, has: u64, most: u64) -> Result<(), NoMemory>
     ensures appended { OnOk result (out.new.items ≡ out.old.items ++ at_state state has most) }
 {
-    push_number(out, u64::from(state))?;
-    push_bytes(out, b" ")?;
+    push_all(out, &[Number(u64::from(state)), Bytes(b" ")])?;
     push_limits(out, has, most)
 }
 
@@ -80,9 +92,15 @@ fn push_at_state(out: &mut Vec<u8>, state: u32, has: u64, most: u64) -> Result<(
 fn push_at_goal(out: &mut Vec<u8>, goal: u32, has: u64) -> Result<(), NoMemory>
     ensures appended { OnOk result (out.new.items ≡ out.old.items ++ at_goal goal has) }
 {
-    push_number(out, u64::from(goal))?;
-    push_field(out, b" - ", has)?;
-    push_bytes(out, b" 0")
+    push_all(
+        out,
+        &[
+            Number(u64::from(goal)),
+            Bytes(b" - "),
+            Number(has),
+            Bytes(b" 0"),
+        ],
+    )
 }
 
 /// Appends a bound, or a minus where there is none.
@@ -137,10 +155,17 @@ fn push_numbers(out: &mut Vec<u8>, goal: u32, flaw: &Flaw) -> Result<(), NoMemor
 fn push_kind(out: &mut Vec<u8>, plan: u32, flaw: &Flaw) -> Result<(), NoMemory>
     ensures appended { OnOk result (out.new.items ≡ out.old.items ++ flaw_kind plan flaw.now) }
 {
-    push_field(out, b"flaw ", u64::from(flaw.number()))?;
-    push_bytes(out, b" ")?;
-    push_bytes(out, flaw.name().as_bytes())?;
-    push_field(out, b" plan ", u64::from(plan))
+    push_all(
+        out,
+        &[
+            Bytes(b"flaw "),
+            Number(u64::from(flaw.number())),
+            Bytes(b" "),
+            Bytes(flaw.name().as_bytes()),
+            Bytes(b" plan "),
+            Number(u64::from(plan)),
+        ],
+    )
 }
 
 /// The line of a flaw.

@@ -7,39 +7,52 @@ use crate::refusal::{Input, Refusal};
 use sbpl_cert::LabelFault;
 use sbpl_fixed::NoMemory;
 use sbpl_job::{CheckJob, Job, Name, NavCheckJob, NavJob, PlanJob, Sources};
-use sbpl_text::{push_bytes, push_field};
+use sbpl_text::Piece::{Bytes, Number};
+use sbpl_text::push_all;
 use std::alloc::Global;
 
 /// Appends the line of a fault in a file.
 #[tactic(auto, unfolding(crate::specs::Refusals::fault_text))]
-fn push_fault(
+fn push_fault<'a>(
     out: &mut Vec<u8>,
-    kind: &[u8],
+    kind: &'a [u8],
     number: u8,
-    name: &str,
+    name: &'a str,
     place: u64,
 ) -> Result<(), NoMemory>
     ensures appended { OnOk result (out.new.items ≡ out.old.items ++ fault_text kind.now number name.now place) }
 {
-    push_bytes(out, b"refused ")?;
-    push_bytes(out, kind)?;
-    push_field(out, b" ", u64::from(number))?;
-    push_bytes(out, b" ")?;
-    push_bytes(out, name.as_bytes())?;
-    push_field(out, b" ", place)?;
-    push_bytes(out, b"\n")
+    push_all(
+        out,
+        &[
+            Bytes(b"refused "),
+            Bytes(kind),
+            Bytes(b" "),
+            Number(u64::from(number)),
+            Bytes(b" "),
+            Bytes(name.as_bytes()),
+            Bytes(b" "),
+            Number(place),
+            Bytes(b"\n"),
+        ],
+    )
 }
 
 /// Appends the line for a file that was not read.
 #[tactic(auto, unfolding(crate::specs::Refusals::unread_text))]
-fn push_unread(out: &mut Vec<u8>, why: &[u8], name: &str) -> Result<(), NoMemory>
+fn push_unread<'a>(out: &mut Vec<u8>, why: &'a [u8], name: &'a str) -> Result<(), NoMemory>
     ensures appended { OnOk result (out.new.items ≡ out.old.items ++ unread_text why.now name.now) }
 {
-    push_bytes(out, b"refused ")?;
-    push_bytes(out, why)?;
-    push_bytes(out, b" ")?;
-    push_bytes(out, name.as_bytes())?;
-    push_bytes(out, b"\n")
+    push_all(
+        out,
+        &[
+            Bytes(b"refused "),
+            Bytes(why),
+            Bytes(b" "),
+            Bytes(name.as_bytes()),
+            Bytes(b"\n"),
+        ],
+    )
 }
 
 /// The name, if there is one, and nothing otherwise.

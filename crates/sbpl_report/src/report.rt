@@ -7,7 +7,8 @@ use crate::record::{PathRecord, PlanRecord};
 use sbpl_fixed::NoMemory;
 use sbpl_incumbent::Entry;
 use sbpl_plan::Outcome;
-use sbpl_text::{push_bytes, push_field, push_milli};
+use sbpl_text::Piece::{Bytes, Milli, Number};
+use sbpl_text::{push_all, push_bytes};
 use std::alloc::Global;
 
 /// Appends the result of a plan in one line.
@@ -15,11 +16,17 @@ fn push_outcome_line(out: &mut Vec<u8>, outcome: &Outcome<PathRecord>) -> Result
     ensures appended { OnOk result (out.new.items ≡ out.old.items ++ outcome_line outcome.now) }
 {
     match outcome {
-        Outcome::Path(path) => {
-            push_field(out, b"path ", path.steps.as_slice().len() as u64)?;
-            push_field(out, b" cost ", path.cost)?;
-            push_milli(out, b" bound ", path.bound)
-        }
+        Outcome::Path(path) => push_all(
+            out,
+            &[
+                Bytes(b"path "),
+                Number(path.steps.as_slice().len() as u64),
+                Bytes(b" cost "),
+                Number(path.cost),
+                Bytes(b" bound "),
+                Milli(path.bound),
+            ],
+        ),
         Outcome::NoPath => push_bytes(out, b"nopath"),
         Outcome::Unknown => push_bytes(out, b"unknown"),
     }
@@ -30,11 +37,15 @@ fn push_outcome_line(out: &mut Vec<u8>, outcome: &Outcome<PathRecord>) -> Result
 fn push_line(out: &mut Vec<u8>, plan: &PlanRecord) -> Result<(), NoMemory>
     ensures appended { OnOk result (out.new.items ≡ out.old.items ++ plan_line plan.now) }
 {
-    push_field(out, b"plan ", u64::from(plan.plan))?;
-    push_bytes(out, b" ")?;
+    push_all(
+        out,
+        &[Bytes(b"plan "), Number(u64::from(plan.plan)), Bytes(b" ")],
+    )?;
     push_outcome_line(out, &plan.outcome)?;
-    push_field(out, b" expanded ", plan.expanded)?;
-    push_bytes(out, b"\n")
+    push_all(
+        out,
+        &[Bytes(b" expanded "), Number(plan.expanded), Bytes(b"\n")],
+    )
 }
 
 /// The line of a plan.
@@ -51,12 +62,22 @@ pub fn plan_line(alloc: Global, plan: &PlanRecord) -> Result<Vec<u8>, NoMemory>
 fn push_entry(out: &mut Vec<u8>, entry: &Entry) -> Result<(), NoMemory>
     ensures appended { OnOk result (out.new.items ≡ out.old.items ++ entry_text entry.now) }
 {
-    push_field(out, b"incumbent ", entry.number)?;
-    push_field(out, b" plan ", u64::from(entry.plan))?;
-    push_field(out, b" pass ", u64::from(entry.pass))?;
-    push_field(out, b" cost ", entry.cost)?;
-    push_milli(out, b" bound ", entry.bound)?;
-    push_bytes(out, b"\n")
+    push_all(
+        out,
+        &[
+            Bytes(b"incumbent "),
+            Number(entry.number),
+            Bytes(b" plan "),
+            Number(u64::from(entry.plan)),
+            Bytes(b" pass "),
+            Number(u64::from(entry.pass)),
+            Bytes(b" cost "),
+            Number(entry.cost),
+            Bytes(b" bound "),
+            Milli(entry.bound),
+            Bytes(b"\n"),
+        ],
+    )
 }
 
 /// The line of the newest path, or that there is none.
@@ -76,10 +97,18 @@ pub fn incumbent_line(alloc: Global, newest: &Option<Entry>) -> Result<Vec<u8>, 
 fn push_demo(out: &mut Vec<u8>, states: u64, primitives: u64, batches: u64) -> Result<(), NoMemory>
     ensures appended { OnOk result (out.new.items ≡ out.old.items ++ demo_text states primitives batches) }
 {
-    push_field(out, b"demo states ", states)?;
-    push_field(out, b" primitives ", primitives)?;
-    push_field(out, b" batches ", batches)?;
-    push_bytes(out, b"\n")
+    push_all(
+        out,
+        &[
+            Bytes(b"demo states "),
+            Number(states),
+            Bytes(b" primitives "),
+            Number(primitives),
+            Bytes(b" batches "),
+            Number(batches),
+            Bytes(b"\n"),
+        ],
+    )
 }
 
 /// The first line of a demonstration.

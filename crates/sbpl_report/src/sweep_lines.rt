@@ -1,34 +1,32 @@
 //! The lines that list what a primitive costs and which cells it sweeps.
 
 ghost use Rattle.std.specs.Prelude.{◌≡◌, ◌<◌, ◌++◌, OnOk, IfOk, length};
-ghost use Rattle.sbpl_report.specs.Listing.{cell_text, cells_text, offset_text, end_text, listing_at, listing_text, prim_text};
+ghost use Rattle.sbpl_report.specs.Listing.{cell_text, cells_text, end_text, listing_at, listing_text, prim_text};
 
 use sbpl_cost::Lattice;
 use sbpl_fixed::NoMemory;
 use sbpl_mprim::Prim;
 use sbpl_sweep::Cell;
-use sbpl_text::{push_bytes, push_field, push_signed};
+use sbpl_text::Piece::{Bytes, Number, Signed};
+use sbpl_text::push_all;
 use std::alloc::Global;
 
-/// Appends a cell.
-#[tactic(auto, unfolding(crate::specs::Listing::offset_text))]
-fn push_offset(out: &mut Vec<u8>, cell: Cell) -> Result<(), NoMemory>
-    ensures appended { OnOk result (out.new.items ≡ out.old.items ++ offset_text cell) }
-{
-    push_signed(out, cell.x)?;
-    push_bytes(out, b" ")?;
-    push_signed(out, cell.y)
-}
-
 /// Appends the line of a cell.
-#[tactic(auto, unfolding(crate::specs::Listing::cell_text))]
+#[tactic(auto, unfolding(crate::specs::Listing::cell_text, crate::specs::Listing::offset_text))]
 fn push_cell(out: &mut Vec<u8>, word: &[u8], cell: Cell) -> Result<(), NoMemory>
     ensures appended { OnOk result (out.new.items ≡ out.old.items ++ cell_text word.now cell) }
 {
-    push_bytes(out, word)?;
-    push_bytes(out, b" ")?;
-    push_offset(out, cell)?;
-    push_bytes(out, b"\n")
+    push_all(
+        out,
+        &[
+            Bytes(word),
+            Bytes(b" "),
+            Signed(cell.x),
+            Bytes(b" "),
+            Signed(cell.y),
+            Bytes(b"\n"),
+        ],
+    )
 }
 
 /// Appends the lines of cells.
@@ -46,12 +44,16 @@ fn push_cells(out: &mut Vec<u8>, word: &[u8], cells: &[Cell]) -> Result<(), NoMe
 fn push_end(out: &mut Vec<u8>, prim: &Prim) -> Result<(), NoMemory>
     ensures appended { OnOk result (out.new.items ≡ out.old.items ++ end_text prim.now) }
 {
-    let cell = Cell {
-        x: i64::from(prim.dx),
-        y: i64::from(prim.dy),
-    };
-    push_offset(out, cell)?;
-    push_field(out, b" ", u64::from(prim.to))
+    push_all(
+        out,
+        &[
+            Signed(i64::from(prim.dx)),
+            Bytes(b" "),
+            Signed(i64::from(prim.dy)),
+            Bytes(b" "),
+            Number(u64::from(prim.to)),
+        ],
+    )
 }
 
 /// Appends the line of a primitive.
@@ -59,12 +61,21 @@ fn push_end(out: &mut Vec<u8>, prim: &Prim) -> Result<(), NoMemory>
 fn push_prim(out: &mut Vec<u8>, prim: &Prim, cost: u32) -> Result<(), NoMemory>
     ensures appended { OnOk result (out.new.items ≡ out.old.items ++ prim_text prim.now cost) }
 {
-    push_field(out, b"prim ", u64::from(prim.from))?;
-    push_field(out, b" ", u64::from(prim.id))?;
-    push_bytes(out, b" to ")?;
+    push_all(
+        out,
+        &[
+            Bytes(b"prim "),
+            Number(u64::from(prim.from)),
+            Bytes(b" "),
+            Number(u64::from(prim.id)),
+            Bytes(b" to "),
+        ],
+    )?;
     push_end(out, prim)?;
-    push_field(out, b" cost ", u64::from(cost))?;
-    push_bytes(out, b"\n")
+    push_all(
+        out,
+        &[Bytes(b" cost "), Number(u64::from(cost)), Bytes(b"\n")],
+    )
 }
 
 /// The lines of a primitive of this cost, with these centre cells and swept cells.

@@ -11,7 +11,8 @@ use sbpl_fixed::NoMemory;
 use sbpl_frontier_rules::Event;
 use sbpl_plan::{Pass, Passes, Trace};
 use sbpl_serial::Step;
-use sbpl_text::{push_bytes, push_field, push_milli};
+use sbpl_text::Piece::{Bytes, Milli, Number};
+use sbpl_text::{push_all, push_bytes, push_field};
 use std::alloc::Global;
 
 /// What a planner notes, as a line of a trace.
@@ -107,10 +108,19 @@ fn push_take(
 ) -> Result<(), NoMemory>
     ensures appended { OnOk result (out.new.items ++ line_feed ≡ out.old.items ++ line_text (Lines.Take ticket seat state arc)) }
 {
-    push_field(out, b"take ", ticket)?;
-    push_field(out, b" ", u64::from(seat))?;
-    push_field(out, b" ", u64::from(state))?;
-    push_field(out, b" ", u64::from(arc))
+    push_all(
+        out,
+        &[
+            Bytes(b"take "),
+            Number(ticket),
+            Bytes(b" "),
+            Number(u64::from(seat)),
+            Bytes(b" "),
+            Number(u64::from(state)),
+            Bytes(b" "),
+            Number(u64::from(arc)),
+        ],
+    )
 }
 
 /// Appends the evaluation of the arc of a ticket.
@@ -170,8 +180,14 @@ fn push_raised(out: &mut Vec<u8>, states: &[u32]) -> Result<(), NoMemory>
 fn push_pass(out: &mut Vec<u8>, pass: &Pass<TraceLine>) -> Result<(), NoMemory>
     ensures appended { OnOk result (out.new.items ≡ out.old.items ++ lines_text pass.now) }
 {
-    push_milli(out, b"pass ", u128::from(pass.inflation))?;
-    push_bytes(out, b"\n")?;
+    push_all(
+        out,
+        &[
+            Bytes(b"pass "),
+            Milli(u128::from(pass.inflation)),
+            Bytes(b"\n"),
+        ],
+    )?;
     push_lines(out, pass.trace.as_slice())
 }
 
@@ -191,8 +207,14 @@ pub fn trace_of(alloc: Global, plan: &PlanRecord) -> Result<Vec<u8>, NoMemory>
     ensures text { IfOk result (λ text. text.items ≡ trace_text plan.now) }
 {
     let mut out = Vec::new(alloc);
-    push_field(&mut out, b"trace plan ", u64::from(plan.plan))?;
-    push_bytes(&mut out, b"\n")?;
+    push_all(
+        &mut out,
+        &[
+            Bytes(b"trace plan "),
+            Number(u64::from(plan.plan)),
+            Bytes(b"\n"),
+        ],
+    )?;
     push_raised(&mut out, plan.raised.as_slice())?;
     push_passes(&mut out, plan.passes.as_slice())?;
     push_bytes(&mut out, b"end\n")?;

@@ -8,7 +8,8 @@ use sbpl_cfg::Place;
 use sbpl_fixed::NoMemory;
 use sbpl_plan::{Found, Outcome, Pass};
 use sbpl_report::{PathRecord, PathStep, PlanRecord, Spot, TraceLine};
-use sbpl_text::{push_bytes, push_field, push_milli, push_number};
+use sbpl_text::Piece::{Bytes, Milli, Number};
+use sbpl_text::{push_all, push_bytes};
 use std::alloc::Global;
 
 /// Appends what a pass found.
@@ -16,10 +17,15 @@ fn push_found(out: &mut Vec<u8>, found: Found) -> Result<(), NoMemory>
     ensures appended { OnOk result (out.new.items ≡ out.old.items ++ found_text found) }
 {
     match found {
-        Found::Path { cost, bound } => {
-            push_field(out, b" best ", cost)?;
-            push_milli(out, b" bound ", bound)
-        }
+        Found::Path { cost, bound } => push_all(
+            out,
+            &[
+                Bytes(b" best "),
+                Number(cost),
+                Bytes(b" bound "),
+                Milli(bound),
+            ],
+        ),
         Found::None => push_bytes(out, b" none"),
         Found::Broken => push_bytes(out, b" broken"),
     }
@@ -30,8 +36,15 @@ fn push_found(out: &mut Vec<u8>, found: Found) -> Result<(), NoMemory>
 fn push_pass(out: &mut Vec<u8>, pass: &Pass<TraceLine>) -> Result<(), NoMemory>
     ensures appended { OnOk result (out.new.items ≡ out.old.items ++ pass_text pass.now) }
 {
-    push_milli(out, b"pass ", u128::from(pass.inflation))?;
-    push_field(out, b" expanded ", pass.expanded)?;
+    push_all(
+        out,
+        &[
+            Bytes(b"pass "),
+            Milli(u128::from(pass.inflation)),
+            Bytes(b" expanded "),
+            Number(pass.expanded),
+        ],
+    )?;
     push_found(out, pass.found)?;
     push_bytes(out, b"\n")
 }
@@ -51,10 +64,17 @@ fn push_passes(out: &mut Vec<u8>, passes: &[Pass<TraceLine>]) -> Result<(), NoMe
 fn push_place(out: &mut Vec<u8>, place: Place) -> Result<(), NoMemory>
     ensures appended { OnOk result (out.new.items ≡ out.old.items ++ place_text place) }
 {
-    push_number(out, u64::from(place.x))?;
-    push_field(out, b" ", u64::from(place.y))?;
-    push_field(out, b" ", u64::from(place.t))?;
-    push_bytes(out, b"\n")
+    push_all(
+        out,
+        &[
+            Number(u64::from(place.x)),
+            Bytes(b" "),
+            Number(u64::from(place.y)),
+            Bytes(b" "),
+            Number(u64::from(place.t)),
+            Bytes(b"\n"),
+        ],
+    )
 }
 
 /// Appends where a state is, and the end of its line.
@@ -63,11 +83,15 @@ fn push_spot(out: &mut Vec<u8>, spot: Spot) -> Result<(), NoMemory>
 {
     match spot {
         Spot::Pose(place) => push_place(out, place),
-        Spot::Cell(x, y) => {
-            push_number(out, u64::from(x))?;
-            push_field(out, b" ", u64::from(y))?;
-            push_bytes(out, b"\n")
-        }
+        Spot::Cell(x, y) => push_all(
+            out,
+            &[
+                Number(u64::from(x)),
+                Bytes(b" "),
+                Number(u64::from(y)),
+                Bytes(b"\n"),
+            ],
+        ),
     }
 }
 
@@ -76,8 +100,10 @@ fn push_spot(out: &mut Vec<u8>, spot: Spot) -> Result<(), NoMemory>
 fn push_step(out: &mut Vec<u8>, step: &PathStep) -> Result<(), NoMemory>
     ensures appended { OnOk result (out.new.items ≡ out.old.items ++ step_text step.now) }
 {
-    push_field(out, b"step ", u64::from(step.id))?;
-    push_bytes(out, b" ")?;
+    push_all(
+        out,
+        &[Bytes(b"step "), Number(u64::from(step.id)), Bytes(b" ")],
+    )?;
     push_spot(out, step.spot)
 }
 
@@ -97,11 +123,18 @@ fn push_path(out: &mut Vec<u8>, path: &PathRecord) -> Result<(), NoMemory>
     ensures appended { OnOk result (out.new.items ≡ out.old.items ++ path_text path.now) }
 {
     let steps = path.steps.as_slice();
-    push_field(out, b"path ", steps.len() as u64)?;
-    push_field(out, b" cost ", path.cost)?;
-    push_milli(out, b" bound ", path.bound)?;
-    push_bytes(out, b"\n")?;
-    push_bytes(out, b"pose ")?;
+    push_all(
+        out,
+        &[
+            Bytes(b"path "),
+            Number(steps.len() as u64),
+            Bytes(b" cost "),
+            Number(path.cost),
+            Bytes(b" bound "),
+            Milli(path.bound),
+            Bytes(b"\npose "),
+        ],
+    )?;
     push_spot(out, path.start)?;
     push_steps(out, steps)
 }
@@ -123,10 +156,7 @@ fn push_spent(out: &mut Vec<u8>, spent: Option<u64>) -> Result<(), NoMemory>
 {
     match spent {
         None => Ok(()),
-        Some(expanded) => {
-            push_field(out, b"spent ", expanded)?;
-            push_bytes(out, b"\n")
-        }
+        Some(expanded) => push_all(out, &[Bytes(b"spent "), Number(expanded), Bytes(b"\n")]),
     }
 }
 
@@ -135,8 +165,10 @@ fn push_spent(out: &mut Vec<u8>, spent: Option<u64>) -> Result<(), NoMemory>
 fn push_section(out: &mut Vec<u8>, plan: &PlanRecord) -> Result<(), NoMemory>
     ensures appended { OnOk result (out.new.items ≡ out.old.items ++ section_text plan.now) }
 {
-    push_field(out, b"plan ", u64::from(plan.plan))?;
-    push_bytes(out, b"\n")?;
+    push_all(
+        out,
+        &[Bytes(b"plan "), Number(u64::from(plan.plan)), Bytes(b"\n")],
+    )?;
     push_passes(out, plan.passes.as_slice())?;
     push_spent(out, plan.spent)?;
     push_outcome(out, &plan.outcome)

@@ -1,5 +1,6 @@
 -- Pieces of a text.
 use Rattle.std.specs.Prelude.{ℕ, List, decimal}
+use Rattle.std.specs.Fmt.{signed_decimal}
 use Rattle.sbpl_fixed.specs.Printed.{milli_text}
 use Rattle.sbpl_text.specs.declared.piece.Piece.{Piece}
 use Rattle.sbpl_text.specs.declared.piece.Piece.TheVariants as piece
@@ -8,4 +9,5 @@ use Rattle.sbpl_text.specs.declared.piece.Piece.TheVariants as piece
 abbrev pub piece_text : Piece → List ℕ
 piece_text (piece.Bytes bytes) = bytes.now
 piece_text (piece.Number n) = decimal n
+piece_text (piece.Signed n) = signed_decimal n
 piece_text (piece.Milli n) = milli_text n

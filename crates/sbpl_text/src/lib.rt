@@ -4,5 +4,5 @@
 mod number;
 mod piece;
 
-pub use number::{push_bytes, push_field, push_milli, push_number, push_signed};
+pub use number::{push_bytes, push_field, push_number};
 pub use piece::{Piece, push_all};

@@ -2,10 +2,9 @@
 
 ghost use Rattle.std.specs.Prelude.{◌≡◌, ◌++◌, OnOk, decimal};
 ghost use Rattle.std.specs.Fmt.{signed_decimal};
-ghost use Rattle.sbpl_fixed.specs.Printed.{milli_text};
 
 use itoa::Buffer;
-use sbpl_fixed::{NoMemory, print_milli};
+use sbpl_fixed::NoMemory;
 
 /// Appends bytes.
 pub fn push_bytes(out: &mut Vec<u8>, bytes: &[u8]) -> Result<(), NoMemory>
@@ -31,16 +30,8 @@ pub fn push_field(out: &mut Vec<u8>, word: &[u8], number: u64) -> Result<(), NoM
     push_number(out, number)
 }
 
-/// Appends a word and a number of thousandths after it.
-pub fn push_milli(out: &mut Vec<u8>, word: &[u8], number: u128) -> Result<(), NoMemory>
-    ensures appended { OnOk result (out.new.items ≡ out.old.items ++ (word.now ++ milli_text number)) }
-{
-    push_bytes(out, word)?;
-    print_milli(number, out)
-}
-
 /// Appends a whole number with its sign.
-pub fn push_signed(out: &mut Vec<u8>, number: i64) -> Result<(), NoMemory>
+pub(crate) fn push_signed(out: &mut Vec<u8>, number: i64) -> Result<(), NoMemory>
     ensures appended { OnOk result (out.new.items ≡ out.old.items ++ signed_decimal number) }
 {
     out.extend_from_slice(Buffer::new().format(number).as_bytes())?;

@@ -3,7 +3,7 @@
 ghost use Rattle.std.specs.Prelude.{◌≡◌, ◌++◌, OnOk, flat_map};
 ghost use Rattle.sbpl_text.specs.Pieces.{piece_text};
 
-use crate::number::{push_bytes, push_number};
+use crate::number::{push_bytes, push_number, push_signed};
 use sbpl_fixed::{NoMemory, print_milli};
 
 /// A piece of a text.
@@ -13,6 +13,8 @@ pub enum Piece<'a> {
     Bytes(&'a [u8]),
     /// A whole number in digits.
     Number(u64),
+    /// A whole number with its sign.
+    Signed(i64),
     /// A number of thousandths, with a point and three digits.
     Milli(u128),
 }
@@ -24,6 +26,7 @@ fn push_piece(out: &mut Vec<u8>, piece: Piece) -> Result<(), NoMemory>
     match piece {
         Piece::Bytes(bytes) => push_bytes(out, bytes),
         Piece::Number(number) => push_number(out, number),
+        Piece::Signed(number) => push_signed(out, number),
         Piece::Milli(number) => print_milli(number, out),
     }
 }
