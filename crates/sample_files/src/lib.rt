@@ -97,8 +97,8 @@ intermediateposes: 2
 0 -0.025 0
 ";
 
-/// The lines before the costs of 15 by 15 cells.
-const REALISTIC: &str = "discretization(cells): 15 15
+/// Fifteen by fifteen cells that cost nothing, to be gone along by six cells.
+pub const REALISTIC: &str = "discretization(cells): 15 15
 obsthresh: 254
 cost_inscribed_thresh: 253
 cost_possibly_circumscribed_thresh: 128
@@ -108,19 +108,25 @@ timetoturn45degsinplace(secs): 2.0
 start(meters,rads): 0.11 0.11 0
 end(meters,rads): 0.26 0.11 0
 environment:
+0 0 0 0 0 0 0 0 0 0 0 0 0 0 0
+0 0 0 0 0 0 0 0 0 0 0 0 0 0 0
+0 0 0 0 0 0 0 0 0 0 0 0 0 0 0
+0 0 0 0 0 0 0 0 0 0 0 0 0 0 0
+0 0 0 0 0 0 0 0 0 0 0 0 0 0 0
+0 0 0 0 0 0 0 0 0 0 0 0 0 0 0
+0 0 0 0 0 0 0 0 0 0 0 0 0 0 0
+0 0 0 0 0 0 0 0 0 0 0 0 0 0 0
+0 0 0 0 0 0 0 0 0 0 0 0 0 0 0
+0 0 0 0 0 0 0 0 0 0 0 0 0 0 0
+0 0 0 0 0 0 0 0 0 0 0 0 0 0 0
+0 0 0 0 0 0 0 0 0 0 0 0 0 0 0
+0 0 0 0 0 0 0 0 0 0 0 0 0 0 0
+0 0 0 0 0 0 0 0 0 0 0 0 0 0 0
+0 0 0 0 0 0 0 0 0 0 0 0 0 0 0
 ";
 
-/// Fifteen by fifteen cells that cost nothing, to be gone along by six cells.
-pub fn realistic(alloc: Global) -> Result<String, AllocError> {
-    let mut text = String::from_str(alloc, REALISTIC)?;
-    for _ in 0..15 {
-        text.push_str("0 0 0 0 0 0 0 0 0 0 0 0 0 0 0\n")?;
-    }
-    Ok(text)
-}
-
-/// The lines before the costs of 32 by 32 cells, to be crossed from corner to corner.
-const FIELD: &str = "discretization(cells): 32 32
+/// A field of 32 by 32 cells that cost nothing, to be crossed from corner to corner.
+pub const FIELD: &str = "discretization(cells): 32 32
 obsthresh: 254
 cost_inscribed_thresh: 253
 cost_possibly_circumscribed_thresh: 128
@@ -130,132 +136,175 @@ timetoturn45degsinplace(secs): 2.0
 start(meters,rads): 0.0375 0.0375 0
 end(meters,rads): 0.7625 0.7625 0
 environment:
+0 0 0 0 0 0 0 0 0 0 0 0 0 0 0 0 0 0 0 0 0 0 0 0 0 0 0 0 0 0 0 0
+0 0 0 0 0 0 0 0 0 0 0 0 0 0 0 0 0 0 0 0 0 0 0 0 0 0 0 0 0 0 0 0
+0 0 0 0 0 0 0 0 0 0 0 0 0 0 0 0 0 0 0 0 0 0 0 0 0 0 0 0 0 0 0 0
+0 0 0 0 0 0 0 0 0 0 0 0 0 0 0 0 0 0 0 0 0 0 0 0 0 0 0 0 0 0 0 0
+0 0 0 0 0 0 0 0 0 0 0 0 0 0 0 0 0 0 0 0 0 0 0 0 0 0 0 0 0 0 0 0
+0 0 0 0 0 0 0 0 0 0 0 0 0 0 0 0 0 0 0 0 0 0 0 0 0 0 0 0 0 0 0 0
+0 0 0 0 0 0 0 0 0 0 0 0 0 0 0 0 0 0 0 0 0 0 0 0 0 0 0 0 0 0 0 0
+0 0 0 0 0 0 0 0 0 0 0 0 0 0 0 0 0 0 0 0 0 0 0 0 0 0 0 0 0 0 0 0
+0 0 0 0 0 0 0 0 0 0 0 0 0 0 0 0 0 0 0 0 0 0 0 0 0 0 0 0 0 0 0 0
+0 0 0 0 0 0 0 0 0 0 0 0 0 0 0 0 0 0 0 0 0 0 0 0 0 0 0 0 0 0 0 0
+0 0 0 0 0 0 0 0 0 0 0 0 0 0 0 0 0 0 0 0 0 0 0 0 0 0 0 0 0 0 0 0
+0 0 0 0 0 0 0 0 0 0 0 0 0 0 0 0 0 0 0 0 0 0 0 0 0 0 0 0 0 0 0 0
+0 0 0 0 0 0 0 0 0 0 0 0 0 0 0 0 0 0 0 0 0 0 0 0 0 0 0 0 0 0 0 0
+0 0 0 0 0 0 0 0 0 0 0 0 0 0 0 0 0 0 0 0 0 0 0 0 0 0 0 0 0 0 0 0
+0 0 0 0 0 0 0 0 0 0 0 0 0 0 0 0 0 0 0 0 0 0 0 0 0 0 0 0 0 0 0 0
+0 0 0 0 0 0 0 0 0 0 0 0 0 0 0 0 0 0 0 0 0 0 0 0 0 0 0 0 0 0 0 0
+0 0 0 0 0 0 0 0 0 0 0 0 0 0 0 0 0 0 0 0 0 0 0 0 0 0 0 0 0 0 0 0
+0 0 0 0 0 0 0 0 0 0 0 0 0 0 0 0 0 0 0 0 0 0 0 0 0 0 0 0 0 0 0 0
+0 0 0 0 0 0 0 0 0 0 0 0 0 0 0 0 0 0 0 0 0 0 0 0 0 0 0 0 0 0 0 0
+0 0 0 0 0 0 0 0 0 0 0 0 0 0 0 0 0 0 0 0 0 0 0 0 0 0 0 0 0 0 0 0
+0 0 0 0 0 0 0 0 0 0 0 0 0 0 0 0 0 0 0 0 0 0 0 0 0 0 0 0 0 0 0 0
+0 0 0 0 0 0 0 0 0 0 0 0 0 0 0 0 0 0 0 0 0 0 0 0 0 0 0 0 0 0 0 0
+0 0 0 0 0 0 0 0 0 0 0 0 0 0 0 0 0 0 0 0 0 0 0 0 0 0 0 0 0 0 0 0
+0 0 0 0 0 0 0 0 0 0 0 0 0 0 0 0 0 0 0 0 0 0 0 0 0 0 0 0 0 0 0 0
+0 0 0 0 0 0 0 0 0 0 0 0 0 0 0 0 0 0 0 0 0 0 0 0 0 0 0 0 0 0 0 0
+0 0 0 0 0 0 0 0 0 0 0 0 0 0 0 0 0 0 0 0 0 0 0 0 0 0 0 0 0 0 0 0
+0 0 0 0 0 0 0 0 0 0 0 0 0 0 0 0 0 0 0 0 0 0 0 0 0 0 0 0 0 0 0 0
+0 0 0 0 0 0 0 0 0 0 0 0 0 0 0 0 0 0 0 0 0 0 0 0 0 0 0 0 0 0 0 0
+0 0 0 0 0 0 0 0 0 0 0 0 0 0 0 0 0 0 0 0 0 0 0 0 0 0 0 0 0 0 0 0
+0 0 0 0 0 0 0 0 0 0 0 0 0 0 0 0 0 0 0 0 0 0 0 0 0 0 0 0 0 0 0 0
+0 0 0 0 0 0 0 0 0 0 0 0 0 0 0 0 0 0 0 0 0 0 0 0 0 0 0 0 0 0 0 0
+0 0 0 0 0 0 0 0 0 0 0 0 0 0 0 0 0 0 0 0 0 0 0 0 0 0 0 0 0 0 0 0
 ";
 
-/// A field of 32 by 32 cells that cost nothing.
-pub fn field(alloc: Global) -> Result<String, AllocError> {
-    let mut text = String::from_str(alloc, FIELD)?;
-    for _ in 0..1024 {
-        text.push_str("0 ")?;
-    }
-    Ok(text)
-}
-
-/// A step along each heading, in cells, and the heading's angle in units of 0.0001.
-const STEPS: [(i32, i32, i32); 16] = [
-    (1, 0, 0),
-    (2, 1, 3927),
-    (1, 1, 7854),
-    (1, 2, 11781),
-    (0, 1, 15708),
-    (-1, 2, 19635),
-    (-1, 1, 23562),
-    (-2, 1, 27489),
-    (-1, 0, 31416),
-    (-2, -1, 35343),
-    (-1, -1, 39270),
-    (-1, -2, 43197),
-    (0, -1, 47124),
-    (1, -2, 51051),
-    (1, -1, 54978),
-    (2, -1, 58905),
+/// A step along each heading, in cells. The headings are multiples of 0.3927.
+const STEPS: [(i32, i32); 16] = [
+    (1, 0),
+    (2, 1),
+    (1, 1),
+    (1, 2),
+    (0, 1),
+    (-1, 2),
+    (-1, 1),
+    (-2, 1),
+    (-1, 0),
+    (-2, -1),
+    (-1, -1),
+    (-1, -2),
+    (0, -1),
+    (1, -2),
+    (1, -1),
+    (2, -1),
 ];
 
-/// The step along a heading, and its angle.
-fn step(heading: u8) -> (i32, i32, i32) {
-    STEPS[usize::from(heading % 16)]
-}
-
-/// Appends a number of ten-thousandths with four decimals, and the byte after it.
-fn put_units(text: &mut String, units: i32, end: char) -> Result<(), AllocError> {
-    if units < 0 {
-        text.push('-')?;
-    }
-    let size = units.unsigned_abs();
-    let (whole, parts) = (size / 10_000, size % 10_000);
-    write!(text, "{whole}.{parts:04}{end}")
-}
-
-/// The coordinate of pose `j` of ten on the way over `cells` cells, to the nearest ten-thousandth of a metre.
-fn along(cells: i32, j: i32) -> i32 {
-    let ninths = cells.wrapping_mul(250).wrapping_mul(j);
-    ninths.wrapping_mul(2).wrapping_add(9).div_euclid(18)
-}
-
-/// Appends a pose: two coordinates and a heading.
-fn put_pose(text: &mut String, x: i32, y: i32, heading: i32) -> Result<(), AllocError> {
-    put_units(text, x, ' ')?;
-    put_units(text, y, ' ')?;
-    put_units(text, heading, '\n')
-}
-
-/// Appends the lines of a primitive before its poses, of which there are `poses`.
-fn put_start(
-    text: &mut String,
+/// What a primitive does at each heading: its id, what its cost is multiplied by, how many steps it goes, and how many headings it
+/// turns.
+struct Kind {
     id: u32,
-    from: i32,
-    cell: (i32, i32),
-    to: i32,
-    poses: u32,
-) -> Result<(), AllocError> {
-    let (dx, dy) = cell;
-    let mult = if id == 1 && poses == 10 { 5 } else { 1 };
-    write!(
-        text,
-        "primID: {id}\nstartangle_c: {from}\nendpose_c: {dx} {dy} {to}\nadditionalactioncostmult: {mult}\nintermediateposes: {poses}\n"
-    )
+    mult: u32,
+    steps: i32,
+    turn: i32,
 }
 
-/// Appends a primitive of ten poses that goes straight to a cell; its last pose has an angle of its own.
-fn put_prim(
+/// A step forward, a dear step back, a turn to the left and one to the right, and four steps forward.
+const FIVE: [Kind; 5] = [
+    Kind {
+        id: 0,
+        mult: 1,
+        steps: 1,
+        turn: 0,
+    },
+    Kind {
+        id: 1,
+        mult: 5,
+        steps: -1,
+        turn: 0,
+    },
+    Kind {
+        id: 2,
+        mult: 1,
+        steps: 0,
+        turn: 1,
+    },
+    Kind {
+        id: 3,
+        mult: 1,
+        steps: 0,
+        turn: -1,
+    },
+    Kind {
+        id: 4,
+        mult: 1,
+        steps: 4,
+        turn: 0,
+    },
+];
+
+/// A step forward, and a turn to the left and to the right.
+const THREE: [Kind; 3] = [
+    Kind {
+        id: 0,
+        mult: 1,
+        steps: 1,
+        turn: 0,
+    },
+    Kind {
+        id: 1,
+        mult: 1,
+        steps: 0,
+        turn: 1,
+    },
+    Kind {
+        id: 2,
+        mult: 1,
+        steps: 0,
+        turn: -1,
+    },
+];
+
+/// Appends the poses of a way to a cell; the last one has the heading at the end, and the others that at the start.
+fn put_poses(
     text: &mut String,
-    id: u32,
-    from: i32,
+    poses: i32,
     cell: (i32, i32),
+    from: i32,
     to: i32,
-    angles: (i32, i32),
 ) -> Result<(), AllocError> {
-    put_start(text, id, from, cell, to, 10)?;
-    for j in 0..10 {
-        let angle = if j == 9 { angles.1 } else { angles.0 };
-        put_pose(text, along(cell.0, j), along(cell.1, j), angle)?;
+    let last = poses.wrapping_sub(1);
+    let part = 0.025 / f64::from(last);
+    for j in 0..poses {
+        let heading = if j == last { to } else { from };
+        write!(
+            text,
+            "{:.4} {:.4} {:.4}\n",
+            f64::from(cell.0.wrapping_mul(j)) * part,
+            f64::from(cell.1.wrapping_mul(j)) * part,
+            f64::from(heading) * 0.3927
+        )?;
     }
     Ok(())
 }
 
-/// The primitive `id` of the five for a heading: the cell that it leads to, its heading there, and the angle of its last pose.
-fn prim(id: u32, from: u8) -> ((i32, i32), i32, i32) {
-    let heading = i32::from(from);
-    let (ux, uy, theta) = step(from);
-    match id {
-        0 => ((ux, uy), heading, theta),
-        1 => ((ux.wrapping_neg(), uy.wrapping_neg()), heading, theta),
-        2 => {
-            let (_, _, left) = step(from.wrapping_add(1));
-            (
-                (0, 0),
-                heading.wrapping_add(1),
-                if from == 15 { 62832 } else { left },
-            )
-        }
-        3 => {
-            let (_, _, right) = step(from.wrapping_add(15));
-            (
-                (0, 0),
-                heading.wrapping_sub(1),
-                if from == 0 { -3927 } else { right },
-            )
-        }
-        _ => ((ux.wrapping_mul(4), uy.wrapping_mul(4)), heading, theta),
-    }
+/// Appends a primitive of a kind: of so many poses, or where none are said, of two or three, by at most one cell from pose to pose.
+fn put_prim(
+    text: &mut String,
+    kind: &Kind,
+    from: u8,
+    poses: Option<i32>,
+) -> Result<(), AllocError> {
+    let (ux, uy) = STEPS[usize::from(from % 16)];
+    let from = i32::from(from);
+    let to = from.wrapping_add(kind.turn);
+    let (dx, dy) = (ux.wrapping_mul(kind.steps), uy.wrapping_mul(kind.steps));
+    let cells = dx.wrapping_abs().max(dy.wrapping_abs()).clamp(1, 2);
+    let poses = poses.unwrap_or(cells + 1);
+    write!(
+        text,
+        "primID: {}\nstartangle_c: {from}\nendpose_c: {dx} {dy} {to}\nadditionalactioncostmult: {}\nintermediateposes: {poses}\n",
+        kind.id, kind.mult
+    )?;
+    put_poses(text, poses, (dx, dy), from, to)
 }
 
-/// Appends the five primitives for a heading.
-fn put_heading(text: &mut String, from: u8) -> Result<(), AllocError> {
-    let (_, _, theta) = step(from);
-    for id in 0..5 {
-        let (cell, to, last) = prim(id, from);
-        put_prim(text, id, i32::from(from), cell, to, (theta, last))?;
+/// Appends primitives of these kinds for each heading.
+fn put_prims(text: &mut String, kinds: &[Kind], poses: Option<i32>) -> Result<(), AllocError> {
+    for from in 0..16 {
+        for kind in kinds {
+            put_prim(text, kind, from, poses)?;
+        }
     }
     Ok(())
 }
@@ -267,60 +316,16 @@ pub fn p16(alloc: Global) -> Result<String, AllocError> {
         alloc,
         "resolution_m: 0.025000\nnumberofangles: 16\ntotalnumberofprimitives: 80\n",
     )?;
-    for from in 0..16 {
-        put_heading(&mut text, from)?;
-    }
+    put_prims(&mut text, &FIVE, Some(10))?;
     Ok(text)
-}
-
-/// Appends the head of a file of `count` primitives.
-fn put_head(text: &mut String, count: u32) -> Result<(), AllocError> {
-    write!(
-        text,
-        "resolution_m: 0.025\nnumberofangles: 16\ntotalnumberofprimitives: {count}\n"
-    )
-}
-
-/// Appends a primitive that goes straight to a cell by at most one cell from pose to pose; its last pose has the heading at
-/// the end.
-fn put_short(
-    text: &mut String,
-    id: u32,
-    from: i32,
-    cell: (i32, i32),
-    to: i32,
-) -> Result<(), AllocError> {
-    let (dx, dy) = cell;
-    let count = dx.unsigned_abs().max(dy.unsigned_abs()).clamp(1, 2);
-    put_start(text, id, from, cell, to, count + 1)?;
-    for j in 0..count + 1 {
-        let units = (250 * j / count) as i32;
-        let heading = if j == count { to } else { from };
-        put_pose(
-            text,
-            units.wrapping_mul(dx),
-            units.wrapping_mul(dy),
-            heading.wrapping_mul(3927),
-        )?;
-    }
-    Ok(())
-}
-
-/// Appends the three primitives for a heading.
-fn put_three(text: &mut String, from: u8) -> Result<(), AllocError> {
-    let heading = i32::from(from);
-    let (ux, uy, _) = step(from);
-    put_short(text, 0, heading, (ux, uy), heading)?;
-    put_short(text, 1, heading, (0, 0), heading.wrapping_add(1))?;
-    put_short(text, 2, heading, (0, 0), heading.wrapping_sub(1))
 }
 
 /// Three primitives for each heading: a step forward, and a turn to the left and to the right.
 pub fn car(alloc: Global) -> Result<String, AllocError> {
-    let mut text = String::new(alloc);
-    put_head(&mut text, 48)?;
-    for from in 0..16 {
-        put_three(&mut text, from)?;
-    }
+    let mut text = String::from_str(
+        alloc,
+        "resolution_m: 0.025\nnumberofangles: 16\ntotalnumberofprimitives: 48\n",
+    )?;
+    put_prims(&mut text, &THREE, None)?;
     Ok(text)
 }

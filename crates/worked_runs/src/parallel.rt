@@ -3,7 +3,7 @@
 ghost use Rattle.std.specs.Prelude.{◌<◌};
 
 use crate::runs::{DETOUR, Files, Row, WORKS, answers};
-use sample_files::{car, field};
+use sample_files::{FIELD, car};
 use sbpl_cli::{Gate, NoGate};
 use sbpl_desk::MemoryDesk;
 use std::alloc::Global;
@@ -240,20 +240,14 @@ fn repairs<R: Threads + Wait + Sync>(
 /// Four workers repair as planning anew does, after each of thirty drawn batches.
 #[test]
 fn repaired_by_workers(rt: HostRuntime) -> Result<(), Fail> {
-    let env = field(rt.alloc())?;
     let prims = car(rt.alloc())?;
     let batches = thirty_batches(rt.alloc())?;
     let mut known = String::new(rt.alloc());
-    let files = [
-        Some(env.as_str()),
-        Some(prims.as_str()),
-        Some(batches.as_str()),
-    ];
+    let files = [Some(FIELD), Some(prims.as_str()), Some(batches.as_str())];
     let repairs = repairs(&rt, rt.alloc(), &files, &mut known);
     drop(known);
     drop(batches);
     drop(prims);
-    drop(env);
     assert!(rt; repairs?);
     Ok(())
 }

@@ -1,7 +1,7 @@
 //! Runs of the program over a desk in memory: small files, files that are missing, too long or cut off, and calls of the desk
 //! that fail.
 
-use sample_files::{E1, E2, F1, F2, p16, realistic};
+use sample_files::{E1, E2, F1, F2, REALISTIC, p16};
 use sbpl_cli::{Gate, NoGate, run};
 use sbpl_desk::MemoryDesk;
 use std::alloc::Global;
@@ -247,13 +247,11 @@ fn grids(rt: HostRuntime) -> Result<(), Fail> {
 /// Fifteen by fifteen empty cells, and a robot with sixteen headings.
 #[test]
 fn realistic_map(rt: HostRuntime) -> Result<(), Fail> {
-    let env = realistic(rt.alloc())?;
     let prims = p16(rt.alloc())?;
-    let files = [Some(env.as_str()), Some(prims.as_str()), None];
+    let files = [Some(REALISTIC), Some(prims.as_str()), None];
     let row = ("", WORKS, "plan e m", 0, REALISTIC_REPORT);
     let compared = compare(&rt, rt.alloc(), &files, &[row]);
     drop(prims);
-    drop(env);
     compared
 }
 
