@@ -3,7 +3,7 @@
 ghost use Rattle.std.specs.Prelude.{◌≡◌};
 
 use crate::table::{Table, row};
-use crate::texts::reads;
+use crate::texts::{put_altered, reads};
 use sbpl_cert::{
     Flaw, LabelFault, Section, check, check_sparse, read_labels, write_labels, write_sparse,
 };
@@ -187,18 +187,6 @@ path 50 1.000 2 0 0
 end
 ";
 
-/// A text with another line, which stands after its number.
-fn altered(alloc: Global, whole: &str, change: &str) -> Result<String, Fail> {
-    let (line, other) = change.split_once(' ').ok_or("a line's number")?;
-    let line = line.parse::<usize>().ok().ok_or("a number")?;
-    let mut text = String::new(alloc);
-    for (i, old) in whole.lines().enumerate() {
-        text.push_str(if i == line { other } else { old })?;
-        text.push_str("\n")?;
-    }
-    Ok(text)
-}
-
 /// What the check of a text says on this graph.
 fn flaw_in(alloc: Global, graph: &Table, text: &[u8]) -> Result<Option<Flaw>, LabelFault>
     requires three { graph.now.last ≡ 2 }
@@ -224,39 +212,35 @@ fn said_of(alloc: Global, graph: &Table, text: &[u8]) -> Result<String, AllocErr
 }
 
 /// Whether a text with another line has the fault or the flaw that a row says.
-fn row_holds(alloc: Global, graph: &Table, whole: &str, row: &str) -> Result<bool, Fail>
+fn row_holds(alloc: Global, graph: &Table, whole: &str, row: &str) -> Option<bool>
     requires three { graph.now.last ≡ 2 }
 {
-    let (change, want) = row.split_once(" => ").ok_or("an arrow")?;
-    let text = altered(alloc, whole, change)?;
+    let (change, want) = row.split_once(" => ")?;
+    let (at, line) = change.split_once(' ')?;
+    let at = at.parse::<usize>().ok()?;
+    let mut text = String::new(alloc);
+    let is_made = put_altered(&mut text, whole, at, line).is_ok();
     let holds = reads(said_of(alloc, graph, text.as_bytes()), want);
     drop(text);
-    Ok(holds)
+    Some(is_made && holds)
 }
 
 /// Each row of a table holds.
-fn compare_rows(
-    rt: &impl Abort,
-    alloc: Global,
-    graph: &Table,
-    whole: &str,
-    table: &str,
-) -> Result<(), Fail>
+fn compare_rows(rt: &impl Abort, alloc: Global, graph: &Table, whole: &str, table: &str)
     requires three { graph.now.last ≡ 2 }
 {
     for row in table.split('\n') {
-        assert!(rt; row_holds(alloc, graph, whole, row)?, "{row}");
+        assert!(rt; row_holds(alloc, graph, whole, row) == Some(true), "{row}");
     }
-    Ok(())
 }
 
 #[test]
-fn texts_have_their_faults_and_flaws(rt: HostRuntime) -> Result<(), Fail> {
+fn texts_have_their_faults_and_flaws(rt: HostRuntime) {
     let corridor = row(25, 25);
-    compare_rows(&rt, rt.alloc(), &corridor, FULL, FULL_ROWS)?;
-    compare_rows(&rt, rt.alloc(), &corridor, SPARSE, SPARSE_ROWS)?;
-    compare_rows(&rt, rt.alloc(), &corridor, "\n", WHOLE_ROWS)?;
-    compare_rows(&rt, rt.alloc(), &row(25, 0), "\n", PARTED_ROWS)
+    compare_rows(&rt, rt.alloc(), &corridor, FULL, FULL_ROWS);
+    compare_rows(&rt, rt.alloc(), &corridor, SPARSE, SPARSE_ROWS);
+    compare_rows(&rt, rt.alloc(), &corridor, "\n", WHOLE_ROWS);
+    compare_rows(&rt, rt.alloc(), &row(25, 0), "\n", PARTED_ROWS);
 }
 
 /// Reads a section and writes it again, and answers where it ends.

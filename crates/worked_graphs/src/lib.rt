@@ -1,5 +1,6 @@
-//! Worked examples of the crates that plan on any graph, as tests and nothing else. They stand here, in one crate, since a
-//! crate with tests is proved twice.
+//! Worked examples of the crates that plan on any graph, of grids with eight neighbours, and of the board on which the newest path
+//! stands, as tests and nothing else. They stand here, in one crate, since a crate with tests is proved twice, and each check of a
+//! crate reads all that it stands on.
 #![tactic(auto)]
 
 #[cfg(test)]
@@ -7,9 +8,23 @@ mod adstar;
 #[cfg(test)]
 mod ara;
 #[cfg(test)]
+mod board_across;
+#[cfg(test)]
+mod board_alone;
+#[cfg(test)]
+mod board_locked;
+#[cfg(test)]
+mod board_told;
+#[cfg(test)]
 mod cert;
 #[cfg(test)]
 mod epase;
+#[cfg(test)]
+mod grid_plans;
+#[cfg(test)]
+mod grid_texts;
+#[cfg(test)]
+mod grids;
 #[cfg(test)]
 mod labels;
 #[cfg(test)]

@@ -31,7 +31,7 @@ fn told<R: Wait>(
 const BOUND: u128 = (1 << 100) - 1;
 
 /// What is read before a path is published, after one, and after another.
-const FOUND: [Result<Option<Entry>, NoMemory>; 3] = [
+static FOUND: [Result<Option<Entry>, NoMemory>; 3] = [
     Ok(None),
     Ok(Some(Entry {
         number: 1,
