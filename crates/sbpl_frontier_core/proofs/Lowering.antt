@@ -1,5 +1,6 @@
 -- The low, state by state of a list.
-use Rattle.std.proofs.Common.{◌≡◌, ℕ, ◌+◌, ◌<◌, ◌⊎◌, List, take, length, ◌++◌, ◌∷◌, [], slice_index_or, ⊎_elim, inl, inr, sym}
+use Rattle.std.proofs.Common.{◌≡◌, ℕ, ◌+◌, ◌<◌, ◌⊎◌, List, take, length, ◌++◌, ◌∷◌, [], slice_index_or}
+use Rattle.std.proofs.Common.{⊎_elim, inl, inr, sym}
 use Rattle.std.specs.List.{Contains}
 use Rattle.std.proofs.lemmas.List.{take_more}
 use Rattle.std.proofs.lemmas.List.Elements.{Contains-push_cases}

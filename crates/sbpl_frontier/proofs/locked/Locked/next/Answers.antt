@@ -66,11 +66,13 @@ returns-in-Over-clause-own g c =
     let line = ap (λ (s : Sight). s.line) c.self.view_is in
     let answers = rw c.in-Over.is at c.in_ok-ticket.ensures.answers in
     let mid = opens_tied g.N.Pass.query _ answers.mid _ _ _ answers.opens c.self.invariant.1 in
-    rw (c.seen-in-Over.ensures.value, answers.gives) (own_come answers.mid _ _ _ c.args.seat.now mid (rw line c.requires.come))
+    rw (c.seen-in-Over.ensures.value, answers.gives)
+    (own_come answers.mid _ _ _ c.args.seat.now mid (rw line c.requires.come))
 
 pub returns-in-Spent-clause-own : goal.returns-in-Spent-clause-own
 returns-in-Spent-clause-own g c =
     let line = ap (λ (s : Sight). s.line) c.self.view_is in
     let answers = rw c.in-Spent.is at c.in_ok-ticket.ensures.answers in
     let mid = opens_tied g.N.Pass.query _ answers.mid _ _ _ answers.opens c.self.invariant.1 in
-    rw (c.seen-in-Spent.ensures.value, answers.gives) (own_come answers.mid _ _ _ c.args.seat.now mid (rw line c.requires.come))
+    rw (c.seen-in-Spent.ensures.value, answers.gives)
+    (own_come answers.mid _ _ _ c.args.seat.now mid (rw line c.requires.come))
