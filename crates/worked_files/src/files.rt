@@ -4,6 +4,7 @@ use sample_files::{E1, E2, E3, F1, F2, p16};
 use sbpl_cfg::{Env, Place, Pose, cell_at, heading_at, place_at, print_env, read_env};
 use sbpl_mprim::{Prim, Prims, print_prims, read_prims};
 use std::alloc::Global;
+use std::test::Fail;
 
 /// The cell size of the sample files, in nanometres.
 const CELL: i64 = 25_000_000;
@@ -364,10 +365,12 @@ fn prints(alloc: Global, file: &[u8], out: &mut Vec<u8>) -> bool {
     }
 }
 
-/// Whether this is printed of a file.
+/// Whether this is printed of a file, and of itself.
 fn is_printed(alloc: Global, file: &str, want: &str) -> bool {
     let mut out = Vec::new(alloc);
-    prints(alloc, file.as_bytes(), &mut out) && out.as_slice() == want.as_bytes()
+    let mut again = Vec::new(alloc);
+    let done = prints(alloc, file.as_bytes(), &mut out) && prints(alloc, &out, &mut again);
+    done && out.as_slice() == want.as_bytes() && again.as_slice() == want.as_bytes()
 }
 
 /// Primitives of the sample of eighty: the index; the id, the start heading, the end cell, the end heading and the multiplier; and the
@@ -432,21 +435,25 @@ fn are_eighty(prims: &Prims) -> bool {
 }
 
 /// Whether what is printed of the sample of eighty is read back, and printed again.
-fn eighty_are_read_back(alloc: Global) -> Option<bool> {
-    let text = p16(alloc).ok()?;
-    let mut out = Vec::new(alloc);
-    let done = prints(alloc, text.as_bytes(), &mut out);
-    drop(text);
-    let mut again = Vec::new(alloc);
-    let done_again = prints(alloc, &out, &mut again);
-    let same = again.as_slice() == out.as_slice();
-    drop(again);
-    let read = read_prims(alloc, &out, CELL, 16);
-    drop(out);
-    match read {
-        Ok(prims) => Some(done && done_again && same && are_eighty(&prims)),
-        Err(_) => None,
+fn are_read_back(alloc: Global, file: &[u8], out: &mut Vec<u8>, again: &mut Vec<u8>) -> bool {
+    let done = prints(alloc, file, out) && prints(alloc, out, again);
+    match read_prims(alloc, out, CELL, 16) {
+        Ok(prims) => done && again.as_slice() == out.as_slice() && are_eighty(&prims),
+        Err(_) => false,
     }
+}
+
+#[test]
+fn eighty_are_read_back(rt: HostRuntime) -> Result<(), Fail> {
+    let text = p16(rt.alloc())?;
+    let mut out = Vec::new(rt.alloc());
+    let mut again = Vec::new(rt.alloc());
+    let are = are_read_back(rt.alloc(), text.as_bytes(), &mut out, &mut again);
+    drop(again);
+    drop(out);
+    drop(text);
+    assert!(rt; are);
+    Ok(())
 }
 
 /// The numbers of E3: its size, the number of headings, the thresholds and the rates.
@@ -509,13 +516,15 @@ fn e3_says_its_numbers(alloc: Global) -> bool {
 }
 
 #[test]
+fn numbers_are_read(rt: HostRuntime) {
+    assert!(rt; e3_says_its_numbers(rt.alloc()));
+}
+
+#[test]
 fn what_is_printed_is_read_back(rt: HostRuntime) {
     for (file, want) in &PRINTED {
         assert!(rt; is_printed(rt.alloc(), file, want), "{want}");
-        assert!(rt; is_printed(rt.alloc(), want, want), "{want}");
     }
-    assert!(rt; eighty_are_read_back(rt.alloc()) == Some(true));
-    assert!(rt; e3_says_its_numbers(rt.alloc()));
 }
 
 /// Numbers of headings, angles, and the nearest bin. Half a bin is a full turn of 6283185307 nanoradians over twice the number of
@@ -546,13 +555,17 @@ const BINS: [(u32, i64, u32); 18] = [
 const CELLS: [(i64, i64); 4] = [(-1, -1), (-25, -1), (-26, -2), (24, 0)];
 
 #[test]
-fn places_are_nearest(rt: HostRuntime) {
+fn headings_are_nearest(rt: HostRuntime) {
     for (headings, angle, heading) in &BINS {
         assert!(rt;
             *headings > 0 && heading_at(*headings, *angle) == *heading,
             "{angle}"
         );
     }
+}
+
+#[test]
+fn cells_are_floors(rt: HostRuntime) {
     for (x, cell) in &CELLS {
         assert!(rt; cell_at(25, *x) == *cell, "{x}");
     }

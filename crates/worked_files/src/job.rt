@@ -8,35 +8,35 @@ use std::alloc::Global;
 /// planner, the workers with the first inflation, step and bound, the budget, its labels, trace and newest path, and the labels' form;
 /// of the others what the job holds; and at its end whether the robot may move. Then words that name none.
 const JOBS: &str =
-    r#"plan e m => plan ["e", "m", "-"] 0 AdStar [1, 1000, 500, 1000] 1073741824 ["-", "-", "-"] Sparse false
-plan --radius 0 e m => plan ["e", "m", "-"] 0 AdStar [1, 1000, 500, 1000] 1073741824 ["-", "-", "-"] Sparse false
-plan e --radius=0.000 m => plan ["e", "m", "-"] 0 AdStar [1, 1000, 500, 1000] 1073741824 ["-", "-", "-"] Sparse false
-plan e m --radius +.0125 => plan ["e", "m", "-"] 12500000 AdStar [1, 1000, 500, 1000] 1073741824 ["-", "-", "-"] Sparse false
-plan e m --radius=1000 => plan ["e", "m", "-"] 1000000000000 AdStar [1, 1000, 500, 1000] 1073741824 ["-", "-", "-"] Sparse false
-plan e m --planner ara => plan ["e", "m", "-"] 0 Ara [1, 1000, 500, 1000] 1073741824 ["-", "-", "-"] Sparse false
-plan --planner=ad e m => plan ["e", "m", "-"] 0 AdStar [1, 1000, 500, 1000] 1073741824 ["-", "-", "-"] Sparse false
-plan e m --bound=1.5 => plan ["e", "m", "-"] 0 AdStar [1, 1000, 500, 1500] 1073741824 ["-", "-", "-"] Sparse false
-plan e m --bound 1.0000000001 => plan ["e", "m", "-"] 0 AdStar [1, 1000, 500, 1000] 1073741824 ["-", "-", "-"] Sparse false
-plan e --bound=100 m => plan ["e", "m", "-"] 0 AdStar [1, 1000, 500, 100000] 1073741824 ["-", "-", "-"] Sparse false
-plan e m --first 3.000 --step=.001 => plan ["e", "m", "-"] 0 AdStar [1, 3000, 1, 1000] 1073741824 ["-", "-", "-"] Sparse false
-plan --first=100 --step 99 e m => plan ["e", "m", "-"] 0 AdStar [1, 100000, 99000, 1000] 1073741824 ["-", "-", "-"] Sparse false
-plan e m --budget +4 => plan ["e", "m", "-"] 0 AdStar [1, 1000, 500, 1000] 4 ["-", "-", "-"] Sparse false
-plan e m --budget=007 => plan ["e", "m", "-"] 0 AdStar [1, 1000, 500, 1000] 7 ["-", "-", "-"] Sparse false
-plan e m --budget 1073741824 => plan ["e", "m", "-"] 0 AdStar [1, 1000, 500, 1000] 1073741824 ["-", "-", "-"] Sparse false
-plan e m --planner epase => plan ["e", "m", "-"] 0 Epase [1, 1000, 500, 1000] 1073741824 ["-", "-", "-"] Sparse false
-plan --workers=1 e m --trace t --planner=epase => plan ["e", "m", "-"] 0 Epase [1, 1000, 500, 1000] 1073741824 ["-", "t", "-"] Sparse false
-plan e m --planner epase --workers 2 => plan ["e", "m", "-"] 0 Epase [2, 1000, 500, 1000] 1073741824 ["-", "-", "-"] Sparse false
-plan e m --planner epase --workers 4 --changes c => plan ["e", "m", "c"] 0 Epase [4, 1000, 500, 1000] 1073741824 ["-", "-", "-"] Sparse false
-plan --workers 64 e --planner=epase m --labels=l => plan ["e", "m", "-"] 0 Epase [64, 1000, 500, 1000] 1073741824 ["l", "-", "-"] Sparse false
-plan --planner back e m --labels l => plan ["e", "m", "-"] 0 Back [1, 1000, 500, 1000] 1073741824 ["l", "-", "-"] Sparse true
-plan --changes c e m => plan ["e", "m", "c"] 0 AdStar [1, 1000, 500, 1000] 1073741824 ["-", "-", "-"] Sparse false
-plan e m --labels=l --trace t => plan ["e", "m", "-"] 0 AdStar [1, 1000, 500, 1000] 1073741824 ["l", "t", "-"] Sparse false
-plan e m --labels=l --labels-as 1 => plan ["e", "m", "-"] 0 AdStar [1, 1000, 500, 1000] 1073741824 ["l", "-", "-"] Full false
-plan --labels-as=2 e --trace t m --labels l => plan ["e", "m", "-"] 0 AdStar [1, 1000, 500, 1000] 1073741824 ["l", "t", "-"] Sparse false
-plan e --changes=c=d --labels c m --trace=d => plan ["e", "m", "c=d"] 0 AdStar [1, 1000, 500, 1000] 1073741824 ["c", "d", "-"] Sparse false
-plan e m --incumbent i => plan ["e", "m", "-"] 0 AdStar [1, 1000, 500, 1000] 1073741824 ["-", "-", "i"] Sparse false
-plan --incumbent=i e m --labels l --trace=t => plan ["e", "m", "-"] 0 AdStar [1, 1000, 500, 1000] 1073741824 ["l", "t", "i"] Sparse false
-plan e e --changes e => plan ["e", "e", "e"] 0 AdStar [1, 1000, 500, 1000] 1073741824 ["-", "-", "-"] Sparse false
+    r#"plan e m => plan (["e", "m", "-"], 0, AdStar, [1, 1000, 500, 1000], 1073741824, ["-", "-", "-"], Sparse, false)
+plan --radius 0 e m => plan (["e", "m", "-"], 0, AdStar, [1, 1000, 500, 1000], 1073741824, ["-", "-", "-"], Sparse, false)
+plan e --radius=0.000 m => plan (["e", "m", "-"], 0, AdStar, [1, 1000, 500, 1000], 1073741824, ["-", "-", "-"], Sparse, false)
+plan e m --radius +.0125 => plan (["e", "m", "-"], 12500000, AdStar, [1, 1000, 500, 1000], 1073741824, ["-", "-", "-"], Sparse, false)
+plan e m --radius=1000 => plan (["e", "m", "-"], 1000000000000, AdStar, [1, 1000, 500, 1000], 1073741824, ["-", "-", "-"], Sparse, false)
+plan e m --planner ara => plan (["e", "m", "-"], 0, Ara, [1, 1000, 500, 1000], 1073741824, ["-", "-", "-"], Sparse, false)
+plan --planner=ad e m => plan (["e", "m", "-"], 0, AdStar, [1, 1000, 500, 1000], 1073741824, ["-", "-", "-"], Sparse, false)
+plan e m --bound=1.5 => plan (["e", "m", "-"], 0, AdStar, [1, 1000, 500, 1500], 1073741824, ["-", "-", "-"], Sparse, false)
+plan e m --bound 1.0000000001 => plan (["e", "m", "-"], 0, AdStar, [1, 1000, 500, 1000], 1073741824, ["-", "-", "-"], Sparse, false)
+plan e --bound=100 m => plan (["e", "m", "-"], 0, AdStar, [1, 1000, 500, 100000], 1073741824, ["-", "-", "-"], Sparse, false)
+plan e m --first 3.000 --step=.001 => plan (["e", "m", "-"], 0, AdStar, [1, 3000, 1, 1000], 1073741824, ["-", "-", "-"], Sparse, false)
+plan --first=100 --step 99 e m => plan (["e", "m", "-"], 0, AdStar, [1, 100000, 99000, 1000], 1073741824, ["-", "-", "-"], Sparse, false)
+plan e m --budget +4 => plan (["e", "m", "-"], 0, AdStar, [1, 1000, 500, 1000], 4, ["-", "-", "-"], Sparse, false)
+plan e m --budget=007 => plan (["e", "m", "-"], 0, AdStar, [1, 1000, 500, 1000], 7, ["-", "-", "-"], Sparse, false)
+plan e m --budget 1073741824 => plan (["e", "m", "-"], 0, AdStar, [1, 1000, 500, 1000], 1073741824, ["-", "-", "-"], Sparse, false)
+plan e m --planner epase => plan (["e", "m", "-"], 0, Epase, [1, 1000, 500, 1000], 1073741824, ["-", "-", "-"], Sparse, false)
+plan --workers=1 e m --trace t --planner=epase => plan (["e", "m", "-"], 0, Epase, [1, 1000, 500, 1000], 1073741824, ["-", "t", "-"], Sparse, false)
+plan e m --planner epase --workers 2 => plan (["e", "m", "-"], 0, Epase, [2, 1000, 500, 1000], 1073741824, ["-", "-", "-"], Sparse, false)
+plan e m --planner epase --workers 4 --changes c => plan (["e", "m", "c"], 0, Epase, [4, 1000, 500, 1000], 1073741824, ["-", "-", "-"], Sparse, false)
+plan --workers 64 e --planner=epase m --labels=l => plan (["e", "m", "-"], 0, Epase, [64, 1000, 500, 1000], 1073741824, ["l", "-", "-"], Sparse, false)
+plan --planner back e m --labels l => plan (["e", "m", "-"], 0, Back, [1, 1000, 500, 1000], 1073741824, ["l", "-", "-"], Sparse, true)
+plan --changes c e m => plan (["e", "m", "c"], 0, AdStar, [1, 1000, 500, 1000], 1073741824, ["-", "-", "-"], Sparse, false)
+plan e m --labels=l --trace t => plan (["e", "m", "-"], 0, AdStar, [1, 1000, 500, 1000], 1073741824, ["l", "t", "-"], Sparse, false)
+plan e m --labels=l --labels-as 1 => plan (["e", "m", "-"], 0, AdStar, [1, 1000, 500, 1000], 1073741824, ["l", "-", "-"], Full, false)
+plan --labels-as=2 e --trace t m --labels l => plan (["e", "m", "-"], 0, AdStar, [1, 1000, 500, 1000], 1073741824, ["l", "t", "-"], Sparse, false)
+plan e --changes=c=d --labels c m --trace=d => plan (["e", "m", "c=d"], 0, AdStar, [1, 1000, 500, 1000], 1073741824, ["c", "d", "-"], Sparse, false)
+plan e m --incumbent i => plan (["e", "m", "-"], 0, AdStar, [1, 1000, 500, 1000], 1073741824, ["-", "-", "i"], Sparse, false)
+plan --incumbent=i e m --labels l --trace=t => plan (["e", "m", "-"], 0, AdStar, [1, 1000, 500, 1000], 1073741824, ["l", "t", "i"], Sparse, false)
+plan e e --changes e => plan (["e", "e", "e"], 0, AdStar, [1, 1000, 500, 1000], 1073741824, ["-", "-", "-"], Sparse, false)
 check e m l => Check(CheckJob { sources: Sources { env: Name { text: "e" }, prims: Name { text: "m" }, radius: 0 }, changes: None, labels: Name { text: "l" }, back: false }) false
 check e --changes c m l => Check(CheckJob { sources: Sources { env: Name { text: "e" }, prims: Name { text: "m" }, radius: 0 }, changes: Some(Name { text: "c" }), labels: Name { text: "l" }, back: false }) false
 check --radius=0.5 e --changes=c m l => Check(CheckJob { sources: Sources { env: Name { text: "e" }, prims: Name { text: "m" }, radius: 500000000 }, changes: Some(Name { text: "c" }), labels: Name { text: "l" }, back: false }) false
@@ -204,10 +204,18 @@ fn is_said(alloc: Global, job: &Job, want: &str) -> bool {
             ];
             let search = &job.search;
             let numbers = [search.workers, search.first, search.step, search.bound];
-            let form = job.outputs.form;
             format!(in alloc;
-                "plan {read:?} {} {:?} {numbers:?} {} {written:?} {form:?} {moves}",
-                job.sources.radius, search.planner, search.budget
+                "plan {:?}",
+                (
+                    read,
+                    job.sources.radius,
+                    search.planner,
+                    numbers,
+                    search.budget,
+                    written,
+                    job.outputs.form,
+                    moves
+                )
             )
         }
         _ => format!(in alloc; "{job:?} {moves}"),
