@@ -1,6 +1,6 @@
 //! Numbers in fixed point are printed at the end of a text.
 
-ghost use Rattle.std.specs.Prelude.{◌≡◌, ◌+◌, ◌-◌, ◌^◌, ◌<◌, ◌≤◌, ◌++◌, ◌∷◌, length, drop, pos, neg_ℤ, ◌≤ℤ◌, OnOk, OnErr, decimal, slice_set};
+ghost use Rattle.std.specs.Prelude.{◌≡◌, ◌+◌, ◌-◌, ◌^◌, ◌<◌, ◌≤◌, ◌++◌, ◌∷◌, length, drop, OnOk, OnErr, decimal, slice_set};
 ghost use Rattle.sbpl_fixed.specs.Printed.{last_digits, milli_text, nano_text, point_text};
 ghost use Rattle.sbpl_fixed.specs.ReadBack.{NanosAreReadBack, MillisAreReadBack, WholesAreReadBack, NanosAreWords, WholesAreWords, WordsAreTokens, LastWordsAreTokens, BlanksPartTokens};
 
@@ -85,8 +85,6 @@ pub fn print_milli(value: u128, out: &mut Vec<u8>) -> Result<(), NoMemory>
 /// Appends a number of billionths: a minus where it is below zero, the whole part, a point and nine digits.
 /// After `NoMemory` the text is unchanged.
 pub fn print_nano(value: i64, out: &mut Vec<u8>) -> Result<(), NoMemory>
-    requires low { neg_ℤ (pos (10 ^ 18)) ≤ℤ value }
-    requires high { value ≤ℤ pos (10 ^ 18) }
     ensures ok { OnOk result (out.new.items ≡ out.old.items ++ nano_text value) }
     ensures err { OnErr result (out.new.items ≡ out.old.items) }
 {
