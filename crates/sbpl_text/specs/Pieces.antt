@@ -1,7 +1,7 @@
 -- Pieces of a text.
 use Rattle.std.specs.Prelude.{ℕ, List, decimal}
 use Rattle.std.specs.Fmt.{signed_decimal}
-use Rattle.sbpl_fixed.specs.Printed.{milli_text}
+use Rattle.sbpl_fixed.specs.Printed.{milli_text, nano_text}
 use Rattle.sbpl_text.specs.declared.piece.Piece.{Piece}
 use Rattle.sbpl_text.specs.declared.piece.Piece.TheVariants as piece
 
@@ -11,3 +11,4 @@ piece_text (piece.Bytes bytes) = bytes.now
 piece_text (piece.Number n) = decimal n
 piece_text (piece.Signed n) = signed_decimal n
 piece_text (piece.Milli n) = milli_text n
+piece_text (piece.Nano n) = nano_text n

@@ -1,8 +1,10 @@
-//! Texts that grow by pieces: bytes, and numbers in digits.
+//! Texts that grow by pieces: bytes, numbers in digits, and lines of them.
 #![tactic(auto)]
 
+mod line;
 mod number;
 mod piece;
 
+pub use line::{Word, push_line, push_lines};
 pub use number::{push_bytes, push_field, push_number};
 pub use piece::{Piece, push_all};

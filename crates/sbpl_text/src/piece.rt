@@ -4,7 +4,7 @@ ghost use Rattle.std.specs.Prelude.{◌≡◌, ◌++◌, OnOk, flat_map};
 ghost use Rattle.sbpl_text.specs.Pieces.{piece_text};
 
 use crate::number::{push_bytes, push_number, push_signed};
-use sbpl_fixed::{NoMemory, print_milli};
+use sbpl_fixed::{NoMemory, print_milli, print_nano};
 
 /// A piece of a text.
 #[derive(Clone, Copy)]
@@ -17,10 +17,12 @@ pub enum Piece<'a> {
     Signed(i64),
     /// A number of thousandths, with a point and three digits.
     Milli(u128),
+    /// A number of billionths, with its sign, a point and nine digits.
+    Nano(i64),
 }
 
 /// Appends a piece.
-fn push_piece(out: &mut Vec<u8>, piece: Piece) -> Result<(), NoMemory>
+pub(crate) fn push_piece(out: &mut Vec<u8>, piece: Piece) -> Result<(), NoMemory>
     ensures appended { OnOk result (out.new.items ≡ out.old.items ++ piece_text piece.entry) }
 {
     match piece {
@@ -28,6 +30,7 @@ fn push_piece(out: &mut Vec<u8>, piece: Piece) -> Result<(), NoMemory>
         Piece::Number(number) => push_number(out, number),
         Piece::Signed(number) => push_signed(out, number),
         Piece::Milli(number) => print_milli(number, out),
+        Piece::Nano(number) => print_nano(number, out),
     }
 }
 
