@@ -1,8 +1,6 @@
 -- Texts that are appended one after the other.
-use Rattle.std.proofs.Common.{◌≡◌, ℕ, zero, suc, sub-one, ◌+◌, ◌-◌, ◌<◌, ◌≤◌, List, [], ◌∷◌, ◌++◌, length, map, take}
-use Rattle.std.proofs.Common.{drop, get_or, append_assoc, append-nil, add-one, arith, refl, sym, ◌∙◌, ap}
-use Rattle.std.proofs.Math.Seq.{drop-cons}
-use Rattle.std.proofs.lemmas.List.{drop_all, get_or-take, length-drop, length-map}
+use Rattle.std.proofs.Common.{◌≡◌, ℕ, zero, suc, sub-one, ◌+◌, ◌-◌, ◌<◌, ◌≤◌, List, [], ◌∷◌, ◌++◌, map, take}
+use Rattle.std.proofs.Common.{drop, append_assoc, append-nil, arith, refl, sym, ◌∙◌, ap}
 use Rattle.std.proofs.lemmas.List.Concat.{flat_map-append}
 use Rattle.std.specs.Fmt.{decimal}
 use Rattle.sbpl_fixed.specs.Printed.{line_text, lines_text}
@@ -11,46 +9,6 @@ use Rattle.sbpl_cfg.specs.Printed.{grid_lines}
 pub after_three : (a x y z : List ℕ) {b c d : List ℕ} → b ≡ a ++ x → c ≡ b ++ y → d ≡ c ++ z
     → d ≡ a ++ (x ++ (y ++ (z ++ [])))
 after_three a x y z p q r = rw (r, q, p) (simp (append_assoc, append-nil))
-
-pub after_four : (a w x y z : List ℕ) {b c d e : List ℕ} → b ≡ a ++ w → c ≡ b ++ x → d ≡ c ++ y → e ≡ d ++ z
-    → e ≡ a ++ (w ++ (x ++ (y ++ (z ++ []))))
-after_four a w x y z o p q r = rw (r, q, p, o) (simp (append_assoc, append-nil))
-
--- a word that isn't the last
-pub line_text-more : (w : List ℕ) (ws : List (List ℕ)) → 0 < length ws → line_text (w ∷ ws) ≡ w ++ 32 ∷ line_text ws
-unfolding line_text
-line_text-more w [] h = absurd (omega arith)
-line_text-more w (v ∷ ws) h = refl
-
--- the last
-pub line_text-last : (w : List ℕ) → line_text (w ∷ []) ≡ w ++ 10 ∷ []
-unfolding line_text
-line_text-last w = refl
-
--- one more cost of a row, which isn't its last
-pub row_more : (out old next cells : List ℕ) (i x : ℕ) → i < length cells - 1
-    → x ≡ get_or (take (length cells - 1) cells) i 0
-    → next ≡ out ++ (decimal x ++ 32 ∷ []) → out ++ line_text (map decimal (drop i cells)) ≡ old
-    → next ++ line_text (map decimal (drop (i + 1) cells)) ≡ old
-row_more out old next cells i x below read wrote before =
-    let rest = drop (suc i) cells in
-    let front : drop i cells ≡ x ∷ rest =
-    rw (read, get_or-take (length cells - 1) cells i 0 below) (drop-cons cells i 0 (omega arith)) in
-    let some : 0 < length (map decimal rest) = rw (length-map rest decimal, length-drop (suc i) cells) (omega arith) in
-    let all : out ++ ((decimal x ++ 32 ∷ []) ++ line_text (map decimal rest)) ≡ old =
-    rw (
-      append_assoc (decimal x) (32 ∷ []) (line_text (map decimal rest)),
-      ← line_text-more (decimal x) (map decimal rest) some,
-    ) (rw front at before) in
-    rw (wrote, add-one i, append_assoc out (decimal x ++ 32 ∷ []) (line_text (map decimal rest))) all
-
--- its last
-pub row_last : (out old next cells : List ℕ) (i x : ℕ) → i + 1 ≡ length cells → x ≡ get_or cells i 0
-    → next ≡ out ++ (decimal x ++ 10 ∷ []) → out ++ line_text (map decimal (drop i cells)) ≡ old → next ≡ old
-row_last out old next cells i x end read wrote before =
-    let front : drop i cells ≡ x ∷ [] =
-    rw (read, drop-cons cells i 0 (omega arith), drop_all (suc i) cells (omega arith)) refl in
-    wrote ∙ ap (λ text. out ++ text) (sym (line_text-last (decimal x))) ∙ (rw front at before)
 
 grid_lines-more : (rows width : ℕ) (cells : List ℕ) → 0 < rows
     → grid_lines rows width cells ≡ map decimal (take width cells) ∷ grid_lines (rows - 1) width (drop width cells)

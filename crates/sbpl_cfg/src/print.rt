@@ -1,138 +1,22 @@
 //! An environment is printed.
 
-ghost use Rattle.std.specs.Prelude.{◌≡◌, ◌+◌, ◌*◌, ◌<◌, ◌++◌, ◌∷◌, [], length, map, pos, neg_ℤ, ◌^◌, ◌≤ℤ◌, OnOk, OnErr};
-ghost use Rattle.std.specs.Fmt.{decimal, signed_decimal};
-ghost use Rattle.sbpl_fixed.specs.Printed.{nano_text, line_text, lines_text};
-ghost use Rattle.sbpl_cfg.specs.Environment.{IsPoseInRange};
+ghost use Rattle.std.specs.Prelude.{◌≡◌, ◌*◌, ◌++◌, length, OnOk, OnErr};
+ghost use Rattle.sbpl_fixed.specs.Printed.{line_text, lines_text};
 ghost use Rattle.sbpl_cfg.specs.Printed.{end_lines, environment_text, grid_lines, heading_lines, pose_words, rate_lines, size_lines, threshold_lines};
 
 use crate::env::{Env, Grid, HEADINGS_WORD, USUAL_HEADINGS};
 use crate::pose::Pose;
-use sbpl_fixed::{NoMemory, print_nano};
-
-/// Appends a word and the byte after it.
-fn put_word(out: &mut Vec<u8>, word: &[u8], end: u8) -> Result<(), NoMemory>
-    ensures ok { OnOk result (out.new.items ≡ out.old.items ++ (word.now ++ end ∷ [])) }
-{
-    out.extend_from_slice(word)?;
-    out.push(end)?;
-    Ok(())
-}
-
-/// Appends a digit.
-fn put_digit(out: &mut Vec<u8>, digit: u32) -> Result<(), NoMemory>
-    requires digit { digit < 10 }
-    ensures ok { OnOk result (out.new.items ≡ out.old.items ++ (48 + digit) ∷ []) }
-{
-    out.push(b'0' + digit as u8)?;
-    Ok(())
-}
-
-/// Appends the digits of a number.
-fn put_digits(out: &mut Vec<u8>, n: u32) -> Result<(), NoMemory>
-    ensures ok { OnOk result (out.new.items ≡ out.old.items ++ decimal n) }
-{
-    if n < 10 {
-        put_digit(out, n)?;
-        return Ok(());
-    }
-    put_digits(out, n / 10)?;
-    put_digit(out, n % 10)?;
-    Ok(())
-}
-
-/// Appends a number and the byte after it.
-fn put_whole(out: &mut Vec<u8>, n: u32, end: u8) -> Result<(), NoMemory>
-    ensures ok { OnOk result (out.new.items ≡ out.old.items ++ (decimal n ++ end ∷ [])) }
-{
-    put_digits(out, n)?;
-    out.push(end)?;
-    Ok(())
-}
-
-/// Appends a number with its sign, and the byte after it.
-fn put_signed(out: &mut Vec<u8>, n: i16, end: u8) -> Result<(), NoMemory>
-    ensures ok { OnOk result (out.new.items ≡ out.old.items ++ (signed_decimal n ++ end ∷ [])) }
-{
-    if n < 0 {
-        out.push(b'-')?;
-    }
-    put_whole(out, u32::from(n.unsigned_abs()), end)?;
-    Ok(())
-}
-
-/// Appends billionths and the byte after them.
-fn put_nano(out: &mut Vec<u8>, n: i64, end: u8) -> Result<(), NoMemory>
-    requires low { neg_ℤ (pos (10 ^ 18)) ≤ℤ n }
-    requires high { n ≤ℤ pos (10 ^ 18) }
-    ensures ok { OnOk result (out.new.items ≡ out.old.items ++ (nano_text n ++ end ∷ [])) }
-{
-    print_nano(n, out)?;
-    out.push(end)?;
-    Ok(())
-}
-
-/// A line with a word and a number.
-#[tactic(auto, using(std::proofs::lemmas::List::append_assoc), unfolding(sbpl_fixed::specs::Printed::line_text))]
-fn put_whole_line(out: &mut Vec<u8>, word: &[u8], n: u32) -> Result<(), NoMemory>
-    ensures ok { OnOk result (out.new.items ≡ out.old.items ++ line_text (word.now ∷ decimal n ∷ [])) }
-{
-    put_word(out, word, b' ')?;
-    put_whole(out, n, b'\n')?;
-    Ok(())
-}
-
-/// A line with a word and billionths.
-#[tactic(auto, using(std::proofs::lemmas::List::append_assoc), unfolding(sbpl_fixed::specs::Printed::line_text))]
-fn put_nano_line(out: &mut Vec<u8>, word: &[u8], n: i64) -> Result<(), NoMemory>
-    requires low { neg_ℤ (pos (10 ^ 18)) ≤ℤ n }
-    requires high { n ≤ℤ pos (10 ^ 18) }
-    ensures ok { OnOk result (out.new.items ≡ out.old.items ++ line_text (word.now ∷ nano_text n ∷ [])) }
-{
-    put_word(out, word, b' ')?;
-    put_nano(out, n, b'\n')?;
-    Ok(())
-}
-
-/// A line with a word and a pose.
-#[tactic(auto, using(std::proofs::lemmas::List::append_assoc), unfolding(sbpl_fixed::specs::Printed::line_text))]
-fn put_pose_line(out: &mut Vec<u8>, word: &[u8], p: &Pose) -> Result<(), NoMemory>
-    requires in_range { IsPoseInRange p.now }
-    ensures ok { OnOk result (out.new.items ≡ out.old.items ++ line_text (pose_words word.now p.now)) }
-{
-    put_word(out, word, b' ')?;
-    put_nano(out, p.x, b' ')?;
-    put_nano(out, p.y, b' ')?;
-    put_nano(out, p.theta, b'\n')?;
-    Ok(())
-}
-
-/// A line with a word and two numbers.
-#[tactic(auto, using(std::proofs::lemmas::List::append_assoc), unfolding(sbpl_fixed::specs::Printed::line_text))]
-fn put_size_line(out: &mut Vec<u8>, word: &[u8], width: u32, height: u32) -> Result<(), NoMemory>
-    ensures ok { OnOk result (out.new.items ≡ out.old.items ++ line_text (word.now ∷ decimal width ∷ decimal height ∷ [])) }
-{
-    put_word(out, word, b' ')?;
-    put_whole(out, width, b' ')?;
-    put_whole(out, height, b'\n')?;
-    Ok(())
-}
-
-/// A line with a word and a number with its sign.
-#[tactic(auto, using(std::proofs::lemmas::List::append_assoc), unfolding(sbpl_fixed::specs::Printed::line_text))]
-fn put_signed_line(out: &mut Vec<u8>, word: &[u8], n: i16) -> Result<(), NoMemory>
-    ensures ok { OnOk result (out.new.items ≡ out.old.items ++ line_text (word.now ∷ signed_decimal n ∷ [])) }
-{
-    put_word(out, word, b' ')?;
-    put_signed(out, n, b'\n')?;
-    Ok(())
-}
+use sbpl_fixed::NoMemory;
+use sbpl_text::Piece::{Bytes, Nano, Number, Signed};
+use sbpl_text::{push_line, push_lines};
 
 /// The map's size.
 fn put_size(out: &mut Vec<u8>, env: &Env) -> Result<(), NoMemory>
     ensures ok { OnOk result (out.new.items ≡ out.old.items ++ lines_text (size_lines env.now)) }
 {
-    put_size_line(out, b"discretization(cells):", env.width, env.height)
+    let width = Number(u64::from(env.width));
+    let height = Number(u64::from(env.height));
+    push_line(out, &[Bytes(b"discretization(cells):"), width, height])
 }
 
 /// The number of headings, where it isn't the usual one.
@@ -142,67 +26,69 @@ fn put_headings(out: &mut Vec<u8>, env: &Env) -> Result<(), NoMemory>
     if env.headings == USUAL_HEADINGS {
         return Ok(());
     }
-    put_whole_line(out, HEADINGS_WORD, env.headings)
+    push_line(
+        out,
+        &[Bytes(HEADINGS_WORD), Number(u64::from(env.headings))],
+    )
 }
 
 /// What costs mean.
-#[tactic(auto, using(std::proofs::lemmas::List::append_assoc))]
 fn put_thresholds(out: &mut Vec<u8>, env: &Env) -> Result<(), NoMemory>
     ensures ok { OnOk result (out.new.items ≡ out.old.items ++ lines_text (threshold_lines env.now)) }
 {
-    put_whole_line(out, b"obsthresh:", u32::from(env.obsthresh))?;
-    put_whole_line(out, b"cost_inscribed_thresh:", u32::from(env.inscribed))?;
-    put_signed_line(
+    let obsthresh = Number(u64::from(env.obsthresh));
+    let inscribed = Number(u64::from(env.inscribed));
+    let circumscribed = Signed(i64::from(env.circumscribed));
+    push_lines(
         out,
-        b"cost_possibly_circumscribed_thresh:",
-        env.circumscribed,
-    )?;
-    Ok(())
+        &[
+            &[Bytes(b"obsthresh:"), obsthresh],
+            &[Bytes(b"cost_inscribed_thresh:"), inscribed],
+            &[Bytes(b"cost_possibly_circumscribed_thresh:"), circumscribed],
+        ],
+    )
 }
 
 /// The side of a cell, the speed and the time to turn.
-#[tactic(auto, using(std::proofs::lemmas::List::append_assoc))]
 fn put_rates(out: &mut Vec<u8>, env: &Env) -> Result<(), NoMemory>
     ensures ok { OnOk result (out.new.items ≡ out.old.items ++ lines_text (rate_lines env.now)) }
 {
-    put_nano_line(out, b"cellsize(meters):", env.cell)?;
-    put_nano_line(out, b"nominalvel(mpersecs):", env.speed)?;
-    put_nano_line(out, b"timetoturn45degsinplace(secs):", env.turn45)?;
-    Ok(())
+    push_lines(
+        out,
+        &[
+            &[Bytes(b"cellsize(meters):"), Nano(env.cell)],
+            &[Bytes(b"nominalvel(mpersecs):"), Nano(env.speed)],
+            &[Bytes(b"timetoturn45degsinplace(secs):"), Nano(env.turn45)],
+        ],
+    )
+}
+
+/// A line with a word and a pose.
+fn put_pose(out: &mut Vec<u8>, word: &[u8], pose: &Pose) -> Result<(), NoMemory>
+    ensures ok { OnOk result (out.new.items ≡ out.old.items ++ line_text (pose_words word.now pose.now)) }
+{
+    let x = Nano(pose.x);
+    let y = Nano(pose.y);
+    push_line(out, &[Bytes(word), x, y, Nano(pose.theta)])
 }
 
 /// The start, the end, and the word before the grid.
-#[tactic(auto, using(std::proofs::lemmas::List::append_assoc))]
 fn put_ends(out: &mut Vec<u8>, env: &Env) -> Result<(), NoMemory>
     ensures ok { OnOk result (out.new.items ≡ out.old.items ++ lines_text (end_lines env.now)) }
 {
-    put_pose_line(out, b"start(meters,rads):", &env.start)?;
-    put_pose_line(out, b"end(meters,rads):", &env.end)?;
-    put_word(out, b"environment:", b'\n')?;
-    Ok(())
-}
-
-fn put_row(out: &mut Vec<u8>, cells: &[u8]) -> Result<(), NoMemory>
-    requires some { 0 < length cells.now }
-    ensures ok { OnOk result (out.new.items ≡ out.old.items ++ line_text (map decimal cells.now)) }
-{
-    let last = cells.len() - 1;
-    for cost in &cells[..last] {
-        put_whole(out, u32::from(*cost), b' ')?;
-    }
-    put_whole(out, u32::from(cells[last]), b'\n')?;
-    Ok(())
+    put_pose(out, b"start(meters,rads):", &env.start)?;
+    put_pose(out, b"end(meters,rads):", &env.end)?;
+    push_line(out, &[Bytes(b"environment:")])
 }
 
 fn put_grid(out: &mut Vec<u8>, width: u32, height: u32, cells: &[u8]) -> Result<(), NoMemory>
-    requires some { 0 < width }
     requires size { length cells.now ≡ width * height }
     ensures ok { OnOk result (out.new.items ≡ out.old.items ++ lines_text (grid_lines height width cells.now)) }
 {
     let mut rest = cells;
     for _y in 0..height {
         let (row, below) = rest.split_at(width as usize);
-        put_row(out, row)?;
+        push_line(out, row)?;
         rest = below;
     }
     Ok(())

@@ -21,7 +21,7 @@ use Rattle.sbpl_mprim.specs.Primitives.{ArePrimitives, IsOffsetInRange, IsPrimit
 use Rattle.sbpl_mprim.specs.Printed.{end_line, field, pose_line, prim_lines, prims_text}
 use Rattle.sbpl_mprim.specs.Text.{AreShown, IsTextOf, Saying, Shows, words_of, a_heading, a_nano, a_whole, a_word}
 use Rattle.sbpl_mprim.specs.Text.{spelled, spelled_pose, spelled_prim}
-use Rattle.sbpl_mprim.proofs.Pieces.{printable}
+use Rattle.sbpl_mprim.proofs.Pieces.{few_poses}
 use Rattle.sbpl_mprim.proofs.Indices.{at_all}
 use Rattle.sbpl_mprim.proofs.Spelling.{Spells, all_meant, spells_append, spells_none}
 
@@ -198,7 +198,7 @@ prints_file ps h =
     let total =
     prints_field ps.headings (codes "totalnumberofprimitives:") (length ps.items)
     (record { some = omega arith; filled = refl }) (omega (arith, h.count)) in
-    let long = at_all (λ (p : Primitive). length p.poses ≤ 200000) ps.items (λ i p e. (printable h i p e).few) in
+    let long = at_all (λ (p : Primitive). length p.poses ≤ 200000) ps.items (few_poses h) in
     let each =
     prints_prims ps.cell ps.headings ps.items h.headings.1 long
     (at_all (IsPrimitive ps.cell ps.headings) ps.items h.each) in

@@ -1,11 +1,11 @@
 -- The text of primitives. The words of a line are separated by one space, and every line ends with one line feed.
-use Rattle.std.specs.Prelude.{◌≡◌, ℕ, ◌≤◌, Some, slice_get, List, [], ◌∷◌, ◌++◌, length, map, codes, decimal}
+use Rattle.std.specs.Prelude.{ℕ, List, [], ◌∷◌, ◌++◌, length, map, codes, decimal}
 use Rattle.std.specs.Fmt.{signed_decimal}
 use Rattle.std.specs.List.{flat_map}
 use Rattle.sbpl_cfg.specs.declared.pose.Pose.{Pose}
 use Rattle.sbpl_fixed.specs.Printed.{lines_text, nano_text}
 use Rattle.sbpl_mprim.specs.declared.prim.Primitive.{Primitive}
-use Rattle.sbpl_mprim.specs.Primitives.{Primitives, IsOffsetInRange}
+use Rattle.sbpl_mprim.specs.Primitives.{Primitives}
 
 -- the line of a word and a number
 abbrev pub field : List ℕ → ℕ → List (List ℕ)
@@ -39,12 +39,3 @@ prims_lines ps = prims_head ps ++ flat_map prim_lines ps.items
 -- the text of primitives
 unfoldable pub prims_text : Primitives → List ℕ
 prims_text ps = lines_text (prims_lines ps)
-
--- poses whose numbers lie in their ranges
-abbrev pub ArePrintable : List Pose → Type 0
-ArePrintable poses = (i : ℕ) (p : Pose) → slice_get poses i ≡ Some p → IsOffsetInRange p
-
--- a primitive with few enough poses, whose numbers lie in their ranges
-pub record IsPrintable (p : Primitive) : Type 0 where
-  pub few : length p.poses ≤ 200000
-  pub poses : ArePrintable p.poses

@@ -8,7 +8,7 @@ loop-y-preserved c = record {
   text =
       grid_more _ _ c.args.height c.args.width c.loop-y._y c.loop-y-test.true
       c.split_at.ensures.front c.split_at.ensures.back
-      c.in_ok-put_row.ensures.ok c.loop-y.invariant.text;
+      c.in_ok-push_line.ensures.appended c.loop-y.invariant.text;
 }
 
 pub returns : goal.returns

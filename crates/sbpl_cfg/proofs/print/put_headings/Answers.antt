@@ -6,4 +6,4 @@ use Rattle.sbpl_cfg.proofs.print.put_headings.Goals as goal
 pub returns : goal.returns
 returns c =
     rw (← c.env.view_is, ne_eqb c.env.inside.headings usual_headings c.if-env-eq-USUAL_HEADINGS.false, append-nil)
-    c.put_whole_line.ensures
+    (record { ok = simp c.from.ensures at c.push_line.ensures.appended })

@@ -1,6 +1,5 @@
 use Rattle.std.proofs.Common.{rules, SFits, w64}
 use Rattle.std.proofs.lemmas.Int.{to_z-of_z}
-use Rattle.sbpl_cfg.proofs.PrintLaws.{after_three}
 use Rattle.sbpl_cfg.proofs.print.put_rates.Goals as goal
 
 pub returns : goal.returns
@@ -8,9 +7,4 @@ returns c =
     let cell : SFits w64 c.env.inside.cell = search rules in
     let speed : SFits w64 c.env.inside.speed = search rules in
     let turn45 : SFits w64 c.env.inside.turn45 = search rules in
-    record {
-      ok = rw (← c.env.view_is) (after_three _ _ _ _
-          (simp to_z-of_z at c.in_ok-put_nano_line.ensures.ok)
-          (simp to_z-of_z at c.in_ok-put_nano_line-2.ensures.ok)
-          (simp to_z-of_z at c.in_ok-put_nano_line-3.ensures.ok));
-    }
+    rw (← c.env.view_is) (record { ok = simp to_z-of_z at c.push_lines.ensures.appended })

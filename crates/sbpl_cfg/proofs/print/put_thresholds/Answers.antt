@@ -1,14 +1,11 @@
-use Rattle.std.proofs.Common.{rules, SFits, w16}
+use Rattle.std.proofs.Common.{◌≡◌, rules, SFits, w16, w64}
 use Rattle.std.proofs.lemmas.Int.{to_z-of_z}
-use Rattle.sbpl_cfg.proofs.PrintLaws.{after_three}
 use Rattle.sbpl_cfg.proofs.print.put_thresholds.Goals as goal
 
 pub returns : goal.returns
 returns c =
-    let circumscribed : SFits w16 c.env.inside.circumscribed = search rules in
-    record {
-      ok = rw (← c.env.view_is) (after_three _ _ _ _
-          (simp c.from.ensures at c.in_ok-put_whole_line.ensures.ok)
-          (simp c.from-2.ensures at c.in_ok-put_whole_line-2.ensures.ok)
-          (simp to_z-of_z at c.in_ok-put_signed_line.ensures.ok));
-    }
+    let narrow : SFits w16 c.env.inside.circumscribed = search rules in
+    let circumscribed : c.from-3.result ≡ c.env.inside.circumscribed = simp to_z-of_z at c.from-3.ensures in
+    let wide : SFits w64 c.from-3.result = search rules in
+    let wrote = simp (to_z-of_z, c.from.ensures, c.from-2.ensures) at c.push_lines.ensures.appended in
+    rw (← c.env.view_is, ← circumscribed) (record { ok = wrote })
