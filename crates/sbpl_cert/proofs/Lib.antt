@@ -3,7 +3,6 @@ pub mod Listed
 pub mod Order
 pub mod Guided
 pub mod Kept
-pub mod Grown
 pub mod Rounds
 pub mod Lines
 pub mod ItemLaws

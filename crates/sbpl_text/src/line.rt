@@ -35,8 +35,17 @@ impl Word for u8 {
     }
 }
 
+/// And so is a greater number.
+impl Word for u32 {
+    ghost text = { λ n. decimal n };
+
+    fn push(&self, out: &mut Vec<u8>) -> Result<(), NoMemory> {
+        push_number(out, u64::from(*self))
+    }
+}
+
 /// Appends words, with a space before each.
-fn push_rest<W: Word>(out: &mut Vec<u8>, words: &[W]) -> Result<(), NoMemory>
+pub fn push_words<W: Word>(out: &mut Vec<u8>, words: &[W]) -> Result<(), NoMemory>
     ensures appended { OnOk result (out.new.items ≡ out.old.items ++ flat_map (λ word. 32 ∷ W.text word) words.now) }
 {
     for word in words {
@@ -54,7 +63,7 @@ pub fn push_line<W: Word>(out: &mut Vec<u8>, words: &[W]) -> Result<(), NoMemory
         return push_bytes(out, b"\n");
     };
     first.push(out)?;
-    push_rest(out, rest)?;
+    push_words(out, rest)?;
     push_bytes(out, b"\n")
 }
 

@@ -13,5 +13,5 @@ pub returns : goal.returns
 returns g c = record {
   appended =
       on_ok_weaker _ (line_written g.W.Word.text _ c.in-Some.ensures.cases.0 c.in_ok-push.ensures.appended
-      c.in_ok-push_rest.ensures.appended) c.push_bytes-2.ensures.appended;
+      c.in_ok-push_words.ensures.appended) c.push_bytes-2.ensures.appended;
 }

@@ -1,5 +1,5 @@
 use Rattle.std.proofs.Common.{◌≡◌, ◌++◌, ◌∷◌, flat_map, drop}
-use Rattle.sbpl_text.proofs.line.push_rest.Given as goal
+use Rattle.sbpl_text.proofs.line.push_words.Given as goal
 
 -- what is written, and the words that are left, are what stood before and all words
 abbrev pub invariant-loop-word : goal.invariant-loop-word
