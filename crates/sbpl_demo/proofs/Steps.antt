@@ -1,10 +1,10 @@
 -- One more draw, and what it adds.
-use Rattle.std.proofs.Common.{◌≡◌, ℕ, zero, suc, ◌+◌, ◌-◌, ◌*◌, ◌/◌, ◌%◌, ◌<◌, List, [], ◌∷◌, ◌++◌, map, append-nil, ap}
-use Rattle.std.proofs.Common.{refl, sym, ◌∙◌, add-one, sub-one, arith}
+use Rattle.std.proofs.Common.{◌≡◌, ℕ, zero, suc, ◌+◌, ◌*◌, List, [], ◌∷◌, ◌++◌, map, append-nil, ap}
+use Rattle.std.proofs.Common.{refl, sym, ◌∙◌, add-one, arith}
 use Rattle.std.specs.List.{flat_map}
 use Rattle.std.proofs.lemmas.List.{map-append}
 use Rattle.std.proofs.lemmas.List.Concat.{flat_map-append}
-use Rattle.sbpl_fixed.specs.Printed.{last_digits, line_text, lines_text}
+use Rattle.sbpl_fixed.specs.Printed.{line_text, lines_text}
 use Rattle.sbpl_map.specs.ChangeText.{replan_line}
 use Rattle.sbpl_map.specs.Printed.{batch_lines, changes_text, write_line}
 use Rattle.sbpl_map.specs.declared.write.Write.{Write}
@@ -139,13 +139,3 @@ five_written from = simp (flat_map-append, append-nil)
 
 pub file_written : primitives_text ≡ lines_text head_lines ++ lines_text (flat_map motion_lines (motions 16))
 file_written = flat_map-append line_text head_lines (flat_map motion_lines (motions 16))
-
-pub digits_none : (a : List ℕ) (count n : ℕ) → count ≡ 0 → a ≡ a ++ last_digits count n
-unfolding last_digits
-digits_none a count n h = rw (h, append-nil a) refl
-
-pub digits_next : (count n : ℕ) → 0 < count
-    → last_digits count n ≡ last_digits (count - 1) (n / 10) ++ (48 + n % 10) ∷ []
-unfolding last_digits
-digits_next zero n h = absurd (omega arith)
-digits_next (suc count) n h = rw sub-one refl

@@ -12,19 +12,6 @@ pub grown : {all out new : List ℕ} (old part more : List ℕ) → all ≡ part
 grown old part more parts is adds =
     adds ∙ ap (λ l. l ++ more) is ∙ append_assoc old part more ∙ ap (λ l. old ++ l) (sym parts)
 
--- a line of three words, and of four
-pub line_three : (a u v w : List ℕ) {b c d : List ℕ} → b ≡ a ++ (u ++ 32 ∷ []) → c ≡ b ++ (v ++ 32 ∷ [])
-    → d ≡ c ++ (w ++ 10 ∷ [])
-    → d ≡ a ++ line_text (u ∷ v ∷ w ∷ [])
-unfolding line_text
-line_three a u v w p q r = rw (r, q, p) (simp append_assoc)
-
-pub line_four : (a u v w x : List ℕ) {b c d e : List ℕ} → b ≡ a ++ (u ++ 32 ∷ []) → c ≡ b ++ (v ++ 32 ∷ [])
-    → d ≡ c ++ (w ++ 32 ∷ []) → e ≡ d ++ (x ++ 10 ∷ [])
-    → e ≡ a ++ line_text (u ∷ v ∷ w ∷ x ∷ [])
-unfolding line_text
-line_four a u v w x p q r s = rw (s, r, q, p) (simp append_assoc)
-
 -- numbers of one digit and of two
 digit : (n : ℕ) → n < 10 → decimal n ≡ (48 + n) ∷ []
 digit n h = decimal_digit n h

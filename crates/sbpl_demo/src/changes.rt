@@ -8,20 +8,19 @@ ghost use Rattle.sbpl_demo.specs.Generator.{word_after};
 ghost use Rattle.sbpl_demo.specs.Changes.{batches, cell_writes, change, change_cost, is_end, writes};
 
 use crate::draws::Draws;
-use crate::put::{put_count, put_word};
 use sbpl_fixed::NoMemory;
+use sbpl_text::Piece::{Bytes, Number};
+use sbpl_text::push_line;
 use std::alloc::Global;
 
 /// Appends the line that writes a cost to a cell.
-#[tactic(auto, using(std::proofs::lemmas::List::append_assoc), unfolding(sbpl_fixed::specs::Printed::line_text))]
 fn put_cell(out: &mut Vec<u8>, x: u32, y: u32, cost: u32) -> Result<(), NoMemory>
     ensures ok { OnOk result (out.new.items ≡ out.old.items ++ line_text (write_line (record { x = x; y = y; cost = cost }))) }
 {
-    put_word(out, b"cell", b' ')?;
-    put_count(out, x, b' ')?;
-    put_count(out, y, b' ')?;
-    put_count(out, cost, b'\n')?;
-    Ok(())
+    let x = Number(u64::from(x));
+    let y = Number(u64::from(y));
+    let cost = Number(u64::from(cost));
+    push_line(out, &[Bytes(b"cell"), x, y, cost])
 }
 
 /// Whether a cell is the start's or the end's.
@@ -49,8 +48,7 @@ fn put_change(
     if is_end(width, height, x, y) {
         return Ok(());
     }
-    put_cell(out, x, y, cost)?;
-    Ok(())
+    put_cell(out, x, y, cost)
 }
 
 /// The cost that a draw gives: an obstacle where it is odd.
@@ -76,8 +74,7 @@ fn draw_change(
     let x = (draws.draw() % u64::from(width)) as u32;
     let y = (draws.draw() % u64::from(height)) as u32;
     let cost = change_cost(draws.draw());
-    put_change(out, width, height, x, y, cost)?;
-    Ok(())
+    put_change(out, width, height, x, y, cost)
 }
 
 /// Draws a batch of eight changes and appends its lines.
@@ -91,8 +88,7 @@ fn draw_batch(out: &mut Vec<u8>, draws: &mut Draws, width: u32, height: u32) -> 
     for _ in 0..8u32 {
         draw_change(out, draws, width, height)?;
     }
-    put_word(out, b"replan", b'\n')?;
-    Ok(())
+    push_line(out, &[Bytes(b"replan")])
 }
 
 /// The text of three batches of changes.

@@ -3,11 +3,12 @@
 ghost use Rattle.std.specs.Prelude.{◌≡◌, ◌<◌, ◌≤◌, ◌++◌, pos, negsuc, ◌≤ℤ◌, OnOk, IfOk};
 ghost use Rattle.std.specs.List.{flat_map};
 ghost use Rattle.sbpl_fixed.specs.Printed.{line_text, lines_text};
-ghost use Rattle.sbpl_mprim.specs.Printed.{field};
-ghost use Rattle.sbpl_demo.specs.Primitives.{IsMotion, IsWithinTwoCells, along, angle, backward, end_words, far, forward, heading_at, left, motion_head, motion_lines, motions_from, nearest_ninth, pose_lines, pose_words, primitives_text, right, way_along};
+ghost use Rattle.sbpl_demo.specs.Primitives.{IsMotion, IsWithinTwoCells, along, angle, backward, far, forward, heading_at, left, motion_head, motion_lines, motions_from, nearest_ninth, pose_lines, pose_words, primitives_text, right, way_along};
 
-use crate::put::{put_count, put_parts, put_signed, put_word};
+use crate::put::Parts;
 use sbpl_fixed::NoMemory;
+use sbpl_text::Piece::{Bytes, Number, Signed};
+use sbpl_text::{push_line, push_lines};
 use std::alloc::Global;
 
 /// The lines before the first primitive.
@@ -95,16 +96,15 @@ fn heading_at(motion: &Motion, j: u32) -> i32
 }
 
 /// Appends the line of pose `j` of ten.
-#[tactic(auto, using(std::proofs::lemmas::List::append_assoc), unfolding(sbpl_fixed::specs::Printed::line_text))]
 fn put_pose(out: &mut Vec<u8>, motion: &Motion, j: u32) -> Result<(), NoMemory>
     requires motion { IsMotion motion.now }
     requires pose { j < 10 }
     ensures ok { OnOk result (out.new.items ≡ out.old.items ++ line_text (pose_words motion.now j)) }
 {
-    put_parts(out, along(motion.way.x, j), b' ')?;
-    put_parts(out, along(motion.way.y, j), b' ')?;
-    put_parts(out, angle(heading_at(motion, j)), b'\n')?;
-    Ok(())
+    let x = along(motion.way.x, j);
+    let y = along(motion.way.y, j);
+    let theta = angle(heading_at(motion, j));
+    push_line(out, &[Parts(x), Parts(y), Parts(theta)])
 }
 
 /// Appends the lines of the ten poses.
@@ -118,38 +118,26 @@ fn put_poses(out: &mut Vec<u8>, motion: &Motion) -> Result<(), NoMemory>
     Ok(())
 }
 
-/// Appends the line of a word and a number.
-#[tactic(auto, using(std::proofs::lemmas::List::append_assoc), unfolding(sbpl_fixed::specs::Printed::line_text))]
-fn put_field(out: &mut Vec<u8>, name: &[u8], n: u32) -> Result<(), NoMemory>
-    ensures ok { OnOk result (out.new.items ≡ out.old.items ++ line_text (field name.now n)) }
-{
-    put_word(out, name, b' ')?;
-    put_count(out, n, b'\n')?;
-    Ok(())
-}
-
-/// Appends the line of the end.
-#[tactic(auto, using(std::proofs::lemmas::List::append_assoc), unfolding(sbpl_fixed::specs::Printed::line_text))]
-fn put_end(out: &mut Vec<u8>, motion: &Motion) -> Result<(), NoMemory>
-    ensures ok { OnOk result (out.new.items ≡ out.old.items ++ line_text (end_words motion.now)) }
-{
-    put_word(out, b"endpose_c:", b' ')?;
-    put_signed(out, motion.way.x, b' ')?;
-    put_signed(out, motion.way.y, b' ')?;
-    put_signed(out, motion.to, b'\n')?;
-    Ok(())
-}
-
 /// Appends the lines of a primitive before its poses.
 fn put_head(out: &mut Vec<u8>, motion: &Motion) -> Result<(), NoMemory>
     ensures ok { OnOk result (out.new.items ≡ out.old.items ++ lines_text (motion_head motion.now)) }
 {
-    put_field(out, b"primID:", motion.id)?;
-    put_field(out, b"startangle_c:", motion.from)?;
-    put_end(out, motion)?;
-    put_field(out, b"additionalactioncostmult:", motion.mult)?;
-    put_field(out, b"intermediateposes:", 10)?;
-    Ok(())
+    let x = Signed(i64::from(motion.way.x));
+    let y = Signed(i64::from(motion.way.y));
+    let to = Signed(i64::from(motion.to));
+    push_lines(
+        out,
+        &[
+            &[Bytes(b"primID:"), Number(u64::from(motion.id))],
+            &[Bytes(b"startangle_c:"), Number(u64::from(motion.from))],
+            &[Bytes(b"endpose_c:"), x, y, to],
+            &[
+                Bytes(b"additionalactioncostmult:"),
+                Number(u64::from(motion.mult)),
+            ],
+            &[Bytes(b"intermediateposes:"), Number(10)],
+        ],
+    )
 }
 
 /// Appends a primitive.

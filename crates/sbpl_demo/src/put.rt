@@ -1,79 +1,61 @@
-//! Words and numbers of a line, each with the byte after it.
+//! Numbers with four decimals.
 
-ghost use Rattle.std.specs.Prelude.{◌≡◌, ◌+◌, ◌-◌, ◌<◌, [], ◌∷◌, ◌++◌, decimal, OnOk};
-ghost use Rattle.std.specs.Fmt.{signed_decimal};
+ghost use Rattle.std.specs.Prelude.{◌≡◌, ◌+◌, ◌%◌, ◌++◌, OnOk};
 ghost use Rattle.sbpl_fixed.specs.Printed.{last_digits, point_text};
 ghost use Rattle.sbpl_demo.specs.Primitives.{parts_text};
 
-use itoa::Buffer;
 use sbpl_fixed::NoMemory;
+use sbpl_text::Piece::{Bytes, Number};
+use sbpl_text::{Word, push_all};
 
-/// Appends a word, and a space or a line feed after it.
-pub(crate) fn put_word(out: &mut Vec<u8>, word: &[u8], end: u8) -> Result<(), NoMemory>
-    ensures ok { OnOk result (out.new.items ≡ out.old.items ++ (word.now ++ end ∷ [])) }
+/// A number of ten-thousandths.
+#[derive(Clone, Copy)]
+pub(crate) struct Parts(pub(crate) i32);
+
+/// The last digit of a number.
+fn last_digit(n: u32) -> u8
+    ensures digit { result ≡ 48 + n % 10 }
 {
-    out.extend_from_slice(word)?;
-    out.push(end)?;
-    Ok(())
+    b'0' + (n % 10) as u8
 }
 
-/// Appends a number without a sign.
-pub(crate) fn put_count(out: &mut Vec<u8>, n: u32, end: u8) -> Result<(), NoMemory>
-    ensures ok { OnOk result (out.new.items ≡ out.old.items ++ (decimal n ++ end ∷ [])) }
+/// The last four digits of a number, with leading zeros.
+#[tactic(auto, unfolding(sbpl_fixed::specs::Printed::last_digits))]
+fn last_four_digits(n: u32) -> [u8; 4]
+    ensures digits { result ≡ last_digits 4 n }
 {
-    let mut buffer = Buffer::new();
-    put_word(out, buffer.format(n).as_bytes(), end)?;
-    Ok(())
+    let tens = n / 10;
+    let hundreds = tens / 10;
+    let thousands = hundreds / 10;
+    [
+        last_digit(thousands),
+        last_digit(hundreds),
+        last_digit(tens),
+        last_digit(n),
+    ]
 }
 
-/// Appends a number with its sign.
-pub(crate) fn put_signed(out: &mut Vec<u8>, n: i32, end: u8) -> Result<(), NoMemory>
-    ensures ok { OnOk result (out.new.items ≡ out.old.items ++ (signed_decimal n ++ end ∷ [])) }
+/// Appends ten-thousandths: what stands before, the whole part, a point and four digits.
+fn push_point(out: &mut Vec<u8>, before: &[u8], n: u32) -> Result<(), NoMemory>
+    ensures appended { OnOk result (out.new.items ≡ out.old.items ++ (before.now ++ point_text 4 n)) }
 {
-    let mut buffer = Buffer::new();
-    put_word(out, buffer.format(n).as_bytes(), end)?;
-    Ok(())
+    let digits = last_four_digits(n % 10_000);
+    push_all(
+        out,
+        &[
+            Bytes(before),
+            Number(u64::from(n / 10_000)),
+            Bytes(b"."),
+            Bytes(&digits),
+        ],
+    )
 }
 
-/// Appends a digit.
-fn put_digit(out: &mut Vec<u8>, digit: u32) -> Result<(), NoMemory>
-    requires digit { digit < 10 }
-    ensures ok { OnOk result (out.new.items ≡ out.old.items ++ (48 + digit) ∷ []) }
-{
-    out.push(b'0' + digit as u8)?;
-    Ok(())
-}
+impl Word for Parts {
+    ghost text = { λ parts. parts_text parts.0 };
 
-/// Appends the last `count` digits of a number, with leading zeros.
-#[tactic(auto, using(crate::proofs::Steps::digits_next, sbpl_fixed::proofs::Lines::after_two, std::proofs::lemmas::List::append_assoc))]
-fn put_last_digits(out: &mut Vec<u8>, count: u32, n: u32) -> Result<(), NoMemory>
-    ensures ok { OnOk result (out.new.items ≡ out.old.items ++ last_digits count n) }
-{
-    if count == 0 {
-        return Ok(());
+    fn push(&self, out: &mut Vec<u8>) -> Result<(), NoMemory> {
+        let sign: &[u8] = if self.0 < 0 { b"-" } else { b"" };
+        push_point(out, sign, self.0.unsigned_abs())
     }
-    put_last_digits(out, count - 1, n / 10)?;
-    put_digit(out, n % 10)?;
-    Ok(())
-}
-
-/// Appends ten-thousandths: the whole part, a point and four digits.
-fn put_point(out: &mut Vec<u8>, n: u32) -> Result<(), NoMemory>
-    ensures ok { OnOk result (out.new.items ≡ out.old.items ++ point_text 4 n) }
-{
-    put_count(out, n / 10_000, b'.')?;
-    put_last_digits(out, 4, n % 10_000)?;
-    Ok(())
-}
-
-/// Appends ten-thousandths with their sign.
-pub(crate) fn put_parts(out: &mut Vec<u8>, n: i32, end: u8) -> Result<(), NoMemory>
-    ensures ok { OnOk result (out.new.items ≡ out.old.items ++ (parts_text n ++ end ∷ [])) }
-{
-    if n < 0 {
-        out.push(b'-')?;
-    }
-    put_point(out, n.unsigned_abs())?;
-    out.push(end)?;
-    Ok(())
 }
