@@ -33,35 +33,6 @@ environment:
 0 0 0
 ";
 
-/// Five by three cells with one that costs as much as the threshold, beside the way from (1, 1) to (3, 1).
-pub const E3: &str = "discretization(cells): 5 3
-obsthresh: 100
-cost_inscribed_thresh: 90
-cost_possibly_circumscribed_thresh: 0
-cellsize(meters): 0.025
-nominalvel(mpersecs): 1.0
-timetoturn45degsinplace(secs): 2.0
-start(meters,rads): 0.0375 0.0375 0
-end(meters,rads): 0.0875 0.0375 0
-environment:
-0 0 0 0 0
-0 0 0 0 0
-0 0 100 0 0
-";
-
-/// One primitive: a cell forward along x.
-pub const F1: &str = "resolution_m: 0.025
-numberofangles: 16
-totalnumberofprimitives: 1
-primID: 0
-startangle_c: 0
-endpose_c: 1 0 0
-additionalactioncostmult: 1
-intermediateposes: 2
-0.0000 0.0000 0.0000
-0.0250 0.0000 0.0000
-";
-
 /// Four primitives from heading 0: one cell and two cells along x, and one cell along y and against it.
 pub const F2: &str = "resolution_m: 0.025
 numberofangles: 16
@@ -95,34 +66,6 @@ additionalactioncostmult: 1
 intermediateposes: 2
 0 0 0
 0 -0.025 0
-";
-
-/// Fifteen by fifteen cells that cost nothing, to be gone along by six cells.
-pub const REALISTIC: &str = "discretization(cells): 15 15
-obsthresh: 254
-cost_inscribed_thresh: 253
-cost_possibly_circumscribed_thresh: 128
-cellsize(meters): 0.025
-nominalvel(mpersecs): 1.0
-timetoturn45degsinplace(secs): 2.0
-start(meters,rads): 0.11 0.11 0
-end(meters,rads): 0.26 0.11 0
-environment:
-0 0 0 0 0 0 0 0 0 0 0 0 0 0 0
-0 0 0 0 0 0 0 0 0 0 0 0 0 0 0
-0 0 0 0 0 0 0 0 0 0 0 0 0 0 0
-0 0 0 0 0 0 0 0 0 0 0 0 0 0 0
-0 0 0 0 0 0 0 0 0 0 0 0 0 0 0
-0 0 0 0 0 0 0 0 0 0 0 0 0 0 0
-0 0 0 0 0 0 0 0 0 0 0 0 0 0 0
-0 0 0 0 0 0 0 0 0 0 0 0 0 0 0
-0 0 0 0 0 0 0 0 0 0 0 0 0 0 0
-0 0 0 0 0 0 0 0 0 0 0 0 0 0 0
-0 0 0 0 0 0 0 0 0 0 0 0 0 0 0
-0 0 0 0 0 0 0 0 0 0 0 0 0 0 0
-0 0 0 0 0 0 0 0 0 0 0 0 0 0 0
-0 0 0 0 0 0 0 0 0 0 0 0 0 0 0
-0 0 0 0 0 0 0 0 0 0 0 0 0 0 0
 ";
 
 /// A field of 32 by 32 cells that cost nothing, to be crossed from corner to corner.

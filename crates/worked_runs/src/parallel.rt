@@ -2,7 +2,7 @@
 
 ghost use Rattle.std.specs.Prelude.{◌<◌};
 
-use crate::runs::{DETOUR, Files, Row, WORKS, answers};
+use crate::runs::{DETOUR, Files, reports};
 use sample_files::{FIELD, car};
 use sbpl_cli::{Gate, NoGate};
 use sbpl_desk::MemoryDesk;
@@ -66,9 +66,29 @@ const HOLDS: &str = "plan 0 path holds\ndone\n";
 
 const ALL_HOLD: &str = "plan 0 path holds\nplan 1 path holds\nplan 2 path holds\ndone\n";
 
-/// Whether the first judgement is held; the words of plans that workers make with labels, and the report; and then the words of a check
+/// A grid with a wall in its middle.
+static GRID: Files<'static> = [
+    Some(
+        "discretization(cells): 3 3
+obsthresh: 100
+start(cells): 0 0
+end(cells): 2 2
+environment:
+0 0 0
+0 100 0
+0 0 0
+",
+    ),
+    None,
+    None,
+];
+
+/// Whether the first judgement is held; the words of a plan that workers make with labels, and the report; and then the words of a check
 /// of these labels, and its report.
-static PLANS: [(bool, &str, &str, &str, &str); 6] = [
+type Row = (bool, &'static str, &'static str, &'static str, &'static str);
+
+/// Plans on the map with a way around, and one on the grid, round its wall.
+static PLANS: [Row; 7] = [
     (
         false,
         "plan e m --planner epase --workers 1 --labels l",
@@ -111,40 +131,51 @@ static PLANS: [(bool, &str, &str, &str, &str); 6] = [
         "check e m l --changes c",
         ALL_HOLD,
     ),
+    (
+        false,
+        "nav e --planner epase --workers 4 --labels l",
+        "plan 0\n.. best 4000 bound 1.000\npath 4 cost 4000 bound 1.000\n..\ndone\n",
+        "navcheck e l",
+        HOLDS,
+    ),
 ];
 
-/// Whether a plan answers as its row says, and then a check, on another desk, of the labels that it wrote.
+/// Whether a plan reports as its row says, and then a check, on another desk, of the labels that it wrote.
 fn plans_and_holds<R: Threads + Wait + Sync>(
     rt: &R,
     alloc: Global,
-    plan: &Row,
-    check: &Row,
+    row: &Row,
     gate: &Held,
     desk: &mut MemoryDesk,
     other: &mut MemoryDesk,
 ) -> Result<bool, Fail> {
-    let plans = answers(rt, alloc, &DETOUR, plan, gate, desk)?;
+    let (_, words, report, check, holds) = *row;
+    let files = if words.starts_with("nav") {
+        &GRID
+    } else {
+        &DETOUR
+    };
+    let plans = reports(rt, alloc, files, words, report, gate, desk)?;
     other.hold("l", desk.written("l"))?;
-    Ok(plans && answers(rt, alloc, &DETOUR, check, &NoGate, other)?)
+    Ok(plans && reports(rt, alloc, files, check, holds, &NoGate, other)?)
 }
 
 /// One worker and several find paths of the same cost, and labels that hold. A worker judges an arc while another one is still
 /// judging the first.
 #[test]
 fn workers(rt: HostRuntime) -> Result<(), Fail> {
-    for (is_held, words, report, check, holds) in &PLANS {
-        let plan: Row = ("", WORKS, words, 0, report);
-        let check: Row = ("", WORKS, check, 0, holds);
+    for row in &PLANS {
+        let is_held = row.0;
         let gate = Held {
-            begun: AtomicU64::new(u64::from(!*is_held)),
-            met: AtomicBool::new(!*is_held),
+            begun: AtomicU64::new(u64::from(!is_held)),
+            met: AtomicBool::new(!is_held),
         };
         let mut desk = MemoryDesk::new(rt.alloc());
         let mut other = MemoryDesk::new(rt.alloc());
-        let right = plans_and_holds(&rt, rt.alloc(), &plan, &check, &gate, &mut desk, &mut other);
+        let right = plans_and_holds(&rt, rt.alloc(), row, &gate, &mut desk, &mut other);
         drop(other);
         drop(desk);
-        assert!(rt; right? && gate.met.load(Ordering::SeqCst), "{words}");
+        assert!(rt; right? && gate.met.load(Ordering::SeqCst), "{}", row.1);
     }
     Ok(())
 }
@@ -158,8 +189,7 @@ fn put_known<R: Threads + Wait + Sync>(
     desk: &mut MemoryDesk,
     known: &mut String,
 ) -> Result<(), Fail> {
-    let row: Row = ("", WORKS, words, 0, "..");
-    if !answers(rt, alloc, files, &row, &NoGate, desk)? {
+    if !reports(rt, alloc, files, words, "..", &NoGate, desk)? {
         return Err(Fail::new("status"));
     }
     for line in str::from_utf8(desk.written("-")).unwrap_or("").lines() {

@@ -1,10 +1,7 @@
-//! What no clause says: that calls succeed, and that the system holds the bytes.
+//! What no clause says: that the calls of a desk in memory succeed.
 
-use sample_files::p16;
-use sbpl_desk::{Desk, MemoryDesk, ReadStop, RealDesk, WriteStop};
-use std::fs;
+use sbpl_desk::{Desk, MemoryDesk, ReadStop, WriteStop};
 use std::process::Abort;
-use std::test::Fail;
 
 /// Names that are read by the calls 0 to 4 of the desk, the answers, and the bytes that were read.
 const READS: [(&str, Result<(), ReadStop>, &str); 5] = [
@@ -51,34 +48,4 @@ fn a_desk_in_memory_answers_as_it_was_told(rt: HostRuntime) {
     let mut into = Vec::new(rt.alloc());
     let mut desk = MemoryDesk::new(rt.alloc());
     compare_calls(&rt, &mut desk, &mut into);
-}
-
-/// Whether a file holds what is written to it, while one that is not there is not read, and a folder that is not there is not written
-/// to.
-fn holds(desk: &mut impl Desk, into: &mut Vec<u8>, long: &[u8]) -> bool {
-    let written = [
-        desk.write("no/such/folder", b"three"),
-        desk.write("report.txt", b"one "),
-        desk.write("-", b"printed\n"),
-        desk.write("report.txt", long),
-    ];
-    let read = [desk.read("absent", into), desk.read("report.txt", into)];
-    written == [Err(WriteStop::Failed), Ok(()), Ok(()), Ok(())]
-        && read == [Err(ReadStop::Failed), Ok(())]
-        && into.as_slice().strip_prefix(b"one ") == Some(long)
-}
-
-/// The sample of eighty primitives takes several reads.
-#[test]
-fn the_system_holds_what_was_written(rt: HostRuntime) -> Result<(), Fail> {
-    let long = p16(rt.alloc())?;
-    let mut into = Vec::new(rt.alloc());
-    let mut desk = RealDesk::new(&rt);
-    let held = holds(&mut desk, &mut into, long.as_bytes());
-    drop(desk);
-    drop(into);
-    drop(long);
-    assert!(rt; held);
-    fs::remove_file(&rt, "report.txt")?;
-    Ok(())
 }
