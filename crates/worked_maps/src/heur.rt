@@ -1,14 +1,18 @@
-//! The heuristic on a small hall, by hand.
+//! The heuristic on a small hall, by hand, and what workers do by it.
 
 ghost use Rattle.std.specs.Prelude.{◌≡◌, ◌<◌};
 ghost use Rattle.sbpl_cost.specs.Lattices.{network_of};
 ghost use Rattle.sbpl_heur.specs.Bests.{Fits, IsGuide};
 
+use crate::rows::{FOUR, THREE, told_on};
+use crate::seats::falling;
 use sbpl_cfg::Place;
 use sbpl_cost::Lattice;
 use sbpl_graph::Guide;
 use sbpl_heur::Best;
 use std::alloc::Global;
+use std::sync::Wait;
+use std::thread::Threads;
 
 /// The values at heading 0 of the six cells, row by row.
 fn values(lattice: &Lattice, best: &Best, goal: u32) -> Option<[u64; 6]>
@@ -44,15 +48,38 @@ fn follows(lattice: &mut Lattice, best: &mut Best, goal: u32) -> bool
     free && first == Some(OPEN) && then == Some(SHUT)
 }
 
-/// The values for the goal in cell `(2, 0)`, built and then rebuilt.
-pub(crate) fn is_guided(alloc: Global, lattice: &mut Lattice) -> bool {
+/// What is shown by the guide to this goal: judgements that come back by the line, passes by more and fewer workers, and the values.
+fn guides<R: Threads + Wait + Sync>(
+    rt: &R,
+    alloc: Global,
+    lattice: &mut Lattice,
+    best: &mut Best,
+    goal: u32,
+) -> bool
+    requires guides { IsGuide (network_of lattice.old) goal best.old }
+    requires fits { Fits lattice.old best.old }
+    requires goal { best.old.goal ≡ goal }
+    requires state { goal < (network_of lattice.old).states }
+{
+    told_on(rt, alloc, lattice, best, goal, &THREE) == Some(true)
+        && told_on(rt, alloc, lattice, best, goal, &FOUR) == Some(true)
+        && falling(rt, alloc, lattice, best, goal) == Some((4, 100))
+        && follows(lattice, best, goal)
+}
+
+/// The same with the goal in cell `(2, 0)`.
+pub(crate) fn is_guided<R: Threads + Wait + Sync>(
+    rt: &R,
+    alloc: Global,
+    lattice: &mut Lattice,
+) -> bool {
     let Some(goal) = lattice.state_of(&Place { x: 2, y: 0, t: 0 }) else {
         return false;
     };
     let Ok(mut best) = Best::build(alloc, lattice, goal) else {
         return false;
     };
-    let is = follows(lattice, &mut best, goal);
+    let is = guides(rt, alloc, lattice, &mut best, goal);
     drop(best);
     is
 }

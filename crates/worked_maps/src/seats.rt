@@ -1,0 +1,94 @@
+//! Passes of one plan by workers that come and go.
+
+ghost use Rattle.std.specs.Prelude.{◌≡◌, ◌<◌, ◌≤◌};
+ghost use Rattle.sbpl_cost.specs.Lattices.{network_of};
+ghost use Rattle.sbpl_heur.specs.Bests.{IsGuide, distance_in};
+ghost use Rattle.sbpl_search.specs.Query.{query};
+ghost use Rattle.sbpl_epase.specs.Making.{CanPass, Leaves};
+
+use sbpl_cost::Lattice;
+use sbpl_epase::{Epase, Event, NoGate, Parts, parallel_pass_parts};
+use sbpl_graph::Graph;
+use sbpl_heur::Best;
+use sbpl_labels::Budget;
+use sbpl_plan::{Ask, Nobody, Outcome, Planned, plan};
+use std::alloc::Global;
+use std::sync::Wait;
+use std::thread::Threads;
+
+/// What is asked of a plan whose inflation falls.
+const FALLING: Ask = Ask {
+    first: 3000,
+    step: 500,
+    bound: 1000,
+    traced: false,
+};
+
+/// How many workers make the pass of this inflation, in thousandths.
+fn workers_at(eps: u32) -> u32
+    ensures some { 1 ≤ result }
+    ensures few { result ≤ 64 }
+{
+    match eps {
+        3000 => 1,
+        2500 => 4,
+        2000 => 2,
+        _ => 3,
+    }
+}
+
+/// How many passes a plan made, and the cost of its path.
+fn told(planned: &Planned<Event>) -> Option<(usize, u64)> {
+    match &planned.outcome {
+        Outcome::Path(path) => Some((planned.passes.as_slice().len(), path.cost)),
+        _ => None,
+    }
+}
+
+/// The passes of a plan from the first state to this one are made by one, four, two and three workers, and each begins with the labels
+/// of the pass before: how many passes there are, and the cost of the path. The labels are then made initial again.
+pub(crate) fn falling<R: Threads + Wait + Sync>(
+    rt: &R,
+    alloc: Global,
+    lattice: &Lattice,
+    best: &Best,
+    goal: u32,
+) -> Option<(usize, u64)>
+    requires goal { goal < (network_of lattice.now).states }
+    requires guide { IsGuide (network_of lattice.now) goal best.now }
+{
+    let make = move |alloc: Global, graph: &Lattice, guide: &Best, parts: Parts, goal: u32, eps: u32, keeps: bool|
+        requires can { CanPass (query (network_of graph.now) (distance_in guide.now) eps goal) (IsGuide (network_of graph.now) goal guide.now) parts }
+        ensures left { Leaves (query (network_of graph.now) (distance_in guide.now) eps goal) parts keeps result }
+    {
+        parallel_pass_parts(
+            rt,
+            &NoGate,
+            workers_at(eps),
+            alloc,
+            graph,
+            guide,
+            parts,
+            goal,
+            eps,
+            keeps,
+        )
+    };
+    let Ok(mut search) = Epase::open(alloc, make, lattice.states(), 0, goal) else {
+        return None;
+    };
+    let mut budget = Budget::new(1 << 30);
+    let planned = plan(
+        alloc,
+        lattice,
+        best,
+        &mut search,
+        goal,
+        &FALLING,
+        &mut budget,
+        &mut Nobody,
+    );
+    search.reset();
+    drop(search);
+    told(&planned.ok()?)
+}
