@@ -1,6 +1,6 @@
 //! A grid as a graph.
 
-use crate::grid_texts::HALL;
+use crate::texts::reads;
 use sbpl_cfg::EnvFault;
 use sbpl_graph::{Graph, Guide};
 use sbpl_map::Map;
@@ -8,8 +8,20 @@ use sbpl_nav2d::{Nav, Octile, read_nav};
 use std::alloc::Global;
 use std::test::Fail;
 
+/// Four columns and three rows, with an obstacle in the middle.
+const HALL: &str = "\
+discretization(cells): 4 3
+obsthresh: 200
+start(cells): 0 0
+end(cells): 3 2
+environment:
+0 0 0 0
+0 250 1 0
+0 0 0 199
+";
+
 /// The grid of a text.
-pub(crate) fn grid_of(alloc: Global, text: &str) -> Result<Nav, EnvFault> {
+fn grid_of(alloc: Global, text: &str) -> Result<Nav, EnvFault> {
     let (env, grid) = read_nav(alloc, text.as_bytes())?;
     let map = Map::plain(env.width, env.height, grid);
     Ok(Nav::new(&env, map))
@@ -25,27 +37,34 @@ fn arc(nav: &Nav, s: u32, k: u32) -> Option<(Option<u32>, Option<u32>)> {
 }
 
 /// Arcs by their sources and numbers, with their heads and their costs.
-static ARCS: [(u32, u32, Option<u32>, Option<u32>); 14] = [
-    (0, 0, Some(1), Some(1000)),
-    (0, 1, Some(5), None),
-    (0, 2, Some(4), Some(1000)),
-    (0, 3, None, None),
-    (0, 4, None, None),
-    (0, 6, None, None),
-    (1, 1, Some(6), None),
-    (2, 2, Some(6), Some(2000)),
-    (2, 1, Some(7), Some(2828)),
-    (3, 0, None, None),
-    (3, 4, Some(2), Some(1000)),
-    (7, 2, Some(11), Some(200000)),
-    (11, 5, Some(6), Some(282800)),
-    (11, 7, None, None),
-];
+const ARCS: &str = "\
+0 0 Some(1) Some(1000)
+0 1 Some(5) None
+0 2 Some(4) Some(1000)
+0 3 None None
+0 4 None None
+0 6 None None
+1 1 Some(6) None
+2 2 Some(6) Some(2000)
+2 1 Some(7) Some(2828)
+3 0 None None
+3 4 Some(2) Some(1000)
+7 2 Some(11) Some(200000)
+11 5 Some(6) Some(282800)
+11 7 None None";
+
+/// Whether an arc is as a row has it.
+fn is_arc(alloc: Global, nav: &Nav, row: &str) -> Option<bool> {
+    let (s, rest) = row.split_once(' ')?;
+    let (k, want) = rest.split_once(' ')?;
+    let (head, cost) = arc(nav, s.parse::<u32>().ok()?, k.parse::<u32>().ok()?)?;
+    Some(reads(format!(in alloc; "{head:?} {cost:?}"), want))
+}
 
 /// Whether the grid has all these arcs.
-fn are_arcs(nav: &Nav) -> bool {
-    for (s, k, head, cost) in &ARCS {
-        if arc(nav, *s, *k) != Some((*head, *cost)) {
+fn are_arcs(alloc: Global, nav: &Nav) -> bool {
+    for row in ARCS.lines() {
+        if is_arc(alloc, nav, row) != Some(true) {
             return false;
         }
     }
@@ -71,7 +90,7 @@ fn gap(nav: &Nav, a: u32, b: u32) -> Option<u64> {
 }
 
 /// Tails 1 of state 5, 0 of state 0, 7 of state 4 and 7 of state 1.
-static TAILS: [Option<Option<(u32, u32)>>; 4] = [
+const TAILS: [Option<Option<(u32, u32)>>; 4] = [
     Some(Some((0, 1))),
     Some(None),
     Some(None),
@@ -108,7 +127,7 @@ fn are_heads(nav: &Nav, heads: &mut Vec<u32>) -> bool {
 }
 
 /// Arcs of states 0 and 1 that are opened.
-static OPENED: [Option<(Option<u32>, Option<u32>)>; 2] = [
+const OPENED: [Option<(Option<u32>, Option<u32>)>; 2] = [
     Some((Some(5), Some(5656))),
     Some((Some(6), Some(5656))),
 ];
@@ -122,9 +141,9 @@ fn is_opened(nav: &mut Nav) -> bool {
 }
 
 /// What is shown of the grid.
-fn shown(nav: &mut Nav, heads: &mut Vec<u32>) -> [bool; 4] {
+fn shown(alloc: Global, nav: &mut Nav, heads: &mut Vec<u32>) -> [bool; 4] {
     [
-        are_arcs(nav),
+        are_arcs(alloc, nav),
         are_tails_and_gaps(nav),
         are_heads(nav, heads),
         is_opened(nav),
@@ -136,9 +155,9 @@ fn shown(nav: &mut Nav, heads: &mut Vec<u32>) -> [bool; 4] {
 fn a_grid_is_as_its_text_says(rt: HostRuntime) -> Result<(), Fail> {
     let mut nav = grid_of(rt.alloc(), HALL)?;
     let mut heads = Vec::new(rt.alloc());
-    let shown = shown(&mut nav, &mut heads);
+    let shown = shown(rt.alloc(), &mut nav, &mut heads);
     drop(heads);
     drop(nav);
-    assert_eq!(rt; shown, [true; 4]);
+    assert!(rt; shown == [true; 4]);
     Ok(())
 }

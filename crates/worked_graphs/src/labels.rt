@@ -16,7 +16,7 @@ fn seen(labels: &Labels) -> (u64, u64, Option<(u32, u32)>)
 }
 
 /// These where two ways to the state cost the same, where none is left, and where the state is raised then.
-static SEEN: [(u64, u64, Option<(u32, u32)>); 3] = [
+const SEEN: [(u64, u64, Option<(u32, u32)>); 3] = [
     (5, 4, Some((0, 0))),
     (FAR, 4, None),
     (FAR, FAR, None),
@@ -47,7 +47,7 @@ fn are_as_wanted(labels: &mut Labels) -> bool
 }
 
 /// Costs, lower bounds, and the bounds in thousandths that they give.
-static BOUNDS: [(u64, u64, Option<u128>); 6] = [
+const BOUNDS: [(u64, u64, Option<u128>); 6] = [
     (0, 0, Some(1000)),
     (1, 0, None),
     (5, 5, Some(1000)),
@@ -56,15 +56,18 @@ static BOUNDS: [(u64, u64, Option<u128>); 6] = [
     (3, 1, Some(3000)),
 ];
 
-#[test]
-fn bounds_of_costs(rt: HostRuntime) {
-    for (cost, low, want) in &BOUNDS {
-        assert!(rt; bound_of(*cost, *low) == *want, "at {cost} over {low}");
+/// Whether these are the bounds.
+fn are_bounds() -> bool {
+    for (cost, low, want) in BOUNDS {
+        if bound_of(cost, low) != want {
+            return false;
+        }
     }
+    true
 }
 
-#[test]
-fn counts_of_expansions(rt: HostRuntime) {
+/// Whether a budget counts expansions, and what the guide says that knows nothing.
+fn is_counted() -> bool {
     bound_holds();
     none_holds();
     let mut budget = Budget::new(1);
@@ -73,7 +76,7 @@ fn counts_of_expansions(rt: HostRuntime) {
     let spent = (budget.used(), budget.spent());
     budget.next_plan();
     let counts = (unspent, spent, budget.used(), Zero.to_goal(8_388_607));
-    assert!(rt; counts == ((0, false), (1, true), 0, 0));
+    counts == ((0, false), (1, true), 0, 0)
 }
 
 #[test]
@@ -81,6 +84,6 @@ fn labels_change(rt: HostRuntime) -> Result<(), Fail> {
     let mut labels = Labels::open(rt.alloc(), 3, 0)?;
     let are = are_as_wanted(&mut labels);
     drop(labels);
-    assert!(rt; are);
+    assert!(rt; are && are_bounds() && is_counted());
     Ok(())
 }

@@ -12,17 +12,7 @@ mod board_across;
 #[cfg(test)]
 mod board_alone;
 #[cfg(test)]
-mod board_locked;
-#[cfg(test)]
-mod board_told;
-#[cfg(test)]
 mod cert;
-#[cfg(test)]
-mod epase;
-#[cfg(test)]
-mod grid_plans;
-#[cfg(test)]
-mod grid_texts;
 #[cfg(test)]
 mod grids;
 #[cfg(test)]

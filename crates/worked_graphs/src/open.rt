@@ -7,7 +7,7 @@ use sbpl_open::{Key, Open};
 use std::test::Fail;
 
 /// What is taken: of equal keys that of the lower state first, and nothing in the end.
-static TAKEN: [Option<(u32, Key)>; 4] = [
+const TAKEN: [Option<(u32, Key)>; 4] = [
     Some((0, Key(5, 2))),
     Some((3, Key(5, 2))),
     Some((1, Key(6, 0))),
