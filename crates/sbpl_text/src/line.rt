@@ -26,7 +26,7 @@ impl Word for Piece<'_> {
     }
 }
 
-/// A byte is a number in digits.
+/// A whole number in digits.
 impl Word for u8 {
     ghost text = { λ n. decimal n };
 
@@ -35,7 +35,7 @@ impl Word for u8 {
     }
 }
 
-/// And so is a greater number.
+/// A whole number in digits.
 impl Word for u32 {
     ghost text = { λ n. decimal n };
 
