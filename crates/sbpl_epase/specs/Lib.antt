@@ -1,3 +1,4 @@
 pub mod Planner
 pub mod Parts
 pub mod Making
+pub mod Workers

@@ -1,20 +1,25 @@
 //! The workers of a pass.
 
-ghost use Rattle.std.specs.Prelude.{◌≡◌, ◌≤◌, [], All, IfErr, IfOk, length, sum_by, vec_capacity, vec_len};
+ghost use Rattle.std.specs.Prelude.{◌≡◌, ◌≤◌, [], All, IfOk, OnErr, OnOk, length, vec_capacity, vec_len};
+ghost use Rattle.sbpl_epase.specs.Workers.{HasEnded};
 
 use crate::Gate;
 use crate::worker::{Done, Floor, work};
+use sbpl_fixed::NoMemory;
 use sbpl_frontier::{Lined, Seat, Second, Shared};
 use sbpl_frontier_core::{Pass, Past};
 use sbpl_graph::{Graph, Guide};
 use std::alloc::Global;
 use std::sync::Wait;
 use std::thread;
-use std::thread::Threads;
+use std::thread::{JoinHandle, Scope, Threads};
 
-/// Has a worker in each seat work, in a thread of its own, until all have ended. Where a thread cannot be started, the caller does
-/// that worker's work itself. The seats come back, and whether memory ran out for a worker. The one error is that memory ran out
-/// before the first worker was started.
+/// A worker in a thread of its own, or what one left for which no thread could be started.
+type Started<N, M, L> = Result<JoinHandle<Done<N, M, L>>, Done<N, M, L>>;
+
+/// Has a worker in each seat work, in a thread of its own, until all have ended, and gives the seats back. Where a thread cannot be
+/// started, the caller does that worker's work itself. The error is that memory ran out for a worker, or before the first one was
+/// started.
 pub(crate) fn run_workers<
     'g,
     R: Threads + Wait + Sync,
@@ -32,17 +37,13 @@ pub(crate) fn run_workers<
     seats: Vec<Seat<N, M, L>>,
     graph: &G,
     gate: &T,
-) -> Result<(Vec<Seat<N, M, L>>, bool), Vec<Seat<N, M, L>>>
+) -> (Vec<Seat<N, M, L>>, Result<(), NoMemory>)
     requires graph { G.network graph.now ≡ N.query.network }
     requires even { All (λ s. length s.posts ≡ s.takes) seats.items }
-    ensures all { IfOk result (λ r. vec_len r.0 ≡ vec_len seats) }
-    ensures even { IfOk result (λ r. sum_by (λ s. length s.posts) r.0.items ≡ sum_by (λ s. s.takes) r.0.items) }
-    ensures back { IfErr result (λ back. back ≡ seats) }
+    ensures all { vec_len result.0 ≡ vec_len seats }
+    ensures even { All (λ s. length s.posts ≡ s.takes) result.0.items }
+    ensures ended { OnOk result.1 (All (HasEnded N.query N.opening N.counts) result.0.items) }
 {
-    let mut places = Vec::new(alloc);
-    if places.reserve(seats.len()).is_err() {
-        return Err(seats);
-    }
     let floor = Floor {
         rt,
         shared,
@@ -54,38 +55,145 @@ pub(crate) fn run_workers<
     thread::scope(
         thread::scope_env(),
         rt,
-        move |scope| -> Result<(Vec<Seat<N, M, L>>, bool), Vec<Seat<N, M, L>>>
-            requires { (G.network floor.now.graph.now ≡ N.query.network) × All (λ s. length s.posts ≡ s.takes) seats.items × (places.items ≡ []) × (vec_len seats ≤ vec_capacity places) }
-            ensures { IfOk result (λ r. (vec_len r.0 ≡ vec_len seats) × (sum_by (λ s. length s.posts) r.0.items ≡ sum_by (λ s. s.takes) r.0.items)) × IfErr result (λ back. back ≡ seats) }
+        move |scope| -> (Vec<Seat<N, M, L>>, Result<(), NoMemory>)
+            requires { (G.network floor.now.graph.now ≡ N.query.network) × All (λ s. length s.posts ≡ s.takes) seats.items }
+            ensures { (vec_len result.0 ≡ vec_len seats) × All (λ s. length s.posts ≡ s.takes) result.0.items × OnOk result.1 (All (HasEnded N.query N.opening N.counts) result.0.items) }
         {
-            let mut handles = Vec::new(alloc);
-            if handles.reserve(seats.len()).is_err() {
-                return Err(seats);
-            }
-            let mut rest = seats;
-            let mut places = places;
-            let mut refused = false;
-            'starts: while let Some(seat) = rest.pop() {
-                let job = move || -> Done<N, M, L>
-                    requires { (G.network floor.now.graph.now ≡ N.query.network) × (length seat.posts ≡ seat.takes) }
-                { work(floor, seat) };
-                match scope.spawn(job) {
-                    Ok(handle) => handles.push_reserved(handle),
-                    Err(job) => {
-                        let done = (job.value)();
-                        refused |= done.refused;
-                        places.push_reserved(done.seat);
-                    }
-                }
-            }
-            'joins: while let Some(handle) = handles.pop() {
-                let done = handle.join(rt);
-                refused |= done.refused;
-                places.push_reserved(done.seat);
-            }
-            Ok((places, refused))
+            let mut seats = seats;
+            let outcome = work_all(scope, alloc, floor, &mut seats);
+            (seats, outcome)
         },
     )
+}
+
+/// Has a worker in each seat work until all have ended. The error is that memory ran out for a worker, or before the first one was
+/// started.
+fn work_all<
+    's,
+    'f,
+    'g,
+    E,
+    R: Threads + Wait + Sync + 's,
+    T: Gate + Sync + 's,
+    G: Graph + Sync + 's,
+    H: Guide + Sync + 's,
+    N: Pass + Send + Sync + 's,
+    U: Past + Send + 's,
+    M: Second + Send + Sync + 's,
+    L: Lined + Send + Sync + 's,
+>(
+    scope: &Scope<'s, E>,
+    alloc: Global,
+    floor: &'s Floor<'f, Shared<'g, G, H, N, U, M, L>, R, G, T>,
+    seats: &mut Vec<Seat<N, M, L>>,
+) -> Result<(), NoMemory>
+    requires graph { G.network floor.now.graph.now ≡ N.query.network }
+    requires even { All (λ s. length s.posts ≡ s.takes) seats.old.items }
+    ensures all { vec_len seats.new ≡ vec_len seats.old }
+    ensures even { All (λ s. length s.posts ≡ s.takes) seats.new.items }
+    ensures ended { OnOk result (All (HasEnded N.query N.opening N.counts) seats.new.items) }
+{
+    let started = start_all(scope, alloc, floor, seats)?;
+    join_all(floor.rt, started, seats)
+}
+
+/// Starts a worker in each seat. The one error is that memory ran out before the first one was started.
+fn start_all<
+    's,
+    'f,
+    'g,
+    E,
+    R: Threads + Wait + Sync + 's,
+    T: Gate + Sync + 's,
+    G: Graph + Sync + 's,
+    H: Guide + Sync + 's,
+    N: Pass + Send + Sync + 's,
+    U: Past + Send + 's,
+    M: Second + Send + Sync + 's,
+    L: Lined + Send + Sync + 's,
+>(
+    scope: &Scope<'s, E>,
+    alloc: Global,
+    floor: &'s Floor<'f, Shared<'g, G, H, N, U, M, L>, R, G, T>,
+    seats: &mut Vec<Seat<N, M, L>>,
+) -> Result<Vec<Started<N, M, L>>, NoMemory>
+    requires graph { G.network floor.now.graph.now ≡ N.query.network }
+    requires even { All (λ s. length s.posts ≡ s.takes) seats.old.items }
+    ensures all { IfOk result (λ started. vec_len started ≡ vec_len seats.old) }
+    ensures none_left { OnOk result (seats.new.items ≡ []) }
+    ensures room { OnOk result (vec_len seats.old ≤ vec_capacity seats.new) }
+    ensures same { OnErr result (seats.new ≡ seats.old) }
+{
+    let mut started = Vec::new(alloc);
+    started.reserve(seats.len())?;
+    'starts: while let Some(seat) = seats.pop() {
+        started.push_reserved(start(scope, floor, seat));
+    }
+    Ok(started)
+}
+
+/// Starts a worker. Where no thread can be started, the caller does its work.
+fn start<
+    's,
+    'f,
+    'g,
+    E,
+    R: Threads + Wait + Sync + 's,
+    T: Gate + Sync + 's,
+    G: Graph + Sync + 's,
+    H: Guide + Sync + 's,
+    N: Pass + Send + Sync + 's,
+    U: Past + Send + 's,
+    M: Second + Send + Sync + 's,
+    L: Lined + Send + Sync + 's,
+>(
+    scope: &Scope<'s, E>,
+    floor: &'s Floor<'f, Shared<'g, G, H, N, U, M, L>, R, G, T>,
+    seat: Seat<N, M, L>,
+) -> Started<N, M, L>
+    requires graph { G.network floor.now.graph.now ≡ N.query.network }
+    requires even { length seat.posts ≡ seat.takes }
+{
+    let job = move || -> Done<N, M, L>
+        requires { (G.network floor.now.graph.now ≡ N.query.network) × (length seat.posts ≡ seat.takes) }
+    { work(floor, seat) };
+    match scope.spawn(job) {
+        Ok(handle) => Ok(handle),
+        Err(job) => Err((job.value)()),
+    }
+}
+
+/// Waits until all workers have ended, and gives their seats back. The error is that memory ran out for one of them.
+fn join_all<R: Threads, N: Pass, M: Second, L: Lined>(
+    rt: &R,
+    started: Vec<Started<N, M, L>>,
+    seats: &mut Vec<Seat<N, M, L>>,
+) -> Result<(), NoMemory>
+    requires none { seats.old.items ≡ [] }
+    requires room { vec_len started ≤ vec_capacity seats.old }
+    ensures all { vec_len seats.new ≡ vec_len started }
+    ensures even { All (λ s. length s.posts ≡ s.takes) seats.new.items }
+    ensures ended { OnOk result (All (HasEnded N.query N.opening N.counts) seats.new.items) }
+{
+    let mut rest = started;
+    let mut refused = false;
+    'joins: while let Some(worker) = rest.pop() {
+        let done = join(rt, worker);
+        refused |= done.why.is_err();
+        seats.push_reserved(done.seat);
+    }
+    if refused { Err(NoMemory) } else { Ok(()) }
+}
+
+/// Waits until a worker has ended.
+fn join<R: Threads, N: Pass, M: Second, L: Lined>(
+    rt: &R,
+    worker: Started<N, M, L>,
+) -> Done<N, M, L> {
+    match worker {
+        Ok(handle) => handle.join(rt),
+        Err(done) => done,
+    }
 }
 
 /// How many processors there are, or four where the system does not tell.

@@ -7,6 +7,7 @@ ghost use Rattle.sbpl_frontier_core.specs.Book.{IsReplay};
 ghost use Rattle.sbpl_frontier_core.specs.Passes.{EndsSo};
 ghost use Rattle.sbpl_frontier_core.specs.Seats.{AreTakenIn};
 ghost use Rattle.sbpl_epase.specs.Making.{CanPass, Leaves};
+ghost use Rattle.sbpl_epase.specs.Workers.{IsWorkOf};
 
 use crate::crew::run_workers;
 use crate::{Gate, Passed};
@@ -125,6 +126,7 @@ fn share_as<
     requires takes { (takes.name ≡ M.takes) × (takes.parts ≡ M.parts) }
     requires claims { claims ≡ M.table }
     ensures out { IfOk result (λ core. core.frontier.out ≡ []) }
+    ensures work { IfOk result (λ core. IsWorkOf N.query N.opening N.counts workers core.journal) }
 {
     let line = match Line::<N, M>::new(alloc, workers) {
         Ok(line) => line,
@@ -167,16 +169,16 @@ fn line_as<
     requires line { line ≡ L.line }
     requires room { line.slots ≡ workers }
     ensures out { IfOk result (λ core. core.frontier.out ≡ []) }
+    ensures work { IfOk result (λ core. IsWorkOf N.query N.opening N.counts workers core.journal) }
 {
     let (shared, seats) = Shared::<'g, G, H, N, U, M, L>::new(
         alloc, core, workers, takes, line, claims,
     )?;
-    match run_workers(rt, alloc, &shared, seats, graph, gate) {
-        Ok((seats, refused)) => {
-            let core = shared.finish(rt, seats);
-            if refused { Err(core) } else { Ok(core) }
-        }
-        Err(seats) => Err(shared.finish(rt, seats)),
+    let (seats, outcome) = run_workers(rt, alloc, &shared, seats, graph, gate);
+    let core = shared.finish(rt, seats);
+    match outcome {
+        Ok(()) => Ok(core),
+        Err(NoMemory) => Err(core),
     }
 }
 

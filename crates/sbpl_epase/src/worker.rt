@@ -1,30 +1,34 @@
 //! What a worker does.
 
-ghost use Rattle.std.specs.Prelude.{◌≡◌, ◌⊎◌, IfOk, length};
-ghost use Rattle.sbpl_frontier_rules.specs.Events.{IsOutOfBudget, IsRest};
+ghost use Rattle.std.specs.Prelude.{◌≡◌, IfOk, length};
+ghost use Rattle.std.proofs.Props.{props};
 ghost use Rattle.sbpl_frontier.specs.Tally.{posted};
-ghost use Rattle.sbpl_frontier.specs.Turns.{LeadsTo};
+ghost use Rattle.sbpl_epase.specs.Workers.{SawEnd};
 
 use crate::Gate;
 use sbpl_fixed::NoMemory;
-use sbpl_frontier::{Claim, Lined, Seat, Second, Seen, Shared, Ticket, Turn};
+use sbpl_frontier::{Claim, Lined, Seat, Second, Shared, Ticket, Turn};
 use sbpl_frontier_core::{Pass, Past, judge};
 use sbpl_graph::{Graph, Guide};
+use sbpl_labels::PassEnd;
 use std::sync::Wait;
 
-/// The seat of a worker that has ended, which posted the judgement of each arc that it took, and whether memory ran out for it.
+/// The seat of a worker that has ended, which posted the judgement of each arc that it took, and why it ended: because it saw how the
+/// pass ends, or because memory ran out for it.
 #[derive(Drop)]
 pub(crate) struct Done<N: Pass, M: Second, L: Lined> {
     pub(crate) seat: Seat<N, M, L>,
-    pub(crate) refused: bool,
+    pub(crate) why: Result<PassEnd, NoMemory>,
     pub ghost even: { length seat.posts ≡ seat.takes },
+    pub ghost saw: { IfOk why (λ end. ∥ SawEnd N.query N.opening N.counts end seat ∥₁) } by { Prim.hlevel props },
 }
 
 impl<N: Pass, M: Second, L: Lined> Done<N, M, L> {
-    fn new(seat: Seat<N, M, L>, refused: bool) -> Done<N, M, L>
+    fn new(seat: Seat<N, M, L>, why: Result<PassEnd, NoMemory>) -> Done<N, M, L>
         requires even { length seat.posts ≡ seat.takes }
+        requires saw { IfOk why (λ end. ∥ SawEnd N.query N.opening N.counts end seat ∥₁) }
     {
-        Done { seat, refused }
+        Done { seat, why }
     }
 }
 
@@ -38,7 +42,7 @@ pub(crate) struct Floor<'s, S, R, G, T> {
     pub(crate) most: u64,
 }
 
-/// A worker's work: it takes arcs until there is nothing more to do.
+/// A worker's work: it takes arcs until it sees how the pass ends, or memory runs out.
 pub(crate) fn work<
     's,
     'g,
@@ -53,24 +57,25 @@ pub(crate) fn work<
 >(floor: &Floor<'s, Shared<'g, G, H, N, U, M, L>, R, G, T>, seat: Seat<N, M, L>) -> Done<N, M, L>
     requires graph { G.network floor.now.graph.now ≡ N.query.network }
     requires even { length seat.posts ≡ seat.takes }
+    ensures saw { IfOk result.why (λ end. ∥ SawEnd N.query N.opening N.counts end result.seat ∥₁) }
 {
     let mut seat = seat;
-    let refused = take_turns(floor, &mut seat).is_err();
+    let why = take_turns(floor, &mut seat);
     floor.shared.wake_all();
-    Done::new(seat, refused)
+    Done::new(seat, why)
 }
 
-/// Takes arcs, judges them with no lock held and posts the judgements, until the pass is at rest or its budget is spent, which the
-/// journal seen then shows. The one error is that memory ran out. A worker that finds nothing to do waits until a judgement comes
+/// Takes arcs, judges them with no lock held and posts the judgements, until the pass is at rest or its budget is spent, as the
+/// journal then shows. The one error is that memory ran out. A worker that finds nothing to do waits until a judgement comes
 /// back; one that gets an arc wakes another, for which there may be one too.
 fn take_turns<'s, 'g, R: Wait, T: Gate, G: Graph, H: Guide, N: Pass, U: Past, M: Second, L: Lined>(
     floor: &Floor<'s, Shared<'g, G, H, N, U, M, L>, R, G, T>,
     seat: &mut Seat<N, M, L>,
-) -> Result<Seen<N, U>, NoMemory>
+) -> Result<PassEnd, NoMemory>
     requires graph { G.network floor.now.graph.now ≡ N.query.network }
     requires even { length seat.old.posts ≡ seat.old.takes }
     ensures even { length seat.new.posts ≡ seat.new.takes }
-    ensures ends { IfOk result (λ seen. LeadsTo N.query N.opening N.counts seen (IsRest N.query) ⊎ LeadsTo N.query N.opening N.counts seen (IsOutOfBudget N.query)) }
+    ensures saw { IfOk result (λ end. ∥ SawEnd N.query N.opening N.counts end seat.new ∥₁) }
 {
     let Floor {
         rt,
@@ -87,8 +92,8 @@ fn take_turns<'s, 'g, R: Wait, T: Gate, G: Graph, H: Guide, N: Pass, U: Past, M:
                 serve(rt, shared, seat, ticket, claim, graph, gate);
             }
             Turn::NotYet(_seen) => shared.wait(rt, moment, most),
-            Turn::Over(seen) => return Ok(seen),
-            Turn::Spent(seen) => return Ok(seen),
+            Turn::Over(_seen) => return Ok(PassEnd::Rest),
+            Turn::Spent(_seen) => return Ok(PassEnd::Spent),
         }
     }
     unreachable!()

@@ -1,0 +1,31 @@
+-- What workers leave.
+use Rattle.std.specs.Prelude.{◌≡◌, ℕ, List, [], ◌∷◌, length}
+use Rattle.std.specs.List.{All}
+use Rattle.sbpl_labels.specs.Counts.{Counts}
+use Rattle.sbpl_labels.specs.Marks.{Marks}
+use Rattle.sbpl_labels.specs.declared.pass_end.PassEnd.{PassEnd}
+use Rattle.sbpl_search.specs.Query.{Query}
+use Rattle.sbpl_frontier_rules.specs.declared.event.Event.{Event}
+use Rattle.sbpl_frontier_core.specs.Passes.{EndsSo}
+use Rattle.sbpl_frontier.specs.Come.{HaveCome}
+use Rattle.sbpl_frontier.specs.Tally.{Tally}
+use Rattle.sbpl_frontier.specs.Turns.{LeadsTo}
+
+-- The worker in this seat saw how the pass ends: by a journal that leads from the beginning of the pass to such an end, and that has
+-- all judgements that it posted, in its order, whole and once.
+pub record SawEnd (q : Query) (opening : Marks) (counts : Counts) (end : PassEnd) (seat : Tally) : Type 0 where
+  pub seen : List Event
+  pub leads : LeadsTo q opening counts seen (EndsSo q end)
+  pub own : HaveCome seen (seat ∷ [])
+
+-- the worker in this seat has ended, since it saw how the pass ends
+abbrev pub HasEnded : Query → Marks → Counts → Tally → Type 0
+HasEnded q opening counts seat = ∥ ((end : PassEnd) × SawEnd q opening counts end seat) ∥₁
+
+-- Workers in this many seats have ended, each because it saw how the pass ends. The judgements in the journal are, of each of them,
+-- those that it posted.
+pub record IsWorkOf (q : Query) (opening : Marks) (counts : Counts) (workers : ℕ) (journal : List Event) : Type 0 where
+  pub seats : List Tally
+  pub count : length seats ≡ workers
+  pub ended : All (HasEnded q opening counts) seats
+  pub come : HaveCome journal seats
