@@ -6,6 +6,7 @@ use Rattle.sbpl_labels.specs.Marks.{Marks}
 use Rattle.sbpl_labels.specs.declared.pass_end.PassEnd.{PassEnd}
 use Rattle.sbpl_search.specs.Query.{Query}
 use Rattle.sbpl_frontier_rules.specs.declared.event.Event.{Event}
+use Rattle.sbpl_frontier_core.specs.Longer.{IsLonger}
 use Rattle.sbpl_frontier_core.specs.Passes.{EndsSo}
 use Rattle.sbpl_frontier.specs.Come.{HaveCome}
 use Rattle.sbpl_frontier.specs.Tally.{Tally}
@@ -29,3 +30,9 @@ pub record IsWorkOf (q : Query) (opening : Marks) (counts : Counts) (workers : �
   pub count : length seats ≡ workers
   pub ended : All (HasEnded q opening counts) seats
   pub come : HaveCome journal seats
+
+-- the journal begins with the work of this many workers
+pub record BeginsWithWork (q : Query) (opening : Marks) (counts : Counts) (workers : ℕ) (journal : List Event) : Type 0 where
+  pub first : List Event
+  pub work : IsWorkOf q opening counts workers first
+  pub rest : IsLonger first journal

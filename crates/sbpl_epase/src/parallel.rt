@@ -5,9 +5,9 @@ ghost use Rattle.sbpl_search.specs.Query.{query};
 ghost use Rattle.sbpl_frontier_rules.specs.Events.{IsOutOfBudget, IsRest};
 ghost use Rattle.sbpl_frontier_core.specs.Book.{IsReplay};
 ghost use Rattle.sbpl_frontier_core.specs.Passes.{EndsSo};
-ghost use Rattle.sbpl_frontier_core.specs.Seats.{AreTakenIn};
+ghost use Rattle.sbpl_frontier_core.specs.Seats.{AreTakenBelow};
 ghost use Rattle.sbpl_epase.specs.Making.{CanPass, Leaves};
-ghost use Rattle.sbpl_epase.specs.Workers.{IsWorkOf};
+ghost use Rattle.sbpl_epase.specs.Workers.{BeginsWithWork, IsWorkOf};
 
 use crate::crew::run_workers;
 use crate::{Gate, Passed};
@@ -46,8 +46,10 @@ pub fn parallel_pass<
     requires graph { G.network graph.now ≡ N.query.network }
     ensures ends { IfOk result (λ core. IsRest N.query core.frontier ⊎ IsOutOfBudget N.query core.frontier) }
     ensures replay { IfOk result (λ core. IsReplay N.query N.opening N.counts core.journal core.frontier) }
-    // One worker sits in seat 0.
-    ensures alone { workers ≡ 1 → IfOk result (λ core. AreTakenIn 0 core.journal) }
+    // The workers sit in the seats from 0 upwards.
+    ensures seats { IfOk result (λ core. AreTakenBelow workers core.journal) }
+    // Where there are several, each of them works until it sees how the pass ends.
+    ensures worked { 2 ≤ workers → IfOk result (λ core. BeginsWithWork N.query N.opening N.counts workers core.journal) }
 {
     match pass_of(rt, alloc, core, graph, workers, gate) {
         Ok((core, _end)) => {
@@ -80,7 +82,8 @@ fn pass_of<
     requires empty { core.journal ≡ [] }
     requires graph { G.network graph.now ≡ N.query.network }
     ensures ends { IfOk result (λ r. EndsSo N.query r.1 r.0.frontier) }
-    ensures alone { workers ≡ 1 → IfOk result (λ r. AreTakenIn 0 r.0.journal) }
+    ensures seats { IfOk result (λ r. AreTakenBelow workers r.0.journal) }
+    ensures worked { 2 ≤ workers → IfOk result (λ r. BeginsWithWork N.query N.opening N.counts workers r.0.journal) }
 {
     if workers == 1 {
         let _out = core.out();
@@ -127,6 +130,7 @@ fn share_as<
     requires claims { claims ≡ M.table }
     ensures out { IfOk result (λ core. core.frontier.out ≡ []) }
     ensures work { IfOk result (λ core. IsWorkOf N.query N.opening N.counts workers core.journal) }
+    ensures seats { IfOk result (λ core. AreTakenBelow workers core.journal) }
 {
     let line = match Line::<N, M>::new(alloc, workers) {
         Ok(line) => line,
@@ -170,6 +174,7 @@ fn line_as<
     requires room { line.slots ≡ workers }
     ensures out { IfOk result (λ core. core.frontier.out ≡ []) }
     ensures work { IfOk result (λ core. IsWorkOf N.query N.opening N.counts workers core.journal) }
+    ensures seats { IfOk result (λ core. AreTakenBelow workers core.journal) }
 {
     let (shared, seats) = Shared::<'g, G, H, N, U, M, L>::new(
         alloc, core, workers, takes, line, claims,
@@ -206,8 +211,10 @@ pub fn parallel_pass_parts<
     requires few { workers ≤ 64 }
     requires can { CanPass (query (G.network graph.now) (H.distance guide.now) eps goal) (H.guides guide.now (G.network graph.now) goal) parts }
     ensures left { Leaves (query (G.network graph.now) (H.distance guide.now) eps goal) parts keeps result }
-    // One worker sits in seat 0.
-    ensures alone { workers ≡ 1 → IfOk result (λ r. AreTakenIn 0 r.journal.events) }
+    // The workers sit in the seats from 0 upwards.
+    ensures seats { IfOk result (λ passed. AreTakenBelow workers passed.journal.events) }
+    // Where there are several, each of them works until it sees how the pass ends.
+    ensures worked { 2 ≤ workers → IfOk result (λ passed. BeginsWithWork (query (G.network graph.now) (H.distance guide.now) eps goal) parts.labels parts.budget workers passed.journal.events) }
 {
     parts_as::<Brand, R, T, G, H>(
         rt, gate, workers, alloc, graph, guide, parts, goal, eps, keeps,
@@ -241,7 +248,8 @@ fn parts_as<
     requires keeps { keeps ≡ N.keeps }
     requires can { CanPass (query (G.network graph.now) (H.distance guide.now) eps goal) (H.guides guide.now (G.network graph.now) goal) parts }
     ensures left { Leaves N.query parts keeps result }
-    ensures alone { workers ≡ 1 → IfOk result (λ r. AreTakenIn 0 r.journal.events) }
+    ensures seats { IfOk result (λ passed. AreTakenBelow workers passed.journal.events) }
+    ensures worked { 2 ≤ workers → IfOk result (λ passed. BeginsWithWork N.query N.opening N.counts workers passed.journal.events) }
 {
     nothing_begun(graph, guide, &parts.labels, goal, eps, &parts.budget);
     let core = CoreOf::<'_, G, H, N, Unseen>::open_parts(

@@ -3,7 +3,7 @@ use Rattle.std.proofs.Common.{◌≡◌, ℕ, ◌+◌, ◌≤◌, List, [], ◌�
 use Rattle.std.proofs.Common.{subst, ◌∙◌, append-nil}
 use Rattle.std.proofs.lemmas.List.{length-map}
 use Rattle.std.specs.List.{All}
-use Rattle.std.proofs.lemmas.List.Elements.{All-cons, All-head, All-nil, All-tail, All-weaker}
+use Rattle.std.proofs.lemmas.List.Elements.{All-cons, All-nil, All-tail, All-weaker}
 use Rattle.std.proofs.lemmas.List.Sums.{sum_by-cons}
 use Rattle.sbpl_claims.specs.Standing.{Standing}
 use Rattle.sbpl_frontier_core.specs.Book.{Book}
@@ -21,7 +21,8 @@ use Rattle.sbpl_frontier.proofs.Summing.{each_of, posts_of, puts_of, puts_within
 use Rattle.sbpl_frontier.proofs.Tying.{count_came}
 
 -- what came back of a worker that goes on, where all that it put in has come out of the line
-pub own_come : (book : Book) (k : Standing) (taken : ℕ) (line : Drained) (seat : Tally) → AreTied book k taken line
+pub own_come : {count : ℕ} (book : Book) (k : Standing) (taken : ℕ) (line : Drained) (seat : Tally)
+    → AreTied book k taken line count
     → of seat.number line.came ≡ seat.posts → HaveCome book.journal (seat ∷ [])
 own_come book k taken line seat tied come =
     let Brings : Tally → Type 0 = λ (s : Tally). of s.number line.came ≡ s.posts in
@@ -36,8 +37,8 @@ brought_before line sent items brought =
       count = omega (arith, brought.count, sum_by-cons puts_of sent line.ended);
     }
 
-module _ (book : Book) (k : Standing) (taken : ℕ) (line : Drained) (seats : List Tally) (before : List Sent)
-    (tied : AreTied book k taken line) (ended : line.ended ≡ map sent_in seats ++ before)
+module _ {count : ℕ} (book : Book) (k : Standing) (taken : ℕ) (line : Drained) (seats : List Tally) (before : List Sent)
+    (tied : AreTied book k taken line count) (ended : line.ended ≡ map sent_in seats ++ before)
     (brought : AreBrought line []) where
   came : length line.came ≡ posts_in book.journal
   came = sym (length-map line.came event_of) ∙ ap length (sym tied.posts) ∙ count_came book.journal

@@ -38,7 +38,7 @@ impl<'g, G: Graph, H: Guide, N: Pass, U: Past, M: Second, L: Lined> Model
 
     ghost view = { λ a. record { book = a.core; line = a.drain } };
 
-    ghost invariant = { λ a. (0 < M.parts) × AreTied a.core a.keeper a.takes.total a.drain };
+    ghost invariant = { λ a. (0 < M.parts) × AreTied a.core a.keeper a.takes.total a.drain M.parts };
 }
 
 impl<'g, G: Graph, H: Guide, N: Pass, U: Past, M: Second, L: Lined> Locked<'g, G, H, N, U, M, L> {

@@ -23,14 +23,14 @@ pub struct Seat<N: Pass, M: Second, L: Lined> {
 }
 
 impl<N: Pass, M: Second, L: Lined> Model for Seat<N, M, L> {
-    ghost use Rattle.std.specs.Prelude.{◌≡◌};
+    ghost use Rattle.std.specs.Prelude.{◌≡◌, ◌<◌};
     ghost use Rattle.sbpl_frontier.specs.Tally.{Tally};
 
     ghost Value = { Tally };
 
     ghost view = { λ a. record { number = a.number; takes = a.takes.amount; posts = a.sender.posts } };
 
-    ghost invariant = { λ a. (a.takes.parts ≡ 1) × (a.sender.seat ≡ a.number) };
+    ghost invariant = { λ a. (a.takes.parts ≡ 1) × (a.sender.seat ≡ a.number) × (a.number < M.parts) };
 }
 
 impl<N: Pass, M: Second, L: Lined> Seat<N, M, L> {
@@ -51,6 +51,7 @@ pub(crate) fn deal<N: Pass, M: Second, L: Lined>(
     queue: &Queue<N, M, L>,
     drain: &mut Drain<N, M, L>,
 ) -> Result<Vec<Seat<N, M, L>>, NoMemory>
+    requires parts { M.parts ≡ seats }
     requires takes { (takes.parts ≡ seats) × (takes.amount ≡ 0) }
     requires drain { drain.old ≡ nothing_came }
     ensures all { IfOk result (λ places. vec_len places ≡ seats) }

@@ -2,6 +2,7 @@
 
 ghost use Rattle.std.specs.Prelude.{◌≡◌, ◌≤◌, [], All, IfErr, IfOk, OnErr, length, sum_by, vec_len};
 ghost use Rattle.sbpl_frontier_rules.specs.Journal.{posts_in, takes_in};
+ghost use Rattle.sbpl_frontier_core.specs.Seats.{AreTakenBelow};
 ghost use Rattle.sbpl_postings.specs.Posts.{post_of};
 ghost use Rattle.sbpl_frontier.specs.Come.{HaveCome};
 ghost use Rattle.sbpl_frontier.specs.Tally.{fresh_seats, posted};
@@ -133,6 +134,7 @@ impl<'g, G: Graph, H: Guide, N: Pass, U: Past, M: Second, L: Lined> Shared<'g, G
         ensures takes { takes_in result.journal ≡ sum_by (λ s. s.takes) seats.items }
         ensures posts { posts_in result.journal ≡ sum_by (λ s. length s.posts) seats.items }
         ensures come { HaveCome result.journal seats.items }
+        ensures told { AreTakenBelow M.parts result.journal }
     {
         let Shared {
             lock,

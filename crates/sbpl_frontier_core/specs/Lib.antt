@@ -13,3 +13,4 @@ pub mod Given
 pub mod Finished
 pub mod Passes
 pub mod Seats
+pub mod Longer

@@ -1,10 +1,11 @@
 //! What the caller of a pass does alone.
 
-ghost use Rattle.std.specs.Prelude.{◌≡◌, ◌≤◌, [], IfOk};
+ghost use Rattle.std.specs.Prelude.{◌≡◌, ℕ, ◌<◌, ◌≤◌, [], IfOk};
 ghost use Rattle.sbpl_search.specs.Query.{query};
 ghost use Rattle.sbpl_search.specs.Ready.{AreReady};
+ghost use Rattle.sbpl_frontier_core.specs.Longer.{IsLonger};
 ghost use Rattle.sbpl_frontier_core.specs.Passes.{EndsSo, IsPassGivenUp};
-ghost use Rattle.sbpl_frontier_core.specs.Seats.{AreTakenIn};
+ghost use Rattle.sbpl_frontier_core.specs.Seats.{AreTakenBelow};
 
 use crate::{CoreOf, Gate, Next, Pass, Past, judge};
 use sbpl_fixed::NoMemory;
@@ -22,8 +23,9 @@ pub fn go_on<'g, T: Gate, G: Graph, H: Guide, N: Pass, U: Past>(
     requires out { core.frontier.out ≡ [] }
     requires graph { G.network graph.now ≡ N.query.network }
     ensures ends { IfOk result (λ r. EndsSo N.query r.1 r.0.frontier) }
-    // The journal tells no other seat, where it told none before.
-    ensures seat { AreTakenIn 0 core.entry.journal → IfOk result (λ r. AreTakenIn 0 r.0.journal) }
+    ensures longer { IfOk result (λ r. IsLonger core.entry.journal r.0.journal) }
+    // The journal tells only seats below a number, where it told no others before.
+    ensures seats { (seats : ℕ) → 0 < seats → AreTakenBelow seats core.entry.journal → IfOk result (λ r. AreTakenBelow seats r.0.journal) }
 {
     let mut core = core;
     'arcs: loop {

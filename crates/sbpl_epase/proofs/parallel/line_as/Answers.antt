@@ -23,3 +23,6 @@ returns-in-Ok-clause-work g c = record {
   ended = rw c.in-Ok.is at c.run_workers-seats.ensures.ended;
   come = c.finish-core.ensures.come;
 }
+
+pub returns-in-Ok-clause-seats : goal.returns-in-Ok-clause-seats
+returns-in-Ok-clause-seats g c = rw (← c.requires.parts) c.finish-core.ensures.told

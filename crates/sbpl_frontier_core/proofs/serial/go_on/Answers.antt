@@ -1,11 +1,11 @@
-use Rattle.std.proofs.Common.{◌≡◌, ℕ, List, [], ◌∷◌, ◌++◌, length, arith, ap, refl, ◌∙◌}
+use Rattle.std.proofs.Common.{◌≡◌, ℕ, List, [], ◌∷◌, ◌++◌, length, arith, ap, ◌∙◌}
 use Rattle.std.proofs.lemmas.List.Elements.{All-push, Contains-push}
 use Rattle.sbpl_frontier_rules.specs.declared.event.Event.TheVariants.{Posted, Taken}
 use Rattle.sbpl_frontier_rules.specs.declared.leg.Leg.{Leg}
 use Rattle.sbpl_frontier_rules.specs.Frontier.{without}
-use Rattle.sbpl_frontier_core.specs.Seats.{IsTakenIn}
+use Rattle.sbpl_frontier_core.specs.Seats.{IsTakenBelow}
 use Rattle.sbpl_frontier_core.proofs.Answering.{none_without, opens_keep}
-use Rattle.sbpl_frontier_core.proofs.Seating.{opens_taken}
+use Rattle.sbpl_frontier_core.proofs.Seating.{longer_none, longer_then, opens_longer, opens_taken}
 use Rattle.sbpl_frontier_core.proofs.serial.go_on.Goals as goal
 
 pub apply-requires : goal.apply-requires
@@ -46,13 +46,19 @@ arcs-preserved g c =
       c.apply.ensures.posted.out
           ∙ ap (λ (ticket : ℕ). without ticket c.next.new.self.frontier.out) c.judge.ensures.number
           ∙ ap (without leg.ticket) one ∙ none_without leg,
-      λ first.
-          let opened = opens_taken g.N.Pass.query 0 c.arcs.core answers.mid answers.opens (c.arcs.invariant.1 first) in
+      λ seats some first.
+          let opened =
+          opens_taken g.N.Pass.query seats c.arcs.core answers.mid answers.opens
+          (c.arcs.invariant.1 seats some first) in
           let event = Taken t.number 0 t.state t.arc in
-          let taken = All-push (IsTakenIn 0) answers.mid.journal event opened refl in
+          let taken = All-push (IsTakenBelow seats) answers.mid.journal event opened some in
           rw (c.apply.ensures.journal, answers.gives.journal)
-          (All-push (IsTakenIn 0) (answers.mid.journal ++ event ∷ [])
+          (All-push (IsTakenBelow seats) (answers.mid.journal ++ event ∷ [])
           (Posted c.judge.result.number c.judge.result.cost) taken tt),
+      longer_then c.arcs.invariant.2
+          (longer_then (opens_longer g.N.Pass.query c.arcs.core answers.mid answers.opens)
+          (longer_then (record { more = Taken t.number 0 t.state t.arc ∷ []; is = answers.gives.journal })
+          (record { more = Posted c.judge.result.number c.judge.result.cost ∷ []; is = c.apply.ensures.journal }))),
     )
 
 pub unreachable-requires : goal.unreachable-requires
@@ -62,12 +68,29 @@ unreachable-requires g c =
     let waits = answers.not_yet.0 tt in
     omega (arith, waits.some_out, ap length (same.0 ∙ c.arcs.invariant.0))
 
-pub returns-in-Ok-Over-clause-seat : goal.returns-in-Ok-Over-clause-seat
-returns-in-Ok-Over-clause-seat g c first =
+pub returns-in-Ok-Over-clause-seats : goal.returns-in-Ok-Over-clause-seats
+returns-in-Ok-Over-clause-seats g c seats some first =
     let answers = rw c.in-Ok-Over.field-0-is at c.in-Ok-Over.ensures.answers in
-    rw answers.gives (opens_taken g.N.Pass.query 0 c.arcs.core answers.mid answers.opens (c.arcs.invariant.1 first))
+    rw answers.gives
+    (opens_taken g.N.Pass.query seats c.arcs.core answers.mid answers.opens (c.arcs.invariant.1 seats some first))
 
-pub returns-in-Ok-Spent-clause-seat : goal.returns-in-Ok-Spent-clause-seat
-returns-in-Ok-Spent-clause-seat g c first =
+pub returns-in-Ok-Spent-clause-seats : goal.returns-in-Ok-Spent-clause-seats
+returns-in-Ok-Spent-clause-seats g c seats some first =
     let answers = rw c.in-Ok-Spent.field-0-is at c.in-Ok-Spent.ensures.answers in
-    rw answers.gives (opens_taken g.N.Pass.query 0 c.arcs.core answers.mid answers.opens (c.arcs.invariant.1 first))
+    rw answers.gives
+    (opens_taken g.N.Pass.query seats c.arcs.core answers.mid answers.opens (c.arcs.invariant.1 seats some first))
+
+pub arcs-init : goal.arcs-init
+arcs-init g c = (c.requires.out, λ seats some first. first, longer_none c.args.core.journal)
+
+pub returns-in-Ok-Over-clause-longer : goal.returns-in-Ok-Over-clause-longer
+returns-in-Ok-Over-clause-longer g c =
+    let answers = rw c.in-Ok-Over.field-0-is at c.in-Ok-Over.ensures.answers in
+    rw answers.gives
+    (longer_then c.arcs.invariant.2 (opens_longer g.N.Pass.query c.arcs.core answers.mid answers.opens))
+
+pub returns-in-Ok-Spent-clause-longer : goal.returns-in-Ok-Spent-clause-longer
+returns-in-Ok-Spent-clause-longer g c =
+    let answers = rw c.in-Ok-Spent.field-0-is at c.in-Ok-Spent.ensures.answers in
+    rw answers.gives
+    (longer_then c.arcs.invariant.2 (opens_longer g.N.Pass.query c.arcs.core answers.mid answers.opens))

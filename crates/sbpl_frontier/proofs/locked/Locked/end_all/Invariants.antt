@@ -9,6 +9,7 @@ invariant-seats g l = (l.takes.parts + vec_len l.rest ≡ vec_len l.fn.seats)
     × (map sent_in l.rest.items ++ l.self-inside.drain.ended ≡ map sent_in l.fn.seats.items ++ l.fn.self.line.ended)
     × (0 < g.M.Second.parts)
     × AreTied l.self-inside.core l.self-inside.keeper l.self-inside.takes.total l.self-inside.drain
+    g.M.Second.parts
 
 abbrev pub decreases-seats : goal.decreases-seats
 decreases-seats g l = goal.left-seats g l

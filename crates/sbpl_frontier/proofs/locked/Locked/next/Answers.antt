@@ -16,7 +16,7 @@ invariant_of-self-in-Job g c =
     rw (c.make-claim.ensures.claim, c.state.ensures.value, c.arc.ensures.value) at c.make-claim.ensures.out in (
       c.self.invariant.0,
       rw c.add.ensures.total (taken_tied c.self.inside.keeper c.make-claim.new.self
-          answers.gives out c.make-claim.ensures.next mid),
+          answers.gives c.seat.invariant.2 out c.make-claim.ensures.next mid),
     )
 
 pub invariant_of-self-in-NotYet : goal.invariant_of-self-in-NotYet

@@ -38,3 +38,6 @@ returns-clause-come g c =
     let brought = rw (← line) at c.receive_rest.ensures.brought in
     have_come c.locked.inside.core c.locked.inside.keeper c.locked.inside.takes.total c.locked.inside.drain
     c.args.seats.items c.into_inner-locked.result.line.ended c.locked.invariant.1 ended brought
+
+pub returns-clause-told : goal.returns-clause-told
+returns-clause-told g c = c.locked.invariant.1.told
