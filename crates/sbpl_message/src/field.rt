@@ -25,9 +25,21 @@ pub(crate) fn is_named(word: &[u8], name: &str) -> bool {
     word == name.as_bytes()
 }
 
-/// The last word of a text before a place, empty where there is none, and how many tokens stand between it and the place.
-pub(crate) fn word_before(text: &[u8], place: usize) -> (&[u8], usize) {
+/// What stands before a place of a text.
+#[derive(Clone, Copy)]
+pub(crate) struct Before<'t> {
+    /// The last word, empty where there is none.
+    pub(crate) word: &'t [u8],
+    /// The token right after it, empty where none stands before the place.
+    pub(crate) value: &'t [u8],
+    /// How many tokens stand between the word and the place.
+    pub(crate) after: usize,
+}
+
+/// The last word of a text before a place, and what follows it.
+pub(crate) fn word_before(text: &[u8], place: usize) -> Before<'_> {
     let mut word: &[u8] = &[];
+    let mut value: &[u8] = &[];
     let mut after: usize = 0;
     let mut at = 0;
     while let Some(token) = next_token(text, at) {
@@ -37,13 +49,17 @@ pub(crate) fn word_before(text: &[u8], place: usize) -> (&[u8], usize) {
         let bytes = &text[token.from..token.to];
         if is_word(bytes) {
             word = bytes;
+            value = &[];
             after = 0;
         } else {
+            if after == 0 {
+                value = bytes;
+            }
             after = after.saturating_add(1);
         }
         at = token.to;
     }
-    (word, after)
+    Before { word, value, after }
 }
 
 /// What must stand this many tokens after a word of a file with these rows. Where none of its words stands before, its start is wanted.

@@ -53,8 +53,8 @@ fn wanted(text: &[u8], fault: &EnvFault) -> &'static str {
         | EnvFault::Number(place)
         | EnvFault::Range(place)
         | EnvFault::Ended(place) => {
-            let (word, after) = word_before(text, *place);
-            wanted_after(&ROWS, START, word, after)
+            let before = word_before(text, *place);
+            wanted_after(&ROWS, START, before.word, before.after)
         }
         EnvFault::Trailing(_) => "the file must end after the cost of the last cell",
         EnvFault::TooLarge(_) => "width times height must be at most 8388608",

@@ -4,9 +4,9 @@ ghost use Rattle.std.specs.Prelude.{IfOk};
 ghost use Rattle.sbpl_mprim.specs.Faults.{place_of};
 ghost use Rattle.sbpl_message.specs.Messages.{IsMessageAt};
 
-use crate::field::{Row, is_named, wanted_after, word_before};
+use crate::field::{Before, Row, is_named, wanted_after, word_before};
 use crate::message::message_at;
-use sbpl_fixed::NoMemory;
+use sbpl_fixed::{NoMemory, read_whole};
 use sbpl_mprim::PrimFault;
 use std::alloc::Global;
 
@@ -71,17 +71,34 @@ const POSE: [&str; 3] = [
     "theta of a pose must be a decimal from -1000000000 to 1000000000",
 ];
 
-/// The word or the number that must stand this many tokens after a word of the file.
-fn wanted_word(word: &[u8], after: usize) -> &'static str {
-    wanted_after(&ROWS, START, word, after)
+/// The word or the number that must stand after what stands before.
+fn wanted_word(before: &Before) -> &'static str {
+    wanted_after(&ROWS, START, before.word, before.after)
 }
 
-/// The number that must stand this many tokens after a word of the file.
-fn wanted_number(word: &[u8], after: usize) -> &'static str {
-    if after > 0 && is_named(word, POSES_WORD) {
-        POSE[(after - 1) % 3]
+/// The number that must stand after what stands before.
+fn wanted_number(before: &Before) -> &'static str {
+    if before.after > 0 && is_named(before.word, POSES_WORD) {
+        POSE[(before.after - 1) % 3]
     } else {
-        wanted_word(word, after)
+        wanted_word(before)
+    }
+}
+
+/// Whether poses are to come, where a number of poses and some of their numbers stand before: each has three.
+fn are_poses_left(before: &Before) -> bool {
+    match read_whole(before.value) {
+        Ok(count) => before.after as u64 <= count.unsigned_abs().saturating_mul(3),
+        Err(_) => false,
+    }
+}
+
+/// The word or the number that must stand where the file ends after what stands before.
+fn wanted_at_end(before: &Before) -> &'static str {
+    if are_poses_left(before) {
+        wanted_number(before)
+    } else {
+        wanted_word(before)
     }
 }
 
@@ -108,14 +125,11 @@ fn wanted_of_primitive(fault: &PrimFault) -> &'static str {
 /// What must stand at the place of a fault.
 fn wanted(text: &[u8], fault: &PrimFault) -> &'static str {
     match fault {
-        PrimFault::Word(place) | PrimFault::Ended(place) => {
-            let (word, after) = word_before(text, *place);
-            wanted_word(word, after)
-        }
-        PrimFault::Number(place) | PrimFault::Range(place) => {
-            let (word, after) = word_before(text, *place);
-            wanted_number(word, after)
-        }
+        PrimFault::Word(place) => wanted_word(&word_before(text, *place)),
+        PrimFault::Ended(place) => wanted_at_end(&word_before(text, *place)),
+        PrimFault::Number(place) | PrimFault::Range(place) => wanted_number(&word_before(
+            text, *place,
+        )),
         _ => wanted_of_primitive(fault),
     }
 }
