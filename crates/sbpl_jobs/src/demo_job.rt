@@ -20,7 +20,7 @@ use sbpl_graph::Graph;
 use sbpl_incumbent::Publisher;
 use sbpl_job::{DemoJob, LabelForm, Outputs, Planner, SearchJob};
 use sbpl_map::Changes;
-use sbpl_plans::{LiveBoard, plans_by_adstar};
+use sbpl_plans::{LiveBoard, Task, plans_by_adstar};
 use sbpl_promises::Course;
 use sbpl_report::demo_line;
 use sbpl_telling::{Lines, OUTPUT, status_after, write_text};
@@ -94,19 +94,15 @@ fn demonstrate<D: Desk, W: Wait>(
         trace: None,
         incumbent: None,
     };
-    plans_by_adstar(
-        alloc,
-        lattice,
+    let how = demo_search();
+    let task = Task {
+        how: &how,
+        outputs: &outputs,
         course,
-        &demo_search(),
-        &outputs,
         start,
         goal,
-        live,
-        publisher,
-        &Lines,
-        desk,
-    )
+    };
+    plans_by_adstar(alloc, lattice, &task, live, publisher, &Lines, desk)
 }
 
 /// Draws an example, plans on it, writes a line for each plan, and answers the status. Nothing is read from the desk.

@@ -14,7 +14,7 @@ use sbpl_epase::Gate;
 use sbpl_incumbent::Publisher;
 use sbpl_job::{NavCheckJob, NavJob};
 use sbpl_nav2d::{Nav, Octile};
-use sbpl_plans::{LiveBoard, plans_forwards};
+use sbpl_plans::{LiveBoard, Task, plans_forwards};
 use sbpl_promises::Course;
 use sbpl_report::{Input, Stop};
 use sbpl_worlds::{Workspace, read_file, read_grid_course};
@@ -43,15 +43,18 @@ pub(crate) fn end_nav<R: Threads + Wait + Sync, D: Desk, T: Gate + Sync>(
 {
     let (mut nav, course) = read_grid_course(alloc, &job.env, &job.changes, desk)?;
     let (start, goal) = nav.ends();
+    let task = Task {
+        how: &job.search,
+        outputs: &job.outputs,
+        course: &course,
+        start,
+        goal,
+    };
     Ok(plans_forwards(
         gate,
         alloc,
         &mut nav,
-        &course,
-        &job.search,
-        &job.outputs,
-        start,
-        goal,
+        &task,
         live,
         publisher,
         &job.outputs,

@@ -11,7 +11,7 @@ use sbpl_desk::Desk;
 use sbpl_epase::Gate;
 use sbpl_incumbent::Publisher;
 use sbpl_job::PlanJob;
-use sbpl_plans::{LiveBoard, make_plans};
+use sbpl_plans::{LiveBoard, Task, make_plans};
 use sbpl_report::Stop;
 use sbpl_worlds::{Workspace, read_course};
 use std::alloc::Global;
@@ -40,15 +40,18 @@ pub(crate) fn end_plan<R: Threads + Wait + Sync, D: Desk, T: Gate + Sync>(
     let moving = job.search.planner.may_move();
     let (mut lattice, course) = read_course(alloc, &job.sources, &job.changes, moving, desk)?;
     let (start, goal) = lattice.ends();
+    let task = Task {
+        how: &job.search,
+        outputs: &job.outputs,
+        course: &course,
+        start,
+        goal,
+    };
     let status = make_plans(
         gate,
         alloc,
         &mut lattice,
-        &course,
-        &job.search,
-        &job.outputs,
-        start,
-        goal,
+        &task,
         live,
         publisher,
         &job.outputs,

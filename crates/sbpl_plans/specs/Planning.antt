@@ -8,6 +8,7 @@ use Rattle.sbpl_job.specs.declared.job.SearchJob.{SearchJob}
 use Rattle.sbpl_replan.specs.Directions.{Direction}
 use Rattle.sbpl_replan.specs.Replanning.{GoesBetween, Standing}
 use Rattle.sbpl_report.specs.declared.record.PlanRecord.{PlanRecord}
+use Rattle.sbpl_report.specs.declared.record.TraceLine.{TraceLine}
 use Rattle.sbpl_search.specs.Meaning.{Meaning}
 use Rattle.sbpl_promises.specs.Asked.{Known}
 use Rattle.sbpl_promises.specs.Sites.{Site}
@@ -15,6 +16,10 @@ use Rattle.sbpl_plan.specs.declared.found.Found.{Found}
 use Rattle.sbpl_promises.specs.Headline.{Begins, Carried, IsBrokenOff, IsPlanOf, expanded_before}
 use Rattle.sbpl_promises.specs.Published.{Entry, with_paths, with_plan}
 use Rattle.sbpl_promises.specs.Writing.{AreAppended, DeskState, EndsIn, Stays, Write}
+
+-- a planner as the program knows it at a site, by what its passes mean, how a note of theirs is told, and its direction
+abbrev pub known_by : {W Note : Type 0} → Site W → Meaning Note → (Note → TraceLine) → Direction W → Known W
+known_by {Note} on means line d = record { on = on; Note = Note; means = means; line = line; direction = d }
 
 -- the plans go from this start to this goal, with the budget that is asked
 pub record IsSetFor {Note W : Type 0} (d : Direction W) (how : SearchJob) (start goal : ℕ) (s : Standing Note) : Type 0 where

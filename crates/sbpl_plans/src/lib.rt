@@ -6,6 +6,8 @@ mod planners;
 mod plans;
 mod publishing;
 mod recorded;
+mod task;
 
 pub use planners::{make_plans, plans_by_adstar, plans_forwards};
 pub use publishing::LiveBoard;
+pub use task::Task;

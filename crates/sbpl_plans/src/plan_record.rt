@@ -4,7 +4,7 @@ ghost use Rattle.std.specs.Prelude.{map, [], if◌then◌else◌, ◌≡◌, ◌
 ghost use Rattle.sbpl_promises.specs.Headline.{AreSteps, Carried, IsKnownWithin, IsNoneThere, IsPathFrom, IsSearched, IsWithinBound, KeepsPromises, Joins, JoinsStates, IsSameResult, IsToldOf};
 ghost use Rattle.sbpl_promises.specs.Sites.{site_of};
 ghost use Rattle.sbpl_report.specs.Traces.{traced_pass};
-ghost use Rattle.sbpl_plans.specs.Planning.{GoesOnFrom, IsPublishedInPart, IsSetFor, carried_of};
+ghost use Rattle.sbpl_plans.specs.Planning.{GoesOnFrom, IsPublishedInPart, IsSetFor, carried_of, known_by};
 ghost use Rattle.sbpl_promises.specs.Published.{founds, newest, with_paths, with_plan};
 ghost use Rattle.sbpl_plan.specs.Asked.{IsAsk, MOST_PASSES};
 ghost use Rattle.sbpl_plan.specs.Determined.{AreWithin};
@@ -18,6 +18,7 @@ ghost use Rattle.sbpl_plan.specs.declared.result.Outcome.TheVariants as Results;
 
 use crate::publishing::{LiveBoard, Publishes, newest_on};
 use crate::recorded::Recorded;
+use crate::task::Task;
 use sbpl_cert::Section;
 use sbpl_fixed::NoMemory;
 use sbpl_incumbent::{Entry, Publisher};
@@ -212,10 +213,8 @@ pub(crate) fn make_record<W: Workspace, R: Recorded<W>, B: Wait>(
     alloc: Global,
     world: &W,
     replanner: &mut R,
-    how: &SearchJob,
-    outputs: &Outputs,
+    task: &Task,
     start: u32,
-    goal: u32,
     plan: u32,
     live: &LiveBoard<B>,
     publisher: &mut Publisher,
@@ -223,26 +222,26 @@ pub(crate) fn make_record<W: Workspace, R: Recorded<W>, B: Wait>(
 where
     R::Note: Traced,
     requires start { start < (W.network world.now).states }
-    requires goal { goal < (W.network world.now).states }
+    requires goal { task.now.goal < (W.network world.now).states }
     requires board { publisher.old.board ≡ live.now.board.now }
     requires few { length publisher.old.published + MOST_PASSES < 2 ^ 63 }
-    requires search { IsSearchJob how.now }
+    requires search { IsSearchJob task.now.how.now }
     requires ready { R.ready replanner.old world.now }
-    requires set { IsSetFor R.direction how.now start goal (R.standing replanner.old) }
+    requires set { IsSetFor R.direction task.now.how.now start task.now.goal (R.standing replanner.old) }
     ensures number { IfOk result (λ r. r.plan ≡ plan) }
-    ensures promises { IfOk result (KeepsPromises (site_of W.network W.cells W.Best.says W.wording) world.now start goal how.now.bound) }
-    ensures searched { (before : Option Carried) → GoesOnFrom R.meaning (site_of W.network W.cells W.Best.says W.wording) R.direction world.now (R.direction.from start goal) before (R.standing replanner.old)
-        → IfOk result (IsSearched (record { on = site_of W.network W.cells W.Best.says W.wording; Note = R.Note; means = R.meaning; line = R.Note.line; direction = R.direction }) world.now how.now outputs.now start goal before (carried_of (W.cells.map world.now) (R.standing replanner.new))) }
+    ensures promises { IfOk result (KeepsPromises (site_of W.network W.cells W.Best.says W.wording) world.now start task.now.goal task.now.how.now.bound) }
+    ensures searched { (before : Option Carried) → GoesOnFrom R.meaning (site_of W.network W.cells W.Best.says W.wording) R.direction world.now (R.direction.from start task.now.goal) before (R.standing replanner.old)
+        → IfOk result (IsSearched (known_by (site_of W.network W.cells W.Best.says W.wording) R.meaning R.Note.line R.direction) world.now task.now.how.now task.now.outputs.now start task.now.goal before (carried_of (W.cells.map world.now) (R.standing replanner.new))) }
     ensures ready { IfOk result (λ _. R.ready replanner.new world.now) }
-    ensures set { IfOk result (λ _. IsSetFor R.direction how.now start goal (R.standing replanner.new)) }
+    ensures set { IfOk result (λ _. IsSetFor R.direction task.now.how.now start task.now.goal (R.standing replanner.new)) }
     ensures shown { IfOk result (λ r. publisher.new.published ≡ with_plan publisher.old.published r) }
     ensures incumbent { IfOk result (λ r. r.incumbent ≡ newest publisher.new.published) }
-    ensures broken { (before : Option Carried) → GoesOnFrom R.meaning (site_of W.network W.cells W.Best.says W.wording) R.direction world.now (R.direction.from start goal) before (R.standing replanner.old)
-        → OnErr result (IsPublishedInPart (record { on = site_of W.network W.cells W.Best.says W.wording; Note = R.Note; means = R.meaning; line = R.Note.line; direction = R.direction }) world.now how.now outputs.now start goal plan publisher.old.published publisher.new.published before) }
+    ensures broken { (before : Option Carried) → GoesOnFrom R.meaning (site_of W.network W.cells W.Best.says W.wording) R.direction world.now (R.direction.from start task.now.goal) before (R.standing replanner.old)
+        → OnErr result (IsPublishedInPart (known_by (site_of W.network W.cells W.Best.says W.wording) R.meaning R.Note.line R.direction) world.now task.now.how.now task.now.outputs.now start task.now.goal plan publisher.old.published publisher.new.published before) }
     ensures board { publisher.new.board ≡ publisher.old.board }
     ensures grown { length publisher.new.published ≤ length publisher.old.published + MOST_PASSES }
 {
-    let ask = ask_of(how, outputs);
+    let ask = ask_of(task.how, task.outputs);
     let raised = raised_of(alloc, replanner.raised(), ask.traced)?;
     let planned = plan_on(alloc, world, replanner, &ask, plan, live, publisher)?;
     let incumbent = newest_on(live, publisher)?;
@@ -250,14 +249,14 @@ where
         alloc,
         world,
         start,
-        goal,
+        task.goal,
         plan,
         &planned.outcome,
-        outputs.labels.is_some(),
-        outputs.form,
+        task.outputs.labels.is_some(),
+        task.outputs.form,
     )?;
     let expanded = replanner.expanded();
     record_of::<W, R>(
-        alloc, world, start, goal, plan, planned, expanded, labels, raised, incumbent,
+        alloc, world, start, task.goal, plan, planned, expanded, labels, raised, incumbent,
     )
 }

@@ -2,23 +2,21 @@
 
 ghost use Rattle.std.specs.Prelude.{◌≡◌, ◌+◌, ◌^◌, ◌<◌, ◌≤◌, length, IfOk, None, Option};
 ghost use Rattle.sbpl_job.specs.Jobs.{IsSearchJob};
-ghost use Rattle.sbpl_promises.specs.Causes.{IsCourseIn};
 ghost use Rattle.sbpl_promises.specs.Headline.{Carried};
-ghost use Rattle.sbpl_promises.specs.Sites.{site_of, start_after};
-ghost use Rattle.sbpl_plans.specs.Planning.{EndsOnePlan, GoesOnFrom, IsSetFor, carried_of};
-ghost use Rattle.sbpl_promises.specs.Promises.{EndsPlans};
+ghost use Rattle.sbpl_promises.specs.Sites.{site_of};
+ghost use Rattle.sbpl_plans.specs.Planning.{EndsOnePlan, GoesOnFrom, IsSetFor, carried_of, known_by};
+ghost use Rattle.sbpl_plans.specs.Tasks.{CanBeMade, EndsTask};
 ghost use Rattle.sbpl_plan.specs.Asked.{MOST_PASSES};
 ghost use Rattle.sbpl_promises.specs.Writing.{WritesOnly};
 
 use crate::plan_record::make_record;
 use crate::publishing::LiveBoard;
 use crate::recorded::Recorded;
+use crate::task::Task;
 use sbpl_desk::{Desk, WriteStop};
 use sbpl_fixed::NoMemory;
 use sbpl_incumbent::Publisher;
-use sbpl_job::{Outputs, SearchJob};
 use sbpl_map::writes_lead_to_the_next_map;
-use sbpl_promises::Course;
 use sbpl_report::Traced;
 use sbpl_telling::{Telling, status_after, write_last};
 use sbpl_worlds::{Workspace, place_in};
@@ -30,10 +28,8 @@ fn make_plan<D: Desk, T: Telling, W: Workspace, R: Recorded<W>, B: Wait>(
     alloc: Global,
     world: &W,
     replanner: &mut R,
-    how: &SearchJob,
-    outputs: &Outputs,
+    task: &Task,
     start: u32,
-    goal: u32,
     plan: u32,
     live: &LiveBoard<B>,
     publisher: &mut Publisher,
@@ -43,25 +39,23 @@ fn make_plan<D: Desk, T: Telling, W: Workspace, R: Recorded<W>, B: Wait>(
 where
     R::Note: Traced,
     requires start { start < (W.network world.now).states }
-    requires goal { goal < (W.network world.now).states }
+    requires goal { task.now.goal < (W.network world.now).states }
     requires board { publisher.old.board ≡ live.now.board.now }
     requires few { length publisher.old.published + MOST_PASSES < 2 ^ 63 }
-    requires search { IsSearchJob how.now }
+    requires search { IsSearchJob task.now.how.now }
     requires kept { W.cells.is_made world.now }
     requires ready { R.ready replanner.old world.now }
-    requires set { IsSetFor R.direction how.now start goal (R.standing replanner.old) }
-    ensures ends { (before : Option Carried) → GoesOnFrom R.meaning (site_of W.network W.cells W.Best.says W.wording) R.direction world.now (R.direction.from start goal) before (R.standing replanner.old)
-        → EndsOnePlan (record { on = site_of W.network W.cells W.Best.says W.wording; Note = R.Note; means = R.meaning; line = R.Note.line; direction = R.direction }) (T.written telling.now) world.now how.now outputs.now start goal plan publisher.old.published publisher.new.published before (carried_of (W.cells.map world.now) (R.standing replanner.new)) (D.state desk.old) (D.state desk.new) result }
+    requires set { IsSetFor R.direction task.now.how.now start task.now.goal (R.standing replanner.old) }
+    ensures ends { (before : Option Carried) → GoesOnFrom R.meaning (site_of W.network W.cells W.Best.says W.wording) R.direction world.now (R.direction.from start task.now.goal) before (R.standing replanner.old)
+        → EndsOnePlan (known_by (site_of W.network W.cells W.Best.says W.wording) R.meaning R.Note.line R.direction) (T.written telling.now) world.now task.now.how.now task.now.outputs.now start task.now.goal plan publisher.old.published publisher.new.published before (carried_of (W.cells.map world.now) (R.standing replanner.new)) (D.state desk.old) (D.state desk.new) result }
     ensures ready { IfOk result (λ _. R.ready replanner.new world.now) }
-    ensures set { IfOk result (λ _. IsSetFor R.direction how.now start goal (R.standing replanner.new)) }
+    ensures set { IfOk result (λ _. IsSetFor R.direction task.now.how.now start task.now.goal (R.standing replanner.new)) }
     ensures board { publisher.new.board ≡ publisher.old.board }
     ensures grown { length publisher.new.published ≤ length publisher.old.published + MOST_PASSES }
     ensures frame { WritesOnly (T.under telling.now) (D.state desk.old) (D.state desk.new) }
 {
     W::has_its_arcs();
-    match make_record(
-        alloc, world, replanner, how, outputs, start, goal, plan, live, publisher,
-    ) {
+    match make_record(alloc, world, replanner, task, start, plan, live, publisher) {
         Ok(record) => telling.tell(alloc, &record, desk),
         Err(NoMemory) => Err(WriteStop::NoMemory),
     }
@@ -72,12 +66,8 @@ where
 pub(crate) fn go_through<D: Desk, T: Telling, W: Workspace, R: Recorded<W>, B: Wait>(
     alloc: Global,
     world: &mut W,
-    course: &Course,
     replanner: &mut R,
-    how: &SearchJob,
-    outputs: &Outputs,
-    start: u32,
-    goal: u32,
+    task: &Task,
     live: &LiveBoard<B>,
     publisher: &mut Publisher,
     telling: &T,
@@ -85,26 +75,23 @@ pub(crate) fn go_through<D: Desk, T: Telling, W: Workspace, R: Recorded<W>, B: W
 ) -> u8
 where
     R::Note: Traced,
-    requires start { start < (W.network world.old).states }
-    requires goal { goal < (W.network world.old).states }
+    requires task { CanBeMade (site_of W.network W.cells W.Best.says W.wording) R.direction.moves world.old task.now }
     requires board { publisher.old.board ≡ live.now.board.now }
     requires few { length publisher.old.published < 2 ^ 62 }
-    requires search { IsSearchJob how.now }
-    requires kept { W.cells.is_made world.old }
-    requires course { IsCourseIn (site_of W.network W.cells W.Best.says W.wording) R.direction.moves world.old course.now }
     requires ready { R.ready replanner.old world.old }
-    requires set { IsSetFor R.direction how.now start goal (R.standing replanner.old) }
-    requires begun { GoesOnFrom R.meaning (site_of W.network W.cells W.Best.says W.wording) R.direction world.old (R.direction.from start goal) None (R.standing replanner.old) }
-    ensures ends { EndsPlans (record { on = site_of W.network W.cells W.Best.says W.wording; Note = R.Note; means = R.meaning; line = R.Note.line; direction = R.direction }) (T.written telling.now) world.old course.now.batches how.now outputs.now (start_after W.wording world.old start course.now.moves) goal 0 publisher.old.published publisher.new.published None (D.state desk.old) (D.state desk.new) result }
+    requires set { IsSetFor R.direction task.now.how.now task.now.start task.now.goal (R.standing replanner.old) }
+    requires begun { GoesOnFrom R.meaning (site_of W.network W.cells W.Best.says W.wording) R.direction world.old (R.direction.from task.now.start task.now.goal) None (R.standing replanner.old) }
+    ensures ends { EndsTask (known_by (site_of W.network W.cells W.Best.says W.wording) R.meaning R.Note.line R.direction) (T.written telling.now) world.old task.now publisher.old.published publisher.new.published (D.state desk.old) (D.state desk.new) result }
     ensures board { publisher.new.board ≡ publisher.old.board }
     ensures frame { WritesOnly (T.under telling.now) (D.state desk.old) (D.state desk.new) }
 {
     W::is_terrain();
     writes_lead_to_the_next_map();
-    let mut start = start;
+    let course = task.course;
+    let mut start = task.start;
     for k in 0..course.batches.batches() {
         if let Err(stop) = make_plan(
-            alloc, world, replanner, how, outputs, start, goal, k, live, publisher, telling, desk,
+            alloc, world, replanner, task, start, k, live, publisher, telling, desk,
         ) {
             return status_after(Err(stop), 9);
         }
@@ -116,7 +103,7 @@ where
     }
     let last = course.batches.batches();
     match make_plan(
-        alloc, world, replanner, how, outputs, start, goal, last, live, publisher, telling, desk,
+        alloc, world, replanner, task, start, last, live, publisher, telling, desk,
     ) {
         Ok(()) => status_after(write_last(desk), 0),
         Err(stop) => status_after(Err(stop), 9),

@@ -1,21 +1,19 @@
 //! The lattice and the batches of changes that are drawn from a seed: three texts, read as files are. They have no fault.
 
-ghost use Rattle.std.specs.Prelude.{◌≡◌, ◌≤◌, ℕ, length, slice_get, Some, IfOk};
+ghost use Rattle.std.specs.Prelude.{◌≡◌, ◌≤◌, length, IfOk};
 ghost use Rattle.sbpl_cfg.specs.Text.{IsTextOf as IsEnvironmentText};
 ghost use Rattle.sbpl_mprim.specs.Text.{IsTextOf as IsPrimitiveText};
-ghost use Rattle.sbpl_mprim.specs.declared.prim.Primitive.{Primitive};
 ghost use Rattle.sbpl_map.specs.CellMap.{CellMap};
 ghost use Rattle.sbpl_map.specs.ChangeText.{AreOnMap};
 ghost use Rattle.sbpl_map.specs.ChangeText.{IsTextOf as IsChangeText};
 ghost use Rattle.sbpl_sweep.specs.Widths.{NoneTooWide};
 ghost use Rattle.sbpl_sweep.specs.Swept.{AreSweepsOf};
-ghost use Rattle.sbpl_cost.specs.PrimitiveCost.{most_cost, primitive_cost};
 ghost use Rattle.sbpl_cost.specs.World.{IsWorld};
 ghost use Rattle.sbpl_demo.specs.Environment.{costs, environment};
 ghost use Rattle.sbpl_demo.specs.Changes.{changes_drawn};
 ghost use Rattle.sbpl_demo.specs.Primitives.{primitives};
 ghost use Rattle.sbpl_job.specs.Jobs.{IsDemoJob};
-ghost use Rattle.sbpl_promises.specs.Causes.{IsDrawn};
+ghost use Rattle.sbpl_promises.specs.Causes.{IsDrawn, NoneTooDear};
 
 use sbpl_cfg::{Env, EnvFault, Grid, read_env};
 use sbpl_cost::{Lattice, LatticeFault};
@@ -97,7 +95,7 @@ fn lattice_of(
     requires sweeps { AreSweepsOf primitives 0 sweeps }
     requires wide { map.width ≡ job.now.width }
     requires high { map.height ≡ job.now.height }
-    requires cheap { (i : ℕ) (p : Primitive) → slice_get primitives.items i ≡ Some p → primitive_cost (environment job.now.width job.now.height) p ≤ most_cost }
+    requires cheap { NoneTooDear (environment job.now.width job.now.height) primitives }
     ensures lattice { IfOk result (λ l. l ≡ record { env = environment job.now.width job.now.height; prims = primitives; sweeps = sweeps; map = map }) }
     ensures kept { IfOk result IsWorld }
 {
@@ -114,7 +112,7 @@ fn lattice_from(alloc: Global, demo: &Demo, job: &DemoJob) -> Result<Lattice, No
     requires env { IsEnvironmentText demo.now.env (environment job.now.width job.now.height) (costs job.now.width job.now.height job.now.seed) }
     requires prims { IsPrimitiveText demo.now.prims primitives }
     requires narrow { NoneTooWide primitives 0 }
-    requires cheap { (i : ℕ) (p : Primitive) → slice_get primitives.items i ≡ Some p → primitive_cost (environment job.now.width job.now.height) p ≤ most_cost }
+    requires cheap { NoneTooDear (environment job.now.width job.now.height) primitives }
     ensures drawn { IfOk result (IsDrawn job.now) }
     ensures kept { IfOk result IsWorld }
 {
@@ -132,7 +130,7 @@ fn parts_of(alloc: Global, demo: &Demo, job: &DemoJob) -> Result<(Lattice, Chang
     requires changes { (m : CellMap) → m.width ≡ job.now.width → m.height ≡ job.now.height → IsChangeText m demo.now.changes (changes_drawn job.now.width job.now.height job.now.seed) }
     requires short { length demo.now.changes ≤ 429 }
     requires narrow { NoneTooWide primitives 0 }
-    requires cheap { (i : ℕ) (p : Primitive) → slice_get primitives.items i ≡ Some p → primitive_cost (environment job.now.width job.now.height) p ≤ most_cost }
+    requires cheap { NoneTooDear (environment job.now.width job.now.height) primitives }
     ensures drawn { IfOk result (λ x. IsDrawn job.now x.0) }
     ensures changes { IfOk result (λ x. x.1 ≡ changes_drawn job.now.width job.now.height job.now.seed) }
     ensures kept { IfOk result (λ x. IsWorld x.0) }

@@ -22,6 +22,7 @@ use Rattle.sbpl_report.specs.Traces.{traced_pass}
 use Rattle.sbpl_plan.specs.declared.passes.Pass.{Pass}
 use Rattle.sbpl_report.specs.declared.record.TraceLine.{TraceLine}
 use Rattle.sbpl_promises.specs.Published.{Entry, founds, with_paths, with_plan}
+use Rattle.sbpl_plans.specs.Planning.{known_by}
 use Rattle.sbpl_plans.proofs.Founds.{broken_by, first_of_all, founds_traced, none_published}
 use Rattle.sbpl_plans.proofs.Founds.{on_err_is, stands_broken, expansions_traced}
 use Rattle.sbpl_report.specs.declared.record.PlanRecord.{PlanRecord}
@@ -138,33 +139,31 @@ section-requires-clause-found g c =
     let w = c.args.world.now in
     let made = c.in_ok-planned.ensures.planned in
     let labels = (g.R.Replan.standing c.plan_on.new.replanner).search.labels in
-    subst (λ (h : ℕ → ℕ). IsResultOf (d.network w) h (d.to c.args.start c.args.goal) labels
+    subst (λ (h : ℕ → ℕ). IsResultOf (d.network w) h (d.to c.args.start c.args.task.now.goal) labels
     c.in_ok-planned.planned.outcome) (sym c.plan_on.ensures.guide)
     (subst (λ (t : ℕ). IsResultOf (d.network w) (g.R.Replan.guide c.args.replanner.now w) t labels
     c.in_ok-planned.planned.outcome) c.requires.set.between.to made.outcome)
 
 pub record_of-requires-clause-so : goal.record_of-requires-clause-so
 record_of-requires-clause-so g c =
+    let task = c.args.task.now in
     let d = g.R.Replan.direction in
     let w = c.args.world.now in
     let made = c.in_ok-planned.ensures.planned in
-    subst (λ (s : ℕ). IsTrueOutcome (d.network w) s (d.to c.args.start c.args.goal) c.in_ok-planned.planned.outcome)
+    subst (λ (s : ℕ). IsTrueOutcome (d.network w) s (d.to c.args.start task.goal) c.in_ok-planned.planned.outcome)
     c.requires.set.between.from
     (subst (λ (t : ℕ). IsTrueOutcome (d.network w) (g.R.Replan.standing c.args.replanner.now).search.labels.start t
     c.in_ok-planned.planned.outcome) c.requires.set.between.to made.so)
 
 pub returns-clause-searched : goal.returns-clause-searched
 returns-clause-searched g c = λ before goes.
+    let task = c.args.task.now in
     let d = g.R.Replan.direction in
     let w = c.args.world.now in
     let means = g.R.Replan.meaning in
-    let by : Known _ = record {
-      on = site_of g.W.Graph.network g.W.Terrain.cells g.W.Best.Heuristic.says g.W.Workspace.wording;
-      Note = g.row.R-Note.Denot;
-      means = means;
-      line = g.R.Note.Traced.line;
-      direction = d;
-    } in
+    let by : Known _ =
+    known_by (site_of g.W.Graph.network g.W.Terrain.cells g.W.Best.Heuristic.says g.W.Workspace.wording)
+    g.R.Replan.meaning g.R.Note.Traced.line d in
     let set = c.requires.set in
     let planned = c.in_ok-planned.planned in
     let made = c.in_ok-planned.ensures.planned in
@@ -172,7 +171,7 @@ returns-clause-searched g c = λ before goes.
     let old = g.R.Replan.standing c.args.replanner.now in
     let new = g.R.Replan.standing c.plan_on.new.replanner in
     let guide = g.R.Replan.guide c.args.replanner.now w in
-    let to = d.to c.args.start c.args.goal in
+    let to = d.to c.args.start task.goal in
     let rises : new.counts.run ≡ old.counts.run + expansions planned.passes =
     ap (λ (k : Counts). k.run) made.leaves.counted in
     let run : new.counts.run ≡ expanded_before before + expansions planned.passes =
@@ -180,11 +179,11 @@ returns-clause-searched g c = λ before goes.
     let of_plan : new.counts.plan ≡ 0 + expansions planned.passes = ap (λ (k : Counts). k.plan) made.leaves.counted in
     let used : c.expanded-expanded.result ≡ expansions planned.passes =
     omega (arith, c.expanded-expanded.ensures.value, of_plan) in
-    searched_by by w guide c.args.start c.args.goal c.args.how.now c.args.outputs.now before old.search.labels
+    searched_by by w guide c.args.start task.goal task.how.now task.outputs.now before old.search.labels
     new.search.labels old.search.raised
     old.counts.per_plan new.counts.run c.expanded-expanded.result planned c.in_ok-labels.labels c.ask_of-ask.result
     c.is_some.result c.args.plan c.record_of.result
-    (g.met.R.Replan.guided c.args.replanner.now w c.args.start c.args.goal c.requires.ready set.between) goes.begins
+    (g.met.R.Replan.guided c.args.replanner.now w c.args.start task.goal c.requires.ready set.between) goes.begins
     c.ask_of-ask.ensures.ask
     (subst (λ (t : ℕ). ArePasses means (inquiry_of (d.network w) guide t c.ask_of-ask.result) c.ask_of-ask.result.first
     old.search.labels planned.passes new.search.labels planned.spent) set.between.to made.passes)
@@ -193,8 +192,8 @@ returns-clause-searched g c = λ before goes.
     c.in_ok-planned.ensures.run made.few
     (λ is ample. made.enough is (omega (arith, ample, set.budget_is)))
     c.is_some.ensures
-    (subst (λ (h : ℕ → ℕ). IsThere c.is_some.result (IsShown c.args.outputs.now.form (d.network w) h
-    (d.from c.args.start c.args.goal) to c.args.plan new.search.labels planned.outcome) c.in_ok-labels.labels)
+    (subst (λ (h : ℕ → ℕ). IsThere c.is_some.result (IsShown task.outputs.now.form (d.network w) h
+    (d.from c.args.start task.goal) to c.args.plan new.search.labels planned.outcome) c.in_ok-labels.labels)
     c.plan_on.ensures.guide c.in_ok-labels.ensures.shown)
     c.record_of.ensures.number c.record_of.ensures.passes c.record_of.ensures.expanded c.record_of.ensures.told
     c.record_of.ensures.labels
@@ -229,7 +228,7 @@ pub returns-clause-promises : goal.returns-clause-promises
 returns-clause-promises g c =
     let bound = ap (λ (a : Ask). a.bound) c.ask_of-ask.ensures.ask in
     promises_by (site_of g.W.Graph.network g.W.Terrain.cells g.W.Best.Heuristic.says g.W.Workspace.wording)
-    c.args.world.now c.args.start c.args.goal _ _ c.in_ok-planned.planned c.record_of.result
+    c.args.world.now c.args.start c.args.task.now.goal _ _ c.in_ok-planned.planned c.record_of.result
     c.record_of.ensures.joins c.record_of.ensures.within_the_bound c.record_of.ensures.none c.record_of.ensures.marked
     (λ is. subst (λ (b : ℕ). search.IsConclusive b c.in_ok-planned.planned.outcome) bound
     (c.in_ok-planned.ensures.planned.answered is)) c.record_of.ensures.answered
@@ -275,31 +274,25 @@ returns-in_err-raised-clause-broken g c =
 
 pub returns-in_err-planned-clause-broken : goal.returns-in_err-planned-clause-broken
 returns-in_err-planned-clause-broken g c = λ before goes.
+    let task = c.args.task.now in
     let d = g.R.Replan.direction in
     let w = c.args.world.now in
-    let by : Known _ = record {
-      on = site_of g.W.Graph.network g.W.Terrain.cells g.W.Best.Heuristic.says g.W.Workspace.wording;
-      Note = g.row.R-Note.Denot;
-      means = g.R.Replan.meaning;
-      line = g.R.Note.Traced.line;
-      direction = d;
-    } in
+    let by : Known _ =
+    known_by (site_of g.W.Graph.network g.W.Terrain.cells g.W.Best.Heuristic.says g.W.Workspace.wording)
+    g.R.Replan.meaning g.R.Note.Traced.line d in
     let guide = g.R.Replan.guide c.args.replanner.now w in
     on_err_is _ c.from_residual-in_err-planned.result
-    (stands_broken by w guide c.args.start c.args.goal c.args.plan c.args.how.now c.args.outputs.now _ _ before _
+    (stands_broken by w guide c.args.start task.goal c.args.plan task.how.now task.outputs.now _ _ before _
     (g.R.Replan.standing c.args.replanner.now) (g.R.Replan.standing c.plan_on.new.replanner) c.ask_of-ask.result
-    (g.met.R.Replan.guided c.args.replanner.now w c.args.start c.args.goal c.requires.ready c.requires.set.between)
+    (g.met.R.Replan.guided c.args.replanner.now w c.args.start task.goal c.requires.ready c.requires.set.between)
     goes.begins c.ask_of-ask.ensures.ask c.requires.set.between.to c.in_err-planned.ensures.memory)
 
 pub returns-in_err-incumbent-clause-broken : goal.returns-in_err-incumbent-clause-broken
 returns-in_err-incumbent-clause-broken g c = λ before goes.
-    let by : Known _ = record {
-      on = site_of g.W.Graph.network g.W.Terrain.cells g.W.Best.Heuristic.says g.W.Workspace.wording;
-      Note = g.row.R-Note.Denot;
-      means = g.R.Replan.meaning;
-      line = g.R.Note.Traced.line;
-      direction = g.R.Replan.direction;
-    } in
+    let task = c.args.task.now in
+    let by : Known _ =
+    known_by (site_of g.W.Graph.network g.W.Terrain.cells g.W.Best.Heuristic.says g.W.Workspace.wording)
+    g.R.Replan.meaning g.R.Note.Traced.line g.R.Replan.direction in
     let w = c.args.world.now in
     let guide = g.R.Replan.guide c.args.replanner.now w in
     let old = g.R.Replan.standing c.args.replanner.now in
@@ -307,9 +300,9 @@ returns-in_err-incumbent-clause-broken g c = λ before goes.
     let planned = c.in_ok-planned.planned in
     let left = (g.R.Replan.standing c.plan_on.new.replanner).search.labels in
     on_err_is _ c.from_residual-in_err-incumbent.result
-    (broken_by by w guide c.args.start c.args.goal c.args.plan c.args.how.now c.args.outputs.now _ _ before
+    (broken_by by w guide c.args.start task.goal c.args.plan task.how.now task.outputs.now _ _ before
     old ask left planned.passes
-    (g.met.R.Replan.guided c.args.replanner.now w c.args.start c.args.goal c.requires.ready
+    (g.met.R.Replan.guided c.args.replanner.now w c.args.start task.goal c.requires.ready
     c.requires.set.between) goes.begins c.ask_of-ask.ensures.ask c.requires.set.between.to
     (first_of_all by.means (inquiry by.direction w guide old ask) planned.passes ask.first old.search.labels left
     planned.spent c.in_ok-planned.ensures.planned.passes)
@@ -317,13 +310,10 @@ returns-in_err-incumbent-clause-broken g c = λ before goes.
 
 pub returns-in_err-labels-clause-broken : goal.returns-in_err-labels-clause-broken
 returns-in_err-labels-clause-broken g c = λ before goes.
-    let by : Known _ = record {
-      on = site_of g.W.Graph.network g.W.Terrain.cells g.W.Best.Heuristic.says g.W.Workspace.wording;
-      Note = g.row.R-Note.Denot;
-      means = g.R.Replan.meaning;
-      line = g.R.Note.Traced.line;
-      direction = g.R.Replan.direction;
-    } in
+    let task = c.args.task.now in
+    let by : Known _ =
+    known_by (site_of g.W.Graph.network g.W.Terrain.cells g.W.Best.Heuristic.says g.W.Workspace.wording)
+    g.R.Replan.meaning g.R.Note.Traced.line g.R.Replan.direction in
     let w = c.args.world.now in
     let guide = g.R.Replan.guide c.args.replanner.now w in
     let old = g.R.Replan.standing c.args.replanner.now in
@@ -331,9 +321,9 @@ returns-in_err-labels-clause-broken g c = λ before goes.
     let planned = c.in_ok-planned.planned in
     let left = (g.R.Replan.standing c.plan_on.new.replanner).search.labels in
     on_err_is _ c.from_residual-in_err-labels.result
-    (broken_by by w guide c.args.start c.args.goal c.args.plan c.args.how.now c.args.outputs.now _ _ before
+    (broken_by by w guide c.args.start task.goal c.args.plan task.how.now task.outputs.now _ _ before
     old ask left planned.passes
-    (g.met.R.Replan.guided c.args.replanner.now w c.args.start c.args.goal c.requires.ready
+    (g.met.R.Replan.guided c.args.replanner.now w c.args.start task.goal c.requires.ready
     c.requires.set.between) goes.begins c.ask_of-ask.ensures.ask c.requires.set.between.to
     (first_of_all by.means (inquiry by.direction w guide old ask) planned.passes ask.first old.search.labels left
     planned.spent c.in_ok-planned.ensures.planned.passes)
@@ -341,13 +331,10 @@ returns-in_err-labels-clause-broken g c = λ before goes.
 
 pub returns-clause-broken : goal.returns-clause-broken
 returns-clause-broken g c = λ before goes.
-    let by : Known _ = record {
-      on = site_of g.W.Graph.network g.W.Terrain.cells g.W.Best.Heuristic.says g.W.Workspace.wording;
-      Note = g.row.R-Note.Denot;
-      means = g.R.Replan.meaning;
-      line = g.R.Note.Traced.line;
-      direction = g.R.Replan.direction;
-    } in
+    let task = c.args.task.now in
+    let by : Known _ =
+    known_by (site_of g.W.Graph.network g.W.Terrain.cells g.W.Best.Heuristic.says g.W.Workspace.wording)
+    g.R.Replan.meaning g.R.Note.Traced.line g.R.Replan.direction in
     let w = c.args.world.now in
     let guide = g.R.Replan.guide c.args.replanner.now w in
     let old = g.R.Replan.standing c.args.replanner.now in
@@ -355,9 +342,9 @@ returns-clause-broken g c = λ before goes.
     let planned = c.in_ok-planned.planned in
     let left = (g.R.Replan.standing c.plan_on.new.replanner).search.labels in
     on_err_is _ c.record_of.result
-    (broken_by by w guide c.args.start c.args.goal c.args.plan c.args.how.now c.args.outputs.now _ _ before
+    (broken_by by w guide c.args.start task.goal c.args.plan task.how.now task.outputs.now _ _ before
     old ask left planned.passes
-    (g.met.R.Replan.guided c.args.replanner.now w c.args.start c.args.goal c.requires.ready
+    (g.met.R.Replan.guided c.args.replanner.now w c.args.start task.goal c.requires.ready
     c.requires.set.between) goes.begins c.ask_of-ask.ensures.ask c.requires.set.between.to
     (first_of_all by.means (inquiry by.direction w guide old ask) planned.passes ask.first old.search.labels left
     planned.spent c.in_ok-planned.ensures.planned.passes)

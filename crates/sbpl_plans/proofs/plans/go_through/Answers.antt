@@ -13,11 +13,12 @@ pub loop-k-init : goal.loop-k-init
 loop-k-init g c = record {
   going =
       sets_out c.is_terrain.ensures.law
-      (c.writes_lead_to_the_next_map.ensures.first (g.W.Terrain.cells.map c.args.world.now) c.args.course.now.batches)
-      c.requires.kept (sym (start_first g.W.Workspace.wording c.args.world.now c.args.start c.args.course.now.moves))
-      c.requires.set c.requires.begun;
+      (c.writes_lead_to_the_next_map.ensures.first (g.W.Terrain.cells.map c.args.world.now)
+      c.args.task.now.course.now.batches) c.requires.task.kept
+      (sym (start_first g.W.Workspace.wording c.args.world.now c.args.task.now.start
+      c.args.task.now.course.now.moves)) c.requires.set c.requires.begun;
   ready = c.requires.ready;
-  inside = c.requires.start;
+  inside = c.requires.task.start;
   frame = nothing_done _ _;
   board = refl;
   grown = omega arith;
@@ -25,8 +26,9 @@ loop-k-init g c = record {
 
 pub make_plan-requires-clause-goal : goal.make_plan-requires-clause-goal
 make_plan-requires-clause-goal g c =
-    subst (λ (n : ℕ). c.args.goal < n) (same_states g.W.Graph.network g.W.Terrain.cells c.is_terrain.ensures.law _ _
-    c.requires.kept c.loop-k.invariant.going.kept c.loop-k.invariant.going.same) c.requires.goal
+    subst (λ (n : ℕ). c.args.task.now.goal < n)
+    (same_states g.W.Graph.network g.W.Terrain.cells c.is_terrain.ensures.law _ _ c.requires.task.kept
+    c.loop-k.invariant.going.kept c.loop-k.invariant.going.same) c.requires.task.goal
 
 pub returns-in-Err-clause-ends : goal.returns-in-Err-clause-ends
 returns-in-Err-clause-ends g c =
@@ -35,7 +37,7 @@ returns-in-Err-clause-ends g c =
 
 pub change-requires-clause-on_map : goal.change-requires-clause-on_map
 change-requires-clause-on_map g c =
-    batch_on_map _ _ _ _ _ c.requires.course.on_map c.batch.ensures.writes c.loop-k.invariant.going.after.width
+    batch_on_map _ _ _ _ _ c.requires.task.course.on_map c.batch.ensures.writes c.loop-k.invariant.going.after.width
     c.loop-k.invariant.going.after.height
 
 pub returns-in-Err-change-clause-ends : goal.returns-in-Err-change-clause-ends
@@ -56,15 +58,15 @@ start_at-start-requires-clause-place g c =
     let alike = alike_over on g.met.W.Workspace.places_stay w now same in
     let next =
     c.writes_lead_to_the_next_map.ensures.next (cells.map w) (cells.map c.loop-k.world) (cells.map now)
-    c.args.course.now.batches c.loop-k.k _ going.after c.batch.ensures.writes
+    c.args.task.now.course.now.batches c.loop-k.k _ going.after c.batch.ensures.writes
     c.in_default-change.ensures.written in
-    let here : c.loop-k.k < length c.args.course.now.batches =
+    let here : c.loop-k.k < length c.args.task.now.course.now.batches =
     (let test = c.loop-k-test.true in let count = c.batches-k-end.ensures.value in omega arith) in
     subst (λ (count : ℕ). IsPlaceOnMap (cells.map now) count c.place_in.result) (sym alike.headings)
     (subst (λ (o : Option Place). IsPlaceOnMap (cells.map now) (g.W.Workspace.wording.headings w) o)
     (sym c.place_in.ensures.place)
-    (move_on_map on w (cells.map now) c.args.course.now.batches c.args.course.now.moves c.loop-k.k
-    c.requires.course.moves here next.width next.height))
+    (move_on_map on w (cells.map now) c.args.task.now.course.now.batches c.args.task.now.course.now.moves c.loop-k.k
+    c.requires.task.course.moves here next.width next.height))
 
 pub start_at-start-requires-clause-start : goal.start_at-start-requires-clause-start
 start_at-start-requires-clause-start g c =
@@ -81,7 +83,7 @@ follow-requires g c = record {
 pub loop-k-preserved : goal.loop-k-preserved
 loop-k-preserved g c =
     let w = c.args.world.now in
-    let course = c.args.course.now in
+    let course = c.args.task.now.course.now in
     let now = c.change.new.world in
     let k = c.loop-k.k in
     let going = c.loop-k.invariant.going in
@@ -94,8 +96,8 @@ loop-k-preserved g c =
     let here : k < length course.batches =
     (let test = c.loop-k-test.true in let count = c.batches-k-end.ensures.value in omega arith) in
     let next =
-    next_is g.W.Workspace.wording w now c.args.start course.moves k c.loop-k.start c.start_at-start.result
-    c.place_in.result (within on w course.batches course.moves k c.requires.course.moves here) (sym going.start_is)
+    next_is g.W.Workspace.wording w now c.args.task.now.start course.moves k c.loop-k.start c.start_at-start.result
+    c.place_in.result (within on w course.batches course.moves k c.requires.task.course.moves here) (sym going.start_is)
     alike c.place_in.ensures.place c.start_at-start.ensures.state in
     record {
       going =
@@ -106,7 +108,8 @@ loop-k-preserved g c =
           c.in_default-change.ensures.written c.change.ensures.others c.change.ensures.kept
           c.in_default-change.ensures.begun c.in_default-change.ensures.same c.change.ensures.counts
           (sym next) (λ still. stays_put g.W.Workspace.wording now course.moves k c.loop-k.start c.start_at-start.result
-          c.place_in.result (c.requires.course.stays still) c.place_in.ensures.place c.start_at-start.ensures.state)
+          c.place_in.result (c.requires.task.course.stays still) c.place_in.ensures.place
+          c.start_at-start.ensures.state)
           c.follow.ensures.follows;
       ready = c.follow.ensures.ready _ c.in_default-change.ensures.ready;
       inside = c.start_at-start.ensures.inside;
@@ -117,8 +120,9 @@ loop-k-preserved g c =
 
 pub make_plan-requires-2-clause-goal : goal.make_plan-requires-2-clause-goal
 make_plan-requires-2-clause-goal g c =
-    subst (λ (n : ℕ). c.args.goal < n) (same_states g.W.Graph.network g.W.Terrain.cells c.is_terrain.ensures.law _ _
-    c.requires.kept c.loop-k.invariant.going.kept c.loop-k.invariant.going.same) c.requires.goal
+    subst (λ (n : ℕ). c.args.task.now.goal < n)
+    (same_states g.W.Graph.network g.W.Terrain.cells c.is_terrain.ensures.law _ _ c.requires.task.kept
+    c.loop-k.invariant.going.kept c.loop-k.invariant.going.same) c.requires.task.goal
 
 pub returns-in-Ok-clause-ends : goal.returns-in-Ok-clause-ends
 returns-in-Ok-clause-ends g c =

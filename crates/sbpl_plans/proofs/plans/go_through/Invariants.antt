@@ -3,26 +3,23 @@ use Rattle.sbpl_plan.specs.Asked.{MOST_PASSES}
 use Rattle.sbpl_promises.specs.Sites.{site_of, start_after}
 use Rattle.sbpl_promises.specs.Writing.{WritesOnly}
 use Rattle.sbpl_plans.proofs.Going.{IsGoing}
+use Rattle.sbpl_plans.specs.Planning.{known_by}
 use Rattle.sbpl_plans.proofs.plans.go_through.Given as goal
 
 -- the plans so far were made and told, the map is that after this number of batches, and the start is a state
 abbrev pub invariant-loop-k : goal.invariant-loop-k
 invariant-loop-k g l = record {
   going : IsGoing (record {
-    by = record {
-      on = site_of g.W.Graph.network g.W.Terrain.cells g.W.Best.Heuristic.says g.W.Workspace.wording;
-      Note = g.row.R-Note.Denot;
-      means = g.R.Replan.meaning;
-      line = g.R.Note.Traced.line;
-      direction = g.R.Replan.direction;
-    };
+    by =
+        known_by (site_of g.W.Graph.network g.W.Terrain.cells g.W.Best.Heuristic.says g.W.Workspace.wording)
+        g.R.Replan.meaning g.R.Note.Traced.line g.R.Replan.direction;
     written_of = g.T.Telling.written l.fn.telling;
     world = l.fn.world;
-    batches = l.fn.course.batches;
-    how = l.fn.how;
-    outputs = l.fn.outputs;
-    starts = start_after g.W.Workspace.wording l.fn.world l.fn.start l.fn.course.moves;
-    goal = l.fn.goal;
+    batches = l.fn.task.course.now.batches;
+    how = l.fn.task.how.now;
+    outputs = l.fn.task.outputs.now;
+    starts = start_after g.W.Workspace.wording l.fn.world l.fn.task.start l.fn.task.course.now.moves;
+    goal = l.fn.task.goal;
   }) l.world l.k l.start l.fn.publisher.published l.publisher.published (g.R.Replan.standing l.replanner)
       (g.D.Desk.state l.fn.desk) (g.D.Desk.state l.desk);
   ready : g.R.Replan.ready l.replanner l.world;

@@ -1,0 +1,25 @@
+-- What the plans of a job are asked for, and how they end.
+use Rattle.std.specs.Prelude.{ℕ, ◌<◌, Bool, List, None}
+use Rattle.sbpl_job.specs.Jobs.{IsSearchJob}
+use Rattle.sbpl_plans.specs.declared.task.Task.{Task}
+use Rattle.sbpl_promises.specs.Asked.{Known}
+use Rattle.sbpl_promises.specs.Causes.{IsCourseIn}
+use Rattle.sbpl_promises.specs.Promises.{EndsPlans}
+use Rattle.sbpl_promises.specs.Published.{Entry}
+use Rattle.sbpl_promises.specs.Sites.{Site, start_after}
+use Rattle.sbpl_promises.specs.Writing.{DeskState, Write}
+use Rattle.sbpl_report.specs.declared.record.PlanRecord.{PlanRecord}
+
+-- these plans can be made in a world: they go between its states, by a search in range, and the map and the robot, which moves or not,
+-- take their course in it
+pub record CanBeMade {W : Type 0} (on : Site W) (moves : Bool) (w : W) (t : Task) : Type 0 where
+  pub start : t.start < (on.network w).states
+  pub goal : t.goal < (on.network w).states
+  pub search : IsSearchJob t.how.now
+  pub course : IsCourseIn on moves w t.course.now
+  pub kept : on.cells.is_made w
+
+-- how these plans end, which begin in a world: what was published before and after, what the desk held, and the status
+abbrev pub EndsTask : {W : Type 0} → Known W → (PlanRecord → List Write) → W → Task → (log shown : List Entry) → (before after : DeskState) → (status : ℕ) → Type 0
+EndsTask by written_of w t log shown before after status =
+    EndsPlans by written_of w t.course.now.batches t.how.now t.outputs.now (start_after by.on.wording w t.start t.course.now.moves) t.goal 0 log shown None before after status

@@ -1,0 +1,15 @@
+//! What the plans of a job are asked for.
+
+use sbpl_job::{Outputs, SearchJob};
+use sbpl_promises::Course;
+
+/// What the plans of a job are asked for: how they are searched, what is written of them, how the map changes from plan to plan and the
+/// robot moves, from which state the first goes, and to which all go.
+#[derive(Drop)]
+pub struct Task<'a> {
+    pub how: &'a SearchJob,
+    pub outputs: &'a Outputs,
+    pub course: &'a Course,
+    pub start: u32,
+    pub goal: u32,
+}
