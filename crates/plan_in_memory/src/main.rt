@@ -2,10 +2,10 @@
 #![tactic(auto)]
 
 ghost use Rattle.std.specs.Prelude.{◌≡◌, ◌<◌, ℕ, IfOk, IfSome, OnOk};
-ghost use Rattle.sbpl_adstar.specs.Planner.{adstar};
-ghost use Rattle.sbpl_cost.specs.Lattices.{network_of};
-ghost use Rattle.sbpl_graph.specs.Path.{IsFreePath};
-ghost use Rattle.sbpl_plan.specs.Outcomes.{IsTrueOutcome};
+ghost use Rattle.sbpl_replan.specs.sbpl_adstar.Planner.{adstar};
+ghost use Rattle.sbpl_replan.specs.sbpl_cost.Lattices.{network_of};
+ghost use Rattle.sbpl_replan.specs.sbpl_graph.Path.{IsFreePath};
+ghost use Rattle.sbpl_replan.specs.sbpl_plan.Outcomes.{IsTrueOutcome};
 ghost use Rattle.sbpl_replan.specs.OnLattice.{IsReadyOn};
 ghost use Rattle.sbpl_replan.specs.Replanning.{StaysTheSame, standing_of};
 
@@ -13,16 +13,10 @@ mod room;
 
 use crate::room::{FREE, WALL, door, lattice};
 use anyhow::Context;
-use sbpl_adstar::AdStar;
-use sbpl_ara::Ara;
-use sbpl_cfg::place_at;
-use sbpl_change::are_on_map;
-use sbpl_cost::Lattice;
-use sbpl_fixed::NoMemory;
-use sbpl_graph::Graph;
-use sbpl_map::Write;
-use sbpl_plan::{Ask, FoundPath, Nobody, Outcome};
-use sbpl_replan::{LatticeReplanner, Replan};
+use sbpl_replan::{
+    AdStar, Ara, Ask, FoundPath, Graph, Lattice, LatticeReplanner, NoMemory, Nobody, Outcome,
+    Replan, Write, are_on_map, place_at,
+};
 use std::alloc::Global;
 use std::io;
 

@@ -2,11 +2,7 @@
 
 ghost use Rattle.std.specs.Prelude.{◌≡◌, IfOk};
 
-use sbpl_cfg::{Env, Grid, Pose};
-use sbpl_cost::Lattice;
-use sbpl_map::{Map, Write};
-use sbpl_mprim::read_prims;
-use sbpl_sweep::Sweeps;
+use sbpl_replan::{Env, Grid, Lattice, Map, Pose, Sweeps, Write, read_prims};
 use std::alloc::{AllocError, Global};
 
 /// The cost of a free cell: driving over it costs the way alone.

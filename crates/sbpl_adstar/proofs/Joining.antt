@@ -8,13 +8,13 @@ use Rattle.std.proofs.lemmas.List.Elements.{Contains-append_right}
 use Rattle.std.proofs.lemmas.List.Quantifiers.{all_pairs_push}
 use Rattle.std.proofs.lemmas.Option.{none-some, same_Some}
 use Rattle.std.specs.List.{All, AllPairs, Contains}
-use Rattle.sbpl_graph.specs.declared.TheConstants.{FAR}
-use Rattle.sbpl_graph.specs.Network.{Network}
-use Rattle.sbpl_labels.specs.declared.row.Row.{Row}
-use Rattle.sbpl_labels.specs.Marks.{Marks, AreLabels, states_of, g_of, v_of, back_of}
-use Rattle.sbpl_labels.specs.Recomputed.{IsRecomputed}
-use Rattle.sbpl_serial.specs.Raised.{IsRaising, IsReturned}
-use Rattle.sbpl_serial.specs.Run.{IsUnder, RaisesState}
+use Rattle.sbpl_ara.specs.sbpl_graph.declared.TheConstants.{FAR}
+use Rattle.sbpl_ara.specs.sbpl_graph.Network.{Network}
+use Rattle.sbpl_ara.specs.sbpl_labels.declared.row.Row.{Row}
+use Rattle.sbpl_ara.specs.sbpl_labels.Marks.{Marks, AreLabels, states_of, g_of, v_of, back_of}
+use Rattle.sbpl_ara.specs.sbpl_labels.Recomputed.{IsRecomputed}
+use Rattle.sbpl_ara.specs.sbpl_serial.Raised.{IsRaising, IsReturned}
+use Rattle.sbpl_ara.specs.sbpl_serial.Run.{IsUnder, RaisesState}
 use Rattle.sbpl_adstar.specs.Listed.{AddsBecome, AddsUnder, AreListed}
 use Rattle.sbpl_adstar.specs.Raised.{HangsBefore}
 use Rattle.sbpl_adstar.proofs.Listing.{all_by}

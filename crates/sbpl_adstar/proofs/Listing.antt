@@ -8,8 +8,8 @@ use Rattle.std.proofs.lemmas.List.Elements.{Contains-append_left, Contains-get_o
 use Rattle.std.proofs.lemmas.List.Kept.{AllPairs-from_increasing}
 use Rattle.std.specs.List.{All, AllPairs, Contains}
 use Rattle.std.specs.List.Sorted.{IsStrictlyIncreasing}
-use Rattle.sbpl_labels.specs.Marks.{Marks, states_of}
-use Rattle.sbpl_serial.specs.Run.{IsUnder}
+use Rattle.sbpl_ara.specs.sbpl_labels.Marks.{Marks, states_of}
+use Rattle.sbpl_ara.specs.sbpl_serial.Run.{IsUnder}
 use Rattle.sbpl_adstar.specs.Listed.{AreListed}
 use Rattle.sbpl_adstar.proofs.Occurrences.{few}
 

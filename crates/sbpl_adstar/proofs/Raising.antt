@@ -8,16 +8,16 @@ use Rattle.std.proofs.lemmas.List.Elements.{Contains-append_left, Contains-get_o
 use Rattle.std.proofs.lemmas.Option.{none-some, same_Some}
 use Rattle.std.specs.List.{All, Contains}
 use Rattle.std.specs.List.Sorted.{IsStrictlyIncreasing}
-use Rattle.sbpl_graph.specs.declared.TheConstants.{FAR}
-use Rattle.sbpl_graph.specs.Kept.{NoneUnder}
-use Rattle.sbpl_graph.specs.Network.{Network}
-use Rattle.sbpl_graph.proofs.Paths.{label_at_most}
-use Rattle.sbpl_labels.specs.declared.row.Row.{Row}
-use Rattle.sbpl_labels.specs.Marks.{Marks, AreLabels, states_of, g_of, v_of, back_of}
-use Rattle.sbpl_labels.specs.Recomputed.{Recomputes}
-use Rattle.sbpl_search.specs.Ready.{IsStartFresh}
-use Rattle.sbpl_serial.specs.Raised.{ChangesV, IsReturned, ReturnsHead}
-use Rattle.sbpl_serial.specs.Run.{IsOver, IsUnder, RaisesState}
+use Rattle.sbpl_ara.specs.sbpl_graph.declared.TheConstants.{FAR}
+use Rattle.sbpl_ara.specs.sbpl_graph.Kept.{NoneUnder}
+use Rattle.sbpl_ara.specs.sbpl_graph.Network.{Network}
+use Rattle.sbpl_ara.proofs.Paths.{label_at_most}
+use Rattle.sbpl_ara.specs.sbpl_labels.declared.row.Row.{Row}
+use Rattle.sbpl_ara.specs.sbpl_labels.Marks.{Marks, AreLabels, states_of, g_of, v_of, back_of}
+use Rattle.sbpl_ara.specs.sbpl_labels.Recomputed.{Recomputes}
+use Rattle.sbpl_ara.specs.sbpl_search.Ready.{IsStartFresh}
+use Rattle.sbpl_ara.specs.sbpl_serial.Raised.{ChangesV, IsReturned, ReturnsHead}
+use Rattle.sbpl_ara.specs.sbpl_serial.Run.{IsOver, IsUnder, RaisesState}
 use Rattle.sbpl_adstar.specs.Listed.{AddsBecome, AreListed}
 use Rattle.sbpl_adstar.specs.Raised.{AreRaised, AreUnder, RaisesFirst}
 use Rattle.sbpl_adstar.proofs.Occurrences.{once_push}

@@ -1,9 +1,9 @@
 -- The list of states while some are raised.
 use Rattle.std.specs.Prelude.{◌≡◌, ◌≢◌, ℕ, ◌<◌, ◌⊎◌, List, ◌++◌}
 use Rattle.std.specs.List.{All, AllPairs, Contains}
-use Rattle.sbpl_graph.specs.declared.TheConstants.{FAR}
-use Rattle.sbpl_labels.specs.Marks.{Marks, states_of, v_of}
-use Rattle.sbpl_serial.specs.Run.{IsUnder}
+use Rattle.sbpl_ara.specs.sbpl_graph.declared.TheConstants.{FAR}
+use Rattle.sbpl_ara.specs.sbpl_labels.Marks.{Marks, states_of, v_of}
+use Rattle.sbpl_ara.specs.sbpl_serial.Run.{IsUnder}
 use Rattle.sbpl_adstar.specs.Raised.{BecomeUnder}
 
 -- the list has each underconsistent state, and otherwise only states whose v is infinite, each once

@@ -1,9 +1,9 @@
 -- What Anytime D* means as a planner.
 use Rattle.std.specs.Prelude.{true}
-use Rattle.sbpl_search.specs.Meaning.{Meaning}
-use Rattle.sbpl_search.specs.Ready.{AreUsable}
-use Rattle.sbpl_serial.specs.declared.step.Step.{Step}
-use Rattle.sbpl_serial.specs.Meant.{BeginsRepaired, serial}
+use Rattle.sbpl_ara.specs.sbpl_search.Meaning.{Meaning}
+use Rattle.sbpl_ara.specs.sbpl_search.Ready.{AreUsable}
+use Rattle.sbpl_ara.specs.sbpl_serial.declared.step.Step.{Step}
+use Rattle.sbpl_ara.specs.sbpl_serial.Meant.{BeginsRepaired, serial}
 
 -- a pass begins from any usable labels and takes each state at most three times; after a change of the graph the labels are
 -- repaired

@@ -2,11 +2,11 @@
 use Rattle.std.specs.Prelude.{◌≡◌, ◌≢◌, ℕ, ◌<◌, ◌≤◌, Some, List, [], ◌∷◌, ◌++◌}
 use Rattle.std.specs.List.{All, AllPairs, Contains}
 use Rattle.std.specs.List.Sorted.{IsStrictlyIncreasing}
-use Rattle.sbpl_graph.specs.Exact.{AreExact}
-use Rattle.sbpl_graph.specs.Kept.{NoneUnder}
-use Rattle.sbpl_graph.specs.Network.{Network}
-use Rattle.sbpl_labels.specs.Marks.{Marks, states_of, g_of, v_of, back_of}
-use Rattle.sbpl_serial.specs.Run.{IsUnder, RaisesState}
+use Rattle.sbpl_ara.specs.sbpl_graph.Exact.{AreExact}
+use Rattle.sbpl_ara.specs.sbpl_graph.Kept.{NoneUnder}
+use Rattle.sbpl_ara.specs.sbpl_graph.Network.{Network}
+use Rattle.sbpl_ara.specs.sbpl_labels.Marks.{Marks, states_of, g_of, v_of, back_of}
+use Rattle.sbpl_ara.specs.sbpl_serial.Run.{IsUnder, RaisesState}
 
 -- these are the underconsistent states, by number upwards
 pub record AreUnder (m : Marks) (states : List ℕ) : Type 0 where

@@ -1,20 +1,17 @@
 //! The search of Anytime D*: labels that are repaired where arcs change, and passes that lower and raise.
 
 ghost use Rattle.std.specs.Prelude.{◌≡◌, ℕ, ◌+◌, ◌^◌, ◌<◌, ◌≤◌, []};
-ghost use Rattle.sbpl_graph.specs.Bound.{IsLow};
-ghost use Rattle.sbpl_graph.specs.Fit.{FitCount};
-ghost use Rattle.sbpl_graph.specs.Network.{Network};
-ghost use Rattle.sbpl_labels.specs.Marks.{AreLabels, AreInitial, states_of, g_of, v_of};
-ghost use Rattle.sbpl_search.specs.Changed.{IsChangeable};
-ghost use Rattle.sbpl_search.specs.Query.{query};
-ghost use Rattle.sbpl_search.specs.Ready.{AreReady, AreUsable};
-ghost use Rattle.sbpl_serial.specs.Meant.{AreRepairedFor};
-ghost use Rattle.sbpl_serial.specs.Passed.{IsSerialPass};
+ghost use Rattle.sbpl_ara.specs.sbpl_graph.Bound.{IsLow};
+ghost use Rattle.sbpl_ara.specs.sbpl_graph.Fit.{FitCount};
+ghost use Rattle.sbpl_ara.specs.sbpl_graph.Network.{Network};
+ghost use Rattle.sbpl_ara.specs.sbpl_labels.Marks.{AreLabels, AreInitial, states_of, g_of, v_of};
+ghost use Rattle.sbpl_ara.specs.sbpl_search.Changed.{IsChangeable};
+ghost use Rattle.sbpl_ara.specs.sbpl_search.Query.{query};
+ghost use Rattle.sbpl_ara.specs.sbpl_search.Ready.{AreReady, AreUsable};
+ghost use Rattle.sbpl_ara.specs.sbpl_serial.Meant.{AreRepairedFor};
+ghost use Rattle.sbpl_ara.specs.sbpl_serial.Passed.{IsSerialPass};
 
-use sbpl_ara::Ara;
-use sbpl_graph::{Graph, Guide};
-use sbpl_labels::{Budget, Labels, PassEnd};
-use sbpl_serial::{Serial, Step};
+use sbpl_ara::{Ara, Budget, Graph, Guide, Labels, PassEnd, Serial, Step};
 use std::marker::Model;
 
 /// A search by Anytime D* (Likhachev, Ferguson, Gordon, Stentz and Thrun 2005), forwards from the start: after a change of the
@@ -25,7 +22,7 @@ pub struct AdStar {
 }
 
 impl Model for AdStar {
-    ghost use Rattle.sbpl_serial.specs.Serial.{SerialState};
+    ghost use Rattle.sbpl_ara.specs.sbpl_serial.Serial.{SerialState};
 
     ghost Value = { SerialState };
 

@@ -2,16 +2,14 @@
 
 ghost use Rattle.std.specs.Prelude.{◌≡◌, ℕ, ◌<◌, ◌⊎◌};
 ghost use Rattle.std.specs.List.{Contains};
-ghost use Rattle.sbpl_graph.specs.Fit.{FitCount};
-ghost use Rattle.sbpl_graph.specs.Kept.{NoneUnder};
-ghost use Rattle.sbpl_labels.specs.Marks.{states_of, g_of, v_of};
-ghost use Rattle.sbpl_search.specs.Changed.{IsChangeable};
-ghost use Rattle.sbpl_serial.specs.Meant.{AreRepairedFor};
-ghost use Rattle.sbpl_serial.specs.Run.{IsOver, IsUnder};
+ghost use Rattle.sbpl_ara.specs.sbpl_graph.Fit.{FitCount};
+ghost use Rattle.sbpl_ara.specs.sbpl_graph.Kept.{NoneUnder};
+ghost use Rattle.sbpl_ara.specs.sbpl_labels.Marks.{states_of, g_of, v_of};
+ghost use Rattle.sbpl_ara.specs.sbpl_search.Changed.{IsChangeable};
+ghost use Rattle.sbpl_ara.specs.sbpl_serial.Meant.{AreRepairedFor};
+ghost use Rattle.sbpl_ara.specs.sbpl_serial.Run.{IsOver, IsUnder};
 
-use sbpl_graph::Graph;
-use sbpl_labels::Labels;
-use sbpl_serial::repair_labels;
+use sbpl_ara::{Graph, Labels, repair_labels};
 
 /// Repairs labels after a change of the graph, as `AdStar::change` does: each touched state is recomputed on the graph as it now
 /// is, and every v stays. The condition is that every other state, but the start, has on this graph the g and the back arc, or

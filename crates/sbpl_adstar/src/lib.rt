@@ -9,3 +9,4 @@ mod raiser;
 pub use adstar::AdStar;
 pub use change::change_labels;
 pub use raiser::Raiser;
+pub use sbpl_ara::{Ara, Budget, Graph, Guide, Key, Labels, NoMemory, Open, PassEnd, Search, Step};

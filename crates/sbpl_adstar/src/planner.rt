@@ -1,14 +1,12 @@
 //! Anytime D* as a planner.
 
 ghost use Rattle.sbpl_adstar.specs.Planner.{adstar};
-ghost use Rattle.sbpl_serial.specs.Meant.{seen};
+ghost use Rattle.sbpl_ara.specs.sbpl_serial.Meant.{seen};
 
 use crate::AdStar;
-use sbpl_fixed::NoMemory;
-use sbpl_graph::{Graph, Guide};
-use sbpl_labels::{Budget, Labels, PassEnd};
-use sbpl_search::{Determined, Search};
-use sbpl_serial::{Step, run_is_determined};
+use sbpl_ara::{
+    Budget, Determined, Graph, Guide, Labels, NoMemory, PassEnd, Search, Step, run_is_determined,
+};
 use std::alloc::Global;
 
 impl<G: Graph, H: Guide> Search<G, H> for AdStar {

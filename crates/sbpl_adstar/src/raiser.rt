@@ -3,18 +3,15 @@
 ghost use Rattle.std.specs.Prelude.{◌≡◌, ◌≢◌, ℕ, ◌^◌, ◌<◌, ◌≤◌, ◌↔◌, ◌⊎◌, [], IfOk, IsTrue, Option, Some, vec_capacity};
 ghost use Rattle.std.specs.List.{All, Contains};
 ghost use Rattle.std.specs.List.Sorted.{IsStrictlyIncreasing};
-ghost use Rattle.sbpl_graph.specs.Fit.{FitCount};
-ghost use Rattle.sbpl_labels.specs.Marks.{Marks, states_of, g_of, v_of, back_of};
-ghost use Rattle.sbpl_search.specs.Ready.{AreReady, AreUsable, IsStartFresh};
-ghost use Rattle.sbpl_serial.specs.Raised.{IsReturned};
-ghost use Rattle.sbpl_serial.specs.Run.{IsOver, IsUnder, RaisesState};
+ghost use Rattle.sbpl_ara.specs.sbpl_graph.Fit.{FitCount};
+ghost use Rattle.sbpl_ara.specs.sbpl_labels.Marks.{Marks, states_of, g_of, v_of, back_of};
+ghost use Rattle.sbpl_ara.specs.sbpl_search.Ready.{AreReady, AreUsable, IsStartFresh};
+ghost use Rattle.sbpl_ara.specs.sbpl_serial.Raised.{IsReturned};
+ghost use Rattle.sbpl_ara.specs.sbpl_serial.Run.{IsOver, IsUnder, RaisesState};
 ghost use Rattle.sbpl_adstar.specs.Listed.{AddsBecome, AddsUnder, AreListed};
 ghost use Rattle.sbpl_adstar.specs.Raised.{IsRaisedBy};
 
-use sbpl_fixed::NoMemory;
-use sbpl_graph::Graph;
-use sbpl_labels::Labels;
-use sbpl_serial::raising_goes_arc_by_arc;
+use sbpl_ara::{Graph, Labels, NoMemory, raising_goes_arc_by_arc};
 use std::alloc::Global;
 use std::marker::Model;
 

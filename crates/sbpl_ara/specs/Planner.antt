@@ -1,7 +1,7 @@
 -- What ARA* means as a planner.
 use Rattle.std.specs.Prelude.{false}
-use Rattle.sbpl_search.specs.Meaning.{Meaning}
-use Rattle.sbpl_search.specs.Ready.{AreReady}
+use Rattle.sbpl_serial.specs.sbpl_search.Meaning.{Meaning}
+use Rattle.sbpl_serial.specs.sbpl_search.Ready.{AreReady}
 use Rattle.sbpl_serial.specs.declared.step.Step.{Step}
 use Rattle.sbpl_serial.specs.Meant.{BeginsAnew, serial}
 

@@ -1,18 +1,15 @@
 //! The search of ARA*.
 
 ghost use Rattle.std.specs.Prelude.{◌≡◌, ℕ, ◌<◌, ◌≤◌, [], IfOk};
-ghost use Rattle.sbpl_graph.specs.Bound.{IsLow};
-ghost use Rattle.sbpl_graph.specs.Network.{Network};
-ghost use Rattle.sbpl_labels.specs.Marks.{AreLabels, AreInitial, states_of, g_of, v_of};
-ghost use Rattle.sbpl_search.specs.Query.{query};
-ghost use Rattle.sbpl_search.specs.Ready.{AreReady, IsStartFresh};
+ghost use Rattle.sbpl_serial.specs.sbpl_graph.Bound.{IsLow};
+ghost use Rattle.sbpl_serial.specs.sbpl_graph.Network.{Network};
+ghost use Rattle.sbpl_serial.specs.sbpl_labels.Marks.{AreLabels, AreInitial, states_of, g_of, v_of};
+ghost use Rattle.sbpl_serial.specs.sbpl_search.Query.{query};
+ghost use Rattle.sbpl_serial.specs.sbpl_search.Ready.{AreReady, IsStartFresh};
 ghost use Rattle.sbpl_serial.specs.Passed.{IsForwardPass, IsSerialPass};
 ghost use Rattle.sbpl_serial.specs.Serial.{AreSerialParts};
 
-use sbpl_fixed::NoMemory;
-use sbpl_graph::{Graph, Guide};
-use sbpl_labels::{Budget, Labels, PassEnd};
-use sbpl_serial::{Parts, Serial, Step};
+use sbpl_serial::{Budget, Graph, Guide, Labels, NoMemory, Parts, PassEnd, Serial, Step};
 use std::alloc::Global;
 use std::marker::Model;
 

@@ -5,4 +5,7 @@ mod ara;
 mod planner;
 
 pub use ara::Ara;
-pub use sbpl_serial::{Closed, Parts, Step, Steps};
+pub use sbpl_serial::{
+    Budget, Closed, Determined, Graph, Guide, Key, Labels, NoMemory, Open, Parts, PassEnd, Search,
+    Serial, Step, Steps, raising_goes_arc_by_arc, repair_labels, run_is_determined,
+};

@@ -4,11 +4,9 @@ ghost use Rattle.sbpl_ara.specs.Planner.{ara};
 ghost use Rattle.sbpl_serial.specs.Meant.{seen};
 
 use crate::Ara;
-use sbpl_fixed::NoMemory;
-use sbpl_graph::{Graph, Guide};
-use sbpl_labels::{Budget, Labels, PassEnd};
-use sbpl_search::{Determined, Search};
-use sbpl_serial::{Step, run_is_determined};
+use sbpl_serial::{
+    Budget, Determined, Graph, Guide, Labels, NoMemory, PassEnd, Search, Step, run_is_determined,
+};
 use std::alloc::Global;
 
 impl<G: Graph, H: Guide> Search<G, H> for Ara {

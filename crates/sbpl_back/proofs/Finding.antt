@@ -5,8 +5,8 @@ use Rattle.std.specs.List.{find, range_with_len}
 use Rattle.std.proofs.lemmas.Bool.{and_parts, and_from, cases_lt, eqb-true, eq-eqb, false≢true}
 use Rattle.std.proofs.lemmas.Grind.{not_there}
 use Rattle.std.proofs.lemmas.Option.{none-some, same_Some}
-use Rattle.sbpl_graph.specs.Network.{Network, IsArc}
-use Rattle.sbpl_graph.specs.Laws.{HasExactTails, IsTail}
+use Rattle.sbpl_cost.specs.sbpl_graph.Network.{Network, IsArc}
+use Rattle.sbpl_cost.specs.sbpl_graph.Laws.{HasExactTails, IsTail}
 use Rattle.sbpl_back.specs.Reversed.{is_arc, tail_number}
 
 -- ---- the first number that passes a test

@@ -1,6 +1,6 @@
 -- The gap from a robot's state guides over the reversed graph.
 use Rattle.std.proofs.Common.{ℕ, ◌<◌, arith}
-use Rattle.sbpl_graph.specs.Laws.{HasExactTails, HasGaps}
+use Rattle.sbpl_cost.specs.sbpl_graph.Laws.{HasExactTails, HasGaps}
 use Rattle.sbpl_cost.specs.Lattices.{LatticeGapsRise, network_of}
 use Rattle.sbpl_cost.specs.World.{IsWorld, World}
 use Rattle.sbpl_back.specs.Reversed.{reversed}

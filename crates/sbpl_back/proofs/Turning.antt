@@ -4,9 +4,9 @@ use Rattle.std.proofs.Common.{option_and_then, refl, ap, sym, ◌∙◌, arith, 
 use Rattle.std.specs.Option.{option_map}
 use Rattle.std.proofs.lemmas.Grind.{merely}
 use Rattle.std.proofs.lemmas.Option.{none-some, same_Some}
-use Rattle.sbpl_graph.specs.Network.{Network, IsArc, IsFreeArc}
-use Rattle.sbpl_graph.specs.Laws.{HasExactTails, HasGaps, IsSound, IsTail}
-use Rattle.sbpl_graph.specs.Path.{IsFreePath}
+use Rattle.sbpl_cost.specs.sbpl_graph.Network.{Network, IsArc, IsFreeArc}
+use Rattle.sbpl_cost.specs.sbpl_graph.Laws.{HasExactTails, HasGaps, IsSound, IsTail}
+use Rattle.sbpl_cost.specs.sbpl_graph.Path.{IsFreePath}
 use Rattle.sbpl_back.specs.Reversed.{AreTurned, PathsTurnBack, PathsTurnRound, ReversedKeepsLaws, reversed, tail_number}
 use Rattle.sbpl_back.proofs.Finding.{number_is_tail, number_of_tail, numbered}
 

@@ -4,9 +4,9 @@ use Rattle.std.proofs.Common.{sym, ◌∙◌, subst, append_assoc, append-nil, a
 use Rattle.std.specs.Option.{option_map}
 use Rattle.std.proofs.lemmas.List.{drop_all, reverse-append}
 use Rattle.std.proofs.lemmas.Option.{same_Some}
-use Rattle.sbpl_graph.specs.Network.{Network}
-use Rattle.sbpl_graph.specs.Laws.{HasExactTails}
-use Rattle.sbpl_graph.specs.Path.{IsFreePath}
+use Rattle.sbpl_cost.specs.sbpl_graph.Network.{Network}
+use Rattle.sbpl_cost.specs.sbpl_graph.Laws.{HasExactTails}
+use Rattle.sbpl_cost.specs.sbpl_graph.Path.{IsFreePath}
 use Rattle.sbpl_back.specs.Reversed.{AreTurned, IsPathTurned, PathsTurnOnce, reversed}
 use Rattle.sbpl_back.proofs.Turning.{paths_turn_round}
 

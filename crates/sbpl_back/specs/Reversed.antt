@@ -2,9 +2,9 @@
 use Rattle.std.specs.Prelude.{◌≡◌, ℕ, ◌<◌, ◌&&◌, ◌==◌, Bool, false, List, [], ◌∷◌, ◌++◌, Option, Some, None, option_and_then}
 use Rattle.std.specs.List.{find, range_with_len}
 use Rattle.std.specs.Option.{option_map}
-use Rattle.sbpl_graph.specs.Laws.{HasExactTails, HasGaps, IsSound, IsTail}
-use Rattle.sbpl_graph.specs.Network.{Network, IsFreeArc}
-use Rattle.sbpl_graph.specs.Path.{IsFreePath}
+use Rattle.sbpl_cost.specs.sbpl_graph.Laws.{HasExactTails, HasGaps, IsSound, IsTail}
+use Rattle.sbpl_cost.specs.sbpl_graph.Network.{Network, IsFreeArc}
+use Rattle.sbpl_cost.specs.sbpl_graph.Path.{IsFreePath}
 
 -- a tail is arc k of state s
 abbrev pub is_arc : ℕ → ℕ → Option (ℕ × ℕ) → Bool

@@ -1,7 +1,7 @@
 -- The guide of a search over the reversed graph.
 use Rattle.std.specs.Prelude.{ℕ, ◌^◌, ◌<◌}
-use Rattle.sbpl_graph.specs.Laws.{IsConsistent}
-use Rattle.sbpl_graph.specs.Network.{Network}
+use Rattle.sbpl_cost.specs.sbpl_graph.Laws.{IsConsistent}
+use Rattle.sbpl_cost.specs.sbpl_graph.Network.{Network}
 use Rattle.sbpl_cost.specs.Lattices.{network_of}
 use Rattle.sbpl_cost.specs.World.{World}
 

@@ -2,8 +2,7 @@
 
 ghost use Rattle.std.specs.Prelude.{◌≡◌};
 
-use sbpl_cost::{Lattice, lattice_has_its_tails};
-use sbpl_graph::Graph;
+use sbpl_cost::{Graph, Lattice, lattice_has_its_tails};
 use std::marker::Model;
 
 /// The reversed graph of a lattice: arc `j` of a state is its tail `j` in the lattice, which leads to the tail's source and is free
@@ -17,7 +16,7 @@ pub struct Back<'a> {
 impl<'a> Model for Back<'a> {
     ghost use Rattle.sbpl_cost.specs.Lattices.{network_of};
     ghost use Rattle.sbpl_cost.specs.World.{World};
-    ghost use Rattle.sbpl_graph.specs.Laws.{HasExactTails};
+    ghost use Rattle.sbpl_cost.specs.sbpl_graph.Laws.{HasExactTails};
 
     ghost Value = { World };
 

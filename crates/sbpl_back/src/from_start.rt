@@ -5,8 +5,7 @@ ghost use Rattle.sbpl_cost.specs.Lattices.{network_of};
 ghost use Rattle.sbpl_back.specs.Reversed.{reversed};
 ghost use Rattle.sbpl_back.specs.Starts.{IsGuideFrom};
 
-use sbpl_cost::{Lattice, gaps_rise_along_arcs};
-use sbpl_graph::{Graph, Guide};
+use sbpl_cost::{Graph, Guide, Lattice, gaps_rise_along_arcs};
 use std::marker::Model;
 
 /// For the reversed graph of a lattice, the guide to the state where a robot is: at each state the lattice's gap from there to it.

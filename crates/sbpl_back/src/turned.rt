@@ -2,12 +2,10 @@
 
 ghost use Rattle.std.specs.Prelude.{ℕ, ◌<◌, IfOk};
 ghost use Rattle.sbpl_cost.specs.Lattices.{network_of};
-ghost use Rattle.sbpl_graph.specs.Path.{IsFreePath};
+ghost use Rattle.sbpl_cost.specs.sbpl_graph.Path.{IsFreePath};
 ghost use Rattle.sbpl_back.specs.Reversed.{IsPathTurned, reversed};
 
-use sbpl_cost::Lattice;
-use sbpl_fixed::NoMemory;
-use sbpl_graph::Graph;
+use sbpl_cost::{Graph, Lattice, NoMemory};
 use std::alloc::Global;
 
 /// The arcs of a free path of the reversed graph from state `from`, turned round: a free path of the lattice that leads to `from`, at

@@ -1,9 +1,9 @@
 -- Rows of the labels that are needed show what the labels show.
 use Rattle.std.proofs.Common.{◌≡◌, ℕ, ◌+◌, ◌<◌, ◌≤◌, sym, ◌∙◌, subst, arith, List}
-use Rattle.sbpl_graph.specs.Bound.{IsLow}
-use Rattle.sbpl_graph.specs.Certificate.{AreSupported, IsLabel, ShowBound}
-use Rattle.sbpl_graph.specs.Laws.{IsConsistent, IsSound}
-use Rattle.sbpl_graph.specs.Network.{Network}
+use Rattle.sbpl_labels.specs.sbpl_graph.Bound.{IsLow}
+use Rattle.sbpl_labels.specs.sbpl_graph.Certificate.{AreSupported, IsLabel, ShowBound}
+use Rattle.sbpl_labels.specs.sbpl_graph.Laws.{IsConsistent, IsSound}
+use Rattle.sbpl_labels.specs.sbpl_graph.Network.{Network}
 use Rattle.sbpl_labels.specs.Marks.{Marks, states_of, g_of, v_of}
 use Rattle.sbpl_cert.specs.declared.outcome.Outcome.{Outcome}
 use Rattle.sbpl_cert.specs.declared.outcome.Outcome.TheVariants as outcome

@@ -2,8 +2,8 @@
 use Rattle.std.proofs.Common.{◌≡◌, ◌≢◌, ℕ, zero, suc, ◌<◌, inl, inr, List, [], ◌∷◌, length, refl, sym, ◌∙◌, ap, ap₂}
 use Rattle.std.proofs.Common.{subst, arith, eq-eqb}
 use Rattle.std.proofs.lemmas.Bool.{cases_eq, cases_lt, ne_eqb}
-use Rattle.sbpl_graph.specs.declared.TheConstants.{FAR}
-use Rattle.sbpl_graph.specs.Network.{Network}
+use Rattle.sbpl_labels.specs.sbpl_graph.declared.TheConstants.{FAR}
+use Rattle.sbpl_labels.specs.sbpl_graph.Network.{Network}
 use Rattle.sbpl_labels.specs.Cut.{kept_v}
 use Rattle.sbpl_labels.specs.Marks.{Marks, g_of}
 use Rattle.sbpl_cert.specs.declared.outcome.Outcome.{Outcome}

@@ -4,9 +4,9 @@ use Rattle.std.proofs.Common.{◌∙◌, arith, eq-eqb, length-append}
 use Rattle.std.proofs.Math.ListN.{get_or-append}
 use Rattle.std.proofs.Math.Seq.{get_or-append_seam}
 use Rattle.std.proofs.lemmas.Bool.{cases_eq, cases_lt, ne_eqb}
-use Rattle.sbpl_graph.specs.declared.TheConstants.{FAR}
-use Rattle.sbpl_graph.specs.Certificate.{IsLabel}
-use Rattle.sbpl_graph.specs.Network.{Network}
+use Rattle.sbpl_labels.specs.sbpl_graph.declared.TheConstants.{FAR}
+use Rattle.sbpl_labels.specs.sbpl_graph.Certificate.{IsLabel}
+use Rattle.sbpl_labels.specs.sbpl_graph.Network.{Network}
 use Rattle.sbpl_labels.specs.Marks.{Marks}
 use Rattle.sbpl_cert.specs.declared.outcome.Outcome.{Outcome}
 use Rattle.sbpl_cert.specs.declared.sparse_row.SparseRow.{SparseRow}

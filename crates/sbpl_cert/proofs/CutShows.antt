@@ -1,10 +1,10 @@
 -- Cut labels show the bound that the labels show.
 use Rattle.std.proofs.Common.{◌≡◌, ◌≢◌, ℕ, ◌+◌, ◌<◌, ◌≤◌, ◌⊎◌, inl, inr, refl, sym, ap, ◌∙◌, subst, arith}
 use Rattle.std.proofs.lemmas.Bool.{cases_lt, cases_eq, lt-ltb, le-ltb}
-use Rattle.sbpl_graph.specs.declared.TheConstants.{FAR}
-use Rattle.sbpl_graph.specs.Certificate.{IsLabel, ShowBound}
-use Rattle.sbpl_graph.specs.Laws.{IsSound}
-use Rattle.sbpl_graph.specs.Network.{Network, IsFreeArc}
+use Rattle.sbpl_labels.specs.sbpl_graph.declared.TheConstants.{FAR}
+use Rattle.sbpl_labels.specs.sbpl_graph.Certificate.{IsLabel, ShowBound}
+use Rattle.sbpl_labels.specs.sbpl_graph.Laws.{IsSound}
+use Rattle.sbpl_labels.specs.sbpl_graph.Network.{Network, IsFreeArc}
 use Rattle.sbpl_labels.specs.Cut.{kept_v}
 use Rattle.sbpl_cert.specs.Cut.{AreCut}
 

@@ -1,7 +1,7 @@
 -- What a section claims hangs on the guide at states alone.
 use Rattle.std.proofs.Common.{◌≡◌, ℕ, ◌+◌, ◌<◌, inl, inr, sym, ap, ◌∙◌}
 use Rattle.std.specs.Prelude.{IsTrue, false}
-use Rattle.sbpl_graph.specs.Network.{Network}
+use Rattle.sbpl_labels.specs.sbpl_graph.Network.{Network}
 use Rattle.sbpl_cert.specs.declared.flaw.Flaw.{Flaw}
 use Rattle.sbpl_cert.specs.declared.flaw.Flaw.TheVariants as flaw
 use Rattle.sbpl_cert.specs.declared.section.Section.{Section}

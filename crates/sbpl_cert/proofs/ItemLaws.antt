@@ -4,7 +4,7 @@ use Rattle.std.proofs.Common.{Result, Ok, Err, refl, sym, ap, ◌∙◌, arith}
 use Rattle.std.specs.Prelude.{bytes_eq, codes, if◌then◌else◌, nat_le}
 use Rattle.std.proofs.lemmas.Bool.{cases_Bool, and_parts, leb-true, cases_lt, lt-ltb, le-ltb, lt-leb, le-leb}
 use Rattle.std.proofs.lemmas.Slice.Eq.{bytes_eq-Decides}
-use Rattle.sbpl_graph.specs.declared.TheConstants.{FAR}
+use Rattle.sbpl_labels.specs.sbpl_graph.declared.TheConstants.{FAR}
 use Rattle.sbpl_fixed.specs.Numbers.{all_digits, is_digit, number_of}
 use Rattle.sbpl_fixed.specs.Unsigned.{below, IsDigits, NumbersAreTheirDigits}
 use Rattle.sbpl_fixed.specs.declared.fault.NumFault.TheVariants.{Form, Size}

@@ -1,7 +1,7 @@
 -- What holds of the listed states of a labelling, and of states of infinite labels, holds of all.
 use Rattle.std.proofs.Common.{◌≡◌, ℕ, ◌<◌, inl, inr, subst, ap, arith}
 use Rattle.std.proofs.lemmas.Bool.{cases_lt, cases_eq}
-use Rattle.sbpl_graph.specs.declared.TheConstants.{FAR}
+use Rattle.sbpl_labels.specs.sbpl_graph.declared.TheConstants.{FAR}
 use Rattle.sbpl_cert.specs.Labelling.{IsLabelling, Labelling}
 
 module _ (l : Labelling) (is : IsLabelling l) where

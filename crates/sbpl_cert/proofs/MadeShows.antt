@@ -1,9 +1,9 @@
 -- Rows that are made of labels show what the labels show.
 use Rattle.std.proofs.Common.{◌≡◌, ℕ, ◌+◌, ◌<◌, ◌≤◌, sym, ◌∙◌, ap, subst, arith}
-use Rattle.sbpl_graph.specs.Bound.{IsLow}
-use Rattle.sbpl_graph.specs.Certificate.{AreSupported, IsLabel, ShowBound}
-use Rattle.sbpl_graph.specs.Laws.{IsConsistent, IsSound}
-use Rattle.sbpl_graph.specs.Network.{Network, IsFreeArc}
+use Rattle.sbpl_labels.specs.sbpl_graph.Bound.{IsLow}
+use Rattle.sbpl_labels.specs.sbpl_graph.Certificate.{AreSupported, IsLabel, ShowBound}
+use Rattle.sbpl_labels.specs.sbpl_graph.Laws.{IsConsistent, IsSound}
+use Rattle.sbpl_labels.specs.sbpl_graph.Network.{Network, IsFreeArc}
 use Rattle.sbpl_labels.specs.Marks.{Marks, states_of, g_of, v_of}
 use Rattle.sbpl_cert.specs.declared.row.Row.{Row}
 use Rattle.sbpl_cert.specs.Made.{HaveRows}

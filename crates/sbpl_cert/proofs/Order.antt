@@ -3,12 +3,12 @@ use Rattle.std.proofs.Common.{◌≡◌, ℕ, ◌+◌, ◌*◌, ◌<◌, ◌≤�
 use Rattle.std.proofs.Common.{Option, Some, None, Result, Ok, Err, MatchResult, cond, eq-eqb, nat_eq}
 use Rattle.std.specs.Prelude.{◌≢◌, IsTrue}
 use Rattle.std.proofs.lemmas.Bool.{cases_eq, cases_lt, ne_eqb}
-use Rattle.sbpl_graph.specs.declared.TheConstants.{FAR}
-use Rattle.sbpl_graph.specs.Network.{Network, IsFreeArc}
-use Rattle.sbpl_graph.specs.Path.{IsFreePath}
-use Rattle.sbpl_graph.specs.Bound.{IsBound}
-use Rattle.sbpl_graph.specs.Laws.{IsSound}
-use Rattle.sbpl_graph.specs.Certificate.{ShowNone, BoundHolds, NoneHolds}
+use Rattle.sbpl_labels.specs.sbpl_graph.declared.TheConstants.{FAR}
+use Rattle.sbpl_labels.specs.sbpl_graph.Network.{Network, IsFreeArc}
+use Rattle.sbpl_labels.specs.sbpl_graph.Path.{IsFreePath}
+use Rattle.sbpl_labels.specs.sbpl_graph.Bound.{IsBound}
+use Rattle.sbpl_labels.specs.sbpl_graph.Laws.{IsSound}
+use Rattle.sbpl_labels.specs.sbpl_graph.Certificate.{ShowNone, BoundHolds, NoneHolds}
 use Rattle.std.proofs.Math.Nat.{mul-le-mul_left}
 use Rattle.sbpl_cert.specs.declared.outcome.Outcome.{Outcome}
 use Rattle.sbpl_cert.specs.declared.outcome.Outcome.TheVariants as outcome

@@ -2,8 +2,8 @@
 use Rattle.std.proofs.Common.{◌≡◌, ℕ, zero, suc, ◌+◌, ◌<◌, List, [], ◌∷◌, ◌++◌, length, take, get_or, refl, sym}
 use Rattle.std.proofs.Common.{subst, ◌∙◌, arith}
 use Rattle.std.proofs.lemmas.List.{take_more, take-take, get_or-take, length-take-le}
-use Rattle.sbpl_graph.specs.Network.{Network, IsFreeArc}
-use Rattle.sbpl_graph.specs.Path.{IsFreePath}
+use Rattle.sbpl_labels.specs.sbpl_graph.Network.{Network, IsFreeArc}
+use Rattle.sbpl_labels.specs.sbpl_graph.Path.{IsFreePath}
 
 -- a free path and a free arc from its end are a free path
 path_and_arc : (n : Network) (s : ℕ) (ks : List ℕ) (u a k t c : ℕ) → IsFreePath n s ks u a → IsFreeArc n u k t c

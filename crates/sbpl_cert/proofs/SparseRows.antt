@@ -8,8 +8,8 @@ use Rattle.std.proofs.lemmas.Cmp.{ranked}
 use Rattle.std.proofs.lemmas.List.Sorted.{IsNonDecreasingBy-from_default}
 use Rattle.std.proofs.lemmas.Bool.{cases_eq, cases_lt, ne_eqb}
 use Rattle.std.proofs.lemmas.Bool.Decides.{nat_tests}
-use Rattle.sbpl_graph.specs.declared.TheConstants.{FAR}
-use Rattle.sbpl_graph.specs.Certificate.{IsLabel}
+use Rattle.sbpl_labels.specs.sbpl_graph.declared.TheConstants.{FAR}
+use Rattle.sbpl_labels.specs.sbpl_graph.Certificate.{IsLabel}
 use Rattle.sbpl_cert.specs.declared.sparse_row.SparseRow.{SparseRow}
 use Rattle.sbpl_cert.specs.Labelling.{IsLabelling}
 use Rattle.sbpl_cert.specs.Sparse.{AreSparseRows, GoUpwards, IsSparseSection, SparseSection, g_in, no_sparse_row}

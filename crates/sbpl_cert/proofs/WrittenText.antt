@@ -5,8 +5,8 @@ use Rattle.std.specs.Prelude.{decimal, codes}
 use Rattle.std.specs.List.{flat_map}
 use Rattle.std.proofs.lemmas.Bool.{ne_eqb}
 use Rattle.std.proofs.lemmas.List.{length-append, drop_at}
-use Rattle.sbpl_graph.specs.declared.TheConstants.{FAR}
-use Rattle.sbpl_graph.specs.Certificate.{IsLabel}
+use Rattle.sbpl_labels.specs.sbpl_graph.declared.TheConstants.{FAR}
+use Rattle.sbpl_labels.specs.sbpl_graph.Certificate.{IsLabel}
 use Rattle.sbpl_fixed.specs.Printed.{milli_text, line_text}
 use Rattle.sbpl_fixed.specs.ReadBack.{IsWord, WordsAreTokens}
 use Rattle.sbpl_fixed.specs.Runs.{ends_blank}

@@ -1,9 +1,9 @@
 -- What the parts of a check answer: a test holds wherever it was made, or there is a first place where it fails.
 use Rattle.std.specs.Prelude.{◌≡◌, ◌≢◌, ℕ, ◌+◌, ◌<◌, ◌≤◌, ◌⊎◌, Option, Some, List, length, take, slice_index}
-use Rattle.sbpl_graph.specs.declared.TheConstants.{FAR}
-use Rattle.sbpl_graph.specs.Network.{Network, IsFreeArc}
-use Rattle.sbpl_graph.specs.Bound.{IsBound}
-use Rattle.sbpl_graph.specs.Path.{IsFreePath}
+use Rattle.sbpl_labels.specs.sbpl_graph.declared.TheConstants.{FAR}
+use Rattle.sbpl_labels.specs.sbpl_graph.Network.{Network, IsFreeArc}
+use Rattle.sbpl_labels.specs.sbpl_graph.Bound.{IsBound}
+use Rattle.sbpl_labels.specs.sbpl_graph.Path.{IsFreePath}
 use Rattle.sbpl_cert.specs.declared.outcome.Outcome.{Outcome}
 use Rattle.sbpl_cert.specs.declared.outcome.Outcome.TheVariants as outcome
 use Rattle.sbpl_cert.specs.declared.flaw.Flaw.{Flaw}

@@ -1,6 +1,6 @@
 -- What a section claims of the states of a graph, however it is written.
 use Rattle.std.specs.Prelude.{ℕ, ◌<◌, Bool, true, List}
-use Rattle.sbpl_graph.specs.Certificate.{IsLabel}
+use Rattle.sbpl_labels.specs.sbpl_graph.Certificate.{IsLabel}
 use Rattle.sbpl_cert.specs.declared.outcome.Outcome.{Outcome}
 use Rattle.sbpl_cert.specs.Sections.{FullSection, g_at, v_at, h_at}
 

@@ -1,9 +1,9 @@
 -- Labels that are cut to what a low needs: they show the same bound, and few of them are finite.
 use Rattle.std.specs.Prelude.{◌≡◌, ◌≢◌, ℕ, ◌<◌, ◌⊎◌, List, length}
-use Rattle.sbpl_graph.specs.declared.TheConstants.{FAR}
-use Rattle.sbpl_graph.specs.Certificate.{ShowBound}
-use Rattle.sbpl_graph.specs.Laws.{IsSound, IsTail}
-use Rattle.sbpl_graph.specs.Network.{Network, IsFreeArc}
+use Rattle.sbpl_labels.specs.sbpl_graph.declared.TheConstants.{FAR}
+use Rattle.sbpl_labels.specs.sbpl_graph.Certificate.{ShowBound}
+use Rattle.sbpl_labels.specs.sbpl_graph.Laws.{IsSound, IsTail}
+use Rattle.sbpl_labels.specs.sbpl_graph.Network.{Network, IsFreeArc}
 use Rattle.sbpl_labels.specs.Cut.{kept_v}
 use Rattle.sbpl_labels.specs.Marks.{Marks, g_of, v_of}
 use Rattle.sbpl_cert.specs.declared.outcome.Outcome.{Outcome}

@@ -1,9 +1,9 @@
 -- Flaws of a claim on a graph, and which of them comes first. Infinity counts as 2^63 in each comparison.
 use Rattle.std.specs.Prelude.{◌≡◌, ◌≢◌, ℕ, ◌+◌, ◌<◌, ◌⊎◌, if◌then◌else◌, ◌==◌, IsTrue, Option, Some, None, List, length, take, slice_index, codes}
-use Rattle.sbpl_graph.specs.declared.TheConstants.{FAR}
-use Rattle.sbpl_graph.specs.Network.{Network, IsFreeArc}
-use Rattle.sbpl_graph.specs.Path.{IsFreePath}
-use Rattle.sbpl_graph.specs.Bound.{IsBound}
+use Rattle.sbpl_labels.specs.sbpl_graph.declared.TheConstants.{FAR}
+use Rattle.sbpl_labels.specs.sbpl_graph.Network.{Network, IsFreeArc}
+use Rattle.sbpl_labels.specs.sbpl_graph.Path.{IsFreePath}
+use Rattle.sbpl_labels.specs.sbpl_graph.Bound.{IsBound}
 use Rattle.sbpl_cert.specs.declared.outcome.Outcome.TheVariants as outcome
 use Rattle.sbpl_cert.specs.declared.flaw.Flaw.{Flaw}
 use Rattle.sbpl_cert.specs.declared.flaw.Flaw.TheVariants as flaw

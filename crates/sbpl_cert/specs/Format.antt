@@ -1,6 +1,6 @@
 -- The format of a section of a label text.
 use Rattle.std.specs.Prelude.{ℕ, ℤ, pos, ◌+◌, ◌^◌, ◌==◌, nat_le, bytes_eq, if◌then◌else◌, List, [], ◌∷◌, ◌++◌, unsigned_abs, codes, Result, Ok, Err}
-use Rattle.sbpl_graph.specs.declared.TheConstants.{FAR}
+use Rattle.sbpl_labels.specs.sbpl_graph.declared.TheConstants.{FAR}
 use Rattle.sbpl_fixed.specs.Formats.{Miss, no_word, no_number, out_of_range, Item, Format, item, wrong, done, fixed, and_then, turns}
 use Rattle.sbpl_fixed.specs.Unsigned.{digits_of, milli_of}
 use Rattle.sbpl_fixed.specs.declared.fault.NumFault.{NumFault}

@@ -1,7 +1,7 @@
 -- A section that is made of the labels that a plan left.
 use Rattle.std.specs.Prelude.{◌≡◌, ℕ, ◌<◌, List, length}
-use Rattle.sbpl_graph.specs.Bound.{IsLow}
-use Rattle.sbpl_graph.specs.Network.{Network}
+use Rattle.sbpl_labels.specs.sbpl_graph.Bound.{IsLow}
+use Rattle.sbpl_labels.specs.sbpl_graph.Network.{Network}
 use Rattle.sbpl_labels.specs.Marks.{Marks, states_of, g_of, v_of}
 use Rattle.sbpl_cert.specs.declared.row.Row.{Row}
 use Rattle.sbpl_cert.specs.Sections.{FullSection, row_at}

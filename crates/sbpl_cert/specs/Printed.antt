@@ -1,7 +1,7 @@
 -- The text of a section. The words of a line are separated by one space, and every line ends with one line feed.
 use Rattle.std.specs.Prelude.{◌≡◌, ℕ, List, [], ◌∷◌, ◌++◌, length, take, map, codes, decimal, if◌then◌else◌, ◌==◌}
 use Rattle.std.specs.List.{flat_map}
-use Rattle.sbpl_graph.specs.declared.TheConstants.{FAR}
+use Rattle.sbpl_labels.specs.sbpl_graph.declared.TheConstants.{FAR}
 use Rattle.sbpl_fixed.specs.Printed.{line_text, milli_text}
 use Rattle.sbpl_cert.specs.declared.outcome.Outcome.{Outcome}
 use Rattle.sbpl_cert.specs.declared.outcome.Outcome.TheVariants as outcome

@@ -1,13 +1,13 @@
 -- A section of a label text: what a plan answered, and the labels that show it.
 use Rattle.std.specs.Prelude.{◌≡◌, ℕ, ◌^◌, ◌<◌, ◌≤◌, ◌⊎◌, List, [], length, slice_index, slice_index_or}
-use Rattle.sbpl_graph.specs.declared.TheConstants.{FAR}
-use Rattle.sbpl_graph.specs.Certificate.{IsLabel}
+use Rattle.sbpl_labels.specs.sbpl_graph.declared.TheConstants.{FAR}
+use Rattle.sbpl_labels.specs.sbpl_graph.Certificate.{IsLabel}
 use Rattle.sbpl_cert.specs.declared.outcome.Outcome.{Outcome}
 use Rattle.sbpl_cert.specs.declared.outcome.Outcome.TheVariants as outcome
 use Rattle.sbpl_cert.specs.declared.row.Row.{Row}
 use Rattle.sbpl_cert.specs.Labelling.{Labelling}
-use Rattle.sbpl_graph.specs.Laws.{IsConsistent}
-use Rattle.sbpl_graph.specs.Network.{Network}
+use Rattle.sbpl_labels.specs.sbpl_graph.Laws.{IsConsistent}
+use Rattle.sbpl_labels.specs.sbpl_graph.Network.{Network}
 
 -- the plan's number, the low of the labels, the outcome, the arc numbers of a path from the start, and a row for each state in order
 pub record FullSection : Type 0 where

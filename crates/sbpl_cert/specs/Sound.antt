@@ -1,9 +1,9 @@
 -- What a claim without a flaw shows, and what is true on the graph then.
 use Rattle.std.specs.Prelude.{ℕ, ◌*◌, ◌≤◌, List}
-use Rattle.sbpl_graph.specs.Network.{Network}
-use Rattle.sbpl_graph.specs.Path.{IsFreePath}
-use Rattle.sbpl_graph.specs.Bound.{IsBound}
-use Rattle.sbpl_graph.specs.Certificate.{ShowBound, ShowNone}
+use Rattle.sbpl_labels.specs.sbpl_graph.Network.{Network}
+use Rattle.sbpl_labels.specs.sbpl_graph.Path.{IsFreePath}
+use Rattle.sbpl_labels.specs.sbpl_graph.Bound.{IsBound}
+use Rattle.sbpl_labels.specs.sbpl_graph.Certificate.{ShowBound, ShowNone}
 use Rattle.sbpl_cert.specs.declared.outcome.Outcome.{Outcome}
 use Rattle.sbpl_cert.specs.declared.outcome.Outcome.TheVariants as outcome
 use Rattle.sbpl_cert.specs.Claims.{Claim}

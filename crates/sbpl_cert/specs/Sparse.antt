@@ -1,7 +1,7 @@
 -- A section of a label text that leaves out the states of infinite labels, and the guide's values.
 use Rattle.std.specs.Prelude.{◌==◌, if◌then◌else◌, ℕ, ◌^◌, ◌<◌, false, List, [], ◌∷◌, length, slice_index_or}
-use Rattle.sbpl_graph.specs.declared.TheConstants.{FAR}
-use Rattle.sbpl_graph.specs.Certificate.{IsLabel}
+use Rattle.sbpl_labels.specs.sbpl_graph.declared.TheConstants.{FAR}
+use Rattle.sbpl_labels.specs.sbpl_graph.Certificate.{IsLabel}
 use Rattle.sbpl_cert.specs.declared.outcome.Outcome.{Outcome}
 use Rattle.sbpl_cert.specs.declared.sparse_row.SparseRow.{SparseRow}
 use Rattle.sbpl_cert.specs.Claims.{Claim}

@@ -1,7 +1,7 @@
 -- Which tokens stand for a section, one by one and with no reading in it.
 use Rattle.std.specs.Prelude.{◌≡◌, ◌≢◌, ◌+◌, ◌-◌, ◌*◌, ◌<◌, ◌⊎◌, ℕ, List, [], ◌∷◌, ◌++◌, length, codes}
 use Rattle.std.specs.List.{flat_map}
-use Rattle.sbpl_graph.specs.declared.TheConstants.{FAR}
+use Rattle.sbpl_labels.specs.sbpl_graph.declared.TheConstants.{FAR}
 use Rattle.sbpl_fixed.specs.Numbers.{number_of}
 use Rattle.sbpl_fixed.specs.Unsigned.{IsDigits, IsMilli}
 use Rattle.sbpl_fixed.specs.Formats.{Left, IsFaulty}

@@ -1,11 +1,11 @@
 //! A section is checked on a graph, wherever its labels came from.
 
 ghost use Rattle.std.specs.Prelude.{◌≡◌, ℕ, ◌^◌, ◌<◌, ◌≤◌, Ok, Err, length, OnOk, IfErr, IfSome, MatchOption, MatchResult};
-ghost use Rattle.sbpl_graph.specs.Bound.{IsBound};
-ghost use Rattle.sbpl_graph.specs.Certificate.{IsLabel};
-ghost use Rattle.sbpl_graph.specs.Network.{IsFreeArc};
-ghost use Rattle.sbpl_graph.specs.Path.{IsFreePath};
-ghost use Rattle.sbpl_graph.specs.declared.TheConstants.{FAR as Far};
+ghost use Rattle.sbpl_labels.specs.sbpl_graph.Bound.{IsBound};
+ghost use Rattle.sbpl_labels.specs.sbpl_graph.Certificate.{IsLabel};
+ghost use Rattle.sbpl_labels.specs.sbpl_graph.Network.{IsFreeArc};
+ghost use Rattle.sbpl_labels.specs.sbpl_graph.Path.{IsFreePath};
+ghost use Rattle.sbpl_labels.specs.sbpl_graph.declared.TheConstants.{FAR as Far};
 ghost use Rattle.sbpl_cert.specs.declared.flaw.Flaw.{Flaw as AFlaw};
 ghost use Rattle.sbpl_cert.specs.Checking.{AreAllKept, IsArcFlaw, IsArcFlawAt, IsArcKept, IsBoundFlaw, IsFirstArcFlaw, IsFirstGuideFlaw, IsFirstLowFlaw, IsFirstUnsettledFlaw, IsGuideFlaw, IsGuideFlawAt, IsGuideKept, IsGuideOffFirst, IsGuideRight, IsLowAllowed, IsLowFlaw, IsLowKept, IsOutcomeFlaw, IsOutcomeRight, IsPathFlaw, IsSettled, IsShut, IsStepFlaw, IsSupportFlaw};
 ghost use Rattle.sbpl_cert.specs.Claims.{claim_of};
@@ -20,8 +20,7 @@ use crate::label_table::LabelTable;
 use crate::outcome::Outcome;
 use crate::sparse_row::SparseRow;
 use crate::sparse_set::SparseSet;
-use sbpl_graph::{FAR, Graph, Guide, bound_holds, none_holds};
-use sbpl_labels::bound_of;
+use sbpl_labels::{FAR, Graph, Guide, bound_holds, bound_of, none_holds};
 
 /// The head and the cost of an arc, if it is free.
 fn free_arc<G: Graph>(graph: &G, s: u32, k: u32) -> Option<(u32, u32)>

@@ -1,8 +1,8 @@
 //! Labels are cut to the rows that a section needs.
 
 ghost use Rattle.std.specs.Prelude.{◌≡◌, ◌≢◌, ◌⊎◌, ℕ, ◌<◌, IfOk, IsTrue};
-ghost use Rattle.sbpl_graph.specs.Certificate.{IsLabel};
-ghost use Rattle.sbpl_graph.specs.declared.TheConstants.{FAR as Far};
+ghost use Rattle.sbpl_labels.specs.sbpl_graph.Certificate.{IsLabel};
+ghost use Rattle.sbpl_labels.specs.sbpl_graph.declared.TheConstants.{FAR as Far};
 ghost use Rattle.sbpl_labels.specs.Cut.{kept_v};
 ghost use Rattle.sbpl_labels.specs.Marks.{states_of, g_of, v_of};
 ghost use Rattle.sbpl_cert.specs.Cut.{AreCutRows, IsCutAt, IsNeededAt, IsReached, IsReachedBy};
@@ -11,8 +11,7 @@ use crate::outcome::Outcome;
 use crate::sparse_row::SparseRow;
 use crate::sparse_set::SparseRows;
 use sbpl_fixed::NoMemory;
-use sbpl_graph::{FAR, Graph, Guide};
-use sbpl_labels::Labels;
+use sbpl_labels::{FAR, Graph, Guide, Labels};
 use std::alloc::Global;
 
 /// Whether tail `j` of a state is a free arc from a state whose v is kept.

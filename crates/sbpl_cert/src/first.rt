@@ -1,7 +1,7 @@
 //! What the order of flaws means: what a section claims has at most one first flaw.
 
 ghost use Rattle.std.specs.Prelude.{◌≡◌, ℕ, ◌<◌};
-ghost use Rattle.sbpl_graph.specs.Network.{Network};
+ghost use Rattle.sbpl_labels.specs.sbpl_graph.Network.{Network};
 ghost use Rattle.sbpl_cert.specs.declared.flaw.Flaw.{Flaw};
 ghost use Rattle.sbpl_cert.specs.declared.section.Section.{Section};
 ghost use Rattle.sbpl_cert.specs.Flaws.{HasFlaw, HasNoFlaw, IsFirstFlaw};

@@ -4,8 +4,8 @@ use crate::label_table::LabelTable;
 use crate::outcome::Outcome;
 use crate::row::Row;
 use crate::sparse_row::SparseRow;
-use sbpl_graph::Guide;
-use sbpl_list::ListOf;
+use sbpl_labels::Guide;
+use sbpl_lists::ListOf;
 use std::marker::Model;
 
 /// The arc numbers of a path in order.

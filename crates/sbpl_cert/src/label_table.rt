@@ -1,7 +1,7 @@
 //! Labels that are looked up by state.
 
 ghost use Rattle.std.specs.Prelude.{◌≡◌, ◌<◌};
-ghost use Rattle.sbpl_graph.specs.Certificate.{IsLabel};
+ghost use Rattle.sbpl_labels.specs.sbpl_graph.Certificate.{IsLabel};
 ghost use Rattle.sbpl_cert.specs.Labelling.{IsLabelling, Labelling};
 
 use crate::sparse_row::SparseRow;

@@ -30,6 +30,7 @@ pub use making::{section_of, sparse_section_of};
 pub use outcome::Outcome;
 pub use reading::read_labels;
 pub use row::Row;
+pub use sbpl_lists::{Piece, push_all, push_bytes};
 pub use section::Section;
 pub use sparse_row::SparseRow;
 pub use sparse_set::{SparseRows, SparseSet};

@@ -1,9 +1,9 @@
 //! A section is made of the labels that a plan left.
 
 ghost use Rattle.std.specs.Prelude.{◌≡◌, ℕ, ◌<◌, IfOk};
-ghost use Rattle.sbpl_graph.specs.Certificate.{AreSupported};
-ghost use Rattle.sbpl_graph.specs.Laws.{IsSound};
-ghost use Rattle.sbpl_graph.specs.Network.{Network};
+ghost use Rattle.sbpl_labels.specs.sbpl_graph.Certificate.{AreSupported};
+ghost use Rattle.sbpl_labels.specs.sbpl_graph.Laws.{IsSound};
+ghost use Rattle.sbpl_labels.specs.sbpl_graph.Network.{Network};
 ghost use Rattle.sbpl_labels.specs.Marks.{states_of, g_of, v_of};
 ghost use Rattle.sbpl_cert.specs.Claims.{claim_of};
 ghost use Rattle.sbpl_cert.specs.Made.{HaveRows, IsOfCutLabels, IsOfLabels};
@@ -17,8 +17,7 @@ use crate::outcome::Outcome;
 use crate::row::Row;
 use crate::sparse_set::SparseSet;
 use sbpl_fixed::NoMemory;
-use sbpl_graph::{Graph, Guide};
-use sbpl_labels::Labels;
+use sbpl_labels::{Graph, Guide, Labels};
 use std::alloc::Global;
 
 /// The row of a state.

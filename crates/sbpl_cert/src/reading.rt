@@ -22,7 +22,7 @@ use sbpl_fixed::{
     NumFault, Placed, Reader, TextFault, read_digits, read_milli, reading_is_what_is_said,
     tokens_are_longest_runs, unsigned_numbers_are_their_digits,
 };
-use sbpl_graph::FAR;
+use sbpl_labels::FAR;
 use std::alloc::Global;
 
 /// Every low is below this, or infinite.

@@ -7,8 +7,8 @@ use crate::label_set::Arcs;
 use crate::label_table::LabelTable;
 use crate::outcome::Outcome;
 use crate::sparse_row::SparseRow;
-use sbpl_graph::FAR;
-use sbpl_list::ListOf;
+use sbpl_labels::FAR;
+use sbpl_lists::ListOf;
 use std::marker::Model;
 
 /// Rows for some of the states, upwards.

@@ -3,7 +3,7 @@
 ghost use Rattle.std.specs.Prelude.{◌≡◌, ℕ, List, ◌+◌, ◌<◌, ◌≤◌, ◌++◌, ◌∷◌, OnOk, OnErr, IfOk, decimal, codes, length, map, drop};
 ghost use Rattle.std.specs.List.{flat_map};
 ghost use Rattle.sbpl_fixed.specs.Printed.{line_text};
-ghost use Rattle.sbpl_text.specs.Pieces.{piece_text};
+ghost use Rattle.sbpl_lists.specs.Pieces.{piece_text};
 ghost use Rattle.sbpl_cert.specs.Printed.{BeginsWith, full_text, head_line, label_text, outcome_line, row_text, sparse_head_line, sparse_row_text, sparse_text};
 ghost use Rattle.sbpl_cert.specs.declared.outcome.Outcome.TheVariants as outcome;
 
@@ -14,9 +14,9 @@ use crate::sparse_row::SparseRow;
 use crate::sparse_set::SparseSet;
 use itoa::write_digits;
 use sbpl_fixed::NoMemory;
-use sbpl_graph::FAR;
-use sbpl_text::Piece::{Bytes, Milli, Number};
-use sbpl_text::{Piece, push_all, push_bytes, push_line, push_words};
+use sbpl_labels::FAR;
+use sbpl_lists::Piece::{Bytes, Milli, Number};
+use sbpl_lists::{Piece, push_all, push_bytes, push_line, push_words};
 use std::alloc::Global;
 
 /// Room for a row: three numbers of at most twenty digits, with a blank after each.

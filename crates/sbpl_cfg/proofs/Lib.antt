@@ -4,3 +4,4 @@ mod PlaceLaws
 mod PrintLaws
 mod PrintedText
 mod TextLaws
+pub use Rattle.sbpl_fixed.proofs.ReadBack

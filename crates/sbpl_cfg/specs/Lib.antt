@@ -4,3 +4,5 @@ pub mod Format
 pub mod Place
 pub mod Printed
 pub mod Text
+pub use Rattle.sbpl_fixed.specs as sbpl_fixed
+pub use Rattle.sbpl_lists.specs as sbpl_lists

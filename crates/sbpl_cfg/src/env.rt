@@ -1,7 +1,7 @@
 //! The numbers of an environment file, and its costs.
 
 use crate::pose::Pose;
-use sbpl_list::ListOf;
+use sbpl_lists::ListOf;
 use std::marker::Model;
 
 /// The costs of the cells, row by row from `y = 0`, with `x` along a row. Each cost is in 0..255.

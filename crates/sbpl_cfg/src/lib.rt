@@ -16,4 +16,6 @@ pub use place::{TAU, cell_at, heading_at, place_at, places_in_plain_words};
 pub use pose::{Place, Pose};
 pub use print::print_env;
 pub use read::read_env;
+pub use sbpl_fixed::{NoMemory, NumFault, read_whole};
+pub use sbpl_lists::{Bits, ListOf, Piece, Runs, Word, push_all, push_line, push_lines};
 pub use text::texts_are_environments_or_faulty;

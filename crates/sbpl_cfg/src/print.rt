@@ -7,8 +7,8 @@ ghost use Rattle.sbpl_cfg.specs.Printed.{end_lines, environment_text, grid_lines
 use crate::env::{Env, Grid, HEADINGS_WORD, USUAL_HEADINGS};
 use crate::pose::Pose;
 use sbpl_fixed::NoMemory;
-use sbpl_text::Piece::{Bytes, Nano, Number, Signed};
-use sbpl_text::{push_line, push_lines};
+use sbpl_lists::Piece::{Bytes, Nano, Number, Signed};
+use sbpl_lists::{push_line, push_lines};
 
 /// The map's size.
 fn put_size(out: &mut Vec<u8>, env: &Env) -> Result<(), NoMemory>

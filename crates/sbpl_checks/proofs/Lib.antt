@@ -1,1 +1,4 @@
 pub mod Verifying
+pub use Rattle.sbpl_telling.proofs.Frames
+pub use Rattle.sbpl_telling.proofs.Writings
+pub use Rattle.sbpl_worlds.proofs.Reading

@@ -1,32 +1,32 @@
 -- How the checking of sections ends, from how its parts end.
 use Rattle.std.proofs.Common.{◌≡◌, ℕ, zero, suc, ◌+◌, ◌≤◌, ◌∙◌, List, [], ◌∷◌, length, Some, None, Result, Ok, Err}
 use Rattle.std.proofs.Common.{IfOk, IfErr, ◌<◌, refl, sym, ap, subst, arith, inl}
-use Rattle.sbpl_fixed.specs.Formats.{Left, start_at}
-use Rattle.sbpl_fixed.specs.Tokens.{Piece}
-use Rattle.sbpl_desk.specs.Desk.{NoneFalls}
-use Rattle.sbpl_cert.specs.declared.fault.LabelFault.TheVariants as fault
-use Rattle.sbpl_cert.specs.declared.outcome.Outcome.{Outcome}
-use Rattle.sbpl_map.specs.MapAfter.{IsMapAfter}
-use Rattle.sbpl_terrain.specs.Cells.{IsTerrain}
-use Rattle.sbpl_cost.specs.Lattices.{network_of}
-use Rattle.sbpl_cost.specs.World.{World}
-use Rattle.sbpl_promises.specs.declared.section_stop.SectionStop.{SectionStop}
-use Rattle.sbpl_promises.specs.declared.section_stop.SectionStop.TheVariants as section
-use Rattle.sbpl_promises.specs.Checked.{AreChecked, Case, Ground, IsGroundAfter, IsSectionStop, IsShownHolding}
-use Rattle.sbpl_promises.specs.Checked.{IsStoppedIn, IsTrailing, case_of, from_in, ground, to_in}
-use Rattle.sbpl_promises.specs.Intents.{checked_status, checked_writes, last_write, stop_status, stop_writes}
-use Rattle.sbpl_report.specs.Refusals.{label_fault_text}
-use Rattle.sbpl_back.specs.Reversed.{reversed}
-use Rattle.sbpl_back.specs.Starts.{StartIn, from_start}
-use Rattle.sbpl_replan.specs.Directions.{Direction, backwards, forwards}
-use Rattle.sbpl_promises.specs.declared.course.Course.{Course}
-use Rattle.sbpl_promises.specs.LatticeSite.{lattice_site}
+use Rattle.sbpl_worlds.specs.sbpl_fixed.Formats.{Left, start_at}
+use Rattle.sbpl_worlds.specs.sbpl_fixed.Tokens.{Piece}
+use Rattle.sbpl_worlds.specs.sbpl_desk.Desk.{NoneFalls}
+use Rattle.sbpl_worlds.specs.sbpl_cert.declared.fault.LabelFault.TheVariants as fault
+use Rattle.sbpl_worlds.specs.sbpl_cert.declared.outcome.Outcome.{Outcome}
+use Rattle.sbpl_worlds.specs.sbpl_map.MapAfter.{IsMapAfter}
+use Rattle.sbpl_worlds.specs.sbpl_terrain.Cells.{IsTerrain}
+use Rattle.sbpl_worlds.specs.sbpl_cost.Lattices.{network_of}
+use Rattle.sbpl_worlds.specs.sbpl_cost.World.{World}
+use Rattle.sbpl_worlds.specs.sbpl_promises.declared.section_stop.SectionStop.{SectionStop}
+use Rattle.sbpl_worlds.specs.sbpl_promises.declared.section_stop.SectionStop.TheVariants as section
+use Rattle.sbpl_worlds.specs.sbpl_promises.Checked.{AreChecked, Case, Ground, IsGroundAfter, IsSectionStop, IsShownHolding}
+use Rattle.sbpl_worlds.specs.sbpl_promises.Checked.{IsStoppedIn, IsTrailing, case_of, from_in, ground, to_in}
+use Rattle.sbpl_worlds.specs.sbpl_promises.Intents.{checked_status, checked_writes, last_write, stop_status, stop_writes}
+use Rattle.sbpl_worlds.specs.sbpl_report.Refusals.{label_fault_text}
+use Rattle.sbpl_worlds.specs.sbpl_back.Reversed.{reversed}
+use Rattle.sbpl_worlds.specs.sbpl_back.Starts.{StartIn, from_start}
+use Rattle.sbpl_worlds.specs.sbpl_replan.Directions.{Direction, backwards, forwards}
+use Rattle.sbpl_worlds.specs.sbpl_promises.declared.course.Course.{Course}
+use Rattle.sbpl_worlds.specs.sbpl_promises.LatticeSite.{lattice_site}
 use Rattle.sbpl_checks.specs.Checking.{EndsAtSection, EndsText, HoldsAndPrints, HoldsInCase, IsPlanIn, stopped}
 use Rattle.sbpl_checks.specs.Checking.{unwritten}
-use Rattle.sbpl_promises.specs.Promises.{EndsSections}
-use Rattle.sbpl_promises.specs.Sites.{Site, start_after}
-use Rattle.sbpl_report.specs.Verdicts.{holds_text}
-use Rattle.sbpl_promises.specs.Writing.{DeskState, EndsAs, IsOutput, WritesOnly, to_output}
+use Rattle.sbpl_worlds.specs.sbpl_promises.Promises.{EndsSections}
+use Rattle.sbpl_worlds.specs.sbpl_promises.Sites.{Site, start_after}
+use Rattle.sbpl_worlds.specs.sbpl_report.Verdicts.{holds_text}
+use Rattle.sbpl_worlds.specs.sbpl_promises.Writing.{DeskState, EndsAs, IsOutput, WritesOnly, to_output}
 use Rattle.sbpl_telling.proofs.Writings.{ends_as_after, none_made, status_ends}
 use Rattle.sbpl_telling.proofs.Frames.{nothing_done}
 use Rattle.sbpl_worlds.proofs.Moving.{start_first}

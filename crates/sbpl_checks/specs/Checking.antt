@@ -1,16 +1,16 @@
 -- How the checking of labels goes on from one section to the next.
 use Rattle.std.specs.Prelude.{◌≡◌, ℕ, [], ◌∷◌, Option, Err}
-use Rattle.sbpl_desk.specs.declared.desk.WriteStop.{WriteStop}
-use Rattle.sbpl_map.specs.MapAfter.{IsMapAfter}
-use Rattle.sbpl_replan.specs.Directions.{Direction}
-use Rattle.sbpl_promises.specs.Sites.{Site}
-use Rattle.sbpl_fixed.specs.Formats.{Left}
-use Rattle.sbpl_cert.specs.declared.outcome.Outcome.{Outcome}
-use Rattle.sbpl_promises.specs.Checked.{Case, Ground, IsEndOfText, IsGroundAfter, IsSectionStop, IsShownHolding, from_in, to_in}
-use Rattle.sbpl_promises.specs.Intents.{checked_status, checked_writes, stop_status, stop_writes}
-use Rattle.sbpl_promises.specs.declared.section_stop.SectionStop.{SectionStop}
-use Rattle.sbpl_report.specs.Verdicts.{holds_text}
-use Rattle.sbpl_promises.specs.Writing.{AreAppended, DeskState, EndsAs, EndsIn, status_after, to_output}
+use Rattle.sbpl_worlds.specs.sbpl_desk.declared.desk.WriteStop.{WriteStop}
+use Rattle.sbpl_worlds.specs.sbpl_map.MapAfter.{IsMapAfter}
+use Rattle.sbpl_worlds.specs.sbpl_replan.Directions.{Direction}
+use Rattle.sbpl_worlds.specs.sbpl_promises.Sites.{Site}
+use Rattle.sbpl_worlds.specs.sbpl_fixed.Formats.{Left}
+use Rattle.sbpl_worlds.specs.sbpl_cert.declared.outcome.Outcome.{Outcome}
+use Rattle.sbpl_worlds.specs.sbpl_promises.Checked.{Case, Ground, IsEndOfText, IsGroundAfter, IsSectionStop, IsShownHolding, from_in, to_in}
+use Rattle.sbpl_worlds.specs.sbpl_promises.Intents.{checked_status, checked_writes, stop_status, stop_writes}
+use Rattle.sbpl_worlds.specs.sbpl_promises.declared.section_stop.SectionStop.{SectionStop}
+use Rattle.sbpl_worlds.specs.sbpl_report.Verdicts.{holds_text}
+use Rattle.sbpl_worlds.specs.sbpl_promises.Writing.{AreAppended, DeskState, EndsAs, EndsIn, status_after, to_output}
 
 -- the section of a plan holds on a graph, and a line says so
 pub record HoldsAndPrints (n : Ground) (start goal plan : ℕ) (left rest : Left) (before after : DeskState) : Type 0 where

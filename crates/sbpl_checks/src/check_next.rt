@@ -1,22 +1,20 @@
 //! The section of a plan, checked, and what is said of it.
 
 ghost use Rattle.std.specs.Prelude.{◌<◌, ◌≤◌, ◌∷◌, [], length, IfErr, IfOk};
-ghost use Rattle.sbpl_fixed.specs.Formats.{start_at};
-ghost use Rattle.sbpl_promises.specs.Checked.{ground};
+ghost use Rattle.sbpl_worlds.specs.sbpl_fixed.Formats.{start_at};
+ghost use Rattle.sbpl_worlds.specs.sbpl_promises.Checked.{ground};
 ghost use Rattle.sbpl_checks.specs.Checking.{EndsAtSection, HoldsAndPrints};
-ghost use Rattle.sbpl_promises.specs.Intents.{stop_status, stop_writes};
-ghost use Rattle.sbpl_report.specs.Refusals.{label_fault_text};
-ghost use Rattle.sbpl_report.specs.Verdicts.{flaw_text, holds_text};
-ghost use Rattle.sbpl_promises.specs.Writing.{EndsAs, EndsIn, IsOutput, WritesOnly, to_output};
+ghost use Rattle.sbpl_worlds.specs.sbpl_promises.Intents.{stop_status, stop_writes};
+ghost use Rattle.sbpl_worlds.specs.sbpl_report.Refusals.{label_fault_text};
+ghost use Rattle.sbpl_worlds.specs.sbpl_report.Verdicts.{flaw_text, holds_text};
+ghost use Rattle.sbpl_worlds.specs.sbpl_promises.Writing.{EndsAs, EndsIn, IsOutput, WritesOnly, to_output};
 
 use crate::section_check::check_section;
-use sbpl_cert::{Flaw, LabelFault, Outcome};
-use sbpl_desk::{Desk, WriteStop};
-use sbpl_fixed::NoMemory;
-use sbpl_graph::{Graph, Guide};
-use sbpl_promises::SectionStop;
-use sbpl_report::{fault_line, flaw_line, holds_line};
 use sbpl_telling::{OUTPUT, status_after, write_text};
+use sbpl_worlds::{
+    Desk, Flaw, Graph, Guide, LabelFault, LabelOutcome as Outcome, NoMemory, SectionStop,
+    WriteStop, fault_line, flaw_line, holds_line,
+};
 use std::alloc::Global;
 
 /// Writes the line of a flaw, and answers the status.

@@ -1,22 +1,17 @@
 //! How the labels that are checked were searched.
 
 ghost use Rattle.std.specs.Prelude.{◌<◌, ◌≤◌, ℕ, suc, length, IfErr, IfOk};
-ghost use Rattle.sbpl_fixed.specs.Formats.{start_at};
-ghost use Rattle.sbpl_map.specs.CellMap.{CellMap};
-ghost use Rattle.sbpl_replan.specs.Directions.{Direction};
-ghost use Rattle.sbpl_promises.specs.Checked.{Case};
+ghost use Rattle.sbpl_worlds.specs.sbpl_fixed.Formats.{start_at};
+ghost use Rattle.sbpl_worlds.specs.sbpl_map.CellMap.{CellMap};
+ghost use Rattle.sbpl_worlds.specs.sbpl_replan.Directions.{Direction};
+ghost use Rattle.sbpl_worlds.specs.sbpl_promises.Checked.{Case};
 ghost use Rattle.sbpl_checks.specs.Checking.{HoldsInCase, IsPlanIn};
-ghost use Rattle.sbpl_promises.specs.Promises.{EndsSections};
-ghost use Rattle.sbpl_promises.specs.Sites.{site_of};
-ghost use Rattle.sbpl_promises.specs.Writing.{IsOutput, WritesOnly};
+ghost use Rattle.sbpl_worlds.specs.sbpl_promises.Promises.{EndsSections};
+ghost use Rattle.sbpl_worlds.specs.sbpl_promises.Sites.{site_of};
+ghost use Rattle.sbpl_worlds.specs.sbpl_promises.Writing.{IsOutput, WritesOnly};
 
 use crate::check_next::check_next;
-use sbpl_back::{Back, FromStart};
-use sbpl_cost::Lattice;
-use sbpl_desk::Desk;
-use sbpl_fixed::NoMemory;
-use sbpl_terrain::Heuristic;
-use sbpl_worlds::Workspace;
+use sbpl_worlds::{Back, Desk, FromStart, Heuristic, Lattice, NoMemory, Workspace};
 use std::alloc::Global;
 
 /// How the labels that are checked were searched, and by what guide.
@@ -68,7 +63,7 @@ pub struct Forwards<H> {
 }
 
 impl<W: Workspace, H: Heuristic<W> + Drop> Searched<W> for Forwards<H> {
-    ghost use Rattle.sbpl_replan.specs.Directions.{forwards};
+    ghost use Rattle.sbpl_worlds.specs.sbpl_replan.Directions.{forwards};
 
     ghost direction = { forwards W.network H.says };
 
@@ -103,8 +98,8 @@ impl<W: Workspace, H: Heuristic<W> + Drop> Searched<W> for Forwards<H> {
 pub(crate) struct Backwards;
 
 impl Searched<Lattice> for Backwards {
-    ghost use Rattle.sbpl_cost.specs.Lattices.{network_of};
-    ghost use Rattle.sbpl_replan.specs.Directions.{backwards};
+    ghost use Rattle.sbpl_worlds.specs.sbpl_cost.Lattices.{network_of};
+    ghost use Rattle.sbpl_worlds.specs.sbpl_replan.Directions.{backwards};
 
     ghost direction = { backwards network_of };
 

@@ -1,17 +1,18 @@
 //! The section of a plan, read and checked.
 
 ghost use Rattle.std.specs.Prelude.{◌<◌, ◌≤◌, ℕ, length, IfErr, IfOk, OnOk};
-ghost use Rattle.sbpl_fixed.specs.Formats.{start_at};
-ghost use Rattle.sbpl_fixed.specs.Tokens.{tokens_from};
-ghost use Rattle.sbpl_cert.specs.Flaws.{HasNoFlaw, IsFirstFlaw};
-ghost use Rattle.sbpl_cert.specs.Sound.{IsSo, ShowsAll};
-ghost use Rattle.sbpl_cert.specs.Text.{AreTokensOf};
-ghost use Rattle.sbpl_cert.specs.Versions.{IsOf, arcs_of, claim_by, outcome_of};
-ghost use Rattle.sbpl_promises.specs.Checked.{IsReadStop, IsSectionStop, IsShownHolding, ground};
+ghost use Rattle.sbpl_worlds.specs.sbpl_fixed.Formats.{start_at};
+ghost use Rattle.sbpl_worlds.specs.sbpl_fixed.Tokens.{tokens_from};
+ghost use Rattle.sbpl_worlds.specs.sbpl_cert.Flaws.{HasNoFlaw, IsFirstFlaw};
+ghost use Rattle.sbpl_worlds.specs.sbpl_cert.Sound.{IsSo, ShowsAll};
+ghost use Rattle.sbpl_worlds.specs.sbpl_cert.Text.{AreTokensOf};
+ghost use Rattle.sbpl_worlds.specs.sbpl_cert.Versions.{IsOf, arcs_of, claim_by, outcome_of};
+ghost use Rattle.sbpl_worlds.specs.sbpl_promises.Checked.{IsReadStop, IsSectionStop, IsShownHolding, ground};
 
-use sbpl_cert::{Flaw, LabelFault, Outcome, Section, check, check_sparse, read_labels};
-use sbpl_graph::{Graph, Guide};
-use sbpl_promises::SectionStop;
+use sbpl_worlds::{
+    Flaw, Graph, Guide, LabelFault, LabelOutcome as Outcome, Section, SectionStop, check,
+    check_sparse, read_labels,
+};
 use std::alloc::Global;
 
 /// Reads the section of a plan.

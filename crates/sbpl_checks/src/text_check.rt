@@ -1,30 +1,25 @@
 //! The labels of a text, checked section by section while batches of changes are written to the map.
 
 ghost use Rattle.std.specs.Prelude.{◌<◌, ◌≤◌, Bool, suc, length};
-ghost use Rattle.sbpl_fixed.specs.Formats.{start_at};
-ghost use Rattle.sbpl_cost.specs.Lattices.{network_of};
-ghost use Rattle.sbpl_cost.specs.World.{IsWorld};
-ghost use Rattle.sbpl_promises.specs.Asked.{checked_direction};
-ghost use Rattle.sbpl_promises.specs.Causes.{IsCourseIn};
-ghost use Rattle.sbpl_promises.specs.Checked.{case_of};
-ghost use Rattle.sbpl_promises.specs.LatticeSite.{lattice_site};
+ghost use Rattle.sbpl_worlds.specs.sbpl_fixed.Formats.{start_at};
+ghost use Rattle.sbpl_worlds.specs.sbpl_cost.Lattices.{network_of};
+ghost use Rattle.sbpl_worlds.specs.sbpl_cost.World.{IsWorld};
+ghost use Rattle.sbpl_worlds.specs.sbpl_promises.Asked.{checked_direction};
+ghost use Rattle.sbpl_worlds.specs.sbpl_promises.Causes.{IsCourseIn};
+ghost use Rattle.sbpl_worlds.specs.sbpl_promises.Checked.{case_of};
+ghost use Rattle.sbpl_worlds.specs.sbpl_promises.LatticeSite.{lattice_site};
 ghost use Rattle.sbpl_checks.specs.Checking.{EndsText};
-ghost use Rattle.sbpl_promises.specs.Promises.{EndsSections};
-ghost use Rattle.sbpl_promises.specs.Sites.{site_of};
-ghost use Rattle.sbpl_promises.specs.Writing.{IsOutput, WritesOnly};
+ghost use Rattle.sbpl_worlds.specs.sbpl_promises.Promises.{EndsSections};
+ghost use Rattle.sbpl_worlds.specs.sbpl_promises.Sites.{site_of};
+ghost use Rattle.sbpl_worlds.specs.sbpl_promises.Writing.{IsOutput, WritesOnly};
 
 use crate::check_next::tell_fault;
 use crate::searched::{Backwards, Forwards, Searched};
-use sbpl_cert::LabelFault;
-use sbpl_change::write_batch;
-use sbpl_cost::Lattice;
-use sbpl_desk::Desk;
-use sbpl_fixed::{NoMemory, next_token};
-use sbpl_heur::Best;
-use sbpl_map::writes_lead_to_the_next_map;
-use sbpl_promises::Course;
 use sbpl_telling::{status_after, write_last};
-use sbpl_worlds::{Workspace, place_in};
+use sbpl_worlds::{
+    Best, Course, Desk, LabelFault, Lattice, NoMemory, Workspace, next_token, place_in,
+    write_batch, writes_lead_to_the_next_map,
+};
 use std::alloc::Global;
 
 /// Ends the checking after the last section, where no token may stand, and answers the status.

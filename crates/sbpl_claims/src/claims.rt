@@ -4,7 +4,7 @@ ghost use Rattle.std.specs.Prelude.{◌≡◌, []};
 
 use crate::rule::{ClaimSeat, ClaimTable};
 use crate::{Keeper, Naming};
-use sbpl_fixed::NoMemory;
+use sbpl_frontier_rules::NoMemory;
 use std::alloc::Global;
 use std::marker::{Model, PhantomData};
 

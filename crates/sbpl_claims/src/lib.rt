@@ -15,3 +15,4 @@ pub use claim::Claim;
 pub use claims::Claims;
 pub use keeper::Keeper;
 pub use naming::Naming;
+pub use sbpl_frontier_rules::{Graph, Guide, NoMemory, events_keep};

@@ -1,12 +1,15 @@
-//! The program's top call: from the words to the written bytes.
+//! The program's top calls: from the words to the written bytes and the status, and `answer`, which tells help and the version too,
+//! and says why a job was not done.
 #![tactic(auto)]
 
+mod answering;
 mod top;
 
-pub use sbpl_epase::{Gate, NoGate};
-pub use sbpl_incumbent::{Board, Entry, Publisher};
-pub use sbpl_job::{
-    CheckJob, Command, DemoJob, Job, JobFault, Name, NavCheckJob, NavJob, Outputs, PlanJob,
-    Planner, SearchJob, Setting, Sources, read_job,
+pub use answering::{NO_MEMORY, answer};
+pub use sbpl_jobs::{
+    Board, CheckJob, Command, DemoJob, Desk, Entry, Gate, Job, JobFault, ListOf, MemoryDesk, Name,
+    NavCheckJob, NavJob, NoGate, Outputs, PlanJob, Planner, Publisher, ReadStop, Reader, RealDesk,
+    SearchJob, Setting, Sources, WriteStop, cell_at, heading_at, print_env, print_prims, read_env,
+    read_job, read_prims,
 };
 pub use top::{run, run_with};

@@ -2,18 +2,14 @@
 
 ghost use Rattle.std.specs.Prelude.{◌≡◌, ◌^◌, ◌<◌, [], List, length, map, string_bytes};
 ghost use Rattle.sbpl_headline.specs.Headline.{IsHeadline};
-ghost use Rattle.sbpl_promises.specs.Promises.{MayBeWritten};
-ghost use Rattle.sbpl_promises.specs.Published.{Entry};
-ghost use Rattle.sbpl_promises.specs.Run.{job_named};
-ghost use Rattle.sbpl_promises.specs.RunPromises.{RunPromises};
-ghost use Rattle.sbpl_promises.specs.Writing.{WritesOnly};
+ghost use Rattle.sbpl_jobs.specs.sbpl_promises.Promises.{MayBeWritten};
+ghost use Rattle.sbpl_jobs.specs.sbpl_promises.Published.{Entry};
+ghost use Rattle.sbpl_jobs.specs.sbpl_promises.Run.{job_named};
+ghost use Rattle.sbpl_jobs.specs.sbpl_promises.RunPromises.{RunPromises};
+ghost use Rattle.sbpl_jobs.specs.sbpl_promises.Writing.{WritesOnly};
 
-use sbpl_desk::Desk;
-use sbpl_epase::Gate;
-use sbpl_fixed::NoMemory;
 use sbpl_headline::promises_show_the_headline;
-use sbpl_incumbent::{Board, Publisher};
-use sbpl_jobs::end_run;
+use sbpl_jobs::{Board, Desk, Gate, NoMemory, Publisher, end_run};
 use sbpl_laws::runs_keep_promises;
 use std::alloc::Global;
 use std::sync::Wait;

@@ -1,12 +1,12 @@
 -- Worlds that differ in their tables of sweeps alone are one graph.
 use Rattle.std.proofs.Common.{◌≡◌, ℕ, Option, Some, None, refl, ap, sym, ◌∙◌, subst}
 use Rattle.std.proofs.Math.Path.{fun_ext}
-use Rattle.sbpl_cfg.specs.Environment.{Environment}
-use Rattle.sbpl_mprim.specs.declared.prim.Primitive.{Primitive}
-use Rattle.sbpl_mprim.specs.Primitives.{Primitives}
+use Rattle.sbpl_sweep.specs.sbpl_cfg.Environment.{Environment}
+use Rattle.sbpl_sweep.specs.sbpl_mprim.declared.prim.Primitive.{Primitive}
+use Rattle.sbpl_sweep.specs.sbpl_mprim.Primitives.{Primitives}
 use Rattle.sbpl_sweep.specs.Sweep.{IsSwept}
 use Rattle.sbpl_sweep.specs.Swept.{Swept}
-use Rattle.sbpl_map.specs.CellMap.{CellMap}
+use Rattle.sbpl_terrain.specs.sbpl_map.CellMap.{CellMap}
 use Rattle.sbpl_cost.specs.World.{World, IsWorld}
 use Rattle.sbpl_cost.specs.Arc.{IsFree, IsGreatestPaid, IsFreeAt}
 use Rattle.sbpl_cost.specs.Lattices.{arc_index, head_by, tail_by, network_of}

@@ -1,6 +1,6 @@
 -- What an arc costs at least.
 use Rattle.std.proofs.Common.{◌≡◌, ℕ, ◌≤◌, Some}
-use Rattle.sbpl_mprim.specs.declared.prim.Primitive.{Primitive}
+use Rattle.sbpl_sweep.specs.sbpl_mprim.declared.prim.Primitive.{Primitive}
 use Rattle.sbpl_cost.specs.Arc.{IsArcBy}
 use Rattle.sbpl_cost.specs.Lattices.{network_of}
 use Rattle.sbpl_cost.specs.PrimitiveCost.{primitive_cost}

@@ -6,8 +6,8 @@ use Rattle.std.proofs.lemmas.Bool.{eq-eqb, ne_eqb, cases_eq}
 use Rattle.std.proofs.lemmas.List.{length-set, length-take-le, get_or-set_same, get_or-set_other}
 use Rattle.std.proofs.lemmas.List.Sums.{count_by_more_yes, count_by_more_no, count_by-le-length}
 use Rattle.std.proofs.lemmas.Option.{slice_get_within, get_or_from_slice_get, slice_get-get_or, same_Some}
-use Rattle.sbpl_mprim.specs.declared.prim.Primitive.{Primitive}
-use Rattle.sbpl_mprim.specs.Primitives.{IsPrimitive}
+use Rattle.sbpl_sweep.specs.sbpl_mprim.declared.prim.Primitive.{Primitive}
+use Rattle.sbpl_sweep.specs.sbpl_mprim.Primitives.{IsPrimitive}
 use Rattle.sbpl_cost.specs.Ends.{heading_at}
 use Rattle.sbpl_cost.specs.Tables.{AreNumbers}
 use Rattle.sbpl_terrain.specs.declared.arc_end.ArcEnd.{ArcEnd}

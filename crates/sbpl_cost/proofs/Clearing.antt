@@ -7,9 +7,9 @@ use Rattle.std.proofs.lemmas.Bool.Decides.{nat_tests}
 use Rattle.std.proofs.lemmas.Int.{ints}
 use Rattle.std.proofs.lemmas.Nat.{mul-add-lt}
 use Rattle.std.proofs.lemmas.Option.{slice_get-get_or}
-use Rattle.sbpl_bits.specs.Flags.{Flags, is_set}
-use Rattle.sbpl_cfg.specs.Environment.{IsWithin}
-use Rattle.sbpl_map.specs.CellMap.{CellMap, IsCellMap, IsOnMap, cost_at, index_in}
+use Rattle.sbpl_sweep.specs.sbpl_lists.Flags.{Flags, is_set}
+use Rattle.sbpl_sweep.specs.sbpl_cfg.Environment.{IsWithin}
+use Rattle.sbpl_terrain.specs.sbpl_map.CellMap.{CellMap, IsCellMap, IsOnMap, cost_at, index_in}
 use Rattle.sbpl_sweep.specs.declared.cell.Cell.{Cell}
 use Rattle.sbpl_cost.specs.declared.strip.Strip.{Strip}
 use Rattle.sbpl_cost.specs.Judging.{AreBelow, IsCellBelow, IsNear, IsSomeBlocked}

@@ -4,8 +4,8 @@ use Rattle.std.proofs.Common.{slice_get, get_or, Some, arith, refl, subst}
 use Rattle.std.proofs.lemmas.Bool.{cases_lt}
 use Rattle.std.proofs.lemmas.Grind.{common_steps}
 use Rattle.std.proofs.lemmas.Option.{gets, same_Some, slice_get_read, slice_get_within, slice_get-map}
-use Rattle.sbpl_cfg.specs.Environment.{Environment}
-use Rattle.sbpl_mprim.specs.declared.prim.Primitive.{Primitive}
+use Rattle.sbpl_sweep.specs.sbpl_cfg.Environment.{Environment}
+use Rattle.sbpl_sweep.specs.sbpl_mprim.declared.prim.Primitive.{Primitive}
 use Rattle.sbpl_cost.specs.PrimitiveCost.{primitive_cost, most_cost}
 
 -- the costs of the first n primitives, none of which is too dear

@@ -2,8 +2,8 @@
 use Rattle.std.proofs.Common.{◌≢◌, ℕ, ℤ, ◌*◌, ◌<◌, ◌≤◌, max, arith, inl, inr}
 use Rattle.std.proofs.lemmas.Bool.{cases_lt}
 use Rattle.std.proofs.lemmas.Nat.{mul-le}
-use Rattle.sbpl_mprim.specs.declared.prim.Primitive.{Primitive}
-use Rattle.sbpl_mprim.specs.Primitives.{IsPrimitive}
+use Rattle.sbpl_sweep.specs.sbpl_mprim.declared.prim.Primitive.{Primitive}
+use Rattle.sbpl_sweep.specs.sbpl_mprim.Primitives.{IsPrimitive}
 use Rattle.sbpl_cost.specs.PrimitiveCost.{way_length}
 use Rattle.sbpl_cost.proofs.Ways.{AreAtOnePoint-none}
 

@@ -6,8 +6,8 @@ use Rattle.std.proofs.Math.Nat.{mul-le-mul_left, mul-le-mul_right, add-mul-div_r
 use Rattle.std.proofs.lemmas.Bool.{cases_lt, cond-true, cond-false, eq-eqb, ne_eqb}
 use Rattle.std.proofs.lemmas.Nat.{le-div}
 use Rattle.std.proofs.lemmas.Option.{same_Some, none-some}
-use Rattle.sbpl_cfg.specs.Environment.{Environment}
-use Rattle.sbpl_mprim.specs.declared.prim.Primitive.{Primitive}
+use Rattle.sbpl_sweep.specs.sbpl_cfg.Environment.{Environment}
+use Rattle.sbpl_sweep.specs.sbpl_mprim.declared.prim.Primitive.{Primitive}
 use Rattle.sbpl_cost.specs.declared.way.Way.{Way}
 use Rattle.sbpl_cost.specs.PrimitiveCost.{primitive_cost}
 use Rattle.sbpl_cost.specs.Gaps.{advance, lesser, floor_by, least_floor, way_bound}

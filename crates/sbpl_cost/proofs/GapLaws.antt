@@ -3,9 +3,9 @@ use Rattle.std.proofs.Common.{◌≡◌, ℕ, ℤ, pos, negsuc, ◌+◌, ◌-◌
 use Rattle.std.proofs.Common.{slice_get, Some, ap, sym, ◌∙◌, arith, subst, unwrap_or}
 use Rattle.std.proofs.Math.Nat.{div-le_self, mul-le-mul}
 use Rattle.std.proofs.lemmas.Int.{ints}
-use Rattle.sbpl_cfg.specs.declared.pose.Place.{Place}
-use Rattle.sbpl_cfg.specs.Environment.{Environment}
-use Rattle.sbpl_mprim.specs.declared.prim.Primitive.{Primitive}
+use Rattle.sbpl_sweep.specs.sbpl_cfg.declared.pose.Place.{Place}
+use Rattle.sbpl_sweep.specs.sbpl_cfg.Environment.{Environment}
+use Rattle.sbpl_sweep.specs.sbpl_mprim.declared.prim.Primitive.{Primitive}
 use Rattle.sbpl_cost.specs.declared.way.Way.{Way}
 use Rattle.sbpl_cost.specs.declared.way.Way.TheVariants.{Right, Left, Up, Down, Round}
 use Rattle.sbpl_cost.specs.PrimitiveCost.{primitive_cost, most_cost, heading_gap}

@@ -4,7 +4,7 @@ use Rattle.std.proofs.Common.{max, ap, sym, ◌∙◌, arith, subst}
 use Rattle.std.proofs.lemmas.Bool.{cases_lt}
 use Rattle.std.proofs.lemmas.Grind.{common_steps}
 use Rattle.std.proofs.lemmas.Option.{gets, same_Some}
-use Rattle.sbpl_map.specs.CellMap.{CellMap, cost_at}
+use Rattle.sbpl_terrain.specs.sbpl_map.CellMap.{CellMap, cost_at}
 use Rattle.sbpl_sweep.specs.declared.cell.Cell.{Cell}
 use Rattle.sbpl_cost.specs.Judging.{IsCellBelow, AreBelow, IsGreatestBelow}
 use Rattle.sbpl_cost.proofs.Filling.{among}

@@ -2,10 +2,10 @@
 use Rattle.std.proofs.Common.{◌≡◌, ℕ, ℤ, pos, ◌+◌, ◌*◌, ◌^◌, ◌<◌, ◌≤◌, inl, inr, List, slice_get, Option, Some, None}
 use Rattle.std.proofs.Common.{IsSomeAnd, min, refl, ap, sym, ◌∙◌, arith, subst}
 use Rattle.std.proofs.lemmas.Option.{same_Some, none-some}
-use Rattle.sbpl_cfg.specs.declared.pose.Place.{Place}
-use Rattle.sbpl_cfg.specs.Environment.{IsWithin}
-use Rattle.sbpl_mprim.specs.declared.prim.Primitive.{Primitive}
-use Rattle.sbpl_mprim.specs.Primitives.{IsPrimitive}
+use Rattle.sbpl_sweep.specs.sbpl_cfg.declared.pose.Place.{Place}
+use Rattle.sbpl_sweep.specs.sbpl_cfg.Environment.{IsWithin}
+use Rattle.sbpl_sweep.specs.sbpl_mprim.declared.prim.Primitive.{Primitive}
+use Rattle.sbpl_sweep.specs.sbpl_mprim.Primitives.{IsPrimitive}
 use Rattle.sbpl_sweep.specs.declared.cell.Cell.{Cell}
 use Rattle.sbpl_sweep.specs.Sweep.{IsCentre, IsSwept}
 use Rattle.sbpl_cost.specs.PrimitiveCost.{primitive_cost}

@@ -6,15 +6,15 @@ use Rattle.std.proofs.lemmas.Bool.{and_parts, ltb-true}
 use Rattle.std.proofs.lemmas.List.Sums.{count_by-le-length}
 use Rattle.std.proofs.lemmas.Nat.{mul-add-lt}
 use Rattle.std.proofs.lemmas.Option.{get_or_from_slice_get, cond_some, none-some}
-use Rattle.sbpl_graph.specs.Laws.{IsSound, HasGaps}
-use Rattle.sbpl_graph.specs.Network.{IsFreeArc}
-use Rattle.sbpl_cfg.specs.declared.pose.Place.{Place}
-use Rattle.sbpl_cfg.specs.Environment.{Environment}
-use Rattle.sbpl_map.specs.CellMap.{CellMap, IsCellMap, IsOnMap, index_in, cost_at}
+use Rattle.sbpl_terrain.specs.sbpl_graph.Laws.{IsSound, HasGaps}
+use Rattle.sbpl_terrain.specs.sbpl_graph.Network.{IsFreeArc}
+use Rattle.sbpl_sweep.specs.sbpl_cfg.declared.pose.Place.{Place}
+use Rattle.sbpl_sweep.specs.sbpl_cfg.Environment.{Environment}
+use Rattle.sbpl_terrain.specs.sbpl_map.CellMap.{CellMap, IsCellMap, IsOnMap, index_in, cost_at}
 use Rattle.sbpl_cost.specs.PrimitiveCost.{primitive_cost}
 use Rattle.sbpl_cost.specs.States.{IsPlace, place_of, state_number, state_count}
 use Rattle.sbpl_cost.specs.World.{World, IsWorld}
-use Rattle.sbpl_mprim.specs.declared.prim.Primitive.{Primitive}
+use Rattle.sbpl_sweep.specs.sbpl_mprim.declared.prim.Primitive.{Primitive}
 use Rattle.sbpl_cost.specs.Arc.{cost_from, IsFreeAt, IsLeaving, EndsIn}
 use Rattle.sbpl_cost.specs.Gaps.{gap_of}
 use Rattle.sbpl_cost.specs.Lattices.{network_of}

@@ -31,4 +31,5 @@ pub mod Stripping
 pub mod Clearing
 pub mod Walling
 pub mod Reaching
-pub mod Terrain
+pub mod TerrainLaws
+pub use Rattle.sbpl_sweep.proofs.JudgingLaws

@@ -7,10 +7,10 @@ use Rattle.std.specs.Int.RustNames.{unsigned_abs}
 use Rattle.std.proofs.lemmas.Bool.{cases_lt}
 use Rattle.std.specs.Int.{int_div_euclid}
 use Rattle.std.proofs.lemmas.Int.{ints}
-use Rattle.sbpl_cfg.specs.Environment.{IsWithin}
-use Rattle.sbpl_mprim.specs.Primitives.{offset_cell}
-use Rattle.sbpl_mprim.specs.declared.prim.Primitive.{Primitive}
-use Rattle.sbpl_mprim.specs.Primitives.{IsPrimitive}
+use Rattle.sbpl_sweep.specs.sbpl_cfg.Environment.{IsWithin}
+use Rattle.sbpl_sweep.specs.sbpl_mprim.Primitives.{offset_cell}
+use Rattle.sbpl_sweep.specs.sbpl_mprim.declared.prim.Primitive.{Primitive}
+use Rattle.sbpl_sweep.specs.sbpl_mprim.Primitives.{IsPrimitive}
 use Rattle.sbpl_sweep.specs.Sweep.{IsSwept, distance_to_cell}
 use Rattle.sbpl_cost.proofs.Heads.{natural_part}
 

@@ -4,9 +4,9 @@ use Rattle.std.proofs.Common.{Some, None, option_and_then, refl, ap, sym, zero-a
 use Rattle.std.specs.Option.{option_map}
 use Rattle.std.proofs.lemmas.Bool.{eqb-true}
 use Rattle.std.proofs.lemmas.Option.{none-some, slice_get-get_or}
-use Rattle.sbpl_cfg.specs.declared.pose.Place.{Place}
-use Rattle.sbpl_mprim.specs.declared.prim.Primitive.{Primitive}
-use Rattle.sbpl_map.specs.CellMap.{IsOnMap}
+use Rattle.sbpl_sweep.specs.sbpl_cfg.declared.pose.Place.{Place}
+use Rattle.sbpl_sweep.specs.sbpl_mprim.declared.prim.Primitive.{Primitive}
+use Rattle.sbpl_terrain.specs.sbpl_map.CellMap.{IsOnMap}
 use Rattle.sbpl_cost.specs.States.{IsPlace, place_of, state_number, state_in, state_count}
 use Rattle.sbpl_cost.specs.World.{World, IsWorld}
 use Rattle.sbpl_cost.specs.Lattices.{entering, tail_by, network_of}

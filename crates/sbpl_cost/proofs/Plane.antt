@@ -2,8 +2,8 @@
 use Rattle.std.proofs.Common.{◌≡◌, ℕ, ℤ, pos, negsuc, ◌<◌, ◌&&◌, Bool, true, false, nat_lt, cond, Option, Some, None}
 use Rattle.std.proofs.Common.{option_map, refl, ap, ◌∙◌, arith}
 use Rattle.std.proofs.lemmas.Bool.{and_from, cond-true, lt-ltb, ltb-true}
-use Rattle.sbpl_cfg.specs.declared.pose.Place.{Place}
-use Rattle.sbpl_cfg.specs.Environment.{Environment}
+use Rattle.sbpl_sweep.specs.sbpl_cfg.declared.pose.Place.{Place}
+use Rattle.sbpl_sweep.specs.sbpl_cfg.Environment.{Environment}
 use Rattle.sbpl_cost.specs.States.{IsOff, place_on_map, state_in, state_number}
 
 -- a cell by other names

@@ -2,8 +2,8 @@
 use Rattle.std.proofs.Common.{◌≡◌, ℕ, ℤ, pos, negsuc, ◌+◌, ◌-◌, ◌<◌, ◌≤◌, ◌+ℤ◌, ◌≤ℤ◌, List, ◌++◌, take, ⊎_elim}
 use Rattle.std.proofs.Common.{slice_get, Some, arith, ap, ◌∙◌, subst, nat_abs, SFits, w64}
 use Rattle.std.proofs.lemmas.Int.{ints}
-use Rattle.sbpl_cfg.specs.Environment.{IsWithin}
-use Rattle.sbpl_map.specs.CellMap.{CellMap, IsOnMap}
+use Rattle.sbpl_sweep.specs.sbpl_cfg.Environment.{IsWithin}
+use Rattle.sbpl_terrain.specs.sbpl_map.CellMap.{CellMap, IsOnMap}
 use Rattle.sbpl_sweep.specs.declared.cell.Cell.{Cell}
 use Rattle.sbpl_cost.specs.declared.reach.Reach.{Reach}
 use Rattle.sbpl_cost.specs.declared.strip.Strip.{Strip}

@@ -7,10 +7,10 @@ use Rattle.std.proofs.lemmas.Grind.{merely}
 use Rattle.std.proofs.lemmas.Int.{ints}
 use Rattle.std.proofs.lemmas.List.Sums.{count_by-le-length}
 use Rattle.std.proofs.lemmas.Option.{none-some, same_Some, slice_get_within}
-use Rattle.sbpl_graph.specs.Network.{IsArc}
-use Rattle.sbpl_graph.specs.Laws.{IsTail, HasExactTails}
-use Rattle.sbpl_cfg.specs.declared.pose.Place.{Place}
-use Rattle.sbpl_mprim.specs.declared.prim.Primitive.{Primitive}
+use Rattle.sbpl_terrain.specs.sbpl_graph.Network.{IsArc}
+use Rattle.sbpl_terrain.specs.sbpl_graph.Laws.{IsTail, HasExactTails}
+use Rattle.sbpl_sweep.specs.sbpl_cfg.declared.pose.Place.{Place}
+use Rattle.sbpl_sweep.specs.sbpl_mprim.declared.prim.Primitive.{Primitive}
 use Rattle.sbpl_cost.specs.States.{IsPlace, place_of, state_number, state_in, state_count}
 use Rattle.sbpl_cost.specs.World.{World, IsWorld}
 use Rattle.sbpl_cost.specs.Lattices.{leaving, entering, arc_index, arc_primitive, head_by, tail_by, network_of}

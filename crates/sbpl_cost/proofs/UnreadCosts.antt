@@ -4,10 +4,10 @@ use Rattle.std.proofs.Common.{refl, sym, ◌∙◌, subst}
 use Rattle.std.specs.Ordering.{int_eq}
 use Rattle.std.proofs.lemmas.Bool.Decides.{Decides-int_eq}
 use Rattle.std.proofs.lemmas.Option.{none-some}
-use Rattle.sbpl_mprim.specs.declared.prim.Primitive.{Primitive}
+use Rattle.sbpl_sweep.specs.sbpl_mprim.declared.prim.Primitive.{Primitive}
 use Rattle.sbpl_sweep.specs.Reads.{IsRead}
 use Rattle.sbpl_sweep.specs.Reads.IsRead.{at_source, at_target, at_centre, at_swept}
-use Rattle.sbpl_map.specs.CellMap.{CellMap, IsCellMap, cost_at, ChangesCell}
+use Rattle.sbpl_terrain.specs.sbpl_map.CellMap.{CellMap, IsCellMap, cost_at, ChangesCell}
 use Rattle.sbpl_cost.specs.World.{IsWorld, World, over_map}
 use Rattle.sbpl_cost.specs.Arc.{column_from, row_from, cost_from, IsBelow, IsFree, IsPaid, IsGreatestPaid, IsFreeAt}
 use Rattle.sbpl_cost.specs.Lattices.{arc_index, head_by, tail_by, network_of}

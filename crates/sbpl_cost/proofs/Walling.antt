@@ -2,8 +2,8 @@
 use Rattle.std.proofs.Common.{◌≡◌, ◌≢◌, ℕ, ℤ, pos, negsuc, ◌<◌, nat_le, List, length, set, slice_index_or, Some, None}
 use Rattle.std.proofs.Common.{arith, sym, refl, ap, ◌∙◌, subst, inl, inr, length-set, get_or-set_other, get_or-set_same}
 use Rattle.std.proofs.lemmas.Bool.{cases_lt}
-use Rattle.sbpl_bits.specs.Flags.{Flags, is_set}
-use Rattle.sbpl_map.specs.CellMap.{CellMap, costs_with, index_in}
+use Rattle.sbpl_sweep.specs.sbpl_lists.Flags.{Flags, is_set}
+use Rattle.sbpl_terrain.specs.sbpl_map.CellMap.{CellMap, costs_with, index_in}
 use Rattle.sbpl_cost.specs.Walls.{AreWalls}
 
 same_index : (m n : CellMap) (x y : ℤ) → m.width ≡ n.width → m.height ≡ n.height → index_in m x y ≡ index_in n x y

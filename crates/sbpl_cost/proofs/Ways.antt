@@ -7,9 +7,9 @@ use Rattle.std.proofs.Math.Nat.{mul-le-mul}
 use Rattle.std.proofs.lemmas.Int.{ints}
 use Rattle.std.proofs.lemmas.Option.{slice_get-get_or}
 use Rattle.std.proofs.lemmas.List.Sums.{sum_by-cons}
-use Rattle.sbpl_cfg.specs.declared.pose.Pose.{Pose}
-use Rattle.sbpl_cfg.specs.Environment.{IsWithin}
-use Rattle.sbpl_mprim.specs.Primitives.{AreAtOnePoint}
+use Rattle.sbpl_sweep.specs.sbpl_cfg.declared.pose.Pose.{Pose}
+use Rattle.sbpl_sweep.specs.sbpl_cfg.Environment.{IsWithin}
+use Rattle.sbpl_sweep.specs.sbpl_mprim.Primitives.{AreAtOnePoint}
 use Rattle.sbpl_cost.specs.PrimitiveCost.{squared_distance, distance, way_length}
 use Rattle.sbpl_cost.proofs.RoundedUp.{root_above-least}
 

@@ -1,10 +1,10 @@
 -- The arcs of a lattice.
 use Rattle.std.specs.Prelude.{◌≡◌, ℕ, ℤ, pos, ◌+◌, ◌*◌, ◌<◌, ◌≤◌, ◌+ℤ◌, ◌⊎◌, ◌==◌, ◌↔◌, List, take, count_by, slice_get, Option, Some, None, IsSomeAnd}
-use Rattle.sbpl_graph.specs.Network.{Network}
-use Rattle.sbpl_cfg.specs.declared.pose.Place.{Place}
-use Rattle.sbpl_mprim.specs.declared.prim.Primitive.{Primitive}
+use Rattle.sbpl_terrain.specs.sbpl_graph.Network.{Network}
+use Rattle.sbpl_sweep.specs.sbpl_cfg.declared.pose.Place.{Place}
+use Rattle.sbpl_sweep.specs.sbpl_mprim.declared.prim.Primitive.{Primitive}
 use Rattle.sbpl_sweep.specs.Sweep.{IsCentre, IsSwept}
-use Rattle.sbpl_map.specs.CellMap.{IsOnMap, cost_at}
+use Rattle.sbpl_terrain.specs.sbpl_map.CellMap.{IsOnMap, cost_at}
 use Rattle.sbpl_cost.specs.PrimitiveCost.{primitive_cost}
 use Rattle.sbpl_cost.specs.States.{IsPlace, place_of, state_number, state_count}
 use Rattle.sbpl_cost.specs.World.{World}

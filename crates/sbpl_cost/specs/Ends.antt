@@ -1,6 +1,6 @@
 -- The headings at the two ends of an arc.
 use Rattle.std.specs.Prelude.{ℕ}
-use Rattle.sbpl_mprim.specs.declared.prim.Primitive.{Primitive}
+use Rattle.sbpl_sweep.specs.sbpl_mprim.declared.prim.Primitive.{Primitive}
 use Rattle.sbpl_terrain.specs.declared.arc_end.ArcEnd.{ArcEnd}
 use Rattle.sbpl_terrain.specs.declared.arc_end.ArcEnd.TheVariants as end
 

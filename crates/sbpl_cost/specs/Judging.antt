@@ -1,8 +1,8 @@
 -- Costs of cells below a limit.
 use Rattle.std.specs.Prelude.{◌≡◌, ℕ, ℤ, pos, negsuc, ◌<◌, ◌≤◌, ◌+ℤ◌, ◌⊎◌, List, slice_get, Some, IsSomeAnd, min}
-use Rattle.sbpl_cfg.specs.declared.pose.Place.{Place}
-use Rattle.sbpl_cfg.specs.Environment.{Environment, IsWithin}
-use Rattle.sbpl_map.specs.CellMap.{CellMap, cost_at}
+use Rattle.sbpl_sweep.specs.sbpl_cfg.declared.pose.Place.{Place}
+use Rattle.sbpl_sweep.specs.sbpl_cfg.Environment.{Environment, IsWithin}
+use Rattle.sbpl_terrain.specs.sbpl_map.CellMap.{CellMap, cost_at}
 use Rattle.sbpl_sweep.specs.declared.cell.Cell.{Cell}
 
 -- an offset is that of a cell that a motion can touch

@@ -1,10 +1,10 @@
 -- The lattice of a world, as a graph.
 use Rattle.std.specs.Prelude.{◌≡◌, refl, ℕ, pos, ◌+◌, ◌*◌, ◌<◌, ◌≤◌, ◌-ℤ◌, ◌&&◌, ◌==◌, Bool, false, List, [], ◌∷◌, length, take, map, count_by, slice_get, slice_index_or, Option, Some, None, option_and_then, option_map, unwrap_or, nat_lt, max, if◌then◌else◌}
 use Rattle.std.specs.List.{list_all}
-use Rattle.sbpl_graph.specs.Network.{Network, IsFreeArc}
-use Rattle.sbpl_graph.specs.Laws.{HasExactTails, HasGaps}
-use Rattle.sbpl_mprim.specs.declared.prim.Primitive.{Primitive}
-use Rattle.sbpl_mprim.specs.Primitives.{offset_cell}
+use Rattle.sbpl_terrain.specs.sbpl_graph.Network.{Network, IsFreeArc}
+use Rattle.sbpl_terrain.specs.sbpl_graph.Laws.{HasExactTails, HasGaps}
+use Rattle.sbpl_sweep.specs.sbpl_mprim.declared.prim.Primitive.{Primitive}
+use Rattle.sbpl_sweep.specs.sbpl_mprim.Primitives.{offset_cell}
 use Rattle.sbpl_sweep.specs.declared.cell.Cell.{Cell}
 use Rattle.sbpl_cost.specs.PrimitiveCost.{primitive_cost}
 use Rattle.sbpl_cost.specs.States.{place_of, state_in, state_count}

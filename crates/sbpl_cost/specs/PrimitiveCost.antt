@@ -3,9 +3,9 @@ use Rattle.std.specs.Prelude.{◌≡◌, ℕ, zero, suc, ℤ, ◌+◌, ◌-◌, 
 use Rattle.std.specs.Int.{abs_diff}
 use Rattle.std.specs.Int.RustNames.{unsigned_abs}
 use Rattle.std.specs.List.{zip}
-use Rattle.sbpl_cfg.specs.declared.pose.Pose.{Pose}
-use Rattle.sbpl_cfg.specs.Environment.{Environment}
-use Rattle.sbpl_mprim.specs.declared.prim.Primitive.{Primitive}
+use Rattle.sbpl_sweep.specs.sbpl_cfg.declared.pose.Pose.{Pose}
+use Rattle.sbpl_sweep.specs.sbpl_cfg.Environment.{Environment}
+use Rattle.sbpl_sweep.specs.sbpl_mprim.declared.prim.Primitive.{Primitive}
 
 -- the least whole number whose square is at least n
 unfoldable pub root_above : ℕ → ℕ

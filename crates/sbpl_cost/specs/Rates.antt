@@ -1,7 +1,7 @@
 -- The least fractions that the gaps are computed from.
 use Rattle.std.specs.Prelude.{◌≡◌, ℕ, ◌*◌, ◌/◌, List, Option, Some, None}
-use Rattle.sbpl_cfg.specs.Environment.{Environment}
-use Rattle.sbpl_mprim.specs.declared.prim.Primitive.{Primitive}
+use Rattle.sbpl_sweep.specs.sbpl_cfg.Environment.{Environment}
+use Rattle.sbpl_sweep.specs.sbpl_mprim.declared.prim.Primitive.{Primitive}
 use Rattle.sbpl_cost.specs.declared.rate.Rate.{Rate}
 use Rattle.sbpl_cost.specs.declared.gaps.Gaps.{Gaps}
 use Rattle.sbpl_cost.specs.declared.way.Way.{Way}

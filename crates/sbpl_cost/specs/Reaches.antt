@@ -1,8 +1,8 @@
 -- How far cells lie from the source cell of a motion.
 use Rattle.std.specs.Prelude.{◌≡◌, ℕ, ℤ, pos, ◌+◌, ◌<◌, ◌≤◌, ◌+ℤ◌, ◌≤ℤ◌, List, slice_get, Some}
-use Rattle.sbpl_mprim.specs.declared.prim.Primitive.{Primitive}
-use Rattle.sbpl_mprim.specs.Primitives.{Primitives}
-use Rattle.sbpl_map.specs.CellMap.{CellMap, IsOnMap}
+use Rattle.sbpl_sweep.specs.sbpl_mprim.declared.prim.Primitive.{Primitive}
+use Rattle.sbpl_sweep.specs.sbpl_mprim.Primitives.{Primitives}
+use Rattle.sbpl_terrain.specs.sbpl_map.CellMap.{CellMap, IsOnMap}
 use Rattle.sbpl_sweep.specs.declared.cell.Cell.{Cell}
 use Rattle.sbpl_cost.specs.declared.reach.Reach.{Reach}
 use Rattle.sbpl_cost.specs.declared.strip.Strip.{Strip}

@@ -1,10 +1,10 @@
 -- Which arcs of a lattice read a cell.
 use Rattle.std.specs.Prelude.{◌≡◌, ℕ, ℤ, pos, ◌+ℤ◌, ◌-ℤ◌, ◌<◌, ◌≤◌, ◌↔◌, List, length, slice_get, Option, Some, option_and_then, option_map}
-use Rattle.sbpl_cfg.specs.declared.pose.Place.{Place}
-use Rattle.sbpl_cfg.specs.Environment.{Environment}
-use Rattle.sbpl_mprim.specs.declared.prim.Primitive.{Primitive}
+use Rattle.sbpl_sweep.specs.sbpl_cfg.declared.pose.Place.{Place}
+use Rattle.sbpl_sweep.specs.sbpl_cfg.Environment.{Environment}
+use Rattle.sbpl_sweep.specs.sbpl_mprim.declared.prim.Primitive.{Primitive}
 use Rattle.sbpl_sweep.specs.declared.reads.Read.{Read}
-use Rattle.sbpl_map.specs.CellMap.{CellMap, cost_at}
+use Rattle.sbpl_terrain.specs.sbpl_map.CellMap.{CellMap, cost_at}
 use Rattle.sbpl_terrain.specs.Cells.{DifferInCostsAlone}
 use Rattle.sbpl_terrain.specs.Ends.{at_end}
 use Rattle.sbpl_terrain.specs.Reading.{AddsEnds}

@@ -1,6 +1,6 @@
 -- Which cells an arc reads.
 use Rattle.std.specs.Prelude.{◌≡◌, ℕ, ℤ}
-use Rattle.sbpl_mprim.specs.declared.prim.Primitive.{Primitive}
+use Rattle.sbpl_sweep.specs.sbpl_mprim.declared.prim.Primitive.{Primitive}
 use Rattle.sbpl_sweep.specs.Reads.{IsRead}
 use Rattle.sbpl_cost.specs.Arc.{IsArcBy, column_from, row_from}
 use Rattle.sbpl_cost.specs.World.{World}

@@ -1,10 +1,10 @@
 -- What a lattice computes once, when it is made.
 use Rattle.std.specs.Prelude.{◌≡◌, ℕ, ◌<◌, ◌≤◌, ◌==◌, List, take, map, count_by, slice_get, Some}
-use Rattle.sbpl_cfg.specs.Environment.{Environment}
-use Rattle.sbpl_mprim.specs.declared.prim.Primitive.{Primitive}
-use Rattle.sbpl_mprim.specs.Primitives.{Primitives}
+use Rattle.sbpl_sweep.specs.sbpl_cfg.Environment.{Environment}
+use Rattle.sbpl_sweep.specs.sbpl_mprim.declared.prim.Primitive.{Primitive}
+use Rattle.sbpl_sweep.specs.sbpl_mprim.Primitives.{Primitives}
 use Rattle.sbpl_sweep.specs.declared.cell.Cell.{Cell}
-use Rattle.sbpl_bits.specs.Flags.{Flags}
+use Rattle.sbpl_sweep.specs.sbpl_lists.Flags.{Flags}
 use Rattle.sbpl_cost.specs.Walls.{AreWalls}
 use Rattle.sbpl_cost.specs.declared.strip.Strip.{Strip}
 use Rattle.sbpl_cost.specs.declared.gaps.Gaps.{Gaps}

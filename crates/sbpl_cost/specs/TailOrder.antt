@@ -1,8 +1,8 @@
 -- The order in which a state's tails stand.
 use Rattle.std.specs.Prelude.{◌≡◌, ℕ, ℤ, pos, ◌<◌, ◌-ℤ◌, ◌==◌, ◌↔◌, List, take, count_by, slice_get, Some, None}
-use Rattle.sbpl_graph.specs.Network.{Network}
-use Rattle.sbpl_mprim.specs.declared.prim.Primitive.{Primitive}
-use Rattle.sbpl_map.specs.CellMap.{IsOnMap}
+use Rattle.sbpl_terrain.specs.sbpl_graph.Network.{Network}
+use Rattle.sbpl_sweep.specs.sbpl_mprim.declared.prim.Primitive.{Primitive}
+use Rattle.sbpl_terrain.specs.sbpl_map.CellMap.{IsOnMap}
 use Rattle.sbpl_cost.specs.States.{place_of, state_count}
 use Rattle.sbpl_cost.specs.World.{World, IsWorld}
 use Rattle.sbpl_cost.specs.Arc.{IsArcBy, EndsIn}

@@ -1,10 +1,10 @@
 -- What a lattice is made of.
 use Rattle.std.specs.Prelude.{◌≡◌, ℕ, ◌^◌, ◌≤◌, slice_get, Some}
-use Rattle.sbpl_cfg.specs.Environment.{Environment, IsEnvironment}
-use Rattle.sbpl_mprim.specs.declared.prim.Primitive.{Primitive}
-use Rattle.sbpl_mprim.specs.Primitives.{Primitives, ArePrimitives}
+use Rattle.sbpl_sweep.specs.sbpl_cfg.Environment.{Environment, IsEnvironment}
+use Rattle.sbpl_sweep.specs.sbpl_mprim.declared.prim.Primitive.{Primitive}
+use Rattle.sbpl_sweep.specs.sbpl_mprim.Primitives.{Primitives, ArePrimitives}
 use Rattle.sbpl_sweep.specs.Swept.{Swept, AreSweepsOf}
-use Rattle.sbpl_map.specs.CellMap.{CellMap, IsCellMap}
+use Rattle.sbpl_terrain.specs.sbpl_map.CellMap.{CellMap, IsCellMap}
 use Rattle.sbpl_cost.specs.PrimitiveCost.{primitive_cost, most_cost}
 
 -- an environment, primitives, the cells that these sweep for the robot's radius, and the present costs of the cells

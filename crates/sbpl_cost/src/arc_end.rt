@@ -3,7 +3,7 @@
 ghost use Rattle.std.specs.Prelude.{◌≡◌};
 ghost use Rattle.sbpl_cost.specs.Ends.{heading_at};
 
-use sbpl_mprim::Prim;
+use sbpl_sweep::Prim;
 use sbpl_terrain::ArcEnd;
 
 /// The heading at an end of the motion by a primitive.

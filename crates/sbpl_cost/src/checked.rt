@@ -1,7 +1,7 @@
 //! The cells that a motion's judgement reads besides its source cell.
 
 ghost use Rattle.std.specs.Prelude.{◌≡◌, ◌<◌, ◌≤◌, ◌^◌, slice_get, Some, IfOk, OnOk};
-ghost use Rattle.sbpl_mprim.specs.Primitives.{IsPrimitive};
+ghost use Rattle.sbpl_sweep.specs.sbpl_mprim.Primitives.{IsPrimitive};
 ghost use Rattle.sbpl_sweep.specs.Centres.{AreCentres};
 ghost use Rattle.sbpl_sweep.specs.Swept.{AreSweepsOf};
 ghost use Rattle.sbpl_cost.specs.Checked.{AddsOthers, AreAlong, HaveAlong, HaveAround};
@@ -10,10 +10,7 @@ ghost use Rattle.sbpl_cost.specs.Reaches.{HaveReaches};
 use crate::reach::{Reach, reach_of};
 use crate::strip::Strip;
 use crate::strips::strips_of;
-use sbpl_fixed::NoMemory;
-use sbpl_mprim::{Prim, Prims};
-use sbpl_runs::Runs;
-use sbpl_sweep::{Cell, Sweeps, ends_are_centres};
+use sbpl_sweep::{Cell, NoMemory, Prim, Prims, Runs, Sweeps, ends_are_centres};
 use std::alloc::Global;
 
 /// Adds those of some cells that are not known. The known cells are among the cells, and both are in the same order.

@@ -1,6 +1,6 @@
 //! Why a lattice can't be made.
 
-use sbpl_fixed::NoMemory;
+use sbpl_sweep::NoMemory;
 use thiserror::Error;
 
 /// Why a lattice can't be made.

@@ -1,9 +1,9 @@
 //! What going from one place to another costs at least, on every map.
 
 ghost use Rattle.std.specs.Prelude.{◌≡◌, ℕ, ◌<◌, ◌≤◌, ◌-◌, ◌*◌, ◌/◌, pos, negsuc, List, map, max, slice_get, Some};
-ghost use Rattle.sbpl_cfg.specs.Environment.{IsWithin};
-ghost use Rattle.sbpl_mprim.specs.declared.prim.Primitive.{Primitive};
-ghost use Rattle.sbpl_mprim.specs.Primitives.{IsPrimitive};
+ghost use Rattle.sbpl_sweep.specs.sbpl_cfg.Environment.{IsWithin};
+ghost use Rattle.sbpl_sweep.specs.sbpl_mprim.declared.prim.Primitive.{Primitive};
+ghost use Rattle.sbpl_sweep.specs.sbpl_mprim.Primitives.{IsPrimitive};
 ghost use Rattle.sbpl_cost.specs.PrimitiveCost.{primitive_cost, most_cost};
 ghost use Rattle.sbpl_cost.specs.Gaps.{positive_part, negative_part, advance, lesser, floor_for, floor_by, gap_of};
 ghost use Rattle.sbpl_cost.specs.Rates.{floor_at, IsRate, AreGaps};
@@ -12,8 +12,7 @@ ghost use Rattle.sbpl_cost.specs.Tables.{AreCheap};
 use crate::primitive_cost::bins_turned;
 use crate::rate::Rate;
 use crate::way::Way;
-use sbpl_cfg::{Env, Place};
-use sbpl_mprim::{Prim, Prims};
+use sbpl_sweep::{Env, Place, Prim, Prims};
 
 /// The least fractions of cost to cells of the primitives that go each way.
 #[derive(Clone, Copy)]

@@ -1,8 +1,8 @@
 //! Whether a motion is free on a map, and the greatest cost that it pays.
 
 ghost use Rattle.std.specs.Prelude.{◌≡◌, ℕ, pos, negsuc, ◌^◌, ◌<◌, ◌+ℤ◌, ◌≤ℤ◌, ◌⊎◌, slice_get, Some, IsTrue, false, IfSome, IfNone};
-ghost use Rattle.sbpl_cfg.specs.Environment.{IsWithin};
-ghost use Rattle.sbpl_map.specs.CellMap.{IsOnMap, cost_at};
+ghost use Rattle.sbpl_sweep.specs.sbpl_cfg.Environment.{IsWithin};
+ghost use Rattle.sbpl_terrain.specs.sbpl_map.CellMap.{IsOnMap, cost_at};
 ghost use Rattle.sbpl_sweep.specs.declared.cell.Cell.{Cell};
 ghost use Rattle.sbpl_cost.specs.Strips.{cells_in, strip_cells};
 ghost use Rattle.sbpl_cost.specs.Reaches.{AreOnMap, IsReach, LieWithin};
@@ -11,10 +11,8 @@ ghost use Rattle.sbpl_cost.specs.Judging.{IsNear, IsCellBelow, IsGreatestBelow, 
 
 use crate::reach::Reach;
 use crate::strip::Strip;
-use sbpl_bits::Bits;
-use sbpl_cfg::{Env, Place};
-use sbpl_map::Map;
-use sbpl_sweep::Cell;
+use sbpl_sweep::{Bits, Cell, Env, Place};
+use sbpl_terrain::Map;
 
 /// The cost of cell `(x, y)`, where it is on the map and costs less than a limit.
 fn cost_below(map: &Map, x: i64, y: i64, limit: u8) -> Option<u8>

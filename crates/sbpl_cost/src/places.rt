@@ -3,8 +3,7 @@
 ghost use Rattle.std.specs.Prelude.{◌≡◌, ◌<◌, ◌↔◌, pos, ◌+ℤ◌, ◌-ℤ◌, IsSome, IfSome, IfNone};
 ghost use Rattle.sbpl_cost.specs.States.{IsPlace, IsOff, place_of, state_number, state_in, state_count, place_on_map};
 
-use sbpl_cfg::{Env, Place};
-use sbpl_mprim::Prim;
+use sbpl_sweep::{Env, Place, Prim};
 
 /// How many states there are, 1 to 2^23.
 pub(crate) fn state_count(env: &Env) -> u32

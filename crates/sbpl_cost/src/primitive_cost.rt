@@ -1,14 +1,12 @@
 //! The cost of a primitive by itself: SBPL's rule, in whole numbers.
 
 ghost use Rattle.std.specs.Prelude.{◌≡◌, ◌≢◌, ℕ, pos, negsuc, ◌-ℤ◌, ◌+◌, ◌*◌, ◌^◌, ◌<◌, ◌≤◌, length, slice_get, Some, IfSome, IfNone};
-ghost use Rattle.sbpl_cfg.specs.declared.pose.Pose.{Pose};
-ghost use Rattle.sbpl_cfg.specs.Environment.{IsWithin};
-ghost use Rattle.sbpl_mprim.specs.Primitives.{IsPrimitive, IsOffsetInRange, pose_count};
+ghost use Rattle.sbpl_sweep.specs.sbpl_cfg.declared.pose.Pose.{Pose};
+ghost use Rattle.sbpl_sweep.specs.sbpl_cfg.Environment.{IsWithin};
+ghost use Rattle.sbpl_sweep.specs.sbpl_mprim.Primitives.{IsPrimitive, IsOffsetInRange, pose_count};
 ghost use Rattle.sbpl_cost.specs.PrimitiveCost.{squared, distance, way_length, heading_gap, linear_time, angular_time, primitive_cost, most_cost, IsTooDear, DistancesRoundUp, CeilingsRoundUp, GapsAreShortest};
 
-use sbpl_cfg::{Env, Pose};
-use sbpl_fixed::{ceil_div, ceil_root};
-use sbpl_mprim::Prim;
+use sbpl_sweep::{Env, Pose, Prim, ceil_div, ceil_root};
 
 /// The greatest cost that a primitive may have.
 pub const MOST_COST: u32 = 16_777_215;

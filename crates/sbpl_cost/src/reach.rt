@@ -7,7 +7,7 @@ ghost use Rattle.sbpl_cost.specs.Reaches.{IsAsFar, IsInside, IsReach, LieWithin}
 ghost use Rattle.sbpl_cost.specs.Strips.{cells_in, strip_cells};
 
 use crate::strip::Strip;
-use sbpl_map::Map;
+use sbpl_terrain::Map;
 
 /// How far cells lie from the source cell of a motion at most, in columns and in rows, to either side.
 #[derive(Clone, Copy)]

@@ -2,16 +2,13 @@
 
 ghost use Rattle.std.specs.Prelude.{◌≡◌, ℕ, pos, ◌<◌, ◌-ℤ◌, ◌++◌, [], length, take, slice_get, Some, OnOk, OnErr};
 ghost use Rattle.std.specs.List.{filter_map, cons_option};
-ghost use Rattle.sbpl_mprim.specs.Primitives.{ArePrimitives};
+ghost use Rattle.sbpl_sweep.specs.sbpl_mprim.Primitives.{ArePrimitives};
 ghost use Rattle.sbpl_cost.specs.Judging.{IsNear};
 ghost use Rattle.sbpl_cost.specs.States.{place_on_map};
 ghost use Rattle.sbpl_cost.specs.Reading.{end_of_read, AreReadable};
 
 use crate::places::{end_state, number_of, place_on_map};
-use sbpl_cfg::{Env, Place};
-use sbpl_fixed::NoMemory;
-use sbpl_mprim::Prims;
-use sbpl_sweep::{Cell, Read};
+use sbpl_sweep::{Cell, Env, NoMemory, Place, Prims, Read};
 use sbpl_terrain::ArcEnd;
 
 /// The place with heading `t` in the cell from which cell `(x, y)` lies this far, or `None` where that is off the map.

@@ -4,8 +4,7 @@ ghost use Rattle.std.specs.Prelude.{◌≡◌, [], ◌∷◌, ◌++◌, IfOk, If
 ghost use Rattle.sbpl_cost.specs.Strips.{cells_in, strip_cells};
 
 use crate::strip::Strip;
-use sbpl_fixed::NoMemory;
-use sbpl_sweep::Cell;
+use sbpl_sweep::{Cell, NoMemory};
 use std::alloc::Global;
 
 /// The strip with this cell too, where the cell is the next one in its row.

@@ -17,12 +17,7 @@ use crate::primitive_cost::prim_cost;
 use crate::reach::Reach;
 use crate::strip::Strip;
 use crate::walls::walls_of;
-use sbpl_bits::Bits;
-use sbpl_cfg::Env;
-use sbpl_fixed::NoMemory;
-use sbpl_mprim::Prims;
-use sbpl_runs::Runs;
-use sbpl_sweep::{Cell, Sweeps};
+use sbpl_sweep::{Bits, Cell, Env, NoMemory, Prims, Runs, Sweeps};
 use sbpl_terrain::ArcEnd;
 use std::alloc::Global;
 

@@ -1,13 +1,11 @@
 //! Which cells are obstacles for the robot, one bit each.
 
 ghost use Rattle.std.specs.Prelude.{◌≡◌, IfOk, length};
-ghost use Rattle.sbpl_map.specs.CellMap.{CellMap, costs_with, index_in};
+ghost use Rattle.sbpl_terrain.specs.sbpl_map.CellMap.{CellMap, costs_with, index_in};
 ghost use Rattle.sbpl_cost.specs.Walls.{AreWalls};
 
-use sbpl_bits::Bits;
-use sbpl_cfg::Env;
-use sbpl_fixed::NoMemory;
-use sbpl_map::Map;
+use sbpl_sweep::{Bits, Env, NoMemory};
+use sbpl_terrain::Map;
 use std::alloc::Global;
 
 /// The cells whose costs are a limit or more.

@@ -8,10 +8,10 @@ use Rattle.std.proofs.lemmas.Bool.{cases_Bool}
 use Rattle.std.proofs.lemmas.Fmt.{length-decimal-le}
 use Rattle.std.proofs.lemmas.List.{length-append}
 use Rattle.sbpl_fixed.specs.Printed.{line_text, lines_text}
-use Rattle.sbpl_map.specs.CellMap.{CellMap}
-use Rattle.sbpl_map.specs.ChangeText.{replan_line, IsWriteOnMap}
-use Rattle.sbpl_map.specs.Printed.{AreChangesOf, batch_lines, changes_text, write_line}
-use Rattle.sbpl_map.specs.declared.write.Write.{Write}
+use Rattle.sbpl_cost.specs.sbpl_map.CellMap.{CellMap}
+use Rattle.sbpl_cost.specs.sbpl_map.ChangeText.{replan_line, IsWriteOnMap}
+use Rattle.sbpl_cost.specs.sbpl_map.Printed.{AreChangesOf, batch_lines, changes_text, write_line}
+use Rattle.sbpl_cost.specs.sbpl_map.declared.write.Write.{Write}
 use Rattle.sbpl_demo.specs.Generator.{draw, word_after}
 use Rattle.sbpl_demo.specs.Changes.{batches, cell_writes, change, change_cost, changes_drawn, is_end, writes}
 use Rattle.sbpl_demo.proofs.Steps.{batch_ends, batches_next, batches_none, writes_next, writes_none}

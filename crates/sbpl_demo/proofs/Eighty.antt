@@ -8,13 +8,13 @@ use Rattle.std.proofs.lemmas.Bool.Decides.{Decides-eqb, nat_tests}
 use Rattle.std.proofs.lemmas.Int.{ints}
 use Rattle.std.proofs.lemmas.Option.{get_or_from_slice_get}
 use Rattle.std.proofs.Math.Seq.{get_or-append_seam}
-use Rattle.sbpl_cfg.specs.Place.{heading_of}
-use Rattle.sbpl_cfg.specs.declared.pose.Pose.{Pose}
-use Rattle.sbpl_mprim.specs.declared.prim.Primitive.{Primitive}
-use Rattle.sbpl_mprim.specs.Judging.{costs_nothing, heading_modulo, is_in_bin, is_in_cell}
-use Rattle.sbpl_cfg.specs.Environment.{IsWithin}
-use Rattle.sbpl_mprim.specs.Primitives.{ArePrimitives, IsOffsetInRange, IsPrimitive, pose_count}
-use Rattle.sbpl_mprim.proofs.JudgingLaws.{all_pass, costs_something, ends_at}
+use Rattle.sbpl_cost.specs.sbpl_cfg.Place.{heading_of}
+use Rattle.sbpl_cost.specs.sbpl_cfg.declared.pose.Pose.{Pose}
+use Rattle.sbpl_cost.specs.sbpl_mprim.declared.prim.Primitive.{Primitive}
+use Rattle.sbpl_cost.specs.sbpl_mprim.Judging.{costs_nothing, heading_modulo, is_in_bin, is_in_cell}
+use Rattle.sbpl_cost.specs.sbpl_cfg.Environment.{IsWithin}
+use Rattle.sbpl_cost.specs.sbpl_mprim.Primitives.{ArePrimitives, IsOffsetInRange, IsPrimitive, pose_count}
+use Rattle.sbpl_cost.proofs.JudgingLaws.{all_pass, costs_something, ends_at}
 use Rattle.sbpl_demo.specs.declared.primitives.Motion.{Motion}
 use Rattle.sbpl_demo.specs.Primitives.{along, motions, motions_from, pose, poses, primitive, primitives, way_along}
 

@@ -7,9 +7,9 @@ use Rattle.std.proofs.lemmas.Int.{ints}
 use Rattle.std.proofs.lemmas.Bool.{cases_Bool}
 use Rattle.std.proofs.lemmas.List.{length-append, length-set}
 use Rattle.std.proofs.lemmas.Nat.{mul-lt}
-use Rattle.sbpl_cfg.specs.Environment.{IsEnvironment, IsOnAxis, IsPoseInRange}
-use Rattle.sbpl_cfg.specs.Place.{cell_of}
-use Rattle.sbpl_cfg.specs.Text.{IsGrid}
+use Rattle.sbpl_cost.specs.sbpl_cfg.Environment.{IsEnvironment, IsOnAxis, IsPoseInRange}
+use Rattle.sbpl_cost.specs.sbpl_cfg.Place.{cell_of}
+use Rattle.sbpl_cost.specs.sbpl_cfg.Text.{IsGrid}
 use Rattle.sbpl_demo.specs.Generator.{draw}
 use Rattle.sbpl_demo.specs.Environment.{center, center_pose, cost_of, costs, costs_drawn, environment}
 

@@ -6,10 +6,10 @@ use Rattle.std.specs.List.{slice_get, zip, AllByRecursion}
 use Rattle.std.proofs.lemmas.Int.{ints}
 use Rattle.std.proofs.lemmas.List.Sums.{sum_by-cons}
 use Rattle.std.proofs.lemmas.Nat.{mul-lt}
-use Rattle.sbpl_cfg.specs.declared.pose.Pose.{Pose}
-use Rattle.sbpl_mprim.specs.declared.prim.Primitive.{Primitive}
-use Rattle.sbpl_mprim.specs.Primitives.{pose_count}
-use Rattle.sbpl_sweep.specs.Widths.{FewPosesAreNarrow, NoneTooWide}
+use Rattle.sbpl_cost.specs.sbpl_cfg.declared.pose.Pose.{Pose}
+use Rattle.sbpl_cost.specs.sbpl_mprim.declared.prim.Primitive.{Primitive}
+use Rattle.sbpl_cost.specs.sbpl_mprim.Primitives.{pose_count}
+use Rattle.sbpl_cost.specs.sbpl_sweep.Widths.{FewPosesAreNarrow, NoneTooWide}
 use Rattle.sbpl_cost.specs.PrimitiveCost.{DistancesRoundUp, angular_time, distance, heading_gap, linear_time}
 use Rattle.sbpl_cost.specs.PrimitiveCost.{most_cost, primitive_cost, way_length}
 use Rattle.sbpl_demo.specs.declared.primitives.Motion.{Motion}

@@ -9,10 +9,10 @@ use Rattle.std.proofs.lemmas.List.Concat.{flat_map-append}
 use Rattle.sbpl_fixed.specs.Numbers.{nano_of, number_after}
 use Rattle.sbpl_fixed.specs.Tokens.{is_filled}
 use Rattle.sbpl_fixed.proofs.ReadBack.{wholes_are_read_back, wholes_are_words}
-use Rattle.sbpl_cfg.specs.declared.pose.Pose.{Pose}
-use Rattle.sbpl_mprim.specs.Judging.{heading_modulo}
-use Rattle.sbpl_mprim.specs.Text.{AreShown, Saying, Shows, a_heading, a_nano, a_whole, a_word, spelled}
-use Rattle.sbpl_mprim.specs.Text.{spelled_pose, spelled_prim, words_of}
+use Rattle.sbpl_cost.specs.sbpl_cfg.declared.pose.Pose.{Pose}
+use Rattle.sbpl_cost.specs.sbpl_mprim.Judging.{heading_modulo}
+use Rattle.sbpl_cost.specs.sbpl_mprim.Text.{AreShown, Saying, Shows, a_heading, a_nano, a_whole, a_word, spelled}
+use Rattle.sbpl_cost.specs.sbpl_mprim.Text.{spelled_pose, spelled_prim, words_of}
 use Rattle.sbpl_demo.specs.declared.primitives.Motion.{Motion}
 use Rattle.sbpl_demo.specs.Primitives.{along, angle, head_lines, heading_at, motion_lines, motions, nanos, parts_text}
 use Rattle.sbpl_demo.specs.Primitives.{pose, pose_lines, pose_words, poses, primitive, primitives}

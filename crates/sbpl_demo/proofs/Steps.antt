@@ -5,9 +5,9 @@ use Rattle.std.specs.List.{flat_map}
 use Rattle.std.proofs.lemmas.List.{map-append}
 use Rattle.std.proofs.lemmas.List.Concat.{flat_map-append}
 use Rattle.sbpl_fixed.specs.Printed.{line_text, lines_text}
-use Rattle.sbpl_map.specs.ChangeText.{replan_line}
-use Rattle.sbpl_map.specs.Printed.{batch_lines, changes_text, write_line}
-use Rattle.sbpl_map.specs.declared.write.Write.{Write}
+use Rattle.sbpl_cost.specs.sbpl_map.ChangeText.{replan_line}
+use Rattle.sbpl_cost.specs.sbpl_map.Printed.{batch_lines, changes_text, write_line}
+use Rattle.sbpl_cost.specs.sbpl_map.declared.write.Write.{Write}
 use Rattle.sbpl_demo.specs.Generator.{draw, next_word, word_after}
 use Rattle.sbpl_demo.specs.Environment.{cost_of, costs_drawn}
 use Rattle.sbpl_demo.specs.Changes.{batches, change, writes}

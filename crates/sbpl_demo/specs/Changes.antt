@@ -1,6 +1,6 @@
 -- The changes that are drawn.
 use Rattle.std.specs.Prelude.{ℕ, zero, suc, ◌-◌, ◌*◌, ◌%◌, Bool, ◌&&◌, ◌||◌, List, [], ◌∷◌, ◌++◌, if◌then◌else◌, nat_eq}
-use Rattle.sbpl_map.specs.declared.write.Write.{Write}
+use Rattle.sbpl_cost.specs.sbpl_map.declared.write.Write.{Write}
 use Rattle.sbpl_demo.specs.Generator.{draw, word_after}
 
 -- whether a cell is the start's or the end's

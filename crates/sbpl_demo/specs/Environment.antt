@@ -1,7 +1,7 @@
 -- The environment that is drawn.
 use Rattle.std.specs.Prelude.{ℕ, zero, suc, ◌+◌, ◌-◌, ◌*◌, ◌%◌, ℤ, pos, List, [], ◌∷◌, ◌++◌, set, if◌then◌else◌, nat_lt}
-use Rattle.sbpl_cfg.specs.declared.pose.Pose.{Pose}
-use Rattle.sbpl_cfg.specs.Environment.{Environment}
+use Rattle.sbpl_cost.specs.sbpl_cfg.declared.pose.Pose.{Pose}
+use Rattle.sbpl_cost.specs.sbpl_cfg.Environment.{Environment}
 use Rattle.sbpl_demo.specs.Generator.{draw}
 
 -- the cost of a cell, of its draw: fifteen of a hundred are obstacles, and fifteen are dear

@@ -3,11 +3,11 @@ use Rattle.std.specs.Prelude.{ℕ, zero, suc, ◌+◌, ◌*◌, ◌/◌, ◌<◌
 use Rattle.std.specs.Fmt.{signed_decimal}
 use Rattle.std.specs.List.{flat_map}
 use Rattle.sbpl_fixed.specs.Printed.{point_text, lines_text}
-use Rattle.sbpl_cfg.specs.declared.pose.Pose.{Pose}
-use Rattle.sbpl_mprim.specs.declared.prim.Primitive.{Primitive}
-use Rattle.sbpl_mprim.specs.Judging.{heading_modulo}
-use Rattle.sbpl_mprim.specs.Primitives.{Primitives}
-use Rattle.sbpl_mprim.specs.Printed.{field}
+use Rattle.sbpl_cost.specs.sbpl_cfg.declared.pose.Pose.{Pose}
+use Rattle.sbpl_cost.specs.sbpl_mprim.declared.prim.Primitive.{Primitive}
+use Rattle.sbpl_cost.specs.sbpl_mprim.Judging.{heading_modulo}
+use Rattle.sbpl_cost.specs.sbpl_mprim.Primitives.{Primitives}
+use Rattle.sbpl_cost.specs.sbpl_mprim.Printed.{field}
 use Rattle.sbpl_demo.specs.declared.primitives.Motion.{Motion}
 use Rattle.sbpl_demo.specs.declared.primitives.Way.{Way}
 

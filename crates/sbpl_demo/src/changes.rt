@@ -2,15 +2,15 @@
 
 ghost use Rattle.std.specs.Prelude.{◌≡◌, ◌<◌, ◌≤◌, ◌++◌, map, OnOk, IfOk};
 ghost use Rattle.sbpl_fixed.specs.Printed.{line_text, lines_text};
-ghost use Rattle.sbpl_map.specs.Printed.{batch_lines, changes_text, write_line};
-ghost use Rattle.sbpl_map.specs.declared.write.Write.{Write};
+ghost use Rattle.sbpl_cost.specs.sbpl_map.Printed.{batch_lines, changes_text, write_line};
+ghost use Rattle.sbpl_cost.specs.sbpl_map.declared.write.Write.{Write};
 ghost use Rattle.sbpl_demo.specs.Generator.{word_after};
 ghost use Rattle.sbpl_demo.specs.Changes.{batches, cell_writes, change, change_cost, is_end, writes};
 
 use crate::draws::Draws;
+use sbpl_cost::Piece::{Bytes, Number};
+use sbpl_cost::push_line;
 use sbpl_fixed::NoMemory;
-use sbpl_text::Piece::{Bytes, Number};
-use sbpl_text::push_line;
 use std::alloc::Global;
 
 /// Appends the line that writes a cost to a cell.

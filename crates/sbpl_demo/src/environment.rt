@@ -1,12 +1,12 @@
 //! The environment that is drawn, and the costs of its cells.
 
 ghost use Rattle.std.specs.Prelude.{◌≡◌, ◌*◌, ◌<◌, ◌≤◌, OnOk, IfOk, vec_len};
-ghost use Rattle.sbpl_cfg.specs.Printed.{environment_text};
+ghost use Rattle.sbpl_cost.specs.sbpl_cfg.Printed.{environment_text};
 ghost use Rattle.sbpl_demo.specs.Generator.{word_after};
 ghost use Rattle.sbpl_demo.specs.Environment.{center, center_pose, cost_of, costs, costs_drawn, environment};
 
 use crate::draws::Draws;
-use sbpl_cfg::{Env, Grid, Pose, print_env};
+use sbpl_cost::{Env, Grid, Pose, print_env};
 use sbpl_fixed::NoMemory;
 use std::alloc::Global;
 

@@ -1,14 +1,14 @@
 //! The three files of a demonstration.
 
 ghost use Rattle.std.specs.Prelude.{◌≡◌, ◌≤◌, ℕ, length, slice_get, Some, IfOk};
-ghost use Rattle.sbpl_cfg.specs.Printed.{environment_text};
-ghost use Rattle.sbpl_cfg.specs.Text.{IsTextOf as IsEnvironmentText};
-ghost use Rattle.sbpl_mprim.specs.declared.prim.Primitive.{Primitive};
-ghost use Rattle.sbpl_mprim.specs.Text.{IsTextOf as IsPrimitiveText};
-ghost use Rattle.sbpl_map.specs.CellMap.{CellMap};
-ghost use Rattle.sbpl_map.specs.ChangeText.{IsTextOf as IsChangeText};
-ghost use Rattle.sbpl_map.specs.Printed.{changes_text};
-ghost use Rattle.sbpl_sweep.specs.Widths.{NoneTooWide};
+ghost use Rattle.sbpl_cost.specs.sbpl_cfg.Printed.{environment_text};
+ghost use Rattle.sbpl_cost.specs.sbpl_cfg.Text.{IsTextOf as IsEnvironmentText};
+ghost use Rattle.sbpl_cost.specs.sbpl_mprim.declared.prim.Primitive.{Primitive};
+ghost use Rattle.sbpl_cost.specs.sbpl_mprim.Text.{IsTextOf as IsPrimitiveText};
+ghost use Rattle.sbpl_cost.specs.sbpl_map.CellMap.{CellMap};
+ghost use Rattle.sbpl_cost.specs.sbpl_map.ChangeText.{IsTextOf as IsChangeText};
+ghost use Rattle.sbpl_cost.specs.sbpl_map.Printed.{changes_text};
+ghost use Rattle.sbpl_cost.specs.sbpl_sweep.Widths.{NoneTooWide};
 ghost use Rattle.sbpl_cost.specs.PrimitiveCost.{most_cost, primitive_cost};
 ghost use Rattle.sbpl_demo.specs.Environment.{costs, environment};
 ghost use Rattle.sbpl_demo.specs.Changes.{changes_drawn};
@@ -18,13 +18,11 @@ use crate::changes::draw_changes;
 use crate::draws::Draws;
 use crate::environment::draw_environment;
 use crate::primitives::primitives;
-use sbpl_cfg::texts_are_environments_or_faulty;
-use sbpl_cost::cost_parts_are_least;
+use sbpl_cost::{
+    ListOf, cost_parts_are_least, few_poses_are_narrow, texts_are_changes_or_faulty,
+    texts_are_environments_or_faulty, texts_are_primitives_or_faulty,
+};
 use sbpl_fixed::NoMemory;
-use sbpl_list::ListOf;
-use sbpl_map::texts_are_changes_or_faulty;
-use sbpl_mprim::texts_are_primitives_or_faulty;
-use sbpl_sweep::few_poses_are_narrow;
 use std::alloc::Global;
 
 /// The bytes of a file.

@@ -6,9 +6,9 @@ ghost use Rattle.sbpl_fixed.specs.Printed.{line_text, lines_text};
 ghost use Rattle.sbpl_demo.specs.Primitives.{IsMotion, IsWithinTwoCells, along, angle, backward, far, forward, heading_at, left, motion_head, motion_lines, motions_from, nearest_ninth, pose_lines, pose_words, primitives_text, right, way_along};
 
 use crate::put::Parts;
+use sbpl_cost::Piece::{Bytes, Number, Signed};
+use sbpl_cost::{push_line, push_lines};
 use sbpl_fixed::NoMemory;
-use sbpl_text::Piece::{Bytes, Number, Signed};
-use sbpl_text::{push_line, push_lines};
 use std::alloc::Global;
 
 /// The lines before the first primitive.

@@ -4,9 +4,9 @@ ghost use Rattle.std.specs.Prelude.{◌≡◌, ◌+◌, ◌%◌, ◌++◌, OnOk}
 ghost use Rattle.sbpl_fixed.specs.Printed.{last_digits, point_text};
 ghost use Rattle.sbpl_demo.specs.Primitives.{parts_text};
 
+use sbpl_cost::Piece::{Bytes, Number};
+use sbpl_cost::{Word, push_all};
 use sbpl_fixed::NoMemory;
-use sbpl_text::Piece::{Bytes, Number};
-use sbpl_text::{Word, push_all};
 
 /// A number of ten-thousandths.
 #[derive(Clone, Copy)]

@@ -4,32 +4,32 @@ use Rattle.std.proofs.Common.{inr, refl, sym, ap, subst, ◌∙◌}
 use Rattle.std.proofs.lemmas.Bool.{cases_Bool, cases_eq, cases_lt}
 use Rattle.std.proofs.lemmas.Bool.Decides.{nat_tests}
 use Rattle.std.proofs.lemmas.List.{get_or_past}
-use Rattle.sbpl_graph.specs.declared.TheConstants.{FAR}
-use Rattle.sbpl_graph.specs.Exact.{AreExact}
-use Rattle.sbpl_graph.specs.Certificate.{AreSupported, ShowBound, ShowNone}
-use Rattle.sbpl_labels.specs.Counts.{Counts}
-use Rattle.sbpl_labels.specs.Marks.{Marks, no_row, g_of, v_of, back_of, row_at}
-use Rattle.sbpl_labels.specs.declared.pass_end.PassEnd.{PassEnd}
-use Rattle.sbpl_labels.specs.declared.pass_end.PassEnd.TheVariants.{Rest, Spent}
-use Rattle.sbpl_labels.specs.declared.row.Row.{Row}
-use Rattle.sbpl_open.specs.KeyOrder.{IsBelow}
-use Rattle.sbpl_search.specs.Passed.{IsPassed}
-use Rattle.sbpl_search.specs.Query.{Query}
-use Rattle.sbpl_search.specs.Ready.{IsStartFresh}
-use Rattle.sbpl_search.specs.State.{State}
-use Rattle.sbpl_serial.specs.Keys.{over_key}
-use Rattle.sbpl_serial.specs.Run.{IsAtRest, IsOpen, IsOver, IsUnder, goal_key_at, key_at}
-use Rattle.sbpl_frontier_rules.specs.declared.event.Event.{Event}
-use Rattle.sbpl_frontier_rules.specs.Events.{AreEvents, IsFirst, IsIdle, IsOutOfBudget, IsRest}
-use Rattle.sbpl_frontier_rules.specs.Frontier.{Frontier, is_opened}
-use Rattle.sbpl_frontier_rules.specs.Journal.{openings}
-use Rattle.sbpl_frontier_rules.specs.Kept.{IsKept}
-use Rattle.sbpl_frontier_rules.specs.Laws.{EachOpensOnce, EventsKeep, FirstIsKept, IdleIsExact, IsLawful}
-use Rattle.sbpl_frontier_rules.specs.Laws.{MayBegin, OpensOnce, SettledAtOne}
-use Rattle.sbpl_frontier_rules.specs.Passes.{ArePass, CountsAreFree, OpenedByEvents}
-use Rattle.sbpl_frontier_rules.specs.Passes.{StartStaysFresh, counted_with, opened_by}
-use Rattle.sbpl_frontier_core.specs.Log.{Log}
-use Rattle.sbpl_frontier_core.specs.Passes.{EndsSo, IsPassFinished}
+use Rattle.sbpl_adstar.specs.sbpl_graph.declared.TheConstants.{FAR}
+use Rattle.sbpl_adstar.specs.sbpl_graph.Exact.{AreExact}
+use Rattle.sbpl_adstar.specs.sbpl_graph.Certificate.{AreSupported, ShowBound, ShowNone}
+use Rattle.sbpl_adstar.specs.sbpl_labels.Counts.{Counts}
+use Rattle.sbpl_adstar.specs.sbpl_labels.Marks.{Marks, no_row, g_of, v_of, back_of, row_at}
+use Rattle.sbpl_adstar.specs.sbpl_labels.declared.pass_end.PassEnd.{PassEnd}
+use Rattle.sbpl_adstar.specs.sbpl_labels.declared.pass_end.PassEnd.TheVariants.{Rest, Spent}
+use Rattle.sbpl_adstar.specs.sbpl_labels.declared.row.Row.{Row}
+use Rattle.sbpl_adstar.specs.sbpl_open.KeyOrder.{IsBelow}
+use Rattle.sbpl_adstar.specs.sbpl_search.Passed.{IsPassed}
+use Rattle.sbpl_adstar.specs.sbpl_search.Query.{Query}
+use Rattle.sbpl_adstar.specs.sbpl_search.Ready.{IsStartFresh}
+use Rattle.sbpl_adstar.specs.sbpl_search.State.{State}
+use Rattle.sbpl_adstar.specs.sbpl_serial.Keys.{over_key}
+use Rattle.sbpl_adstar.specs.sbpl_serial.Run.{IsAtRest, IsOpen, IsOver, IsUnder, goal_key_at, key_at}
+use Rattle.sbpl_frontier.specs.sbpl_frontier_rules.declared.event.Event.{Event}
+use Rattle.sbpl_frontier.specs.sbpl_frontier_rules.Events.{AreEvents, IsFirst, IsIdle, IsOutOfBudget, IsRest}
+use Rattle.sbpl_frontier.specs.sbpl_frontier_rules.Frontier.{Frontier, is_opened}
+use Rattle.sbpl_frontier.specs.sbpl_frontier_rules.Journal.{openings}
+use Rattle.sbpl_frontier.specs.sbpl_frontier_rules.Kept.{IsKept}
+use Rattle.sbpl_frontier.specs.sbpl_frontier_rules.Laws.{EachOpensOnce, EventsKeep, FirstIsKept, IdleIsExact, IsLawful}
+use Rattle.sbpl_frontier.specs.sbpl_frontier_rules.Laws.{MayBegin, OpensOnce, SettledAtOne}
+use Rattle.sbpl_frontier.specs.sbpl_frontier_rules.Passes.{ArePass, CountsAreFree, OpenedByEvents}
+use Rattle.sbpl_frontier.specs.sbpl_frontier_rules.Passes.{StartStaysFresh, counted_with, opened_by}
+use Rattle.sbpl_frontier.specs.sbpl_frontier_core.Log.{Log}
+use Rattle.sbpl_frontier.specs.sbpl_frontier_core.Passes.{EndsSo, IsPassFinished}
 use Rattle.sbpl_epase.specs.Planner.{epase}
 
 -- ---- keys

@@ -5,10 +5,10 @@ use Rattle.std.proofs.Math.Bool.{◌||◌}
 use Rattle.std.proofs.Math.Logic.{∥∥₁_map}
 use Rattle.std.proofs.lemmas.List.Sums.{sum_by-cons}
 use Rattle.std.specs.Result.{is_err}
-use Rattle.sbpl_labels.specs.Counts.{Counts}
-use Rattle.sbpl_labels.specs.Marks.{Marks}
-use Rattle.sbpl_labels.specs.declared.pass_end.PassEnd.{PassEnd}
-use Rattle.sbpl_search.specs.Query.{Query}
+use Rattle.sbpl_adstar.specs.sbpl_labels.Counts.{Counts}
+use Rattle.sbpl_adstar.specs.sbpl_labels.Marks.{Marks}
+use Rattle.sbpl_adstar.specs.sbpl_labels.declared.pass_end.PassEnd.{PassEnd}
+use Rattle.sbpl_adstar.specs.sbpl_search.Query.{Query}
 use Rattle.sbpl_frontier.specs.Tally.{Tally}
 use Rattle.sbpl_epase.specs.Workers.{HasEnded, SawEnd}
 

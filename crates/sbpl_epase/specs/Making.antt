@@ -1,12 +1,12 @@
 -- What the making of a pass asks, and what it leaves.
 use Rattle.std.specs.Prelude.{ℕ, ◌<◌, ◌≤◌, Bool, IfErr, IfOk, Result}
 use Rattle.std.specs.Borrow.{Bor}
-use Rattle.sbpl_graph.specs.Network.{Network}
-use Rattle.sbpl_search.specs.Query.{Query, query}
-use Rattle.sbpl_search.specs.Ready.{AreReady}
-use Rattle.sbpl_frontier_core.specs.Passes.{IsPassFinished, IsPassGivenUp}
-use Rattle.sbpl_frontier_core.specs.Waiting.{HoldsOver}
-use Rattle.sbpl_frontier_core.specs.declared.parts.Parts.{Parts}
+use Rattle.sbpl_adstar.specs.sbpl_graph.Network.{Network}
+use Rattle.sbpl_adstar.specs.sbpl_search.Query.{Query, query}
+use Rattle.sbpl_adstar.specs.sbpl_search.Ready.{AreReady}
+use Rattle.sbpl_frontier.specs.sbpl_frontier_core.Passes.{IsPassFinished, IsPassGivenUp}
+use Rattle.sbpl_frontier.specs.sbpl_frontier_core.Waiting.{HoldsOver}
+use Rattle.sbpl_frontier.specs.sbpl_frontier_core.declared.parts.Parts.{Parts}
 use Rattle.sbpl_epase.specs.declared.passed.Passed.{Passed}
 
 -- A pass can be made: its guide guides, its inflation is one to a hundred, its goal is a state. It can begin with the labels and the

@@ -1,14 +1,14 @@
 -- A search by ePA*SE between its passes.
 use Rattle.std.specs.Prelude.{◌≡◌, ℕ, ◌<◌, ◌≤◌, List, Option, Some, None, IsSome, []}
-use Rattle.sbpl_graph.specs.Kept.{NoneUnder}
-use Rattle.sbpl_labels.specs.Marks.{Marks, g_of, states_of, v_of}
-use Rattle.sbpl_search.specs.State.{State}
+use Rattle.sbpl_adstar.specs.sbpl_graph.Kept.{NoneUnder}
+use Rattle.sbpl_adstar.specs.sbpl_labels.Marks.{Marks, g_of, states_of, v_of}
+use Rattle.sbpl_adstar.specs.sbpl_search.State.{State}
 use Rattle.sbpl_adstar.specs.Raised.{Raising}
-use Rattle.sbpl_frontier_rules.specs.declared.event.Event.{Event}
-use Rattle.sbpl_frontier_rules.specs.Journal.{openings}
-use Rattle.sbpl_frontier_core.specs.Log.{Log}
-use Rattle.sbpl_frontier_core.specs.Nothing.{no_marks}
-use Rattle.sbpl_frontier_core.specs.Waiting.{HoldsOver, Waiting}
+use Rattle.sbpl_frontier.specs.sbpl_frontier_rules.declared.event.Event.{Event}
+use Rattle.sbpl_frontier.specs.sbpl_frontier_rules.Journal.{openings}
+use Rattle.sbpl_frontier.specs.sbpl_frontier_core.Log.{Log}
+use Rattle.sbpl_frontier.specs.sbpl_frontier_core.Nothing.{no_marks}
+use Rattle.sbpl_frontier.specs.sbpl_frontier_core.Waiting.{HoldsOver, Waiting}
 
 -- the labels, which are there except within a pass
 abbrev pub labels_in : Option Marks → Marks

@@ -1,18 +1,18 @@
 -- What ePA*SE means as a planner.
 use Rattle.std.specs.Prelude.{◌≡◌, ℕ, true, List, []}
-use Rattle.sbpl_graph.specs.Network.{Network}
-use Rattle.sbpl_labels.specs.Counts.{Counts}
-use Rattle.sbpl_labels.specs.Marks.{Marks}
-use Rattle.sbpl_search.specs.Meaning.{Meaning}
-use Rattle.sbpl_search.specs.Query.{Query}
-use Rattle.sbpl_search.specs.Ready.{AreReady}
-use Rattle.sbpl_search.specs.State.{State}
-use Rattle.sbpl_serial.specs.Meant.{AreRepairedFor}
+use Rattle.sbpl_adstar.specs.sbpl_graph.Network.{Network}
+use Rattle.sbpl_adstar.specs.sbpl_labels.Counts.{Counts}
+use Rattle.sbpl_adstar.specs.sbpl_labels.Marks.{Marks}
+use Rattle.sbpl_adstar.specs.sbpl_search.Meaning.{Meaning}
+use Rattle.sbpl_adstar.specs.sbpl_search.Query.{Query}
+use Rattle.sbpl_adstar.specs.sbpl_search.Ready.{AreReady}
+use Rattle.sbpl_adstar.specs.sbpl_search.State.{State}
+use Rattle.sbpl_adstar.specs.sbpl_serial.Meant.{AreRepairedFor}
 use Rattle.sbpl_adstar.specs.Raised.{IsRaisedBy}
-use Rattle.sbpl_frontier_rules.specs.declared.event.Event.{Event}
-use Rattle.sbpl_frontier_rules.specs.Frontier.{Frontier}
-use Rattle.sbpl_frontier_rules.specs.Journal.{opened_times, openings}
-use Rattle.sbpl_frontier_rules.specs.Passes.{ArePass, LeavesOpen, LeavesRest, Replays}
+use Rattle.sbpl_frontier.specs.sbpl_frontier_rules.declared.event.Event.{Event}
+use Rattle.sbpl_frontier.specs.sbpl_frontier_rules.Frontier.{Frontier}
+use Rattle.sbpl_frontier.specs.sbpl_frontier_rules.Journal.{opened_times, openings}
+use Rattle.sbpl_frontier.specs.sbpl_frontier_rules.Passes.{ArePass, LeavesOpen, LeavesRest, Replays}
 
 -- memory ran out after some events, which led to the labels and the counts that there are; an arc may be ready or out; nothing is told
 -- of that pass, nor of the one before, and the goal and the list of the states that were raised stay

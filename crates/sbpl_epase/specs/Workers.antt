@@ -1,13 +1,13 @@
 -- What workers leave.
 use Rattle.std.specs.Prelude.{◌≡◌, ℕ, List, [], ◌∷◌, length}
 use Rattle.std.specs.List.{All}
-use Rattle.sbpl_labels.specs.Counts.{Counts}
-use Rattle.sbpl_labels.specs.Marks.{Marks}
-use Rattle.sbpl_labels.specs.declared.pass_end.PassEnd.{PassEnd}
-use Rattle.sbpl_search.specs.Query.{Query}
-use Rattle.sbpl_frontier_rules.specs.declared.event.Event.{Event}
-use Rattle.sbpl_frontier_core.specs.Longer.{IsLonger}
-use Rattle.sbpl_frontier_core.specs.Passes.{EndsSo}
+use Rattle.sbpl_adstar.specs.sbpl_labels.Counts.{Counts}
+use Rattle.sbpl_adstar.specs.sbpl_labels.Marks.{Marks}
+use Rattle.sbpl_adstar.specs.sbpl_labels.declared.pass_end.PassEnd.{PassEnd}
+use Rattle.sbpl_adstar.specs.sbpl_search.Query.{Query}
+use Rattle.sbpl_frontier.specs.sbpl_frontier_rules.declared.event.Event.{Event}
+use Rattle.sbpl_frontier.specs.sbpl_frontier_core.Longer.{IsLonger}
+use Rattle.sbpl_frontier.specs.sbpl_frontier_core.Passes.{EndsSo}
 use Rattle.sbpl_frontier.specs.Come.{HaveCome}
 use Rattle.sbpl_frontier.specs.Tally.{Tally}
 use Rattle.sbpl_frontier.specs.Turns.{LeadsTo}

@@ -5,10 +5,8 @@ ghost use Rattle.sbpl_epase.specs.Workers.{HasEnded};
 
 use crate::Gate;
 use crate::worker::{Done, Floor, work};
-use sbpl_fixed::NoMemory;
-use sbpl_frontier::{Lined, Seat, Second, Shared};
-use sbpl_frontier_core::{Pass, Past};
-use sbpl_graph::{Graph, Guide};
+use sbpl_adstar::{Graph, Guide, NoMemory};
+use sbpl_frontier::{Lined, Pass, Past, Seat, Second, Shared};
 use std::alloc::Global;
 use std::sync::Wait;
 use std::thread;

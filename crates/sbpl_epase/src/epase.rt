@@ -2,20 +2,17 @@
 
 ghost use Rattle.std.specs.Prelude.{◌≡◌, ℕ, ◌<◌, true, [], IfOk};
 ghost use Rattle.std.specs.List.Sorted.{IsStrictlyIncreasing};
-ghost use Rattle.sbpl_graph.specs.Network.{Network};
-ghost use Rattle.sbpl_graph.specs.Bound.{IsLow};
-ghost use Rattle.sbpl_labels.specs.Marks.{AreInitial, AreLabels, g_of, states_of, v_of};
-ghost use Rattle.sbpl_frontier_rules.specs.Journal.{openings};
-ghost use Rattle.sbpl_search.specs.Changed.{IsChangeable};
-ghost use Rattle.sbpl_search.specs.Ready.{AreReady, IsStartFresh};
+ghost use Rattle.sbpl_adstar.specs.sbpl_graph.Network.{Network};
+ghost use Rattle.sbpl_adstar.specs.sbpl_graph.Bound.{IsLow};
+ghost use Rattle.sbpl_adstar.specs.sbpl_labels.Marks.{AreInitial, AreLabels, g_of, states_of, v_of};
+ghost use Rattle.sbpl_frontier.specs.sbpl_frontier_rules.Journal.{openings};
+ghost use Rattle.sbpl_adstar.specs.sbpl_search.Changed.{IsChangeable};
+ghost use Rattle.sbpl_adstar.specs.sbpl_search.Ready.{AreReady, IsStartFresh};
 ghost use Rattle.sbpl_epase.specs.Planner.{BeginsRaised};
 
 use crate::repair::repair;
-use sbpl_adstar::Raiser;
-use sbpl_fixed::NoMemory;
-use sbpl_frontier_core::{Event, Journal, Space};
-use sbpl_graph::{Graph, Guide};
-use sbpl_labels::Labels;
+use sbpl_adstar::{Graph, Guide, Labels, NoMemory, Raiser};
+use sbpl_frontier::{Event, Journal, Space};
 use std::alloc::Global;
 use std::marker::Model;
 

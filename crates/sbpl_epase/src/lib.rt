@@ -13,4 +13,7 @@ mod worker;
 pub use epase::Epase;
 pub use parallel::{parallel_pass, parallel_pass_parts};
 pub use passed::Passed;
-pub use sbpl_frontier_core::{Event, Gate, Journal, NoGate, Parts};
+pub use sbpl_frontier::{
+    Claim, Claims, Core, Event, Gate, Journal, Judged, Keeper, Line, Lined, Naming, Next, NoGate,
+    Parts, Pass, Seat, Second, Shared, Turn, Unseen, judge,
+};

@@ -1,14 +1,14 @@
 //! A pass made by what a planner was given.
 
 ghost use Rattle.std.specs.Prelude.{IfErr, IfOk};
-ghost use Rattle.sbpl_search.specs.Query.{query};
-ghost use Rattle.sbpl_frontier_core.specs.Passes.{IsPassFinished, IsPassGivenUp};
-ghost use Rattle.sbpl_frontier_core.specs.Waiting.{HoldsOver};
+ghost use Rattle.sbpl_adstar.specs.sbpl_search.Query.{query};
+ghost use Rattle.sbpl_frontier.specs.sbpl_frontier_core.Passes.{IsPassFinished, IsPassGivenUp};
+ghost use Rattle.sbpl_frontier.specs.sbpl_frontier_core.Waiting.{HoldsOver};
 ghost use Rattle.sbpl_epase.specs.Making.{CanPass, MakesPasses};
 
 use crate::Passed;
-use sbpl_frontier_core::Parts;
-use sbpl_graph::{Graph, Guide};
+use sbpl_adstar::{Graph, Guide};
+use sbpl_frontier::Parts;
 use std::alloc::Global;
 
 /// The pass that `make` makes.

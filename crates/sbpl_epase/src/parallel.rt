@@ -1,21 +1,21 @@
 //! A pass by several workers.
 
 ghost use Rattle.std.specs.Prelude.{◌≡◌, ◌≤◌, ◌⊎◌, [], IfOk};
-ghost use Rattle.sbpl_search.specs.Query.{query};
-ghost use Rattle.sbpl_frontier_rules.specs.Events.{IsOutOfBudget, IsRest};
-ghost use Rattle.sbpl_frontier_core.specs.Book.{IsReplay};
-ghost use Rattle.sbpl_frontier_core.specs.Passes.{EndsSo};
-ghost use Rattle.sbpl_frontier_core.specs.Seats.{AreTakenBelow};
+ghost use Rattle.sbpl_adstar.specs.sbpl_search.Query.{query};
+ghost use Rattle.sbpl_frontier.specs.sbpl_frontier_rules.Events.{IsOutOfBudget, IsRest};
+ghost use Rattle.sbpl_frontier.specs.sbpl_frontier_core.Book.{IsReplay};
+ghost use Rattle.sbpl_frontier.specs.sbpl_frontier_core.Passes.{EndsSo};
+ghost use Rattle.sbpl_frontier.specs.sbpl_frontier_core.Seats.{AreTakenBelow};
 ghost use Rattle.sbpl_epase.specs.Making.{CanPass, Leaves};
 ghost use Rattle.sbpl_epase.specs.Workers.{BeginsWithWork, IsWorkOf};
 
 use crate::crew::run_workers;
 use crate::{Gate, Passed};
-use sbpl_fixed::NoMemory;
-use sbpl_frontier::{Claims, Line, Lined, Second, Shared};
-use sbpl_frontier_core::{Core, CoreOf, Parts, Pass, Past, Unseen, go_on, nothing_begun};
-use sbpl_graph::{Graph, Guide};
-use sbpl_labels::PassEnd;
+use sbpl_adstar::{Graph, Guide, NoMemory, PassEnd};
+use sbpl_frontier::{
+    Claims, Core, CoreOf, Line, Lined, Parts, Pass, Past, Second, Shared, Unseen, go_on,
+    nothing_begun,
+};
 use std::alloc::Global;
 use std::marker::Brand;
 use std::sync::Wait;

@@ -1,7 +1,7 @@
 //! What a pass leaves.
 
-use sbpl_frontier_core::{Journal, Parts};
-use sbpl_labels::PassEnd;
+use sbpl_adstar::PassEnd;
+use sbpl_frontier::{Journal, Parts};
 
 /// What a pass leaves where memory sufficed: the labels, the budget and the memory of a pass; its events; and how it ended.
 #[derive(Drop)]

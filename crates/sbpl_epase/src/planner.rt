@@ -5,12 +5,8 @@ ghost use Rattle.sbpl_epase.specs.Planner.{epase};
 
 use crate::made::pass_by;
 use crate::{Epase, Passed};
-use sbpl_fixed::NoMemory;
-use sbpl_frontier_core::{Event, Journal, Parts};
-use sbpl_frontier_rules::events_keep;
-use sbpl_graph::{Graph, Guide};
-use sbpl_labels::{Budget, Labels, PassEnd};
-use sbpl_search::Search;
+use sbpl_adstar::{Budget, Graph, Guide, Labels, NoMemory, PassEnd, Search};
+use sbpl_frontier::{Event, Journal, Parts, events_keep};
 use std::alloc::Global;
 use std::mem;
 

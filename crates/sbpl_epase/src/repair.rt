@@ -2,18 +2,16 @@
 
 ghost use Rattle.std.specs.Prelude.{◌≡◌, ℕ, ◌≤◌};
 ghost use Rattle.std.specs.List.Sorted.{IsStrictlyIncreasing};
-ghost use Rattle.sbpl_graph.specs.Kept.{NoneUnder};
-ghost use Rattle.sbpl_graph.specs.Network.{Network};
-ghost use Rattle.sbpl_labels.specs.Marks.{g_of, states_of, v_of};
-ghost use Rattle.sbpl_search.specs.Changed.{IsChangeable};
-ghost use Rattle.sbpl_search.specs.Ready.{AreReady, IsStartFresh};
-ghost use Rattle.sbpl_frontier_core.specs.Waiting.{HoldsOver};
+ghost use Rattle.sbpl_adstar.specs.sbpl_graph.Kept.{NoneUnder};
+ghost use Rattle.sbpl_adstar.specs.sbpl_graph.Network.{Network};
+ghost use Rattle.sbpl_adstar.specs.sbpl_labels.Marks.{g_of, states_of, v_of};
+ghost use Rattle.sbpl_adstar.specs.sbpl_search.Changed.{IsChangeable};
+ghost use Rattle.sbpl_adstar.specs.sbpl_search.Ready.{AreReady, IsStartFresh};
+ghost use Rattle.sbpl_frontier.specs.sbpl_frontier_core.Waiting.{HoldsOver};
 ghost use Rattle.sbpl_epase.specs.Planner.{BeginsRaised};
 
-use sbpl_adstar::{Raiser, change_labels};
-use sbpl_frontier_core::Space;
-use sbpl_graph::Graph;
-use sbpl_labels::Labels;
+use sbpl_adstar::{Graph, Labels, Raiser, change_labels};
+use sbpl_frontier::Space;
 
 /// Repairs labels, raises states until none is underconsistent, and notes where the next pass may find overconsistent ones: among
 /// the touched and the raised states, and where it found them before.

@@ -6,11 +6,8 @@ ghost use Rattle.sbpl_frontier.specs.Tally.{posted};
 ghost use Rattle.sbpl_epase.specs.Workers.{SawEnd};
 
 use crate::Gate;
-use sbpl_fixed::NoMemory;
-use sbpl_frontier::{Claim, Lined, Seat, Second, Shared, Ticket, Turn};
-use sbpl_frontier_core::{Pass, Past, judge};
-use sbpl_graph::{Graph, Guide};
-use sbpl_labels::PassEnd;
+use sbpl_adstar::{Graph, Guide, NoMemory, PassEnd};
+use sbpl_frontier::{Claim, Lined, Pass, Past, Seat, Second, Shared, Ticket, Turn, judge};
 use std::sync::Wait;
 
 /// The seat of a worker that has ended, which posted the judgement of each arc that it took, and why it ended: because it saw how the

@@ -5,9 +5,9 @@ use Rattle.std.proofs.lemmas.List.{length-map}
 use Rattle.std.specs.List.{All}
 use Rattle.std.proofs.lemmas.List.Elements.{All-cons, All-nil, All-tail, All-weaker}
 use Rattle.std.proofs.lemmas.List.Sums.{sum_by-cons}
-use Rattle.sbpl_claims.specs.Standing.{Standing}
-use Rattle.sbpl_frontier_core.specs.Book.{Book}
-use Rattle.sbpl_frontier_rules.specs.Journal.{posts_in, takes_in}
+use Rattle.sbpl_postings.specs.sbpl_claims.Standing.{Standing}
+use Rattle.sbpl_postings.specs.sbpl_frontier_core.Book.{Book}
+use Rattle.sbpl_postings.specs.sbpl_frontier_rules.Journal.{posts_in, takes_in}
 use Rattle.sbpl_postings.specs.Drained.{Drained}
 use Rattle.sbpl_postings.specs.Kept.{AreBrought}
 use Rattle.sbpl_postings.specs.Posts.{of}

@@ -3,18 +3,18 @@ use Rattle.std.proofs.Common.{◌≡◌, ℕ, ◌+◌, ◌<◌, Option, List, []
 use Rattle.std.proofs.Common.{refl, ◌∙◌, append-nil}
 use Rattle.std.proofs.lemmas.List.{map-append}
 use Rattle.std.proofs.lemmas.List.Elements.{All-push, filter-append}
-use Rattle.sbpl_claims.specs.Standing.{Standing}
-use Rattle.sbpl_search.specs.Query.{Query}
-use Rattle.sbpl_frontier_rules.specs.declared.event.Event.{Event}
-use Rattle.sbpl_frontier_rules.specs.declared.event.Event.TheVariants.{Opened, Taken, Posted}
-use Rattle.sbpl_frontier_rules.specs.declared.leg.Leg.{Leg}
-use Rattle.sbpl_frontier_rules.specs.Events.{IsPosting}
-use Rattle.sbpl_frontier_rules.specs.Frontier.{without}
-use Rattle.sbpl_frontier_rules.specs.Journal.{is_taking, posts_in, takes_in}
-use Rattle.sbpl_frontier_core.specs.Answers.{AreOpenings, IsNextOpening, OpensTo}
-use Rattle.sbpl_frontier_core.specs.Book.{Book}
-use Rattle.sbpl_frontier_core.specs.Given.{IsHandedOut}
-use Rattle.sbpl_frontier_core.specs.Seats.{IsTakenBelow}
+use Rattle.sbpl_postings.specs.sbpl_claims.Standing.{Standing}
+use Rattle.sbpl_postings.specs.sbpl_search.Query.{Query}
+use Rattle.sbpl_postings.specs.sbpl_frontier_rules.declared.event.Event.{Event}
+use Rattle.sbpl_postings.specs.sbpl_frontier_rules.declared.event.Event.TheVariants.{Opened, Taken, Posted}
+use Rattle.sbpl_postings.specs.sbpl_frontier_rules.declared.leg.Leg.{Leg}
+use Rattle.sbpl_postings.specs.sbpl_frontier_rules.Events.{IsPosting}
+use Rattle.sbpl_postings.specs.sbpl_frontier_rules.Frontier.{without}
+use Rattle.sbpl_postings.specs.sbpl_frontier_rules.Journal.{is_taking, posts_in, takes_in}
+use Rattle.sbpl_postings.specs.sbpl_frontier_core.Answers.{AreOpenings, IsNextOpening, OpensTo}
+use Rattle.sbpl_postings.specs.sbpl_frontier_core.Book.{Book}
+use Rattle.sbpl_postings.specs.sbpl_frontier_core.Given.{IsHandedOut}
+use Rattle.sbpl_postings.specs.sbpl_frontier_core.Seats.{IsTakenBelow}
 use Rattle.sbpl_postings.specs.Drained.{Drained}
 use Rattle.sbpl_postings.specs.Steps.{drained_with}
 use Rattle.sbpl_postings.specs.declared.post.Post.{Post}

@@ -1,8 +1,8 @@
 -- What came back.
 use Rattle.std.specs.Prelude.{◌≡◌, Bool, true, false, List, map}
 use Rattle.std.specs.List.{All, filter}
-use Rattle.sbpl_frontier_rules.specs.declared.event.Event.{Event}
-use Rattle.sbpl_frontier_rules.specs.declared.event.Event.TheVariants.{Posted}
+use Rattle.sbpl_postings.specs.sbpl_frontier_rules.declared.event.Event.{Event}
+use Rattle.sbpl_postings.specs.sbpl_frontier_rules.declared.event.Event.TheVariants.{Posted}
 use Rattle.sbpl_postings.specs.Posts.{of}
 use Rattle.sbpl_postings.specs.declared.post.Post.{Post}
 use Rattle.sbpl_frontier.specs.Tally.{Tally}

@@ -1,9 +1,9 @@
 -- How the values under the lock agree.
 use Rattle.std.specs.Prelude.{◌≡◌, ℕ, map}
-use Rattle.sbpl_claims.specs.Standing.{Standing}
-use Rattle.sbpl_frontier_core.specs.Book.{Book}
-use Rattle.sbpl_frontier_core.specs.Seats.{AreTakenBelow}
-use Rattle.sbpl_frontier_rules.specs.Journal.{takes_in}
+use Rattle.sbpl_postings.specs.sbpl_claims.Standing.{Standing}
+use Rattle.sbpl_postings.specs.sbpl_frontier_core.Book.{Book}
+use Rattle.sbpl_postings.specs.sbpl_frontier_core.Seats.{AreTakenBelow}
+use Rattle.sbpl_postings.specs.sbpl_frontier_rules.Journal.{takes_in}
 use Rattle.sbpl_postings.specs.Drained.{Drained}
 use Rattle.sbpl_frontier.specs.Come.{came_in, event_of}
 

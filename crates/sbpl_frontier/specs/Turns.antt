@@ -1,15 +1,15 @@
 -- What a worker is told.
 use Rattle.std.specs.Prelude.{◌≡◌, ℕ, ◌+◌, List, [], ◌∷◌, ◌++◌, ⊤}
-use Rattle.sbpl_labels.specs.Counts.{Counts}
-use Rattle.sbpl_labels.specs.Marks.{Marks}
-use Rattle.sbpl_search.specs.Query.{Query}
-use Rattle.sbpl_frontier_rules.specs.declared.event.Event.{Event}
-use Rattle.sbpl_frontier_rules.specs.declared.event.Event.TheVariants.{Taken}
-use Rattle.sbpl_frontier_rules.specs.Events.{IsOutOfBudget, IsRest}
-use Rattle.sbpl_frontier_rules.specs.Frontier.{Frontier}
-use Rattle.sbpl_frontier_core.specs.declared.name.Pass.{Ghosts as PassGhosts}
-use Rattle.sbpl_frontier_core.specs.Answers.{IsWaiting}
-use Rattle.sbpl_frontier_core.specs.Book.{IsReplay}
+use Rattle.sbpl_postings.specs.sbpl_labels.Counts.{Counts}
+use Rattle.sbpl_postings.specs.sbpl_labels.Marks.{Marks}
+use Rattle.sbpl_postings.specs.sbpl_search.Query.{Query}
+use Rattle.sbpl_postings.specs.sbpl_frontier_rules.declared.event.Event.{Event}
+use Rattle.sbpl_postings.specs.sbpl_frontier_rules.declared.event.Event.TheVariants.{Taken}
+use Rattle.sbpl_postings.specs.sbpl_frontier_rules.Events.{IsOutOfBudget, IsRest}
+use Rattle.sbpl_postings.specs.sbpl_frontier_rules.Frontier.{Frontier}
+use Rattle.sbpl_postings.specs.sbpl_frontier_core.declared.name.Pass.{Ghosts as PassGhosts}
+use Rattle.sbpl_postings.specs.sbpl_frontier_core.Answers.{IsWaiting}
+use Rattle.sbpl_postings.specs.sbpl_frontier_core.Book.{IsReplay}
 use Rattle.sbpl_frontier.specs.declared.turn.Turn.{Turn}
 use Rattle.sbpl_frontier.specs.declared.turn.Turn.TheVariants.{Job, NotYet, Over, Spent}
 use Rattle.sbpl_frontier.specs.Come.{HaveCome}

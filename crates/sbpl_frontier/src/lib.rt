@@ -10,9 +10,11 @@ mod second;
 mod shared;
 mod turn;
 
-pub use sbpl_claims::{Claim, Claims, Naming};
-pub use sbpl_frontier_core::{Seen, Ticket};
-pub use sbpl_postings::{Line, Lined};
+pub use sbpl_postings::{
+    Claim, Claims, Core, CoreOf, Event, Gate, Journal, Judged, Keeper, Line, Lined, Naming, Next,
+    NoGate, Parts, Pass, Past, Seen, Space, Ticket, Unseen, events_keep, go_on, judge,
+    nothing_begun,
+};
 pub use seat::Seat;
 pub use second::Second;
 pub use shared::Shared;

@@ -1,7 +1,7 @@
 //! What the lock guards.
 
 ghost use Rattle.std.specs.Prelude.{◌≡◌, ◌+◌, ◌<◌, [], ◌++◌, IfOk, IsFalse, OnErr, map, sum_by, vec_len};
-ghost use Rattle.sbpl_frontier_core.specs.Answers.{OpensTo};
+ghost use Rattle.sbpl_postings.specs.sbpl_frontier_core.Answers.{OpensTo};
 ghost use Rattle.sbpl_postings.specs.Kept.{AreBrought};
 ghost use Rattle.sbpl_postings.specs.Posts.{of};
 ghost use Rattle.sbpl_postings.specs.Steps.{ended_with};
@@ -10,11 +10,9 @@ ghost use Rattle.sbpl_frontier.specs.Turns.{Gives, IsToldLast, Shows, ShowsOwn};
 
 use crate::ledgers::TakesOf;
 use crate::{Seat, Second, Turn};
-use sbpl_claims::Keeper;
-use sbpl_fixed::NoMemory;
-use sbpl_frontier_core::{CoreOf, Next, Pass, Past};
-use sbpl_graph::{Graph, Guide};
-use sbpl_postings::{Drain, Lined, Queue, Sender};
+use sbpl_postings::{
+    CoreOf, Drain, Graph, Guide, Keeper, Lined, Next, NoMemory, Pass, Past, Queue, Sender,
+};
 use std::marker::Model;
 use std::sync::Wait;
 use std::sync::ledger::{Book, Share};

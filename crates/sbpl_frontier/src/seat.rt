@@ -6,9 +6,7 @@ ghost use Rattle.sbpl_frontier.specs.Tally.{fresh_seats};
 
 use crate::Second;
 use crate::ledgers::TakesOf;
-use sbpl_fixed::NoMemory;
-use sbpl_frontier_core::Pass;
-use sbpl_postings::{Drain, Lined, Queue, Sender};
+use sbpl_postings::{Drain, Lined, NoMemory, Pass, Queue, Sender};
 use std::alloc::Global;
 use std::marker::Model;
 use std::sync::ledger::Share;

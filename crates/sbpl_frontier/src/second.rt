@@ -1,6 +1,6 @@
 //! The second name of a pass.
 
-use sbpl_claims::Naming;
+use sbpl_postings::Naming;
 use std::marker::Brand;
 
 /// What the seats, the claims and the frontier of one pass have in common besides its name: the table of the claims, the ledger of

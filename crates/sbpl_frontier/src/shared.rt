@@ -1,8 +1,8 @@
 //! A frontier that workers share.
 
 ghost use Rattle.std.specs.Prelude.{◌≡◌, ◌≤◌, [], All, IfErr, IfOk, OnErr, length, sum_by, vec_len};
-ghost use Rattle.sbpl_frontier_rules.specs.Journal.{posts_in, takes_in};
-ghost use Rattle.sbpl_frontier_core.specs.Seats.{AreTakenBelow};
+ghost use Rattle.sbpl_postings.specs.sbpl_frontier_rules.Journal.{posts_in, takes_in};
+ghost use Rattle.sbpl_postings.specs.sbpl_frontier_core.Seats.{AreTakenBelow};
 ghost use Rattle.sbpl_postings.specs.Posts.{post_of};
 ghost use Rattle.sbpl_frontier.specs.Come.{HaveCome};
 ghost use Rattle.sbpl_frontier.specs.Tally.{fresh_seats, posted};
@@ -13,11 +13,9 @@ use crate::ledgers::TakesOf;
 use crate::locked::Locked;
 use crate::seat::deal;
 use crate::{Seat, Second, Turn};
-use sbpl_claims::{Claim, Claims};
-use sbpl_fixed::NoMemory;
-use sbpl_frontier_core::{CoreOf, Judged, Pass, Past};
-use sbpl_graph::{Graph, Guide};
-use sbpl_postings::{Line, Lined, Posting, Queue};
+use sbpl_postings::{
+    Claim, Claims, CoreOf, Graph, Guide, Judged, Line, Lined, NoMemory, Pass, Past, Posting, Queue,
+};
 use std::alloc::Global;
 use std::sync::ledger::Blank;
 use std::sync::{Mutex, Wait};

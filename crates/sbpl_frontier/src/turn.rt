@@ -1,8 +1,7 @@
 //! What a worker is told.
 
 use crate::Second;
-use sbpl_claims::Claim;
-use sbpl_frontier_core::{Pass, Past, Seen, Ticket};
+use sbpl_postings::{Claim, Pass, Past, Seen, Ticket};
 
 /// What a worker is told: an arc to judge with the claim on its ticket, or why there is none, with the journal that showed it.
 pub enum Turn<N: Pass, U: Past, M: Second> {

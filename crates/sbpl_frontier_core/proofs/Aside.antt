@@ -7,12 +7,12 @@ use Rattle.std.proofs.lemmas.Option.{none-some, same_Some}
 use Rattle.std.proofs.lemmas.List.Elements.{All-cons, All-contains, All-get_or, All-head, All-nil}
 use Rattle.std.proofs.lemmas.List.Elements.{All-push, All-tail, All-weaker}
 use Rattle.std.proofs.lemmas.List.Quantifiers.{all_pairs_push}
-use Rattle.sbpl_graph.specs.Network.{Network}
-use Rattle.sbpl_labels.specs.Marks.{Marks}
-use Rattle.sbpl_open.specs.declared.entry.Entry.{Entry}
-use Rattle.sbpl_open.specs.Entries.{key_of}
-use Rattle.sbpl_open.specs.KeyOrder.{ComesBefore, IsBelow}
-use Rattle.sbpl_open.specs.OpenList.{ChangesKey, IsLeast, OpenList, key_at}
+use Rattle.sbpl_frontier_rules.specs.sbpl_graph.Network.{Network}
+use Rattle.sbpl_frontier_rules.specs.sbpl_labels.Marks.{Marks}
+use Rattle.sbpl_frontier_rules.specs.sbpl_open.declared.entry.Entry.{Entry}
+use Rattle.sbpl_frontier_rules.specs.sbpl_open.Entries.{key_of}
+use Rattle.sbpl_frontier_rules.specs.sbpl_open.KeyOrder.{ComesBefore, IsBelow}
+use Rattle.sbpl_frontier_rules.specs.sbpl_open.OpenList.{ChangesKey, IsLeast, OpenList, key_at}
 use Rattle.sbpl_frontier_rules.specs.declared.leg.Leg.{Leg}
 use Rattle.sbpl_frontier_core.specs.Clear.{AreAside, ArePopped, HaveSameKeys, IsClear}
 use Rattle.sbpl_frontier_core.specs.Clear.{IsClearIn, IsClearOfAll, NoneBelow}

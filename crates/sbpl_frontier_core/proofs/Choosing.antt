@@ -6,16 +6,16 @@ use Rattle.std.proofs.lemmas.Bool.{cases_eq, cases_lt, eq-eqb, false≢true}
 use Rattle.std.proofs.lemmas.List.{get_or-map, length-map}
 use Rattle.std.proofs.lemmas.List.Elements.{All-contains, All-get_or, All-map, All-nil, Contains-get_or}
 use Rattle.std.proofs.lemmas.Option.{same_Some}
-use Rattle.sbpl_labels.specs.Counts.{HasLeft, IsSpent}
-use Rattle.sbpl_labels.specs.Marks.{Marks}
-use Rattle.sbpl_open.specs.declared.entry.Entry.{Entry}
-use Rattle.sbpl_open.specs.Entries.{key_of, no_entry}
-use Rattle.sbpl_open.specs.KeyOrder.{ComesBefore, IsBelow}
-use Rattle.sbpl_open.specs.OpenList.{IsLeast, OpenList}
-use Rattle.sbpl_open.specs.OpenList as open_list
-use Rattle.sbpl_search.specs.Query.{Query}
-use Rattle.sbpl_serial.specs.Queue.{AreQueued, IsFirstBelow, IsQueued}
-use Rattle.sbpl_serial.specs.Run.{IsAtRest, IsOpen, IsOver, IsUnder, goal_key_at, key_at}
+use Rattle.sbpl_frontier_rules.specs.sbpl_labels.Counts.{HasLeft, IsSpent}
+use Rattle.sbpl_frontier_rules.specs.sbpl_labels.Marks.{Marks}
+use Rattle.sbpl_frontier_rules.specs.sbpl_open.declared.entry.Entry.{Entry}
+use Rattle.sbpl_frontier_rules.specs.sbpl_open.Entries.{key_of, no_entry}
+use Rattle.sbpl_frontier_rules.specs.sbpl_open.KeyOrder.{ComesBefore, IsBelow}
+use Rattle.sbpl_frontier_rules.specs.sbpl_open.OpenList.{IsLeast, OpenList}
+use Rattle.sbpl_frontier_rules.specs.sbpl_open.OpenList as open_list
+use Rattle.sbpl_frontier_rules.specs.sbpl_search.Query.{Query}
+use Rattle.sbpl_frontier_rules.specs.sbpl_serial.Queue.{AreQueued, IsFirstBelow, IsQueued}
+use Rattle.sbpl_frontier_rules.specs.sbpl_serial.Run.{IsAtRest, IsOpen, IsOver, IsUnder, goal_key_at, key_at}
 use Rattle.sbpl_frontier_rules.specs.declared.leg.Leg.{Leg}
 use Rattle.sbpl_frontier_rules.specs.Events.{IsOutOfBudget, IsRest, MayOpen}
 use Rattle.sbpl_frontier_rules.specs.Frontier.{Frontier, IsBusy, is_opened, times_due, times_ready}

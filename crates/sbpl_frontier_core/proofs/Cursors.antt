@@ -4,7 +4,7 @@ use Rattle.std.proofs.Common.{arith, refl, ap, sym, ◌∙◌}
 use Rattle.std.proofs.Common.{append_assoc, false, is_some, length-append}
 use Rattle.std.proofs.lemmas.Bool.{true≢false}
 use Rattle.std.proofs.lemmas.List.{append-nil}
-use Rattle.sbpl_graph.specs.Network.{Network}
+use Rattle.sbpl_frontier_rules.specs.sbpl_graph.Network.{Network}
 use Rattle.sbpl_frontier_rules.specs.Frontier.{arcs_below, arcs_of, with_head}
 use Rattle.sbpl_frontier_core.specs.Cursor.{arcs_from, arcs_within}
 

@@ -6,12 +6,12 @@ use Rattle.std.proofs.lemmas.Bool.{cases_eq, cases_lt, false≢true}
 use Rattle.std.proofs.lemmas.List.{get_or_past}
 use Rattle.std.proofs.lemmas.List.Elements.{Contains-push_cases}
 use Rattle.std.proofs.lemmas.Option.{none-some, same_Some}
-use Rattle.sbpl_graph.specs.Kept.{NoneUnder}
-use Rattle.sbpl_labels.specs.Marks.{AreInitial, Marks, g_of, states_of, v_of}
-use Rattle.sbpl_open.specs.OpenList.{ChangesKey, IsEmpty, OpenList}
-use Rattle.sbpl_open.specs.OpenList as open_list
-use Rattle.sbpl_serial.specs.Queue.{AreQueued, IsQueued}
-use Rattle.sbpl_serial.specs.Run.{IsOpen, IsOver, IsUnder, key_at, none_closed}
+use Rattle.sbpl_frontier_rules.specs.sbpl_graph.Kept.{NoneUnder}
+use Rattle.sbpl_frontier_rules.specs.sbpl_labels.Marks.{AreInitial, Marks, g_of, states_of, v_of}
+use Rattle.sbpl_frontier_rules.specs.sbpl_open.OpenList.{ChangesKey, IsEmpty, OpenList}
+use Rattle.sbpl_frontier_rules.specs.sbpl_open.OpenList as open_list
+use Rattle.sbpl_frontier_rules.specs.sbpl_serial.Queue.{AreQueued, IsQueued}
+use Rattle.sbpl_frontier_rules.specs.sbpl_serial.Run.{IsOpen, IsOver, IsUnder, key_at, none_closed}
 use Rattle.sbpl_frontier_core.specs.Waiting.{AreFilled, HoldsOver, Waiting, Waits}
 
 -- a state of the queue has a number below theirs

@@ -2,15 +2,15 @@
 use Rattle.std.proofs.Common.{◌≡◌, ℕ, ◌<◌, ◌≤◌, Bool, true, false, List, [], replicate, refl, arith, ⊎_elim, inl, inr}
 use Rattle.std.proofs.lemmas.Bool.{cases_Bool, cases_lt}
 use Rattle.std.proofs.lemmas.List.{get_or-replicate, get_or_past, length-replicate}
-use Rattle.sbpl_labels.specs.Counts.{Counts}
-use Rattle.sbpl_labels.specs.Marks.{Marks, states_of}
-use Rattle.sbpl_open.specs.OpenList.{OpenList}
-use Rattle.sbpl_search.specs.Query.{Query}
+use Rattle.sbpl_frontier_rules.specs.sbpl_labels.Counts.{Counts}
+use Rattle.sbpl_frontier_rules.specs.sbpl_labels.Marks.{Marks, states_of}
+use Rattle.sbpl_frontier_rules.specs.sbpl_open.OpenList.{OpenList}
+use Rattle.sbpl_frontier_rules.specs.sbpl_search.Query.{Query}
 use Rattle.sbpl_frontier_rules.specs.Events.{IsFirst, IsIdle}
 use Rattle.sbpl_frontier_rules.specs.Frontier.{Frontier, is_opened}
 use Rattle.sbpl_frontier_rules.specs.Laws.{EachOpensOnce, EventsKeep, FirstIsKept, IdleIsExact, IdleShows}
 use Rattle.sbpl_frontier_rules.specs.Laws.{IsLawful, MayBegin, SettledAtOne}
-use Rattle.sbpl_serial.specs.Marked.{closed_at}
+use Rattle.sbpl_frontier_rules.specs.sbpl_serial.Marked.{closed_at}
 use Rattle.sbpl_frontier_core.specs.Book.{Book}
 use Rattle.sbpl_frontier_core.specs.Finished.{IsFinished, IsGivenUp}
 use Rattle.sbpl_frontier_core.specs.Log.{Log}

@@ -5,14 +5,14 @@ use Rattle.std.specs.List.{Contains}
 use Rattle.std.proofs.lemmas.Bool.{cases_eq, true≢false}
 use Rattle.std.proofs.lemmas.List.{get_or-set_other, length-set}
 use Rattle.std.proofs.lemmas.List.Elements.{All-nil, All-push, Contains-append_left, Contains-push}
-use Rattle.sbpl_graph.specs.Network.{Network}
-use Rattle.sbpl_labels.specs.Counts.{AreCounts, Counts}
-use Rattle.sbpl_labels.specs.Marks.{ChangesRow, Marks, back_of, g_of, states_of}
-use Rattle.sbpl_open.specs.OpenList.{OpenList}
-use Rattle.sbpl_search.specs.Query.{Query}
-use Rattle.sbpl_serial.specs.Marked.{closed_at}
-use Rattle.sbpl_serial.specs.Queue.{AreQueued}
-use Rattle.sbpl_serial.specs.Relaxed.{IsRelaxed}
+use Rattle.sbpl_frontier_rules.specs.sbpl_graph.Network.{Network}
+use Rattle.sbpl_frontier_rules.specs.sbpl_labels.Counts.{AreCounts, Counts}
+use Rattle.sbpl_frontier_rules.specs.sbpl_labels.Marks.{ChangesRow, Marks, back_of, g_of, states_of}
+use Rattle.sbpl_frontier_rules.specs.sbpl_open.OpenList.{OpenList}
+use Rattle.sbpl_frontier_rules.specs.sbpl_search.Query.{Query}
+use Rattle.sbpl_frontier_rules.specs.sbpl_serial.Marked.{closed_at}
+use Rattle.sbpl_frontier_rules.specs.sbpl_serial.Queue.{AreQueued}
+use Rattle.sbpl_frontier_rules.specs.sbpl_serial.Relaxed.{IsRelaxed}
 use Rattle.sbpl_frontier_rules.specs.declared.event.Event.TheVariants.{Opened, Posted, Taken}
 use Rattle.sbpl_frontier_rules.specs.declared.leg.Leg.{Leg}
 use Rattle.sbpl_frontier_rules.specs.Events.{IsFirst, IsOpening, IsPosting, IsTaking, MayOpen}

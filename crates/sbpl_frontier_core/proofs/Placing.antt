@@ -3,15 +3,15 @@ use Rattle.std.proofs.Common.{◌≡◌, ◌≢◌, ℕ, ◌<◌, ◌≤◌, Boo
 use Rattle.std.proofs.Common.{⊎_elim, inl, inr, refl, sym, ◌∙◌, ap}
 use Rattle.std.proofs.lemmas.Bool.{cases_lt}
 use Rattle.std.proofs.lemmas.List.{get_or-set_other, get_or_past}
-use Rattle.sbpl_graph.specs.Network.{Network}
-use Rattle.sbpl_labels.specs.declared.row.Row.{Row}
-use Rattle.sbpl_labels.specs.Marks.{ChangesRow, Marks, g_of, no_row, row_at, states_of, v_of}
-use Rattle.sbpl_open.specs.OpenList.{OpenList}
-use Rattle.sbpl_open.specs.OpenList as open_list
-use Rattle.sbpl_serial.specs.Marked.{closed_at}
-use Rattle.sbpl_serial.specs.Queue.{AreQueued, AreQueuedBut, IsQueued, IsUnplaced}
-use Rattle.sbpl_serial.specs.Relaxed.{IsRelaxed}
-use Rattle.sbpl_serial.specs.Run.{IsOpen, IsOver, IsUnder}
+use Rattle.sbpl_frontier_rules.specs.sbpl_graph.Network.{Network}
+use Rattle.sbpl_frontier_rules.specs.sbpl_labels.declared.row.Row.{Row}
+use Rattle.sbpl_frontier_rules.specs.sbpl_labels.Marks.{ChangesRow, Marks, g_of, no_row, row_at, states_of, v_of}
+use Rattle.sbpl_frontier_rules.specs.sbpl_open.OpenList.{OpenList}
+use Rattle.sbpl_frontier_rules.specs.sbpl_open.OpenList as open_list
+use Rattle.sbpl_frontier_rules.specs.sbpl_serial.Marked.{closed_at}
+use Rattle.sbpl_frontier_rules.specs.sbpl_serial.Queue.{AreQueued, AreQueuedBut, IsQueued, IsUnplaced}
+use Rattle.sbpl_frontier_rules.specs.sbpl_serial.Relaxed.{IsRelaxed}
+use Rattle.sbpl_frontier_rules.specs.sbpl_serial.Run.{IsOpen, IsOver, IsUnder}
 
 -- a state with the same labels and the same mark is open as before
 open_still : (closed closed' : ℕ → Bool) (m m' : Marks) (s : ℕ) → states_of m' ≡ states_of m

@@ -1,7 +1,7 @@
 -- How a journal grows, and to whom arcs are handed out.
 use Rattle.std.proofs.Common.{ℕ, List, [], ◌∷◌, ◌++◌, ap, sym, ◌∙◌, append-nil, append_assoc}
 use Rattle.std.proofs.lemmas.List.Elements.{All-push}
-use Rattle.sbpl_search.specs.Query.{Query}
+use Rattle.sbpl_frontier_rules.specs.sbpl_search.Query.{Query}
 use Rattle.sbpl_frontier_rules.specs.declared.event.Event.{Event}
 use Rattle.sbpl_frontier_rules.specs.declared.event.Event.TheVariants.{Opened}
 use Rattle.sbpl_frontier_core.specs.Answers.{AreOpenings, OpensTo}

@@ -1,10 +1,10 @@
 -- When a core waits, and which state it opens.
 use Rattle.std.specs.Prelude.{◌≡◌, ◌≢◌, ℕ, ◌<◌, ◌≤◌, ◌⊎◌, List, [], ◌∷◌, ◌++◌, length}
 use Rattle.std.specs.List.{All, AllPairs, Contains}
-use Rattle.sbpl_labels.specs.Counts.{IsSpent}
-use Rattle.sbpl_open.specs.KeyOrder.{ComesBefore, IsBelow}
-use Rattle.sbpl_search.specs.Query.{Query}
-use Rattle.sbpl_serial.specs.Run.{goal_key_at, key_at}
+use Rattle.sbpl_frontier_rules.specs.sbpl_labels.Counts.{IsSpent}
+use Rattle.sbpl_frontier_rules.specs.sbpl_open.KeyOrder.{ComesBefore, IsBelow}
+use Rattle.sbpl_frontier_rules.specs.sbpl_search.Query.{Query}
+use Rattle.sbpl_frontier_rules.specs.sbpl_serial.Run.{goal_key_at, key_at}
 use Rattle.sbpl_frontier_rules.specs.declared.event.Event.TheVariants.{Opened}
 use Rattle.sbpl_frontier_rules.specs.Events.{IsOpening}
 use Rattle.sbpl_frontier_rules.specs.Frontier.{Frontier}

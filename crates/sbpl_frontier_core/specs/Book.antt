@@ -1,9 +1,9 @@
 -- A frontier and its journal, and how the one comes from the other.
 use Rattle.std.specs.Prelude.{ℕ, Bool, List}
-use Rattle.sbpl_graph.specs.Network.{Network}
-use Rattle.sbpl_labels.specs.Counts.{Counts}
-use Rattle.sbpl_labels.specs.Marks.{Marks}
-use Rattle.sbpl_search.specs.Query.{Query}
+use Rattle.sbpl_frontier_rules.specs.sbpl_graph.Network.{Network}
+use Rattle.sbpl_frontier_rules.specs.sbpl_labels.Counts.{Counts}
+use Rattle.sbpl_frontier_rules.specs.sbpl_labels.Marks.{Marks}
+use Rattle.sbpl_frontier_rules.specs.sbpl_search.Query.{Query}
 use Rattle.sbpl_frontier_rules.specs.declared.event.Event.{Event}
 use Rattle.sbpl_frontier_rules.specs.declared.leg.Leg.{Leg}
 use Rattle.sbpl_frontier_rules.specs.Events.{AreEvents, IsFirst}

@@ -1,5 +1,5 @@
 -- What a core does next where no arc is ready.
-use Rattle.sbpl_search.specs.Query.{Query}
+use Rattle.sbpl_frontier_rules.specs.sbpl_search.Query.{Query}
 use Rattle.sbpl_frontier_rules.specs.Events.{IsOutOfBudget, IsRest, MayOpen}
 use Rattle.sbpl_frontier_rules.specs.Frontier.{Frontier}
 use Rattle.sbpl_frontier_core.specs.declared.choice.Choice.{Choice}

@@ -1,12 +1,12 @@
 -- How a state is found that may be opened: states are taken out of the queue in order, until one is clear, and put back.
 use Rattle.std.specs.Prelude.{◌≡◌, ◌≢◌, ℕ, ◌-◌, ◌*◌, ◌<◌, ◌≤◌, ◌⊎◌, Option, Some, None, List, length}
 use Rattle.std.specs.List.{All, AllPairs}
-use Rattle.sbpl_graph.specs.Network.{Network}
-use Rattle.sbpl_labels.specs.Marks.{Marks, g_of}
-use Rattle.sbpl_open.specs.declared.entry.Entry.{Entry}
-use Rattle.sbpl_open.specs.Entries.{key_of}
-use Rattle.sbpl_open.specs.KeyOrder.{ComesBefore, IsBelow}
-use Rattle.sbpl_open.specs.OpenList.{OpenList, IsLeast, key_at, states_of}
+use Rattle.sbpl_frontier_rules.specs.sbpl_graph.Network.{Network}
+use Rattle.sbpl_frontier_rules.specs.sbpl_labels.Marks.{Marks, g_of}
+use Rattle.sbpl_frontier_rules.specs.sbpl_open.declared.entry.Entry.{Entry}
+use Rattle.sbpl_frontier_rules.specs.sbpl_open.Entries.{key_of}
+use Rattle.sbpl_frontier_rules.specs.sbpl_open.KeyOrder.{ComesBefore, IsBelow}
+use Rattle.sbpl_frontier_rules.specs.sbpl_open.OpenList.{OpenList, IsLeast, key_at, states_of}
 use Rattle.sbpl_frontier_rules.specs.declared.leg.Leg.{Leg}
 
 -- s is clear of p: g of s is not above that of p, or above it by no more than the inflation times the gap from p to s

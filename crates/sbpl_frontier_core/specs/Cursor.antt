@@ -1,6 +1,6 @@
 -- The ready arcs, which are those of one state from one number on.
 use Rattle.std.specs.Prelude.{◌≡◌, ℕ, zero, suc, ◌+◌, ◌-◌, ◌<◌, List, [], ◌∷◌, ◌++◌}
-use Rattle.sbpl_graph.specs.Network.{Network}
+use Rattle.sbpl_frontier_rules.specs.sbpl_graph.Network.{Network}
 use Rattle.sbpl_frontier_rules.specs.Frontier.{with_head}
 
 -- the arcs of s that have a head, over this many numbers from k on

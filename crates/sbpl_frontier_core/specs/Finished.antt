@@ -1,10 +1,10 @@
 -- What a pass leaves.
 use Rattle.std.specs.Prelude.{◌≡◌, ℕ, Bool, true}
-use Rattle.sbpl_graph.specs.Bound.{IsLow}
-use Rattle.sbpl_graph.specs.Certificate.{AreSupported, ShowBound}
-use Rattle.sbpl_labels.specs.Counts.{Counts}
-use Rattle.sbpl_labels.specs.Marks.{Marks, g_of, states_of, v_of}
-use Rattle.sbpl_search.specs.Query.{Query}
+use Rattle.sbpl_frontier_rules.specs.sbpl_graph.Bound.{IsLow}
+use Rattle.sbpl_frontier_rules.specs.sbpl_graph.Certificate.{AreSupported, ShowBound}
+use Rattle.sbpl_frontier_rules.specs.sbpl_labels.Counts.{Counts}
+use Rattle.sbpl_frontier_rules.specs.sbpl_labels.Marks.{Marks, g_of, states_of, v_of}
+use Rattle.sbpl_frontier_rules.specs.sbpl_search.Query.{Query}
 use Rattle.sbpl_frontier_rules.specs.Frontier.{is_opened}
 use Rattle.sbpl_frontier_rules.specs.Kept.{IsKept}
 use Rattle.sbpl_frontier_rules.specs.Laws.{MayBegin, OpensOnce}

@@ -1,6 +1,6 @@
 -- What a call of a core gives.
 use Rattle.std.specs.Prelude.{◌≡◌, ℕ, ◌^◌, ◌<◌, ◌↔◌, [], ◌∷◌, ◌++◌, Option, Some, None}
-use Rattle.sbpl_search.specs.Query.{Query}
+use Rattle.sbpl_frontier_rules.specs.sbpl_search.Query.{Query}
 use Rattle.sbpl_frontier_rules.specs.declared.event.Event.TheVariants.{Taken}
 use Rattle.sbpl_frontier_rules.specs.Events.{IsOutOfBudget, IsRest, IsTaking}
 use Rattle.sbpl_frontier_core.specs.declared.name.Pass.{Ghosts}

@@ -1,9 +1,9 @@
 -- Some value of each kind, where it does not matter which.
 use Rattle.std.specs.Prelude.{None, []}
-use Rattle.sbpl_graph.specs.Network.{Network}
-use Rattle.sbpl_labels.specs.Counts.{Counts}
-use Rattle.sbpl_labels.specs.Marks.{Marks}
-use Rattle.sbpl_search.specs.Query.{Query}
+use Rattle.sbpl_frontier_rules.specs.sbpl_graph.Network.{Network}
+use Rattle.sbpl_frontier_rules.specs.sbpl_labels.Counts.{Counts}
+use Rattle.sbpl_frontier_rules.specs.sbpl_labels.Marks.{Marks}
+use Rattle.sbpl_frontier_rules.specs.sbpl_search.Query.{Query}
 
 abbrev pub no_network : Network
 no_network = record {

@@ -1,10 +1,10 @@
 -- What a pass does to labels and counts, whoever judged its arcs.
 use Rattle.std.specs.Prelude.{Bool}
-use Rattle.sbpl_labels.specs.Counts.{Counts}
-use Rattle.sbpl_labels.specs.Marks.{Marks}
-use Rattle.sbpl_labels.specs.declared.pass_end.PassEnd.{PassEnd}
-use Rattle.sbpl_labels.specs.declared.pass_end.PassEnd.TheVariants.{Rest, Spent}
-use Rattle.sbpl_search.specs.Query.{Query}
+use Rattle.sbpl_frontier_rules.specs.sbpl_labels.Counts.{Counts}
+use Rattle.sbpl_frontier_rules.specs.sbpl_labels.Marks.{Marks}
+use Rattle.sbpl_frontier_rules.specs.sbpl_labels.declared.pass_end.PassEnd.{PassEnd}
+use Rattle.sbpl_frontier_rules.specs.sbpl_labels.declared.pass_end.PassEnd.TheVariants.{Rest, Spent}
+use Rattle.sbpl_frontier_rules.specs.sbpl_search.Query.{Query}
 use Rattle.sbpl_frontier_rules.specs.Events.{IsOutOfBudget, IsRest}
 use Rattle.sbpl_frontier_rules.specs.Frontier.{Frontier}
 use Rattle.sbpl_frontier_core.specs.Book.{Book}

@@ -1,12 +1,12 @@
 -- What holds of the parts of a core.
 use Rattle.std.specs.Prelude.{◌≡◌, ℕ, ◌+◌, ◌*◌, ◌<◌, ◌≤◌, Bool, true, List, [], length}
 use Rattle.std.specs.List.{All, Contains}
-use Rattle.sbpl_labels.specs.Counts.{Counts}
-use Rattle.sbpl_labels.specs.Marks.{Marks, states_of}
-use Rattle.sbpl_open.specs.declared.entry.Entry.{Entry}
-use Rattle.sbpl_open.specs.OpenList.{OpenList}
-use Rattle.sbpl_search.specs.Query.{Query}
-use Rattle.sbpl_serial.specs.Queue.{AreQueued}
+use Rattle.sbpl_frontier_rules.specs.sbpl_labels.Counts.{Counts}
+use Rattle.sbpl_frontier_rules.specs.sbpl_labels.Marks.{Marks, states_of}
+use Rattle.sbpl_frontier_rules.specs.sbpl_open.declared.entry.Entry.{Entry}
+use Rattle.sbpl_frontier_rules.specs.sbpl_open.OpenList.{OpenList}
+use Rattle.sbpl_frontier_rules.specs.sbpl_search.Query.{Query}
+use Rattle.sbpl_frontier_rules.specs.sbpl_serial.Queue.{AreQueued}
 use Rattle.sbpl_frontier_rules.specs.Frontier.{Frontier, is_opened}
 use Rattle.sbpl_frontier_rules.specs.Laws.{IsLawful, MayBegin}
 use Rattle.sbpl_frontier_core.specs.Book.{IsReplay}

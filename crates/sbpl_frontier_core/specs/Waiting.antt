@@ -1,10 +1,10 @@
 -- Where open states may be found.
 use Rattle.std.specs.Prelude.{◌≡◌, ℕ, ◌<◌, ◌⊎◌, Bool, List, Some, IsSome}
 use Rattle.std.specs.List.{Contains}
-use Rattle.sbpl_labels.specs.Marks.{Marks, states_of}
-use Rattle.sbpl_open.specs.OpenList.{OpenList}
-use Rattle.sbpl_open.specs.OpenList as open_list
-use Rattle.sbpl_serial.specs.Run.{IsOpen, IsOver, key_at, none_closed}
+use Rattle.sbpl_frontier_rules.specs.sbpl_labels.Marks.{Marks, states_of}
+use Rattle.sbpl_frontier_rules.specs.sbpl_open.OpenList.{OpenList}
+use Rattle.sbpl_frontier_rules.specs.sbpl_open.OpenList as open_list
+use Rattle.sbpl_frontier_rules.specs.sbpl_serial.Run.{IsOpen, IsOver, key_at, none_closed}
 
 -- marks of the opened states, the queue, and the states that were expanded
 pub record Waiting : Type 0 where

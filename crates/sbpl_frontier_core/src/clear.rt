@@ -2,17 +2,14 @@
 
 ghost use Rattle.std.specs.Prelude.{◌≡◌, ℕ, ◌≤◌, ◌<◌, ◌↔◌, [], IsTrue, length, vec_capacity};
 ghost use Rattle.std.specs.List.{All};
-ghost use Rattle.sbpl_labels.specs.Marks.{g_of, states_of};
-ghost use Rattle.sbpl_serial.specs.Keys.{goal_key};
-ghost use Rattle.sbpl_open.specs.OpenList.{OpenList};
-ghost use Rattle.sbpl_open.specs.OpenList as open_list;
-ghost use Rattle.sbpl_serial.specs.Queue.{IsFirstBelow};
+ghost use Rattle.sbpl_frontier_rules.specs.sbpl_labels.Marks.{g_of, states_of};
+ghost use Rattle.sbpl_frontier_rules.specs.sbpl_serial.Keys.{goal_key};
+ghost use Rattle.sbpl_frontier_rules.specs.sbpl_open.OpenList.{OpenList};
+ghost use Rattle.sbpl_frontier_rules.specs.sbpl_open.OpenList as open_list;
+ghost use Rattle.sbpl_frontier_rules.specs.sbpl_serial.Queue.{IsFirstBelow};
 ghost use Rattle.sbpl_frontier_core.specs.Clear.{AreAside, ArePopped, HaveSameKeys, IsClear, IsClearOfAll, IsSearched, PopsTo};
 
-use sbpl_frontier_rules::Leg;
-use sbpl_graph::Graph;
-use sbpl_labels::Labels;
-use sbpl_open::{Entry, Key, Open};
+use sbpl_frontier_rules::{Entry, Graph, Key, Labels, Leg, Open};
 
 /// The key that the goal has by its g alone.
 pub(crate) fn key_of_goal(labels: &Labels, goal: u32) -> Key

@@ -3,7 +3,7 @@
 ghost use Rattle.std.specs.Prelude.{◌≡◌, ◌<◌, [], MatchOption};
 ghost use Rattle.sbpl_frontier_core.specs.Cursor.{IsFirstHead, arcs_from};
 
-use sbpl_graph::Graph;
+use sbpl_frontier_rules::Graph;
 
 /// The number of the first arc of `s` from this number on that has a head, if one has.
 pub(crate) fn first_head<G: Graph>(graph: &G, s: u32, from: u32) -> Option<u32>

@@ -2,9 +2,9 @@
 
 ghost use Rattle.std.specs.Prelude.{◌≡◌, ◌+◌, ◌<◌, ◌≤◌, ◌↔◌, ◌++◌, [], ◌∷◌, IfErr, IfOk, IfSome, IsSome, IsTrue, OnErr, OnOk, length};
 ghost use Rattle.std.specs.List.{Contains};
-ghost use Rattle.sbpl_labels.specs.Marks.{states_of};
-ghost use Rattle.sbpl_search.specs.Query.{query};
-ghost use Rattle.sbpl_search.specs.Ready.{AreReady};
+ghost use Rattle.sbpl_frontier_rules.specs.sbpl_labels.Marks.{states_of};
+ghost use Rattle.sbpl_frontier_rules.specs.sbpl_search.Query.{query};
+ghost use Rattle.sbpl_frontier_rules.specs.sbpl_search.Ready.{AreReady};
 ghost use Rattle.sbpl_frontier_rules.specs.declared.event.Event.TheVariants.{Posted};
 ghost use Rattle.sbpl_frontier_rules.specs.Journal.{posts_in, takes_in};
 ghost use Rattle.sbpl_frontier_rules.specs.Kept.{IsKept};
@@ -21,12 +21,9 @@ use crate::clear::{find_clear, key_of_goal, least_below};
 use crate::cursor::first_head;
 use crate::posting::{lower_head, take_back};
 use crate::{Event, JournalOf, Judged, Leg, Next, Parts, Pass, Past, Seen, Space, Ticket, Unseen};
-use sbpl_fixed::NoMemory;
-use sbpl_frontier_rules::events_keep;
-use sbpl_graph::{Graph, Guide};
-use sbpl_labels::{Budget, Labels};
-use sbpl_open::{Entry, Open};
-use sbpl_serial::{Closed, requeue};
+use sbpl_frontier_rules::{
+    Budget, Closed, Entry, Graph, Guide, Labels, NoMemory, Open, events_keep, requeue,
+};
 use std::alloc::Global;
 use std::marker::{Model, PhantomData};
 use std::snapshot::Snapshot;

@@ -3,8 +3,7 @@
 ghost use Rattle.std.specs.Prelude.{◌≡◌, ◌+◌, ◌<◌, ◌≤◌, ◌↔◌, [], ◌∷◌, ◌++◌, IfSome, IsSome, IsTrue, OnOk};
 
 use crate::{Past, Unseen};
-use sbpl_fixed::NoMemory;
-use sbpl_frontier_rules::Event;
+use sbpl_frontier_rules::{Event, NoMemory};
 use std::alloc::Global;
 use std::marker::Model;
 

@@ -3,7 +3,7 @@
 ghost use Rattle.std.specs.Prelude.{◌≡◌};
 
 use crate::{Pass, Ticket};
-use sbpl_graph::Graph;
+use sbpl_frontier_rules::Graph;
 use std::marker::PhantomData;
 
 /// The judgement of a ticket's arc: its cost on the graph, or `None` where it is not free. It cannot be copied.

@@ -2,15 +2,12 @@
 
 ghost use Rattle.std.specs.Prelude.{◌≡◌, ◌≢◌, ℕ, ◌<◌, ◌⊎◌};
 ghost use Rattle.std.specs.List.{All, Contains};
-ghost use Rattle.sbpl_graph.specs.Bound.{IsLow};
-ghost use Rattle.sbpl_labels.specs.Marks.{g_of, states_of, v_of};
-ghost use Rattle.sbpl_open.specs.OpenList as open_list;
-ghost use Rattle.sbpl_serial.specs.Low.{IsInQueue};
+ghost use Rattle.sbpl_frontier_rules.specs.sbpl_graph.Bound.{IsLow};
+ghost use Rattle.sbpl_frontier_rules.specs.sbpl_labels.Marks.{g_of, states_of, v_of};
+ghost use Rattle.sbpl_frontier_rules.specs.sbpl_open.OpenList as open_list;
+ghost use Rattle.sbpl_frontier_rules.specs.sbpl_serial.Low.{IsInQueue};
 
-use sbpl_graph::Guide;
-use sbpl_labels::Labels;
-use sbpl_open::Open;
-use sbpl_serial::{low_of_queue, low_with};
+use sbpl_frontier_rules::{Guide, Labels, Open, low_of_queue, low_with};
 
 /// The least of g of the goal and of g + h over those states of the queue and of the list whose g and v differ. It is the low of
 /// the labels where no other state's g and v differ.

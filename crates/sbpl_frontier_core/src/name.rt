@@ -6,9 +6,9 @@ use std::marker::Brand;
 /// and the goal; the counts of expansions and the labels with which the pass began; and whether its journal is kept.
 pub trait Pass {
     ghost use Rattle.std.specs.Prelude.{Bool};
-    ghost use Rattle.sbpl_labels.specs.Counts.{Counts};
-    ghost use Rattle.sbpl_labels.specs.Marks.{Marks};
-    ghost use Rattle.sbpl_search.specs.Query.{Query};
+    ghost use Rattle.sbpl_frontier_rules.specs.sbpl_labels.Counts.{Counts};
+    ghost use Rattle.sbpl_frontier_rules.specs.sbpl_labels.Marks.{Marks};
+    ghost use Rattle.sbpl_frontier_rules.specs.sbpl_search.Query.{Query};
 
     ghost query: { Query };
 

@@ -1,15 +1,13 @@
 //! What a judgement does.
 
 ghost use Rattle.std.specs.Prelude.{◌≡◌, ◌^◌, ◌<◌, nat_eq, not, vec_capacity};
-ghost use Rattle.sbpl_graph.specs.declared.TheConstants.{FAR};
-ghost use Rattle.sbpl_graph.specs.Fit.{FitCount};
-ghost use Rattle.sbpl_labels.specs.Marks.{g_of, states_of, v_of};
-ghost use Rattle.sbpl_serial.specs.Relaxed.{IsRelaxed};
+ghost use Rattle.sbpl_frontier_rules.specs.sbpl_graph.declared.TheConstants.{FAR};
+ghost use Rattle.sbpl_frontier_rules.specs.sbpl_graph.Fit.{FitCount};
+ghost use Rattle.sbpl_frontier_rules.specs.sbpl_labels.Marks.{g_of, states_of, v_of};
+ghost use Rattle.sbpl_frontier_rules.specs.sbpl_serial.Relaxed.{IsRelaxed};
 ghost use Rattle.sbpl_frontier_rules.specs.Frontier.{without};
 
-use sbpl_frontier_rules::Leg;
-use sbpl_graph::Graph;
-use sbpl_labels::Labels;
+use sbpl_frontier_rules::{Graph, Labels, Leg};
 
 /// Lowers the head of arc `k` of `s`, which has this cost or is not free, where the way over it is cheaper, and answers it.
 pub(crate) fn lower_head<G: Graph>(

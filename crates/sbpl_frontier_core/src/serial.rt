@@ -1,17 +1,14 @@
 //! What the caller of a pass does alone.
 
 ghost use Rattle.std.specs.Prelude.{◌≡◌, ℕ, ◌<◌, ◌≤◌, [], IfOk};
-ghost use Rattle.sbpl_search.specs.Query.{query};
-ghost use Rattle.sbpl_search.specs.Ready.{AreReady};
+ghost use Rattle.sbpl_frontier_rules.specs.sbpl_search.Query.{query};
+ghost use Rattle.sbpl_frontier_rules.specs.sbpl_search.Ready.{AreReady};
 ghost use Rattle.sbpl_frontier_core.specs.Longer.{IsLonger};
 ghost use Rattle.sbpl_frontier_core.specs.Passes.{EndsSo, IsPassGivenUp};
 ghost use Rattle.sbpl_frontier_core.specs.Seats.{AreTakenBelow};
 
 use crate::{CoreOf, Gate, Next, Pass, Past, judge};
-use sbpl_fixed::NoMemory;
-use sbpl_frontier_rules::events_keep;
-use sbpl_graph::{Graph, Guide};
-use sbpl_labels::{Budget, Labels, PassEnd};
+use sbpl_frontier_rules::{Budget, Graph, Guide, Labels, NoMemory, PassEnd, events_keep};
 
 /// The caller alone, in seat 0, goes on with a core of which no arc is out, until the pass is at rest or its budget is spent. The
 /// one error is that memory ran out, and then the core comes back as it stands.

@@ -2,22 +2,18 @@
 
 ghost use Rattle.std.specs.Prelude.{◌≡◌, ℕ, ◌<◌, ◌≤◌, false, [], IfOk, IsSome, MatchOption, OnErr, OnOk};
 ghost use Rattle.std.specs.List.{All, Contains};
-ghost use Rattle.sbpl_graph.specs.Bound.{IsLow};
-ghost use Rattle.sbpl_graph.specs.Kept.{NoneUnder};
-ghost use Rattle.sbpl_labels.specs.Marks.{AreInitial, Marks, g_of, states_of, v_of};
-ghost use Rattle.sbpl_open.specs.OpenList as open_list;
-ghost use Rattle.sbpl_serial.specs.Marked.{closed_at};
-ghost use Rattle.sbpl_serial.specs.Queue.{AreQueued};
-ghost use Rattle.sbpl_serial.specs.Run.{IsOver, key_at, none_closed};
+ghost use Rattle.sbpl_frontier_rules.specs.sbpl_graph.Bound.{IsLow};
+ghost use Rattle.sbpl_frontier_rules.specs.sbpl_graph.Kept.{NoneUnder};
+ghost use Rattle.sbpl_frontier_rules.specs.sbpl_labels.Marks.{AreInitial, Marks, g_of, states_of, v_of};
+ghost use Rattle.sbpl_frontier_rules.specs.sbpl_open.OpenList as open_list;
+ghost use Rattle.sbpl_frontier_rules.specs.sbpl_serial.Marked.{closed_at};
+ghost use Rattle.sbpl_frontier_rules.specs.sbpl_serial.Queue.{AreQueued};
+ghost use Rattle.sbpl_frontier_rules.specs.sbpl_serial.Run.{IsOver, key_at, none_closed};
 ghost use Rattle.sbpl_frontier_core.specs.Waiting.{AreFilled, HoldsOver, Waits};
 
 use crate::clear::MOST_TRIED;
 use crate::low::low_among;
-use sbpl_fixed::NoMemory;
-use sbpl_graph::Guide;
-use sbpl_labels::Labels;
-use sbpl_open::{Entry, Key, Open};
-use sbpl_serial::Closed;
+use sbpl_frontier_rules::{Closed, Entry, Guide, Key, Labels, NoMemory, Open};
 use std::alloc::Global;
 use std::marker::Model;
 
@@ -35,7 +31,7 @@ pub struct Space {
 impl Model for Space {
     ghost use Rattle.std.specs.Prelude.{◌≡◌, ◌<◌, ◌≤◌, [], length, vec_capacity};
     ghost use Rattle.std.specs.List.{All};
-    ghost use Rattle.sbpl_open.specs.OpenList as open_list;
+    ghost use Rattle.sbpl_frontier_rules.specs.sbpl_open.OpenList as open_list;
     ghost use Rattle.sbpl_frontier_core.specs.Waiting.{Waiting};
 
     ghost Value = { Waiting };

@@ -3,7 +3,7 @@ use Rattle.std.proofs.Common.{◌≡◌, ◌≢◌, ℕ, zero, suc, ◌+◌, ◌
 use Rattle.std.proofs.Common.{List, [], ◌∷◌, ◌++◌, IsSome, arith, ⊎_elim, refl, sym, ap}
 use Rattle.std.proofs.lemmas.Bool.{cases_eq, cases_lt}
 use Rattle.std.proofs.lemmas.Bool.Decides.{nat_tests}
-use Rattle.sbpl_graph.specs.Network.{Network}
+use Rattle.sbpl_serial.specs.sbpl_graph.Network.{Network}
 use Rattle.sbpl_frontier_rules.specs.declared.leg.Leg.{Leg}
 use Rattle.sbpl_frontier_rules.specs.Frontier.{Frontier, times_ready, times_out, times_due, with_head, arcs_below}
 use Rattle.sbpl_frontier_rules.specs.Events.{IsTaking}

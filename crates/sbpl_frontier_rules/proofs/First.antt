@@ -1,8 +1,8 @@
 -- A frontier at the beginning of a pass, and one that is idle.
 use Rattle.std.proofs.Common.{◌≡◌, ℕ, arith, sym, refl, inl, ◌∙◌}
 use Rattle.std.proofs.lemmas.Bool.{false≢true}
-use Rattle.sbpl_graph.specs.Kept.{none_pending}
-use Rattle.sbpl_graph.proofs.Keeping.{kept_from_exact, kept_used, exact_from_kept, supported_from_exact}
+use Rattle.sbpl_serial.specs.sbpl_graph.Kept.{none_pending}
+use Rattle.sbpl_serial.proofs.Keeping.{kept_from_exact, kept_used, exact_from_kept, supported_from_exact}
 use Rattle.sbpl_frontier_rules.specs.Frontier.{Frontier, is_due, times_due}
 use Rattle.sbpl_frontier_rules.specs.Events.{IsIdle}
 use Rattle.sbpl_frontier_rules.specs.Laws.{FirstIsKept, IdleIsExact}

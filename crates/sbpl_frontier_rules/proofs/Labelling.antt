@@ -1,8 +1,8 @@
 -- Labels stay labels as one state of them is settled or lowered.
 use Rattle.std.proofs.Common.{◌≡◌, ◌≢◌, ℕ, ◌^◌, ◌<◌, Some, arith, ⊎_elim, inr, sym, ◌∙◌}
 use Rattle.std.proofs.lemmas.Bool.{cases_eq}
-use Rattle.sbpl_labels.specs.Marks.{Marks, AreLabels, ChangesRow, states_of, g_of, v_of, back_of}
-use Rattle.sbpl_labels.proofs.Changes.{settles_state, lowers_state}
+use Rattle.sbpl_serial.specs.sbpl_labels.Marks.{Marks, AreLabels, ChangesRow, states_of, g_of, v_of, back_of}
+use Rattle.sbpl_serial.proofs.Changes.{settles_state, lowers_state}
 
 pub labels_settled : {old new : Marks} (s : ℕ) → s < states_of old → AreLabels old
     → ChangesRow old new s (record { g = g_of old s; v = g_of old s; back = back_of old s }) → AreLabels new

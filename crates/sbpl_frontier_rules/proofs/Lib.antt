@@ -14,3 +14,5 @@ pub mod Starting
 pub mod Showing
 pub mod Returning
 pub mod Tickets
+pub use Rattle.sbpl_serial.proofs.Fitting
+pub use Rattle.sbpl_serial.proofs.Lowering

@@ -4,11 +4,11 @@ use Rattle.std.proofs.Common.{length, arith, ⊎_elim, refl, sym, ap, ◌∙◌}
 use Rattle.std.proofs.lemmas.Bool.{cases_eq}
 use Rattle.std.proofs.lemmas.Bool.Decides.{nat_tests}
 use Rattle.std.proofs.lemmas.List.{get_or-set_other, get_or-set_same, length-set}
-use Rattle.sbpl_labels.specs.Marks.{Marks, states_of}
-use Rattle.sbpl_search.specs.Query.{Query}
+use Rattle.sbpl_serial.specs.sbpl_labels.Marks.{Marks, states_of}
+use Rattle.sbpl_serial.specs.sbpl_search.Query.{Query}
 use Rattle.sbpl_serial.specs.Marked.{closed_at}
 use Rattle.sbpl_serial.specs.Relaxed.{IsRelaxed}
-use Rattle.sbpl_graph.specs.Network.{Network}
+use Rattle.sbpl_serial.specs.sbpl_graph.Network.{Network}
 use Rattle.sbpl_frontier_rules.specs.declared.event.Event.{Event}
 use Rattle.sbpl_frontier_rules.specs.declared.event.Event.TheVariants.{Opened, Taken, Posted}
 use Rattle.sbpl_frontier_rules.specs.Events.{AreEvents, IsEvent}

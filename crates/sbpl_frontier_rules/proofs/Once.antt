@@ -3,9 +3,9 @@ use Rattle.std.proofs.Common.{◌≡◌, ◌≢◌, ℕ, zero, suc, ◌+◌, ◌
 use Rattle.std.proofs.Common.{[], ◌∷◌, length, slice_set, arith, ⊎_elim, refl, sym, ap, ◌∙◌}
 use Rattle.std.proofs.lemmas.Bool.{cases_eq, eq-eqb, ne_eqb, false≢true}
 use Rattle.std.proofs.lemmas.List.{length-set}
-use Rattle.sbpl_graph.specs.Network.{Network}
-use Rattle.sbpl_labels.specs.Marks.{Marks, states_of}
-use Rattle.sbpl_search.specs.Query.{Query}
+use Rattle.sbpl_serial.specs.sbpl_graph.Network.{Network}
+use Rattle.sbpl_serial.specs.sbpl_labels.Marks.{Marks, states_of}
+use Rattle.sbpl_serial.specs.sbpl_search.Query.{Query}
 use Rattle.sbpl_serial.specs.Marked.{closed_at}
 use Rattle.sbpl_serial.specs.Relaxed.{IsRelaxed}
 use Rattle.sbpl_serial.specs.Run.{IsOver, IsUnder}

@@ -3,14 +3,14 @@ use Rattle.std.proofs.Common.{◌≡◌, ◌≢◌, ℕ, ◌+◌, ◌*◌, ◌<�
 use Rattle.std.proofs.Common.{⊎_elim, sym, ap, ◌∙◌}
 use Rattle.std.proofs.lemmas.Bool.{cases_eq, cases_lt, false≢true}
 use Rattle.std.proofs.lemmas.List.{get_or-set_same, get_or-set_other, length-set}
-use Rattle.sbpl_graph.specs.Network.{IsFreeArc}
-use Rattle.sbpl_graph.specs.Path.{IsFreePath}
-use Rattle.sbpl_graph.proofs.Keeping.{kept_opened, none_under_settled}
-use Rattle.sbpl_graph.proofs.Fitting.{fit_settled}
-use Rattle.sbpl_graph.proofs.Paths.{label_at_most}
-use Rattle.sbpl_labels.specs.Marks.{g_of, v_of}
-use Rattle.sbpl_labels.proofs.Changes.{settles_state}
-use Rattle.sbpl_search.specs.Query.{Query}
+use Rattle.sbpl_serial.specs.sbpl_graph.Network.{IsFreeArc}
+use Rattle.sbpl_serial.specs.sbpl_graph.Path.{IsFreePath}
+use Rattle.sbpl_serial.proofs.Keeping.{kept_opened, none_under_settled}
+use Rattle.sbpl_serial.proofs.Fitting.{fit_settled}
+use Rattle.sbpl_serial.proofs.Paths.{label_at_most}
+use Rattle.sbpl_serial.specs.sbpl_labels.Marks.{g_of, v_of}
+use Rattle.sbpl_serial.proofs.Changes.{settles_state}
+use Rattle.sbpl_serial.specs.sbpl_search.Query.{Query}
 use Rattle.sbpl_serial.specs.Marked.{closed_at}
 use Rattle.sbpl_frontier_rules.specs.Frontier.{Frontier, arcs_of, is_due, times_due, times_out, times_ready}
 use Rattle.sbpl_frontier_rules.specs.Events.{IsOpening}

@@ -5,17 +5,17 @@ use Rattle.std.proofs.lemmas.Bool.{cases_lt}
 use Rattle.std.proofs.lemmas.List.Elements.{All-push, All-weaker, All-filter}
 use Rattle.std.proofs.lemmas.List.Kept.{AllPairs-filter}
 use Rattle.std.proofs.lemmas.List.Quantifiers.{all_pairs_push}
-use Rattle.sbpl_graph.specs.declared.TheConstants.{FAR}
-use Rattle.sbpl_graph.specs.Fit.{FitCount}
-use Rattle.sbpl_graph.specs.Kept.{AreKept, NoneUnder}
-use Rattle.sbpl_graph.specs.Laws.{IsSound}
-use Rattle.sbpl_graph.specs.Network.{Network}
-use Rattle.sbpl_graph.specs.Path.{IsFreePath}
-use Rattle.sbpl_graph.proofs.Keeping.{kept_lowered, kept_next, kept_used, none_under_lowered}
-use Rattle.sbpl_graph.proofs.Fitting.{fit_lowered, fit_small}
-use Rattle.sbpl_labels.specs.Marks.{Marks, AreLabels, states_of, g_of, v_of, back_of}
-use Rattle.sbpl_labels.proofs.Changes.{lowers_state}
-use Rattle.sbpl_search.specs.Query.{Query}
+use Rattle.sbpl_serial.specs.sbpl_graph.declared.TheConstants.{FAR}
+use Rattle.sbpl_serial.specs.sbpl_graph.Fit.{FitCount}
+use Rattle.sbpl_serial.specs.sbpl_graph.Kept.{AreKept, NoneUnder}
+use Rattle.sbpl_serial.specs.sbpl_graph.Laws.{IsSound}
+use Rattle.sbpl_serial.specs.sbpl_graph.Network.{Network}
+use Rattle.sbpl_serial.specs.sbpl_graph.Path.{IsFreePath}
+use Rattle.sbpl_serial.proofs.Keeping.{kept_lowered, kept_next, kept_used, none_under_lowered}
+use Rattle.sbpl_serial.proofs.Fitting.{fit_lowered, fit_small}
+use Rattle.sbpl_serial.specs.sbpl_labels.Marks.{Marks, AreLabels, states_of, g_of, v_of, back_of}
+use Rattle.sbpl_serial.proofs.Changes.{lowers_state}
+use Rattle.sbpl_serial.specs.sbpl_search.Query.{Query}
 use Rattle.sbpl_serial.specs.Marked.{closed_at}
 use Rattle.sbpl_serial.specs.Relaxed.{IsRelaxed}
 use Rattle.sbpl_frontier_rules.specs.declared.leg.Leg.{Leg}

@@ -1,7 +1,7 @@
 -- The counts of a frontier matter only where a state is opened.
 use Rattle.std.proofs.Common.{◌≡◌, ℕ, ◌+◌, ◌^◌, ◌<◌, [], ◌∷◌, refl, subst, arith}
-use Rattle.sbpl_labels.specs.Counts.{Counts}
-use Rattle.sbpl_search.specs.Query.{Query}
+use Rattle.sbpl_serial.specs.sbpl_labels.Counts.{Counts}
+use Rattle.sbpl_serial.specs.sbpl_search.Query.{Query}
 use Rattle.sbpl_frontier_rules.specs.declared.event.Event.{Event}
 use Rattle.sbpl_frontier_rules.specs.declared.event.Event.TheVariants.{Opened, Taken, Posted}
 use Rattle.sbpl_frontier_rules.specs.Events.{AreEvents, IsEvent, IsOpening}

@@ -1,8 +1,8 @@
 -- Every list of events keeps a frontier.
 use Rattle.std.proofs.Common.{ℕ, ◌*◌, ◌≤◌, List, [], ◌∷◌}
-use Rattle.sbpl_graph.specs.Path.{IsFreePath}
-use Rattle.sbpl_labels.specs.Marks.{g_of}
-use Rattle.sbpl_search.specs.Query.{Query}
+use Rattle.sbpl_serial.specs.sbpl_graph.Path.{IsFreePath}
+use Rattle.sbpl_serial.specs.sbpl_labels.Marks.{g_of}
+use Rattle.sbpl_serial.specs.sbpl_search.Query.{Query}
 use Rattle.sbpl_frontier_rules.specs.declared.event.Event.{Event}
 use Rattle.sbpl_frontier_rules.specs.declared.event.Event.TheVariants.{Opened, Taken, Posted}
 use Rattle.sbpl_frontier_rules.specs.Frontier.{Frontier}

@@ -3,12 +3,12 @@ use Rattle.std.proofs.Common.{◌≡◌, ◌≢◌, ℕ, zero, suc, ◌+◌, ◌
 use Rattle.std.proofs.Common.{[], ◌∷◌, ◌++◌, length, arith, ⊎_elim, refl, sym, ◌∙◌}
 use Rattle.std.proofs.lemmas.Bool.{cases_eq, cases_lt, true≢false}
 use Rattle.std.proofs.lemmas.List.{get_or_past}
-use Rattle.sbpl_graph.specs.declared.TheConstants.{FAR}
-use Rattle.sbpl_graph.specs.Kept.{AreKept, NoneUnder}
-use Rattle.sbpl_graph.specs.Laws.{IsSound}
-use Rattle.sbpl_graph.specs.Network.{Network}
-use Rattle.sbpl_graph.specs.Path.{IsFreePath}
-use Rattle.sbpl_labels.specs.Marks.{v_of}
+use Rattle.sbpl_serial.specs.sbpl_graph.declared.TheConstants.{FAR}
+use Rattle.sbpl_serial.specs.sbpl_graph.Kept.{AreKept, NoneUnder}
+use Rattle.sbpl_serial.specs.sbpl_graph.Laws.{IsSound}
+use Rattle.sbpl_serial.specs.sbpl_graph.Network.{Network}
+use Rattle.sbpl_serial.specs.sbpl_graph.Path.{IsFreePath}
+use Rattle.sbpl_serial.specs.sbpl_labels.Marks.{v_of}
 use Rattle.sbpl_serial.specs.Marked.{closed_at}
 use Rattle.sbpl_frontier_rules.specs.Laws.{SettledAtOne}
 use Rattle.sbpl_frontier_rules.proofs.Walking.{path_then}

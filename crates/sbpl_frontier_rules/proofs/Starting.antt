@@ -1,12 +1,12 @@
 -- What events do to the start.
 use Rattle.std.proofs.Common.{◌≡◌, ◌≢◌, ℕ, ◌⊎◌, Option, Some, None, List, [], ◌∷◌, ⊎_elim, inr, sym, ap, subst, ◌∙◌}
 use Rattle.std.proofs.lemmas.Bool.{cases_eq}
-use Rattle.sbpl_graph.specs.declared.TheConstants.{FAR}
-use Rattle.sbpl_graph.specs.Network.{Network}
-use Rattle.sbpl_labels.specs.declared.row.Row.{Row}
-use Rattle.sbpl_labels.specs.Marks.{ChangesRow, Marks, g_of, row_at, v_of}
-use Rattle.sbpl_search.specs.Query.{Query}
-use Rattle.sbpl_search.specs.Ready.{IsStartFresh}
+use Rattle.sbpl_serial.specs.sbpl_graph.declared.TheConstants.{FAR}
+use Rattle.sbpl_serial.specs.sbpl_graph.Network.{Network}
+use Rattle.sbpl_serial.specs.sbpl_labels.declared.row.Row.{Row}
+use Rattle.sbpl_serial.specs.sbpl_labels.Marks.{ChangesRow, Marks, g_of, row_at, v_of}
+use Rattle.sbpl_serial.specs.sbpl_search.Query.{Query}
+use Rattle.sbpl_serial.specs.sbpl_search.Ready.{IsStartFresh}
 use Rattle.sbpl_serial.specs.Relaxed.{IsRelaxed}
 use Rattle.sbpl_frontier_rules.specs.declared.event.Event.{Event}
 use Rattle.sbpl_frontier_rules.specs.declared.event.Event.TheVariants.{Opened, Taken, Posted}

@@ -3,13 +3,13 @@ use Rattle.std.proofs.Common.{◌≡◌, ℕ, ◌+◌, ◌-◌, ◌*◌, ◌<◌
 use Rattle.std.proofs.Common.{inr, refl, sym, subst, ◌∙◌}
 use Rattle.std.proofs.Math.Nat.{mul-le-mul_left, mul-le-mul_right}
 use Rattle.std.proofs.lemmas.Bool.{cases_Bool, cases_lt, false_from_ne_true, true≢false}
-use Rattle.sbpl_graph.specs.declared.TheConstants.{FAR}
-use Rattle.sbpl_graph.specs.Laws.{HasGaps, IsConsistent}
-use Rattle.sbpl_graph.specs.Network.{Network, IsFreeArc}
-use Rattle.sbpl_graph.specs.Path.{IsFreePath}
-use Rattle.sbpl_graph.proofs.Paths.{head_inside, stays_near}
-use Rattle.sbpl_labels.specs.Marks.{g_of, v_of}
-use Rattle.sbpl_search.specs.Query.{Query}
+use Rattle.sbpl_serial.specs.sbpl_graph.declared.TheConstants.{FAR}
+use Rattle.sbpl_serial.specs.sbpl_graph.Laws.{HasGaps, IsConsistent}
+use Rattle.sbpl_serial.specs.sbpl_graph.Network.{Network, IsFreeArc}
+use Rattle.sbpl_serial.specs.sbpl_graph.Path.{IsFreePath}
+use Rattle.sbpl_serial.proofs.Paths.{head_inside, stays_near}
+use Rattle.sbpl_serial.specs.sbpl_labels.Marks.{g_of, v_of}
+use Rattle.sbpl_serial.specs.sbpl_search.Query.{Query}
 use Rattle.sbpl_serial.specs.Run.{IsOver}
 use Rattle.sbpl_serial.proofs.Keys.{key_over}
 use Rattle.sbpl_frontier_rules.specs.Events.{MayOpen}

@@ -1,11 +1,11 @@
 -- What each event asks of a frontier and does to it, and the replay of a list of events.
 use Rattle.std.specs.Prelude.{◌≡◌, ℕ, ◌+◌, ◌<◌, true, false, Option, List, [], ◌∷◌, ◌++◌, slice_set, length}
 use Rattle.std.specs.List.{Contains}
-use Rattle.sbpl_graph.specs.Network.{Network}
-use Rattle.sbpl_labels.specs.Counts.{Counts, HasLeft, IsSpent}
-use Rattle.sbpl_labels.specs.Marks.{Marks, ChangesRow, states_of, g_of, back_of}
-use Rattle.sbpl_open.specs.KeyOrder.{IsBelow}
-use Rattle.sbpl_search.specs.Query.{Query}
+use Rattle.sbpl_serial.specs.sbpl_graph.Network.{Network}
+use Rattle.sbpl_serial.specs.sbpl_labels.Counts.{Counts, HasLeft, IsSpent}
+use Rattle.sbpl_serial.specs.sbpl_labels.Marks.{Marks, ChangesRow, states_of, g_of, back_of}
+use Rattle.sbpl_serial.specs.sbpl_open.KeyOrder.{IsBelow}
+use Rattle.sbpl_serial.specs.sbpl_search.Query.{Query}
 use Rattle.sbpl_serial.specs.Relaxed.{IsRelaxed}
 use Rattle.sbpl_serial.specs.Run.{IsAtRest, IsOver, goal_key_at, key_at}
 use Rattle.sbpl_frontier_rules.specs.declared.event.Event.{Event}

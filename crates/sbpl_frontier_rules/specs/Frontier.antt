@@ -1,9 +1,9 @@
 -- A frontier: what a parallel pass has between two of its events.
 use Rattle.std.specs.Prelude.{◌≡◌, ℕ, zero, suc, ◌+◌, Bool, true, not, nat_eq, Option, Some, None, List, [], ◌∷◌, ◌++◌, cond}
 use Rattle.std.specs.List.{filter}
-use Rattle.sbpl_graph.specs.Network.{Network}
-use Rattle.sbpl_labels.specs.Counts.{Counts}
-use Rattle.sbpl_labels.specs.Marks.{Marks}
+use Rattle.sbpl_serial.specs.sbpl_graph.Network.{Network}
+use Rattle.sbpl_serial.specs.sbpl_labels.Counts.{Counts}
+use Rattle.sbpl_serial.specs.sbpl_labels.Marks.{Marks}
 use Rattle.sbpl_serial.specs.Marked.{closed_at}
 use Rattle.sbpl_frontier_rules.specs.declared.leg.Leg.{Leg}
 

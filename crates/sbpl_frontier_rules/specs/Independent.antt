@@ -1,8 +1,8 @@
 -- When a state may be opened although others are still being worked on.
 use Rattle.std.specs.Prelude.{ℕ, ◌-◌, ◌*◌, ◌≤◌, ◌⊎◌}
-use Rattle.sbpl_labels.specs.Marks.{Marks, g_of}
-use Rattle.sbpl_open.specs.KeyOrder.{ComesBefore}
-use Rattle.sbpl_search.specs.Query.{Query}
+use Rattle.sbpl_serial.specs.sbpl_labels.Marks.{Marks, g_of}
+use Rattle.sbpl_serial.specs.sbpl_open.KeyOrder.{ComesBefore}
+use Rattle.sbpl_serial.specs.sbpl_search.Query.{Query}
 use Rattle.sbpl_serial.specs.Run.{IsOpen, key_at}
 use Rattle.sbpl_frontier_rules.specs.Frontier.{Frontier, IsBusy, is_opened}
 

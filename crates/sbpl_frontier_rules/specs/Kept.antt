@@ -1,14 +1,14 @@
 -- What holds of a frontier at every moment of a pass.
 use Rattle.std.specs.Prelude.{◌≡◌, ◌≢◌, ℕ, ◌*◌, ◌<◌, ◌≤◌, true, IsSome, List, length}
 use Rattle.std.specs.List.{All, AllPairs}
-use Rattle.sbpl_graph.specs.declared.TheConstants.{FAR}
-use Rattle.sbpl_graph.specs.Fit.{FitCount}
-use Rattle.sbpl_graph.specs.Kept.{AreKept, NoneUnder}
-use Rattle.sbpl_graph.specs.Network.{Network}
-use Rattle.sbpl_graph.specs.Path.{IsFreePath}
-use Rattle.sbpl_labels.specs.Counts.{AreCounts}
-use Rattle.sbpl_labels.specs.Marks.{AreLabels, states_of, g_of, v_of, back_of}
-use Rattle.sbpl_search.specs.Query.{Query}
+use Rattle.sbpl_serial.specs.sbpl_graph.declared.TheConstants.{FAR}
+use Rattle.sbpl_serial.specs.sbpl_graph.Fit.{FitCount}
+use Rattle.sbpl_serial.specs.sbpl_graph.Kept.{AreKept, NoneUnder}
+use Rattle.sbpl_serial.specs.sbpl_graph.Network.{Network}
+use Rattle.sbpl_serial.specs.sbpl_graph.Path.{IsFreePath}
+use Rattle.sbpl_serial.specs.sbpl_labels.Counts.{AreCounts}
+use Rattle.sbpl_serial.specs.sbpl_labels.Marks.{AreLabels, states_of, g_of, v_of, back_of}
+use Rattle.sbpl_serial.specs.sbpl_search.Query.{Query}
 use Rattle.sbpl_frontier_rules.specs.Frontier.{Frontier, is_due, is_opened, times_due}
 
 -- arc k of s has a head, and s was opened

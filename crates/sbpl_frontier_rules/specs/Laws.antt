@@ -1,15 +1,15 @@
 -- What every list of events keeps.
 use Rattle.std.specs.Prelude.{◌≡◌, ℕ, ◌+◌, ◌<◌, ◌≤◌, true, Option, List, ◌∷◌, ◌++◌, length}
 use Rattle.std.specs.List.{Contains}
-use Rattle.sbpl_graph.specs.Bound.{IsLow}
-use Rattle.sbpl_graph.specs.Certificate.{AreSupported, ShowBound}
-use Rattle.sbpl_graph.specs.Exact.{AreExact}
-use Rattle.sbpl_graph.specs.Laws.{HasGaps, IsConsistent, IsSound}
-use Rattle.sbpl_graph.specs.Network.{Network}
-use Rattle.sbpl_labels.specs.Counts.{AreCounts, Counts}
-use Rattle.sbpl_labels.specs.Marks.{AreLabels, Marks, states_of, g_of, v_of, back_of}
-use Rattle.sbpl_search.specs.Query.{Query}
-use Rattle.sbpl_search.specs.Ready.{AreReady}
+use Rattle.sbpl_serial.specs.sbpl_graph.Bound.{IsLow}
+use Rattle.sbpl_serial.specs.sbpl_graph.Certificate.{AreSupported, ShowBound}
+use Rattle.sbpl_serial.specs.sbpl_graph.Exact.{AreExact}
+use Rattle.sbpl_serial.specs.sbpl_graph.Laws.{HasGaps, IsConsistent, IsSound}
+use Rattle.sbpl_serial.specs.sbpl_graph.Network.{Network}
+use Rattle.sbpl_serial.specs.sbpl_labels.Counts.{AreCounts, Counts}
+use Rattle.sbpl_serial.specs.sbpl_labels.Marks.{AreLabels, Marks, states_of, g_of, v_of, back_of}
+use Rattle.sbpl_serial.specs.sbpl_search.Query.{Query}
+use Rattle.sbpl_serial.specs.sbpl_search.Ready.{AreReady}
 use Rattle.sbpl_frontier_rules.specs.declared.event.Event.{Event}
 use Rattle.sbpl_frontier_rules.specs.declared.event.Event.TheVariants.{Taken, Posted}
 use Rattle.sbpl_frontier_rules.specs.Events.{AreEvents, IsFirst, IsIdle, IsOutOfBudget}

@@ -1,10 +1,10 @@
 -- What a whole pass by events does to labels.
 use Rattle.std.specs.Prelude.{◌≡◌, ℕ, ◌+◌, ◌^◌, ◌≤◌, Bool, nat_lt, List}
-use Rattle.sbpl_labels.specs.Counts.{Counts}
-use Rattle.sbpl_labels.specs.Marks.{Marks, g_of}
-use Rattle.sbpl_open.specs.KeyOrder.{IsBelow}
-use Rattle.sbpl_search.specs.Query.{Query}
-use Rattle.sbpl_search.specs.Ready.{IsStartFresh}
+use Rattle.sbpl_serial.specs.sbpl_labels.Counts.{Counts}
+use Rattle.sbpl_serial.specs.sbpl_labels.Marks.{Marks, g_of}
+use Rattle.sbpl_serial.specs.sbpl_open.KeyOrder.{IsBelow}
+use Rattle.sbpl_serial.specs.sbpl_search.Query.{Query}
+use Rattle.sbpl_serial.specs.sbpl_search.Ready.{IsStartFresh}
 use Rattle.sbpl_serial.specs.Run.{IsAtRest, IsOpen, goal_key_at, key_at}
 use Rattle.sbpl_frontier_rules.specs.declared.event.Event.{Event}
 use Rattle.sbpl_frontier_rules.specs.Events.{AreEvents, IsFirst, IsIdle}

@@ -8,29 +8,29 @@ use Rattle.std.specs.Str.{bytes_eq}
 use Rattle.std.proofs.lemmas.Bool.{and_parts, cases_Bool, eq-eqb, eqb-true, not-true, true≢false}
 use Rattle.std.proofs.lemmas.List.Elements.{All-head, All-tail}
 use Rattle.std.proofs.lemmas.Option.{cond_some, none-some, same_Some}
-use Rattle.sbpl_fixed.specs.Numbers.{nano_of, whole_of}
-use Rattle.sbpl_fixed.specs.declared.fault.NumFault.{NumFault}
-use Rattle.sbpl_job.specs.Forms.{Apart, ArePartsOf, Form, IsFit, Joined, PartsAreOfForms, Plain}
-use Rattle.sbpl_job.specs.Forms.{form_words, given_of, name_of, plain_of}
-use Rattle.sbpl_job.specs.Jobs.{Settings, budget_by, budget_in, differ, form_by, is_input, job_by, job_of, job_with}
-use Rattle.sbpl_job.specs.Jobs.{may_move, milli_by, milli_in, nav_by, nav_in, output_by, outputs_by, outputs_in}
-use Rattle.sbpl_job.specs.Jobs.{plan_by, plan_in, planner_by, radius_by, radius_in, search_in, grid_search_in}
-use Rattle.sbpl_job.specs.Jobs.{sources_by, workers_by}
-use Rattle.sbpl_job.specs.Words.{Parts, id_of, is_plain_word, is_setting, parts_of, takes}
-use Rattle.sbpl_job.specs.Words as given
-use Rattle.sbpl_job.specs.declared.job.Job.{Job}
-use Rattle.sbpl_job.specs.declared.job.Job.TheVariants as job
-use Rattle.sbpl_job.specs.declared.job.LabelForm.{LabelForm}
-use Rattle.sbpl_job.specs.declared.job.NavJob.{NavJob}
-use Rattle.sbpl_job.specs.declared.job.Outputs.{Outputs}
-use Rattle.sbpl_job.specs.declared.job.PlanJob.{PlanJob}
-use Rattle.sbpl_job.specs.declared.job.Planner.{Planner}
-use Rattle.sbpl_job.specs.declared.job.SearchJob.{SearchJob}
-use Rattle.sbpl_job.specs.declared.job.Sources.{Sources}
-use Rattle.sbpl_job.specs.declared.words.Command.{Command}
-use Rattle.sbpl_job.specs.declared.words.Command.TheVariants as command
-use Rattle.sbpl_job.specs.declared.words.Setting.{Setting}
-use Rattle.sbpl_job.specs.declared.words.Setting.TheVariants as setting
+use Rattle.sbpl_promises.specs.sbpl_fixed.Numbers.{nano_of, whole_of}
+use Rattle.sbpl_promises.specs.sbpl_fixed.declared.fault.NumFault.{NumFault}
+use Rattle.sbpl_promises.specs.sbpl_job.Forms.{Apart, ArePartsOf, Form, IsFit, Joined, PartsAreOfForms, Plain}
+use Rattle.sbpl_promises.specs.sbpl_job.Forms.{form_words, given_of, name_of, plain_of}
+use Rattle.sbpl_promises.specs.sbpl_job.Jobs.{Settings, budget_by, budget_in, differ, form_by, is_input, job_by, job_of, job_with}
+use Rattle.sbpl_promises.specs.sbpl_job.Jobs.{may_move, milli_by, milli_in, nav_by, nav_in, output_by, outputs_by, outputs_in}
+use Rattle.sbpl_promises.specs.sbpl_job.Jobs.{plan_by, plan_in, planner_by, radius_by, radius_in, search_in, grid_search_in}
+use Rattle.sbpl_promises.specs.sbpl_job.Jobs.{sources_by, workers_by}
+use Rattle.sbpl_promises.specs.sbpl_job.Words.{Parts, id_of, is_plain_word, is_setting, parts_of, takes}
+use Rattle.sbpl_promises.specs.sbpl_job.Words as given
+use Rattle.sbpl_promises.specs.sbpl_job.declared.job.Job.{Job}
+use Rattle.sbpl_promises.specs.sbpl_job.declared.job.Job.TheVariants as job
+use Rattle.sbpl_promises.specs.sbpl_job.declared.job.LabelForm.{LabelForm}
+use Rattle.sbpl_promises.specs.sbpl_job.declared.job.NavJob.{NavJob}
+use Rattle.sbpl_promises.specs.sbpl_job.declared.job.Outputs.{Outputs}
+use Rattle.sbpl_promises.specs.sbpl_job.declared.job.PlanJob.{PlanJob}
+use Rattle.sbpl_promises.specs.sbpl_job.declared.job.Planner.{Planner}
+use Rattle.sbpl_promises.specs.sbpl_job.declared.job.SearchJob.{SearchJob}
+use Rattle.sbpl_promises.specs.sbpl_job.declared.job.Sources.{Sources}
+use Rattle.sbpl_promises.specs.sbpl_job.declared.words.Command.{Command}
+use Rattle.sbpl_promises.specs.sbpl_job.declared.words.Command.TheVariants as command
+use Rattle.sbpl_promises.specs.sbpl_job.declared.words.Setting.{Setting}
+use Rattle.sbpl_promises.specs.sbpl_job.declared.words.Setting.TheVariants as setting
 use Rattle.sbpl_headline.specs.Numbers.{IsNanos, IsNumber}
 use Rattle.sbpl_headline.specs.Words.{Ask, Asked, IsPart, IsPlain, Part, value_of}
 use Rattle.sbpl_headline.proofs.Numbering.{nano_says, whole_says}

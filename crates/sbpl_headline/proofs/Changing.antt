@@ -8,13 +8,13 @@ use Rattle.std.specs.Str.Lines.{lines}
 use Rattle.std.proofs.lemmas.Bool.{lt-ltb}
 use Rattle.std.proofs.lemmas.List.{length-map}
 use Rattle.std.proofs.lemmas.Option.{none-some, same_Some}
-use Rattle.sbpl_cfg.specs.declared.pose.Place.{Place}
-use Rattle.sbpl_map.specs.CellMap.{CellMap}
-use Rattle.sbpl_map.specs.ChangeText.{ArePlacesOnMap, Given, IsPlaceOnMap, LineTells, LinesTell, StandsFor}
-use Rattle.sbpl_map.specs.ChangeText.{lines_with_fields, place_in, place_of, replan_line, said_by, spelled_batch}
-use Rattle.sbpl_map.specs.ChangeText.{writes_alone, writes_of}
-use Rattle.sbpl_map.specs.Fields.{fields, has_some, is_parting}
-use Rattle.sbpl_map.specs.declared.write.Write.{Write}
+use Rattle.sbpl_promises.specs.sbpl_cfg.declared.pose.Place.{Place}
+use Rattle.sbpl_promises.specs.sbpl_map.CellMap.{CellMap}
+use Rattle.sbpl_promises.specs.sbpl_map.ChangeText.{ArePlacesOnMap, Given, IsPlaceOnMap, LineTells, LinesTell, StandsFor}
+use Rattle.sbpl_promises.specs.sbpl_map.ChangeText.{lines_with_fields, place_in, place_of, replan_line, said_by, spelled_batch}
+use Rattle.sbpl_promises.specs.sbpl_map.ChangeText.{writes_alone, writes_of}
+use Rattle.sbpl_promises.specs.sbpl_map.Fields.{fields, has_some, is_parting}
+use Rattle.sbpl_promises.specs.sbpl_map.declared.write.Write.{Write}
 use Rattle.sbpl_promises.specs.Causes.{ReadsCourse}
 use Rattle.sbpl_promises.specs.Texts.{IsCourseText, Scope}
 use Rattle.sbpl_promises.specs.Writing.{Told}

@@ -4,15 +4,15 @@ use Rattle.std.proofs.Common.{Option, Some, None, slice_get, sum_by, inl, inr, r
 use Rattle.std.proofs.Common.{add-one, add-zero, add_assoc, zero-add}
 use Rattle.std.proofs.lemmas.List.Sums.{sum_by-cons}
 use Rattle.std.proofs.lemmas.Option.{same_Some}
-use Rattle.sbpl_map.specs.declared.write.Write.{Write}
-use Rattle.sbpl_job.specs.declared.job.Outputs.{Outputs}
-use Rattle.sbpl_job.specs.declared.job.SearchJob.{SearchJob}
-use Rattle.sbpl_plan.specs.Passing as passing
-use Rattle.sbpl_plan.specs.declared.found.Found.{Found}
-use Rattle.sbpl_plan.specs.declared.passes.Pass.{Pass}
-use Rattle.sbpl_report.specs.declared.record.PlanRecord.{PlanRecord}
-use Rattle.sbpl_report.specs.declared.record.Spot.{Spot}
-use Rattle.sbpl_report.specs.declared.record.TraceLine.{TraceLine}
+use Rattle.sbpl_promises.specs.sbpl_map.declared.write.Write.{Write}
+use Rattle.sbpl_promises.specs.sbpl_job.declared.job.Outputs.{Outputs}
+use Rattle.sbpl_promises.specs.sbpl_job.declared.job.SearchJob.{SearchJob}
+use Rattle.sbpl_promises.specs.sbpl_plan.Passing as passing
+use Rattle.sbpl_promises.specs.sbpl_plan.declared.found.Found.{Found}
+use Rattle.sbpl_promises.specs.sbpl_plan.declared.passes.Pass.{Pass}
+use Rattle.sbpl_promises.specs.sbpl_report.declared.record.PlanRecord.{PlanRecord}
+use Rattle.sbpl_promises.specs.sbpl_report.declared.record.Spot.{Spot}
+use Rattle.sbpl_promises.specs.sbpl_report.declared.record.TraceLine.{TraceLine}
 use Rattle.sbpl_promises.specs.Asked.{Known}
 use Rattle.sbpl_promises.specs.Headline.{ArePlans, AreRecords, Carried, IsMarked, expanded_before}
 use Rattle.sbpl_promises.specs.Published.{Entry, with_plan}

@@ -1,15 +1,15 @@
 -- The plans that were made on a grid, and whose report was written, are told as the headline says.
 use Rattle.std.proofs.Common.{◌≡◌, ◌↔◌, ℕ, ℤ, List, [], length, true, None, Some, MatchOption}
 use Rattle.std.proofs.Common.{refl, sym, ap, subst, ◌∙◌}
-use Rattle.sbpl_desk.specs.Desk.{DeskState}
-use Rattle.sbpl_job.specs.declared.job.Outputs.{Outputs}
-use Rattle.sbpl_job.specs.declared.job.SearchJob.{SearchJob}
-use Rattle.sbpl_map.specs.CellMap.{CellMap, cost_at}
-use Rattle.sbpl_map.specs.ChangeText.{Given}
-use Rattle.sbpl_map.specs.MapAfter.{IsMapAfter}
-use Rattle.sbpl_nav2d.specs.World.{GridWorld, IsGridWorld, over_map}
-use Rattle.sbpl_plan.specs.declared.found.Found.{Found}
-use Rattle.sbpl_report.specs.declared.record.PlanRecord.{PlanRecord}
+use Rattle.sbpl_promises.specs.sbpl_desk.Desk.{DeskState}
+use Rattle.sbpl_promises.specs.sbpl_job.declared.job.Outputs.{Outputs}
+use Rattle.sbpl_promises.specs.sbpl_job.declared.job.SearchJob.{SearchJob}
+use Rattle.sbpl_promises.specs.sbpl_map.CellMap.{CellMap, cost_at}
+use Rattle.sbpl_promises.specs.sbpl_map.ChangeText.{Given}
+use Rattle.sbpl_promises.specs.sbpl_map.MapAfter.{IsMapAfter}
+use Rattle.sbpl_promises.specs.sbpl_nav2d.World.{GridWorld, IsGridWorld, over_map}
+use Rattle.sbpl_promises.specs.sbpl_plan.declared.found.Found.{Found}
+use Rattle.sbpl_promises.specs.sbpl_report.declared.record.PlanRecord.{PlanRecord}
 use Rattle.sbpl_promises.specs.Asked.{known}
 use Rattle.sbpl_promises.specs.GridSite.{grid_site, grid_wording}
 use Rattle.sbpl_promises.specs.Headline.{ArePlans}

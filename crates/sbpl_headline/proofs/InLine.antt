@@ -4,7 +4,7 @@ use Rattle.std.proofs.Common.{if◌then◌else◌, List, [], ◌∷◌, ◌++◌
 use Rattle.std.proofs.lemmas.Bool.{false≢true, ne_eqb}
 use Rattle.std.specs.Fmt.{digit_glyph, digits, digits_onto}
 use Rattle.std.specs.List.{list_any}
-use Rattle.sbpl_fixed.specs.Printed.{last_digits, milli_text}
+use Rattle.sbpl_promises.specs.sbpl_fixed.Printed.{last_digits, milli_text}
 
 -- one of the bytes is a line feed
 abbrev has_feed : List ℕ → Bool

@@ -1,21 +1,21 @@
 -- The free paths of a lattice, and the promises of its plans, in the headline's words.
 use Rattle.std.proofs.Common.{◌≡◌, ◌↔◌, ℕ, ℤ, List, [], ◌∷◌, Option, Some, None, sym, ap, subst, ◌∙◌}
 use Rattle.std.proofs.lemmas.Option.{same_Some}
-use Rattle.sbpl_graph.specs.Network.{Network}
-use Rattle.sbpl_graph.specs.Path.{IsFreePath}
-use Rattle.sbpl_cfg.specs.declared.pose.Place.{Place}
-use Rattle.sbpl_map.specs.CellMap.{cost_at}
-use Rattle.sbpl_cost.specs.Arc.{HasLatticeArcs}
-use Rattle.sbpl_cost.specs.Lattices.{network_of}
-use Rattle.sbpl_cost.specs.States.{place_of, state_number}
-use Rattle.sbpl_cost.specs.World.{IsWorld, World}
-use Rattle.sbpl_plan.specs.declared.result.Outcome.{Outcome}
-use Rattle.sbpl_plan.specs.declared.result.Outcome.TheVariants as outcome
-use Rattle.sbpl_report.specs.declared.record.PathRecord.{PathRecord}
-use Rattle.sbpl_report.specs.declared.record.PathStep.{PathStep}
-use Rattle.sbpl_report.specs.declared.record.PlanRecord.{PlanRecord}
-use Rattle.sbpl_report.specs.declared.record.Spot.{Spot}
-use Rattle.sbpl_report.specs.declared.record.Spot.TheVariants as spot
+use Rattle.sbpl_promises.specs.sbpl_graph.Network.{Network}
+use Rattle.sbpl_promises.specs.sbpl_graph.Path.{IsFreePath}
+use Rattle.sbpl_promises.specs.sbpl_cfg.declared.pose.Place.{Place}
+use Rattle.sbpl_promises.specs.sbpl_map.CellMap.{cost_at}
+use Rattle.sbpl_promises.specs.sbpl_cost.Arc.{HasLatticeArcs}
+use Rattle.sbpl_promises.specs.sbpl_cost.Lattices.{network_of}
+use Rattle.sbpl_promises.specs.sbpl_cost.States.{place_of, state_number}
+use Rattle.sbpl_promises.specs.sbpl_cost.World.{IsWorld, World}
+use Rattle.sbpl_promises.specs.sbpl_plan.declared.result.Outcome.{Outcome}
+use Rattle.sbpl_promises.specs.sbpl_plan.declared.result.Outcome.TheVariants as outcome
+use Rattle.sbpl_promises.specs.sbpl_report.declared.record.PathRecord.{PathRecord}
+use Rattle.sbpl_promises.specs.sbpl_report.declared.record.PathStep.{PathStep}
+use Rattle.sbpl_promises.specs.sbpl_report.declared.record.PlanRecord.{PlanRecord}
+use Rattle.sbpl_promises.specs.sbpl_report.declared.record.Spot.{Spot}
+use Rattle.sbpl_promises.specs.sbpl_report.declared.record.Spot.TheVariants as spot
 use Rattle.sbpl_promises.specs.Headline.{AreSteps, IsKnownWithin, IsNoneThere, IsWithinBound, Joins, KeepsPromises}
 use Rattle.sbpl_promises.specs.LatticeSite.{IsPathStep, lattice_site}
 use Rattle.sbpl_headline.specs.Map.{Costs, Map}

@@ -1,20 +1,20 @@
 -- The plans that were made on a lattice, and whose report was written, are told as the headline says.
 use Rattle.std.proofs.Common.{◌≡◌, ◌↔◌, ℕ, ℤ, List, [], length, true, Some, MatchOption, sym, ap, subst, ◌∙◌}
-use Rattle.sbpl_cfg.specs.declared.pose.Place.{Place}
-use Rattle.sbpl_cost.specs.Arc.{HasLatticeArcs}
-use Rattle.sbpl_cost.specs.Lattices.{network_of}
-use Rattle.sbpl_cost.specs.States.{place_of}
-use Rattle.sbpl_cost.specs.World.{IsWorld, World, over_map}
-use Rattle.sbpl_desk.specs.Desk.{DeskState}
-use Rattle.sbpl_job.specs.declared.job.Outputs.{Outputs}
-use Rattle.sbpl_job.specs.declared.job.SearchJob.{SearchJob}
-use Rattle.sbpl_map.specs.CellMap.{CellMap, cost_at}
-use Rattle.sbpl_map.specs.ChangeText.{Given}
-use Rattle.sbpl_map.specs.MapAfter.{IsMapAfter}
-use Rattle.sbpl_plan.specs.declared.found.Found.{Found}
-use Rattle.sbpl_report.specs.declared.record.PlanRecord.{PlanRecord}
-use Rattle.sbpl_report.specs.declared.record.Spot.{Spot}
-use Rattle.sbpl_report.specs.declared.record.Spot.TheVariants as spot
+use Rattle.sbpl_promises.specs.sbpl_cfg.declared.pose.Place.{Place}
+use Rattle.sbpl_promises.specs.sbpl_cost.Arc.{HasLatticeArcs}
+use Rattle.sbpl_promises.specs.sbpl_cost.Lattices.{network_of}
+use Rattle.sbpl_promises.specs.sbpl_cost.States.{place_of}
+use Rattle.sbpl_promises.specs.sbpl_cost.World.{IsWorld, World, over_map}
+use Rattle.sbpl_promises.specs.sbpl_desk.Desk.{DeskState}
+use Rattle.sbpl_promises.specs.sbpl_job.declared.job.Outputs.{Outputs}
+use Rattle.sbpl_promises.specs.sbpl_job.declared.job.SearchJob.{SearchJob}
+use Rattle.sbpl_promises.specs.sbpl_map.CellMap.{CellMap, cost_at}
+use Rattle.sbpl_promises.specs.sbpl_map.ChangeText.{Given}
+use Rattle.sbpl_promises.specs.sbpl_map.MapAfter.{IsMapAfter}
+use Rattle.sbpl_promises.specs.sbpl_plan.declared.found.Found.{Found}
+use Rattle.sbpl_promises.specs.sbpl_report.declared.record.PlanRecord.{PlanRecord}
+use Rattle.sbpl_promises.specs.sbpl_report.declared.record.Spot.{Spot}
+use Rattle.sbpl_promises.specs.sbpl_report.declared.record.Spot.TheVariants as spot
 use Rattle.sbpl_promises.specs.Asked.{known}
 use Rattle.sbpl_promises.specs.Headline.{ArePlans, KeepsPromises}
 use Rattle.sbpl_promises.specs.Intents.{plans_writes}

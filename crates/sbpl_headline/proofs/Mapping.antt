@@ -6,9 +6,9 @@ use Rattle.std.proofs.lemmas.Bool.{cases_Bool, and_from, and_parts, lt-ltb, ltb-
 use Rattle.std.proofs.lemmas.List.{map-append}
 use Rattle.std.proofs.lemmas.List.Elements.{filter_map-append}
 use Rattle.std.proofs.lemmas.Option.{none-some}
-use Rattle.sbpl_map.specs.CellMap.{CellMap, cost_at}
-use Rattle.sbpl_map.specs.ChangeText.{Given, write_in, writes_of}
-use Rattle.sbpl_map.specs.MapAfter.{cost_after, first_writes, found_or, last_cost, IsMapAfter}
+use Rattle.sbpl_promises.specs.sbpl_map.CellMap.{CellMap, cost_at}
+use Rattle.sbpl_promises.specs.sbpl_map.ChangeText.{Given, write_in, writes_of}
+use Rattle.sbpl_promises.specs.sbpl_map.MapAfter.{cost_after, first_writes, found_or, last_cost, IsMapAfter}
 use Rattle.sbpl_headline.specs.Map.{Costs, cost_in}
 use Rattle.sbpl_headline.proofs.Told.{line_of, lines_of, map_with}
 

@@ -6,16 +6,16 @@ use Rattle.std.proofs.lemmas.Bool.{and_parts, eq-eqb, ltb-true}
 use Rattle.std.proofs.lemmas.Int.{ints}
 use Rattle.std.proofs.lemmas.List.Sums.{count_by_more_yes, sum_by-cons, sum_by-take-le}
 use Rattle.std.proofs.lemmas.Option.{cond_some, get_or_from_slice_get, none-some, same_Some, slice_get_within}
-use Rattle.sbpl_graph.specs.Network.{IsFreeArc, Network}
-use Rattle.sbpl_cfg.specs.Environment.{Environment}
-use Rattle.sbpl_cfg.specs.declared.pose.Place.{Place}
-use Rattle.sbpl_mprim.specs.declared.prim.Primitive.{Primitive}
-use Rattle.sbpl_map.specs.CellMap.{CellMap, cost_at, index_in}
-use Rattle.sbpl_cost.specs.Arc.{EndsIn, HasLatticeArcs, IsArcBy, IsArcOf, IsFree, IsFreeAt, IsPaid, cost_from}
-use Rattle.sbpl_cost.specs.PrimitiveCost.{primitive_cost, way_length}
-use Rattle.sbpl_cost.specs.States.{IsPlace, place_of, state_count, state_number}
-use Rattle.sbpl_cost.specs.World.{IsWorld, World}
-use Rattle.sbpl_report.specs.declared.record.PathStep.{PathStep}
+use Rattle.sbpl_promises.specs.sbpl_graph.Network.{IsFreeArc, Network}
+use Rattle.sbpl_promises.specs.sbpl_cfg.Environment.{Environment}
+use Rattle.sbpl_promises.specs.sbpl_cfg.declared.pose.Place.{Place}
+use Rattle.sbpl_promises.specs.sbpl_mprim.declared.prim.Primitive.{Primitive}
+use Rattle.sbpl_promises.specs.sbpl_map.CellMap.{CellMap, cost_at, index_in}
+use Rattle.sbpl_promises.specs.sbpl_cost.Arc.{EndsIn, HasLatticeArcs, IsArcBy, IsArcOf, IsFree, IsFreeAt, IsPaid, cost_from}
+use Rattle.sbpl_promises.specs.sbpl_cost.PrimitiveCost.{primitive_cost, way_length}
+use Rattle.sbpl_promises.specs.sbpl_cost.States.{IsPlace, place_of, state_count, state_number}
+use Rattle.sbpl_promises.specs.sbpl_cost.World.{IsWorld, World}
+use Rattle.sbpl_promises.specs.sbpl_report.declared.record.PathStep.{PathStep}
 use Rattle.sbpl_promises.specs.LatticeSite.{IsPathStep}
 use Rattle.sbpl_headline.specs.Cost.{cost_of}
 use Rattle.sbpl_headline.specs.Map.{Costs, Map}

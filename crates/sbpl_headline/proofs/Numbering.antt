@@ -10,11 +10,11 @@ use Rattle.std.proofs.lemmas.Bool.{cases_Bool, and_parts, eqb-true, leb-true, lt
 use Rattle.std.proofs.lemmas.List.{length-append}
 use Rattle.std.proofs.lemmas.List.Folds.{list_all-append}
 use Rattle.std.proofs.lemmas.Str.Parse.{IsNumeralModel, numerals_by_fold}
-use Rattle.sbpl_fixed.specs.Numbers.{all_digits, decimals_part, is_decimal, is_digit, is_minus, is_no_point, is_whole}
-use Rattle.sbpl_fixed.specs.Numbers.{most, nano_number, nano_of, nine_decimals, number_after, number_of, signed, sized}
-use Rattle.sbpl_fixed.specs.Numbers.{whole_of, whole_part, without_sign}
-use Rattle.sbpl_fixed.specs.declared.fault.NumFault.{NumFault}
-use Rattle.sbpl_fixed.specs.declared.fault.NumFault.TheVariants.{Form, Size}
+use Rattle.sbpl_promises.specs.sbpl_fixed.Numbers.{all_digits, decimals_part, is_decimal, is_digit, is_minus, is_no_point, is_whole}
+use Rattle.sbpl_promises.specs.sbpl_fixed.Numbers.{most, nano_number, nano_of, nine_decimals, number_after, number_of, signed, sized}
+use Rattle.sbpl_promises.specs.sbpl_fixed.Numbers.{whole_of, whole_part, without_sign}
+use Rattle.sbpl_promises.specs.sbpl_fixed.declared.fault.NumFault.{NumFault}
+use Rattle.sbpl_promises.specs.sbpl_fixed.declared.fault.NumFault.TheVariants.{Form, Size}
 use Rattle.sbpl_headline.specs.Numbers.{AreDigits, IsNanos, IsNumber, IsSigned}
 
 -- ---- what is read

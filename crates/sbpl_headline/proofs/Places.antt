@@ -2,11 +2,11 @@
 use Rattle.std.proofs.Common.{◌≡◌, ℕ, ℤ, ◌+◌, ◌*◌, ◌/◌, ◌%◌, ◌<◌, ap, sym, subst, ◌∙◌, arith}
 use Rattle.std.proofs.lemmas.Int.{ints}
 use Rattle.std.proofs.lemmas.Nat.{div-mul-add, div-add-mod', mod-mul-add, mul-add-lt}
-use Rattle.sbpl_cfg.specs.declared.pose.Place.{Place}
-use Rattle.sbpl_cfg.specs.declared.pose.Pose.{Pose}
-use Rattle.sbpl_cfg.specs.Environment.{Environment, IsEnvironment, IsPlaceOf, IsPoseOnMap}
-use Rattle.sbpl_cfg.specs.Place.{heading_of}
-use Rattle.sbpl_cost.specs.States.{IsPlace, place_of, state_number, state_count}
+use Rattle.sbpl_promises.specs.sbpl_cfg.declared.pose.Place.{Place}
+use Rattle.sbpl_promises.specs.sbpl_cfg.declared.pose.Pose.{Pose}
+use Rattle.sbpl_promises.specs.sbpl_cfg.Environment.{Environment, IsEnvironment, IsPlaceOf, IsPoseOnMap}
+use Rattle.sbpl_promises.specs.sbpl_cfg.Place.{heading_of}
+use Rattle.sbpl_promises.specs.sbpl_cost.States.{IsPlace, place_of, state_number, state_count}
 use Rattle.sbpl_promises.specs.LatticeSite.{IsStateOf}
 
 -- a state's place has the state's number

@@ -1,12 +1,12 @@
 -- The plans that were made at a site, and whose report was written, are told as the headline says, whatever a place is.
 use Rattle.std.proofs.Common.{◌≡◌, ◌⊎◌, ℕ, suc, ◌^◌, List, [], length, take, flat_map, sum_by, true, MatchOption}
 use Rattle.std.proofs.Common.{codes, sym, ap, subst, ◌∙◌}
-use Rattle.sbpl_desk.specs.Desk.{Appends, DeskState}
-use Rattle.sbpl_job.specs.declared.job.Outputs.{Outputs}
-use Rattle.sbpl_job.specs.declared.job.SearchJob.{SearchJob}
-use Rattle.sbpl_plan.specs.declared.found.Found.{Found}
-use Rattle.sbpl_report.specs.declared.record.PlanRecord.{PlanRecord}
-use Rattle.sbpl_report.specs.declared.record.Spot.{Spot}
+use Rattle.sbpl_promises.specs.sbpl_desk.Desk.{Appends, DeskState}
+use Rattle.sbpl_promises.specs.sbpl_job.declared.job.Outputs.{Outputs}
+use Rattle.sbpl_promises.specs.sbpl_job.declared.job.SearchJob.{SearchJob}
+use Rattle.sbpl_promises.specs.sbpl_plan.declared.found.Found.{Found}
+use Rattle.sbpl_promises.specs.sbpl_report.declared.record.PlanRecord.{PlanRecord}
+use Rattle.sbpl_promises.specs.sbpl_report.declared.record.Spot.{Spot}
 use Rattle.sbpl_promises.specs.Asked.{known}
 use Rattle.sbpl_promises.specs.Headline.{ArePlans}
 use Rattle.sbpl_promises.specs.Intents.{plans_writes}

@@ -1,14 +1,14 @@
 -- How the records of plans are told in the headline's words, whatever a place is.
 use Rattle.std.proofs.Common.{◌≡◌, ◌==◌, false, refl, ℕ, suc, List, [], ◌∷◌, map, codes, decimal}
 use Rattle.std.specs.List.{AllByRecursion, list_any}
-use Rattle.sbpl_fixed.specs.Printed.{milli_text}
-use Rattle.sbpl_plan.specs.declared.found.Found.{Found}
-use Rattle.sbpl_plan.specs.declared.found.Found.TheVariants as found
-use Rattle.sbpl_plan.specs.declared.passes.Pass.{Pass}
-use Rattle.sbpl_report.specs.declared.record.PlanRecord.{PlanRecord}
-use Rattle.sbpl_report.specs.declared.record.Spot.{Spot}
-use Rattle.sbpl_report.specs.declared.record.Spot.TheVariants as spot
-use Rattle.sbpl_report.specs.declared.record.TraceLine.{TraceLine}
+use Rattle.sbpl_promises.specs.sbpl_fixed.Printed.{milli_text}
+use Rattle.sbpl_promises.specs.sbpl_plan.declared.found.Found.{Found}
+use Rattle.sbpl_promises.specs.sbpl_plan.declared.found.Found.TheVariants as found
+use Rattle.sbpl_promises.specs.sbpl_plan.declared.passes.Pass.{Pass}
+use Rattle.sbpl_promises.specs.sbpl_report.declared.record.PlanRecord.{PlanRecord}
+use Rattle.sbpl_promises.specs.sbpl_report.declared.record.Spot.{Spot}
+use Rattle.sbpl_promises.specs.sbpl_report.declared.record.Spot.TheVariants as spot
+use Rattle.sbpl_promises.specs.sbpl_report.declared.record.TraceLine.{TraceLine}
 use Rattle.sbpl_headline.specs.Grid.{Square}
 use Rattle.sbpl_headline.specs.Path as told
 use Rattle.sbpl_headline.specs.Path.{Plan}

@@ -5,22 +5,22 @@ use Rattle.std.proofs.Common.{subst, ◌∙◌, append_assoc, append-nil}
 use Rattle.std.proofs.lemmas.Grind.{flat_map-append}
 use Rattle.std.proofs.lemmas.List.{length-map}
 use Rattle.std.proofs.lemmas.Slice.Eq.{bytes_eq-Decides}
-use Rattle.sbpl_cfg.specs.declared.pose.Place.{Place}
-use Rattle.sbpl_fixed.specs.Printed.{line_text, milli_text, point_text}
-use Rattle.sbpl_job.specs.declared.job.Outputs.{Outputs}
-use Rattle.sbpl_plan.specs.declared.found.Found.{Found}
-use Rattle.sbpl_plan.specs.declared.found.Found.TheVariants as found
-use Rattle.sbpl_plan.specs.declared.passes.Pass.{Pass}
-use Rattle.sbpl_plan.specs.declared.result.Outcome.{Outcome}
-use Rattle.sbpl_plan.specs.declared.result.Outcome.TheVariants as outcome
-use Rattle.sbpl_report.specs.declared.record.PathRecord.{PathRecord}
-use Rattle.sbpl_report.specs.declared.record.PathStep.{PathStep}
-use Rattle.sbpl_report.specs.declared.record.PlanRecord.{PlanRecord}
-use Rattle.sbpl_report.specs.declared.record.Spot.{Spot}
-use Rattle.sbpl_report.specs.declared.record.Spot.TheVariants as spot
-use Rattle.sbpl_report.specs.declared.record.TraceLine.{TraceLine}
-use Rattle.sbpl_report.specs.Report.{found_text, line_feed, outcome_text, pass_text, path_text, place_text}
-use Rattle.sbpl_report.specs.Report.{section_text, spent_text, spot_text, step_text}
+use Rattle.sbpl_promises.specs.sbpl_cfg.declared.pose.Place.{Place}
+use Rattle.sbpl_promises.specs.sbpl_fixed.Printed.{line_text, milli_text, point_text}
+use Rattle.sbpl_promises.specs.sbpl_job.declared.job.Outputs.{Outputs}
+use Rattle.sbpl_promises.specs.sbpl_plan.declared.found.Found.{Found}
+use Rattle.sbpl_promises.specs.sbpl_plan.declared.found.Found.TheVariants as found
+use Rattle.sbpl_promises.specs.sbpl_plan.declared.passes.Pass.{Pass}
+use Rattle.sbpl_promises.specs.sbpl_plan.declared.result.Outcome.{Outcome}
+use Rattle.sbpl_promises.specs.sbpl_plan.declared.result.Outcome.TheVariants as outcome
+use Rattle.sbpl_promises.specs.sbpl_report.declared.record.PathRecord.{PathRecord}
+use Rattle.sbpl_promises.specs.sbpl_report.declared.record.PathStep.{PathStep}
+use Rattle.sbpl_promises.specs.sbpl_report.declared.record.PlanRecord.{PlanRecord}
+use Rattle.sbpl_promises.specs.sbpl_report.declared.record.Spot.{Spot}
+use Rattle.sbpl_promises.specs.sbpl_report.declared.record.Spot.TheVariants as spot
+use Rattle.sbpl_promises.specs.sbpl_report.declared.record.TraceLine.{TraceLine}
+use Rattle.sbpl_promises.specs.sbpl_report.Report.{found_text, line_feed, outcome_text, pass_text, path_text, place_text}
+use Rattle.sbpl_promises.specs.sbpl_report.Report.{section_text, spent_text, spot_text, step_text}
 use Rattle.sbpl_promises.specs.Intents.{end_writes, plans_writes, section_writes}
 use Rattle.sbpl_promises.specs.Intents.{incumbent_writes, labels_writes, trace_writes}
 use Rattle.sbpl_promises.specs.Writing.{Write, output, text_under, to_named}

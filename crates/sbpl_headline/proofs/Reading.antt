@@ -5,18 +5,18 @@ use Rattle.std.specs.Prelude.{take_while}
 use Rattle.std.specs.List.{AllZip, flat_map, onto_first, slice_split}
 use Rattle.std.proofs.lemmas.Bool.{cases_Bool, lt-ltb}
 use Rattle.std.proofs.lemmas.List.{map-append}
-use Rattle.sbpl_fixed.specs.Tokens.{Piece, is_blank, is_filled, tokens, tokens_past}
-use Rattle.sbpl_cfg.specs.Environment.{Environment}
-use Rattle.sbpl_cfg.specs.declared.pose.Pose.{Pose}
-use Rattle.sbpl_cfg.specs.Text.{words_of}
-use Rattle.sbpl_cfg.specs.Text as environments
-use Rattle.sbpl_mprim.specs.declared.prim.Primitive.{Primitive}
-use Rattle.sbpl_mprim.specs.Primitives.{Primitives}
-use Rattle.sbpl_mprim.specs.Text as primitives
-use Rattle.sbpl_map.specs.CellMap.{CellMap}
-use Rattle.sbpl_map.specs.ChangeText.{Given}
-use Rattle.sbpl_nav2d.specs.Environment.{NavEnvironment, column_of, row_of}
-use Rattle.sbpl_nav2d.specs.Text as grids
+use Rattle.sbpl_promises.specs.sbpl_fixed.Tokens.{Piece, is_blank, is_filled, tokens, tokens_past}
+use Rattle.sbpl_promises.specs.sbpl_cfg.Environment.{Environment}
+use Rattle.sbpl_promises.specs.sbpl_cfg.declared.pose.Pose.{Pose}
+use Rattle.sbpl_promises.specs.sbpl_cfg.Text.{words_of}
+use Rattle.sbpl_promises.specs.sbpl_cfg.Text as environments
+use Rattle.sbpl_promises.specs.sbpl_mprim.declared.prim.Primitive.{Primitive}
+use Rattle.sbpl_promises.specs.sbpl_mprim.Primitives.{Primitives}
+use Rattle.sbpl_promises.specs.sbpl_mprim.Text as primitives
+use Rattle.sbpl_promises.specs.sbpl_map.CellMap.{CellMap}
+use Rattle.sbpl_promises.specs.sbpl_map.ChangeText.{Given}
+use Rattle.sbpl_promises.specs.sbpl_nav2d.Environment.{NavEnvironment, column_of, row_of}
+use Rattle.sbpl_promises.specs.sbpl_nav2d.Text as grids
 use Rattle.sbpl_promises.specs.Texts as promised
 use Rattle.sbpl_headline.specs.Files.{IsEnvironmentText, IsPrimitiveText, Means, Said, Says, between, environment_words}
 use Rattle.sbpl_headline.specs.Files.{modulo, nano, number, primitive_words, word}

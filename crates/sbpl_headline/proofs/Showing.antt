@@ -2,19 +2,19 @@
 use Rattle.std.proofs.Common.{◌≡◌, ◌↔◌, ℕ, ℤ, List, [], ◌∷◌, length, map, codes, Some}
 use Rattle.std.proofs.Common.{refl, ap, subst, ◌∙◌}
 use Rattle.std.proofs.lemmas.List.{length-map}
-use Rattle.sbpl_cfg.specs.Environment.{IsPlaceOf}
-use Rattle.sbpl_cost.specs.States.{place_of}
-use Rattle.sbpl_cost.specs.World.{World, over_map}
-use Rattle.sbpl_desk.specs.Desk.{DeskState}
-use Rattle.sbpl_job.specs.Forms.{PartsAreOfForms}
-use Rattle.sbpl_job.specs.Jobs.{job_of, may_move}
-use Rattle.sbpl_job.specs.declared.job.Job.TheVariants as job
-use Rattle.sbpl_job.specs.declared.job.NavJob.{NavJob}
-use Rattle.sbpl_job.specs.declared.job.PlanJob.{PlanJob}
-use Rattle.sbpl_map.specs.CellMap.{CellMap, cost_at}
-use Rattle.sbpl_map.specs.ChangeText.{Given, writes_of}
-use Rattle.sbpl_map.specs.MapAfter.{IsMapAfter}
-use Rattle.sbpl_nav2d.specs.World.{GridWorld}
+use Rattle.sbpl_promises.specs.sbpl_cfg.Environment.{IsPlaceOf}
+use Rattle.sbpl_promises.specs.sbpl_cost.States.{place_of}
+use Rattle.sbpl_promises.specs.sbpl_cost.World.{World, over_map}
+use Rattle.sbpl_promises.specs.sbpl_desk.Desk.{DeskState}
+use Rattle.sbpl_promises.specs.sbpl_job.Forms.{PartsAreOfForms}
+use Rattle.sbpl_promises.specs.sbpl_job.Jobs.{job_of, may_move}
+use Rattle.sbpl_promises.specs.sbpl_job.declared.job.Job.TheVariants as job
+use Rattle.sbpl_promises.specs.sbpl_job.declared.job.NavJob.{NavJob}
+use Rattle.sbpl_promises.specs.sbpl_job.declared.job.PlanJob.{PlanJob}
+use Rattle.sbpl_promises.specs.sbpl_map.CellMap.{CellMap, cost_at}
+use Rattle.sbpl_promises.specs.sbpl_map.ChangeText.{Given, writes_of}
+use Rattle.sbpl_promises.specs.sbpl_map.MapAfter.{IsMapAfter}
+use Rattle.sbpl_promises.specs.sbpl_nav2d.World.{GridWorld}
 use Rattle.sbpl_promises.specs.Causes.{grid_files, grid_scope, plan_files, scope_of}
 use Rattle.sbpl_promises.specs.Promises.{AtJob, IsDone, IsReported}
 use Rattle.sbpl_promises.specs.Published.{Entry}

@@ -6,13 +6,13 @@ use Rattle.std.proofs.Common.{refl, sym, ap, subst, subst₂, ◌∙◌, inl, in
 use Rattle.std.specs.List.{AllByRecursion, cons_option, filter_map, flat_map, last_or}
 use Rattle.std.proofs.lemmas.Grind.{flat_map-append}
 use Rattle.std.proofs.lemmas.Option.{none-some, same_Some}
-use Rattle.sbpl_cfg.specs.declared.pose.Place.{Place}
-use Rattle.sbpl_cfg.specs.Environment.{IsEnvironment, IsPlaceOf}
-use Rattle.sbpl_cost.specs.States.{state_number}
-use Rattle.sbpl_cost.specs.States as states
-use Rattle.sbpl_cost.specs.World.{World}
-use Rattle.sbpl_map.specs.CellMap.{CellMap}
-use Rattle.sbpl_map.specs.ChangeText.{ArePlacesOnMap, Given, IsPlaceOnMap, place_in, place_of}
+use Rattle.sbpl_promises.specs.sbpl_cfg.declared.pose.Place.{Place}
+use Rattle.sbpl_promises.specs.sbpl_cfg.Environment.{IsEnvironment, IsPlaceOf}
+use Rattle.sbpl_promises.specs.sbpl_cost.States.{state_number}
+use Rattle.sbpl_promises.specs.sbpl_cost.States as states
+use Rattle.sbpl_promises.specs.sbpl_cost.World.{World}
+use Rattle.sbpl_promises.specs.sbpl_map.CellMap.{CellMap}
+use Rattle.sbpl_promises.specs.sbpl_map.ChangeText.{ArePlacesOnMap, Given, IsPlaceOnMap, place_in, place_of}
 use Rattle.sbpl_promises.specs.Causes.{scope_of}
 use Rattle.sbpl_promises.specs.LatticeSite.{IsStateOf, lattice_wording}
 use Rattle.sbpl_promises.specs.Sites.{start_after}

@@ -5,19 +5,19 @@ use Rattle.std.proofs.Math.Nat.{div-lt_iff_lt-mul, mul_comm}
 use Rattle.std.proofs.lemmas.Int.{ints}
 use Rattle.std.proofs.lemmas.Nat.{div-mul-add, div-add-mod', mod-mul-add}
 use Rattle.std.proofs.lemmas.Option.{same_Some}
-use Rattle.sbpl_graph.specs.Network.{IsFreeArc, Network}
-use Rattle.sbpl_graph.specs.Path.{IsFreePath}
-use Rattle.sbpl_map.specs.CellMap.{cost_at}
-use Rattle.sbpl_nav2d.specs.Arc.{IsFreeAt, IsGridArc, IsGridNetwork, IsStateAt, at_end, at_source}
-use Rattle.sbpl_nav2d.specs.Arc.{cell_of, cost_from}
-use Rattle.sbpl_nav2d.specs.Directions.{direction, moved}
-use Rattle.sbpl_nav2d.specs.Environment.{column_of, row_of}
-use Rattle.sbpl_nav2d.specs.World.{GridWorld, IsGridWorld}
-use Rattle.sbpl_plan.specs.declared.result.Outcome.{Outcome}
-use Rattle.sbpl_plan.specs.declared.result.Outcome.TheVariants as outcome
-use Rattle.sbpl_report.specs.declared.record.PathRecord.{PathRecord}
-use Rattle.sbpl_report.specs.declared.record.PathStep.{PathStep}
-use Rattle.sbpl_report.specs.declared.record.PlanRecord.{PlanRecord}
+use Rattle.sbpl_promises.specs.sbpl_graph.Network.{IsFreeArc, Network}
+use Rattle.sbpl_promises.specs.sbpl_graph.Path.{IsFreePath}
+use Rattle.sbpl_promises.specs.sbpl_map.CellMap.{cost_at}
+use Rattle.sbpl_promises.specs.sbpl_nav2d.Arc.{IsFreeAt, IsGridArc, IsGridNetwork, IsStateAt, at_end, at_source}
+use Rattle.sbpl_promises.specs.sbpl_nav2d.Arc.{cell_of, cost_from}
+use Rattle.sbpl_promises.specs.sbpl_nav2d.Directions.{direction, moved}
+use Rattle.sbpl_promises.specs.sbpl_nav2d.Environment.{column_of, row_of}
+use Rattle.sbpl_promises.specs.sbpl_nav2d.World.{GridWorld, IsGridWorld}
+use Rattle.sbpl_promises.specs.sbpl_plan.declared.result.Outcome.{Outcome}
+use Rattle.sbpl_promises.specs.sbpl_plan.declared.result.Outcome.TheVariants as outcome
+use Rattle.sbpl_promises.specs.sbpl_report.declared.record.PathRecord.{PathRecord}
+use Rattle.sbpl_promises.specs.sbpl_report.declared.record.PathStep.{PathStep}
+use Rattle.sbpl_promises.specs.sbpl_report.declared.record.PlanRecord.{PlanRecord}
 use Rattle.sbpl_promises.specs.GridSite.{grid_site}
 use Rattle.sbpl_promises.specs.Headline.{AreSteps, IsKnownWithin, IsNoneThere, IsWithinBound, Joins}
 use Rattle.sbpl_promises.specs.Headline.{KeepsPromises}

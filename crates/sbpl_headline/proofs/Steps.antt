@@ -1,10 +1,10 @@
 -- How the steps and the result of a plan's record are told in the headline's words, whatever a place is.
 use Rattle.std.specs.Prelude.{List, map}
-use Rattle.sbpl_plan.specs.declared.result.Outcome.{Outcome}
-use Rattle.sbpl_plan.specs.declared.result.Outcome.TheVariants as outcome
-use Rattle.sbpl_report.specs.declared.record.PathRecord.{PathRecord}
-use Rattle.sbpl_report.specs.declared.record.PathStep.{PathStep}
-use Rattle.sbpl_report.specs.declared.record.Spot.{Spot}
+use Rattle.sbpl_promises.specs.sbpl_plan.declared.result.Outcome.{Outcome}
+use Rattle.sbpl_promises.specs.sbpl_plan.declared.result.Outcome.TheVariants as outcome
+use Rattle.sbpl_promises.specs.sbpl_report.declared.record.PathRecord.{PathRecord}
+use Rattle.sbpl_promises.specs.sbpl_report.declared.record.PathStep.{PathStep}
+use Rattle.sbpl_promises.specs.sbpl_report.declared.record.Spot.{Spot}
 use Rattle.sbpl_headline.specs.Path.{Step, Result, Path, NoPath, Unknown}
 
 -- a step, where each spot stands for a place

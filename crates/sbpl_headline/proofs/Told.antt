@@ -2,9 +2,9 @@
 use Rattle.std.proofs.Common.{inl, inr}
 use Rattle.std.specs.Prelude.{ℕ, List, map, take}
 use Rattle.std.specs.List.{flat_map}
-use Rattle.sbpl_map.specs.CellMap.{CellMap}
-use Rattle.sbpl_map.specs.ChangeText.{Given}
-use Rattle.sbpl_nav2d.specs.Environment.{column_of, row_of}
+use Rattle.sbpl_promises.specs.sbpl_map.CellMap.{CellMap}
+use Rattle.sbpl_promises.specs.sbpl_map.ChangeText.{Given}
+use Rattle.sbpl_promises.specs.sbpl_nav2d.Environment.{column_of, row_of}
 use Rattle.sbpl_headline.specs.Files.{Line, Cell, Start}
 use Rattle.sbpl_headline.specs.Grid.{Square}
 use Rattle.sbpl_headline.specs.Map.{Map}

@@ -4,11 +4,11 @@ use Rattle.std.specs.Int.{int_rem_euclid}
 use Rattle.std.specs.Int.RustNames.{unsigned_abs}
 use Rattle.std.specs.List.{AllZip, filter, flat_map, slice_split}
 use Rattle.std.specs.Str.Lines.{lines}
-use Rattle.sbpl_fixed.specs.Tokens.{is_blank}
-use Rattle.sbpl_cfg.specs.Environment.{Environment}
-use Rattle.sbpl_cfg.specs.declared.pose.Place.{Place}
-use Rattle.sbpl_mprim.specs.declared.prim.Primitive.{Primitive}
-use Rattle.sbpl_map.specs.Fields.{is_parting}
+use Rattle.sbpl_promises.specs.sbpl_fixed.Tokens.{is_blank}
+use Rattle.sbpl_promises.specs.sbpl_cfg.Environment.{Environment}
+use Rattle.sbpl_promises.specs.sbpl_cfg.declared.pose.Place.{Place}
+use Rattle.sbpl_promises.specs.sbpl_mprim.declared.prim.Primitive.{Primitive}
+use Rattle.sbpl_promises.specs.sbpl_map.Fields.{is_parting}
 use Rattle.sbpl_headline.specs.Numbers.{IsNanos, IsNumber}
 
 -- what a word says: this word, this whole number, this number of billionths, or a whole number that is `to` modulo n

@@ -1,7 +1,7 @@
 -- The steps of a grid and its environment file, in plain words.
 use Rattle.std.specs.Prelude.{◌≡◌, ℕ, ℤ, pos, ◌+◌, ◌*◌, ◌<◌, ◌≤◌, ◌+ℤ◌, List, ◌∷◌, map, codes}
-use Rattle.sbpl_nav2d.specs.Arc.{IsReadAt}
-use Rattle.sbpl_nav2d.specs.Directions.{direction, step_cost}
+use Rattle.sbpl_promises.specs.sbpl_nav2d.Arc.{IsReadAt}
+use Rattle.sbpl_promises.specs.sbpl_nav2d.Directions.{direction, step_cost}
 use Rattle.sbpl_headline.specs.Files.{Says, word, number}
 use Rattle.sbpl_headline.specs.Map.{Costs, IsBelow, Map}
 use Rattle.sbpl_headline.specs.Path.{Step}

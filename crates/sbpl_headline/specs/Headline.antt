@@ -2,10 +2,10 @@
 use Rattle.std.specs.Prelude.{◌≡◌, ◌⊎◌, ◌^◌, ℕ, suc, List, [], ◌∷◌, length, take, Some, MatchOption, IfSome, slice_get, sum_by, codes}
 use Rattle.std.specs.List.{flat_map}
 use Rattle.std.specs.Io.KnownBytes.{Appends}
-use Rattle.sbpl_cfg.specs.Environment.{Environment, IsPlaceOf}
-use Rattle.sbpl_cfg.specs.declared.pose.Place.{Place}
-use Rattle.sbpl_desk.specs.Desk.{DeskState, Told}
-use Rattle.sbpl_mprim.specs.declared.prim.Primitive.{Primitive}
+use Rattle.sbpl_promises.specs.sbpl_cfg.Environment.{Environment, IsPlaceOf}
+use Rattle.sbpl_promises.specs.sbpl_cfg.declared.pose.Place.{Place}
+use Rattle.sbpl_promises.specs.sbpl_desk.Desk.{DeskState, Told}
+use Rattle.sbpl_promises.specs.sbpl_mprim.declared.prim.Primitive.{Primitive}
 use Rattle.sbpl_headline.specs.Files.{IsChangeText, IsEnvironmentText, IsPrimitiveText, Line}
 use Rattle.sbpl_headline.specs.Grid as grid
 use Rattle.sbpl_headline.specs.Map.{Map}

@@ -1,7 +1,7 @@
 -- That runs keep the headline.
 use Rattle.std.specs.Prelude.{ℕ, List}
-use Rattle.sbpl_desk.specs.Desk.{DeskState}
-use Rattle.sbpl_job.specs.Jobs.{job_of}
+use Rattle.sbpl_promises.specs.sbpl_desk.Desk.{DeskState}
+use Rattle.sbpl_promises.specs.sbpl_job.Jobs.{job_of}
 use Rattle.sbpl_promises.specs.Published.{Entry}
 use Rattle.sbpl_promises.specs.RunPromises.{RunPromises}
 use Rattle.sbpl_headline.specs.Headline.{IsHeadline}

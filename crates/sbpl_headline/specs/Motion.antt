@@ -1,10 +1,10 @@
 -- The motions of a lattice, in plain words.
 use Rattle.std.specs.Prelude.{◌≡◌, ◌⊎◌, ℕ, ℤ, pos, ◌+◌, ◌*◌, ◌≤◌, ◌+ℤ◌, min, List, [], ◌∷◌, slice_get, Some, None, MatchOption}
 use Rattle.std.specs.List.{flat_map, last_or}
-use Rattle.sbpl_cfg.specs.Environment.{Environment, IsPlaceOf}
-use Rattle.sbpl_cfg.specs.declared.pose.Place.{Place}
-use Rattle.sbpl_mprim.specs.declared.prim.Primitive.{Primitive}
-use Rattle.sbpl_sweep.specs.Sweep.{IsCentre, IsSwept}
+use Rattle.sbpl_promises.specs.sbpl_cfg.Environment.{Environment, IsPlaceOf}
+use Rattle.sbpl_promises.specs.sbpl_cfg.declared.pose.Place.{Place}
+use Rattle.sbpl_promises.specs.sbpl_mprim.declared.prim.Primitive.{Primitive}
+use Rattle.sbpl_promises.specs.sbpl_sweep.Sweep.{IsCentre, IsSwept}
 use Rattle.sbpl_headline.specs.Cost.{cost_of}
 use Rattle.sbpl_headline.specs.Files.{Line, Cell, Start}
 use Rattle.sbpl_headline.specs.Map.{Costs, IsBelow, Map}

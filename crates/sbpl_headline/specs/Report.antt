@@ -1,8 +1,8 @@
 -- The report, in plain words.
 use Rattle.std.specs.Prelude.{ℕ, suc, List, [], ◌∷◌, ◌++◌, length, Option, Some, None, codes, decimal}
 use Rattle.std.specs.List.{flat_map}
-use Rattle.sbpl_cfg.specs.declared.pose.Place.{Place}
-use Rattle.sbpl_fixed.specs.Printed.{line_text, point_text}
+use Rattle.sbpl_promises.specs.sbpl_cfg.declared.pose.Place.{Place}
+use Rattle.sbpl_promises.specs.sbpl_fixed.Printed.{line_text, point_text}
 use Rattle.sbpl_headline.specs.Grid.{Square}
 use Rattle.sbpl_headline.specs.Path.{Pass, Plan, Result, Path, NoPath, Unknown}
 

@@ -2,7 +2,7 @@
 
 ghost use Rattle.sbpl_headline.specs.Law.{PromisesShowHeadline};
 
-use sbpl_job::words_part_into_forms;
+use sbpl_promises::words_part_into_forms;
 
 /// What a run promises shows the headline, in its own plain words. It does nothing.
 pub fn promises_show_the_headline()

@@ -7,10 +7,10 @@ use Rattle.std.proofs.lemmas.Bool.{cases_eq}
 use Rattle.std.proofs.lemmas.Int.{ints}
 use Rattle.std.proofs.lemmas.Nat.{div-add-mod', div-mul-add, mod-mul-add}
 use Rattle.std.proofs.lemmas.Option.{slice_get_within, same_Some, cond_some, option_and_then_some}
-use Rattle.sbpl_graph.specs.Network.{IsFreeArc}
-use Rattle.sbpl_graph.specs.Laws.{IsConsistent, HasGaps}
-use Rattle.sbpl_mprim.specs.declared.prim.Primitive.{Primitive}
-use Rattle.sbpl_map.specs.CellMap.{CellMap, index_in, cost_at}
+use Rattle.sbpl_serial.specs.sbpl_graph.Network.{IsFreeArc}
+use Rattle.sbpl_serial.specs.sbpl_graph.Laws.{IsConsistent, HasGaps}
+use Rattle.sbpl_cost.specs.sbpl_mprim.declared.prim.Primitive.{Primitive}
+use Rattle.sbpl_cost.specs.sbpl_map.CellMap.{CellMap, index_in, cost_at}
 use Rattle.sbpl_cost.specs.PrimitiveCost.{primitive_cost}
 use Rattle.sbpl_cost.specs.States.{place_of, state_count}
 use Rattle.sbpl_cost.specs.World.{World, IsWorld}

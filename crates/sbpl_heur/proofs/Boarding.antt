@@ -8,9 +8,9 @@ use Rattle.std.proofs.lemmas.Bool.Decides.{nat_tests}
 use Rattle.std.proofs.lemmas.Grind.{merely}
 use Rattle.std.proofs.lemmas.Option.{cond_some, none-some, same_Some, slice_get_within}
 use Rattle.std.proofs.lemmas.Option.{slice_get-get_or, get_or_from_slice_get}
-use Rattle.sbpl_graph.specs.Network.{IsFreeArc}
-use Rattle.sbpl_graph.specs.Laws.{IsSound, HasExactTails, HasGaps}
-use Rattle.sbpl_cfg.specs.Environment.{Environment}
+use Rattle.sbpl_serial.specs.sbpl_graph.Network.{IsFreeArc}
+use Rattle.sbpl_serial.specs.sbpl_graph.Laws.{IsSound, HasExactTails, HasGaps}
+use Rattle.sbpl_cost.specs.sbpl_cfg.Environment.{Environment}
 use Rattle.sbpl_heur.specs.declared.hop.Hop.{Hop}
 use Rattle.sbpl_heur.specs.Boards.{Board, IsBoard, map_of, cell_count, cell_before, cell_after, step_cost, board_head}
 use Rattle.sbpl_heur.specs.Boards.{board_cost, board_tail, board_network}

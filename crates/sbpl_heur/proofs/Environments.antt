@@ -1,6 +1,6 @@
 -- Environments that agree in each number.
 use Rattle.std.proofs.Common.{◌≡◌, ap, ◌∙◌}
-use Rattle.sbpl_cfg.specs.Environment.{Environment}
+use Rattle.sbpl_cost.specs.sbpl_cfg.Environment.{Environment}
 
 pub same_environment : (e f : Environment) → e.width ≡ f.width → e.height ≡ f.height → e.obsthresh ≡ f.obsthresh
     → e.inscribed ≡ f.inscribed → e.circumscribed ≡ f.circumscribed → e.cell ≡ f.cell → e.speed ≡ f.speed

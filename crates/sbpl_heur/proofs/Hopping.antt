@@ -5,8 +5,8 @@ use Rattle.std.proofs.lemmas.Bool.{cases_lt, cases_eq}
 use Rattle.std.proofs.lemmas.Grind.{common_steps}
 use Rattle.std.proofs.lemmas.List.{length_push}
 use Rattle.std.proofs.lemmas.Option.{gets, slice_get_within, same_Some, none-some, get_or_from_slice_get}
-use Rattle.sbpl_cfg.specs.Environment.{Environment}
-use Rattle.sbpl_mprim.specs.declared.prim.Primitive.{Primitive}
+use Rattle.sbpl_cost.specs.sbpl_cfg.Environment.{Environment}
+use Rattle.sbpl_cost.specs.sbpl_mprim.declared.prim.Primitive.{Primitive}
 use Rattle.sbpl_cost.specs.PrimitiveCost.{primitive_cost}
 use Rattle.sbpl_heur.specs.declared.hop.Hop.{Hop}
 use Rattle.sbpl_heur.specs.Walks.{Moves}

@@ -6,7 +6,7 @@ use Rattle.std.proofs.lemmas.Bool.Decides.{nat_tests}
 use Rattle.std.proofs.lemmas.Option.{cond_some, none-some}
 use Rattle.std.proofs.lemmas.Int.{ints}
 use Rattle.std.proofs.lemmas.Nat.{div-add-mod', div_below, mod_below, div-mul-add, mod-mul-add, mul-add-lt}
-use Rattle.sbpl_cfg.specs.Environment.{Environment}
+use Rattle.sbpl_cost.specs.sbpl_cfg.Environment.{Environment}
 use Rattle.sbpl_cost.specs.States.{IsOff}
 use Rattle.sbpl_heur.specs.declared.hop.Hop.{Hop}
 use Rattle.sbpl_heur.specs.Walks.{LiesFrom}

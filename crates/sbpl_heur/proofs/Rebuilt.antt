@@ -5,9 +5,9 @@ use Rattle.std.proofs.lemmas.Bool.{cases_lt}
 use Rattle.std.proofs.lemmas.List.{get_or_past, get_or-replicate, length-replicate}
 use Rattle.std.proofs.lemmas.Nat.{mod_below}
 use Rattle.std.proofs.lemmas.Option.{none-some}
-use Rattle.sbpl_graph.specs.Laws.{IsSound, HasGaps}
-use Rattle.sbpl_cfg.specs.Environment.{Environment}
-use Rattle.sbpl_map.specs.CellMap.{CellMap}
+use Rattle.sbpl_serial.specs.sbpl_graph.Laws.{IsSound, HasGaps}
+use Rattle.sbpl_cost.specs.sbpl_cfg.Environment.{Environment}
+use Rattle.sbpl_cost.specs.sbpl_map.CellMap.{CellMap}
 use Rattle.sbpl_cost.specs.World.{World, IsWorld}
 use Rattle.sbpl_cost.specs.Arc.{HasLatticeArcs}
 use Rattle.sbpl_cost.specs.Lattices.{network_of, states_are}

@@ -4,12 +4,12 @@ use Rattle.std.proofs.Common.{Option, Some, None, refl, ap, sym, ◌∙◌, arit
 use Rattle.std.proofs.Math.Nat.{mul-le-mul_right}
 use Rattle.std.proofs.lemmas.Bool.{cases_eq, le-ltb, cond-false}
 use Rattle.std.proofs.lemmas.Option.{slice_get_within}
-use Rattle.sbpl_graph.specs.declared.TheConstants.{FAR}
-use Rattle.sbpl_graph.specs.Certificate.{IsLabel, ShowBound}
-use Rattle.sbpl_labels.specs.Marks.{Marks, AreLabels, g_of, v_of, back_of}
-use Rattle.sbpl_open.specs.KeyOrder.{IsBelow}
-use Rattle.sbpl_search.specs.Query.{query}
-use Rattle.sbpl_search.specs.Ready.{AreUsable}
+use Rattle.sbpl_serial.specs.sbpl_graph.declared.TheConstants.{FAR}
+use Rattle.sbpl_serial.specs.sbpl_graph.Certificate.{IsLabel, ShowBound}
+use Rattle.sbpl_serial.specs.sbpl_labels.Marks.{Marks, AreLabels, g_of, v_of, back_of}
+use Rattle.sbpl_serial.specs.sbpl_open.KeyOrder.{IsBelow}
+use Rattle.sbpl_serial.specs.sbpl_search.Query.{query}
+use Rattle.sbpl_serial.specs.sbpl_search.Ready.{AreUsable}
 use Rattle.sbpl_serial.specs.Keys.{over_key, under_key}
 use Rattle.sbpl_serial.specs.Run.{IsAtRest}
 use Rattle.sbpl_heur.specs.Boards.{Board, IsBoard, cell_count, map_of, board_network}

@@ -1,8 +1,8 @@
 -- A gap is the greater of the gap between the cells and the gap between the headings.
 use Rattle.std.proofs.Common.{◌≡◌, ℕ, ◌+◌, ◌*◌, ◌/◌, ◌%◌, ◌<◌, ◌≤◌, max, refl, ap, sym, ◌∙◌, arith}
 use Rattle.std.proofs.lemmas.Nat.{div-mul-add, mod-mul-add, mod_below}
-use Rattle.sbpl_cfg.specs.declared.pose.Place.{Place}
-use Rattle.sbpl_cfg.specs.Environment.{Environment}
+use Rattle.sbpl_cost.specs.sbpl_cfg.declared.pose.Place.{Place}
+use Rattle.sbpl_cost.specs.sbpl_cfg.Environment.{Environment}
 use Rattle.sbpl_cost.specs.States.{place_of}
 use Rattle.sbpl_cost.specs.Gaps.{gap_of}
 use Rattle.sbpl_cost.specs.World.{World}

@@ -4,9 +4,9 @@ use Rattle.std.proofs.Common.{◌∙◌, arith, subst}
 use Rattle.std.specs.List.{All, Contains}
 use Rattle.std.proofs.Math.Nat.{mul-le-mul_right}
 use Rattle.std.proofs.lemmas.Bool.{cases_eq}
-use Rattle.sbpl_graph.specs.Fit.{FitCount}
-use Rattle.sbpl_graph.specs.Network.{IsFreeArc, HasSameArcs}
-use Rattle.sbpl_cfg.specs.Environment.{Environment}
+use Rattle.sbpl_serial.specs.sbpl_graph.Fit.{FitCount}
+use Rattle.sbpl_serial.specs.sbpl_graph.Network.{IsFreeArc, HasSameArcs}
+use Rattle.sbpl_cost.specs.sbpl_cfg.Environment.{Environment}
 use Rattle.sbpl_heur.specs.declared.hop.Hop.{Hop}
 use Rattle.sbpl_heur.specs.Boards.{Board, IsBoard, cell_count, cell_before, board_head, board_network}
 use Rattle.sbpl_heur.specs.Weights.{IsHopArc}

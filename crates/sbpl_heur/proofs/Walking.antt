@@ -2,10 +2,10 @@
 use Rattle.std.proofs.Common.{◌≡◌, ℕ, ◌*◌, ◌^◌, ◌<◌, ◌≤◌, inl, inr, min, List, [], ◌∷◌, slice_get, Some, sym}
 use Rattle.std.proofs.Common.{◌∙◌, arith, subst}
 use Rattle.std.proofs.lemmas.Bool.{cases_lt}
-use Rattle.sbpl_graph.specs.declared.TheConstants.{FAR}
-use Rattle.sbpl_cfg.specs.Environment.{Environment}
-use Rattle.sbpl_mprim.specs.declared.prim.Primitive.{Primitive}
-use Rattle.sbpl_map.specs.CellMap.{CellMap}
+use Rattle.sbpl_serial.specs.sbpl_graph.declared.TheConstants.{FAR}
+use Rattle.sbpl_cost.specs.sbpl_cfg.Environment.{Environment}
+use Rattle.sbpl_cost.specs.sbpl_mprim.declared.prim.Primitive.{Primitive}
+use Rattle.sbpl_cost.specs.sbpl_map.CellMap.{CellMap}
 use Rattle.sbpl_cost.specs.PrimitiveCost.{primitive_cost, most_cost}
 use Rattle.sbpl_heur.specs.declared.hop.Hop.{Hop}
 use Rattle.sbpl_heur.specs.Walks.{IsCellStep, IsCellArc, IsWalk, IsLeastWalk, IsFarthest, HasNoWalk, IsCellBound}

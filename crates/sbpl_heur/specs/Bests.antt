@@ -1,9 +1,9 @@
 -- The heuristic: the cell bound joined with the gap.
 use Rattle.std.specs.Prelude.{◌≡◌, ℕ, ◌*◌, ◌/◌, ◌%◌, ◌^◌, ◌<◌, ◌≤◌, max, List, length, slice_index}
 use Rattle.std.proofs.Common.{arith, subst}
-use Rattle.sbpl_graph.specs.Network.{Network}
-use Rattle.sbpl_graph.specs.Laws.{IsConsistent}
-use Rattle.sbpl_cfg.specs.Environment.{Environment}
+use Rattle.sbpl_serial.specs.sbpl_graph.Network.{Network}
+use Rattle.sbpl_serial.specs.sbpl_graph.Laws.{IsConsistent}
+use Rattle.sbpl_cost.specs.sbpl_cfg.Environment.{Environment}
 use Rattle.sbpl_cost.specs.States.{state_count}
 use Rattle.sbpl_cost.specs.World.{World}
 use Rattle.sbpl_cost.specs.Lattices.{network_of}

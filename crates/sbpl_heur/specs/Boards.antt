@@ -1,8 +1,8 @@
 -- The cells of a map as a graph, for a search backwards.
 use Rattle.std.specs.Prelude.{◌≡◌, ℕ, ℤ, pos, negsuc, ◌+◌, ◌*◌, ◌/◌, ◌%◌, ◌≤◌, ◌+ℤ◌, ◌-ℤ◌, ◌&&◌, max, List, length, slice_get, slice_index, Option, Some, None, option_and_then, option_map, nat_lt, if◌then◌else◌}
-use Rattle.sbpl_graph.specs.Network.{Network}
-use Rattle.sbpl_cfg.specs.Environment.{Environment, IsEnvironment}
-use Rattle.sbpl_map.specs.CellMap.{CellMap}
+use Rattle.sbpl_serial.specs.sbpl_graph.Network.{Network}
+use Rattle.sbpl_cost.specs.sbpl_cfg.Environment.{Environment, IsEnvironment}
+use Rattle.sbpl_cost.specs.sbpl_map.CellMap.{CellMap}
 use Rattle.sbpl_cost.specs.PrimitiveCost.{most_cost}
 use Rattle.sbpl_heur.specs.declared.hop.Hop.{Hop}
 

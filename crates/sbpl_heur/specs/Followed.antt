@@ -1,9 +1,9 @@
 -- A search for the least weights that follows the map.
 use Rattle.std.specs.Prelude.{◌≡◌, ℕ, ◌+◌, ◌^◌, ◌<◌, ◌≤◌, List, length, Some}
 use Rattle.std.specs.List.{All, Contains}
-use Rattle.sbpl_labels.specs.Counts.{Counts}
-use Rattle.sbpl_labels.specs.Marks.{Marks}
-use Rattle.sbpl_search.specs.Ready.{AreUsable}
+use Rattle.sbpl_serial.specs.sbpl_labels.Counts.{Counts}
+use Rattle.sbpl_serial.specs.sbpl_labels.Marks.{Marks}
+use Rattle.sbpl_serial.specs.sbpl_search.Ready.{AreUsable}
 use Rattle.sbpl_serial.specs.Serial.{SerialState}
 use Rattle.sbpl_heur.specs.Boards.{Board, IsBoard, cell_count, board_head, board_network}
 

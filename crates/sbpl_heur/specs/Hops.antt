@@ -1,7 +1,7 @@
 -- The pairs by which primitives move.
 use Rattle.std.specs.Prelude.{◌≡◌, ℕ, ◌++◌, min, List, [], ◌∷◌, slice_get, slice_set, Some}
-use Rattle.sbpl_cfg.specs.Environment.{Environment}
-use Rattle.sbpl_mprim.specs.declared.prim.Primitive.{Primitive}
+use Rattle.sbpl_cost.specs.sbpl_cfg.Environment.{Environment}
+use Rattle.sbpl_cost.specs.sbpl_mprim.declared.prim.Primitive.{Primitive}
 use Rattle.sbpl_cost.specs.PrimitiveCost.{primitive_cost}
 use Rattle.sbpl_heur.specs.declared.hop.Hop.{Hop}
 use Rattle.sbpl_heur.specs.Walks.{IsLeastCost, Moves}

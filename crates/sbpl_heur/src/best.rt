@@ -3,7 +3,7 @@
 ghost use Rattle.std.specs.Prelude.{◌≡◌, ℕ, ◌*◌, ◌^◌, ◌<◌, ◌≤◌, IfOk, length, slice_index};
 ghost use Rattle.sbpl_cost.specs.World.{World};
 ghost use Rattle.sbpl_cost.specs.Lattices.{network_of};
-ghost use Rattle.sbpl_labels.specs.Marks.{g_of};
+ghost use Rattle.sbpl_serial.specs.sbpl_labels.Marks.{g_of};
 ghost use Rattle.sbpl_heur.specs.Boards.{cell_count};
 ghost use Rattle.sbpl_heur.specs.Bests.{IsBest, IsGuide, Fits, distance_in};
 
@@ -11,11 +11,8 @@ use crate::cap::{cap, turn};
 use crate::hop::Hop;
 use crate::hops::list_hops;
 use crate::walks::Walks;
-use sbpl_cfg::Env;
-use sbpl_cost::{Lattice, lattice_has_its_arcs};
-use sbpl_fixed::NoMemory;
-use sbpl_graph::{Graph, Guide};
-use sbpl_terrain::Heuristic;
+use sbpl_cost::{Env, Heuristic, Lattice, lattice_has_its_arcs};
+use sbpl_serial::{Graph, Guide, NoMemory};
 use std::alloc::Global;
 use std::marker::Model;
 

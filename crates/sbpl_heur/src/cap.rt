@@ -1,12 +1,12 @@
 //! From the distances of cells to the bounds that a heuristic answers.
 
 ghost use Rattle.std.specs.Prelude.{◌≡◌, ◌+◌, ◌*◌, ◌^◌, ◌<◌, ◌≤◌, length, slice_index};
-ghost use Rattle.sbpl_graph.specs.Laws.{IsSound};
+ghost use Rattle.sbpl_serial.specs.sbpl_graph.Laws.{IsSound};
 ghost use Rattle.sbpl_cost.specs.Lattices.{network_of};
 ghost use Rattle.sbpl_heur.specs.Caps.{IsFarthestReached, IsCapped, AreTurns};
 
 use sbpl_cost::Lattice;
-use sbpl_graph::{FAR, Graph};
+use sbpl_serial::{FAR, Graph};
 
 /// The greatest distance of a cell that was reached, or 0 where none was.
 fn farthest(distances: &[u64]) -> u64

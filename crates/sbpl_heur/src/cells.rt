@@ -6,9 +6,8 @@ ghost use Rattle.sbpl_cost.specs.States.{IsOff};
 ghost use Rattle.sbpl_heur.specs.Boards.{IsBoard, cell_in, cell_before, cell_after, step_cost, cell_count};
 
 use crate::hop::Hop;
-use sbpl_cfg::{Env, Pose};
-use sbpl_fixed::NoMemory;
-use sbpl_graph::Graph;
+use sbpl_cost::{Env, Pose};
+use sbpl_serial::{Graph, NoMemory};
 use std::alloc::Global;
 use std::marker::Model;
 

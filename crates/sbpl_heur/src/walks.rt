@@ -1,20 +1,17 @@
 //! The least weights of walks of cells to a goal.
 
 ghost use Rattle.std.specs.Prelude.{◌≡◌, ℕ, ◌+◌, ◌*◌, ◌^◌, ◌<◌, ◌≤◌, IfOk, [], length, slice_index, slice_set, vec_capacity};
-ghost use Rattle.sbpl_graph.specs.Network.{Network};
-ghost use Rattle.sbpl_labels.specs.Marks.{states_of, g_of};
-ghost use Rattle.sbpl_search.specs.Ready.{AreUsable};
+ghost use Rattle.sbpl_serial.specs.sbpl_graph.Network.{Network};
+ghost use Rattle.sbpl_serial.specs.sbpl_labels.Marks.{states_of, g_of};
+ghost use Rattle.sbpl_serial.specs.sbpl_search.Ready.{AreUsable};
 ghost use Rattle.sbpl_heur.specs.Boards.{IsBoard, cell_count, map_of};
 ghost use Rattle.sbpl_heur.specs.Followed.{AreTouched, IsOnePlan};
 ghost use Rattle.sbpl_heur.specs.Weights.{AreLeast};
 
 use crate::cells::Cells;
 use crate::hop::Hop;
-use sbpl_cfg::Env;
-use sbpl_fixed::NoMemory;
-use sbpl_graph::{Graph, Zero};
-use sbpl_labels::Budget;
-use sbpl_serial::{Serial, exact_where_same};
+use sbpl_cost::Env;
+use sbpl_serial::{Budget, Graph, NoMemory, Serial, Zero, exact_where_same};
 use std::alloc::Global;
 use std::marker::Model;
 

@@ -1,26 +1,26 @@
 -- How a job ends, from how its reading, its planning and its writing end.
 use Rattle.std.proofs.Common.{◌≡◌, ℕ, ◌≤◌, List, Option, Some, ◌∙◌, subst, arith, inl, inr}
 use Rattle.std.proofs.lemmas.Bool.{cases_lt}
-use Rattle.sbpl_desk.specs.Desk.{NoneFalls, Rose}
-use Rattle.sbpl_job.specs.declared.job.Job.{Job}
-use Rattle.sbpl_job.specs.declared.job.Job.TheVariants as job
-use Rattle.sbpl_report.specs.declared.refusal.Input.TheVariants as input
-use Rattle.sbpl_report.specs.declared.refusal.Refusal.{Refusal}
-use Rattle.sbpl_report.specs.declared.refusal.Refusal.TheVariants as refusal
-use Rattle.sbpl_report.specs.declared.refusal.Stop.{Stop}
-use Rattle.sbpl_report.specs.declared.refusal.Stop.TheVariants as stop
-use Rattle.sbpl_promises.specs.Causes.{CausesStand, CheckStopsFor, EarlyStopsFor, IsFailedOn, IsJobCause, IsLabelsCause}
-use Rattle.sbpl_promises.specs.Causes.{IsTooLong, IsUnread, ReadsCourse}
-use Rattle.sbpl_promises.specs.WorldFiles.{WorldFiles}
-use Rattle.sbpl_promises.specs.declared.course.Course.{Course}
-use Rattle.sbpl_promises.specs.Intents.{BeginsAfter, published_by, Intent, Refused}
-use Rattle.sbpl_promises.specs.Intents.{intent_status, refusal_writes, writes_of}
-use Rattle.sbpl_report.specs.Refusals.{refusal_status}
-use Rattle.sbpl_promises.specs.Published.{Entry}
-use Rattle.sbpl_promises.specs.Promises.{GivesIntent, EndsJob, IsWrittenFor, MayBeWritten}
-use Rattle.sbpl_promises.specs.Writing.{DeskState, EndsAs, IsOutput, ReadFailed, ReadsOnly, StaysBut, WritesOnly}
-use Rattle.sbpl_telling.proofs.Writings.{ends_since}
-use Rattle.sbpl_worlds.proofs.Reading.{failed_since}
+use Rattle.sbpl_checks.specs.sbpl_desk.Desk.{NoneFalls, Rose}
+use Rattle.sbpl_checks.specs.sbpl_job.declared.job.Job.{Job}
+use Rattle.sbpl_checks.specs.sbpl_job.declared.job.Job.TheVariants as job
+use Rattle.sbpl_checks.specs.sbpl_report.declared.refusal.Input.TheVariants as input
+use Rattle.sbpl_checks.specs.sbpl_report.declared.refusal.Refusal.{Refusal}
+use Rattle.sbpl_checks.specs.sbpl_report.declared.refusal.Refusal.TheVariants as refusal
+use Rattle.sbpl_checks.specs.sbpl_report.declared.refusal.Stop.{Stop}
+use Rattle.sbpl_checks.specs.sbpl_report.declared.refusal.Stop.TheVariants as stop
+use Rattle.sbpl_checks.specs.sbpl_promises.Causes.{CausesStand, CheckStopsFor, EarlyStopsFor, IsFailedOn, IsJobCause, IsLabelsCause}
+use Rattle.sbpl_checks.specs.sbpl_promises.Causes.{IsTooLong, IsUnread, ReadsCourse}
+use Rattle.sbpl_checks.specs.sbpl_promises.WorldFiles.{WorldFiles}
+use Rattle.sbpl_checks.specs.sbpl_promises.declared.course.Course.{Course}
+use Rattle.sbpl_checks.specs.sbpl_promises.Intents.{BeginsAfter, published_by, Intent, Refused}
+use Rattle.sbpl_checks.specs.sbpl_promises.Intents.{intent_status, refusal_writes, writes_of}
+use Rattle.sbpl_checks.specs.sbpl_report.Refusals.{refusal_status}
+use Rattle.sbpl_checks.specs.sbpl_promises.Published.{Entry}
+use Rattle.sbpl_checks.specs.sbpl_promises.Promises.{GivesIntent, EndsJob, IsWrittenFor, MayBeWritten}
+use Rattle.sbpl_checks.specs.sbpl_promises.Writing.{DeskState, EndsAs, IsOutput, ReadFailed, ReadsOnly, StaysBut, WritesOnly}
+use Rattle.sbpl_checks.proofs.Writings.{ends_since}
+use Rattle.sbpl_checks.proofs.Reading.{failed_since}
 
 -- what rose has risen later too
 rose_later : (f g h : ℕ) → f ≤ g → g ≤ h → Rose f g → Rose f h

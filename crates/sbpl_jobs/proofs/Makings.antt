@@ -3,13 +3,13 @@ use Rattle.std.proofs.Common.{◌≡◌, ℕ, ◌+◌, ◌<◌, ◌≤◌, suc, 
 use Rattle.std.proofs.Common.{Err, refl, sym, ◌∙◌, ap, subst, append_assoc, add-one, drop-cons, arith}
 use Rattle.std.proofs.lemmas.List.{drop_all}
 use Rattle.std.proofs.lemmas.List.FromFn.{length-map-range_with_len, get_or-map-range_with_len}
-use Rattle.sbpl_desk.specs.Desk.{NoneFalls}
-use Rattle.sbpl_desk.specs.declared.desk.WriteStop.{WriteStop}
-use Rattle.sbpl_cost.specs.World.{World}
-use Rattle.sbpl_promises.specs.Intents.{last_write}
-use Rattle.sbpl_report.specs.Listing.{listing_at, listings}
-use Rattle.sbpl_promises.specs.Writing.{AreAppended, DeskState, EndsIn, IsOutput, Write, WritesOnly, to_output}
-use Rattle.sbpl_telling.proofs.Writings.{ends_after, ends_first, made_both, none_made}
+use Rattle.sbpl_checks.specs.sbpl_desk.Desk.{NoneFalls}
+use Rattle.sbpl_checks.specs.sbpl_desk.declared.desk.WriteStop.{WriteStop}
+use Rattle.sbpl_checks.specs.sbpl_cost.World.{World}
+use Rattle.sbpl_checks.specs.sbpl_promises.Intents.{last_write}
+use Rattle.sbpl_checks.specs.sbpl_report.Listing.{listing_at, listings}
+use Rattle.sbpl_checks.specs.sbpl_promises.Writing.{AreAppended, DeskState, EndsIn, IsOutput, Write, WritesOnly, to_output}
+use Rattle.sbpl_checks.proofs.Writings.{ends_after, ends_first, made_both, none_made}
 
 -- some of these writes were made, and these are left
 pub record Makes (before now : DeskState) (whole left : List Write) : Type 0 where

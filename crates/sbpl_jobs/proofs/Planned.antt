@@ -1,15 +1,15 @@
 -- The plans of a job, from how its planning ends.
 use Rattle.std.proofs.Common.{◌≡◌, ℕ, ◌+◌, ◌∙◌, List, None, length, ap, subst, arith}
-use Rattle.sbpl_job.specs.declared.job.Outputs.{Outputs}
-use Rattle.sbpl_job.specs.declared.job.SearchJob.{SearchJob}
-use Rattle.sbpl_promises.specs.Asked.{known}
-use Rattle.sbpl_promises.specs.Headline.{ArePlans, IsBrokenIn}
-use Rattle.sbpl_promises.specs.Promises.{EndsPlans}
-use Rattle.sbpl_promises.specs.Published.{Entry, with_paths, with_plans}
-use Rattle.sbpl_promises.specs.Sites.{Site, start_after}
-use Rattle.sbpl_promises.specs.Writing.{DeskState, Write}
-use Rattle.sbpl_promises.specs.declared.course.Course.{Course}
-use Rattle.sbpl_report.specs.declared.record.PlanRecord.{PlanRecord}
+use Rattle.sbpl_checks.specs.sbpl_job.declared.job.Outputs.{Outputs}
+use Rattle.sbpl_checks.specs.sbpl_job.declared.job.SearchJob.{SearchJob}
+use Rattle.sbpl_checks.specs.sbpl_promises.Asked.{known}
+use Rattle.sbpl_checks.specs.sbpl_promises.Headline.{ArePlans, IsBrokenIn}
+use Rattle.sbpl_checks.specs.sbpl_promises.Promises.{EndsPlans}
+use Rattle.sbpl_checks.specs.sbpl_promises.Published.{Entry, with_paths, with_plans}
+use Rattle.sbpl_checks.specs.sbpl_promises.Sites.{Site, start_after}
+use Rattle.sbpl_checks.specs.sbpl_promises.Writing.{DeskState, Write}
+use Rattle.sbpl_checks.specs.sbpl_promises.declared.course.Course.{Course}
+use Rattle.sbpl_checks.specs.sbpl_report.declared.record.PlanRecord.{PlanRecord}
 
 -- plans that begin on the map as it is, with nothing planned before
 module _ {W : Type 0} {on : Site W} {written_of : PlanRecord → List Write} {w : W} {how : SearchJob} {outputs : Outputs}

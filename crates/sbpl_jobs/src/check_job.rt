@@ -1,19 +1,16 @@
 //! The job `check`.
 
 ghost use Rattle.std.specs.Prelude.{◌≤◌, ◌^◌, List, IfErr, IfOk, OnErr};
-ghost use Rattle.sbpl_job.specs.declared.job.Job.TheVariants as Jobs;
-ghost use Rattle.sbpl_promises.specs.Causes.{AreRead, IsReadText, JobStopsFor, check_files};
-ghost use Rattle.sbpl_promises.specs.Published.{Entry};
-ghost use Rattle.sbpl_promises.specs.Promises.{EndsJob};
-ghost use Rattle.sbpl_promises.specs.Writing.{IsOutput, ReadsOnly, WritesOnly};
+ghost use Rattle.sbpl_checks.specs.sbpl_job.declared.job.Job.TheVariants as Jobs;
+ghost use Rattle.sbpl_checks.specs.sbpl_promises.Causes.{AreRead, IsReadText, JobStopsFor, check_files};
+ghost use Rattle.sbpl_checks.specs.sbpl_promises.Published.{Entry};
+ghost use Rattle.sbpl_checks.specs.sbpl_promises.Promises.{EndsJob};
+ghost use Rattle.sbpl_checks.specs.sbpl_promises.Writing.{IsOutput, ReadsOnly, WritesOnly};
 
-use sbpl_checks::check_either_way;
-use sbpl_cost::Lattice;
-use sbpl_desk::Desk;
-use sbpl_job::CheckJob;
-use sbpl_promises::Course;
-use sbpl_report::{Input, Stop};
-use sbpl_worlds::{Workspace, read_course, read_file};
+use sbpl_checks::{
+    CheckJob, Course, Desk, Input, Lattice, Stop, Workspace, check_either_way, read_course,
+    read_file,
+};
 use std::alloc::Global;
 
 /// The lattice, the course of the change file, and the text of the labels.

@@ -1,30 +1,23 @@
 //! The job `demo`: plans on an example that is drawn from a seed.
 
 ghost use Rattle.std.specs.Prelude.{◌≡◌, ◌^◌, ◌<◌, ◌∷◌, [], false, length};
-ghost use Rattle.sbpl_cost.specs.Lattices.{network_of};
-ghost use Rattle.sbpl_cost.specs.World.{IsWorld};
-ghost use Rattle.sbpl_demo.specs.Changes.{changes_drawn};
-ghost use Rattle.sbpl_job.specs.Jobs.{IsDemoJob};
-ghost use Rattle.sbpl_job.specs.declared.job.Job.TheVariants as Jobs;
-ghost use Rattle.sbpl_promises.specs.Causes.{IsCourseIn, IsDrawn, demo_search};
-ghost use Rattle.sbpl_promises.specs.LatticeSite.{lattice_site};
-ghost use Rattle.sbpl_promises.specs.Promises.{EndsJob};
-ghost use Rattle.sbpl_report.specs.Report.{demo_text};
-ghost use Rattle.sbpl_promises.specs.Texts.{still};
-ghost use Rattle.sbpl_promises.specs.Writing.{EndsIn, IsOutput, WritesOnly, to_output};
+ghost use Rattle.sbpl_checks.specs.sbpl_cost.Lattices.{network_of};
+ghost use Rattle.sbpl_checks.specs.sbpl_cost.World.{IsWorld};
+ghost use Rattle.sbpl_checks.specs.sbpl_demo.Changes.{changes_drawn};
+ghost use Rattle.sbpl_checks.specs.sbpl_job.Jobs.{IsDemoJob};
+ghost use Rattle.sbpl_checks.specs.sbpl_job.declared.job.Job.TheVariants as Jobs;
+ghost use Rattle.sbpl_checks.specs.sbpl_promises.Causes.{IsCourseIn, IsDrawn, demo_search};
+ghost use Rattle.sbpl_checks.specs.sbpl_promises.LatticeSite.{lattice_site};
+ghost use Rattle.sbpl_checks.specs.sbpl_promises.Promises.{EndsJob};
+ghost use Rattle.sbpl_checks.specs.sbpl_report.Report.{demo_text};
+ghost use Rattle.sbpl_checks.specs.sbpl_promises.Texts.{still};
+ghost use Rattle.sbpl_checks.specs.sbpl_promises.Writing.{EndsIn, IsOutput, WritesOnly, to_output};
 
-use sbpl_cost::Lattice;
-use sbpl_desk::{Desk, WriteStop};
-use sbpl_fixed::NoMemory;
-use sbpl_graph::Graph;
-use sbpl_incumbent::Publisher;
-use sbpl_job::{DemoJob, LabelForm, Outputs, Planner, SearchJob};
-use sbpl_map::Changes;
+use sbpl_checks::{
+    Changes, Course, DemoJob, Desk, Graph, LabelForm, Lattice, Lines, NoMemory, OUTPUT, Outputs,
+    Planner, Publisher, SearchJob, Workspace, WriteStop, demo_line, draw, status_after, write_text,
+};
 use sbpl_plans::{LiveBoard, Task, plans_by_adstar};
-use sbpl_promises::Course;
-use sbpl_report::demo_line;
-use sbpl_telling::{Lines, OUTPUT, status_after, write_text};
-use sbpl_worlds::{Workspace, draw};
 use std::alloc::Global;
 use std::sync::Wait;
 

@@ -1,24 +1,20 @@
 //! How a job ends: it is done or refused, and what came of it is written.
 
 ghost use Rattle.std.specs.Prelude.{◌≡◌, ◌^◌, ◌<◌, [], length, Some, IfErr, IfOk, OnErr};
-ghost use Rattle.sbpl_promises.specs.Run.{EndsJob, EndsRun, IsJob, Job, MayBeWritten, job_named, refusal_status, refusal_writes, words_writes};
-ghost use Rattle.sbpl_promises.specs.Causes.{JobStopsFor};
-ghost use Rattle.sbpl_promises.specs.Writing.{EndsAs, IsOutput, ReadsOnly, WritesOnly};
+ghost use Rattle.sbpl_checks.specs.sbpl_promises.Run.{EndsJob, EndsRun, IsJob, Job, MayBeWritten, job_named, refusal_status, refusal_writes, words_writes};
+ghost use Rattle.sbpl_checks.specs.sbpl_promises.Causes.{JobStopsFor};
+ghost use Rattle.sbpl_checks.specs.sbpl_promises.Writing.{EndsAs, IsOutput, ReadsOnly, WritesOnly};
 
 use crate::check_job::check_labels;
 use crate::demo_job::end_demo;
 use crate::nav_job::{check_nav, end_nav};
 use crate::plan_job::end_plan;
 use crate::sweep_job::end_sweep;
-use sbpl_desk::Desk;
-use sbpl_epase::Gate;
-use sbpl_fixed::NoMemory;
-use sbpl_incumbent::{Board, Publisher};
-use sbpl_job::{Job, JobFault, read_job};
+use sbpl_checks::{
+    Board, Desk, Gate, Job, JobFault, NoMemory, OUTPUT, Publisher, Refusal, Stop, causes_stand,
+    read_job, refusal_line, status_after, write_text,
+};
 use sbpl_plans::LiveBoard;
-use sbpl_promises::causes_stand;
-use sbpl_report::{Refusal, Stop, refusal_line};
-use sbpl_telling::{OUTPUT, status_after, write_text};
 use std::alloc::Global;
 use std::sync::Wait;
 use std::thread::Threads;

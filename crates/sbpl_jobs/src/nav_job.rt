@@ -1,23 +1,18 @@
 //! The jobs `nav` and `navcheck`.
 
 ghost use Rattle.std.specs.Prelude.{◌≡◌, ◌^◌, ◌<◌, List, length, IfErr, IfOk, OnErr};
-ghost use Rattle.sbpl_job.specs.Jobs.{IsJob};
-ghost use Rattle.sbpl_job.specs.declared.job.Job.TheVariants as Jobs;
-ghost use Rattle.sbpl_promises.specs.Causes.{AreRead, IsReadText, JobStopsFor, grid_files};
-ghost use Rattle.sbpl_promises.specs.Promises.{EndsJob};
-ghost use Rattle.sbpl_promises.specs.Published.{Entry};
-ghost use Rattle.sbpl_promises.specs.Writing.{IsOutput, IsOutputOf, ReadsOnly, WritesOnly};
+ghost use Rattle.sbpl_checks.specs.sbpl_job.Jobs.{IsJob};
+ghost use Rattle.sbpl_checks.specs.sbpl_job.declared.job.Job.TheVariants as Jobs;
+ghost use Rattle.sbpl_checks.specs.sbpl_promises.Causes.{AreRead, IsReadText, JobStopsFor, grid_files};
+ghost use Rattle.sbpl_checks.specs.sbpl_promises.Promises.{EndsJob};
+ghost use Rattle.sbpl_checks.specs.sbpl_promises.Published.{Entry};
+ghost use Rattle.sbpl_checks.specs.sbpl_promises.Writing.{IsOutput, IsOutputOf, ReadsOnly, WritesOnly};
 
-use sbpl_checks::{Forwards, check_text};
-use sbpl_desk::Desk;
-use sbpl_epase::Gate;
-use sbpl_incumbent::Publisher;
-use sbpl_job::{NavCheckJob, NavJob};
-use sbpl_nav2d::{Nav, Octile};
+use sbpl_checks::{
+    Course, Desk, Forwards, Gate, Input, Nav, NavCheckJob, NavJob, Octile, Publisher, Stop,
+    Workspace, check_text, read_file, read_grid_course,
+};
 use sbpl_plans::{LiveBoard, Task, plans_forwards};
-use sbpl_promises::Course;
-use sbpl_report::{Input, Stop};
-use sbpl_worlds::{Workspace, read_file, read_grid_course};
 use std::alloc::Global;
 use std::sync::Wait;
 use std::thread::Threads;

@@ -1,19 +1,14 @@
 //! The job `plan`.
 
 ghost use Rattle.std.specs.Prelude.{◌≡◌, ◌^◌, ◌<◌, length, IfErr, IfOk, OnErr};
-ghost use Rattle.sbpl_job.specs.Jobs.{IsJob};
-ghost use Rattle.sbpl_job.specs.declared.job.Job.TheVariants as Jobs;
-ghost use Rattle.sbpl_promises.specs.Causes.{JobStopsFor};
-ghost use Rattle.sbpl_promises.specs.Promises.{EndsJob};
-ghost use Rattle.sbpl_promises.specs.Writing.{IsOutputOf, ReadsOnly, WritesOnly};
+ghost use Rattle.sbpl_checks.specs.sbpl_job.Jobs.{IsJob};
+ghost use Rattle.sbpl_checks.specs.sbpl_job.declared.job.Job.TheVariants as Jobs;
+ghost use Rattle.sbpl_checks.specs.sbpl_promises.Causes.{JobStopsFor};
+ghost use Rattle.sbpl_checks.specs.sbpl_promises.Promises.{EndsJob};
+ghost use Rattle.sbpl_checks.specs.sbpl_promises.Writing.{IsOutputOf, ReadsOnly, WritesOnly};
 
-use sbpl_desk::Desk;
-use sbpl_epase::Gate;
-use sbpl_incumbent::Publisher;
-use sbpl_job::PlanJob;
+use sbpl_checks::{Desk, Gate, PlanJob, Publisher, Stop, Workspace, read_course};
 use sbpl_plans::{LiveBoard, Task, make_plans};
-use sbpl_report::Stop;
-use sbpl_worlds::{Workspace, read_course};
 use std::alloc::Global;
 use std::sync::Wait;
 use std::thread::Threads;

@@ -1,22 +1,19 @@
 //! The job `sweep`: the listing of what each primitive costs and sweeps.
 
 ghost use Rattle.std.specs.Prelude.{◌<◌, ◌∷◌, [], length, List, IfErr, IfOk, OnErr};
-ghost use Rattle.sbpl_promises.specs.Intents.{listing_writes};
-ghost use Rattle.sbpl_report.specs.Listing.{listing_at};
-ghost use Rattle.sbpl_promises.specs.Writing.{EndsIn, IsOutput, ReadsOnly, WritesOnly, to_output};
-ghost use Rattle.sbpl_promises.specs.Causes.{JobStopsFor};
-ghost use Rattle.sbpl_promises.specs.Published.{Entry};
-ghost use Rattle.sbpl_promises.specs.Promises.{EndsJob};
-ghost use Rattle.sbpl_job.specs.Jobs.{IsJob};
-ghost use Rattle.sbpl_job.specs.declared.job.Job.TheVariants as Jobs;
+ghost use Rattle.sbpl_checks.specs.sbpl_promises.Intents.{listing_writes};
+ghost use Rattle.sbpl_checks.specs.sbpl_report.Listing.{listing_at};
+ghost use Rattle.sbpl_checks.specs.sbpl_promises.Writing.{EndsIn, IsOutput, ReadsOnly, WritesOnly, to_output};
+ghost use Rattle.sbpl_checks.specs.sbpl_promises.Causes.{JobStopsFor};
+ghost use Rattle.sbpl_checks.specs.sbpl_promises.Published.{Entry};
+ghost use Rattle.sbpl_checks.specs.sbpl_promises.Promises.{EndsJob};
+ghost use Rattle.sbpl_checks.specs.sbpl_job.Jobs.{IsJob};
+ghost use Rattle.sbpl_checks.specs.sbpl_job.declared.job.Job.TheVariants as Jobs;
 
-use sbpl_cost::Lattice;
-use sbpl_desk::{Desk, WriteStop};
-use sbpl_fixed::NoMemory;
-use sbpl_job::Sources;
-use sbpl_report::{Stop, listing_at};
-use sbpl_telling::{OUTPUT, status_after, write_last, write_text};
-use sbpl_worlds::read_lattice;
+use sbpl_checks::{
+    Desk, Lattice, NoMemory, OUTPUT, Sources, Stop, WriteStop, listing_at, read_lattice,
+    status_after, write_last, write_text,
+};
 use std::alloc::Global;
 
 /// Writes the lines of the primitive at place `i` of the file.

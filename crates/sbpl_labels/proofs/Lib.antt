@@ -5,3 +5,6 @@ pub mod Changes
 pub mod Choosing
 pub mod Lowest
 pub mod Walking
+pub use Rattle.sbpl_graph.proofs.Fitting
+pub use Rattle.sbpl_graph.proofs.Keeping
+pub use Rattle.sbpl_graph.proofs.Paths

@@ -7,3 +7,4 @@ pub mod Recomputed
 pub mod Walks
 pub mod Ways
 pub mod Cut
+pub use Rattle.sbpl_graph.specs as sbpl_graph

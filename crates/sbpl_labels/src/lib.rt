@@ -14,4 +14,6 @@ pub use bound::bound_of;
 pub use budget::Budget;
 pub use labels::Labels;
 pub use pass_end::PassEnd;
+pub use sbpl_fixed::{NoMemory, ceil_root};
+pub use sbpl_graph::{FAR, Graph, Guide, Zero, bound_holds, none_holds};
 pub use walk::Walk;

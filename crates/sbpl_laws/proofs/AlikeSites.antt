@@ -2,14 +2,14 @@
 use Rattle.std.proofs.Common.{◌≡◌, ℕ, ℤ, ◌<◌, Bool, true, false, List, take, Option, Some, None, option_map, unwrap_or}
 use Rattle.std.proofs.Common.{sym, ◌∙◌, ap, subst, refl}
 use Rattle.std.specs.List.{filter_map, last_or}
-use Rattle.sbpl_cfg.specs.declared.pose.Place.{Place}
-use Rattle.sbpl_graph.specs.Network.{Network}
-use Rattle.sbpl_back.specs.Reversed.{AreTurned, PathsTurnOnce, reversed}
-use Rattle.sbpl_map.specs.CellMap.{CellMap, IsCellMap}
-use Rattle.sbpl_replan.specs.Directions.{Direction}
+use Rattle.sbpl_promises.specs.sbpl_cfg.declared.pose.Place.{Place}
+use Rattle.sbpl_promises.specs.sbpl_graph.Network.{Network}
+use Rattle.sbpl_promises.specs.sbpl_back.Reversed.{AreTurned, PathsTurnOnce, reversed}
+use Rattle.sbpl_promises.specs.sbpl_map.CellMap.{CellMap, IsCellMap}
+use Rattle.sbpl_promises.specs.sbpl_replan.Directions.{Direction}
 use Rattle.sbpl_promises.specs.Asked.{checked_direction}
 use Rattle.sbpl_promises.specs.Sites.{Site, Wording, start_after}
-use Rattle.sbpl_report.specs.declared.record.PathStep.{PathStep}
+use Rattle.sbpl_promises.specs.sbpl_report.declared.record.PathStep.{PathStep}
 
 -- alike worlds have one map, one graph and the same cells that its
 -- arcs read, and one wording; and one heuristic for a goal, at states

@@ -1,37 +1,37 @@
 -- Which status follows from what a desk tells of the files.
 use Rattle.std.proofs.Common.{◌≡◌, ℕ, ◌^◌, ◌<◌, ◌≤◌, ◌⊎◌, Bool, false, List, [], Option, Some, None, length, sym, ◌∙◌}
 use Rattle.std.proofs.Common.{ap, refl, subst, arith, inl, inr}
-use Rattle.sbpl_cfg.specs.declared.fault.EnvFault.{EnvFault}
-use Rattle.sbpl_cfg.specs.Environment.{Environment}
-use Rattle.sbpl_mprim.specs.declared.fault.PrimFault.{PrimFault}
-use Rattle.sbpl_mprim.specs.Primitives.{Primitives}
-use Rattle.sbpl_sweep.specs.Widths.{IsFirstTooWide, NoneTooWide}
-use Rattle.sbpl_cost.specs.PrimitiveCost.{IsFirstTooDear, most_cost, primitive_cost}
-use Rattle.sbpl_cost.specs.World.{World}
-use Rattle.sbpl_map.specs.CellMap.{CellMap}
-use Rattle.sbpl_map.specs.declared.fault.ChangeFault.{ChangeFault}
-use Rattle.sbpl_job.specs.declared.job.CheckJob.{CheckJob}
-use Rattle.sbpl_job.specs.declared.job.Job.{Job}
-use Rattle.sbpl_job.specs.declared.job.PlanJob.{PlanJob}
-use Rattle.sbpl_job.specs.declared.job.NavJob.{NavJob}
-use Rattle.sbpl_job.specs.declared.job.NavCheckJob.{NavCheckJob}
-use Rattle.sbpl_nav2d.specs.World.{GridWorld}
+use Rattle.sbpl_promises.specs.sbpl_cfg.declared.fault.EnvFault.{EnvFault}
+use Rattle.sbpl_promises.specs.sbpl_cfg.Environment.{Environment}
+use Rattle.sbpl_promises.specs.sbpl_mprim.declared.fault.PrimFault.{PrimFault}
+use Rattle.sbpl_promises.specs.sbpl_mprim.Primitives.{Primitives}
+use Rattle.sbpl_promises.specs.sbpl_sweep.Widths.{IsFirstTooWide, NoneTooWide}
+use Rattle.sbpl_promises.specs.sbpl_cost.PrimitiveCost.{IsFirstTooDear, most_cost, primitive_cost}
+use Rattle.sbpl_promises.specs.sbpl_cost.World.{World}
+use Rattle.sbpl_promises.specs.sbpl_map.CellMap.{CellMap}
+use Rattle.sbpl_promises.specs.sbpl_map.declared.fault.ChangeFault.{ChangeFault}
+use Rattle.sbpl_promises.specs.sbpl_job.declared.job.CheckJob.{CheckJob}
+use Rattle.sbpl_promises.specs.sbpl_job.declared.job.Job.{Job}
+use Rattle.sbpl_promises.specs.sbpl_job.declared.job.PlanJob.{PlanJob}
+use Rattle.sbpl_promises.specs.sbpl_job.declared.job.NavJob.{NavJob}
+use Rattle.sbpl_promises.specs.sbpl_job.declared.job.NavCheckJob.{NavCheckJob}
+use Rattle.sbpl_promises.specs.sbpl_nav2d.World.{GridWorld}
 use Rattle.sbpl_laws.proofs.SamePlanned.{grid_by}
-use Rattle.sbpl_job.specs.declared.job.Job.TheVariants as job
-use Rattle.sbpl_job.specs.declared.job.Sources.{Sources}
-use Rattle.sbpl_report.specs.declared.refusal.Input.TheVariants as input
-use Rattle.sbpl_report.specs.declared.refusal.Refusal.{Refusal}
-use Rattle.sbpl_report.specs.declared.refusal.Refusal.TheVariants as refusal
+use Rattle.sbpl_promises.specs.sbpl_job.declared.job.Job.TheVariants as job
+use Rattle.sbpl_promises.specs.sbpl_job.declared.job.Sources.{Sources}
+use Rattle.sbpl_promises.specs.sbpl_report.declared.refusal.Input.TheVariants as input
+use Rattle.sbpl_promises.specs.sbpl_report.declared.refusal.Refusal.{Refusal}
+use Rattle.sbpl_promises.specs.sbpl_report.declared.refusal.Refusal.TheVariants as refusal
 use Rattle.sbpl_promises.specs.Causes.{AtName, IsCause, IsChangesCause, IsEarlyCause, IsFaultyChanges, IsFaultyFor}
 use Rattle.sbpl_promises.specs.Causes.{IsGridCause, IsJobCause, IsLabelsCause, IsReadText, IsTooLong, NoneTooDear}
 use Rattle.sbpl_promises.specs.Causes.{ReadsCourse, ReadsEnvironment, ReadsGrid, ReadsPrimitives, ReadsWorld}
 use Rattle.sbpl_promises.specs.Causes.{check_files, grid_files, grid_scope, lattice_files, plan_files, scope_of}
 use Rattle.sbpl_promises.specs.WorldFiles.{WorldFiles}
 use Rattle.sbpl_promises.specs.declared.course.Course.{Course}
-use Rattle.sbpl_job.specs.Jobs.{may_move, moves_in}
+use Rattle.sbpl_promises.specs.sbpl_job.Jobs.{may_move, moves_in}
 use Rattle.sbpl_promises.specs.Intents.{Intent, Refused, Planned, Checked, Listed}
 use Rattle.sbpl_promises.specs.Intents.{Demonstrated, OutOfMemory, intent_status}
-use Rattle.sbpl_report.specs.Refusals.{refusal_status}
+use Rattle.sbpl_promises.specs.sbpl_report.Refusals.{refusal_status}
 use Rattle.sbpl_promises.specs.Promises.{AreGood, GivesIntent, IsNoCheck, IsOrFailed, Tells, TellsChangeFault}
 use Rattle.sbpl_promises.specs.Promises.{TellsCourse, TellsEnvironment, TellsEnvironmentFault, TellsGrid}
 use Rattle.sbpl_promises.specs.Promises.{TellsGridFault, TellsPrimitiveFault, TellsPrimitives, TellsScope, TellsTooMuch}

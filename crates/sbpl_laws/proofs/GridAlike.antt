@@ -1,11 +1,11 @@
 -- Grids that files cannot tell apart are one.
 use Rattle.std.proofs.Common.{◌≡◌, ℕ, ◌*◌, ◌<◌, refl, sym, ap, subst, ◌∙◌}
-use Rattle.sbpl_graph.specs.Network.{Network}
-use Rattle.sbpl_nav2d.specs.Grids.{network_of}
-use Rattle.sbpl_nav2d.specs.Guides.{IsOctile}
-use Rattle.sbpl_nav2d.specs.Reads.{ReadsCell}
-use Rattle.sbpl_nav2d.specs.World.{GridWorld, IsGridWorld, over_map}
-use Rattle.sbpl_report.specs.declared.record.PathStep.{PathStep}
+use Rattle.sbpl_promises.specs.sbpl_graph.Network.{Network}
+use Rattle.sbpl_promises.specs.sbpl_nav2d.Grids.{network_of}
+use Rattle.sbpl_promises.specs.sbpl_nav2d.Guides.{IsOctile}
+use Rattle.sbpl_promises.specs.sbpl_nav2d.Reads.{ReadsCell}
+use Rattle.sbpl_promises.specs.sbpl_nav2d.World.{GridWorld, IsGridWorld, over_map}
+use Rattle.sbpl_promises.specs.sbpl_report.declared.record.PathStep.{PathStep}
 use Rattle.sbpl_promises.specs.GridSite.{IsGridStep, cell_spot, grid_site}
 use Rattle.sbpl_laws.proofs.AlikeSites.{AreAlike}
 

@@ -4,26 +4,26 @@ use Rattle.std.proofs.Common.{sym, ap, subst, ◌∙◌, arith, List, [], ◌∷
 use Rattle.std.proofs.lemmas.Bool.{eq-eqb}
 use Rattle.std.proofs.lemmas.List.Sums.{sum_by-cons}
 use Rattle.std.proofs.lemmas.Option.{same_Some}
-use Rattle.sbpl_graph.specs.Network.{Network}
-use Rattle.sbpl_cfg.specs.declared.pose.Pose.{Pose}
-use Rattle.sbpl_cfg.specs.declared.pose.Place.{Place}
-use Rattle.sbpl_cfg.specs.Environment.{Environment, IsPlaceOf}
-use Rattle.sbpl_mprim.specs.Primitives.{Primitives}
-use Rattle.sbpl_mprim.specs.declared.prim.Primitive.{Primitive}
-use Rattle.sbpl_sweep.specs.Swept.{Swept}
-use Rattle.sbpl_map.specs.CellMap.{CellMap}
-use Rattle.sbpl_cost.specs.Arc.{IsArcBy}
-use Rattle.sbpl_cost.specs.Alike.{AlikeWorldsAreOneGraph}
-use Rattle.sbpl_cost.specs.Lattices.{network_of, states_are}
-use Rattle.sbpl_cost.specs.Reads.{ReadsCell}
-use Rattle.sbpl_cost.specs.States.{place_of, state_count, state_number}
-use Rattle.sbpl_cost.specs.World.{World, over_map}
-use Rattle.sbpl_heur.specs.Bests.{IsBest, cell_of}
-use Rattle.sbpl_heur.specs.Walks.{IsCellBound}
+use Rattle.sbpl_promises.specs.sbpl_graph.Network.{Network}
+use Rattle.sbpl_promises.specs.sbpl_cfg.declared.pose.Pose.{Pose}
+use Rattle.sbpl_promises.specs.sbpl_cfg.declared.pose.Place.{Place}
+use Rattle.sbpl_promises.specs.sbpl_cfg.Environment.{Environment, IsPlaceOf}
+use Rattle.sbpl_promises.specs.sbpl_mprim.Primitives.{Primitives}
+use Rattle.sbpl_promises.specs.sbpl_mprim.declared.prim.Primitive.{Primitive}
+use Rattle.sbpl_promises.specs.sbpl_sweep.Swept.{Swept}
+use Rattle.sbpl_promises.specs.sbpl_map.CellMap.{CellMap}
+use Rattle.sbpl_promises.specs.sbpl_cost.Arc.{IsArcBy}
+use Rattle.sbpl_promises.specs.sbpl_cost.Alike.{AlikeWorldsAreOneGraph}
+use Rattle.sbpl_promises.specs.sbpl_cost.Lattices.{network_of, states_are}
+use Rattle.sbpl_promises.specs.sbpl_cost.Reads.{ReadsCell}
+use Rattle.sbpl_promises.specs.sbpl_cost.States.{place_of, state_count, state_number}
+use Rattle.sbpl_promises.specs.sbpl_cost.World.{World, over_map}
+use Rattle.sbpl_promises.specs.sbpl_heur.Bests.{IsBest, cell_of}
+use Rattle.sbpl_promises.specs.sbpl_heur.Walks.{IsCellBound}
 use Rattle.sbpl_promises.specs.Determined.{AreAlikeWorlds}
 use Rattle.sbpl_promises.specs.LatticeSite.{IsPathStep, IsStateOf, lattice_site}
-use Rattle.sbpl_report.specs.declared.record.PathStep.{PathStep}
-use Rattle.sbpl_report.specs.declared.record.Spot.TheVariants as spot
+use Rattle.sbpl_promises.specs.sbpl_report.declared.record.PathStep.{PathStep}
+use Rattle.sbpl_promises.specs.sbpl_report.declared.record.Spot.TheVariants as spot
 use Rattle.sbpl_laws.proofs.AlikeSites.{AreAlike}
 
 -- a world of these parts

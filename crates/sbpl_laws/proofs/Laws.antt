@@ -1,19 +1,19 @@
 -- The readers' laws of texts, as they are used of the files of a job.
 use Rattle.std.proofs.Common.{◌≡◌, ℕ, ℤ, List, Option, Some, None, sym, ◌∙◌}
-use Rattle.sbpl_cfg.specs.declared.fault.EnvFault.{EnvFault}
-use Rattle.sbpl_cfg.specs.Environment.{Environment}
-use Rattle.sbpl_cfg.specs.Text as environments
-use Rattle.sbpl_map.specs.CellMap.{CellMap}
-use Rattle.sbpl_map.specs.ChangeText as changes
-use Rattle.sbpl_map.specs.LineFaults as change_faults
-use Rattle.sbpl_map.specs.declared.fault.ChangeFault.{ChangeFault}
-use Rattle.sbpl_map.specs.declared.write.Write.{Write}
-use Rattle.sbpl_mprim.specs.declared.fault.PrimFault.{PrimFault}
-use Rattle.sbpl_mprim.specs.Primitives.{Primitives}
-use Rattle.sbpl_mprim.specs.Text as primitives
-use Rattle.sbpl_nav2d.specs.Environment.{NavEnvironment}
-use Rattle.sbpl_nav2d.specs.Text as grids
-use Rattle.sbpl_cfg.specs.declared.pose.Place.{Place}
+use Rattle.sbpl_promises.specs.sbpl_cfg.declared.fault.EnvFault.{EnvFault}
+use Rattle.sbpl_promises.specs.sbpl_cfg.Environment.{Environment}
+use Rattle.sbpl_promises.specs.sbpl_cfg.Text as environments
+use Rattle.sbpl_promises.specs.sbpl_map.CellMap.{CellMap}
+use Rattle.sbpl_promises.specs.sbpl_map.ChangeText as changes
+use Rattle.sbpl_promises.specs.sbpl_map.LineFaults as change_faults
+use Rattle.sbpl_promises.specs.sbpl_map.declared.fault.ChangeFault.{ChangeFault}
+use Rattle.sbpl_promises.specs.sbpl_map.declared.write.Write.{Write}
+use Rattle.sbpl_promises.specs.sbpl_mprim.declared.fault.PrimFault.{PrimFault}
+use Rattle.sbpl_promises.specs.sbpl_mprim.Primitives.{Primitives}
+use Rattle.sbpl_promises.specs.sbpl_mprim.Text as primitives
+use Rattle.sbpl_promises.specs.sbpl_nav2d.Environment.{NavEnvironment}
+use Rattle.sbpl_promises.specs.sbpl_nav2d.Text as grids
+use Rattle.sbpl_promises.specs.sbpl_cfg.declared.pose.Place.{Place}
 use Rattle.sbpl_promises.specs.Clear.{TextsAreClear}
 use Rattle.sbpl_promises.specs.Texts.{HasChangeFault, IsChangeText, Scope}
 use Rattle.sbpl_promises.specs.declared.course.Course.{Course}

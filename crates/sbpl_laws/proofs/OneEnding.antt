@@ -1,27 +1,27 @@
 -- The checking of one text ends in one way.
 use Rattle.std.proofs.Common.{◌≡◌, ◌≢◌, ℕ, zero, suc, ◌+◌, ◌<◌, List, [], ◌∷◌, Option, Some, None, length, refl, sym}
 use Rattle.std.proofs.Common.{◌∙◌, ap, subst, inl, inr}
-use Rattle.sbpl_graph.specs.Network.{Network}
-use Rattle.sbpl_fixed.specs.Formats.{Left, start_at}
-use Rattle.sbpl_fixed.specs.Tokens.{Piece}
-use Rattle.sbpl_cert.specs.declared.fault.LabelFault.{LabelFault}
-use Rattle.sbpl_cert.specs.declared.flaw.Flaw.{Flaw}
-use Rattle.sbpl_cert.specs.declared.outcome.Outcome.{Outcome}
-use Rattle.sbpl_cert.specs.Flaws.{HasNoFlaw}
-use Rattle.sbpl_cert.specs.declared.section.Section.{Section}
-use Rattle.sbpl_cert.specs.Text.{AreTokens, AreTokensOf}
-use Rattle.sbpl_cert.specs.Versions.{IsOf, claim_by}
+use Rattle.sbpl_promises.specs.sbpl_graph.Network.{Network}
+use Rattle.sbpl_promises.specs.sbpl_fixed.Formats.{Left, start_at}
+use Rattle.sbpl_promises.specs.sbpl_fixed.Tokens.{Piece}
+use Rattle.sbpl_promises.specs.sbpl_cert.declared.fault.LabelFault.{LabelFault}
+use Rattle.sbpl_promises.specs.sbpl_cert.declared.flaw.Flaw.{Flaw}
+use Rattle.sbpl_promises.specs.sbpl_cert.declared.outcome.Outcome.{Outcome}
+use Rattle.sbpl_promises.specs.sbpl_cert.Flaws.{HasNoFlaw}
+use Rattle.sbpl_promises.specs.sbpl_cert.declared.section.Section.{Section}
+use Rattle.sbpl_promises.specs.sbpl_cert.Text.{AreTokens, AreTokensOf}
+use Rattle.sbpl_promises.specs.sbpl_cert.Versions.{IsOf, claim_by}
 use Rattle.sbpl_promises.specs.Clear.{SectionsAreClear}
-use Rattle.sbpl_map.specs.CellMap.{CellMap, IsCellMap}
-use Rattle.sbpl_map.specs.MapAfter.{IsMapAfter}
-use Rattle.sbpl_map.specs.declared.write.Write.{Write}
+use Rattle.sbpl_promises.specs.sbpl_map.CellMap.{CellMap, IsCellMap}
+use Rattle.sbpl_promises.specs.sbpl_map.MapAfter.{IsMapAfter}
+use Rattle.sbpl_promises.specs.sbpl_map.declared.write.Write.{Write}
 use Rattle.sbpl_promises.specs.declared.section_stop.SectionStop.{SectionStop}
 use Rattle.sbpl_promises.specs.declared.section_stop.SectionStop.TheVariants as section
 use Rattle.sbpl_promises.specs.Checked.{AreChecked, Case, Ground, IsFlawed, IsGroundAfter, IsHolding, IsShownHolding}
 use Rattle.sbpl_promises.specs.Checked.{IsStoppedIn, IsTrailingAt, case_of, from_in, to_in}
 use Rattle.sbpl_promises.specs.Intents.{checked_status}
 use Rattle.sbpl_promises.specs.Promises.{IsCheckedIn, IsOrFailed}
-use Rattle.sbpl_replan.specs.Directions.{Direction}
+use Rattle.sbpl_promises.specs.sbpl_replan.Directions.{Direction}
 use Rattle.sbpl_promises.specs.Sites.{Site, start_after}
 use Rattle.sbpl_laws.proofs.AlikeSites.{AreAlike, GoesAlike, same_starts}
 use Rattle.sbpl_promises.specs.declared.course.Course.{Course}

@@ -2,25 +2,25 @@
 use Rattle.std.proofs.Common.{◌≡◌, ◌⊎◌, ℕ, ◌^◌, ◌<◌, ◌≤◌, Bool, Option, Some, None, List, IsSome, IfSome, length, refl}
 use Rattle.std.proofs.Common.{sym, ap, subst, ◌∙◌, arith, inl, inr}
 use Rattle.std.proofs.lemmas.Bool.{cases_lt, false≢true}
-use Rattle.sbpl_cfg.specs.declared.fault.EnvFault.{EnvFault}
-use Rattle.sbpl_cfg.specs.Environment.{Environment}
-use Rattle.sbpl_mprim.specs.declared.fault.PrimFault.{PrimFault}
-use Rattle.sbpl_mprim.specs.declared.prim.Primitive.{Primitive}
-use Rattle.sbpl_mprim.specs.Primitives.{Primitives}
-use Rattle.sbpl_sweep.specs.Widths.{IsFirstTooWide, NoneTooWide}
-use Rattle.sbpl_cost.specs.PrimitiveCost.{IsFirstTooDear, most_cost, primitive_cost}
-use Rattle.sbpl_cost.specs.World.{World}
-use Rattle.sbpl_map.specs.declared.fault.ChangeFault.{ChangeFault}
-use Rattle.sbpl_job.specs.declared.job.Sources.{Sources}
-use Rattle.sbpl_report.specs.declared.refusal.Input.{Input}
-use Rattle.sbpl_report.specs.declared.refusal.Input.TheVariants as input
-use Rattle.sbpl_report.specs.declared.refusal.Refusal.{Refusal}
-use Rattle.sbpl_report.specs.declared.refusal.Refusal.TheVariants as refusal
+use Rattle.sbpl_promises.specs.sbpl_cfg.declared.fault.EnvFault.{EnvFault}
+use Rattle.sbpl_promises.specs.sbpl_cfg.Environment.{Environment}
+use Rattle.sbpl_promises.specs.sbpl_mprim.declared.fault.PrimFault.{PrimFault}
+use Rattle.sbpl_promises.specs.sbpl_mprim.declared.prim.Primitive.{Primitive}
+use Rattle.sbpl_promises.specs.sbpl_mprim.Primitives.{Primitives}
+use Rattle.sbpl_promises.specs.sbpl_sweep.Widths.{IsFirstTooWide, NoneTooWide}
+use Rattle.sbpl_promises.specs.sbpl_cost.PrimitiveCost.{IsFirstTooDear, most_cost, primitive_cost}
+use Rattle.sbpl_promises.specs.sbpl_cost.World.{World}
+use Rattle.sbpl_promises.specs.sbpl_map.declared.fault.ChangeFault.{ChangeFault}
+use Rattle.sbpl_promises.specs.sbpl_job.declared.job.Sources.{Sources}
+use Rattle.sbpl_promises.specs.sbpl_report.declared.refusal.Input.{Input}
+use Rattle.sbpl_promises.specs.sbpl_report.declared.refusal.Input.TheVariants as input
+use Rattle.sbpl_promises.specs.sbpl_report.declared.refusal.Refusal.{Refusal}
+use Rattle.sbpl_promises.specs.sbpl_report.declared.refusal.Refusal.TheVariants as refusal
 use Rattle.sbpl_promises.specs.Causes.{AtName, IsCause, IsChangesCause, IsCheckCause, IsEarlyCause, IsEarlyInput}
 use Rattle.sbpl_promises.specs.Causes.{IsFaultyChanges, IsFaultyEnvironment, IsFaultyFor, IsFaultyGrid, IsGridCause}
 use Rattle.sbpl_promises.specs.Causes.{IsLabelsCause, IsReadText, IsSource, IsTooLong, ReadsCourse, ReadsEnvironment}
 use Rattle.sbpl_promises.specs.Causes.{ReadsGrid, ReadsPrimitives, ReadsWorld, grid_files, lattice_files}
-use Rattle.sbpl_nav2d.specs.World.{GridWorld}
+use Rattle.sbpl_promises.specs.sbpl_nav2d.World.{GridWorld}
 use Rattle.sbpl_promises.specs.declared.course.Course.{Course}
 use Rattle.sbpl_promises.specs.Clear.{TextsAreClear}
 use Rattle.sbpl_promises.specs.WorldFiles.{WorldFiles}

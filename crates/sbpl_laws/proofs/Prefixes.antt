@@ -2,7 +2,7 @@
 use Rattle.std.proofs.Common.{◌≡◌, ℕ, Option, Some, None, List, [], ◌∷◌, ◌++◌, Bool, true, false, if◌then◌else◌, refl}
 use Rattle.std.proofs.Common.{sym, ◌∙◌, ap, append_assoc, append-nil, inl, inr}
 use Rattle.std.specs.Str.{bytes_eq}
-use Rattle.sbpl_desk.specs.Desk.{Appends, Stays}
+use Rattle.sbpl_promises.specs.sbpl_desk.Desk.{Appends, Stays}
 use Rattle.sbpl_promises.specs.Determined.{ArePrefixes}
 use Rattle.sbpl_promises.specs.Writing.{AreAppended, DeskState, EndsAs, IsCutAt, RunsOutAt, Write, text_under}
 

@@ -1,9 +1,9 @@
 -- What a run promises, by how it ends.
 use Rattle.std.proofs.Common.{ℕ, List, Option, arith}
 use Rattle.sbpl_promises.specs.Causes.{CausesStand}
-use Rattle.sbpl_cost.specs.Alike.{AlikeWorldsAreOneGraph}
-use Rattle.sbpl_desk.specs.Desk.{DeskState}
-use Rattle.sbpl_job.specs.declared.job.Job.{Job}
+use Rattle.sbpl_promises.specs.sbpl_cost.Alike.{AlikeWorldsAreOneGraph}
+use Rattle.sbpl_promises.specs.sbpl_desk.Desk.{DeskState}
+use Rattle.sbpl_promises.specs.sbpl_job.declared.job.Job.{Job}
 use Rattle.sbpl_promises.specs.Clear.{SectionsAreClear, TextsAreClear}
 use Rattle.sbpl_promises.specs.GridSite.{grid_site}
 use Rattle.sbpl_promises.specs.LatticeSite.{lattice_site}

@@ -2,59 +2,59 @@
 use Rattle.std.proofs.Common.{◌≡◌, ◌≢◌, ℕ, ◌+◌, ◌⊎◌, ◌≤◌, append_assoc, append-nil, Bool, true, false, List, [], ◌∷◌}
 use Rattle.std.proofs.Common.{◌++◌, flat_map, map, Option, Some, None, sym, ◌∙◌, ap, refl, subst, arith, inl, inr}
 use Rattle.std.specs.List.{AllByRecursion}
-use Rattle.sbpl_cfg.specs.declared.fault.EnvFault.{EnvFault}
-use Rattle.sbpl_cfg.specs.Environment.{Environment}
-use Rattle.sbpl_mprim.specs.declared.fault.PrimFault.{PrimFault}
-use Rattle.sbpl_mprim.specs.Primitives.{Primitives}
-use Rattle.sbpl_desk.specs.Desk.{Stays}
-use Rattle.sbpl_sweep.specs.Widths.{IsFirstTooWide, NoneTooWide}
-use Rattle.sbpl_cost.specs.PrimitiveCost.{IsFirstTooDear}
-use Rattle.sbpl_cost.specs.Alike.{AlikeWorldsAreOneGraph}
-use Rattle.sbpl_cost.specs.World.{World}
-use Rattle.sbpl_map.specs.declared.fault.ChangeFault.{ChangeFault}
-use Rattle.sbpl_cert.specs.declared.outcome.Outcome.{Outcome}
+use Rattle.sbpl_promises.specs.sbpl_cfg.declared.fault.EnvFault.{EnvFault}
+use Rattle.sbpl_promises.specs.sbpl_cfg.Environment.{Environment}
+use Rattle.sbpl_promises.specs.sbpl_mprim.declared.fault.PrimFault.{PrimFault}
+use Rattle.sbpl_promises.specs.sbpl_mprim.Primitives.{Primitives}
+use Rattle.sbpl_promises.specs.sbpl_desk.Desk.{Stays}
+use Rattle.sbpl_promises.specs.sbpl_sweep.Widths.{IsFirstTooWide, NoneTooWide}
+use Rattle.sbpl_promises.specs.sbpl_cost.PrimitiveCost.{IsFirstTooDear}
+use Rattle.sbpl_promises.specs.sbpl_cost.Alike.{AlikeWorldsAreOneGraph}
+use Rattle.sbpl_promises.specs.sbpl_cost.World.{World}
+use Rattle.sbpl_promises.specs.sbpl_map.declared.fault.ChangeFault.{ChangeFault}
+use Rattle.sbpl_promises.specs.sbpl_cert.declared.outcome.Outcome.{Outcome}
 use Rattle.sbpl_promises.specs.declared.section_stop.SectionStop.{SectionStop}
 use Rattle.sbpl_promises.specs.declared.section_stop.SectionStop.TheVariants as section
-use Rattle.sbpl_job.specs.declared.job.CheckJob.{CheckJob}
-use Rattle.sbpl_job.specs.declared.job.DemoJob.{DemoJob}
-use Rattle.sbpl_job.specs.declared.job.Job.{Job}
-use Rattle.sbpl_job.specs.declared.job.Job.TheVariants as job
-use Rattle.sbpl_job.specs.declared.job.Outputs.{Outputs}
-use Rattle.sbpl_job.specs.declared.job.Sources.{Sources}
+use Rattle.sbpl_promises.specs.sbpl_job.declared.job.CheckJob.{CheckJob}
+use Rattle.sbpl_promises.specs.sbpl_job.declared.job.DemoJob.{DemoJob}
+use Rattle.sbpl_promises.specs.sbpl_job.declared.job.Job.{Job}
+use Rattle.sbpl_promises.specs.sbpl_job.declared.job.Job.TheVariants as job
+use Rattle.sbpl_promises.specs.sbpl_job.declared.job.Outputs.{Outputs}
+use Rattle.sbpl_promises.specs.sbpl_job.declared.job.Sources.{Sources}
 use Rattle.sbpl_promises.specs.Checked.{IsHolding}
 use Rattle.sbpl_promises.specs.Asked.{checked_direction}
 use Rattle.sbpl_promises.specs.Determined.{AreAlikeWorlds}
 use Rattle.sbpl_promises.specs.LatticeSite.{lattice_site}
 use Rattle.sbpl_laws.proofs.AlikeSites.{goes_alike}
 use Rattle.sbpl_laws.proofs.LatticeAlike.{lattices_alike}
-use Rattle.sbpl_report.specs.declared.record.PlanRecord.{PlanRecord}
-use Rattle.sbpl_report.specs.declared.refusal.Refusal.{Refusal}
-use Rattle.sbpl_report.specs.declared.refusal.Refusal.TheVariants as refusal
+use Rattle.sbpl_promises.specs.sbpl_report.declared.record.PlanRecord.{PlanRecord}
+use Rattle.sbpl_promises.specs.sbpl_report.declared.refusal.Refusal.{Refusal}
+use Rattle.sbpl_promises.specs.sbpl_report.declared.refusal.Refusal.TheVariants as refusal
 use Rattle.sbpl_promises.specs.Causes.{AreDemonstrated, ArePlanned, IsCause, IsEarlyCause, IsJobCause, IsTooLong}
 use Rattle.sbpl_promises.specs.Causes.{ReadsCourse, ReadsWorld, check_files, grid_files, grid_scope}
 use Rattle.sbpl_promises.specs.Causes.{lattice_files, plan_files, scope_of}
 use Rattle.sbpl_promises.specs.WorldFiles.{WorldFiles}
 use Rattle.sbpl_promises.specs.Texts.{Scope}
 use Rattle.sbpl_promises.specs.declared.course.Course.{Course}
-use Rattle.sbpl_job.specs.Jobs.{moves_in}
+use Rattle.sbpl_promises.specs.sbpl_job.Jobs.{moves_in}
 use Rattle.sbpl_promises.specs.Intents.{BeginsAfter, Intent, Refused, Planned, Checked, Listed, Demonstrated}
 use Rattle.sbpl_promises.specs.Intents.{OutOfMemory, checked_status, checked_writes, demo_writes, end_writes}
 use Rattle.sbpl_promises.specs.Intents.{incumbent_writes, intent_status, labels_writes, last_write}
 use Rattle.sbpl_promises.specs.Intents.{lines_writes, plans_status, plans_writes, section_writes, stop_writes}
 use Rattle.sbpl_promises.specs.Intents.{trace_writes, words_writes, writes_of}
-use Rattle.sbpl_report.specs.Refusals.{refusal_status}
-use Rattle.sbpl_report.specs.Shown.{labels_text}
-use Rattle.sbpl_plan.specs.declared.found.Found.{Found}
-use Rattle.sbpl_report.specs.Listing.{listings}
+use Rattle.sbpl_promises.specs.sbpl_report.Refusals.{refusal_status}
+use Rattle.sbpl_promises.specs.sbpl_report.Shown.{labels_text}
+use Rattle.sbpl_promises.specs.sbpl_plan.declared.found.Found.{Found}
+use Rattle.sbpl_promises.specs.sbpl_report.Listing.{listings}
 use Rattle.sbpl_promises.specs.Published.{Entry}
-use Rattle.sbpl_report.specs.Report.{incumbent_text}
+use Rattle.sbpl_promises.specs.sbpl_report.Report.{incumbent_text}
 use Rattle.sbpl_promises.specs.Promises.{AreGood, AtJob, EndsJob, EndsRun, EndsWithoutMemory, GivesIntent, IsCheckedIn}
 use Rattle.sbpl_promises.specs.Promises.{IsCutShort, IsDone, IsFaultFound, IsFlawFound, IsNoCheck, IsOrFailed}
 use Rattle.sbpl_promises.specs.Promises.{IsOrUnwritten, IsRefused, IsStatus, IsWrittenFor, MayBeWritten, SomeRose}
 use Rattle.sbpl_promises.specs.Promises.{Tells, TellsChangeFault, TellsCourse, TellsEnvironment, TellsEnvironmentFault}
 use Rattle.sbpl_promises.specs.Promises.{TellsGrid, TellsGridFault, TellsPrimitiveFault, TellsPrimitives, TellsTooMuch}
 use Rattle.sbpl_promises.specs.Promises.{TellsWorld, by_job, by_memory, by_words, changes_of, grid_of, sources_of}
-use Rattle.sbpl_report.specs.Traces.{trace_text}
+use Rattle.sbpl_promises.specs.sbpl_report.Traces.{trace_text}
 use Rattle.sbpl_promises.specs.Writing.{AreAppended, DeskState, EndsAs, IsCutAt, IsNamed, IsOutput}
 use Rattle.sbpl_promises.specs.Writing.{IsOutputOf, RunsOutAt, Names, ReadFailed, StaysBut, Told, Write}
 use Rattle.sbpl_promises.specs.Writing.{output, to_named, to_output}
@@ -63,8 +63,8 @@ use Rattle.sbpl_promises.specs.Clear.{SectionsAreClear}
 use Rattle.sbpl_laws.proofs.OneEnding.{OneMap, checked_ends_alike}
 use Rattle.sbpl_laws.proofs.GridAlike.{AreOneGrid, grids_alike}
 use Rattle.sbpl_promises.specs.GridSite.{grid_site}
-use Rattle.sbpl_nav2d.specs.World.{GridWorld}
-use Rattle.sbpl_job.specs.declared.job.NavCheckJob.{NavCheckJob}
+use Rattle.sbpl_promises.specs.sbpl_nav2d.World.{GridWorld}
+use Rattle.sbpl_promises.specs.sbpl_job.declared.job.NavCheckJob.{NavCheckJob}
 use Rattle.sbpl_laws.proofs.Converse.{HasRead, IsReadFrom, all_good, by_intent, changes_faulty, changes_faulty_none}
 use Rattle.sbpl_laws.proofs.Converse.{changes_long, changes_long_none, changes_world, environment_faulty}
 use Rattle.sbpl_laws.proofs.Converse.{environment_faulty_none, environment_long, environment_long_none, good_files}

@@ -1,17 +1,17 @@
 -- The labels that a plan begins with are determined.
 use Rattle.std.proofs.Common.{◌≡◌, ◌≢◌, ℕ, ◌↔◌, true, List, [], Option, Some, None, sym, subst, ◌∙◌}
 use Rattle.std.specs.List.{Contains}
-use Rattle.sbpl_graph.specs.Network.{Network, IsArc}
-use Rattle.sbpl_map.specs.CellMap.{CellMap, cost_at}
-use Rattle.sbpl_terrain.specs.Reading.{IsEndReading}
-use Rattle.sbpl_terrain.specs.declared.arc_end.ArcEnd.{ArcEnd}
-use Rattle.sbpl_change.specs.Affected.{IsAffected}
-use Rattle.sbpl_labels.specs.Marks.{AreInitial, Marks, states_of, back_of}
-use Rattle.sbpl_search.specs.Determined.{AreBeginningsDetermined}
-use Rattle.sbpl_search.specs.Meaning.{Meaning}
-use Rattle.sbpl_serial.specs.Determined.{InitialLabelsAreOne}
-use Rattle.sbpl_replan.specs.Directions.{Direction}
-use Rattle.sbpl_replan.specs.Replanning.{BeginsWith}
+use Rattle.sbpl_promises.specs.sbpl_graph.Network.{Network, IsArc}
+use Rattle.sbpl_promises.specs.sbpl_map.CellMap.{CellMap, cost_at}
+use Rattle.sbpl_promises.specs.sbpl_terrain.Reading.{IsEndReading}
+use Rattle.sbpl_promises.specs.sbpl_terrain.declared.arc_end.ArcEnd.{ArcEnd}
+use Rattle.sbpl_promises.specs.sbpl_terrain.Affected.{IsAffected}
+use Rattle.sbpl_promises.specs.sbpl_labels.Marks.{AreInitial, Marks, states_of, back_of}
+use Rattle.sbpl_promises.specs.sbpl_search.Determined.{AreBeginningsDetermined}
+use Rattle.sbpl_promises.specs.sbpl_search.Meaning.{Meaning}
+use Rattle.sbpl_promises.specs.sbpl_serial.Determined.{InitialLabelsAreOne}
+use Rattle.sbpl_promises.specs.sbpl_replan.Directions.{Direction}
+use Rattle.sbpl_promises.specs.sbpl_replan.Replanning.{BeginsWith}
 use Rattle.sbpl_promises.specs.Headline.{Begins, Carried}
 use Rattle.sbpl_promises.specs.Sites.{Site}
 use Rattle.sbpl_laws.proofs.AlikeSites.{AreAlike, GoesAlike}

@@ -1,16 +1,16 @@
 -- The checking of one text is determined, as far as memory lasts.
 use Rattle.std.proofs.Common.{◌≡◌, ◌≢◌, ℕ, zero, suc, ◌+◌, ◌⊎◌, ◌++◌, Option, Some, None, List, [], ◌∷◌, length, IsSome}
 use Rattle.std.proofs.Common.{IfSome, refl, sym, ap, subst, ◌∙◌, inl, inr}
-use Rattle.sbpl_graph.specs.Network.{Network}
-use Rattle.sbpl_fixed.specs.Formats.{Left, start_at}
-use Rattle.sbpl_fixed.specs.Tokens.{Piece}
-use Rattle.sbpl_cert.specs.declared.fault.LabelFault.{LabelFault}
-use Rattle.sbpl_cert.specs.declared.flaw.Flaw.{Flaw}
-use Rattle.sbpl_cert.specs.declared.outcome.Outcome.{Outcome}
-use Rattle.sbpl_cert.specs.Flaws.{IsFirstFlaw}
-use Rattle.sbpl_cert.specs.declared.section.Section.{Section}
-use Rattle.sbpl_cert.specs.Text.{HasFault}
-use Rattle.sbpl_cert.specs.Versions.{claim_by, outcome_of}
+use Rattle.sbpl_promises.specs.sbpl_graph.Network.{Network}
+use Rattle.sbpl_promises.specs.sbpl_fixed.Formats.{Left, start_at}
+use Rattle.sbpl_promises.specs.sbpl_fixed.Tokens.{Piece}
+use Rattle.sbpl_promises.specs.sbpl_cert.declared.fault.LabelFault.{LabelFault}
+use Rattle.sbpl_promises.specs.sbpl_cert.declared.flaw.Flaw.{Flaw}
+use Rattle.sbpl_promises.specs.sbpl_cert.declared.outcome.Outcome.{Outcome}
+use Rattle.sbpl_promises.specs.sbpl_cert.Flaws.{IsFirstFlaw}
+use Rattle.sbpl_promises.specs.sbpl_cert.declared.section.Section.{Section}
+use Rattle.sbpl_promises.specs.sbpl_cert.Text.{HasFault}
+use Rattle.sbpl_promises.specs.sbpl_cert.Versions.{claim_by, outcome_of}
 use Rattle.sbpl_promises.specs.declared.section_stop.SectionStop.{SectionStop}
 use Rattle.sbpl_promises.specs.declared.section_stop.SectionStop.TheVariants as section
 use Rattle.sbpl_promises.specs.Asked.{checked_direction}
@@ -21,10 +21,10 @@ use Rattle.sbpl_promises.specs.Checked.{AreChecked, Case, Ground, IsFlawed, IsHo
 use Rattle.sbpl_promises.specs.Checked.{IsTrailingAt, case_of, from_in, to_in}
 use Rattle.sbpl_promises.specs.Clear.{SectionsAreClear, TextsAreClear}
 use Rattle.sbpl_promises.specs.Sites.{Site, start_after}
-use Rattle.sbpl_replan.specs.Directions.{Direction}
+use Rattle.sbpl_promises.specs.sbpl_replan.Directions.{Direction}
 use Rattle.sbpl_promises.specs.Intents.{checked_writes}
 use Rattle.sbpl_promises.specs.Promises.{IsChecked, IsCheckedIn}
-use Rattle.sbpl_report.specs.Verdicts.{holds_text}
+use Rattle.sbpl_promises.specs.sbpl_report.Verdicts.{holds_text}
 use Rattle.sbpl_promises.specs.Writing.{Told}
 use Rattle.sbpl_promises.specs.Writing as writing
 use Rattle.sbpl_laws.proofs.OneEnding.{AreOneGround, OneMap, case_in, checked_on, holds_not_stopped, one_ground}

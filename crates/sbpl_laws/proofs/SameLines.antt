@@ -4,31 +4,31 @@ use Rattle.std.proofs.Common.{length, map, slice_get, ℤ, ◌++◌, inl, inr, r
 use Rattle.std.proofs.lemmas.Int.{ints}
 use Rattle.std.proofs.lemmas.Option.{none-some, same_Some}
 use Rattle.std.specs.List.{range_with_len}
-use Rattle.sbpl_cfg.specs.declared.pose.Pose.{Pose}
-use Rattle.sbpl_mprim.specs.declared.prim.Primitive.{Primitive}
-use Rattle.sbpl_mprim.specs.Primitives.{Primitives}
-use Rattle.sbpl_map.specs.declared.write.Write as change
-use Rattle.sbpl_sweep.specs.declared.cell.Cell.{Cell}
-use Rattle.sbpl_sweep.specs.Centres.{AreCentres, AreSwept, IsBefore}
-use Rattle.sbpl_sweep.specs.Swept.{AreSweepsOf, Swept}
-use Rattle.sbpl_map.specs.CellMap.{CellMap}
-use Rattle.sbpl_cost.specs.Lattices.{network_of, states_are}
-use Rattle.sbpl_cost.specs.States.{state_count}
-use Rattle.sbpl_cost.specs.World.{World}
-use Rattle.sbpl_cfg.specs.Environment.{Environment}
-use Rattle.sbpl_job.specs.declared.job.DemoJob.{DemoJob}
-use Rattle.sbpl_job.specs.declared.job.Sources.{Sources}
-use Rattle.sbpl_report.specs.declared.record.PlanRecord.{PlanRecord}
+use Rattle.sbpl_promises.specs.sbpl_cfg.declared.pose.Pose.{Pose}
+use Rattle.sbpl_promises.specs.sbpl_mprim.declared.prim.Primitive.{Primitive}
+use Rattle.sbpl_promises.specs.sbpl_mprim.Primitives.{Primitives}
+use Rattle.sbpl_promises.specs.sbpl_map.declared.write.Write as change
+use Rattle.sbpl_promises.specs.sbpl_sweep.declared.cell.Cell.{Cell}
+use Rattle.sbpl_promises.specs.sbpl_sweep.Centres.{AreCentres, AreSwept, IsBefore}
+use Rattle.sbpl_promises.specs.sbpl_sweep.Swept.{AreSweepsOf, Swept}
+use Rattle.sbpl_promises.specs.sbpl_map.CellMap.{CellMap}
+use Rattle.sbpl_promises.specs.sbpl_cost.Lattices.{network_of, states_are}
+use Rattle.sbpl_promises.specs.sbpl_cost.States.{state_count}
+use Rattle.sbpl_promises.specs.sbpl_cost.World.{World}
+use Rattle.sbpl_promises.specs.sbpl_cfg.Environment.{Environment}
+use Rattle.sbpl_promises.specs.sbpl_job.declared.job.DemoJob.{DemoJob}
+use Rattle.sbpl_promises.specs.sbpl_job.declared.job.Sources.{Sources}
+use Rattle.sbpl_promises.specs.sbpl_report.declared.record.PlanRecord.{PlanRecord}
 use Rattle.sbpl_promises.specs.Causes.{AreDemonstrated, IsDrawn, ReadsWorld, demo_search, no_outputs}
 use Rattle.sbpl_promises.specs.Determined.{AreAlikeWorlds, FewAreFirst, RecordsAreOne}
-use Rattle.sbpl_plan.specs.declared.found.Found.{Found}
+use Rattle.sbpl_promises.specs.sbpl_plan.declared.found.Found.{Found}
 use Rattle.sbpl_promises.specs.Headline.{ArePlans}
 use Rattle.sbpl_promises.specs.LatticeSite.{lattice_site}
 use Rattle.sbpl_promises.specs.Published.{Entry}
 use Rattle.sbpl_promises.specs.Texts.{still}
 use Rattle.sbpl_promises.specs.Intents.{last_write, listing_writes}
-use Rattle.sbpl_report.specs.Listing.{listing_at, listing_by}
-use Rattle.sbpl_report.specs.Report.{demo_text}
+use Rattle.sbpl_promises.specs.sbpl_report.Listing.{listing_at, listing_by}
+use Rattle.sbpl_promises.specs.sbpl_report.Report.{demo_text}
 use Rattle.sbpl_promises.specs.Writing.{Told, to_output}
 use Rattle.sbpl_promises.specs.Clear.{TextsAreClear}
 use Rattle.sbpl_laws.proofs.LatticeAlike.{made}

@@ -1,26 +1,26 @@
 -- The files of a job stand for one world and one list of batches, and its plans have one list of records.
 use Rattle.std.proofs.Common.{◌≡◌, ℕ, Bool, true, Option, Some, None, List, ◌++◌, IsSome, IfSome, sym, ap, subst, ◌∙◌}
 use Rattle.std.proofs.lemmas.Bool.{false≢true}
-use Rattle.sbpl_cfg.specs.Environment.{Environment}
-use Rattle.sbpl_map.specs.CellMap.{CellMap}
-use Rattle.sbpl_cost.specs.World.{World}
-use Rattle.sbpl_job.specs.declared.job.Outputs.{Outputs}
-use Rattle.sbpl_job.specs.declared.job.SearchJob.{SearchJob}
-use Rattle.sbpl_job.specs.declared.job.Sources.{Sources}
-use Rattle.sbpl_report.specs.declared.record.PlanRecord.{PlanRecord}
+use Rattle.sbpl_promises.specs.sbpl_cfg.Environment.{Environment}
+use Rattle.sbpl_promises.specs.sbpl_map.CellMap.{CellMap}
+use Rattle.sbpl_promises.specs.sbpl_cost.World.{World}
+use Rattle.sbpl_promises.specs.sbpl_job.declared.job.Outputs.{Outputs}
+use Rattle.sbpl_promises.specs.sbpl_job.declared.job.SearchJob.{SearchJob}
+use Rattle.sbpl_promises.specs.sbpl_job.declared.job.Sources.{Sources}
+use Rattle.sbpl_promises.specs.sbpl_report.declared.record.PlanRecord.{PlanRecord}
 use Rattle.sbpl_promises.specs.Asked.{is_determined}
 use Rattle.sbpl_promises.specs.Causes.{ArePlanned, IsReadText, ReadsCourse, ReadsWorld, grid_files}
 use Rattle.sbpl_promises.specs.Causes.{grid_scope, lattice_files, scope_of}
 use Rattle.sbpl_promises.specs.declared.course.Course.{Course}
 use Rattle.sbpl_promises.specs.Determined.{AreAlikeWorlds, FewAreFirst, RecordsAreOne}
-use Rattle.sbpl_plan.specs.declared.found.Found.{Found}
+use Rattle.sbpl_promises.specs.sbpl_plan.declared.found.Found.{Found}
 use Rattle.sbpl_promises.specs.Headline.{ArePlans}
 use Rattle.sbpl_promises.specs.WorldFiles.{WorldFiles}
 use Rattle.sbpl_promises.specs.Published.{Entry}
 use Rattle.sbpl_promises.specs.Texts.{IsChangeText, IsEnvironmentText, IsGridText, IsPrimitiveText, Scope, scope_for}
 use Rattle.sbpl_promises.specs.Writing.{Told}
 use Rattle.sbpl_promises.specs.Clear.{TextsAreClear}
-use Rattle.sbpl_nav2d.specs.World.{GridWorld}
+use Rattle.sbpl_promises.specs.sbpl_nav2d.World.{GridWorld}
 use Rattle.sbpl_laws.proofs.GridAlike.{AreOneGrid}
 
 -- what is read of a file that the desk tells is determined

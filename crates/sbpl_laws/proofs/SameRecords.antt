@@ -5,56 +5,56 @@ use Rattle.std.proofs.lemmas.Bool.{MatchBool-at_true, false≢true}
 use Rattle.std.proofs.lemmas.List.{ext_get_or, length-append, nil_from_length}
 use Rattle.std.proofs.lemmas.Option.{same_Some}
 use Rattle.std.specs.Option.{is_some}
-use Rattle.sbpl_graph.specs.Bound.{IsLow}
-use Rattle.sbpl_graph.specs.Network.{Network}
-use Rattle.sbpl_map.specs.CellMap.{CellMap}
-use Rattle.sbpl_map.specs.declared.write.Write.{Write}
-use Rattle.sbpl_cert.specs.Sections.{FullSection, row_at}
-use Rattle.sbpl_cert.specs.Sections as section
-use Rattle.sbpl_cert.specs.Cut.{AreCutRows, CutRowsAreOne}
-use Rattle.sbpl_cert.specs.Sparse.{SparseSection}
-use Rattle.sbpl_cert.specs.declared.outcome.Outcome as told
-use Rattle.sbpl_cert.specs.declared.section.Section.{Section}
-use Rattle.sbpl_cert.specs.declared.section.Section.TheVariants.{Full, Sparse}
-use Rattle.sbpl_job.specs.declared.job.LabelForm.{LabelForm}
-use Rattle.sbpl_job.specs.declared.job.LabelForm.TheVariants as form
-use Rattle.sbpl_cert.specs.declared.row.Row.{Row}
-use Rattle.sbpl_labels.specs.Marks.{Marks, states_of, g_of, v_of, back_of}
-use Rattle.sbpl_search.specs.Determined.{AreAlikeGuides, AreBeginningsDetermined, AreDetermined}
-use Rattle.sbpl_search.specs.Meaning.{Meaning}
-use Rattle.sbpl_report.specs.declared.record.TraceLine.{TraceLine}
-use Rattle.sbpl_report.specs.Traces.{traced_pass}
-use Rattle.sbpl_serial.specs.Determined.{InitialLabelsAreOne}
-use Rattle.sbpl_ara.specs.Planner.{ara}
-use Rattle.sbpl_adstar.specs.Planner.{adstar}
-use Rattle.sbpl_job.specs.declared.job.Planner.{Planner}
-use Rattle.sbpl_job.specs.declared.job.Planner.TheVariants as planner
-use Rattle.sbpl_plan.specs.declared.ask.Ask.{Ask}
-use Rattle.sbpl_plan.specs.declared.passes.Pass.{Pass}
-use Rattle.sbpl_plan.specs.declared.result.FoundPath.{FoundPath}
-use Rattle.sbpl_plan.specs.declared.result.Outcome.{Outcome}
-use Rattle.sbpl_plan.specs.declared.result.Outcome.TheVariants as outcome
-use Rattle.sbpl_plan.specs.Asked.{lowered}
-use Rattle.sbpl_plan.specs.Determined.{AreWithin, OutcomesAreOne, PassesAreOne}
-use Rattle.sbpl_plan.specs.Outcomes.{IsResultOf}
-use Rattle.sbpl_plan.specs.Passing.{ArePasses, Inquiry, expansions, query_at}
-use Rattle.sbpl_job.specs.declared.job.Outputs.{Outputs}
-use Rattle.sbpl_job.specs.declared.job.SearchJob.{SearchJob}
-use Rattle.sbpl_report.specs.declared.record.PathStep.{PathStep}
-use Rattle.sbpl_report.specs.declared.record.PathRecord.{PathRecord}
-use Rattle.sbpl_report.specs.declared.record.PlanRecord.{PlanRecord}
+use Rattle.sbpl_promises.specs.sbpl_graph.Bound.{IsLow}
+use Rattle.sbpl_promises.specs.sbpl_graph.Network.{Network}
+use Rattle.sbpl_promises.specs.sbpl_map.CellMap.{CellMap}
+use Rattle.sbpl_promises.specs.sbpl_map.declared.write.Write.{Write}
+use Rattle.sbpl_promises.specs.sbpl_cert.Sections.{FullSection, row_at}
+use Rattle.sbpl_promises.specs.sbpl_cert.Sections as section
+use Rattle.sbpl_promises.specs.sbpl_cert.Cut.{AreCutRows, CutRowsAreOne}
+use Rattle.sbpl_promises.specs.sbpl_cert.Sparse.{SparseSection}
+use Rattle.sbpl_promises.specs.sbpl_cert.declared.outcome.Outcome as told
+use Rattle.sbpl_promises.specs.sbpl_cert.declared.section.Section.{Section}
+use Rattle.sbpl_promises.specs.sbpl_cert.declared.section.Section.TheVariants.{Full, Sparse}
+use Rattle.sbpl_promises.specs.sbpl_job.declared.job.LabelForm.{LabelForm}
+use Rattle.sbpl_promises.specs.sbpl_job.declared.job.LabelForm.TheVariants as form
+use Rattle.sbpl_promises.specs.sbpl_cert.declared.row.Row.{Row}
+use Rattle.sbpl_promises.specs.sbpl_labels.Marks.{Marks, states_of, g_of, v_of, back_of}
+use Rattle.sbpl_promises.specs.sbpl_search.Determined.{AreAlikeGuides, AreBeginningsDetermined, AreDetermined}
+use Rattle.sbpl_promises.specs.sbpl_search.Meaning.{Meaning}
+use Rattle.sbpl_promises.specs.sbpl_report.declared.record.TraceLine.{TraceLine}
+use Rattle.sbpl_promises.specs.sbpl_report.Traces.{traced_pass}
+use Rattle.sbpl_promises.specs.sbpl_serial.Determined.{InitialLabelsAreOne}
+use Rattle.sbpl_promises.specs.sbpl_ara.Planner.{ara}
+use Rattle.sbpl_promises.specs.sbpl_adstar.Planner.{adstar}
+use Rattle.sbpl_promises.specs.sbpl_job.declared.job.Planner.{Planner}
+use Rattle.sbpl_promises.specs.sbpl_job.declared.job.Planner.TheVariants as planner
+use Rattle.sbpl_promises.specs.sbpl_plan.declared.ask.Ask.{Ask}
+use Rattle.sbpl_promises.specs.sbpl_plan.declared.passes.Pass.{Pass}
+use Rattle.sbpl_promises.specs.sbpl_plan.declared.result.FoundPath.{FoundPath}
+use Rattle.sbpl_promises.specs.sbpl_plan.declared.result.Outcome.{Outcome}
+use Rattle.sbpl_promises.specs.sbpl_plan.declared.result.Outcome.TheVariants as outcome
+use Rattle.sbpl_promises.specs.sbpl_plan.Asked.{lowered}
+use Rattle.sbpl_promises.specs.sbpl_plan.Determined.{AreWithin, OutcomesAreOne, PassesAreOne}
+use Rattle.sbpl_promises.specs.sbpl_plan.Outcomes.{IsResultOf}
+use Rattle.sbpl_promises.specs.sbpl_plan.Passing.{ArePasses, Inquiry, expansions, query_at}
+use Rattle.sbpl_promises.specs.sbpl_job.declared.job.Outputs.{Outputs}
+use Rattle.sbpl_promises.specs.sbpl_job.declared.job.SearchJob.{SearchJob}
+use Rattle.sbpl_promises.specs.sbpl_report.declared.record.PathStep.{PathStep}
+use Rattle.sbpl_promises.specs.sbpl_report.declared.record.PathRecord.{PathRecord}
+use Rattle.sbpl_promises.specs.sbpl_report.declared.record.PlanRecord.{PlanRecord}
 use Rattle.sbpl_promises.specs.Asked.{Known, Search, ask_of, checked_direction, is_determined, known, search_of}
 use Rattle.sbpl_promises.specs.Sites.{Site, start_after}
-use Rattle.sbpl_job.specs.Jobs.{may_move}
-use Rattle.sbpl_replan.specs.Directions.{Direction}
+use Rattle.sbpl_promises.specs.sbpl_job.Jobs.{may_move}
+use Rattle.sbpl_promises.specs.sbpl_replan.Directions.{Direction}
 use Rattle.sbpl_promises.specs.Headline.{AreRecords, AreSteps, Carried, IsMarked, IsPlanOf, IsSearched, IsTurned}
 use Rattle.sbpl_promises.specs.Headline.{Joins, IsSameResult, expanded_before}
-use Rattle.sbpl_back.specs.Reversed.{PathsTurnOnce}
-use Rattle.sbpl_map.specs.MapAfter.{IsMapAfter}
+use Rattle.sbpl_promises.specs.sbpl_back.Reversed.{PathsTurnOnce}
+use Rattle.sbpl_promises.specs.sbpl_map.MapAfter.{IsMapAfter}
 use Rattle.sbpl_laws.proofs.AlikeSites.{AreAlike, GoesAlike, LeadsOnce, goes_alike, leads_once, same_starts}
 use Rattle.sbpl_promises.specs.Determined.{FewAreFirst, RecordsAreOne}
 use Rattle.sbpl_promises.specs.Published.{Entry, founds, newest, with_paths, with_plan}
-use Rattle.sbpl_report.specs.Shown.{IsShown, IsShownInFull, IsShownSparsely, IsThere}
+use Rattle.sbpl_promises.specs.sbpl_report.Shown.{IsShown, IsShownInFull, IsShownSparsely, IsThere}
 use Rattle.sbpl_laws.proofs.OneEnding.{OneMap}
 use Rattle.sbpl_laws.proofs.SameBegun.{AreCarried, one_begun}
 

@@ -2,21 +2,21 @@
 use Rattle.std.proofs.Common.{◌≡◌, ◌≢◌, ◌⊎◌, ℕ, Bool, true, false, Option, Some, None, List, [], ◌∷◌, ◌++◌, flat_map}
 use Rattle.std.proofs.Common.{length, IsSome, IfSome, refl, sym, ap, subst, ◌∙◌, append_assoc, inl, inr}
 use Rattle.std.proofs.lemmas.Option.{same_Some}
-use Rattle.sbpl_cost.specs.Alike.{AlikeWorldsAreOneGraph}
-use Rattle.sbpl_cost.specs.Lattices.{network_of}
-use Rattle.sbpl_cost.specs.World.{World}
-use Rattle.sbpl_cert.specs.declared.outcome.Outcome.{Outcome}
-use Rattle.sbpl_job.specs.declared.job.CheckJob.{CheckJob}
-use Rattle.sbpl_job.specs.declared.job.DemoJob.{DemoJob}
-use Rattle.sbpl_job.specs.declared.job.Job.{Job}
-use Rattle.sbpl_job.specs.declared.job.Job.TheVariants as job
-use Rattle.sbpl_job.specs.Jobs.{may_move}
-use Rattle.sbpl_job.specs.declared.job.PlanJob.{PlanJob}
-use Rattle.sbpl_job.specs.declared.job.Sources.{Sources}
+use Rattle.sbpl_promises.specs.sbpl_cost.Alike.{AlikeWorldsAreOneGraph}
+use Rattle.sbpl_promises.specs.sbpl_cost.Lattices.{network_of}
+use Rattle.sbpl_promises.specs.sbpl_cost.World.{World}
+use Rattle.sbpl_promises.specs.sbpl_cert.declared.outcome.Outcome.{Outcome}
+use Rattle.sbpl_promises.specs.sbpl_job.declared.job.CheckJob.{CheckJob}
+use Rattle.sbpl_promises.specs.sbpl_job.declared.job.DemoJob.{DemoJob}
+use Rattle.sbpl_promises.specs.sbpl_job.declared.job.Job.{Job}
+use Rattle.sbpl_promises.specs.sbpl_job.declared.job.Job.TheVariants as job
+use Rattle.sbpl_promises.specs.sbpl_job.Jobs.{may_move}
+use Rattle.sbpl_promises.specs.sbpl_job.declared.job.PlanJob.{PlanJob}
+use Rattle.sbpl_promises.specs.sbpl_job.declared.job.Sources.{Sources}
 use Rattle.sbpl_promises.specs.declared.section_stop.SectionStop.{SectionStop}
 use Rattle.sbpl_promises.specs.declared.section_stop.SectionStop.TheVariants as section
-use Rattle.sbpl_report.specs.declared.record.PlanRecord.{PlanRecord}
-use Rattle.sbpl_report.specs.declared.refusal.Refusal.{Refusal}
+use Rattle.sbpl_promises.specs.sbpl_report.declared.record.PlanRecord.{PlanRecord}
+use Rattle.sbpl_promises.specs.sbpl_report.declared.refusal.Refusal.{Refusal}
 use Rattle.sbpl_promises.specs.Asked.{is_determined}
 use Rattle.sbpl_promises.specs.Causes.{ArePlanned, CausesStand, IsCheckCause, IsEarlyCause, IsEarlyInput, IsJobCause}
 use Rattle.sbpl_promises.specs.Causes.{IsSource, check_files, grid_files, plan_files}
@@ -25,10 +25,10 @@ use Rattle.sbpl_laws.proofs.AlikeSites.{AreAlike}
 use Rattle.sbpl_laws.proofs.LatticeAlike.{lattices_alike}
 use Rattle.sbpl_laws.proofs.GridAlike.{AreOneGrid, grids_alike}
 use Rattle.sbpl_promises.specs.GridSite.{grid_site}
-use Rattle.sbpl_job.specs.declared.job.NavJob.{NavJob}
-use Rattle.sbpl_job.specs.declared.job.NavCheckJob.{NavCheckJob}
-use Rattle.sbpl_job.specs.declared.job.Outputs.{Outputs}
-use Rattle.sbpl_job.specs.declared.job.SearchJob.{SearchJob}
+use Rattle.sbpl_promises.specs.sbpl_job.declared.job.NavJob.{NavJob}
+use Rattle.sbpl_promises.specs.sbpl_job.declared.job.NavCheckJob.{NavCheckJob}
+use Rattle.sbpl_promises.specs.sbpl_job.declared.job.Outputs.{Outputs}
+use Rattle.sbpl_promises.specs.sbpl_job.declared.job.SearchJob.{SearchJob}
 use Rattle.sbpl_promises.specs.Clear.{SectionsAreClear, TextsAreClear}
 use Rattle.sbpl_promises.specs.LatticeSite.{lattice_site}
 use Rattle.sbpl_promises.specs.Determined.{AreAlikeWorlds, ArePrefixes, AreTold, CallsFor, FewAreFirst, IsDeterminedJob}
@@ -36,12 +36,12 @@ use Rattle.sbpl_promises.specs.Determined.{IsInput, IsNoFailure, NoName, NoneRos
 use Rattle.sbpl_promises.specs.Intents.{BeginsAfter, Intent, Refused, Planned, Checked, Listed, Demonstrated}
 use Rattle.sbpl_promises.specs.Intents.{OutOfMemory, checked_status, end_writes, intent_status, lines_writes}
 use Rattle.sbpl_promises.specs.Intents.{outputs_of, plans_writes, section_writes, writes_of}
-use Rattle.sbpl_report.specs.Refusals.{refusal_status}
+use Rattle.sbpl_promises.specs.sbpl_report.Refusals.{refusal_status}
 use Rattle.sbpl_promises.specs.Promises.{GivesIntent, EndsJob, EndsRun, IsChecked, IsDemonstration}
 use Rattle.sbpl_promises.specs.Promises.{by_job, by_memory, by_words}
-use Rattle.sbpl_plan.specs.declared.found.Found.{Found}
+use Rattle.sbpl_promises.specs.sbpl_plan.declared.found.Found.{Found}
 use Rattle.sbpl_promises.specs.Published.{Entry}
-use Rattle.sbpl_report.specs.Report.{demo_text, plan_line}
+use Rattle.sbpl_promises.specs.sbpl_report.Report.{demo_text, plan_line}
 use Rattle.sbpl_promises.specs.Writing.{AreAppended, DeskState, IsNamed, Names, ReadFailed, Told, Write, to_output}
 use Rattle.sbpl_laws.proofs.Prefixes.{ends_prefix, made_prefix, none_made}
 use Rattle.sbpl_laws.proofs.OneEnding.{OneMap}

@@ -8,24 +8,24 @@ use Rattle.std.proofs.lemmas.List.FromFn.{get_or-range_with_len, length-range_wi
 use Rattle.std.proofs.lemmas.Option.{slice_get_cases}
 use Rattle.std.specs.List.{All, range_with_len}
 use Rattle.std.specs.Option.{is_some}
-use Rattle.sbpl_fixed.specs.Printed.{line_text}
-use Rattle.sbpl_map.specs.declared.write.Write as change
-use Rattle.sbpl_mprim.specs.declared.prim.Primitive.{Primitive}
-use Rattle.sbpl_sweep.specs.declared.cell.Cell.{Cell}
-use Rattle.sbpl_cert.specs.Printed as labels
-use Rattle.sbpl_cert.specs.declared.outcome.Outcome.{Outcome}
-use Rattle.sbpl_cert.specs.declared.section.Section.{Section}
-use Rattle.sbpl_cert.specs.declared.section.Section.TheVariants.{Full, Sparse}
-use Rattle.sbpl_cost.specs.World.{World}
-use Rattle.sbpl_job.specs.declared.job.Job.{Job}
-use Rattle.sbpl_job.specs.declared.job.Job.TheVariants as job
-use Rattle.sbpl_job.specs.declared.job.Outputs.{Outputs}
-use Rattle.sbpl_job.specs.declared.job.SearchJob.{SearchJob}
-use Rattle.sbpl_job.specs.declared.job.Sources.{Sources}
-use Rattle.sbpl_cert.specs.declared.flaw.Flaw.{Flaw}
-use Rattle.sbpl_report.specs.declared.record.PlanRecord.{PlanRecord}
-use Rattle.sbpl_report.specs.declared.refusal.Refusal.{Refusal}
-use Rattle.sbpl_report.specs.declared.refusal.Refusal.TheVariants as refusal
+use Rattle.sbpl_promises.specs.sbpl_fixed.Printed.{line_text}
+use Rattle.sbpl_promises.specs.sbpl_map.declared.write.Write as change
+use Rattle.sbpl_promises.specs.sbpl_mprim.declared.prim.Primitive.{Primitive}
+use Rattle.sbpl_promises.specs.sbpl_sweep.declared.cell.Cell.{Cell}
+use Rattle.sbpl_promises.specs.sbpl_cert.Printed as labels
+use Rattle.sbpl_promises.specs.sbpl_cert.declared.outcome.Outcome.{Outcome}
+use Rattle.sbpl_promises.specs.sbpl_cert.declared.section.Section.{Section}
+use Rattle.sbpl_promises.specs.sbpl_cert.declared.section.Section.TheVariants.{Full, Sparse}
+use Rattle.sbpl_promises.specs.sbpl_cost.World.{World}
+use Rattle.sbpl_promises.specs.sbpl_job.declared.job.Job.{Job}
+use Rattle.sbpl_promises.specs.sbpl_job.declared.job.Job.TheVariants as job
+use Rattle.sbpl_promises.specs.sbpl_job.declared.job.Outputs.{Outputs}
+use Rattle.sbpl_promises.specs.sbpl_job.declared.job.SearchJob.{SearchJob}
+use Rattle.sbpl_promises.specs.sbpl_job.declared.job.Sources.{Sources}
+use Rattle.sbpl_promises.specs.sbpl_cert.declared.flaw.Flaw.{Flaw}
+use Rattle.sbpl_promises.specs.sbpl_report.declared.record.PlanRecord.{PlanRecord}
+use Rattle.sbpl_promises.specs.sbpl_report.declared.refusal.Refusal.{Refusal}
+use Rattle.sbpl_promises.specs.sbpl_report.declared.refusal.Refusal.TheVariants as refusal
 use Rattle.sbpl_promises.specs.declared.section_stop.SectionStop.{SectionStop}
 use Rattle.sbpl_promises.specs.declared.section_stop.SectionStop.TheVariants as section
 use Rattle.sbpl_promises.specs.Asked.{Known}
@@ -38,15 +38,15 @@ use Rattle.sbpl_promises.specs.Sites.{start_after}
 use Rattle.sbpl_promises.specs.Intents.{Intent, Refused, Planned, Checked, Listed, Demonstrated, OutOfMemory}
 use Rattle.sbpl_promises.specs.Intents.{checked_writes, end_writes, incumbent_writes, labels_writes, last_write}
 use Rattle.sbpl_promises.specs.Intents.{section_writes, stop_writes, trace_writes, writes_of}
-use Rattle.sbpl_report.specs.Refusals.{fault_text, refusal_text, unread_text}
-use Rattle.sbpl_report.specs.Shown.{labels_text}
-use Rattle.sbpl_report.specs.Listing.{listing_at, listing_text, listings, prim_text}
+use Rattle.sbpl_promises.specs.sbpl_report.Refusals.{fault_text, refusal_text, unread_text}
+use Rattle.sbpl_promises.specs.sbpl_report.Shown.{labels_text}
+use Rattle.sbpl_promises.specs.sbpl_report.Listing.{listing_at, listing_text, listings, prim_text}
 use Rattle.sbpl_promises.specs.Promises.{GivesIntent}
 use Rattle.sbpl_promises.specs.Published.{Entry, with_plan}
-use Rattle.sbpl_report.specs.Report.{demo_text, entry_text, incumbent_text, plan_line, section_text}
-use Rattle.sbpl_report.specs.Shown.{IsThere}
-use Rattle.sbpl_report.specs.Traces.{trace_text}
-use Rattle.sbpl_report.specs.Verdicts.{flaw_kind, flaw_text, holds_text}
+use Rattle.sbpl_promises.specs.sbpl_report.Report.{demo_text, entry_text, incumbent_text, plan_line, section_text}
+use Rattle.sbpl_promises.specs.sbpl_report.Shown.{IsThere}
+use Rattle.sbpl_promises.specs.sbpl_report.Traces.{trace_text}
+use Rattle.sbpl_promises.specs.sbpl_report.Verdicts.{flaw_kind, flaw_text, holds_text}
 use Rattle.sbpl_promises.specs.WriteTexts.{NoneEmpty, WritesAreCounted, WritesHaveTexts, named_count}
 use Rattle.sbpl_promises.specs.Writing.{Names, ReadFailed, Told, Write, to_named, to_output}
 

@@ -9,21 +9,13 @@ ghost use Rattle.sbpl_promises.specs.LatticeSite.{lattice_site};
 ghost use Rattle.sbpl_promises.specs.RunPromises.{RunsKeepPromises};
 ghost use Rattle.sbpl_promises.specs.WriteTexts.{WritesAreCounted, WritesHaveTexts};
 
-use sbpl_adstar::AdStar;
-use sbpl_ara::Ara;
-use sbpl_back::paths_turn_round;
-use sbpl_cert::{cut_rows_are_one, first_flaws_are_one, texts_are_sections_or_faulty};
-use sbpl_cfg::texts_are_environments_or_faulty;
-use sbpl_cost::{Lattice, alike_worlds_are_one_graph};
-use sbpl_heur::Best;
-use sbpl_map::{
-    texts_are_changes_or_faulty, texts_are_moves_or_faulty, writes_lead_to_the_next_map,
+use sbpl_promises::{
+    AdStar, Ara, Best, Lattice, alike_worlds_are_one_graph, causes_stand, cut_rows_are_one,
+    first_flaws_are_one, paths_turn_round, plan_is_determined, run_is_determined,
+    texts_are_changes_or_faulty, texts_are_environments_or_faulty, texts_are_grids_or_faulty,
+    texts_are_moves_or_faulty, texts_are_primitives_or_faulty, texts_are_sections_or_faulty,
+    writes_lead_to_the_next_map,
 };
-use sbpl_mprim::texts_are_primitives_or_faulty;
-use sbpl_nav2d::texts_are_grids_or_faulty;
-use sbpl_plan::plan_is_determined;
-use sbpl_promises::causes_stand;
-use sbpl_serial::run_is_determined;
 
 /// No text of a file has two readings: it stands for one value or has one first fault, and never both; and
 /// a section of labels has one first flaw. It does nothing.

@@ -1,12 +1,10 @@
 //! The program from its start: its words, and its exit status.
 
 ghost use Rattle.std.specs.Prelude.{◌≡◌, drop};
-ghost use Rattle.sbpl_promises.specs.Promises.{IsStatus};
+ghost use Rattle.sbpl_cli.specs.sbpl_promises.Promises.{IsStatus};
 
 use crate::progress::answer_at_terminal;
-use sbpl_answer::{NO_MEMORY, NoGate, answer};
-use sbpl_desk::RealDesk;
-use sbpl_incumbent::Board;
+use sbpl_cli::{Board, NO_MEMORY, NoGate, RealDesk, answer};
 use std::io::IsTerminal;
 use std::rt::{Env, Files};
 use std::sync::Wait;

@@ -1,11 +1,11 @@
 //! The newest path, shown to people while the planner works.
 
 ghost use Rattle.std.specs.Prelude.{◌≡◌, ◌<◌, ◌^◌, length};
-ghost use Rattle.sbpl_promises.specs.Promises.{IsStatus};
+ghost use Rattle.sbpl_cli.specs.sbpl_promises.Promises.{IsStatus};
 
-use sbpl_answer::{NO_MEMORY, NoGate, answer};
-use sbpl_desk::{Desk, ReadStop, RealDesk, WriteStop};
-use sbpl_incumbent::{Board, Entry, Publisher, Reader};
+use sbpl_cli::{
+    Board, Desk, Entry, NO_MEMORY, NoGate, Publisher, ReadStop, Reader, RealDesk, WriteStop, answer,
+};
 use std::alloc::{AllocError, Global};
 use std::io;
 use std::rt::Files;

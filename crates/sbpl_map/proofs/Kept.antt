@@ -7,7 +7,7 @@ use Rattle.std.specs.List.{filter_map, last_or}
 use Rattle.std.proofs.lemmas.List.Elements.{filter_map-append}
 use Rattle.std.proofs.lemmas.List.{length-map}
 use Rattle.sbpl_cfg.specs.declared.pose.Place.{Place}
-use Rattle.sbpl_fixed.specs.Formats.{Answers}
+use Rattle.sbpl_cfg.specs.sbpl_fixed.Formats.{Answers}
 use Rattle.sbpl_map.specs.ChangeText.{Given, place_in, place_of, write_in, writes_of}
 use Rattle.sbpl_map.specs.Reading.{Drafted, Kept, closed, drafted, kept_of, parted}
 use Rattle.sbpl_map.specs.declared.write.Write.{Write}

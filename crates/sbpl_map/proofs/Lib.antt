@@ -7,3 +7,4 @@ mod MapLaws
 mod PrintedText
 mod TextLaws
 mod Texts
+pub use Rattle.sbpl_cfg.proofs.Items

@@ -6,9 +6,9 @@ use Rattle.std.proofs.lemmas.Bool.{cases_Bool, false≢true, or_cases, or_parts,
 use Rattle.std.proofs.lemmas.Bool.{and_from, ltb-true, ltb-false, le-ltb, lt-ltb, false_from_ne_true}
 use Rattle.std.proofs.lemmas.Int.{ints}
 use Rattle.std.proofs.lemmas.Slice.Eq.{bytes_eq-Decides}
-use Rattle.sbpl_fixed.specs.Numbers.{whole_of}
-use Rattle.sbpl_fixed.specs.declared.fault.NumFault.{NumFault}
-use Rattle.sbpl_fixed.specs.declared.fault.NumFault.TheVariants.{Form, Size}
+use Rattle.sbpl_cfg.specs.sbpl_fixed.Numbers.{whole_of}
+use Rattle.sbpl_cfg.specs.sbpl_fixed.declared.fault.NumFault.{NumFault}
+use Rattle.sbpl_cfg.specs.sbpl_fixed.declared.fault.NumFault.TheVariants.{Form, Size}
 use Rattle.sbpl_map.specs.CellMap.{CellMap}
 use Rattle.sbpl_map.specs.ChangeText.{cell_line, start_line, HasThree, IsNoStart, IsNumberBelow}
 use Rattle.sbpl_map.specs.ChangeText.{Give, IsCellOnMap, LineTells}

@@ -5,10 +5,10 @@ use Rattle.std.specs.Prelude.{decimal, ◌==◌, slice_index}
 use Rattle.std.specs.List.{flat_map, AllByRecursion, list_all, slice_split, onto_first, filter}
 use Rattle.std.specs.Str.Lines.{lines, lines_of_parts, strip_carriage_return}
 use Rattle.std.proofs.lemmas.Bool.{cases_Bool, eqb-true, and_parts}
-use Rattle.sbpl_fixed.specs.Printed.{line_text, lines_text}
-use Rattle.sbpl_fixed.specs.Tokens.{is_filled}
-use Rattle.sbpl_fixed.specs.ReadBack.{IsWord}
-use Rattle.sbpl_fixed.proofs.ReadBack.{wholes_are_read_back, wholes_are_words}
+use Rattle.sbpl_cfg.specs.sbpl_fixed.Printed.{line_text, lines_text}
+use Rattle.sbpl_cfg.specs.sbpl_fixed.Tokens.{is_filled}
+use Rattle.sbpl_cfg.specs.sbpl_fixed.ReadBack.{IsWord}
+use Rattle.sbpl_cfg.proofs.ReadBack.{wholes_are_read_back, wholes_are_words}
 use Rattle.sbpl_map.specs.CellMap.{CellMap}
 use Rattle.sbpl_map.specs.ChangeText.{LinesSay, AreOnMap, IsNumberBelow, IsTextOf, IsWriteOnMap, LineTells}
 use Rattle.sbpl_map.specs.ChangeText.{spelled, spelled_batch, lines_with_fields}

@@ -5,7 +5,7 @@ use Rattle.std.specs.Prelude.{◌⊎◌, ◌↔◌, IfOk, IfErr}
 use Rattle.std.specs.List.{AllByRecursion, filter_map, flat_map, last_or}
 use Rattle.std.specs.Str.Lines.{lines}
 use Rattle.sbpl_cfg.specs.declared.pose.Place.{Place}
-use Rattle.sbpl_fixed.specs.Formats.{Answers}
+use Rattle.sbpl_cfg.specs.sbpl_fixed.Formats.{Answers}
 use Rattle.sbpl_map.specs.CellMap.{CellMap}
 use Rattle.sbpl_map.specs.ChangeText.{ArePlacesOnMap, AreOnMap, Given, HasNoStarts, IsCellOnMap, IsMovesText}
 use Rattle.sbpl_map.specs.ChangeText.{IsMovesTextOf, IsPlaceOnMap, IsText, IsTextOf, IsWriteOnMap, LinesTell}

@@ -7,7 +7,7 @@ use Rattle.std.specs.Prelude.{◌≡◌, ◌≢◌, ◌⊎◌, ℕ, pos, ◌<◌
 use Rattle.std.specs.List.{filter, filter_map, flat_map, last_or, AllByRecursion}
 use Rattle.std.specs.Str.Lines.{lines}
 use Rattle.sbpl_cfg.specs.declared.pose.Place.{Place}
-use Rattle.sbpl_fixed.specs.Numbers.{whole_of}
+use Rattle.sbpl_cfg.specs.sbpl_fixed.Numbers.{whole_of}
 use Rattle.sbpl_map.specs.CellMap.{CellMap}
 use Rattle.sbpl_map.specs.Fields.{fields, has_some}
 use Rattle.sbpl_map.specs.declared.write.Write.{Write}

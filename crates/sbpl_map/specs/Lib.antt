@@ -6,3 +6,4 @@ pub mod LineFaults
 pub mod MapAfter
 pub mod Printed
 pub mod Reading
+pub use Rattle.sbpl_cfg.specs as sbpl_cfg

@@ -3,8 +3,8 @@
 use Rattle.std.specs.Prelude.{◌≡◌, ◌≢◌, ℕ, ℤ, pos, ◌+◌, ◌<ℤ◌, ◌≤ℤ◌, ◌⊎◌, List, [], ◌∷◌, ◌++◌, length, Option, Some, None, Ok, Err}
 use Rattle.std.specs.List.{AllByRecursion}
 use Rattle.std.specs.Str.Lines.{lines}
-use Rattle.sbpl_fixed.specs.Numbers.{whole_of}
-use Rattle.sbpl_fixed.specs.declared.fault.NumFault.TheVariants.{Form, Size}
+use Rattle.sbpl_cfg.specs.sbpl_fixed.Numbers.{whole_of}
+use Rattle.sbpl_cfg.specs.sbpl_fixed.declared.fault.NumFault.TheVariants.{Form, Size}
 use Rattle.sbpl_map.specs.CellMap.{CellMap}
 use Rattle.sbpl_map.specs.ChangeText.{replan_line, Give, Given, HasThree, IsCellOnMap, LineTells, said_by}
 use Rattle.sbpl_map.specs.Fields.{fields}

@@ -1,7 +1,7 @@
 -- The plain text of batches of changes: a line for each write, and one for the end of each batch.
 use Rattle.std.specs.Prelude.{ℕ, ◌≤◌, List, [], ◌∷◌, ◌++◌, map, decimal}
 use Rattle.std.specs.List.{flat_map, AllByRecursion}
-use Rattle.sbpl_fixed.specs.Printed.{lines_text}
+use Rattle.sbpl_cfg.specs.sbpl_fixed.Printed.{lines_text}
 use Rattle.sbpl_map.specs.CellMap.{CellMap}
 use Rattle.sbpl_map.specs.ChangeText.{cell_line, replan_line, AreOnMap}
 use Rattle.sbpl_map.specs.declared.write.Write.{Write}

@@ -3,9 +3,9 @@ use Rattle.std.proofs.Common.{inl, inr}
 use Rattle.std.specs.Prelude.{ℕ, ℤ, pos, negsuc, ◌+◌, ◌||◌, ◌&&◌, Bool, true, false, if◌then◌else◌, nat_lt, bytes_eq, List, [], ◌∷◌, ◌++◌, map, codes, Option, Some, None, Result, Ok, Err}
 use Rattle.std.specs.Str.Lines.{lines}
 use Rattle.sbpl_cfg.specs.declared.pose.Place.{Place}
-use Rattle.sbpl_fixed.specs.Numbers.{whole_of}
-use Rattle.sbpl_fixed.specs.declared.fault.NumFault.{NumFault}
-use Rattle.sbpl_fixed.specs.declared.fault.NumFault.TheVariants.{Form, Size}
+use Rattle.sbpl_cfg.specs.sbpl_fixed.Numbers.{whole_of}
+use Rattle.sbpl_cfg.specs.sbpl_fixed.declared.fault.NumFault.{NumFault}
+use Rattle.sbpl_cfg.specs.sbpl_fixed.declared.fault.NumFault.TheVariants.{Form, Size}
 use Rattle.sbpl_map.specs.CellMap.{CellMap}
 use Rattle.sbpl_map.specs.ChangeText.{Given, place_of, writes_of}
 use Rattle.sbpl_map.specs.Fields.{fields}

@@ -3,8 +3,7 @@
 ghost use Rattle.std.specs.Prelude.{◌≡◌, ◌+◌, ◌<◌, ◌^◌, [], ◌∷◌, ◌++◌, length, slice_get, Some, IfOk, OnOk, OnErr};
 
 use crate::write::Write;
-use sbpl_fixed::NoMemory;
-use sbpl_runs::Runs;
+use sbpl_cfg::{NoMemory, Runs};
 use std::alloc::Global;
 use std::marker::Model;
 

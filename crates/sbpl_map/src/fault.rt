@@ -4,7 +4,7 @@ ghost use Rattle.std.specs.Prelude.{◌≡◌};
 ghost use Rattle.sbpl_map.specs.declared.fault.ChangeFault.TheVariants.{NoMemory as Memory};
 ghost use Rattle.sbpl_map.specs.Faults.{line_of, name_of, number_of};
 
-use sbpl_fixed::NoMemory;
+use sbpl_cfg::NoMemory;
 use std::alloc::{AllocError, AllocFailed};
 use thiserror::Error;
 

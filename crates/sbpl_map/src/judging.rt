@@ -9,8 +9,7 @@ use crate::line::first_field;
 use crate::map::Map;
 use crate::said::Said;
 use crate::write::Write;
-use sbpl_cfg::Place;
-use sbpl_fixed::{NumFault, read_whole};
+use sbpl_cfg::{NumFault, Place, read_whole};
 
 /// A column or a row that a line names is below this.
 const CELLS: u32 = 8_388_608;

@@ -21,5 +21,6 @@ pub use map::Map;
 pub use moves::Moves;
 pub use off_map::OffMap;
 pub use read::{read_changes, read_moves};
+pub use sbpl_cfg::{Env, EnvFault, Grid, NoMemory, read_env};
 pub use text::{texts_are_changes_or_faulty, texts_are_moves_or_faulty};
 pub use write::Write;

@@ -2,8 +2,7 @@
 
 ghost use Rattle.std.specs.Prelude.{◌≡◌, ◌<◌, [], ◌∷◌, ◌++◌, length, slice_get, Some, OnOk, OnErr};
 
-use sbpl_cfg::Place;
-use sbpl_fixed::NoMemory;
+use sbpl_cfg::{NoMemory, Place};
 use std::alloc::Global;
 use std::marker::Model;
 

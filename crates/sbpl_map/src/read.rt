@@ -1,7 +1,7 @@
 //! A change file is read.
 
 ghost use Rattle.std.specs.Prelude.{◌≡◌, ◌≢◌, ◌+◌, ◌<◌, ◌≤◌, ◌^◌, List, Option, Ok, Err, length, IfOk, IfErr, OnOk};
-ghost use Rattle.sbpl_fixed.specs.Formats.{Answers};
+ghost use Rattle.sbpl_cfg.specs.sbpl_fixed.Formats.{Answers};
 ghost use Rattle.sbpl_cfg.specs.declared.pose.Place.{Place};
 ghost use Rattle.sbpl_map.specs.declared.fault.ChangeFault.{ChangeFault};
 ghost use Rattle.sbpl_map.specs.declared.fault.ChangeFault.TheVariants.{NoMemory as Memory};
@@ -18,8 +18,7 @@ use crate::map::Map;
 use crate::moves::Moves;
 use crate::said::Said;
 use crate::write::Write;
-use sbpl_cfg::Place;
-use sbpl_fixed::NoMemory;
+use sbpl_cfg::{NoMemory, Place};
 use std::alloc::Global;
 use std::marker::Model;
 

@@ -1,6 +1,6 @@
 -- Messages, in the form that compilers use.
 use Rattle.std.specs.Prelude.{◌≡◌, ℕ, ◌&&◌, if◌then◌else◌, List, [], ◌++◌, length, map, nat_lt, take, codes, decimal}
-use Rattle.sbpl_lines.specs.Lines.{column_of, filled_at, line_of}
+use Rattle.sbpl_message.specs.Lines.{column_of, filled_at, line_of}
 
 -- a byte as a message shows it: one that is no printable character of ASCII is shown as `?`
 abbrev pub shown_byte : ℕ → ℕ

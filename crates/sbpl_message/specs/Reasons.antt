@@ -1,7 +1,7 @@
 -- What a message for a status says.
 use Rattle.std.specs.Prelude.{◌≡◌, ℕ, ◌==◌, ◌||◌, Bool, List, Option, Some, IfSome}
-use Rattle.sbpl_cfg.specs.Faults.{place_of}
-use Rattle.sbpl_cfg.specs.Text as environment_texts
+use Rattle.sbpl_nav2d.specs.sbpl_cfg.Faults.{place_of}
+use Rattle.sbpl_nav2d.specs.sbpl_cfg.Text as environment_texts
 use Rattle.sbpl_desk.specs.Desk.{DeskState}
 use Rattle.sbpl_job.specs.declared.job.Job.{Job}
 use Rattle.sbpl_job.specs.declared.job.Job.TheVariants as job

@@ -3,15 +3,15 @@
 ghost use Rattle.std.specs.Prelude.{◌≡◌, ◌≢◌, ◌*◌, ◌≤◌, ◌^◌, IfErr, IfSome, Some, None, if◌then◌else◌, length, vec_len};
 ghost use Rattle.sbpl_desk.specs.Desk.{ReadsOnly};
 ghost use Rattle.sbpl_job.specs.Jobs.{moves_in};
-ghost use Rattle.sbpl_map.specs.LineFaults.{HasTextFault};
-ghost use Rattle.sbpl_map.specs.declared.fault.ChangeFault.TheVariants.{NoMemory as Memory};
+ghost use Rattle.sbpl_nav2d.specs.sbpl_map.LineFaults.{HasTextFault};
+ghost use Rattle.sbpl_nav2d.specs.sbpl_map.declared.fault.ChangeFault.TheVariants.{NoMemory as Memory};
 ghost use Rattle.sbpl_message.specs.Reasons.{IsHeld};
 
-use sbpl_cfg::{Env, Grid, read_env};
 use sbpl_desk::{Desk, ReadStop};
 use sbpl_job::{Job, Name, Sources};
-use sbpl_map::{ChangeFault, Changes, Map, read_changes, read_moves};
-use sbpl_nav2d::read_nav;
+use sbpl_nav2d::{
+    ChangeFault, Changes, Env, Grid, Map, read_changes, read_env, read_moves, read_nav,
+};
 use std::alloc::Global;
 
 /// The files of a job's lattice, if it reads any.

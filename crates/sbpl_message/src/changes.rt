@@ -1,12 +1,12 @@
 //! Messages for faults of change files.
 
 ghost use Rattle.std.specs.Prelude.{◌≤◌, IfOk, length};
-ghost use Rattle.sbpl_map.specs.Faults.{line_of};
+ghost use Rattle.sbpl_nav2d.specs.sbpl_map.Faults.{line_of};
 ghost use Rattle.sbpl_message.specs.Messages.{IsMessageOnLine};
 
 use crate::message::message;
-use sbpl_fixed::NoMemory;
-use sbpl_map::ChangeFault;
+use sbpl_job::NoMemory;
+use sbpl_nav2d::ChangeFault;
 use std::alloc::Global;
 
 /// A line of a text, counted from 1; empty where there is none.

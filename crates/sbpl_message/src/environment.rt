@@ -1,13 +1,13 @@
 //! Messages for faults of environment files.
 
 ghost use Rattle.std.specs.Prelude.{IfOk};
-ghost use Rattle.sbpl_cfg.specs.Faults.{place_of};
+ghost use Rattle.sbpl_nav2d.specs.sbpl_cfg.Faults.{place_of};
 ghost use Rattle.sbpl_message.specs.Messages.{IsMessageAt};
 
 use crate::field::{Row, wanted_after, word_before};
 use crate::message::message_at;
-use sbpl_cfg::EnvFault;
-use sbpl_fixed::NoMemory;
+use sbpl_job::NoMemory;
+use sbpl_nav2d::EnvFault;
 use std::alloc::Global;
 
 /// What must stand where the size of a map is told, and the costs of its cells, in the file of a grid too.

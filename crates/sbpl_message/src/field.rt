@@ -1,6 +1,6 @@
 //! Which field of a file stands at a place, and what must stand there.
 
-use sbpl_fixed::next_token;
+use sbpl_job::next_token;
 
 /// What must stand after a word of a file.
 pub(crate) struct Row {

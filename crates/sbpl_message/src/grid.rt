@@ -1,14 +1,14 @@
 //! Messages for faults of the environment files of grids.
 
 ghost use Rattle.std.specs.Prelude.{IfOk};
-ghost use Rattle.sbpl_cfg.specs.Faults.{place_of};
+ghost use Rattle.sbpl_nav2d.specs.sbpl_cfg.Faults.{place_of};
 ghost use Rattle.sbpl_message.specs.Messages.{IsMessageAt};
 
 use crate::environment::{COST, HEIGHT, OBSTACLE, START, WIDTH};
 use crate::field::{Row, wanted_after, word_before};
 use crate::message::message_at;
-use sbpl_cfg::EnvFault;
-use sbpl_fixed::NoMemory;
+use sbpl_job::NoMemory;
+use sbpl_nav2d::EnvFault;
 use std::alloc::Global;
 
 /// What must stand after each word of the environment file of a grid.

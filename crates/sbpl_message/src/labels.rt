@@ -6,7 +6,7 @@ ghost use Rattle.sbpl_message.specs.Messages.{IsMessageAt};
 
 use crate::message::message_at;
 use sbpl_cert::LabelFault;
-use sbpl_fixed::NoMemory;
+use sbpl_job::NoMemory;
 use std::alloc::Global;
 
 /// What must stand at the place of a fault.

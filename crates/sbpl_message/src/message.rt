@@ -1,13 +1,13 @@
 //! The text of a message.
 
 ghost use Rattle.std.specs.Prelude.{◌≡◌, ◌++◌, IfOk, OnOk, map, take};
-ghost use Rattle.sbpl_lines.specs.Lines.{column_of, filled_at, line_of};
+ghost use Rattle.sbpl_message.specs.Lines.{column_of, filled_at, line_of};
 ghost use Rattle.sbpl_message.specs.Messages.{dots, found_text, message_text, plain_text, quoted_text, shown, shown_byte, spot_text};
 
-use sbpl_fixed::NoMemory;
-use sbpl_lines::{filled_at, line_and_column};
-use sbpl_text::Piece::{Bytes, Number};
-use sbpl_text::{push_all, push_bytes};
+use crate::lines::{filled_at, line_and_column};
+use sbpl_cert::Piece::{Bytes, Number};
+use sbpl_cert::{push_all, push_bytes};
+use sbpl_job::NoMemory;
 use std::alloc::{AllocError, Global};
 
 /// How many bytes of what stands in a file a message shows.

@@ -6,7 +6,7 @@ ghost use Rattle.sbpl_message.specs.Messages.{IsMessageAt};
 
 use crate::field::{Before, Row, is_named, wanted_after, word_before};
 use crate::message::message_at;
-use sbpl_fixed::{NoMemory, read_whole};
+use sbpl_job::{NoMemory, read_whole};
 use sbpl_mprim::PrimFault;
 use std::alloc::Global;
 

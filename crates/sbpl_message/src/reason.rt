@@ -16,15 +16,12 @@ use crate::grid::grid_message;
 use crate::labels::labels_message;
 use crate::primitives::primitives_message;
 use crate::whole::{size_message, unread_message, unwritten_message, words_message};
+use crate::wrong_words;
 use sbpl_cert::{LabelFault, read_labels};
-use sbpl_cfg::{EnvFault, read_env};
 use sbpl_desk::Desk;
-use sbpl_fixed::{NoMemory, next_token};
-use sbpl_help::wrong_words;
-use sbpl_job::{Job, Name, Sources, read_job};
-use sbpl_map::{ChangeFault, Map};
+use sbpl_job::{Job, Name, NoMemory, Sources, next_token, read_job};
 use sbpl_mprim::{PrimFault, read_prims};
-use sbpl_nav2d::read_nav;
+use sbpl_nav2d::{ChangeFault, EnvFault, Map, read_env, read_nav};
 use std::alloc::Global;
 
 /// Whether a status has a message.

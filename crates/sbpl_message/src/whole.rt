@@ -4,7 +4,7 @@ ghost use Rattle.std.specs.Prelude.{◌≡◌, IfOk, codes};
 ghost use Rattle.sbpl_message.specs.Messages.{IsPlainMessage, plain_text};
 
 use crate::message::plain_message;
-use sbpl_fixed::NoMemory;
+use sbpl_job::NoMemory;
 use std::alloc::Global;
 
 /// The program's name, which stands where a message is on no file.

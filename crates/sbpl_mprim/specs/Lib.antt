@@ -5,3 +5,5 @@ pub mod Primitives
 pub mod Printed
 pub mod Reading
 pub mod Text
+pub use Rattle.sbpl_cfg.specs.sbpl_lists as sbpl_lists
+pub use Rattle.sbpl_cfg.specs as sbpl_cfg

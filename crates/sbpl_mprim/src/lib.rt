@@ -18,4 +18,10 @@ pub use prim::{Poses, Prim, Primitive};
 pub use prims::Prims;
 pub use printing::print_prims;
 pub use read::read_prims;
+pub use sbpl_cfg::{
+    Bits, Env, EnvFault, Grid, ListOf, Piece, Place, Pose, Runs, Word, cell_at, heading_at,
+    place_at, print_env, push_all, push_line, push_lines, read_env,
+    texts_are_environments_or_faulty,
+};
+pub use sbpl_fixed::{NoMemory, ceil_div, ceil_root};
 pub use text::texts_are_primitives_or_faulty;

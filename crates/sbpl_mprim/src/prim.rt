@@ -1,7 +1,6 @@
 //! One motion primitive.
 
-use sbpl_cfg::Pose;
-use sbpl_list::ListOf;
+use sbpl_cfg::{ListOf, Pose};
 
 /// The poses along a primitive, as offsets from the centre of the source cell.
 pub type Poses = ListOf<Pose>;

@@ -7,10 +7,9 @@ ghost use Rattle.sbpl_mprim.specs.Printed.{pose_line, prim_head, prim_lines, pri
 
 use crate::prim::Prim;
 use crate::prims::Prims;
-use sbpl_cfg::Pose;
+use sbpl_cfg::Piece::{Bytes, Nano, Number, Signed};
+use sbpl_cfg::{Pose, push_line, push_lines};
 use sbpl_fixed::NoMemory;
-use sbpl_text::Piece::{Bytes, Nano, Number, Signed};
-use sbpl_text::{push_line, push_lines};
 
 fn print_pose(pose: &Pose, out: &mut Vec<u8>) -> Result<(), NoMemory>
     ensures ok { OnOk result (out.new.items ≡ out.old.items ++ line_text (pose_line pose.now)) }

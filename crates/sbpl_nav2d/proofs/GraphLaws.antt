@@ -5,8 +5,8 @@ use Rattle.std.specs.Int.{abs_diff}
 use Rattle.std.proofs.Math.Nat.{mul-le-mul}
 use Rattle.std.proofs.lemmas.Bool.{cases_Bool}
 use Rattle.std.proofs.lemmas.Option.{none-some}
-use Rattle.sbpl_graph.specs.Network.{IsFreeArc}
-use Rattle.sbpl_graph.specs.Laws.{IsSound, HasGaps}
+use Rattle.sbpl_terrain.specs.sbpl_graph.Network.{IsFreeArc}
+use Rattle.sbpl_terrain.specs.sbpl_graph.Laws.{IsSound, HasGaps}
 use Rattle.sbpl_nav2d.specs.declared.cell.Cell.{Cell}
 use Rattle.sbpl_nav2d.specs.Environment.{column_of, row_of}
 use Rattle.sbpl_nav2d.specs.Directions.{direction, is_diagonal, step_cost, moved}

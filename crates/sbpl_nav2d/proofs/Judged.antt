@@ -4,7 +4,7 @@ use Rattle.std.proofs.Common.{Some, None, IsSomeAnd, option_map, max, refl, ap, 
 use Rattle.std.proofs.lemmas.Bool.{cases_Bool, cases_lt, lt-ltb, ltb-true, cond-true}
 use Rattle.std.proofs.lemmas.Int.{ints}
 use Rattle.std.proofs.lemmas.Option.{cond_some, none-some, same_Some}
-use Rattle.sbpl_map.specs.CellMap.{cost_at}
+use Rattle.sbpl_terrain.specs.sbpl_map.CellMap.{cost_at}
 use Rattle.sbpl_nav2d.specs.declared.cell.Cell.{Cell}
 use Rattle.sbpl_nav2d.specs.Directions.{direction, is_diagonal, step_cost}
 use Rattle.sbpl_nav2d.specs.World.{GridWorld}

@@ -1,7 +1,7 @@
 -- The parts of a grid as a graph.
 use Rattle.std.proofs.Common.{◌≡◌, ℕ, ◌+◌, ◌*◌, Option, Some, None, refl, ap, sym, ◌∙◌, option_map}
 use Rattle.std.proofs.lemmas.Option.{none-some, same_Some}
-use Rattle.sbpl_map.specs.CellMap.{CellMap}
+use Rattle.sbpl_terrain.specs.sbpl_map.CellMap.{CellMap}
 use Rattle.sbpl_nav2d.specs.declared.cell.Cell.{Cell}
 use Rattle.sbpl_nav2d.specs.Directions.{direction, moved, moved_back, step_cost}
 use Rattle.sbpl_nav2d.specs.Gap.{gap_of}

@@ -7,10 +7,10 @@ use Rattle.sbpl_fixed.specs.declared.fault.TextFault.{TextFault}
 use Rattle.sbpl_fixed.specs.declared.fault.TextFault.TheVariants as common
 use Rattle.sbpl_fixed.specs.OwnFaults.{Spares, and_then_spares, done_spares, right_spares}
 use Rattle.sbpl_fixed.specs.OwnFaults.{spared, turns_spare, wrong_spares}
-use Rattle.sbpl_cfg.specs.declared.fault.EnvFault.{EnvFault}
-use Rattle.sbpl_cfg.specs.declared.fault.EnvFault.TheVariants.{NoMemory, TooLarge, StartOff, EndOff}
+use Rattle.sbpl_terrain.specs.sbpl_cfg.declared.fault.EnvFault.{EnvFault}
+use Rattle.sbpl_terrain.specs.sbpl_cfg.declared.fault.EnvFault.TheVariants.{NoMemory, TooLarge, StartOff, EndOff}
 use Rattle.sbpl_nav2d.specs.declared.parts.Size.{Size}
-use Rattle.sbpl_cfg.specs.Faults.{told}
+use Rattle.sbpl_terrain.specs.sbpl_cfg.Faults.{told}
 use Rattle.sbpl_nav2d.specs.Format.{size_format, obsthresh_format, spot_format, start_spot_format}
 use Rattle.sbpl_nav2d.specs.Format.{end_spot_format, start_format, end_format, numbers_format}
 use Rattle.sbpl_nav2d.specs.Format.{cost_format, grid_format, environment_format}

@@ -4,8 +4,8 @@ use Rattle.std.proofs.Math.Nat.{div-lt_iff_lt-mul, mul_comm}
 use Rattle.std.proofs.lemmas.Bool.{and_from, lt-ltb, cond-true}
 use Rattle.std.proofs.lemmas.Int.{ints}
 use Rattle.std.proofs.lemmas.Nat.{div-mul-add, div-add-mod', mod-mul-add, mul-add-lt}
-use Rattle.sbpl_map.specs.CellMap.{CellMap, index_in}
-use Rattle.sbpl_map.proofs.Cells.{stands_at}
+use Rattle.sbpl_terrain.specs.sbpl_map.CellMap.{CellMap, index_in}
+use Rattle.sbpl_terrain.proofs.Cells.{stands_at}
 use Rattle.sbpl_nav2d.specs.declared.cell.Cell.{Cell}
 use Rattle.sbpl_nav2d.specs.Environment.{column_of, row_of}
 use Rattle.sbpl_nav2d.specs.Directions.{moved, moved_back}

@@ -5,8 +5,8 @@ use Rattle.std.specs.Int.{abs_diff}
 use Rattle.std.proofs.lemmas.Bool.{cases_lt}
 use Rattle.std.proofs.lemmas.Int.{ints}
 use Rattle.std.proofs.lemmas.Option.{none-some}
-use Rattle.sbpl_map.specs.CellMap.{IsOnMap}
-use Rattle.sbpl_map.proofs.Cells.{stands_at}
+use Rattle.sbpl_terrain.specs.sbpl_map.CellMap.{IsOnMap}
+use Rattle.sbpl_terrain.proofs.Cells.{stands_at}
 use Rattle.sbpl_nav2d.specs.declared.cell.Cell.{Cell}
 use Rattle.sbpl_nav2d.specs.Environment.{column_of, row_of}
 use Rattle.sbpl_nav2d.specs.Directions.{direction, moved, moved_back}

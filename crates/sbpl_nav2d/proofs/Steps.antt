@@ -1,7 +1,7 @@
 -- What the eight directions have in common.
 use Rattle.std.proofs.Common.{◌≡◌, ◌≢◌, ℕ, zero, suc, pos, negsuc, ◌<◌, ◌⊎◌, inl, inr, true, false, refl, arith}
 use Rattle.std.proofs.lemmas.Int.{ints}
-use Rattle.sbpl_cfg.specs.Environment.{IsWithin}
+use Rattle.sbpl_terrain.specs.sbpl_cfg.Environment.{IsWithin}
 use Rattle.sbpl_nav2d.specs.declared.cell.Cell.{Cell}
 use Rattle.sbpl_nav2d.specs.Directions.{direction, is_diagonal, IsStep}
 

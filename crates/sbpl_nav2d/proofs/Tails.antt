@@ -1,8 +1,8 @@
 -- The tails of a grid are its arcs the other way round.
 use Rattle.std.proofs.Common.{◌≡◌, ℕ, ◌*◌, ◌<◌, Some, refl, ap, sym, ◌∙◌, arith}
 use Rattle.std.proofs.lemmas.Grind.{merely}
-use Rattle.sbpl_graph.specs.Network.{IsArc}
-use Rattle.sbpl_graph.specs.Laws.{IsTail, HasExactTails}
+use Rattle.sbpl_terrain.specs.sbpl_graph.Network.{IsArc}
+use Rattle.sbpl_terrain.specs.sbpl_graph.Laws.{IsTail, HasExactTails}
 use Rattle.sbpl_nav2d.specs.Directions.{direction, moved, moved_back}
 use Rattle.sbpl_nav2d.specs.World.{GridWorld, IsGridWorld}
 use Rattle.sbpl_nav2d.specs.Arc.{cell_of}

@@ -1,6 +1,6 @@
 -- A grid reads the cells of its map.
 use Rattle.std.proofs.Common.{◌≡◌, ℕ, ℤ, ◌+ℤ◌, refl, sym, ap, ◌∙◌}
-use Rattle.sbpl_map.specs.CellMap.{CellMap}
+use Rattle.sbpl_terrain.specs.sbpl_map.CellMap.{CellMap}
 use Rattle.sbpl_terrain.specs.Cells.{IsTerrain}
 use Rattle.sbpl_nav2d.specs.declared.cell.Cell.{Cell}
 use Rattle.sbpl_nav2d.specs.Arc.{cell_of}

@@ -14,10 +14,10 @@ use Rattle.sbpl_fixed.specs.Tokens.{Piece, tokens}
 use Rattle.sbpl_fixed.specs.Meaning.{StandsFor}
 use Rattle.sbpl_fixed.specs.Parts.{says_both, says_parts}
 use Rattle.sbpl_fixed.specs.declared.placed.Placed.{Placed}
-use Rattle.sbpl_cfg.specs.Environment.{IsWithin}
-use Rattle.sbpl_cfg.specs.Text.{Said, word, number, spelled_grid}
-use Rattle.sbpl_cfg.proofs.Items.{Begins, all_begins, append_begins, at_end, begins_all, begins_append, fixed_is}
-use Rattle.sbpl_cfg.proofs.Items.{if_right, is_fixed, is_within, unless_wrong, within_is}
+use Rattle.sbpl_terrain.specs.sbpl_cfg.Environment.{IsWithin}
+use Rattle.sbpl_terrain.specs.sbpl_cfg.Text.{Said, word, number, spelled_grid}
+use Rattle.sbpl_terrain.proofs.Items.{Begins, all_begins, append_begins, at_end, begins_all, begins_append, fixed_is}
+use Rattle.sbpl_terrain.proofs.Items.{if_right, is_fixed, is_within, unless_wrong, within_is}
 use Rattle.sbpl_nav2d.specs.declared.parts.Size.{Size}
 use Rattle.sbpl_nav2d.specs.declared.parts.Spot.{Spot}
 use Rattle.sbpl_nav2d.specs.Environment.{NavEnvironment, IsNavEnvironment, column_of, row_of}

@@ -6,7 +6,7 @@ use Rattle.std.proofs.Math.Path.{fun_ext}
 use Rattle.std.proofs.lemmas.Bool.{cases_Bool}
 use Rattle.std.proofs.lemmas.Bool.Decides.{Decides-int_eq}
 use Rattle.std.proofs.lemmas.Int.{ints}
-use Rattle.sbpl_map.specs.CellMap.{CellMap, cost_at, index_in, ChangesCell}
+use Rattle.sbpl_terrain.specs.sbpl_map.CellMap.{CellMap, cost_at, index_in, ChangesCell}
 use Rattle.sbpl_terrain.specs.Cells.{DifferInCostsAlone}
 use Rattle.sbpl_nav2d.specs.Environment.{column_of, row_of}
 use Rattle.sbpl_nav2d.specs.Directions.{direction, is_diagonal, by, moved, moved_back, step_cost}

@@ -1,7 +1,7 @@
 -- Ends of arcs that are appended to a list.
 use Rattle.std.specs.Prelude.{◌≡◌, ◌≢◌, ℕ, ◌<◌, ◌≤◌, ◌++◌, List, length}
 use Rattle.std.specs.List.{AllByRecursion, AllPairs}
-use Rattle.sbpl_graph.specs.Network.{Network, IsArc}
+use Rattle.sbpl_terrain.specs.sbpl_graph.Network.{Network, IsArc}
 use Rattle.sbpl_nav2d.specs.declared.cell.Cell.{Cell}
 use Rattle.sbpl_nav2d.specs.Directions.{moved}
 use Rattle.sbpl_nav2d.specs.World.{GridWorld}

@@ -1,7 +1,7 @@
 -- The arcs of a grid.
 use Rattle.std.specs.Prelude.{◌≡◌, ℕ, ℤ, pos, ◌+◌, ◌*◌, ◌<◌, ◌≤◌, ◌+ℤ◌, ◌↔◌, true, Option, Some, None, IsSomeAnd}
-use Rattle.sbpl_graph.specs.Network.{Network}
-use Rattle.sbpl_map.specs.CellMap.{IsOnMap, cost_at}
+use Rattle.sbpl_terrain.specs.sbpl_graph.Network.{Network}
+use Rattle.sbpl_terrain.specs.sbpl_map.CellMap.{IsOnMap, cost_at}
 use Rattle.sbpl_nav2d.specs.declared.cell.Cell.{Cell}
 use Rattle.sbpl_nav2d.specs.Environment.{column_of, row_of}
 use Rattle.sbpl_nav2d.specs.Directions.{direction, is_diagonal, step_cost, by, moved, moved_back}

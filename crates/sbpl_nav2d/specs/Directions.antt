@@ -1,6 +1,6 @@
 -- The eight directions of a grid.
 use Rattle.std.specs.Prelude.{ℕ, ℤ, pos, negsuc, ◌+◌, ◌+ℤ◌, ◌-ℤ◌, ◌%◌, ◌==◌, Bool, if◌then◌else◌, List, [], ◌∷◌, slice_index_or}
-use Rattle.sbpl_cfg.specs.Environment.{IsWithin}
+use Rattle.sbpl_terrain.specs.sbpl_cfg.Environment.{IsWithin}
 use Rattle.sbpl_nav2d.specs.declared.cell.Cell.{Cell}
 
 -- so far along x and so far along y

@@ -2,8 +2,8 @@
 use Rattle.std.specs.Prelude.{ℕ, pos, nat_abs, ◌+◌, ◌*◌, nat_lt, Bool, ◌&&◌, if◌then◌else◌, List, [], ◌∷◌, ◌++◌, codes}
 use Rattle.sbpl_fixed.specs.Formats.{Format, item, wrong, done, ended, fixed, whole, and_then, turns}
 use Rattle.sbpl_fixed.specs.declared.placed.Placed.{Placed}
-use Rattle.sbpl_cfg.specs.declared.fault.EnvFault.{EnvFault}
-use Rattle.sbpl_cfg.specs.declared.fault.EnvFault.TheVariants.{TooLarge, StartOff, EndOff}
+use Rattle.sbpl_terrain.specs.sbpl_cfg.declared.fault.EnvFault.{EnvFault}
+use Rattle.sbpl_terrain.specs.sbpl_cfg.declared.fault.EnvFault.TheVariants.{TooLarge, StartOff, EndOff}
 use Rattle.sbpl_nav2d.specs.declared.parts.Size.{Size}
 use Rattle.sbpl_nav2d.specs.declared.parts.Spot.{Spot}
 use Rattle.sbpl_nav2d.specs.Environment.{NavEnvironment}

@@ -1,8 +1,8 @@
 -- The grid of a world, as a graph.
 use Rattle.std.specs.Prelude.{ℕ, ◌+◌, ◌*◌, ◌+ℤ◌, Option, Some, None, option_map, nat_lt, max, if◌then◌else◌}
-use Rattle.sbpl_graph.specs.Network.{Network}
-use Rattle.sbpl_graph.specs.Laws.{HasExactTails, HasGaps}
-use Rattle.sbpl_map.specs.CellMap.{CellMap, cost_at, index_in}
+use Rattle.sbpl_terrain.specs.sbpl_graph.Network.{Network}
+use Rattle.sbpl_terrain.specs.sbpl_graph.Laws.{HasExactTails, HasGaps}
+use Rattle.sbpl_terrain.specs.sbpl_map.CellMap.{CellMap, cost_at, index_in}
 use Rattle.sbpl_nav2d.specs.declared.cell.Cell.{Cell}
 use Rattle.sbpl_nav2d.specs.Directions.{direction, is_diagonal, step_cost, by, moved, moved_back}
 use Rattle.sbpl_nav2d.specs.Gap.{gap_of}

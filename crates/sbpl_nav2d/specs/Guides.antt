@@ -1,7 +1,7 @@
 -- Guides by octile distances.
 use Rattle.std.specs.Prelude.{◌≡◌, ℕ, ◌*◌, ◌^◌, ◌<◌}
-use Rattle.sbpl_graph.specs.Network.{Network}
-use Rattle.sbpl_graph.specs.Laws.{IsConsistent}
+use Rattle.sbpl_terrain.specs.sbpl_graph.Network.{Network}
+use Rattle.sbpl_terrain.specs.sbpl_graph.Laws.{IsConsistent}
 use Rattle.sbpl_nav2d.specs.Gap.{gap_of}
 use Rattle.sbpl_nav2d.specs.Grids.{network_of}
 use Rattle.sbpl_nav2d.specs.World.{GridWorld}

@@ -1,7 +1,7 @@
 -- Which arcs of a grid read a cell.
 use Rattle.std.specs.Prelude.{◌≡◌, ◌≢◌, ℕ, ℤ, ◌≤◌, ◌⊎◌, List, [], ◌∷◌, length}
 use Rattle.std.specs.List.{AllPairs}
-use Rattle.sbpl_graph.specs.Network.{Network, IsArc}
+use Rattle.sbpl_terrain.specs.sbpl_graph.Network.{Network, IsArc}
 use Rattle.sbpl_terrain.specs.Ends.{at_end}
 use Rattle.sbpl_terrain.specs.Reading.{AddsEnds}
 use Rattle.sbpl_terrain.specs.declared.arc_end.ArcEnd.{ArcEnd}

@@ -2,10 +2,10 @@
 use Rattle.std.specs.Prelude.{◌≡◌, ◌≢◌, ℕ, pos, ◌*◌, ◌≤◌, List, [], ◌∷◌, ◌++◌, length, codes}
 use Rattle.std.specs.List.{AllByRecursion}
 use Rattle.sbpl_fixed.specs.Meaning.{HasFirstFault}
-use Rattle.sbpl_cfg.specs.Text.{Said, word, number, AllMean, words_of, spelled_grid}
-use Rattle.sbpl_cfg.specs.declared.fault.EnvFault.{EnvFault}
-use Rattle.sbpl_cfg.specs.declared.fault.EnvFault.TheVariants.{NoMemory}
-use Rattle.sbpl_cfg.specs.Faults.{told}
+use Rattle.sbpl_terrain.specs.sbpl_cfg.Text.{Said, word, number, AllMean, words_of, spelled_grid}
+use Rattle.sbpl_terrain.specs.sbpl_cfg.declared.fault.EnvFault.{EnvFault}
+use Rattle.sbpl_terrain.specs.sbpl_cfg.declared.fault.EnvFault.TheVariants.{NoMemory}
+use Rattle.sbpl_terrain.specs.sbpl_cfg.Faults.{told}
 use Rattle.sbpl_nav2d.specs.Format.{environment_format}
 use Rattle.sbpl_nav2d.specs.Environment.{NavEnvironment, IsNavEnvironment, column_of, row_of}
 

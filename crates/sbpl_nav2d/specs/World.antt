@@ -1,6 +1,6 @@
 -- What a grid is made of.
 use Rattle.std.specs.Prelude.{◌≡◌}
-use Rattle.sbpl_map.specs.CellMap.{CellMap, IsCellMap}
+use Rattle.sbpl_terrain.specs.sbpl_map.CellMap.{CellMap, IsCellMap}
 use Rattle.sbpl_nav2d.specs.Environment.{NavEnvironment, IsNavEnvironment}
 
 -- the numbers of an environment, and the present costs of the cells

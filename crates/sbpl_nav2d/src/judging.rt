@@ -5,7 +5,7 @@ ghost use Rattle.sbpl_nav2d.specs.Directions.{IsNear};
 ghost use Rattle.sbpl_nav2d.specs.Grids.{low_cost, greater, greatest_read};
 
 use crate::cell::{Cell, direction, is_diagonal, moved};
-use sbpl_map::Map;
+use sbpl_terrain::Map;
 
 /// The cost of a cell, where it is on the map and below a limit.
 fn low_cost(map: &Map, cell: Cell, limit: u8) -> Option<u8>

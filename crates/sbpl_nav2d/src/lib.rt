@@ -17,4 +17,7 @@ pub use laws::{gaps_in_plain_words, grids_have_their_tails, worlds_are_grids};
 pub use nav::Nav;
 pub use octile::Octile;
 pub use read::read_nav;
+pub use sbpl_terrain::{
+    ChangeFault, Changes, Env, EnvFault, Grid, Map, read_changes, read_env, read_moves,
+};
 pub use text::texts_are_grids_or_faulty;

@@ -1,7 +1,7 @@
 //! The grid: an environment and a map, as a graph.
 
 ghost use Rattle.std.specs.Prelude.{◌≡◌, ℕ, pos, ◌<◌, ◌≤◌, ◌↔◌, IsSome, IfSome, IsOk, IfOk, OnOk, OnErr, Some};
-ghost use Rattle.sbpl_map.specs.CellMap.{cost_at, IsOnMap, ChangesCell};
+ghost use Rattle.sbpl_terrain.specs.sbpl_map.CellMap.{cost_at, IsOnMap, ChangesCell};
 ghost use Rattle.sbpl_nav2d.specs.Directions.{by, step_cost, IsNear};
 ghost use Rattle.sbpl_nav2d.specs.World.{GridWorld, IsGridWorld};
 ghost use Rattle.sbpl_nav2d.specs.Arc.{cell_of};
@@ -16,9 +16,7 @@ use crate::judging::greatest_read;
 use crate::octile::gap_between;
 use crate::reading::add_ends;
 use sbpl_fixed::NoMemory;
-use sbpl_graph::Graph;
-use sbpl_map::{Map, OffMap};
-use sbpl_terrain::{ArcEnd, Terrain};
+use sbpl_terrain::{ArcEnd, Graph, Map, OffMap, Terrain};
 use std::marker::Model;
 
 /// The grid of a map, with eight neighbours of each cell. A state is a cell, and its arcs are the steps in the eight

@@ -9,8 +9,7 @@ ghost use Rattle.sbpl_nav2d.specs.World.{GridWorld, IsGridWorld};
 use crate::env::NavEnv;
 use crate::nav::Nav;
 use sbpl_fixed::NoMemory;
-use sbpl_graph::Guide;
-use sbpl_terrain::Heuristic;
+use sbpl_terrain::{Guide, Heuristic};
 use std::alloc::Global;
 use std::marker::Model;
 

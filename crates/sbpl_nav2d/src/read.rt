@@ -2,17 +2,17 @@
 
 ghost use Rattle.std.specs.Prelude.{ℕ, List, Ok, Err, ◌≡◌, ◌≢◌, ◌*◌, ◌<◌, ◌≤◌, true, IfOk, IfErr};
 ghost use Rattle.sbpl_fixed.specs.Formats.{Answers, Gives, reads};
-ghost use Rattle.sbpl_cfg.specs.Faults.{told};
-ghost use Rattle.sbpl_cfg.specs.declared.fault.EnvFault.{EnvFault};
-ghost use Rattle.sbpl_cfg.specs.declared.fault.EnvFault.TheVariants.{NoMemory};
+ghost use Rattle.sbpl_terrain.specs.sbpl_cfg.Faults.{told};
+ghost use Rattle.sbpl_terrain.specs.sbpl_cfg.declared.fault.EnvFault.{EnvFault};
+ghost use Rattle.sbpl_terrain.specs.sbpl_cfg.declared.fault.EnvFault.TheVariants.{NoMemory};
 ghost use Rattle.sbpl_nav2d.specs.Environment.{NavEnvironment};
 ghost use Rattle.sbpl_nav2d.specs.Format.{cost_format, end_format, end_spot_format, environment_format, grid_format, is_on_map, numbers_format, obsthresh_format, size_format, spot_format, start_format, start_spot_format, state_of};
 ghost use Rattle.sbpl_nav2d.specs.Text.{HasFault, IsTextOf};
 
 use crate::env::NavEnv;
 use crate::parts::{Size, Spot};
-use sbpl_cfg::{EnvFault, Grid};
 use sbpl_fixed::{Placed, Reader};
+use sbpl_terrain::{EnvFault, Grid};
 use std::alloc::Global;
 
 /// The most states that a planner takes.

@@ -2,7 +2,7 @@
 
 ghost use Rattle.std.specs.Prelude.{◌≡◌, ◌≢◌, ℕ, ◌+◌, ◌*◌, ◌%◌, ◌<◌, ◌++◌, ◌⊎◌, [], pos, IfSome, IfNone, OnOk, OnErr};
 ghost use Rattle.std.specs.List.{cons_option};
-ghost use Rattle.sbpl_graph.specs.Network.{IsArc};
+ghost use Rattle.sbpl_terrain.specs.sbpl_graph.Network.{IsArc};
 ghost use Rattle.sbpl_nav2d.specs.Directions.{by, is_diagonal, IsNear, IsStep};
 ghost use Rattle.sbpl_nav2d.specs.Grids.{network_of};
 ghost use Rattle.sbpl_nav2d.specs.Adding.{Adds, Extends, IsEndBy, ReadsAs, ReadsBelow, ReadsIn};

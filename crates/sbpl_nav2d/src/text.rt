@@ -2,7 +2,7 @@
 
 ghost use Rattle.std.specs.Prelude.{◌≡◌, ◌⊎◌, ◌↔◌, ℕ, List};
 ghost use Rattle.sbpl_fixed.specs.Meaning.{StandsFor};
-ghost use Rattle.sbpl_cfg.specs.declared.fault.EnvFault.{EnvFault};
+ghost use Rattle.sbpl_terrain.specs.sbpl_cfg.declared.fault.EnvFault.{EnvFault};
 ghost use Rattle.sbpl_nav2d.specs.Environment.{NavEnvironment};
 ghost use Rattle.sbpl_nav2d.specs.Format.{environment_format};
 ghost use Rattle.sbpl_nav2d.specs.Text.{HasFault, IsFaulty, IsText, IsTextOf};

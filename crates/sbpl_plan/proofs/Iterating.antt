@@ -1,14 +1,14 @@
 -- What a pass shows at its end.
 use Rattle.std.proofs.Common.{◌≡◌, ℕ, ◌*◌, ◌+◌, ◌<◌, ◌≤◌, Bool, true, false, if◌then◌else◌, List, [], Some, refl}
 use Rattle.std.proofs.Common.{sym, subst, arith}
-use Rattle.sbpl_graph.specs.Network.{Network}
-use Rattle.sbpl_graph.specs.Certificate.{ShowBound, ShowNone}
-use Rattle.sbpl_labels.specs.Chain.{chain_at}
-use Rattle.sbpl_labels.specs.Counts.{Counts}
-use Rattle.sbpl_labels.specs.CutOff.{IsCutOff}
-use Rattle.sbpl_labels.specs.Marks.{Marks, states_of, g_of, v_of, back_of}
-use Rattle.sbpl_labels.specs.declared.pass_end.PassEnd.{PassEnd}
-use Rattle.sbpl_labels.specs.declared.pass_end.PassEnd.TheVariants.{Rest, Spent}
+use Rattle.sbpl_search.specs.sbpl_graph.Network.{Network}
+use Rattle.sbpl_search.specs.sbpl_graph.Certificate.{ShowBound, ShowNone}
+use Rattle.sbpl_search.specs.sbpl_labels.Chain.{chain_at}
+use Rattle.sbpl_search.specs.sbpl_labels.Counts.{Counts}
+use Rattle.sbpl_search.specs.sbpl_labels.CutOff.{IsCutOff}
+use Rattle.sbpl_search.specs.sbpl_labels.Marks.{Marks, states_of, g_of, v_of, back_of}
+use Rattle.sbpl_search.specs.sbpl_labels.declared.pass_end.PassEnd.{PassEnd}
+use Rattle.sbpl_search.specs.sbpl_labels.declared.pass_end.PassEnd.TheVariants.{Rest, Spent}
 use Rattle.sbpl_search.specs.Meaning.{Meaning}
 use Rattle.sbpl_search.specs.Passed.{IsPassed}
 use Rattle.sbpl_search.specs.Query.{query}

@@ -3,15 +3,15 @@ use Rattle.std.proofs.Common.{◌≡◌, ◌≢◌, ℕ, ◌+◌, ◌<◌, ◌�
 use Rattle.std.proofs.Common.{arith, inl, inr}
 use Rattle.std.proofs.lemmas.Bool.{cases_lt}
 use Rattle.std.proofs.lemmas.List.{get_or_past}
-use Rattle.sbpl_graph.specs.declared.TheConstants.{FAR}
-use Rattle.sbpl_graph.specs.Network.{Network, IsFreeArc}
-use Rattle.sbpl_graph.specs.Laws.{IsSound}
-use Rattle.sbpl_graph.specs.Path.{IsFreePath}
-use Rattle.sbpl_graph.specs.Bound.{IsLow}
-use Rattle.sbpl_graph.specs.Exact.{AreExact}
-use Rattle.sbpl_labels.specs.Chain.{IsBackPath, IsWalk}
-use Rattle.sbpl_labels.specs.Marks.{Marks, states_of, g_of, v_of, back_of, no_row, row_at}
-use Rattle.sbpl_labels.specs.declared.row.Row.{Row}
+use Rattle.sbpl_search.specs.sbpl_graph.declared.TheConstants.{FAR}
+use Rattle.sbpl_search.specs.sbpl_graph.Network.{Network, IsFreeArc}
+use Rattle.sbpl_search.specs.sbpl_graph.Laws.{IsSound}
+use Rattle.sbpl_search.specs.sbpl_graph.Path.{IsFreePath}
+use Rattle.sbpl_search.specs.sbpl_graph.Bound.{IsLow}
+use Rattle.sbpl_search.specs.sbpl_graph.Exact.{AreExact}
+use Rattle.sbpl_search.specs.sbpl_labels.Chain.{IsBackPath, IsWalk}
+use Rattle.sbpl_search.specs.sbpl_labels.Marks.{Marks, states_of, g_of, v_of, back_of, no_row, row_at}
+use Rattle.sbpl_search.specs.sbpl_labels.declared.row.Row.{Row}
 use Rattle.sbpl_search.specs.Ready.{IsStartFresh}
 
 module _ {n : Network} (m : Marks) (sound : IsSound n) (same : states_of m ≡ n.states)

@@ -1,10 +1,10 @@
 -- An observer that is told of passes, and the bounds of which it is told.
 use Rattle.std.proofs.Common.{◌≡◌, ℕ, zero, suc, ◌+◌, ◌*◌, ◌^◌, ◌≤◌, ◌<◌, List, [], ◌∷◌, ◌++◌, length, subst, arith}
 use Rattle.std.proofs.Math.Nat.{mul-le-mul_left}
-use Rattle.sbpl_graph.specs.declared.TheConstants.{FAR}
-use Rattle.sbpl_graph.specs.Bound.{IsBound}
-use Rattle.sbpl_graph.specs.Network.{Network}
-use Rattle.sbpl_labels.specs.Marks.{Marks, g_of}
+use Rattle.sbpl_search.specs.sbpl_graph.declared.TheConstants.{FAR}
+use Rattle.sbpl_search.specs.sbpl_graph.Bound.{IsBound}
+use Rattle.sbpl_search.specs.sbpl_graph.Network.{Network}
+use Rattle.sbpl_search.specs.sbpl_labels.Marks.{Marks, g_of}
 use Rattle.sbpl_plan.specs.declared.passes.Pass.{Pass}
 use Rattle.sbpl_plan.specs.Looking.{IsPathFound}
 use Rattle.sbpl_plan.specs.Observed.{AreTold}

@@ -5,14 +5,14 @@ use Rattle.std.proofs.Common.{append_assoc, length-append, add-zero}
 use Rattle.std.specs.Prelude.{OnErr}
 use Rattle.std.proofs.Math.Nat.{add-mul, div-eq_of_lt, div-eq-sub-div}
 use Rattle.std.proofs.lemmas.Bool.{cases_lt}
-use Rattle.sbpl_labels.specs.Counts.{AreCounts, Counts}
-use Rattle.sbpl_labels.specs.Marks.{Marks, states_of}
+use Rattle.sbpl_search.specs.sbpl_labels.Counts.{AreCounts, Counts}
+use Rattle.sbpl_search.specs.sbpl_labels.Marks.{Marks, states_of}
 use Rattle.sbpl_search.specs.Meaning.{Meaning}
 use Rattle.sbpl_search.specs.Ready.{IsStartFresh}
 use Rattle.sbpl_search.specs.State.{State}
-use Rattle.sbpl_graph.specs.Certificate.{BoundHolds, NoneHolds}
-use Rattle.sbpl_graph.specs.Laws.{IsConsistent, IsSound}
-use Rattle.sbpl_graph.specs.Network.{Network}
+use Rattle.sbpl_search.specs.sbpl_graph.Certificate.{BoundHolds, NoneHolds}
+use Rattle.sbpl_search.specs.sbpl_graph.Laws.{IsConsistent, IsSound}
+use Rattle.sbpl_search.specs.sbpl_graph.Network.{Network}
 use Rattle.sbpl_plan.specs.declared.ask.Ask.{Ask}
 use Rattle.sbpl_plan.specs.declared.passes.Pass.{Pass}
 use Rattle.sbpl_plan.specs.Asked.{IsAsk, lowered, most_passes}

@@ -2,7 +2,7 @@
 use Rattle.std.proofs.Common.{◌≡◌, ℕ, ◌+◌, ◌-◌, ◌^◌, ◌<◌, ◌≤◌, Bool, true, false, if◌then◌else◌, None, List, [], ◌∷◌}
 use Rattle.std.proofs.Common.{min, refl, sym, ap, subst, arith, ⊎_elim, inl, inr, ◌∙◌}
 use Rattle.std.proofs.lemmas.Bool.{false≢true}
-use Rattle.sbpl_labels.specs.Marks.{Marks, states_of, back_of}
+use Rattle.sbpl_search.specs.sbpl_labels.Marks.{Marks, states_of, back_of}
 use Rattle.sbpl_search.specs.Determined.{AreAlikeGuides, AreDetermined}
 use Rattle.sbpl_search.specs.Meaning.{Meaning}
 use Rattle.sbpl_search.specs.Query.{Query}

@@ -1,14 +1,14 @@
 -- What the result of a plan shows.
 use Rattle.std.proofs.Common.{◌≡◌, ℕ, ◌+◌, ◌*◌, ◌<◌, ◌≤◌, ◌⊎◌, false, List, sym, ap, subst, arith, inl, inr, ◌^◌}
 use Rattle.std.proofs.Math.Nat.{mul-le-mul_left, mul-le-mul_right}
-use Rattle.sbpl_graph.specs.declared.TheConstants.{FAR}
-use Rattle.sbpl_graph.specs.Network.{Network}
-use Rattle.sbpl_graph.specs.Laws.{IsConsistent, IsSound}
-use Rattle.sbpl_graph.specs.Path.{IsFreePath}
-use Rattle.sbpl_graph.specs.Certificate.{AreSupported, BoundHolds, NoneHolds, ShowBound}
-use Rattle.sbpl_labels.specs.Counts.{Counts, IsSpent}
-use Rattle.sbpl_labels.specs.CutOff.{IsCutOff}
-use Rattle.sbpl_labels.specs.Marks.{Marks, states_of, g_of, v_of}
+use Rattle.sbpl_search.specs.sbpl_graph.declared.TheConstants.{FAR}
+use Rattle.sbpl_search.specs.sbpl_graph.Network.{Network}
+use Rattle.sbpl_search.specs.sbpl_graph.Laws.{IsConsistent, IsSound}
+use Rattle.sbpl_search.specs.sbpl_graph.Path.{IsFreePath}
+use Rattle.sbpl_search.specs.sbpl_graph.Certificate.{AreSupported, BoundHolds, NoneHolds, ShowBound}
+use Rattle.sbpl_search.specs.sbpl_labels.Counts.{Counts, IsSpent}
+use Rattle.sbpl_search.specs.sbpl_labels.CutOff.{IsCutOff}
+use Rattle.sbpl_search.specs.sbpl_labels.Marks.{Marks, states_of, g_of, v_of}
 use Rattle.sbpl_plan.specs.declared.found.Found.{Found}
 use Rattle.sbpl_plan.specs.declared.found.Found.TheVariants as found
 use Rattle.sbpl_plan.specs.declared.result.FoundPath.{FoundPath}

@@ -3,13 +3,13 @@ use Rattle.std.proofs.Common.{◌≡◌, ◌≢◌, ℕ, ◌<◌, ◌≤◌, Opt
 use Rattle.std.proofs.Common.{⊎_elim, inl, inr, ◌∙◌}
 use Rattle.std.proofs.lemmas.Bool.{cases_eq}
 use Rattle.std.proofs.lemmas.Option.{none-some, same_Some}
-use Rattle.sbpl_graph.specs.Bound.{IsBound, IsLow}
-use Rattle.sbpl_graph.specs.Network.{Network}
-use Rattle.sbpl_graph.specs.Path.{IsFreePath}
-use Rattle.sbpl_labels.specs.Chain.{IsBackPath}
-use Rattle.sbpl_labels.specs.CutOff.{IsCutOff}
-use Rattle.sbpl_labels.specs.Marks.{Marks, states_of, g_of, v_of, back_of}
-use Rattle.sbpl_graph.specs.declared.TheConstants.{FAR}
+use Rattle.sbpl_search.specs.sbpl_graph.Bound.{IsBound, IsLow}
+use Rattle.sbpl_search.specs.sbpl_graph.Network.{Network}
+use Rattle.sbpl_search.specs.sbpl_graph.Path.{IsFreePath}
+use Rattle.sbpl_search.specs.sbpl_labels.Chain.{IsBackPath}
+use Rattle.sbpl_search.specs.sbpl_labels.CutOff.{IsCutOff}
+use Rattle.sbpl_search.specs.sbpl_labels.Marks.{Marks, states_of, g_of, v_of, back_of}
+use Rattle.sbpl_search.specs.sbpl_graph.declared.TheConstants.{FAR}
 use Rattle.sbpl_plan.specs.declared.found.Found.{Found}
 use Rattle.sbpl_plan.specs.declared.found.Found.TheVariants as found
 use Rattle.sbpl_plan.specs.declared.result.FoundPath.{FoundPath}

@@ -1,7 +1,7 @@
 -- The passes and the result of a plan are determined.
 use Rattle.std.specs.Prelude.{◌≡◌, ℕ, ◌+◌, ◌^◌, ◌≤◌, ◌⊎◌, Bool, true, None, List}
-use Rattle.sbpl_graph.specs.Network.{Network}
-use Rattle.sbpl_labels.specs.Marks.{Marks, states_of, back_of}
+use Rattle.sbpl_search.specs.sbpl_graph.Network.{Network}
+use Rattle.sbpl_search.specs.sbpl_labels.Marks.{Marks, states_of, back_of}
 use Rattle.sbpl_search.specs.Determined.{AreAlikeGuides}
 use Rattle.sbpl_search.specs.Meaning.{Meaning}
 use Rattle.sbpl_plan.specs.declared.passes.Pass.{Pass}

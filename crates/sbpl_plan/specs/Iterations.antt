@@ -1,10 +1,10 @@
 -- One iteration of a plan: a pass, and the walk along the back arcs that it left.
 use Rattle.std.specs.Prelude.{◌≡◌, ℕ, ◌*◌, ◌<◌, ◌≤◌, Bool, true, false, List, [], ◌∷◌}
-use Rattle.sbpl_graph.specs.declared.TheConstants.{FAR}
-use Rattle.sbpl_graph.specs.Certificate.{AreSupported}
-use Rattle.sbpl_labels.specs.Counts.{Counts, IsSpent}
-use Rattle.sbpl_labels.specs.CutOff.{IsCutOff}
-use Rattle.sbpl_labels.specs.Marks.{states_of, g_of, v_of}
+use Rattle.sbpl_search.specs.sbpl_graph.declared.TheConstants.{FAR}
+use Rattle.sbpl_search.specs.sbpl_graph.Certificate.{AreSupported}
+use Rattle.sbpl_search.specs.sbpl_labels.Counts.{Counts, IsSpent}
+use Rattle.sbpl_search.specs.sbpl_labels.CutOff.{IsCutOff}
+use Rattle.sbpl_search.specs.sbpl_labels.Marks.{states_of, g_of, v_of}
 use Rattle.sbpl_search.specs.Meaning.{Meaning}
 use Rattle.sbpl_search.specs.State.{State}
 use Rattle.sbpl_plan.specs.declared.found.Found.{Found}

@@ -8,3 +8,6 @@ pub mod Planned
 pub mod OutOfMemory
 pub mod Observed
 pub mod Determined
+pub use Rattle.sbpl_search.specs.sbpl_graph as sbpl_graph
+pub use Rattle.sbpl_search.specs.sbpl_labels as sbpl_labels
+pub use Rattle.sbpl_search.specs as sbpl_search

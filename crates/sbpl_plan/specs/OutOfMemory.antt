@@ -1,6 +1,6 @@
 -- What is left where a plan ended out of memory.
 use Rattle.std.specs.Prelude.{ℕ, ◌⊎◌, List}
-use Rattle.sbpl_labels.specs.Counts.{Counts}
+use Rattle.sbpl_search.specs.sbpl_labels.Counts.{Counts}
 use Rattle.sbpl_search.specs.Meaning.{Meaning}
 use Rattle.sbpl_search.specs.State.{State}
 use Rattle.sbpl_plan.specs.declared.passes.Pass.{Pass}

@@ -1,9 +1,9 @@
 -- The result of a plan, and what it promises.
 use Rattle.std.specs.Prelude.{◌≡◌, ℕ, ◌*◌, ◌≤◌, List}
-use Rattle.sbpl_graph.specs.Network.{Network}
-use Rattle.sbpl_graph.specs.Path.{IsFreePath}
-use Rattle.sbpl_labels.specs.CutOff.{IsCutOff}
-use Rattle.sbpl_labels.specs.Marks.{Marks, states_of, g_of, v_of}
+use Rattle.sbpl_search.specs.sbpl_graph.Network.{Network}
+use Rattle.sbpl_search.specs.sbpl_graph.Path.{IsFreePath}
+use Rattle.sbpl_search.specs.sbpl_labels.CutOff.{IsCutOff}
+use Rattle.sbpl_search.specs.sbpl_labels.Marks.{Marks, states_of, g_of, v_of}
 use Rattle.sbpl_plan.specs.declared.found.Found.{Found}
 use Rattle.sbpl_plan.specs.declared.found.Found.TheVariants as found
 use Rattle.sbpl_plan.specs.declared.result.FoundPath.{FoundPath}

@@ -1,8 +1,8 @@
 -- What a plan promises.
 use Rattle.std.specs.Prelude.{◌≡◌, ◌+◌, ◌*◌, ◌^◌, ◌≤◌, true, false, length}
-use Rattle.sbpl_graph.specs.Certificate.{AreSupported}
-use Rattle.sbpl_labels.specs.Counts.{AreCounts, Counts, IsSpent}
-use Rattle.sbpl_labels.specs.Marks.{g_of, v_of}
+use Rattle.sbpl_search.specs.sbpl_graph.Certificate.{AreSupported}
+use Rattle.sbpl_search.specs.sbpl_labels.Counts.{AreCounts, Counts, IsSpent}
+use Rattle.sbpl_search.specs.sbpl_labels.Marks.{g_of, v_of}
 use Rattle.sbpl_search.specs.Meaning.{Meaning}
 use Rattle.sbpl_search.specs.State.{State}
 use Rattle.sbpl_plan.specs.declared.result.Planned.{Planned}

@@ -1,9 +1,9 @@
 //! When a plan ends, and its result.
 
 ghost use Rattle.std.specs.Prelude.{◌≡◌, ℕ, ◌<◌, ◌↔◌, IsTrue, ◌⊎◌, true};
-ghost use Rattle.sbpl_graph.specs.Network.{Network};
-ghost use Rattle.sbpl_labels.specs.CutOff.{IsCutOff};
-ghost use Rattle.sbpl_labels.specs.Marks.{states_of, g_of, v_of};
+ghost use Rattle.sbpl_search.specs.sbpl_graph.Network.{Network};
+ghost use Rattle.sbpl_search.specs.sbpl_labels.CutOff.{IsCutOff};
+ghost use Rattle.sbpl_search.specs.sbpl_labels.Marks.{states_of, g_of, v_of};
 ghost use Rattle.sbpl_plan.specs.Asked.{lowered};
 ghost use Rattle.sbpl_plan.specs.Looking.{IsEnough, WalkFinds};
 ghost use Rattle.sbpl_plan.specs.Outcomes.{AgreesWithFound, IsResultOf};
@@ -11,7 +11,7 @@ ghost use Rattle.sbpl_plan.specs.Outcomes.{AgreesWithFound, IsResultOf};
 use crate::ask::Ask;
 use crate::found::Found;
 use crate::result::{Arcs, FoundPath, Outcome};
-use sbpl_labels::Labels;
+use sbpl_search::Labels;
 
 /// Whether a path with a bound that is good enough was found.
 fn is_enough(asked: u32, found: Found) -> bool

@@ -2,8 +2,7 @@
 
 ghost use Rattle.sbpl_plan.specs.Determined.{OutcomesAreOne, PassesAreOne};
 
-use sbpl_graph::{Graph, Guide};
-use sbpl_search::Determined;
+use sbpl_search::{Determined, Graph, Guide};
 
 /// A plan by a search whose passes are determined is determined by what it is asked for, the labels that it begins with, its
 /// budget and what the run has left: its passes, with what each did in order, its final labels and whether it was spent.

@@ -1,8 +1,8 @@
 //! One iteration of a plan: a pass, and the walk along the back arcs that it left.
 
 ghost use Rattle.std.specs.Prelude.{◌≡◌, ℕ, ◌+◌, ◌^◌, ◌≤◌, ◌<◌, ◌↔◌, true, [], IfOk, OnErr, IsTrue, IsFalse, if◌then◌else◌, vec_capacity};
-ghost use Rattle.sbpl_labels.specs.declared.pass_end.PassEnd.TheVariants as PassEnd;
-ghost use Rattle.sbpl_labels.specs.Marks.{states_of};
+ghost use Rattle.sbpl_search.specs.sbpl_labels.declared.pass_end.PassEnd.TheVariants as PassEnd;
+ghost use Rattle.sbpl_search.specs.sbpl_labels.Marks.{states_of};
 ghost use Rattle.sbpl_search.specs.Ready.{IsStartFresh};
 ghost use Rattle.sbpl_plan.specs.declared.found.Found.TheVariants as Found;
 ghost use Rattle.sbpl_plan.specs.Iterations.{IsIteration};
@@ -15,10 +15,7 @@ use crate::found::Found;
 use crate::look::look;
 use crate::observer::Observer;
 use crate::passes::{Pass, Trace};
-use sbpl_fixed::NoMemory;
-use sbpl_graph::{Graph, Guide};
-use sbpl_labels::{Budget, PassEnd};
-use sbpl_search::Search;
+use sbpl_search::{Budget, Graph, Guide, NoMemory, PassEnd, Search};
 use std::alloc::Global;
 
 /// What a pass did, where it is to be told.

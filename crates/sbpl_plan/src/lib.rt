@@ -19,3 +19,8 @@ pub use make::plan;
 pub use observer::{Nobody, Observer};
 pub use passes::{Pass, Passes, Trace};
 pub use result::{Arcs, FoundPath, Outcome, Planned};
+pub use sbpl_lists::{ListOf, Piece, push_all, push_bytes, push_field, push_number};
+pub use sbpl_search::{
+    Budget, FAR, Graph, Guide, Labels, NoMemory, PassEnd, Search, Walk, Zero, bound_holds,
+    bound_of, none_holds,
+};

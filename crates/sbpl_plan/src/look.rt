@@ -1,15 +1,13 @@
 //! What labels show after a pass.
 
 ghost use Rattle.std.specs.Prelude.{◌≡◌, ◌≤◌, ◌<◌, [], vec_capacity};
-ghost use Rattle.sbpl_graph.specs.Exact.{AreExact};
-ghost use Rattle.sbpl_labels.specs.Marks.{states_of, g_of, v_of, back_of};
+ghost use Rattle.sbpl_search.specs.sbpl_graph.Exact.{AreExact};
+ghost use Rattle.sbpl_search.specs.sbpl_labels.Marks.{states_of, g_of, v_of, back_of};
 ghost use Rattle.sbpl_search.specs.Ready.{IsStartFresh};
 ghost use Rattle.sbpl_plan.specs.Looking.{WalkFinds};
 
 use crate::found::Found;
-use sbpl_graph::{Graph, Guide};
-use sbpl_labels::{Walk, bound_of};
-use sbpl_search::Search;
+use sbpl_search::{Graph, Guide, Search, Walk, bound_of};
 
 /// What the walk along the back arcs of a search gives. `into` has room for as many arcs as there are states; it then holds
 /// the arcs of the path, from the start. It takes no memory.

@@ -14,10 +14,7 @@ use crate::iterate::iterate;
 use crate::observer::Observer;
 use crate::passes::Passes;
 use crate::result::Planned;
-use sbpl_fixed::NoMemory;
-use sbpl_graph::{Graph, Guide, bound_holds, none_holds};
-use sbpl_labels::Budget;
-use sbpl_search::Search;
+use sbpl_search::{Budget, Graph, Guide, NoMemory, Search, bound_holds, none_holds};
 use std::alloc::Global;
 
 /// Makes a plan by this search: passes with the inflation `ask.first`, then `ask.step` less each time and never below 1.000,

@@ -1,7 +1,7 @@
 //! The passes of a plan.
 
 use crate::found::Found;
-use sbpl_list::ListOf;
+use sbpl_lists::ListOf;
 
 /// What a pass did, in order.
 pub type Trace<N> = ListOf<N>;

@@ -1,7 +1,7 @@
 //! The result of a plan.
 
 use crate::passes::Passes;
-use sbpl_list::ListOf;
+use sbpl_lists::ListOf;
 
 /// The arc numbers of a path from the start.
 pub type Arcs = ListOf<u32>;

@@ -2,28 +2,28 @@
 use Rattle.std.proofs.Common.{◌≡◌, ℕ, ◌+◌, Bool, List, [], ◌∷◌, ◌++◌, map, Option, Result, Ok, Err, refl, sym}
 use Rattle.std.proofs.Common.{◌∙◌, ap, subst, inl, inr}
 use Rattle.std.specs.Prelude.{OnErr}
-use Rattle.sbpl_incumbent.specs.Entries.{next_entry}
-use Rattle.sbpl_labels.specs.Counts.{Counts}
-use Rattle.sbpl_labels.specs.Marks.{Marks}
-use Rattle.sbpl_search.specs.Meaning.{Meaning}
-use Rattle.sbpl_search.specs.State.{State}
-use Rattle.sbpl_plan.specs.declared.ask.Ask.{Ask}
-use Rattle.sbpl_plan.specs.declared.found.Found.{Found}
-use Rattle.sbpl_plan.specs.declared.found.Found.TheVariants as found
-use Rattle.sbpl_plan.specs.declared.passes.Pass.{Pass}
-use Rattle.sbpl_plan.specs.Asked.{lowered}
-use Rattle.sbpl_plan.specs.Observed.{AreTold, IsTold}
-use Rattle.sbpl_plan.specs.OutOfMemory.{IsPartOfPlan}
-use Rattle.sbpl_plan.specs.Passing.{AreFirstPasses, ArePasses, Inquiry, expansions, inquiry_of}
-use Rattle.sbpl_replan.specs.Replanning.{Standing, StandsOutOfMemory, inquiry}
-use Rattle.sbpl_job.specs.declared.job.Outputs.{Outputs}
-use Rattle.sbpl_job.specs.declared.job.SearchJob.{SearchJob}
-use Rattle.sbpl_report.specs.declared.record.TraceLine.{TraceLine}
-use Rattle.sbpl_promises.specs.Asked.{Known, ask_of}
-use Rattle.sbpl_promises.specs.Headline.{Begins, Carried}
+use Rattle.sbpl_worlds.specs.sbpl_incumbent.Entries.{next_entry}
+use Rattle.sbpl_worlds.specs.sbpl_labels.Counts.{Counts}
+use Rattle.sbpl_worlds.specs.sbpl_labels.Marks.{Marks}
+use Rattle.sbpl_worlds.specs.sbpl_search.Meaning.{Meaning}
+use Rattle.sbpl_worlds.specs.sbpl_search.State.{State}
+use Rattle.sbpl_worlds.specs.sbpl_plan.declared.ask.Ask.{Ask}
+use Rattle.sbpl_worlds.specs.sbpl_plan.declared.found.Found.{Found}
+use Rattle.sbpl_worlds.specs.sbpl_plan.declared.found.Found.TheVariants as found
+use Rattle.sbpl_worlds.specs.sbpl_plan.declared.passes.Pass.{Pass}
+use Rattle.sbpl_worlds.specs.sbpl_plan.Asked.{lowered}
+use Rattle.sbpl_worlds.specs.sbpl_plan.Observed.{AreTold, IsTold}
+use Rattle.sbpl_worlds.specs.sbpl_plan.OutOfMemory.{IsPartOfPlan}
+use Rattle.sbpl_worlds.specs.sbpl_plan.Passing.{AreFirstPasses, ArePasses, Inquiry, expansions, inquiry_of}
+use Rattle.sbpl_worlds.specs.sbpl_replan.Replanning.{Standing, StandsOutOfMemory, inquiry}
+use Rattle.sbpl_worlds.specs.sbpl_job.declared.job.Outputs.{Outputs}
+use Rattle.sbpl_worlds.specs.sbpl_job.declared.job.SearchJob.{SearchJob}
+use Rattle.sbpl_worlds.specs.sbpl_report.declared.record.TraceLine.{TraceLine}
+use Rattle.sbpl_worlds.specs.sbpl_promises.Asked.{Known, ask_of}
+use Rattle.sbpl_worlds.specs.sbpl_promises.Headline.{Begins, Carried}
 use Rattle.sbpl_plans.specs.Planning.{IsPublishedInPart}
-use Rattle.sbpl_promises.specs.Published.{Entry, founds, with_paths}
-use Rattle.sbpl_report.specs.Traces.{traced_pass}
+use Rattle.sbpl_worlds.specs.sbpl_promises.Published.{Entry, founds, with_paths}
+use Rattle.sbpl_worlds.specs.sbpl_report.Traces.{traced_pass}
 
 -- ---- what an observer that publishes was told
 

@@ -3,29 +3,29 @@ use Rattle.std.proofs.Common.{◌≡◌, ◌⊎◌, ℕ, suc, add-zero, ◌+◌,
 use Rattle.std.proofs.Common.{slice_get, Option, Some, None, Result, Ok, Err, refl, sym, ◌∙◌, ap, subst, append_assoc}
 use Rattle.std.proofs.Common.{append-nil, arith, inl, inr}
 use Rattle.std.proofs.lemmas.Option.{slice_get_within}
-use Rattle.sbpl_desk.specs.Desk.{NoneFalls, Stays}
-use Rattle.sbpl_desk.specs.declared.desk.WriteStop.{WriteStop}
-use Rattle.sbpl_desk.specs.declared.desk.WriteStop.TheVariants.{NoMemory}
-use Rattle.sbpl_terrain.specs.Cells.{IsTerrain}
-use Rattle.sbpl_job.specs.declared.job.Outputs.{Outputs}
-use Rattle.sbpl_job.specs.declared.job.Planner.{Planner}
-use Rattle.sbpl_job.specs.declared.job.SearchJob.{SearchJob}
-use Rattle.sbpl_labels.specs.Counts.{Counts}
-use Rattle.sbpl_labels.specs.Marks.{Marks}
-use Rattle.sbpl_map.specs.CellMap.{CellMap}
-use Rattle.sbpl_map.specs.MapAfter.{AreWritten, IsMapAfter}
-use Rattle.sbpl_map.specs.declared.write.Write as change
-use Rattle.sbpl_promises.specs.Asked.{Known, known}
-use Rattle.sbpl_promises.specs.Sites.{Site}
-use Rattle.sbpl_replan.specs.Replanning.{BeginsWith, Follows, Standing, StaysTheSame}
-use Rattle.sbpl_report.specs.declared.record.PlanRecord.{PlanRecord}
-use Rattle.sbpl_plan.specs.declared.found.Found.{Found}
-use Rattle.sbpl_promises.specs.Headline.{Carried, IsBrokenIn, IsBrokenOff, IsPlanOf}
-use Rattle.sbpl_promises.specs.Published.{Entry, with_paths, with_plan, with_plans}
-use Rattle.sbpl_promises.specs.Intents.{end_writes, last_write, plans_status}
+use Rattle.sbpl_worlds.specs.sbpl_desk.Desk.{NoneFalls, Stays}
+use Rattle.sbpl_worlds.specs.sbpl_desk.declared.desk.WriteStop.{WriteStop}
+use Rattle.sbpl_worlds.specs.sbpl_desk.declared.desk.WriteStop.TheVariants.{NoMemory}
+use Rattle.sbpl_worlds.specs.sbpl_terrain.Cells.{IsTerrain}
+use Rattle.sbpl_worlds.specs.sbpl_job.declared.job.Outputs.{Outputs}
+use Rattle.sbpl_worlds.specs.sbpl_job.declared.job.Planner.{Planner}
+use Rattle.sbpl_worlds.specs.sbpl_job.declared.job.SearchJob.{SearchJob}
+use Rattle.sbpl_worlds.specs.sbpl_labels.Counts.{Counts}
+use Rattle.sbpl_worlds.specs.sbpl_labels.Marks.{Marks}
+use Rattle.sbpl_worlds.specs.sbpl_map.CellMap.{CellMap}
+use Rattle.sbpl_worlds.specs.sbpl_map.MapAfter.{AreWritten, IsMapAfter}
+use Rattle.sbpl_worlds.specs.sbpl_map.declared.write.Write as change
+use Rattle.sbpl_worlds.specs.sbpl_promises.Asked.{Known, known}
+use Rattle.sbpl_worlds.specs.sbpl_promises.Sites.{Site}
+use Rattle.sbpl_worlds.specs.sbpl_replan.Replanning.{BeginsWith, Follows, Standing, StaysTheSame}
+use Rattle.sbpl_worlds.specs.sbpl_report.declared.record.PlanRecord.{PlanRecord}
+use Rattle.sbpl_worlds.specs.sbpl_plan.declared.found.Found.{Found}
+use Rattle.sbpl_worlds.specs.sbpl_promises.Headline.{Carried, IsBrokenIn, IsBrokenOff, IsPlanOf}
+use Rattle.sbpl_worlds.specs.sbpl_promises.Published.{Entry, with_paths, with_plan, with_plans}
+use Rattle.sbpl_worlds.specs.sbpl_promises.Intents.{end_writes, last_write, plans_status}
 use Rattle.sbpl_plans.specs.Planning.{EndsOnePlan, GoesOnFrom, IsSetFor, carried_of}
-use Rattle.sbpl_promises.specs.Promises.{EndsPlans}
-use Rattle.sbpl_promises.specs.Writing.{AreAppended, DeskState, EndsAs, EndsIn, Write, status_after}
+use Rattle.sbpl_worlds.specs.sbpl_promises.Promises.{EndsPlans}
+use Rattle.sbpl_worlds.specs.sbpl_promises.Writing.{AreAppended, DeskState, EndsAs, EndsIn, Write, status_after}
 use Rattle.sbpl_telling.proofs.Writings.{ends_as_after, none_made, status_ends}
 
 -- ---- plans in turn

@@ -1,10 +1,10 @@
 -- The steps of a path, arc by arc.
 use Rattle.std.proofs.Common.{◌≡◌, ℕ, ◌<◌, List, [], ◌∷◌, ◌++◌, Some, IsSome, rules, subst, append_assoc, append-nil}
-use Rattle.sbpl_graph.specs.Network.{Network}
-use Rattle.sbpl_graph.specs.Path.{IsFreePath}
-use Rattle.sbpl_report.specs.declared.record.PathStep.{PathStep}
-use Rattle.sbpl_promises.specs.Headline.{AreSteps, IsPathFrom}
-use Rattle.sbpl_promises.specs.Sites.{Site}
+use Rattle.sbpl_worlds.specs.sbpl_graph.Network.{Network}
+use Rattle.sbpl_worlds.specs.sbpl_graph.Path.{IsFreePath}
+use Rattle.sbpl_worlds.specs.sbpl_report.declared.record.PathStep.{PathStep}
+use Rattle.sbpl_worlds.specs.sbpl_promises.Headline.{AreSteps, IsPathFrom}
+use Rattle.sbpl_worlds.specs.sbpl_promises.Sites.{Site}
 
 -- what the first arc of a free path is
 pub record IsFirstArc (n : Network) (s k : ℕ) : Type 0 where

@@ -1,21 +1,21 @@
 -- How plans go on from one to the next while they are made and told.
 use Rattle.std.specs.Prelude.{◌≡◌, ℕ, ◌⊎◌, List, [], Option, Result, Ok, Err}
-use Rattle.sbpl_desk.specs.declared.desk.WriteStop.{WriteStop}
-use Rattle.sbpl_desk.specs.declared.desk.WriteStop.TheVariants.{NoMemory}
-use Rattle.sbpl_map.specs.CellMap.{CellMap}
-use Rattle.sbpl_job.specs.declared.job.Outputs.{Outputs}
-use Rattle.sbpl_job.specs.declared.job.SearchJob.{SearchJob}
-use Rattle.sbpl_replan.specs.Directions.{Direction}
-use Rattle.sbpl_replan.specs.Replanning.{GoesBetween, Standing}
-use Rattle.sbpl_report.specs.declared.record.PlanRecord.{PlanRecord}
-use Rattle.sbpl_report.specs.declared.record.TraceLine.{TraceLine}
-use Rattle.sbpl_search.specs.Meaning.{Meaning}
-use Rattle.sbpl_promises.specs.Asked.{Known}
-use Rattle.sbpl_promises.specs.Sites.{Site}
-use Rattle.sbpl_plan.specs.declared.found.Found.{Found}
-use Rattle.sbpl_promises.specs.Headline.{Begins, Carried, IsBrokenOff, IsPlanOf, expanded_before}
-use Rattle.sbpl_promises.specs.Published.{Entry, with_paths, with_plan}
-use Rattle.sbpl_promises.specs.Writing.{AreAppended, DeskState, EndsIn, Stays, Write}
+use Rattle.sbpl_worlds.specs.sbpl_desk.declared.desk.WriteStop.{WriteStop}
+use Rattle.sbpl_worlds.specs.sbpl_desk.declared.desk.WriteStop.TheVariants.{NoMemory}
+use Rattle.sbpl_worlds.specs.sbpl_map.CellMap.{CellMap}
+use Rattle.sbpl_worlds.specs.sbpl_job.declared.job.Outputs.{Outputs}
+use Rattle.sbpl_worlds.specs.sbpl_job.declared.job.SearchJob.{SearchJob}
+use Rattle.sbpl_worlds.specs.sbpl_replan.Directions.{Direction}
+use Rattle.sbpl_worlds.specs.sbpl_replan.Replanning.{GoesBetween, Standing}
+use Rattle.sbpl_worlds.specs.sbpl_report.declared.record.PlanRecord.{PlanRecord}
+use Rattle.sbpl_worlds.specs.sbpl_report.declared.record.TraceLine.{TraceLine}
+use Rattle.sbpl_worlds.specs.sbpl_search.Meaning.{Meaning}
+use Rattle.sbpl_worlds.specs.sbpl_promises.Asked.{Known}
+use Rattle.sbpl_worlds.specs.sbpl_promises.Sites.{Site}
+use Rattle.sbpl_worlds.specs.sbpl_plan.declared.found.Found.{Found}
+use Rattle.sbpl_worlds.specs.sbpl_promises.Headline.{Begins, Carried, IsBrokenOff, IsPlanOf, expanded_before}
+use Rattle.sbpl_worlds.specs.sbpl_promises.Published.{Entry, with_paths, with_plan}
+use Rattle.sbpl_worlds.specs.sbpl_promises.Writing.{AreAppended, DeskState, EndsIn, Stays, Write}
 
 -- a planner as the program knows it at a site, by what its passes mean, how a note of theirs is told, and its direction
 abbrev pub known_by : {W Note : Type 0} → Site W → Meaning Note → (Note → TraceLine) → Direction W → Known W

@@ -1,14 +1,14 @@
 -- What the plans of a job are asked for, and how they end.
 use Rattle.std.specs.Prelude.{ℕ, ◌<◌, Bool, List, None}
-use Rattle.sbpl_job.specs.Jobs.{IsSearchJob}
+use Rattle.sbpl_worlds.specs.sbpl_job.Jobs.{IsSearchJob}
 use Rattle.sbpl_plans.specs.declared.task.Task.{Task}
-use Rattle.sbpl_promises.specs.Asked.{Known}
-use Rattle.sbpl_promises.specs.Causes.{IsCourseIn}
-use Rattle.sbpl_promises.specs.Promises.{EndsPlans}
-use Rattle.sbpl_promises.specs.Published.{Entry}
-use Rattle.sbpl_promises.specs.Sites.{Site, start_after}
-use Rattle.sbpl_promises.specs.Writing.{DeskState, Write}
-use Rattle.sbpl_report.specs.declared.record.PlanRecord.{PlanRecord}
+use Rattle.sbpl_worlds.specs.sbpl_promises.Asked.{Known}
+use Rattle.sbpl_worlds.specs.sbpl_promises.Causes.{IsCourseIn}
+use Rattle.sbpl_worlds.specs.sbpl_promises.Promises.{EndsPlans}
+use Rattle.sbpl_worlds.specs.sbpl_promises.Published.{Entry}
+use Rattle.sbpl_worlds.specs.sbpl_promises.Sites.{Site, start_after}
+use Rattle.sbpl_worlds.specs.sbpl_promises.Writing.{DeskState, Write}
+use Rattle.sbpl_worlds.specs.sbpl_report.declared.record.PlanRecord.{PlanRecord}
 
 -- these plans can be made in a world: they go between its states, by a search in range, and the map and the robot, which moves or not,
 -- take their course in it

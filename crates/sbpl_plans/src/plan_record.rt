@@ -1,31 +1,28 @@
 //! One plan on a world.
 
 ghost use Rattle.std.specs.Prelude.{map, [], if◌then◌else◌, ◌≡◌, ◌+◌, ◌^◌, ◌<◌, ◌≤◌, ℕ, length, IfOk, MatchBool, None, OnErr, Option, Some};
-ghost use Rattle.sbpl_promises.specs.Headline.{AreSteps, Carried, IsKnownWithin, IsNoneThere, IsPathFrom, IsSearched, IsWithinBound, KeepsPromises, Joins, JoinsStates, IsSameResult, IsToldOf};
-ghost use Rattle.sbpl_promises.specs.Sites.{site_of};
-ghost use Rattle.sbpl_report.specs.Traces.{traced_pass};
+ghost use Rattle.sbpl_worlds.specs.sbpl_promises.Headline.{AreSteps, Carried, IsKnownWithin, IsNoneThere, IsPathFrom, IsSearched, IsWithinBound, KeepsPromises, Joins, JoinsStates, IsSameResult, IsToldOf};
+ghost use Rattle.sbpl_worlds.specs.sbpl_promises.Sites.{site_of};
+ghost use Rattle.sbpl_worlds.specs.sbpl_report.Traces.{traced_pass};
 ghost use Rattle.sbpl_plans.specs.Planning.{GoesOnFrom, IsPublishedInPart, IsSetFor, carried_of, known_by};
-ghost use Rattle.sbpl_promises.specs.Published.{founds, newest, with_paths, with_plan};
-ghost use Rattle.sbpl_plan.specs.Asked.{IsAsk, MOST_PASSES};
-ghost use Rattle.sbpl_plan.specs.Determined.{AreWithin};
-ghost use Rattle.sbpl_plan.specs.Planned.{IsPlanned};
-ghost use Rattle.sbpl_replan.specs.Replanning.{StandsOutOfMemory, StaysTheSame, at_plan, inquiry};
-ghost use Rattle.sbpl_job.specs.Jobs.{IsSearchJob};
-ghost use Rattle.sbpl_promises.specs.Asked.{ask_of};
-ghost use Rattle.sbpl_plan.specs.Outcomes.{IsTrueOutcome};
-ghost use Rattle.sbpl_plan.specs.Outcomes as Conclusions;
-ghost use Rattle.sbpl_plan.specs.declared.result.Outcome.TheVariants as Results;
+ghost use Rattle.sbpl_worlds.specs.sbpl_promises.Published.{founds, newest, with_paths, with_plan};
+ghost use Rattle.sbpl_worlds.specs.sbpl_plan.Asked.{IsAsk, MOST_PASSES};
+ghost use Rattle.sbpl_worlds.specs.sbpl_plan.Determined.{AreWithin};
+ghost use Rattle.sbpl_worlds.specs.sbpl_plan.Planned.{IsPlanned};
+ghost use Rattle.sbpl_worlds.specs.sbpl_replan.Replanning.{StandsOutOfMemory, StaysTheSame, at_plan, inquiry};
+ghost use Rattle.sbpl_worlds.specs.sbpl_job.Jobs.{IsSearchJob};
+ghost use Rattle.sbpl_worlds.specs.sbpl_promises.Asked.{ask_of};
+ghost use Rattle.sbpl_worlds.specs.sbpl_plan.Outcomes.{IsTrueOutcome};
+ghost use Rattle.sbpl_worlds.specs.sbpl_plan.Outcomes as Conclusions;
+ghost use Rattle.sbpl_worlds.specs.sbpl_plan.declared.result.Outcome.TheVariants as Results;
 
 use crate::publishing::{LiveBoard, Publishes, newest_on};
 use crate::recorded::Recorded;
 use crate::task::Task;
-use sbpl_cert::Section;
-use sbpl_fixed::NoMemory;
-use sbpl_incumbent::{Entry, Publisher};
-use sbpl_job::{Outputs, SearchJob};
-use sbpl_plan::{Ask, FoundPath, Outcome, Planned};
-use sbpl_report::{PathRecord, PlanRecord, Raised, Steps, Traced, traced_passes};
-use sbpl_worlds::Workspace;
+use sbpl_worlds::{
+    Ask, Entry, FoundPath, NoMemory, Outcome, Outputs, PathRecord, PlanRecord, Planned, Publisher,
+    Raised, SearchJob, Section, Steps, Traced, Workspace, traced_passes,
+};
 use std::alloc::Global;
 use std::sync::Wait;
 

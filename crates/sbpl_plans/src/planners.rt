@@ -1,37 +1,28 @@
 //! The planners: the plans of a job by the one that it asks for.
 
 ghost use Rattle.std.specs.Prelude.{◌≡◌, ◌^◌, ◌<◌, ◌≤◌, [], length, false, true};
-ghost use Rattle.sbpl_epase.specs.Making.{CanPass, Leaves};
-ghost use Rattle.sbpl_job.specs.Jobs.{may_move};
-ghost use Rattle.sbpl_labels.specs.Marks.{AreInitial};
-ghost use Rattle.sbpl_search.specs.Ready.{IsStartFresh};
-ghost use Rattle.sbpl_job.specs.declared.job.Planner.TheVariants as Planners;
-ghost use Rattle.sbpl_search.specs.Query.{query};
-ghost use Rattle.sbpl_promises.specs.Asked.{known};
+ghost use Rattle.sbpl_worlds.specs.sbpl_epase.Making.{CanPass, Leaves};
+ghost use Rattle.sbpl_worlds.specs.sbpl_job.Jobs.{may_move};
+ghost use Rattle.sbpl_worlds.specs.sbpl_labels.Marks.{AreInitial};
+ghost use Rattle.sbpl_worlds.specs.sbpl_search.Ready.{IsStartFresh};
+ghost use Rattle.sbpl_worlds.specs.sbpl_job.declared.job.Planner.TheVariants as Planners;
+ghost use Rattle.sbpl_worlds.specs.sbpl_search.Query.{query};
+ghost use Rattle.sbpl_worlds.specs.sbpl_promises.Asked.{known};
 ghost use Rattle.sbpl_plans.specs.Planning.{known_by};
 ghost use Rattle.sbpl_plans.specs.Tasks.{CanBeMade, EndsTask};
-ghost use Rattle.sbpl_promises.specs.LatticeSite.{lattice_site};
-ghost use Rattle.sbpl_promises.specs.Sites.{site_of};
-ghost use Rattle.sbpl_replan.specs.Directions.{forwards};
-ghost use Rattle.sbpl_promises.specs.Writing.{WritesOnly};
+ghost use Rattle.sbpl_worlds.specs.sbpl_promises.LatticeSite.{lattice_site};
+ghost use Rattle.sbpl_worlds.specs.sbpl_promises.Sites.{site_of};
+ghost use Rattle.sbpl_worlds.specs.sbpl_replan.Directions.{forwards};
+ghost use Rattle.sbpl_worlds.specs.sbpl_promises.Writing.{WritesOnly};
 
 use crate::plans::go_through;
 use crate::publishing::LiveBoard;
 use crate::task::Task;
-use sbpl_adstar::AdStar;
-use sbpl_ara::Ara;
-use sbpl_cost::Lattice;
-use sbpl_desk::Desk;
-use sbpl_epase::{Epase, Gate, Parts, parallel_pass_parts};
-use sbpl_fixed::NoMemory;
-use sbpl_graph::Graph;
-use sbpl_incumbent::Publisher;
-use sbpl_job::Planner;
-use sbpl_replan::{BackReplanner, Replanner};
-use sbpl_report::Traced;
-use sbpl_search::Search;
 use sbpl_telling::Telling;
-use sbpl_worlds::Workspace;
+use sbpl_worlds::{
+    AdStar, Ara, BackReplanner, Desk, Epase, Gate, Graph, Lattice, NoMemory, Parts, Planner,
+    Publisher, Replanner, Search, Traced, Workspace, parallel_pass_parts,
+};
 use std::alloc::Global;
 use std::sync::Wait;
 use std::thread::Threads;

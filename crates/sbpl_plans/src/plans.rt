@@ -1,25 +1,22 @@
 //! The plans of a job: one on the map as it is, and one after each batch of changes.
 
 ghost use Rattle.std.specs.Prelude.{◌≡◌, ◌+◌, ◌^◌, ◌<◌, ◌≤◌, length, IfOk, None, Option};
-ghost use Rattle.sbpl_job.specs.Jobs.{IsSearchJob};
-ghost use Rattle.sbpl_promises.specs.Headline.{Carried};
-ghost use Rattle.sbpl_promises.specs.Sites.{site_of};
+ghost use Rattle.sbpl_worlds.specs.sbpl_job.Jobs.{IsSearchJob};
+ghost use Rattle.sbpl_worlds.specs.sbpl_promises.Headline.{Carried};
+ghost use Rattle.sbpl_worlds.specs.sbpl_promises.Sites.{site_of};
 ghost use Rattle.sbpl_plans.specs.Planning.{EndsOnePlan, GoesOnFrom, IsSetFor, carried_of, known_by};
 ghost use Rattle.sbpl_plans.specs.Tasks.{CanBeMade, EndsTask};
-ghost use Rattle.sbpl_plan.specs.Asked.{MOST_PASSES};
-ghost use Rattle.sbpl_promises.specs.Writing.{WritesOnly};
+ghost use Rattle.sbpl_worlds.specs.sbpl_plan.Asked.{MOST_PASSES};
+ghost use Rattle.sbpl_worlds.specs.sbpl_promises.Writing.{WritesOnly};
 
 use crate::plan_record::make_record;
 use crate::publishing::LiveBoard;
 use crate::recorded::Recorded;
 use crate::task::Task;
-use sbpl_desk::{Desk, WriteStop};
-use sbpl_fixed::NoMemory;
-use sbpl_incumbent::Publisher;
-use sbpl_map::writes_lead_to_the_next_map;
-use sbpl_report::Traced;
 use sbpl_telling::{Telling, status_after, write_last};
-use sbpl_worlds::{Workspace, place_in};
+use sbpl_worlds::{
+    Desk, NoMemory, Publisher, Traced, Workspace, WriteStop, place_in, writes_lead_to_the_next_map,
+};
 use std::alloc::Global;
 use std::sync::Wait;
 

@@ -1,11 +1,9 @@
 //! The newest path, published as soon as it is found.
 
 ghost use Rattle.std.specs.Prelude.{◌≡◌, ◌≤◌, ◌^◌, length, IfOk};
-ghost use Rattle.sbpl_promises.specs.Published.{newest};
+ghost use Rattle.sbpl_worlds.specs.sbpl_promises.Published.{newest};
 
-use sbpl_fixed::NoMemory;
-use sbpl_incumbent::{Board, Entry, Publisher, told_readers_get_the_newest};
-use sbpl_plan::Observer;
+use sbpl_worlds::{Board, Entry, NoMemory, Observer, Publisher, told_readers_get_the_newest};
 use std::sync::Wait;
 
 /// A board, and the runtime by which its calls wait for other threads.
@@ -27,7 +25,7 @@ pub(crate) struct Publishes<'a, W> {
 
 impl<'a, W: Wait> Observer for Publishes<'a, W> {
     ghost use Rattle.std.specs.Prelude.{◌≡◌, ◌-◌, ◌^◌, ◌++◌, ◌∷◌, [], length};
-    ghost use Rattle.sbpl_incumbent.specs.Entries.{next_entry};
+    ghost use Rattle.sbpl_worlds.specs.sbpl_incumbent.Entries.{next_entry};
 
     ghost told = { λ old pass cost bound new.
         (new.publisher.ghost_name ≡ old.publisher.ghost_name) × (new.plan ≡ old.plan) × (new.publisher.now.board ≡ old.publisher.now.board)

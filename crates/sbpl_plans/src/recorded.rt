@@ -1,28 +1,21 @@
 //! Plans of which records are made, whatever the direction in which they are searched.
 
 ghost use Rattle.std.specs.Prelude.{◌≡◌, ◌<◌, IfOk};
-ghost use Rattle.sbpl_cost.specs.Lattices.{network_of};
-ghost use Rattle.sbpl_graph.specs.Certificate.{AreSupported};
-ghost use Rattle.sbpl_labels.specs.Marks.{g_of, v_of};
-ghost use Rattle.sbpl_plan.specs.Outcomes.{IsResultOf, IsTrueOutcome};
-ghost use Rattle.sbpl_back.specs.Reversed.{AreTurned, reversed};
-ghost use Rattle.sbpl_graph.specs.Path.{IsFreePath};
-ghost use Rattle.sbpl_replan.specs.Replanning.{GoesBetween};
-ghost use Rattle.sbpl_promises.specs.Headline.{IsTurned};
-ghost use Rattle.sbpl_report.specs.Shown.{IsShown, IsThere};
+ghost use Rattle.sbpl_worlds.specs.sbpl_cost.Lattices.{network_of};
+ghost use Rattle.sbpl_worlds.specs.sbpl_graph.Certificate.{AreSupported};
+ghost use Rattle.sbpl_worlds.specs.sbpl_labels.Marks.{g_of, v_of};
+ghost use Rattle.sbpl_worlds.specs.sbpl_plan.Outcomes.{IsResultOf, IsTrueOutcome};
+ghost use Rattle.sbpl_worlds.specs.sbpl_back.Reversed.{AreTurned, reversed};
+ghost use Rattle.sbpl_worlds.specs.sbpl_graph.Path.{IsFreePath};
+ghost use Rattle.sbpl_worlds.specs.sbpl_replan.Replanning.{GoesBetween};
+ghost use Rattle.sbpl_worlds.specs.sbpl_promises.Headline.{IsTurned};
+ghost use Rattle.sbpl_worlds.specs.sbpl_report.Shown.{IsShown, IsThere};
 
-use sbpl_back::{Back, FromStart, paths_turn_round, turned_round};
-use sbpl_cert::Section;
-use sbpl_cost::Lattice;
-use sbpl_fixed::NoMemory;
-use sbpl_graph::Graph;
-use sbpl_job::LabelForm;
-use sbpl_plan::{Arcs, FoundPath, Outcome};
-use sbpl_replan::{BackReplanner, Replan, Replanner};
-use sbpl_report::labels_of;
-use sbpl_search::Search;
-use sbpl_terrain::Heuristic;
-use sbpl_worlds::Workspace;
+use sbpl_worlds::{
+    Arcs, Back, BackReplanner, FoundPath, FromStart, Graph, Heuristic, LabelForm, Lattice,
+    NoMemory, Outcome, Replan, Replanner, Search, Section, Workspace, labels_of, paths_turn_round,
+    turned_round,
+};
 use std::alloc::Global;
 
 /// Plans of which records are made.

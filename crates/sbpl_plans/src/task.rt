@@ -1,7 +1,6 @@
 //! What the plans of a job are asked for.
 
-use sbpl_job::{Outputs, SearchJob};
-use sbpl_promises::Course;
+use sbpl_worlds::{Course, Outputs, SearchJob};
 
 /// What the plans of a job are asked for: how they are searched, what is written of them, how the map changes from plan to plan and the
 /// robot moves, from which state the first goes, and to which all go.

@@ -22,4 +22,9 @@ pub use lined::Lined;
 pub use post::{Post, Sent};
 pub use posting::Posting;
 pub use queue::Queue;
+pub use sbpl_claims::{Claim, Claims, Graph, Guide, Keeper, Naming, NoMemory, events_keep};
+pub use sbpl_frontier_core::{
+    Core, CoreOf, Event, Gate, Journal, Judged, Next, NoGate, Parts, Pass, Past, Seen, Space,
+    Ticket, Unseen, go_on, judge, nothing_begun,
+};
 pub use sender::Sender;

@@ -5,8 +5,7 @@ ghost use Rattle.sbpl_postings.specs.Steps.{nothing_came};
 
 use crate::rule::{PostingPass, Postings};
 use crate::{Drain, Lined, Posting, Queue};
-use sbpl_claims::Naming;
-use sbpl_fixed::NoMemory;
+use sbpl_claims::{Naming, NoMemory};
 use sbpl_frontier_core::Pass;
 use std::alloc::Global;
 use std::marker::{Model, PhantomData};

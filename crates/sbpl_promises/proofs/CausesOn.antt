@@ -1,8 +1,8 @@
 -- A cause of a refusal stands where other reads have failed.
 use Rattle.std.proofs.Common.{ℕ, List, Option, Some, refl, inl, inr}
-use Rattle.sbpl_job.specs.declared.job.Job.{Job}
-use Rattle.sbpl_job.specs.declared.job.Job.TheVariants as job
-use Rattle.sbpl_job.specs.declared.job.Sources.{Sources}
+use Rattle.sbpl_report.specs.sbpl_job.declared.job.Job.{Job}
+use Rattle.sbpl_report.specs.sbpl_job.declared.job.Job.TheVariants as job
+use Rattle.sbpl_report.specs.sbpl_job.declared.job.Sources.{Sources}
 use Rattle.sbpl_report.specs.declared.refusal.Input.TheVariants as input
 use Rattle.sbpl_report.specs.declared.refusal.Refusal.{Refusal}
 use Rattle.sbpl_report.specs.declared.refusal.Refusal.TheVariants as refusal

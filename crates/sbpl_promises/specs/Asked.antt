@@ -1,21 +1,21 @@
 -- What a job asks of a planner.
 use Rattle.std.specs.Prelude.{Bool, true, false}
 use Rattle.std.specs.Option.{is_some}
-use Rattle.sbpl_search.specs.Meaning.{Meaning}
-use Rattle.sbpl_serial.specs.declared.step.Step.{Step}
+use Rattle.sbpl_report.specs.sbpl_search.Meaning.{Meaning}
+use Rattle.sbpl_report.specs.sbpl_serial.declared.step.Step.{Step}
 use Rattle.sbpl_report.specs.declared.record.TraceLine.{TraceLine}
 use Rattle.sbpl_promises.specs.Sites.{Site}
 use Rattle.sbpl_report.specs.Traces.{line_of, line_of_event}
-use Rattle.sbpl_ara.specs.Planner.{ara}
-use Rattle.sbpl_adstar.specs.Planner.{adstar}
-use Rattle.sbpl_frontier_rules.specs.declared.event.Event.{Event}
+use Rattle.sbpl_replan.specs.sbpl_ara.Planner.{ara}
+use Rattle.sbpl_replan.specs.sbpl_adstar.Planner.{adstar}
+use Rattle.sbpl_report.specs.sbpl_frontier_rules.declared.event.Event.{Event}
 use Rattle.sbpl_epase.specs.Planner.{epase}
-use Rattle.sbpl_plan.specs.declared.ask.Ask.{Ask}
-use Rattle.sbpl_job.specs.Jobs.{may_move}
-use Rattle.sbpl_job.specs.declared.job.Outputs.{Outputs}
-use Rattle.sbpl_job.specs.declared.job.Planner.{Planner}
-use Rattle.sbpl_job.specs.declared.job.Planner.TheVariants as planner
-use Rattle.sbpl_job.specs.declared.job.SearchJob.{SearchJob}
+use Rattle.sbpl_report.specs.sbpl_plan.declared.ask.Ask.{Ask}
+use Rattle.sbpl_report.specs.sbpl_job.Jobs.{may_move}
+use Rattle.sbpl_report.specs.sbpl_job.declared.job.Outputs.{Outputs}
+use Rattle.sbpl_report.specs.sbpl_job.declared.job.Planner.{Planner}
+use Rattle.sbpl_report.specs.sbpl_job.declared.job.Planner.TheVariants as planner
+use Rattle.sbpl_report.specs.sbpl_job.declared.job.SearchJob.{SearchJob}
 use Rattle.sbpl_replan.specs.Directions.{Direction, backwards, forwards}
 
 -- what a plan is asked for

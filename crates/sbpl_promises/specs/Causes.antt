@@ -1,22 +1,22 @@
 -- What the files that a world is made of say, and why a job on it is refused. `Reads..`: what a job read, which is what the desk
 -- holds as far as it tells. That the desk tells it is `Tells..` of Promises.
 use Rattle.std.specs.Prelude.{◌≡◌, ◌≢◌, ℕ, ◌^◌, ◌<◌, ◌≤◌, ◌⊎◌, Bool, false, List, [], length, slice_get, Option, Some, None, IfSome}
-use Rattle.sbpl_cfg.specs.declared.fault.EnvFault.{EnvFault}
-use Rattle.sbpl_cfg.specs.Environment.{Environment}
-use Rattle.sbpl_cfg.specs.declared.pose.Place.{Place}
-use Rattle.sbpl_mprim.specs.declared.fault.PrimFault.{PrimFault}
-use Rattle.sbpl_mprim.specs.declared.prim.Primitive.{Primitive}
-use Rattle.sbpl_mprim.specs.Primitives.{Primitives}
-use Rattle.sbpl_sweep.specs.Swept.{AreSweepsOf}
-use Rattle.sbpl_sweep.specs.Widths.{IsFirstTooWide, NoneTooWide}
-use Rattle.sbpl_map.specs.ChangeText.{AreOnMap, ArePlacesOnMap}
-use Rattle.sbpl_map.specs.declared.fault.ChangeFault.{ChangeFault}
-use Rattle.sbpl_map.specs.declared.write.Write.{Write}
+use Rattle.sbpl_report.specs.sbpl_cfg.declared.fault.EnvFault.{EnvFault}
+use Rattle.sbpl_report.specs.sbpl_cfg.Environment.{Environment}
+use Rattle.sbpl_report.specs.sbpl_cfg.declared.pose.Place.{Place}
+use Rattle.sbpl_report.specs.sbpl_mprim.declared.fault.PrimFault.{PrimFault}
+use Rattle.sbpl_report.specs.sbpl_mprim.declared.prim.Primitive.{Primitive}
+use Rattle.sbpl_report.specs.sbpl_mprim.Primitives.{Primitives}
+use Rattle.sbpl_report.specs.sbpl_sweep.Swept.{AreSweepsOf}
+use Rattle.sbpl_report.specs.sbpl_sweep.Widths.{IsFirstTooWide, NoneTooWide}
+use Rattle.sbpl_report.specs.sbpl_map.ChangeText.{AreOnMap, ArePlacesOnMap}
+use Rattle.sbpl_report.specs.sbpl_map.declared.fault.ChangeFault.{ChangeFault}
+use Rattle.sbpl_report.specs.sbpl_map.declared.write.Write.{Write}
 use Rattle.sbpl_demo.specs.Changes.{changes_drawn}
 use Rattle.sbpl_demo.specs.Environment.{costs, environment}
 use Rattle.sbpl_demo.specs.Primitives.{primitives}
-use Rattle.sbpl_cost.specs.PrimitiveCost.{IsFirstTooDear, most_cost, primitive_cost}
-use Rattle.sbpl_cost.specs.World.{World}
+use Rattle.sbpl_report.specs.sbpl_cost.PrimitiveCost.{IsFirstTooDear, most_cost, primitive_cost}
+use Rattle.sbpl_report.specs.sbpl_cost.World.{World}
 use Rattle.sbpl_report.specs.declared.refusal.Input.{Input}
 use Rattle.sbpl_report.specs.declared.refusal.Input.TheVariants as input
 use Rattle.sbpl_report.specs.declared.refusal.Refusal.{Refusal}
@@ -24,19 +24,19 @@ use Rattle.sbpl_report.specs.declared.refusal.Refusal.TheVariants as refusal
 use Rattle.sbpl_report.specs.Refusals.{refusal_status}
 use Rattle.sbpl_report.specs.declared.refusal.Stop.{Stop}
 use Rattle.sbpl_report.specs.declared.refusal.Stop.TheVariants as stop
-use Rattle.sbpl_job.specs.declared.job.Job.{Job}
-use Rattle.sbpl_job.specs.declared.job.Job.TheVariants as job
-use Rattle.sbpl_job.specs.Jobs.{may_move}
-use Rattle.sbpl_job.specs.declared.job.CheckJob.{CheckJob}
-use Rattle.sbpl_job.specs.declared.job.DemoJob.{DemoJob}
-use Rattle.sbpl_job.specs.declared.job.LabelForm.TheVariants as form
-use Rattle.sbpl_job.specs.declared.job.Outputs.{Outputs}
-use Rattle.sbpl_job.specs.declared.job.PlanJob.{PlanJob}
-use Rattle.sbpl_job.specs.declared.job.Planner.TheVariants as planner
-use Rattle.sbpl_job.specs.declared.job.SearchJob.{SearchJob}
-use Rattle.sbpl_job.specs.declared.job.Sources.{Sources}
+use Rattle.sbpl_report.specs.sbpl_job.declared.job.Job.{Job}
+use Rattle.sbpl_report.specs.sbpl_job.declared.job.Job.TheVariants as job
+use Rattle.sbpl_report.specs.sbpl_job.Jobs.{may_move}
+use Rattle.sbpl_report.specs.sbpl_job.declared.job.CheckJob.{CheckJob}
+use Rattle.sbpl_report.specs.sbpl_job.declared.job.DemoJob.{DemoJob}
+use Rattle.sbpl_report.specs.sbpl_job.declared.job.LabelForm.TheVariants as form
+use Rattle.sbpl_report.specs.sbpl_job.declared.job.Outputs.{Outputs}
+use Rattle.sbpl_report.specs.sbpl_job.declared.job.PlanJob.{PlanJob}
+use Rattle.sbpl_report.specs.sbpl_job.declared.job.Planner.TheVariants as planner
+use Rattle.sbpl_report.specs.sbpl_job.declared.job.SearchJob.{SearchJob}
+use Rattle.sbpl_report.specs.sbpl_job.declared.job.Sources.{Sources}
 use Rattle.sbpl_report.specs.declared.record.PlanRecord.{PlanRecord}
-use Rattle.sbpl_plan.specs.declared.found.Found.{Found}
+use Rattle.sbpl_report.specs.sbpl_plan.declared.found.Found.{Found}
 use Rattle.sbpl_promises.specs.Headline.{ArePlans}
 use Rattle.sbpl_promises.specs.GridSite.{grid_site}
 use Rattle.sbpl_promises.specs.LatticeSite.{lattice_site}

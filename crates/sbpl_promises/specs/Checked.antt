@@ -1,20 +1,20 @@
 -- How the sections of a label text are checked, one for each plan.
 use Rattle.std.specs.Prelude.{◌≡◌, ◌≢◌, ℕ, zero, suc, ◌+◌, List, [], ◌∷◌, Option, Some, None}
-use Rattle.sbpl_graph.specs.Network.{Network}
-use Rattle.sbpl_fixed.specs.Formats.{Left}
-use Rattle.sbpl_fixed.specs.Tokens.{Piece}
-use Rattle.sbpl_cert.specs.declared.fault.LabelFault.{LabelFault}
-use Rattle.sbpl_cert.specs.declared.fault.LabelFault.TheVariants as fault
-use Rattle.sbpl_cert.specs.declared.flaw.Flaw.{Flaw}
-use Rattle.sbpl_cert.specs.declared.outcome.Outcome.{Outcome}
-use Rattle.sbpl_cert.specs.Flaws.{HasNoFlaw, IsFirstFlaw}
-use Rattle.sbpl_cert.specs.declared.section.Section.{Section}
-use Rattle.sbpl_cert.specs.Sound.{IsSo, ShowsAll}
-use Rattle.sbpl_cert.specs.Text.{AreTokensOf, HasFault}
-use Rattle.sbpl_cert.specs.Versions.{IsOf, arcs_of, claim_by, outcome_of}
-use Rattle.sbpl_map.specs.CellMap.{CellMap}
-use Rattle.sbpl_map.specs.MapAfter.{IsMapAfter}
-use Rattle.sbpl_map.specs.declared.write.Write.{Write}
+use Rattle.sbpl_report.specs.sbpl_graph.Network.{Network}
+use Rattle.sbpl_report.specs.sbpl_fixed.Formats.{Left}
+use Rattle.sbpl_report.specs.sbpl_fixed.Tokens.{Piece}
+use Rattle.sbpl_report.specs.sbpl_cert.declared.fault.LabelFault.{LabelFault}
+use Rattle.sbpl_report.specs.sbpl_cert.declared.fault.LabelFault.TheVariants as fault
+use Rattle.sbpl_report.specs.sbpl_cert.declared.flaw.Flaw.{Flaw}
+use Rattle.sbpl_report.specs.sbpl_cert.declared.outcome.Outcome.{Outcome}
+use Rattle.sbpl_report.specs.sbpl_cert.Flaws.{HasNoFlaw, IsFirstFlaw}
+use Rattle.sbpl_report.specs.sbpl_cert.declared.section.Section.{Section}
+use Rattle.sbpl_report.specs.sbpl_cert.Sound.{IsSo, ShowsAll}
+use Rattle.sbpl_report.specs.sbpl_cert.Text.{AreTokensOf, HasFault}
+use Rattle.sbpl_report.specs.sbpl_cert.Versions.{IsOf, arcs_of, claim_by, outcome_of}
+use Rattle.sbpl_report.specs.sbpl_map.CellMap.{CellMap}
+use Rattle.sbpl_report.specs.sbpl_map.MapAfter.{IsMapAfter}
+use Rattle.sbpl_report.specs.sbpl_map.declared.write.Write.{Write}
 use Rattle.sbpl_replan.specs.Directions.{Direction}
 use Rattle.sbpl_promises.specs.Sites.{Site, start_after}
 use Rattle.sbpl_promises.specs.declared.course.Course.{Course}

@@ -1,19 +1,19 @@
 -- No text of a file has two readings.
 use Rattle.std.specs.Prelude.{◌≡◌, ℕ, ◌<◌, List}
-use Rattle.sbpl_graph.specs.Network.{Network}
-use Rattle.sbpl_fixed.specs.Formats.{Left}
-use Rattle.sbpl_fixed.specs.Tokens.{Piece}
-use Rattle.sbpl_cfg.specs.declared.fault.EnvFault.{EnvFault}
-use Rattle.sbpl_cfg.specs.Environment.{Environment}
-use Rattle.sbpl_map.specs.declared.fault.ChangeFault.{ChangeFault}
-use Rattle.sbpl_mprim.specs.declared.fault.PrimFault.{PrimFault}
-use Rattle.sbpl_mprim.specs.Primitives.{Primitives}
-use Rattle.sbpl_cert.specs.declared.fault.LabelFault.{LabelFault}
-use Rattle.sbpl_cert.specs.declared.flaw.Flaw.{Flaw}
-use Rattle.sbpl_cert.specs.declared.section.Section.{Section}
-use Rattle.sbpl_cert.specs.Flaws.{HasFlaw, HasNoFlaw, IsFirstFlaw}
-use Rattle.sbpl_cert.specs.Text.{AreTokens, AreTokensOf, HasFault}
-use Rattle.sbpl_cert.specs.Versions.{claim_by}
+use Rattle.sbpl_report.specs.sbpl_graph.Network.{Network}
+use Rattle.sbpl_report.specs.sbpl_fixed.Formats.{Left}
+use Rattle.sbpl_report.specs.sbpl_fixed.Tokens.{Piece}
+use Rattle.sbpl_report.specs.sbpl_cfg.declared.fault.EnvFault.{EnvFault}
+use Rattle.sbpl_report.specs.sbpl_cfg.Environment.{Environment}
+use Rattle.sbpl_report.specs.sbpl_map.declared.fault.ChangeFault.{ChangeFault}
+use Rattle.sbpl_report.specs.sbpl_mprim.declared.fault.PrimFault.{PrimFault}
+use Rattle.sbpl_report.specs.sbpl_mprim.Primitives.{Primitives}
+use Rattle.sbpl_report.specs.sbpl_cert.declared.fault.LabelFault.{LabelFault}
+use Rattle.sbpl_report.specs.sbpl_cert.declared.flaw.Flaw.{Flaw}
+use Rattle.sbpl_report.specs.sbpl_cert.declared.section.Section.{Section}
+use Rattle.sbpl_report.specs.sbpl_cert.Flaws.{HasFlaw, HasNoFlaw, IsFirstFlaw}
+use Rattle.sbpl_report.specs.sbpl_cert.Text.{AreTokens, AreTokensOf, HasFault}
+use Rattle.sbpl_report.specs.sbpl_cert.Versions.{claim_by}
 use Rattle.sbpl_promises.specs.declared.course.Course.{Course}
 use Rattle.sbpl_nav2d.specs.Environment.{NavEnvironment}
 use Rattle.sbpl_promises.specs.Texts.{HasChangeFault, HasEnvironmentFault, HasGridFault, HasPrimitiveFault, IsChangeText, IsEnvironmentText, IsGridText, IsPrimitiveText, Scope}

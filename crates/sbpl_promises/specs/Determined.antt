@@ -1,16 +1,16 @@
 -- What is written is determined by the words and the files.
 use Rattle.std.specs.Prelude.{◌≡◌, ◌≢◌, ◌⊎◌, ◌++◌, ℕ, Bool, true, IsSome, List, Some}
 use Rattle.sbpl_desk.specs.Desk.{AppendsPrefix}
-use Rattle.sbpl_cost.specs.World.{World}
-use Rattle.sbpl_job.specs.declared.job.Job.{Job}
-use Rattle.sbpl_job.specs.declared.job.Job.TheVariants as job
-use Rattle.sbpl_job.specs.declared.job.Outputs.{Outputs}
-use Rattle.sbpl_job.specs.declared.job.SearchJob.{SearchJob}
+use Rattle.sbpl_report.specs.sbpl_cost.World.{World}
+use Rattle.sbpl_report.specs.sbpl_job.declared.job.Job.{Job}
+use Rattle.sbpl_report.specs.sbpl_job.declared.job.Job.TheVariants as job
+use Rattle.sbpl_report.specs.sbpl_job.declared.job.Outputs.{Outputs}
+use Rattle.sbpl_report.specs.sbpl_job.declared.job.SearchJob.{SearchJob}
 use Rattle.sbpl_promises.specs.declared.section_stop.SectionStop.TheVariants as section
 use Rattle.sbpl_report.specs.declared.record.PlanRecord.{PlanRecord}
 use Rattle.sbpl_promises.specs.Asked.{is_determined}
 use Rattle.sbpl_promises.specs.Causes.{ArePlanned, IsEarlyInput, IsJobCause, IsSource, ReadsWorld, check_files, grid_files, plan_files}
-use Rattle.sbpl_plan.specs.declared.found.Found.{Found}
+use Rattle.sbpl_report.specs.sbpl_plan.declared.found.Found.{Found}
 use Rattle.sbpl_promises.specs.Headline.{ArePlans}
 use Rattle.sbpl_promises.specs.Sites.{Site}
 use Rattle.sbpl_promises.specs.Published.{Entry}

@@ -1,28 +1,28 @@
 -- What a plan's record says of the world that it was planned in.
 use Rattle.std.specs.Prelude.{map, ◌≡◌, ℕ, ◌+◌, ◌*◌, ◌^◌, ◌≤◌, ◌⊎◌, Bool, MatchBool, true, if◌then◌else◌, List, [], ◌∷◌, length, Option, Some, None}
 use Rattle.std.specs.Option.{is_some}
-use Rattle.sbpl_graph.specs.Network.{Network}
-use Rattle.sbpl_graph.specs.Path.{IsFreePath}
-use Rattle.sbpl_labels.specs.Marks.{Marks, AreInitial}
-use Rattle.sbpl_plan.specs.declared.result.FoundPath.{FoundPath}
-use Rattle.sbpl_plan.specs.declared.result.Outcome.{Outcome}
-use Rattle.sbpl_plan.specs.declared.result.Outcome.TheVariants as outcome
-use Rattle.sbpl_plan.specs.Asked.{most_passes}
-use Rattle.sbpl_plan.specs.Outcomes.{IsResultOf}
-use Rattle.sbpl_plan.specs.declared.found.Found.{Found}
-use Rattle.sbpl_plan.specs.Passing.{AreFirstPasses, ArePasses, expansions, inquiry_of}
-use Rattle.sbpl_map.specs.CellMap.{CellMap}
-use Rattle.sbpl_map.specs.MapAfter.{IsMapAfter}
-use Rattle.sbpl_map.specs.declared.write.Write.{Write}
+use Rattle.sbpl_report.specs.sbpl_graph.Network.{Network}
+use Rattle.sbpl_report.specs.sbpl_graph.Path.{IsFreePath}
+use Rattle.sbpl_report.specs.sbpl_labels.Marks.{Marks, AreInitial}
+use Rattle.sbpl_report.specs.sbpl_plan.declared.result.FoundPath.{FoundPath}
+use Rattle.sbpl_report.specs.sbpl_plan.declared.result.Outcome.{Outcome}
+use Rattle.sbpl_report.specs.sbpl_plan.declared.result.Outcome.TheVariants as outcome
+use Rattle.sbpl_report.specs.sbpl_plan.Asked.{most_passes}
+use Rattle.sbpl_report.specs.sbpl_plan.Outcomes.{IsResultOf}
+use Rattle.sbpl_report.specs.sbpl_plan.declared.found.Found.{Found}
+use Rattle.sbpl_report.specs.sbpl_plan.Passing.{AreFirstPasses, ArePasses, expansions, inquiry_of}
+use Rattle.sbpl_report.specs.sbpl_map.CellMap.{CellMap}
+use Rattle.sbpl_report.specs.sbpl_map.MapAfter.{IsMapAfter}
+use Rattle.sbpl_report.specs.sbpl_map.declared.write.Write.{Write}
 use Rattle.sbpl_replan.specs.Directions.{Direction}
 use Rattle.sbpl_replan.specs.Replanning.{BeginsWith}
-use Rattle.sbpl_search.specs.Meaning.{Meaning}
-use Rattle.sbpl_plan.specs.declared.passes.Pass.{Pass}
+use Rattle.sbpl_report.specs.sbpl_search.Meaning.{Meaning}
+use Rattle.sbpl_report.specs.sbpl_plan.declared.passes.Pass.{Pass}
 use Rattle.sbpl_report.specs.declared.record.PathStep.{PathStep}
 use Rattle.sbpl_report.specs.declared.record.PathRecord.{PathRecord}
 use Rattle.sbpl_report.specs.declared.record.PlanRecord.{PlanRecord}
-use Rattle.sbpl_job.specs.declared.job.Outputs.{Outputs}
-use Rattle.sbpl_job.specs.declared.job.SearchJob.{SearchJob}
+use Rattle.sbpl_report.specs.sbpl_job.declared.job.Outputs.{Outputs}
+use Rattle.sbpl_report.specs.sbpl_job.declared.job.SearchJob.{SearchJob}
 use Rattle.sbpl_promises.specs.Asked.{Known, ask_of, known}
 use Rattle.sbpl_promises.specs.Sites.{Site, start_after}
 use Rattle.sbpl_report.specs.Traces.{traced_pass}

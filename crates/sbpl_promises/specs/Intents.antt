@@ -1,16 +1,16 @@
 -- What a job means to do: what is to be written, and the status.
 use Rattle.std.specs.Prelude.{◌≡◌, ℕ, ◌+◌, Bool, if◌then◌else◌, List, [], ◌∷◌, ◌++◌, flat_map, length, map, Option, Some, None}
 use Rattle.sbpl_report.specs.declared.refusal.Refusal.{Refusal}
-use Rattle.sbpl_cost.specs.Lattices.{network_of}
-use Rattle.sbpl_cost.specs.World.{World}
-use Rattle.sbpl_cert.specs.declared.outcome.Outcome.{Outcome}
-use Rattle.sbpl_job.specs.declared.job.Job.{Job}
-use Rattle.sbpl_job.specs.declared.job.Job.TheVariants as job
+use Rattle.sbpl_report.specs.sbpl_cost.Lattices.{network_of}
+use Rattle.sbpl_report.specs.sbpl_cost.World.{World}
+use Rattle.sbpl_report.specs.sbpl_cert.declared.outcome.Outcome.{Outcome}
+use Rattle.sbpl_report.specs.sbpl_job.declared.job.Job.{Job}
+use Rattle.sbpl_report.specs.sbpl_job.declared.job.Job.TheVariants as job
 use Rattle.sbpl_promises.specs.declared.section_stop.SectionStop.{SectionStop}
 use Rattle.sbpl_promises.specs.declared.section_stop.SectionStop.TheVariants as stop
-use Rattle.sbpl_job.specs.declared.job.LabelForm.TheVariants as form
-use Rattle.sbpl_job.specs.declared.job.Outputs.{Outputs}
-use Rattle.sbpl_plan.specs.declared.found.Found.{Found}
+use Rattle.sbpl_report.specs.sbpl_job.declared.job.LabelForm.TheVariants as form
+use Rattle.sbpl_report.specs.sbpl_job.declared.job.Outputs.{Outputs}
+use Rattle.sbpl_report.specs.sbpl_plan.declared.found.Found.{Found}
 use Rattle.sbpl_promises.specs.Published.{Entry, with_paths, with_plans}
 use Rattle.sbpl_report.specs.declared.record.PlanRecord.{PlanRecord}
 use Rattle.sbpl_report.specs.Listing.{listings}

@@ -1,17 +1,17 @@
 -- The lattice as a place that is planned on.
 use Rattle.std.specs.Prelude.{◌≡◌, ℕ}
-use Rattle.sbpl_graph.specs.Network.{Network}
-use Rattle.sbpl_cfg.specs.declared.pose.Pose.{Pose}
-use Rattle.sbpl_cfg.specs.declared.pose.Place.{Place}
-use Rattle.sbpl_cfg.specs.Environment.{Environment, IsPlaceOf}
-use Rattle.sbpl_mprim.specs.declared.prim.Primitive.{Primitive}
-use Rattle.sbpl_cost.specs.Arc.{HasLatticeArcs, IsArcBy}
-use Rattle.sbpl_cost.specs.Cells.{lattice_cells}
-use Rattle.sbpl_cost.specs.Lattices.{network_of}
-use Rattle.sbpl_cost.specs.States.{place_of, state_number}
-use Rattle.sbpl_cost.specs.TailOrder.{HasLatticeTails}
-use Rattle.sbpl_cost.specs.World.{World}
-use Rattle.sbpl_heur.specs.Bests.{IsBest}
+use Rattle.sbpl_report.specs.sbpl_graph.Network.{Network}
+use Rattle.sbpl_report.specs.sbpl_cfg.declared.pose.Pose.{Pose}
+use Rattle.sbpl_report.specs.sbpl_cfg.declared.pose.Place.{Place}
+use Rattle.sbpl_report.specs.sbpl_cfg.Environment.{Environment, IsPlaceOf}
+use Rattle.sbpl_report.specs.sbpl_mprim.declared.prim.Primitive.{Primitive}
+use Rattle.sbpl_report.specs.sbpl_cost.Arc.{HasLatticeArcs, IsArcBy}
+use Rattle.sbpl_report.specs.sbpl_cost.Cells.{lattice_cells}
+use Rattle.sbpl_report.specs.sbpl_cost.Lattices.{network_of}
+use Rattle.sbpl_report.specs.sbpl_cost.States.{place_of, state_number}
+use Rattle.sbpl_report.specs.sbpl_cost.TailOrder.{HasLatticeTails}
+use Rattle.sbpl_report.specs.sbpl_cost.World.{World}
+use Rattle.sbpl_replan.specs.sbpl_heur.Bests.{IsBest}
 use Rattle.sbpl_report.specs.declared.record.PathStep.{PathStep}
 use Rattle.sbpl_report.specs.declared.record.Spot.TheVariants as spot
 use Rattle.sbpl_promises.specs.Sites.{Site, Wording}

@@ -1,17 +1,17 @@
 -- What the program promises of its status and of what it writes.
 use Rattle.std.specs.Prelude.{◌≡◌, ◌==◌, IsTrue, ℕ, suc, ◌+◌, ◌^◌, ◌<◌, ◌≤◌, ◌⊎◌, Bool, true, List, [], ◌++◌, flat_map, length, Option, Some, None}
 use Rattle.std.specs.List.{list_any}
-use Rattle.sbpl_cfg.specs.declared.fault.EnvFault.{EnvFault}
-use Rattle.sbpl_cfg.specs.Environment.{Environment}
-use Rattle.sbpl_mprim.specs.declared.fault.PrimFault.{PrimFault}
-use Rattle.sbpl_mprim.specs.Primitives.{Primitives}
-use Rattle.sbpl_fixed.specs.Formats.{Left, start_at}
-use Rattle.sbpl_map.specs.declared.fault.ChangeFault.{ChangeFault}
-use Rattle.sbpl_map.specs.declared.write.Write as change
-use Rattle.sbpl_cost.specs.World.{IsWorld, World}
-use Rattle.sbpl_cert.specs.declared.fault.LabelFault.{LabelFault}
-use Rattle.sbpl_cert.specs.declared.flaw.Flaw.{Flaw}
-use Rattle.sbpl_cert.specs.declared.outcome.Outcome.{Outcome}
+use Rattle.sbpl_report.specs.sbpl_cfg.declared.fault.EnvFault.{EnvFault}
+use Rattle.sbpl_report.specs.sbpl_cfg.Environment.{Environment}
+use Rattle.sbpl_report.specs.sbpl_mprim.declared.fault.PrimFault.{PrimFault}
+use Rattle.sbpl_report.specs.sbpl_mprim.Primitives.{Primitives}
+use Rattle.sbpl_report.specs.sbpl_fixed.Formats.{Left, start_at}
+use Rattle.sbpl_report.specs.sbpl_map.declared.fault.ChangeFault.{ChangeFault}
+use Rattle.sbpl_report.specs.sbpl_map.declared.write.Write as change
+use Rattle.sbpl_report.specs.sbpl_cost.World.{IsWorld, World}
+use Rattle.sbpl_report.specs.sbpl_cert.declared.fault.LabelFault.{LabelFault}
+use Rattle.sbpl_report.specs.sbpl_cert.declared.flaw.Flaw.{Flaw}
+use Rattle.sbpl_report.specs.sbpl_cert.declared.outcome.Outcome.{Outcome}
 use Rattle.sbpl_promises.specs.Asked.{Known, checked_direction}
 use Rattle.sbpl_promises.specs.Sites.{Site}
 use Rattle.sbpl_nav2d.specs.World.{GridWorld, IsGridWorld}
@@ -20,19 +20,19 @@ use Rattle.sbpl_replan.specs.Directions.{Direction}
 use Rattle.sbpl_promises.specs.declared.section_stop.SectionStop.{SectionStop}
 use Rattle.sbpl_promises.specs.declared.section_stop.SectionStop.TheVariants as section
 use Rattle.sbpl_promises.specs.Checked.{AreChecked, Case, Holding, IsShownHolding, case_of, to_in}
-use Rattle.sbpl_plan.specs.declared.found.Found.{Found}
+use Rattle.sbpl_report.specs.sbpl_plan.declared.found.Found.{Found}
 use Rattle.sbpl_promises.specs.Headline.{AreRecords, Carried, IsBrokenIn}
 use Rattle.sbpl_promises.specs.Published.{Entry, with_paths, with_plans}
-use Rattle.sbpl_job.specs.declared.job.Job.{Job}
-use Rattle.sbpl_job.specs.declared.job.Job.TheVariants as job
-use Rattle.sbpl_job.specs.declared.job.DemoJob.{DemoJob}
-use Rattle.sbpl_job.specs.declared.job.Outputs.{Outputs}
-use Rattle.sbpl_job.specs.declared.job.SearchJob.{SearchJob}
-use Rattle.sbpl_job.specs.declared.job.Sources.{Sources}
+use Rattle.sbpl_report.specs.sbpl_job.declared.job.Job.{Job}
+use Rattle.sbpl_report.specs.sbpl_job.declared.job.Job.TheVariants as job
+use Rattle.sbpl_report.specs.sbpl_job.declared.job.DemoJob.{DemoJob}
+use Rattle.sbpl_report.specs.sbpl_job.declared.job.Outputs.{Outputs}
+use Rattle.sbpl_report.specs.sbpl_job.declared.job.SearchJob.{SearchJob}
+use Rattle.sbpl_report.specs.sbpl_job.declared.job.Sources.{Sources}
 use Rattle.sbpl_report.specs.declared.record.PlanRecord.{PlanRecord}
 use Rattle.sbpl_report.specs.declared.refusal.Refusal.{Refusal}
 use Rattle.sbpl_promises.specs.Causes.{AreDemonstrated, ArePlanned, IsJobCause, IsReadText, NoneTooDear, ReadsCourse, ReadsWorld, check_files, grid_files, plan_files}
-use Rattle.sbpl_sweep.specs.Widths.{NoneTooWide}
+use Rattle.sbpl_report.specs.sbpl_sweep.Widths.{NoneTooWide}
 use Rattle.sbpl_promises.specs.Intents.{BeginsAfter, Intent, Refused, Planned, Checked, Listed, Demonstrated, OutOfMemory, published_by, checked_status, checked_writes, demo_writes, end_writes, intent_status, listing_writes, outputs_of, plans_status, plans_writes, refusal_writes, statuses, words_writes, writes_of}
 use Rattle.sbpl_report.specs.Refusals.{refusal_status}
 use Rattle.sbpl_promises.specs.declared.course.Course.{Course}

@@ -1,11 +1,11 @@
 -- What plans publish: an entry for each pass whose walk gave a path, in order.
 use Rattle.std.specs.Prelude.{ℕ, ◌+◌, List, [], ◌∷◌, ◌++◌, map}
-use Rattle.sbpl_incumbent.specs.Entries.{next_entry}
-pub use Rattle.sbpl_incumbent.specs.Entries.{newest}
-pub use Rattle.sbpl_incumbent.specs.declared.entry.Entry.{Entry}
-use Rattle.sbpl_plan.specs.declared.found.Found.{Found}
-use Rattle.sbpl_plan.specs.declared.found.Found.TheVariants as found
-use Rattle.sbpl_plan.specs.declared.passes.Pass.{Pass}
+use Rattle.sbpl_report.specs.sbpl_incumbent.Entries.{next_entry}
+pub use Rattle.sbpl_report.specs.sbpl_incumbent.Entries.{newest}
+pub use Rattle.sbpl_report.specs.sbpl_incumbent.declared.entry.Entry.{Entry}
+use Rattle.sbpl_report.specs.sbpl_plan.declared.found.Found.{Found}
+use Rattle.sbpl_report.specs.sbpl_plan.declared.found.Found.TheVariants as found
+use Rattle.sbpl_report.specs.sbpl_plan.declared.passes.Pass.{Pass}
 use Rattle.sbpl_report.specs.declared.record.PlanRecord.{PlanRecord}
 
 -- what passes found, in turn

@@ -1,7 +1,7 @@
 -- What the clauses of `run` name.
-pub use Rattle.sbpl_cert.specs.declared.outcome.Outcome.{Outcome}
-pub use Rattle.sbpl_cfg.specs.Environment.{Environment}
-pub use Rattle.sbpl_cfg.specs.declared.fault.EnvFault.{EnvFault}
+pub use Rattle.sbpl_report.specs.sbpl_cert.declared.outcome.Outcome.{Outcome}
+pub use Rattle.sbpl_report.specs.sbpl_cfg.Environment.{Environment}
+pub use Rattle.sbpl_report.specs.sbpl_cfg.declared.fault.EnvFault.{EnvFault}
 pub use Rattle.sbpl_promises.specs.Asked.{checked_direction}
 pub use Rattle.sbpl_promises.specs.Causes.{grid_scope, scope_of}
 pub use Rattle.sbpl_promises.specs.Checked.{IsHolding}
@@ -12,18 +12,18 @@ pub use Rattle.sbpl_promises.specs.Promises.{AreGood, ReadsFrom, AtJob, EndsJob,
 pub use Rattle.sbpl_promises.specs.GridSite.{grid_site}
 pub use Rattle.sbpl_promises.specs.LatticeSite.{lattice_site}
 pub use Rattle.sbpl_nav2d.specs.World.{GridWorld}
-pub use Rattle.sbpl_job.specs.declared.job.NavCheckJob.{NavCheckJob}
+pub use Rattle.sbpl_report.specs.sbpl_job.declared.job.NavCheckJob.{NavCheckJob}
 pub use Rattle.sbpl_promises.specs.declared.course.Course.{Course}
 pub use Rattle.sbpl_promises.specs.Texts.{Scope}
 pub use Rattle.sbpl_promises.specs.declared.section_stop.SectionStop.{SectionStop}
-pub use Rattle.sbpl_cost.specs.PrimitiveCost.{IsFirstTooDear}
-pub use Rattle.sbpl_cost.specs.World.{World}
-pub use Rattle.sbpl_job.specs.Jobs.{IsJob, job_named, moves_in}
-pub use Rattle.sbpl_job.specs.declared.job.CheckJob.{CheckJob}
-pub use Rattle.sbpl_job.specs.declared.job.DemoJob.{DemoJob}
-pub use Rattle.sbpl_job.specs.declared.job.Job.{Job}
-pub use Rattle.sbpl_job.specs.declared.job.Sources.{Sources}
-pub use Rattle.sbpl_map.specs.declared.fault.ChangeFault.{ChangeFault}
-pub use Rattle.sbpl_mprim.specs.Primitives.{Primitives}
-pub use Rattle.sbpl_mprim.specs.declared.fault.PrimFault.{PrimFault}
-pub use Rattle.sbpl_sweep.specs.Widths.{IsFirstTooWide, NoneTooWide}
+pub use Rattle.sbpl_report.specs.sbpl_cost.PrimitiveCost.{IsFirstTooDear}
+pub use Rattle.sbpl_report.specs.sbpl_cost.World.{World}
+pub use Rattle.sbpl_report.specs.sbpl_job.Jobs.{IsJob, job_named, moves_in}
+pub use Rattle.sbpl_report.specs.sbpl_job.declared.job.CheckJob.{CheckJob}
+pub use Rattle.sbpl_report.specs.sbpl_job.declared.job.DemoJob.{DemoJob}
+pub use Rattle.sbpl_report.specs.sbpl_job.declared.job.Job.{Job}
+pub use Rattle.sbpl_report.specs.sbpl_job.declared.job.Sources.{Sources}
+pub use Rattle.sbpl_report.specs.sbpl_map.declared.fault.ChangeFault.{ChangeFault}
+pub use Rattle.sbpl_report.specs.sbpl_mprim.Primitives.{Primitives}
+pub use Rattle.sbpl_report.specs.sbpl_mprim.declared.fault.PrimFault.{PrimFault}
+pub use Rattle.sbpl_report.specs.sbpl_sweep.Widths.{IsFirstTooWide, NoneTooWide}

@@ -6,7 +6,7 @@ use Rattle.sbpl_promises.specs.Promises.{EndsRun}
 use Rattle.sbpl_promises.specs.Run.{AreGood, ArePrefixes, AreTold, AtJob, CallsFor, ChangeFault, CheckJob, Course, DemoJob, EndsJob, EndsWithoutMemory, EnvFault, Environment, GridWorld, Intent, IsCheckedIn, IsCutShort, IsDeterminedJob, IsDone, IsFaultFound, IsFirstTooDear, IsFirstTooWide, IsFlawFound, IsHolding, IsNoCheck, IsNoFailure, IsOnGrid, IsOrFailed, IsOrUnwritten, IsRefused, IsStatus, Job, NavCheckJob, EnvFault, NoneRose, NoneTooWide, Outcome, PrimFault, Primitives, ReadsFrom, Scope, SectionStop, SomeRose, Sources, Tells, TellsChangeFault, TellsCourse, TellsEnvironment, TellsEnvironmentFault, TellsGrid, TellsGridFault, TellsPrimitiveFault, TellsPrimitives, TellsTooMuch, TellsWorld, World, changes_of, checked_direction, checked_status, grid_of, grid_scope, grid_site, intent_status, lattice_site, moves_in, scope_of, sources_of, words_writes, writes_of}
 use Rattle.sbpl_promises.specs.Writing.{AreAppended, IsCutAt, RunsOutAt, Stays}
 use Rattle.sbpl_promises.specs.declared.section_stop.SectionStop.TheVariants as Stops
-use Rattle.sbpl_job.specs.declared.job.Job.TheVariants as Jobs
+use Rattle.sbpl_report.specs.sbpl_job.declared.job.Job.TheVariants as Jobs
 
 -- where these are the job that the words name, the desk before and after, what was published before and after, and the status that is
 -- answered

@@ -1,9 +1,9 @@
 -- What is planned on: a graph over a map of cells, what its heuristic says, and how plans on it are worded.
 use Rattle.std.specs.Prelude.{ℕ, ◌≡◌, List, Option, Some, None, option_map, unwrap_or, take}
 use Rattle.std.specs.List.{filter_map, last_or}
-use Rattle.sbpl_graph.specs.Network.{Network}
-use Rattle.sbpl_cfg.specs.declared.pose.Place.{Place}
-use Rattle.sbpl_terrain.specs.Cells.{Cells}
+use Rattle.sbpl_report.specs.sbpl_graph.Network.{Network}
+use Rattle.sbpl_report.specs.sbpl_cfg.declared.pose.Place.{Place}
+use Rattle.sbpl_report.specs.sbpl_terrain.Cells.{Cells}
 use Rattle.sbpl_report.specs.declared.record.PathStep.{PathStep}
 use Rattle.sbpl_report.specs.declared.record.Spot.{Spot}
 

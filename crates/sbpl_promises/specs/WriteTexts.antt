@@ -1,8 +1,8 @@
 -- That no write of a job is empty, and how many writes there are of plans.
 use Rattle.std.specs.Prelude.{◌≡◌, ◌≢◌, ℕ, ◌+◌, ◌*◌, All, true, if◌then◌else◌, List, [], length}
 use Rattle.std.specs.Option.{is_some}
-use Rattle.sbpl_job.specs.declared.job.Job.{Job}
-use Rattle.sbpl_job.specs.declared.job.Outputs.{Outputs}
+use Rattle.sbpl_report.specs.sbpl_job.declared.job.Job.{Job}
+use Rattle.sbpl_report.specs.sbpl_job.declared.job.Outputs.{Outputs}
 use Rattle.sbpl_report.specs.declared.record.PlanRecord.{PlanRecord}
 use Rattle.sbpl_promises.specs.Intents.{Intent, plans_writes, writes_of}
 use Rattle.sbpl_promises.specs.Promises.{GivesIntent}

@@ -5,7 +5,7 @@ use Rattle.sbpl_desk.specs.Desk.{Appends}
 pub use Rattle.sbpl_desk.specs.Desk.{DeskState, Names, ReadFailed, ReadsOnly, Stays, StaysBut, Told, WriteFailed, WritesOnly}
 use Rattle.sbpl_desk.specs.declared.desk.WriteStop.{WriteStop}
 use Rattle.sbpl_desk.specs.declared.desk.WriteStop.TheVariants.{Failed, NoMemory}
-use Rattle.sbpl_job.specs.declared.job.Outputs.{Outputs}
+use Rattle.sbpl_report.specs.sbpl_job.declared.job.Outputs.{Outputs}
 
 -- one text that is written under a name
 pub record Write : Type 0 where

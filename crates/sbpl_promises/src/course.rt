@@ -1,6 +1,6 @@
 //! What a change file says: the batches of its writes, and where the robot is.
 
-use sbpl_map::{Changes, Moves};
+use sbpl_report::{Changes, Moves};
 
 /// Batches of writes to the map, and where the robot is from each batch on, if the file can say that.
 #[derive(Drop)]

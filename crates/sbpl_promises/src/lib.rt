@@ -8,3 +8,100 @@ mod section_stop;
 pub use causes::causes_stand;
 pub use course::Course;
 pub use section_stop::SectionStop;
+
+// Of `sbpl_graph`.
+pub use sbpl_report::{Graph, Guide};
+
+// Of `sbpl_fixed`.
+pub use sbpl_report::{NoMemory, next_token};
+
+// Of `sbpl_lists`.
+pub use sbpl_report::{ListOf, Piece, push_all, push_bytes};
+
+// Of `sbpl_desk`.
+pub use sbpl_desk::{Desk, MemoryDesk, ReadStop, RealDesk, WriteStop};
+
+// Of `sbpl_cfg`.
+pub use sbpl_report::{
+    Env, EnvFault, Grid, Place, cell_at, heading_at, place_at, print_env, read_env,
+    texts_are_environments_or_faulty,
+};
+
+// Of `sbpl_mprim`.
+pub use sbpl_report::{PrimFault, Prims, print_prims, read_prims, texts_are_primitives_or_faulty};
+
+// Of `sbpl_map`.
+pub use sbpl_report::{
+    ChangeFault, Changes, Map, read_changes, read_moves, texts_are_changes_or_faulty,
+    texts_are_moves_or_faulty, writes_lead_to_the_next_map,
+};
+
+// Of `sbpl_terrain`.
+pub use sbpl_report::{Heuristic, Terrain, write_batch};
+
+// Of `sbpl_sweep`.
+pub use sbpl_report::{SweepFault, Sweeps};
+
+// Of `sbpl_cost`.
+pub use sbpl_report::{
+    Lattice, LatticeFault, alike_worlds_are_one_graph, lattice_has_its_arcs,
+    lattice_tails_are_in_order,
+};
+
+// Of `sbpl_demo`.
+pub use sbpl_demo::{Demo, generate};
+
+// Of `sbpl_back`.
+pub use sbpl_replan::{Back, FromStart, paths_turn_round, turned_round};
+
+// Of `sbpl_nav2d`.
+pub use sbpl_nav2d::{Nav, Octile, read_nav, texts_are_grids_or_faulty, worlds_are_grids};
+
+// Of `sbpl_search`.
+pub use sbpl_report::Search;
+
+// Of `sbpl_serial`.
+pub use sbpl_report::run_is_determined;
+
+// Of `sbpl_ara`.
+pub use sbpl_replan::Ara;
+
+// Of `sbpl_adstar`.
+pub use sbpl_replan::AdStar;
+
+// Of `sbpl_heur`.
+pub use sbpl_replan::Best;
+
+// Of `sbpl_incumbent`.
+pub use sbpl_report::{Board, Entry, Publisher, Reader, told_readers_get_the_newest};
+
+// Of `sbpl_epase`.
+pub use sbpl_epase::{Epase, Gate, NoGate, Parts, parallel_pass_parts};
+
+// Of `sbpl_cert`.
+pub use sbpl_report::{
+    Flaw, LabelFault, LabelOutcome, Section, check, check_sparse, cut_rows_are_one,
+    first_flaws_are_one, read_labels, texts_are_sections_or_faulty,
+};
+
+// Of `sbpl_plan`.
+pub use sbpl_report::{
+    Arcs, Ask, Found, FoundPath, Observer, Outcome, Pass, Planned, plan_is_determined,
+};
+
+// Of `sbpl_replan`.
+pub use sbpl_replan::{BackReplanner, Replan, Replanner};
+
+// Of `sbpl_job`.
+pub use sbpl_report::{
+    Asked, CheckJob, Command, DemoJob, Job, JobFault, LabelForm, Name, NavCheckJob, NavJob,
+    Outputs, PlanJob, Planner, SearchJob, Setting, Sources, read_asked, read_job,
+    words_part_into_forms,
+};
+
+// Of `sbpl_report`.
+pub use sbpl_report::{
+    Input, PathRecord, PathStep, PlanRecord, Raised, Refusal, Spot, Steps, Stop, TraceLine, Traced,
+    demo_line, fault_line, flaw_line, holds_line, incumbent_line, labels_of, labels_text,
+    listing_at, plan_line, refusal_line, trace_of, traced_passes,
+};

@@ -1,6 +1,6 @@
 //! Why the checking of a text of labels ends.
 
-use sbpl_cert::{Flaw, LabelFault};
+use sbpl_report::{Flaw, LabelFault};
 
 /// Why the checking of sections ends before the last line.
 #[derive(Clone, Copy)]

@@ -3,30 +3,30 @@ use Rattle.std.proofs.Common.{◌≡◌, ℕ, ◌+◌, ◌^◌, ◌<◌, List, s
 use Rattle.std.proofs.Common.{arith, inl, inr}
 use Rattle.std.specs.Prelude.{OnErr}
 use Rattle.std.proofs.lemmas.List.{get_or_default}
-use Rattle.sbpl_graph.specs.Network.{IsFreeArc, Network}
-use Rattle.sbpl_labels.specs.Counts.{AreCounts, Counts}
-use Rattle.sbpl_labels.specs.Marks.{Marks}
-use Rattle.sbpl_search.specs.Changed.{IsChangeable}
-use Rattle.sbpl_search.specs.Meaning.{Meaning}
-use Rattle.sbpl_search.specs.Ready.{AreUsable, IsStartFresh}
-use Rattle.sbpl_search.specs.State.{State}
-use Rattle.sbpl_serial.specs.Repaired.{ExactWhereSame}
+use Rattle.sbpl_plan.specs.sbpl_graph.Network.{IsFreeArc, Network}
+use Rattle.sbpl_plan.specs.sbpl_labels.Counts.{AreCounts, Counts}
+use Rattle.sbpl_plan.specs.sbpl_labels.Marks.{Marks}
+use Rattle.sbpl_plan.specs.sbpl_search.Changed.{IsChangeable}
+use Rattle.sbpl_plan.specs.sbpl_search.Meaning.{Meaning}
+use Rattle.sbpl_plan.specs.sbpl_search.Ready.{AreUsable, IsStartFresh}
+use Rattle.sbpl_plan.specs.sbpl_search.State.{State}
+use Rattle.sbpl_heur.specs.sbpl_serial.Repaired.{ExactWhereSame}
 use Rattle.sbpl_plan.specs.declared.ask.Ask.{Ask}
 use Rattle.sbpl_plan.specs.declared.passes.Pass.{Pass}
 use Rattle.sbpl_plan.specs.OutOfMemory.{RunsOutOfMemory}
 use Rattle.sbpl_plan.specs.Passing.{Inquiry, expansions, inquiry_of}
-use Rattle.sbpl_change.specs.Affected.{AreStates, KeepArcsElsewhere}
+use Rattle.sbpl_heur.specs.sbpl_terrain.Affected.{AreStates, KeepArcsElsewhere}
 use Rattle.sbpl_back.specs.Reversed.{ArcsTurnBack, ArcsTurnRound, reversed}
 use Rattle.sbpl_back.specs.Starts.{StartIn, from_start}
 use Rattle.sbpl_replan.specs.Directions.{backwards}
-use Rattle.sbpl_terrain.specs.Cells.{Cells, DifferInCostsAlone, IsTerrain}
-use Rattle.sbpl_cost.specs.World.{World}
-use Rattle.sbpl_terrain.specs.declared.arc_end.ArcEnd.TheVariants as end
-use Rattle.sbpl_cost.specs.Lattices.{network_of}
-use Rattle.sbpl_graph.specs.Laws.{HasExactTails}
+use Rattle.sbpl_heur.specs.sbpl_terrain.Cells.{Cells, DifferInCostsAlone, IsTerrain}
+use Rattle.sbpl_heur.specs.sbpl_cost.World.{World}
+use Rattle.sbpl_heur.specs.sbpl_terrain.declared.arc_end.ArcEnd.TheVariants as end
+use Rattle.sbpl_heur.specs.sbpl_cost.Lattices.{network_of}
+use Rattle.sbpl_plan.specs.sbpl_graph.Laws.{HasExactTails}
 use Rattle.sbpl_replan.specs.Replanning.{IsReadyBack, IsReadyIn, Replanning, Standing, StandsOutOfMemory}
 use Rattle.sbpl_replan.specs.Replanning.{at_plan, gap_from, inquiry}
-use Rattle.sbpl_serial.specs.declared.step.Step.{Step}
+use Rattle.sbpl_heur.specs.sbpl_serial.declared.step.Step.{Step}
 
 -- another map gives a graph that differs in what arcs cost alone
 pub differ : {W : Type 0} (network : W → Network) (cells : Cells W) → IsTerrain network cells → (w v : W)

@@ -1,9 +1,9 @@
 -- The way in which plans are searched: from the start to the goal, or from the goal to the start.
 use Rattle.std.specs.Prelude.{◌≡◌, ℕ, ◌<◌, Bool, true, false, List}
-use Rattle.sbpl_graph.specs.Network.{Network}
+use Rattle.sbpl_plan.specs.sbpl_graph.Network.{Network}
 use Rattle.sbpl_back.specs.Reversed.{AreTurned, reversed}
-use Rattle.sbpl_terrain.specs.declared.arc_end.ArcEnd.{ArcEnd}
-use Rattle.sbpl_terrain.specs.declared.arc_end.ArcEnd.TheVariants as end
+use Rattle.sbpl_heur.specs.sbpl_terrain.declared.arc_end.ArcEnd.{ArcEnd}
+use Rattle.sbpl_heur.specs.sbpl_terrain.declared.arc_end.ArcEnd.TheVariants as end
 
 -- network: the graph of a world over which the search goes
 -- from, to: of the start and the goal of a plan, the state from which the search goes, which is the start of its labels, and the state

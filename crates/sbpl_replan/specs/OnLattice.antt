@@ -1,9 +1,9 @@
 -- Plans on a lattice from the start to the goal, by the best heuristic.
-use Rattle.sbpl_cost.specs.Lattices.{network_of}
-use Rattle.sbpl_cost.specs.World.{World}
+use Rattle.sbpl_heur.specs.sbpl_cost.Lattices.{network_of}
+use Rattle.sbpl_heur.specs.sbpl_cost.World.{World}
 use Rattle.sbpl_heur.specs.Bests.{IsBestGuide, Table}
 use Rattle.sbpl_replan.specs.Replanning.{IsReadyIn, Replanning}
-use Rattle.sbpl_search.specs.Meaning.{Meaning}
+use Rattle.sbpl_plan.specs.sbpl_search.Meaning.{Meaning}
 
 -- a plan may begin in a world
 abbrev pub IsReadyOn : {Note : Type 0} → Meaning Note → World → Replanning Note Table → Type 0

@@ -1,19 +1,19 @@
 -- Plans on a lattice, one after another, while its map changes.
 use Rattle.std.specs.Prelude.{ℕ, true, false, List, ◌≡◌, ◌≤◌, ◌<◌, ◌⊎◌}
 use Rattle.std.proofs.Common.{subst, ap, sym, ◌∙◌}
-use Rattle.sbpl_labels.specs.Counts.{Counts}
-use Rattle.sbpl_labels.specs.Marks.{Marks}
-use Rattle.sbpl_search.specs.Meaning.{Meaning}
-use Rattle.sbpl_search.specs.Ready.{AreUsable, IsStartFresh}
-use Rattle.sbpl_search.specs.State.{State}
-use Rattle.sbpl_serial.specs.declared.step.Step.{Step}
+use Rattle.sbpl_plan.specs.sbpl_labels.Counts.{Counts}
+use Rattle.sbpl_plan.specs.sbpl_labels.Marks.{Marks}
+use Rattle.sbpl_plan.specs.sbpl_search.Meaning.{Meaning}
+use Rattle.sbpl_plan.specs.sbpl_search.Ready.{AreUsable, IsStartFresh}
+use Rattle.sbpl_plan.specs.sbpl_search.State.{State}
+use Rattle.sbpl_heur.specs.sbpl_serial.declared.step.Step.{Step}
 use Rattle.sbpl_plan.specs.declared.ask.Ask.{Ask}
 use Rattle.sbpl_plan.specs.declared.passes.Pass.{Pass}
 use Rattle.sbpl_plan.specs.OutOfMemory.{IsCutAfterPart, IsPartOfPlan}
 use Rattle.sbpl_plan.specs.Passing.{Inquiry, expansions, inquiry_of}
-use Rattle.sbpl_graph.specs.Network.{Network}
-use Rattle.sbpl_change.specs.Affected.{AreAffected}
-use Rattle.sbpl_terrain.specs.Cells.{Cells}
+use Rattle.sbpl_plan.specs.sbpl_graph.Network.{Network}
+use Rattle.sbpl_heur.specs.sbpl_terrain.Affected.{AreAffected}
+use Rattle.sbpl_heur.specs.sbpl_terrain.Cells.{Cells}
 use Rattle.sbpl_back.specs.Reversed.{reversed}
 use Rattle.sbpl_replan.specs.Directions.{Direction, IsGapFrom, backwards, forwards}
 

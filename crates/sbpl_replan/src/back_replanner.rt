@@ -2,22 +2,18 @@
 
 ghost use Rattle.std.specs.Prelude.{◌≡◌, ◌^◌, ◌≤◌, ◌<◌};
 ghost use Rattle.sbpl_back.specs.Reversed.{reversed};
-ghost use Rattle.sbpl_cost.specs.Lattices.{network_of};
-ghost use Rattle.sbpl_labels.specs.Marks.{AreLabels};
+ghost use Rattle.sbpl_heur.specs.sbpl_cost.Lattices.{network_of};
+ghost use Rattle.sbpl_plan.specs.sbpl_labels.Marks.{AreLabels};
 ghost use Rattle.sbpl_replan.specs.Replanning.{IsReadyBack};
-ghost use Rattle.sbpl_search.specs.Ready.{AreUsable, IsStartFresh};
-ghost use Rattle.sbpl_serial.specs.Meant.{seen};
+ghost use Rattle.sbpl_plan.specs.sbpl_search.Ready.{AreUsable, IsStartFresh};
+ghost use Rattle.sbpl_heur.specs.sbpl_serial.Meant.{seen};
 
 use crate::Replan;
 use crate::change::change_back;
 use sbpl_adstar::AdStar;
 use sbpl_back::{Back, FromStart};
-use sbpl_cost::Lattice;
-use sbpl_fixed::NoMemory;
-use sbpl_labels::{Budget, Labels};
-use sbpl_map::Write;
-use sbpl_plan::{Ask, Observer, Planned, plan};
-use sbpl_serial::Step;
+use sbpl_heur::{Lattice, Step, Write};
+use sbpl_plan::{Ask, Budget, Labels, NoMemory, Observer, Planned, plan};
 use std::alloc::Global;
 use std::marker::Model;
 
@@ -34,8 +30,8 @@ pub struct BackReplanner {
 impl Model for BackReplanner {
     ghost use Rattle.std.specs.Prelude.{◌≡◌};
     ghost use Rattle.sbpl_replan.specs.Replanning.{Standing};
-    ghost use Rattle.sbpl_serial.specs.declared.step.Step.{Step};
-    ghost use Rattle.sbpl_serial.specs.Meant.{seen};
+    ghost use Rattle.sbpl_heur.specs.sbpl_serial.declared.step.Step.{Step};
+    ghost use Rattle.sbpl_heur.specs.sbpl_serial.Meant.{seen};
 
     ghost Value = { Standing Step };
 
@@ -85,7 +81,7 @@ impl BackReplanner {
 
 impl Replan<Lattice> for BackReplanner {
     ghost use Rattle.sbpl_adstar.specs.Planner.{adstar};
-    ghost use Rattle.sbpl_cost.specs.Lattices.{network_of};
+    ghost use Rattle.sbpl_heur.specs.sbpl_cost.Lattices.{network_of};
     ghost use Rattle.sbpl_replan.specs.Directions.{backwards};
     ghost use Rattle.sbpl_replan.specs.Replanning.{IsReadyBack, gap_from, is_guided_back};
 

@@ -1,28 +1,22 @@
 //! A batch of changes, and the labels of a search.
 
 ghost use Rattle.std.specs.Prelude.{◌≡◌, ◌^◌, ◌⊎◌, [], ℕ, OnErr, OnOk};
-ghost use Rattle.sbpl_search.specs.Ready.{AreUsable, IsStartFresh};
-ghost use Rattle.sbpl_change.specs.Noted.{AreOnMap};
-ghost use Rattle.sbpl_cost.specs.World.{IsWorld};
-ghost use Rattle.sbpl_cost.specs.Cells.{lattice_cells};
-ghost use Rattle.sbpl_cost.specs.Lattices.{network_of};
-ghost use Rattle.sbpl_map.specs.MapAfter.{AreWritten};
+ghost use Rattle.sbpl_plan.specs.sbpl_search.Ready.{AreUsable, IsStartFresh};
+ghost use Rattle.sbpl_heur.specs.sbpl_terrain.Noted.{AreOnMap};
+ghost use Rattle.sbpl_heur.specs.sbpl_cost.World.{IsWorld};
+ghost use Rattle.sbpl_heur.specs.sbpl_cost.Cells.{lattice_cells};
+ghost use Rattle.sbpl_heur.specs.sbpl_cost.Lattices.{network_of};
+ghost use Rattle.sbpl_heur.specs.sbpl_map.MapAfter.{AreWritten};
 ghost use Rattle.sbpl_adstar.specs.Planner.{adstar};
 ghost use Rattle.sbpl_back.specs.Reversed.{reversed};
 ghost use Rattle.sbpl_replan.specs.Directions.{backwards, forwards};
 ghost use Rattle.sbpl_replan.specs.Replanning.{BeginsWith};
-ghost use Rattle.sbpl_serial.specs.Meant.{seen};
+ghost use Rattle.sbpl_heur.specs.sbpl_serial.Meant.{seen};
 
 use sbpl_adstar::AdStar;
 use sbpl_back::{Back, FromStart, arcs_turn_round};
-use sbpl_change::{apply, write_batch};
-use sbpl_cost::Lattice;
-use sbpl_fixed::NoMemory;
-use sbpl_graph::Graph;
-use sbpl_map::Write;
-use sbpl_search::Search;
-use sbpl_serial::exact_where_same;
-use sbpl_terrain::{ArcEnd, Heuristic, Terrain};
+use sbpl_heur::{ArcEnd, Heuristic, Lattice, Terrain, Write, apply, exact_where_same, write_batch};
+use sbpl_plan::{Graph, NoMemory, Search};
 use std::alloc::Global;
 
 /// Writes a batch to the map, and makes the labels of a search ready for a plan on it. The touched states are

@@ -9,3 +9,9 @@ mod replanner;
 pub use back_replanner::BackReplanner;
 pub use replan::Replan;
 pub use replanner::{LatticeReplanner, Replanner};
+pub use sbpl_adstar::{AdStar, Ara};
+pub use sbpl_back::{Back, FromStart, paths_turn_round, turned_round};
+pub use sbpl_heur::{
+    Best, Env, Grid, Lattice, Map, Pose, Sweeps, Write, are_on_map, place_at, read_prims,
+};
+pub use sbpl_plan::{Ask, FoundPath, Graph, NoMemory, Nobody, Outcome};

@@ -1,21 +1,19 @@
 //! Plans one after another, by one planner.
 
 ghost use Rattle.std.specs.Prelude.{◌≡◌, ◌+◌, ◌≤◌, ◌<◌, ◌^◌, ◌⊎◌, ℕ, IfOk, OnErr, OnOk};
-ghost use Rattle.sbpl_change.specs.Noted.{AreOnMap};
-ghost use Rattle.sbpl_labels.specs.Marks.{states_of};
-ghost use Rattle.sbpl_map.specs.MapAfter.{AreWritten};
+ghost use Rattle.sbpl_heur.specs.sbpl_terrain.Noted.{AreOnMap};
+ghost use Rattle.sbpl_plan.specs.sbpl_labels.Marks.{states_of};
+ghost use Rattle.sbpl_heur.specs.sbpl_map.MapAfter.{AreWritten};
 ghost use Rattle.sbpl_plan.specs.Asked.{IsAsk, MOST_PASSES};
 ghost use Rattle.sbpl_plan.specs.Determined.{AreWithin};
 ghost use Rattle.sbpl_plan.specs.Observed.{AreTold};
 ghost use Rattle.sbpl_plan.specs.Planned.{IsPlanned};
 ghost use Rattle.sbpl_replan.specs.Directions.{Direction};
 ghost use Rattle.sbpl_replan.specs.Replanning.{BeginsWith, Follows, GoesBetween, Standing, StandsOutOfMemory, StaysTheSame, at_plan, inquiry};
-ghost use Rattle.sbpl_search.specs.Meaning.{Meaning};
+ghost use Rattle.sbpl_plan.specs.sbpl_search.Meaning.{Meaning};
 
-use sbpl_fixed::NoMemory;
-use sbpl_map::Write;
-use sbpl_plan::{Ask, Observer, Planned};
-use sbpl_terrain::Terrain;
+use sbpl_heur::{Terrain, Write};
+use sbpl_plan::{Ask, NoMemory, Observer, Planned};
 use std::alloc::Global;
 
 /// Plans by one search, one after another, while batches of changes are written to the map, in one direction: from

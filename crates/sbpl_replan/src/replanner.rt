@@ -1,20 +1,14 @@
 //! Plans from the start to the goal.
 
 ghost use Rattle.std.specs.Prelude.{◌≡◌, ◌^◌, ◌≤◌, ◌<◌, IfOk};
-ghost use Rattle.sbpl_labels.specs.Marks.{AreLabels};
-ghost use Rattle.sbpl_search.specs.Ready.{IsStartFresh};
+ghost use Rattle.sbpl_plan.specs.sbpl_labels.Marks.{AreLabels};
+ghost use Rattle.sbpl_plan.specs.sbpl_search.Ready.{IsStartFresh};
 ghost use Rattle.sbpl_replan.specs.Replanning.{IsReadyIn};
 
 use crate::Replan;
 use crate::change::change;
-use sbpl_cost::Lattice;
-use sbpl_fixed::NoMemory;
-use sbpl_heur::Best;
-use sbpl_labels::{Budget, Labels};
-use sbpl_map::Write;
-use sbpl_plan::{Ask, Observer, Planned, plan};
-use sbpl_search::Search;
-use sbpl_terrain::{Heuristic, Terrain};
+use sbpl_heur::{Best, Heuristic, Lattice, Terrain, Write};
+use sbpl_plan::{Ask, Budget, Labels, NoMemory, Observer, Planned, Search, plan};
 use std::alloc::Global;
 use std::marker::{Model, PhantomData};
 

@@ -1,14 +1,14 @@
 -- The section of a plan's labels lies in its ranges, and shows the plan's result.
 use Rattle.std.proofs.Common.{◌≡◌, ℕ, zero, suc, ◌*◌, ◌^◌, ◌<◌, ◌≤◌, List, [], ◌∷◌, length, slice_index, Result, Ok}
 use Rattle.std.proofs.Common.{Err, IfOk, refl, sym, ◌∙◌, ap, subst, arith, ⊎_elim}
-use Rattle.sbpl_fixed.specs.declared.no_memory.NoMemory.{NoMemory}
-use Rattle.sbpl_graph.specs.declared.TheConstants.{FAR}
-use Rattle.sbpl_graph.specs.Bound.{IsBound, IsLow}
-use Rattle.sbpl_graph.specs.Certificate.{AreSupported}
-use Rattle.sbpl_graph.specs.Laws.{IsSound}
-use Rattle.sbpl_graph.specs.Network.{Network}
-use Rattle.sbpl_graph.specs.Path.{IsFreePath}
-use Rattle.sbpl_labels.specs.Marks.{Marks, states_of, g_of, v_of}
+use Rattle.sbpl_job.specs.sbpl_fixed.declared.no_memory.NoMemory.{NoMemory}
+use Rattle.sbpl_plan.specs.sbpl_graph.declared.TheConstants.{FAR}
+use Rattle.sbpl_plan.specs.sbpl_graph.Bound.{IsBound, IsLow}
+use Rattle.sbpl_plan.specs.sbpl_graph.Certificate.{AreSupported}
+use Rattle.sbpl_plan.specs.sbpl_graph.Laws.{IsSound}
+use Rattle.sbpl_plan.specs.sbpl_graph.Network.{Network}
+use Rattle.sbpl_plan.specs.sbpl_graph.Path.{IsFreePath}
+use Rattle.sbpl_plan.specs.sbpl_labels.Marks.{Marks, states_of, g_of, v_of}
 use Rattle.sbpl_plan.specs.Looking.{IsPathFound}
 use Rattle.sbpl_plan.specs.Outcomes.{IsResultOf}
 use Rattle.sbpl_plan.specs.declared.result.FoundPath.{FoundPath}

@@ -1,12 +1,12 @@
 -- The lines of refusals.
 use Rattle.std.specs.Prelude.{ℕ, ◌+◌, List, [], ◌++◌, length, Option, Some, None, codes, decimal}
-use Rattle.sbpl_cfg.specs.Faults as environments
-use Rattle.sbpl_mprim.specs.Faults as primitives
+use Rattle.sbpl_cost.specs.sbpl_cfg.Faults as environments
+use Rattle.sbpl_cost.specs.sbpl_mprim.Faults as primitives
 use Rattle.sbpl_report.specs.declared.refusal.Input.{Input}
 use Rattle.sbpl_report.specs.declared.refusal.Input.TheVariants as input
 use Rattle.sbpl_report.specs.declared.refusal.Refusal.{Refusal}
 use Rattle.sbpl_report.specs.declared.refusal.Refusal.TheVariants as refusal
-use Rattle.sbpl_map.specs.Faults as changes
+use Rattle.sbpl_cost.specs.sbpl_map.Faults as changes
 use Rattle.sbpl_job.specs.declared.job.CheckJob.{CheckJob}
 use Rattle.sbpl_job.specs.declared.job.NavCheckJob.{NavCheckJob}
 use Rattle.sbpl_job.specs.declared.job.NavJob.{NavJob}

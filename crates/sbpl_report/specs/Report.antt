@@ -1,7 +1,7 @@
 -- The lines of a report.
 use Rattle.std.specs.Prelude.{ℕ, List, [], ◌∷◌, ◌++◌, length, flat_map, Option, Some, None, codes, decimal}
-use Rattle.sbpl_fixed.specs.Printed.{milli_text}
-use Rattle.sbpl_cfg.specs.declared.pose.Place.{Place}
+use Rattle.sbpl_job.specs.sbpl_fixed.Printed.{milli_text}
+use Rattle.sbpl_cost.specs.sbpl_cfg.declared.pose.Place.{Place}
 use Rattle.sbpl_plan.specs.declared.found.Found.{Found}
 use Rattle.sbpl_plan.specs.declared.found.Found.TheVariants as found
 use Rattle.sbpl_report.specs.declared.record.TraceLine.{TraceLine}

@@ -1,7 +1,7 @@
 -- What the labels that a plan writes say and show.
 use Rattle.std.specs.Prelude.{◌≡◌, ℕ, Bool, true, false, List, [], Option, Some, None}
-use Rattle.sbpl_graph.specs.Network.{Network}
-use Rattle.sbpl_labels.specs.Marks.{Marks, states_of}
+use Rattle.sbpl_plan.specs.sbpl_graph.Network.{Network}
+use Rattle.sbpl_plan.specs.sbpl_labels.Marks.{Marks, states_of}
 use Rattle.sbpl_plan.specs.declared.result.FoundPath.{FoundPath}
 use Rattle.sbpl_plan.specs.declared.result.Outcome.{Outcome}
 use Rattle.sbpl_plan.specs.declared.result.Outcome.TheVariants as outcome

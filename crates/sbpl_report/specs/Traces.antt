@@ -1,7 +1,7 @@
 -- The lines of a trace.
 use Rattle.std.specs.Prelude.{ℕ, if◌then◌else◌, Option, Some, None, List, ◌++◌, flat_map, map, codes, decimal}
-use Rattle.sbpl_fixed.specs.Printed.{milli_text}
-use Rattle.sbpl_serial.specs.declared.step.Step.{Step}
+use Rattle.sbpl_job.specs.sbpl_fixed.Printed.{milli_text}
+use Rattle.sbpl_frontier_rules.specs.sbpl_serial.declared.step.Step.{Step}
 use Rattle.sbpl_plan.specs.declared.passes.Pass.{Pass}
 use Rattle.sbpl_report.specs.declared.record.PlanRecord.{PlanRecord}
 use Rattle.sbpl_report.specs.declared.record.TraceLine.{TraceLine}

@@ -1,7 +1,7 @@
 -- The lines of a check.
 use Rattle.std.specs.Prelude.{ℕ, List, ◌++◌, nat_le, if◌then◌else◌, Option, Some, None, codes, decimal}
-use Rattle.sbpl_graph.specs.declared.TheConstants.{FAR}
-use Rattle.sbpl_fixed.specs.Printed.{milli_text}
+use Rattle.sbpl_plan.specs.sbpl_graph.declared.TheConstants.{FAR}
+use Rattle.sbpl_job.specs.sbpl_fixed.Printed.{milli_text}
 use Rattle.sbpl_cert.specs.declared.flaw.Flaw.{Flaw}
 use Rattle.sbpl_cert.specs.declared.flaw.Flaw.TheVariants as flaw
 use Rattle.sbpl_cert.specs.declared.outcome.Outcome.{Outcome}

@@ -4,10 +4,9 @@ ghost use Rattle.std.specs.Prelude.{◌≡◌, ◌++◌, IfOk, OnOk};
 ghost use Rattle.sbpl_report.specs.Verdicts.{at_arc, at_goal, at_state, bound_text, flaw_kind, flaw_numbers, flaw_text, holds_text, limit_text, outcome_word, two_bounds, two_limits};
 
 use sbpl_cert::{Flaw, Outcome};
-use sbpl_fixed::{NoMemory, print_milli};
-use sbpl_graph::FAR;
-use sbpl_text::Piece::{Bytes, Number};
-use sbpl_text::{push_all, push_bytes, push_number};
+use sbpl_job::{NoMemory, print_milli};
+use sbpl_plan::Piece::{Bytes, Number};
+use sbpl_plan::{FAR, push_all, push_bytes, push_number};
 use std::alloc::Global;
 
 /// The word for what a plan answered.

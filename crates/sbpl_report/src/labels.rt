@@ -1,8 +1,8 @@
 //! The section of labels that a plan writes.
 
 ghost use Rattle.std.specs.Prelude.{◌≡◌, ◌<◌, IfOk};
-ghost use Rattle.sbpl_graph.specs.Certificate.{AreSupported};
-ghost use Rattle.sbpl_labels.specs.Marks.{g_of, states_of, v_of};
+ghost use Rattle.sbpl_plan.specs.sbpl_graph.Certificate.{AreSupported};
+ghost use Rattle.sbpl_plan.specs.sbpl_labels.Marks.{g_of, states_of, v_of};
 ghost use Rattle.sbpl_plan.specs.Outcomes.{IsResultOf};
 ghost use Rattle.sbpl_report.specs.Shown.{labels_text};
 ghost use Rattle.sbpl_report.specs.Shown.{IsShown, IsShownInFull, IsShownSparsely, IsThere, answer_of, arcs_of};
@@ -10,11 +10,8 @@ ghost use Rattle.sbpl_report.specs.Shown.{IsShown, IsShownInFull, IsShownSparsel
 use sbpl_cert::{
     Arcs, LabelSet, Section, SparseSet, section_of, sparse_section_of, write_labels, write_sparse,
 };
-use sbpl_fixed::NoMemory;
-use sbpl_graph::{Graph, Guide};
-use sbpl_job::LabelForm;
-use sbpl_labels::Labels;
-use sbpl_plan::{FoundPath, Outcome};
+use sbpl_job::{LabelForm, NoMemory};
+use sbpl_plan::{FoundPath, Graph, Guide, Labels, Outcome};
 use std::alloc::Global;
 
 /// What a section says of a result.

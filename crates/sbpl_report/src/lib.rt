@@ -21,3 +21,66 @@ pub use refusal_lines::{fault_line, refusal_line};
 pub use report::{demo_line, incumbent_line, plan_line};
 pub use sweep_lines::listing_at;
 pub use trace::{Traced, trace_of, traced_passes};
+
+// Of `sbpl_graph`.
+pub use sbpl_plan::{Graph, Guide};
+
+// Of `sbpl_fixed`.
+pub use sbpl_job::{NoMemory, next_token};
+
+// Of `sbpl_lists`.
+pub use sbpl_plan::{ListOf, Piece, push_all, push_bytes};
+
+// Of `sbpl_cfg`.
+pub use sbpl_cost::{
+    Env, EnvFault, Grid, Place, cell_at, heading_at, place_at, print_env, read_env,
+    texts_are_environments_or_faulty,
+};
+
+// Of `sbpl_mprim`.
+pub use sbpl_cost::{PrimFault, Prims, print_prims, read_prims, texts_are_primitives_or_faulty};
+
+// Of `sbpl_map`.
+pub use sbpl_cost::{
+    ChangeFault, Changes, Map, Moves, read_changes, read_moves, texts_are_changes_or_faulty,
+    texts_are_moves_or_faulty, writes_lead_to_the_next_map,
+};
+
+// Of `sbpl_terrain`.
+pub use sbpl_cost::{Heuristic, Terrain, write_batch};
+
+// Of `sbpl_sweep`.
+pub use sbpl_cost::{SweepFault, Sweeps};
+
+// Of `sbpl_cost`.
+pub use sbpl_cost::{
+    Lattice, LatticeFault, alike_worlds_are_one_graph, lattice_has_its_arcs,
+    lattice_tails_are_in_order,
+};
+
+// Of `sbpl_search`.
+pub use sbpl_plan::Search;
+
+// Of `sbpl_serial`.
+pub use sbpl_frontier_rules::run_is_determined;
+
+// Of `sbpl_incumbent`.
+pub use sbpl_incumbent::{Board, Entry, Publisher, Reader, told_readers_get_the_newest};
+
+// Of `sbpl_cert`.
+pub use sbpl_cert::{
+    Flaw, LabelFault, Outcome as LabelOutcome, Section, check, check_sparse, cut_rows_are_one,
+    first_flaws_are_one, read_labels, texts_are_sections_or_faulty,
+};
+
+// Of `sbpl_plan`.
+pub use sbpl_plan::{
+    Arcs, Ask, Found, FoundPath, Observer, Outcome, Pass, Planned, plan_is_determined,
+};
+
+// Of `sbpl_job`.
+pub use sbpl_job::{
+    Asked, CheckJob, Command, DemoJob, Job, JobFault, LabelForm, Name, NavCheckJob, NavJob,
+    Outputs, PlanJob, Planner, SearchJob, Setting, Sources, read_asked, read_job,
+    words_part_into_forms,
+};

@@ -2,10 +2,9 @@
 
 use crate::parts::Steps;
 use sbpl_cert::Section;
-use sbpl_cfg::Place;
+use sbpl_cost::Place;
 use sbpl_incumbent::Entry;
-use sbpl_list::ListOf;
-use sbpl_plan::{Arcs, Outcome, Passes};
+use sbpl_plan::{Arcs, ListOf, Outcome, Passes};
 
 /// Where a state is, as a report tells it.
 #[derive(Clone, Copy)]

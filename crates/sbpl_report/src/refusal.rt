@@ -3,9 +3,7 @@
 ghost use Rattle.std.specs.Prelude.{◌≡◌};
 ghost use Rattle.sbpl_report.specs.Refusals.{refusal_status};
 
-use sbpl_cfg::EnvFault;
-use sbpl_map::ChangeFault;
-use sbpl_mprim::PrimFault;
+use sbpl_cost::{ChangeFault, EnvFault, PrimFault};
 
 /// A file that a job reads.
 #[derive(Clone, Copy)]

@@ -5,10 +5,9 @@ ghost use Rattle.sbpl_report.specs.Refusals.{check_name, fault_text, input_name,
 
 use crate::refusal::{Input, Refusal};
 use sbpl_cert::LabelFault;
-use sbpl_fixed::NoMemory;
-use sbpl_job::{CheckJob, Job, Name, NavCheckJob, NavJob, PlanJob, Sources};
-use sbpl_text::Piece::{Bytes, Number};
-use sbpl_text::push_all;
+use sbpl_job::{CheckJob, Job, Name, NavCheckJob, NavJob, NoMemory, PlanJob, Sources};
+use sbpl_plan::Piece::{Bytes, Number};
+use sbpl_plan::push_all;
 use std::alloc::Global;
 
 /// Appends the line of a fault in a file.

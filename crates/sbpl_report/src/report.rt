@@ -4,11 +4,10 @@ ghost use Rattle.std.specs.Prelude.{◌≡◌, ◌++◌, IfOk, OnOk};
 ghost use Rattle.sbpl_report.specs.Report.{demo_text, entry_text, incumbent_text, outcome_line, plan_line};
 
 use crate::record::{PathRecord, PlanRecord};
-use sbpl_fixed::NoMemory;
 use sbpl_incumbent::Entry;
-use sbpl_plan::Outcome;
-use sbpl_text::Piece::{Bytes, Milli, Number};
-use sbpl_text::{push_all, push_bytes};
+use sbpl_job::NoMemory;
+use sbpl_plan::Piece::{Bytes, Milli, Number};
+use sbpl_plan::{Outcome, push_all, push_bytes};
 use std::alloc::Global;
 
 /// Appends the result of a plan in one line.

@@ -3,12 +3,10 @@
 ghost use Rattle.std.specs.Prelude.{◌≡◌, ◌<◌, ◌++◌, OnOk, IfOk, length};
 ghost use Rattle.sbpl_report.specs.Listing.{cell_text, cells_text, end_text, listing_at, listing_text, prim_text};
 
-use sbpl_cost::Lattice;
-use sbpl_fixed::NoMemory;
-use sbpl_mprim::Prim;
-use sbpl_sweep::Cell;
-use sbpl_text::Piece::{Bytes, Number, Signed};
-use sbpl_text::push_all;
+use sbpl_cost::{Cell, Lattice, Prim};
+use sbpl_job::NoMemory;
+use sbpl_plan::Piece::{Bytes, Number, Signed};
+use sbpl_plan::push_all;
 use std::alloc::Global;
 
 /// Appends the line of a cell.

@@ -7,12 +7,10 @@ ghost use Rattle.sbpl_report.specs.declared.record.TraceLine.{TraceLine};
 ghost use Rattle.sbpl_report.specs.declared.record.TraceLine.TheVariants as Lines;
 
 use crate::record::{PlanRecord, TraceLine};
-use sbpl_fixed::NoMemory;
-use sbpl_frontier_rules::Event;
-use sbpl_plan::{Pass, Passes, Trace};
-use sbpl_serial::Step;
-use sbpl_text::Piece::{Bytes, Milli, Number};
-use sbpl_text::{push_all, push_bytes, push_field};
+use sbpl_frontier_rules::{Event, Step};
+use sbpl_job::NoMemory;
+use sbpl_plan::Piece::{Bytes, Milli, Number};
+use sbpl_plan::{Pass, Passes, Trace, push_all, push_bytes, push_field};
 use std::alloc::Global;
 
 /// What a planner notes, as a line of a trace.

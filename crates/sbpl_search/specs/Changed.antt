@@ -1,9 +1,9 @@
 -- Labels before and after a change of the graph.
 use Rattle.std.specs.Prelude.{◌≡◌, ◌≢◌, ℕ, ◌+◌, ◌^◌, ◌<◌, ◌≤◌, Option, Some, None, List}
 use Rattle.std.specs.List.{All, Contains}
-use Rattle.sbpl_graph.specs.declared.TheConstants.{FAR}
-use Rattle.sbpl_graph.specs.Fit.{FitCount}
-use Rattle.sbpl_graph.specs.Network.{Network, IsFreeArc}
+use Rattle.sbpl_labels.specs.sbpl_graph.declared.TheConstants.{FAR}
+use Rattle.sbpl_labels.specs.sbpl_graph.Fit.{FitCount}
+use Rattle.sbpl_labels.specs.sbpl_graph.Network.{Network, IsFreeArc}
 use Rattle.sbpl_labels.specs.Marks.{Marks, states_of, g_of, v_of, back_of}
 
 -- arc k of state s is free, leads to t from a finite v, and gives t the label g

@@ -1,7 +1,7 @@
 -- When the passes of a planner, and the labels from which its plans begin, are determined.
 use Rattle.std.specs.Prelude.{◌≡◌, ℕ, ◌<◌, ◌≤◌, ◌↔◌, Bool, true, None, List}
 use Rattle.std.specs.List.{Contains}
-use Rattle.sbpl_graph.specs.Network.{Network}
+use Rattle.sbpl_labels.specs.sbpl_graph.Network.{Network}
 use Rattle.sbpl_labels.specs.Marks.{Marks, states_of, back_of}
 use Rattle.sbpl_search.specs.Meaning.{Meaning}
 use Rattle.sbpl_search.specs.Query.{Query}

@@ -1,6 +1,6 @@
 -- What the calls of a planner mean.
 use Rattle.std.specs.Prelude.{ℕ, Bool, List}
-use Rattle.sbpl_graph.specs.Network.{Network}
+use Rattle.sbpl_labels.specs.sbpl_graph.Network.{Network}
 use Rattle.sbpl_labels.specs.Counts.{Counts}
 use Rattle.sbpl_labels.specs.Marks.{Marks}
 use Rattle.sbpl_search.specs.Query.{Query}

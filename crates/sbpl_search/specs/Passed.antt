@@ -1,7 +1,7 @@
 -- What a pass does to a search and to the counts of expansions.
 use Rattle.std.specs.Prelude.{◌≡◌, ℕ, ◌+◌, ◌*◌, ◌<◌, ◌≤◌, Some}
-use Rattle.sbpl_graph.specs.declared.TheConstants.{FAR}
-use Rattle.sbpl_graph.specs.Certificate.{AreSupported, ShowBound, ShowNone}
+use Rattle.sbpl_labels.specs.sbpl_graph.declared.TheConstants.{FAR}
+use Rattle.sbpl_labels.specs.sbpl_graph.Certificate.{AreSupported, ShowBound, ShowNone}
 use Rattle.sbpl_labels.specs.Chain.{chain_at}
 use Rattle.sbpl_labels.specs.Counts.{Counts, IsSpent}
 use Rattle.sbpl_labels.specs.Marks.{states_of, g_of, v_of, back_of}

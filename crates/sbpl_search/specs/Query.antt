@@ -1,6 +1,6 @@
 -- What stays the same over a pass.
 use Rattle.std.specs.Prelude.{ℕ}
-use Rattle.sbpl_graph.specs.Network.{Network}
+use Rattle.sbpl_labels.specs.sbpl_graph.Network.{Network}
 
 -- the graph, the guide, the inflation in thousandths, and the goal
 pub record Query : Type 0 where

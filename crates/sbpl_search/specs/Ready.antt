@@ -1,10 +1,10 @@
 -- Labels from which a pass may begin.
 use Rattle.std.specs.Prelude.{◌≡◌, ℕ, ◌⊎◌}
-use Rattle.sbpl_graph.specs.declared.TheConstants.{FAR}
-use Rattle.sbpl_graph.specs.Network.{Network}
-use Rattle.sbpl_graph.specs.Exact.{AreExact}
-use Rattle.sbpl_graph.specs.Fit.{FitCount}
-use Rattle.sbpl_graph.specs.Kept.{NoneUnder}
+use Rattle.sbpl_labels.specs.sbpl_graph.declared.TheConstants.{FAR}
+use Rattle.sbpl_labels.specs.sbpl_graph.Network.{Network}
+use Rattle.sbpl_labels.specs.sbpl_graph.Exact.{AreExact}
+use Rattle.sbpl_labels.specs.sbpl_graph.Fit.{FitCount}
+use Rattle.sbpl_labels.specs.sbpl_graph.Kept.{NoneUnder}
 use Rattle.sbpl_labels.specs.Marks.{Marks, states_of, g_of, v_of, back_of}
 
 -- labels that are exact on this graph and fit for this count of expansions

@@ -3,7 +3,7 @@
 ghost use Rattle.sbpl_search.specs.Determined.{AreBeginningsDetermined, AreDetermined};
 
 use crate::Search;
-use sbpl_graph::{Graph, Guide};
+use sbpl_labels::{Graph, Guide};
 
 /// A search whose passes are determined by the labels from which they begin, and by how many states they expand. A serial
 /// search is; one with workers is not.

@@ -5,4 +5,8 @@ mod determined;
 mod search;
 
 pub use determined::Determined;
+pub use sbpl_labels::{
+    Budget, FAR, Graph, Guide, Labels, NoMemory, PassEnd, Walk, Zero, bound_holds, bound_of,
+    ceil_root, none_holds,
+};
 pub use search::Search;

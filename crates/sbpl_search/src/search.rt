@@ -2,8 +2,8 @@
 
 ghost use Rattle.std.specs.Prelude.{◌≡◌, ◌≢◌, ℕ, ◌+◌, ◌^◌, ◌<◌, ◌≤◌, ⊤, true, IfOk, OnErr, OnOk};
 ghost use Rattle.std.specs.List.Sorted.{IsStrictlyIncreasing};
-ghost use Rattle.sbpl_graph.specs.Bound.{IsLow};
-ghost use Rattle.sbpl_graph.specs.Network.{Network};
+ghost use Rattle.sbpl_labels.specs.sbpl_graph.Bound.{IsLow};
+ghost use Rattle.sbpl_labels.specs.sbpl_graph.Network.{Network};
 ghost use Rattle.sbpl_labels.specs.Marks.{AreLabels, Marks, states_of, g_of, v_of};
 ghost use Rattle.sbpl_search.specs.Changed.{IsChangeable};
 ghost use Rattle.sbpl_search.specs.Meaning.{Meaning};
@@ -12,9 +12,7 @@ ghost use Rattle.sbpl_search.specs.Query.{query};
 ghost use Rattle.sbpl_search.specs.Ready.{AreUsable, IsStartFresh};
 ghost use Rattle.sbpl_search.specs.State.{State};
 
-use sbpl_fixed::NoMemory;
-use sbpl_graph::{Graph, Guide};
-use sbpl_labels::{Budget, Labels, PassEnd};
+use sbpl_labels::{Budget, Graph, Guide, Labels, NoMemory, PassEnd};
 use std::alloc::Global;
 
 /// A search to one goal: labels of all states, and passes that improve them. Each planner implements this, and plans are made

@@ -2,10 +2,10 @@
 use Rattle.std.proofs.Common.{◌≡◌, ℕ, ◌<◌, ◌≤◌, Option, Some, None, arith, ⊎_elim, refl, sym, ap, ◌∙◌}
 use Rattle.std.proofs.lemmas.Bool.{cases_lt}
 use Rattle.std.proofs.lemmas.List.{ext_get_or}
-use Rattle.sbpl_graph.specs.Network.{Network}
-use Rattle.sbpl_labels.specs.declared.row.Row.{Row}
-use Rattle.sbpl_labels.specs.Marks.{Marks, no_row, states_of, g_of, v_of, back_of, row_at}
-use Rattle.sbpl_labels.specs.Recomputed.{IsRecomputed}
+use Rattle.sbpl_search.specs.sbpl_graph.Network.{Network}
+use Rattle.sbpl_search.specs.sbpl_labels.declared.row.Row.{Row}
+use Rattle.sbpl_search.specs.sbpl_labels.Marks.{Marks, no_row, states_of, g_of, v_of, back_of, row_at}
+use Rattle.sbpl_search.specs.sbpl_labels.Recomputed.{IsRecomputed}
 
 -- two rows with the same labels are equal
 pub same_row : (a b : Row) → a.g ≡ b.g → a.v ≡ b.v → a.back ≡ b.back → a ≡ b

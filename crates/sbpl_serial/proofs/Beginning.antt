@@ -2,10 +2,10 @@
 use Rattle.std.proofs.Common.{◌≡◌, ◌≢◌, ℕ, ◌<◌, ◌↔◌, true, false, None, List, ⊎_elim, refl, sym, ap, subst, ◌∙◌}
 use Rattle.std.proofs.lemmas.Bool.{cases_eq}
 use Rattle.std.specs.List.{Contains}
-use Rattle.sbpl_graph.specs.Network.{Network}
-use Rattle.sbpl_labels.specs.declared.row.Row.{Row}
-use Rattle.sbpl_labels.specs.Marks.{AreInitial, Marks, states_of, g_of, v_of, back_of, row_at}
-use Rattle.sbpl_labels.specs.Recomputed.{IsRecomputed}
+use Rattle.sbpl_search.specs.sbpl_graph.Network.{Network}
+use Rattle.sbpl_search.specs.sbpl_labels.declared.row.Row.{Row}
+use Rattle.sbpl_search.specs.sbpl_labels.Marks.{AreInitial, Marks, states_of, g_of, v_of, back_of, row_at}
+use Rattle.sbpl_search.specs.sbpl_labels.Recomputed.{IsRecomputed}
 use Rattle.sbpl_search.specs.Determined.{DeterminesBeginnings}
 use Rattle.sbpl_serial.specs.Determined.{InitialLabelsAreOne}
 use Rattle.sbpl_serial.specs.Meant.{BeginsAnew, BeginsRepaired}

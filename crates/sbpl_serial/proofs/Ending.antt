@@ -1,9 +1,9 @@
 -- How a pass ends.
 use Rattle.std.proofs.Common.{◌≡◌, ℕ, ◌+◌, ◌*◌, ◌<◌, ◌≤◌, ◌↔◌, Bool, false, arith, ⊎_elim, inl, inr, refl, sym}
 use Rattle.std.proofs.lemmas.Bool.{cases_lt}
-use Rattle.sbpl_labels.specs.declared.pass_end.PassEnd.TheVariants.{Rest, Spent}
-use Rattle.sbpl_labels.specs.Counts.{Counts, IsSpent}
-use Rattle.sbpl_labels.specs.Marks.{Marks, states_of, g_of}
+use Rattle.sbpl_search.specs.sbpl_labels.declared.pass_end.PassEnd.TheVariants.{Rest, Spent}
+use Rattle.sbpl_search.specs.sbpl_labels.Counts.{Counts, IsSpent}
+use Rattle.sbpl_search.specs.sbpl_labels.Marks.{Marks, states_of, g_of}
 use Rattle.sbpl_open.specs.KeyOrder.{IsBelow}
 use Rattle.sbpl_search.specs.Query.{Query}
 use Rattle.sbpl_serial.specs.Run.{IsOver, IsNext, IsAtRest, key_at, goal_key_at}

@@ -6,15 +6,15 @@ use Rattle.std.proofs.Math.Bridge.{le_prop}
 use Rattle.std.proofs.lemmas.Bool.{cases_eq}
 use Rattle.std.proofs.lemmas.Option.{none-some}
 use Rattle.std.specs.List.{Contains}
-use Rattle.sbpl_graph.specs.declared.TheConstants.{FAR}
-use Rattle.sbpl_graph.specs.Network.{Network, IsArc, IsFreeArc}
-use Rattle.sbpl_graph.specs.Laws.{IsSound, HasExactTails}
-use Rattle.sbpl_graph.specs.Certificate.{IsLabel}
-use Rattle.sbpl_graph.specs.Exact.{AreExact}
-use Rattle.sbpl_graph.proofs.Keeping.{same_arc}
-use Rattle.sbpl_labels.specs.declared.row.Row.{Row}
-use Rattle.sbpl_labels.specs.Marks.{Marks, AreLabels, states_of, g_of, v_of, back_of}
-use Rattle.sbpl_labels.specs.Recomputed.{IsWay, IsRecomputed}
+use Rattle.sbpl_search.specs.sbpl_graph.declared.TheConstants.{FAR}
+use Rattle.sbpl_search.specs.sbpl_graph.Network.{Network, IsArc, IsFreeArc}
+use Rattle.sbpl_search.specs.sbpl_graph.Laws.{IsSound, HasExactTails}
+use Rattle.sbpl_search.specs.sbpl_graph.Certificate.{IsLabel}
+use Rattle.sbpl_search.specs.sbpl_graph.Exact.{AreExact}
+use Rattle.sbpl_search.proofs.Keeping.{same_arc}
+use Rattle.sbpl_search.specs.sbpl_labels.declared.row.Row.{Row}
+use Rattle.sbpl_search.specs.sbpl_labels.Marks.{Marks, AreLabels, states_of, g_of, v_of, back_of}
+use Rattle.sbpl_search.specs.sbpl_labels.Recomputed.{IsWay, IsRecomputed}
 use Rattle.sbpl_search.specs.Changed.{IsExactAt}
 use Rattle.sbpl_serial.specs.Repaired.{AreRepaired, ExactWhereSame}
 

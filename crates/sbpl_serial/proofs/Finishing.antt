@@ -1,22 +1,22 @@
 -- How a pass ends, and what its labels then show.
 use Rattle.std.proofs.Common.{◌≡◌, ℕ, ◌+◌, ◌*◌, ◌^◌, ◌<◌, ◌≤◌, Bool, true, false, arith, ⊎_elim, inl, ap, refl, sym}
 use Rattle.std.proofs.lemmas.Bool.{cases_lt, cases_Bool}
-use Rattle.sbpl_graph.specs.declared.TheConstants.{FAR}
-use Rattle.sbpl_graph.specs.Laws.{IsConsistent}
-use Rattle.sbpl_graph.specs.Certificate.{AreSupported, ShowBound, ShowNone}
-use Rattle.sbpl_labels.specs.Counts.{Counts, IsSpent}
-use Rattle.sbpl_labels.specs.Marks.{Marks, AreLabels, states_of, g_of, v_of}
+use Rattle.sbpl_search.specs.sbpl_graph.declared.TheConstants.{FAR}
+use Rattle.sbpl_search.specs.sbpl_graph.Laws.{IsConsistent}
+use Rattle.sbpl_search.specs.sbpl_graph.Certificate.{AreSupported, ShowBound, ShowNone}
+use Rattle.sbpl_search.specs.sbpl_labels.Counts.{Counts, IsSpent}
+use Rattle.sbpl_search.specs.sbpl_labels.Marks.{Marks, AreLabels, states_of, g_of, v_of}
 use Rattle.sbpl_open.specs.KeyOrder.{IsBelow}
 use Rattle.sbpl_search.specs.Query.{Query}
 use Rattle.sbpl_serial.specs.Run.{IsOver, IsUnder, IsNext, IsAtRest, none_closed, key_at, goal_key_at}
 use Rattle.sbpl_serial.specs.Serial.{SerialState}
 use Rattle.sbpl_serial.proofs.Ending.{rest_above}
-use Rattle.sbpl_graph.proofs.Keeping.{supported_from_exact}
+use Rattle.sbpl_search.proofs.Keeping.{supported_from_exact}
 use Rattle.sbpl_serial.proofs.Ordering.{AreOrdered, key_under}
 use Rattle.sbpl_serial.proofs.Passing.{IsPassing, closed_by, passing_room}
-use Rattle.sbpl_graph.specs.Laws.{IsSound}
-use Rattle.sbpl_graph.specs.Network.{Network}
-use Rattle.sbpl_labels.specs.declared.pass_end.PassEnd.TheVariants.{Rest, Spent}
+use Rattle.sbpl_search.specs.sbpl_graph.Laws.{IsSound}
+use Rattle.sbpl_search.specs.sbpl_graph.Network.{Network}
+use Rattle.sbpl_search.specs.sbpl_labels.declared.pass_end.PassEnd.TheVariants.{Rest, Spent}
 use Rattle.sbpl_search.specs.Query.{query}
 use Rattle.sbpl_serial.specs.Passed.{IsSerialPass}
 use Rattle.sbpl_serial.proofs.Ending.{rest_not_spent, rest_at_rest, rest_at_next, spent_at_rest, spent_at_next}

@@ -9,16 +9,16 @@ use Rattle.std.proofs.lemmas.Bool.{ne_eqb, true≢false, false≢true}
 use Rattle.std.proofs.lemmas.List.Elements.{All-cons, All-nil}
 use Rattle.std.proofs.lemmas.List.{get_or_past}
 use Rattle.std.proofs.lemmas.List.Kept.{AllPairs-cons}
-use Rattle.sbpl_graph.specs.declared.TheConstants.{FAR}
-use Rattle.sbpl_graph.specs.Network.{Network}
-use Rattle.sbpl_graph.specs.Certificate.{AreSupported, ShowNone}
-use Rattle.sbpl_graph.specs.Kept.{NoneUnder}
-use Rattle.sbpl_graph.proofs.Paths.{label_at_most}
-use Rattle.sbpl_labels.specs.Counts.{Counts}
-use Rattle.sbpl_labels.specs.declared.row.Row.{Row}
-use Rattle.sbpl_labels.specs.Marks.{Marks, AreLabels, no_row, states_of, g_of, v_of}
-use Rattle.sbpl_labels.specs.declared.pass_end.PassEnd.{PassEnd}
-use Rattle.sbpl_labels.specs.declared.pass_end.PassEnd.TheVariants.{Rest, Spent}
+use Rattle.sbpl_search.specs.sbpl_graph.declared.TheConstants.{FAR}
+use Rattle.sbpl_search.specs.sbpl_graph.Network.{Network}
+use Rattle.sbpl_search.specs.sbpl_graph.Certificate.{AreSupported, ShowNone}
+use Rattle.sbpl_search.specs.sbpl_graph.Kept.{NoneUnder}
+use Rattle.sbpl_search.proofs.Paths.{label_at_most}
+use Rattle.sbpl_search.specs.sbpl_labels.Counts.{Counts}
+use Rattle.sbpl_search.specs.sbpl_labels.declared.row.Row.{Row}
+use Rattle.sbpl_search.specs.sbpl_labels.Marks.{Marks, AreLabels, no_row, states_of, g_of, v_of}
+use Rattle.sbpl_search.specs.sbpl_labels.declared.pass_end.PassEnd.{PassEnd}
+use Rattle.sbpl_search.specs.sbpl_labels.declared.pass_end.PassEnd.TheVariants.{Rest, Spent}
 use Rattle.sbpl_search.specs.Query.{Query}
 use Rattle.sbpl_serial.specs.declared.step.Step.{Step}
 use Rattle.sbpl_serial.specs.Passed.{IsSerialPass, IsForwardPass}

@@ -5,7 +5,7 @@ use Rattle.std.specs.List.{All}
 use Rattle.std.proofs.lemmas.Bool.{cases_eq, cases_lt, cases_Bool, or_left, or_right, eq-eqb, false≢true}
 use Rattle.std.proofs.lemmas.List.{get_or_past}
 use Rattle.std.proofs.lemmas.List.Elements.{All-push}
-use Rattle.sbpl_labels.specs.Marks.{Marks, AreInitial}
+use Rattle.sbpl_search.specs.sbpl_labels.Marks.{Marks, AreInitial}
 use Rattle.sbpl_open.specs.declared.entry.Entry.{Entry}
 use Rattle.sbpl_open.specs.Entries.{state_at}
 use Rattle.sbpl_open.specs.OpenList.{OpenList, ChangesKey}

@@ -1,7 +1,7 @@
 -- What a run keeps of labels, and where it asks its guide.
 use Rattle.std.proofs.Common.{◌≡◌, ℕ, ◌<◌, Bool, true, false, MatchBool, None, List, [], ◌∷◌, refl, sym, ap, subst, ◌∙◌}
-use Rattle.sbpl_graph.specs.Network.{Network}
-use Rattle.sbpl_labels.specs.Marks.{Marks, states_of, g_of, v_of, back_of}
+use Rattle.sbpl_search.specs.sbpl_graph.Network.{Network}
+use Rattle.sbpl_search.specs.sbpl_labels.Marks.{Marks, states_of, g_of, v_of, back_of}
 use Rattle.sbpl_open.specs.KeyOrder.{IsBelow}
 use Rattle.sbpl_serial.specs.declared.step.Step.{Step}
 use Rattle.sbpl_serial.specs.Keys.{key_of}

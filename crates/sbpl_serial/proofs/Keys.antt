@@ -1,8 +1,8 @@
 -- Keys, and labels after a state is lowered.
 use Rattle.std.proofs.Common.{◌≡◌, ℕ, ◌+◌, ◌*◌, ◌<◌, ◌≤◌, ◌≢◌, ◌⊎◌, arith, ⊎_elim, inl, inr, sym}
 use Rattle.std.proofs.lemmas.Bool.{cases_eq, cases_lt, cond_below}
-use Rattle.sbpl_graph.specs.Network.{Network, IsFreeArc}
-use Rattle.sbpl_labels.specs.Marks.{Marks, g_of}
+use Rattle.sbpl_search.specs.sbpl_graph.Network.{Network, IsFreeArc}
+use Rattle.sbpl_search.specs.sbpl_labels.Marks.{Marks, g_of}
 use Rattle.sbpl_open.specs.KeyOrder.{ComesBefore}
 use Rattle.sbpl_serial.specs.Run.{IsOver, LowersHeads, key_at}
 

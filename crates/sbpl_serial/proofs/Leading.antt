@@ -3,7 +3,7 @@ use Rattle.std.proofs.Common.{◌≡◌, ◌≢◌, ℕ, ◌<◌, ◌≤◌, Boo
 use Rattle.std.proofs.Common.{sym, ap, ◌∙◌}
 use Rattle.std.proofs.lemmas.Bool.{cases_eq, cases_lt}
 use Rattle.std.proofs.lemmas.List.{append-nil, length-append}
-use Rattle.sbpl_labels.specs.Marks.{Marks}
+use Rattle.sbpl_search.specs.sbpl_labels.Marks.{Marks}
 use Rattle.sbpl_open.specs.KeyOrder.{ComesBefore}
 use Rattle.sbpl_serial.specs.declared.step.Step.{Step}
 use Rattle.sbpl_search.specs.Query.{Query}

@@ -27,3 +27,7 @@ pub mod Finishing
 pub mod Forwards
 pub mod Determining
 pub mod Beginning
+pub use Rattle.sbpl_search.proofs.Fitting
+pub use Rattle.sbpl_search.proofs.Keeping
+pub use Rattle.sbpl_search.proofs.Paths
+pub use Rattle.sbpl_search.proofs.Changes

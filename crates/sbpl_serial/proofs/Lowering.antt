@@ -2,8 +2,8 @@
 use Rattle.std.proofs.Common.{◌≡◌, ◌≢◌, ℕ, suc, ◌+◌, ◌<◌, ◌≤◌, ◌⊎◌, Bool, true, false, nat_eq, List, [], ◌∷◌}
 use Rattle.std.proofs.Common.{slice_index_or, length, arith, ⊎_elim, inl, inr, sym, ◌∙◌, ap}
 use Rattle.std.proofs.lemmas.Bool.{cases_Bool, cases_eq, cases_lt, false≢true, eqb-true, or_cases}
-use Rattle.sbpl_graph.specs.Bound.{IsLow}
-use Rattle.sbpl_labels.specs.Marks.{Marks, states_of, g_of, v_of}
+use Rattle.sbpl_search.specs.sbpl_graph.Bound.{IsLow}
+use Rattle.sbpl_search.specs.sbpl_labels.Marks.{Marks, states_of, g_of, v_of}
 use Rattle.sbpl_serial.specs.declared.step.Step.{Step}
 use Rattle.sbpl_open.specs.OpenList.{OpenList}
 use Rattle.sbpl_serial.specs.Low.{IsLowOf, IsInEither}

@@ -4,7 +4,7 @@ use Rattle.std.proofs.Common.{slice_index, arith, ⊎_elim, sym, ◌∙◌, ap}
 use Rattle.std.specs.List.{Contains}
 use Rattle.std.proofs.lemmas.Bool.{cases_eq, or_cases, eqb-true}
 use Rattle.std.proofs.lemmas.List.{get_or_default}
-use Rattle.sbpl_labels.specs.Marks.{Marks, g_of, v_of}
+use Rattle.sbpl_search.specs.sbpl_labels.Marks.{Marks, g_of, v_of}
 use Rattle.sbpl_open.specs.OpenList.{OpenList}
 use Rattle.sbpl_open.specs.OpenList as open_list
 use Rattle.sbpl_serial.specs.declared.step.Step.{Step}

@@ -1,7 +1,7 @@
 -- The open states of labels where none is underconsistent.
 use Rattle.std.proofs.Common.{◌≡◌, ℕ, Bool, false, arith, ⊎_elim, inl, inr, sym, ◌∙◌}
-use Rattle.sbpl_graph.specs.Kept.{NoneUnder}
-use Rattle.sbpl_labels.specs.Marks.{Marks, states_of, g_of, v_of}
+use Rattle.sbpl_search.specs.sbpl_graph.Kept.{NoneUnder}
+use Rattle.sbpl_search.specs.sbpl_labels.Marks.{Marks, states_of, g_of, v_of}
 use Rattle.sbpl_serial.specs.Run.{IsOpen, IsOver, IsUnder}
 
 -- what is open by one test is open by another that answers alike

@@ -4,14 +4,14 @@ use Rattle.std.proofs.Common.{⊎_elim, inl, inr, refl, sym, ◌∙◌, ap, subs
 use Rattle.std.proofs.lemmas.Bool.{cases_eq, cases_lt, or_cases, or_parts, eqb-true, true≢false}
 use Rattle.std.proofs.lemmas.Bool.Decides.{nat_tests}
 use Rattle.std.proofs.lemmas.Option.{none-some}
-use Rattle.sbpl_graph.specs.declared.TheConstants.{FAR}
-use Rattle.sbpl_graph.specs.Network.{Network, IsFreeArc}
-use Rattle.sbpl_graph.specs.Laws.{IsSound, IsConsistent}
-use Rattle.sbpl_graph.specs.Exact.{AreExact}
-use Rattle.sbpl_graph.proofs.Keeping.{same_arc}
-use Rattle.sbpl_graph.proofs.Paths.{label_at_most}
-use Rattle.sbpl_labels.specs.Marks.{Marks, AreLabels, states_of, g_of, v_of, back_of}
-use Rattle.sbpl_labels.specs.Recomputed.{IsRecomputed}
+use Rattle.sbpl_search.specs.sbpl_graph.declared.TheConstants.{FAR}
+use Rattle.sbpl_search.specs.sbpl_graph.Network.{Network, IsFreeArc}
+use Rattle.sbpl_search.specs.sbpl_graph.Laws.{IsSound, IsConsistent}
+use Rattle.sbpl_search.specs.sbpl_graph.Exact.{AreExact}
+use Rattle.sbpl_search.proofs.Keeping.{same_arc}
+use Rattle.sbpl_search.proofs.Paths.{label_at_most}
+use Rattle.sbpl_search.specs.sbpl_labels.Marks.{Marks, AreLabels, states_of, g_of, v_of, back_of}
+use Rattle.sbpl_search.specs.sbpl_labels.Recomputed.{IsRecomputed}
 use Rattle.sbpl_open.specs.KeyOrder.{ComesBefore}
 use Rattle.sbpl_search.specs.Query.{Query}
 use Rattle.sbpl_serial.specs.Run.{IsOpen, IsOver, IsUnder, IsNext, LowersHeads, RaisesState, key_at, closed_with}

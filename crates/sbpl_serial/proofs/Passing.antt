@@ -2,11 +2,11 @@
 use Rattle.std.proofs.Common.{◌≡◌, ◌≢◌, ℕ, ◌+◌, ◌*◌, ◌<◌, ◌≤◌, Bool, true, false, List, [], ◌∷◌, ◌++◌, length, arith}
 use Rattle.std.proofs.Common.{⊎_elim, refl, sym, ◌∙◌, ap, add-zero, length-append}
 use Rattle.std.proofs.lemmas.Bool.{eq-eqb, ne_eqb, or_left}
-use Rattle.sbpl_graph.specs.Laws.{IsSound, IsConsistent}
-use Rattle.sbpl_graph.specs.Exact.{AreExact}
-use Rattle.sbpl_graph.proofs.Paths.{label_at_most}
-use Rattle.sbpl_labels.specs.Counts.{Counts}
-use Rattle.sbpl_labels.specs.Marks.{Marks, AreLabels, states_of, g_of, v_of, back_of}
+use Rattle.sbpl_search.specs.sbpl_graph.Laws.{IsSound, IsConsistent}
+use Rattle.sbpl_search.specs.sbpl_graph.Exact.{AreExact}
+use Rattle.sbpl_search.proofs.Paths.{label_at_most}
+use Rattle.sbpl_search.specs.sbpl_labels.Counts.{Counts}
+use Rattle.sbpl_search.specs.sbpl_labels.Marks.{Marks, AreLabels, states_of, g_of, v_of, back_of}
 use Rattle.sbpl_serial.specs.declared.step.Step.{Step}
 use Rattle.sbpl_serial.specs.Queue.{AreQueued}
 use Rattle.sbpl_search.specs.Query.{Query}

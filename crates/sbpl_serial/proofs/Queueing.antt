@@ -4,9 +4,9 @@ use Rattle.std.proofs.Common.{None, MatchOption, List, [], ◌∷◌, ◌++◌, 
 use Rattle.std.proofs.lemmas.Bool.{cases_eq, cases_lt, cases_Bool, or_cases, or_left, or_right, and_parts}
 use Rattle.std.proofs.lemmas.Bool.{eq-eqb, ne_eqb, true≢false}
 use Rattle.std.proofs.lemmas.List.{get_or_past}
-use Rattle.sbpl_graph.specs.Network.{Network}
-use Rattle.sbpl_labels.specs.declared.row.Row.{Row}
-use Rattle.sbpl_labels.specs.Marks.{Marks, states_of, g_of, v_of, row_at, no_row}
+use Rattle.sbpl_search.specs.sbpl_graph.Network.{Network}
+use Rattle.sbpl_search.specs.sbpl_labels.declared.row.Row.{Row}
+use Rattle.sbpl_search.specs.sbpl_labels.Marks.{Marks, states_of, g_of, v_of, row_at, no_row}
 use Rattle.sbpl_open.specs.OpenList.{OpenList, ChangesKey, IsEmpty}
 use Rattle.sbpl_open.specs.OpenList as open_list
 use Rattle.sbpl_serial.specs.declared.step.Step.{Step}

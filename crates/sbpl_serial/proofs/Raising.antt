@@ -3,16 +3,16 @@ use Rattle.std.proofs.Common.{◌≡◌, ◌≢◌, ℕ, ◌+◌, ◌<◌, ◌�
 use Rattle.std.proofs.lemmas.Bool.{cases_eq, cases_lt}
 use Rattle.std.proofs.lemmas.List.{get_or_past}
 use Rattle.std.proofs.lemmas.Option.{none-some, same_Some}
-use Rattle.sbpl_graph.specs.declared.TheConstants.{FAR}
-use Rattle.sbpl_graph.specs.Network.{Network}
-use Rattle.sbpl_graph.specs.Laws.{IsSound, HasExactTails}
-use Rattle.sbpl_graph.specs.Exact.{AreExact}
-use Rattle.sbpl_graph.specs.Fit.{FitCount}
-use Rattle.sbpl_graph.proofs.Keeping.{same_arc}
-use Rattle.sbpl_graph.proofs.Paths.{label_at_most}
-use Rattle.sbpl_labels.specs.declared.row.Row.{Row}
-use Rattle.sbpl_labels.specs.Marks.{Marks, AreLabels, ChangesRow, states_of, g_of, v_of, back_of, no_row}
-use Rattle.sbpl_labels.specs.Recomputed.{IsRecomputed, Recomputes}
+use Rattle.sbpl_search.specs.sbpl_graph.declared.TheConstants.{FAR}
+use Rattle.sbpl_search.specs.sbpl_graph.Network.{Network}
+use Rattle.sbpl_search.specs.sbpl_graph.Laws.{IsSound, HasExactTails}
+use Rattle.sbpl_search.specs.sbpl_graph.Exact.{AreExact}
+use Rattle.sbpl_search.specs.sbpl_graph.Fit.{FitCount}
+use Rattle.sbpl_search.proofs.Keeping.{same_arc}
+use Rattle.sbpl_search.proofs.Paths.{label_at_most}
+use Rattle.sbpl_search.specs.sbpl_labels.declared.row.Row.{Row}
+use Rattle.sbpl_search.specs.sbpl_labels.Marks.{Marks, AreLabels, ChangesRow, states_of, g_of, v_of, back_of, no_row}
+use Rattle.sbpl_search.specs.sbpl_labels.Recomputed.{IsRecomputed, Recomputes}
 use Rattle.sbpl_serial.specs.Run.{IsUnder, RaisesState}
 use Rattle.sbpl_search.specs.Changed.{IsExactAt}
 use Rattle.sbpl_serial.specs.Raised.{IsRaising, IsReturned, RaisingBegins}

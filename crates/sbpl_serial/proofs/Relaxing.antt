@@ -1,19 +1,19 @@
 -- The arcs of a state, relaxed one after the other.
 use Rattle.std.proofs.Common.{◌≡◌, ◌≢◌, ℕ, ◌+◌, ◌^◌, ◌<◌, ◌≤◌, Option, Some, None, arith, ⊎_elim, refl, sym, ◌∙◌}
 use Rattle.std.proofs.lemmas.Bool.{cases_eq}
-use Rattle.sbpl_graph.specs.declared.TheConstants.{FAR}
-use Rattle.sbpl_graph.specs.Network.{Network, IsFreeArc}
-use Rattle.sbpl_graph.specs.Laws.{IsSound}
-use Rattle.sbpl_graph.specs.Fit.{FitCount}
-use Rattle.sbpl_graph.specs.Kept.{AreKept, NoneUnder, pending_from, none_pending}
-use Rattle.sbpl_graph.proofs.Keeping.{kept_from_exact, kept_settled, kept_lowered, kept_next_from, kept_done}
-use Rattle.sbpl_graph.proofs.Keeping.{exact_from_kept, none_under_settled, none_under_lowered}
-use Rattle.sbpl_graph.proofs.Fitting.{fit_settled, fit_lowered, fit_small}
-use Rattle.sbpl_labels.specs.Marks.{Marks, ChangesRow, states_of, g_of, v_of, back_of}
+use Rattle.sbpl_search.specs.sbpl_graph.declared.TheConstants.{FAR}
+use Rattle.sbpl_search.specs.sbpl_graph.Network.{Network, IsFreeArc}
+use Rattle.sbpl_search.specs.sbpl_graph.Laws.{IsSound}
+use Rattle.sbpl_search.specs.sbpl_graph.Fit.{FitCount}
+use Rattle.sbpl_search.specs.sbpl_graph.Kept.{AreKept, NoneUnder, pending_from, none_pending}
+use Rattle.sbpl_search.proofs.Keeping.{kept_from_exact, kept_settled, kept_lowered, kept_next_from, kept_done}
+use Rattle.sbpl_search.proofs.Keeping.{exact_from_kept, none_under_settled, none_under_lowered}
+use Rattle.sbpl_search.proofs.Fitting.{fit_settled, fit_lowered, fit_small}
+use Rattle.sbpl_search.specs.sbpl_labels.Marks.{Marks, ChangesRow, states_of, g_of, v_of, back_of}
 use Rattle.sbpl_serial.specs.Run.{IsFirstArc, IsOver, LowersHeads}
 use Rattle.sbpl_serial.specs.Relaxed.{LowersHead, IsRelaxed}
 use Rattle.sbpl_search.specs.Ready.{AreUsable}
-use Rattle.sbpl_labels.proofs.Changes.{settles_state, lowers_state}
+use Rattle.sbpl_search.proofs.Changes.{settles_state, lowers_state}
 
 -- g' is the lesser of g and the ways to t over the free arcs of s below
 -- number i; where that is lower, back' is the first that gives it

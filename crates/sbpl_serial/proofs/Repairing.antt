@@ -4,12 +4,12 @@ use Rattle.std.proofs.Common.{inl, inr, sym, ◌∙◌, ap, subst}
 use Rattle.std.proofs.lemmas.Bool.{cases_eq}
 use Rattle.std.proofs.lemmas.List.{get_or_default}
 use Rattle.std.specs.List.{Contains}
-use Rattle.sbpl_graph.specs.Network.{Network}
-use Rattle.sbpl_graph.specs.Fit.{FitCount}
-use Rattle.sbpl_graph.specs.Kept.{NoneUnder}
-use Rattle.sbpl_labels.specs.declared.row.Row.{Row}
-use Rattle.sbpl_labels.specs.Marks.{Marks, states_of, g_of, v_of, back_of, row_at}
-use Rattle.sbpl_labels.specs.Recomputed.{IsWay, IsRecomputed, Recomputes}
+use Rattle.sbpl_search.specs.sbpl_graph.Network.{Network}
+use Rattle.sbpl_search.specs.sbpl_graph.Fit.{FitCount}
+use Rattle.sbpl_search.specs.sbpl_graph.Kept.{NoneUnder}
+use Rattle.sbpl_search.specs.sbpl_labels.declared.row.Row.{Row}
+use Rattle.sbpl_search.specs.sbpl_labels.Marks.{Marks, states_of, g_of, v_of, back_of, row_at}
+use Rattle.sbpl_search.specs.sbpl_labels.Recomputed.{IsWay, IsRecomputed, Recomputes}
 use Rattle.sbpl_serial.specs.Repaired.{AreRepaired}
 use Rattle.sbpl_serial.specs.Run.{IsOver, IsUnder}
 use Rattle.sbpl_serial.proofs.Exactness.{contains_or_not}

@@ -3,7 +3,7 @@ use Rattle.std.proofs.Common.{◌≡◌, ◌≢◌, ℕ, ◌↔◌, Bool, true, 
 use Rattle.std.proofs.Common.{sym, ap, ◌∙◌}
 use Rattle.std.proofs.lemmas.Bool.{cases_eq, false≢true}
 use Rattle.std.specs.Bool.{then_some}
-use Rattle.sbpl_labels.specs.Marks.{Marks}
+use Rattle.sbpl_search.specs.sbpl_labels.Marks.{Marks}
 use Rattle.sbpl_open.specs.KeyOrder.{IsBelow, ComesBefore}
 use Rattle.sbpl_search.specs.Query.{Query}
 use Rattle.sbpl_serial.specs.Run.{IsNext, IsAtRest, key_at, goal_key_at}

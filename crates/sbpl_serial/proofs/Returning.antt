@@ -1,7 +1,7 @@
 -- The queue goes on holding the open states as heads are recomputed.
 use Rattle.std.proofs.Common.{ℕ, Bool, Option, Some, None, refl}
-use Rattle.sbpl_graph.specs.Network.{Network}
-use Rattle.sbpl_labels.specs.Marks.{Marks}
+use Rattle.sbpl_search.specs.sbpl_graph.Network.{Network}
+use Rattle.sbpl_search.specs.sbpl_labels.Marks.{Marks}
 use Rattle.sbpl_open.specs.OpenList.{OpenList}
 use Rattle.sbpl_serial.specs.Queue.{AreQueued, IsUnplaced}
 use Rattle.sbpl_serial.proofs.Queueing.{unplaced}

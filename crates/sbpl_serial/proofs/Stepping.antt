@@ -2,10 +2,10 @@
 use Rattle.std.proofs.Common.{◌≡◌, ◌≢◌, ℕ, ◌<◌, ◌≤◌, Bool, true, false, MatchBool, Option, Some, None, arith, ⊎_elim}
 use Rattle.std.proofs.Common.{refl, sym, ap, ◌∙◌}
 use Rattle.std.proofs.lemmas.Bool.{cases_lt, cases_eq}
-use Rattle.sbpl_graph.specs.Network.{Network}
-use Rattle.sbpl_graph.proofs.Keeping.{same_arc}
-use Rattle.sbpl_labels.specs.Marks.{Marks, g_of, v_of, back_of}
-use Rattle.sbpl_labels.specs.Recomputed.{IsRecomputed}
+use Rattle.sbpl_search.specs.sbpl_graph.Network.{Network}
+use Rattle.sbpl_search.proofs.Keeping.{same_arc}
+use Rattle.sbpl_search.specs.sbpl_labels.Marks.{Marks, g_of, v_of, back_of}
+use Rattle.sbpl_search.specs.sbpl_labels.Recomputed.{IsRecomputed}
 use Rattle.sbpl_serial.specs.declared.step.Step.{Step}
 use Rattle.sbpl_serial.specs.Run.{IsExpansion, GetsLesser, LowersHeads, RaisesState}
 use Rattle.sbpl_serial.proofs.Agreeing.{Agree, same_marks, same_recomputed}

@@ -4,7 +4,7 @@ use Rattle.std.proofs.Common.{⊎_elim, inl, inr, sym, ◌∙◌}
 use Rattle.std.specs.List.{All}
 use Rattle.std.proofs.lemmas.Bool.{cases_Bool, false≢true}
 use Rattle.std.proofs.lemmas.List.Elements.{All-nil, All-push}
-use Rattle.sbpl_labels.specs.Marks.{Marks, states_of, g_of, v_of}
+use Rattle.sbpl_search.specs.sbpl_labels.Marks.{Marks, states_of, g_of, v_of}
 use Rattle.sbpl_open.specs.OpenList.{OpenList}
 use Rattle.sbpl_open.specs.OpenList as open_list
 use Rattle.sbpl_serial.specs.declared.step.Step.{Step}

@@ -3,10 +3,10 @@ use Rattle.std.proofs.Common.{◌≡◌, ◌≢◌, ℕ, zero, suc, ◌+◌, ◌
 use Rattle.std.proofs.Common.{sym, ◌∙◌, ap, option_map, option_and_then}
 use Rattle.std.proofs.lemmas.Bool.{cases_lt}
 use Rattle.std.proofs.lemmas.Option.{none-some, same_Some}
-use Rattle.sbpl_graph.specs.Laws.{IsSound, IsConsistent}
-use Rattle.sbpl_graph.specs.Exact.{AreExact}
-use Rattle.sbpl_labels.specs.Marks.{Marks, states_of, g_of, v_of, back_of}
-use Rattle.sbpl_labels.specs.Chain.{chain_at}
+use Rattle.sbpl_search.specs.sbpl_graph.Laws.{IsSound, IsConsistent}
+use Rattle.sbpl_search.specs.sbpl_graph.Exact.{AreExact}
+use Rattle.sbpl_search.specs.sbpl_labels.Marks.{Marks, states_of, g_of, v_of, back_of}
+use Rattle.sbpl_search.specs.sbpl_labels.Chain.{chain_at}
 use Rattle.sbpl_open.specs.KeyOrder.{IsBelow}
 use Rattle.sbpl_search.specs.Query.{Query}
 use Rattle.sbpl_serial.specs.Run.{IsUnder, IsAtRest, key_at, goal_key_at}

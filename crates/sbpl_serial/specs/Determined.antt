@@ -1,6 +1,6 @@
 -- A serial run is determined by its query and the labels that it begins with.
 use Rattle.std.specs.Prelude.{◌≡◌, ℕ, ◌<◌, ◌≤◌, Bool, List, ◌++◌, length}
-use Rattle.sbpl_labels.specs.Marks.{AreInitial, Marks, states_of}
+use Rattle.sbpl_search.specs.sbpl_labels.Marks.{AreInitial, Marks, states_of}
 use Rattle.sbpl_serial.specs.declared.step.Step.{Step}
 use Rattle.sbpl_search.specs.Query.{Query}
 use Rattle.sbpl_search.specs.Determined.{DeterminesPasses}

@@ -1,6 +1,6 @@
 -- The low of labels, over those states that are looked at.
 use Rattle.std.specs.Prelude.{◌≡◌, ◌≢◌, ℕ, ◌+◌, ◌<◌, ◌≤◌, ◌⊎◌, true, IsSome, List}
-use Rattle.sbpl_labels.specs.Marks.{Marks, states_of, g_of, v_of}
+use Rattle.sbpl_search.specs.sbpl_labels.Marks.{Marks, states_of, g_of, v_of}
 use Rattle.sbpl_open.specs.OpenList.{OpenList}
 use Rattle.sbpl_open.specs.OpenList as open_list
 use Rattle.sbpl_serial.specs.declared.step.Step.{Step}

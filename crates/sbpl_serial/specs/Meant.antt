@@ -1,8 +1,8 @@
 -- What the calls of a serial planner mean.
 use Rattle.std.specs.Prelude.{◌≡◌, ℕ, Bool, true, List, [], length}
-use Rattle.sbpl_graph.specs.Network.{Network}
-use Rattle.sbpl_graph.specs.Exact.{AreExact}
-use Rattle.sbpl_labels.specs.Marks.{AreInitial, Marks, g_of, v_of, back_of}
+use Rattle.sbpl_search.specs.sbpl_graph.Network.{Network}
+use Rattle.sbpl_search.specs.sbpl_graph.Exact.{AreExact}
+use Rattle.sbpl_search.specs.sbpl_labels.Marks.{AreInitial, Marks, g_of, v_of, back_of}
 use Rattle.sbpl_search.specs.Meaning.{Meaning}
 use Rattle.sbpl_search.specs.State.{State}
 use Rattle.sbpl_serial.specs.declared.step.Step.{Step}

@@ -4,7 +4,7 @@ use Rattle.std.specs.List.{All}
 use Rattle.sbpl_open.specs.OpenList.{OpenList}
 use Rattle.sbpl_open.specs.OpenList as open_list
 use Rattle.sbpl_open.specs.KeyOrder.{IsBelow}
-use Rattle.sbpl_labels.specs.Marks.{Marks, states_of}
+use Rattle.sbpl_search.specs.sbpl_labels.Marks.{Marks, states_of}
 use Rattle.sbpl_serial.specs.declared.step.Step.{Step}
 use Rattle.sbpl_serial.specs.Run.{IsOpen, key_at, none_closed}
 

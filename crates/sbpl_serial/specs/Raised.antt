@@ -1,12 +1,12 @@
 -- What raising a state does over one of its arcs, and over all of them in turn.
 use Rattle.std.specs.Prelude.{◌≡◌, ◌≢◌, ℕ, ◌+◌, ◌<◌, ◌≤◌, Option, Some, None}
-use Rattle.sbpl_graph.specs.declared.TheConstants.{FAR}
-use Rattle.sbpl_graph.specs.Network.{Network}
-use Rattle.sbpl_graph.specs.Laws.{IsSound, HasExactTails}
-use Rattle.sbpl_graph.specs.Exact.{AreExact}
-use Rattle.sbpl_graph.specs.Fit.{FitCount}
-use Rattle.sbpl_labels.specs.Marks.{Marks, AreLabels, ChangesRow, states_of, g_of, v_of, back_of}
-use Rattle.sbpl_labels.specs.Recomputed.{IsRecomputed, Recomputes}
+use Rattle.sbpl_search.specs.sbpl_graph.declared.TheConstants.{FAR}
+use Rattle.sbpl_search.specs.sbpl_graph.Network.{Network}
+use Rattle.sbpl_search.specs.sbpl_graph.Laws.{IsSound, HasExactTails}
+use Rattle.sbpl_search.specs.sbpl_graph.Exact.{AreExact}
+use Rattle.sbpl_search.specs.sbpl_graph.Fit.{FitCount}
+use Rattle.sbpl_search.specs.sbpl_labels.Marks.{Marks, AreLabels, ChangesRow, states_of, g_of, v_of, back_of}
+use Rattle.sbpl_search.specs.sbpl_labels.Recomputed.{IsRecomputed, Recomputes}
 use Rattle.sbpl_serial.specs.Run.{IsUnder, RaisesState}
 
 -- arc k of s leads to t and is its back arc, and t is recomputed

@@ -1,7 +1,7 @@
 -- What an arc does to the label of its head.
 use Rattle.std.specs.Prelude.{◌≡◌, ◌≢◌, ℕ, ◌+◌, ◌<◌, ◌≤◌, Option, Some, None}
-use Rattle.sbpl_graph.specs.Network.{Network, IsFreeArc}
-use Rattle.sbpl_labels.specs.Marks.{Marks, ChangesRow, g_of, v_of}
+use Rattle.sbpl_search.specs.sbpl_graph.Network.{Network, IsFreeArc}
+use Rattle.sbpl_search.specs.sbpl_labels.Marks.{Marks, ChangesRow, g_of, v_of}
 
 -- arc k of s is free and takes its head t, which is not the start, down to v of s and the arc's cost c
 pub record LowersHead (n : Network) (old new : Marks) (s k t c : ℕ) : Type 0 where

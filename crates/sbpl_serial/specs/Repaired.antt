@@ -1,11 +1,11 @@
 -- Labels after a change of the graph.
 use Rattle.std.specs.Prelude.{◌≡◌, ◌≢◌, ℕ, ◌+◌, ◌<◌, ◌≤◌, Option, Some, None, List}
 use Rattle.std.specs.List.{Contains}
-use Rattle.sbpl_graph.specs.declared.TheConstants.{FAR}
-use Rattle.sbpl_graph.specs.Network.{Network, IsFreeArc, HasSameArcs}
-use Rattle.sbpl_graph.specs.Exact.{AreExact}
-use Rattle.sbpl_labels.specs.Marks.{Marks, states_of, g_of, v_of, back_of, row_at}
-use Rattle.sbpl_labels.specs.Recomputed.{IsRecomputed}
+use Rattle.sbpl_search.specs.sbpl_graph.declared.TheConstants.{FAR}
+use Rattle.sbpl_search.specs.sbpl_graph.Network.{Network, IsFreeArc, HasSameArcs}
+use Rattle.sbpl_search.specs.sbpl_graph.Exact.{AreExact}
+use Rattle.sbpl_search.specs.sbpl_labels.Marks.{Marks, states_of, g_of, v_of, back_of, row_at}
+use Rattle.sbpl_search.specs.sbpl_labels.Recomputed.{IsRecomputed}
 use Rattle.sbpl_search.specs.Changed.{IsExactAt}
 
 -- each touched state but the start is recomputed, and all other labels stay

@@ -1,13 +1,13 @@
 -- A serial run: a list of steps replayed on labels.
 use Rattle.std.specs.Prelude.{◌≡◌, ◌≢◌, ℕ, ◌+◌, ◌<◌, ◌≤◌, ◌⊎◌, Bool, false, not, ◌&&◌, ◌||◌, nat_eq, Option, Some, List, [], ◌∷◌, MatchBool}
-use Rattle.sbpl_graph.specs.declared.TheConstants.{FAR}
-use Rattle.sbpl_graph.specs.Network.{Network, IsFreeArc}
-use Rattle.sbpl_labels.specs.Marks.{Marks, states_of, g_of, v_of, back_of}
+use Rattle.sbpl_search.specs.sbpl_graph.declared.TheConstants.{FAR}
+use Rattle.sbpl_search.specs.sbpl_graph.Network.{Network, IsFreeArc}
+use Rattle.sbpl_search.specs.sbpl_labels.Marks.{Marks, states_of, g_of, v_of, back_of}
 use Rattle.sbpl_search.specs.Query.{Query}
 use Rattle.sbpl_serial.specs.declared.step.Step.{Step}
 use Rattle.sbpl_open.specs.KeyOrder.{IsBelow, ComesBefore}
 use Rattle.sbpl_serial.specs.Keys.{key_of, goal_key}
-use Rattle.sbpl_labels.specs.Recomputed.{IsRecomputed}
+use Rattle.sbpl_search.specs.sbpl_labels.Recomputed.{IsRecomputed}
 
 -- overconsistent: g < v, and underconsistent: v < g
 abbrev pub IsOver : Marks → ℕ → Type 0

@@ -3,7 +3,7 @@ use Rattle.std.specs.Prelude.{◌≡◌, ℕ, ◌*◌, ◌<◌, Bool, List, leng
 use Rattle.std.specs.List.{All}
 use Rattle.sbpl_open.specs.OpenList.{OpenList}
 use Rattle.sbpl_open.specs.OpenList as open_list
-use Rattle.sbpl_labels.specs.Marks.{Marks, states_of}
+use Rattle.sbpl_search.specs.sbpl_labels.Marks.{Marks, states_of}
 use Rattle.sbpl_serial.specs.declared.step.Step.{Step}
 use Rattle.sbpl_serial.specs.Marked.{closed_at}
 use Rattle.sbpl_serial.specs.Run.{IsOpen, none_closed, closed_after}

@@ -1,6 +1,6 @@
 -- What taking a state does to a search.
 use Rattle.std.specs.Prelude.{◌≡◌, ℕ, Bool, [], ◌∷◌, ◌++◌}
-use Rattle.sbpl_graph.specs.Network.{Network}
+use Rattle.sbpl_search.specs.sbpl_graph.Network.{Network}
 use Rattle.sbpl_serial.specs.declared.step.Step.{Step}
 use Rattle.sbpl_serial.specs.Run.{IsExpansion}
 use Rattle.sbpl_serial.specs.Serial.{SerialState}

@@ -3,7 +3,7 @@
 ghost use Rattle.std.specs.Prelude.{◌≡◌, ℕ, ◌<◌, length, true, false, IfOk, slice_index, slice_index_or, slice_set};
 ghost use Rattle.sbpl_serial.specs.Marked.{AreMarks, closed_at};
 
-use sbpl_fixed::NoMemory;
+use sbpl_search::NoMemory;
 use std::alloc::Global;
 use std::marker::Model;
 

@@ -1,10 +1,10 @@
 //! The expansion of one overconsistent state.
 
 ghost use Rattle.std.specs.Prelude.{◌≡◌, ℕ, ◌+◌, ◌-◌, ◌^◌, ◌<◌, ◌≤◌, length};
-ghost use Rattle.sbpl_graph.specs.declared.TheConstants.{FAR};
-ghost use Rattle.sbpl_graph.specs.Fit.{FitCount};
-ghost use Rattle.sbpl_graph.specs.Kept.{NoneUnder};
-ghost use Rattle.sbpl_labels.specs.Marks.{states_of, g_of, v_of};
+ghost use Rattle.sbpl_search.specs.sbpl_graph.declared.TheConstants.{FAR};
+ghost use Rattle.sbpl_search.specs.sbpl_graph.Fit.{FitCount};
+ghost use Rattle.sbpl_search.specs.sbpl_graph.Kept.{NoneUnder};
+ghost use Rattle.sbpl_search.specs.sbpl_labels.Marks.{states_of, g_of, v_of};
 ghost use Rattle.sbpl_serial.specs.Marked.{closed_at};
 ghost use Rattle.sbpl_serial.specs.Queue.{AreQueued, AreQueuedBut};
 ghost use Rattle.sbpl_serial.specs.Relaxed.{IsRelaxed};
@@ -13,9 +13,8 @@ ghost use Rattle.sbpl_search.specs.Ready.{AreUsable};
 
 use crate::Closed;
 use crate::queue::requeue;
-use sbpl_graph::{Graph, Guide};
-use sbpl_labels::Labels;
 use sbpl_open::Open;
+use sbpl_search::{Graph, Guide, Labels};
 
 /// Expands the overconsistent state `s`, which is closed: its v becomes its g, each head gets the
 /// lesser of its label and the way over `s`, and they are placed in the queue.

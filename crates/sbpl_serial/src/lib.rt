@@ -20,6 +20,10 @@ pub use low::{low_of_queue, low_with};
 pub use parts::Parts;
 pub use queue::requeue;
 pub use repair::repair_labels;
+pub use sbpl_open::{Entry, Key, Open};
+pub use sbpl_search::{
+    Budget, Determined, FAR, Graph, Guide, Labels, NoMemory, PassEnd, Search, Zero, ceil_root,
+};
 pub use serial::Serial;
 pub use step::Step;
 pub use steps::Steps;

@@ -2,16 +2,15 @@
 
 ghost use Rattle.std.specs.Prelude.{◌≡◌, ◌≢◌, ℕ, ◌+◌, ◌<◌, ◌≤◌, ◌⊎◌, true, IsSome};
 ghost use Rattle.std.specs.List.{All};
-ghost use Rattle.sbpl_graph.specs.Bound.{IsLow};
-ghost use Rattle.sbpl_labels.specs.Marks.{states_of, g_of, v_of};
+ghost use Rattle.sbpl_search.specs.sbpl_graph.Bound.{IsLow};
+ghost use Rattle.sbpl_search.specs.sbpl_labels.Marks.{states_of, g_of, v_of};
 ghost use Rattle.sbpl_open.specs.OpenList as open_list;
 ghost use Rattle.sbpl_serial.specs.Low.{IsLowOf, IsInQueue, IsInEither};
 ghost use Rattle.sbpl_serial.specs.Queue.{is_among};
 
 use crate::Step;
-use sbpl_graph::Guide;
-use sbpl_labels::Labels;
 use sbpl_open::Open;
+use sbpl_search::{Guide, Labels};
 
 /// The lesser of `low` and, where g and v of `s` differ, of g + h.
 pub fn low_with<H: Guide>(labels: &Labels, guide: &H, s: u32, low: u64) -> u64

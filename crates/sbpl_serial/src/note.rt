@@ -2,13 +2,13 @@
 
 ghost use Rattle.std.specs.Prelude.{◌≡◌, ◌≢◌, ℕ, ◌<◌, true, IsSome};
 ghost use Rattle.std.specs.List.{All, Contains};
-ghost use Rattle.sbpl_labels.specs.Marks.{states_of, g_of, v_of};
+ghost use Rattle.sbpl_search.specs.sbpl_labels.Marks.{states_of, g_of, v_of};
 ghost use Rattle.sbpl_open.specs.OpenList as open_list;
 ghost use Rattle.sbpl_serial.specs.Queue.{is_among};
 
 use crate::Step;
-use sbpl_labels::Labels;
 use sbpl_open::{Key, Open};
+use sbpl_search::Labels;
 
 /// Notes those of these states whose g and v differ.
 pub(crate) fn note_touched(queue: &mut Open, labels: &Labels, touched: &[u32])

@@ -1,8 +1,8 @@
 //! The parts of a search.
 
 use crate::{Closed, Steps};
-use sbpl_labels::Labels;
 use sbpl_open::Open;
+use sbpl_search::Labels;
 
 /// The parts of a search, of which another can be made without memory.
 #[derive(Drop)]

@@ -2,7 +2,7 @@
 
 ghost use Rattle.std.specs.Prelude.{◌≡◌, ℕ, ◌+◌, ◌<◌, ◌≤◌, true, None, Some, IsSome, MatchOption, length};
 ghost use Rattle.std.specs.List.{All};
-ghost use Rattle.sbpl_labels.specs.Marks.{states_of};
+ghost use Rattle.sbpl_search.specs.sbpl_labels.Marks.{states_of};
 ghost use Rattle.sbpl_open.specs.OpenList.{ChangesKey};
 ghost use Rattle.sbpl_open.specs.OpenList as open_list;
 ghost use Rattle.sbpl_serial.specs.Marked.{closed_at};
@@ -10,9 +10,8 @@ ghost use Rattle.sbpl_serial.specs.Queue.{AddsOpen, AreQueued, AreRefilled, IsUn
 ghost use Rattle.sbpl_serial.specs.Run.{IsOpen, key_at, none_closed};
 
 use crate::{Closed, Step, Steps};
-use sbpl_graph::Guide;
-use sbpl_labels::Labels;
 use sbpl_open::{Key, Open};
+use sbpl_search::{Guide, Labels};
 
 /// Appends the open states to the steps, in no order. These steps are a list of states: they were not taken.
 pub(crate) fn gather(queue: &Open, steps: &mut Steps)

@@ -1,9 +1,9 @@
 //! The expansion of one underconsistent state.
 
 ghost use Rattle.std.specs.Prelude.{◌≡◌, ◌≢◌, ℕ, ◌+◌, ◌-◌, ◌^◌, ◌<◌, ◌≤◌, Some, length};
-ghost use Rattle.sbpl_graph.specs.declared.TheConstants.{FAR};
-ghost use Rattle.sbpl_graph.specs.Fit.{FitCount};
-ghost use Rattle.sbpl_labels.specs.Marks.{states_of, g_of, v_of, back_of};
+ghost use Rattle.sbpl_search.specs.sbpl_graph.declared.TheConstants.{FAR};
+ghost use Rattle.sbpl_search.specs.sbpl_graph.Fit.{FitCount};
+ghost use Rattle.sbpl_search.specs.sbpl_labels.Marks.{states_of, g_of, v_of, back_of};
 ghost use Rattle.sbpl_serial.specs.Marked.{closed_at};
 ghost use Rattle.sbpl_serial.specs.Run.{RaisesState, IsUnder};
 ghost use Rattle.sbpl_serial.specs.Queue.{AreQueued, AreQueuedBut};
@@ -12,9 +12,8 @@ ghost use Rattle.sbpl_search.specs.Ready.{AreUsable};
 
 use crate::Closed;
 use crate::queue::requeue;
-use sbpl_graph::{Graph, Guide};
-use sbpl_labels::Labels;
 use sbpl_open::Open;
+use sbpl_search::{Graph, Guide, Labels};
 
 /// Raises the underconsistent state `s`: its v becomes infinite, each head whose back arc comes from
 /// `s` is recomputed, and they are placed.

@@ -2,16 +2,15 @@
 
 ghost use Rattle.std.specs.Prelude.{◌≡◌, ℕ, ◌^◌, ◌<◌, ◌⊎◌};
 ghost use Rattle.std.specs.List.{All, Contains};
-ghost use Rattle.sbpl_graph.specs.Fit.{FitCount};
-ghost use Rattle.sbpl_graph.specs.Kept.{NoneUnder};
-ghost use Rattle.sbpl_labels.specs.Marks.{states_of, g_of, v_of};
+ghost use Rattle.sbpl_search.specs.sbpl_graph.Fit.{FitCount};
+ghost use Rattle.sbpl_search.specs.sbpl_graph.Kept.{NoneUnder};
+ghost use Rattle.sbpl_search.specs.sbpl_labels.Marks.{states_of, g_of, v_of};
 ghost use Rattle.sbpl_search.specs.Changed.{IsChangeable};
 ghost use Rattle.sbpl_serial.specs.Meant.{AreRepairedFor};
 ghost use Rattle.sbpl_serial.specs.Repaired.{AreRepaired};
 ghost use Rattle.sbpl_serial.specs.Run.{IsOver, IsUnder};
 
-use sbpl_graph::Graph;
-use sbpl_labels::Labels;
+use sbpl_search::{Graph, Labels};
 
 /// Repairs labels after a change of the graph: each touched state is recomputed on the graph as it now is, and every v stays. The
 /// condition is that every other state, but the start, has on this graph the g and the back arc, or none, that exact labels ask

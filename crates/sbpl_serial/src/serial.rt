@@ -2,11 +2,11 @@
 
 ghost use Rattle.std.specs.Prelude.{◌≡◌, ℕ, ◌+◌, ◌-◌, ◌*◌, ◌^◌, ◌<◌, ◌≤◌, [], length, Bool, true, false, IfOk};
 ghost use Rattle.std.specs.List.{All};
-ghost use Rattle.sbpl_graph.specs.Bound.{IsLow};
-ghost use Rattle.sbpl_graph.specs.Fit.{FitCount};
-ghost use Rattle.sbpl_graph.specs.Kept.{NoneUnder};
-ghost use Rattle.sbpl_graph.specs.Network.{Network};
-ghost use Rattle.sbpl_labels.specs.Marks.{AreLabels, AreInitial, states_of, g_of, v_of};
+ghost use Rattle.sbpl_search.specs.sbpl_graph.Bound.{IsLow};
+ghost use Rattle.sbpl_search.specs.sbpl_graph.Fit.{FitCount};
+ghost use Rattle.sbpl_search.specs.sbpl_graph.Kept.{NoneUnder};
+ghost use Rattle.sbpl_search.specs.sbpl_graph.Network.{Network};
+ghost use Rattle.sbpl_search.specs.sbpl_labels.Marks.{AreLabels, AreInitial, states_of, g_of, v_of};
 ghost use Rattle.sbpl_open.specs.OpenList as open_list;
 ghost use Rattle.sbpl_search.specs.Changed.{IsChangeable};
 ghost use Rattle.sbpl_search.specs.Query.{query};
@@ -27,10 +27,8 @@ use crate::queue::{gather, refill};
 use crate::raise::raise;
 use crate::repair::repair_labels;
 use crate::{Closed, Parts, Step, Steps};
-use sbpl_fixed::NoMemory;
-use sbpl_graph::{Graph, Guide};
-use sbpl_labels::{Budget, Labels, PassEnd};
 use sbpl_open::{Key, Open};
+use sbpl_search::{Budget, Graph, Guide, Labels, NoMemory, PassEnd};
 use std::alloc::Global;
 use std::marker::Model;
 

@@ -3,7 +3,7 @@
 ghost use Rattle.std.specs.Prelude.{◌≡◌, ◌<◌, [], ◌∷◌, ◌++◌, length, IfOk};
 
 use crate::Step;
-use sbpl_fixed::NoMemory;
+use sbpl_search::NoMemory;
 use std::alloc::Global;
 use std::marker::Model;
 

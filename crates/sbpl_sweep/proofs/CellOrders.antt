@@ -14,7 +14,7 @@ use Rattle.std.proofs.lemmas.List.Sorted.{Contains-permutation, IsPermutation-sy
 use Rattle.std.proofs.lemmas.Map.Keys.{Less-from_sorted}
 use Rattle.std.proofs.lemmas.Option.{slice_get-get_or, slice_get_within, get_or_from_slice_get}
 use Rattle.sbpl_sweep.specs.declared.cell.Cell.{Cell}
-use Rattle.sbpl_cfg.specs.declared.pose.Pose.{Pose}
+use Rattle.sbpl_mprim.specs.sbpl_cfg.declared.pose.Pose.{Pose}
 use Rattle.sbpl_mprim.specs.Primitives.{offset_cell}
 use Rattle.sbpl_sweep.specs.Centres.{cell_of_pose, IsBefore, AreOrdered, AreCentres}
 use Rattle.sbpl_sweep.proofs.Lists.{made_at, made_from}

@@ -3,8 +3,8 @@ use Rattle.std.proofs.Common.{◌≡◌, ℕ, ℤ, pos, ◌+◌, ◌*◌, ◌<�
 use Rattle.std.proofs.Common.{sym, ◌∙◌, arith, subst, Bool, true, false}
 use Rattle.std.proofs.lemmas.Bool.{cases_lt}
 use Rattle.std.proofs.lemmas.Int.{ints}
-use Rattle.sbpl_cfg.specs.declared.pose.Pose.{Pose}
-use Rattle.sbpl_cfg.specs.Place.{cell_of}
+use Rattle.sbpl_mprim.specs.sbpl_cfg.declared.pose.Pose.{Pose}
+use Rattle.sbpl_mprim.specs.sbpl_cfg.Place.{cell_of}
 use Rattle.sbpl_mprim.specs.Primitives.{offset_cell}
 use Rattle.sbpl_sweep.specs.declared.band.Band.{Band}
 use Rattle.sbpl_sweep.specs.declared.disc.Disc.{Disc}

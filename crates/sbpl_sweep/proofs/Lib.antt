@@ -11,3 +11,4 @@ pub mod ReadsListed
 pub mod RowsTouched
 pub mod Steps
 pub mod TablesSwept
+pub use Rattle.sbpl_mprim.proofs.JudgingLaws

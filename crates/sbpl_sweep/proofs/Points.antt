@@ -9,7 +9,7 @@ use Rattle.std.proofs.lemmas.List.Sums.{sum_by-cons, sum_by-take-le}
 use Rattle.std.proofs.lemmas.Map.Keys.{IsDistinct-cons}
 use Rattle.std.proofs.lemmas.Map.Made.{length-le_from_is_member}
 use Rattle.std.proofs.lemmas.Option.{none-some, same_Some}
-use Rattle.sbpl_cfg.specs.declared.pose.Pose.{Pose}
+use Rattle.sbpl_mprim.specs.sbpl_cfg.declared.pose.Pose.{Pose}
 use Rattle.sbpl_mprim.specs.declared.prim.Primitive.{Primitive}
 use Rattle.sbpl_mprim.specs.Primitives.{offset_cell, pose_count}
 use Rattle.sbpl_sweep.specs.declared.cell.Cell.{Cell}

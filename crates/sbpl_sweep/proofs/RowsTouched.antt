@@ -4,7 +4,7 @@ use Rattle.std.proofs.Common.{slice_get, refl, ap, sym, ◌∙◌, arith, subst,
 use Rattle.std.proofs.lemmas.Bool.{cases_lt}
 use Rattle.std.proofs.lemmas.Int.{ints}
 use Rattle.std.proofs.lemmas.Option.{slice_get_within}
-use Rattle.sbpl_cfg.specs.declared.pose.Pose.{Pose}
+use Rattle.sbpl_mprim.specs.sbpl_cfg.declared.pose.Pose.{Pose}
 use Rattle.sbpl_sweep.specs.declared.band.Band.{Band}
 use Rattle.sbpl_sweep.specs.declared.disc.Disc.{Disc}
 use Rattle.sbpl_sweep.specs.Sweep.{distance_to_cell}

@@ -4,7 +4,7 @@ use Rattle.std.proofs.lemmas.Bool.{cases_lt}
 use Rattle.std.proofs.Math.Nat.{div-le_self, mul-le-mul_left, mul-le-mul}
 use Rattle.std.specs.Int.{int_div_euclid}
 use Rattle.std.proofs.lemmas.Int.{ints}
-use Rattle.sbpl_cfg.specs.Environment.{IsWithin}
+use Rattle.sbpl_mprim.specs.sbpl_cfg.Environment.{IsWithin}
 use Rattle.sbpl_sweep.specs.Reach.{squared_step, IsReach}
 
 -- a quotient lies in the range from -(m + 1) to m + 1 where the number does

@@ -1,6 +1,6 @@
 -- Cells in bands: parts of rows.
 use Rattle.std.specs.Prelude.{◌≡◌, ℕ, ℤ, pos, ◌+◌, ◌*◌, ◌<◌, ◌≤◌, ◌+ℤ◌, ◌-ℤ◌, ◌*ℤ◌, ◌≤ℤ◌, ◌⊎◌, Bool, List, slice_get, Some, if◌then◌else◌}
-use Rattle.sbpl_cfg.specs.declared.pose.Pose.{Pose}
+use Rattle.sbpl_mprim.specs.sbpl_cfg.declared.pose.Pose.{Pose}
 use Rattle.sbpl_mprim.specs.Primitives.{offset_cell}
 use Rattle.sbpl_sweep.specs.declared.band.Band.{Band}
 use Rattle.sbpl_sweep.specs.declared.disc.Disc.{Disc}

@@ -1,6 +1,6 @@
 -- How large the numbers of a disc are.
 use Rattle.std.specs.Prelude.{ℕ, pos, negsuc, ◌*◌, ◌^◌, ◌≤◌}
-use Rattle.sbpl_cfg.specs.Environment.{IsWithin}
+use Rattle.sbpl_mprim.specs.sbpl_cfg.Environment.{IsWithin}
 use Rattle.sbpl_sweep.specs.declared.reach.Axis.{Axis}
 use Rattle.sbpl_sweep.specs.declared.disc.Disc.{Disc}
 

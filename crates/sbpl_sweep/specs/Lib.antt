@@ -10,3 +10,6 @@ pub mod Sweeping
 pub mod Swept
 pub mod Tables
 pub mod Widths
+pub use Rattle.sbpl_mprim.specs.sbpl_lists as sbpl_lists
+pub use Rattle.sbpl_mprim.specs.sbpl_cfg as sbpl_cfg
+pub use Rattle.sbpl_mprim.specs as sbpl_mprim

@@ -1,6 +1,6 @@
 -- How far a disc reaches beyond the cell in which its centre lies. All lengths are half nanometres.
 use Rattle.std.specs.Prelude.{◌≡◌, ℕ, ℤ, pos, ◌+◌, ◌*◌, ◌<◌, ◌≤◌, ◌+ℤ◌, ◌*ℤ◌}
-use Rattle.sbpl_cfg.specs.Place.{cell_of}
+use Rattle.sbpl_mprim.specs.sbpl_cfg.Place.{cell_of}
 use Rattle.sbpl_sweep.specs.declared.reach.Axis.{Axis}
 
 -- the square of how far away the cell with number n beyond the next one begins, where the next one begins after a gap

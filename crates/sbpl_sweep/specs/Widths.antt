@@ -1,6 +1,6 @@
 -- How many cells motions may sweep.
 use Rattle.std.specs.Prelude.{◌≡◌, ℕ, ℤ, ◌+◌, ◌<◌, ◌≤◌, ◌^◌, ◌⊎◌, List, length, take, slice_get, Some, sum_by}
-use Rattle.sbpl_cfg.specs.declared.pose.Pose.{Pose}
+use Rattle.sbpl_mprim.specs.sbpl_cfg.declared.pose.Pose.{Pose}
 use Rattle.sbpl_mprim.specs.declared.prim.Primitive.{Primitive}
 use Rattle.sbpl_mprim.specs.Primitives.{Primitives, pose_count}
 use Rattle.sbpl_sweep.specs.declared.cell.Cell.{Cell}

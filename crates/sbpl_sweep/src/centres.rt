@@ -1,14 +1,13 @@
 //! The centre cells of primitives.
 
 ghost use Rattle.std.specs.Prelude.{◌≡◌, ℕ, pos, negsuc, ◌<◌, slice_get, Some, IfOk, OnOk};
-ghost use Rattle.sbpl_cfg.specs.declared.pose.Pose.{Pose};
-ghost use Rattle.sbpl_cfg.specs.Environment.{IsWithin};
+ghost use Rattle.sbpl_mprim.specs.sbpl_cfg.declared.pose.Pose.{Pose};
+ghost use Rattle.sbpl_mprim.specs.sbpl_cfg.Environment.{IsWithin};
 ghost use Rattle.sbpl_mprim.specs.Primitives.{offset_cell, IsOffsetInRange};
 ghost use Rattle.sbpl_sweep.specs.Centres.{cell_of_pose, AreOrdered, AreCentres};
 
 use crate::cell::Cell;
-use sbpl_cfg::{Pose, cell_at};
-use sbpl_fixed::NoMemory;
+use sbpl_mprim::{NoMemory, Pose, cell_at};
 use std::alloc::Global;
 
 /// The number of the cell in which an offset from the centre of the source cell lies, for cells of this size, both in

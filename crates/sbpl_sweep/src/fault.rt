@@ -1,6 +1,6 @@
 //! Why sweeps can't be made.
 
-use sbpl_fixed::NoMemory;
+use sbpl_mprim::NoMemory;
 use thiserror::Error;
 
 /// Why sweeps can't be made.

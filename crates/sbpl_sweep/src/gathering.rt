@@ -9,7 +9,7 @@ use crate::band::Band;
 use crate::cell::Cell;
 use crate::rows::MOST_CELLS;
 use crate::stop::Stop;
-use sbpl_fixed::NoMemory;
+use sbpl_mprim::NoMemory;
 use std::alloc::Global;
 
 /// Whether a cell is in a band's row, and not before the band.

@@ -1,10 +1,10 @@
 //! How far a disc reaches beyond the cell in which its centre lies, in half nanometres.
 
 ghost use Rattle.std.specs.Prelude.{◌≡◌, ◌↔◌, ℕ, pos, negsuc, ◌+◌, ◌*◌, ◌^◌, ◌<◌, ◌≤◌, IsTrue};
-ghost use Rattle.sbpl_cfg.specs.Environment.{IsWithin};
+ghost use Rattle.sbpl_mprim.specs.sbpl_cfg.Environment.{IsWithin};
 ghost use Rattle.sbpl_sweep.specs.Reach.{squared_step, IsReach, IsAxis};
 
-use sbpl_cfg::cell_at;
+use sbpl_mprim::cell_at;
 
 /// Where a point lies on one axis: the cell that it is in, and how far the cell's sides are from it.
 #[derive(Clone, Copy)]

@@ -7,8 +7,7 @@ ghost use Rattle.sbpl_sweep.specs.Widths.{cell_count};
 ghost use Rattle.sbpl_sweep.specs.ReadTables.{IsAmong, source_cell, read_by, AddsSource, AddsReads, AreReadsOf};
 
 use crate::cell::Cell;
-use sbpl_fixed::NoMemory;
-use sbpl_runs::Runs;
+use sbpl_mprim::{NoMemory, Runs};
 use std::alloc::Global;
 
 /// A primitive, by its index in the file, and a cell that judging it reads, as an offset from its source cell.

@@ -1,8 +1,8 @@
 //! The cells that a disc touches, row by row.
 
 ghost use Rattle.std.specs.Prelude.{◌≡◌, ℕ, ℤ, pos, negsuc, ◌+◌, ◌*◌, ◌^◌, ◌<◌, ◌≤◌, ◌*ℤ◌, ◌+ℤ◌, OnOk, IsErrOf};
-ghost use Rattle.sbpl_cfg.specs.declared.pose.Pose.{Pose};
-ghost use Rattle.sbpl_cfg.specs.Environment.{IsWithin};
+ghost use Rattle.sbpl_mprim.specs.sbpl_cfg.declared.pose.Pose.{Pose};
+ghost use Rattle.sbpl_mprim.specs.sbpl_cfg.Environment.{IsWithin};
 ghost use Rattle.sbpl_mprim.specs.Primitives.{IsOffsetInRange};
 ghost use Rattle.sbpl_sweep.specs.Reach.{squared_step, IsReach};
 ghost use Rattle.sbpl_sweep.specs.Bands.{IsDisc, AddsRows, AddsDisc, HasWideRow, gap_beside, row_beside};
@@ -12,8 +12,7 @@ use crate::band::Band;
 use crate::disc::Disc;
 use crate::reach::{Axis, axis_at, reach_of, shrunk};
 use crate::stop::Stop;
-use sbpl_cfg::Pose;
-use sbpl_fixed::NoMemory;
+use sbpl_mprim::{NoMemory, Pose};
 
 /// The most cells that a motion may sweep.
 pub(crate) const MOST_CELLS: u64 = 65_536;

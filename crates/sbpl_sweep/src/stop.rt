@@ -1,6 +1,6 @@
 //! Why the cells of a motion are not listed.
 
-use sbpl_fixed::NoMemory;
+use sbpl_mprim::NoMemory;
 
 /// Why the cells of a motion are not listed.
 #[derive(Clone, Copy)]

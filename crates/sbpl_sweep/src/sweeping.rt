@@ -1,8 +1,8 @@
 //! The cells that a motion sweeps.
 
 ghost use Rattle.std.specs.Prelude.{◌≡◌, ℕ, ℤ, pos, negsuc, ◌↔◌, ◌^◌, ◌<◌, ◌≤◌, slice_get, Some, length, IfOk, OnOk, IfErr};
-ghost use Rattle.sbpl_cfg.specs.declared.pose.Pose.{Pose};
-ghost use Rattle.sbpl_cfg.specs.Environment.{IsWithin};
+ghost use Rattle.sbpl_mprim.specs.sbpl_cfg.declared.pose.Pose.{Pose};
+ghost use Rattle.sbpl_mprim.specs.sbpl_cfg.Environment.{IsWithin};
 ghost use Rattle.sbpl_mprim.specs.Primitives.{IsOffsetInRange};
 ghost use Rattle.sbpl_sweep.specs.Bands.{IsCovered};
 ghost use Rattle.sbpl_sweep.specs.Gathered.{IsListed, IsStopOf, CoverTheSame, AreBounded};
@@ -13,8 +13,7 @@ use crate::cell::Cell;
 use crate::gathering::gather;
 use crate::rows::{disc_of, push_disc};
 use crate::stop::Stop;
-use sbpl_cfg::Pose;
-use sbpl_fixed::NoMemory;
+use sbpl_mprim::{NoMemory, Pose};
 use std::alloc::Global;
 
 /// How many bands are kept before their cells are gathered.

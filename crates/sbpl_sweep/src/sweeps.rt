@@ -7,8 +7,7 @@ use crate::cell::Cell;
 use crate::fault::SweepFault;
 use crate::reads::{Read, read_table};
 use crate::tables::{centre_table, swept_table};
-use sbpl_mprim::Prims;
-use sbpl_runs::Runs;
+use sbpl_mprim::{Prims, Runs};
 use std::alloc::Global;
 use std::marker::Model;
 

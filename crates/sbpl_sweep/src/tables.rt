@@ -10,9 +10,7 @@ use crate::centres::centre_cells;
 use crate::fault::SweepFault;
 use crate::stop::Stop;
 use crate::sweeping::swept_cells;
-use sbpl_fixed::NoMemory;
-use sbpl_mprim::Prims;
-use sbpl_runs::Runs;
+use sbpl_mprim::{NoMemory, Prims, Runs};
 use std::alloc::Global;
 
 /// The most cells that all primitives may sweep together.

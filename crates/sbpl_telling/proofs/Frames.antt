@@ -1,6 +1,6 @@
 -- What a desk keeps over two calls it keeps over both.
 use Rattle.std.proofs.Common.{ℕ, List, refl, ◌∙◌, arith}
-use Rattle.sbpl_desk.specs.Desk.{NoneFalls}
+use Rattle.sbpl_promises.specs.sbpl_desk.Desk.{NoneFalls}
 use Rattle.sbpl_promises.specs.Writing.{DeskState, Names, ReadsOnly, WritesOnly}
 
 none_falls_on : (f g h : List ℕ → ℕ) → NoneFalls f g → NoneFalls g h → NoneFalls f h

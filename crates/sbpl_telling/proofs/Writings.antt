@@ -4,9 +4,9 @@ use Rattle.std.proofs.Common.{Result, Ok, Err, refl, sym, ◌∙◌, ap, subst, 
 use Rattle.std.proofs.lemmas.Slice.Eq.{bytes_eq-Decides}
 use Rattle.std.specs.Bool.{Decides}
 use Rattle.std.specs.Str.{bytes_eq}
-use Rattle.sbpl_desk.specs.Desk.{Appends, AppendsPrefix, Keeps, NoneFalls, Rose, Stays}
-use Rattle.sbpl_desk.specs.declared.desk.WriteStop.{WriteStop}
-use Rattle.sbpl_desk.specs.declared.desk.WriteStop.TheVariants.{Failed, NoMemory}
+use Rattle.sbpl_promises.specs.sbpl_desk.Desk.{Appends, AppendsPrefix, Keeps, NoneFalls, Rose, Stays}
+use Rattle.sbpl_promises.specs.sbpl_desk.declared.desk.WriteStop.{WriteStop}
+use Rattle.sbpl_promises.specs.sbpl_desk.declared.desk.WriteStop.TheVariants.{Failed, NoMemory}
 use Rattle.sbpl_promises.specs.Writing.{AreAppended, DeskState, EndsAs, EndsIn, IsCutAt, RunsOutAt, StaysBut, Write}
 use Rattle.sbpl_promises.specs.Writing.{WriteFailed, status_after, text_under}
 

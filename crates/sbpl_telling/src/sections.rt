@@ -2,15 +2,14 @@
 
 ghost use Rattle.std.specs.Prelude.{◌∷◌, ◌++◌, []};
 ghost use Rattle.sbpl_promises.specs.Intents.{incumbent_writes, labels_writes, section_writes, trace_writes};
-ghost use Rattle.sbpl_report.specs.Report.{section_text};
+ghost use Rattle.sbpl_promises.specs.sbpl_report.Report.{section_text};
 ghost use Rattle.sbpl_promises.specs.Writing.{EndsIn, IsNamed, IsOutput, IsOutputOf, WritesOnly, to_named, to_output};
 
+use crate::plan_section::section_of;
 use crate::writing::{OUTPUT, write_text};
-use sbpl_desk::{Desk, WriteStop};
-use sbpl_fixed::NoMemory;
-use sbpl_job::{Name, Outputs};
-use sbpl_report::{PlanRecord, incumbent_line, labels_text, trace_of};
-use sbpl_section::section_of;
+use sbpl_promises::{
+    Desk, Name, NoMemory, Outputs, PlanRecord, WriteStop, incumbent_line, labels_text, trace_of,
+};
 use std::alloc::Global;
 
 /// Writes the section of a plan.

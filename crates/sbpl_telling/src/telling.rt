@@ -1,17 +1,14 @@
 //! How plans are told: in full, or each in a line.
 
 ghost use Rattle.std.specs.Prelude.{◌∷◌, [], List, ℕ};
-ghost use Rattle.sbpl_report.specs.declared.record.PlanRecord.{PlanRecord};
+ghost use Rattle.sbpl_promises.specs.sbpl_report.declared.record.PlanRecord.{PlanRecord};
 ghost use Rattle.sbpl_promises.specs.Intents.{section_writes};
-ghost use Rattle.sbpl_report.specs.Report.{plan_line};
+ghost use Rattle.sbpl_promises.specs.sbpl_report.Report.{plan_line};
 ghost use Rattle.sbpl_promises.specs.Writing.{EndsIn, IsOutput, IsOutputOf, Write, WritesOnly, output, to_output};
 
 use crate::sections::write_plan;
 use crate::writing::{OUTPUT, write_text};
-use sbpl_desk::{Desk, WriteStop};
-use sbpl_fixed::NoMemory;
-use sbpl_job::Outputs;
-use sbpl_report::{PlanRecord, plan_line};
+use sbpl_promises::{Desk, NoMemory, Outputs, PlanRecord, WriteStop, plan_line};
 use std::alloc::Global;
 
 /// A way to tell plans.

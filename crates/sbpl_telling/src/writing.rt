@@ -4,7 +4,7 @@ ghost use Rattle.std.specs.Prelude.{◌≡◌, ◌∷◌, []};
 ghost use Rattle.sbpl_promises.specs.Writing.{EndsIn, IsOutput, WritesOnly, status_after};
 ghost use Rattle.sbpl_promises.specs.Intents.{last_write};
 
-use sbpl_desk::{Desk, WriteStop};
+use sbpl_promises::{Desk, WriteStop};
 
 /// The name of the standard output.
 pub const OUTPUT: &str = "-";

@@ -4,8 +4,8 @@ ghost use Rattle.std.specs.Prelude.{ℕ, ◌<◌, IfOk};
 ghost use Rattle.sbpl_map.specs.CellMap.{CellMap};
 
 use crate::Terrain;
-use sbpl_fixed::NoMemory;
 use sbpl_graph::Guide;
+use sbpl_map::NoMemory;
 use std::alloc::Global;
 
 /// A guide to a goal that is made for a graph over a map, and made anew where the map has changed.

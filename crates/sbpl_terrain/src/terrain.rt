@@ -6,9 +6,8 @@ ghost use Rattle.sbpl_terrain.specs.Cells.{Cells, IsTerrain};
 ghost use Rattle.sbpl_terrain.specs.Reading.{AddsEnds};
 
 use crate::ArcEnd;
-use sbpl_fixed::NoMemory;
 use sbpl_graph::Graph;
-use sbpl_map::{Map, OffMap};
+use sbpl_map::{Map, NoMemory, OffMap};
 
 /// A graph each of whose arcs reads cells of a map: these say whether the arc is free and what it costs. The costs of cells
 /// change, and the states, the arcs and where they lead stay. Plans are made and repaired over it.

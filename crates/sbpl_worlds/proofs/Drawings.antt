@@ -1,9 +1,9 @@
 -- What is drawn has no fault.
 use Rattle.std.proofs.Common.{◌≡◌, Result, Ok, sym, subst, refl}
-use Rattle.sbpl_mprim.specs.Primitives.{Primitives}
-use Rattle.sbpl_sweep.specs.declared.fault.SweepFault.{SweepFault}
-use Rattle.sbpl_sweep.specs.declared.fault.SweepFault.TheVariants as sweep
-use Rattle.sbpl_sweep.specs.Widths.{IsCause, NoneTooWide}
+use Rattle.sbpl_promises.specs.sbpl_mprim.Primitives.{Primitives}
+use Rattle.sbpl_promises.specs.sbpl_sweep.declared.fault.SweepFault.{SweepFault}
+use Rattle.sbpl_promises.specs.sbpl_sweep.declared.fault.SweepFault.TheVariants as sweep
+use Rattle.sbpl_promises.specs.sbpl_sweep.Widths.{IsCause, NoneTooWide}
 
 abbrev pub read_as : {X E : Type 0} → X → Result X E
 read_as x = Ok x

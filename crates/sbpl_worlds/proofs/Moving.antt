@@ -2,10 +2,10 @@
 use Rattle.std.proofs.Common.{◌≡◌, ℕ, zero, suc, ◌+◌, ◌<◌, List, [], ◌∷◌, take, length, slice_get, Option, Some, None}
 use Rattle.std.proofs.Common.{IfSome, option_map, unwrap_or, refl, sym, ap, subst, ◌∙◌, add-one, arith}
 use Rattle.std.specs.List.{filter_map, last_or}
-use Rattle.sbpl_cfg.specs.declared.pose.Place.{Place}
-use Rattle.sbpl_map.specs.CellMap.{CellMap}
-use Rattle.sbpl_map.specs.ChangeText.{IsPlaceOnMap}
-use Rattle.sbpl_map.specs.declared.write.Write.{Write}
+use Rattle.sbpl_promises.specs.sbpl_cfg.declared.pose.Place.{Place}
+use Rattle.sbpl_promises.specs.sbpl_map.CellMap.{CellMap}
+use Rattle.sbpl_promises.specs.sbpl_map.ChangeText.{IsPlaceOnMap}
+use Rattle.sbpl_promises.specs.sbpl_map.declared.write.Write.{Write}
 use Rattle.sbpl_promises.specs.Causes.{AreMovesIn}
 use Rattle.sbpl_promises.specs.Sites.{Site, WordPlacesAlike, Wording, start_after}
 use Rattle.sbpl_worlds.specs.Moves.{move_at, state_or}

@@ -2,12 +2,12 @@
 use Rattle.std.proofs.Common.{◌≡◌, ℕ, zero, suc, pos, List, [], ◌∷◌, Some, slice_get, sym, ◌∙◌, ap, subst, arith}
 use Rattle.std.proofs.lemmas.Int.{ints}
 use Rattle.std.specs.List.{AllByRecursion}
-use Rattle.sbpl_graph.specs.Network.{Network}
-use Rattle.sbpl_map.specs.declared.write.Write.{Write}
-use Rattle.sbpl_map.specs.CellMap.{CellMap, IsOnMap}
-use Rattle.sbpl_map.specs.ChangeText.{AreOnMap, IsWriteOnMap}
-use Rattle.sbpl_change.specs.Noted as batch
-use Rattle.sbpl_terrain.specs.Cells.{Cells, IsTerrain}
+use Rattle.sbpl_promises.specs.sbpl_graph.Network.{Network}
+use Rattle.sbpl_promises.specs.sbpl_map.declared.write.Write.{Write}
+use Rattle.sbpl_promises.specs.sbpl_map.CellMap.{CellMap, IsOnMap}
+use Rattle.sbpl_promises.specs.sbpl_map.ChangeText.{AreOnMap, IsWriteOnMap}
+use Rattle.sbpl_promises.specs.sbpl_terrain.Noted as batch
+use Rattle.sbpl_promises.specs.sbpl_terrain.Cells.{Cells, IsTerrain}
 
 -- what holds of each element of a list holds of the one at a place
 pub at_place : {A : Type 0} (P : A → Type 0) (xs : List A) → AllByRecursion P xs → (i : ℕ) (x : A)

@@ -1,14 +1,14 @@
 -- What a desk keeps over two readings, and stops that are handed on.
 use Rattle.std.proofs.Common.{ℕ, List, Option, Some, None, ◌∙◌, subst, arith, inl, inr}
-use Rattle.sbpl_cfg.specs.Environment.{Environment}
-use Rattle.sbpl_desk.specs.Desk.{NoneFalls, Stays}
-use Rattle.sbpl_mprim.specs.Primitives.{Primitives}
-use Rattle.sbpl_job.specs.declared.job.Sources.{Sources}
-use Rattle.sbpl_report.specs.declared.refusal.Input.TheVariants as input
-use Rattle.sbpl_report.specs.declared.refusal.Refusal.{Refusal}
-use Rattle.sbpl_report.specs.declared.refusal.Refusal.TheVariants as refusal
-use Rattle.sbpl_report.specs.declared.refusal.Stop.{Stop}
-use Rattle.sbpl_report.specs.declared.refusal.Stop.TheVariants as stop
+use Rattle.sbpl_promises.specs.sbpl_cfg.Environment.{Environment}
+use Rattle.sbpl_promises.specs.sbpl_desk.Desk.{NoneFalls, Stays}
+use Rattle.sbpl_promises.specs.sbpl_mprim.Primitives.{Primitives}
+use Rattle.sbpl_promises.specs.sbpl_job.declared.job.Sources.{Sources}
+use Rattle.sbpl_promises.specs.sbpl_report.declared.refusal.Input.TheVariants as input
+use Rattle.sbpl_promises.specs.sbpl_report.declared.refusal.Refusal.{Refusal}
+use Rattle.sbpl_promises.specs.sbpl_report.declared.refusal.Refusal.TheVariants as refusal
+use Rattle.sbpl_promises.specs.sbpl_report.declared.refusal.Stop.{Stop}
+use Rattle.sbpl_promises.specs.sbpl_report.declared.refusal.Stop.TheVariants as stop
 use Rattle.sbpl_promises.specs.Causes.{AtName, ChangesStopFor, EarlyStopsFor, IsCause, IsChangesCause, IsFaultyChanges}
 use Rattle.sbpl_promises.specs.Causes.{IsReadText, IsTooLong, IsWideStop, LatticeStopsFor, PrimitivesStopFor}
 use Rattle.sbpl_promises.specs.Causes.{ReadsCourse, ReadsEnvironment, ReadsPrimitives}

@@ -1,6 +1,6 @@
 -- Where the robot is said to be.
 use Rattle.std.specs.Prelude.{ℕ, List, slice_get, Option, Some, None, option_and_then, option_map, unwrap_or}
-use Rattle.sbpl_cfg.specs.declared.pose.Place.{Place}
+use Rattle.sbpl_promises.specs.sbpl_cfg.declared.pose.Place.{Place}
 use Rattle.sbpl_promises.specs.Sites.{Wording}
 
 -- where the robot is said to be from batch k on, if that is said

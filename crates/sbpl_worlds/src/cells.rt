@@ -1,10 +1,7 @@
 //! The grid, whose states are cells, as what a job plans on.
 
 use crate::workspace::Workspace;
-use sbpl_cfg::Place;
-use sbpl_graph::Graph;
-use sbpl_nav2d::{Nav, Octile, worlds_are_grids};
-use sbpl_report::{PathStep, Spot};
+use sbpl_promises::{Graph, Nav, Octile, PathStep, Place, Spot, worlds_are_grids};
 
 impl Workspace for Nav {
     ghost use Rattle.std.proofs.Common.{refl};

@@ -3,8 +3,7 @@
 ghost use Rattle.std.specs.Prelude.{◌≡◌, ◌<◌, length, IfSome};
 ghost use Rattle.sbpl_worlds.specs.Moves.{move_at};
 
-use sbpl_cfg::Place;
-use sbpl_promises::Course;
+use sbpl_promises::{Course, Place};
 
 /// Where the robot is said to be from batch `k` on, if that is said.
 pub fn place_in(course: &Course, k: u32) -> Option<Place>

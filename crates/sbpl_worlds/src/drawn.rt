@@ -1,28 +1,24 @@
 //! The lattice and the batches of changes that are drawn from a seed: three texts, read as files are. They have no fault.
 
 ghost use Rattle.std.specs.Prelude.{◌≡◌, ◌≤◌, length, IfOk};
-ghost use Rattle.sbpl_cfg.specs.Text.{IsTextOf as IsEnvironmentText};
-ghost use Rattle.sbpl_mprim.specs.Text.{IsTextOf as IsPrimitiveText};
-ghost use Rattle.sbpl_map.specs.CellMap.{CellMap};
-ghost use Rattle.sbpl_map.specs.ChangeText.{AreOnMap};
-ghost use Rattle.sbpl_map.specs.ChangeText.{IsTextOf as IsChangeText};
-ghost use Rattle.sbpl_sweep.specs.Widths.{NoneTooWide};
-ghost use Rattle.sbpl_sweep.specs.Swept.{AreSweepsOf};
-ghost use Rattle.sbpl_cost.specs.World.{IsWorld};
-ghost use Rattle.sbpl_demo.specs.Environment.{costs, environment};
-ghost use Rattle.sbpl_demo.specs.Changes.{changes_drawn};
-ghost use Rattle.sbpl_demo.specs.Primitives.{primitives};
-ghost use Rattle.sbpl_job.specs.Jobs.{IsDemoJob};
+ghost use Rattle.sbpl_promises.specs.sbpl_cfg.Text.{IsTextOf as IsEnvironmentText};
+ghost use Rattle.sbpl_promises.specs.sbpl_mprim.Text.{IsTextOf as IsPrimitiveText};
+ghost use Rattle.sbpl_promises.specs.sbpl_map.CellMap.{CellMap};
+ghost use Rattle.sbpl_promises.specs.sbpl_map.ChangeText.{AreOnMap};
+ghost use Rattle.sbpl_promises.specs.sbpl_map.ChangeText.{IsTextOf as IsChangeText};
+ghost use Rattle.sbpl_promises.specs.sbpl_sweep.Widths.{NoneTooWide};
+ghost use Rattle.sbpl_promises.specs.sbpl_sweep.Swept.{AreSweepsOf};
+ghost use Rattle.sbpl_promises.specs.sbpl_cost.World.{IsWorld};
+ghost use Rattle.sbpl_promises.specs.sbpl_demo.Environment.{costs, environment};
+ghost use Rattle.sbpl_promises.specs.sbpl_demo.Changes.{changes_drawn};
+ghost use Rattle.sbpl_promises.specs.sbpl_demo.Primitives.{primitives};
+ghost use Rattle.sbpl_promises.specs.sbpl_job.Jobs.{IsDemoJob};
 ghost use Rattle.sbpl_promises.specs.Causes.{IsDrawn, NoneTooDear};
 
-use sbpl_cfg::{Env, EnvFault, Grid, read_env};
-use sbpl_cost::{Lattice, LatticeFault};
-use sbpl_demo::{Demo, generate};
-use sbpl_fixed::NoMemory;
-use sbpl_job::DemoJob;
-use sbpl_map::{ChangeFault, Changes, Map, read_changes};
-use sbpl_mprim::{PrimFault, Prims, read_prims};
-use sbpl_sweep::{SweepFault, Sweeps};
+use sbpl_promises::{
+    ChangeFault, Changes, Demo, DemoJob, Env, EnvFault, Grid, Lattice, LatticeFault, Map, NoMemory,
+    PrimFault, Prims, SweepFault, Sweeps, generate, read_changes, read_env, read_prims,
+};
 use std::alloc::Global;
 
 /// The environment and the costs that are drawn.

@@ -4,19 +4,15 @@ ghost use Rattle.std.specs.Prelude.{◌≡◌, ◌≢◌, ◌≤◌, ◌^◌, []
 ghost use Rattle.sbpl_promises.specs.LatticeSite.{lattice_site};
 ghost use Rattle.sbpl_promises.specs.Causes.{ChangesStopFor, IsChangesRefused, IsEnvironmentRefused, IsPrimitivesRefused, IsReadText, IsUnread, LatticeStopsFor, PrimitivesStopFor, IsCourseIn, ReadsCourse, ReadsEnvironment, ReadsPrimitives, scope_of};
 ghost use Rattle.sbpl_promises.specs.Texts.{HasChangeFault, IsChangeText, IsEnvironmentText, IsPrimitiveText, Scope, still_scope};
-ghost use Rattle.sbpl_map.specs.ChangeText.{AreOnMap};
-ghost use Rattle.sbpl_map.specs.declared.fault.ChangeFault.TheVariants as ChangeFaults;
+ghost use Rattle.sbpl_promises.specs.sbpl_map.ChangeText.{AreOnMap};
+ghost use Rattle.sbpl_promises.specs.sbpl_map.declared.fault.ChangeFault.TheVariants as ChangeFaults;
 ghost use Rattle.sbpl_promises.specs.Writing.{ReadsOnly};
 
-use sbpl_cfg::{Env, EnvFault, Grid, read_env};
-use sbpl_cost::Lattice;
-use sbpl_desk::{Desk, ReadStop};
-use sbpl_fixed::NoMemory;
-use sbpl_job::{Name, Sources};
-use sbpl_map::{ChangeFault, Changes, Map, read_changes, read_moves};
-use sbpl_mprim::{PrimFault, Prims, read_prims};
-use sbpl_promises::Course;
-use sbpl_report::{Input, Refusal, Stop};
+use sbpl_promises::{
+    ChangeFault, Changes, Course, Desk, Env, EnvFault, Grid, Input, Lattice, Map, Name, NoMemory,
+    PrimFault, Prims, ReadStop, Refusal, Sources, Stop, read_changes, read_env, read_moves,
+    read_prims,
+};
 use std::alloc::Global;
 
 /// The bytes of a file.

@@ -1,19 +1,13 @@
 //! The grid that an environment file stands for, and the batches of its changes.
 
 ghost use Rattle.std.specs.Prelude.{◌≡◌, List, ℕ, IfErr, IfOk};
-ghost use Rattle.sbpl_nav2d.specs.World.{IsGridWorld};
+ghost use Rattle.sbpl_promises.specs.sbpl_nav2d.World.{IsGridWorld};
 ghost use Rattle.sbpl_promises.specs.Causes.{AreRead, EarlyStopsFor, GridStopsFor, IsGridRefused, ReadsGrid, grid_files};
 ghost use Rattle.sbpl_promises.specs.Texts.{IsGridText};
 ghost use Rattle.sbpl_promises.specs.Writing.{ReadsOnly};
 
 use crate::files::{read_file, read_still};
-use sbpl_cfg::EnvFault;
-use sbpl_desk::Desk;
-use sbpl_job::Name;
-use sbpl_map::Map;
-use sbpl_nav2d::{Nav, read_nav};
-use sbpl_promises::Course;
-use sbpl_report::{Input, Refusal, Stop};
+use sbpl_promises::{Course, Desk, EnvFault, Input, Map, Name, Nav, Refusal, Stop, read_nav};
 use std::alloc::Global;
 
 /// The grid that a text stands for.

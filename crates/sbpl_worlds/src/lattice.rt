@@ -1,21 +1,17 @@
 //! The lattice that files stand for, and the batches of its changes.
 
 ghost use Rattle.std.specs.Prelude.{◌≤◌, ◌^◌, IfErr, IfOk};
-ghost use Rattle.sbpl_cost.specs.World.{IsWorld};
-ghost use Rattle.sbpl_sweep.specs.Swept.{AreSweepsOf};
-ghost use Rattle.sbpl_sweep.specs.Widths.{NoneTooWide};
+ghost use Rattle.sbpl_promises.specs.sbpl_cost.World.{IsWorld};
+ghost use Rattle.sbpl_promises.specs.sbpl_sweep.Swept.{AreSweepsOf};
+ghost use Rattle.sbpl_promises.specs.sbpl_sweep.Widths.{NoneTooWide};
 ghost use Rattle.sbpl_promises.specs.Causes.{AreRead, EarlyStopsFor, IsWideStop, LatticeStopsFor, ReadsWorld, lattice_files};
 ghost use Rattle.sbpl_promises.specs.Writing.{ReadsOnly};
 
 use crate::files::{read_change_file, read_environment, read_primitives};
-use sbpl_cost::{Lattice, LatticeFault};
-use sbpl_desk::Desk;
-use sbpl_job::{Name, Sources};
-use sbpl_map::Map;
-use sbpl_mprim::Prims;
-use sbpl_promises::Course;
-use sbpl_report::{Refusal, Stop};
-use sbpl_sweep::{SweepFault, Sweeps};
+use sbpl_promises::{
+    Course, Desk, Lattice, LatticeFault, Map, Name, Prims, Refusal, Sources, Stop, SweepFault,
+    Sweeps,
+};
 use std::alloc::Global;
 
 /// The sweeps of primitives for a radius in nanometres.

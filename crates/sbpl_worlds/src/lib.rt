@@ -16,3 +16,80 @@ pub use files::read_file;
 pub use grid::read_grid_course;
 pub use lattice::{read_course, read_lattice};
 pub use workspace::Workspace;
+
+// Of `sbpl_graph`.
+pub use sbpl_promises::{Graph, Guide};
+
+// Of `sbpl_fixed`.
+pub use sbpl_promises::{NoMemory, next_token};
+
+// Of `sbpl_lists`.
+pub use sbpl_promises::ListOf;
+
+// Of `sbpl_desk`.
+pub use sbpl_promises::{Desk, MemoryDesk, ReadStop, RealDesk, WriteStop};
+
+// Of `sbpl_cfg`.
+pub use sbpl_promises::{cell_at, heading_at, print_env, read_env};
+
+// Of `sbpl_mprim`.
+pub use sbpl_promises::{print_prims, read_prims};
+
+// Of `sbpl_map`.
+pub use sbpl_promises::{Changes, writes_lead_to_the_next_map};
+
+// Of `sbpl_terrain`.
+pub use sbpl_promises::{Heuristic, write_batch};
+
+// Of `sbpl_cost`.
+pub use sbpl_promises::Lattice;
+
+// Of `sbpl_back`.
+pub use sbpl_promises::{Back, FromStart, paths_turn_round, turned_round};
+
+// Of `sbpl_nav2d`.
+pub use sbpl_promises::{Nav, Octile};
+
+// Of `sbpl_search`.
+pub use sbpl_promises::Search;
+
+// Of `sbpl_ara`.
+pub use sbpl_promises::Ara;
+
+// Of `sbpl_adstar`.
+pub use sbpl_promises::AdStar;
+
+// Of `sbpl_heur`.
+pub use sbpl_promises::Best;
+
+// Of `sbpl_incumbent`.
+pub use sbpl_promises::{Board, Entry, Publisher, Reader, told_readers_get_the_newest};
+
+// Of `sbpl_epase`.
+pub use sbpl_promises::{Epase, Gate, NoGate, Parts, parallel_pass_parts};
+
+// Of `sbpl_cert`.
+pub use sbpl_promises::{
+    Flaw, LabelFault, LabelOutcome, Section, check, check_sparse, read_labels,
+};
+
+// Of `sbpl_plan`.
+pub use sbpl_promises::{Arcs, Ask, FoundPath, Observer, Outcome, Planned};
+
+// Of `sbpl_replan`.
+pub use sbpl_promises::{BackReplanner, Replan, Replanner};
+
+// Of `sbpl_job`.
+pub use sbpl_promises::{
+    Asked, CheckJob, Command, DemoJob, Job, JobFault, LabelForm, Name, NavCheckJob, NavJob,
+    Outputs, PlanJob, Planner, SearchJob, Setting, Sources, read_asked, read_job,
+};
+
+// Of `sbpl_report`.
+pub use sbpl_promises::{
+    Input, PathRecord, PlanRecord, Raised, Refusal, Steps, Stop, Traced, demo_line, fault_line,
+    flaw_line, holds_line, labels_of, listing_at, refusal_line, traced_passes,
+};
+
+// Of `sbpl_promises`.
+pub use sbpl_promises::{Course, SectionStop, causes_stand};

@@ -1,12 +1,10 @@
 //! The lattice, whose states are poses, as what a job plans on.
 
 use crate::workspace::Workspace;
-use sbpl_cfg::{Place, place_at};
-use sbpl_cost::{Lattice, lattice_has_its_arcs, lattice_tails_are_in_order};
-use sbpl_graph::Graph;
-use sbpl_heur::Best;
-use sbpl_report::{PathStep, Spot};
-use sbpl_terrain::Terrain;
+use sbpl_promises::{
+    Best, Graph, Lattice, PathStep, Place, Spot, Terrain, lattice_has_its_arcs,
+    lattice_tails_are_in_order, place_at,
+};
 
 impl Workspace for Lattice {
     ghost use Rattle.std.proofs.Common.{refl};

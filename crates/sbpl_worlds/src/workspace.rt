@@ -1,14 +1,12 @@
 //! What a job plans on.
 
 ghost use Rattle.std.specs.Prelude.{◌≡◌, ◌<◌, IsSome};
-ghost use Rattle.sbpl_map.specs.CellMap.{CellMap};
-ghost use Rattle.sbpl_map.specs.ChangeText.{IsPlaceOnMap};
+ghost use Rattle.sbpl_promises.specs.sbpl_map.CellMap.{CellMap};
+ghost use Rattle.sbpl_promises.specs.sbpl_map.ChangeText.{IsPlaceOnMap};
 ghost use Rattle.sbpl_worlds.specs.Moves.{state_or};
 ghost use Rattle.sbpl_promises.specs.Sites.{WordPlacesAlike, Wording};
 
-use sbpl_cfg::Place;
-use sbpl_report::{PathStep, Spot};
-use sbpl_terrain::{Heuristic, Terrain};
+use sbpl_promises::{Heuristic, PathStep, Place, Spot, Terrain};
 
 /// What a job plans on: a graph over a map, which is made of the job's files, and whose states and arcs a report can tell.
 pub trait Workspace: Terrain {

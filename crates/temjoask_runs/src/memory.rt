@@ -2,7 +2,7 @@
 //! that are too long. Where a message is looked for, the files are read without these faults.
 
 use crate::running::{answer_at, tell};
-use sbpl_desk::MemoryDesk;
+use sbpl_cli::MemoryDesk;
 use std::rt::Files;
 use std::sync::Wait;
 use std::thread::Threads;

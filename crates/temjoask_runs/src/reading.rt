@@ -1,9 +1,7 @@
 //! What is read from files and from words, as the program reads it, is printed.
 
 use crate::running::words_of;
-use sbpl_cfg::{print_env, read_env};
-use sbpl_job::{Job, JobFault, read_job};
-use sbpl_mprim::{print_prims, read_prims};
+use sbpl_cli::{Job, JobFault, print_env, print_prims, read_env, read_job, read_prims};
 use std::alloc::Global;
 use std::rt::Files;
 use std::{fs, io};

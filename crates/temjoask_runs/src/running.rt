@@ -1,8 +1,6 @@
 //! The program, run on the words of a line.
 
-use sbpl_answer::{NO_MEMORY, NoGate, answer};
-use sbpl_desk::{Desk, RealDesk};
-use sbpl_incumbent::Board;
+use sbpl_cli::{Board, Desk, NO_MEMORY, NoGate, RealDesk, answer};
 use std::alloc::AllocError;
 use std::io;
 use std::rt::Files;

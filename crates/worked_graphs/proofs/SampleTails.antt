@@ -4,8 +4,8 @@ use Rattle.std.proofs.Common.{ap, sym, ◌∙◌, arith}
 use Rattle.std.proofs.lemmas.Bool.{eqb-true, eq-eqb, ltb-true, lt-ltb, cond-true}
 use Rattle.std.proofs.lemmas.Grind.{merely}
 use Rattle.std.proofs.lemmas.Option.{cond_some}
-use Rattle.sbpl_graph.specs.Network.{IsArc}
-use Rattle.sbpl_graph.specs.Laws.{IsTail, HasExactTails}
+use Rattle.sbpl_plan.specs.sbpl_graph.Network.{IsArc}
+use Rattle.sbpl_plan.specs.sbpl_graph.Laws.{IsTail, HasExactTails}
 use Rattle.worked_graphs.specs.Sample.{counted}
 
 -- the head of the arc at this place

@@ -2,8 +2,8 @@
 use Rattle.std.specs.Prelude.{◌≡◌, ℕ, ◌+◌, ◌-◌, ◌*◌, ◌/◌, ◌%◌, ◌≤◌, ◌&&◌, ◌==◌, min, max, nat_lt, if◌then◌else◌, Some, None, List, slice_index, slice_index_or}
 use Rattle.std.proofs.Common.{arith}
 use Rattle.std.proofs.lemmas.Bool.Decides.{nat_tests}
-use Rattle.sbpl_graph.specs.Network.{Network}
-use Rattle.sbpl_graph.specs.Laws.{IsConsistent}
+use Rattle.sbpl_plan.specs.sbpl_graph.Network.{Network}
+use Rattle.sbpl_plan.specs.sbpl_graph.Laws.{IsConsistent}
 
 -- how far a state is from the goal at least
 abbrev pub height : List ℕ → ℕ → ℕ

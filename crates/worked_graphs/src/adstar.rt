@@ -1,14 +1,12 @@
 //! A goal that changes.
 
 ghost use Rattle.std.specs.Prelude.{◌≡◌, ◌≤◌, vec_capacity};
-ghost use Rattle.sbpl_labels.specs.Marks.{states_of};
+ghost use Rattle.sbpl_plan.specs.sbpl_labels.Marks.{states_of};
 ghost use Rattle.worked_graphs.specs.Sample.{height};
 
 use crate::table::{DETOUR, Table};
-use sbpl_adstar::AdStar;
-use sbpl_ara::{Ara, Step};
-use sbpl_graph::Zero;
-use sbpl_labels::{Budget, PassEnd, Walk};
+use sbpl_adstar::{AdStar, Ara, Step};
+use sbpl_plan::{Budget, PassEnd, Walk, Zero};
 use std::test::Fail;
 
 /// After a pass from initial labels to state 5, by the guide to it, state 3 is the goal. Answers whether a pass without a guide

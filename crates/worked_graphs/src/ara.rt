@@ -1,14 +1,14 @@
 //! Passes on graphs of six states.
 
 ghost use Rattle.std.specs.Prelude.{◌≡◌, ◌≤◌};
-ghost use Rattle.sbpl_labels.specs.Marks.{states_of};
-ghost use Rattle.sbpl_search.specs.Ready.{AreReady};
+ghost use Rattle.sbpl_plan.specs.sbpl_labels.Marks.{states_of};
+ghost use Rattle.sbpl_plan.specs.sbpl_search.Ready.{AreReady};
 ghost use Rattle.worked_graphs.specs.Sample.{height, sample};
 
 use crate::table::{DETOUR, TIE, Table};
 use crate::texts::reads;
-use sbpl_ara::Ara;
-use sbpl_labels::Budget;
+use sbpl_adstar::Ara;
+use sbpl_plan::Budget;
 use std::alloc::Global;
 use std::test::Fail;
 

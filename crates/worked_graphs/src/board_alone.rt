@@ -3,8 +3,8 @@
 ghost use Rattle.std.specs.Prelude.{◌≡◌, IfOk};
 ghost use Rattle.sbpl_incumbent.specs.Entries.{newest};
 
-use sbpl_fixed::NoMemory;
 use sbpl_incumbent::{Board, Entry, Publisher, told_readers_get_the_newest};
+use sbpl_plan::NoMemory;
 use std::sync::Wait;
 use std::test::Fail;
 

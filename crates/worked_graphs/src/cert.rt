@@ -7,7 +7,7 @@ use crate::texts::{put_altered, reads};
 use sbpl_cert::{
     Flaw, LabelFault, Section, check, check_sparse, read_labels, write_labels, write_sparse,
 };
-use sbpl_graph::Zero;
+use sbpl_plan::Zero;
 use std::alloc::{AllocError, Global};
 use std::test::Fail;
 

@@ -1,10 +1,8 @@
 //! A grid as a graph.
 
 use crate::texts::reads;
-use sbpl_cfg::EnvFault;
-use sbpl_graph::{Graph, Guide};
-use sbpl_map::Map;
-use sbpl_nav2d::{Nav, Octile, read_nav};
+use sbpl_nav2d::{EnvFault, Map, Nav, Octile, read_nav};
+use sbpl_plan::{Graph, Guide};
 use std::alloc::Global;
 use std::test::Fail;
 

@@ -1,11 +1,10 @@
 //! Labels on graphs of three states, and what needs no graph.
 
 ghost use Rattle.std.specs.Prelude.{◌≡◌};
-ghost use Rattle.sbpl_labels.specs.Marks.{states_of};
+ghost use Rattle.sbpl_plan.specs.sbpl_labels.Marks.{states_of};
 
 use crate::table::{LOOP, row};
-use sbpl_graph::{FAR, Guide, Zero, bound_holds, none_holds};
-use sbpl_labels::{Budget, Labels, bound_of};
+use sbpl_plan::{Budget, FAR, Guide, Labels, Zero, bound_holds, bound_of, none_holds};
 use std::test::Fail;
 
 /// The labels of state 1.

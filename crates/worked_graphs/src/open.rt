@@ -1,9 +1,9 @@
 //! The heap by hand.
 
 ghost use Rattle.std.specs.Prelude.{◌≡◌};
-ghost use Rattle.sbpl_open.specs.OpenList.{states_of};
+ghost use Rattle.sbpl_adstar.specs.sbpl_open.OpenList.{states_of};
 
-use sbpl_open::{Key, Open};
+use sbpl_adstar::{Key, Open};
 use std::test::Fail;
 
 /// What is taken: of equal keys that of the lower state first, and nothing in the end.

@@ -1,17 +1,14 @@
 //! Plans on graphs of three states.
 
 ghost use Rattle.std.specs.Prelude.{◌≡◌, IsTrue};
-ghost use Rattle.sbpl_graph.specs.Fit.{FitCount};
-ghost use Rattle.sbpl_labels.specs.Marks.{states_of, g_of, v_of};
-ghost use Rattle.sbpl_search.specs.Ready.{IsStartFresh};
+ghost use Rattle.sbpl_plan.specs.sbpl_graph.Fit.{FitCount};
+ghost use Rattle.sbpl_plan.specs.sbpl_labels.Marks.{states_of, g_of, v_of};
+ghost use Rattle.sbpl_plan.specs.sbpl_search.Ready.{IsStartFresh};
 
 use crate::table::{Table, row};
 use crate::texts::reads;
-use sbpl_adstar::AdStar;
-use sbpl_ara::Ara;
-use sbpl_graph::{Graph, Zero};
-use sbpl_labels::Budget;
-use sbpl_plan::{Ask, Nobody, plan};
+use sbpl_adstar::{AdStar, Ara};
+use sbpl_plan::{Ask, Budget, Graph, Nobody, Zero, plan};
 use std::alloc::Global;
 use std::test::Fail;
 

@@ -3,7 +3,7 @@
 ghost use Rattle.std.specs.Prelude.{◌≡◌, ◌<◌};
 ghost use Rattle.worked_graphs.specs.Sample.{height, sample};
 
-use sbpl_graph::{Graph, Guide};
+use sbpl_plan::{Graph, Guide};
 
 /// States up to the last one, which is state 5 at most. Each has two arcs, as head and cost, and a height: how far it is from
 /// the goal at least. An arc whose head is no state is none, and one that costs nothing is not free.

@@ -2,8 +2,8 @@
 use Rattle.std.proofs.Common.{◌≡◌, ℕ, ◌-◌, Some, arith, ap, ◌∙◌, sym}
 use Rattle.std.proofs.lemmas.Grind.{merely}
 use Rattle.std.proofs.lemmas.Option.{same_Some}
-use Rattle.sbpl_graph.specs.Laws.{HasExactTails, IsTail}
-use Rattle.sbpl_graph.specs.Network.{IsArc}
+use Rattle.sbpl_plan.specs.sbpl_graph.Laws.{HasExactTails, IsTail}
+use Rattle.sbpl_plan.specs.sbpl_graph.Network.{IsArc}
 use Rattle.worked_maps.specs.Pair.{pair}
 
 tail_is_arc : (t j s k : ℕ) → IsTail pair t j s k → IsArc pair s k t

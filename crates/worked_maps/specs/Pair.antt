@@ -1,6 +1,6 @@
 -- A graph of two states.
 use Rattle.std.specs.Prelude.{◌-◌, Some}
-use Rattle.sbpl_graph.specs.Network.{Network}
+use Rattle.sbpl_plan.specs.sbpl_graph.Network.{Network}
 
 -- each state has two arcs, which lead to the other and cost 1
 abbrev pub pair : Network

@@ -1,9 +1,6 @@
 //! Batches on a small hall, by hand.
 
-use sbpl_change::{apply, are_on_map};
-use sbpl_cost::Lattice;
-use sbpl_map::Write;
-use sbpl_terrain::ArcEnd;
+use sbpl_heur::{ArcEnd, Lattice, Write, apply, are_on_map};
 use std::alloc::Global;
 
 /// The corner becomes an obstacle.

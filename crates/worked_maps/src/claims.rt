@@ -2,7 +2,7 @@
 
 ghost use Rattle.std.specs.Prelude.{◌≡◌, []};
 
-use sbpl_claims::{Claims, Keeper, Naming};
+use sbpl_epase::{Claims, Keeper, Naming};
 use std::marker::Brand;
 use std::test::Fail;
 

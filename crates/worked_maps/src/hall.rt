@@ -6,7 +6,7 @@ use crate::lattice::{are_arcs, are_gaps, are_known, are_read, is_written};
 use crate::lattices::made;
 use crate::passes::meet;
 use sample_files::{E2, F2};
-use sbpl_cost::Lattice;
+use sbpl_heur::Lattice;
 use std::alloc::Global;
 use std::sync::Wait;
 use std::test::Fail;

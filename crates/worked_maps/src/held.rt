@@ -2,14 +2,12 @@
 
 ghost use Rattle.std.specs.Prelude.{◌≡◌, [], false};
 ghost use Rattle.worked_maps.specs.Pair.{pair};
-ghost use Rattle.sbpl_search.specs.Query.{query};
-ghost use Rattle.sbpl_search.specs.Ready.{AreReady};
+ghost use Rattle.sbpl_plan.specs.sbpl_search.Query.{query};
+ghost use Rattle.sbpl_plan.specs.sbpl_search.Ready.{AreReady};
 
 use crate::judged::judged;
-use sbpl_frontier::{Claims, Line, Lined, Seat, Second, Shared};
-use sbpl_frontier_core::{Core, Pass, Unseen};
-use sbpl_graph::{Graph, Zero};
-use sbpl_labels::{Budget, Labels};
+use sbpl_epase::{Claims, Core, Line, Lined, Pass, Seat, Second, Shared, Unseen};
+use sbpl_plan::{Budget, Graph, Labels, Zero};
 use std::alloc::Global;
 use std::marker::Brand;
 use std::sync::Wait;

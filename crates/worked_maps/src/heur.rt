@@ -1,15 +1,13 @@
 //! The heuristic on a small hall, by hand, and what workers do by it.
 
 ghost use Rattle.std.specs.Prelude.{◌≡◌, ◌<◌};
-ghost use Rattle.sbpl_cost.specs.Lattices.{network_of};
+ghost use Rattle.sbpl_heur.specs.sbpl_cost.Lattices.{network_of};
 ghost use Rattle.sbpl_heur.specs.Bests.{Fits, IsGuide};
 
 use crate::rows::{FOUR, THREE, told_on};
 use crate::seats::falling;
-use sbpl_cfg::Place;
-use sbpl_cost::Lattice;
-use sbpl_graph::Guide;
-use sbpl_heur::Best;
+use sbpl_heur::{Best, Lattice, Place};
+use sbpl_plan::Guide;
 use std::alloc::Global;
 use std::sync::Wait;
 use std::thread::Threads;

@@ -2,9 +2,8 @@
 
 ghost use Rattle.std.specs.Prelude.{◌≡◌, ◌+◌, IfSome};
 
-use sbpl_frontier::{Claim, Lined, Seat, Second, Shared, Turn};
-use sbpl_frontier_core::{Judged, Pass, Unseen, judge};
-use sbpl_graph::{Graph, Guide};
+use sbpl_epase::{Claim, Judged, Lined, Pass, Seat, Second, Shared, Turn, Unseen, judge};
+use sbpl_plan::{Graph, Guide};
 use std::sync::Wait;
 
 /// Takes an arc and judges it, where there is one.

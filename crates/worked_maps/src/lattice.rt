@@ -2,10 +2,8 @@
 
 use crate::texts::reads;
 use sbpl_back::{Back, FromStart};
-use sbpl_cfg::Place;
-use sbpl_cost::Lattice;
-use sbpl_graph::{Graph, Guide};
-use sbpl_map::OffMap;
+use sbpl_heur::{Lattice, OffMap, Place};
+use sbpl_plan::{Graph, Guide};
 use std::alloc::{AllocError, Global};
 
 /// The arcs of a state, each as its head, its cost and a floor on the cost, and then its tails.

@@ -1,10 +1,6 @@
 //! The lattice of two texts.
 
-use sbpl_cfg::{Env, Grid, read_env};
-use sbpl_cost::Lattice;
-use sbpl_map::Map;
-use sbpl_mprim::{Prims, read_prims};
-use sbpl_sweep::Sweeps;
+use sbpl_heur::{Env, Grid, Lattice, Map, Prims, Sweeps, read_env, read_prims};
 use std::alloc::Global;
 
 /// The lattice of these parts for a robot of radius 0. `None` where they do not belong together, or where there is none.

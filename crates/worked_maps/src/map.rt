@@ -4,8 +4,9 @@ ghost use Rattle.std.specs.Prelude.{◌≡◌, length};
 
 use crate::texts::reads;
 use sample_files::{E1, E2};
-use sbpl_cfg::{Place, read_env};
-use sbpl_map::{ChangeFault, Changes, Map, Moves, OffMap, Write, read_changes, read_moves};
+use sbpl_heur::{
+    ChangeFault, Changes, Map, Moves, OffMap, Place, Write, read_changes, read_env, read_moves,
+};
 use std::alloc::Global;
 use std::test::Fail;
 

@@ -1,16 +1,13 @@
 //! A pass by several workers, with the guide that knows nothing.
 
 ghost use Rattle.std.specs.Prelude.{◌≡◌, ◌<◌, ◌≤◌, true};
-ghost use Rattle.sbpl_search.specs.Query.{query};
-ghost use Rattle.sbpl_search.specs.Ready.{AreReady};
+ghost use Rattle.sbpl_plan.specs.sbpl_search.Query.{query};
+ghost use Rattle.sbpl_plan.specs.sbpl_search.Ready.{AreReady};
 
 use crate::watched::Watched;
-use sbpl_cost::Lattice;
-use sbpl_epase::{NoGate, parallel_pass};
-use sbpl_fixed::NoMemory;
-use sbpl_frontier_core::{Core, Pass};
-use sbpl_graph::{Graph, Zero};
-use sbpl_labels::{Budget, Labels};
+use sbpl_epase::{Core, NoGate, Pass, parallel_pass};
+use sbpl_heur::Lattice;
+use sbpl_plan::{Budget, Graph, Labels, NoMemory, Zero};
 use std::alloc::Global;
 use std::marker::Brand;
 use std::sync::Wait;

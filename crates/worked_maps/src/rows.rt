@@ -1,19 +1,16 @@
 //! Judgements that come back by the line, with one seat: what the journal then holds.
 
 ghost use Rattle.std.specs.Prelude.{◌≡◌, ℕ, ◌<◌, [], All, IfSome, length, sum_by, true, vec_len};
-ghost use Rattle.sbpl_cost.specs.Lattices.{network_of};
+ghost use Rattle.sbpl_heur.specs.sbpl_cost.Lattices.{network_of};
 ghost use Rattle.sbpl_heur.specs.Bests.{IsGuide, distance_in};
-ghost use Rattle.sbpl_search.specs.Query.{query};
-ghost use Rattle.sbpl_search.specs.Ready.{AreReady};
+ghost use Rattle.sbpl_plan.specs.sbpl_search.Query.{query};
+ghost use Rattle.sbpl_plan.specs.sbpl_search.Ready.{AreReady};
 
 use crate::judged::judged;
 use crate::texts::reads;
-use sbpl_cost::Lattice;
-use sbpl_frontier::{Claims, Line, Lined, Seat, Second, Shared};
-use sbpl_frontier_core::{Core, Next, Pass, Unseen, judge};
-use sbpl_graph::Graph;
-use sbpl_heur::Best;
-use sbpl_labels::{Budget, Labels};
+use sbpl_epase::{Claims, Core, Line, Lined, Next, Pass, Seat, Second, Shared, Unseen, judge};
+use sbpl_heur::{Best, Lattice};
+use sbpl_plan::{Budget, Graph, Labels};
 use std::alloc::Global;
 use std::marker::Brand;
 use std::sync::Wait;

@@ -1,17 +1,14 @@
 //! Passes of one plan by workers that come and go.
 
 ghost use Rattle.std.specs.Prelude.{◌≡◌, ◌<◌, ◌≤◌};
-ghost use Rattle.sbpl_cost.specs.Lattices.{network_of};
+ghost use Rattle.sbpl_heur.specs.sbpl_cost.Lattices.{network_of};
 ghost use Rattle.sbpl_heur.specs.Bests.{IsGuide, distance_in};
-ghost use Rattle.sbpl_search.specs.Query.{query};
+ghost use Rattle.sbpl_plan.specs.sbpl_search.Query.{query};
 ghost use Rattle.sbpl_epase.specs.Making.{CanPass, Leaves};
 
-use sbpl_cost::Lattice;
 use sbpl_epase::{Epase, Event, NoGate, Parts, parallel_pass_parts};
-use sbpl_graph::Graph;
-use sbpl_heur::Best;
-use sbpl_labels::Budget;
-use sbpl_plan::{Ask, Nobody, Outcome, Planned, plan};
+use sbpl_heur::{Best, Lattice};
+use sbpl_plan::{Ask, Budget, Graph, Nobody, Outcome, Planned, plan};
 use std::alloc::Global;
 use std::sync::Wait;
 use std::thread::Threads;

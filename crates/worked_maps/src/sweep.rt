@@ -1,7 +1,6 @@
 //! How many cells sweeps may have, by hand.
 
-use sbpl_mprim::read_prims;
-use sbpl_sweep::{SweepFault, Sweeps};
+use sbpl_heur::{SweepFault, Sweeps, read_prims};
 use std::alloc::{AllocError, Global};
 
 /// A primitive from heading 0 to the next cell along x, with cells of 25 millimetres, but for its id.

@@ -1,7 +1,7 @@
 //! A lattice that holds the first judgement of an arc until another one has begun.
 
-use sbpl_cost::Lattice;
-use sbpl_graph::Graph;
+use sbpl_heur::Lattice;
+use sbpl_plan::Graph;
 use std::hint;
 use std::sync::atomic::{AtomicBool, AtomicU64, Ordering};
 
@@ -44,7 +44,7 @@ impl<'l> Watched<'l> {
 }
 
 impl<'l> Graph for Watched<'l> {
-    ghost use Rattle.sbpl_cost.specs.Lattices.{network_of};
+    ghost use Rattle.sbpl_heur.specs.sbpl_cost.Lattices.{network_of};
 
     ghost network = { λ watched. network_of watched.lattice.now };
 

@@ -1,6 +1,6 @@
 //! Cells and headings of coordinates.
 
-use sbpl_cfg::{cell_at, heading_at};
+use sbpl_cli::{cell_at, heading_at};
 
 /// Numbers of headings, angles, and the nearest bin. Half a bin is a full turn of 6283185307 nanoradians over twice the number of
 /// headings: of 16 headings it lies between 196349540 and 196349541 nanoradians, of 4 between 785398163 and 785398164, of 5 between

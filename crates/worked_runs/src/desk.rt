@@ -1,6 +1,6 @@
 //! What no clause says: that the calls of a desk in memory succeed.
 
-use sbpl_desk::{Desk, MemoryDesk, ReadStop, WriteStop};
+use sbpl_cli::{Desk, MemoryDesk, ReadStop, WriteStop};
 use std::process::Abort;
 
 /// Names that are read by the calls 0 to 4 of the desk, the answers, and the bytes that were read.

@@ -1,12 +1,12 @@
 //! Worked values, and each public call once.
 
+use sbpl_cli::ListOf;
 use sbpl_fixed::{
     NumFault, Placed, Reader, TextFault, Token, ceil_div, ceil_root, items_in_plain_words,
     next_token, numbers_are_read_by_parts, print_milli, print_nano, printed_numbers_are_read_back,
     printed_words_are_tokens, read_digits, read_milli, read_nano, read_whole,
     reading_is_what_is_said, tokens_are_longest_runs,
 };
-use sbpl_list::ListOf;
 
 /// How a text is read.
 enum Form {

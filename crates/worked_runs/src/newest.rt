@@ -3,9 +3,7 @@
 ghost use Rattle.std.specs.Prelude.{◌≡◌, []};
 
 use crate::runs::{DETOUR, hold, words_of};
-use sbpl_cli::{Gate, run_with};
-use sbpl_desk::MemoryDesk;
-use sbpl_incumbent::{Board, Publisher, Reader};
+use sbpl_cli::{Board, Gate, MemoryDesk, Publisher, Reader, run_with};
 use std::alloc::Global;
 use std::sync::{Mutex, Wait};
 use std::test::Fail;

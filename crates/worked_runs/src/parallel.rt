@@ -4,8 +4,7 @@ ghost use Rattle.std.specs.Prelude.{◌<◌};
 
 use crate::runs::{DETOUR, Files, reports};
 use sample_files::{FIELD, car};
-use sbpl_cli::{Gate, NoGate};
-use sbpl_desk::MemoryDesk;
+use sbpl_cli::{Gate, MemoryDesk, NoGate};
 use std::alloc::Global;
 use std::hint;
 use std::sync::Wait;

@@ -1,8 +1,7 @@
 //! Runs of the program over a desk in memory.
 
 use sample_files::{E2, F2};
-use sbpl_cli::{Gate, run};
-use sbpl_desk::MemoryDesk;
+use sbpl_cli::{Gate, MemoryDesk, run};
 use std::alloc::Global;
 use std::sync::Wait;
 use std::test::Fail;

@@ -1,7 +1,7 @@
 use Rattle.std.proofs.Common.{◌≡◌, ◌+◌, ◌∷◌, [], length, slice_index, arith, refl}
 use Rattle.std.proofs.lemmas.Bool.{false≢true}
 use Rattle.std.proofs.lemmas.List.{length-append}
-use Rattle.sbpl_serial.specs.Run.{IsUnder}
+use Rattle.sbpl_ara.specs.sbpl_serial.Run.{IsUnder}
 use Rattle.sbpl_adstar.proofs.Listing.{listing_all, listing_more, listing_passed, listing_upwards, room_for}
 use Rattle.sbpl_adstar.proofs.raiser.list_under.Goals as goal
 use Rattle.sbpl_adstar.proofs.raiser.list_under.Goals.{then-is_under, else-is_under}

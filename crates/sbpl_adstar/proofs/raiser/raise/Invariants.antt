@@ -1,7 +1,7 @@
 use Rattle.std.proofs.Common.{◌≡◌, ◌≢◌, ℕ, ◌≤◌, vec_capacity}
-use Rattle.sbpl_labels.specs.Marks.{g_of}
-use Rattle.sbpl_serial.specs.Raised.{IsRaising}
-use Rattle.sbpl_serial.specs.Run.{IsUnder}
+use Rattle.sbpl_ara.specs.sbpl_labels.Marks.{g_of}
+use Rattle.sbpl_ara.specs.sbpl_serial.Raised.{IsRaising}
+use Rattle.sbpl_ara.specs.sbpl_serial.Run.{IsUnder}
 use Rattle.sbpl_adstar.specs.Listed.{AreListed}
 use Rattle.sbpl_adstar.proofs.Joining.{AddsBelow}
 use Rattle.sbpl_adstar.proofs.raiser.raise.Given as goal

@@ -1,7 +1,7 @@
 use Rattle.std.proofs.Common.{Some, ◌∷◌, [], arith, refl}
 use Rattle.std.proofs.lemmas.Bool.{false≢true}
 use Rattle.std.proofs.lemmas.List.{length-append}
-use Rattle.sbpl_serial.specs.Run.{IsUnder}
+use Rattle.sbpl_ara.specs.sbpl_serial.Run.{IsUnder}
 use Rattle.sbpl_adstar.proofs.Occurrences.{few}
 use Rattle.sbpl_adstar.proofs.Raising.{listed_more, listed_still, returned_states, returns_head, stays_under}
 use Rattle.sbpl_adstar.proofs.raiser.recompute_listed.Goals as goal

@@ -1,7 +1,7 @@
 use Rattle.std.proofs.Common.{◌≡◌, ℕ, ap, ◌∙◌}
 use Rattle.std.proofs.lemmas.Result.{err_from_is_err_and}
-use Rattle.sbpl_graph.specs.Laws.{IsConsistent}
-use Rattle.sbpl_graph.specs.Network.{Network}
+use Rattle.sbpl_labels.specs.sbpl_graph.Laws.{IsConsistent}
+use Rattle.sbpl_labels.specs.sbpl_graph.Network.{Network}
 use Rattle.sbpl_cert.specs.Checking.{IsGuideRight}
 use Rattle.sbpl_cert.specs.Sparse.{SparseSection, sparse_claim}
 use Rattle.sbpl_cert.proofs.Order.{bound_shown, low_flaw, stages_passed, support_flaw}

@@ -1,5 +1,5 @@
 use Rattle.std.proofs.Common.{◌<◌, ◌≤◌, ◌*◌, take}
-use Rattle.sbpl_graph.specs.Path.{IsFreePath}
+use Rattle.sbpl_labels.specs.sbpl_graph.Path.{IsFreePath}
 use Rattle.sbpl_cert.proofs.checking.walk.Given as goal
 
 abbrev pub invariant-loop-i : goal.invariant-loop-i

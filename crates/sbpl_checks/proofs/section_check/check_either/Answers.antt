@@ -1,7 +1,7 @@
 use Rattle.std.proofs.Common.{OnOk, sym, subst}
-use Rattle.sbpl_cert.specs.declared.section.Section.{Section}
-use Rattle.sbpl_cert.specs.Flaws.{HasNoFlaw}
-use Rattle.sbpl_cert.specs.Versions.{claim_by}
+use Rattle.sbpl_worlds.specs.sbpl_cert.declared.section.Section.{Section}
+use Rattle.sbpl_worlds.specs.sbpl_cert.Flaws.{HasNoFlaw}
+use Rattle.sbpl_worlds.specs.sbpl_cert.Versions.{claim_by}
 use Rattle.sbpl_checks.proofs.section_check.check_either.Goals as goal
 
 pub returns-in-Sparse-clause-none : goal.returns-in-Sparse-clause-none

@@ -1,7 +1,7 @@
 use Rattle.std.proofs.Common.{refl, sym, subst}
-use Rattle.sbpl_cert.specs.declared.outcome.Outcome.{Outcome}
-use Rattle.sbpl_cert.specs.Sound.{IsSo}
-use Rattle.sbpl_cert.specs.Versions.{IsOf, arcs_of}
+use Rattle.sbpl_worlds.specs.sbpl_cert.declared.outcome.Outcome.{Outcome}
+use Rattle.sbpl_worlds.specs.sbpl_cert.Sound.{IsSo}
+use Rattle.sbpl_worlds.specs.sbpl_cert.Versions.{IsOf, arcs_of}
 use Rattle.sbpl_checks.proofs.section_check.check_section.Goals as goal
 
 pub check_either-requires-clause-of : goal.check_either-requires-clause-of

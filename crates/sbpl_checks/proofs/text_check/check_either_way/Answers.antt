@@ -1,9 +1,9 @@
 use Rattle.std.proofs.Common.{Bool, suc, length, sym, subst}
-use Rattle.sbpl_fixed.specs.Formats.{start_at}
-use Rattle.sbpl_promises.specs.Asked.{checked_direction}
-use Rattle.sbpl_promises.specs.Checked.{case_of}
-use Rattle.sbpl_promises.specs.LatticeSite.{lattice_site}
-use Rattle.sbpl_promises.specs.Promises.{EndsSections}
+use Rattle.sbpl_worlds.specs.sbpl_fixed.Formats.{start_at}
+use Rattle.sbpl_worlds.specs.sbpl_promises.Asked.{checked_direction}
+use Rattle.sbpl_worlds.specs.sbpl_promises.Checked.{case_of}
+use Rattle.sbpl_worlds.specs.sbpl_promises.LatticeSite.{lattice_site}
+use Rattle.sbpl_worlds.specs.sbpl_promises.Promises.{EndsSections}
 use Rattle.sbpl_checks.proofs.text_check.check_either_way.Goals as goal
 
 pub returns-then-back-clause-ends : goal.returns-then-back-clause-ends

@@ -1,12 +1,12 @@
 use Rattle.std.proofs.Common.{◌≡◌, ◌+◌, ◌-◌, ◌<◌, ℕ, suc, length, Option, sym, ◌∙◌, ap, subst, arith}
-use Rattle.sbpl_fixed.specs.Formats.{start_at}
-use Rattle.sbpl_promises.specs.Checked.{Case, case_of}
-use Rattle.sbpl_cfg.specs.declared.pose.Place.{Place}
-use Rattle.sbpl_map.specs.ChangeText.{IsPlaceOnMap}
-use Rattle.sbpl_map.specs.MapAfter.{IsMapAfter}
+use Rattle.sbpl_worlds.specs.sbpl_fixed.Formats.{start_at}
+use Rattle.sbpl_worlds.specs.sbpl_promises.Checked.{Case, case_of}
+use Rattle.sbpl_worlds.specs.sbpl_cfg.declared.pose.Place.{Place}
+use Rattle.sbpl_worlds.specs.sbpl_map.ChangeText.{IsPlaceOnMap}
+use Rattle.sbpl_worlds.specs.sbpl_map.MapAfter.{IsMapAfter}
 use Rattle.sbpl_checks.specs.Checking.{IsPlanIn}
-use Rattle.sbpl_promises.specs.Promises.{EndsSections}
-use Rattle.sbpl_promises.specs.Sites.{Site, WordPlacesAlike, site_of}
+use Rattle.sbpl_worlds.specs.sbpl_promises.Promises.{EndsSections}
+use Rattle.sbpl_worlds.specs.sbpl_promises.Sites.{Site, WordPlacesAlike, site_of}
 use Rattle.sbpl_telling.proofs.Frames.{writes_on}
 use Rattle.sbpl_worlds.proofs.Moving.{alike_over, move_on_map, next_is, within}
 use Rattle.sbpl_worlds.proofs.OnMaps.{batch_on_map, same_states}

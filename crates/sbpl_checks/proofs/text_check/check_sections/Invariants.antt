@@ -1,4 +1,4 @@
-use Rattle.sbpl_promises.specs.Sites.{site_of}
+use Rattle.sbpl_worlds.specs.sbpl_promises.Sites.{site_of}
 use Rattle.sbpl_checks.proofs.Verifying.{IsCheckedTo}
 use Rattle.sbpl_checks.proofs.text_check.check_sections.Given as goal
 

@@ -1,5 +1,5 @@
-use Rattle.sbpl_promises.specs.Checked.{case_of}
-use Rattle.sbpl_promises.specs.Sites.{site_of}
+use Rattle.sbpl_worlds.specs.sbpl_promises.Checked.{case_of}
+use Rattle.sbpl_worlds.specs.sbpl_promises.Sites.{site_of}
 use Rattle.sbpl_checks.proofs.Verifying.{runs_out}
 use Rattle.sbpl_checks.proofs.text_check.check_text.Goals as goal
 

@@ -1,6 +1,6 @@
 use Rattle.std.proofs.Common.{[], refl, map, string_bytes}
-use Rattle.sbpl_promises.specs.Promises.{by_memory}
-use Rattle.sbpl_promises.specs.Run.{job_named}
+use Rattle.sbpl_jobs.specs.sbpl_promises.Promises.{by_memory}
+use Rattle.sbpl_jobs.specs.sbpl_promises.Run.{job_named}
 use Rattle.sbpl_cli.proofs.top.run.Goals as goal
 
 pub returns-in-Err-clause-promises : goal.returns-in-Err-clause-promises

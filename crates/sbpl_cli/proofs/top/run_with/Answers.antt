@@ -1,5 +1,5 @@
 use Rattle.std.proofs.Common.{map, string_bytes}
-use Rattle.sbpl_promises.specs.Run.{job_named}
+use Rattle.sbpl_jobs.specs.sbpl_promises.Run.{job_named}
 use Rattle.sbpl_cli.proofs.top.run_with.Goals as goal
 
 pub returns-clause-promises : goal.returns-clause-promises

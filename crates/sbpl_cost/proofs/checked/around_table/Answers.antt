@@ -1,6 +1,6 @@
 use Rattle.std.proofs.Common.{◌≡◌, sym, ◌∙◌, slice_get, Some, arith, subst}
 use Rattle.std.proofs.lemmas.Option.{slice_get_within, same_Some}
-use Rattle.sbpl_mprim.specs.declared.prim.Primitive.{Primitive}
+use Rattle.sbpl_sweep.specs.sbpl_mprim.declared.prim.Primitive.{Primitive}
 use Rattle.sbpl_sweep.specs.Centres.{AreSwept}
 use Rattle.sbpl_cost.specs.Checked.{AreAround}
 use Rattle.sbpl_cost.proofs.Filling.{filled_more}

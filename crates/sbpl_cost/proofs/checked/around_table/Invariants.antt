@@ -1,5 +1,5 @@
 use Rattle.std.proofs.Common.{◌≡◌, slice_get, Some}
-use Rattle.sbpl_mprim.specs.declared.prim.Primitive.{Primitive}
+use Rattle.sbpl_sweep.specs.sbpl_mprim.declared.prim.Primitive.{Primitive}
 use Rattle.sbpl_cost.specs.Checked.{AreAround}
 use Rattle.sbpl_cost.proofs.Filling.{IsFilled}
 use Rattle.sbpl_cost.proofs.checked.around_table.Given as goal

@@ -1,7 +1,7 @@
 use Rattle.std.proofs.Common.{◌≡◌, ℕ, ◌<◌, ◌≤◌, ◌^◌, ⊎_elim, List, slice_get, Some, arith, sym, subst, ◌∙◌, length}
 use Rattle.std.proofs.lemmas.Option.{same_Some, slice_get_cases, slice_get_within}
-use Rattle.sbpl_mprim.specs.declared.prim.Primitive.{Primitive}
-use Rattle.sbpl_mprim.specs.Primitives.{Primitives, ArePrimitives}
+use Rattle.sbpl_sweep.specs.sbpl_mprim.declared.prim.Primitive.{Primitive}
+use Rattle.sbpl_sweep.specs.sbpl_mprim.Primitives.{Primitives, ArePrimitives}
 use Rattle.sbpl_sweep.specs.declared.cell.Cell.{Cell}
 use Rattle.sbpl_cost.specs.declared.strip.Strip.{Strip}
 use Rattle.sbpl_cost.specs.Checked.{AreAround, HaveAround}

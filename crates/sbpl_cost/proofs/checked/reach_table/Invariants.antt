@@ -1,5 +1,5 @@
 use Rattle.std.proofs.Common.{◌≡◌, List, slice_get, Some}
-use Rattle.sbpl_mprim.specs.declared.prim.Primitive.{Primitive}
+use Rattle.sbpl_sweep.specs.sbpl_mprim.declared.prim.Primitive.{Primitive}
 use Rattle.sbpl_cost.specs.declared.strip.Strip.{Strip}
 use Rattle.sbpl_cost.specs.Reaches.{IsReach, LieWithin}
 use Rattle.sbpl_cost.specs.Strips.{cells_in}

@@ -1,6 +1,6 @@
 use Rattle.std.proofs.Common.{nat_le, w64, ap, ◌∙◌}
 use Rattle.std.proofs.lemmas.Int.{to_z-of_z}
-use Rattle.sbpl_cfg.specs.Environment.{Environment}
+use Rattle.sbpl_sweep.specs.sbpl_cfg.Environment.{Environment}
 use Rattle.sbpl_cost.proofs.Walling.{none_noted, noted}
 use Rattle.sbpl_cost.proofs.walls.note_wall.Goals as goal
 

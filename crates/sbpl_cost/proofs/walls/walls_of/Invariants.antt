@@ -1,5 +1,5 @@
 use Rattle.std.proofs.Common.{◌≡◌, ℕ, ◌<◌, ◌≤◌, false, nat_le, length, slice_index_or}
-use Rattle.sbpl_bits.specs.Flags.{is_set}
+use Rattle.sbpl_sweep.specs.sbpl_lists.Flags.{is_set}
 use Rattle.sbpl_cost.proofs.walls.walls_of.Given as goal
 
 abbrev pub invariant-loop-i : goal.invariant-loop-i

@@ -1,6 +1,6 @@
 use Rattle.std.proofs.Common.{◌≡◌, ◌*◌, ◌++◌, map}
 use Rattle.sbpl_fixed.specs.Printed.{lines_text}
-use Rattle.sbpl_map.specs.Printed.{write_line}
+use Rattle.sbpl_cost.specs.sbpl_map.Printed.{write_line}
 use Rattle.sbpl_demo.specs.Generator.{word_after}
 use Rattle.sbpl_demo.specs.Changes.{writes}
 use Rattle.sbpl_demo.proofs.changes.draw_batch.Given as goal

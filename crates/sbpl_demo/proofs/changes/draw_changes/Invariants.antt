@@ -1,5 +1,5 @@
 use Rattle.std.proofs.Common.{◌≡◌, ◌*◌}
-use Rattle.sbpl_map.specs.Printed.{changes_text}
+use Rattle.sbpl_cost.specs.sbpl_map.Printed.{changes_text}
 use Rattle.sbpl_demo.specs.Generator.{word_after}
 use Rattle.sbpl_demo.specs.Changes.{batches}
 use Rattle.sbpl_demo.proofs.changes.draw_changes.Given as goal

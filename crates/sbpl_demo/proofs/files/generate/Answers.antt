@@ -1,7 +1,7 @@
 use Rattle.std.proofs.Common.{◌≡◌, ◌++◌}
 use Rattle.std.specs.List.{flat_map}
 use Rattle.std.proofs.lemmas.Result.{IfOk-weaker}
-use Rattle.sbpl_map.specs.CellMap.{CellMap}
+use Rattle.sbpl_cost.specs.sbpl_map.CellMap.{CellMap}
 use Rattle.sbpl_demo.specs.Changes.{changes_drawn}
 use Rattle.sbpl_demo.specs.Environment.{costs, environment}
 use Rattle.sbpl_demo.specs.Primitives.{head_lines, motion_lines, motions, primitives}

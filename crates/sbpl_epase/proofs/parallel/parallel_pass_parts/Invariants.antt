@@ -1,4 +1,4 @@
-use Rattle.sbpl_search.specs.Query.{query}
+use Rattle.sbpl_adstar.specs.sbpl_search.Query.{query}
 use Rattle.sbpl_epase.proofs.parallel.parallel_pass_parts.Given as goal
 
 abbrev pub ghosts-parts_as : goal.ghosts-parts_as

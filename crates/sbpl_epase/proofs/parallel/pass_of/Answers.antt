@@ -1,6 +1,6 @@
 use Rattle.std.proofs.Common.{arith}
 use Rattle.std.proofs.lemmas.List.Elements.{All-nil}
-use Rattle.sbpl_frontier_core.specs.Seats.{IsTakenBelow}
+use Rattle.sbpl_frontier.specs.sbpl_frontier_core.Seats.{IsTakenBelow}
 use Rattle.sbpl_epase.proofs.parallel.pass_of.Goals as goal
 
 pub returns-then-workers-eq1-clause-seats : goal.returns-then-workers-eq1-clause-seats

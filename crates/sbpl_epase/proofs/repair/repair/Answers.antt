@@ -1,7 +1,7 @@
 use Rattle.std.proofs.Common.{ℕ, ◌<◌, List, ⊎_elim, arith, sym, ◌∙◌, subst}
 use Rattle.std.specs.List.{All, Contains}
-use Rattle.sbpl_labels.specs.Marks.{states_of}
-use Rattle.sbpl_serial.specs.Run.{IsOver}
+use Rattle.sbpl_adstar.specs.sbpl_labels.Marks.{states_of}
+use Rattle.sbpl_adstar.specs.sbpl_serial.Run.{IsOver}
 use Rattle.sbpl_epase.proofs.repair.repair.Goals as goal
 
 pub note_over-requires-clause-same_states : goal.note_over-requires-clause-same_states

@@ -1,7 +1,7 @@
 use Rattle.std.proofs.Common.{arith, refl}
 use Rattle.std.proofs.lemmas.List.{take_all}
 use Rattle.std.proofs.lemmas.List.Elements.{All-more}
-use Rattle.sbpl_open.specs.declared.entry.Entry.{Entry}
+use Rattle.sbpl_frontier_rules.specs.sbpl_open.declared.entry.Entry.{Entry}
 use Rattle.sbpl_frontier_core.specs.Clear.{IsClear}
 use Rattle.sbpl_frontier_core.proofs.clear.is_clear_of_entries.Goals as goal
 

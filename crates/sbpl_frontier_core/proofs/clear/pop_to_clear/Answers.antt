@@ -1,6 +1,6 @@
 use Rattle.std.proofs.Common.{arith, refl}
 use Rattle.std.proofs.lemmas.Bool.{false≢true}
-use Rattle.sbpl_open.specs.declared.entry.Entry.{Entry}
+use Rattle.sbpl_frontier_rules.specs.sbpl_open.declared.entry.Entry.{Entry}
 use Rattle.sbpl_frontier_core.proofs.Aside.{clear_in, popped_more}
 use Rattle.sbpl_frontier_core.proofs.clear.pop_to_clear.Goals as goal
 

@@ -1,7 +1,7 @@
 use Rattle.std.proofs.Common.{◌<◌, arith}
 use Rattle.std.proofs.lemmas.List.Elements.{All-get_or}
-use Rattle.sbpl_open.specs.declared.entry.Entry.{Entry}
-use Rattle.sbpl_open.specs.OpenList.{states_of}
+use Rattle.sbpl_frontier_rules.specs.sbpl_open.declared.entry.Entry.{Entry}
+use Rattle.sbpl_frontier_rules.specs.sbpl_open.OpenList.{states_of}
 use Rattle.sbpl_frontier_core.proofs.Aside.{all_front, aside_back}
 use Rattle.sbpl_frontier_core.proofs.clear.put_back.Goals as goal
 

@@ -1,6 +1,6 @@
 use Rattle.std.proofs.Common.{◌≡◌, ◌<◌, length, vec_capacity}
 use Rattle.std.specs.List.{All}
-use Rattle.sbpl_open.specs.OpenList.{OpenList, states_of}
+use Rattle.sbpl_frontier_rules.specs.sbpl_open.OpenList.{OpenList, states_of}
 use Rattle.sbpl_frontier_core.specs.Clear.{AreAside}
 use Rattle.sbpl_frontier_core.proofs.clear.put_back.Given as goal
 

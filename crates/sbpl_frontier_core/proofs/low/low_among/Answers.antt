@@ -1,8 +1,8 @@
 use Rattle.std.proofs.Common.{◌≡◌, ◌+◌, take, slice_index_or, ⊎_elim, inl, inr, arith}
 use Rattle.std.specs.List.{Contains}
 use Rattle.std.proofs.lemmas.List.{take_all}
-use Rattle.sbpl_serial.specs.Low.{IsInQueue}
-use Rattle.sbpl_serial.proofs.Lowering.{low_more, low_of_all, low_same}
+use Rattle.sbpl_frontier_rules.specs.sbpl_serial.Low.{IsInQueue}
+use Rattle.sbpl_frontier_rules.proofs.Lowering.{low_more, low_of_all, low_same}
 use Rattle.sbpl_frontier_core.proofs.Lowering.{among_next}
 use Rattle.sbpl_frontier_core.proofs.low.low_among.Goals as goal
 

@@ -1,6 +1,6 @@
 use Rattle.std.proofs.Common.{◌⊎◌, take}
 use Rattle.std.specs.List.{Contains}
-use Rattle.sbpl_serial.specs.Low.{IsInQueue, IsLowOf}
+use Rattle.sbpl_frontier_rules.specs.sbpl_serial.Low.{IsInQueue, IsLowOf}
 use Rattle.sbpl_frontier_core.proofs.low.low_among.Given as goal
 
 abbrev pub invariant-loop-s : goal.invariant-loop-s

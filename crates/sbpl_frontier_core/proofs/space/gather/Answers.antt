@@ -1,8 +1,8 @@
 use Rattle.std.proofs.Common.{◌≡◌, ℕ, ◌<◌, ◌≤◌, arith, ⊎_elim, length, length-append, ap, refl, [], ◌∷◌}
 use Rattle.std.proofs.lemmas.Bool.{cases_lt}
 use Rattle.std.proofs.lemmas.List.Elements.{All-push, Contains-append_left, Contains-push}
-use Rattle.sbpl_open.specs.Entries.{state_at}
-use Rattle.sbpl_open.specs.OpenList as open_list
+use Rattle.sbpl_frontier_rules.specs.sbpl_open.Entries.{state_at}
+use Rattle.sbpl_frontier_rules.specs.sbpl_open.OpenList as open_list
 use Rattle.sbpl_frontier_core.proofs.Filling.{key_inside}
 use Rattle.sbpl_frontier_core.proofs.space.gather.Goals as goal
 

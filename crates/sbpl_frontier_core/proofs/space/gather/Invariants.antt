@@ -1,7 +1,7 @@
 use Rattle.std.proofs.Common.{ℕ, ◌+◌, ◌<◌, ◌≤◌, length, vec_capacity}
 use Rattle.std.specs.List.{All, Contains}
-use Rattle.sbpl_open.specs.Entries.{state_at}
-use Rattle.sbpl_open.specs.OpenList as open_list
+use Rattle.sbpl_frontier_rules.specs.sbpl_open.Entries.{state_at}
+use Rattle.sbpl_frontier_rules.specs.sbpl_open.OpenList as open_list
 use Rattle.sbpl_frontier_core.proofs.space.gather.Given as goal
 
 abbrev pub invariant-loop-entry : goal.invariant-loop-entry

@@ -1,5 +1,5 @@
 use Rattle.std.proofs.Common.{◌≡◌, ℕ, ◌<◌, length, slice_index}
-use Rattle.sbpl_labels.specs.Marks.{g_of}
+use Rattle.sbpl_serial.specs.sbpl_labels.Marks.{g_of}
 use Rattle.sbpl_heur.proofs.best.weigh.Given as goal
 
 abbrev pub invariant-loop-cell : goal.invariant-loop-cell

@@ -1,11 +1,11 @@
 use Rattle.std.proofs.Common.{List, ℕ, suc, length, refl, subst, ◌∙◌}
-use Rattle.sbpl_fixed.specs.Formats.{start_at}
-use Rattle.sbpl_promises.specs.Checked.{AreChecked, IsShownHolding, case_of, to_in}
-use Rattle.sbpl_promises.specs.Asked.{checked_direction}
-use Rattle.sbpl_promises.specs.LatticeSite.{lattice_site}
-use Rattle.sbpl_promises.specs.Intents.{Checked}
-use Rattle.sbpl_telling.proofs.Frames.{writes_after}
-use Rattle.sbpl_telling.proofs.Writings.{ends_since}
+use Rattle.sbpl_checks.specs.sbpl_fixed.Formats.{start_at}
+use Rattle.sbpl_checks.specs.sbpl_promises.Checked.{AreChecked, IsShownHolding, case_of, to_in}
+use Rattle.sbpl_checks.specs.sbpl_promises.Asked.{checked_direction}
+use Rattle.sbpl_checks.specs.sbpl_promises.LatticeSite.{lattice_site}
+use Rattle.sbpl_checks.specs.sbpl_promises.Intents.{Checked}
+use Rattle.sbpl_checks.proofs.Frames.{writes_after}
+use Rattle.sbpl_checks.proofs.Writings.{ends_since}
 use Rattle.sbpl_jobs.proofs.check_job.check_labels.Goals as goal
 
 pub returns-clause-ends : goal.returns-clause-ends

@@ -1,19 +1,19 @@
 use Rattle.std.proofs.Common.{◌≡◌, ◌∙◌, inl, [], ◌∷◌, List, Bool, Err, length, refl, sym, ap, subst, false, arith}
-use Rattle.sbpl_cost.specs.World.{World}
-use Rattle.sbpl_job.specs.declared.job.Job.TheVariants as job
-use Rattle.sbpl_job.specs.declared.job.Planner.TheVariants as planner
-use Rattle.sbpl_job.specs.declared.job.SearchJob.{SearchJob}
+use Rattle.sbpl_checks.specs.sbpl_cost.World.{World}
+use Rattle.sbpl_checks.specs.sbpl_job.declared.job.Job.TheVariants as job
+use Rattle.sbpl_checks.specs.sbpl_job.declared.job.Planner.TheVariants as planner
+use Rattle.sbpl_checks.specs.sbpl_job.declared.job.SearchJob.{SearchJob}
 use Rattle.sbpl_plans.proofs.Going.{ends_by}
-use Rattle.sbpl_promises.specs.Causes.{demo_search, no_outputs}
-use Rattle.sbpl_promises.specs.Headline.{ArePlans}
-use Rattle.sbpl_promises.specs.Intents.{Demonstrated, lines_writes}
-use Rattle.sbpl_promises.specs.LatticeSite.{lattice_site}
-use Rattle.sbpl_promises.specs.Published.{Entry}
-use Rattle.sbpl_promises.specs.Texts.{still}
-use Rattle.sbpl_promises.specs.declared.course.Course.{Course}
-use Rattle.sbpl_report.specs.declared.record.PlanRecord.{PlanRecord}
-use Rattle.sbpl_telling.proofs.Frames.{same_state, writes_on}
-use Rattle.sbpl_telling.proofs.Writings.{ends_as_after, status_ends}
+use Rattle.sbpl_checks.specs.sbpl_promises.Causes.{demo_search, no_outputs}
+use Rattle.sbpl_checks.specs.sbpl_promises.Headline.{ArePlans}
+use Rattle.sbpl_checks.specs.sbpl_promises.Intents.{Demonstrated, lines_writes}
+use Rattle.sbpl_checks.specs.sbpl_promises.LatticeSite.{lattice_site}
+use Rattle.sbpl_checks.specs.sbpl_promises.Published.{Entry}
+use Rattle.sbpl_checks.specs.sbpl_promises.Texts.{still}
+use Rattle.sbpl_checks.specs.sbpl_promises.declared.course.Course.{Course}
+use Rattle.sbpl_checks.specs.sbpl_report.declared.record.PlanRecord.{PlanRecord}
+use Rattle.sbpl_checks.proofs.Frames.{same_state, writes_on}
+use Rattle.sbpl_checks.proofs.Writings.{ends_as_after, status_ends}
 use Rattle.sbpl_jobs.proofs.Ends.{ended}
 use Rattle.sbpl_jobs.proofs.Planned.{all_shown, planned}
 use Rattle.sbpl_jobs.proofs.demo_job.demonstrate.Goals as goal

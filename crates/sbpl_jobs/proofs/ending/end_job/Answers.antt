@@ -1,6 +1,6 @@
 use Rattle.std.proofs.Common.{ap}
 use Rattle.sbpl_jobs.proofs.Ends.{plain_is, refused}
-use Rattle.sbpl_telling.proofs.Frames.{writes_more, writes_on}
+use Rattle.sbpl_checks.proofs.Frames.{writes_more, writes_on}
 use Rattle.sbpl_jobs.proofs.ending.end_job.Goals as goal
 
 pub returns-in-Err-Refused-clause-ends : goal.returns-in-Err-Refused-clause-ends

@@ -1,7 +1,7 @@
 use Rattle.std.proofs.Common.{Option, sym, subst}
-use Rattle.sbpl_job.specs.declared.job.Job.{Job}
-use Rattle.sbpl_promises.specs.Promises.{MayBeWritten, by_job}
-use Rattle.sbpl_promises.specs.Writing.{WritesOnly}
+use Rattle.sbpl_checks.specs.sbpl_job.declared.job.Job.{Job}
+use Rattle.sbpl_checks.specs.sbpl_promises.Promises.{MayBeWritten, by_job}
+use Rattle.sbpl_checks.specs.sbpl_promises.Writing.{WritesOnly}
 use Rattle.sbpl_jobs.proofs.ending.end_run.Goals as goal
 
 pub returns-in-Ok-clause-ends : goal.returns-in-Ok-clause-ends

@@ -1,7 +1,7 @@
 use Rattle.std.proofs.Common.{refl}
-use Rattle.sbpl_job.specs.declared.job.Job.TheVariants as job
-use Rattle.sbpl_promises.specs.Intents.{Planned}
-use Rattle.sbpl_telling.proofs.Frames.{writes_after}
+use Rattle.sbpl_checks.specs.sbpl_job.declared.job.Job.TheVariants as job
+use Rattle.sbpl_checks.specs.sbpl_promises.Intents.{Planned}
+use Rattle.sbpl_checks.proofs.Frames.{writes_after}
 use Rattle.sbpl_jobs.proofs.Ends.{ended}
 use Rattle.sbpl_jobs.proofs.Planned.{all_shown, planned}
 use Rattle.sbpl_jobs.proofs.nav_job.end_nav.Goals as goal

@@ -1,7 +1,7 @@
 use Rattle.std.proofs.Common.{ℕ, List, Option, subst}
-use Rattle.sbpl_promises.specs.Causes.{IsReadText, grid_files}
+use Rattle.sbpl_checks.specs.sbpl_promises.Causes.{IsReadText, grid_files}
 use Rattle.sbpl_jobs.proofs.Ends.{early_stop, labels_stop}
-use Rattle.sbpl_worlds.proofs.Reading.{reads_on}
+use Rattle.sbpl_checks.proofs.Reading.{reads_on}
 use Rattle.sbpl_jobs.proofs.nav_job.read_nav_check.Goals as goal
 
 pub returns-in-Err-clause-stop : goal.returns-in-Err-clause-stop

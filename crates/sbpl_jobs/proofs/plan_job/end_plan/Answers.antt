@@ -1,8 +1,8 @@
 use Rattle.std.proofs.Common.{Bool, refl, subst}
-use Rattle.sbpl_job.specs.declared.job.Job.TheVariants as job
-use Rattle.sbpl_promises.specs.Causes.{ReadsCourse, scope_of}
-use Rattle.sbpl_promises.specs.Intents.{Planned}
-use Rattle.sbpl_telling.proofs.Frames.{writes_after}
+use Rattle.sbpl_checks.specs.sbpl_job.declared.job.Job.TheVariants as job
+use Rattle.sbpl_checks.specs.sbpl_promises.Causes.{ReadsCourse, scope_of}
+use Rattle.sbpl_checks.specs.sbpl_promises.Intents.{Planned}
+use Rattle.sbpl_checks.proofs.Frames.{writes_after}
 use Rattle.sbpl_jobs.proofs.Ends.{ended}
 use Rattle.sbpl_jobs.proofs.Planned.{all_shown, planned}
 use Rattle.sbpl_jobs.proofs.plan_job.end_plan.Goals as goal

@@ -1,10 +1,10 @@
 use Rattle.std.proofs.Common.{refl}
-use Rattle.sbpl_job.specs.declared.job.Job.TheVariants as job
-use Rattle.sbpl_promises.specs.Intents.{Listed}
+use Rattle.sbpl_checks.specs.sbpl_job.declared.job.Job.TheVariants as job
+use Rattle.sbpl_checks.specs.sbpl_promises.Intents.{Listed}
 use Rattle.sbpl_jobs.proofs.Ends.{ended}
-use Rattle.sbpl_telling.proofs.Writings.{status_ends}
+use Rattle.sbpl_checks.proofs.Writings.{status_ends}
 use Rattle.sbpl_jobs.proofs.sweep_job.end_sweep.Goals as goal
-use Rattle.sbpl_telling.proofs.Frames.{writes_after}
+use Rattle.sbpl_checks.proofs.Frames.{writes_after}
 
 pub returns-in-Ok-clause-ends : goal.returns-in-Ok-clause-ends
 returns-in-Ok-clause-ends g c = λ log.

@@ -1,10 +1,10 @@
 use Rattle.std.proofs.Common.{◌≡◌, ◌<◌, ◌≤◌, ◌+◌, List, length, ◌∙◌, ap, subst, arith}
-use Rattle.sbpl_mprim.specs.Primitives.{Primitives}
-use Rattle.sbpl_report.specs.Listing.{listing_at}
-use Rattle.sbpl_promises.specs.Writing.{Write, to_output}
+use Rattle.sbpl_checks.specs.sbpl_mprim.Primitives.{Primitives}
+use Rattle.sbpl_checks.specs.sbpl_report.Listing.{listing_at}
+use Rattle.sbpl_checks.specs.sbpl_promises.Writing.{Write, to_output}
 use Rattle.sbpl_jobs.proofs.Makings.{Makes, makes_no_more, makes_one, makes_rest, none_from, one_from, writes_from}
 use Rattle.sbpl_jobs.proofs.sweep_job.write_listings.Goals as goal
-use Rattle.sbpl_telling.proofs.Frames.{writes_on}
+use Rattle.sbpl_checks.proofs.Frames.{writes_on}
 
 pub returns-in-Err-clause-ends : goal.returns-in-Err-clause-ends
 returns-in-Err-clause-ends g c =

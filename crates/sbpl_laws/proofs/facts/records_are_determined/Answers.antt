@@ -4,8 +4,8 @@ use Rattle.sbpl_promises.specs.GridSite.{grid_site}
 use Rattle.sbpl_promises.specs.LatticeSite.{lattice_site}
 use Rattle.sbpl_laws.proofs.GridAlike.{AreOneGrid, grids_alike}
 use Rattle.sbpl_laws.proofs.LatticeAlike.{lattices_alike}
-use Rattle.sbpl_ara.specs.Planner.{ara}
-use Rattle.sbpl_adstar.specs.Planner.{adstar}
+use Rattle.sbpl_promises.specs.sbpl_ara.Planner.{ara}
+use Rattle.sbpl_promises.specs.sbpl_adstar.Planner.{adstar}
 use Rattle.sbpl_laws.proofs.facts.records_are_determined.Goals as goal
 
 pub returns : goal.returns

@@ -1,6 +1,6 @@
 use Rattle.std.proofs.Common.{◌≡◌, ◌-◌, []}
 use Rattle.sbpl_fixed.specs.Formats.{reads, turns}
-use Rattle.sbpl_cfg.specs.Faults.{told}
+use Rattle.sbpl_terrain.specs.sbpl_cfg.Faults.{told}
 use Rattle.sbpl_nav2d.specs.Format.{cost_format}
 use Rattle.sbpl_nav2d.proofs.read.costs.Given as goal
 

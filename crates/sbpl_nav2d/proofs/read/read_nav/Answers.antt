@@ -1,9 +1,9 @@
 use Rattle.std.proofs.Common.{ℕ, List}
 use Rattle.std.proofs.lemmas.Result.{IfOk-weaker}
 use Rattle.sbpl_fixed.proofs.Meaning.{answers_given, found_if_answered, only_if_answered}
-use Rattle.sbpl_cfg.specs.declared.fault.EnvFault.TheVariants.{NoMemory}
+use Rattle.sbpl_terrain.specs.sbpl_cfg.declared.fault.EnvFault.TheVariants.{NoMemory}
 use Rattle.sbpl_nav2d.specs.Environment.{NavEnvironment}
-use Rattle.sbpl_cfg.specs.Faults.{told}
+use Rattle.sbpl_terrain.specs.sbpl_cfg.Faults.{told}
 use Rattle.sbpl_nav2d.specs.Format.{environment_format}
 use Rattle.sbpl_nav2d.proofs.TextLaws.{says_text, text_said}
 use Rattle.sbpl_nav2d.proofs.read.read_nav.Goals as goal

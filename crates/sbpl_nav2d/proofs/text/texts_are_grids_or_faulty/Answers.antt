@@ -3,7 +3,7 @@ use Rattle.sbpl_fixed.specs.Formats.{start}
 use Rattle.sbpl_fixed.specs.Tokens.{tokens}
 use Rattle.sbpl_fixed.proofs.Meaning.{faulty_once, said_once, said_or_faulty, said_or_faulty_alone}
 use Rattle.sbpl_nav2d.specs.Environment.{NavEnvironment}
-use Rattle.sbpl_cfg.specs.Faults.{told}
+use Rattle.sbpl_terrain.specs.sbpl_cfg.Faults.{told}
 use Rattle.sbpl_nav2d.specs.Format.{environment_format}
 use Rattle.sbpl_nav2d.proofs.OwnFaults.{no_memory_is_no_fault}
 use Rattle.sbpl_nav2d.proofs.TextLaws.{says_text, text_said}

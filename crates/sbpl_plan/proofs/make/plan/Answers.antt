@@ -1,5 +1,5 @@
 use Rattle.std.proofs.Common.{◌∙◌, ◌∷◌, [], ℕ, List, refl, inl, sym, subst, arith, length-append}
-use Rattle.sbpl_labels.specs.Marks.{Marks}
+use Rattle.sbpl_search.specs.sbpl_labels.Marks.{Marks}
 use Rattle.sbpl_plan.specs.declared.passes.Pass.{Pass}
 use Rattle.sbpl_plan.specs.Asked.{lowered}
 use Rattle.sbpl_plan.specs.Looking.{WalkFinds}

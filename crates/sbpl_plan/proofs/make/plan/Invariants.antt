@@ -1,5 +1,5 @@
 use Rattle.std.proofs.Common.{◌≡◌, ◌+◌, ◌≤◌, length, vec_capacity}
-use Rattle.sbpl_labels.specs.Marks.{states_of}
+use Rattle.sbpl_search.specs.sbpl_labels.Marks.{states_of}
 use Rattle.sbpl_plan.specs.Observed.{AreTold}
 use Rattle.sbpl_plan.specs.Passing.{inquiry_of}
 use Rattle.sbpl_plan.proofs.Planning.{AreGoingOn}

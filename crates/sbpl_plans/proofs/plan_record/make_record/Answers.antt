@@ -4,33 +4,33 @@ use Rattle.std.proofs.Common.{subst, inl, inr, ◌⊎◌}
 use Rattle.std.proofs.lemmas.List.{length-map}
 use Rattle.std.specs.Option.{is_some}
 use Rattle.std.specs.Result.{IsErr}
-use Rattle.sbpl_cert.specs.declared.section.Section.{Section}
-use Rattle.sbpl_fixed.specs.declared.no_memory.NoMemory.{NoMemory}
-use Rattle.sbpl_job.specs.declared.job.Outputs.{Outputs}
-use Rattle.sbpl_job.specs.declared.job.SearchJob.{SearchJob}
-use Rattle.sbpl_labels.specs.Counts.{Counts}
-use Rattle.sbpl_labels.specs.Marks.{Marks}
-use Rattle.sbpl_plan.specs.declared.ask.Ask.{Ask}
-use Rattle.sbpl_plan.specs.declared.result.Planned.{Planned}
-use Rattle.sbpl_plan.specs.Outcomes as search
-use Rattle.sbpl_plan.specs.Outcomes.{IsResultOf, IsTrueOutcome}
-use Rattle.sbpl_plan.specs.Asked.{most_passes}
-use Rattle.sbpl_plan.specs.Passing.{ArePasses, expansions, inquiry_of}
-use Rattle.sbpl_replan.specs.Directions.{Direction}
-use Rattle.sbpl_replan.specs.Replanning.{GoesBetween, Standing, StaysTheSame, inquiry}
-use Rattle.sbpl_report.specs.Traces.{traced_pass}
-use Rattle.sbpl_plan.specs.declared.passes.Pass.{Pass}
-use Rattle.sbpl_report.specs.declared.record.TraceLine.{TraceLine}
-use Rattle.sbpl_promises.specs.Published.{Entry, founds, with_paths, with_plan}
+use Rattle.sbpl_worlds.specs.sbpl_cert.declared.section.Section.{Section}
+use Rattle.sbpl_worlds.specs.sbpl_fixed.declared.no_memory.NoMemory.{NoMemory}
+use Rattle.sbpl_worlds.specs.sbpl_job.declared.job.Outputs.{Outputs}
+use Rattle.sbpl_worlds.specs.sbpl_job.declared.job.SearchJob.{SearchJob}
+use Rattle.sbpl_worlds.specs.sbpl_labels.Counts.{Counts}
+use Rattle.sbpl_worlds.specs.sbpl_labels.Marks.{Marks}
+use Rattle.sbpl_worlds.specs.sbpl_plan.declared.ask.Ask.{Ask}
+use Rattle.sbpl_worlds.specs.sbpl_plan.declared.result.Planned.{Planned}
+use Rattle.sbpl_worlds.specs.sbpl_plan.Outcomes as search
+use Rattle.sbpl_worlds.specs.sbpl_plan.Outcomes.{IsResultOf, IsTrueOutcome}
+use Rattle.sbpl_worlds.specs.sbpl_plan.Asked.{most_passes}
+use Rattle.sbpl_worlds.specs.sbpl_plan.Passing.{ArePasses, expansions, inquiry_of}
+use Rattle.sbpl_worlds.specs.sbpl_replan.Directions.{Direction}
+use Rattle.sbpl_worlds.specs.sbpl_replan.Replanning.{GoesBetween, Standing, StaysTheSame, inquiry}
+use Rattle.sbpl_worlds.specs.sbpl_report.Traces.{traced_pass}
+use Rattle.sbpl_worlds.specs.sbpl_plan.declared.passes.Pass.{Pass}
+use Rattle.sbpl_worlds.specs.sbpl_report.declared.record.TraceLine.{TraceLine}
+use Rattle.sbpl_worlds.specs.sbpl_promises.Published.{Entry, founds, with_paths, with_plan}
 use Rattle.sbpl_plans.specs.Planning.{known_by}
 use Rattle.sbpl_plans.proofs.Founds.{broken_by, first_of_all, founds_traced, none_published}
 use Rattle.sbpl_plans.proofs.Founds.{on_err_is, stands_broken, expansions_traced}
-use Rattle.sbpl_report.specs.declared.record.PlanRecord.{PlanRecord}
-use Rattle.sbpl_promises.specs.Asked.{Known, ask_of}
-use Rattle.sbpl_promises.specs.Sites.{Site, site_of}
-use Rattle.sbpl_promises.specs.Headline.{Begins, Carried, IsKnownWithin, IsMarked, IsNoneThere, IsSearched, IsToldOf}
-use Rattle.sbpl_promises.specs.Headline.{IsWithinBound, Joins, KeepsPromises, expanded_before}
-use Rattle.sbpl_report.specs.Shown.{IsShown, IsThere}
+use Rattle.sbpl_worlds.specs.sbpl_report.declared.record.PlanRecord.{PlanRecord}
+use Rattle.sbpl_worlds.specs.sbpl_promises.Asked.{Known, ask_of}
+use Rattle.sbpl_worlds.specs.sbpl_promises.Sites.{Site, site_of}
+use Rattle.sbpl_worlds.specs.sbpl_promises.Headline.{Begins, Carried, IsKnownWithin, IsMarked, IsNoneThere, IsSearched, IsToldOf}
+use Rattle.sbpl_worlds.specs.sbpl_promises.Headline.{IsWithinBound, Joins, KeepsPromises, expanded_before}
+use Rattle.sbpl_worlds.specs.sbpl_report.Shown.{IsShown, IsThere}
 use Rattle.sbpl_plans.proofs.plan_record.make_record.Goals as goal
 
 -- a plan that was spent used up the budget, or the run's

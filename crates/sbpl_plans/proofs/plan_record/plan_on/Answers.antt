@@ -1,17 +1,17 @@
 use Rattle.std.proofs.Common.{◌≡◌, ℕ, ◌+◌, ◌-◌, ◌^◌, ◌≤◌, ◌<◌, length, List, [], ◌∷◌, ◌++◌, Result, Ok, Err, IfOk, refl}
 use Rattle.std.proofs.Common.{sym, ◌∙◌, ap, subst, inl, inr, arith}
 use Rattle.std.specs.Prelude.{OnErr}
-use Rattle.sbpl_incumbent.specs.Entries.{next_entry}
-use Rattle.sbpl_incumbent.specs.Views.{Publishing}
-use Rattle.sbpl_plan.specs.declared.passes.Pass.{Pass}
-use Rattle.sbpl_plan.specs.declared.result.Planned.{Planned}
-use Rattle.sbpl_plan.specs.Asked.{MOST_PASSES}
-use Rattle.sbpl_plan.specs.Observed.{AreTold}
-use Rattle.sbpl_plan.specs.Passing.{Inquiry}
-use Rattle.sbpl_replan.specs.Replanning.{Standing, StandsOutOfMemory}
-use Rattle.sbpl_search.specs.Meaning.{Meaning}
+use Rattle.sbpl_worlds.specs.sbpl_incumbent.Entries.{next_entry}
+use Rattle.sbpl_worlds.specs.sbpl_incumbent.Views.{Publishing}
+use Rattle.sbpl_worlds.specs.sbpl_plan.declared.passes.Pass.{Pass}
+use Rattle.sbpl_worlds.specs.sbpl_plan.declared.result.Planned.{Planned}
+use Rattle.sbpl_worlds.specs.sbpl_plan.Asked.{MOST_PASSES}
+use Rattle.sbpl_worlds.specs.sbpl_plan.Observed.{AreTold}
+use Rattle.sbpl_worlds.specs.sbpl_plan.Passing.{Inquiry}
+use Rattle.sbpl_worlds.specs.sbpl_replan.Replanning.{Standing, StandsOutOfMemory}
+use Rattle.sbpl_worlds.specs.sbpl_search.Meaning.{Meaning}
 use Rattle.sbpl_plans.specs.declared.publishing.Publishes.{Publishes}
-use Rattle.sbpl_promises.specs.Published.{founds, with_paths}
+use Rattle.sbpl_worlds.specs.sbpl_promises.Published.{founds, with_paths}
 use Rattle.sbpl_plans.proofs.Founds.{all_found, on_err_so, stands_so}
 use Rattle.sbpl_plans.proofs.plan_record.plan_on.Goals as goal
 

@@ -1,7 +1,7 @@
 use Rattle.std.proofs.Common.{◌≡◌, ℕ, ◌+◌, ◌<◌, ◌≤◌, [], ◌∷◌, List, length, drop, get_or, subst, add-one, drop-cons}
 use Rattle.std.proofs.lemmas.List.{drop_all}
-use Rattle.sbpl_promises.specs.Headline.{IsPathFrom}
-use Rattle.sbpl_promises.specs.Sites.{Site, site_of}
+use Rattle.sbpl_worlds.specs.sbpl_promises.Headline.{IsPathFrom}
+use Rattle.sbpl_worlds.specs.sbpl_promises.Sites.{Site, site_of}
 use Rattle.sbpl_plans.proofs.PathSteps.{Completes, all_done, first_arc, one_more, path_after}
 use Rattle.sbpl_plans.proofs.plan_record.steps_of.Goals as goal
 

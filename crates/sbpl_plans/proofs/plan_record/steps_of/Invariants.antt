@@ -1,6 +1,6 @@
 use Rattle.std.proofs.Common.{drop}
-use Rattle.sbpl_promises.specs.Headline.{IsPathFrom}
-use Rattle.sbpl_promises.specs.Sites.{site_of}
+use Rattle.sbpl_worlds.specs.sbpl_promises.Headline.{IsPathFrom}
+use Rattle.sbpl_worlds.specs.sbpl_promises.Sites.{site_of}
 use Rattle.sbpl_plans.proofs.PathSteps.{Completes}
 use Rattle.sbpl_plans.proofs.plan_record.steps_of.Given as goal
 

@@ -1,7 +1,7 @@
 use Rattle.std.proofs.Common.{◌≡◌, ◌∙◌, refl, sym, true}
-use Rattle.sbpl_job.specs.Jobs.{may_move}
-use Rattle.sbpl_job.specs.declared.job.Planner.{Planner}
-use Rattle.sbpl_job.specs.declared.job.Planner.TheVariants as planner
+use Rattle.sbpl_worlds.specs.sbpl_job.Jobs.{may_move}
+use Rattle.sbpl_worlds.specs.sbpl_job.declared.job.Planner.{Planner}
+use Rattle.sbpl_worlds.specs.sbpl_job.declared.job.Planner.TheVariants as planner
 use Rattle.sbpl_plans.proofs.Going.{ends_by}
 use Rattle.sbpl_plans.proofs.planners.make_plans.Goals as goal
 

@@ -1,4 +1,4 @@
-use Rattle.sbpl_job.specs.declared.job.Planner.TheVariants as planner
+use Rattle.sbpl_worlds.specs.sbpl_job.declared.job.Planner.TheVariants as planner
 use Rattle.sbpl_plans.proofs.Going.{ends_by}
 use Rattle.sbpl_plans.proofs.planners.plans_forwards.Goals as goal
 

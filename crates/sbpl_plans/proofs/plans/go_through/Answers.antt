@@ -1,8 +1,8 @@
 use Rattle.std.proofs.Common.{◌≡◌, ◌<◌, ℕ, length, Option, refl, sym, subst, ap, ◌∙◌, arith}
-use Rattle.sbpl_cfg.specs.declared.pose.Place.{Place}
-use Rattle.sbpl_map.specs.ChangeText.{IsPlaceOnMap}
+use Rattle.sbpl_worlds.specs.sbpl_cfg.declared.pose.Place.{Place}
+use Rattle.sbpl_worlds.specs.sbpl_map.ChangeText.{IsPlaceOnMap}
 use Rattle.sbpl_plans.proofs.Going.{at_last, changes, sets_out, stops, tells_last, tells_no_more}
-use Rattle.sbpl_promises.specs.Sites.{Site, site_of}
+use Rattle.sbpl_worlds.specs.sbpl_promises.Sites.{Site, site_of}
 use Rattle.sbpl_worlds.proofs.Moving.{alike_over, move_on_map, next_is, start_first, stays_put, within}
 use Rattle.sbpl_worlds.proofs.OnMaps.{batch_on_map, same_states}
 use Rattle.sbpl_telling.proofs.Writings.{status_ends}

@@ -1,7 +1,7 @@
 use Rattle.std.proofs.Common.{◌≡◌, ◌+◌, ◌*◌, ◌<◌, ◌≤◌, length}
-use Rattle.sbpl_plan.specs.Asked.{MOST_PASSES}
-use Rattle.sbpl_promises.specs.Sites.{site_of, start_after}
-use Rattle.sbpl_promises.specs.Writing.{WritesOnly}
+use Rattle.sbpl_worlds.specs.sbpl_plan.Asked.{MOST_PASSES}
+use Rattle.sbpl_worlds.specs.sbpl_promises.Sites.{site_of, start_after}
+use Rattle.sbpl_worlds.specs.sbpl_promises.Writing.{WritesOnly}
 use Rattle.sbpl_plans.proofs.Going.{IsGoing}
 use Rattle.sbpl_plans.specs.Planning.{known_by}
 use Rattle.sbpl_plans.proofs.plans.go_through.Given as goal

@@ -1,7 +1,7 @@
 use Rattle.std.proofs.Common.{◌∙◌, ℕ, List, sym, subst}
 use Rattle.std.specs.List.Sorted.{IsStrictlyIncreasing}
-use Rattle.sbpl_change.specs.Affected.{AreStates, AreAffected, KeepArcsElsewhere}
-use Rattle.sbpl_terrain.specs.declared.arc_end.ArcEnd.TheVariants as end
+use Rattle.sbpl_heur.specs.sbpl_terrain.Affected.{AreStates, AreAffected, KeepArcsElsewhere}
+use Rattle.sbpl_heur.specs.sbpl_terrain.declared.arc_end.ArcEnd.TheVariants as end
 use Rattle.sbpl_replan.proofs.Changing.{changeable, same_states}
 use Rattle.sbpl_replan.proofs.change.change.Goals as goal
 

@@ -1,14 +1,14 @@
 use Rattle.std.proofs.Common.{◌≡◌, ◌∙◌, ℕ, List, [], sym, subst}
-use Rattle.sbpl_labels.specs.Marks.{states_of}
-use Rattle.sbpl_search.specs.Changed.{IsChangeable}
-use Rattle.sbpl_search.specs.Ready.{AreUsable}
-use Rattle.sbpl_serial.specs.Meant.{AreRepairedFor}
-use Rattle.sbpl_change.specs.Affected.{AreStates, AreAffected, KeepArcsElsewhere}
+use Rattle.sbpl_plan.specs.sbpl_labels.Marks.{states_of}
+use Rattle.sbpl_plan.specs.sbpl_search.Changed.{IsChangeable}
+use Rattle.sbpl_plan.specs.sbpl_search.Ready.{AreUsable}
+use Rattle.sbpl_heur.specs.sbpl_serial.Meant.{AreRepairedFor}
+use Rattle.sbpl_heur.specs.sbpl_terrain.Affected.{AreStates, AreAffected, KeepArcsElsewhere}
 use Rattle.sbpl_back.specs.Reversed.{reversed}
-use Rattle.sbpl_cost.specs.Cells.{lattice_cells}
-use Rattle.sbpl_cost.specs.Lattices.{network_of}
-use Rattle.sbpl_cost.specs.World.{World}
-use Rattle.sbpl_terrain.specs.declared.arc_end.ArcEnd.TheVariants as end
+use Rattle.sbpl_heur.specs.sbpl_cost.Cells.{lattice_cells}
+use Rattle.sbpl_heur.specs.sbpl_cost.Lattices.{network_of}
+use Rattle.sbpl_heur.specs.sbpl_cost.World.{World}
+use Rattle.sbpl_heur.specs.sbpl_terrain.declared.arc_end.ArcEnd.TheVariants as end
 use Rattle.sbpl_replan.proofs.Changing.{changeable_back, differ, same_states}
 use Rattle.sbpl_replan.proofs.change.change_back.Goals as goal
 

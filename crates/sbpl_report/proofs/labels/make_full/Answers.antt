@@ -1,9 +1,9 @@
 use Rattle.std.proofs.Common.{◌≡◌, ℕ, Result, Ok, Err, IfOk, sym}
-use Rattle.sbpl_fixed.specs.declared.no_memory.NoMemory.{NoMemory}
-use Rattle.sbpl_graph.specs.Certificate.{AreSupported}
-use Rattle.sbpl_graph.specs.Laws.{IsSound}
-use Rattle.sbpl_graph.specs.Network.{Network}
-use Rattle.sbpl_labels.specs.Marks.{Marks, g_of, states_of, v_of}
+use Rattle.sbpl_job.specs.sbpl_fixed.declared.no_memory.NoMemory.{NoMemory}
+use Rattle.sbpl_plan.specs.sbpl_graph.Certificate.{AreSupported}
+use Rattle.sbpl_plan.specs.sbpl_graph.Laws.{IsSound}
+use Rattle.sbpl_plan.specs.sbpl_graph.Network.{Network}
+use Rattle.sbpl_plan.specs.sbpl_labels.Marks.{Marks, g_of, states_of, v_of}
 use Rattle.sbpl_cert.specs.Sections.{FullSection}
 use Rattle.sbpl_cert.specs.Claims.{claim_of}
 use Rattle.sbpl_cert.specs.Sound.{ShowsBound}

@@ -1,8 +1,8 @@
 use Rattle.std.proofs.Common.{ℕ, Result, Ok, Err, IfOk}
-use Rattle.sbpl_fixed.specs.declared.no_memory.NoMemory.{NoMemory}
-use Rattle.sbpl_graph.specs.Certificate.{AreSupported}
-use Rattle.sbpl_graph.specs.Network.{Network}
-use Rattle.sbpl_labels.specs.Marks.{Marks, g_of, v_of}
+use Rattle.sbpl_job.specs.sbpl_fixed.declared.no_memory.NoMemory.{NoMemory}
+use Rattle.sbpl_plan.specs.sbpl_graph.Certificate.{AreSupported}
+use Rattle.sbpl_plan.specs.sbpl_graph.Network.{Network}
+use Rattle.sbpl_plan.specs.sbpl_labels.Marks.{Marks, g_of, v_of}
 use Rattle.sbpl_cert.specs.Sparse.{SparseSection, sparse_claim}
 use Rattle.sbpl_cert.specs.Sound.{ShowsBound}
 use Rattle.sbpl_report.proofs.Showing.{answer_fits, arcs_fit, shown_sparsely}

@@ -1,7 +1,7 @@
 use Rattle.std.proofs.Common.{◌<◌, arith}
-use Rattle.sbpl_graph.specs.declared.TheConstants.{FAR}
-use Rattle.sbpl_graph.proofs.Paths.{label_at_most}
-use Rattle.sbpl_labels.specs.Marks.{g_of}
+use Rattle.sbpl_search.specs.sbpl_graph.declared.TheConstants.{FAR}
+use Rattle.sbpl_search.proofs.Paths.{label_at_most}
+use Rattle.sbpl_search.specs.sbpl_labels.Marks.{g_of}
 use Rattle.sbpl_serial.proofs.Queueing.{relaxed_unplaced}
 use Rattle.sbpl_serial.proofs.Relaxing.{expanding_none, expanding_more, lowered_all, usable_all}
 use Rattle.sbpl_serial.proofs.expansion.expand.Goals as goal

@@ -1,6 +1,6 @@
 use Rattle.std.proofs.Common.{◌≡◌, ◌+◌, ◌<◌, ⊎_elim, inl, inr, true, false, arith}
 use Rattle.std.proofs.lemmas.List.Elements.{All-get_or}
-use Rattle.sbpl_labels.specs.Marks.{states_of}
+use Rattle.sbpl_search.specs.sbpl_labels.Marks.{states_of}
 use Rattle.sbpl_serial.specs.declared.step.Step.{Step}
 use Rattle.sbpl_serial.specs.Low.{IsInQueue}
 use Rattle.sbpl_serial.specs.Queue.{is_among}

@@ -1,5 +1,5 @@
 use Rattle.std.proofs.Common.{ℕ, ℤ}
-use Rattle.sbpl_cfg.specs.declared.pose.Pose.{Pose}
+use Rattle.sbpl_mprim.specs.sbpl_cfg.declared.pose.Pose.{Pose}
 use Rattle.sbpl_sweep.specs.Bands.{IsDisc, AddsRows, gap_beside}
 use Rattle.sbpl_sweep.proofs.RowsTouched.{IsNarrowed}
 use Rattle.sbpl_sweep.proofs.rows.push_rows.Given as goal

@@ -1,6 +1,6 @@
 use Rattle.std.proofs.Common.{[], ◌∷◌, ◌++◌, inl}
 use Rattle.sbpl_promises.specs.Intents.{incumbent_writes, labels_writes, trace_writes}
-use Rattle.sbpl_report.specs.Report.{section_text}
+use Rattle.sbpl_promises.specs.sbpl_report.Report.{section_text}
 use Rattle.sbpl_promises.specs.Writing.{to_output}
 use Rattle.sbpl_telling.proofs.Writings.{ends_after, ends_first}
 use Rattle.sbpl_telling.proofs.sections.write_plan.Goals as goal

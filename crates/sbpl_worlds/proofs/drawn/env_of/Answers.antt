@@ -1,6 +1,6 @@
 use Rattle.std.proofs.Common.{ℕ, List, ap, rules}
-use Rattle.sbpl_cfg.specs.Environment.{Environment}
-use Rattle.sbpl_demo.specs.Environment.{costs, environment}
+use Rattle.sbpl_promises.specs.sbpl_cfg.Environment.{Environment}
+use Rattle.sbpl_promises.specs.sbpl_demo.Environment.{costs, environment}
 use Rattle.sbpl_worlds.proofs.Drawings.{same_ok}
 use Rattle.sbpl_worlds.proofs.drawn.env_of.Goals as goal
 

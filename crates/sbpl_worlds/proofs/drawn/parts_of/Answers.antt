@@ -1,5 +1,5 @@
 use Rattle.std.proofs.Common.{◌≡◌, ap, ◌∙◌}
-use Rattle.sbpl_map.specs.CellMap.{CellMap}
+use Rattle.sbpl_promises.specs.sbpl_map.CellMap.{CellMap}
 use Rattle.sbpl_worlds.proofs.drawn.parts_of.Goals as goal
 
 pub changes_of-requires-clause-said : goal.changes_of-requires-clause-said

@@ -1,5 +1,5 @@
 use Rattle.std.proofs.Common.{rules}
-use Rattle.sbpl_demo.specs.Primitives.{primitives}
+use Rattle.sbpl_promises.specs.sbpl_demo.Primitives.{primitives}
 use Rattle.sbpl_worlds.proofs.Drawings.{only_memory}
 use Rattle.sbpl_worlds.proofs.drawn.sweeps_of.Goals as goal
 

@@ -1,7 +1,7 @@
 use Rattle.std.proofs.Common.{ℕ, Some, true, ap, subst, ◌∙◌}
-use Rattle.sbpl_cfg.specs.Environment.{Environment}
-use Rattle.sbpl_map.specs.CellMap.{CellMap}
-use Rattle.sbpl_map.specs.LineFaults.{HasTextFault}
+use Rattle.sbpl_promises.specs.sbpl_cfg.Environment.{Environment}
+use Rattle.sbpl_promises.specs.sbpl_map.CellMap.{CellMap}
+use Rattle.sbpl_promises.specs.sbpl_map.LineFaults.{HasTextFault}
 use Rattle.sbpl_promises.specs.Causes.{scope_of}
 use Rattle.sbpl_worlds.proofs.files.judge_moving.Goals as goal
 

@@ -1,7 +1,7 @@
 use Rattle.std.proofs.Common.{List, Option, IfSome, sym, subst}
-use Rattle.sbpl_cfg.specs.declared.pose.Place.{Place}
-use Rattle.sbpl_map.specs.CellMap.{CellMap}
-use Rattle.sbpl_map.specs.ChangeText.{AreOnMap}
+use Rattle.sbpl_promises.specs.sbpl_cfg.declared.pose.Place.{Place}
+use Rattle.sbpl_promises.specs.sbpl_map.CellMap.{CellMap}
+use Rattle.sbpl_promises.specs.sbpl_map.ChangeText.{AreOnMap}
 use Rattle.sbpl_promises.specs.Causes.{AreMovesIn, ChangesStopFor, ReadsCourse, grid_files, grid_scope}
 use Rattle.sbpl_promises.specs.GridSite.{grid_site}
 use Rattle.sbpl_promises.specs.Texts.{still_scope}

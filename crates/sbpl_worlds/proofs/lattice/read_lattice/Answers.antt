@@ -1,5 +1,5 @@
 use Rattle.std.proofs.Common.{rules, sym, subst}
-use Rattle.sbpl_cost.specs.World.{World}
+use Rattle.sbpl_promises.specs.sbpl_cost.World.{World}
 use Rattle.sbpl_promises.specs.Causes.{ReadsWorld}
 use Rattle.sbpl_worlds.proofs.Reading.{primitives_before, primitives_stop, reads_on, wide_stop}
 use Rattle.sbpl_worlds.proofs.lattice.read_lattice.Goals as goal

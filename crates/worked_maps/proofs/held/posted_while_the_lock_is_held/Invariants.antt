@@ -1,5 +1,5 @@
 use Rattle.std.proofs.Common.{false}
-use Rattle.sbpl_search.specs.Query.{query}
+use Rattle.sbpl_plan.specs.sbpl_search.Query.{query}
 use Rattle.worked_maps.specs.Pair.{pair}
 use Rattle.worked_maps.proofs.held.posted_while_the_lock_is_held.Given as goal
 

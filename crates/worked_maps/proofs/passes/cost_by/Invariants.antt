@@ -1,5 +1,5 @@
 use Rattle.std.proofs.Common.{true}
-use Rattle.sbpl_search.specs.Query.{query}
+use Rattle.sbpl_plan.specs.sbpl_search.Query.{query}
 use Rattle.worked_maps.proofs.passes.cost_by.Given as goal
 
 abbrev pub ghosts-pass_as : goal.ghosts-pass_as

@@ -1,7 +1,7 @@
 use Rattle.std.proofs.Common.{true}
-use Rattle.sbpl_cost.specs.Lattices.{network_of}
+use Rattle.sbpl_heur.specs.sbpl_cost.Lattices.{network_of}
 use Rattle.sbpl_heur.specs.Bests.{distance_in}
-use Rattle.sbpl_search.specs.Query.{query}
+use Rattle.sbpl_plan.specs.sbpl_search.Query.{query}
 use Rattle.worked_maps.proofs.rows.told_on.Given as goal
 
 abbrev pub ghosts-told_from-M-Naming : goal.ghosts-told_from-M-Naming

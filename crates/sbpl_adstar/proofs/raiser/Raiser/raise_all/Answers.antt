@@ -1,7 +1,7 @@
 use Rattle.std.proofs.Common.{◌≡◌, ℕ, ◌<◌, ◌≤◌, ◌^◌, length, slice_index, arith, sym, ◌∙◌, ap, subst}
 use Rattle.std.proofs.lemmas.List.{get_or_default}
-use Rattle.sbpl_labels.specs.Marks.{states_of}
-use Rattle.sbpl_serial.specs.Run.{IsUnder, RaisesState}
+use Rattle.sbpl_ara.specs.sbpl_labels.Marks.{states_of}
+use Rattle.sbpl_ara.specs.sbpl_serial.Run.{IsUnder, RaisesState}
 use Rattle.sbpl_adstar.specs.Listed.{AddsBecome}
 use Rattle.sbpl_adstar.proofs.Listing.{all_by}
 use Rattle.sbpl_adstar.proofs.Occurrences.{few}

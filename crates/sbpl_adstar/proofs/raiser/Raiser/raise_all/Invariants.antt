@@ -1,6 +1,6 @@
 use Rattle.std.proofs.Common.{◌≡◌, ℕ, ◌-◌, vec_capacity}
-use Rattle.sbpl_labels.specs.Marks.{states_of}
-use Rattle.sbpl_search.specs.Ready.{AreUsable}
+use Rattle.sbpl_ara.specs.sbpl_labels.Marks.{states_of}
+use Rattle.sbpl_ara.specs.sbpl_search.Ready.{AreUsable}
 use Rattle.sbpl_adstar.proofs.Raising.{IsTurn}
 use Rattle.sbpl_adstar.proofs.raiser.Raiser.raise_all.Given as goal
 

@@ -1,5 +1,5 @@
 use Rattle.std.proofs.Common.{ℕ, ap, inl, ◌∙◌}
-use Rattle.sbpl_labels.specs.Marks.{v_of}
+use Rattle.sbpl_serial.specs.sbpl_labels.Marks.{v_of}
 use Rattle.sbpl_ara.proofs.ara.Ara.open.Goals as goal
 
 pub returns-clause-fresh : goal.returns-clause-fresh

@@ -1,6 +1,6 @@
 use Rattle.std.proofs.Common.{rules, ap, sym, subst, ◌∙◌, map}
-use Rattle.sbpl_cfg.specs.Environment.{Environment, IsEnvironment}
-use Rattle.sbpl_mprim.specs.Primitives.{ArePrimitives}
+use Rattle.sbpl_sweep.specs.sbpl_cfg.Environment.{Environment, IsEnvironment}
+use Rattle.sbpl_sweep.specs.sbpl_mprim.Primitives.{ArePrimitives}
 use Rattle.sbpl_sweep.specs.Swept.{AreForFew}
 use Rattle.sbpl_cost.specs.PrimitiveCost.{primitive_cost}
 use Rattle.sbpl_cost.specs.Rates.{AreGaps}

@@ -1,5 +1,5 @@
 use Rattle.std.proofs.Common.{rules, refl, length, ap, sym, subst, ◌∙◌, ◌*◌, ◌+◌, ◌<◌, ◌^◌, ◌≡◌, Some}
-use Rattle.sbpl_graph.specs.Laws.{IsSound}
+use Rattle.sbpl_terrain.specs.sbpl_graph.Laws.{IsSound}
 use Rattle.sbpl_cost.specs.Lattices.{network_of}
 use Rattle.std.proofs.lemmas.Option.{same_Some, slice_get_read, slice_get_within}
 use Rattle.sbpl_cost.specs.Reaches.{IsReach, LieWithin}

@@ -1,7 +1,7 @@
 use Rattle.std.proofs.Common.{◌≡◌, ℕ, ◌<◌, Some, refl, sym, ap, ◌∙◌}
-use Rattle.sbpl_search.specs.Query.{Query, query}
-use Rattle.sbpl_frontier_rules.specs.Laws.{IsLawful, MayBegin}
-use Rattle.sbpl_frontier_core.specs.Passes.{IsPassFinished}
+use Rattle.sbpl_adstar.specs.sbpl_search.Query.{Query, query}
+use Rattle.sbpl_frontier.specs.sbpl_frontier_rules.Laws.{IsLawful, MayBegin}
+use Rattle.sbpl_frontier.specs.sbpl_frontier_core.Passes.{IsPassFinished}
 use Rattle.sbpl_epase.specs.Parts.{Seeker, labels_in}
 use Rattle.sbpl_epase.proofs.Passing.{finished_passed}
 use Rattle.sbpl_epase.proofs.planner.EpaseSearch.pass.Goals as goal

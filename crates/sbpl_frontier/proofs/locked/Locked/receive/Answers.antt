@@ -1,4 +1,4 @@
-use Rattle.sbpl_frontier_rules.specs.declared.leg.Leg.{Leg}
+use Rattle.sbpl_postings.specs.sbpl_frontier_rules.declared.leg.Leg.{Leg}
 use Rattle.sbpl_postings.specs.Posts.{post_of}
 use Rattle.sbpl_frontier.proofs.Tying.{posted_tied}
 use Rattle.sbpl_frontier.proofs.locked.Locked.receive.Goals as goal

@@ -1,6 +1,6 @@
 use Rattle.std.proofs.Common.{arith}
-use Rattle.sbpl_serial.specs.Marked.{closed_at}
-use Rattle.sbpl_graph.proofs.Fitting.{fit_more}
+use Rattle.sbpl_frontier_rules.specs.sbpl_serial.Marked.{closed_at}
+use Rattle.sbpl_frontier_rules.proofs.Fitting.{fit_more}
 use Rattle.sbpl_frontier_core.proofs.Parting.{head_lowered, parts_kept, parts_posted, posting_of}
 use Rattle.sbpl_frontier_core.proofs.Placing.{relaxed_unplaced}
 use Rattle.sbpl_frontier_core.proofs.Replaying.{opened_out}

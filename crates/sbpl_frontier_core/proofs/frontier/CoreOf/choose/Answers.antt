@@ -1,10 +1,10 @@
 use Rattle.std.proofs.Common.{◌≡◌, ℕ, true, false, Option, Some, None, is_some, not, arith, inl, refl, sym}
 use Rattle.std.proofs.Common.{ap, subst, ◌∙◌}
 use Rattle.std.proofs.lemmas.Bool.{eqb-false, eqb-true, true≢false}
-use Rattle.sbpl_labels.specs.Marks.{g_of}
-use Rattle.sbpl_serial.specs.Keys.{goal_key}
-use Rattle.sbpl_serial.specs.Queue.{IsFirstBelow}
-use Rattle.sbpl_serial.specs.Run.{goal_key_at}
+use Rattle.sbpl_frontier_rules.specs.sbpl_labels.Marks.{g_of}
+use Rattle.sbpl_frontier_rules.specs.sbpl_serial.Keys.{goal_key}
+use Rattle.sbpl_frontier_rules.specs.sbpl_serial.Queue.{IsFirstBelow}
+use Rattle.sbpl_frontier_rules.specs.sbpl_serial.Run.{goal_key_at}
 use Rattle.sbpl_frontier_rules.specs.Frontier.{Frontier}
 use Rattle.sbpl_frontier_core.specs.Book.{frontier_of}
 use Rattle.sbpl_frontier_core.specs.Clear.{IsSearched}

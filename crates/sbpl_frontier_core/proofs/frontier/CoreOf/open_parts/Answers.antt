@@ -1,8 +1,8 @@
 use Rattle.std.proofs.Common.{◌≡◌, ◌≤◌, arith, refl, sym, ap, ◌∙◌}
-use Rattle.sbpl_labels.specs.Marks.{states_of}
-use Rattle.sbpl_search.specs.Query.{Query}
-use Rattle.sbpl_serial.specs.Marked.{closed_at}
-use Rattle.sbpl_serial.specs.Run.{none_closed}
+use Rattle.sbpl_frontier_rules.specs.sbpl_labels.Marks.{states_of}
+use Rattle.sbpl_frontier_rules.specs.sbpl_search.Query.{Query}
+use Rattle.sbpl_frontier_rules.specs.sbpl_serial.Marked.{closed_at}
+use Rattle.sbpl_frontier_rules.specs.sbpl_serial.Run.{none_closed}
 use Rattle.sbpl_frontier_core.proofs.Cursors.{none_from}
 use Rattle.sbpl_frontier_core.proofs.Parting.{parts_first}
 use Rattle.sbpl_frontier_core.proofs.frontier.CoreOf.open_parts.Goals as goal

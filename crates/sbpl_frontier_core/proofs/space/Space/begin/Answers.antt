@@ -1,6 +1,6 @@
 use Rattle.std.proofs.Common.{IsSome, ⊎_elim}
 use Rattle.std.specs.List.{Contains}
-use Rattle.sbpl_open.specs.OpenList as open_list
+use Rattle.sbpl_frontier_rules.specs.sbpl_open.OpenList as open_list
 use Rattle.sbpl_frontier_core.proofs.Filling.{filled_all}
 use Rattle.sbpl_frontier_core.proofs.space.Space.begin.Goals as goal
 

@@ -1,6 +1,6 @@
 use Rattle.std.proofs.Common.{◌≡◌, ◌≢◌, arith, ⊎_elim, sym, ◌∙◌}
 use Rattle.std.proofs.lemmas.Bool.{cases_eq}
-use Rattle.sbpl_serial.specs.Run.{IsOver}
+use Rattle.sbpl_frontier_rules.specs.sbpl_serial.Run.{IsOver}
 use Rattle.sbpl_frontier_core.proofs.space.Space.find.Goals as goal
 use Rattle.sbpl_frontier_core.proofs.space.Space.find.Goals.{else-g-v, then-g-v}
 

@@ -1,7 +1,7 @@
 use Rattle.std.proofs.Common.{◌≡◌, ℕ, ◌<◌}
-use Rattle.sbpl_labels.specs.Marks.{states_of}
-use Rattle.sbpl_open.specs.OpenList as open_list
-use Rattle.sbpl_serial.specs.Run.{IsOver}
+use Rattle.sbpl_frontier_rules.specs.sbpl_labels.Marks.{states_of}
+use Rattle.sbpl_frontier_rules.specs.sbpl_open.OpenList as open_list
+use Rattle.sbpl_frontier_rules.specs.sbpl_serial.Run.{IsOver}
 use Rattle.sbpl_frontier_core.specs.Waiting.{Waits}
 use Rattle.sbpl_frontier_core.proofs.space.Space.find.Given as goal
 

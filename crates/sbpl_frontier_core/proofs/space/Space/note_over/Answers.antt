@@ -1,7 +1,7 @@
 use Rattle.std.proofs.Common.{◌≡◌, ◌≢◌, ℕ, length, slice_index, arith, ⊎_elim, sym, ◌∙◌, subst}
 use Rattle.std.proofs.lemmas.Bool.{cases_eq}
 use Rattle.std.proofs.lemmas.List.{get_or_default}
-use Rattle.sbpl_serial.specs.Run.{IsOver}
+use Rattle.sbpl_frontier_rules.specs.sbpl_serial.Run.{IsOver}
 use Rattle.sbpl_frontier_core.specs.Waiting.{Waits}
 use Rattle.sbpl_frontier_core.proofs.space.Space.note_over.Goals as goal
 use Rattle.sbpl_frontier_core.proofs.space.Space.note_over.Goals.{else-g-v, then-g-v}

@@ -1,6 +1,6 @@
 use Rattle.std.proofs.Common.{◌≡◌, ℕ, ◌<◌, slice_index}
-use Rattle.sbpl_open.specs.OpenList as open_list
-use Rattle.sbpl_serial.specs.Run.{IsOver}
+use Rattle.sbpl_frontier_rules.specs.sbpl_open.OpenList as open_list
+use Rattle.sbpl_frontier_rules.specs.sbpl_serial.Run.{IsOver}
 use Rattle.sbpl_frontier_core.specs.Waiting.{Waits}
 use Rattle.sbpl_frontier_core.proofs.space.Space.note_over.Given as goal
 

@@ -1,5 +1,5 @@
 use Rattle.std.proofs.Common.{ap, ◌∙◌}
-use Rattle.sbpl_open.specs.OpenList as open_list
+use Rattle.sbpl_frontier_rules.specs.sbpl_open.OpenList as open_list
 use Rattle.sbpl_frontier_core.specs.Waiting.{Waiting}
 use Rattle.sbpl_frontier_core.proofs.Filling.{initial_held}
 use Rattle.sbpl_frontier_core.proofs.space.Space.restart.Goals as goal

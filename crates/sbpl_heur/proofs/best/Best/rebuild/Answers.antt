@@ -1,5 +1,5 @@
 use Rattle.std.proofs.Common.{◌≡◌, ◌*◌, ◌/◌, length, arith, ap, sym, ◌∙◌, refl, vec_capacity}
-use Rattle.sbpl_labels.specs.Marks.{g_of}
+use Rattle.sbpl_serial.specs.sbpl_labels.Marks.{g_of}
 use Rattle.sbpl_heur.specs.Boards.{cell_count, map_of}
 use Rattle.sbpl_heur.proofs.Rebuilt.{IsRebuilt, board_in_world, least_alike, same_map, cells_of_map}
 use Rattle.sbpl_heur.proofs.Rebuilt.{goal_inside, rebuilt_best, rebuilt_guide}

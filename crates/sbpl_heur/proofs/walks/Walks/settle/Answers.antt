@@ -1,7 +1,7 @@
 use Rattle.std.proofs.Common.{◌<◌, arith, refl, ◌∙◌, subst}
-use Rattle.sbpl_graph.specs.Certificate.{ShowBound}
-use Rattle.sbpl_labels.specs.Marks.{g_of, v_of}
-use Rattle.sbpl_search.specs.Query.{query}
+use Rattle.sbpl_serial.specs.sbpl_graph.Certificate.{ShowBound}
+use Rattle.sbpl_serial.specs.sbpl_labels.Marks.{g_of, v_of}
+use Rattle.sbpl_serial.specs.sbpl_search.Query.{query}
 use Rattle.sbpl_serial.specs.Run.{none_closed, closed_after, IsAtRest}
 use Rattle.sbpl_heur.specs.Boards.{cell_count, board_network}
 use Rattle.sbpl_heur.proofs.Settling.{settled, are_least}

@@ -1,7 +1,7 @@
 use Rattle.std.proofs.Common.{◌<◌, length, length-set, slice_get, arith, ap, sym, ◌∙◌, subst}
 use Rattle.std.specs.List.{All, Contains}
-use Rattle.sbpl_graph.specs.Fit.{FitCount}
-use Rattle.sbpl_labels.specs.Marks.{states_of, back_of, g_of, v_of}
+use Rattle.sbpl_serial.specs.sbpl_graph.Fit.{FitCount}
+use Rattle.sbpl_serial.specs.sbpl_labels.Marks.{states_of, back_of, g_of, v_of}
 use Rattle.sbpl_heur.proofs.Hopping.{beside_set}
 use Rattle.sbpl_heur.proofs.Touching.{same_arcs, fits_more}
 use Rattle.sbpl_heur.proofs.walks.Walks.write.Goals as goal

@@ -1,10 +1,10 @@
 use Rattle.std.proofs.Common.{ℕ, sym, subst}
-use Rattle.sbpl_back.specs.Reversed.{reversed}
-use Rattle.sbpl_back.specs.Starts.{StartIn, from_start}
-use Rattle.sbpl_cost.specs.Lattices.{network_of}
-use Rattle.sbpl_cost.specs.World.{World}
-use Rattle.sbpl_labels.specs.Marks.{Marks}
-use Rattle.sbpl_plan.specs.Outcomes.{IsResultOf}
+use Rattle.sbpl_worlds.specs.sbpl_back.Reversed.{reversed}
+use Rattle.sbpl_worlds.specs.sbpl_back.Starts.{StartIn, from_start}
+use Rattle.sbpl_worlds.specs.sbpl_cost.Lattices.{network_of}
+use Rattle.sbpl_worlds.specs.sbpl_cost.World.{World}
+use Rattle.sbpl_worlds.specs.sbpl_labels.Marks.{Marks}
+use Rattle.sbpl_worlds.specs.sbpl_plan.Outcomes.{IsResultOf}
 use Rattle.sbpl_plans.proofs.recorded.BackReplannerRecordedLattice.section.Goals as goal
 
 pub labels_of-requires-clause-found : goal.labels_of-requires-clause-found

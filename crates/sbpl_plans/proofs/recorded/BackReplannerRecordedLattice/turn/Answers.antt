@@ -1,9 +1,9 @@
 use Rattle.std.proofs.Common.{subst}
-use Rattle.sbpl_back.specs.Reversed.{reversed}
-use Rattle.sbpl_cost.specs.Lattices.{network_of}
-use Rattle.sbpl_plan.specs.declared.result.FoundPath.{FoundPath}
-use Rattle.sbpl_plan.specs.declared.result.Outcome.{Outcome}
-use Rattle.sbpl_plan.specs.Outcomes.{IsTrueOutcome}
+use Rattle.sbpl_worlds.specs.sbpl_back.Reversed.{reversed}
+use Rattle.sbpl_worlds.specs.sbpl_cost.Lattices.{network_of}
+use Rattle.sbpl_worlds.specs.sbpl_plan.declared.result.FoundPath.{FoundPath}
+use Rattle.sbpl_worlds.specs.sbpl_plan.declared.result.Outcome.{Outcome}
+use Rattle.sbpl_worlds.specs.sbpl_plan.Outcomes.{IsTrueOutcome}
 use Rattle.sbpl_plans.proofs.recorded.BackReplannerRecordedLattice.turn.Goals as goal
 
 pub returns-in-NoPath-clause-so : goal.returns-in-NoPath-clause-so

@@ -1,6 +1,6 @@
 use Rattle.std.proofs.Common.{List, subst}
 use Rattle.std.specs.Prelude.{IfOk, OnErr}
-use Rattle.sbpl_labels.specs.Counts.{Counts}
+use Rattle.sbpl_plan.specs.sbpl_labels.Counts.{Counts}
 use Rattle.sbpl_plan.specs.declared.passes.Pass.{Pass}
 use Rattle.sbpl_plan.specs.Observed.{AreTold}
 use Rattle.sbpl_plan.specs.OutOfMemory.{RunsOutOfMemory}
@@ -8,10 +8,10 @@ use Rattle.sbpl_plan.specs.Passing.{Inquiry, inquiry_of}
 use Rattle.sbpl_plan.specs.Planned.{IsPlanned}
 use Rattle.sbpl_back.specs.Reversed.{reversed}
 use Rattle.sbpl_back.specs.Starts.{from_start}
-use Rattle.sbpl_cost.specs.Lattices.{network_of}
+use Rattle.sbpl_heur.specs.sbpl_cost.Lattices.{network_of}
 use Rattle.sbpl_adstar.specs.Planner.{adstar}
-use Rattle.sbpl_serial.specs.declared.step.Step.{Step}
-use Rattle.sbpl_serial.specs.Meant.{seen}
+use Rattle.sbpl_heur.specs.sbpl_serial.declared.step.Step.{Step}
+use Rattle.sbpl_heur.specs.sbpl_serial.Meant.{seen}
 use Rattle.sbpl_replan.specs.Directions.{backwards}
 use Rattle.sbpl_replan.specs.Replanning.{IsReadyBack, Standing, StandsOutOfMemory, at_plan, gap_from, inquiry}
 use Rattle.sbpl_replan.proofs.Changing.{back_inquiry, on_err_so, ready_again_back, stands}

@@ -1,7 +1,7 @@
 use Rattle.std.proofs.Common.{ℕ, List, sym, subst}
 use Rattle.std.specs.Prelude.{IfOk, OnErr}
 use Rattle.sbpl_plan.specs.Planned.{IsPlanned}
-use Rattle.sbpl_labels.specs.Counts.{Counts}
+use Rattle.sbpl_plan.specs.sbpl_labels.Counts.{Counts}
 use Rattle.sbpl_plan.specs.declared.passes.Pass.{Pass}
 use Rattle.sbpl_plan.specs.Observed.{AreTold}
 use Rattle.sbpl_plan.specs.OutOfMemory.{RunsOutOfMemory}

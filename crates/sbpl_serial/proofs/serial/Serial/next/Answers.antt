@@ -1,4 +1,4 @@
-use Rattle.sbpl_labels.specs.Marks.{g_of}
+use Rattle.sbpl_search.specs.sbpl_labels.Marks.{g_of}
 use Rattle.sbpl_serial.specs.Keys.{goal_key}
 use Rattle.sbpl_serial.proofs.Resting.{first_below}
 use Rattle.sbpl_serial.proofs.serial.Serial.next.Goals as goal

@@ -1,5 +1,5 @@
 use Rattle.std.proofs.Common.{arith, refl, subst}
-use Rattle.sbpl_labels.specs.Marks.{AreLabels}
+use Rattle.sbpl_search.specs.sbpl_labels.Marks.{AreLabels}
 use Rattle.sbpl_search.specs.Query.{query}
 use Rattle.sbpl_serial.specs.Serial.{SerialState}
 use Rattle.sbpl_serial.proofs.Resting.{next_from_queue, rest_from_queue}

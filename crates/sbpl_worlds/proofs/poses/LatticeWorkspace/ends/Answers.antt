@@ -1,8 +1,8 @@
 use Rattle.std.proofs.Common.{◌≡◌, ℕ, Option, Some, IfSome, ◌∙◌, ap, subst}
-use Rattle.sbpl_cfg.specs.declared.pose.Pose.{Pose}
-use Rattle.sbpl_cfg.specs.declared.pose.Place.{Place}
-use Rattle.sbpl_cfg.specs.Environment.{Environment, IsPlaceOf}
-use Rattle.sbpl_cost.specs.States.{state_number}
+use Rattle.sbpl_promises.specs.sbpl_cfg.declared.pose.Pose.{Pose}
+use Rattle.sbpl_promises.specs.sbpl_cfg.declared.pose.Place.{Place}
+use Rattle.sbpl_promises.specs.sbpl_cfg.Environment.{Environment, IsPlaceOf}
+use Rattle.sbpl_promises.specs.sbpl_cost.States.{state_number}
 use Rattle.sbpl_promises.specs.LatticeSite.{IsStateOf}
 use Rattle.sbpl_worlds.proofs.poses.LatticeWorkspace.ends.Goals as goal
 

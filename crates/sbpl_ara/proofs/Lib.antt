@@ -1,0 +1,1 @@
+pub use Rattle.sbpl_serial.proofs.Paths

@@ -1,5 +1,0 @@
-mod Lists
-mod Noting
-mod Adding
-mod Written
-mod Touching

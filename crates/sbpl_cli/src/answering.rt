@@ -1,0 +1,105 @@
+//! What the program does for the words after its name, at any desk.
+
+ghost use Rattle.std.specs.Prelude.{◌≡◌, ◌<◌, ◌^◌, false, length, None, IsSome, map, string_bytes};
+ghost use Rattle.std.specs.Io.KnownBytes.{Keeps};
+ghost use Rattle.sbpl_jobs.specs.sbpl_desk.Desk.{ReadsOnly, Rose};
+ghost use Rattle.sbpl_headline.specs.Headline.{IsHeadline};
+ghost use Rattle.sbpl_jobs.specs.sbpl_promises.Run.{IsOrUnwritten, IsStatus, MayBeWritten, job_named};
+ghost use Rattle.sbpl_jobs.specs.sbpl_promises.RunPromises.{RunPromises};
+ghost use Rattle.sbpl_jobs.specs.sbpl_promises.Writing.{IsOutput, WritesOnly, output};
+ghost use Rattle.sbpl_jobs.specs.sbpl_job.Asked.{asked_for};
+ghost use Rattle.sbpl_message.specs.Reasons.{has_message};
+
+use crate::{Gate, run_with};
+use sbpl_jobs::{Asked, Board, Desk, Publisher, WriteStop, read_asked};
+use sbpl_message::{message_for, told};
+use std::alloc::Global;
+use std::io;
+use std::sync::Wait;
+use std::thread::Threads;
+
+/// The status for a write that failed.
+const NOT_WRITTEN: u8 = 7;
+
+/// The status where memory ran out.
+pub const NO_MEMORY: u8 = 9;
+
+/// Writes the text that is asked for to the standard output, and answers the status.
+fn tell<D: Desk>(alloc: Global, asked: Asked, desk: &mut D) -> u8
+    ensures told { IsOrUnwritten 0 result }
+    ensures write { result ≡ 7 → Rose ((D.state desk.old).write_faults output) ((D.state desk.new).write_faults output) }
+    ensures frame { WritesOnly IsOutput (D.state desk.old) (D.state desk.new) }
+{
+    let Ok(text) = told(alloc, asked) else {
+        return NO_MEMORY;
+    };
+    match desk.write("-", text.as_bytes()) {
+        Ok(()) => 0,
+        Err(WriteStop::Failed) => NOT_WRITTEN,
+        Err(WriteStop::NoMemory) => NO_MEMORY,
+    }
+}
+
+/// Tells on `err` why a run that ended with this status did not do its job, where the status has a message. The files are read
+/// again at a desk of this call's own.
+fn explain<D: Desk, E: io::Write>(
+    alloc: Global,
+    words: &[String],
+    status: u8,
+    again: &mut D,
+    err: &mut E,
+)
+    ensures quiet { has_message status ≡ false → Keeps (E.contents err.old) (E.contents err.new) }
+    ensures frame { ReadsOnly (D.state again.old) (D.state again.new) }
+{
+    if let Ok(Some(message)) = message_for(alloc, words, status, again) {
+        // The status says it all where even this cannot be written.
+        let _ = err.write_all(message.as_slice());
+    }
+}
+
+#[tactic(none)]
+/// Does what the words after the program's name ask for, and answers the program's status: tells help or the version, or does
+/// the job that they name, as `run_with` does it. Where the job was not done, a line on `err` says why: which word, which file, or
+/// where in a file and what must stand there. To find that out it reads the files again at the desk `again`, and only then. The
+/// publisher is the board's, and has published fewer than 2^62 entries.
+pub fn answer<R: Threads + Wait + Sync, D: Desk, T: Gate + Sync, E: io::Write>(
+    rt: &R,
+    alloc: Global,
+    words: &[String],
+    desk: &mut D,
+    gate: &T,
+    again: &mut D,
+    err: &mut E,
+    board: &Board,
+    publisher: &mut Publisher,
+) -> u8
+    requires board { publisher.old.board ≡ board.now }
+    requires few { length publisher.old.published < 2 ^ 62 }
+    // Words that ask for help or the version are told it, unless that cannot be written or memory runs out.
+    ensures asked { IsSome (asked_for (map string_bytes words.now)) → IsOrUnwritten 0 result }
+    ensures unwritten { IsSome (asked_for (map string_bytes words.now)) → result ≡ 7 → Rose ((D.state desk.old).write_faults output) ((D.state desk.new).write_faults output) }
+    // All other words get what `run_with` promises, of this status.
+    ensures run { asked_for (map string_bytes words.now) ≡ None → RunPromises (job_named words.now) (D.state desk.old) (D.state desk.new) publisher.old.published publisher.new.published result }
+    // And the headline, of `plan` and `nav`, in definitions of its own.
+    ensures headline { asked_for (map string_bytes words.now) ≡ None → IsHeadline (map string_bytes words.now) (D.state desk.old) (D.state desk.new) result }
+    ensures statuses { IsStatus result }
+    // The publisher stays the board's, and where help or the version is told nothing is published.
+    ensures board { publisher.new.board ≡ publisher.old.board }
+    ensures unpublished { IsSome (asked_for (map string_bytes words.now)) → publisher.new ≡ publisher.old }
+    // A message comes with the statuses 2 to 7 and 10 alone.
+    ensures quiet { has_message result ≡ false → Keeps (E.contents err.old) (E.contents err.new) }
+    // The desk at which files are read again is only read.
+    ensures again { ReadsOnly (D.state again.old) (D.state again.new) }
+    // Nothing that is held changes, nothing is written under names other than the job's, and no count falls.
+    ensures frame { WritesOnly (MayBeWritten (job_named words.now)) (D.state desk.old) (D.state desk.new) }
+{
+    match read_asked(words) {
+        Some(asked) => tell(alloc, asked, desk),
+        None => {
+            let status = run_with(rt, alloc, words, desk, gate, board, publisher);
+            explain(alloc, words, status, again, err);
+            status
+        }
+    }
+}

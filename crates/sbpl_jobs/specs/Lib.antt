@@ -1,0 +1,3 @@
+pub use Rattle.sbpl_checks.specs.sbpl_desk as sbpl_desk
+pub use Rattle.sbpl_checks.specs.sbpl_job as sbpl_job
+pub use Rattle.sbpl_checks.specs.sbpl_promises as sbpl_promises

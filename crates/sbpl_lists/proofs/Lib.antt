@@ -1,0 +1,3 @@
+mod ListLaws
+mod BitLaws
+pub mod Lines

@@ -1,8 +1,0 @@
-use Rattle.std.proofs.Common.{◌≡◌, ◌++◌, flat_map, drop}
-use Rattle.sbpl_report.specs.Report.{step_text}
-use Rattle.sbpl_section.proofs.push_steps.Given as goal
-
--- what is written, and the lines that are left, are what stood before and all lines
-abbrev pub invariant-loop-step : goal.invariant-loop-step
-invariant-loop-step l =
-    l.out.items ++ flat_map step_text (drop l.step-index l.steps) ≡ l.fn.out.items ++ flat_map step_text l.steps

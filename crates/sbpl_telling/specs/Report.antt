@@ -1,0 +1,2 @@
+-- What the text of a section is, handed on to be unfolded.
+unfoldable pub use Rattle.sbpl_promises.specs.sbpl_report.Report.{pass_text, path_text, place_text, section_text, step_text}
