@@ -12,3 +12,4 @@ pub mod Sound
 pub mod Faults
 pub mod Format
 pub mod Text
+pub use Rattle.sbpl_lists.specs as sbpl_lists

@@ -21,9 +21,10 @@ use Rattle.sbpl_worlds.specs.sbpl_back.Starts.{StartIn, from_start}
 use Rattle.sbpl_worlds.specs.sbpl_replan.Directions.{Direction, backwards, forwards}
 use Rattle.sbpl_worlds.specs.sbpl_promises.declared.course.Course.{Course}
 use Rattle.sbpl_worlds.specs.sbpl_promises.LatticeSite.{lattice_site}
-use Rattle.sbpl_checks.specs.Checking.{EndsAtSection, EndsText, HoldsAndPrints, HoldsInCase, IsPlanIn, stopped}
-use Rattle.sbpl_checks.specs.Checking.{unwritten}
-use Rattle.sbpl_worlds.specs.sbpl_promises.Promises.{EndsSections}
+use Rattle.sbpl_checks.specs.Checking.{EndsAtSection, EndsSections, EndsText, HoldsAndPrints, HoldsInCase}
+use Rattle.sbpl_checks.specs.Checking.{IsFaultTold, IsPlanIn, stopped, unwritten}
+use Rattle.sbpl_checks.specs.declared.label_file.LabelFile.{LabelFile}
+use Rattle.sbpl_telling.specs.declared.ending.Ending.{Ending}
 use Rattle.sbpl_worlds.specs.sbpl_promises.Sites.{Site, start_after}
 use Rattle.sbpl_worlds.specs.sbpl_report.Verdicts.{holds_text}
 use Rattle.sbpl_worlds.specs.sbpl_promises.Writing.{DeskState, EndsAs, IsOutput, WritesOnly, to_output}
@@ -32,18 +33,20 @@ use Rattle.sbpl_telling.proofs.Frames.{nothing_done}
 use Rattle.sbpl_worlds.proofs.Moving.{start_first}
 
 -- a token is left after the last section
-pub some_left : {left : Left} {t : Piece} {ts : List Piece} {a b : DeskState} {status : ℕ} → left.tokens ≡ t ∷ ts
-    → EndsAs a b (to_output (label_fault_text (fault.Trailing t.place)) ∷ []) 10 status → EndsText left a b status
-some_left {t} some ends = record {
+pub some_left : {left : Left} {t : Piece} {ts : List Piece} {a b : DeskState} (file : LabelFile) (e : Ending)
+    → left.tokens ≡ t ∷ ts → EndsAs a b (to_output (label_fault_text (fault.Trailing t.place)) ∷ []) 10 e.status
+    → IsFaultTold file (fault.Trailing t.place) e → EndsText left file a b e
+some_left {t} file e some ends told = record {
   end = Some (section.Fault (fault.Trailing t.place));
   is_end = subst (λ (l : List Piece). IsTrailing l (section.Fault (fault.Trailing t.place))) (sym some) refl;
   ends = λ goals plan. ends;
+  told = told;
 }
 
 -- no token is left
-pub none_left : {left : Left} {a b : DeskState} {status : ℕ} → left.tokens ≡ [] → EndsAs a b (last_write ∷ []) 0 status
-    → EndsText left a b status
-none_left none ends = record { end = None; is_end = none; ends = λ goals plan. ends }
+pub none_left : {left : Left} {a b : DeskState} (file : LabelFile) (e : Ending) → left.tokens ≡ []
+    → EndsAs a b (last_write ∷ []) 0 e.status → e.why ≡ [] → EndsText left file a b e
+none_left file e none ends untold = record { end = None; is_end = none; ends = λ goals plan. ends; told = untold }
 
 module _ {W : Type 0} {on : Site W} {d : Direction W} (c : Case on d) where
   -- a section does not hold on its graph
@@ -59,19 +62,21 @@ module _ {W : Type 0} {on : Site W} {d : Direction W} (c : Case on d) where
   out_of_memory plan (suc more) left = tt
 
   -- memory ran out before a section
-  pub runs_out : (plan more : ℕ) (left : Left) (a : DeskState) → EndsSections c plan more left a a 9
-  runs_out plan more left a = record {
+  pub runs_out : (plan more : ℕ) (left : Left) (file : LabelFile) (a : DeskState) (e : Ending) → e.status ≡ 9
+      → e.why ≡ [] → EndsSections c plan more left file a a e
+  runs_out plan more left file a e nine untold = record {
     outcomes = [];
     end = Some section.NoMemory;
     checked = out_of_memory plan more left;
-    ends = inl (refl, none_made a a (λ name. refl));
+    ends = inl (nine, none_made a a (λ name. refl));
+    told = untold;
   }
 
   -- after the last section
-  pub ends_text : (plan : ℕ) (left : Left) (a b : DeskState) (status : ℕ) → EndsText left a b status
-      → EndsSections c plan 0 left a b status
-  ends_text plan left a b status e =
-      record { outcomes = []; end = e.end; checked = e.is_end; ends = e.ends (to_in c) plan }
+  pub ends_text : (plan : ℕ) (left : Left) (file : LabelFile) (a b : DeskState) (e : Ending) → EndsText left file a b e
+      → EndsSections c plan 0 left file a b e
+  ends_text plan left file a b e t =
+      record { outcomes = []; end = t.end; checked = t.is_end; ends = t.ends (to_in c) plan; told = t.told }
 
   module _ {n : Ground} {from to : ℕ} (plan : ℕ) (after : IsGroundAfter c plan n) (from_is : from_in c plan ≡ from)
       (to_is : to_in c plan ≡ to) where
@@ -83,27 +88,30 @@ module _ {W : Type 0} {on : Site W} {d : Direction W} (c : Case on d) where
         (subst (λ (y : ℕ). IsShownHolding n from y plan left o rest) (sym to_is) is)
 
     -- the next section does not hold, or memory ran out, or it holds and the line that says so was not written
-    pub ends_there : (more : ℕ) (left : Left) (a b : DeskState) (status : ℕ)
-        → EndsAtSection n from to plan left a b status → EndsSections c plan (suc more) left a b status
-    ends_there more left a b status (stopped s is ends) = record {
+    pub ends_there : (more : ℕ) (left : Left) (file : LabelFile) (a b : DeskState) (e : Ending)
+        → EndsAtSection n from to plan left file a b e → EndsSections c plan (suc more) left file a b e
+    ends_there more left file a b e (stopped s is ends told) = record {
       outcomes = [];
       end = Some s;
       checked = stopped_in n plan left s after
           (subst (λ (x : ℕ). IsSectionStop n x (to_in c plan) plan left s) (sym from_is)
           (subst (λ (y : ℕ). IsSectionStop n from y plan left s) (sym to_is) is));
-      ends = subst (λ (y : ℕ). EndsAs a b (stop_writes y plan s) (stop_status s) status) (sym to_is) ends;
+      ends = subst (λ (y : ℕ). EndsAs a b (stop_writes y plan s) (stop_status s) e.status) (sym to_is) ends;
+      told = told;
     }
-    ends_there more left a b status (unwritten o rest e is ends status_is) = record {
+    ends_there more left file a b e (unwritten o rest stop is ends status_is untold) = record {
       outcomes = o ∷ [];
       end = Some section.NoMemory;
       checked = (n, after, rest, holds_in left rest o is, out_of_memory (plan + 1) more rest);
-      ends = status_ends (Err e) ends status_is;
+      ends = status_ends (Err stop) ends status_is;
+      told = untold;
     }
 
-    pub all_ends_there : {A : Type 0} (r : Result A ℕ) (more : ℕ) (left : Left) (a b : DeskState)
-        → IfErr r (EndsAtSection n from to plan left a b) → IfErr r (EndsSections c plan (suc more) left a b)
-    all_ends_there (Ok x) more left a b ends = tt
-    all_ends_there (Err status) more left a b ends = ends_there more left a b status ends
+    pub all_ends_there : {A : Type 0} (r : Result A Ending) (more : ℕ) (left : Left) (file : LabelFile)
+        (a b : DeskState) → IfErr r (EndsAtSection n from to plan left file a b)
+        → IfErr r (EndsSections c plan (suc more) left file a b)
+    all_ends_there (Ok x) more left file a b ends = tt
+    all_ends_there (Err e) more left file a b ends = ends_there more left file a b e ends
 
     -- it holds, and the line that says so was written
     pub holds_there : {a b : DeskState} {left rest : Left} → HoldsAndPrints n from to plan left rest a b
@@ -115,16 +123,17 @@ module _ {W : Type 0} {on : Site W} {d : Direction W} (c : Case on d) where
     }
 
   -- the section of a plan holds, the line that says so was written, and then the checking of the others ended so
-  pub goes_on : {a b d : DeskState} {status : ℕ} {left rest : Left} (plan more : ℕ) → HoldsInCase c plan left rest a b
-      → NoneFalls a.write_faults b.write_faults → EndsSections c (plan + 1) more rest b d status
-      → EndsSections c plan (suc more) left a d status
-  goes_on {a} {b} {d} {status} {rest} plan more is low ends = record {
+  pub goes_on : {a b d : DeskState} {left rest : Left} (file : LabelFile) (e : Ending) (plan more : ℕ)
+      → HoldsInCase c plan left rest a b → NoneFalls a.write_faults b.write_faults
+      → EndsSections c (plan + 1) more rest file b d e → EndsSections c plan (suc more) left file a d e
+  goes_on {a} {b} {d} {rest} file e plan more is low ends = record {
     outcomes = is.prints.outcome ∷ ends.outcomes;
     end = ends.end;
     checked = (is.ground, is.is_ground, rest, is.prints.holds, ends.checked);
     ends =
         ends_as_after a b d (to_output (holds_text plan is.prints.outcome) ∷ []) (checked_writes (to_in c) (plan + 1)
-        ends.outcomes ends.end) (checked_status ends.end) status is.prints.line low ends.ends;
+        ends.outcomes ends.end) (checked_status ends.end) e.status is.prints.line low ends.ends;
+    told = ends.told;
   }
 
   -- from and to which states a plan is searched
@@ -176,10 +185,11 @@ ok_so (Err e) P Q so is = tt
 -- search is made for the present world: the sections of the first k
 -- maps hold, and however it ends from there on it ends from the first section on
 pub record IsCheckedTo {W : Type 0} (on : Site W) (d : Direction W) (first now : W) (Made : Type 0) (course : Course)
-    (start here goal : ℕ) (text : List ℕ) (k at : ℕ) (s t : DeskState) : Type 0 where
-  pub leads : (more : ℕ) → k + more ≡ length course.batches → (u : DeskState) (status : ℕ)
-      → EndsSections (case_of on d first course start goal) k (suc more) (start_at text at) t u status
-      → EndsSections (case_of on d first course start goal) 0 (suc (length course.batches)) (start_at text 0) s u status
+    (start here goal : ℕ) (file : LabelFile) (k at : ℕ) (s t : DeskState) : Type 0 where
+  pub leads : (more : ℕ) → k + more ≡ length course.batches → (u : DeskState) (e : Ending)
+      → EndsSections (case_of on d first course start goal) k (suc more) (start_at file.text.now at) file t u e
+      → EndsSections (case_of on d first course start goal) 0 (suc (length course.batches)) (start_at file.text.now 0)
+      file s u e
   pub made : Made
   pub far : k ≤ length course.batches
   pub map_after : IsMapAfter (on.cells.map first) course.batches k (on.cells.map now)
@@ -187,13 +197,13 @@ pub record IsCheckedTo {W : Type 0} (on : Site W) (d : Direction W) (first now :
   pub kept : on.cells.is_made now
   pub start_is : start_after on.wording first start course.moves k ≡ here
   pub state : here < (on.network now).states
-  pub inside : at ≤ length text
+  pub inside : at ≤ length file.text.now
   pub frame : WritesOnly IsOutput s t
 
 -- plan k of the text is planned in the present world
 pub plan_in : {W : Type 0} {on : Site W} {d : Direction W} {first now : W} {Made : Type 0} {course : Course}
-    {start here goal : ℕ} {text : List ℕ} {k at : ℕ} {s t : DeskState}
-    → IsCheckedTo on d first now Made course start here goal text k at s t
+    {start here goal : ℕ} {file : LabelFile} {k at : ℕ} {s t : DeskState}
+    → IsCheckedTo on d first now Made course start here goal file k at s t
     → IsPlanIn (case_of on d first course start goal) k now here goal
 plan_in so = record {
   after = so.map_after;
@@ -204,15 +214,15 @@ plan_in so = record {
 }
 
 -- at the first section
-pub none_checked : {W : Type 0} {w : W} {Made : Type 0} {course : Course} {start goal : ℕ} {text : List ℕ}
+pub none_checked : {W : Type 0} {w : W} {Made : Type 0} {course : Course} {start goal : ℕ} {file : LabelFile}
     {s : DeskState} (on : Site W) (d : Direction W) → IsTerrain on.network on.cells → Made
     → IsMapAfter (on.cells.map w) course.batches 0 (on.cells.map w) → on.cells.is_made w → start < (on.network w).states
-    → IsCheckedTo on d w w Made course start start goal text 0 0 s s
-none_checked {w} {course} {start} {goal} {text} {s} on d law made after kept state = record {
+    → IsCheckedTo on d w w Made course start start goal file 0 0 s s
+none_checked {w} {course} {start} {goal} {file} {s} on d law made after kept state = record {
   made = made;
   state = state;
-  leads = λ more is u status ends.
-      subst (λ (m : ℕ). EndsSections (case_of on d w course start goal) 0 (suc m) (start_at text 0) s u status)
+  leads = λ more is u e ends.
+      subst (λ (m : ℕ). EndsSections (case_of on d w course start goal) 0 (suc m) (start_at file.text.now 0) file s u e)
       (let same : more ≡ length course.batches = omega arith in same) ends;
   far = omega arith;
   map_after = after;

@@ -1,53 +1,75 @@
 //! The section of a plan, checked, and what is said of it.
 
-ghost use Rattle.std.specs.Prelude.{◌<◌, ◌≤◌, ◌∷◌, [], length, IfErr, IfOk};
+ghost use Rattle.std.specs.Prelude.{◌≡◌, ◌<◌, ◌≤◌, ◌∷◌, [], length, IfErr, IfOk, Some};
 ghost use Rattle.sbpl_worlds.specs.sbpl_fixed.Formats.{start_at};
 ghost use Rattle.sbpl_worlds.specs.sbpl_promises.Checked.{ground};
-ghost use Rattle.sbpl_checks.specs.Checking.{EndsAtSection, HoldsAndPrints};
+ghost use Rattle.sbpl_checks.specs.Checking.{EndsAtSection, HoldsAndPrints, IsFaultTold, IsStopTold};
 ghost use Rattle.sbpl_worlds.specs.sbpl_promises.Intents.{stop_status, stop_writes};
 ghost use Rattle.sbpl_worlds.specs.sbpl_report.Refusals.{label_fault_text};
 ghost use Rattle.sbpl_worlds.specs.sbpl_report.Verdicts.{flaw_text, holds_text};
 ghost use Rattle.sbpl_worlds.specs.sbpl_promises.Writing.{EndsAs, EndsIn, IsOutput, WritesOnly, to_output};
 
+use crate::label_file::LabelFile;
 use crate::section_check::check_section;
-use sbpl_telling::{OUTPUT, status_after, write_text};
+use sbpl_telling::{Ending, OUTPUT, end_with, status_after, write_text};
 use sbpl_worlds::{
     Desk, Flaw, Graph, Guide, LabelFault, LabelOutcome as Outcome, NoMemory, SectionStop,
-    WriteStop, fault_line, flaw_line, holds_line,
+    WriteStop, fault_line, flaw_line, holds_line, labels_message,
 };
 use std::alloc::Global;
 
-/// Writes the line of a flaw, and answers the status.
-fn tell_flaw<D: Desk>(alloc: Global, goal: u32, plan: u32, flaw: &Flaw, desk: &mut D) -> u8
-    ensures ends { EndsAs (D.state desk.old) (D.state desk.new) (to_output (flaw_text goal plan flaw.now) ∷ []) 1 result }
+/// Writes the line of a flaw.
+fn tell_flaw<D: Desk>(alloc: Global, goal: u32, plan: u32, flaw: &Flaw, desk: &mut D) -> Ending
+    ensures ends { EndsAs (D.state desk.old) (D.state desk.new) (to_output (flaw_text goal plan flaw.now) ∷ []) 1 result.status }
+    ensures untold { result.why ≡ [] }
     ensures frame { WritesOnly IsOutput (D.state desk.old) (D.state desk.new) }
 {
     match flaw_line(alloc, goal, plan, flaw) {
-        Ok(line) => status_after(write_text(OUTPUT, line.as_slice(), desk), 1),
-        Err(NoMemory) => 9,
+        Ok(line) => {
+            let written = write_text(OUTPUT, line.as_slice(), desk);
+            Ending::plain(alloc, status_after(written, 1))
+        }
+        Err(NoMemory) => Ending::plain(alloc, 9),
     }
 }
 
-/// Writes the line of a fault in the text, and answers the status.
-pub(crate) fn tell_fault<D: Desk>(alloc: Global, fault: &LabelFault, desk: &mut D) -> u8
-    ensures ends { EndsAs (D.state desk.old) (D.state desk.new) (to_output (label_fault_text fault.now) ∷ []) 10 result }
+/// Writes the line of a fault in the text, and tells its place.
+pub(crate) fn tell_fault<D: Desk>(
+    alloc: Global,
+    labels: &LabelFile,
+    fault: &LabelFault,
+    desk: &mut D,
+) -> Ending
+    ensures ends { EndsAs (D.state desk.old) (D.state desk.new) (to_output (label_fault_text fault.now) ∷ []) 10 result.status }
+    ensures told { IsFaultTold labels.now fault.now result }
     ensures frame { WritesOnly IsOutput (D.state desk.old) (D.state desk.new) }
 {
+    let Ok(message) = labels_message(alloc, labels.name.as_str(), labels.text, fault) else {
+        return Ending::plain(alloc, 9);
+    };
     match fault_line(alloc, fault) {
-        Ok(line) => status_after(write_text(OUTPUT, line.as_slice(), desk), 10),
-        Err(NoMemory) => 9,
+        Ok(line) => end_with(alloc, line.as_slice(), 10, message, desk),
+        Err(NoMemory) => Ending::plain(alloc, 9),
     }
 }
 
-/// Writes why the checking of sections ends, and answers the status.
-fn tell_stop<D: Desk>(alloc: Global, goal: u32, plan: u32, stop: &SectionStop, desk: &mut D) -> u8
-    ensures ends { EndsAs (D.state desk.old) (D.state desk.new) (stop_writes goal plan stop.now) (stop_status stop.now) result }
+/// Writes why the checking of sections ends.
+fn tell_stop<D: Desk>(
+    alloc: Global,
+    goal: u32,
+    plan: u32,
+    labels: &LabelFile,
+    stop: &SectionStop,
+    desk: &mut D,
+) -> Ending
+    ensures ends { EndsAs (D.state desk.old) (D.state desk.new) (stop_writes goal plan stop.now) (stop_status stop.now) result.status }
+    ensures told { IsStopTold labels.now (Some stop.now) result }
     ensures frame { WritesOnly IsOutput (D.state desk.old) (D.state desk.new) }
 {
     match stop {
         SectionStop::Flaw(flaw) => tell_flaw(alloc, goal, plan, flaw, desk),
-        SectionStop::Fault(fault) => tell_fault(alloc, fault, desk),
-        SectionStop::NoMemory => 9,
+        SectionStop::Fault(fault) => tell_fault(alloc, labels, fault, desk),
+        SectionStop::NoMemory => Ending::plain(alloc, 9),
     }
 }
 
@@ -67,8 +89,8 @@ fn write_holds<D: Desk>(
     }
 }
 
-/// Checks the section of a plan on a graph and writes that it holds, and answers the offset after it; or writes why the checking ends,
-/// and answers the status. The search went from the state `from` to the state `to`, with this guide.
+/// Checks the section of a plan on a graph and writes that it holds, and answers the offset after it; or writes why the checking ends.
+/// The search went from the state `from` to the state `to`, with this guide.
 pub(crate) fn check_next<G: Graph, H: Guide, D: Desk>(
     alloc: Global,
     graph: &G,
@@ -76,24 +98,24 @@ pub(crate) fn check_next<G: Graph, H: Guide, D: Desk>(
     from: u32,
     to: u32,
     plan: u32,
-    text: &[u8],
+    labels: &LabelFile,
     at: usize,
     desk: &mut D,
-) -> Result<usize, u8>
+) -> Result<usize, Ending>
     requires from { from < (G.network graph.now).states }
     requires to { to < (G.network graph.now).states }
     requires guide { H.guides guide.now (G.network graph.now) to }
-    requires at { at ≤ length text.now }
-    ensures inside { IfOk result (λ next. next ≤ length text.now) }
-    ensures holds { IfOk result (λ next. HoldsAndPrints (ground (G.network graph.now) (H.distance guide.now)) from to plan (start_at text.now at) (start_at text.now next) (D.state desk.old) (D.state desk.new)) }
-    ensures ends { IfErr result (EndsAtSection (ground (G.network graph.now) (H.distance guide.now)) from to plan (start_at text.now at) (D.state desk.old) (D.state desk.new)) }
+    requires at { at ≤ length labels.now.text.now }
+    ensures inside { IfOk result (λ next. next ≤ length labels.now.text.now) }
+    ensures holds { IfOk result (λ next. HoldsAndPrints (ground (G.network graph.now) (H.distance guide.now)) from to plan (start_at labels.now.text.now at) (start_at labels.now.text.now next) (D.state desk.old) (D.state desk.new)) }
+    ensures ends { IfErr result (EndsAtSection (ground (G.network graph.now) (H.distance guide.now)) from to plan (start_at labels.now.text.now at) labels.now (D.state desk.old) (D.state desk.new)) }
     ensures frame { WritesOnly IsOutput (D.state desk.old) (D.state desk.new) }
 {
-    match check_section(alloc, graph, guide, from, to, plan, text, at) {
+    match check_section(alloc, graph, guide, from, to, plan, labels.text, at) {
         Ok((outcome, next)) => match write_holds(alloc, plan, &outcome, desk) {
             Ok(()) => Ok(next),
-            Err(stop) => Err(status_after(Err(stop), 9)),
+            Err(stop) => Err(Ending::plain(alloc, status_after(Err(stop), 9))),
         },
-        Err(stop) => Err(tell_stop(alloc, to, plan, &stop, desk)),
+        Err(stop) => Err(tell_stop(alloc, to, plan, labels, &stop, desk)),
     }
 }

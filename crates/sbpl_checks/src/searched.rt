@@ -5,12 +5,13 @@ ghost use Rattle.sbpl_worlds.specs.sbpl_fixed.Formats.{start_at};
 ghost use Rattle.sbpl_worlds.specs.sbpl_map.CellMap.{CellMap};
 ghost use Rattle.sbpl_worlds.specs.sbpl_replan.Directions.{Direction};
 ghost use Rattle.sbpl_worlds.specs.sbpl_promises.Checked.{Case};
-ghost use Rattle.sbpl_checks.specs.Checking.{HoldsInCase, IsPlanIn};
-ghost use Rattle.sbpl_worlds.specs.sbpl_promises.Promises.{EndsSections};
+ghost use Rattle.sbpl_checks.specs.Checking.{EndsSections, HoldsInCase, IsPlanIn};
 ghost use Rattle.sbpl_worlds.specs.sbpl_promises.Sites.{site_of};
 ghost use Rattle.sbpl_worlds.specs.sbpl_promises.Writing.{IsOutput, WritesOnly};
 
 use crate::check_next::check_next;
+use crate::label_file::LabelFile;
+use sbpl_telling::Ending;
 use sbpl_worlds::{Back, Desk, FromStart, Heuristic, Lattice, NoMemory, Workspace};
 use std::alloc::Global;
 
@@ -40,19 +41,19 @@ pub trait Searched<W: Workspace>: Drop {
         start: u32,
         goal: u32,
         plan: u32,
-        text: &[u8],
+        labels: &LabelFile,
         at: usize,
         desk: &mut D,
-    ) -> Result<usize, u8>
+    ) -> Result<usize, Ending>
         requires start { start < (W.network world.now).states }
         requires goal { goal < (W.network world.now).states }
         requires made { is_made_for self.now world.now goal }
-        requires at { at ≤ length text.now }
-        ensures inside { IfOk result (λ next. next ≤ length text.now) }
+        requires at { at ≤ length labels.now.text.now }
+        ensures inside { IfOk result (λ next. next ≤ length labels.now.text.now) }
         ensures holds { (c : Case (site_of W.network W.cells W.Best.says W.wording) direction) → IsPlanIn c plan world.now start goal
-            → IfOk result (λ next. HoldsInCase c plan (start_at text.now at) (start_at text.now next) (D.state desk.old) (D.state desk.new)) }
+            → IfOk result (λ next. HoldsInCase c plan (start_at labels.now.text.now at) (start_at labels.now.text.now next) (D.state desk.old) (D.state desk.new)) }
         ensures ends { (c : Case (site_of W.network W.cells W.Best.says W.wording) direction) (more : ℕ) → IsPlanIn c plan world.now start goal
-            → IfErr result (EndsSections c plan (suc more) (start_at text.now at) (D.state desk.old) (D.state desk.new)) }
+            → IfErr result (EndsSections c plan (suc more) (start_at labels.now.text.now at) labels.now (D.state desk.old) (D.state desk.new)) }
         ensures frame { WritesOnly IsOutput (D.state desk.old) (D.state desk.new) };
 }
 
@@ -85,11 +86,21 @@ impl<W: Workspace, H: Heuristic<W> + Drop> Searched<W> for Forwards<H> {
         start: u32,
         goal: u32,
         plan: u32,
-        text: &[u8],
+        labels: &LabelFile,
         at: usize,
         desk: &mut D,
-    ) -> Result<usize, u8> {
-        check_next(alloc, world, &self.guide, start, goal, plan, text, at, desk)
+    ) -> Result<usize, Ending> {
+        check_next(
+            alloc,
+            world,
+            &self.guide,
+            start,
+            goal,
+            plan,
+            labels,
+            at,
+            desk,
+        )
     }
 }
 
@@ -118,12 +129,12 @@ impl Searched<Lattice> for Backwards {
         start: u32,
         goal: u32,
         plan: u32,
-        text: &[u8],
+        labels: &LabelFile,
         at: usize,
         desk: &mut D,
-    ) -> Result<usize, u8> {
+    ) -> Result<usize, Ending> {
         let back = Back::new(world);
         let guide = FromStart::new(world, start);
-        check_next(alloc, &back, &guide, goal, start, plan, text, at, desk)
+        check_next(alloc, &back, &guide, goal, start, plan, labels, at, desk)
     }
 }

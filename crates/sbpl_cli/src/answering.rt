@@ -1,18 +1,19 @@
 //! What the program does for the words after its name, at any desk.
 
-ghost use Rattle.std.specs.Prelude.{◌≡◌, ◌<◌, ◌^◌, false, length, None, IsSome, map, string_bytes};
+ghost use Rattle.std.specs.Prelude.{◌≡◌, ◌<◌, ◌^◌, [], false, length, None, IsSome, map, string_bytes};
 ghost use Rattle.std.specs.Io.KnownBytes.{Keeps};
-ghost use Rattle.sbpl_jobs.specs.sbpl_desk.Desk.{ReadsOnly, Rose};
+ghost use Rattle.sbpl_jobs.specs.sbpl_desk.Desk.{Rose};
 ghost use Rattle.sbpl_headline.specs.Headline.{IsHeadline};
+ghost use Rattle.sbpl_jobs.specs.sbpl_promises.Explained.{has_message};
 ghost use Rattle.sbpl_jobs.specs.sbpl_promises.Run.{IsOrUnwritten, IsStatus, MayBeWritten, job_named};
 ghost use Rattle.sbpl_jobs.specs.sbpl_promises.RunPromises.{RunPromises};
 ghost use Rattle.sbpl_jobs.specs.sbpl_promises.Writing.{IsOutput, WritesOnly, output};
 ghost use Rattle.sbpl_jobs.specs.sbpl_job.Asked.{asked_for};
-ghost use Rattle.sbpl_message.specs.Reasons.{has_message};
+ghost use Rattle.sbpl_jobs.specs.sbpl_telling.Endings.{message_of};
 
-use crate::{Gate, run_with};
-use sbpl_jobs::{Asked, Board, Desk, Publisher, WriteStop, read_asked};
-use sbpl_message::{message_for, told};
+use crate::Gate;
+use crate::top::run_to_end;
+use sbpl_jobs::{Asked, Board, Desk, Ending, Publisher, WriteStop, read_asked, told};
 use std::alloc::Global;
 use std::io;
 use std::sync::Wait;
@@ -40,36 +41,27 @@ fn tell<D: Desk>(alloc: Global, asked: Asked, desk: &mut D) -> u8
     }
 }
 
-/// Tells on `err` why a run that ended with this status did not do its job, where the status has a message. The files are read
-/// again at a desk of this call's own.
-fn explain<D: Desk, E: io::Write>(
-    alloc: Global,
-    words: &[String],
-    status: u8,
-    again: &mut D,
-    err: &mut E,
-)
-    ensures quiet { has_message status ≡ false → Keeps (E.contents err.old) (E.contents err.new) }
-    ensures frame { ReadsOnly (D.state again.old) (D.state again.new) }
+/// Tells on `err` why a run that ended so did not do its job, if it did not.
+fn explain<E: io::Write>(ending: &Ending, err: &mut E)
+    ensures quiet { message_of ending.now ≡ [] → Keeps (E.contents err.old) (E.contents err.new) }
 {
-    if let Ok(Some(message)) = message_for(alloc, words, status, again) {
+    let message = ending.message();
+    if !message.is_empty() {
         // The status says it all where even this cannot be written.
-        let _ = err.write_all(message.as_slice());
+        let _ = err.write_all(message);
     }
 }
 
 #[tactic(none)]
 /// Does what the words after the program's name ask for, and answers the program's status: tells help or the version, or does
 /// the job that they name, as `run_with` does it. Where the job was not done, a line on `err` says why: which word, which file, or
-/// where in a file and what must stand there. To find that out it reads the files again at the desk `again`, and only then. The
-/// publisher is the board's, and has published fewer than 2^62 entries.
+/// where in a file and what must stand there (`run_to_end`). The publisher is the board's, and has published fewer than 2^62 entries.
 pub fn answer<R: Threads + Wait + Sync, D: Desk, T: Gate + Sync, E: io::Write>(
     rt: &R,
     alloc: Global,
     words: &[String],
     desk: &mut D,
     gate: &T,
-    again: &mut D,
     err: &mut E,
     board: &Board,
     publisher: &mut Publisher,
@@ -89,17 +81,15 @@ pub fn answer<R: Threads + Wait + Sync, D: Desk, T: Gate + Sync, E: io::Write>(
     ensures unpublished { IsSome (asked_for (map string_bytes words.now)) → publisher.new ≡ publisher.old }
     // A message comes with the statuses 2 to 7 and 10 alone.
     ensures quiet { has_message result ≡ false → Keeps (E.contents err.old) (E.contents err.new) }
-    // The desk at which files are read again is only read.
-    ensures again { ReadsOnly (D.state again.old) (D.state again.new) }
     // Nothing that is held changes, nothing is written under names other than the job's, and no count falls.
     ensures frame { WritesOnly (MayBeWritten (job_named words.now)) (D.state desk.old) (D.state desk.new) }
 {
     match read_asked(words) {
         Some(asked) => tell(alloc, asked, desk),
         None => {
-            let status = run_with(rt, alloc, words, desk, gate, board, publisher);
-            explain(alloc, words, status, again, err);
-            status
+            let ending = run_to_end(rt, alloc, words, desk, gate, board, publisher);
+            explain(&ending, err);
+            ending.status
         }
     }
 }

@@ -2,18 +2,44 @@
 
 ghost use Rattle.std.specs.Prelude.{◌≡◌, ◌^◌, ◌<◌, [], List, length, map, string_bytes};
 ghost use Rattle.sbpl_headline.specs.Headline.{IsHeadline};
+ghost use Rattle.sbpl_jobs.specs.sbpl_promises.Explained.{IsTold};
 ghost use Rattle.sbpl_jobs.specs.sbpl_promises.Promises.{MayBeWritten};
 ghost use Rattle.sbpl_jobs.specs.sbpl_promises.Published.{Entry};
 ghost use Rattle.sbpl_jobs.specs.sbpl_promises.Run.{job_named};
 ghost use Rattle.sbpl_jobs.specs.sbpl_promises.RunPromises.{RunPromises};
 ghost use Rattle.sbpl_jobs.specs.sbpl_promises.Writing.{WritesOnly};
+ghost use Rattle.sbpl_jobs.specs.sbpl_telling.Endings.{message_of};
 
 use sbpl_headline::promises_show_the_headline;
-use sbpl_jobs::{Board, Desk, Gate, NoMemory, Publisher, end_run};
+use sbpl_jobs::{Board, Desk, Ending, Gate, NoMemory, Publisher, end_run};
 use sbpl_laws::runs_keep_promises;
 use std::alloc::Global;
 use std::sync::Wait;
 use std::thread::Threads;
+
+/// Does what `run_with` does, and answers what people are told besides the status: which word is wrong, which file could not be read,
+/// where a file has its fault and what must stand there, or that a write failed.
+pub fn run_to_end<R: Threads + Wait + Sync, D: Desk, T: Gate + Sync>(
+    rt: &R,
+    alloc: Global,
+    words: &[String],
+    desk: &mut D,
+    gate: &T,
+    board: &Board,
+    publisher: &mut Publisher,
+) -> Ending
+    requires board { publisher.old.board ≡ board.now }
+    requires few { length publisher.old.published < 2 ^ 62 }
+    ensures promises { RunPromises (job_named words.now) (D.state desk.old) (D.state desk.new) publisher.old.published publisher.new.published result.status }
+    ensures headline { IsHeadline (map string_bytes words.now) (D.state desk.old) (D.state desk.new) result.status }
+    ensures told { IsTold (job_named words.now) (D.state desk.old) (D.state desk.new) result.status (message_of result) }
+    ensures board { publisher.new.board ≡ publisher.old.board }
+    ensures frame { WritesOnly (MayBeWritten (job_named words.now)) (D.state desk.old) (D.state desk.new) }
+{
+    runs_keep_promises();
+    promises_show_the_headline();
+    end_run(rt, alloc, words, desk, gate, board, publisher)
+}
 
 /// Does the job that the words after the program's name stand for, writes what came of it to the standard output, which has
 /// the name `-`, and answers the status: 0 where the job was done, 1 for labels with a flaw, 2 for words that name no job, 3, 4
@@ -43,9 +69,7 @@ pub fn run_with<R: Threads + Wait + Sync, D: Desk, T: Gate + Sync>(
     // Nothing that is held changes, nothing is written under names other than the job's, and no count falls.
     ensures frame { WritesOnly (MayBeWritten (job_named words.now)) (D.state desk.old) (D.state desk.new) }
 {
-    runs_keep_promises();
-    promises_show_the_headline();
-    end_run(rt, alloc, words, desk, gate, board, publisher)
+    run_to_end(rt, alloc, words, desk, gate, board, publisher).status
 }
 
 /// Does what `run_with` does, with a board of its own that nobody reads.

@@ -27,13 +27,14 @@ pub use laws::{
 };
 pub use primitive_cost::{MOST_COST, cost_parts_are_least, prim_cost};
 pub use sbpl_sweep::{
-    Cell, Env, EnvFault, Grid, ListOf, NoMemory, Piece, Place, Pose, Prim, PrimFault, Prims,
-    SweepFault, Sweeps, Word, cell_at, few_poses_are_narrow, heading_at, place_at, print_env,
-    print_prims, push_all, push_line, push_lines, read_env, read_prims,
-    texts_are_environments_or_faulty, texts_are_primitives_or_faulty,
+    Cell, Env, EnvFault, Grid, ListOf, Message, NoMemory, Piece, Place, Pose, Prim, PrimFault,
+    Prims, SweepFault, Sweeps, Word, cell_at, environment_message, few_poses_are_narrow,
+    heading_at, place_at, plain_message, primitives_message, print_env, print_prims, push_all,
+    push_line, push_lines, read_env, read_prims, texts_are_environments_or_faulty,
+    texts_are_primitives_or_faulty,
 };
 pub use sbpl_terrain::{
     ArcEnd, ChangeFault, Changes, Graph, Guide, Heuristic, Map, Moves, OffMap, Terrain, Write,
-    apply, are_on_map, read_changes, read_moves, texts_are_changes_or_faulty,
+    apply, are_on_map, changes_message, read_changes, read_moves, texts_are_changes_or_faulty,
     texts_are_moves_or_faulty, write_batch, writes_lead_to_the_next_map,
 };

@@ -28,7 +28,7 @@ rose_later f g h low high (inl more) = inl (omega arith)
 rose_later f g h low high (inr most) = elim (cases_lt f h) [ inl less ↦ inl less | inr same ↦ inr (omega arith) ]
 
 -- a read that has failed has failed later too
-failed_later : (s t u : DeskState) → NoneFalls s.read_faults t.read_faults → NoneFalls t.read_faults u.read_faults
+pub failed_later : (s t u : DeskState) → NoneFalls s.read_faults t.read_faults → NoneFalls t.read_faults u.read_faults
     → (name : List ℕ) → ReadFailed s t name → ReadFailed s u name
 failed_later s t u low high name failed = rose_later _ _ _ (low name) (high name) failed
 
@@ -38,27 +38,27 @@ failed_later s t u low high name failed = rose_later _ _ _ (low name) (high name
 pub early_stop : {W : Type 0} (s t : DeskState) (f : WorldFiles W) (changes : Option (List ℕ)) (labels : List ℕ)
     (x : Stop) → EarlyStopsFor s t f changes x → CheckStopsFor s t f changes labels x
 early_stop s t f changes labels stop.NoMemory cause = tt
-early_stop s t f changes labels (stop.Refused r) cause = inl cause
+early_stop s t f changes labels (stop.Refused r m) cause = inl cause
 
 -- a stop for the file of labels is one of a check, where a world and a course were read before
 pub labels_stop : {W : Type 0} (s t u : DeskState) (f : WorldFiles W) (changes : Option (List ℕ)) (labels : List ℕ)
     (w : W) (c : Course) (x : Stop) → f.stand_for s.held w → ReadsCourse s.held changes (f.scope w) c → ReadsOnly s t
     → IsUnread t u labels input.Labels x → CheckStopsFor s u f changes labels x
 labels_stop s t u f changes labels w c stop.NoMemory says changes_say same cause = tt
-labels_stop s t u f changes labels w c (stop.Refused r) says changes_say same cause = inr (by_refusal r cause)
+labels_stop s t u f changes labels w c (stop.Refused r m) says changes_say same cause = inr (by_refusal r cause)
   where
-    by_refusal : (r : Refusal) → IsUnread t u labels input.Labels (stop.Refused r)
+    by_refusal : (r : Refusal) → IsUnread t u labels input.Labels (stop.Refused r m)
         → IsLabelsCause s.held (ReadFailed s u) f changes labels r
-    by_refusal (refusal.Read input.Labels) (is, failed) =
+    by_refusal (refusal.Read input.Labels) (is, failed, plain) =
         (w, c, says, changes_say, failed_since s t u same.reads labels failed)
-    by_refusal (refusal.Read input.Environment) (is, failed) = absurd (cc)
-    by_refusal (refusal.Read input.Primitives) (is, failed) = absurd (cc)
-    by_refusal (refusal.Read input.Changes) (is, failed) = absurd (cc)
-    by_refusal (refusal.Length input.Labels) (is, long) =
+    by_refusal (refusal.Read input.Environment) (is, failed, plain) = absurd (cc)
+    by_refusal (refusal.Read input.Primitives) (is, failed, plain) = absurd (cc)
+    by_refusal (refusal.Read input.Changes) (is, failed, plain) = absurd (cc)
+    by_refusal (refusal.Length input.Labels) (is, long, none) =
         (w, c, says, changes_say, subst (λ (o : Option (List ℕ)). IsTooLong o) (same.held labels) long)
-    by_refusal (refusal.Length input.Environment) (is, long) = absurd (cc)
-    by_refusal (refusal.Length input.Primitives) (is, long) = absurd (cc)
-    by_refusal (refusal.Length input.Changes) (is, long) = absurd (cc)
+    by_refusal (refusal.Length input.Environment) (is, long, none) = absurd (cc)
+    by_refusal (refusal.Length input.Primitives) (is, long, none) = absurd (cc)
+    by_refusal (refusal.Length input.Changes) (is, long, none) = absurd (cc)
     by_refusal _ none = absurd none
 
 -- ---- the end of a job

@@ -1,3 +1,4 @@
 pub mod Ends
 pub mod Makings
 pub mod Planned
+pub mod Telling

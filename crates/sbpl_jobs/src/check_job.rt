@@ -2,14 +2,14 @@
 
 ghost use Rattle.std.specs.Prelude.{◌≤◌, ◌^◌, List, IfErr, IfOk, OnErr};
 ghost use Rattle.sbpl_checks.specs.sbpl_job.declared.job.Job.TheVariants as Jobs;
-ghost use Rattle.sbpl_checks.specs.sbpl_promises.Causes.{AreRead, IsReadText, JobStopsFor, check_files};
+ghost use Rattle.sbpl_checks.specs.sbpl_promises.Causes.{AreRead, IsReadText, check_files};
 ghost use Rattle.sbpl_checks.specs.sbpl_promises.Published.{Entry};
-ghost use Rattle.sbpl_checks.specs.sbpl_promises.Promises.{EndsJob};
 ghost use Rattle.sbpl_checks.specs.sbpl_promises.Writing.{IsOutput, ReadsOnly, WritesOnly};
+ghost use Rattle.sbpl_jobs.specs.Endings.{IsJobEnding, IsJobStop};
 
 use sbpl_checks::{
-    CheckJob, Course, Desk, Input, Lattice, Stop, Workspace, check_either_way, read_course,
-    read_file,
+    CheckJob, Course, Desk, Ending, Input, LabelFile, Lattice, Stop, Workspace, check_either_way,
+    read_course, read_file,
 };
 use std::alloc::Global;
 
@@ -22,7 +22,7 @@ fn read_check<D: Desk>(
     requires range { job.now.sources.radius ≤ 10 ^ 12 }
     ensures course { IfOk result (λ x. AreRead (D.state desk.old).held (check_files job.now) job.now.changes x.0 x.1) }
     ensures text { IfOk result (λ x. IsReadText ((D.state desk.old).held job.now.labels) x.2.items) }
-    ensures stop { IfErr result (JobStopsFor (D.state desk.old) (D.state desk.new) (Jobs.Check job.now)) }
+    ensures stop { IfErr result (IsJobStop (D.state desk.old) (D.state desk.new) (Jobs.Check job.now)) }
     ensures frame { ReadsOnly (D.state desk.old) (D.state desk.new) }
 {
     let (lattice, course) = match read_course(alloc, &job.sources, &job.changes, job.back, desk) {
@@ -40,30 +40,38 @@ fn read_check<D: Desk>(
     }
 }
 
-/// Checks labels that a plan wrote, writes what came of it, and answers the status.
-pub(crate) fn check_labels<D: Desk>(alloc: Global, job: &CheckJob, desk: &mut D) -> Result<u8, Stop>
+/// Checks labels that a plan wrote, and writes what came of it.
+pub(crate) fn check_labels<D: Desk>(
+    alloc: Global,
+    job: &CheckJob,
+    desk: &mut D,
+) -> Result<Ending, Stop>
     requires range { job.now.sources.radius ≤ 10 ^ 12 }
-    ensures ends { IfOk result (λ status. (log : List Entry) → EndsJob (D.state desk.old) (D.state desk.new) log log (Jobs.Check job.now) status) }
-    ensures stop { IfErr result (JobStopsFor (D.state desk.old) (D.state desk.new) (Jobs.Check job.now)) }
+    ensures ends { IfOk result (λ e. (log : List Entry) → IsJobEnding (D.state desk.old) (D.state desk.new) log log (Jobs.Check job.now) e) }
+    ensures stop { IfErr result (IsJobStop (D.state desk.old) (D.state desk.new) (Jobs.Check job.now)) }
     ensures unwritten { OnErr result (ReadsOnly (D.state desk.old) (D.state desk.new)) }
     ensures frame { WritesOnly IsOutput (D.state desk.old) (D.state desk.new) }
 {
     Lattice::has_its_arcs();
     let (mut lattice, course, text) = read_check(alloc, job, desk)?;
     let (start, goal) = lattice.ends();
-    let status = check_either_way(
+    let labels = LabelFile {
+        name: &job.labels,
+        text: text.as_slice(),
+    };
+    let ending = check_either_way(
         alloc,
         &mut lattice,
         &course,
         start,
         goal,
         job.back,
-        text.as_slice(),
+        &labels,
         desk,
     );
     // Let go by a call: the drop of each field here would make the proof long.
     drop(lattice);
     drop(course);
     drop(text);
-    Ok(status)
+    Ok(ending)
 }

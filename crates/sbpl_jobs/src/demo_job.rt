@@ -8,14 +8,16 @@ ghost use Rattle.sbpl_checks.specs.sbpl_job.Jobs.{IsDemoJob};
 ghost use Rattle.sbpl_checks.specs.sbpl_job.declared.job.Job.TheVariants as Jobs;
 ghost use Rattle.sbpl_checks.specs.sbpl_promises.Causes.{IsCourseIn, IsDrawn, demo_search};
 ghost use Rattle.sbpl_checks.specs.sbpl_promises.LatticeSite.{lattice_site};
-ghost use Rattle.sbpl_checks.specs.sbpl_promises.Promises.{EndsJob};
 ghost use Rattle.sbpl_checks.specs.sbpl_report.Report.{demo_text};
 ghost use Rattle.sbpl_checks.specs.sbpl_promises.Texts.{still};
 ghost use Rattle.sbpl_checks.specs.sbpl_promises.Writing.{EndsIn, IsOutput, WritesOnly, to_output};
+ghost use Rattle.sbpl_checks.specs.sbpl_promises.Promises.{EndsJob, IsOrUnwritten};
+ghost use Rattle.sbpl_jobs.specs.Endings.{IsJobEnding};
 
 use sbpl_checks::{
-    Changes, Course, DemoJob, Desk, Graph, LabelForm, Lattice, Lines, NoMemory, OUTPUT, Outputs,
-    Planner, Publisher, SearchJob, Workspace, WriteStop, demo_line, draw, status_after, write_text,
+    Changes, Course, DemoJob, Desk, Ending, Graph, LabelForm, Lattice, Lines, NoMemory, OUTPUT,
+    Outputs, Planner, Publisher, SearchJob, Workspace, WriteStop, demo_line, draw, status_after,
+    write_text,
 };
 use sbpl_plans::{LiveBoard, Task, plans_by_adstar};
 use std::alloc::Global;
@@ -74,6 +76,7 @@ fn demonstrate<D: Desk, W: Wait>(
     requires board { publisher.old.board ≡ live.now.board.now }
     requires few { length publisher.old.published < 2 ^ 62 }
     ensures ends { EndsJob (D.state desk.old) (D.state desk.new) publisher.old.published publisher.new.published (Jobs.Demo job.now) result }
+    ensures status { IsOrUnwritten 0 result }
     ensures board { publisher.new.board ≡ publisher.old.board }
     ensures frame { WritesOnly IsOutput (D.state desk.old) (D.state desk.new) }
 {
@@ -98,18 +101,18 @@ fn demonstrate<D: Desk, W: Wait>(
     plans_by_adstar(alloc, lattice, &task, live, publisher, &Lines, desk)
 }
 
-/// Draws an example, plans on it, writes a line for each plan, and answers the status. Nothing is read from the desk.
+/// Draws an example, plans on it, and writes a line for each plan. Nothing is read from the desk.
 pub(crate) fn end_demo<D: Desk, W: Wait>(
     alloc: Global,
     job: &DemoJob,
     live: &LiveBoard<W>,
     publisher: &mut Publisher,
     desk: &mut D,
-) -> u8
+) -> Ending
     requires range { IsDemoJob job.now }
     requires board { publisher.old.board ≡ live.now.board.now }
     requires few { length publisher.old.published < 2 ^ 62 }
-    ensures ends { EndsJob (D.state desk.old) (D.state desk.new) publisher.old.published publisher.new.published (Jobs.Demo job.now) result }
+    ensures ends { IsJobEnding (D.state desk.old) (D.state desk.new) publisher.old.published publisher.new.published (Jobs.Demo job.now) result }
     ensures board { publisher.new.board ≡ publisher.old.board }
     ensures frame { WritesOnly IsOutput (D.state desk.old) (D.state desk.new) }
 {
@@ -123,8 +126,8 @@ pub(crate) fn end_demo<D: Desk, W: Wait>(
             // Let go by a call: the drop of each field here would make the proof long.
             drop(lattice);
             drop(course);
-            status
+            Ending::plain(alloc, status)
         }
-        Err(NoMemory) => 9,
+        Err(NoMemory) => Ending::plain(alloc, 9),
     }
 }

@@ -10,8 +10,9 @@ mod sweep_job;
 
 pub use ending::end_run;
 pub use sbpl_checks::{
-    Asked, Board, CheckJob, Command, DemoJob, Desk, Entry, Gate, Job, JobFault, ListOf, MemoryDesk,
-    Name, NavCheckJob, NavJob, NoGate, NoMemory, Outputs, PlanJob, Planner, Publisher, ReadStop,
-    Reader, RealDesk, SearchJob, Setting, Sources, WriteStop, cell_at, heading_at, print_env,
-    print_prims, read_asked, read_env, read_job, read_prims,
+    Asked, Board, CheckJob, Command, DemoJob, Desk, Ending, Entry, Gate, Job, JobFault, ListOf,
+    MemoryDesk, Name, NavCheckJob, NavJob, NoGate, NoMemory, Outputs, PlanJob, Planner, Publisher,
+    ReadStop, Reader, RealDesk, SearchJob, Setting, Sources, WriteStop, cell_at, heading_at,
+    print_env, print_prims, read_asked, read_env, read_job, read_prims,
 };
+pub use sbpl_message::told;

@@ -3,21 +3,21 @@
 ghost use Rattle.std.specs.Prelude.{◌≡◌, ◌^◌, ◌<◌, List, length, IfErr, IfOk, OnErr};
 ghost use Rattle.sbpl_checks.specs.sbpl_job.Jobs.{IsJob};
 ghost use Rattle.sbpl_checks.specs.sbpl_job.declared.job.Job.TheVariants as Jobs;
-ghost use Rattle.sbpl_checks.specs.sbpl_promises.Causes.{AreRead, IsReadText, JobStopsFor, grid_files};
-ghost use Rattle.sbpl_checks.specs.sbpl_promises.Promises.{EndsJob};
+ghost use Rattle.sbpl_checks.specs.sbpl_promises.Causes.{AreRead, IsReadText, grid_files};
 ghost use Rattle.sbpl_checks.specs.sbpl_promises.Published.{Entry};
 ghost use Rattle.sbpl_checks.specs.sbpl_promises.Writing.{IsOutput, IsOutputOf, ReadsOnly, WritesOnly};
+ghost use Rattle.sbpl_jobs.specs.Endings.{IsJobEnding, IsJobStop};
 
 use sbpl_checks::{
-    Course, Desk, Forwards, Gate, Input, Nav, NavCheckJob, NavJob, Octile, Publisher, Stop,
-    Workspace, check_text, read_file, read_grid_course,
+    Course, Desk, Ending, Forwards, Gate, Input, LabelFile, Nav, NavCheckJob, NavJob, Octile,
+    Publisher, Stop, Workspace, check_text, read_file, read_grid_course,
 };
 use sbpl_plans::{LiveBoard, Task, plans_forwards};
 use std::alloc::Global;
 use std::sync::Wait;
 use std::thread::Threads;
 
-/// Makes the plans of a job on a grid, writes what came of it, and answers the status; or answers why nothing was written.
+/// Makes the plans of a job on a grid and writes what came of it; or answers why nothing was written.
 pub(crate) fn end_nav<R: Threads + Wait + Sync, D: Desk, T: Gate + Sync>(
     alloc: Global,
     job: &NavJob,
@@ -25,12 +25,12 @@ pub(crate) fn end_nav<R: Threads + Wait + Sync, D: Desk, T: Gate + Sync>(
     publisher: &mut Publisher,
     desk: &mut D,
     gate: &T,
-) -> Result<u8, Stop>
+) -> Result<Ending, Stop>
     requires range { IsJob (Jobs.Nav job.now) }
     requires board { publisher.old.board ≡ live.now.board.now }
     requires few { length publisher.old.published < 2 ^ 62 }
-    ensures ends { IfOk result (EndsJob (D.state desk.old) (D.state desk.new) publisher.old.published publisher.new.published (Jobs.Nav job.now)) }
-    ensures stop { IfErr result (JobStopsFor (D.state desk.old) (D.state desk.new) (Jobs.Nav job.now)) }
+    ensures ends { IfOk result (IsJobEnding (D.state desk.old) (D.state desk.new) publisher.old.published publisher.new.published (Jobs.Nav job.now)) }
+    ensures stop { IfErr result (IsJobStop (D.state desk.old) (D.state desk.new) (Jobs.Nav job.now)) }
     ensures unwritten { OnErr result (ReadsOnly (D.state desk.old) (D.state desk.new)) }
     ensures unpublished { OnErr result (publisher.new ≡ publisher.old) }
     ensures board { publisher.new.board ≡ publisher.old.board }
@@ -45,7 +45,7 @@ pub(crate) fn end_nav<R: Threads + Wait + Sync, D: Desk, T: Gate + Sync>(
         start,
         goal,
     };
-    Ok(plans_forwards(
+    let status = plans_forwards(
         gate,
         alloc,
         &mut nav,
@@ -54,7 +54,8 @@ pub(crate) fn end_nav<R: Threads + Wait + Sync, D: Desk, T: Gate + Sync>(
         publisher,
         &job.outputs,
         desk,
-    ))
+    );
+    Ok(Ending::plain(alloc, status))
 }
 
 /// The grid, the course of the change file, and the text of the labels.
@@ -65,7 +66,7 @@ fn read_nav_check<D: Desk>(
 ) -> Result<(Nav, Course, Vec<u8>), Stop>
     ensures course { IfOk result (λ x. AreRead (D.state desk.old).held (grid_files job.now.env) job.now.changes x.0 x.1) }
     ensures text { IfOk result (λ x. IsReadText ((D.state desk.old).held job.now.labels) x.2.items) }
-    ensures stop { IfErr result (JobStopsFor (D.state desk.old) (D.state desk.new) (Jobs.NavCheck job.now)) }
+    ensures stop { IfErr result (IsJobStop (D.state desk.old) (D.state desk.new) (Jobs.NavCheck job.now)) }
     ensures frame { ReadsOnly (D.state desk.old) (D.state desk.new) }
 {
     let (nav, course) = match read_grid_course(alloc, &job.env, &job.changes, desk) {
@@ -78,24 +79,26 @@ fn read_nav_check<D: Desk>(
     }
 }
 
-/// Checks labels that a plan on a grid wrote, writes what came of it, and answers the status.
-pub(crate) fn check_nav<D: Desk>(alloc: Global, job: &NavCheckJob, desk: &mut D) -> Result<u8, Stop>
-    ensures ends { IfOk result (λ status. (log : List Entry) → EndsJob (D.state desk.old) (D.state desk.new) log log (Jobs.NavCheck job.now) status) }
-    ensures stop { IfErr result (JobStopsFor (D.state desk.old) (D.state desk.new) (Jobs.NavCheck job.now)) }
+/// Checks labels that a plan on a grid wrote, and writes what came of it.
+pub(crate) fn check_nav<D: Desk>(
+    alloc: Global,
+    job: &NavCheckJob,
+    desk: &mut D,
+) -> Result<Ending, Stop>
+    ensures ends { IfOk result (λ e. (log : List Entry) → IsJobEnding (D.state desk.old) (D.state desk.new) log log (Jobs.NavCheck job.now) e) }
+    ensures stop { IfErr result (IsJobStop (D.state desk.old) (D.state desk.new) (Jobs.NavCheck job.now)) }
     ensures unwritten { OnErr result (ReadsOnly (D.state desk.old) (D.state desk.new)) }
     ensures frame { WritesOnly IsOutput (D.state desk.old) (D.state desk.new) }
 {
     Nav::has_its_arcs();
     let (mut nav, course, text) = read_nav_check(alloc, job, desk)?;
     let (start, goal) = nav.ends();
-    let status = check_text::<D, Nav, Forwards<Octile>>(
-        alloc,
-        &mut nav,
-        &course,
-        start,
-        goal,
-        text.as_slice(),
-        desk,
+    let labels = LabelFile {
+        name: &job.labels,
+        text: text.as_slice(),
+    };
+    let ending = check_text::<D, Nav, Forwards<Octile>>(
+        alloc, &mut nav, &course, start, goal, &labels, desk,
     );
-    Ok(status)
+    Ok(ending)
 }

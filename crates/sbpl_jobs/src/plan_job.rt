@@ -3,17 +3,16 @@
 ghost use Rattle.std.specs.Prelude.{◌≡◌, ◌^◌, ◌<◌, length, IfErr, IfOk, OnErr};
 ghost use Rattle.sbpl_checks.specs.sbpl_job.Jobs.{IsJob};
 ghost use Rattle.sbpl_checks.specs.sbpl_job.declared.job.Job.TheVariants as Jobs;
-ghost use Rattle.sbpl_checks.specs.sbpl_promises.Causes.{JobStopsFor};
-ghost use Rattle.sbpl_checks.specs.sbpl_promises.Promises.{EndsJob};
 ghost use Rattle.sbpl_checks.specs.sbpl_promises.Writing.{IsOutputOf, ReadsOnly, WritesOnly};
+ghost use Rattle.sbpl_jobs.specs.Endings.{IsJobEnding, IsJobStop};
 
-use sbpl_checks::{Desk, Gate, PlanJob, Publisher, Stop, Workspace, read_course};
+use sbpl_checks::{Desk, Ending, Gate, PlanJob, Publisher, Stop, Workspace, read_course};
 use sbpl_plans::{LiveBoard, Task, make_plans};
 use std::alloc::Global;
 use std::sync::Wait;
 use std::thread::Threads;
 
-/// Makes the plans of a job, writes what came of it, and answers the status; or answers why nothing was written.
+/// Makes the plans of a job and writes what came of it; or answers why nothing was written.
 pub(crate) fn end_plan<R: Threads + Wait + Sync, D: Desk, T: Gate + Sync>(
     alloc: Global,
     job: &PlanJob,
@@ -21,12 +20,12 @@ pub(crate) fn end_plan<R: Threads + Wait + Sync, D: Desk, T: Gate + Sync>(
     publisher: &mut Publisher,
     desk: &mut D,
     gate: &T,
-) -> Result<u8, Stop>
+) -> Result<Ending, Stop>
     requires range { IsJob (Jobs.Plan job.now) }
     requires board { publisher.old.board ≡ live.now.board.now }
     requires few { length publisher.old.published < 2 ^ 62 }
-    ensures ends { IfOk result (EndsJob (D.state desk.old) (D.state desk.new) publisher.old.published publisher.new.published (Jobs.Plan job.now)) }
-    ensures stop { IfErr result (JobStopsFor (D.state desk.old) (D.state desk.new) (Jobs.Plan job.now)) }
+    ensures ends { IfOk result (IsJobEnding (D.state desk.old) (D.state desk.new) publisher.old.published publisher.new.published (Jobs.Plan job.now)) }
+    ensures stop { IfErr result (IsJobStop (D.state desk.old) (D.state desk.new) (Jobs.Plan job.now)) }
     ensures unwritten { OnErr result (ReadsOnly (D.state desk.old) (D.state desk.new)) }
     ensures unpublished { OnErr result (publisher.new ≡ publisher.old) }
     ensures board { publisher.new.board ≡ publisher.old.board }
@@ -55,5 +54,5 @@ pub(crate) fn end_plan<R: Threads + Wait + Sync, D: Desk, T: Gate + Sync>(
     // Let go by a call: the drop of each field here would make the proof long.
     drop(lattice);
     drop(course);
-    Ok(status)
+    Ok(Ending::plain(alloc, status))
 }

@@ -4,14 +4,13 @@ ghost use Rattle.std.specs.Prelude.{◌<◌, ◌∷◌, [], length, List, IfErr,
 ghost use Rattle.sbpl_checks.specs.sbpl_promises.Intents.{listing_writes};
 ghost use Rattle.sbpl_checks.specs.sbpl_report.Listing.{listing_at};
 ghost use Rattle.sbpl_checks.specs.sbpl_promises.Writing.{EndsIn, IsOutput, ReadsOnly, WritesOnly, to_output};
-ghost use Rattle.sbpl_checks.specs.sbpl_promises.Causes.{JobStopsFor};
 ghost use Rattle.sbpl_checks.specs.sbpl_promises.Published.{Entry};
-ghost use Rattle.sbpl_checks.specs.sbpl_promises.Promises.{EndsJob};
 ghost use Rattle.sbpl_checks.specs.sbpl_job.Jobs.{IsJob};
 ghost use Rattle.sbpl_checks.specs.sbpl_job.declared.job.Job.TheVariants as Jobs;
+ghost use Rattle.sbpl_jobs.specs.Endings.{IsJobEnding, IsJobStop};
 
 use sbpl_checks::{
-    Desk, Lattice, NoMemory, OUTPUT, Sources, Stop, WriteStop, listing_at, read_lattice,
+    Desk, Ending, Lattice, NoMemory, OUTPUT, Sources, Stop, WriteStop, listing_at, read_lattice,
     status_after, write_last, write_text,
 };
 use std::alloc::Global;
@@ -51,11 +50,15 @@ pub(crate) fn write_listings<D: Desk>(
     write_last(desk)
 }
 
-/// Lists what each primitive costs and sweeps, and answers the status; or answers why nothing was written.
-pub(crate) fn end_sweep<D: Desk>(alloc: Global, from: &Sources, desk: &mut D) -> Result<u8, Stop>
+/// Lists what each primitive costs and sweeps; or answers why nothing was written.
+pub(crate) fn end_sweep<D: Desk>(
+    alloc: Global,
+    from: &Sources,
+    desk: &mut D,
+) -> Result<Ending, Stop>
     requires range { IsJob (Jobs.Sweep from.now) }
-    ensures ends { IfOk result (λ status. (log : List Entry) → EndsJob (D.state desk.old) (D.state desk.new) log log (Jobs.Sweep from.now) status) }
-    ensures stop { IfErr result (JobStopsFor (D.state desk.old) (D.state desk.new) (Jobs.Sweep from.now)) }
+    ensures ends { IfOk result (λ e. (log : List Entry) → IsJobEnding (D.state desk.old) (D.state desk.new) log log (Jobs.Sweep from.now) e) }
+    ensures stop { IfErr result (IsJobStop (D.state desk.old) (D.state desk.new) (Jobs.Sweep from.now)) }
     ensures unwritten { OnErr result (ReadsOnly (D.state desk.old) (D.state desk.new)) }
     ensures frame { WritesOnly IsOutput (D.state desk.old) (D.state desk.new) }
 {
@@ -64,7 +67,7 @@ pub(crate) fn end_sweep<D: Desk>(alloc: Global, from: &Sources, desk: &mut D) ->
             let status = status_after(write_listings(alloc, &lattice, desk), 0);
             // Let go by a call: the drop of each field here would make the proof long.
             drop(lattice);
-            Ok(status)
+            Ok(Ending::plain(alloc, status))
         }
         Err(stop) => Err(stop),
     }

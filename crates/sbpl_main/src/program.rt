@@ -50,14 +50,12 @@ pub fn start<
         return answer_at_terminal(rt, words, err, &board, &mut publisher);
     }
     let mut desk = RealDesk::new(rt);
-    let mut again = RealDesk::new(rt);
     answer(
         rt,
         rt.alloc(),
         words,
         &mut desk,
         &NoGate,
-        &mut again,
         err,
         &board,
         &mut publisher,

@@ -117,13 +117,12 @@ fn show<R: Wait + Clock, E: io::Write>(
     }
 }
 
-/// Does what `answer` does at these desks, and writes the message, if there is one, once the newest path is no longer shown.
+/// Does what `answer` does at this desk, and writes the message, if there is one, once the newest path is no longer shown.
 fn answer_beside<R: Threads + Wait + Clock + Sync, D: Desk, E: io::Write + Send>(
     rt: &R,
     alloc: Global,
     words: &[String],
     desk: &mut D,
-    again: &mut D,
     board: &Board,
     publisher: &mut Publisher,
     console: &Mutex<Console<'_, E>>,
@@ -149,7 +148,6 @@ fn answer_beside<R: Threads + Wait + Clock + Sync, D: Desk, E: io::Write + Send>
             words,
             desk,
             &NoGate,
-            again,
             &mut message,
             board,
             publisher,
@@ -174,15 +172,5 @@ pub(crate) fn answer_at_terminal<
 {
     let console = Mutex::new(Console { err, shows: true });
     let mut desk = ConsoleDesk::new(rt, &console);
-    let mut again = ConsoleDesk::new(rt, &console);
-    answer_beside(
-        rt,
-        rt.alloc(),
-        words,
-        &mut desk,
-        &mut again,
-        board,
-        publisher,
-        &console,
-    )
+    answer_beside(rt, rt.alloc(), words, &mut desk, board, publisher, &console)
 }

@@ -7,3 +7,4 @@ pub mod MapAfter
 pub mod Printed
 pub mod Reading
 pub use Rattle.sbpl_cfg.specs as sbpl_cfg
+pub use Rattle.sbpl_cfg.specs.sbpl_lists as sbpl_lists

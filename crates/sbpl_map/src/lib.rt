@@ -7,6 +7,7 @@ mod fault;
 mod judging;
 mod line;
 mod map;
+mod message;
 mod moves;
 mod off_map;
 mod read;
@@ -18,9 +19,13 @@ pub use after::writes_lead_to_the_next_map;
 pub use changes::Changes;
 pub use fault::ChangeFault;
 pub use map::Map;
+pub use message::changes_message;
 pub use moves::Moves;
 pub use off_map::OffMap;
 pub use read::{read_changes, read_moves};
-pub use sbpl_cfg::{Env, EnvFault, Grid, NoMemory, read_env};
+pub use sbpl_cfg::{
+    COST_WANTED, Env, EnvFault, Grid, HEIGHT_WANTED, Message, NoMemory, OBSTACLE_WANTED, Row,
+    START_WANTED, WIDTH_WANTED, message_at, read_env, wanted_at,
+};
 pub use text::{texts_are_changes_or_faulty, texts_are_moves_or_faulty};
 pub use write::Write;

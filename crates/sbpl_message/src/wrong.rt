@@ -1,8 +1,12 @@
 //! What is wrong with words that name no job, told in one line.
 
+ghost use Rattle.std.specs.Prelude.{IfOk, codes};
+ghost use Rattle.sbpl_lists.specs.Messages.{IsPlainMessage};
+
 use crate::value::{id_of, wanted, wrong_value};
 use clap::ArgMatches;
-use sbpl_job::{Command, command_named, line_of, spaced_words};
+use sbpl_job::{Command, NoMemory, command_named, line_of, spaced_words};
+use sbpl_lists::{Message, plain_message};
 use std::alloc::{AllocError, Global};
 
 /// What `clap` says of words, without its usage, in one line.
@@ -54,9 +58,8 @@ fn wrong_after(alloc: Global, command: Command, words: &[&str]) -> Result<String
     }
 }
 
-/// What is wrong with words that name no job, in one line: what `clap` says of them, or which value is out of its range. For
-/// words that name a job it says nothing useful.
-pub fn wrong_words(alloc: Global, words: &[String]) -> Result<String, AllocError> {
+/// What is wrong with words that name no job, in one line.
+fn wrong_words(alloc: Global, words: &[String]) -> Result<String, AllocError> {
     let [word, rest @ ..] = words else {
         return String::from_str(
             alloc,
@@ -71,4 +74,13 @@ pub fn wrong_words(alloc: Global, words: &[String]) -> Result<String, AllocError
     };
     let spaced = spaced_words(alloc, command, rest)?;
     wrong_after(alloc, command, spaced.as_slice())
+}
+
+/// The message for words that name no job: what `clap` says of them, or which value is out of its range. For words that name a job it
+/// says nothing useful.
+pub fn words_message(alloc: Global, words: &[String]) -> Result<Message, NoMemory>
+    ensures message { IfOk result (λ m. IsPlainMessage (codes "temjoask") m) }
+{
+    let what = wrong_words(alloc, words)?;
+    plain_message(alloc, "temjoask", what.as_str())
 }

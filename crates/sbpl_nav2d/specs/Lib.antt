@@ -11,5 +11,3 @@ pub mod Text
 pub mod World
 pub mod Reads
 pub mod Cells
-pub use Rattle.sbpl_terrain.specs.sbpl_cfg as sbpl_cfg
-pub use Rattle.sbpl_terrain.specs.sbpl_map as sbpl_map

@@ -5,6 +5,7 @@ mod cell;
 mod env;
 mod judging;
 mod laws;
+mod message;
 mod nav;
 mod octile;
 mod parts;
@@ -14,10 +15,9 @@ mod text;
 
 pub use env::NavEnv;
 pub use laws::{gaps_in_plain_words, grids_have_their_tails, worlds_are_grids};
+pub use message::grid_message;
 pub use nav::Nav;
 pub use octile::Octile;
 pub use read::read_nav;
-pub use sbpl_terrain::{
-    ChangeFault, Changes, Env, EnvFault, Grid, Map, read_changes, read_env, read_moves,
-};
+pub use sbpl_terrain::{EnvFault, Map};
 pub use text::texts_are_grids_or_faulty;

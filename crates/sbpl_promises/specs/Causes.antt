@@ -46,6 +46,10 @@ use Rattle.sbpl_promises.specs.WorldFiles.{WorldFiles}
 use Rattle.sbpl_promises.specs.Published.{Entry}
 use Rattle.sbpl_promises.specs.Writing.{DeskState, IsNamed, Names, ReadFailed, Told}
 use Rattle.sbpl_promises.specs.declared.course.Course.{Course}
+use Rattle.sbpl_report.specs.sbpl_cfg.Faults as env_faults
+use Rattle.sbpl_report.specs.sbpl_lists.Messages.{IsMessageAt, IsMessageOnLine, IsPlainMessage}
+use Rattle.sbpl_report.specs.sbpl_map.Faults as change_faults
+use Rattle.sbpl_report.specs.sbpl_mprim.Faults as prim_faults
 use Rattle.sbpl_promises.specs.Texts.{IsEnvironmentText, HasEnvironmentFault, IsGridText, HasGridFault, IsPrimitiveText, HasPrimitiveFault, IsChangeText, HasChangeFault, Scope, scope_for, still, still_scope}
 
 -- these bytes were read of a file: the held ones, where the desk tells them, and at most 2 ^ 30
@@ -311,7 +315,7 @@ IsJobCause held Failed (job.NavCheck j) r = IsCheckCause held Failed (grid_files
 
 -- a refusal with a cause; or memory ran out
 abbrev pub StopsFor : (Refusal → Type 0) → Stop → Type 0
-StopsFor IsWhy (stop.Refused r) = IsWhy r
+StopsFor IsWhy (stop.Refused r m) = IsWhy r
 StopsFor IsWhy stop.NoMemory = Unit {0}
 
 -- why a job stopped before anything was written
@@ -330,61 +334,67 @@ EarlyStopsFor before after f changes s = StopsFor (IsEarlyCause before.held (Rea
 abbrev pub CheckStopsFor : {W : Type 0} → (before after : DeskState) → WorldFiles W → Option (List ℕ) → (labels : List ℕ) → Stop → Type 0
 CheckStopsFor before after f changes labels s = StopsFor (IsCheckCause before.held (ReadFailed before after) f changes labels) s
 
--- why the file of a name was not read
+-- why the file of a name was not read, and what is told of that
 abbrev pub IsUnread : (before after : DeskState) → List ℕ → Input → Stop → Type 0
-IsUnread before after name i (stop.Refused (refusal.Read j)) = (j ≡ i) × ReadFailed before after name
-IsUnread before after name i (stop.Refused (refusal.Length j)) = (j ≡ i) × IsTooLong (before.held name)
-IsUnread before after name i (stop.Refused _) = ⊥
+IsUnread before after name i (stop.Refused (refusal.Read j) m) = (j ≡ i) × ReadFailed before after name × IsPlainMessage name m
+IsUnread before after name i (stop.Refused (refusal.Length j) m) = (j ≡ i) × IsTooLong (before.held name) × (m ≡ [])
+IsUnread before after name i (stop.Refused _ m) = ⊥
 IsUnread before after name i stop.NoMemory = Unit {0}
 
 -- why no grid was made
 abbrev pub GridStopsFor : (before after : DeskState) → (env : List ℕ) → Stop → Type 0
 GridStopsFor before after env s = StopsFor (IsGridCause before.held (ReadFailed before after) env) s
 
--- why the text of the environment file of a grid was refused
-abbrev pub IsGridRefused : List ℕ → Stop → Type 0
-IsGridRefused text (stop.Refused (refusal.Grid f)) = HasGridFault text f
-IsGridRefused text (stop.Refused _) = ⊥
-IsGridRefused text stop.NoMemory = Unit {0}
+-- why the text of the environment file of a grid, of this name, was refused, and what is told of that
+abbrev pub IsGridRefused : (name text : List ℕ) → Stop → Type 0
+IsGridRefused name text (stop.Refused (refusal.Grid f) m) = HasGridFault text f × IsMessageAt name text (env_faults.place_of f) m
+IsGridRefused name text (stop.Refused _ m) = ⊥
+IsGridRefused name text stop.NoMemory = Unit {0}
 
--- why the text of an environment file was refused
-abbrev pub IsEnvironmentRefused : List ℕ → Stop → Type 0
-IsEnvironmentRefused text (stop.Refused (refusal.Environment f)) = HasEnvironmentFault text f
-IsEnvironmentRefused text (stop.Refused _) = ⊥
-IsEnvironmentRefused text stop.NoMemory = Unit {0}
+-- why the text of an environment file was refused, and what is told of that
+abbrev pub IsEnvironmentRefused : (name text : List ℕ) → Stop → Type 0
+IsEnvironmentRefused name text (stop.Refused (refusal.Environment f) m) = HasEnvironmentFault text f × IsMessageAt name text (env_faults.place_of f) m
+IsEnvironmentRefused name text (stop.Refused _ m) = ⊥
+IsEnvironmentRefused name text stop.NoMemory = Unit {0}
 
--- why the text of a primitive file was refused
-abbrev pub IsPrimitivesRefused : Environment → List ℕ → Stop → Type 0
-IsPrimitivesRefused e text (stop.Refused (refusal.Primitives f)) = HasPrimitiveFault e text f
-IsPrimitivesRefused e text (stop.Refused _) = ⊥
-IsPrimitivesRefused e text stop.NoMemory = Unit {0}
+-- why the text of a primitive file was refused, and what is told of that
+abbrev pub IsPrimitivesRefused : Environment → (name text : List ℕ) → Stop → Type 0
+IsPrimitivesRefused e name text (stop.Refused (refusal.Primitives f) m) = HasPrimitiveFault e text f × IsMessageAt name text (prim_faults.place_of f) m
+IsPrimitivesRefused e name text (stop.Refused _ m) = ⊥
+IsPrimitivesRefused e name text stop.NoMemory = Unit {0}
 
 -- why the primitive file, for an environment, was refused
 abbrev pub PrimitivesStopFor : (before after : DeskState) → Sources → Environment → Stop → Type 0
-PrimitivesStopFor before after from e (stop.Refused (refusal.Primitives f)) = IsFaultyFor before.held from e f
-PrimitivesStopFor before after from e (stop.Refused (refusal.Read input.Primitives)) = ReadFailed before after from.prims
-PrimitivesStopFor before after from e (stop.Refused (refusal.Length input.Primitives)) = IsTooLong (before.held from.prims)
-PrimitivesStopFor before after from e (stop.Refused _) = ⊥
+PrimitivesStopFor before after from e (stop.Refused (refusal.Primitives f) m) = IsFaultyFor before.held from e f
+PrimitivesStopFor before after from e (stop.Refused (refusal.Read input.Primitives) m) = ReadFailed before after from.prims
+PrimitivesStopFor before after from e (stop.Refused (refusal.Length input.Primitives) m) = IsTooLong (before.held from.prims)
+PrimitivesStopFor before after from e (stop.Refused _ m) = ⊥
 PrimitivesStopFor before after from e stop.NoMemory = Unit {0}
 
--- why the sweeps of primitives were not made
-abbrev pub IsWideStop : Primitives → ℕ → Stop → Type 0
-IsWideStop prims radius (stop.Refused (refusal.TooWide place)) = IsFirstTooWide prims radius place
-IsWideStop prims radius (stop.Refused _) = ⊥
-IsWideStop prims radius stop.NoMemory = Unit {0}
+-- why the sweeps of primitives, of the file of this name, were not made, and what is told of that
+abbrev pub IsWideStop : (name : List ℕ) → Primitives → ℕ → Stop → Type 0
+IsWideStop name prims radius (stop.Refused (refusal.TooWide place) m) = IsFirstTooWide prims radius place × IsPlainMessage name m
+IsWideStop name prims radius (stop.Refused _ m) = ⊥
+IsWideStop name prims radius stop.NoMemory = Unit {0}
 
--- why the text of a change file was refused
-abbrev pub IsChangesRefused : Scope → List ℕ → Stop → Type 0
-IsChangesRefused s text (stop.Refused (refusal.Changes f)) = HasChangeFault s text f
-IsChangesRefused s text (stop.Refused _) = ⊥
-IsChangesRefused s text stop.NoMemory = Unit {0}
+-- the primitive of this place, of the file of this name, costs too much, and what is told of that
+abbrev pub IsDearStop : (name : List ℕ) → (place : ℕ) → Stop → Type 0
+IsDearStop name place (stop.Refused (refusal.TooDear i) m) = (i ≡ place) × IsPlainMessage name m
+IsDearStop name place (stop.Refused _ m) = ⊥
+IsDearStop name place stop.NoMemory = Unit {0}
+
+-- why the text of a change file was refused, and what is told of that
+abbrev pub IsChangesRefused : Scope → (name text : List ℕ) → Stop → Type 0
+IsChangesRefused s name text (stop.Refused (refusal.Changes f) m) = HasChangeFault s text f × IsMessageOnLine name (change_faults.line_of f) m
+IsChangesRefused s name text (stop.Refused _ m) = ⊥
+IsChangesRefused s name text stop.NoMemory = Unit {0}
 
 -- why no course was read
 abbrev pub ChangesStopFor : (before after : DeskState) → Option (List ℕ) → Scope → Stop → Type 0
-ChangesStopFor before after changes s (stop.Refused (refusal.Changes f)) = AtName changes (λ name. IsFaultyChanges before.held name s f)
-ChangesStopFor before after changes s (stop.Refused (refusal.Read input.Changes)) = AtName changes (ReadFailed before after)
-ChangesStopFor before after changes s (stop.Refused (refusal.Length input.Changes)) = AtName changes (λ name. IsTooLong (before.held name))
-ChangesStopFor before after changes s (stop.Refused _) = ⊥
+ChangesStopFor before after changes s (stop.Refused (refusal.Changes f) m) = AtName changes (λ name. IsFaultyChanges before.held name s f)
+ChangesStopFor before after changes s (stop.Refused (refusal.Read input.Changes) m) = AtName changes (ReadFailed before after)
+ChangesStopFor before after changes s (stop.Refused (refusal.Length input.Changes) m) = AtName changes (λ name. IsTooLong (before.held name))
+ChangesStopFor before after changes s (stop.Refused _ m) = ⊥
 ChangesStopFor before after changes s stop.NoMemory = Unit {0}
 
 -- where the refusal is for a failed read, what has failed by the one names has failed by the other

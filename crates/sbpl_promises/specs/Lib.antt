@@ -12,6 +12,7 @@ pub mod Clear
 pub mod Headline
 pub mod Causes
 pub mod Promises
+pub mod Explained
 pub mod WriteTexts
 pub mod Determined
 pub mod Run
@@ -41,3 +42,4 @@ pub use Rattle.sbpl_report.specs.sbpl_plan as sbpl_plan
 pub use Rattle.sbpl_replan.specs as sbpl_replan
 pub use Rattle.sbpl_report.specs.sbpl_job as sbpl_job
 pub use Rattle.sbpl_report.specs as sbpl_report
+pub use Rattle.sbpl_report.specs.sbpl_lists as sbpl_lists

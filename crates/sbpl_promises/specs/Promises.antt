@@ -178,13 +178,6 @@ pub record EndsJob (before after : DeskState) (old new : List Entry) (j : Job) (
   pub begins : BeginsAfter intent old
   pub published : new ≡ published_by intent old
 
--- how the checking of this number of sections more, the first that of a plan, ends by the program's status
-pub record EndsSections {W : Type 0} {on : Site W} {d : Direction W} (c : Case on d) (plan more : ℕ) (left : Left) (before after : DeskState) (status : ℕ) : Type 0 where
-  pub outcomes : List Outcome
-  pub end : Option SectionStop
-  pub checked : AreChecked IsShownHolding c plan more left outcomes end
-  pub ends : EndsAs before after (checked_writes (to_in c) plan outcomes end) (checked_status end) status
-
 -- how the making of plans, the first of which is plan k, ends by the program's status, and what was published before it and after;
 -- what is written of a plan is given
 pub record EndsPlans {W : Type 0} (by : Known W) (written_of : PlanRecord → List Write) (w : W) (batches : List (List change.Write)) (how : SearchJob) (outputs : Outputs) (starts : ℕ → ℕ) (goal k : ℕ) (log shown : List Entry) (left : Option Carried) (before after : DeskState) (status : ℕ) : Type 0 where

@@ -16,24 +16,26 @@ pub use sbpl_report::{Graph, Guide};
 pub use sbpl_report::{NoMemory, next_token};
 
 // Of `sbpl_lists`.
-pub use sbpl_report::{ListOf, Piece, push_all, push_bytes};
+pub use sbpl_report::{ListOf, Message, Piece, plain_message, push_all, push_bytes};
 
 // Of `sbpl_desk`.
 pub use sbpl_desk::{Desk, MemoryDesk, ReadStop, RealDesk, WriteStop};
 
 // Of `sbpl_cfg`.
 pub use sbpl_report::{
-    Env, EnvFault, Grid, Place, cell_at, heading_at, place_at, print_env, read_env,
-    texts_are_environments_or_faulty,
+    Env, EnvFault, Grid, Place, cell_at, environment_message, heading_at, place_at, print_env,
+    read_env, texts_are_environments_or_faulty,
 };
 
 // Of `sbpl_mprim`.
-pub use sbpl_report::{PrimFault, Prims, print_prims, read_prims, texts_are_primitives_or_faulty};
+pub use sbpl_report::{
+    PrimFault, Prims, primitives_message, print_prims, read_prims, texts_are_primitives_or_faulty,
+};
 
 // Of `sbpl_map`.
 pub use sbpl_report::{
-    ChangeFault, Changes, Map, read_changes, read_moves, texts_are_changes_or_faulty,
-    texts_are_moves_or_faulty, writes_lead_to_the_next_map,
+    ChangeFault, Changes, Map, changes_message, read_changes, read_moves,
+    texts_are_changes_or_faulty, texts_are_moves_or_faulty, writes_lead_to_the_next_map,
 };
 
 // Of `sbpl_terrain`.
@@ -55,7 +57,9 @@ pub use sbpl_demo::{Demo, generate};
 pub use sbpl_replan::{Back, FromStart, paths_turn_round, turned_round};
 
 // Of `sbpl_nav2d`.
-pub use sbpl_nav2d::{Nav, Octile, read_nav, texts_are_grids_or_faulty, worlds_are_grids};
+pub use sbpl_nav2d::{
+    Nav, Octile, grid_message, read_nav, texts_are_grids_or_faulty, worlds_are_grids,
+};
 
 // Of `sbpl_search`.
 pub use sbpl_report::Search;
@@ -81,7 +85,7 @@ pub use sbpl_epase::{Epase, Gate, NoGate, Parts, parallel_pass_parts};
 // Of `sbpl_cert`.
 pub use sbpl_report::{
     Flaw, LabelFault, LabelOutcome, Section, check, check_sparse, cut_rows_are_one,
-    first_flaws_are_one, read_labels, texts_are_sections_or_faulty,
+    first_flaws_are_one, labels_message, read_labels, texts_are_sections_or_faulty,
 };
 
 // Of `sbpl_plan`.

@@ -20,3 +20,4 @@ pub use Rattle.sbpl_incumbent.specs as sbpl_incumbent
 pub use Rattle.sbpl_cert.specs as sbpl_cert
 pub use Rattle.sbpl_plan.specs as sbpl_plan
 pub use Rattle.sbpl_job.specs as sbpl_job
+pub use Rattle.sbpl_cert.specs.sbpl_lists as sbpl_lists

@@ -7,11 +7,6 @@ use Rattle.sbpl_report.specs.declared.refusal.Input.TheVariants as input
 use Rattle.sbpl_report.specs.declared.refusal.Refusal.{Refusal}
 use Rattle.sbpl_report.specs.declared.refusal.Refusal.TheVariants as refusal
 use Rattle.sbpl_cost.specs.sbpl_map.Faults as changes
-use Rattle.sbpl_job.specs.declared.job.CheckJob.{CheckJob}
-use Rattle.sbpl_job.specs.declared.job.NavCheckJob.{NavCheckJob}
-use Rattle.sbpl_job.specs.declared.job.NavJob.{NavJob}
-use Rattle.sbpl_job.specs.declared.job.PlanJob.{PlanJob}
-use Rattle.sbpl_job.specs.declared.job.Sources.{Sources}
 use Rattle.sbpl_cert.specs.Faults as faults
 use Rattle.sbpl_cert.specs.declared.fault.LabelFault.{LabelFault}
 use Rattle.sbpl_job.specs.declared.job.Job.{Job}
@@ -23,42 +18,21 @@ abbrev pub name_or_nothing : Option (List ℕ) → List ℕ
 name_or_nothing None = []
 name_or_nothing (Some name) = name
 
--- the name of a file that a job reads; empty where it reads none
-abbrev pub sources_name : Sources → Input → List ℕ
-sources_name from input.Environment = from.env
-sources_name from input.Primitives = from.prims
-sources_name from _ = []
+-- the name of a file, where the files that a job reads have these names; empty where it reads none
+abbrev pub file_name : (env : List ℕ) → (prims changes labels : Option (List ℕ)) → Input → List ℕ
+file_name env prims changes labels input.Environment = env
+file_name env prims changes labels input.Primitives = name_or_nothing prims
+file_name env prims changes labels input.Changes = name_or_nothing changes
+file_name env prims changes labels input.Labels = name_or_nothing labels
 
-abbrev pub plan_name : PlanJob → Input → List ℕ
-plan_name j input.Environment = j.sources.env
-plan_name j input.Primitives = j.sources.prims
-plan_name j input.Changes = name_or_nothing j.changes
-plan_name j input.Labels = []
-
-abbrev pub check_name : CheckJob → Input → List ℕ
-check_name j input.Environment = j.sources.env
-check_name j input.Primitives = j.sources.prims
-check_name j input.Changes = name_or_nothing j.changes
-check_name j input.Labels = j.labels
-
-abbrev pub nav_name : NavJob → Input → List ℕ
-nav_name j input.Environment = j.env
-nav_name j input.Changes = name_or_nothing j.changes
-nav_name j _ = []
-
-abbrev pub nav_check_name : NavCheckJob → Input → List ℕ
-nav_check_name j input.Environment = j.env
-nav_check_name j input.Primitives = []
-nav_check_name j input.Changes = name_or_nothing j.changes
-nav_check_name j input.Labels = j.labels
-
+-- the name of a file that a job reads
 abbrev pub input_name : Job → Input → List ℕ
-input_name (job.Plan j) i = plan_name j i
-input_name (job.Check j) i = check_name j i
-input_name (job.Sweep from) i = sources_name from i
+input_name (job.Plan j) i = file_name j.sources.env (Some j.sources.prims) j.changes None i
+input_name (job.Check j) i = file_name j.sources.env (Some j.sources.prims) j.changes (Some j.labels) i
+input_name (job.Sweep from) i = file_name from.env (Some from.prims) None None i
 input_name (job.Demo d) i = []
-input_name (job.Nav j) i = nav_name j i
-input_name (job.NavCheck j) i = nav_check_name j i
+input_name (job.Nav j) i = file_name j.env None j.changes None i
+input_name (job.NavCheck j) i = file_name j.env None j.changes (Some j.labels) i
 
 -- the statuses of refusals
 abbrev pub refusal_status : Refusal → ℕ

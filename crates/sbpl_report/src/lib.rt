@@ -29,21 +29,24 @@ pub use sbpl_plan::{Graph, Guide};
 pub use sbpl_job::{NoMemory, next_token};
 
 // Of `sbpl_lists`.
+pub use sbpl_cost::{Message, plain_message};
 pub use sbpl_plan::{ListOf, Piece, push_all, push_bytes};
 
 // Of `sbpl_cfg`.
 pub use sbpl_cost::{
-    Env, EnvFault, Grid, Place, cell_at, heading_at, place_at, print_env, read_env,
-    texts_are_environments_or_faulty,
+    Env, EnvFault, Grid, Place, cell_at, environment_message, heading_at, place_at, print_env,
+    read_env, texts_are_environments_or_faulty,
 };
 
 // Of `sbpl_mprim`.
-pub use sbpl_cost::{PrimFault, Prims, print_prims, read_prims, texts_are_primitives_or_faulty};
+pub use sbpl_cost::{
+    PrimFault, Prims, primitives_message, print_prims, read_prims, texts_are_primitives_or_faulty,
+};
 
 // Of `sbpl_map`.
 pub use sbpl_cost::{
-    ChangeFault, Changes, Map, Moves, read_changes, read_moves, texts_are_changes_or_faulty,
-    texts_are_moves_or_faulty, writes_lead_to_the_next_map,
+    ChangeFault, Changes, Map, Moves, changes_message, read_changes, read_moves,
+    texts_are_changes_or_faulty, texts_are_moves_or_faulty, writes_lead_to_the_next_map,
 };
 
 // Of `sbpl_terrain`.
@@ -70,7 +73,7 @@ pub use sbpl_incumbent::{Board, Entry, Publisher, Reader, told_readers_get_the_n
 // Of `sbpl_cert`.
 pub use sbpl_cert::{
     Flaw, LabelFault, Outcome as LabelOutcome, Section, check, check_sparse, cut_rows_are_one,
-    first_flaws_are_one, read_labels, texts_are_sections_or_faulty,
+    first_flaws_are_one, labels_message, read_labels, texts_are_sections_or_faulty,
 };
 
 // Of `sbpl_plan`.

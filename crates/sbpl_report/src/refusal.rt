@@ -2,8 +2,10 @@
 
 ghost use Rattle.std.specs.Prelude.{◌≡◌};
 ghost use Rattle.sbpl_report.specs.Refusals.{refusal_status};
+ghost use Rattle.sbpl_report.specs.declared.refusal.Stop.TheVariants.{NoMemory as Memory};
 
-use sbpl_cost::{ChangeFault, EnvFault, PrimFault};
+use sbpl_cost::{ChangeFault, EnvFault, Message, PrimFault};
+use sbpl_job::NoMemory;
 
 /// A file that a job reads.
 #[derive(Clone, Copy)]
@@ -51,10 +53,17 @@ impl Refusal {
 }
 
 /// Why a job stopped before anything was written.
-#[derive(Clone, Copy)]
 pub enum Stop {
-    /// The job is refused.
-    Refused(Refusal),
+    /// The job is refused, and people are told this.
+    Refused(Refusal, Message),
     /// Memory ran out.
     NoMemory,
+}
+
+impl From<NoMemory> for Stop {
+    ghost from_gives = { λ _ s. s ≡ Memory };
+
+    fn from(_error: NoMemory) -> Stop {
+        Stop::NoMemory
+    }
 }

@@ -1,7 +1,7 @@
 //! The lines of refusals.
 
-ghost use Rattle.std.specs.Prelude.{◌≡◌, ◌++◌, OnOk, IfOk};
-ghost use Rattle.sbpl_report.specs.Refusals.{check_name, fault_text, input_name, label_fault_text, name_or_nothing, nav_check_name, nav_name, plan_name, refusal_text, sources_name, unread_text};
+ghost use Rattle.std.specs.Prelude.{◌≡◌, ◌++◌, OnOk, IfOk, None, Some};
+ghost use Rattle.sbpl_report.specs.Refusals.{fault_text, file_name, input_name, label_fault_text, name_or_nothing, refusal_text, unread_text};
 
 use crate::refusal::{Input, Refusal};
 use sbpl_cert::LabelFault;
@@ -66,7 +66,7 @@ fn name_or_nothing(name: &Option<Name>) -> &str
 
 /// The name of a file that the job `sweep` reads; empty where it reads none.
 fn sources_name(from: &Sources, input: Input) -> &str
-    ensures name { result.now ≡ sources_name from.now input }
+    ensures name { result.now ≡ file_name from.now.env (Some from.now.prims) None None input }
 {
     match input {
         Input::Environment => from.env.as_str(),
@@ -77,7 +77,7 @@ fn sources_name(from: &Sources, input: Input) -> &str
 
 /// The name of a file that a job `plan` reads; empty where it reads none.
 fn plan_name(job: &PlanJob, input: Input) -> &str
-    ensures name { result.now ≡ plan_name job.now input }
+    ensures name { result.now ≡ file_name job.now.sources.env (Some job.now.sources.prims) job.now.changes None input }
 {
     match input {
         Input::Environment => job.sources.env.as_str(),
@@ -89,7 +89,7 @@ fn plan_name(job: &PlanJob, input: Input) -> &str
 
 /// The name of a file that a job `check` reads; empty where it reads none.
 fn check_name(job: &CheckJob, input: Input) -> &str
-    ensures name { result.now ≡ check_name job.now input }
+    ensures name { result.now ≡ file_name job.now.sources.env (Some job.now.sources.prims) job.now.changes (Some job.now.labels) input }
 {
     match input {
         Input::Environment => job.sources.env.as_str(),
@@ -101,7 +101,7 @@ fn check_name(job: &CheckJob, input: Input) -> &str
 
 /// The name of a file that a job `nav` reads; empty where it reads none.
 fn nav_name(job: &NavJob, input: Input) -> &str
-    ensures name { result.now ≡ nav_name job.now input }
+    ensures name { result.now ≡ file_name job.now.env None job.now.changes None input }
 {
     match input {
         Input::Environment => job.env.as_str(),
@@ -112,7 +112,7 @@ fn nav_name(job: &NavJob, input: Input) -> &str
 
 /// The name of a file that a job `navcheck` reads; empty where it reads none.
 fn nav_check_name(job: &NavCheckJob, input: Input) -> &str
-    ensures name { result.now ≡ nav_check_name job.now input }
+    ensures name { result.now ≡ file_name job.now.env None job.now.changes (Some job.now.labels) input }
 {
     match input {
         Input::Environment => job.env.as_str(),

@@ -1,11 +1,13 @@
-//! What is told: texts that are written under names, and of a plan its sections or a line.
+//! What is told: texts that are written under names, of a plan its sections or a line, and how a run ended.
 #![tactic(auto)]
 
+mod ending;
 mod plan_section;
 mod sections;
 mod telling;
 mod writing;
 
+pub use ending::{Ending, end_with};
 pub use plan_section::section_of;
 pub use telling::{Lines, Telling};
 pub use writing::{OUTPUT, status_after, write_last, write_text};

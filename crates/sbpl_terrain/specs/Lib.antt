@@ -7,3 +7,4 @@ pub mod Affected
 pub use Rattle.sbpl_graph.specs as sbpl_graph
 pub use Rattle.sbpl_map.specs.sbpl_cfg as sbpl_cfg
 pub use Rattle.sbpl_map.specs as sbpl_map
+pub use Rattle.sbpl_map.specs.sbpl_lists as sbpl_lists

@@ -14,8 +14,9 @@ pub use batch::{apply, are_on_map, write_batch};
 pub use heuristic::Heuristic;
 pub use sbpl_graph::{Graph, Guide};
 pub use sbpl_map::{
-    ChangeFault, Changes, Env, EnvFault, Grid, Map, Moves, OffMap, Write, read_changes, read_env,
-    read_moves, texts_are_changes_or_faulty, texts_are_moves_or_faulty,
-    writes_lead_to_the_next_map,
+    COST_WANTED, ChangeFault, Changes, Env, EnvFault, Grid, HEIGHT_WANTED, Map, Message, Moves,
+    OBSTACLE_WANTED, OffMap, Row, START_WANTED, WIDTH_WANTED, Write, changes_message, message_at,
+    read_changes, read_env, read_moves, texts_are_changes_or_faulty, texts_are_moves_or_faulty,
+    wanted_at, writes_lead_to_the_next_map,
 };
 pub use terrain::Terrain;

@@ -1,4 +1,5 @@
 pub mod Reading
+pub mod Explaining
 pub mod OnMaps
 pub mod Moving
 pub mod Drawings

@@ -1,5 +1,5 @@
 -- What a desk keeps over two readings, and stops that are handed on.
-use Rattle.std.proofs.Common.{ℕ, List, Option, Some, None, ◌∙◌, subst, arith, inl, inr}
+use Rattle.std.proofs.Common.{◌≡◌, ℕ, List, Option, Some, None, Result, Ok, Err, IfErr, ◌∙◌, sym, subst, arith, inl, inr}
 use Rattle.sbpl_promises.specs.sbpl_cfg.Environment.{Environment}
 use Rattle.sbpl_promises.specs.sbpl_desk.Desk.{NoneFalls, Stays}
 use Rattle.sbpl_promises.specs.sbpl_mprim.Primitives.{Primitives}
@@ -9,8 +9,8 @@ use Rattle.sbpl_promises.specs.sbpl_report.declared.refusal.Refusal.{Refusal}
 use Rattle.sbpl_promises.specs.sbpl_report.declared.refusal.Refusal.TheVariants as refusal
 use Rattle.sbpl_promises.specs.sbpl_report.declared.refusal.Stop.{Stop}
 use Rattle.sbpl_promises.specs.sbpl_report.declared.refusal.Stop.TheVariants as stop
-use Rattle.sbpl_promises.specs.Causes.{AtName, ChangesStopFor, EarlyStopsFor, IsCause, IsChangesCause, IsFaultyChanges}
-use Rattle.sbpl_promises.specs.Causes.{IsReadText, IsTooLong, IsWideStop, LatticeStopsFor, PrimitivesStopFor}
+use Rattle.sbpl_promises.specs.Causes.{AtName, ChangesStopFor, EarlyStopsFor, IsCause, IsChangesCause, IsChangesRefused, IsDearStop}
+use Rattle.sbpl_promises.specs.Causes.{IsFaultyChanges, IsReadText, IsTooDearJob, IsTooLong, IsWideStop, LatticeStopsFor, PrimitivesStopFor}
 use Rattle.sbpl_promises.specs.Causes.{ReadsCourse, ReadsEnvironment, ReadsPrimitives}
 use Rattle.sbpl_promises.specs.WorldFiles.{WorldFiles}
 use Rattle.sbpl_promises.specs.Texts.{Scope}
@@ -51,9 +51,9 @@ primitives_before held held' from e ps same says = record {
 pub primitives_stop : (s t u : DeskState) (from : Sources) (e : Environment) (cells : List ℕ) (x : Stop)
     → ReadsEnvironment s.held from e cells → ReadsOnly s t → PrimitivesStopFor t u from e x → LatticeStopsFor s u from x
 primitives_stop s t u from e cells stop.NoMemory says same cause = tt
-primitives_stop s t u from e cells (stop.Refused r) says same cause = by_refusal r cause
+primitives_stop s t u from e cells (stop.Refused r m) says same cause = by_refusal r cause
   where
-    by_refusal : (r : Refusal) → PrimitivesStopFor t u from e (stop.Refused r) → IsCause s.held (ReadFailed s u) from r
+    by_refusal : (r : Refusal) → PrimitivesStopFor t u from e (stop.Refused r m) → IsCause s.held (ReadFailed s u) from r
     by_refusal (refusal.Primitives f) faulty = record {
       env = e;
       cells = cells;
@@ -76,12 +76,31 @@ primitives_stop s t u from e cells (stop.Refused r) says same cause = by_refusal
 
 -- a stop for primitives that are too wide is one, where an environment and these primitives were read before
 pub wide_stop : (s u : DeskState) (from : Sources) (e : Environment) (cells : List ℕ) (ps : Primitives) (x : Stop)
-    → ReadsEnvironment s.held from e cells → ReadsPrimitives s.held from e ps → IsWideStop ps from.radius x
+    → ReadsEnvironment s.held from e cells → ReadsPrimitives s.held from e ps → IsWideStop from.prims ps from.radius x
     → LatticeStopsFor s u from x
 wide_stop s u from e cells ps stop.NoMemory says stand cause = tt
-wide_stop s u from e cells ps (stop.Refused (refusal.TooWide place)) says stand cause =
-    record { env = e; cells = cells; prims = ps; environment = says; primitives = stand; wide = cause }
-wide_stop s u from e cells ps (stop.Refused _) says stand cause = absurd cause
+wide_stop s u from e cells ps (stop.Refused (refusal.TooWide place) m) says stand (wide, plain) =
+    record { env = e; cells = cells; prims = ps; environment = says; primitives = stand; wide = wide }
+wide_stop s u from e cells ps (stop.Refused _ m) says stand cause = absurd cause
+
+-- a stop for primitives that are too dear is one, where this was read before
+pub dear_stop : (s u : DeskState) (from : Sources) (place : ℕ) (x : Stop) → IsDearStop from.prims place x
+    → IsTooDearJob s.held from place → LatticeStopsFor s u from x
+dear_stop s u from place stop.NoMemory dear so = tt
+dear_stop s u from place (stop.Refused (refusal.TooDear i) m) (same, plain) so =
+    subst (λ (k : ℕ). IsTooDearJob s.held from k) (sym same) so
+dear_stop s u from place (stop.Refused _ m) dear so = absurd dear
+
+-- a change file whose text was read and refused
+pub changes_refused : {A : Type 0} (s t : DeskState) (changes : Option (List ℕ)) (name : List ℕ) (scope : Scope)
+    (text : List ℕ) (r : Result A Stop) → changes ≡ Some name → IsReadText (s.held name) text
+    → IfErr r (IsChangesRefused scope name text) → IfErr r (ChangesStopFor s t changes scope)
+changes_refused s t changes name scope text (Ok x) is read faulty = tt
+changes_refused s t changes name scope text (Err stop.NoMemory) is read faulty = tt
+changes_refused s t changes name scope text (Err (stop.Refused (refusal.Changes f) m)) is read (first, message) =
+    subst (λ (o : Option (List ℕ)). AtName o (λ n. IsFaultyChanges s.held n scope f)) (sym is)
+    (record { text = text; read = read; faulty = first })
+changes_refused s t changes name scope text (Err (stop.Refused _ m)) is read faulty = absurd faulty
 
 -- what a desk held later it held before
 pub course_since : (held later : Told) (changes : Option (List ℕ)) (s : Scope) (c : Course) → Stays held later
@@ -94,9 +113,9 @@ course_since held later (Some name) s c stays (text, read, is) =
 pub course_stop : {W : Type 0} (s t u : DeskState) (f : WorldFiles W) (changes : Option (List ℕ)) (w : W) (e : Stop)
     → f.stand_for s.held w → ReadsOnly s t → ChangesStopFor t u changes (f.scope w) e → EarlyStopsFor s u f changes e
 course_stop s t u f changes w stop.NoMemory says same cause = tt
-course_stop s t u f changes w (stop.Refused r) says same cause = inr (by_refusal r cause)
+course_stop s t u f changes w (stop.Refused r m) says same cause = inr (by_refusal r cause)
   where
-    by_refusal : (r : Refusal) → ChangesStopFor t u changes (f.scope w) (stop.Refused r)
+    by_refusal : (r : Refusal) → ChangesStopFor t u changes (f.scope w) (stop.Refused r m)
         → IsChangesCause s.held (ReadFailed s u) f changes r
     by_refusal (refusal.Changes x) cause = (
       w,

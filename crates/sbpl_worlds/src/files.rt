@@ -1,19 +1,32 @@
 //! The files that a lattice is made of and the change file, read and judged.
 
-ghost use Rattle.std.specs.Prelude.{◌≡◌, ◌≢◌, ◌≤◌, ◌^◌, [], true, List, ℕ, None, length, IfOk, IfErr};
+ghost use Rattle.std.specs.Prelude.{◌≡◌, ◌≢◌, ◌≤◌, ◌^◌, [], true, None, length, IfOk, IfErr};
 ghost use Rattle.sbpl_promises.specs.LatticeSite.{lattice_site};
+ghost use Rattle.sbpl_promises.specs.sbpl_lists.Messages.{IsPlainMessage};
 ghost use Rattle.sbpl_promises.specs.Causes.{ChangesStopFor, IsChangesRefused, IsEnvironmentRefused, IsPrimitivesRefused, IsReadText, IsUnread, LatticeStopsFor, PrimitivesStopFor, IsCourseIn, ReadsCourse, ReadsEnvironment, ReadsPrimitives, scope_of};
+ghost use Rattle.sbpl_promises.specs.Explained.{ExplainsChanges, ExplainsLattice};
 ghost use Rattle.sbpl_promises.specs.Texts.{HasChangeFault, IsChangeText, IsEnvironmentText, IsPrimitiveText, Scope, still_scope};
 ghost use Rattle.sbpl_promises.specs.sbpl_map.ChangeText.{AreOnMap};
 ghost use Rattle.sbpl_promises.specs.sbpl_map.declared.fault.ChangeFault.TheVariants as ChangeFaults;
 ghost use Rattle.sbpl_promises.specs.Writing.{ReadsOnly};
 
 use sbpl_promises::{
-    ChangeFault, Changes, Course, Desk, Env, EnvFault, Grid, Input, Lattice, Map, Name, NoMemory,
-    PrimFault, Prims, ReadStop, Refusal, Sources, Stop, read_changes, read_env, read_moves,
+    ChangeFault, Changes, Course, Desk, Env, EnvFault, Grid, Input, Lattice, ListOf, Map, Message,
+    Name, NoMemory, PrimFault, Prims, ReadStop, Refusal, Sources, Stop, changes_message,
+    environment_message, plain_message, primitives_message, read_changes, read_env, read_moves,
     read_prims,
 };
 use std::alloc::Global;
+
+/// The message for a file that could not be read.
+fn unread_message(alloc: Global, name: &str) -> Result<Message, NoMemory>
+    ensures message { IfOk result (λ m. IsPlainMessage name.now m) }
+{
+    let what =
+        "the file could not be read: it must exist, and the program must be allowed to read it";
+    let message = plain_message(alloc, name, what)?;
+    Ok(message)
+}
 
 /// The bytes of a file.
 pub fn read_file<D: Desk>(
@@ -29,21 +42,30 @@ pub fn read_file<D: Desk>(
     let mut text = Vec::new(alloc);
     match desk.read(name.as_str(), &mut text) {
         Ok(()) => Ok(text),
-        Err(ReadStop::Failed) => Err(Stop::Refused(Refusal::Read(input))),
-        Err(ReadStop::TooLong) => Err(Stop::Refused(Refusal::Length(input))),
+        Err(ReadStop::Failed) => {
+            let message = unread_message(alloc, name.as_str())?;
+            Err(Stop::Refused(Refusal::Read(input), message))
+        }
+        Err(ReadStop::TooLong) => {
+            let untold = ListOf::of(Vec::new(alloc));
+            Err(Stop::Refused(Refusal::Length(input), untold))
+        }
         Err(ReadStop::NoMemory) => Err(Stop::NoMemory),
     }
 }
 
-/// The environment that a text stands for.
-fn judge_environment(alloc: Global, text: &[u8]) -> Result<(Env, Grid), Stop>
+/// The environment that the text of the file of this name stands for.
+fn judge_environment(alloc: Global, name: &Name, text: &[u8]) -> Result<(Env, Grid), Stop>
     ensures stands { IfOk result (λ x. IsEnvironmentText text.now x.0 x.1) }
-    ensures stop { IfErr result (IsEnvironmentRefused text.now) }
+    ensures stop { IfErr result (IsEnvironmentRefused name.now text.now) }
 {
     match read_env(alloc, text) {
         Ok(found) => Ok(found),
         Err(EnvFault::NoMemory) => Err(Stop::NoMemory),
-        Err(fault) => Err(Stop::Refused(Refusal::Environment(fault))),
+        Err(fault) => {
+            let message = environment_message(alloc, name.as_str(), text, &fault)?;
+            Err(Stop::Refused(Refusal::Environment(fault), message))
+        }
     }
 }
 
@@ -55,21 +77,25 @@ pub(crate) fn read_environment<D: Desk>(
 ) -> Result<(Env, Grid), Stop>
     ensures says { IfOk result (λ x. ReadsEnvironment (D.state desk.old).held from.now x.0 x.1) }
     ensures stop { IfErr result (LatticeStopsFor (D.state desk.old) (D.state desk.new) from.now) }
+    ensures explained { IfErr result (ExplainsLattice (D.state desk.old).held from.now) }
     ensures frame { ReadsOnly (D.state desk.old) (D.state desk.new) }
 {
     let text = read_file(alloc, &from.env, Input::Environment, desk)?;
-    judge_environment(alloc, text.as_slice())
+    judge_environment(alloc, &from.env, text.as_slice())
 }
 
-/// The primitives that a text stands for, for this environment.
-fn judge_primitives(alloc: Global, text: &[u8], env: &Env) -> Result<Prims, Stop>
+/// The primitives that the text of the file of this name stands for, for this environment.
+fn judge_primitives(alloc: Global, name: &Name, text: &[u8], env: &Env) -> Result<Prims, Stop>
     ensures stands { IfOk result (IsPrimitiveText env.now text.now) }
-    ensures stop { IfErr result (IsPrimitivesRefused env.now text.now) }
+    ensures stop { IfErr result (IsPrimitivesRefused env.now name.now text.now) }
 {
     match read_prims(alloc, text, env.cell, env.headings) {
         Ok(prims) => Ok(prims),
         Err(PrimFault::NoMemory) => Err(Stop::NoMemory),
-        Err(fault) => Err(Stop::Refused(Refusal::Primitives(fault))),
+        Err(fault) => {
+            let message = primitives_message(alloc, name.as_str(), text, &fault)?;
+            Err(Stop::Refused(Refusal::Primitives(fault), message))
+        }
     }
 }
 
@@ -82,52 +108,57 @@ pub(crate) fn read_primitives<D: Desk>(
 ) -> Result<Prims, Stop>
     ensures says { IfOk result (ReadsPrimitives (D.state desk.old).held from.now env.now) }
     ensures stop { IfErr result (PrimitivesStopFor (D.state desk.old) (D.state desk.new) from.now env.now) }
+    ensures explained { IfErr result (ExplainsLattice (D.state desk.old).held from.now) }
     ensures frame { ReadsOnly (D.state desk.old) (D.state desk.new) }
 {
     let text = read_file(alloc, &from.prims, Input::Primitives, desk)?;
-    judge_primitives(alloc, text.as_slice(), env)
+    judge_primitives(alloc, &from.prims, text.as_slice(), env)
 }
 
-/// Why a change file with this fault is refused, or that memory ran out.
-fn stop_for(fault: ChangeFault) -> Stop
-    ensures stop { (s : Scope) (text : List ℕ) → (fault ≢ ChangeFaults.NoMemory → HasChangeFault s text fault) → IsChangesRefused s text result }
+/// Why the change file of this name is refused, whose text has this fault, or that memory ran out. `moves` says whether its lines can say
+/// where the robot is.
+fn stop_for(alloc: Global, name: &Name, text: &[u8], moves: bool, fault: ChangeFault) -> Stop
+    ensures stop { (s : Scope) → (fault ≢ ChangeFaults.NoMemory → HasChangeFault s text.now fault) → IsChangesRefused s name.now text.now result }
 {
-    match fault {
-        ChangeFault::NoMemory => Stop::NoMemory,
-        fault => Stop::Refused(Refusal::Changes(fault)),
+    if let ChangeFault::NoMemory = fault {
+        return Stop::NoMemory;
+    }
+    match changes_message(alloc, name.as_str(), text, moves, &fault) {
+        Ok(message) => Stop::Refused(Refusal::Changes(fault), message),
+        Err(NoMemory) => Stop::NoMemory,
     }
 }
 
-/// The course that a text stands for, in which the robot stays where it is.
-fn judge_still(alloc: Global, text: &[u8], map: &Map) -> Result<Course, Stop>
+/// The course that the text of the file of this name stands for, in which the robot stays where it is.
+fn judge_still(alloc: Global, name: &Name, text: &[u8], map: &Map) -> Result<Course, Stop>
     requires short { length text.now ≤ 2 ^ 30 }
     ensures stands { IfOk result (IsChangeText (still_scope map.now) text.now) }
     ensures on_map { IfOk result (λ c. AreOnMap map.now c.batches) }
     ensures stays { IfOk result (λ c. c.moves ≡ None) }
-    ensures stop { IfErr result (IsChangesRefused (still_scope map.now) text.now) }
+    ensures stop { IfErr result (IsChangesRefused (still_scope map.now) name.now text.now) }
 {
     match read_changes(alloc, text, map) {
         Ok(batches) => Ok(Course {
             batches,
             moves: None,
         }),
-        Err(fault) => Err(stop_for(fault)),
+        Err(fault) => Err(stop_for(alloc, name, text, false, fault)),
     }
 }
 
-/// The course that a text stands for, whose lines can say where the robot is.
-fn judge_moving(alloc: Global, text: &[u8], lattice: &Lattice) -> Result<Course, Stop>
+/// The course that the text of the file of this name stands for, whose lines can say where the robot is.
+fn judge_moving(alloc: Global, name: &Name, text: &[u8], lattice: &Lattice) -> Result<Course, Stop>
     requires short { length text.now ≤ 2 ^ 30 }
     ensures stands { IfOk result (IsChangeText (scope_of true lattice.now) text.now) }
     ensures in_world { IfOk result (IsCourseIn lattice_site true lattice.now) }
-    ensures stop { IfErr result (IsChangesRefused (scope_of true lattice.now) text.now) }
+    ensures stop { IfErr result (IsChangesRefused (scope_of true lattice.now) name.now text.now) }
 {
     match read_moves(alloc, text, lattice.map(), lattice.env().headings) {
         Ok((batches, moves)) => Ok(Course {
             batches,
             moves: Some(moves),
         }),
-        Err(fault) => Err(stop_for(fault)),
+        Err(fault) => Err(stop_for(alloc, name, text, true, fault)),
     }
 }
 
@@ -152,6 +183,7 @@ pub(crate) fn read_still<D: Desk>(
     ensures on_map { IfOk result (λ c. AreOnMap map.now c.batches) }
     ensures stays { IfOk result (λ c. c.moves ≡ None) }
     ensures stop { IfErr result (ChangesStopFor (D.state desk.old) (D.state desk.new) changes.now (still_scope map.now)) }
+    ensures explained { IfErr result (ExplainsChanges (D.state desk.old).held changes.now) }
     ensures frame { ReadsOnly (D.state desk.old) (D.state desk.new) }
 {
     let Some(name) = changes else {
@@ -164,7 +196,7 @@ pub(crate) fn read_still<D: Desk>(
         };
     };
     let text = read_file(alloc, name, Input::Changes, desk)?;
-    judge_still(alloc, text.as_slice(), map)
+    judge_still(alloc, name, text.as_slice(), map)
 }
 
 /// The course of the change file on a lattice; one without batches where there is no such file. Lines of the file can say where the
@@ -179,12 +211,13 @@ pub(crate) fn read_change_file<D: Desk>(
     ensures says { IfOk result (ReadsCourse (D.state desk.old).held changes.now (scope_of moving lattice.now)) }
     ensures in_world { IfOk result (IsCourseIn lattice_site moving lattice.now) }
     ensures stop { IfErr result (ChangesStopFor (D.state desk.old) (D.state desk.new) changes.now (scope_of moving lattice.now)) }
+    ensures explained { IfErr result (ExplainsChanges (D.state desk.old).held changes.now) }
     ensures frame { ReadsOnly (D.state desk.old) (D.state desk.new) }
 {
     match changes {
         Some(name) if moving => {
             let text = read_file(alloc, name, Input::Changes, desk)?;
-            judge_moving(alloc, text.as_slice(), lattice)
+            judge_moving(alloc, name, text.as_slice(), lattice)
         }
         _ => read_still(alloc, changes, lattice.map(), desk),
     }

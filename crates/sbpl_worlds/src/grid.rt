@@ -3,18 +3,21 @@
 ghost use Rattle.std.specs.Prelude.{◌≡◌, List, ℕ, IfErr, IfOk};
 ghost use Rattle.sbpl_promises.specs.sbpl_nav2d.World.{IsGridWorld};
 ghost use Rattle.sbpl_promises.specs.Causes.{AreRead, EarlyStopsFor, GridStopsFor, IsGridRefused, ReadsGrid, grid_files};
+ghost use Rattle.sbpl_promises.specs.Explained.{ExplainsGrid, ExplainsGridCourse};
 ghost use Rattle.sbpl_promises.specs.Texts.{IsGridText};
 ghost use Rattle.sbpl_promises.specs.Writing.{ReadsOnly};
 
 use crate::files::{read_file, read_still};
-use sbpl_promises::{Course, Desk, EnvFault, Input, Map, Name, Nav, Refusal, Stop, read_nav};
+use sbpl_promises::{
+    Course, Desk, EnvFault, Input, Map, Name, Nav, Refusal, Stop, grid_message, read_nav,
+};
 use std::alloc::Global;
 
-/// The grid that a text stands for.
-fn judge_grid(alloc: Global, text: &[u8]) -> Result<Nav, Stop>
+/// The grid that the text of the file of this name stands for.
+fn judge_grid(alloc: Global, name: &Name, text: &[u8]) -> Result<Nav, Stop>
     ensures stands { IfOk result (λ w. (cells : List ℕ) × IsGridText text.now w.env cells × (w.map ≡ record { width = w.env.width; height = w.env.height; costs = cells })) }
     ensures kept { IfOk result IsGridWorld }
-    ensures stop { IfErr result (IsGridRefused text.now) }
+    ensures stop { IfErr result (IsGridRefused name.now text.now) }
 {
     match read_nav(alloc, text) {
         Ok((env, grid)) => {
@@ -22,7 +25,10 @@ fn judge_grid(alloc: Global, text: &[u8]) -> Result<Nav, Stop>
             Ok(Nav::new(&env, map))
         }
         Err(EnvFault::NoMemory) => Err(Stop::NoMemory),
-        Err(fault) => Err(Stop::Refused(Refusal::Grid(fault))),
+        Err(fault) => {
+            let message = grid_message(alloc, name.as_str(), text, &fault)?;
+            Err(Stop::Refused(Refusal::Grid(fault), message))
+        }
     }
 }
 
@@ -31,10 +37,11 @@ fn read_grid<D: Desk>(alloc: Global, env: &Name, desk: &mut D) -> Result<Nav, St
     ensures says { IfOk result (ReadsGrid (D.state desk.old).held env.now) }
     ensures kept { IfOk result IsGridWorld }
     ensures stop { IfErr result (GridStopsFor (D.state desk.old) (D.state desk.new) env.now) }
+    ensures explained { IfErr result (ExplainsGrid (D.state desk.old).held env.now) }
     ensures frame { ReadsOnly (D.state desk.old) (D.state desk.new) }
 {
     let text = read_file(alloc, env, Input::Environment, desk)?;
-    judge_grid(alloc, text.as_slice())
+    judge_grid(alloc, env, text.as_slice())
 }
 
 /// The grid of an environment file, and the course of a change file.
@@ -46,6 +53,7 @@ pub fn read_grid_course<D: Desk>(
 ) -> Result<(Nav, Course), Stop>
     ensures course { IfOk result (λ x. AreRead (D.state desk.old).held (grid_files env.now) changes.now x.0 x.1) }
     ensures stop { IfErr result (EarlyStopsFor (D.state desk.old) (D.state desk.new) (grid_files env.now) changes.now) }
+    ensures explained { IfErr result (ExplainsGridCourse (D.state desk.old).held env.now changes.now) }
     ensures frame { ReadsOnly (D.state desk.old) (D.state desk.new) }
 {
     let nav = read_grid(alloc, env, desk)?;

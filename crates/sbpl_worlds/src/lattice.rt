@@ -4,27 +4,52 @@ ghost use Rattle.std.specs.Prelude.{◌≤◌, ◌^◌, IfErr, IfOk};
 ghost use Rattle.sbpl_promises.specs.sbpl_cost.World.{IsWorld};
 ghost use Rattle.sbpl_promises.specs.sbpl_sweep.Swept.{AreSweepsOf};
 ghost use Rattle.sbpl_promises.specs.sbpl_sweep.Widths.{NoneTooWide};
-ghost use Rattle.sbpl_promises.specs.Causes.{AreRead, EarlyStopsFor, IsWideStop, LatticeStopsFor, ReadsWorld, lattice_files};
+ghost use Rattle.sbpl_promises.specs.sbpl_lists.Messages.{IsPlainMessage};
+ghost use Rattle.sbpl_promises.specs.Explained.{ExplainsCourse, ExplainsLattice};
+ghost use Rattle.sbpl_promises.specs.Causes.{AreRead, EarlyStopsFor, IsDearStop, IsWideStop, LatticeStopsFor, ReadsWorld, lattice_files};
 ghost use Rattle.sbpl_promises.specs.Writing.{ReadsOnly};
 
 use crate::files::{read_change_file, read_environment, read_primitives};
 use sbpl_promises::{
-    Course, Desk, Lattice, LatticeFault, Map, Name, Prims, Refusal, Sources, Stop, SweepFault,
-    Sweeps,
+    Course, Desk, Lattice, LatticeFault, Map, Message, Name, NoMemory, Prims, Refusal, Sources,
+    Stop, SweepFault, Sweeps, plain_message,
 };
 use std::alloc::Global;
 
-/// The sweeps of primitives for a radius in nanometres.
-fn make_sweeps(alloc: Global, prims: &Prims, radius: u64) -> Result<Sweeps, Stop>
-    requires radius { radius ≤ 10 ^ 12 }
-    ensures made { IfOk result (AreSweepsOf prims.now radius) }
-    ensures narrow { IfOk result (λ _. NoneTooWide prims.now radius) }
-    ensures stop { IfErr result (IsWideStop prims.now radius) }
+/// The message for primitives without a fault, of which one sweeps too many cells or costs too much.
+fn size_message(alloc: Global, name: &str) -> Result<Message, NoMemory>
+    ensures message { IfOk result (λ m. IsPlainMessage name.now m) }
 {
-    match Sweeps::new(alloc, prims, radius, prims.cell()) {
+    let what =
+        "each primitive must sweep at most 65536 cells, with those before it at most 4194304, and cost at most 16777215: the line of the refusal has the first that does not, counted from 0";
+    let message = plain_message(alloc, name, what)?;
+    Ok(message)
+}
+
+/// The sweeps of the primitives of these files for the robot's radius.
+fn make_sweeps(alloc: Global, from: &Sources, prims: &Prims) -> Result<Sweeps, Stop>
+    requires radius { from.now.radius ≤ 10 ^ 12 }
+    ensures made { IfOk result (AreSweepsOf prims.now from.now.radius) }
+    ensures narrow { IfOk result (λ _. NoneTooWide prims.now from.now.radius) }
+    ensures stop { IfErr result (IsWideStop from.now.prims prims.now from.now.radius) }
+{
+    match Sweeps::new(alloc, prims, from.radius, prims.cell()) {
         Ok(sweeps) => Ok(sweeps),
-        Err(SweepFault::TooWide(place)) => Err(Stop::Refused(Refusal::TooWide(place))),
+        Err(SweepFault::TooWide(place)) => {
+            let message = size_message(alloc, from.prims.as_str())?;
+            Err(Stop::Refused(Refusal::TooWide(place), message))
+        }
         Err(SweepFault::NoMemory) => Err(Stop::NoMemory),
+    }
+}
+
+/// Why files whose primitive at this place costs too much stand for no lattice, or that memory ran out.
+fn dear_stop(alloc: Global, from: &Sources, place: u32) -> Stop
+    ensures stop { IsDearStop from.now.prims place result }
+{
+    match size_message(alloc, from.prims.as_str()) {
+        Ok(message) => Stop::Refused(Refusal::TooDear(place), message),
+        Err(NoMemory) => Stop::NoMemory,
     }
 }
 
@@ -34,15 +59,16 @@ pub fn read_lattice<D: Desk>(alloc: Global, from: &Sources, desk: &mut D) -> Res
     ensures says { IfOk result (ReadsWorld (D.state desk.old).held from.now) }
     ensures kept { IfOk result IsWorld }
     ensures stop { IfErr result (LatticeStopsFor (D.state desk.old) (D.state desk.new) from.now) }
+    ensures explained { IfErr result (ExplainsLattice (D.state desk.old).held from.now) }
     ensures frame { ReadsOnly (D.state desk.old) (D.state desk.new) }
 {
     let (env, grid) = read_environment(alloc, from, desk)?;
     let prims = read_primitives(alloc, from, &env, desk)?;
-    let sweeps = make_sweeps(alloc, &prims, from.radius)?;
+    let sweeps = make_sweeps(alloc, from, &prims)?;
     let map = Map::new(&env, grid);
     match Lattice::new(alloc, &env, prims, sweeps, map) {
         Ok(lattice) => Ok(lattice),
-        Err(LatticeFault::TooDear(place)) => Err(Stop::Refused(Refusal::TooDear(place))),
+        Err(LatticeFault::TooDear(place)) => Err(dear_stop(alloc, from, place)),
         Err(LatticeFault::NoMemory) => Err(Stop::NoMemory),
     }
 }
@@ -58,6 +84,7 @@ pub fn read_course<D: Desk>(
     requires range { from.now.radius ≤ 10 ^ 12 }
     ensures course { IfOk result (λ x. AreRead (D.state desk.old).held (lattice_files from.now moving) changes.now x.0 x.1) }
     ensures stop { IfErr result (EarlyStopsFor (D.state desk.old) (D.state desk.new) (lattice_files from.now moving) changes.now) }
+    ensures explained { IfErr result (ExplainsCourse (D.state desk.old).held from.now changes.now) }
     ensures frame { ReadsOnly (D.state desk.old) (D.state desk.new) }
 {
     let lattice = read_lattice(alloc, from, desk)?;

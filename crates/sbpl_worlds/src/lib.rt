@@ -24,7 +24,7 @@ pub use sbpl_promises::{Graph, Guide};
 pub use sbpl_promises::{NoMemory, next_token};
 
 // Of `sbpl_lists`.
-pub use sbpl_promises::ListOf;
+pub use sbpl_promises::{ListOf, Message};
 
 // Of `sbpl_desk`.
 pub use sbpl_promises::{Desk, MemoryDesk, ReadStop, RealDesk, WriteStop};
@@ -70,7 +70,7 @@ pub use sbpl_promises::{Epase, Gate, NoGate, Parts, parallel_pass_parts};
 
 // Of `sbpl_cert`.
 pub use sbpl_promises::{
-    Flaw, LabelFault, LabelOutcome, Section, check, check_sparse, read_labels,
+    Flaw, LabelFault, LabelOutcome, Section, check, check_sparse, labels_message, read_labels,
 };
 
 // Of `sbpl_plan`.

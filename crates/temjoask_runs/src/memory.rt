@@ -1,5 +1,5 @@
 //! Runs at a desk in memory, which holds the files that the words of a line name, and which has faults: calls that fail, and files
-//! that are too long. Where a message is looked for, the files are read without these faults.
+//! that are too long.
 
 use crate::running::{answer_at, tell};
 use sbpl_cli::MemoryDesk;
@@ -65,27 +65,14 @@ fn run_at<R: Files + Print + AllocGlobal + Threads + Wait + Sync>(
     faults: &str,
     line: &str,
     desk: &mut MemoryDesk,
-    again: &mut MemoryDesk,
     error: &mut Vec<u8>,
 ) -> io::Result<()> {
-    if !holds(rt, line, desk) || !holds(rt, line, again) || fails(faults, desk).is_none() {
+    if !holds(rt, line, desk) || fails(faults, desk).is_none() {
         return println!(rt; "no such faults");
     }
-    let status = answer_at(rt, line, desk, again, error);
+    let status = answer_at(rt, line, desk, error);
     show_outputs(rt, line, desk)?;
     tell(rt, status, error.as_slice())
-}
-
-/// The same at a desk of its own.
-fn run_with<R: Files + Print + AllocGlobal + Threads + Wait + Sync>(
-    rt: &R,
-    faults: &str,
-    line: &str,
-    again: &mut MemoryDesk,
-    error: &mut Vec<u8>,
-) -> io::Result<()> {
-    let mut desk = MemoryDesk::new(rt.alloc());
-    run_at(rt, faults, line, &mut desk, again, error)
 }
 
 /// Does what a line says, as in `FAULTS: WORDS`.
@@ -96,7 +83,7 @@ pub(crate) fn memory_line<R: Files + Print + AllocGlobal + Threads + Wait + Sync
     let Some((faults, words)) = line.split_once(": ") else {
         return println!(rt; "no such run");
     };
-    let mut again = MemoryDesk::new(rt.alloc());
+    let mut desk = MemoryDesk::new(rt.alloc());
     let mut error = Vec::new(rt.alloc());
-    run_with(rt, faults, words, &mut again, &mut error)
+    run_at(rt, faults, words, &mut desk, &mut error)
 }

@@ -23,7 +23,6 @@ pub(crate) fn answer_at<R: AllocGlobal + Threads + Wait + Sync, D: Desk>(
     rt: &R,
     line: &str,
     desk: &mut D,
-    again: &mut D,
     error: &mut Vec<u8>,
 ) -> u8 {
     let Ok(words) = words_of(rt, line) else {
@@ -38,7 +37,6 @@ pub(crate) fn answer_at<R: AllocGlobal + Threads + Wait + Sync, D: Desk>(
         words.as_slice(),
         desk,
         &NoGate,
-        again,
         error,
         &board,
         &mut publisher,
@@ -61,9 +59,8 @@ pub(crate) fn run_line<R: Files + Print + AllocGlobal + Threads + Wait + Sync>(
     tells: bool,
 ) -> io::Result<()> {
     let mut desk = RealDesk::new(rt);
-    let mut again = RealDesk::new(rt);
     let mut error = Vec::new(rt.alloc());
-    let status = answer_at(rt, line, &mut desk, &mut again, &mut error);
+    let status = answer_at(rt, line, &mut desk, &mut error);
     if !tells {
         error.clear();
     }

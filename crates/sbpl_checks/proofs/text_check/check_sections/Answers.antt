@@ -4,8 +4,7 @@ use Rattle.sbpl_worlds.specs.sbpl_promises.Checked.{Case, case_of}
 use Rattle.sbpl_worlds.specs.sbpl_cfg.declared.pose.Place.{Place}
 use Rattle.sbpl_worlds.specs.sbpl_map.ChangeText.{IsPlaceOnMap}
 use Rattle.sbpl_worlds.specs.sbpl_map.MapAfter.{IsMapAfter}
-use Rattle.sbpl_checks.specs.Checking.{IsPlanIn}
-use Rattle.sbpl_worlds.specs.sbpl_promises.Promises.{EndsSections}
+use Rattle.sbpl_checks.specs.Checking.{EndsSections, IsPlanIn}
 use Rattle.sbpl_worlds.specs.sbpl_promises.Sites.{Site, WordPlacesAlike, site_of}
 use Rattle.sbpl_telling.proofs.Frames.{writes_on}
 use Rattle.sbpl_worlds.proofs.Moving.{alike_over, move_on_map, next_is, within}
@@ -33,7 +32,7 @@ returns-in-Err-clause-ends g c =
     let k = c.loop-k.k in
     let whole : k + (length course.batches - k) ≡ length course.batches =
     (let test = c.loop-k-test.true in let count = c.batches-k-end.ensures.value in omega arith) in
-    so.leads (length course.batches - k) whole _ c.in-Err.status
+    so.leads (length course.batches - k) whole _ c.in-Err.ending
     (c.in-Err.ensures.ends (case_of (site_of g.W.Graph.network g.W.Terrain.cells g.W.Best.Heuristic.says
     g.W.Workspace.wording) g.S.Searched.direction c.args.world.now course c.args.start c.args.goal)
     (length course.batches - k) (plan_in so))
@@ -128,8 +127,8 @@ loop-k-preserved g c =
     (let test = c.loop-k-test.true in let count = c.batches-k-end.ensures.value in omega arith) in
     let case : Case on g.S.Searched.direction = case_of on g.S.Searched.direction w course c.args.start c.args.goal in
     record {
-      leads = λ more whole after status ends. so.leads (suc more) (let is = whole in omega arith) after status
-          (goes_on case k (suc more) (c.in-Ok.ensures.holds case (plan_in so))
+      leads = λ more whole after e ends. so.leads (suc more) (let is = whole in omega arith) after e
+          (goes_on case c.args.labels.now e k (suc more) (c.in-Ok.ensures.holds case (plan_in so))
           c.check_plan.ensures.frame.writes ends);
       made = c.rebuild.ensures.made (g.W.Terrain.cells.map c.loop-k.world) c.args.goal (made_before g at);
       far = omega (arith, here);
@@ -172,11 +171,11 @@ returns-in-Ok-check_plan-clause-ends g c =
     subst (λ (p : ℕ). IsPlanIn case p c.loop-k.world c.loop-k.start c.args.goal) last
     (plan_in so) in
     so.leads 0 (omega (arith, last, count)) _ _
-    (subst (λ (p : ℕ). EndsSections case p 1 (start_at c.args.text.now c.loop-k.at) (g.D.Desk.state c.loop-k.desk)
-    (g.D.Desk.state c.end_sections.new.desk) c.end_sections.result) (sym last)
-    (goes_on case c.batches-last.result 0 (c.in-Ok-check_plan.ensures.holds case plan)
+    (subst (λ (p : ℕ). EndsSections case p 1 (start_at c.args.labels.now.text.now c.loop-k.at) c.args.labels.now
+    (g.D.Desk.state c.loop-k.desk) (g.D.Desk.state c.end_sections.new.desk) c.end_sections.result) (sym last)
+    (goes_on case c.args.labels.now _ c.batches-last.result 0 (c.in-Ok-check_plan.ensures.holds case plan)
     c.check_plan-2.ensures.frame.writes
-    (ends_text case (c.batches-last.result + 1) _ _ _ _ c.end_sections.ensures.ends)))
+    (ends_text case (c.batches-last.result + 1) _ _ _ _ _ c.end_sections.ensures.ends)))
 
 pub returns-in-Err-check_plan-clause-ends : goal.returns-in-Err-check_plan-clause-ends
 returns-in-Err-check_plan-clause-ends g c =
@@ -191,6 +190,6 @@ returns-in-Err-check_plan-clause-ends g c =
     subst (λ (p : ℕ). IsPlanIn case p c.loop-k.world c.loop-k.start c.args.goal) last
     (plan_in so) in
     so.leads 0 (omega (arith, last, count)) _ _
-    (subst (λ (p : ℕ). EndsSections case p 1 (start_at c.args.text.now c.loop-k.at) (g.D.Desk.state c.loop-k.desk)
-    (g.D.Desk.state c.check_plan-2.new.desk) c.in-Err-check_plan.status) (sym last)
+    (subst (λ (p : ℕ). EndsSections case p 1 (start_at c.args.labels.now.text.now c.loop-k.at) c.args.labels.now
+    (g.D.Desk.state c.loop-k.desk) (g.D.Desk.state c.check_plan-2.new.desk) c.in-Err-check_plan.ending) (sym last)
     (c.in-Err-check_plan.ensures.ends case 0 plan))

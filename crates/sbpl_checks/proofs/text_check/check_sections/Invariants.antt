@@ -6,4 +6,4 @@ abbrev pub invariant-loop-k : goal.invariant-loop-k
 invariant-loop-k g l =
     IsCheckedTo (site_of g.W.Graph.network g.W.Terrain.cells g.W.Best.Heuristic.says g.W.Workspace.wording)
     g.S.Searched.direction l.fn.world l.world (g.S.Searched.is_made_for l.searched l.world l.fn.goal) l.fn.course
-    l.fn.start l.start l.fn.goal l.fn.text l.k l.at (g.D.Desk.state l.fn.desk) (g.D.Desk.state l.desk)
+    l.fn.start l.start l.fn.goal l.fn.labels l.k l.at (g.D.Desk.state l.fn.desk) (g.D.Desk.state l.desk)

@@ -1,6 +1,13 @@
-use Rattle.std.proofs.Common.{◌≡◌, ℕ, None, Option, Some, IsSome, arith, rules, inl, inr, refl, sym, ◌∙◌}
+use Rattle.std.proofs.Common.{◌≡◌, ℕ, List, [], None, Option, Some, IsSome, true, false, rules, inl, inr, refl, sym, ◌∙◌, subst}
 use Rattle.std.proofs.lemmas.Bool.{false≢true}
-use Rattle.sbpl_jobs.specs.sbpl_promises.Run.{IsOrUnwritten, IsStatus}
+use Rattle.sbpl_jobs.specs.sbpl_promises.Explained.{Explains, IsTold, IsToldOf, by_job, has_message, nothing, of_labels}
+use Rattle.sbpl_jobs.specs.sbpl_promises.Explained.{of_refusal, of_words, of_write, out_of_memory, unwritten}
+use Rattle.sbpl_jobs.specs.sbpl_promises.Run.{IsOrUnwritten, IsStatus, Job, refusal_status}
+use Rattle.sbpl_jobs.specs.sbpl_promises.Writing.{DeskState, Told}
+use Rattle.sbpl_jobs.specs.sbpl_report.Refusals.{input_name}
+use Rattle.sbpl_jobs.specs.sbpl_report.declared.refusal.Input.{Input}
+use Rattle.sbpl_jobs.specs.sbpl_report.declared.refusal.Refusal.{Refusal}
+use Rattle.sbpl_jobs.specs.sbpl_report.declared.refusal.Refusal.TheVariants as refusal
 use Rattle.sbpl_jobs.specs.sbpl_job.declared.help.Asked.{Asked}
 use Rattle.sbpl_cli.proofs.answering.answer.Goals as goal
 
@@ -17,6 +24,40 @@ told_status : (status : ℕ) → IsOrUnwritten 0 status → IsStatus status
 told_status status (inl is) = rw is refl
 told_status status (inr (inl is)) = rw is refl
 told_status status (inr (inr is)) = rw is refl
+
+-- a status with a message is not one without
+not_quiet : (n status : ℕ) → n ≡ status → has_message n ≡ true → has_message status ≡ false → ⊥
+not_quiet n status is has quiet =
+    let none : has_message n ≡ false = subst (λ (k : ℕ). has_message k ≡ false) (sym is) quiet in
+    false≢true (sym none ∙ has)
+
+-- of a refusal whose status has no message nothing is told
+refusal_quiet : (held : Told) (names : Input → List ℕ) (m : List ℕ) (status : ℕ) (r : Refusal)
+    → refusal_status r ≡ status → Explains held names r m → has_message status ≡ false → m ≡ []
+refusal_quiet held names m status (refusal.Length i) is none quiet = none
+refusal_quiet held names m status (refusal.Environment f) is on quiet = absurd (not_quiet 3 status is refl quiet)
+refusal_quiet held names m status (refusal.Grid f) is on quiet = absurd (not_quiet 3 status is refl quiet)
+refusal_quiet held names m status (refusal.Primitives f) is on quiet = absurd (not_quiet 4 status is refl quiet)
+refusal_quiet held names m status (refusal.TooWide i) is on quiet = absurd (not_quiet 4 status is refl quiet)
+refusal_quiet held names m status (refusal.TooDear i) is on quiet = absurd (not_quiet 4 status is refl quiet)
+refusal_quiet held names m status (refusal.Changes f) is on quiet = absurd (not_quiet 5 status is refl quiet)
+refusal_quiet held names m status (refusal.Read i) is on quiet = absurd (not_quiet 6 status is refl quiet)
+
+-- so it is of a job, and of a run
+job_quiet : {s u : DeskState} {j : Job} {status : ℕ} {m : List ℕ} → IsToldOf s u j status m
+    → has_message status ≡ false → m ≡ []
+job_quiet {s} {j = j} {status = status} {m = m} (of_refusal x explains) quiet =
+    refusal_quiet s.held (input_name j) m status x.refusal x.has_status explains quiet
+job_quiet {status = status} (of_labels is told) quiet = absurd (not_quiet 10 status (sym is) refl quiet)
+job_quiet {status = status} (of_write is told) quiet = absurd (not_quiet 7 status (sym is) refl quiet)
+job_quiet (nothing is none) quiet = none
+
+quiet_by : {named : Option Job} {s u : DeskState} {status : ℕ} {m : List ℕ} → IsTold named s u status m
+    → has_message status ≡ false → m ≡ []
+quiet_by (by_job (j, is, told)) quiet = job_quiet told quiet
+quiet_by {status = status} (of_words none is plain) quiet = absurd (not_quiet 2 status (sym is) refl quiet)
+quiet_by {status = status} (unwritten is told) quiet = absurd (not_quiet 7 status (sym is) refl quiet)
+quiet_by (out_of_memory is none) quiet = none
 
 pub returns-in-Some-clause-asked : goal.returns-in-Some-clause-asked
 returns-in-Some-clause-asked g c = λ _. c.tell.ensures.told
@@ -43,14 +84,6 @@ returns-in-Some-clause-unpublished g c = λ _. refl
 pub returns-in-Some-clause-quiet : goal.returns-in-Some-clause-quiet
 returns-in-Some-clause-quiet g c = search rules
 
-pub returns-in-Some-clause-again : goal.returns-in-Some-clause-again
-returns-in-Some-clause-again g c = record {
-  held = λ name. refl;
-  written = λ name. refl;
-  reads = λ name. omega arith;
-  writes = λ name. omega arith;
-}
-
 pub returns-in-Some-clause-frame : goal.returns-in-Some-clause-frame
 returns-in-Some-clause-frame g c = rw c.in-Some.ensures.no_job c.tell.ensures.frame
 
@@ -62,32 +95,30 @@ returns-in-None-clause-unwritten g c =
     λ some. absurd (none_asked _ (sym c.read_asked.ensures.asked ∙ c.in-None.is) some)
 
 pub returns-in-None-clause-run : goal.returns-in-None-clause-run
-returns-in-None-clause-run g c = λ _. c.run_with-status.ensures.promises
+returns-in-None-clause-run g c = λ _. c.run_to_end-ending.ensures.promises
 
 pub returns-in-None-clause-headline : goal.returns-in-None-clause-headline
-returns-in-None-clause-headline g c = λ _. c.run_with-status.ensures.headline
+returns-in-None-clause-headline g c = λ _. c.run_to_end-ending.ensures.headline
 
 pub returns-in-None-clause-statuses : goal.returns-in-None-clause-statuses
-returns-in-None-clause-statuses g c = c.run_with-status.ensures.promises.statuses
+returns-in-None-clause-statuses g c = c.run_to_end-ending.ensures.promises.statuses
 
 pub returns-in-None-clause-board : goal.returns-in-None-clause-board
-returns-in-None-clause-board g c = c.run_with-status.ensures.board
+returns-in-None-clause-board g c = c.run_to_end-ending.ensures.board
 
 pub returns-in-None-clause-unpublished : goal.returns-in-None-clause-unpublished
 returns-in-None-clause-unpublished g c =
     λ some. absurd (none_asked _ (sym c.read_asked.ensures.asked ∙ c.in-None.is) some)
 
 pub returns-in-None-clause-quiet : goal.returns-in-None-clause-quiet
-returns-in-None-clause-quiet g c = c.explain.ensures.quiet
-
-pub returns-in-None-clause-again : goal.returns-in-None-clause-again
-returns-in-None-clause-again g c = c.explain.ensures.frame
+returns-in-None-clause-quiet g c = λ none.
+    c.explain.ensures.quiet (quiet_by c.run_to_end-ending.ensures.told none)
 
 pub returns-in-None-clause-frame : goal.returns-in-None-clause-frame
-returns-in-None-clause-frame g c = c.run_with-status.ensures.frame
+returns-in-None-clause-frame g c = c.run_to_end-ending.ensures.frame
 
-pub run_with-status-requires-clause-board : goal.run_with-status-requires-clause-board
-run_with-status-requires-clause-board g c = search rules
+pub run_to_end-ending-requires-clause-board : goal.run_to_end-ending-requires-clause-board
+run_to_end-ending-requires-clause-board g c = search rules
 
-pub run_with-status-requires-clause-few : goal.run_with-status-requires-clause-few
-run_with-status-requires-clause-few g c = search rules
+pub run_to_end-ending-requires-clause-few : goal.run_to_end-ending-requires-clause-few
+run_to_end-ending-requires-clause-few g c = search rules

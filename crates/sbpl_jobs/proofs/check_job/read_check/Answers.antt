@@ -1,21 +1,38 @@
-use Rattle.std.proofs.Common.{ℕ, List, Option, subst}
+use Rattle.std.proofs.Common.{ℕ, List, Option, Some, refl, subst}
 use Rattle.sbpl_checks.specs.sbpl_promises.Causes.{IsReadText, check_files}
+use Rattle.sbpl_checks.specs.sbpl_job.declared.job.Job.TheVariants as job
+use Rattle.sbpl_checks.specs.sbpl_report.Refusals.{input_name}
+use Rattle.sbpl_checks.specs.sbpl_report.declared.refusal.Input.TheVariants as input
 use Rattle.sbpl_jobs.proofs.Ends.{early_stop, labels_stop}
+use Rattle.sbpl_checks.proofs.Explaining.{explained_before, unread_told}
 use Rattle.sbpl_checks.proofs.Reading.{reads_on}
 use Rattle.sbpl_jobs.proofs.check_job.read_check.Goals as goal
 
 pub returns-in-Err-clause-stop : goal.returns-in-Err-clause-stop
-returns-in-Err-clause-stop g c =
-    early_stop (g.D.Desk.state c.args.desk.now) (g.D.Desk.state c.read_course.new.desk) (check_files c.args.job.now)
-    c.args.job.now.changes c.args.job.now.labels c.in-Err.stop c.in-Err.ensures.stop
+returns-in-Err-clause-stop g c = record {
+  cause =
+      early_stop (g.D.Desk.state c.args.desk.now) (g.D.Desk.state c.read_course.new.desk) (check_files c.args.job.now)
+      c.args.job.now.changes c.args.job.now.labels c.in-Err.stop c.in-Err.ensures.stop;
+  told = c.in-Err.ensures.explained (Some c.args.job.now.labels);
+}
 
 pub returns-in-Err-read_file-clause-stop : goal.returns-in-Err-read_file-clause-stop
 returns-in-Err-read_file-clause-stop g c =
     let course = c.in-Ok.ensures.course in
-    labels_stop (g.D.Desk.state c.args.desk.now) (g.D.Desk.state c.read_course.new.desk)
-    (g.D.Desk.state c.read_file.new.desk) (check_files c.args.job.now) c.args.job.now.changes c.args.job.now.labels
-    c.in-Ok.read.0 c.in-Ok.read.1 c.in-Err-read_file.stop course.says course.course_is c.in-Ok.ensures.frame
-    c.in-Err-read_file.ensures.stop
+    let first = g.D.Desk.state c.args.desk.now in
+    let then = g.D.Desk.state c.read_course.new.desk in
+    let last = g.D.Desk.state c.read_file.new.desk in
+    let names = input_name (job.Check c.args.job.now) in
+    record {
+      cause =
+          labels_stop first then last (check_files c.args.job.now) c.args.job.now.changes c.args.job.now.labels c.in-Ok.read.0
+          c.in-Ok.read.1 c.in-Err-read_file.stop course.says course.course_is c.in-Ok.ensures.frame
+          c.in-Err-read_file.ensures.stop;
+      told =
+          explained_before first.held then.held names c.in-Err-read_file.stop c.in-Ok.ensures.frame.held
+          (unread_told then last then.held names c.args.job.now.labels input.Labels c.in-Err-read_file.stop refl
+          c.in-Err-read_file.ensures.stop);
+    }
 
 pub returns-in-Err-read_file-clause-frame : goal.returns-in-Err-read_file-clause-frame
 returns-in-Err-read_file-clause-frame g c = reads_on _ _ _ c.in-Ok.ensures.frame c.read_file.ensures.frame

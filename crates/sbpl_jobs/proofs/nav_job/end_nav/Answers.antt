@@ -1,15 +1,18 @@
-use Rattle.std.proofs.Common.{refl}
+use Rattle.std.proofs.Common.{None, refl}
+use Rattle.std.proofs.lemmas.Result.{err_from_is_err_and}
 use Rattle.sbpl_checks.specs.sbpl_job.declared.job.Job.TheVariants as job
 use Rattle.sbpl_checks.specs.sbpl_promises.Intents.{Planned}
 use Rattle.sbpl_checks.proofs.Frames.{writes_after}
 use Rattle.sbpl_jobs.proofs.Ends.{ended}
 use Rattle.sbpl_jobs.proofs.Planned.{all_shown, planned}
+use Rattle.sbpl_jobs.proofs.Telling.{plain_ending, plans_end}
 use Rattle.sbpl_jobs.proofs.nav_job.end_nav.Goals as goal
 
 pub returns-clause-ends : goal.returns-clause-ends
 returns-clause-ends g c =
-    let e = c.plans_forwards.ensures.ends in
-    ended _ (g.D.Desk.state c.read_grid_course.new.desk) _ _ _ (job.Nav c.args.job.now)
+    let e = c.plans_forwards-status.ensures.ends in
+    plain_ending _ _ _ _ _ _ _ c.plain.ensures.status c.plain.ensures.untold (plans_end e.all _ e.ends)
+    (ended _ (g.D.Desk.state c.read_grid_course.new.desk) _ _ _ (job.Nav c.args.job.now)
     (Planned e.records e.all c.args.publisher.now.published e.broken) _ refl
     (all_shown c.in_ok-nav.course c.ends-start.result.0 e)
     (record {
@@ -21,7 +24,12 @@ returns-clause-ends g c =
           planned c.in_ok-nav.course c.ends-start.result.0 e c.ends-start.ensures.start
           c.ends-start.ensures.goal;
     })
-    c.in_ok-nav.ensures.frame e.ends c.plans_forwards.ensures.frame.others
+    c.in_ok-nav.ensures.frame e.ends c.plans_forwards-status.ensures.frame.others)
 
 pub returns-clause-frame : goal.returns-clause-frame
-returns-clause-frame g c = writes_after _ _ _ _ c.in_ok-nav.ensures.frame c.plans_forwards.ensures.frame
+returns-clause-frame g c = writes_after _ _ _ _ c.in_ok-nav.ensures.frame c.plans_forwards-status.ensures.frame
+
+pub returns-in_err-nav-clause-stop : goal.returns-in_err-nav-clause-stop
+returns-in_err-nav-clause-stop g c =
+    let p = err_from_is_err_and c.from_residual.result c.from_residual.ensures.1 in
+    rw (p.1, p.2) (record { cause = c.in_err-nav.ensures.stop; told = c.in_err-nav.ensures.explained None })

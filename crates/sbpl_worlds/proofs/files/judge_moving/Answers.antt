@@ -6,7 +6,7 @@ use Rattle.sbpl_promises.specs.Causes.{scope_of}
 use Rattle.sbpl_worlds.proofs.files.judge_moving.Goals as goal
 
 pub returns-in-Err-clause-stop : goal.returns-in-Err-clause-stop
-returns-in-Err-clause-stop c = c.stop_for.ensures.stop (scope_of true c.args.lattice.now) c.args.text.now
+returns-in-Err-clause-stop c = c.stop_for.ensures.stop (scope_of true c.args.lattice.now)
     (λ some. subst (λ (m : CellMap).
     HasTextFault m (Some c.args.lattice.now.env.headings) c.args.text.now c.in-Err.fault) c.map.ensures.map
     (subst (λ (n : ℕ). HasTextFault c.map.result.now (Some n) c.args.text.now c.in-Err.fault)

@@ -1,10 +1,13 @@
-use Rattle.std.proofs.Common.{List, Option, IfSome, sym, subst}
+use Rattle.std.proofs.Common.{List, None, Option, IfSome, sym, subst}
+use Rattle.std.proofs.lemmas.Result.{err_from_is_err_and}
+use Rattle.sbpl_promises.specs.sbpl_report.Refusals.{file_name}
 use Rattle.sbpl_promises.specs.sbpl_cfg.declared.pose.Place.{Place}
 use Rattle.sbpl_promises.specs.sbpl_map.CellMap.{CellMap}
 use Rattle.sbpl_promises.specs.sbpl_map.ChangeText.{AreOnMap}
 use Rattle.sbpl_promises.specs.Causes.{AreMovesIn, ChangesStopFor, ReadsCourse, grid_files, grid_scope}
 use Rattle.sbpl_promises.specs.GridSite.{grid_site}
 use Rattle.sbpl_promises.specs.Texts.{still_scope}
+use Rattle.sbpl_worlds.proofs.Explaining.{explained_before}
 use Rattle.sbpl_worlds.proofs.Reading.{course_since, course_stop, reads_on}
 use Rattle.sbpl_worlds.proofs.grid.read_grid_course.Goals as goal
 
@@ -16,6 +19,16 @@ returns-in-Err-clause-stop g c =
     c.in_ok-nav.ensures.says c.in_ok-nav.ensures.frame
     (subst (λ (m : CellMap). ChangesStopFor mid end c.args.changes.now (still_scope m) c.in-Err.stop)
     c.map.ensures.map c.in-Err.ensures.stop)
+
+pub returns-in_err-nav-clause-explained : goal.returns-in_err-nav-clause-explained
+returns-in_err-nav-clause-explained g c =
+    let p = err_from_is_err_and c.from_residual.result c.from_residual.ensures.1 in
+    rw (p.1, p.2) (λ labels. c.in_err-nav.ensures.explained c.args.changes.now labels)
+
+pub returns-in-Err-clause-explained : goal.returns-in-Err-clause-explained
+returns-in-Err-clause-explained g c = λ labels.
+    explained_before (g.D.Desk.state c.args.desk.now).held (g.D.Desk.state c.read_grid.new.desk).held
+    (file_name c.args.env.now None c.args.changes.now labels) c.in-Err.stop c.in_ok-nav.ensures.frame.held (c.in-Err.ensures.explained c.args.env.now None labels)
 
 pub returns-in-Ok-clause-course : goal.returns-in-Ok-clause-course
 returns-in-Ok-clause-course g c =

@@ -17,4 +17,4 @@ returns-clause-ends g c = λ case more plan.
     ground_backwards case c.args.plan w c.new-back.result c.args.start c.args.goal c.new-guide.result plan
     c.new-back.ensures.lattice c.new-guide.ensures.made in
     all_ends_there case c.args.plan after (from_is case c.args.plan w c.args.start c.args.goal plan)
-    (to_is case c.args.plan w c.args.start c.args.goal plan) _ more _ _ _ c.check_next.ensures.ends
+    (to_is case c.args.plan w c.args.start c.args.goal plan) _ more _ _ _ _ c.check_next.ensures.ends

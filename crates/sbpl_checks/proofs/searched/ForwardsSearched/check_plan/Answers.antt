@@ -17,4 +17,4 @@ returns-clause-ends g c = λ case more plan.
     ground_forwards g.H.Heuristic.says case c.args.plan w c.args.start c.args.goal _ plan
     (g.met.H.Heuristic.says_so _ w c.args.goal c.requires.made) in
     all_ends_there case c.args.plan after (from_is case c.args.plan w c.args.start c.args.goal plan)
-    (to_is case c.args.plan w c.args.start c.args.goal plan) _ more _ _ _ c.check_next.ensures.ends
+    (to_is case c.args.plan w c.args.start c.args.goal plan) _ more _ _ _ _ c.check_next.ensures.ends

@@ -1,0 +1,119 @@
+//! Messages for faults of environment files.
+
+ghost use Rattle.std.specs.Prelude.{IfOk};
+ghost use Rattle.sbpl_cfg.specs.Faults.{place_of};
+ghost use Rattle.sbpl_lists.specs.Messages.{IsMessageAt};
+
+use crate::fault::EnvFault;
+use sbpl_fixed::NoMemory;
+use sbpl_lists::{Message, Row, message_at, wanted_at};
+use std::alloc::Global;
+
+/// What must stand where the size of a map is told, and the costs of its cells, in the file of a grid too.
+pub const START_WANTED: &str = "discretization(cells): must stand here";
+
+pub const WIDTH_WANTED: &str = "the width in cells must be a whole number from 1 to 8388608";
+
+pub const HEIGHT_WANTED: &str = "the height in cells must be a whole number from 1 to 8388608";
+
+pub const OBSTACLE_WANTED: &str = "obsthresh must be a whole number from 0 to 255";
+
+pub const COST_WANTED: &str = "the cost of a cell must be a whole number from 0 to 255";
+
+/// What must stand after each word of an environment file.
+const ROWS: [Row; 11] = [
+    Row {
+        word: "discretization(cells):",
+        values: &[WIDTH_WANTED, HEIGHT_WANTED],
+        next: "NumThetaDirs: or obsthresh: must stand here",
+    },
+    Row {
+        word: "NumThetaDirs:",
+        values: &["NumThetaDirs must be a whole number from 4 to 64"],
+        next: "obsthresh: must stand here",
+    },
+    Row {
+        word: "obsthresh:",
+        values: &[OBSTACLE_WANTED],
+        next: "cost_inscribed_thresh: must stand here",
+    },
+    Row {
+        word: "cost_inscribed_thresh:",
+        values: &["cost_inscribed_thresh must be a whole number from 0 to 255"],
+        next: "cost_possibly_circumscribed_thresh: must stand here",
+    },
+    Row {
+        word: "cost_possibly_circumscribed_thresh:",
+        values: &["cost_possibly_circumscribed_thresh must be a whole number from -1 to 255"],
+        next: "cellsize(meters): must stand here",
+    },
+    Row {
+        word: "cellsize(meters):",
+        values: &["cellsize(meters) must be a decimal from 0.000000001 to 1000"],
+        next: "nominalvel(mpersecs): must stand here",
+    },
+    Row {
+        word: "nominalvel(mpersecs):",
+        values: &["nominalvel(mpersecs) must be a decimal from 0.000000001 to 1000"],
+        next: "timetoturn45degsinplace(secs): must stand here",
+    },
+    Row {
+        word: "timetoturn45degsinplace(secs):",
+        values: &["timetoturn45degsinplace(secs) must be a decimal from 0.000000001 to 1000"],
+        next: "start(meters,rads): must stand here",
+    },
+    Row {
+        word: "start(meters,rads):",
+        values: &[
+            "x of the start must be a decimal from -1000000000 to 1000000000",
+            "y of the start must be a decimal from -1000000000 to 1000000000",
+            "theta of the start must be a decimal from -1000000000 to 1000000000",
+        ],
+        next: "end(meters,rads): must stand here",
+    },
+    Row {
+        word: "end(meters,rads):",
+        values: &[
+            "x of the end must be a decimal from -1000000000 to 1000000000",
+            "y of the end must be a decimal from -1000000000 to 1000000000",
+            "theta of the end must be a decimal from -1000000000 to 1000000000",
+        ],
+        next: "environment: must stand here",
+    },
+    Row {
+        word: "environment:",
+        values: &[],
+        next: COST_WANTED,
+    },
+];
+
+/// What must stand at the place of a fault.
+fn wanted(text: &[u8], fault: &EnvFault) -> &'static str {
+    match fault {
+        EnvFault::Word(place)
+        | EnvFault::Number(place)
+        | EnvFault::Range(place)
+        | EnvFault::Ended(place) => wanted_at(&ROWS, START_WANTED, text, *place),
+        EnvFault::Trailing(_) => "the file must end after the cost of the last cell",
+        EnvFault::TooLarge(_) =>
+            "width times height times the number of headings must be at most 8388608",
+        EnvFault::StartOff(_) => "the start must lie on the map",
+        EnvFault::EndOff(_) => "the end must lie on the map",
+        EnvFault::NoMemory => "there must be memory",
+    }
+}
+
+/// The message of a fault of an environment file: where it is, what must stand there, and what was found.
+pub fn environment_message(
+    alloc: Global,
+    name: &str,
+    text: &[u8],
+    fault: &EnvFault,
+) -> Result<Message, NoMemory>
+    // It has the line and the column of the fault's place, and shows the token that begins there.
+    ensures message { IfOk result (λ m. IsMessageAt name.now text.now (place_of fault.now) m) }
+{
+    let wanted = wanted(text, fault);
+    let message = message_at(alloc, name, text, fault.place(), wanted)?;
+    Ok(message)
+}

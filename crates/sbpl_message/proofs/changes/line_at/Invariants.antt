@@ -1,5 +1,0 @@
-use Rattle.std.proofs.Common.{◌-◌}
-use Rattle.sbpl_message.proofs.changes.line_at.Given as goal
-
-abbrev pub decreases-loop-number : goal.decreases-loop-number
-decreases-loop-number l = l.line - l.number
