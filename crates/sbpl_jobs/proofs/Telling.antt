@@ -41,19 +41,13 @@ plain_told s u j e none (inl is) = nothing (inl is) (message_at e 0 is ∙ none)
 plain_told s u j e none (inr (inl is)) = of_write is (message_at e 7 is)
 plain_told s u j e none (inr (inr is)) = nothing (inr (inr is)) (message_at e 9 is ∙ none)
 
--- plans that were made, all or some, and lists
+-- plans that were made, all or some, and what else is done whole
 pub plans_end : {a b : DeskState} {writes : List Write} (all : Bool) (status : ℕ)
     → EndsAs a b writes (plans_status all) status → IsOrUnwritten 0 status
 plans_end true status (inl (is, made)) = inl is
 plans_end false status (inl (is, made)) = inr (inr is)
 plans_end all status (inr (inl (is, at))) = inr (inl is)
 plans_end all status (inr (inr (is, at))) = inr (inr is)
-
-pub list_ends : {a b : DeskState} {writes : List Write} (status : ℕ) → EndsAs a b writes 0 status
-    → IsOrUnwritten 0 status
-list_ends status (inl (is, made)) = inl is
-list_ends status (inr (inl (is, at))) = inr (inl is)
-list_ends status (inr (inr (is, at))) = inr (inr is)
 
 -- so such a job ends, of which no more is told than its status says
 pub plain_ending : (s u : DeskState) (old new : List Entry) (j : Job) (status : ℕ) (e : Ending) → e.status ≡ status
@@ -78,7 +72,7 @@ pub check_told : {W : Type 0} (s u : DeskState) (f : WorldFiles W) (changes : Op
     → (IsFaultExplained s u f changes labels (message_of e) → IsLabelFaultExplained s u j (message_of e))
     → IsToldOf s u j e.status (message_of e)
 check_told s u f changes labels j file goals os None e checked name text ends told of =
-    plain_told s u j e told (list_ends e.status ends)
+    plain_told s u j e told (plans_end true e.status ends)
 check_told s u f changes labels j file goals os (Some (section.Flaw x)) e checked name text (inl (is, made)) told of =
     nothing (inr (inl is)) (message_at e 1 is ∙ told)
 check_told s u f changes labels j file goals os (Some (section.Flaw x)) e checked name text (inr (inl (is, at))) told of =
