@@ -36,6 +36,10 @@ impl<G: Graph, H: Guide> Search<G, H> for AdStar {
         AdStar::change(self, graph, touched);
     }
 
+    fn aim(&mut self, goal: u32) {
+        AdStar::aim(self, goal);
+    }
+
     fn labels(&self) -> &Labels {
         AdStar::labels(self)
     }

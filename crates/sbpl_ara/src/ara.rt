@@ -58,6 +58,15 @@ impl Ara {
         self.serial.reset();
     }
 
+    /// Sets the goal of the passes to come: a state, by its number. All else stays: the labels, what the last pass did, and which
+    /// states are open. So the next pass goes on from these labels. It takes no memory.
+    pub fn aim(&mut self, goal: u32)
+        requires goal { goal < states_of self.old.labels }
+        ensures aimed { self.new ≡ record self.old { goal = goal } }
+    {
+        self.serial.aim(goal);
+    }
+
     /// A pass: open states are expanded, the least key first, until no open key is below the goal's or the budget is spent. Open
     /// are the states with g below v that this pass has not expanded; the first part of a key is 1000 g plus `eps` times the
     /// guide, the second is g; of equal keys the state of lower number comes first. `eps` is the inflation in thousandths,

@@ -36,6 +36,10 @@ impl<G: Graph, H: Guide> Search<G, H> for Ara {
         self.reset();
     }
 
+    fn aim(&mut self, goal: u32) {
+        Ara::aim(self, goal);
+    }
+
     fn labels(&self) -> &Labels {
         Ara::labels(self)
     }

@@ -118,6 +118,15 @@ impl<F> Epase<F> {
         }
     }
 
+    /// Sets the goal of the passes to come, a state by its number. All else stays, so the next pass goes on from these labels. It takes
+    /// no memory.
+    pub fn aim(&mut self, goal: u32)
+        requires goal { goal < states_of self.old.search.labels }
+        ensures aimed { self.new ≡ record self.old { search = record self.old.search { goal = goal } } }
+    {
+        self.goal = goal;
+    }
+
     /// The labels.
     pub fn labels(&self) -> &Labels
         ensures value { result.now ≡ self.now.search.labels }

@@ -76,6 +76,10 @@ impl<
         Epase::change(self, graph, touched);
     }
 
+    fn aim(&mut self, goal: u32) {
+        Epase::aim(self, goal);
+    }
+
     fn labels(&self) -> &Labels {
         Epase::labels(self)
     }

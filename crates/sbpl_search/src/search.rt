@@ -72,6 +72,13 @@ pub trait Search<G: Graph, H: Guide> {
         ensures goal { (state self.new).goal ≡ (state self.old).goal }
         ensures serves { serves self.old → serves self.new };
 
+    /// Sets the goal of the passes to come, a state by its number. All else stays, so the next pass goes on from these labels, and may
+    /// be guided to the new goal; `low` is right for the new goal at once. It takes no memory.
+    fn aim(&mut self, goal: u32)
+        requires goal { goal < states_of (state self.old).labels }
+        ensures aimed { state self.new ≡ record (state self.old) { goal = goal } }
+        ensures serves { serves self.old → serves self.new };
+
     /// The labels.
     fn labels(&self) -> &Labels
         ensures value { result.now ≡ (state self.now).labels }
