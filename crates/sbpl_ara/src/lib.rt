@@ -1,11 +1,26 @@
 //! Anytime Repairing A* over any graph: serial passes with falling inflation.
 #![tactic(auto)]
 
-mod ara;
-mod planner;
+ghost use Rattle.std.specs.Prelude.{◌≡◌, ℕ, ◌↔◌, List};
+ghost use Rattle.sbpl_serial.specs.sbpl_graph.Network.{Network};
+ghost use Rattle.sbpl_serial.specs.sbpl_labels.Marks.{Marks};
+ghost use Rattle.sbpl_ara.specs.Planner.{ara};
 
-pub use ara::Ara;
 pub use sbpl_serial::{
-    Budget, Closed, Determined, Graph, Guide, Key, Labels, NoMemory, Open, Parts, PassEnd, Search,
-    Serial, Step, Steps, raising_goes_arc_by_arc, repair_labels, run_is_determined,
+    Anew, Budget, Closed, Graph, Guide, Key, Labels, NoMemory, Open, Parts, PassEnd, Repair,
+    Search, Serial, Step, Steps, change_labels, raising_goes_arc_by_arc,
 };
+
+/// A search by Anytime Repairing A* (Likhachev, Gordon and Thrun 2003): a serial search whose labels are never underconsistent,
+/// and initial again after a change of the graph. All its memory is taken when it is opened.
+pub type Ara = Serial<Anew>;
+
+/// As a planner `Ara` means what `ara` says, on any graph and with any guide. This does nothing when it runs.
+pub fn means_ara<G: Graph, H: Guide>()
+    ensures ready { (n : Network) (m : Marks) (count : ℕ)
+        → ⟦<Ara as Search<G, H>>⟧.meaning.ready n m count ↔ ara.ready n m count }
+    ensures most { ⟦<Ara as Search<G, H>>⟧.meaning.most ≡ ara.most }
+    ensures repairs { ⟦<Ara as Search<G, H>>⟧.meaning.repairs ≡ ara.repairs }
+    ensures begun { (n : Network) (touched : List ℕ) (old new : Marks) (raised : List ℕ)
+        → ⟦<Ara as Search<G, H>>⟧.meaning.begun n touched old new raised ↔ ara.begun n touched old new raised }
+{}

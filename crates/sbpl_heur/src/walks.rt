@@ -11,7 +11,7 @@ ghost use Rattle.sbpl_heur.specs.Weights.{AreLeast};
 use crate::cells::Cells;
 use crate::hop::Hop;
 use sbpl_cost::Env;
-use sbpl_serial::{Budget, Graph, NoMemory, Serial, Zero, exact_where_same};
+use sbpl_serial::{Budget, Graph, NoMemory, Repair, Serial, Zero, exact_where_same};
 use std::alloc::Global;
 use std::marker::Model;
 
@@ -26,7 +26,7 @@ const FEW: u32 = 64;
 #[derive(Drop)]
 pub(crate) struct Walks {
     cells: Cells,
-    search: Serial,
+    search: Serial<Repair>,
     budget: Budget,
     /// Room for the states that a changed cell touches.
     touched: Vec<u32>,
@@ -62,7 +62,7 @@ fn touch(cells: &Cells, cell: u32, touched: &mut Vec<u32>)
 }
 
 /// Makes the labels of a search initial again where its run may end before a pass over this number of states does.
-fn make_room(search: &mut Serial, budget: &mut Budget, states: u32)
+fn make_room(search: &mut Serial<Repair>, budget: &mut Budget, states: u32)
     requires states { states ≡ states_of search.old.labels }
     requires few { states ≤ 2 ^ 23 }
     requires one_plan { IsOnePlan budget.old }
@@ -167,7 +167,7 @@ impl Walks {
         let _used = self.budget.used();
         touch(&self.cells, cell, &mut self.touched);
         self.cells.set(cell, cost);
-        self.search.repair(&self.cells, self.touched.as_slice());
+        self.search.change(&self.cells, self.touched.as_slice());
     }
 
     /// Settles all cells.

@@ -1,5 +1,5 @@
 -- The labels that a plan begins with are determined.
-use Rattle.std.proofs.Common.{◌≡◌, ◌≢◌, ℕ, ◌<◌, ◌↔◌, true, false, None, List, ⊎_elim, refl, sym, ap, subst, ◌∙◌}
+use Rattle.std.proofs.Common.{◌≡◌, ◌≢◌, ℕ, ◌<◌, ◌↔◌, Bool, true, false, None, List, ⊎_elim, refl, sym, ap, subst, ◌∙◌}
 use Rattle.std.proofs.lemmas.Bool.{cases_eq}
 use Rattle.std.specs.List.{Contains}
 use Rattle.sbpl_search.specs.sbpl_graph.Network.{Network}
@@ -8,7 +8,7 @@ use Rattle.sbpl_search.specs.sbpl_labels.Marks.{AreInitial, Marks, states_of, g_
 use Rattle.sbpl_search.specs.sbpl_labels.Recomputed.{IsRecomputed}
 use Rattle.sbpl_search.specs.Determined.{DeterminesBeginnings}
 use Rattle.sbpl_serial.specs.Determined.{InitialLabelsAreOne}
-use Rattle.sbpl_serial.specs.Meant.{BeginsAnew, BeginsRepaired}
+use Rattle.sbpl_serial.specs.Meant.{Begins}
 use Rattle.sbpl_serial.specs.Repaired.{AreRepaired}
 use Rattle.sbpl_serial.proofs.Agreeing.{Agree, same_marks, same_recomputed}
 use Rattle.sbpl_serial.proofs.Exactness.{contains_or_not}
@@ -74,17 +74,21 @@ repaired_no_arc n touched old a x none = rw x.same_start (ap (λ (r : Row). r.ba
 pub initial_is_one : InitialLabelsAreOne
 initial_is_one a b count first x y = one_initial x y
 
-pub begun_anew : DeterminesBeginnings false BeginsAnew
+pub begun_anew : DeterminesBeginnings false (Begins false)
 begun_anew = record {
   one = λ n touched others old a b xs ys same x y. (one_initial x.0 y.0, x.1 ∙ sym y.1);
   states = λ n touched old new raised states x. x.0.states;
   no_arc = λ n touched old new raised none x. x.0.no_arc new.start;
 }
 
-pub begun_repaired : DeterminesBeginnings true BeginsRepaired
+pub begun_repaired : DeterminesBeginnings true (Begins true)
 begun_repaired = record {
   one = λ n touched others old a b xs ys same x y.
       (one_repaired n touched others old a b (same refl) x.0.repaired y.0.repaired, x.1 ∙ sym y.1);
   states = λ n touched old new raised states x. x.0.repaired.same_states ∙ states;
   no_arc = λ n touched old new raised none x. repaired_no_arc n touched old new x.0.repaired none;
 }
+
+pub begun_by : (repairs : Bool) → DeterminesBeginnings repairs (Begins repairs)
+begun_by false = begun_anew
+begun_by true = begun_repaired

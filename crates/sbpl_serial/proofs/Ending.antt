@@ -1,5 +1,5 @@
 -- How a pass ends.
-use Rattle.std.proofs.Common.{◌≡◌, ℕ, ◌+◌, ◌*◌, ◌<◌, ◌≤◌, ◌↔◌, Bool, false, arith, ⊎_elim, inl, inr, refl, sym}
+use Rattle.std.proofs.Common.{◌≡◌, ℕ, ◌+◌, ◌*◌, ◌<◌, ◌≤◌, ◌↔◌, Bool, false, ⊎_elim, inl, inr, refl, sym}
 use Rattle.std.proofs.lemmas.Bool.{cases_lt}
 use Rattle.sbpl_search.specs.sbpl_labels.declared.pass_end.PassEnd.TheVariants.{Rest, Spent}
 use Rattle.sbpl_search.specs.sbpl_labels.Counts.{Counts, IsSpent}

@@ -1,6 +1,6 @@
 -- A run from labels none of which is underconsistent only lowers, and takes no state twice.
-use Rattle.std.proofs.Common.{◌≡◌, ◌≢◌, ℕ, ◌+◌, ◌*◌, ◌^◌, ◌<◌, ◌≤◌, zero, suc, Bool, true, false, not, ◌||◌, ◌&&◌, cond}
-use Rattle.std.proofs.Common.{nat_eq, MatchBool, List, [], ◌∷◌, length, slice_index_or, arith, ⊎_elim, inl, inr, refl}
+use Rattle.std.proofs.Common.{◌≡◌, ◌≢◌, ℕ, ◌+◌, ◌*◌, ◌^◌, ◌<◌, ◌≤◌, zero, suc, Bool, true, false, ◌||◌, cond}
+use Rattle.std.proofs.Common.{nat_eq, MatchBool, List, [], ◌∷◌, length, slice_index_or, arith, ⊎_elim, refl}
 use Rattle.std.proofs.Common.{sym, ap, ◌∙◌}
 use Rattle.std.proofs.Math.Nat.{mul-le-mul_right}
 use Rattle.std.specs.List.{All, AllPairs}
@@ -22,7 +22,7 @@ use Rattle.sbpl_search.specs.sbpl_labels.declared.pass_end.PassEnd.TheVariants.{
 use Rattle.sbpl_search.specs.Query.{Query}
 use Rattle.sbpl_serial.specs.declared.step.Step.{Step}
 use Rattle.sbpl_serial.specs.Passed.{IsSerialPass, IsForwardPass}
-use Rattle.sbpl_serial.specs.Run.{IsOpen, IsOver, IsUnder, IsNext, IsSerialRun, IsExpansion, IsAtRest, LowersHeads}
+use Rattle.sbpl_serial.specs.Run.{IsOver, IsUnder, IsNext, IsSerialRun, IsExpansion, IsAtRest, LowersHeads}
 use Rattle.sbpl_serial.specs.Run.{RaisesState, none_closed, closed_with, closed_after}
 use Rattle.sbpl_serial.specs.Serial.{SerialState}
 use Rattle.sbpl_serial.specs.Times.{times}
@@ -209,8 +209,8 @@ module _ {q : Query} {closed : ℕ → Bool} {m : Marks} where
   }
 
 -- past the last state v is 0
-v_outside : (m : Marks) (u : ℕ) → states_of m ≤ u → v_of m u ≤ FAR
-v_outside m u past = omega (arith, ap (λ (r : Row). r.v) (get_or_past m.rows u no_row past))
+pub v_outside : (m : Marks) (u : ℕ) → states_of m ≤ u → v_of m u ≡ 0
+v_outside m u past = ap (λ (r : Row). r.v) (get_or_past m.rows u no_row past)
 
 forward_from : (m : Marks) → NoneUnder (states_of m) (g_of m) (v_of m) → AreLabels m → AreForward none_closed m
 forward_from m none labels = record {
@@ -218,7 +218,7 @@ forward_from m none labels = record {
   small = λ u.
       ⊎_elim
       (λ (inside : u < states_of m). label_at_most _ (labels.labels u inside).1)
-      (λ (past : states_of m ≤ u). v_outside m u past)
+      (λ (past : states_of m ≤ u). omega (arith, v_outside m u past))
       (cases_lt u (states_of m));
   near = λ u is. absurd (false≢true is);
 }

@@ -25,6 +25,7 @@ pub mod Ending
 pub mod Starting
 pub mod Finishing
 pub mod Forwards
+pub mod Policies
 pub mod Determining
 pub mod Beginning
 pub use Rattle.sbpl_search.proofs.Fitting

@@ -11,7 +11,7 @@ use Rattle.sbpl_search.specs.sbpl_graph.Fit.{FitCount}
 use Rattle.sbpl_search.proofs.Keeping.{same_arc}
 use Rattle.sbpl_search.proofs.Paths.{label_at_most}
 use Rattle.sbpl_search.specs.sbpl_labels.declared.row.Row.{Row}
-use Rattle.sbpl_search.specs.sbpl_labels.Marks.{Marks, AreLabels, ChangesRow, states_of, g_of, v_of, back_of, no_row}
+use Rattle.sbpl_search.specs.sbpl_labels.Marks.{Marks, AreLabels, states_of, g_of, v_of, back_of, no_row}
 use Rattle.sbpl_search.specs.sbpl_labels.Recomputed.{IsRecomputed, Recomputes}
 use Rattle.sbpl_serial.specs.Run.{IsUnder, RaisesState}
 use Rattle.sbpl_search.specs.Changed.{IsExactAt}

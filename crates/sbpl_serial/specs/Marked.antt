@@ -1,5 +1,5 @@
 -- Sets of states as lists of tests.
-use Rattle.std.specs.Prelude.{ℕ, ◌+◌, ◌<◌, ◌≤◌, Bool, false, cond, List, [], ◌∷◌, length, slice_index, slice_index_or}
+use Rattle.std.specs.Prelude.{ℕ, ◌<◌, ◌≤◌, Bool, false, List, length, slice_index, slice_index_or}
 
 -- whether a state is among the closed ones
 abbrev pub closed_at : List Bool → ℕ → Bool

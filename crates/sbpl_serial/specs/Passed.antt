@@ -1,5 +1,5 @@
 -- What a serial pass does to a search and to the counts of expansions.
-use Rattle.std.specs.Prelude.{◌≡◌, ◌≢◌, ℕ, ◌+◌, ◌*◌, ◌^◌, ◌<◌, ◌≤◌, ◌↔◌, true, false, Some, length}
+use Rattle.std.specs.Prelude.{◌≡◌, ◌≢◌, ℕ, ◌+◌, ◌*◌, ◌^◌, ◌<◌, ◌≤◌, ◌↔◌, Bool, true, false, Some, length}
 use Rattle.std.specs.List.{All, AllPairs}
 use Rattle.sbpl_search.specs.sbpl_graph.declared.TheConstants.{FAR}
 use Rattle.sbpl_search.specs.sbpl_graph.Certificate.{AreSupported, ShowBound, ShowNone}
@@ -53,3 +53,9 @@ pub record IsForwardPass (q : Query) (old new : SerialState) (before after : Cou
   pub enough : before.plan + states_of old.labels ≤ before.per_plan → before.run + states_of old.labels ≤ 2 ^ 30 → end ≡ Rest
   pub none : end ≡ Rest → g_of new.labels old.goal ≡ FAR → ShowNone q.network new.labels.start old.goal (g_of new.labels) (v_of new.labels)
   pub none_under : NoneUnder q.network.states (g_of new.labels) (v_of new.labels)
+
+-- a pass only lowers where labels are never repaired, and otherwise where none is underconsistent when it begins
+abbrev pub GoesForward : (repairs : Bool) → Query → (old new : SerialState) → (before after : Counts) → PassEnd → Type 0
+GoesForward false q old new before after end = IsForwardPass q old new before after end
+GoesForward true q old new before after end =
+    NoneUnder (states_of old.labels) (g_of old.labels) (v_of old.labels) → IsForwardPass q old new before after end

@@ -1,8 +1,7 @@
 -- Labels after a change of the graph.
-use Rattle.std.specs.Prelude.{◌≡◌, ◌≢◌, ℕ, ◌+◌, ◌<◌, ◌≤◌, Option, Some, None, List}
+use Rattle.std.specs.Prelude.{◌≡◌, ◌≢◌, ℕ, ◌<◌, Option, List}
 use Rattle.std.specs.List.{Contains}
-use Rattle.sbpl_search.specs.sbpl_graph.declared.TheConstants.{FAR}
-use Rattle.sbpl_search.specs.sbpl_graph.Network.{Network, IsFreeArc, HasSameArcs}
+use Rattle.sbpl_search.specs.sbpl_graph.Network.{Network, HasSameArcs}
 use Rattle.sbpl_search.specs.sbpl_graph.Exact.{AreExact}
 use Rattle.sbpl_search.specs.sbpl_labels.Marks.{Marks, states_of, g_of, v_of, back_of, row_at}
 use Rattle.sbpl_search.specs.sbpl_labels.Recomputed.{IsRecomputed}

@@ -3,7 +3,7 @@
 ghost use Rattle.std.specs.Prelude.{true, false};
 ghost use Rattle.sbpl_search.specs.Determined.{DeterminesBeginnings};
 ghost use Rattle.sbpl_serial.specs.Determined.{EqualRunsAgree, GuideAtStates, RestEndsRuns, RunsGoOn, SerialIsDetermined, InitialLabelsAreOne};
-ghost use Rattle.sbpl_serial.specs.Meant.{BeginsAnew, BeginsRepaired};
+ghost use Rattle.sbpl_serial.specs.Meant.{Begins};
 ghost use Rattle.sbpl_serial.specs.Raised.{RaisingBegins, RaisingEnds, RaisingGoesOn, RaisingLowersNone};
 ghost use Rattle.sbpl_serial.specs.Repaired.{ExactWhereSame};
 
@@ -18,8 +18,8 @@ pub fn run_is_determined()
     ensures guided { GuideAtStates }
     ensures determined { SerialIsDetermined }
     ensures initial { InitialLabelsAreOne }
-    ensures anew { DeterminesBeginnings false BeginsAnew }
-    ensures repaired { DeterminesBeginnings true BeginsRepaired }
+    ensures anew { DeterminesBeginnings false (Begins false) }
+    ensures repaired { DeterminesBeginnings true (Begins true) }
 {}
 
 /// Where labels are exact on one graph, each state but the start that has the same free arcs into it

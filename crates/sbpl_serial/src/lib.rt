@@ -7,6 +7,8 @@ mod facts;
 mod low;
 mod note;
 mod parts;
+mod planner;
+mod policy;
 mod queue;
 mod raise;
 mod repair;
@@ -18,8 +20,9 @@ pub use closed::Closed;
 pub use facts::{exact_where_same, raising_goes_arc_by_arc, run_is_determined};
 pub use low::{low_of_queue, low_with};
 pub use parts::Parts;
+pub use policy::{Anew, Policy, Repair};
 pub use queue::requeue;
-pub use repair::repair_labels;
+pub use repair::change_labels;
 pub use sbpl_open::{Entry, Key, Open};
 pub use sbpl_search::{
     Budget, Determined, FAR, Graph, Guide, Labels, NoMemory, PassEnd, Search, Zero, ceil_root,

@@ -15,7 +15,7 @@ use sbpl_search::{Graph, Labels};
 /// Repairs labels after a change of the graph: each touched state is recomputed on the graph as it now is, and every v stays. The
 /// condition is that every other state, but the start, has on this graph the g and the back arc, or none, that exact labels ask
 /// for. A state may be touched twice. No other state is looked at. It takes no memory.
-pub fn repair_labels<G: Graph>(labels: &mut Labels, graph: &G, touched: &[u32])
+pub fn change_labels<G: Graph>(labels: &mut Labels, graph: &G, touched: &[u32])
     requires states { states_of labels.old ≡ (G.network graph.now).states }
     requires changeable { IsChangeable (G.network graph.now) touched.now labels.old }
     ensures repaired { AreRepairedFor (G.network graph.now) touched.now labels.old labels.new }

@@ -4,17 +4,15 @@ ghost use Rattle.std.specs.Prelude.{◌≡◌, ℕ, ◌+◌, ◌-◌, ◌*◌, �
 ghost use Rattle.std.specs.List.{All};
 ghost use Rattle.sbpl_search.specs.sbpl_graph.Bound.{IsLow};
 ghost use Rattle.sbpl_search.specs.sbpl_graph.Fit.{FitCount};
-ghost use Rattle.sbpl_search.specs.sbpl_graph.Kept.{NoneUnder};
 ghost use Rattle.sbpl_search.specs.sbpl_graph.Network.{Network};
 ghost use Rattle.sbpl_search.specs.sbpl_labels.Marks.{AreLabels, AreInitial, states_of, g_of, v_of};
 ghost use Rattle.sbpl_open.specs.OpenList as open_list;
-ghost use Rattle.sbpl_search.specs.Changed.{IsChangeable};
 ghost use Rattle.sbpl_search.specs.Query.{query};
-ghost use Rattle.sbpl_search.specs.Ready.{AreReady, AreUsable};
+ghost use Rattle.sbpl_search.specs.Ready.{AreReady, AreUsable, IsStartFresh};
 ghost use Rattle.sbpl_serial.specs.Marked.{closed_at};
-ghost use Rattle.sbpl_serial.specs.Meant.{AreRepairedFor};
+ghost use Rattle.sbpl_serial.specs.Meant.{AreRenewable, AreRenewed, MayBeginPass, trace_left};
 ghost use Rattle.sbpl_serial.specs.Keys.{goal_key};
-ghost use Rattle.sbpl_serial.specs.Passed.{IsForwardPass, IsSerialPass};
+ghost use Rattle.sbpl_serial.specs.Passed.{GoesForward, IsSerialPass};
 ghost use Rattle.sbpl_serial.specs.Queue.{AreQueued, IsFirstBelow};
 ghost use Rattle.sbpl_serial.specs.Run.{none_closed, closed_after, IsOpen, IsOver, IsUnder};
 ghost use Rattle.sbpl_serial.specs.Serial.{AreSerialParts};
@@ -25,27 +23,27 @@ use crate::low::low_among;
 use crate::note::{note_taken, note_touched};
 use crate::queue::{gather, refill};
 use crate::raise::raise;
-use crate::repair::repair_labels;
-use crate::{Closed, Parts, Step, Steps};
+use crate::{Anew, Closed, Parts, Policy, Repair, Step, Steps, change_labels};
 use sbpl_open::{Key, Open};
 use sbpl_search::{Budget, Graph, Guide, Labels, NoMemory, PassEnd};
 use std::alloc::Global;
-use std::marker::Model;
+use std::marker::{Model, PhantomData};
 
 /// A search that expands one open state after another: the labels of all states, the goal, the expansions of the last pass and
-/// the queue that it left. Both serial planners are built on it: ARA* (Likhachev, Gordon and Thrun 2003), whose labels are never
-/// underconsistent, and Anytime D* (Likhachev, Ferguson, Gordon, Stentz and Thrun 2005), whose labels are repaired after changes
-/// of the graph. All memory is taken when it is opened.
+/// the queue that it left. Its policy says what becomes of the labels where the graph changes, and so which of the serial planners
+/// it is: ARA* (Likhachev, Gordon and Thrun 2003), whose labels are never underconsistent, or Anytime D* (Likhachev, Ferguson,
+/// Gordon, Stentz and Thrun 2005), whose labels are repaired. All memory is taken when it is opened.
 #[derive(Drop)]
-pub struct Serial {
+pub struct Serial<P> {
     labels: Labels,
     goal: u32,
     closed: Closed,
     steps: Steps,
     queue: Open,
+    policy: PhantomData<P>,
 }
 
-impl Model for Serial {
+impl<P> Model for Serial<P> {
     ghost use Rattle.sbpl_serial.specs.Serial.{SerialState, AreSerialParts};
 
     ghost Value = { SerialState };
@@ -55,15 +53,16 @@ impl Model for Serial {
     ghost invariant = { λ a. AreSerialParts a.labels a.goal a.closed a.steps a.queue };
 }
 
-impl Serial {
+impl<P> Serial<P> {
     /// A search from `start` to `goal` on a graph of this many states, before its first pass: its labels are initial and its
     /// trace is empty.
-    pub fn open(alloc: Global, states: u32, start: u32, goal: u32) -> Result<Serial, NoMemory>
+    pub fn open(alloc: Global, states: u32, start: u32, goal: u32) -> Result<Serial<P>, NoMemory>
         requires start { start < states }
         requires goal { goal < states }
         ensures opened { IfOk result (λ a. AreInitial a.labels states start) }
         ensures ready { IfOk result
             (λ a. (n : Network) (count : ℕ) → n.states ≡ states → AreReady n a.labels count) }
+        ensures fresh { IfOk result (λ a. IsStartFresh a.labels) }
         ensures goal { IfOk result (λ a. a.goal ≡ goal) }
         ensures untraced { IfOk result (λ a. a.trace ≡ []) }
     {
@@ -78,6 +77,7 @@ impl Serial {
             closed,
             steps,
             queue,
+            policy: PhantomData,
         })
     }
 
@@ -126,6 +126,7 @@ impl Serial {
             closed,
             steps,
             queue,
+            policy: _,
         } = self;
         let _start = labels.start();
         Parts {
@@ -138,7 +139,7 @@ impl Serial {
     }
 
     /// The search that has these parts. It takes no memory.
-    pub fn from_parts(parts: Parts) -> Serial
+    pub fn from_parts(parts: Parts) -> Serial<P>
         requires parts { AreSerialParts parts.labels parts.goal parts.closed parts.steps parts.queue }
         ensures labels { result.labels ≡ parts.labels }
         ensures goal { result.goal ≡ parts.goal }
@@ -158,59 +159,8 @@ impl Serial {
             closed,
             steps,
             queue,
+            policy: PhantomData,
         }
-    }
-
-    /// Repairs the labels after a change of the graph: each touched state is recomputed on the graph as it now is, and every v
-    /// stays. The condition is that every other state, but the start, has on this graph the g and the back arc, or none, that
-    /// exact labels ask for. A state may be touched twice. No other state is looked at. It takes no memory.
-    pub fn repair<G: Graph>(&mut self, graph: &G, touched: &[u32])
-        requires states { states_of self.old.labels ≡ (G.network graph.now).states }
-        requires changeable { IsChangeable (G.network graph.now) touched.now self.old.labels }
-        ensures repaired { AreRepairedFor (G.network graph.now) touched.now self.old.labels
-            self.new.labels }
-        ensures fits { (count : ℕ)
-            → FitCount (states_of self.old.labels) (g_of self.old.labels) (v_of self.old.labels) count
-            → FitCount (states_of self.old.labels) (g_of self.new.labels) (v_of self.new.labels) count }
-        ensures goal { self.new.goal ≡ self.old.goal }
-        ensures trace { self.new.trace ≡ self.old.trace }
-    {
-        repair_labels(&mut self.labels, graph, touched);
-        note_touched(&mut self.queue, &self.labels, touched);
-    }
-
-    /// A pass: open states are expanded, the least key first, until no open key is below the goal's or the budget is spent. Open
-    /// are the states with v below g, and those with g below v that this pass has not lowered. A state with g below v is lowered:
-    /// its v becomes its g, and each head gets the lesser of its g and the way over it. A state with v below g is raised: its v
-    /// becomes infinite, and each head whose back arc comes from it is recomputed. The first part of a key is 1000 (v + h) where
-    /// v is below g, and 1000 g + `eps` h otherwise, with h by the guide; the second is the lesser of g and v. Of equal keys that
-    /// of the state of lower number comes first. `eps` is the inflation in thousandths, 1000 to 100000. It takes no memory.
-    pub fn pass<G: Graph, H: Guide>(
-        &mut self,
-        graph: &G,
-        guide: &H,
-        eps: u32,
-        budget: &mut Budget,
-    ) -> PassEnd
-        requires eps_low { 1000 ≤ eps }
-        requires eps_high { eps ≤ 100000 }
-        requires guide { H.guides guide.now (G.network graph.now) self.old.goal }
-        requires usable { AreUsable (G.network graph.now) self.old.labels budget.old.run }
-        ensures passed { IsSerialPass (query (G.network graph.now) (H.distance guide.now) eps self.old.goal) self.old self.new budget.old budget.new result }
-        ensures forward { NoneUnder (states_of self.old.labels) (g_of self.old.labels) (v_of self.old.labels)
-            → IsForwardPass (query (G.network graph.now) (H.distance guide.now) eps self.old.goal) self.old self.new budget.old budget.new result }
-    {
-        let _states = graph.states();
-        let _start = self.labels.start();
-        self.begin(guide, eps);
-        'expansions: while let Some(s) = self.next() {
-            if budget.spent() {
-                return PassEnd::Spent;
-            }
-            budget.spend();
-            self.take(graph, guide, eps, s);
-        }
-        PassEnd::Rest
     }
 
     /// The labels.
@@ -246,7 +196,88 @@ impl Serial {
     {
         self.steps.as_slice()
     }
+}
 
+impl<P: Policy> Serial<P> {
+    /// Makes the labels ready for a plan on a graph that has changed. Where the policy repairs them, each touched state is
+    /// recomputed on the graph as it now is, and every v stays. The condition is that every other state, but the start, has on this
+    /// graph the g and the back arc, or none, that exact labels ask for. A state may be touched twice. No other state is looked at.
+    /// Where the policy does not repair them, the labels are initial again, and no touched state is looked at. It takes no memory.
+    pub fn change<G: Graph>(&mut self, graph: &G, touched: &[u32])
+        requires states { states_of self.old.labels ≡ (G.network graph.now).states }
+        requires changeable { AreRenewable P.REPAIRS (G.network graph.now) touched.now self.old.labels }
+        ensures renewed { AreRenewed P.REPAIRS (G.network graph.now) touched.now self.old.labels self.new.labels }
+        ensures ready { (n : Network) (count : ℕ) → n.states ≡ (G.network graph.now).states
+            → MayBeginPass P.REPAIRS n self.old.labels count → MayBeginPass P.REPAIRS (G.network graph.now) self.new.labels count }
+        ensures fits { (count : ℕ)
+            → FitCount (states_of self.old.labels) (g_of self.old.labels) (v_of self.old.labels) count
+            → FitCount (states_of self.old.labels) (g_of self.new.labels) (v_of self.new.labels) count }
+        ensures goal { self.new.goal ≡ self.old.goal }
+        ensures trace { self.new.trace ≡ trace_left P.REPAIRS self.old.trace }
+    {
+        if !P::REPAIRS {
+            self.reset();
+            return;
+        }
+        change_labels(&mut self.labels, graph, touched);
+        note_touched(&mut self.queue, &self.labels, touched);
+    }
+
+    /// A pass: open states are expanded, the least key first, until no open key is below the goal's or the budget is spent. Open
+    /// are the states with v below g, and those with g below v that this pass has not lowered. A state with g below v is lowered:
+    /// its v becomes its g, and each head gets the lesser of its g and the way over it. A state with v below g is raised: its v
+    /// becomes infinite, and each head whose back arc comes from it is recomputed. The first part of a key is 1000 (v + h) where
+    /// v is below g, and 1000 g + `eps` h otherwise, with h by the guide; the second is the lesser of g and v. Of equal keys that
+    /// of the state of lower number comes first. `eps` is the inflation in thousandths, 1000 to 100000. Each expansion is
+    /// counted, and no state is expanded more than three times. From labels none of which has v below g no state is raised, and
+    /// none is expanded twice: so it is in ARA*, where there are no others. It takes no memory.
+    pub fn pass<G: Graph, H: Guide>(
+        &mut self,
+        graph: &G,
+        guide: &H,
+        eps: u32,
+        budget: &mut Budget,
+    ) -> PassEnd
+        requires eps_low { 1000 ≤ eps }
+        requires eps_high { eps ≤ 100000 }
+        requires guide { H.guides guide.now (G.network graph.now) self.old.goal }
+        requires ready { MayBeginPass P.REPAIRS (G.network graph.now) self.old.labels budget.old.run }
+        ensures passed { IsSerialPass (query (G.network graph.now) (H.distance guide.now) eps self.old.goal)
+            self.old self.new budget.old budget.new result }
+        ensures forward { GoesForward P.REPAIRS (query (G.network graph.now) (H.distance guide.now) eps self.old.goal)
+            self.old self.new budget.old budget.new result }
+        ensures ready { MayBeginPass P.REPAIRS (G.network graph.now) self.new.labels budget.new.run }
+    {
+        let _states = graph.states();
+        let _start = self.labels.start();
+        self.begin(guide, eps);
+        'expansions: while let Some(s) = self.next() {
+            if budget.spent() {
+                return PassEnd::Spent;
+            }
+            budget.spend();
+            self.take(graph, guide, eps, s);
+        }
+        PassEnd::Rest
+    }
+}
+
+/// A search by Anytime D* that goes on from one by ARA*.
+impl From<Serial<Anew>> for Serial<Repair> {
+    ghost from_gives = { λ ara search. search ≡ ara };
+
+    /// A search with the same labels, goal and trace, whose labels are repaired from now on. It takes no memory.
+    fn from(ara: Serial<Anew>) -> Serial<Repair>
+        ensures labels { result.labels ≡ ara.labels }
+        ensures goal { result.goal ≡ ara.goal }
+        ensures trace { result.trace ≡ ara.trace }
+        ensures queue { result.queue ≡ ara.queue }
+    {
+        Serial::from_parts(ara.into_parts())
+    }
+}
+
+impl<P> Serial<P> {
     /// Begins a pass: no state is closed, and the queue holds the states whose g and v differ. They are looked for only where they
     /// may be: in the queue and among the states of the last pass.
     fn begin<H: Guide>(&mut self, guide: &H, eps: u32)
@@ -284,6 +315,7 @@ impl Serial {
         let g = self.labels.g(self.goal);
         key.is_below(Key(1000 * u128::from(g), g)).then_some(s)
     }
+
     /// Takes the open state `s`: it is lowered or raised.
     fn take<G: Graph, H: Guide>(&mut self, graph: &G, guide: &H, eps: u32, s: u32)
         requires open { IsOpen (closed_after none_closed self.old.trace) self.old.labels s }

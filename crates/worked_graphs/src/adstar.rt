@@ -5,7 +5,7 @@ ghost use Rattle.sbpl_plan.specs.sbpl_labels.Marks.{states_of};
 ghost use Rattle.worked_graphs.specs.Sample.{height};
 
 use crate::table::{DETOUR, Table};
-use sbpl_adstar::{AdStar, Ara, Step};
+use sbpl_adstar::{AdStar, Ara, Step, means_adstar};
 use sbpl_plan::{Budget, PassEnd, Walk, Zero};
 use std::test::Fail;
 
@@ -37,6 +37,7 @@ fn goes_on(graph: &Table, search: &mut AdStar, arcs: &mut Vec<u32>) -> bool
 #[test]
 fn aimed_at_another_goal(rt: HostRuntime) -> Result<(), Fail> {
     let mut arcs = Vec::with_capacity(rt.alloc(), 6)?;
+    means_adstar::<Table, Table>();
     let mut search = AdStar::from(Ara::open(rt.alloc(), 6, 0, 5)?);
     let goes = goes_on(&DETOUR, &mut search, &mut arcs);
     drop(search);

@@ -7,7 +7,7 @@ ghost use Rattle.worked_graphs.specs.Sample.{height, sample};
 
 use crate::table::{DETOUR, TIE, Table};
 use crate::texts::reads;
-use sbpl_adstar::Ara;
+use sbpl_adstar::{Ara, means_ara};
 use sbpl_plan::Budget;
 use std::alloc::Global;
 use std::test::Fail;
@@ -84,6 +84,7 @@ fn are_as_wanted(alloc: Global, ara: &mut Ara) -> bool
 
 #[test]
 fn falling_inflation_and_a_spent_budget(rt: HostRuntime) -> Result<(), Fail> {
+    means_ara::<Table, Table>();
     let mut ara = Ara::open(rt.alloc(), 6, 0, 5)?;
     let are = are_as_wanted(rt.alloc(), &mut ara);
     drop(ara);

@@ -7,7 +7,7 @@ ghost use Rattle.sbpl_plan.specs.sbpl_search.Ready.{IsStartFresh};
 
 use crate::table::{Table, row};
 use crate::texts::reads;
-use sbpl_adstar::{AdStar, Ara};
+use sbpl_adstar::AdStar;
 use sbpl_plan::{Ask, Budget, Graph, Nobody, Zero, plan};
 use std::alloc::Global;
 use std::test::Fail;
@@ -91,7 +91,7 @@ fn are_planned(alloc: Global, search: &mut AdStar) -> bool
 
 #[test]
 fn planned_again_after_changes(rt: HostRuntime) -> Result<(), Fail> {
-    let mut search = AdStar::from(Ara::open(rt.alloc(), 3, 0, 2)?);
+    let mut search = AdStar::open(rt.alloc(), 3, 0, 2)?;
     let are = are_planned(rt.alloc(), &mut search);
     drop(search);
     assert!(rt; are);

@@ -7,8 +7,8 @@ use Rattle.sbpl_heur.specs.Boards.{cell_count, board_network}
 use Rattle.sbpl_heur.proofs.Settling.{settled, are_least}
 use Rattle.sbpl_heur.proofs.walks.Walks.settle.Goals as goal
 
-pub pass-end-requires-clause-usable : goal.pass-end-requires-clause-usable
-pass-end-requires-clause-usable c = c.make_room.ensures.usable _ c.self.invariant.usable
+pub pass-end-requires-clause-ready : goal.pass-end-requires-clause-ready
+pass-end-requires-clause-ready c = c.make_room.ensures.usable _ c.self.invariant.usable
 
 pub returns-clause-least : goal.returns-clause-least
 returns-clause-least c =

@@ -6,8 +6,8 @@ use Rattle.sbpl_heur.proofs.Hopping.{beside_set}
 use Rattle.sbpl_heur.proofs.Touching.{same_arcs, fits_more}
 use Rattle.sbpl_heur.proofs.walks.Walks.write.Goals as goal
 
-pub repair-requires-clause-changeable : goal.repair-requires-clause-changeable
-repair-requires-clause-changeable c =
+pub change-requires-clause-changeable : goal.change-requires-clause-changeable
+change-requires-clause-changeable c =
     let usable = c.self.invariant.usable in
     let b = c.self.inside.cells in
     let m = c.self.inside.search.labels in

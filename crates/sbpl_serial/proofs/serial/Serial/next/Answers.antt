@@ -4,7 +4,7 @@ use Rattle.sbpl_serial.proofs.Resting.{first_below}
 use Rattle.sbpl_serial.proofs.serial.Serial.next.Goals as goal
 
 pub returns-clause-next : goal.returns-clause-next
-returns-clause-next c =
+returns-clause-next g c =
     let inside = c.self.inside in
     let tells = simp (c.from.ensures, c.g-g.ensures.value) at c.is_below.ensures.below in
     rw (← c.self.view_is, c.then_some.ensures)

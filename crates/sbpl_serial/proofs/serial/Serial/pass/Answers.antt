@@ -1,17 +1,27 @@
 use Rattle.std.proofs.Common.{arith, refl, subst}
 use Rattle.sbpl_search.specs.sbpl_labels.Marks.{AreLabels}
 use Rattle.sbpl_search.specs.Query.{query}
+use Rattle.sbpl_serial.specs.Meant.{usable_by}
 use Rattle.sbpl_serial.specs.Serial.{SerialState}
 use Rattle.sbpl_serial.proofs.Resting.{next_from_queue, rest_from_queue}
 use Rattle.sbpl_serial.proofs.Finishing.{passed_at_next, passed_at_rest}
 use Rattle.sbpl_serial.proofs.Forwards.{forward_pass}
 use Rattle.sbpl_serial.proofs.Passing.{passing_none, passing_more, passing_room}
+use Rattle.sbpl_serial.proofs.Policies.{goes_forward, ready_again}
 use Rattle.sbpl_serial.proofs.serial.Serial.pass.Goals as goal
+
+pub begin-requires : goal.begin-requires
+begin-requires g c = record {
+  known = λ s inside.
+      let usable = usable_by g.P.Policy.REPAIRS _ _ _ c.requires.ready in
+      g.met.H.Guide.covered c.args.guide.now _ _ s c.requires.guide (omega (arith, usable.states));
+}
 
 pub expansions-init : goal.expansions-init
 expansions-init g c =
     let begin = c.begin.ensures in
-    passing_none begin.labels begin.goal begin.untraced c.requires.usable begin.queued
+    passing_none begin.labels begin.goal begin.untraced (usable_by g.P.Policy.REPAIRS _ _ _ c.requires.ready)
+    begin.queued
 
 pub take-requires-clause-room : goal.take-requires-clause-room
 take-requires-clause-room g c =
@@ -35,45 +45,45 @@ expansions-preserved g c =
 pub returns-clause-passed : goal.returns-clause-passed
 returns-clause-passed g c =
     let here = c.expansions.invariant in
+    let usable = usable_by g.P.Policy.REPAIRS _ _ _ c.requires.ready in
     let rest =
     rest_from_queue (query (g.G.Graph.network c.args.graph.now) (g.H.Guide.distance c.args.guide.now) c.args.eps
     c.args.self.now.goal) here.queued (rw here.same_goal at c.in_default.ensures.next) in
     passed_at_rest here c.in_default.ensures.labels c.states-states.ensures.sound
     (g.met.H.Guide.consistent c.args.guide.now _ _ c.requires.guide)
     (λ s inside. g.met.H.Guide.bounded c.args.guide.now _ _ s c.requires.guide inside)
-    (rw here.same_goal at c.in_default.ensures.inside) c.requires.usable.exact.from_start rest
+    (rw here.same_goal at c.in_default.ensures.inside) usable.exact.from_start rest
 
 pub returns-clause-forward : goal.returns-clause-forward
-returns-clause-forward g c = λ none.
-    let here = c.expansions.invariant in
-    let rest =
-    rest_from_queue (query (g.G.Graph.network c.args.graph.now) (g.H.Guide.distance c.args.guide.now) c.args.eps
-    c.args.self.now.goal) here.queued (rw here.same_goal at c.in_default.ensures.next) in
+returns-clause-forward g c =
     let was = subst (λ (a : SerialState). AreLabels a.labels) c.self.view_is c.start-start.ensures.labels in
+    let passed = returns-clause-passed g c in
+    goes_forward passed g.P.Policy.REPAIRS c.requires.ready (λ none.
     forward_pass none was c.in_default.ensures.labels c.requires.eps_high
-    (λ s inside. g.met.H.Guide.bounded c.args.guide.now _ _ s c.requires.guide inside) _
-    (passed_at_rest here c.in_default.ensures.labels c.states-states.ensures.sound
-    (g.met.H.Guide.consistent c.args.guide.now _ _ c.requires.guide)
-    (λ s inside. g.met.H.Guide.bounded c.args.guide.now _ _ s c.requires.guide inside)
-    (rw here.same_goal at c.in_default.ensures.inside) c.requires.usable.exact.from_start rest)
+    (λ s inside. g.met.H.Guide.bounded c.args.guide.now _ _ s c.requires.guide inside) _ passed)
+
+pub returns-clause-ready : goal.returns-clause-ready
+returns-clause-ready g c =
+    ready_again (returns-clause-passed g c) g.P.Policy.REPAIRS (returns-clause-forward g c)
 
 pub returns-then-spent-clause-passed : goal.returns-then-spent-clause-passed
 returns-then-spent-clause-passed g c =
     let here = c.expansions.invariant in
+    let usable = usable_by g.P.Policy.REPAIRS _ _ _ c.requires.ready in
     let next =
     next_from_queue (query (g.G.Graph.network c.args.graph.now) (g.H.Guide.distance c.args.guide.now) c.args.eps
     c.args.self.now.goal) c.in-Some.s here.queued (rw here.same_goal at c.in-Some.ensures.next) in
-    passed_at_next here c.in-Some.ensures.labels c.requires.usable.exact.from_start c.in-Some.s next
+    passed_at_next here c.in-Some.ensures.labels usable.exact.from_start c.in-Some.s next
     (c.if-spent.ensures.spent.0 refl)
 
 pub returns-then-spent-clause-forward : goal.returns-then-spent-clause-forward
-returns-then-spent-clause-forward g c = λ none.
-    let here = c.expansions.invariant in
-    let next =
-    next_from_queue (query (g.G.Graph.network c.args.graph.now) (g.H.Guide.distance c.args.guide.now) c.args.eps
-    c.args.self.now.goal) c.in-Some.s here.queued (rw here.same_goal at c.in-Some.ensures.next) in
+returns-then-spent-clause-forward g c =
     let was = subst (λ (a : SerialState). AreLabels a.labels) c.self.view_is c.start-start.ensures.labels in
+    let passed = returns-then-spent-clause-passed g c in
+    goes_forward passed g.P.Policy.REPAIRS c.requires.ready (λ none.
     forward_pass none was c.in-Some.ensures.labels c.requires.eps_high
-    (λ s inside. g.met.H.Guide.bounded c.args.guide.now _ _ s c.requires.guide inside) _
-    (passed_at_next here c.in-Some.ensures.labels c.requires.usable.exact.from_start c.in-Some.s next
-    (c.if-spent.ensures.spent.0 refl))
+    (λ s inside. g.met.H.Guide.bounded c.args.guide.now _ _ s c.requires.guide inside) _ passed)
+
+pub returns-then-spent-clause-ready : goal.returns-then-spent-clause-ready
+returns-then-spent-clause-ready g c =
+    ready_again (returns-then-spent-clause-passed g c) g.P.Policy.REPAIRS (returns-then-spent-clause-forward g c)

@@ -5,7 +5,7 @@ use Rattle.sbpl_serial.proofs.Together.{together_none}
 use Rattle.sbpl_serial.proofs.serial.Serial.reset.Goals as goal
 
 pub invariant_of-self : goal.invariant_of-self
-invariant_of-self c =
+invariant_of-self g c =
     let parts = c.self.invariant in
     let opened = c.reset.ensures.opened in
     let same = opened.states in

@@ -1,7 +1,7 @@
 use Rattle.std.proofs.Common.{arith}
 use Rattle.sbpl_serial.proofs.Exactness.{exact_repaired}
 use Rattle.sbpl_serial.proofs.Repairing.{only_touched, over_or_touched}
-use Rattle.sbpl_serial.proofs.repair.repair_labels.Goals as goal
+use Rattle.sbpl_serial.proofs.repair.change_labels.Goals as goal
 
 pub returns-clause-repaired : goal.returns-clause-repaired
 returns-clause-repaired g c = record {
