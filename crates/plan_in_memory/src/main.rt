@@ -14,8 +14,8 @@ mod room;
 use crate::room::{FREE, WALL, door, lattice};
 use anyhow::Context;
 use sbpl_replan::{
-    AdStar, Ara, Ask, FoundPath, Graph, Lattice, LatticeReplanner, NoMemory, Nobody, Outcome,
-    Replan, Write, are_on_map, place_at,
+    AdStar, Ask, FoundPath, Graph, Lattice, LatticeReplanner, NoMemory, Nobody, Outcome, Write,
+    are_on_map, place_at,
 };
 use std::alloc::Global;
 use std::io;
@@ -61,8 +61,8 @@ fn planner(
     ensures start { IfOk result (λ plans. plans.search.labels.start ≡ trip.start) }
     ensures goal { IfOk result (λ plans. plans.search.goal ≡ trip.goal) }
 {
-    let search = Ara::open(alloc, lattice.states(), trip.start, trip.goal)?;
-    LatticeReplanner::new(alloc, lattice, AdStar::from(search), trip.goal, BUDGET)
+    let search = AdStar::open(alloc, lattice.states(), trip.start, trip.goal)?;
+    LatticeReplanner::new(alloc, lattice, search, trip.goal, BUDGET)
 }
 
 /// The steps of a path: the primitive that is driven, and the cell and the heading that it leads to. That the path is free is what

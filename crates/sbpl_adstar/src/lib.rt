@@ -1,9 +1,7 @@
 //! Anytime D*: a search whose labels are repaired after changes of the graph.
 #![tactic(auto)]
 
-ghost use Rattle.std.specs.Prelude.{◌≡◌, ℕ, ◌↔◌, List};
-ghost use Rattle.sbpl_ara.specs.sbpl_graph.Network.{Network};
-ghost use Rattle.sbpl_ara.specs.sbpl_labels.Marks.{Marks};
+ghost use Rattle.sbpl_ara.specs.sbpl_search.Meaning.{MeanAlike};
 ghost use Rattle.sbpl_adstar.specs.Planner.{adstar};
 
 mod raiser;
@@ -15,16 +13,11 @@ pub use sbpl_ara::{
 };
 use sbpl_ara::{Repair, Serial};
 
-/// A search by Anytime D* (Likhachev, Ferguson, Gordon, Stentz and Thrun 2005), forwards from the start: a serial search whose
-/// labels are repaired after a change of the graph, and not made initial again. All its memory is taken when it is opened.
+/// A search by Anytime D* (Likhachev, Ferguson, Gordon, Stentz and Thrun 2005): a serial search whose labels are repaired after a
+/// change of the graph, and not made initial again. All its memory is taken when it is opened.
 pub type AdStar = Serial<Repair>;
 
 /// As a planner `AdStar` means what `adstar` says, on any graph and with any guide. This does nothing when it runs.
 pub fn means_adstar<G: Graph, H: Guide>()
-    ensures ready { (n : Network) (m : Marks) (count : ℕ)
-        → ⟦<AdStar as Search<G, H>>⟧.meaning.ready n m count ↔ adstar.ready n m count }
-    ensures most { ⟦<AdStar as Search<G, H>>⟧.meaning.most ≡ adstar.most }
-    ensures repairs { ⟦<AdStar as Search<G, H>>⟧.meaning.repairs ≡ adstar.repairs }
-    ensures begun { (n : Network) (touched : List ℕ) (old new : Marks) (raised : List ℕ)
-        → ⟦<AdStar as Search<G, H>>⟧.meaning.begun n touched old new raised ↔ adstar.begun n touched old new raised }
+    ensures means { MeanAlike ⟦<AdStar as Search<G, H>>⟧.meaning adstar }
 {}

@@ -1,9 +1,7 @@
 //! Anytime Repairing A* over any graph: serial passes with falling inflation.
 #![tactic(auto)]
 
-ghost use Rattle.std.specs.Prelude.{◌≡◌, ℕ, ◌↔◌, List};
-ghost use Rattle.sbpl_serial.specs.sbpl_graph.Network.{Network};
-ghost use Rattle.sbpl_serial.specs.sbpl_labels.Marks.{Marks};
+ghost use Rattle.sbpl_serial.specs.sbpl_search.Meaning.{MeanAlike};
 ghost use Rattle.sbpl_ara.specs.Planner.{ara};
 
 pub use sbpl_serial::{
@@ -17,10 +15,5 @@ pub type Ara = Serial<Anew>;
 
 /// As a planner `Ara` means what `ara` says, on any graph and with any guide. This does nothing when it runs.
 pub fn means_ara<G: Graph, H: Guide>()
-    ensures ready { (n : Network) (m : Marks) (count : ℕ)
-        → ⟦<Ara as Search<G, H>>⟧.meaning.ready n m count ↔ ara.ready n m count }
-    ensures most { ⟦<Ara as Search<G, H>>⟧.meaning.most ≡ ara.most }
-    ensures repairs { ⟦<Ara as Search<G, H>>⟧.meaning.repairs ≡ ara.repairs }
-    ensures begun { (n : Network) (touched : List ℕ) (old new : Marks) (raised : List ℕ)
-        → ⟦<Ara as Search<G, H>>⟧.meaning.begun n touched old new raised ↔ ara.begun n touched old new raised }
+    ensures means { MeanAlike ⟦<Ara as Search<G, H>>⟧.meaning ara }
 {}

@@ -2,3 +2,4 @@ mod Finding
 mod Turning
 mod Guiding
 mod Walking
+mod TurnedTerrain

@@ -10,7 +10,7 @@ use std::marker::Model;
 /// graph takes `FromStart`. No call takes memory.
 #[derive(Drop)]
 pub struct Back<'a> {
-    lattice: &'a Lattice,
+    pub(crate) lattice: &'a Lattice,
 }
 
 impl<'a> Model for Back<'a> {
@@ -30,7 +30,7 @@ impl<'a> Back<'a> {
     pub fn new(lattice: &'a Lattice) -> Back<'a>
         ensures lattice { result ≡ lattice.now }
     {
-        // Its tails are its arcs, each once: a call that asks for an arc as a tail need not learn it.
+        // That its tails are its arcs is in the invariant: so a call that asks for an arc as a tail need not learn it again.
         let _states = lattice.states();
         Back { lattice }
     }

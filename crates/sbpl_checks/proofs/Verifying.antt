@@ -8,24 +8,18 @@ use Rattle.sbpl_worlds.specs.sbpl_cert.declared.fault.LabelFault.TheVariants as 
 use Rattle.sbpl_worlds.specs.sbpl_cert.declared.outcome.Outcome.{Outcome}
 use Rattle.sbpl_worlds.specs.sbpl_map.MapAfter.{IsMapAfter}
 use Rattle.sbpl_worlds.specs.sbpl_terrain.Cells.{IsTerrain}
-use Rattle.sbpl_worlds.specs.sbpl_cost.Lattices.{network_of}
-use Rattle.sbpl_worlds.specs.sbpl_cost.World.{World}
 use Rattle.sbpl_worlds.specs.sbpl_promises.declared.section_stop.SectionStop.{SectionStop}
 use Rattle.sbpl_worlds.specs.sbpl_promises.declared.section_stop.SectionStop.TheVariants as section
 use Rattle.sbpl_worlds.specs.sbpl_promises.Checked.{AreChecked, Case, Ground, IsGroundAfter, IsSectionStop, IsShownHolding}
 use Rattle.sbpl_worlds.specs.sbpl_promises.Checked.{IsStoppedIn, IsTrailing, case_of, from_in, ground, to_in}
 use Rattle.sbpl_worlds.specs.sbpl_promises.Intents.{checked_status, checked_writes, last_write, stop_status, stop_writes}
 use Rattle.sbpl_worlds.specs.sbpl_report.Refusals.{label_fault_text}
-use Rattle.sbpl_worlds.specs.sbpl_back.Reversed.{reversed}
-use Rattle.sbpl_worlds.specs.sbpl_back.Starts.{StartIn, from_start}
-use Rattle.sbpl_worlds.specs.sbpl_replan.Directions.{Direction, backwards, forwards}
 use Rattle.sbpl_worlds.specs.sbpl_promises.declared.course.Course.{Course}
-use Rattle.sbpl_worlds.specs.sbpl_promises.LatticeSite.{lattice_site}
 use Rattle.sbpl_checks.specs.Checking.{EndsAtSection, EndsSections, EndsText, HoldsAndPrints, HoldsInCase}
 use Rattle.sbpl_checks.specs.Checking.{IsFaultTold, IsPlanIn, stopped, unwritten}
 use Rattle.sbpl_checks.specs.declared.label_file.LabelFile.{LabelFile}
 use Rattle.sbpl_telling.specs.declared.ending.Ending.{Ending}
-use Rattle.sbpl_worlds.specs.sbpl_promises.Sites.{Site, start_after}
+use Rattle.sbpl_worlds.specs.sbpl_promises.Sites.{Site, from_of, start_after, to_of}
 use Rattle.sbpl_worlds.specs.sbpl_report.Verdicts.{holds_text}
 use Rattle.sbpl_worlds.specs.sbpl_promises.Writing.{DeskState, EndsAs, IsOutput, WritesOnly, to_output}
 use Rattle.sbpl_telling.proofs.Writings.{ends_as_after, none_made, status_ends}
@@ -48,7 +42,7 @@ pub none_left : {left : Left} {a b : DeskState} (file : LabelFile) (e : Ending) 
     → EndsAs a b (last_write ∷ []) 0 e.status → e.why ≡ [] → EndsText left file a b e
 none_left file e none ends untold = record { end = None; is_end = none; ends = λ goals plan. ends; told = untold }
 
-module _ {W : Type 0} {on : Site W} {d : Direction W} (c : Case on d) where
+module _ {W : Type 0} {on : Site W} (c : Case on) where
   -- a section does not hold on its graph
   stopped_in : (n : Ground) (plan : ℕ) (left : Left) (s : SectionStop) → IsGroundAfter c plan n
       → IsSectionStop n (from_in c plan) (to_in c plan) plan left s → IsStoppedIn c plan left s
@@ -137,44 +131,31 @@ module _ {W : Type 0} {on : Site W} {d : Direction W} (c : Case on d) where
   }
 
   -- from and to which states a plan is searched
-  pub from_is : (k : ℕ) (w : W) (start goal : ℕ) → IsPlanIn c k w start goal → from_in c k ≡ d.from start goal
+  pub from_is : (k : ℕ) (w : W) (start goal : ℕ) → IsPlanIn c k w start goal
+      → from_in c k ≡ from_of on.wording.back start goal
   from_is k w start goal is =
       let start_is = is.start_is in
       let goal_is = is.goal_is in
-      λ i. d.from (start_is i) (goal_is i)
+      λ i. from_of on.wording.back (start_is i) (goal_is i)
 
-  pub to_is : (k : ℕ) (w : W) (start goal : ℕ) → IsPlanIn c k w start goal → to_in c k ≡ d.to start goal
+  pub to_is : (k : ℕ) (w : W) (start goal : ℕ) → IsPlanIn c k w start goal
+      → to_in c k ≡ to_of on.wording.back start goal
   to_is k w start goal is =
       let start_is = is.start_is in
       let goal_is = is.goal_is in
-      λ i. d.to (start_is i) (goal_is i)
+      λ i. to_of on.wording.back (start_is i) (goal_is i)
 
--- ---- plans in a case
-
--- the heuristic guides the checking of a plan forwards
-pub ground_forwards : {W : Type 0} {on : Site W} (says : W → ℕ → (ℕ → ℕ) → Type 0)
-    (c : Case on (forwards on.network says)) (k : ℕ) (w : W) (start goal : ℕ) (guide : ℕ → ℕ)
-    → IsPlanIn c k w start goal → says w goal guide → IsGroundAfter c k (ground (on.network w) guide)
-ground_forwards {W} {on} says c k w start goal guide is best = record {
-  map = on.cells.map w;
-  after = is.after;
-  is_world = subst on.cells.is_made is.same is.is_world;
-  network = ap on.network is.same;
-  guide = subst (λ (v : W). says v c.goal guide) is.same (subst (λ (g : ℕ). says w g guide) (sym is.goal_is) best);
-}
-
--- and the gap from the start backwards
-pub ground_backwards : (c : Case lattice_site (backwards network_of)) (k : ℕ) (w v : World) (start goal : ℕ)
-    (f : StartIn) → IsPlanIn c k w start goal → v ≡ w → f ≡ record { world = w; start = start }
-    → IsGroundAfter c k (ground (reversed (network_of v)) (from_start f))
-ground_backwards c k w v start goal f is same made = record {
-  map = w.map;
-  after = is.after;
-  is_world = subst lattice_site.cells.is_made is.same is.is_world;
-  network = ap (λ (u : World). reversed (network_of u)) (same ∙ is.same);
-  guide = λ s inside. ap (λ (x : StartIn). from_start x s) made ∙ ap (λ (v : World). (network_of v).gap start s) is.same
-      ∙ ap (λ (a : ℕ). (network_of (lattice_site.cells.over c.world w.map)).gap a s) (sym is.start_is);
-}
+  -- what guides the checking of a plan
+  pub ground_in : (k : ℕ) (w : W) (start goal : ℕ) (guide : ℕ → ℕ) → IsPlanIn c k w start goal
+      → on.says w (to_of on.wording.back start goal) guide → IsGroundAfter c k (ground (on.network w) guide)
+  ground_in k w start goal guide is says = record {
+    map = on.cells.map w;
+    after = is.after;
+    is_world = subst on.cells.is_made is.same is.is_world;
+    network = ap on.network is.same;
+    guide = subst (λ (v : W). on.says v (to_in c k) guide) is.same
+        (subst (λ (t : ℕ). on.says w t guide) (sym (to_is k w start goal is)) says);
+  }
 
 -- what holds of a value holds of it in another way
 pub ok_so : {A E : Type 0} (r : Result A E) (P Q : A → Type 0) → ((x : A) → P x → Q x) → IfOk r P → IfOk r Q
@@ -184,11 +165,11 @@ ok_so (Err e) P Q so is = tt
 -- how far the checking of a text has come, where what guides the
 -- search is made for the present world: the sections of the first k
 -- maps hold, and however it ends from there on it ends from the first section on
-pub record IsCheckedTo {W : Type 0} (on : Site W) (d : Direction W) (first now : W) (Made : Type 0) (course : Course)
+pub record IsCheckedTo {W : Type 0} (on : Site W) (first now : W) (Made : Type 0) (course : Course)
     (start here goal : ℕ) (file : LabelFile) (k at : ℕ) (s t : DeskState) : Type 0 where
   pub leads : (more : ℕ) → k + more ≡ length course.batches → (u : DeskState) (e : Ending)
-      → EndsSections (case_of on d first course start goal) k (suc more) (start_at file.text.now at) file t u e
-      → EndsSections (case_of on d first course start goal) 0 (suc (length course.batches)) (start_at file.text.now 0)
+      → EndsSections (case_of on first course start goal) k (suc more) (start_at file.text.now at) file t u e
+      → EndsSections (case_of on first course start goal) 0 (suc (length course.batches)) (start_at file.text.now 0)
       file s u e
   pub made : Made
   pub far : k ≤ length course.batches
@@ -196,15 +177,15 @@ pub record IsCheckedTo {W : Type 0} (on : Site W) (d : Direction W) (first now :
   pub other_parts : now ≡ on.cells.over first (on.cells.map now)
   pub kept : on.cells.is_made now
   pub start_is : start_after on.wording first start course.moves k ≡ here
-  pub state : here < (on.network now).states
+  pub state : here < (on.wording.told now).states
   pub inside : at ≤ length file.text.now
   pub frame : WritesOnly IsOutput s t
 
 -- plan k of the text is planned in the present world
-pub plan_in : {W : Type 0} {on : Site W} {d : Direction W} {first now : W} {Made : Type 0} {course : Course}
+pub plan_in : {W : Type 0} {on : Site W} {first now : W} {Made : Type 0} {course : Course}
     {start here goal : ℕ} {file : LabelFile} {k at : ℕ} {s t : DeskState}
-    → IsCheckedTo on d first now Made course start here goal file k at s t
-    → IsPlanIn (case_of on d first course start goal) k now here goal
+    → IsCheckedTo on first now Made course start here goal file k at s t
+    → IsPlanIn (case_of on first course start goal) k now here goal
 plan_in so = record {
   after = so.map_after;
   same = so.other_parts;
@@ -215,14 +196,14 @@ plan_in so = record {
 
 -- at the first section
 pub none_checked : {W : Type 0} {w : W} {Made : Type 0} {course : Course} {start goal : ℕ} {file : LabelFile}
-    {s : DeskState} (on : Site W) (d : Direction W) → IsTerrain on.network on.cells → Made
-    → IsMapAfter (on.cells.map w) course.batches 0 (on.cells.map w) → on.cells.is_made w → start < (on.network w).states
-    → IsCheckedTo on d w w Made course start start goal file 0 0 s s
-none_checked {w} {course} {start} {goal} {file} {s} on d law made after kept state = record {
+    {s : DeskState} (on : Site W) → IsTerrain on.network on.cells → Made
+    → IsMapAfter (on.cells.map w) course.batches 0 (on.cells.map w) → on.cells.is_made w → start < (on.wording.told w).states
+    → IsCheckedTo on w w Made course start start goal file 0 0 s s
+none_checked {w} {course} {start} {goal} {file} {s} on law made after kept state = record {
   made = made;
   state = state;
   leads = λ more is u e ends.
-      subst (λ (m : ℕ). EndsSections (case_of on d w course start goal) 0 (suc m) (start_at file.text.now 0) file s u e)
+      subst (λ (m : ℕ). EndsSections (case_of on w course start goal) 0 (suc m) (start_at file.text.now 0) file s u e)
       (let same : more ≡ length course.batches = omega arith in same) ends;
   far = omega arith;
   map_after = after;

@@ -2,7 +2,6 @@
 use Rattle.std.specs.Prelude.{◌≡◌, ◌≢◌, ℕ, List, [], ◌∷◌, Option, Some, Err}
 use Rattle.sbpl_worlds.specs.sbpl_desk.declared.desk.WriteStop.{WriteStop}
 use Rattle.sbpl_worlds.specs.sbpl_map.MapAfter.{IsMapAfter}
-use Rattle.sbpl_worlds.specs.sbpl_replan.Directions.{Direction}
 use Rattle.sbpl_worlds.specs.sbpl_promises.Sites.{Site}
 use Rattle.sbpl_worlds.specs.sbpl_fixed.Formats.{Left}
 use Rattle.sbpl_checks.specs.declared.label_file.LabelFile.{LabelFile}
@@ -51,7 +50,7 @@ pub record EndsText (left : Left) (file : LabelFile) (before after : DeskState) 
   pub told : IsStopTold file end e
 
 -- how the checking of this number of sections more of a file of labels, the first that of a plan, ends
-pub record EndsSections {W : Type 0} {on : Site W} {d : Direction W} (c : Case on d) (plan more : ℕ) (left : Left) (file : LabelFile) (before after : DeskState) (e : Ending) : Type 0 where
+pub record EndsSections {W : Type 0} {on : Site W} (c : Case on) (plan more : ℕ) (left : Left) (file : LabelFile) (before after : DeskState) (e : Ending) : Type 0 where
   pub outcomes : List Outcome
   pub end : Option SectionStop
   pub checked : AreChecked IsShownHolding c plan more left outcomes end
@@ -59,7 +58,7 @@ pub record EndsSections {W : Type 0} {on : Site W} {d : Direction W} (c : Case o
   pub told : IsStopTold file end e
 
 -- plan k of a case is planned in this world, between these states
-pub record IsPlanIn {W : Type 0} {on : Site W} {d : Direction W} (c : Case on d) (k : ℕ) (w : W) (start goal : ℕ) : Type 0 where
+pub record IsPlanIn {W : Type 0} {on : Site W} (c : Case on) (k : ℕ) (w : W) (start goal : ℕ) : Type 0 where
   pub after : IsMapAfter (on.cells.map c.world) c.batches k (on.cells.map w)
   pub same : w ≡ on.cells.over c.world (on.cells.map w)
   pub is_world : on.cells.is_made w
@@ -67,7 +66,7 @@ pub record IsPlanIn {W : Type 0} {on : Site W} {d : Direction W} (c : Case on d)
   pub goal_is : c.goal ≡ goal
 
 -- the section of plan k of a case holds, and a line says so
-pub record HoldsInCase {W : Type 0} {on : Site W} {d : Direction W} (c : Case on d) (k : ℕ) (left rest : Left) (before after : DeskState) : Type 0 where
+pub record HoldsInCase {W : Type 0} {on : Site W} (c : Case on) (k : ℕ) (left rest : Left) (before after : DeskState) : Type 0 where
   pub ground : Ground
   pub is_ground : IsGroundAfter c k ground
   pub prints : HoldsAndPrints ground (from_in c k) (to_in c k) k left rest before after

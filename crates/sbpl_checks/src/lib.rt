@@ -3,7 +3,6 @@
 
 mod check_next;
 mod label_file;
-mod searched;
 mod section_check;
 mod text_check;
 
@@ -12,10 +11,9 @@ pub use sbpl_telling::{Ending, Lines, OUTPUT, end_with, status_after, write_last
 pub use sbpl_worlds::{
     Asked, Board, Changes, CheckJob, Command, Course, DemoJob, Desk, Entry, Gate, Graph, Input,
     Job, JobFault, LabelForm, Lattice, ListOf, MemoryDesk, Message, Name, Nav, NavCheckJob, NavJob,
-    NoGate, NoMemory, Octile, Outputs, PlanJob, Planner, Publisher, ReadStop, Reader, RealDesk,
-    Refusal, SearchJob, Setting, Sources, Stop, Workspace, WriteStop, causes_stand, cell_at,
+    NoGate, NoMemory, Outputs, PlanJob, Planner, Publisher, ReadStop, Reader, RealDesk, Refusal,
+    Reversed, SearchJob, Setting, Sources, Stop, Workspace, WriteStop, causes_stand, cell_at,
     demo_line, draw, heading_at, listing_at, print_env, print_prims, read_asked, read_course,
     read_env, read_file, read_grid_course, read_job, read_lattice, read_prims, refusal_line,
 };
-pub use searched::{Forwards, Searched};
-pub use text_check::{check_either_way, check_text};
+pub use text_check::check_text;

@@ -9,10 +9,9 @@ use Rattle.sbpl_sweep.specs.sbpl_mprim.Primitives.{Primitives, IsPrimitive, AreP
 use Rattle.sbpl_cost.specs.declared.gaps.Gaps.{Gaps}
 use Rattle.sbpl_cost.specs.declared.rate.Rate.{Rate}
 use Rattle.sbpl_cost.specs.declared.way.Way.{Way}
-use Rattle.sbpl_cost.specs.declared.way.Way.TheVariants.{Right, Left, Up, Down, Round}
 use Rattle.sbpl_cost.specs.PrimitiveCost.{heading_gap}
 use Rattle.sbpl_cost.specs.Gaps.{lesser, floor_by, least_floor, way_bound, gap_of}
-use Rattle.sbpl_cost.specs.Rates.{floor_at, IsRate, AreGaps}
+use Rattle.sbpl_cost.specs.Rates.{floor_at, gap_by, table_of, IsRate, AreGaps}
 use Rattle.sbpl_cost.proofs.Floors.{floor_le, least_floor_push, nothing}
 use Rattle.sbpl_cost.proofs.Filling.{take_next}
 
@@ -69,28 +68,9 @@ all_good prims cell headings items same_cell same_headings good same i p at =
     (subst (λ z. IsPrimitive z prims.headings p) same_cell (good.each i p (ap (λ l. slice_get l i) (sym same) ∙ at)))
 
 -- the gap of two places by the rates
-pub gap_by_rates : (e : Environment) (prims : List Primitive) (gaps : Gaps) (headings : ℕ) (a b : Place)
-    (x y t low gap : ℕ) → AreGaps e prims gaps → e.headings ≡ headings
-    → x ≡ max ((b.x - a.x) * gaps.right.cost / gaps.right.cells) ((a.x - b.x) * gaps.left.cost / gaps.left.cells)
-    → y ≡ max ((b.y - a.y) * gaps.up.cost / gaps.up.cells) ((a.y - b.y) * gaps.down.cost / gaps.down.cells)
-    → t ≡ heading_gap headings a.t b.t * gaps.round.cost / gaps.round.cells → low ≡ max y t → gap ≡ max x low
-    → gap ≡ gap_of e prims a b
+pub gap_by_is : (e : Environment) (prims : List Primitive) (gaps : Gaps) → AreGaps e prims gaps → (a b : Place)
+    → gap_by (table_of e gaps) a b ≡ gap_of e prims a b
 unfolding gap_of
-gap_by_rates e prims gaps headings a b x y t low gap are same x_is y_is t_is low_is gap_is =
-    let right = are.right (b.x - a.x) in
-    let left = are.left (a.x - b.x) in
-    let up = are.up (b.y - a.y) in
-    let down = are.down (a.y - b.y) in
-    let round : t ≡ way_bound e prims Round (heading_gap e.headings a.t b.t) =
-    t_is ∙ are.round (heading_gap headings a.t b.t)
-    ∙ ap (λ n. way_bound e prims Round (heading_gap n a.t b.t)) (sym same) in
-    let column : x ≡ max (way_bound e prims Right (b.x - a.x)) (way_bound e prims Left (a.x - b.x)) =
-    x_is ∙ ap (λ n. max n ((a.x - b.x) * gaps.left.cost / gaps.left.cells)) right
-    ∙ ap (max (way_bound e prims Right (b.x - a.x))) left in
-    let row : y ≡ max (way_bound e prims Up (b.y - a.y)) (way_bound e prims Down (a.y - b.y)) =
-    y_is ∙ ap (λ n. max n ((a.y - b.y) * gaps.down.cost / gaps.down.cells)) up
-    ∙ ap (max (way_bound e prims Up (b.y - a.y))) down in
-    gap_is ∙ ap (λ n. max n low) column
-    ∙ ap (max (max (way_bound e prims Right (b.x - a.x)) (way_bound e prims Left (a.x - b.x))))
-    (low_is ∙ ap (λ n. max n t) row
-    ∙ ap (max (max (way_bound e prims Up (b.y - a.y)) (way_bound e prims Down (a.y - b.y)))) round)
+gap_by_is e prims gaps are a b = λ i.
+    max (max (are.right (b.x - a.x) i) (are.left (a.x - b.x) i))
+    (max (max (are.up (b.y - a.y) i) (are.down (a.y - b.y) i)) (are.round (heading_gap e.headings a.t b.t) i))

@@ -5,8 +5,8 @@ ghost use Rattle.sbpl_sweep.specs.sbpl_cfg.Environment.{IsWithin};
 ghost use Rattle.sbpl_sweep.specs.sbpl_mprim.declared.prim.Primitive.{Primitive};
 ghost use Rattle.sbpl_sweep.specs.sbpl_mprim.Primitives.{IsPrimitive};
 ghost use Rattle.sbpl_cost.specs.PrimitiveCost.{primitive_cost, most_cost};
-ghost use Rattle.sbpl_cost.specs.Gaps.{positive_part, negative_part, advance, lesser, floor_for, floor_by, gap_of};
-ghost use Rattle.sbpl_cost.specs.Rates.{floor_at, IsRate, AreGaps};
+ghost use Rattle.sbpl_cost.specs.Gaps.{positive_part, negative_part, advance, lesser, floor_for, floor_by};
+ghost use Rattle.sbpl_cost.specs.Rates.{floor_at, gap_by, table_of, IsRate, AreGaps};
 ghost use Rattle.sbpl_cost.specs.Tables.{AreCheap};
 
 use crate::primitive_cost::bins_turned;
@@ -143,7 +143,7 @@ impl Gaps {
     pub(crate) fn between(&self, env: &Env, a: &Place, b: &Place) -> u64
         requires a { a.now.t < env.now.headings }
         requires b { b.now.t < env.now.headings }
-        ensures value { (prims : List Primitive) → AreGaps env.now prims self.now → result ≡ gap_of env.now prims a.now b.now }
+        ensures value { result ≡ gap_by (table_of env.now self.now) a.now b.now }
     {
         let x = along(a.x, b.x, &self.right, &self.left);
         let y = along(a.y, b.y, &self.up, &self.down);

@@ -8,7 +8,8 @@ ghost use Rattle.sbpl_sweep.specs.sbpl_mprim.declared.prim.Primitive.{Primitive}
 ghost use Rattle.sbpl_sweep.specs.Swept.{AreSweepsOf};
 ghost use Rattle.sbpl_terrain.specs.sbpl_map.CellMap.{cost_at, IsOnMap, ChangesCell};
 ghost use Rattle.sbpl_cost.specs.PrimitiveCost.{primitive_cost, most_cost};
-ghost use Rattle.sbpl_cost.specs.States.{IsPlace, place_of, state_number};
+ghost use Rattle.sbpl_cost.specs.Rates.{state_gap};
+ghost use Rattle.sbpl_cost.specs.States.{IsPlace, place_of, state_count, state_number};
 ghost use Rattle.sbpl_cost.specs.World.{World, IsWorld};
 ghost use Rattle.sbpl_cost.specs.Arc.{IsArcBy};
 ghost use Rattle.sbpl_cost.specs.Lattices.{network_of, arc_index, leaving, entering};
@@ -23,6 +24,7 @@ use crate::judging::greatest_paid;
 use crate::places::{end_state, heading_of, place_at, start_state, state_at, state_count};
 use crate::reach::Reach;
 use crate::reading::add_ends;
+use crate::state_gaps::StateGaps;
 use crate::strip::Strip;
 use crate::tables::{Tables, tables_of};
 use crate::walls::note_wall;
@@ -150,6 +152,17 @@ impl Lattice {
         ensures kept { IsWorld self.now }
     {
         &self.map
+    }
+
+    /// What going from one state to another costs at least, on each map of the lattice.
+    pub fn gaps(&self) -> StateGaps
+        ensures states { state_count result.env ≡ (network_of self.now).states }
+        ensures gap { state_gap result ≡ (network_of self.now).gap }
+    {
+        StateGaps {
+            env: copy_of(&self.env),
+            rates: self.gaps,
+        }
     }
 
     /// The state at a place, or `None` exactly where its cell is off the map or its heading is not one of the

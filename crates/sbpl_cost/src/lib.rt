@@ -13,6 +13,7 @@ mod primitive_cost;
 mod rate;
 mod reach;
 mod reading;
+mod state_gaps;
 mod strip;
 mod strips;
 mod tables;
@@ -38,3 +39,4 @@ pub use sbpl_terrain::{
     apply, are_on_map, changes_message, read_changes, read_moves, texts_are_changes_or_faulty,
     texts_are_moves_or_faulty, write_batch, writes_lead_to_the_next_map,
 };
+pub use state_gaps::StateGaps;

@@ -3,6 +3,7 @@ use Rattle.std.proofs.Common.{◌≡◌, ◌↔◌, ℕ, ℤ, List, [], length, 
 use Rattle.std.proofs.Common.{refl, sym, ap, subst, ◌∙◌}
 use Rattle.sbpl_promises.specs.sbpl_desk.Desk.{DeskState}
 use Rattle.sbpl_promises.specs.sbpl_job.declared.job.Outputs.{Outputs}
+use Rattle.sbpl_promises.specs.sbpl_job.Jobs.{may_move}
 use Rattle.sbpl_promises.specs.sbpl_job.declared.job.SearchJob.{SearchJob}
 use Rattle.sbpl_promises.specs.sbpl_map.CellMap.{CellMap, cost_at}
 use Rattle.sbpl_promises.specs.sbpl_map.ChangeText.{Given}
@@ -70,8 +71,8 @@ module _ (w : GridWorld) (width : w.map.width ≡ w.env.width) (height : w.map.h
       let end : Square = square_of w.env.width w.env.end in
       let made : Plan Square = told_plan square_at (places k) is.made in
       let kept : Kept k (places k) (square_of w.env.width plans.goal) how.bound made =
-      keeps_on_grid v v_is is.plan.arcs (map_with w.map told k) right high (costs k is.carried.map is.map_is) from
-      plans.goal how.bound is.made is.plan.promises in
+      keeps_on_grid v v_is is.plan.arcs (map_with w.map told k) right high (costs k is.carried.map is.map_is)
+      (may_move how.planner) from plans.goal how.bound is.made is.plan.promises in
       let there : Kept k (places k) end how.bound made =
       subst (λ (t : ℕ). Kept k (places k) (square_of w.env.width t) how.bound made) plans.goal_is kept in
       let within : Kept k (places k) end asked.bound made =

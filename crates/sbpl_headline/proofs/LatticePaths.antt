@@ -1,5 +1,5 @@
 -- The free paths of a lattice, and the promises of its plans, in the headline's words.
-use Rattle.std.proofs.Common.{◌≡◌, ◌↔◌, ℕ, ℤ, List, [], ◌∷◌, Option, Some, None, sym, ap, subst, ◌∙◌}
+use Rattle.std.proofs.Common.{◌≡◌, ◌↔◌, ℕ, ℤ, Bool, List, [], ◌∷◌, Option, Some, None, sym, ap, subst, ◌∙◌}
 use Rattle.std.proofs.lemmas.Option.{same_Some}
 use Rattle.sbpl_promises.specs.sbpl_graph.Network.{Network}
 use Rattle.sbpl_promises.specs.sbpl_graph.Path.{IsFreePath}
@@ -17,6 +17,7 @@ use Rattle.sbpl_promises.specs.sbpl_report.declared.record.PlanRecord.{PlanRecor
 use Rattle.sbpl_promises.specs.sbpl_report.declared.record.Spot.{Spot}
 use Rattle.sbpl_promises.specs.sbpl_report.declared.record.Spot.TheVariants as spot
 use Rattle.sbpl_promises.specs.Headline.{AreSteps, IsKnownWithin, IsNoneThere, IsWithinBound, Joins, KeepsPromises}
+use Rattle.sbpl_promises.specs.Sites.{searched_on}
 use Rattle.sbpl_promises.specs.LatticeSite.{IsPathStep, lattice_site}
 use Rattle.sbpl_headline.specs.Map.{Costs, Map}
 use Rattle.sbpl_headline.specs.Path.{IsPath, Keeps, Step}
@@ -80,23 +81,25 @@ module _ (w : World) (is_world : IsWorld w) (m : Map)
         )
 
     -- what is promised of a result, in the headline's words
-    keeps_result : (s goal asked : ℕ) (spent : Option ℕ) (o : Outcome PathRecord) → Joins lattice_site w s goal o
+    keeps_result : (back : Bool) (s goal asked : ℕ) (spent : Option ℕ) (o : Outcome PathRecord)
+        → Joins (searched_on lattice_site back) w s goal o
         → IsWithinBound (network_of w) s goal o → IsNoneThere (network_of w) s goal o
         → (spent ≡ None → IsKnownWithin asked o)
         → Keeps (moves_of w m) (place_of w.env s) (place_of w.env goal) asked spent (told_result spot_place o)
-    keeps_result s goal asked spent (outcome.Path path) joins within none known = (
+    keeps_result back s goal asked spent (outcome.Path path) joins within none known = (
       path_by_arcs s path.arcs goal path.cost path.steps joins.free joins.steps,
       λ unspent. (known unspent).1,
       λ others c path_is. let other = path_between s goal others c path_is in within other.0 c other.1,
     )
-    keeps_result s goal asked spent outcome.NoPath joins within none known =
+    keeps_result back s goal asked spent outcome.NoPath joins within none known =
         λ others c path_is. let other = path_between s goal others c path_is in none other.0 c other.1
-    keeps_result s goal asked spent outcome.Unknown joins within none known = known
+    keeps_result back s goal asked spent outcome.Unknown joins within none known = known
 
     -- what is promised of a plan, in the headline's words
-    pub keeps : (start goal asked : ℕ) (r : PlanRecord) → KeepsPromises lattice_site w start goal asked r
+    pub keeps : (back : Bool) (start goal asked : ℕ) (r : PlanRecord)
+        → KeepsPromises (searched_on lattice_site back) w start goal asked r
         → Keeps (moves_of w m) (place_of w.env start) (place_of w.env goal) asked r.spent
         (told_result spot_place r.outcome)
-    keeps start goal asked r promises =
-        keeps_result start goal asked r.spent r.outcome promises.joins promises.within_the_bound promises.none
+    keeps back start goal asked r promises =
+        keeps_result back start goal asked r.spent r.outcome promises.joins promises.within_the_bound promises.none
         promises.unless_spent

@@ -1,5 +1,5 @@
 -- The plans that were made on a lattice, and whose report was written, are told as the headline says.
-use Rattle.std.proofs.Common.{◌≡◌, ◌↔◌, ℕ, ℤ, List, [], length, true, Some, MatchOption, sym, ap, subst, ◌∙◌}
+use Rattle.std.proofs.Common.{◌≡◌, ◌↔◌, ℕ, ℤ, Bool, List, [], length, true, Some, MatchOption, sym, ap, subst, ◌∙◌}
 use Rattle.sbpl_promises.specs.sbpl_cfg.declared.pose.Place.{Place}
 use Rattle.sbpl_promises.specs.sbpl_cost.Arc.{HasLatticeArcs}
 use Rattle.sbpl_promises.specs.sbpl_cost.Lattices.{network_of}
@@ -7,6 +7,7 @@ use Rattle.sbpl_promises.specs.sbpl_cost.States.{place_of}
 use Rattle.sbpl_promises.specs.sbpl_cost.World.{IsWorld, World, over_map}
 use Rattle.sbpl_promises.specs.sbpl_desk.Desk.{DeskState}
 use Rattle.sbpl_promises.specs.sbpl_job.declared.job.Outputs.{Outputs}
+use Rattle.sbpl_promises.specs.sbpl_job.Jobs.{may_move}
 use Rattle.sbpl_promises.specs.sbpl_job.declared.job.SearchJob.{SearchJob}
 use Rattle.sbpl_promises.specs.sbpl_map.CellMap.{CellMap, cost_at}
 use Rattle.sbpl_promises.specs.sbpl_map.ChangeText.{Given}
@@ -20,7 +21,7 @@ use Rattle.sbpl_promises.specs.Headline.{ArePlans, KeepsPromises}
 use Rattle.sbpl_promises.specs.Intents.{plans_writes}
 use Rattle.sbpl_promises.specs.LatticeSite.{lattice_site, lattice_wording}
 use Rattle.sbpl_promises.specs.Published.{Entry}
-use Rattle.sbpl_promises.specs.Sites.{start_after}
+use Rattle.sbpl_promises.specs.Sites.{searched_on, start_after}
 use Rattle.sbpl_promises.specs.Writing.{AreAppended}
 use Rattle.sbpl_promises.specs.declared.course.Course.{Course}
 use Rattle.sbpl_headline.specs.Files.{IsChangeText}
@@ -44,7 +45,8 @@ abbrev pub PromisesAreKept : (Spot → Place) → World → Type 0
 PromisesAreKept at w =
     (now : CellMap) (m : Map) → IsWorld (over_map w now) → HasLatticeArcs (network_of (over_map w now)) (over_map w now)
     → ((x y : ℤ) (c : ℕ) → (cost_at now x y ≡ Some c) ↔ Costs m x y c)
-    → (start goal asked : ℕ) (r : PlanRecord) → KeepsPromises lattice_site (over_map w now) start goal asked r
+    → (back : Bool) (start goal asked : ℕ) (r : PlanRecord)
+    → KeepsPromises (searched_on lattice_site back) (over_map w now) start goal asked r
     → Keeps (moves_of w m) (place_of w.env start) (place_of w.env goal) asked r.spent (told_result at r.outcome)
 
 module _ (at : Spot → Place) (poses : (q : Place) → at (spot.Pose q) ≡ q) (w : World) (course : Course)
@@ -79,7 +81,7 @@ module _ (at : Spot → Place) (poses : (q : Place) → at (spot.Pose q) ≡ q) 
       let starts_at : from k ≡ p.start = sym (poses (from k)) ∙ ap (λ (q : Plan Place). q.start) is.told in
       let kept : Kept k (from k) (place_of w.env plans.goal) how.bound made =
       promises is.carried.map (map_with w.map told k) is.plan.is_world is.plan.arcs.arcs
-      (costs k is.carried.map is.map_is) (start_after lattice_wording w plans.start course.moves k) plans.goal how.bound
+      (costs k is.carried.map is.map_is) (may_move how.planner) (start_after lattice_wording w plans.start course.moves k) plans.goal how.bound
       is.made is.plan.promises in
       let there : Kept k (from k) goal how.bound made =
       subst (λ (q : Place). Kept k (from k) q how.bound made) goal_is kept in

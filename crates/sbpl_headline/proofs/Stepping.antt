@@ -1,6 +1,6 @@
 -- The steps and paths of a grid are those of its graph.
 use Rattle.std.proofs.Common.{◌≡◌, ◌↔◌, ℕ, ℤ, pos, ◌+◌, ◌*◌, ◌<◌, ◌≤◌, List, [], ◌∷◌}
-use Rattle.std.proofs.Common.{Option, Some, None, IsSomeAnd, refl, sym, ap, subst, ◌∙◌, arith}
+use Rattle.std.proofs.Common.{Bool, Option, Some, None, IsSomeAnd, refl, sym, ap, subst, ◌∙◌, arith}
 use Rattle.std.proofs.Math.Nat.{div-lt_iff_lt-mul, mul_comm}
 use Rattle.std.proofs.lemmas.Int.{ints}
 use Rattle.std.proofs.lemmas.Nat.{div-mul-add, div-add-mod', mod-mul-add}
@@ -18,6 +18,7 @@ use Rattle.sbpl_promises.specs.sbpl_plan.declared.result.Outcome.TheVariants as 
 use Rattle.sbpl_promises.specs.sbpl_report.declared.record.PathRecord.{PathRecord}
 use Rattle.sbpl_promises.specs.sbpl_report.declared.record.PathStep.{PathStep}
 use Rattle.sbpl_promises.specs.sbpl_report.declared.record.PlanRecord.{PlanRecord}
+use Rattle.sbpl_promises.specs.Sites.{searched_on}
 use Rattle.sbpl_promises.specs.GridSite.{grid_site}
 use Rattle.sbpl_promises.specs.Headline.{AreSteps, IsKnownWithin, IsNoneThere, IsWithinBound, Joins}
 use Rattle.sbpl_promises.specs.Headline.{KeepsPromises}
@@ -216,27 +217,29 @@ module _ (w : GridWorld) (is_world : IsGridWorld w) (is : IsGridNetwork (grid_si
   path_of = arcs_by_path w is_world (grid_site.network w) is m width height costs
 
   -- the promises of a plan's result, where it was spent or not
-  keeps_result : (start goal asked : ℕ) (spent : Option ℕ) (o : Outcome PathRecord) → Joins grid_site w start goal o
+  keeps_result : (back : Bool) (start goal asked : ℕ) (spent : Option ℕ) (o : Outcome PathRecord)
+      → Joins (searched_on grid_site back) w start goal o
       → IsWithinBound (grid_site.network w) start goal o → IsNoneThere (grid_site.network w) start goal o
       → (spent ≡ None → IsKnownWithin asked o)
       → Keeps (Moves w.env.obsthresh m) (square_of w.env.width start) (square_of w.env.width goal) asked spent
       (told_result square_at o)
-  keeps_result start goal asked spent (outcome.Path path) joins within none known = (
+  keeps_result back start goal asked spent (outcome.Path path) joins within none known = (
     path_by_arcs start path.arcs path.steps goal path.cost joins.free joins.steps,
     λ rests. (known rests).1,
     λ others c path_is.
         let other = path_of start others goal c path_is in
         within other.0 c other.1,
   )
-  keeps_result start goal asked spent outcome.NoPath joins within none known =
+  keeps_result back start goal asked spent outcome.NoPath joins within none known =
       λ others c path_is.
       let other = path_of start others goal c path_is in
       none other.0 c other.1
-  keeps_result start goal asked spent outcome.Unknown joins within none known = known
+  keeps_result back start goal asked spent outcome.Unknown joins within none known = known
 
   -- the promises of a plan
-  pub keeps_on_grid : (start goal asked : ℕ) (r : PlanRecord) → KeepsPromises grid_site w start goal asked r
+  pub keeps_on_grid : (back : Bool) (start goal asked : ℕ) (r : PlanRecord)
+      → KeepsPromises (searched_on grid_site back) w start goal asked r
       → Keeps (Moves w.env.obsthresh m) (square_of w.env.width start) (square_of w.env.width goal) asked r.spent
       (told_result square_at r.outcome)
-  keeps_on_grid start goal asked r keeps =
-      keeps_result start goal asked r.spent r.outcome keeps.joins keeps.within_the_bound keeps.none keeps.unless_spent
+  keeps_on_grid back start goal asked r keeps =
+      keeps_result back start goal asked r.spent r.outcome keeps.joins keeps.within_the_bound keeps.none keeps.unless_spent

@@ -124,11 +124,14 @@ impl Best {
 }
 
 impl Heuristic<Lattice> for Best {
+    ghost use Rattle.std.specs.Prelude.{true};
     ghost use Rattle.sbpl_heur.specs.Bests.{IsBest, IsBestGuide};
 
     ghost says = { IsBest };
 
     ghost is_made_for = { λ b w goal. IsBestGuide w goal b };
+
+    ghost takes_memory = { true };
 
     fn build(alloc: Global, lattice: &Lattice, goal: u32) -> Result<Best, NoMemory> {
         Best::build(alloc, lattice, goal)

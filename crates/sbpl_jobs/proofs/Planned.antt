@@ -1,18 +1,31 @@
 -- The plans of a job, from how its planning ends.
-use Rattle.std.proofs.Common.{◌≡◌, ℕ, ◌+◌, ◌∙◌, List, None, length, ap, subst, arith}
+use Rattle.std.proofs.Common.{◌≡◌, ℕ, ◌+◌, ◌∙◌, Bool, List, Option, None, Some, IfSome, length, ap, subst, sym, arith}
 use Rattle.sbpl_checks.specs.sbpl_job.declared.job.Outputs.{Outputs}
 use Rattle.sbpl_checks.specs.sbpl_job.declared.job.SearchJob.{SearchJob}
-use Rattle.sbpl_checks.specs.sbpl_promises.Asked.{known}
+use Rattle.sbpl_checks.specs.sbpl_job.Jobs.{may_move}
+use Rattle.sbpl_checks.specs.sbpl_promises.Asked.{known, known_as}
+use Rattle.sbpl_checks.specs.sbpl_promises.Causes.{AreMovesIn, IsCourseIn}
 use Rattle.sbpl_checks.specs.sbpl_promises.Headline.{ArePlans, IsBrokenIn}
 use Rattle.sbpl_checks.specs.sbpl_promises.Promises.{EndsPlans}
 use Rattle.sbpl_checks.specs.sbpl_promises.Published.{Entry, with_paths, with_plans}
-use Rattle.sbpl_checks.specs.sbpl_promises.Sites.{Site, start_after}
+use Rattle.sbpl_checks.specs.sbpl_promises.Sites.{Site, searched_on, start_after}
 use Rattle.sbpl_checks.specs.sbpl_promises.Writing.{DeskState, Write}
 use Rattle.sbpl_checks.specs.sbpl_promises.declared.course.Course.{Course}
 use Rattle.sbpl_checks.specs.sbpl_report.declared.record.PlanRecord.{PlanRecord}
 
+-- where the planner searches a site this way, its plans there are plans on the site
+pub as_told : {W : Type 0} (on : Site W) {written_of : PlanRecord → List Write} {w : W}
+    {batches : _} {how : SearchJob} {outputs : Outputs} {starts : ℕ → ℕ} {goal : ℕ}
+    {log shown : List Entry} {a b : DeskState} {status : ℕ}
+    (back : Bool) → may_move how.planner ≡ back
+    → EndsPlans (known_as (searched_on on back) how.planner) written_of w batches how outputs starts goal 0 log shown None a b status
+    → EndsPlans (known on how.planner) written_of w batches how outputs starts goal 0 log shown None a b status
+as_told {W} on {written_of} {w} {batches} {how} {outputs} {starts} {goal} {log} {shown} {a} {b} {status} back is ends =
+    subst (λ (x : Bool). EndsPlans (known_as (searched_on on x) how.planner) written_of w batches how outputs starts goal 0
+    log shown None a b status) (sym is) ends
+
 -- plans that begin on the map as it is, with nothing planned before
-module _ {W : Type 0} {on : Site W} {written_of : PlanRecord → List Write} {w : W} {how : SearchJob} {outputs : Outputs}
+module _ {W : Type 0} (on : Site W) {written_of : PlanRecord → List Write} {w : W} {how : SearchJob} {outputs : Outputs}
     {goal : ℕ} {log shown : List Entry} {a b : DeskState} {status : ℕ} (course : Course) (start : ℕ)
     (e : EndsPlans (known on how.planner) written_of w course.batches how outputs
     (start_after on.wording w start course.moves) goal 0 log shown None a b status) where
@@ -37,3 +50,19 @@ module _ {W : Type 0} {on : Site W} {written_of : PlanRecord → List Write} {w 
     few = let made = e.few in omega arith;
     all_made = λ is. let made = e.all_made is in omega arith;
   }
+
+-- ---- a course on a site that is searched the other way round
+
+moves_on : {W : Type 0} (on : Site W) (back : Bool) (w : W) (batches : _) (moves : Option _)
+    → IfSome moves (AreMovesIn on w batches) → IfSome moves (AreMovesIn (searched_on on back) w batches)
+moves_on on back w batches None are = tt
+moves_on on back w batches (Some l) are = record { places = are.places; each = are.each }
+
+-- is a course on the site
+pub course_on : {W : Type 0} (on : Site W) (back moving wanted : Bool) (w : W) (course : Course) → moving ≡ wanted
+    → IsCourseIn on moving w course → IsCourseIn (searched_on on back) wanted w course
+course_on on back moving wanted w course same is = record {
+  on_map = is.on_map;
+  moves = moves_on on back w course.batches course.moves is.moves;
+  stays = λ still. is.stays (same ∙ still);
+}

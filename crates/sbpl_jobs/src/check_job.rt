@@ -1,15 +1,22 @@
 //! The job `check`.
 
-ghost use Rattle.std.specs.Prelude.{◌≤◌, ◌^◌, List, IfErr, IfOk, OnErr};
+ghost use Rattle.std.specs.Prelude.{◌<◌, ◌≤◌, ◌^◌, Bool, List, suc, length, IfErr, IfOk, OnErr};
 ghost use Rattle.sbpl_checks.specs.sbpl_job.declared.job.Job.TheVariants as Jobs;
-ghost use Rattle.sbpl_checks.specs.sbpl_promises.Causes.{AreRead, IsReadText, check_files};
+ghost use Rattle.sbpl_checks.specs.Checking.{EndsSections};
+ghost use Rattle.sbpl_checks.specs.sbpl_cost.Lattices.{network_of};
+ghost use Rattle.sbpl_checks.specs.sbpl_cost.World.{IsWorld};
+ghost use Rattle.sbpl_checks.specs.sbpl_fixed.Formats.{start_at};
+ghost use Rattle.sbpl_checks.specs.sbpl_promises.Causes.{AreRead, IsCourseIn, IsReadText, check_files};
+ghost use Rattle.sbpl_checks.specs.sbpl_promises.Checked.{case_of};
+ghost use Rattle.sbpl_checks.specs.sbpl_promises.LatticeSite.{lattice_site};
+ghost use Rattle.sbpl_checks.specs.sbpl_promises.Sites.{searched_on};
 ghost use Rattle.sbpl_checks.specs.sbpl_promises.Published.{Entry};
 ghost use Rattle.sbpl_checks.specs.sbpl_promises.Writing.{IsOutput, ReadsOnly, WritesOnly};
 ghost use Rattle.sbpl_jobs.specs.Endings.{IsJobEnding, IsJobStop};
 
 use sbpl_checks::{
-    CheckJob, Course, Desk, Ending, Input, LabelFile, Lattice, Stop, Workspace, check_either_way,
-    read_course, read_file,
+    CheckJob, Course, Desk, Ending, Input, LabelFile, Lattice, Reversed, Stop, Workspace,
+    check_text, read_course, read_file,
 };
 use std::alloc::Global;
 
@@ -40,6 +47,39 @@ fn read_check<D: Desk>(
     }
 }
 
+/// Checks the sections of a file of labels on a lattice, as `check_text` does: those of the planner `back` on the lattice the other way
+/// round.
+fn check_on_lattice<D: Desk>(
+    alloc: Global,
+    lattice: Lattice,
+    course: &Course,
+    start: u32,
+    goal: u32,
+    back: bool,
+    labels: &LabelFile,
+    desk: &mut D,
+) -> Ending
+    requires start { start < (network_of lattice).states }
+    requires goal { goal < (network_of lattice).states }
+    requires kept { IsWorld lattice }
+    requires course { (moving : Bool) × IsCourseIn lattice_site moving lattice course.now }
+    ensures ends { EndsSections (case_of (searched_on lattice_site back) lattice course.now start goal) 0
+        (suc (length course.now.batches)) (start_at labels.now.text.now 0) labels.now (D.state desk.old) (D.state desk.new) result }
+    ensures frame { WritesOnly IsOutput (D.state desk.old) (D.state desk.new) }
+{
+    if back {
+        let mut reversed = Reversed::new(lattice);
+        let ending = check_text(alloc, &mut reversed, course, start, goal, labels, desk);
+        // Let go by a call: the drop of each field here would make the proof long.
+        drop(reversed);
+        return ending;
+    }
+    let mut lattice = lattice;
+    let ending = check_text(alloc, &mut lattice, course, start, goal, labels, desk);
+    drop(lattice);
+    ending
+}
+
 /// Checks labels that a plan wrote, and writes what came of it.
 pub(crate) fn check_labels<D: Desk>(
     alloc: Global,
@@ -53,24 +93,16 @@ pub(crate) fn check_labels<D: Desk>(
     ensures frame { WritesOnly IsOutput (D.state desk.old) (D.state desk.new) }
 {
     Lattice::has_its_arcs();
-    let (mut lattice, course, text) = read_check(alloc, job, desk)?;
+    let (lattice, course, text) = read_check(alloc, job, desk)?;
     let (start, goal) = lattice.ends();
     let labels = LabelFile {
         name: &job.labels,
         text: text.as_slice(),
     };
-    let ending = check_either_way(
-        alloc,
-        &mut lattice,
-        &course,
-        start,
-        goal,
-        job.back,
-        &labels,
-        desk,
+    let ending = check_on_lattice(
+        alloc, lattice, &course, start, goal, job.back, &labels, desk,
     );
     // Let go by a call: the drop of each field here would make the proof long.
-    drop(lattice);
     drop(course);
     drop(text);
     Ok(ending)

@@ -9,10 +9,10 @@ ghost use Rattle.sbpl_checks.specs.sbpl_promises.Writing.{IsOutput, IsOutputOf, 
 ghost use Rattle.sbpl_jobs.specs.Endings.{IsJobEnding, IsJobStop};
 
 use sbpl_checks::{
-    Course, Desk, Ending, Forwards, Gate, Input, LabelFile, Nav, NavCheckJob, NavJob, Octile,
-    Publisher, Stop, Workspace, check_text, read_file, read_grid_course,
+    Course, Desk, Ending, Gate, Input, LabelFile, Nav, NavCheckJob, NavJob, Publisher, Stop,
+    Workspace, check_text, read_file, read_grid_course,
 };
-use sbpl_plans::{LiveBoard, Task, plans_forwards};
+use sbpl_plans::{LiveBoard, Task, make_plans};
 use std::alloc::Global;
 use std::sync::Wait;
 use std::thread::Threads;
@@ -45,7 +45,7 @@ pub(crate) fn end_nav<R: Threads + Wait + Sync, D: Desk, T: Gate + Sync>(
         start,
         goal,
     };
-    let status = plans_forwards(
+    let status = make_plans(
         gate,
         alloc,
         &mut nav,
@@ -97,8 +97,6 @@ pub(crate) fn check_nav<D: Desk>(
         name: &job.labels,
         text: text.as_slice(),
     };
-    let ending = check_text::<D, Nav, Forwards<Octile>>(
-        alloc, &mut nav, &course, start, goal, &labels, desk,
-    );
+    let ending = check_text(alloc, &mut nav, &course, start, goal, &labels, desk);
     Ok(ending)
 }

@@ -6,9 +6,7 @@ use Rattle.sbpl_promises.specs.sbpl_cfg.declared.pose.Place.{Place}
 use Rattle.sbpl_promises.specs.sbpl_graph.Network.{Network}
 use Rattle.sbpl_promises.specs.sbpl_back.Reversed.{AreTurned, PathsTurnOnce, reversed}
 use Rattle.sbpl_promises.specs.sbpl_map.CellMap.{CellMap, IsCellMap}
-use Rattle.sbpl_promises.specs.sbpl_replan.Directions.{Direction}
-use Rattle.sbpl_promises.specs.Asked.{checked_direction}
-use Rattle.sbpl_promises.specs.Sites.{Site, Wording, start_after}
+use Rattle.sbpl_promises.specs.Sites.{Leads, Site, Wording, network_by, reads_by, says_by, start_after}
 use Rattle.sbpl_promises.specs.sbpl_report.declared.record.PathStep.{PathStep}
 
 -- alike worlds have one map, one graph and the same cells that its
@@ -23,13 +21,13 @@ pub record AreAlike {W : Type 0} (on : Site W) (Alike : W → W → Type 0) : Ty
   pub made : (w v : W) (m : CellMap) → Alike w v → on.cells.is_made w → on.cells.is_made (on.cells.over v m)
       → on.cells.is_made (on.cells.over w m)
   pub cell_map : (w : W) (m : CellMap) → on.cells.is_made (on.cells.over w m) → IsCellMap m
-  pub graph : (w v : W) → Alike w v → on.cells.is_made w → on.cells.is_made v → on.network w ≡ on.network v
+  pub graph : (w v : W) → Alike w v → on.cells.is_made w → on.cells.is_made v → on.wording.told w ≡ on.wording.told v
   pub sized : (w : W) (l m : CellMap) → on.cells.is_made (on.cells.over w l) → on.cells.is_made (on.cells.over w m)
-      → (on.network (on.cells.over w l)).states ≡ (on.network (on.cells.over w m)).states
+      → (on.wording.told (on.cells.over w l)).states ≡ (on.wording.told (on.cells.over w m)).states
   pub reads : (w v : W) (s k : ℕ) (x y : ℤ) → Alike w v → on.cells.reads w s k x y → on.cells.reads v s k x y
-  pub says : (w v : W) (goal : ℕ) (h k : ℕ → ℕ) → Alike w v → on.network w ≡ on.network v → on.says w goal h
-      → on.says v goal k → (s : ℕ) → s < (on.network w).states → h s ≡ k s
-  pub moved : (w v : W) (goal : ℕ) (h : ℕ → ℕ) → Alike w v → on.network w ≡ on.network v
+  pub says : (w v : W) (goal : ℕ) (h k : ℕ → ℕ) → Alike w v → on.wording.told w ≡ on.wording.told v → on.says w goal h
+      → on.says v goal k → (s : ℕ) → s < (on.wording.told w).states → h s ≡ k s
+  pub moved : (w v : W) (goal : ℕ) (h : ℕ → ℕ) → Alike w v → on.wording.told w ≡ on.wording.told v
       → on.says w goal h → on.says v goal h
   pub starts : (w v : W) (s t : ℕ) → Alike w v → on.wording.starts w s → on.wording.starts v t → s ≡ t
   pub ends : (w v : W) (s t : ℕ) → Alike w v → on.wording.ends w s → on.wording.ends v t → s ≡ t
@@ -38,41 +36,53 @@ pub record AreAlike {W : Type 0} (on : Site W) (Alike : W → W → Type 0) : Ty
       → on.wording.step v s k t b → a ≡ b
   pub state : (w v : W) → Alike w v → on.wording.state w ≡ on.wording.state v
 
--- and in this direction they have one graph and one guide
-pub record GoesAlike {W : Type 0} (on : Site W) (Alike : W → W → Type 0) (d : Direction W) : Type 0 where
-  pub network : (w v : W) → on.network w ≡ on.network v → d.network w ≡ d.network v
-  pub states : (w : W) → (d.network w).states ≡ (on.network w).states
-  pub guides : (w v : W) (start goal : ℕ) (h k : ℕ → ℕ) → Alike w v → on.network w ≡ on.network v
-      → d.guides w start goal h → d.guides v start goal k → (s : ℕ) → s < (on.network w).states → h s ≡ k s
-  pub moved : (w v : W) (start goal : ℕ) (h : ℕ → ℕ) → Alike w v → on.network w ≡ on.network v → d.guides w start goal h
-      → d.guides v start goal h
+-- and where they are searched so, one graph whose arcs read the same cells, and one guide
+pub record GoesAlike {W : Type 0} (on : Site W) (Alike : W → W → Type 0) (back : Bool) : Type 0 where
+  pub network : (w v : W) → on.wording.told w ≡ on.wording.told v
+      → network_by back (on.wording.told w) ≡ network_by back (on.wording.told v)
+  pub states : (w : W) → (network_by back (on.wording.told w)).states ≡ (on.wording.told w).states
+  pub reads : (w v : W) (s k : ℕ) (x y : ℤ) → Alike w v → on.wording.told w ≡ on.wording.told v
+      → reads_by back on.wording.told on.cells w s k x y → reads_by back on.wording.told on.cells v s k x y
+  pub guides : (w v : W) (to : ℕ) (h k : ℕ → ℕ) → Alike w v → on.wording.told w ≡ on.wording.told v
+      → says_by back on.wording.told on.says w to h → says_by back on.wording.told on.says v to k
+      → (s : ℕ) → s < (on.wording.told w).states → h s ≡ k s
+  pub moved : (w v : W) (to : ℕ) (h : ℕ → ℕ) → Alike w v → on.wording.told w ≡ on.wording.told v
+      → says_by back on.wording.told on.says w to h → says_by back on.wording.told on.says v to h
 
 -- what is found leads to one path
-abbrev pub LeadsOnce : {W : Type 0} → Site W → Direction W → Type 0
-LeadsOnce {W} on d =
-    (w v : W) (start goal : ℕ) (found path other : List ℕ) → on.network w ≡ on.network v
-    → d.leads w start goal found path → d.leads v start goal found other → path ≡ other
+abbrev pub LeadsOnce : {W : Type 0} → Site W → (back : Bool) → Type 0
+LeadsOnce {W} on back =
+    (w v : W) (start goal : ℕ) (found path other : List ℕ) → on.wording.told w ≡ on.wording.told v
+    → Leads back (on.wording.told w) start goal found path → Leads back (on.wording.told v) start goal found other
+    → path ≡ other
 
 module _ {W : Type 0} (on : Site W) (Alike : W → W → Type 0) (alike : AreAlike on Alike) where
-  pub goes_alike : (back : Bool) → GoesAlike on Alike (checked_direction on back)
+  pub goes_alike : (back : Bool) → GoesAlike on Alike back
   goes_alike true = record {
     network = λ w v same. ap reversed same;
     states = λ w. refl;
-    guides = λ w v start goal h k a same x y s inside. x s inside ∙ ap (λ (n : Network). n.gap start s) same
+    reads = λ w v t j x y a same r. (
+      r.0,
+      r.1,
+      subst (λ (n : Network). n.tail t j ≡ Some (r.0, r.1)) same r.2,
+      alike.reads w v r.0 r.1 x y a r.3,
+    );
+    guides = λ w v to h k a same x y s inside. x s inside ∙ ap (λ (n : Network). n.gap to s) same
         ∙ sym (y s (subst (λ (n : Network). s < n.states) same inside));
-    moved = λ w v start goal h a same x s inside.
-        x s (subst (λ (n : Network). s < n.states) (sym same) inside) ∙ ap (λ (n : Network). n.gap start s) same;
+    moved = λ w v to h a same x s inside.
+        x s (subst (λ (n : Network). s < n.states) (sym same) inside) ∙ ap (λ (n : Network). n.gap to s) same;
   }
   goes_alike false = record {
     network = λ w v same. same;
     states = λ w. refl;
-    guides = λ w v start goal h k a same x y. alike.says w v goal h k a same x y;
-    moved = λ w v start goal h a same x. alike.moved w v goal h a same x;
+    reads = λ w v s k x y a same r. alike.reads w v s k x y a r;
+    guides = λ w v to h k a same x y. alike.says w v to h k a same x y;
+    moved = λ w v to h a same x. alike.moved w v to h a same x;
   }
 
-  pub leads_once : PathsTurnOnce → (back : Bool) → LeadsOnce on (checked_direction on back)
+  pub leads_once : PathsTurnOnce → (back : Bool) → LeadsOnce on back
   leads_once once true w v start goal found path other same x y =
-      once (on.network v) goal start found path other
+      once (on.wording.told v) goal start found path other
       (subst (λ (n : Network). AreTurned n goal found start path) same x) y
   leads_once once false w v start goal found path other same x y = x ∙ sym y
 

@@ -1,6 +1,6 @@
 -- The checking of one text ends in one way.
 use Rattle.std.proofs.Common.{◌≡◌, ◌≢◌, ℕ, zero, suc, ◌+◌, ◌<◌, List, [], ◌∷◌, Option, Some, None, length, refl, sym}
-use Rattle.std.proofs.Common.{◌∙◌, ap, subst, inl, inr}
+use Rattle.std.proofs.Common.{◌∙◌, ap, subst, inl, inr, Bool}
 use Rattle.sbpl_promises.specs.sbpl_graph.Network.{Network}
 use Rattle.sbpl_promises.specs.sbpl_fixed.Formats.{Left, start_at}
 use Rattle.sbpl_promises.specs.sbpl_fixed.Tokens.{Piece}
@@ -21,8 +21,7 @@ use Rattle.sbpl_promises.specs.Checked.{AreChecked, Case, Ground, IsFlawed, IsGr
 use Rattle.sbpl_promises.specs.Checked.{IsStoppedIn, IsTrailingAt, case_of, from_in, to_in}
 use Rattle.sbpl_promises.specs.Intents.{checked_status}
 use Rattle.sbpl_promises.specs.Promises.{IsCheckedIn, IsOrFailed}
-use Rattle.sbpl_promises.specs.sbpl_replan.Directions.{Direction}
-use Rattle.sbpl_promises.specs.Sites.{Site, start_after}
+use Rattle.sbpl_promises.specs.Sites.{Site, network_by, says_by, searched_on, start_after, to_of}
 use Rattle.sbpl_laws.proofs.AlikeSites.{AreAlike, GoesAlike, same_starts}
 use Rattle.sbpl_promises.specs.declared.course.Course.{Course}
 
@@ -42,20 +41,21 @@ pub record AreOneGround (n o : Ground) : Type 0 where
   pub guide : (u : ℕ) → u < o.network.states → n.guide u ≡ o.guide u
 
 -- and one graph, with one guide
-pub one_ground : {W : Type 0} (on : Site W) (Alike : W → W → Type 0) → AreAlike on Alike → (d : Direction W)
-    → GoesAlike on Alike d → OneMap → (c : Case on d) (k : ℕ) (n o : Ground) → IsGroundAfter c k n
+pub one_ground : {W : Type 0} (on : Site W) (Alike : W → W → Type 0) → AreAlike on Alike → (back : Bool)
+    → GoesAlike on Alike back → OneMap → (c : Case (searched_on on back)) (k : ℕ) (n o : Ground) → IsGroundAfter c k n
     → IsGroundAfter c k o → AreOneGround n o
-one_ground on Alike alike d goes one c k n o a b =
+one_ground on Alike alike back goes one c k n o a b =
     let w = c.world in
     let maps : a.map ≡ b.map =
     one (on.cells.map w) a.map b.map c.batches k (alike.cell_map w a.map a.is_world)
     (alike.cell_map w b.map b.is_world) a.after b.after in
     let here = on.cells.over w b.map in
-    let guide : d.guides here (c.starts k) c.goal n.guide =
-    subst (λ (m : CellMap). d.guides (on.cells.over w m) (c.starts k) c.goal n.guide) maps a.guide in
+    let to : ℕ = to_in c k in
+    let guide : says_by back on.wording.told on.says here to n.guide =
+    subst (λ (m : CellMap). says_by back on.wording.told on.says (on.cells.over w m) to n.guide) maps a.guide in
     record {
-      network = a.network ∙ ap (λ (m : CellMap). d.network (on.cells.over w m)) maps ∙ sym b.network;
-      guide = λ u inside. goes.guides here here (c.starts k) c.goal n.guide o.guide (alike.same here) refl guide b.guide
+      network = a.network ∙ ap (λ (m : CellMap). network_by back (on.wording.told (on.cells.over w m))) maps ∙ sym b.network;
+      guide = λ u inside. goes.guides here here to n.guide o.guide (alike.same here) refl guide b.guide
           u (subst (λ (count : ℕ). u < count) (ap (λ (x : Network). x.states) b.network ∙ goes.states here) inside);
     }
 
@@ -66,8 +66,8 @@ EndAlike a b = IsOrFailed (checked_status a) (checked_status b)
 no_memory_left : (a : Option SectionStop) → EndAlike a (Some section.NoMemory)
 no_memory_left a = inr (inr (inr refl))
 
-module _ {W : Type 0} (on : Site W) (Alike : W → W → Type 0) (alike : AreAlike on Alike) (d : Direction W)
-    (goes : GoesAlike on Alike d) (clear : SectionsAreClear) (one : OneMap) (c : Case on d) where
+module _ {W : Type 0} (on : Site W) (Alike : W → W → Type 0) (alike : AreAlike on Alike) (back : Bool)
+    (goes : GoesAlike on Alike back) (clear : SectionsAreClear) (one : OneMap) (c : Case (searched_on on back)) where
   -- what is checked at a plan is read for the number of states of its graph, which is that of any other of the plan
   pub readable : (n o : Ground) (plan : ℕ) (left : Left) (s : Section) (rest : List Piece) → IsGroundAfter c plan n
       → IsGroundAfter c plan o → IsOf plan n.network.states s → AreTokensOf left.tokens s rest
@@ -76,7 +76,7 @@ module _ {W : Type 0} (on : Site W) (Alike : W → W → Type 0) (alike : AreAli
     s,
     rest,
     subst (λ (m : Network). IsOf plan m.states s)
-        (one_ground on Alike alike d goes one c plan n o after later).network of,
+        (one_ground on Alike alike back goes one c plan n o after later).network of,
     tokens,
   )
 
@@ -113,7 +113,7 @@ module _ {W : Type 0} (on : Site W) (Alike : W → W → Type 0) (alike : AreAli
       → s ≢ section.NoMemory → IsGroundAfter c plan n → IsHolding n (from_in c plan) (to_in c plan) plan left o rest
       → IsStoppedIn c plan left s → ⊥
   holds_not_stopped n plan left rest o (section.Flaw f) some after is (m, later, flawed) =
-      holds_not_flawed n m plan left rest o f (one_ground on Alike alike d goes one c plan n m after later) is flawed
+      holds_not_flawed n m plan left rest o f (one_ground on Alike alike back goes one c plan n m after later) is flawed
   holds_not_stopped n plan left rest o (section.Fault f) some after is (m, later, faulty) =
       clear.not_both plan _ left f (readable n m plan left is.section rest.tokens after later is.of is.tokens) faulty.1
   holds_not_stopped n plan left rest o section.NoMemory some after is stops = some refl
@@ -165,11 +165,11 @@ module _ {W : Type 0} (on : Site W) (Alike : W → W → Type 0) (alike : AreAli
 
 -- ---- alike worlds
 
-module _ {W : Type 0} (on : Site W) (Alike : W → W → Type 0) (alike : AreAlike on Alike) (d : Direction W)
-    (goes : GoesAlike on Alike d) (v w : W) (a : Alike v w) (made : on.cells.is_made w) (batches : List (List Write))
+module _ {W : Type 0} (on : Site W) (Alike : W → W → Type 0) (alike : AreAlike on Alike) (back : Bool)
+    (goes : GoesAlike on Alike back) (v w : W) (a : Alike v w) (made : on.cells.is_made w) (batches : List (List Write))
     (starts : ℕ → ℕ) (goal : ℕ) where
   -- a case in another world
-  abbrev in_world : W → Case on d
+  abbrev in_world : W → Case (searched_on on back)
   in_world u = record { world = u; batches = batches; starts = starts; goal = goal }
 
   -- they have the same graphs after each number of batches
@@ -177,14 +177,15 @@ module _ {W : Type 0} (on : Site W) (Alike : W → W → Type 0) (alike : AreAli
   same_graph k n g =
       let b : Alike (on.cells.over v g.map) (on.cells.over w g.map) = alike.over v w g.map a in
       let there : on.cells.is_made (on.cells.over w g.map) = alike.made w v g.map (alike.back v w a) made g.is_world in
-      let graph : on.network (on.cells.over v g.map) ≡ on.network (on.cells.over w g.map) =
+      let graph : on.wording.told (on.cells.over v g.map) ≡ on.wording.told (on.cells.over w g.map) =
       alike.graph _ _ b g.is_world there in
       record {
         map = g.map;
         after = subst (λ (m : CellMap). IsMapAfter m batches k g.map) (alike.map v w a) g.after;
         is_world = there;
         network = g.network ∙ goes.network (on.cells.over v g.map) (on.cells.over w g.map) graph;
-        guide = goes.moved (on.cells.over v g.map) (on.cells.over w g.map) (starts k) goal n.guide b graph g.guide;
+        guide = goes.moved (on.cells.over v g.map) (on.cells.over w g.map) (to_of back (starts k) goal) n.guide b graph
+            g.guide;
       }
 
   -- what is checked in a world, and shown, is checked in an alike one
@@ -201,33 +202,33 @@ module _ {W : Type 0} (on : Site W) (Alike : W → W → Type 0) (alike : AreAli
       (n, same_graph plan n after, rest, is.holds, checked_on more (plan + 1) rest os end p)
 
 -- a case in a world
-abbrev pub case_in : {W : Type 0} → (on : Site W) → (d : Direction W) → W → List (List Write) → (starts : ℕ → ℕ)
-    → (goal : ℕ) → Case on d
-case_in on d w batches starts goal = record { world = w; batches = batches; starts = starts; goal = goal }
+abbrev pub case_in : {W : Type 0} → (on : Site W) → W → List (List Write) → (starts : ℕ → ℕ)
+    → (goal : ℕ) → Case on
+case_in on w batches starts goal = record { world = w; batches = batches; starts = starts; goal = goal }
 
 -- what is checked of one case is checked of another with the same parts
-pub same_case : {W : Type 0} (on : Site W) (d : Direction W) (v : W) (bs cs : List (List Write)) (s s' : ℕ → ℕ)
+pub same_case : {W : Type 0} (on : Site W) (v : W) (bs cs : List (List Write)) (s s' : ℕ → ℕ)
     (g g' : ℕ) (t t' : List ℕ) (os : List Outcome) (end : Option SectionStop) → cs ≡ bs → s ≡ s' → g ≡ g' → t ≡ t'
-    → AreChecked IsShownHolding (case_in on d v cs s g) 0 (suc (length cs)) (start_at t 0) os end
-    → AreChecked IsShownHolding (case_in on d v bs s' g') 0 (suc (length bs)) (start_at t' 0) os end
-same_case on d v bs cs s s' g g' t t' os end course from to text checked =
+    → AreChecked IsShownHolding (case_in on v cs s g) 0 (suc (length cs)) (start_at t 0) os end
+    → AreChecked IsShownHolding (case_in on v bs s' g') 0 (suc (length bs)) (start_at t' 0) os end
+same_case on v bs cs s s' g g' t t' os end course from to text checked =
     subst (λ (l : List (List Write)).
-    AreChecked IsShownHolding (case_in on d v l s' g') 0 (suc (length l)) (start_at t' 0) os end) course
+    AreChecked IsShownHolding (case_in on v l s' g') 0 (suc (length l)) (start_at t' 0) os end) course
     (subst
-    (λ (x : ℕ → ℕ). AreChecked IsShownHolding (case_in on d v cs x g') 0 (suc (length cs)) (start_at t' 0) os end) from
-    (subst (λ (x : ℕ). AreChecked IsShownHolding (case_in on d v cs s x) 0 (suc (length cs)) (start_at t' 0) os end) to
-    (subst (λ (x : List ℕ). AreChecked IsShownHolding (case_in on d v cs s g) 0 (suc (length cs)) (start_at x 0) os end)
+    (λ (x : ℕ → ℕ). AreChecked IsShownHolding (case_in on v cs x g') 0 (suc (length cs)) (start_at t' 0) os end) from
+    (subst (λ (x : ℕ). AreChecked IsShownHolding (case_in on v cs s x) 0 (suc (length cs)) (start_at t' 0) os end) to
+    (subst (λ (x : List ℕ). AreChecked IsShownHolding (case_in on v cs s g) 0 (suc (length cs)) (start_at x 0) os end)
     text checked)))
 
 -- in alike worlds and over one course, the checking of one text ends in one way
 pub checked_ends_alike : {W : Type 0} (on : Site W) (Alike : W → W → Type 0) (alike : AreAlike on Alike)
-    (d : Direction W) (goes : GoesAlike on Alike d) → SectionsAreClear → OneMap
+    (back : Bool) (goes : GoesAlike on Alike back) → SectionsAreClear → OneMap
     → (w v : W) (course also : Course) (text same_text : List ℕ) (goals others : ℕ → ℕ) (os ps : List Outcome)
     (a b : Option SectionStop)
     → Alike v w → on.cells.is_made w → also ≡ course → same_text ≡ text → a ≢ Some section.NoMemory
-    → IsCheckedIn IsHolding on d w course text goals os a
-    → IsCheckedIn IsShownHolding on d v also same_text others ps b → EndAlike a b
-checked_ends_alike on Alike alike d goes sections one w v course also text same_text goals others os ps a b near made
+    → IsCheckedIn IsHolding (searched_on on back) w course text goals os a
+    → IsCheckedIn IsShownHolding (searched_on on back) v also same_text others ps b → EndAlike a b
+checked_ends_alike on Alike alike back goes sections one w v course also text same_text goals others os ps a b near made
     courses texts some x y =
     let from : y.start ≡ x.start = alike.starts v w y.start x.start near y.start_is x.start_is in
     let to : y.goal ≡ x.goal = alike.ends v w y.goal x.goal near y.goal_is x.goal_is in
@@ -237,9 +238,9 @@ checked_ends_alike on Alike alike d goes sections one w v course also text same_
     (ap (λ (c : Course). c.moves) courses) in
     let batches : also.batches ≡ course.batches = ap (λ (c : Course). c.batches) courses in
     let there =
-    same_case on d v course.batches also.batches (start_after on.wording v y.start also.moves) mine y.goal x.goal
+    same_case (searched_on on back) v course.batches also.batches (start_after on.wording v y.start also.moves) mine y.goal x.goal
     same_text text ps b batches starts to texts y.checked in
-    one_ending on Alike alike d goes sections one (case_of on d w course x.start x.goal) (suc (length course.batches)) 0
+    one_ending on Alike alike back goes sections one (case_of (searched_on on back) w course x.start x.goal) (suc (length course.batches)) 0
     (start_at text 0) os ps a b some x.checked
-    (checked_on on Alike alike d goes v w near made course.batches mine x.goal (suc (length course.batches)) 0
+    (checked_on on Alike alike back goes v w near made course.batches mine x.goal (suc (length course.batches)) 0
     (start_at text 0) ps b there)

@@ -22,7 +22,7 @@ use Rattle.sbpl_promises.specs.sbpl_job.declared.job.Job.TheVariants as job
 use Rattle.sbpl_promises.specs.sbpl_job.declared.job.Outputs.{Outputs}
 use Rattle.sbpl_promises.specs.sbpl_job.declared.job.Sources.{Sources}
 use Rattle.sbpl_promises.specs.Checked.{IsHolding}
-use Rattle.sbpl_promises.specs.Asked.{checked_direction}
+use Rattle.sbpl_promises.specs.Sites.{searched_on}
 use Rattle.sbpl_promises.specs.Determined.{AreAlikeWorlds}
 use Rattle.sbpl_promises.specs.LatticeSite.{lattice_site}
 use Rattle.sbpl_laws.proofs.AlikeSites.{goes_alike}
@@ -680,7 +680,7 @@ module _ (before after : DeskState) (old new : List Entry) where
         (end : Option SectionStop) → end ≢ Some section.NoMemory → TellsGrid held n.env w
         → TellsCourse held n.changes (grid_scope w) course
         → Tells (held n.labels) text
-        → IsCheckedIn IsHolding grid_site (checked_direction grid_site false) w course text goals os end
+        → IsCheckedIn IsHolding grid_site w course text goals os end
         → ((r : Refusal) → IsJobCause held Failed (job.NavCheck n) r
         → IsOrFailed (checked_status end) (refusal_status r))
         → (i : Intent) → GivesIntent held Failed (job.NavCheck n) i → IsOrFailed (checked_status end) (intent_status i)
@@ -695,7 +695,7 @@ module _ (before after : DeskState) (old new : List Entry) where
         same_course clear held n.changes (grid_scope w) course gives.course told
         (subst (λ (v : GridWorld). ReadsCourse held n.changes (grid_scope v) gives.course) near gives.changes_say) in
         let same_text : gives.text ≡ text = told_is (held n.labels) text gives.text held_text.held_bytes gives.read in
-        checked_ends_alike grid_site AreOneGrid grids_alike (checked_direction grid_site false)
+        checked_ends_alike grid_site AreOneGrid grids_alike false
         (goes_alike grid_site AreOneGrid grids_alike false) sections one w gives.world course gives.course text
         gives.text goals goal' os os' end end' near tells.is_world same same_text some is gives.in_world
     nav_checked_alike clear sections one n w course text goals os end some tells told held_text is refused _ gives =
@@ -705,7 +705,7 @@ module _ (before after : DeskState) (old new : List Entry) where
         → (n : NavCheckJob) (w : GridWorld) (course : Course) (text : List ℕ) (goals : ℕ → ℕ) (os : List Outcome)
         (end : Option SectionStop) → named ≡ Some (job.NavCheck n) → TellsGrid held n.env w
         → TellsCourse held n.changes (grid_scope w) course → Tells (held n.labels) text
-        → IsCheckedIn IsHolding grid_site (checked_direction grid_site false) w course text goals os end
+        → IsCheckedIn IsHolding grid_site w course text goals os end
         → end ≢ Some section.NoMemory → IsOrFailed (checked_status end) status
     run_grid_checked clear sections one ends n w course text goals os end names tells told held_text is some =
         let refused =
@@ -767,7 +767,7 @@ module _ (before after : DeskState) (old new : List Entry) where
         → (c : CheckJob) (w : World) (course : Course) (text : List ℕ) (goals : ℕ → ℕ) (os : List Outcome)
         (end : Option SectionStop) → end ≢ Some section.NoMemory → TellsWorld held c.sources w
         → TellsCourse held c.changes (scope_of c.back w) course → Tells (held c.labels) text
-        → IsCheckedIn IsHolding lattice_site (checked_direction lattice_site c.back) w course text goals os end
+        → IsCheckedIn IsHolding (searched_on lattice_site c.back) w course text goals os end
         → ((r : Refusal) → IsJobCause held Failed (job.Check c) r → IsOrFailed (checked_status end) (refusal_status r))
         → (i : Intent) → GivesIntent held Failed (job.Check c) i → IsOrFailed (checked_status end) (intent_status i)
     checked_alike clear sections one graphs c w course text goals os end some tells told held_text is refused
@@ -798,8 +798,7 @@ module _ (before after : DeskState) (old new : List Entry) where
         let same_text : gives.text ≡ text = told_is (held c.labels) text gives.text held_text.held_bytes gives.read in
         let near : AreAlikeWorlds w v = record { env = env; prims = prims; map = map; radius = radius } in
         let alike = lattices_alike graphs in
-        let d = checked_direction lattice_site c.back in
-        checked_ends_alike lattice_site AreAlikeWorlds alike d (goes_alike lattice_site AreAlikeWorlds alike c.back)
+        checked_ends_alike lattice_site AreAlikeWorlds alike c.back (goes_alike lattice_site AreAlikeWorlds alike c.back)
         sections one w v course gives.course text gives.text goals goal' os os' end end' (alike.back w v near)
         tells.is_world same same_text some is gives.in_world
 
@@ -808,7 +807,7 @@ module _ (before after : DeskState) (old new : List Entry) where
         → (c : CheckJob) (w : World) (course : Course) (text : List ℕ) (goals : ℕ → ℕ) (os : List Outcome)
         (end : Option SectionStop) → named ≡ Some (job.Check c) → TellsWorld held c.sources w
         → TellsCourse held c.changes (scope_of c.back w) course → Tells (held c.labels) text
-        → IsCheckedIn IsHolding lattice_site (checked_direction lattice_site c.back) w course text goals os end
+        → IsCheckedIn IsHolding (searched_on lattice_site c.back) w course text goals os end
         → end ≢ Some section.NoMemory → IsOrFailed (checked_status end) status
     run_checked clear sections one alike ends c w course text goals os end names tells told held_text is some =
         let refused =

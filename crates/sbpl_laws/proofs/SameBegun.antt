@@ -1,19 +1,18 @@
 -- The labels that a plan begins with are determined.
-use Rattle.std.proofs.Common.{◌≡◌, ◌≢◌, ℕ, ◌↔◌, true, List, [], Option, Some, None, sym, subst, ◌∙◌}
+use Rattle.std.proofs.Common.{◌≡◌, ◌≢◌, ℕ, ◌↔◌, Bool, true, List, [], Option, Some, None, sym, subst, ◌∙◌}
 use Rattle.std.specs.List.{Contains}
 use Rattle.sbpl_promises.specs.sbpl_graph.Network.{Network, IsArc}
 use Rattle.sbpl_promises.specs.sbpl_map.CellMap.{CellMap, cost_at}
 use Rattle.sbpl_promises.specs.sbpl_terrain.Reading.{IsEndReading}
-use Rattle.sbpl_promises.specs.sbpl_terrain.declared.arc_end.ArcEnd.{ArcEnd}
+use Rattle.sbpl_promises.specs.sbpl_terrain.declared.arc_end.ArcEnd.TheVariants as end
 use Rattle.sbpl_promises.specs.sbpl_terrain.Affected.{IsAffected}
 use Rattle.sbpl_promises.specs.sbpl_labels.Marks.{AreInitial, Marks, states_of, back_of}
 use Rattle.sbpl_promises.specs.sbpl_search.Determined.{AreBeginningsDetermined}
 use Rattle.sbpl_promises.specs.sbpl_search.Meaning.{Meaning}
 use Rattle.sbpl_promises.specs.sbpl_serial.Determined.{InitialLabelsAreOne}
-use Rattle.sbpl_promises.specs.sbpl_replan.Directions.{Direction}
 use Rattle.sbpl_promises.specs.sbpl_replan.Replanning.{BeginsWith}
 use Rattle.sbpl_promises.specs.Headline.{Begins, Carried}
-use Rattle.sbpl_promises.specs.Sites.{Site}
+use Rattle.sbpl_promises.specs.Sites.{Site, searched_on}
 use Rattle.sbpl_laws.proofs.AlikeSites.{AreAlike, GoesAlike}
 
 -- the labels are the same, with one row for each state, and the start has no back arc
@@ -25,16 +24,19 @@ pub record AreBegun (count : ℕ) (a b : Marks) (xs ys : List ℕ) : Type 0 wher
 
 module _ {W : Type 0} (on : Site W) (Alike : W → W → Type 0) (alike : AreAlike on Alike) where
   -- alike worlds have one set of states that a change touches
-  touched_on : (end : ArcEnd) (w v : W) (now : CellMap) → Alike w v → on.network w ≡ on.network v → (t : ℕ)
-      → IsAffected on.network on.cells end w now t → IsAffected on.network on.cells end v now t
-  touched_on end w v now a same t is =
+  touched_on : (back : Bool) → GoesAlike on Alike back → (w v : W) (now : CellMap) → Alike w v
+      → on.wording.told w ≡ on.wording.told v → (t : ℕ)
+      → IsAffected (searched_on on back).network (searched_on on back).cells end.Head w now t
+      → IsAffected (searched_on on back).network (searched_on on back).cells end.Head v now t
+  touched_on back goes w v now a same t is =
       let r = is.reads in
-      let reading : IsEndReading on.network on.cells end v is.x is.y t = record {
+      let reading : IsEndReading (searched_on on back).network (searched_on on back).cells end.Head v is.x is.y t =
+      record {
         source = r.source;
         number = r.number;
         head = r.head;
-        arc = subst (λ (n : Network). IsArc n r.source r.number r.head) same r.arc;
-        reads = alike.reads w v r.source r.number is.x is.y a r.reads;
+        arc = subst (λ (n : Network). IsArc n r.source r.number r.head) (goes.network w v same) r.arc;
+        reads = goes.reads w v r.source r.number is.x is.y a same r.reads;
         at = r.at;
       } in
       record {
@@ -49,9 +51,9 @@ module _ {W : Type 0} (on : Site W) (Alike : W → W → Type 0) (alike : AreAli
     -- start's with no back arc, and a map that gives one graph
     pub record IsCarried (b : Carried) : Type 0 where
       pub made : on.cells.is_made (on.cells.over w b.map)
-      pub states : states_of b.labels ≡ (on.network (on.cells.over w b.map)).states
+      pub states : states_of b.labels ≡ (on.wording.told (on.cells.over w b.map)).states
       pub no_arc : back_of b.labels b.labels.start ≡ None
-      pub graph : on.network (on.cells.over w b.map) ≡ on.network (on.cells.over v b.map)
+      pub graph : on.wording.told (on.cells.over w b.map) ≡ on.wording.told (on.cells.over v b.map)
 
     abbrev pub AreCarried : Option Carried → Type 0
     AreCarried None = Unit {0}
@@ -59,12 +61,12 @@ module _ {W : Type 0} (on : Site W) (Alike : W → W → Type 0) (alike : AreAli
 
     module _ (initial : InitialLabelsAreOne) where
       initial_begun : (m : CellMap) (start : ℕ) (x y : Marks) (xs ys : List ℕ)
-          → on.network (on.cells.over w m) ≡ on.network (on.cells.over v m)
-          → AreInitial x (on.network (on.cells.over w m)).states start × (xs ≡ [])
-          → AreInitial y (on.network (on.cells.over v m)).states start × (ys ≡ [])
-          → AreBegun (on.network (on.cells.over w m)).states x y xs ys
+          → on.wording.told (on.cells.over w m) ≡ on.wording.told (on.cells.over v m)
+          → AreInitial x (on.wording.told (on.cells.over w m)).states start × (xs ≡ [])
+          → AreInitial y (on.wording.told (on.cells.over v m)).states start × (ys ≡ [])
+          → AreBegun (on.wording.told (on.cells.over w m)).states x y xs ys
       initial_begun m start x y xs ys same p q =
-          let own : AreInitial y (on.network (on.cells.over w m)).states start =
+          let own : AreInitial y (on.wording.told (on.cells.over w m)).states start =
           subst (λ (n : Network). AreInitial y n.states start) (sym same) q.0 in
           record {
             same = initial x y _ start p.0 own;
@@ -73,39 +75,42 @@ module _ {W : Type 0} (on : Site W) (Alike : W → W → Type 0) (alike : AreAli
             no_arc = p.0.no_arc x.start;
           }
 
-      module _ {Note : Type 0} (means : Meaning Note) (law : AreBeginningsDetermined means) (d : Direction W)
-          (goes : GoesAlike on Alike d) where
+      module _ {Note : Type 0} (means : Meaning Note) (law : AreBeginningsDetermined means) (back : Bool)
+          (goes : GoesAlike on Alike back) where
+        abbrev over : Site W
+        over = searched_on on back
+
         with_begun : (m : CellMap) (left : Carried) (x y : Marks) (xs ys : List ℕ)
             → on.cells.is_made (on.cells.over w m)
-            → on.network (on.cells.over w m) ≡ on.network (on.cells.over v m) → IsCarried left
-            → BeginsWith means on.network on.cells d (on.cells.over (on.cells.over w m) left.map)
+            → on.wording.told (on.cells.over w m) ≡ on.wording.told (on.cells.over v m) → IsCarried left
+            → BeginsWith means over.network over.cells (on.cells.over (on.cells.over w m) left.map)
             (on.cells.over w m) left.labels x xs
-            → BeginsWith means on.network on.cells d (on.cells.over (on.cells.over v m) left.map)
+            → BeginsWith means over.network over.cells (on.cells.over (on.cells.over v m) left.map)
             (on.cells.over v m) left.labels y ys
-            → AreBegun (on.network (on.cells.over w m)).states x y xs ys
+            → AreBegun (on.wording.told (on.cells.over w m)).states x y xs ys
         with_begun m left x y xs ys made same carried p q =
             let here : W = on.cells.over w m in
             let there : W = on.cells.over v m in
-            let n : Network = d.network here in
+            let n : Network = over.network here in
             let own : means.begun n q.touched left.labels y ys =
             subst (λ (k : Network). means.begun k q.touched left.labels y ys)
             (sym (goes.network here there same)) q.begun in
             let old : Alike (on.cells.over here left.map) (on.cells.over there left.map) =
             alike.over here there left.map (alike.over w v m a) in
-            let graph : on.network (on.cells.over here left.map) ≡ on.network (on.cells.over there left.map) =
-            subst (λ (u : W). on.network u ≡ on.network (on.cells.over there left.map)) (sym (alike.again w m left.map))
-            (subst (λ (u : W). on.network (on.cells.over w left.map) ≡ on.network u)
+            let graph : on.wording.told (on.cells.over here left.map) ≡ on.wording.told (on.cells.over there left.map) =
+            subst (λ (u : W). on.wording.told u ≡ on.wording.told (on.cells.over there left.map)) (sym (alike.again w m left.map))
+            (subst (λ (u : W). on.wording.told (on.cells.over w left.map) ≡ on.wording.told u)
             (sym (alike.again v m left.map)) carried.graph)
             in
             let maps : on.cells.map here ≡ on.cells.map there = alike.map here there (alike.over w v m a) in
             let both : means.repairs ≡ true → (t : ℕ) → Contains p.touched t ↔ Contains q.touched t = λ repairs t. (
               λ among. (q.are_touched repairs t).1 (subst
-                  (λ (l : CellMap). IsAffected on.network on.cells d.touched (on.cells.over there left.map) l t) maps
-                  (touched_on d.touched (on.cells.over here left.map) (on.cells.over there left.map) (on.cells.map here)
+                  (λ (l : CellMap). IsAffected over.network over.cells end.Head (on.cells.over there left.map) l t) maps
+                  (touched_on back goes (on.cells.over here left.map) (on.cells.over there left.map) (on.cells.map here)
                   old graph t ((p.are_touched repairs t).0 among))),
               λ among. (p.are_touched repairs t).1 (subst (λ (l : CellMap).
-                  IsAffected on.network on.cells d.touched (on.cells.over here left.map) l t) (sym maps)
-                  (touched_on d.touched (on.cells.over there left.map) (on.cells.over here left.map)
+                  IsAffected over.network over.cells end.Head (on.cells.over here left.map) l t) (sym maps)
+                  (touched_on back goes (on.cells.over there left.map) (on.cells.over here left.map)
                   (on.cells.map there) (alike.back _ _ old) (sym graph) t ((q.are_touched repairs t).0 among))),
             ) in
             let all : states_of left.labels ≡ n.states =
@@ -118,9 +123,13 @@ module _ {W : Type 0} (on : Site W) (Alike : W → W → Type 0) (alike : AreAli
             }
 
         pub one_begun : (m : CellMap) (from : ℕ) (before : Option Carried) (x y : Marks) (xs ys : List ℕ)
-            → on.cells.is_made (on.cells.over w m) → on.network (on.cells.over w m) ≡ on.network (on.cells.over v m)
-            → AreCarried before → Begins means on d (on.cells.over w m) from before x xs
-            → Begins means on d (on.cells.over v m) from before y ys
-            → AreBegun (on.network (on.cells.over w m)).states x y xs ys
-        one_begun m from None x y xs ys made same carried p q = initial_begun m from x y xs ys same p q
+            → on.cells.is_made (on.cells.over w m) → on.wording.told (on.cells.over w m) ≡ on.wording.told (on.cells.over v m)
+            → AreCarried before → Begins means over (on.cells.over w m) from before x xs
+            → Begins means over (on.cells.over v m) from before y ys
+            → AreBegun (on.wording.told (on.cells.over w m)).states x y xs ys
+        one_begun m from None x y xs ys made same carried p q =
+            let count : (w : W) → (over.network w).states ≡ (on.wording.told w).states = goes.states in
+            initial_begun m from x y xs ys same
+            (subst (λ (k : ℕ). AreInitial x k from) (count (on.cells.over w m)) p.0, p.1)
+            (subst (λ (k : ℕ). AreInitial y k from) (count (on.cells.over v m)) q.0, q.1)
         one_begun m from (Some left) x y xs ys made same carried p q = with_begun m left x y xs ys made same carried p q

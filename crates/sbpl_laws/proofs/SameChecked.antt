@@ -1,6 +1,6 @@
 -- The checking of one text is determined, as far as memory lasts.
 use Rattle.std.proofs.Common.{◌≡◌, ◌≢◌, ℕ, zero, suc, ◌+◌, ◌⊎◌, ◌++◌, Option, Some, None, List, [], ◌∷◌, length, IsSome}
-use Rattle.std.proofs.Common.{IfSome, refl, sym, ap, subst, ◌∙◌, inl, inr}
+use Rattle.std.proofs.Common.{Bool, IfSome, refl, sym, ap, subst, ◌∙◌, inl, inr}
 use Rattle.sbpl_promises.specs.sbpl_graph.Network.{Network}
 use Rattle.sbpl_promises.specs.sbpl_fixed.Formats.{Left, start_at}
 use Rattle.sbpl_promises.specs.sbpl_fixed.Tokens.{Piece}
@@ -13,15 +13,13 @@ use Rattle.sbpl_promises.specs.sbpl_cert.Text.{HasFault}
 use Rattle.sbpl_promises.specs.sbpl_cert.Versions.{claim_by, outcome_of}
 use Rattle.sbpl_promises.specs.declared.section_stop.SectionStop.{SectionStop}
 use Rattle.sbpl_promises.specs.declared.section_stop.SectionStop.TheVariants as section
-use Rattle.sbpl_promises.specs.Asked.{checked_direction}
 use Rattle.sbpl_promises.specs.Causes.{ReadsCourse}
 use Rattle.sbpl_promises.specs.Texts.{Scope}
 use Rattle.sbpl_promises.specs.declared.course.Course.{Course}
 use Rattle.sbpl_promises.specs.Checked.{AreChecked, Case, Ground, IsFlawed, IsHolding, IsShownHolding, IsStoppedIn}
 use Rattle.sbpl_promises.specs.Checked.{IsTrailingAt, case_of, from_in, to_in}
 use Rattle.sbpl_promises.specs.Clear.{SectionsAreClear, TextsAreClear}
-use Rattle.sbpl_promises.specs.Sites.{Site, start_after}
-use Rattle.sbpl_promises.specs.sbpl_replan.Directions.{Direction}
+use Rattle.sbpl_promises.specs.Sites.{Site, searched_on, start_after, to_of}
 use Rattle.sbpl_promises.specs.Intents.{checked_writes}
 use Rattle.sbpl_promises.specs.Promises.{IsChecked, IsCheckedIn}
 use Rattle.sbpl_promises.specs.sbpl_report.Verdicts.{holds_text}
@@ -43,8 +41,8 @@ trailing_one : (ts : List Piece) (f g : LabelFault) → IsTrailingAt ts f → Is
 trailing_one [] f g p q = absurd p
 trailing_one (t ∷ ts) f g p q = p ∙ sym q
 
-module _ {W : Type 0} (on : Site W) (Alike : W → W → Type 0) (alike : AreAlike on Alike) (d : Direction W)
-    (goes : GoesAlike on Alike d) (clear : SectionsAreClear) (one : OneMap) (c : Case on d) where
+module _ {W : Type 0} (on : Site W) (Alike : W → W → Type 0) (alike : AreAlike on Alike) (back : Bool)
+    (goes : GoesAlike on Alike back) (clear : SectionsAreClear) (one : OneMap) (c : Case (searched_on on back)) where
   one_flaw : (n m : Ground) (plan : ℕ) (left : Left) (f g : Flaw) → AreOneGround n m
       → IsFlawed n (from_in c plan) (to_in c plan) plan left f
       → IsFlawed m (from_in c plan) (to_in c plan) plan left g → f ≡ g
@@ -63,16 +61,16 @@ module _ {W : Type 0} (on : Site W) (Alike : W → W → Type 0) (alike : AreAli
   stops_as_far : (plan : ℕ) (left : Left) (s t : SectionStop) → t ≢ section.NoMemory → IsStoppedIn c plan left s
       → IsStoppedIn c plan left t → GoesAsFar [] [] (Some s) (Some t)
   stops_as_far plan left (section.Flaw f) (section.Flaw g) some (n, after, x) (m, later, y) =
-      let same = one_flaw n m plan left f g (one_ground on Alike alike d goes one c plan n m after later) x y in
+      let same = one_flaw n m plan left f g (one_ground on Alike alike back goes one c plan n m after later) x y in
       inl (refl, ap (λ (e : Flaw). Some (section.Flaw e)) same)
   stops_as_far plan left (section.Flaw f) (section.Fault g) some (n, after, x) (m, later, faulty) =
       absurd (clear.not_both plan _ left g
-      (readable on Alike alike d goes clear one c n m plan left x.section x.rest after later x.of x.tokens) faulty.1)
+      (readable on Alike alike back goes clear one c n m plan left x.section x.rest after later x.of x.tokens) faulty.1)
   stops_as_far plan left (section.Fault f) (section.Flaw g) some (m, later, faulty) (n, after, y) =
       absurd (clear.not_both plan _ left f
-      (readable on Alike alike d goes clear one c n m plan left y.section y.rest after later y.of y.tokens) faulty.1)
+      (readable on Alike alike back goes clear one c n m plan left y.section y.rest after later y.of y.tokens) faulty.1)
   stops_as_far plan left (section.Fault f) (section.Fault g) some (n, after, x) (m, later, y) =
-      let same = (one_ground on Alike alike d goes one c plan n m after later).network in
+      let same = (one_ground on Alike alike back goes one c plan n m after later).network in
       inl (
         refl,
         ap (λ (e : LabelFault). Some (section.Fault e)) (clear.one_fault plan m.network.states left f g
@@ -88,10 +86,10 @@ module _ {W : Type 0} (on : Site W) (Alike : W → W → Type 0) (alike : AreAli
   ends_as_far plan left None None some p q = inl (refl, refl)
   ends_as_far plan left None (Some (section.Flaw g)) some p q = absurd q
   ends_as_far plan left None (Some (section.Fault g)) some p q =
-      absurd (trailing_none on Alike alike d goes clear one c left.tokens g p q)
+      absurd (trailing_none on Alike alike back goes clear one c left.tokens g p q)
   ends_as_far plan left (Some (section.Flaw f)) b some p q = absurd p
   ends_as_far plan left (Some (section.Fault f)) None some p q =
-      absurd (trailing_none on Alike alike d goes clear one c left.tokens f q p)
+      absurd (trailing_none on Alike alike back goes clear one c left.tokens f q p)
   ends_as_far plan left (Some (section.Fault f)) (Some (section.Flaw g)) some p q = absurd q
   ends_as_far plan left (Some (section.Fault f)) (Some (section.Fault g)) some p q =
       inl (refl, ap (λ (e : LabelFault). Some (section.Fault e)) (trailing_one left.tokens f g p q))
@@ -117,20 +115,20 @@ module _ {W : Type 0} (on : Site W) (Alike : W → W → Type 0) (alike : AreAli
       stops_as_far plan left s t (λ is. some (ap (λ (x : SectionStop). Some x) is)) p q
   goes_as_far (suc more) plan left [] (o ∷ ps) (Some section.NoMemory) b some p q = inr (refl, (o ∷ ps, refl))
   goes_as_far (suc more) plan left [] (o ∷ ps) (Some (section.Flaw f)) b some p (n, after, rest, is, q) =
-      absurd (holds_not_stopped on Alike alike d goes clear one c n plan left rest o
+      absurd (holds_not_stopped on Alike alike back goes clear one c n plan left rest o
       (section.Flaw f) (λ no. cc) after is p)
   goes_as_far (suc more) plan left [] (o ∷ ps) (Some (section.Fault f)) b some p (n, after, rest, is, q) =
-      absurd (holds_not_stopped on Alike alike d goes clear one c n plan left rest o
+      absurd (holds_not_stopped on Alike alike back goes clear one c n plan left rest o
       (section.Fault f) (λ no. cc) after is p)
   goes_as_far (suc more) plan left (o ∷ os) [] a None some p q = absurd q
   goes_as_far (suc more) plan left (o ∷ os) [] a (Some t) some (n, after, rest, is, p) q =
-      absurd (holds_not_stopped on Alike alike d goes clear one c n plan left rest o t
+      absurd (holds_not_stopped on Alike alike back goes clear one c n plan left rest o t
       (λ no. some (ap (λ (x : SectionStop). Some x) no)) after is q)
   goes_as_far (suc more) plan left (o ∷ os) (o' ∷ ps) a b some (n, after, rest, is, p) (m, later, carried, also, q) =
       let both = clear.one left.tokens rest.tokens carried.tokens is.section also.section is.tokens also.tokens in
       let outcome : o ≡ o' = sym is.says ∙ ap outcome_of both.0 ∙ also.says in
       let same : carried ≡ rest =
-      same_left on Alike alike d goes clear one c carried rest (sym both.1) (also.same_end ∙ sym is.same_end) in
+      same_left on Alike alike back goes clear one c carried rest (sym both.1) (also.same_end ∙ sym is.same_end) in
       one_more o o' os ps a b outcome (goes_as_far more (plan + 1) rest os ps a b some p
       (subst (λ (l : Left). AreChecked IsHolding c (plan + 1) more l ps b) same q))
 
@@ -173,14 +171,14 @@ writes_as_far goals plan os ps a b (inr (out, (rest, parted))) =
 -- ---- the labels of a job
 
 -- in alike worlds and over one course, the checking of one text goes as far, of searches to the same goals
-pub checks_as_far : {W : Type 0} (on : Site W) (Alike : W → W → Type 0) (alike : AreAlike on Alike) (d : Direction W)
-    (goes : GoesAlike on Alike d) → SectionsAreClear → OneMap
+pub checks_as_far : {W : Type 0} (on : Site W) (Alike : W → W → Type 0) (alike : AreAlike on Alike) (back : Bool)
+    (goes : GoesAlike on Alike back) → SectionsAreClear → OneMap
     → (w v : W) (course also : Course) (text same_text : List ℕ) (goals others : ℕ → ℕ) (os ps : List Outcome)
     (a b : Option SectionStop)
     → Alike v w → on.cells.is_made w → also ≡ course → same_text ≡ text → b ≢ Some section.NoMemory
-    → IsCheckedIn IsShownHolding on d w course text goals os a
-    → IsCheckedIn IsShownHolding on d v also same_text others ps b → (goals ≡ others) × WritesAsFar goals 0 os ps a b
-checks_as_far on Alike alike d goes sections one w v course also text same_text goals others os ps a b near made
+    → IsCheckedIn IsShownHolding (searched_on on back) w course text goals os a
+    → IsCheckedIn IsShownHolding (searched_on on back) v also same_text others ps b → (goals ≡ others) × WritesAsFar goals 0 os ps a b
+checks_as_far on Alike alike back goes sections one w v course also text same_text goals others os ps a b near made
     courses texts some x y =
     let from : y.start ≡ x.start = alike.starts v w y.start x.start near y.start_is x.start_is in
     let to : y.goal ≡ x.goal = alike.ends v w y.goal x.goal near y.goal_is x.goal_is in
@@ -190,19 +188,20 @@ checks_as_far on Alike alike d goes sections one w v course also text same_text 
     (ap (λ (c : Course). c.moves) courses) in
     let batches : also.batches ≡ course.batches = ap (λ (c : Course). c.batches) courses in
     let there =
-    same_case on d v course.batches also.batches (start_after on.wording v y.start also.moves) mine y.goal x.goal
+    same_case (searched_on on back) v course.batches also.batches (start_after on.wording v y.start also.moves) mine y.goal x.goal
     same_text text ps b batches starts to texts y.checked in
-    let c : Case on d = case_in on d w course.batches mine x.goal in
+    let c : Case (searched_on on back) = case_in (searched_on on back) w course.batches mine x.goal in
     let q =
-    checked_on on Alike alike d goes v w near made course.batches mine x.goal (suc (length course.batches)) 0
+    checked_on on Alike alike back goes v w near made course.batches mine x.goal (suc (length course.batches)) 0
     (start_at text 0) ps b there in
     let p =
-    checked_on on Alike alike d goes w w (alike.same w) made course.batches mine x.goal (suc (length course.batches)) 0
+    checked_on on Alike alike back goes w w (alike.same w) made course.batches mine x.goal (suc (length course.batches)) 0
     (start_at text 0) os a x.checked in
-    let same : to_in (case_of on d v also y.start y.goal) ≡ to_in (case_of on d w course x.start x.goal) =
-    λ i k. d.to (starts i k) (to i) in (
+    let same : to_in (case_of (searched_on on back) v also y.start y.goal)
+    ≡ to_in (case_of (searched_on on back) w course x.start x.goal) =
+    λ i k. to_of back (starts i k) (to i) in (
       x.goals_are ∙ sym same ∙ sym y.goals_are,
-      writes_as_far goals 0 os ps a b (goes_as_far on Alike alike d goes sections one c (suc (length course.batches)) 0
+      writes_as_far goals 0 os ps a b (goes_as_far on Alike alike back goes sections one c (suc (length course.batches)) 0
           (start_at text 0) os ps a b some p q),
     )
 
@@ -222,6 +221,6 @@ check_as_far clear sections one held f Alike alike stand changes labels goals ot
     let course : y.course ≡ x.course =
     sym (one_course clear held changes (f.scope w) x.course y.course told_changes x.changes_say read) in
     let text : y.text ≡ x.text = read_once (held labels) y.text x.text told_labels y.read x.read in
-    checks_as_far f.on Alike alike (checked_direction f.on f.moves) (goes_alike f.on Alike alike f.moves) sections one w
+    checks_as_far f.on Alike alike f.moves (goes_alike f.on Alike alike f.moves) sections one w
     v x.course y.course x.text y.text goals others os ps a b (alike.back w v near) x.is_world course text
     some x.in_world y.in_world

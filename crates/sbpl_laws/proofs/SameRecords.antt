@@ -43,10 +43,9 @@ use Rattle.sbpl_promises.specs.sbpl_job.declared.job.SearchJob.{SearchJob}
 use Rattle.sbpl_promises.specs.sbpl_report.declared.record.PathStep.{PathStep}
 use Rattle.sbpl_promises.specs.sbpl_report.declared.record.PathRecord.{PathRecord}
 use Rattle.sbpl_promises.specs.sbpl_report.declared.record.PlanRecord.{PlanRecord}
-use Rattle.sbpl_promises.specs.Asked.{Known, Search, ask_of, checked_direction, is_determined, known, search_of}
-use Rattle.sbpl_promises.specs.Sites.{Site, start_after}
+use Rattle.sbpl_promises.specs.Asked.{Known, Search, ask_of, from_by, is_determined, known, known_by, search_of, to_by}
+use Rattle.sbpl_promises.specs.Sites.{Leads, Site, searched_on, start_after}
 use Rattle.sbpl_promises.specs.sbpl_job.Jobs.{may_move}
-use Rattle.sbpl_promises.specs.sbpl_replan.Directions.{Direction}
 use Rattle.sbpl_promises.specs.Headline.{AreRecords, AreSteps, Carried, IsMarked, IsPlanOf, IsSearched, IsTurned}
 use Rattle.sbpl_promises.specs.Headline.{Joins, IsSameResult, expanded_before}
 use Rattle.sbpl_promises.specs.sbpl_back.Reversed.{PathsTurnOnce}
@@ -61,8 +60,8 @@ use Rattle.sbpl_laws.proofs.SameBegun.{AreCarried, one_begun}
 -- ---- what is told
 
 -- the steps of the same arcs are the same
-module _ {W : Type 0} (on : Site W) (Alike : W → W → Type 0) (alike : AreAlike on Alike) (w v : W) (a : Alike w v)
-    (same : on.network w ≡ on.network v) where
+module _ {W : Type 0} (on : Site W) (Alike : W → W → Type 0) (alike : AreAlike on Alike) (back : Bool) (w v : W)
+    (a : Alike w v) (same : on.wording.told w ≡ on.wording.told v) where
   one_steps : (s u : ℕ) → s ≡ u → (arcs : List ℕ) (xs ys : List PathStep) → AreSteps on w s arcs xs
       → AreSteps on v u arcs ys → xs ≡ ys
   one_steps s u at [] [] [] left right = refl
@@ -73,7 +72,7 @@ module _ {W : Type 0} (on : Site W) (Alike : W → W → Type 0) (alike : AreAli
   one_steps s u at (k ∷ ks) (x ∷ xs) (y ∷ ys) left right =
       let own : AreSteps on v s (k ∷ ks) (y ∷ ys) =
       subst (λ (z : ℕ). AreSteps on v z (k ∷ ks) (y ∷ ys)) (sym at) right in
-      let head : (on.network w).head s k ≡ Some own.0 = ap (λ (n : Network). n.head s k) same ∙ own.1 in
+      let head : (on.wording.told w).head s k ≡ Some own.0 = ap (λ (n : Network). n.head s k) same ∙ own.1 in
       let target : left.0 ≡ own.0 = same_Some left.0 own.0 (sym left.1 ∙ head) in
       let first : x ≡ y =
       alike.step w v s k left.0 x y a left.2 (subst (λ (t : ℕ). on.wording.step v s k t y) (sym target) own.2) in
@@ -82,7 +81,7 @@ module _ {W : Type 0} (on : Site W) (Alike : W → W → Type 0) (alike : AreAli
 
   -- the outcome that tells a result is determined
   one_told : (start goal : ℕ) (r : Outcome FoundPath) (o p : Outcome PathRecord) → IsSameResult r o → IsSameResult r p
-      → Joins on w start goal o → Joins on v start goal p → o ≡ p
+      → Joins (searched_on on back) w start goal o → Joins (searched_on on back) v start goal p → o ≡ p
   one_told start goal (outcome.Path found) (outcome.Path x) (outcome.Path y) told also joins joins' =
       let way : x.arcs ≡ y.arcs = told.0 ∙ sym also.0 in
       let price : x.cost ≡ y.cost = told.1 ∙ sym also.1 in
@@ -271,39 +270,39 @@ pub record IsPlannerDetermined {Note : Type 0} (means : Meaning Note) : Type 0 w
   pub plans : PassesAreOne means
 
 module _ {W : Type 0} (on : Site W) (Alike : W → W → Type 0) (alike : AreAlike on Alike) (search : Search)
-    (law : IsPlannerDetermined search.means) (d : Direction W) (goes : GoesAlike on Alike d) (once : LeadsOnce on d)
+    (law : IsPlannerDetermined search.means) (back : Bool) (goes : GoesAlike on Alike back) (once : LeadsOnce on back)
     (initial : InitialLabelsAreOne) (one_result : OutcomesAreOne) (cut_one : CutRowsAreOne) (w v : W)
     (both_alike : Alike w v) where
   -- the planner as the program knows it at the site
   abbrev by : Known W
-  by = record { on = on; Note = search.Note; means = search.means; line = search.line; direction = d }
+  by = known_by (searched_on on back) search.means search.line
 
   one_record : (m : CellMap) (how : SearchJob) (outputs : Outputs) (start goal : ℕ) (log : List Entry)
       (before : Option Carried) (carried other : Carried) (r u : PlanRecord)
-      → on.cells.is_made (on.cells.over w m) → on.network (on.cells.over w m) ≡ on.network (on.cells.over v m)
+      → on.cells.is_made (on.cells.over w m) → on.wording.told (on.cells.over w m) ≡ on.wording.told (on.cells.over v m)
       → AreCarried on Alike alike w v both_alike before → r.plan ≡ u.plan
-      → Joins on (on.cells.over w m) start goal r.outcome → Joins on (on.cells.over v m) start goal u.outcome
+      → Joins by.on (on.cells.over w m) start goal r.outcome → Joins by.on (on.cells.over v m) start goal u.outcome
       → IsSearched by (on.cells.over w m) how outputs start goal before carried r
       → IsSearched by (on.cells.over v m) how outputs start goal before other u
       → r.incumbent ≡ newest (with_plan log r) → u.incumbent ≡ newest (with_plan log u)
-      → AreOneRecord (on.network (on.cells.over w m)).states carried other r u
+      → AreOneRecord (on.wording.told (on.cells.over w m)).states carried other r u
   one_record m how outputs start goal log before carried other r u made same begins_alike number joins joins' x
       y newest_is newest_is' =
       let here : W = on.cells.over w m in
       let there : W = on.cells.over v m in
       let a : Alike here there = alike.over w v m both_alike in
-      let count : ℕ = (on.network here).states in
-      let n : Network = d.network here in
-      let one_network : d.network here ≡ d.network there = goes.network here there same in
-      let from : ℕ = d.from start goal in
-      let to : ℕ = d.to start goal in
+      let count : ℕ = (on.wording.told here).states in
+      let n : Network = by.on.network here in
+      let one_network : by.on.network here ≡ by.on.network there = goes.network here there same in
+      let from : ℕ = from_by by start goal in
+      let to : ℕ = to_by by start goal in
       let ask : Ask = ask_of how outputs in
       let q : Inquiry = record { network = n; guide = x.guide; goal = to; ask = ask } in
       let begun =
-      one_begun on Alike alike w v both_alike initial by.means law.beginnings d goes m from before x.begun y.begun
+      one_begun on Alike alike w v both_alike initial by.means law.beginnings back goes m from before x.begun y.begun
       x.raised y.raised made same begins_alike x.begins y.begins in
       let guides : (s : ℕ) → s < count → x.guide s ≡ y.guide s =
-      goes.guides here there start goal x.guide y.guide a same x.is_guide y.is_guide in
+      goes.guides here there to x.guide y.guide a same x.is_guide y.is_guide in
       let guided : AreAlikeGuides (states_of x.begun) x.guide y.guide =
       λ s inside. guides s (subst (λ (k : ℕ). s < k) begun.states inside) in
       let passes : ArePasses by.means (record { network = n; guide = y.guide; goal = to; ask = ask }) how.first x.begun
@@ -319,13 +318,14 @@ module _ {W : Type 0} (on : Site W) (Alike : W → W → Type 0) (alike : AreAli
       let is_result : IsResultOf n y.guide to carried.labels y.found = rw (one_network, one.labels) y.is_result in
       let results : x.found ≡ y.found =
       one_result n x.guide y.guide to carried.labels x.found y.found no_arc at_end x.is_result is_result in
-      let turned : IsTurned (d.leads there start goal) x.found y.told.result = rw results y.told.turned in
+      let turned : IsTurned (Leads back (on.wording.told there) start goal) x.found y.told.result =
+      rw results y.told.turned in
       let paths : x.told.result ≡ y.told.result =
       one_turned (λ f l k. once here there start goal f l k same) x.found x.told.result
       y.told.result x.told.turned turned in
       let told : IsSameResult x.told.result u.outcome = rw paths y.told.same in
       let outcomes : r.outcome ≡ u.outcome =
-      one_told on Alike alike here there a same start goal x.told.result r.outcome u.outcome
+      one_told on Alike alike back here there a same start goal x.told.result r.outcome u.outcome
       x.told.same told joins joins' in
       let all : r.passes ≡ u.passes = x.lines ∙ ap (map (traced_pass by.line)) one.passes ∙ sym y.lines in
       let counts : expansions r.passes ≡ expansions u.passes = ap expansions all in
@@ -390,7 +390,7 @@ module _ {W : Type 0} (on : Site W) (Alike : W → W → Type 0) (alike : AreAli
         let plan : IsPlanOf by (on.cells.over v carried.map) how outputs (starts k) goal k log before other u =
         subst (λ (m : CellMap). IsPlanOf by (on.cells.over v m) how outputs (starts k) goal k log before other u)
         (sym maps) right.2 in
-        let same : on.network (on.cells.over w carried.map) ≡ on.network (on.cells.over v carried.map) =
+        let same : on.wording.told (on.cells.over w carried.map) ≡ on.wording.told (on.cells.over v carried.map) =
         alike.graph _ _ (alike.over w v carried.map both_alike) left.2.is_world plan.is_world in
         let one =
         one_record carried.map how outputs (starts k) goal log before carried other r u left.2.is_world same
@@ -449,7 +449,7 @@ few_are_first on Alike alike laws turned initial one_result cut_one one_map w v 
     in
     let few = left.few in
     let many = right.all_made refl in
-    one_records on Alike alike (search_of how.planner) (laws how.planner determined) (checked_direction on back)
+    one_records on Alike alike (search_of how.planner) (laws how.planner determined) back
     (goes_alike on Alike alike back) (leads_once on Alike alike turned back) initial one_result cut_one w v a one_map
     course.batches how outputs mine left.goal
     rs us 0 log None tt (omega arith) left.each each

@@ -87,11 +87,14 @@ impl Guide for Octile {
 }
 
 impl Heuristic<Nav> for Octile {
+    ghost use Rattle.std.specs.Prelude.{false};
     ghost use Rattle.sbpl_nav2d.specs.Guides.{IsOctile, IsOctileFor};
 
     ghost says = { IsOctile };
 
     ghost is_made_for = { IsOctileFor };
+
+    ghost takes_memory = { false };
 
     fn build(_alloc: Global, nav: &Nav, goal: u32) -> Result<Octile, NoMemory> {
         Ok(Octile::to(nav.env(), goal))

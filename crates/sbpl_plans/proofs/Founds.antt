@@ -19,7 +19,7 @@ use Rattle.sbpl_worlds.specs.sbpl_replan.Replanning.{Standing, StandsOutOfMemory
 use Rattle.sbpl_worlds.specs.sbpl_job.declared.job.Outputs.{Outputs}
 use Rattle.sbpl_worlds.specs.sbpl_job.declared.job.SearchJob.{SearchJob}
 use Rattle.sbpl_worlds.specs.sbpl_report.declared.record.TraceLine.{TraceLine}
-use Rattle.sbpl_worlds.specs.sbpl_promises.Asked.{Known, ask_of}
+use Rattle.sbpl_worlds.specs.sbpl_promises.Asked.{Known, ask_of, from_by, to_by}
 use Rattle.sbpl_worlds.specs.sbpl_promises.Headline.{Begins, Carried}
 use Rattle.sbpl_plans.specs.Planning.{IsPublishedInPart}
 use Rattle.sbpl_worlds.specs.sbpl_promises.Published.{Entry, founds, with_paths}
@@ -107,10 +107,10 @@ on_err_is P (Err e) h = h
 module _ {W : Type 0} (by : Known W) (w : W) (guide : ℕ → ℕ) (start goal k : ℕ) (how : SearchJob) (outputs : Outputs)
     (log shown : List Entry) (before : Option Carried) where
   pub broken_by : (old : Standing by.Note) (asked : Ask) (left : Marks) (ps : List (Pass by.Note))
-      → by.direction.guides w start goal guide
-      → Begins by.means by.on by.direction w (by.direction.from start goal) before old.search.labels old.search.raised
-      → asked ≡ ask_of how outputs → old.search.goal ≡ by.direction.to start goal
-      → AreFirstPasses by.means (inquiry_of (by.direction.network w) guide old.search.goal asked) asked.first
+      → by.on.says w (to_by by start goal) guide
+      → Begins by.means by.on w (from_by by start goal) before old.search.labels old.search.raised
+      → asked ≡ ask_of how outputs → old.search.goal ≡ to_by by start goal
+      → AreFirstPasses by.means (inquiry_of (by.on.network w) guide old.search.goal asked) asked.first
       old.search.labels ps left
       → shown ≡ with_paths log k 0 (founds ps) → IsPublishedInPart by w how outputs start goal k log shown before
   broken_by old asked left ps is_guide begins same to made shown_is = record {
@@ -124,9 +124,9 @@ module _ {W : Type 0} (by : Known W) (w : W) (guide : ℕ → ℕ) (start goal k
       left = left;
       notes = ps;
       passes =
-          subst (λ (a : Ask). AreFirstPasses by.means (inquiry_of (by.direction.network w) guide
-          (by.direction.to start goal) a) a.first old.search.labels ps left) same
-          (subst (λ (t : ℕ). AreFirstPasses by.means (inquiry_of (by.direction.network w) guide t asked) asked.first
+          subst (λ (a : Ask). AreFirstPasses by.means (inquiry_of (by.on.network w) guide
+          (to_by by start goal) a) a.first old.search.labels ps left) same
+          (subst (λ (t : ℕ). AreFirstPasses by.means (inquiry_of (by.on.network w) guide t asked) asked.first
           old.search.labels ps left) to made);
       found_is = refl;
     });
@@ -135,10 +135,10 @@ module _ {W : Type 0} (by : Known W) (w : W) (guide : ℕ → ℕ) (start goal k
 
   -- and where memory ran out in the plan
   pub stands_broken : (Ready : Type 0) (old new : Standing by.Note) (asked : Ask)
-      → by.direction.guides w start goal guide
-      → Begins by.means by.on by.direction w (by.direction.from start goal) before old.search.labels old.search.raised
-      → asked ≡ ask_of how outputs → old.search.goal ≡ by.direction.to start goal
-      → StandsOutOfMemory by.means (inquiry by.direction w guide old asked) Ready (λ ps.
+      → by.on.says w (to_by by start goal) guide
+      → Begins by.means by.on w (from_by by start goal) before old.search.labels old.search.raised
+      → asked ≡ ask_of how outputs → old.search.goal ≡ to_by by start goal
+      → StandsOutOfMemory by.means (inquiry (by.on.network w) guide old asked) Ready (λ ps.
       shown ≡ with_paths log k 0 (founds ps)) old new → IsPublishedInPart by w how outputs start goal k log shown before
   stands_broken Ready old new asked is_guide begins same to (inl cut) =
       broken_by old asked new.search.labels cut.part.passes is_guide begins same to cut.part.made cut.part.told

@@ -1,5 +1,5 @@
 -- How the making of plans goes on from one to the next.
-use Rattle.std.proofs.Common.{◌≡◌, ◌⊎◌, ℕ, suc, add-zero, ◌+◌, ◌≤◌, true, false, List, [], ◌∷◌, ◌++◌, flat_map, length}
+use Rattle.std.proofs.Common.{◌≡◌, ◌⊎◌, ℕ, suc, add-zero, ◌+◌, ◌≤◌, Bool, true, false, List, [], ◌∷◌, ◌++◌, flat_map, length}
 use Rattle.std.proofs.Common.{slice_get, Option, Some, None, Result, Ok, Err, refl, sym, ◌∙◌, ap, subst, append_assoc}
 use Rattle.std.proofs.Common.{append-nil, arith, inl, inr}
 use Rattle.std.proofs.lemmas.Option.{slice_get_within}
@@ -15,9 +15,10 @@ use Rattle.sbpl_worlds.specs.sbpl_labels.Marks.{Marks}
 use Rattle.sbpl_worlds.specs.sbpl_map.CellMap.{CellMap}
 use Rattle.sbpl_worlds.specs.sbpl_map.MapAfter.{AreWritten, IsMapAfter}
 use Rattle.sbpl_worlds.specs.sbpl_map.declared.write.Write as change
-use Rattle.sbpl_worlds.specs.sbpl_promises.Asked.{Known, known}
-use Rattle.sbpl_worlds.specs.sbpl_promises.Sites.{Site}
-use Rattle.sbpl_worlds.specs.sbpl_replan.Replanning.{BeginsWith, Follows, Standing, StaysTheSame}
+use Rattle.sbpl_worlds.specs.sbpl_promises.Asked.{Known, from_by, known_as, to_by}
+use Rattle.sbpl_worlds.specs.sbpl_promises.Sites.{Site, from_of}
+use Rattle.sbpl_worlds.specs.sbpl_search.State.{State}
+use Rattle.sbpl_worlds.specs.sbpl_replan.Replanning.{BeginsWith, IsAimed, Standing, StaysTheSame}
 use Rattle.sbpl_worlds.specs.sbpl_report.declared.record.PlanRecord.{PlanRecord}
 use Rattle.sbpl_worlds.specs.sbpl_plan.declared.found.Found.{Found}
 use Rattle.sbpl_worlds.specs.sbpl_promises.Headline.{Carried, IsBrokenIn, IsBrokenOff, IsPlanOf}
@@ -27,6 +28,12 @@ use Rattle.sbpl_plans.specs.Planning.{EndsOnePlan, GoesOnFrom, IsSetFor, carried
 use Rattle.sbpl_worlds.specs.sbpl_promises.Promises.{EndsPlans}
 use Rattle.sbpl_worlds.specs.sbpl_promises.Writing.{AreAppended, DeskState, EndsAs, EndsIn, Write, status_after}
 use Rattle.sbpl_telling.proofs.Writings.{ends_as_after, none_made, status_ends}
+
+-- where the start stays or the search goes the other way round, it goes from the same state
+from_stays : (back : Bool) (start next goal : ℕ) → (back ≡ false → next ≡ start)
+    → from_of back start goal ≡ from_of back next goal
+from_stays true start next goal still = refl
+from_stays false start next goal still = sym (still refl)
 
 -- ---- plans in turn
 
@@ -60,9 +67,9 @@ module _ {W : Type 0} (plans : Plans W) where
     pub after : IsMapAfter (by.on.cells.map w) batches k (by.on.cells.map now)
     pub kept : by.on.cells.is_made now
     pub start_is : start ≡ starts k
-    pub set : IsSetFor by.direction how start goal r
+    pub set : IsSetFor how (from_by by start goal) (to_by by start goal) r
     pub before : Option Carried
-    pub goes_on : GoesOnFrom by.means by.on by.direction now (by.direction.from start goal) before r
+    pub goes_on : GoesOnFrom by.means by.on now (from_by by start goal) before r
     pub ends : (c : DeskState) (status : ℕ) (shown : List Entry) → Ends k log shown before b c status
         → Ends 0 first shown None a c status
 
@@ -156,8 +163,8 @@ module _ {W : Type 0} {plans : Plans W} where
 
   pub sets_out : {start : ℕ} {log : List Entry} {r : Standing by.Note} {a : DeskState}
       → IsTerrain by.on.network by.on.cells → IsMapAfter (by.on.cells.map w) batches 0 (by.on.cells.map w)
-      → by.on.cells.is_made w → start ≡ starts 0 → IsSetFor by.direction how start goal r
-      → GoesOnFrom by.means by.on by.direction w (by.direction.from start goal) None r
+      → by.on.cells.is_made w → start ≡ starts 0 → IsSetFor how (from_by by start goal) (to_by by start goal) r
+      → GoesOnFrom by.means by.on w (from_by by start goal) None r
       → IsGoing plans w 0 start log log r a a
   sets_out law first kept start_is set begun = record {
     same = sym (law.present w);
@@ -205,7 +212,7 @@ module _ {W : Type 0} {plans : Plans W} where
     -- what holds of the plan that is made next
     abbrev pub NextEnds : Result (Unit {0}) WriteStop → Type 0
     NextEnds result =
-        (before : Option Carried) → GoesOnFrom by.means by.on by.direction now (by.direction.from start goal) before r
+        (before : Option Carried) → GoesOnFrom by.means by.on now (from_by by start goal) before r
         → EndsOnePlan by written_of now how outputs start goal k log shown before
         (carried_of (by.on.cells.map now) s) b c result
 
@@ -253,15 +260,15 @@ module _ {W : Type 0} {plans : Plans W} where
         → (next : W) (next_start : ℕ) (t u : Standing by.Note) (batch : List change.Write)
         → ((first m m' : CellMap) (bs : List (List change.Write)) (n : ℕ) (l : List change.Write)
         → IsMapAfter first bs n m → slice_get bs n ≡ Some l → AreWritten m l m' → IsMapAfter first bs (n + 1) m')
-        → NextEnds (Ok tt) → NoneFalls b.write_faults c.write_faults → IsSetFor by.direction how start goal s
+        → NextEnds (Ok tt) → NoneFalls b.write_faults c.write_faults → IsSetFor how (from_by by start goal) (to_by by start goal) s
         → slice_get batches k ≡ Some batch → AreWritten (by.on.cells.map now) batch (by.on.cells.map next)
         → next ≡ by.on.cells.over now (by.on.cells.map next) → by.on.cells.is_made next
-        → BeginsWith by.means by.on.network by.on.cells by.direction now next s.search.labels t.search.labels
+        → BeginsWith by.means by.on.network by.on.cells now next s.search.labels t.search.labels
         t.search.raised → StaysTheSame s t → t.counts ≡ s.counts
-        → next_start ≡ starts (k + 1) → (by.direction.moves ≡ false → next_start ≡ start)
-        → Follows by.direction next_start t u → IsGoing plans next (k + 1) next_start first shown u a c
+        → next_start ≡ starts (k + 1) → (by.on.wording.back ≡ false → next_start ≡ start)
+        → IsAimed (to_by by next_start goal) t u → IsGoing plans next (k + 1) next_start first shown u a c
     changes terrain next next_start t u batch law made low set at written others kept begins stays counts start_is
-        still follows = record {
+        still aimed = record {
           same =
               others ∙ ap (λ (v : W). by.on.cells.over v (by.on.cells.map next)) going.same
               ∙ terrain.again w (by.on.cells.map now) (by.on.cells.map next);
@@ -272,23 +279,26 @@ module _ {W : Type 0} {plans : Plans W} where
           kept = kept;
           start_is = start_is;
           set = record {
-            between =
-                follows.between start goal still
-                (record { from = stays.start ∙ set.between.from; to = stays.goal ∙ set.between.to });
-            budget_is = ap (λ (n : Counts). n.per_plan) follows.counts ∙ stays.per_plan ∙ set.budget_is;
+            between = record {
+              from_is =
+                  ap (λ (x : State by.Note). x.labels.start) aimed.search ∙ stays.start ∙ set.between.from_is
+                  ∙ from_stays by.on.wording.back start next_start goal still;
+              to_is = ap (λ (x : State by.Note). x.goal) aimed.search;
+            };
+            budget_is = ap (λ (n : Counts). n.per_plan) aimed.counts ∙ stays.per_plan ∙ set.budget_is;
           };
           before = Some (carried_of (by.on.cells.map now) s);
           goes_on = record {
             begins =
-                subst (λ (v : W). BeginsWith by.means by.on.network by.on.cells by.direction v next s.search.labels
+                subst (λ (v : W). BeginsWith by.means by.on.network by.on.cells v next s.search.labels
                 u.search.labels u.search.raised) (sym back)
                 (subst
-                (λ (l : List ℕ). BeginsWith by.means by.on.network by.on.cells by.direction now next s.search.labels
-                u.search.labels l) (sym follows.raised)
+                (λ (l : List ℕ). BeginsWith by.means by.on.network by.on.cells now next s.search.labels
+                u.search.labels l) (ap (λ (x : State by.Note). x.raised) (sym aimed.search))
                 (subst
-                (λ (m : Marks). BeginsWith by.means by.on.network by.on.cells by.direction now next s.search.labels m
-                t.search.raised) (sym follows.labels) begins));
-            counted = ap (λ (n : Counts). n.run) (sym counts ∙ sym follows.counts);
+                (λ (m : Marks). BeginsWith by.means by.on.network by.on.cells now next s.search.labels m
+                t.search.raised) (ap (λ (x : State by.Note). x.labels) (sym aimed.search)) begins));
+            counted = ap (λ (n : Counts). n.run) (sym counts ∙ sym aimed.counts);
           };
           ends = λ d status later e. tells made low e;
         }
@@ -303,8 +313,8 @@ pub ends_by : {W : Type 0} {on : Site W} {written_of : PlanRecord → List Write
     {batches : List (List change.Write)} {how : SearchJob} {outputs : Outputs} {starts : ℕ → ℕ} {goal : ℕ}
     {log shown : List Entry} {a b : DeskState} {status : ℕ}
     (p : Planner) → how.planner ≡ p
-    → EndsPlans (known on p) written_of w batches how outputs starts goal 0 log shown None a b status
-    → EndsPlans (known on how.planner) written_of w batches how outputs starts goal 0 log shown None a b status
+    → EndsPlans (known_as on p) written_of w batches how outputs starts goal 0 log shown None a b status
+    → EndsPlans (known_as on how.planner) written_of w batches how outputs starts goal 0 log shown None a b status
 ends_by {W} {on} {written_of} {w} {batches} {how} {outputs} {starts} {goal} {log} {shown} {a} {b} {status} p is ends =
     subst (λ (x : Planner).
-    EndsPlans (known on x) written_of w batches how outputs starts goal 0 log shown None a b status) (sym is) ends
+    EndsPlans (known_as on x) written_of w batches how outputs starts goal 0 log shown None a b status) (sym is) ends

@@ -5,10 +5,8 @@ use Rattle.sbpl_worlds.specs.sbpl_desk.declared.desk.WriteStop.TheVariants.{NoMe
 use Rattle.sbpl_worlds.specs.sbpl_map.CellMap.{CellMap}
 use Rattle.sbpl_worlds.specs.sbpl_job.declared.job.Outputs.{Outputs}
 use Rattle.sbpl_worlds.specs.sbpl_job.declared.job.SearchJob.{SearchJob}
-use Rattle.sbpl_worlds.specs.sbpl_replan.Directions.{Direction}
 use Rattle.sbpl_worlds.specs.sbpl_replan.Replanning.{GoesBetween, Standing}
 use Rattle.sbpl_worlds.specs.sbpl_report.declared.record.PlanRecord.{PlanRecord}
-use Rattle.sbpl_worlds.specs.sbpl_report.declared.record.TraceLine.{TraceLine}
 use Rattle.sbpl_worlds.specs.sbpl_search.Meaning.{Meaning}
 use Rattle.sbpl_worlds.specs.sbpl_promises.Asked.{Known}
 use Rattle.sbpl_worlds.specs.sbpl_promises.Sites.{Site}
@@ -17,13 +15,9 @@ use Rattle.sbpl_worlds.specs.sbpl_promises.Headline.{Begins, Carried, IsBrokenOf
 use Rattle.sbpl_worlds.specs.sbpl_promises.Published.{Entry, with_paths, with_plan}
 use Rattle.sbpl_worlds.specs.sbpl_promises.Writing.{AreAppended, DeskState, EndsIn, Stays, Write}
 
--- a planner as the program knows it at a site, by what its passes mean, how a note of theirs is told, and its direction
-abbrev pub known_by : {W Note : Type 0} → Site W → Meaning Note → (Note → TraceLine) → Direction W → Known W
-known_by {Note} on means line d = record { on = on; Note = Note; means = means; line = line; direction = d }
-
--- the plans go from this start to this goal, with the budget that is asked
-pub record IsSetFor {Note W : Type 0} (d : Direction W) (how : SearchJob) (start goal : ℕ) (s : Standing Note) : Type 0 where
-  pub between : GoesBetween d start goal s
+-- the plans are searched from the one state to the other, with the budget that is asked
+pub record IsSetFor {Note : Type 0} (how : SearchJob) (from to : ℕ) (s : Standing Note) : Type 0 where
+  pub between : GoesBetween from to s
   pub budget_is : s.counts.per_plan ≡ how.budget
 
 -- what the last plan on a map leaves to the next
@@ -31,8 +25,8 @@ abbrev pub carried_of : {Note : Type 0} → CellMap → Standing Note → Carrie
 carried_of m s = record { map = m; labels = s.search.labels; expanded = s.counts.run }
 
 -- the next plan in a world, whose search goes from this state, goes on from the plans before it
-pub record GoesOnFrom {Note W : Type 0} (means : Meaning Note) (on : Site W) (d : Direction W) (w : W) (from : ℕ) (before : Option Carried) (s : Standing Note) : Type 0 where
-  pub begins : Begins means on d w from before s.search.labels s.search.raised
+pub record GoesOnFrom {Note W : Type 0} (means : Meaning Note) (on : Site W) (w : W) (from : ℕ) (before : Option Carried) (s : Standing Note) : Type 0 where
+  pub begins : Begins means on w from before s.search.labels s.search.raised
   pub counted : expanded_before before ≡ s.counts.run
 
 -- the record of plan k in a world, and what was published before it and after

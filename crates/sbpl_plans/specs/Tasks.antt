@@ -1,5 +1,5 @@
 -- What the plans of a job are asked for, and how they end.
-use Rattle.std.specs.Prelude.{ℕ, ◌<◌, Bool, List, None}
+use Rattle.std.specs.Prelude.{ℕ, ◌<◌, List, None}
 use Rattle.sbpl_worlds.specs.sbpl_job.Jobs.{IsSearchJob}
 use Rattle.sbpl_plans.specs.declared.task.Task.{Task}
 use Rattle.sbpl_worlds.specs.sbpl_promises.Asked.{Known}
@@ -12,11 +12,11 @@ use Rattle.sbpl_worlds.specs.sbpl_report.declared.record.PlanRecord.{PlanRecord}
 
 -- these plans can be made in a world: they go between its states, by a search in range, and the map and the robot, which moves or not,
 -- take their course in it
-pub record CanBeMade {W : Type 0} (on : Site W) (moves : Bool) (w : W) (t : Task) : Type 0 where
-  pub start : t.start < (on.network w).states
-  pub goal : t.goal < (on.network w).states
+pub record CanBeMade {W : Type 0} (on : Site W) (w : W) (t : Task) : Type 0 where
+  pub start : t.start < (on.wording.told w).states
+  pub goal : t.goal < (on.wording.told w).states
   pub search : IsSearchJob t.how.now
-  pub course : IsCourseIn on moves w t.course.now
+  pub course : IsCourseIn on on.wording.back w t.course.now
   pub kept : on.cells.is_made w
 
 -- how these plans end, which begin in a world: what was published before and after, what the desk held, and the status

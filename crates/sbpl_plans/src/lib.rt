@@ -5,9 +5,8 @@ mod plan_record;
 mod planners;
 mod plans;
 mod publishing;
-mod recorded;
 mod task;
 
-pub use planners::{make_plans, plans_by_adstar, plans_forwards};
+pub use planners::{make_plans, plans_by_adstar};
 pub use publishing::LiveBoard;
 pub use task::Task;

@@ -2,26 +2,30 @@
 
 ghost use Rattle.std.specs.Prelude.{map, [], if◌then◌else◌, ◌≡◌, ◌+◌, ◌^◌, ◌<◌, ◌≤◌, ℕ, length, IfOk, MatchBool, None, OnErr, Option, Some};
 ghost use Rattle.sbpl_worlds.specs.sbpl_promises.Headline.{AreSteps, Carried, IsKnownWithin, IsNoneThere, IsPathFrom, IsSearched, IsWithinBound, KeepsPromises, Joins, JoinsStates, IsSameResult, IsToldOf};
-ghost use Rattle.sbpl_worlds.specs.sbpl_promises.Sites.{site_of};
+ghost use Rattle.sbpl_worlds.specs.sbpl_promises.Sites.{Leads, from_of, site_of, to_of};
 ghost use Rattle.sbpl_worlds.specs.sbpl_report.Traces.{traced_pass};
-ghost use Rattle.sbpl_plans.specs.Planning.{GoesOnFrom, IsPublishedInPart, IsSetFor, carried_of, known_by};
+ghost use Rattle.sbpl_plans.specs.Planning.{GoesOnFrom, IsPublishedInPart, IsSetFor, carried_of};
 ghost use Rattle.sbpl_worlds.specs.sbpl_promises.Published.{founds, newest, with_paths, with_plan};
 ghost use Rattle.sbpl_worlds.specs.sbpl_plan.Asked.{IsAsk, MOST_PASSES};
 ghost use Rattle.sbpl_worlds.specs.sbpl_plan.Determined.{AreWithin};
 ghost use Rattle.sbpl_worlds.specs.sbpl_plan.Planned.{IsPlanned};
-ghost use Rattle.sbpl_worlds.specs.sbpl_replan.Replanning.{StandsOutOfMemory, StaysTheSame, at_plan, inquiry};
+ghost use Rattle.sbpl_worlds.specs.sbpl_replan.Replanning.{IsReadyIn, StandsOutOfMemory, StaysTheSame, at_plan, inquiry, standing_of};
 ghost use Rattle.sbpl_worlds.specs.sbpl_job.Jobs.{IsSearchJob};
-ghost use Rattle.sbpl_worlds.specs.sbpl_promises.Asked.{ask_of};
-ghost use Rattle.sbpl_worlds.specs.sbpl_plan.Outcomes.{IsTrueOutcome};
+ghost use Rattle.sbpl_worlds.specs.sbpl_promises.Asked.{ask_of, known_by};
+ghost use Rattle.sbpl_worlds.specs.sbpl_plan.Outcomes.{IsResultOf, IsTrueOutcome};
+ghost use Rattle.sbpl_worlds.specs.sbpl_graph.Certificate.{AreSupported};
+ghost use Rattle.sbpl_worlds.specs.sbpl_labels.Marks.{g_of, v_of};
+ghost use Rattle.sbpl_worlds.specs.sbpl_report.Shown.{IsShown, IsThere};
+ghost use Rattle.std.specs.Option.{is_some};
 ghost use Rattle.sbpl_worlds.specs.sbpl_plan.Outcomes as Conclusions;
 ghost use Rattle.sbpl_worlds.specs.sbpl_plan.declared.result.Outcome.TheVariants as Results;
 
 use crate::publishing::{LiveBoard, Publishes, newest_on};
-use crate::recorded::Recorded;
 use crate::task::Task;
 use sbpl_worlds::{
     Ask, Entry, FoundPath, NoMemory, Outcome, Outputs, PathRecord, PlanRecord, Planned, Publisher,
-    Raised, SearchJob, Section, Steps, Traced, Workspace, traced_passes,
+    Raised, Replanner, Search, SearchJob, Section, Steps, Traced, Workspace, labels_of,
+    traced_passes,
 };
 use std::alloc::Global;
 use std::sync::Wait;
@@ -33,7 +37,7 @@ fn steps_of<W: Workspace>(
     from: u32,
     arcs: &[u32],
 ) -> Result<Steps, NoMemory>
-    requires path { IsPathFrom (W.network world.now) from arcs.now }
+    requires path { IsPathFrom (W.wording.told world.now) from arcs.now }
     ensures steps { IfOk result (AreSteps (site_of W.network W.cells W.Best.says W.wording) world.now from arcs.now) }
 {
     let mut steps = Vec::with_capacity(alloc, arcs.len())?;
@@ -54,8 +58,8 @@ fn path_of<W: Workspace>(
     goal: u32,
     found: FoundPath,
 ) -> Result<PathRecord, NoMemory>
-    requires state { start < (W.network world.now).states }
-    requires so { IsTrueOutcome (W.network world.now) start goal (Results.Path found) }
+    requires state { start < (W.wording.told world.now).states }
+    requires so { IsTrueOutcome (W.wording.told world.now) start goal (Results.Path found) }
     ensures joins { IfOk result (JoinsStates (site_of W.network W.cells W.Best.says W.wording) world.now start goal) }
     ensures arcs { IfOk result (λ p. p.arcs ≡ found.arcs) }
     ensures cost { IfOk result (λ p. p.cost ≡ found.cost) }
@@ -80,12 +84,12 @@ fn outcome_of<W: Workspace>(
     goal: u32,
     found: Outcome<FoundPath>,
 ) -> Result<Outcome<PathRecord>, NoMemory>
-    requires state { start < (W.network world.now).states }
-    requires so { IsTrueOutcome (W.network world.now) start goal found }
+    requires state { start < (W.wording.told world.now).states }
+    requires so { IsTrueOutcome (W.wording.told world.now) start goal found }
     ensures told { IfOk result (IsSameResult found) }
     ensures joins { IfOk result (Joins (site_of W.network W.cells W.Best.says W.wording) world.now start goal) }
-    ensures within_the_bound { IfOk result (IsWithinBound (W.network world.now) start goal) }
-    ensures none { IfOk result (IsNoneThere (W.network world.now) start goal) }
+    ensures within_the_bound { IfOk result (IsWithinBound (W.wording.told world.now) start goal) }
+    ensures none { IfOk result (IsNoneThere (W.wording.told world.now) start goal) }
     ensures answered { IfOk result (λ o. (asked : ℕ) → Conclusions.IsConclusive asked found → IsKnownWithin asked o) }
 {
     match found {
@@ -125,39 +129,68 @@ fn mark_of(spent: bool, expanded: u64) -> Option<u64>
     if spent { Some(expanded) } else { None }
 }
 
+/// The section of the labels that plan `plan` left, where it is asked for.
+fn section_of<W: Workspace, S: Search<W, W::Best> + Drop>(
+    alloc: Global,
+    world: &W,
+    replanner: &Replanner<W, W::Best, S>,
+    plan: u32,
+    found: &Outcome<FoundPath>,
+    outputs: &Outputs,
+) -> Result<Option<Section>, NoMemory>
+    requires ready { IsReadyIn S.meaning W.network W.Best.is_made_for world.now replanner.now }
+    requires goal { replanner.now.goal < (W.network world.now).states }
+    requires found { IsResultOf (W.network world.now) (W.Best.distance replanner.now.guide) replanner.now.goal replanner.now.search.labels found.now }
+    requires supported { AreSupported (W.network world.now) replanner.now.search.labels.start
+        (g_of replanner.now.search.labels) (v_of replanner.now.search.labels) }
+    ensures shown { IfOk result (IsThere (is_some outputs.now.labels) (IsShown outputs.now.form (W.network world.now)
+        (W.Best.distance replanner.now.guide) replanner.now.search.labels.start replanner.now.goal plan
+        replanner.now.search.labels found.now)) }
+{
+    labels_of(
+        alloc,
+        world,
+        replanner.guide(),
+        replanner.labels(),
+        replanner.goal(),
+        plan,
+        found,
+        outputs.labels.is_some(),
+        outputs.form,
+    )
+}
+
 /// The record of plan `plan`, which expanded this number of states.
-fn record_of<W: Workspace, R: Recorded<W>>(
+fn record_of<W: Workspace, N: Traced + Copy>(
     alloc: Global,
     world: &W,
     start: u32,
     goal: u32,
     plan: u32,
-    planned: Planned<R::Note>,
+    planned: Planned<N>,
     expanded: u64,
     labels: Option<Section>,
     raised: Raised,
     incumbent: Option<Entry>,
 ) -> Result<PlanRecord, NoMemory>
-where
-    R::Note: Traced,
-    requires start { start < (W.network world.now).states }
-    requires goal { goal < (W.network world.now).states }
-    requires so { IsTrueOutcome (R.direction.network world.now) (R.direction.from start goal) (R.direction.to start goal) planned.outcome }
+    requires start { start < (W.wording.told world.now).states }
+    requires goal { goal < (W.wording.told world.now).states }
+    requires so { IsTrueOutcome (W.network world.now) (from_of W.wording.back start goal) (to_of W.wording.back start goal) planned.outcome }
     ensures number { IfOk result (λ r. r.plan ≡ plan) }
-    ensures passes { IfOk result (λ r. r.passes ≡ map (traced_pass R.Note.line) planned.passes) }
+    ensures passes { IfOk result (λ r. r.passes ≡ map (traced_pass N.line) planned.passes) }
     ensures expanded { IfOk result (λ r. r.expanded ≡ expanded) }
-    ensures told { IfOk result (λ r. IsToldOf (R.direction.leads world.now start goal) planned.outcome r.outcome) }
+    ensures told { IfOk result (λ r. IsToldOf (Leads W.wording.back (W.wording.told world.now) start goal) planned.outcome r.outcome) }
     ensures labels { IfOk result (λ r. r.labels ≡ labels) }
     ensures raised { IfOk result (λ r. r.raised ≡ raised) }
     ensures incumbent { IfOk result (λ r. r.incumbent ≡ incumbent) }
     ensures marked { IfOk result (λ r. MatchBool planned.spent (r.spent ≡ Some expanded) (r.spent ≡ None)) }
     ensures joins { IfOk result (λ r. Joins (site_of W.network W.cells W.Best.says W.wording) world.now start goal r.outcome) }
-    ensures within_the_bound { IfOk result (λ r. IsWithinBound (W.network world.now) start goal r.outcome) }
-    ensures none { IfOk result (λ r. IsNoneThere (W.network world.now) start goal r.outcome) }
+    ensures within_the_bound { IfOk result (λ r. IsWithinBound (W.wording.told world.now) start goal r.outcome) }
+    ensures none { IfOk result (λ r. IsNoneThere (W.wording.told world.now) start goal r.outcome) }
     ensures answered { IfOk result (λ r. (asked : ℕ) → Conclusions.IsConclusive asked planned.outcome → IsKnownWithin asked r.outcome) }
 {
     let passes = traced_passes(alloc, planned.passes.as_slice())?;
-    let found = R::turn(alloc, world, start, goal, planned.outcome)?;
+    let found = world.turn(alloc, start, goal, planned.outcome)?;
     let outcome = outcome_of(alloc, world, start, goal, found)?;
     Ok(PlanRecord {
         plan,
@@ -172,27 +205,33 @@ where
 }
 
 /// Makes a plan on the present map of a world, and publishes each path as soon as it is found.
-fn plan_on<W: Workspace, R: Recorded<W>, B: Wait>(
+fn plan_on<W: Workspace, S: Search<W, W::Best> + Drop, B: Wait>(
     alloc: Global,
     world: &W,
-    replanner: &mut R,
+    replanner: &mut Replanner<W, W::Best, S>,
     ask: &Ask,
     plan: u32,
     live: &LiveBoard<B>,
     publisher: &mut Publisher,
-) -> Result<Planned<R::Note>, NoMemory>
-    requires ready { R.ready replanner.old world.now }
+) -> Result<Planned<S::Note>, NoMemory>
+    requires ready { IsReadyIn S.meaning W.network W.Best.is_made_for world.now replanner.old }
     requires asked { IsAsk ask.now }
     requires board { publisher.old.board ≡ live.now.board.now }
     requires few { length publisher.old.published + MOST_PASSES < 2 ^ 63 }
-    ensures planned { IfOk result (IsPlanned R.meaning (inquiry R.direction world.now (R.guide replanner.old world.now) (R.standing replanner.old) ask.now) (R.standing replanner.old).search (R.standing replanner.new).search (at_plan (R.standing replanner.old).counts) (R.standing replanner.new).counts) }
-    ensures within { IfOk result (λ r. AreWithin (R.standing replanner.old).counts.per_plan (R.standing replanner.old).counts.run r.passes r.spent) }
-    ensures run { (R.standing replanner.new).counts.run ≤ 2 ^ 30 }
-    ensures ready { IfOk result (λ _. R.ready replanner.new world.now) }
-    ensures same { IfOk result (λ _. StaysTheSame (R.standing replanner.old) (R.standing replanner.new)) }
-    ensures guide { R.guide replanner.new world.now ≡ R.guide replanner.old world.now }
+    ensures planned { IfOk result (IsPlanned S.meaning
+        (inquiry (W.network world.now) (W.Best.distance replanner.old.guide) (standing_of replanner.old) ask.now)
+        replanner.old.search replanner.new.search (at_plan replanner.old.counts) replanner.new.counts) }
+    ensures within { IfOk result (λ r. AreWithin replanner.old.counts.per_plan replanner.old.counts.run r.passes r.spent) }
+    ensures run { replanner.new.counts.run ≤ 2 ^ 30 }
+    ensures ready { IfOk result (λ _. IsReadyIn S.meaning W.network W.Best.is_made_for world.now replanner.new) }
+    ensures same { IfOk result (λ _. StaysTheSame (standing_of replanner.old) (standing_of replanner.new)) }
+    ensures guide { replanner.new.guide ≡ replanner.old.guide }
     ensures shown { IfOk result (λ r. publisher.new.published ≡ with_paths publisher.old.published plan 0 (founds r.passes)) }
-    ensures memory { OnErr result (StandsOutOfMemory R.meaning (inquiry R.direction world.now (R.guide replanner.old world.now) (R.standing replanner.old) ask.now) (R.ready replanner.new world.now) (λ ps. publisher.new.published ≡ with_paths publisher.old.published plan 0 (founds ps)) (R.standing replanner.old) (R.standing replanner.new)) }
+    ensures memory { OnErr result (StandsOutOfMemory S.meaning
+        (inquiry (W.network world.now) (W.Best.distance replanner.old.guide) (standing_of replanner.old) ask.now)
+        (IsReadyIn S.meaning W.network W.Best.is_made_for world.now replanner.new)
+        (λ ps. publisher.new.published ≡ with_paths publisher.old.published plan 0 (founds ps))
+        (standing_of replanner.old) (standing_of replanner.new)) }
     ensures board { publisher.new.board ≡ publisher.old.board }
     ensures grown { length publisher.new.published ≤ length publisher.old.published + MOST_PASSES }
 {
@@ -206,10 +245,10 @@ fn plan_on<W: Workspace, R: Recorded<W>, B: Wait>(
 }
 
 /// Makes plan `plan` on the present map of a world, publishes each path as soon as it is found, and makes the plan's record.
-pub(crate) fn make_record<W: Workspace, R: Recorded<W>, B: Wait>(
+pub(crate) fn make_record<W: Workspace, S: Search<W, W::Best> + Drop, B: Wait>(
     alloc: Global,
     world: &W,
-    replanner: &mut R,
+    replanner: &mut Replanner<W, W::Best, S>,
     task: &Task,
     start: u32,
     plan: u32,
@@ -217,24 +256,30 @@ pub(crate) fn make_record<W: Workspace, R: Recorded<W>, B: Wait>(
     publisher: &mut Publisher,
 ) -> Result<PlanRecord, NoMemory>
 where
-    R::Note: Traced,
-    requires start { start < (W.network world.now).states }
-    requires goal { task.now.goal < (W.network world.now).states }
+    S::Note: Traced,
+    requires start { start < (W.wording.told world.now).states }
+    requires goal { task.now.goal < (W.wording.told world.now).states }
     requires board { publisher.old.board ≡ live.now.board.now }
     requires few { length publisher.old.published + MOST_PASSES < 2 ^ 63 }
     requires search { IsSearchJob task.now.how.now }
-    requires ready { R.ready replanner.old world.now }
-    requires set { IsSetFor R.direction task.now.how.now start task.now.goal (R.standing replanner.old) }
+    requires ready { IsReadyIn S.meaning W.network W.Best.is_made_for world.now replanner.old }
+    requires set { IsSetFor task.now.how.now (from_of W.wording.back start task.now.goal) (to_of W.wording.back start task.now.goal)
+        (standing_of replanner.old) }
     ensures number { IfOk result (λ r. r.plan ≡ plan) }
     ensures promises { IfOk result (KeepsPromises (site_of W.network W.cells W.Best.says W.wording) world.now start task.now.goal task.now.how.now.bound) }
-    ensures searched { (before : Option Carried) → GoesOnFrom R.meaning (site_of W.network W.cells W.Best.says W.wording) R.direction world.now (R.direction.from start task.now.goal) before (R.standing replanner.old)
-        → IfOk result (IsSearched (known_by (site_of W.network W.cells W.Best.says W.wording) R.meaning R.Note.line R.direction) world.now task.now.how.now task.now.outputs.now start task.now.goal before (carried_of (W.cells.map world.now) (R.standing replanner.new))) }
-    ensures ready { IfOk result (λ _. R.ready replanner.new world.now) }
-    ensures set { IfOk result (λ _. IsSetFor R.direction task.now.how.now start task.now.goal (R.standing replanner.new)) }
+    ensures searched { (before : Option Carried) → GoesOnFrom S.meaning (site_of W.network W.cells W.Best.says W.wording) world.now
+        (from_of W.wording.back start task.now.goal) before (standing_of replanner.old)
+        → IfOk result (IsSearched (known_by (site_of W.network W.cells W.Best.says W.wording) S.meaning S.Note.line) world.now
+        task.now.how.now task.now.outputs.now start task.now.goal before (carried_of (W.cells.map world.now) (standing_of replanner.new))) }
+    ensures ready { IfOk result (λ _. IsReadyIn S.meaning W.network W.Best.is_made_for world.now replanner.new) }
+    ensures set { IfOk result (λ _. IsSetFor task.now.how.now (from_of W.wording.back start task.now.goal)
+        (to_of W.wording.back start task.now.goal) (standing_of replanner.new)) }
     ensures shown { IfOk result (λ r. publisher.new.published ≡ with_plan publisher.old.published r) }
     ensures incumbent { IfOk result (λ r. r.incumbent ≡ newest publisher.new.published) }
-    ensures broken { (before : Option Carried) → GoesOnFrom R.meaning (site_of W.network W.cells W.Best.says W.wording) R.direction world.now (R.direction.from start task.now.goal) before (R.standing replanner.old)
-        → OnErr result (IsPublishedInPart (known_by (site_of W.network W.cells W.Best.says W.wording) R.meaning R.Note.line R.direction) world.now task.now.how.now task.now.outputs.now start task.now.goal plan publisher.old.published publisher.new.published before) }
+    ensures broken { (before : Option Carried) → GoesOnFrom S.meaning (site_of W.network W.cells W.Best.says W.wording) world.now
+        (from_of W.wording.back start task.now.goal) before (standing_of replanner.old)
+        → OnErr result (IsPublishedInPart (known_by (site_of W.network W.cells W.Best.says W.wording) S.meaning S.Note.line) world.now
+        task.now.how.now task.now.outputs.now start task.now.goal plan publisher.old.published publisher.new.published before) }
     ensures board { publisher.new.board ≡ publisher.old.board }
     ensures grown { length publisher.new.published ≤ length publisher.old.published + MOST_PASSES }
 {
@@ -242,18 +287,16 @@ where
     let raised = raised_of(alloc, replanner.raised(), ask.traced)?;
     let planned = plan_on(alloc, world, replanner, &ask, plan, live, publisher)?;
     let incumbent = newest_on(live, publisher)?;
-    let labels = replanner.section(
+    let labels = section_of(
         alloc,
         world,
-        start,
-        task.goal,
+        replanner,
         plan,
         &planned.outcome,
-        task.outputs.labels.is_some(),
-        task.outputs.form,
+        task.outputs,
     )?;
     let expanded = replanner.expanded();
-    record_of::<W, R>(
+    record_of(
         alloc, world, start, task.goal, plan, planned, expanded, labels, raised, incumbent,
     )
 }

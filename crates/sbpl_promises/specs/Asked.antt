@@ -1,10 +1,10 @@
 -- What a job asks of a planner.
-use Rattle.std.specs.Prelude.{Bool, true, false}
+use Rattle.std.specs.Prelude.{ℕ, Bool, true, false}
 use Rattle.std.specs.Option.{is_some}
 use Rattle.sbpl_report.specs.sbpl_search.Meaning.{Meaning}
 use Rattle.sbpl_report.specs.sbpl_serial.declared.step.Step.{Step}
 use Rattle.sbpl_report.specs.declared.record.TraceLine.{TraceLine}
-use Rattle.sbpl_promises.specs.Sites.{Site}
+use Rattle.sbpl_promises.specs.Sites.{Site, from_of, searched_on, to_of}
 use Rattle.sbpl_report.specs.Traces.{line_of, line_of_event}
 use Rattle.sbpl_replan.specs.sbpl_ara.Planner.{ara}
 use Rattle.sbpl_replan.specs.sbpl_adstar.Planner.{adstar}
@@ -16,7 +16,6 @@ use Rattle.sbpl_report.specs.sbpl_job.declared.job.Outputs.{Outputs}
 use Rattle.sbpl_report.specs.sbpl_job.declared.job.Planner.{Planner}
 use Rattle.sbpl_report.specs.sbpl_job.declared.job.Planner.TheVariants as planner
 use Rattle.sbpl_report.specs.sbpl_job.declared.job.SearchJob.{SearchJob}
-use Rattle.sbpl_replan.specs.Directions.{Direction, backwards, forwards}
 
 -- what a plan is asked for
 abbrev pub ask_of : SearchJob → Outputs → Ask
@@ -42,19 +41,27 @@ search_of planner.AdStar = record { Note = Step; means = adstar; line = line_of 
 search_of planner.Back = record { Note = Step; means = adstar; line = line_of }
 search_of planner.Epase = record { Note = Event; means = epase; line = line_of_event }
 
--- the direction in which labels are searched at a site, by the planner `back` or by another one: from the goal over the reversed graph,
--- by the gap from the start; or from the start, by the site's heuristic
-abbrev pub checked_direction : {W : Type 0} → Site W → (back : Bool) → Direction W
-checked_direction on true = backwards on.network
-checked_direction on false = forwards on.network on.says
-
--- a planner as the program knows it at a site: its search, and in which direction it goes
+-- a planner as the program knows it: its search, and the site that it searches
 pub record Known (W : Type 0) : Type 1 where
   pub on : Site W
   pub Note : Type 0
   pub means : Meaning Note
   pub line : Note → TraceLine
-  pub direction : Direction W
 
+abbrev pub known_by : {W Note : Type 0} → Site W → Meaning Note → (Note → TraceLine) → Known W
+known_by {Note} on means line = record { on = on; Note = Note; means = means; line = line }
+
+-- a planner on a site that is searched as it is
+abbrev pub known_as : {W : Type 0} → Site W → Planner → Known W
+known_as on p = record { on = on; Note = (search_of p).Note; means = (search_of p).means; line = (search_of p).line }
+
+-- a planner whose plans are told of a site; `back` searches that site the other way round
 abbrev pub known : {W : Type 0} → Site W → Planner → Known W
-known on p = record { on = on; Note = (search_of p).Note; means = (search_of p).means; line = (search_of p).line; direction = checked_direction on (may_move p) }
+known on p = known_as (searched_on on (may_move p)) p
+
+-- of the start and the goal of a plan, the state from which such a planner searches, and the one to which
+abbrev pub from_by : {W : Type 0} → Known W → (start goal : ℕ) → ℕ
+from_by by = from_of by.on.wording.back
+
+abbrev pub to_by : {W : Type 0} → Known W → (start goal : ℕ) → ℕ
+to_by by = to_of by.on.wording.back

@@ -15,8 +15,7 @@ use Rattle.sbpl_report.specs.sbpl_cert.Versions.{IsOf, arcs_of, claim_by, outcom
 use Rattle.sbpl_report.specs.sbpl_map.CellMap.{CellMap}
 use Rattle.sbpl_report.specs.sbpl_map.MapAfter.{IsMapAfter}
 use Rattle.sbpl_report.specs.sbpl_map.declared.write.Write.{Write}
-use Rattle.sbpl_replan.specs.Directions.{Direction}
-use Rattle.sbpl_promises.specs.Sites.{Site, start_after}
+use Rattle.sbpl_promises.specs.Sites.{Site, from_of, start_after, to_of}
 use Rattle.sbpl_promises.specs.declared.course.Course.{Course}
 use Rattle.sbpl_promises.specs.declared.section_stop.SectionStop.{SectionStop}
 use Rattle.sbpl_promises.specs.declared.section_stop.SectionStop.TheVariants as stop
@@ -82,46 +81,46 @@ abbrev pub IsEndOfText : Left → Option SectionStop → Type 0
 IsEndOfText left None = left.tokens ≡ []
 IsEndOfText left (Some s) = IsTrailing left.tokens s
 
--- what stays the same while the sections of a text are checked, whose labels were searched in a direction at a site: the world and the
--- batches, the start of each plan and the goal
-pub record Case {W : Type 0} (on : Site W) (d : Direction W) : Type 0 where
+-- what stays the same while the sections of a text are checked, whose labels were searched on a site: the world and the batches, the
+-- start of each plan and the goal
+pub record Case {W : Type 0} (on : Site W) : Type 0 where
   pub world : W
   pub batches : List (List Write)
   pub starts : ℕ → ℕ
   pub goal : ℕ
 
 -- the case of a world and a course, between these states
-abbrev pub case_of : {W : Type 0} → (on : Site W) → (d : Direction W) → W → Course → (start goal : ℕ) → Case on d
-case_of on d w course start goal = record { world = w; batches = course.batches; starts = start_after on.wording w start course.moves; goal = goal }
+abbrev pub case_of : {W : Type 0} → (on : Site W) → W → Course → (start goal : ℕ) → Case on
+case_of on w course start goal = record { world = w; batches = course.batches; starts = start_after on.wording w start course.moves; goal = goal }
 
 -- the state from which the search of plan k goes, and the one to which
-abbrev pub from_in : {W : Type 0} → {on : Site W} → {d : Direction W} → Case on d → ℕ → ℕ
-from_in {W} {on} {d} c k = d.from (c.starts k) c.goal
+abbrev pub from_in : {W : Type 0} → {on : Site W} → Case on → ℕ → ℕ
+from_in {W} {on} c k = from_of on.wording.back (c.starts k) c.goal
 
-abbrev pub to_in : {W : Type 0} → {on : Site W} → {d : Direction W} → Case on d → ℕ → ℕ
-to_in {W} {on} {d} c k = d.to (c.starts k) c.goal
+abbrev pub to_in : {W : Type 0} → {on : Site W} → Case on → ℕ → ℕ
+to_in {W} {on} c k = to_of on.wording.back (c.starts k) c.goal
 
 -- the graph over which plan k is searched, on the map after the first k batches, and what guides it
-pub record IsGroundAfter {W : Type 0} {on : Site W} {d : Direction W} (c : Case on d) (k : ℕ) (n : Ground) : Type 0 where
+pub record IsGroundAfter {W : Type 0} {on : Site W} (c : Case on) (k : ℕ) (n : Ground) : Type 0 where
   pub map : CellMap
   pub after : IsMapAfter (on.cells.map c.world) c.batches k map
   pub is_world : on.cells.is_made (on.cells.over c.world map)
-  pub network : n.network ≡ d.network (on.cells.over c.world map)
-  pub guide : d.guides (on.cells.over c.world map) (c.starts k) c.goal n.guide
+  pub network : n.network ≡ on.network (on.cells.over c.world map)
+  pub guide : on.says (on.cells.over c.world map) (to_in c k) n.guide
 
 -- what is said of a section that holds: its graph, its plan, the tokens from it on, its outcome, and the tokens after it
 abbrev pub Holding : Type 1
 Holding = Ground → (start goal plan : ℕ) → Left → Outcome → Left → Type 0
 
 -- the section of a plan does not hold on its graph, or memory ran out
-abbrev pub IsStoppedIn : {W : Type 0} → {on : Site W} → {d : Direction W} → Case on d → (plan : ℕ) → Left → SectionStop → Type 0
+abbrev pub IsStoppedIn : {W : Type 0} → {on : Site W} → Case on → (plan : ℕ) → Left → SectionStop → Type 0
 IsStoppedIn c plan left stop.NoMemory = Unit {0}
 IsStoppedIn c plan left s = (n : Ground) × IsGroundAfter c plan n × IsSectionStop n (from_in c plan) (to_in c plan) plan left s
 
 -- The tokens that are left stand for this number of sections more, the first that of a plan, each for the graph on the map after as
 -- many batches: those with these outcomes hold, and then it ends so. It ends well where all hold and no token is left. That
 -- memory ran out says nothing of what was to come.
-abbrev pub AreChecked : {W : Type 0} → {on : Site W} → {d : Direction W} → Holding → Case on d → (plan more : ℕ) → Left → List Outcome → Option SectionStop → Type 0
+abbrev pub AreChecked : {W : Type 0} → {on : Site W} → Holding → Case on → (plan more : ℕ) → Left → List Outcome → Option SectionStop → Type 0
 AreChecked Holds c plan zero left [] end = IsEndOfText left end
 AreChecked Holds c plan (suc more) left [] (Some s) = IsStoppedIn c plan left s
 AreChecked Holds c plan (suc more) left (o ∷ os) end =

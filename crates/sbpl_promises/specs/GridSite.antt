@@ -1,5 +1,5 @@
 -- The grid with eight neighbours as a place that is planned on.
-use Rattle.std.specs.Prelude.{◌≡◌, ℕ, ◌+◌, ◌*◌}
+use Rattle.std.specs.Prelude.{◌≡◌, ℕ, ◌+◌, ◌*◌, false}
 use Rattle.sbpl_nav2d.specs.Arc.{IsGridNetwork}
 use Rattle.sbpl_nav2d.specs.Cells.{grid_cells}
 use Rattle.sbpl_nav2d.specs.Environment.{column_of, row_of}
@@ -23,6 +23,8 @@ pub record IsGridStep (w : GridWorld) (s k t : ℕ) (step : PathStep) : Type 0 w
 -- no change file says where the robot is: a place has no heading here
 abbrev pub grid_wording : Wording GridWorld
 grid_wording = record {
+  told = network_of;
+  back = false;
   arcs = IsGridNetwork;
   starts = λ w s. s ≡ w.env.start;
   ends = λ w s. s ≡ w.env.end;

@@ -14,7 +14,6 @@ use Rattle.sbpl_report.specs.sbpl_plan.Passing.{AreFirstPasses, ArePasses, expan
 use Rattle.sbpl_report.specs.sbpl_map.CellMap.{CellMap}
 use Rattle.sbpl_report.specs.sbpl_map.MapAfter.{IsMapAfter}
 use Rattle.sbpl_report.specs.sbpl_map.declared.write.Write.{Write}
-use Rattle.sbpl_replan.specs.Directions.{Direction}
 use Rattle.sbpl_replan.specs.Replanning.{BeginsWith}
 use Rattle.sbpl_report.specs.sbpl_search.Meaning.{Meaning}
 use Rattle.sbpl_report.specs.sbpl_plan.declared.passes.Pass.{Pass}
@@ -23,8 +22,8 @@ use Rattle.sbpl_report.specs.declared.record.PathRecord.{PathRecord}
 use Rattle.sbpl_report.specs.declared.record.PlanRecord.{PlanRecord}
 use Rattle.sbpl_report.specs.sbpl_job.declared.job.Outputs.{Outputs}
 use Rattle.sbpl_report.specs.sbpl_job.declared.job.SearchJob.{SearchJob}
-use Rattle.sbpl_promises.specs.Asked.{Known, ask_of, known}
-use Rattle.sbpl_promises.specs.Sites.{Site, start_after}
+use Rattle.sbpl_promises.specs.Asked.{Known, ask_of, from_by, known, to_by}
+use Rattle.sbpl_promises.specs.Sites.{Leads, Site, start_after}
 use Rattle.sbpl_report.specs.Traces.{traced_pass}
 use Rattle.sbpl_report.specs.Shown.{IsShown, IsThere}
 use Rattle.sbpl_promises.specs.Published.{Entry, founds, newest, with_plan}
@@ -33,7 +32,7 @@ use Rattle.sbpl_promises.specs.declared.course.Course.{Course}
 -- from state s these are the steps of the path that the arcs are
 abbrev pub AreSteps : {W : Type 0} → Site W → W → ℕ → List ℕ → List PathStep → Type 0
 AreSteps on w s [] [] = Unit {0}
-AreSteps on w s (k ∷ ks) (step ∷ steps) = (t : ℕ) × ((on.network w).head s k ≡ Some t) × on.wording.step w s k t step × AreSteps on w t ks steps
+AreSteps on w s (k ∷ ks) (step ∷ steps) = (t : ℕ) × ((on.wording.told w).head s k ≡ Some t) × on.wording.step w s k t step × AreSteps on w t ks steps
 AreSteps on w s _ _ = ⊥
 
 -- from state s these arcs are a free path to some state
@@ -42,7 +41,7 @@ IsPathFrom n s arcs = (t : ℕ) × (c : ℕ) × IsFreePath n s arcs t c
 
 -- a path joins two states: its arcs are a free path from the one to the other, and the printed places, ids and cost are its own
 pub record JoinsStates {W : Type 0} (on : Site W) (w : W) (start goal : ℕ) (path : PathRecord) : Type 0 where
-  pub free : IsFreePath (on.network w) start path.arcs goal path.cost
+  pub free : IsFreePath (on.wording.told w) start path.arcs goal path.cost
   pub from : path.start ≡ on.wording.spot w start
   pub steps : AreSteps on w start path.arcs path.steps
 
@@ -67,8 +66,7 @@ IsKnownWithin asked (outcome.Path path) = (1000 ≤ path.bound) × (path.bound �
 IsKnownWithin asked outcome.NoPath = Unit {0}
 IsKnownWithin asked outcome.Unknown = ⊥
 
--- a result is the one that a search found in its direction: the one path is what the other leads to, at the same cost
--- and with the same bound
+-- a result is the one that a search found: the one path is what the other leads to, at the same cost and with the same bound
 abbrev pub IsTurned : (leads : (found path : List ℕ) → Type 0) → (found result : Outcome FoundPath) → Type 0
 IsTurned leads (outcome.Path f) (outcome.Path p) = leads f.arcs p.arcs × (p.cost ≡ f.cost) × (p.bound ≡ f.bound)
 IsTurned leads outcome.NoPath outcome.NoPath = Unit {0}
@@ -91,8 +89,8 @@ pub record IsToldOf (leads : (found path : List ℕ) → Type 0) (found : Outcom
 -- what is promised of a plan between two states: 'asked' is the bound that was asked, in thousandths
 pub record KeepsPromises {W : Type 0} (on : Site W) (w : W) (start goal asked : ℕ) (r : PlanRecord) : Type 0 where
   pub joins : Joins on w start goal r.outcome
-  pub within_the_bound : IsWithinBound (on.network w) start goal r.outcome
-  pub none : IsNoneThere (on.network w) start goal r.outcome
+  pub within_the_bound : IsWithinBound (on.wording.told w) start goal r.outcome
+  pub none : IsNoneThere (on.wording.told w) start goal r.outcome
   pub unless_spent : r.spent ≡ None → IsKnownWithin asked r.outcome
 
 -- what the plans of a run leave to the next one: the map of the last of them, its final labels, and how many states all of
@@ -109,9 +107,9 @@ expanded_before (Some b) = b.expanded
 
 -- the labels that a plan in a world begins with, and the states that were raised for it: initial ones, with the state from which the
 -- search goes as their start, and none; and after another plan what the planner makes of the labels that it left
-abbrev pub Begins : {Note W : Type 0} → Meaning Note → Site W → Direction W → W → (from : ℕ) → Option Carried → Marks → (raised : List ℕ) → Type 0
-Begins means on d w from None m raised = AreInitial m (on.network w).states from × (raised ≡ [])
-Begins means on d w from (Some b) m raised = BeginsWith means on.network on.cells d (on.cells.over w b.map) w b.labels m raised
+abbrev pub Begins : {Note W : Type 0} → Meaning Note → Site W → W → (from : ℕ) → Option Carried → Marks → (raised : List ℕ) → Type 0
+Begins means on w from None m raised = AreInitial m (on.network w).states from × (raised ≡ [])
+Begins means on w from (Some b) m raised = BeginsWith means on.network on.cells (on.cells.over w b.map) w b.labels m raised
 
 -- a plan that was spent is marked with its expansions, which are the budget, or the run's are 2 ^ 30; one that was not is not marked
 abbrev pub IsMarked : (budget before : ℕ) → Bool → PlanRecord → Type 0
@@ -119,43 +117,43 @@ IsMarked budget before spent r = MatchBool spent
     ((r.spent ≡ Some (expansions r.passes)) × ((expansions r.passes ≡ budget) ⊎ (before + expansions r.passes ≡ 2 ^ 30)))
     (r.spent ≡ None)
 
--- The record of a search, in the planner's direction and guided as that says, from initial or repaired labels: the states that were
+-- The record of a search on the planner's site, guided as that says, from initial or repaired labels: the states that were
 -- raised before its passes, where they are to be told; its passes in turn, as few as the step allows; the result by the final labels,
 -- and a section of these labels, where they are to be written. A plan expands no more than its budget, and the run no more than 2 ^ 30.
 -- A budget for each state in each pass, as often as the planner may take one, is not spent, unless the run's is.
 pub record IsSearched {W : Type 0} (by : Known W) (w : W) (how : SearchJob) (outputs : Outputs) (start goal : ℕ) (before : Option Carried) (carried : Carried) (r : PlanRecord) : Type 0 where
   pub guide : ℕ → ℕ
-  pub is_guide : by.direction.guides w start goal guide
+  pub is_guide : by.on.says w (to_by by start goal) guide
   pub begun : Marks
   pub raised : List ℕ
-  pub begins : Begins by.means by.on by.direction w (by.direction.from start goal) before begun raised
+  pub begins : Begins by.means by.on w (from_by by start goal) before begun raised
   pub raises : r.raised ≡ (if is_some outputs.trace then raised else [])
   pub spent : Bool
   pub notes : List (Pass by.Note)
-  pub passes : ArePasses by.means (inquiry_of (by.direction.network w) guide (by.direction.to start goal) (ask_of how outputs)) how.first begun notes carried.labels spent
+  pub passes : ArePasses by.means (inquiry_of (by.on.network w) guide (to_by by start goal) (ask_of how outputs)) how.first begun notes carried.labels spent
   pub lines : r.passes ≡ map (traced_pass by.line) notes
   pub found : Outcome FoundPath
-  pub is_result : IsResultOf (by.direction.network w) guide (by.direction.to start goal) carried.labels found
-  pub told : IsToldOf (by.direction.leads w start goal) found r.outcome
+  pub is_result : IsResultOf (by.on.network w) guide (to_by by start goal) carried.labels found
+  pub told : IsToldOf (Leads by.on.wording.back (by.on.wording.told w) start goal) found r.outcome
   pub expanded : r.expanded ≡ expansions r.passes
   pub counted : carried.expanded ≡ expanded_before before + expansions r.passes
   pub within_budget : r.expanded ≤ how.budget
   pub within_run : carried.expanded ≤ 2 ^ 30
   pub marked : IsMarked how.budget (expanded_before before) spent r
   pub few : length r.passes ≤ most_passes how.step how.first
-  pub ample : spent ≡ true → most_passes how.step how.first * (by.means.most * (by.direction.network w).states) ≤ how.budget → carried.expanded ≡ 2 ^ 30
-  pub labels : IsThere (is_some outputs.labels) (IsShown outputs.form (by.direction.network w) guide (by.direction.from start goal) (by.direction.to start goal) r.plan carried.labels found) r.labels
+  pub ample : spent ≡ true → most_passes how.step how.first * (by.means.most * (by.on.network w).states) ≤ how.budget → carried.expanded ≡ 2 ^ 30
+  pub labels : IsThere (is_some outputs.labels) (IsShown outputs.form (by.on.network w) guide (from_by by start goal) (to_by by start goal) r.plan carried.labels found) r.labels
 
 -- Memory ran out in a plan: it began as a plan does, and its passes so far found this.
 pub record IsBrokenOff {W : Type 0} (by : Known W) (w : W) (how : SearchJob) (outputs : Outputs) (start goal : ℕ) (before : Option Carried) (found : List Found) : Type 0 where
   pub guide : ℕ → ℕ
-  pub is_guide : by.direction.guides w start goal guide
+  pub is_guide : by.on.says w (to_by by start goal) guide
   pub begun : Marks
   pub raised : List ℕ
-  pub begins : Begins by.means by.on by.direction w (by.direction.from start goal) before begun raised
+  pub begins : Begins by.means by.on w (from_by by start goal) before begun raised
   pub left : Marks
   pub notes : List (Pass by.Note)
-  pub passes : AreFirstPasses by.means (inquiry_of (by.direction.network w) guide (by.direction.to start goal) (ask_of how outputs)) how.first begun notes left
+  pub passes : AreFirstPasses by.means (inquiry_of (by.on.network w) guide (to_by by start goal) (ask_of how outputs)) how.first begun notes left
   pub found_is : found ≡ founds notes
 
 -- memory ran out in plan k, on the map after the first k batches, or before its first pass
@@ -167,7 +165,7 @@ IsBrokenIn by w batches how outputs starts goal k found =
 pub record IsPlanOf {W : Type 0} (by : Known W) (w : W) (how : SearchJob) (outputs : Outputs) (start goal k : ℕ) (log : List Entry) (before : Option Carried) (carried : Carried) (r : PlanRecord) : Type 0 where
   pub number : r.plan ≡ k
   pub is_world : by.on.cells.is_made w
-  pub arcs : by.on.wording.arcs (by.on.network w) w
+  pub arcs : by.on.wording.arcs (by.on.wording.told w) w
   pub promises : KeepsPromises by.on w start goal how.bound r
   pub searched : IsSearched by w how outputs start goal before carried r
   pub incumbent : r.incumbent ≡ newest (with_plan log r)

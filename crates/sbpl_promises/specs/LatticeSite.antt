@@ -1,5 +1,5 @@
 -- The lattice as a place that is planned on.
-use Rattle.std.specs.Prelude.{◌≡◌, ℕ}
+use Rattle.std.specs.Prelude.{◌≡◌, ℕ, false}
 use Rattle.sbpl_report.specs.sbpl_graph.Network.{Network}
 use Rattle.sbpl_report.specs.sbpl_cfg.declared.pose.Pose.{Pose}
 use Rattle.sbpl_report.specs.sbpl_cfg.declared.pose.Place.{Place}
@@ -37,6 +37,8 @@ pub record HasArcsOf (n : Network) (w : World) : Type 0 where
 
 abbrev pub lattice_wording : Wording World
 lattice_wording = record {
+  told = network_of;
+  back = false;
   arcs = HasArcsOf;
   starts = λ w s. IsStateOf w.env w.env.start s;
   ends = λ w s. IsStateOf w.env w.env.end s;

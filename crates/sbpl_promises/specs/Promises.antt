@@ -5,21 +5,20 @@ use Rattle.sbpl_report.specs.sbpl_cfg.declared.fault.EnvFault.{EnvFault}
 use Rattle.sbpl_report.specs.sbpl_cfg.Environment.{Environment}
 use Rattle.sbpl_report.specs.sbpl_mprim.declared.fault.PrimFault.{PrimFault}
 use Rattle.sbpl_report.specs.sbpl_mprim.Primitives.{Primitives}
-use Rattle.sbpl_report.specs.sbpl_fixed.Formats.{Left, start_at}
+use Rattle.sbpl_report.specs.sbpl_fixed.Formats.{start_at}
 use Rattle.sbpl_report.specs.sbpl_map.declared.fault.ChangeFault.{ChangeFault}
 use Rattle.sbpl_report.specs.sbpl_map.declared.write.Write as change
 use Rattle.sbpl_report.specs.sbpl_cost.World.{IsWorld, World}
 use Rattle.sbpl_report.specs.sbpl_cert.declared.fault.LabelFault.{LabelFault}
 use Rattle.sbpl_report.specs.sbpl_cert.declared.flaw.Flaw.{Flaw}
 use Rattle.sbpl_report.specs.sbpl_cert.declared.outcome.Outcome.{Outcome}
-use Rattle.sbpl_promises.specs.Asked.{Known, checked_direction}
-use Rattle.sbpl_promises.specs.Sites.{Site}
+use Rattle.sbpl_promises.specs.Asked.{Known}
+use Rattle.sbpl_promises.specs.Sites.{Site, searched_on}
 use Rattle.sbpl_nav2d.specs.World.{GridWorld, IsGridWorld}
 use Rattle.sbpl_promises.specs.WorldFiles.{WorldFiles}
-use Rattle.sbpl_replan.specs.Directions.{Direction}
 use Rattle.sbpl_promises.specs.declared.section_stop.SectionStop.{SectionStop}
 use Rattle.sbpl_promises.specs.declared.section_stop.SectionStop.TheVariants as section
-use Rattle.sbpl_promises.specs.Checked.{AreChecked, Case, Holding, IsShownHolding, case_of, to_in}
+use Rattle.sbpl_promises.specs.Checked.{AreChecked, Holding, IsShownHolding, case_of, to_in}
 use Rattle.sbpl_report.specs.sbpl_plan.declared.found.Found.{Found}
 use Rattle.sbpl_promises.specs.Headline.{AreRecords, Carried, IsBrokenIn}
 use Rattle.sbpl_promises.specs.Published.{Entry, with_paths, with_plans}
@@ -33,7 +32,7 @@ use Rattle.sbpl_report.specs.declared.record.PlanRecord.{PlanRecord}
 use Rattle.sbpl_report.specs.declared.refusal.Refusal.{Refusal}
 use Rattle.sbpl_promises.specs.Causes.{AreDemonstrated, ArePlanned, IsJobCause, IsReadText, NoneTooDear, ReadsCourse, ReadsWorld, check_files, grid_files, plan_files}
 use Rattle.sbpl_report.specs.sbpl_sweep.Widths.{NoneTooWide}
-use Rattle.sbpl_promises.specs.Intents.{BeginsAfter, Intent, Refused, Planned, Checked, Listed, Demonstrated, OutOfMemory, published_by, checked_status, checked_writes, demo_writes, end_writes, intent_status, listing_writes, outputs_of, plans_status, plans_writes, refusal_writes, statuses, words_writes, writes_of}
+use Rattle.sbpl_promises.specs.Intents.{BeginsAfter, Intent, Refused, Planned, Checked, Listed, Demonstrated, OutOfMemory, published_by, checked_writes, demo_writes, end_writes, intent_status, listing_writes, outputs_of, plans_status, plans_writes, refusal_writes, statuses, words_writes, writes_of}
 use Rattle.sbpl_report.specs.Refusals.{refusal_status}
 use Rattle.sbpl_promises.specs.declared.course.Course.{Course}
 use Rattle.sbpl_promises.specs.Texts.{HasChangeFault, HasEnvironmentFault, HasGridFault, HasPrimitiveFault, IsChangeText, IsEnvironmentText, IsGridText, IsPrimitiveText, Scope, scope_for, still}
@@ -65,19 +64,19 @@ pub record IsListed (before after : DeskState) (from : Sources) : Type 0 where
   pub is_world : IsWorld world
   pub lines : AreAppended before after (listing_writes world)
 
--- In a world of a site and over a course the text of a file of labels, which were searched in a direction, is checked: sections with
+-- In a world of a site and over a course the text of a file of labels, which were searched on that site, is checked: sections with
 -- these outcomes, of searches to these goals, hold, and it ends so.
-pub record IsCheckedIn {W : Type 0} (Holds : Holding) (on : Site W) (d : Direction W) (w : W) (course : Course) (text : List ℕ) (goals : ℕ → ℕ) (os : List Outcome) (end : Option SectionStop) : Type 0 where
+pub record IsCheckedIn {W : Type 0} (Holds : Holding) (on : Site W) (w : W) (course : Course) (text : List ℕ) (goals : ℕ → ℕ) (os : List Outcome) (end : Option SectionStop) : Type 0 where
   pub start : ℕ
   pub goal : ℕ
   pub start_is : on.wording.starts w start
   pub goal_is : on.wording.ends w goal
-  pub goals_are : goals ≡ to_in (case_of on d w course start goal)
-  pub checked : AreChecked Holds (case_of on d w course start goal) 0 (suc (length course.batches)) (start_at text 0) os end
+  pub goals_are : goals ≡ to_in (case_of on w course start goal)
+  pub checked : AreChecked Holds (case_of on w course start goal) 0 (suc (length course.batches)) (start_at text 0) os end
 
--- each world's graph has just the arcs that its files make
+-- of each world, the graph whose paths are told has just the arcs that its files make
 abbrev pub HasItsArcs : {W : Type 0} → Site W → Type 0
-HasItsArcs {W} on = (w : W) → on.cells.is_made w → on.wording.arcs (on.network w) w
+HasItsArcs {W} on = (w : W) → on.cells.is_made w → on.wording.arcs (on.wording.told w) w
 
 -- The files stand for a world and a course, and in it the file of labels is checked so. What its sections that hold say is shown, and is
 -- so, on graphs which have just the arcs that the files make on the map, read backwards where the robot may move.
@@ -90,7 +89,7 @@ pub record IsChecked {W : Type 0} (held : Told) (f : WorldFiles W) (changes : Op
   pub is_world : f.on.cells.is_made world
   pub text : List ℕ
   pub read : IsReadText (held labels) text
-  pub in_world : IsCheckedIn IsShownHolding f.on (checked_direction f.on f.moves) world course text goals os end
+  pub in_world : IsCheckedIn IsShownHolding (searched_on f.on f.moves) world course text goals os end
 
 -- sections of labels were checked, which ended so, and their lines were written
 pub record IsJudged {W : Type 0} (before after : DeskState) (end : Option SectionStop) (f : WorldFiles W) (changes : Option (List ℕ)) (labels : List ℕ) : Type 0 where

@@ -2,7 +2,7 @@
 pub use Rattle.sbpl_report.specs.sbpl_cert.declared.outcome.Outcome.{Outcome}
 pub use Rattle.sbpl_report.specs.sbpl_cfg.Environment.{Environment}
 pub use Rattle.sbpl_report.specs.sbpl_cfg.declared.fault.EnvFault.{EnvFault}
-pub use Rattle.sbpl_promises.specs.Asked.{checked_direction}
+pub use Rattle.sbpl_promises.specs.Sites.{searched_on}
 pub use Rattle.sbpl_promises.specs.Causes.{grid_scope, scope_of}
 pub use Rattle.sbpl_promises.specs.Checked.{IsHolding}
 pub use Rattle.sbpl_promises.specs.Determined.{ArePrefixes, AreTold, CallsFor, IsDeterminedJob, IsNoFailure, NoneRose}

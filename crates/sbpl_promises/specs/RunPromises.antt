@@ -1,9 +1,9 @@
 -- What `run` promises, of every desk: how the status and what is written come of the job that the words name and of the files.
-use Rattle.std.specs.Prelude.{◌≡◌, ◌≢◌, ◌⊎◌, ℕ, false, List, None, Option, Some}
+use Rattle.std.specs.Prelude.{◌≡◌, ◌≢◌, ◌⊎◌, ℕ, List, None, Option, Some}
 use Rattle.sbpl_desk.specs.Desk.{DeskState}
 use Rattle.sbpl_promises.specs.Published.{Entry}
 use Rattle.sbpl_promises.specs.Promises.{EndsRun}
-use Rattle.sbpl_promises.specs.Run.{AreGood, ArePrefixes, AreTold, AtJob, CallsFor, ChangeFault, CheckJob, Course, DemoJob, EndsJob, EndsWithoutMemory, EnvFault, Environment, GridWorld, Intent, IsCheckedIn, IsCutShort, IsDeterminedJob, IsDone, IsFaultFound, IsFirstTooDear, IsFirstTooWide, IsFlawFound, IsHolding, IsNoCheck, IsNoFailure, IsOnGrid, IsOrFailed, IsOrUnwritten, IsRefused, IsStatus, Job, NavCheckJob, EnvFault, NoneRose, NoneTooWide, Outcome, PrimFault, Primitives, ReadsFrom, Scope, SectionStop, SomeRose, Sources, Tells, TellsChangeFault, TellsCourse, TellsEnvironment, TellsEnvironmentFault, TellsGrid, TellsGridFault, TellsPrimitiveFault, TellsPrimitives, TellsTooMuch, TellsWorld, World, changes_of, checked_direction, checked_status, grid_of, grid_scope, grid_site, intent_status, lattice_site, moves_in, scope_of, sources_of, words_writes, writes_of}
+use Rattle.sbpl_promises.specs.Run.{AreGood, ArePrefixes, AreTold, AtJob, CallsFor, ChangeFault, CheckJob, Course, DemoJob, EndsJob, EndsWithoutMemory, EnvFault, Environment, GridWorld, Intent, IsCheckedIn, IsCutShort, IsDeterminedJob, IsDone, IsFaultFound, IsFirstTooDear, IsFirstTooWide, IsFlawFound, IsHolding, IsNoCheck, IsNoFailure, IsOnGrid, IsOrFailed, IsOrUnwritten, IsRefused, IsStatus, Job, NavCheckJob, EnvFault, NoneRose, NoneTooWide, Outcome, PrimFault, Primitives, ReadsFrom, Scope, SectionStop, SomeRose, Sources, Tells, TellsChangeFault, TellsCourse, TellsEnvironment, TellsEnvironmentFault, TellsGrid, TellsGridFault, TellsPrimitiveFault, TellsPrimitives, TellsTooMuch, TellsWorld, World, changes_of, checked_status, grid_of, grid_scope, grid_site, intent_status, lattice_site, moves_in, scope_of, searched_on, sources_of, words_writes, writes_of}
 use Rattle.sbpl_promises.specs.Writing.{AreAppended, IsCutAt, RunsOutAt, Stays}
 use Rattle.sbpl_promises.specs.declared.section_stop.SectionStop.TheVariants as Stops
 use Rattle.sbpl_report.specs.sbpl_job.declared.job.Job.TheVariants as Jobs
@@ -57,10 +57,10 @@ pub record RunPromises (named : Option Job) (before after : DeskState) (old new 
   pub grid_complete : (job : Job) (env : List ℕ) (w : GridWorld) (c : Course) → named ≡ Some job → grid_of job ≡ Some env → TellsGrid before.held env w → TellsCourse before.held (changes_of job) (grid_scope w) c → IsNoCheck job → IsOrFailed 0 status
   pub demonstrated : (d : DemoJob) → named ≡ Some (Jobs.Demo d) → IsOrUnwritten 0 status
   -- The job `check` ends as the labels do in the world that the files stand for, unless the desk fails or memory runs out.
-  pub checked : (j : CheckJob) (w : World) (c : Course) (text : List ℕ) (goals : ℕ → ℕ) (os : List Outcome) (end : Option SectionStop) → named ≡ Some (Jobs.Check j) → TellsWorld before.held j.sources w → TellsCourse before.held j.changes (scope_of j.back w) c → Tells (before.held j.labels) text → IsCheckedIn IsHolding lattice_site (checked_direction lattice_site j.back) w c text goals os end → end ≢ Some Stops.NoMemory → IsOrFailed (checked_status end) status
+  pub checked : (j : CheckJob) (w : World) (c : Course) (text : List ℕ) (goals : ℕ → ℕ) (os : List Outcome) (end : Option SectionStop) → named ≡ Some (Jobs.Check j) → TellsWorld before.held j.sources w → TellsCourse before.held j.changes (scope_of j.back w) c → Tells (before.held j.labels) text → IsCheckedIn IsHolding (searched_on lattice_site j.back) w c text goals os end → end ≢ Some Stops.NoMemory → IsOrFailed (checked_status end) status
   pub labels_long : (j : CheckJob) (w : World) (c : Course) → named ≡ Some (Jobs.Check j) → TellsWorld before.held j.sources w → TellsCourse before.held j.changes (scope_of j.back w) c → TellsTooMuch (before.held j.labels) → IsOrFailed 8 status
   -- and `navcheck` likewise.
-  pub grid_checked : (j : NavCheckJob) (w : GridWorld) (c : Course) (text : List ℕ) (goals : ℕ → ℕ) (os : List Outcome) (end : Option SectionStop) → named ≡ Some (Jobs.NavCheck j) → TellsGrid before.held j.env w → TellsCourse before.held j.changes (grid_scope w) c → Tells (before.held j.labels) text → IsCheckedIn IsHolding grid_site (checked_direction grid_site false) w c text goals os end → end ≢ Some Stops.NoMemory → IsOrFailed (checked_status end) status
+  pub grid_checked : (j : NavCheckJob) (w : GridWorld) (c : Course) (text : List ℕ) (goals : ℕ → ℕ) (os : List Outcome) (end : Option SectionStop) → named ≡ Some (Jobs.NavCheck j) → TellsGrid before.held j.env w → TellsCourse before.held j.changes (grid_scope w) c → Tells (before.held j.labels) text → IsCheckedIn IsHolding grid_site w c text goals os end → end ≢ Some Stops.NoMemory → IsOrFailed (checked_status end) status
   pub grid_labels_long : (j : NavCheckJob) (w : GridWorld) (c : Course) → named ≡ Some (Jobs.NavCheck j) → TellsGrid before.held j.env w → TellsCourse before.held j.changes (grid_scope w) c → TellsTooMuch (before.held j.labels) → IsOrFailed 8 status
   -- Where no read or write failed and memory did not run out, the words and the files call for something, so the next clause never
   -- stands empty. Plans by a planner whose passes are not determined are not called for.

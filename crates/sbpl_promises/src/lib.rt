@@ -54,7 +54,7 @@ pub use sbpl_report::{
 pub use sbpl_demo::{Demo, generate};
 
 // Of `sbpl_back`.
-pub use sbpl_replan::{Back, FromStart, paths_turn_round, turned_round};
+pub use sbpl_replan::{Back, FromStart, Reversed, paths_turn_round, turned_round};
 
 // Of `sbpl_nav2d`.
 pub use sbpl_nav2d::{
@@ -94,7 +94,7 @@ pub use sbpl_report::{
 };
 
 // Of `sbpl_replan`.
-pub use sbpl_replan::{BackReplanner, Replan, Replanner};
+pub use sbpl_replan::Replanner;
 
 // Of `sbpl_job`.
 pub use sbpl_report::{

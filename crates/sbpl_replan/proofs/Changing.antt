@@ -3,7 +3,7 @@ use Rattle.std.proofs.Common.{◌≡◌, ℕ, ◌+◌, ◌^◌, ◌<◌, List, s
 use Rattle.std.proofs.Common.{arith, inl, inr}
 use Rattle.std.specs.Prelude.{OnErr}
 use Rattle.std.proofs.lemmas.List.{get_or_default}
-use Rattle.sbpl_plan.specs.sbpl_graph.Network.{IsFreeArc, Network}
+use Rattle.sbpl_plan.specs.sbpl_graph.Network.{Network}
 use Rattle.sbpl_plan.specs.sbpl_labels.Counts.{AreCounts, Counts}
 use Rattle.sbpl_plan.specs.sbpl_labels.Marks.{Marks}
 use Rattle.sbpl_plan.specs.sbpl_search.Changed.{IsChangeable}
@@ -11,22 +11,13 @@ use Rattle.sbpl_plan.specs.sbpl_search.Meaning.{Meaning}
 use Rattle.sbpl_plan.specs.sbpl_search.Ready.{AreUsable, IsStartFresh}
 use Rattle.sbpl_plan.specs.sbpl_search.State.{State}
 use Rattle.sbpl_heur.specs.sbpl_serial.Repaired.{ExactWhereSame}
-use Rattle.sbpl_plan.specs.declared.ask.Ask.{Ask}
 use Rattle.sbpl_plan.specs.declared.passes.Pass.{Pass}
 use Rattle.sbpl_plan.specs.OutOfMemory.{RunsOutOfMemory}
-use Rattle.sbpl_plan.specs.Passing.{Inquiry, expansions, inquiry_of}
+use Rattle.sbpl_plan.specs.Passing.{Inquiry, expansions}
 use Rattle.sbpl_heur.specs.sbpl_terrain.Affected.{AreStates, KeepArcsElsewhere}
-use Rattle.sbpl_back.specs.Reversed.{ArcsTurnBack, ArcsTurnRound, reversed}
-use Rattle.sbpl_back.specs.Starts.{StartIn, from_start}
-use Rattle.sbpl_replan.specs.Directions.{backwards}
 use Rattle.sbpl_heur.specs.sbpl_terrain.Cells.{Cells, DifferInCostsAlone, IsTerrain}
-use Rattle.sbpl_heur.specs.sbpl_cost.World.{World}
 use Rattle.sbpl_heur.specs.sbpl_terrain.declared.arc_end.ArcEnd.TheVariants as end
-use Rattle.sbpl_heur.specs.sbpl_cost.Lattices.{network_of}
-use Rattle.sbpl_plan.specs.sbpl_graph.Laws.{HasExactTails}
-use Rattle.sbpl_replan.specs.Replanning.{IsReadyBack, IsReadyIn, Replanning, Standing, StandsOutOfMemory}
-use Rattle.sbpl_replan.specs.Replanning.{at_plan, gap_from, inquiry}
-use Rattle.sbpl_heur.specs.sbpl_serial.declared.step.Step.{Step}
+use Rattle.sbpl_replan.specs.Replanning.{IsReadyIn, Replanning, Standing, StandsOutOfMemory, at_plan}
 
 -- another map gives a graph that differs in what arcs cost alone
 pub differ : {W : Type 0} (network : W → Network) (cells : Cells W) → IsTerrain network cells → (w v : W)
@@ -61,39 +52,6 @@ changeable law n n' m touched same is among kept = record {
   untouched = λ t inside apart none.
       law n n' m.start _ _ _ is.exact t (subst (λ (states : ℕ). t < states) is.states inside) apart
       (record { kept = λ s k c free. (kept s k t c none).0 free; none_new = λ s k c free. (kept s k t c none).1 free });
-}
-
--- a free arc of the one reversed graph is one of the other, where
--- the tails are the same and the arc stays free at its cost
-turned_arc : ArcsTurnRound → ArcsTurnBack → (n n' : Network) → HasExactTails n → HasExactTails n'
-    → n'.tail_fan ≡ n.tail_fan → n'.tail ≡ n.tail → n'.states ≡ n.states
-    → (s j t c : ℕ) → ((k : ℕ) → IsFreeArc n t k s c → IsFreeArc n' t k s c) → IsFreeArc (reversed n) s j t c
-    → IsFreeArc (reversed n') s j t c
-turned_arc round back n n' tails tails' fans same states s j t c stays free =
-    let at = round n s j t c tails free in
-    back n' s j t at.0 c tails' (record {
-      target = subst (λ (x : ℕ). s < x) (sym states) at.1.target;
-      number = subst (λ (f : ℕ → ℕ). j < f s) (sym fans) at.1.number;
-      tail = ap (λ (f : ℕ → ℕ → _). f s j) same ∙ at.1.tail;
-    }) (stays at.0 at.2)
-
--- and so it is over the reversed graph, where the arcs from each state that is not touched are kept
-pub changeable_back : ExactWhereSame → ArcsTurnRound → ArcsTurnBack → (n n' : Network) (m : Marks) (touched : List ℕ)
-    → HasExactTails n → HasExactTails n' → DifferInCostsAlone n' n
-    → AreUsable (reversed n) m (2 ^ 30) → AreStates n' touched → KeepArcsElsewhere end.Source n n' touched
-    → IsChangeable (reversed n') touched m
-changeable_back law round back n n' m touched tails tails' differ is among kept = record {
-  inside = λ k d here. subst (λ (x : ℕ). slice_index_or touched k d < x) (differ.states ∙ sym is.states)
-      (among (slice_index_or touched k d) (k, here, get_or_default touched k (slice_index_or touched k d) d here));
-  fits = rw is.states is.fits;
-  untouched = λ t inside apart none.
-      law (reversed n) (reversed n') m.start _ _ _ is.exact t (subst (λ (x : ℕ). t < x) is.states inside) apart
-      (record {
-        kept = λ s j c free. turned_arc round back n n' tails tails' differ.tail_fan differ.tail differ.states s j t c
-            (λ k arc. (kept t k s c none).0 arc) free;
-        none_new = λ s j c free. turned_arc round back n' n tails' tails (sym differ.tail_fan) (sym differ.tail)
-            (sym differ.states) s j t c (λ k arc. (kept t k s c none).1 arc) free;
-      });
 }
 
 -- what follows from what holds where memory ran out
@@ -131,22 +89,3 @@ pub ready_again : {Note H W : Type 0} (means : Meaning Note) (network : W → Ne
     → IsReadyIn means network is_made_for w (record r { search = search; counts = counts })
 ready_again means network is_made_for w r search counts ready labels same fresh =
     record { to_goal = same ∙ ready.to_goal; made = ready.made; labels = labels; fresh = fresh }
-
-pub ready_again_back : (n : Network) (s : Standing Step) (search : State Step) (counts : Counts) → IsReadyBack n s
-    → AreUsable (reversed n) search.labels counts.run → search.goal ≡ s.search.goal → IsStartFresh search.labels
-    → IsReadyBack n (record { search = search; counts = counts })
-ready_again_back n s search counts ready labels same fresh = record {
-  goal = subst (λ (t : ℕ). t < n.states) (sym same) ready.goal;
-  labels = labels;
-  fresh = fresh;
-}
-
--- what stays the same over a plan backwards
-pub back_inquiry : (w b : World) (f : StartIn) (s : Standing Step) (start : ℕ) (ask : Ask) → b ≡ w
-    → f ≡ record { world = w; start = start } → s.search.goal ≡ start
-    → inquiry_of (reversed (network_of b)) (from_start f) start ask
-    ≡ inquiry (backwards network_of) w (gap_from s (network_of w)) s ask
-back_inquiry w b f s start ask b_is f_is start_is =
-    let guide : from_start f ≡ gap_from s (network_of w) =
-    ap from_start f_is ∙ (λ i t. (network_of w).gap ((sym start_is) i) t) in
-    λ i. inquiry_of (reversed (network_of (b_is i))) (guide i) ((sym start_is) i) ask

@@ -1,4 +1,3 @@
-pub mod Directions
 pub mod Replanning
 pub mod OnLattice
 pub use Rattle.sbpl_plan.specs.sbpl_graph as sbpl_graph

@@ -1,16 +1,12 @@
 //! Plans while a map changes: one at first, and one after each batch of changes.
 #![tactic(auto)]
 
-mod back_replanner;
 mod change;
-mod replan;
 mod replanner;
 
-pub use back_replanner::BackReplanner;
-pub use replan::Replan;
 pub use replanner::{LatticeReplanner, Replanner};
 pub use sbpl_adstar::{AdStar, Ara};
-pub use sbpl_back::{Back, FromStart, paths_turn_round, turned_round};
+pub use sbpl_back::{Back, FromStart, Reversed, paths_turn_round, turned_round};
 pub use sbpl_heur::{
     Best, Env, Grid, Lattice, Map, Pose, Sweeps, Write, are_on_map, place_at, read_prims,
 };

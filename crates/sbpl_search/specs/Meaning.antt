@@ -1,5 +1,5 @@
 -- What the calls of a planner mean.
-use Rattle.std.specs.Prelude.{ℕ, Bool, List}
+use Rattle.std.specs.Prelude.{◌≡◌, ℕ, ◌↔◌, Bool, List}
 use Rattle.sbpl_labels.specs.sbpl_graph.Network.{Network}
 use Rattle.sbpl_labels.specs.Counts.{Counts}
 use Rattle.sbpl_labels.specs.Marks.{Marks}
@@ -27,3 +27,16 @@ pub record Meaning (Note : Type 0) : Type 1 where
   pub repairs : Bool
   pub begun : Network → (touched : List ℕ) → (old new : Marks) → (raised : List ℕ) → Type 0
   pub cut : Query → (old new : State Note) → (before after : Counts) → Type 0
+
+-- two planners mean the same by each call
+pub record MeanAlike {Note : Type 0} (a b : Meaning Note) : Type 0 where
+  pub ready : (n : Network) (m : Marks) (count : ℕ) → a.ready n m count ↔ b.ready n m count
+  pub leads : (q : Query) (notes : List Note) (old new : Marks) → a.leads q notes old new ↔ b.leads q notes old new
+  pub rests : (q : Query) (notes : List Note) (m : Marks) → a.rests q notes m ↔ b.rests q notes m
+  pub goes_on : (q : Query) (notes : List Note) (m : Marks) → a.goes_on q notes m ↔ b.goes_on q notes m
+  pub expansions : (notes : List Note) → a.expansions notes ≡ b.expansions notes
+  pub times : (s : ℕ) (notes : List Note) → a.times s notes ≡ b.times s notes
+  pub most : a.most ≡ b.most
+  pub repairs : a.repairs ≡ b.repairs
+  pub begun : (n : Network) (touched : List ℕ) (old new : Marks) (raised : List ℕ) → a.begun n touched old new raised ↔ b.begun n touched old new raised
+  pub cut : (q : Query) (old new : State Note) (before after : Counts) → a.cut q old new before after ↔ b.cut q old new before after

@@ -5,7 +5,7 @@ ghost use Rattle.std.specs.Prelude.{Bool, true, false};
 /// What becomes of the labels of a serial search where the graph changes. Only labels that are repaired may be underconsistent, so
 /// this also says from which labels a pass may begin, and how often it takes one state.
 pub trait Policy {
-    /// Whether they are repaired, for which the touched states are wanted, or made initial again.
+    /// Whether the labels are repaired, which needs the touched states. Otherwise they are made initial again.
     const REPAIRS: bool;
 
     ghost REPAIRS: { Bool };

@@ -230,7 +230,7 @@ impl<P: Policy> Serial<P> {
     /// v is below g, and 1000 g + `eps` h otherwise, with h by the guide; the second is the lesser of g and v. Of equal keys that
     /// of the state of lower number comes first. `eps` is the inflation in thousandths, 1000 to 100000. Each expansion is
     /// counted, and no state is expanded more than three times. From labels none of which has v below g no state is raised, and
-    /// none is expanded twice: so it is in ARA*, where there are no others. It takes no memory.
+    /// none is expanded twice: so it always is in ARA*, which has only such labels. It takes no memory.
     pub fn pass<G: Graph, H: Guide>(
         &mut self,
         graph: &G,

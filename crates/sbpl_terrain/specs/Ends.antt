@@ -7,3 +7,8 @@ use Rattle.sbpl_terrain.specs.declared.arc_end.ArcEnd.TheVariants as end
 abbrev pub at_end : ArcEnd → ℕ × ℕ → ℕ
 at_end end.Source ends = ends.0
 at_end end.Head ends = ends.1
+
+-- the other end
+abbrev pub other_end : ArcEnd → ArcEnd
+other_end end.Source = end.Head
+other_end end.Head = end.Source

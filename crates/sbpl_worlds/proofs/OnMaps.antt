@@ -1,11 +1,12 @@
 -- What is on a map is on the map as it is later.
-use Rattle.std.proofs.Common.{◌≡◌, ℕ, zero, suc, pos, List, [], ◌∷◌, Some, slice_get, sym, ◌∙◌, ap, subst, arith}
+use Rattle.std.proofs.Common.{◌≡◌, ◌<◌, ℕ, Bool, true, false, zero, suc, pos, List, [], ◌∷◌, Some, slice_get, sym, ◌∙◌, ap, subst, arith}
 use Rattle.std.proofs.lemmas.Int.{ints}
 use Rattle.std.specs.List.{AllByRecursion}
 use Rattle.sbpl_promises.specs.sbpl_graph.Network.{Network}
 use Rattle.sbpl_promises.specs.sbpl_map.declared.write.Write.{Write}
 use Rattle.sbpl_promises.specs.sbpl_map.CellMap.{CellMap, IsOnMap}
 use Rattle.sbpl_promises.specs.sbpl_map.ChangeText.{AreOnMap, IsWriteOnMap}
+use Rattle.sbpl_promises.specs.Sites.{from_of, to_of}
 use Rattle.sbpl_promises.specs.sbpl_terrain.Noted as batch
 use Rattle.sbpl_promises.specs.sbpl_terrain.Cells.{Cells, IsTerrain}
 
@@ -40,3 +41,19 @@ pub same_states : {W : Type 0} (network : W → Network) (cells : Cells W) → I
 same_states network cells law w v made now same =
     let there : cells.is_made (cells.over w (cells.map v)) = subst cells.is_made same now in
     sym (law.rest w (cells.map v) made there).states ∙ ap (λ u. (network u).states) (sym same)
+
+-- and so has the graph that is told of, which has as many
+pub same_told_states : {W : Type 0} (network told : W → Network) (cells : Cells W)
+    → ((w : W) → (told w).states ≡ (network w).states) → IsTerrain network cells → (w v : W)
+    → cells.is_made w → cells.is_made v → v ≡ cells.over w (cells.map v) → (told w).states ≡ (told v).states
+same_told_states network told cells as_many law w v made now same =
+    as_many w ∙ same_states network cells law w v made now same ∙ sym (as_many v)
+
+-- the states between which a search goes are states
+pub from_inside : (back : Bool) (start goal n : ℕ) → start < n → goal < n → from_of back start goal < n
+from_inside true start goal n first last = last
+from_inside false start goal n first last = first
+
+pub to_inside : (back : Bool) (start goal n : ℕ) → start < n → goal < n → to_of back start goal < n
+to_inside true start goal n first last = first
+to_inside false start goal n first last = last

@@ -1,7 +1,10 @@
 //! The grid, whose states are cells, as what a job plans on.
 
 use crate::workspace::Workspace;
-use sbpl_promises::{Graph, Nav, Octile, PathStep, Place, Spot, worlds_are_grids};
+use sbpl_promises::{
+    FoundPath, Graph, Nav, NoMemory, Octile, Outcome, PathStep, Place, Spot, worlds_are_grids,
+};
+use std::alloc::Global;
 
 impl Workspace for Nav {
     ghost use Rattle.std.proofs.Common.{refl};
@@ -14,6 +17,10 @@ impl Workspace for Nav {
     fn ends(&self) -> (u32, u32) {
         let env = self.env();
         (env.start, env.end)
+    }
+
+    fn way(start: u32, goal: u32) -> (u32, u32) {
+        (start, goal)
     }
 
     fn spot(&self, state: u32) -> Spot {
@@ -35,9 +42,21 @@ impl Workspace for Nav {
         }
     }
 
+    fn turn(
+        &self,
+        _alloc: Global,
+        _start: u32,
+        _goal: u32,
+        found: Outcome<FoundPath>,
+    ) -> Result<Outcome<FoundPath>, NoMemory> {
+        Ok(found)
+    }
+
     fn has_its_arcs() {
         worlds_are_grids();
     }
+
+    ghost same_states = { λ w. refl };
 
     ghost places_stay = { λ w m. record { headings = refl; state = refl } };
 }

@@ -8,6 +8,7 @@ mod files;
 mod grid;
 mod lattice;
 mod poses;
+mod reversed;
 mod workspace;
 
 pub use course::place_in;
@@ -45,7 +46,7 @@ pub use sbpl_promises::{Heuristic, write_batch};
 pub use sbpl_promises::Lattice;
 
 // Of `sbpl_back`.
-pub use sbpl_promises::{Back, FromStart, paths_turn_round, turned_round};
+pub use sbpl_promises::Reversed;
 
 // Of `sbpl_nav2d`.
 pub use sbpl_promises::{Nav, Octile};
@@ -77,7 +78,7 @@ pub use sbpl_promises::{
 pub use sbpl_promises::{Arcs, Ask, FoundPath, Observer, Outcome, Planned};
 
 // Of `sbpl_replan`.
-pub use sbpl_promises::{BackReplanner, Replan, Replanner};
+pub use sbpl_promises::Replanner;
 
 // Of `sbpl_job`.
 pub use sbpl_promises::{

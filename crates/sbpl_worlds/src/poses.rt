@@ -2,9 +2,10 @@
 
 use crate::workspace::Workspace;
 use sbpl_promises::{
-    Best, Graph, Lattice, PathStep, Place, Spot, Terrain, lattice_has_its_arcs,
-    lattice_tails_are_in_order, place_at,
+    Best, FoundPath, Graph, Lattice, NoMemory, Outcome, PathStep, Place, Spot, Terrain,
+    lattice_has_its_arcs, lattice_tails_are_in_order, place_at,
 };
+use std::alloc::Global;
 
 impl Workspace for Lattice {
     ghost use Rattle.std.proofs.Common.{refl};
@@ -20,6 +21,10 @@ impl Workspace for Lattice {
         let goal = place_at(env, &env.end).unwrap();
         let start = self.state_of(&start).unwrap();
         let goal = self.state_of(&goal).unwrap();
+        (start, goal)
+    }
+
+    fn way(start: u32, goal: u32) -> (u32, u32) {
         (start, goal)
     }
 
@@ -42,10 +47,22 @@ impl Workspace for Lattice {
         }
     }
 
+    fn turn(
+        &self,
+        _alloc: Global,
+        _start: u32,
+        _goal: u32,
+        found: Outcome<FoundPath>,
+    ) -> Result<Outcome<FoundPath>, NoMemory> {
+        Ok(found)
+    }
+
     fn has_its_arcs() {
         lattice_has_its_arcs();
         lattice_tails_are_in_order();
     }
+
+    ghost same_states = { λ w. refl };
 
     ghost places_stay = { λ w m. record { headings = refl; state = refl } };
 }

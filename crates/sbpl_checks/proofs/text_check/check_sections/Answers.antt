@@ -5,24 +5,25 @@ use Rattle.sbpl_worlds.specs.sbpl_cfg.declared.pose.Place.{Place}
 use Rattle.sbpl_worlds.specs.sbpl_map.ChangeText.{IsPlaceOnMap}
 use Rattle.sbpl_worlds.specs.sbpl_map.MapAfter.{IsMapAfter}
 use Rattle.sbpl_checks.specs.Checking.{EndsSections, IsPlanIn}
-use Rattle.sbpl_worlds.specs.sbpl_promises.Sites.{Site, WordPlacesAlike, site_of}
+use Rattle.sbpl_worlds.specs.sbpl_promises.Sites.{Site, WordPlacesAlike, site_of, to_of}
 use Rattle.sbpl_telling.proofs.Frames.{writes_on}
 use Rattle.sbpl_worlds.proofs.Moving.{alike_over, move_on_map, next_is, within}
-use Rattle.sbpl_worlds.proofs.OnMaps.{batch_on_map, same_states}
-use Rattle.sbpl_checks.proofs.Verifying.{ends_text, goes_on, none_checked, plan_in}
+use Rattle.sbpl_worlds.proofs.OnMaps.{batch_on_map, same_told_states}
+use Rattle.sbpl_checks.proofs.Verifying.{ends_text, goes_on, none_checked, plan_in, runs_out}
 use Rattle.sbpl_checks.proofs.text_check.check_sections.Goals as goal
 use Rattle.sbpl_checks.proofs.text_check.check_sections.Goals.{After-batches-last, After-write_batch}
 
 pub loop-k-init : goal.loop-k-init
 loop-k-init g c =
     none_checked (site_of g.W.Graph.network g.W.Terrain.cells g.W.Best.Heuristic.says g.W.Workspace.wording)
-    g.S.Searched.direction c.is_terrain.ensures.law c.requires.searched
+    c.is_terrain.ensures.law c.requires.made
     (c.writes_lead_to_the_next_map.ensures.first _ _) c.requires.kept c.requires.start
 
 -- the map now has as many states as the first
 pub check_plan-requires-clause-goal : goal.check_plan-requires-clause-goal
 check_plan-requires-clause-goal g c =
-    subst (λ (n : ℕ). c.args.goal < n) (same_states g.W.Graph.network g.W.Terrain.cells c.is_terrain.ensures.law _ _
+    subst (λ (n : ℕ). c.args.goal < n) (same_told_states g.W.Graph.network g.W.Workspace.wording.told g.W.Terrain.cells
+    g.met.W.Workspace.same_states c.is_terrain.ensures.law _ _
     c.requires.kept c.loop-k.invariant.kept c.loop-k.invariant.other_parts) c.requires.goal
 
 pub returns-in-Err-clause-ends : goal.returns-in-Err-clause-ends
@@ -34,7 +35,7 @@ returns-in-Err-clause-ends g c =
     (let test = c.loop-k-test.true in let count = c.batches-k-end.ensures.value in omega arith) in
     so.leads (length course.batches - k) whole _ c.in-Err.ending
     (c.in-Err.ensures.ends (case_of (site_of g.W.Graph.network g.W.Terrain.cells g.W.Best.Heuristic.says
-    g.W.Workspace.wording) g.S.Searched.direction c.args.world.now course c.args.start c.args.goal)
+    g.W.Workspace.wording) c.args.world.now course c.args.start c.args.goal)
     (length course.batches - k) (plan_in so))
 
 pub write_batch-requires : goal.write_batch-requires
@@ -71,10 +72,11 @@ alike_after g c =
     alike_over (site_of g.W.Graph.network g.W.Terrain.cells g.W.Best.Heuristic.says g.W.Workspace.wording)
     g.met.W.Workspace.places_stay c.args.world.now c.write_batch.new.world (over_first g c)
 
--- before the batch the search was made for the world that the present one is on the old map
+-- before the batch the guide was made for the world that the present one is on the old map
 made_before : (g : _) (c : After-write_batch g)
-    → g.S.Searched.is_made_for c.loop-k.searched
-    (g.W.Terrain.cells.over c.write_batch.new.world (g.W.Terrain.cells.map c.loop-k.world)) c.args.goal
+    → g.W.Best.Heuristic.is_made_for c.loop-k.guide
+    (g.W.Terrain.cells.over c.write_batch.new.world (g.W.Terrain.cells.map c.loop-k.world))
+    (to_of g.W.Workspace.wording.back c.loop-k.start c.args.goal)
 made_before g c =
     let cells = g.W.Terrain.cells in
     let old = c.loop-k.world in
@@ -82,16 +84,25 @@ made_before g c =
     let back : cells.over c.write_batch.new.world (cells.map old) ≡ old =
     ap (λ v. cells.over v (cells.map old)) c.write_batch.ensures.others
     ∙ law.again old (cells.map c.write_batch.new.world) (cells.map old) ∙ law.present old in
-    subst (λ v. g.S.Searched.is_made_for c.loop-k.searched v c.args.goal) (sym back) c.loop-k.invariant.made
+    subst (λ v. g.W.Best.Heuristic.is_made_for c.loop-k.guide v
+    (to_of g.W.Workspace.wording.back c.loop-k.start c.args.goal)) (sym back) c.loop-k.invariant.made
 
 pub rebuild-requires : goal.rebuild-requires
 rebuild-requires g c = record {
   made = (
     g.W.Terrain.cells.map c.loop-k.world,
-    c.args.goal,
+    to_of g.W.Workspace.wording.back c.loop-k.start c.args.goal,
     made_before g (goal.at.rebuild-requires g c).After-write_batch,
   );
 }
+
+-- and then it is made for the present world, and for where the search went
+pub aim-requires-clause-made : goal.aim-requires-clause-made
+aim-requires-clause-made g c =
+    subst (λ (t : ℕ). g.W.Best.Heuristic.is_made_for c.rebuild.new.self c.write_batch.new.world t)
+    (sym c.way-from.ensures.to) (c.rebuild.ensures.made (g.W.Terrain.cells.map c.loop-k.world)
+    (to_of g.W.Workspace.wording.back c.loop-k.start c.args.goal)
+    (made_before g (goal.at.aim-requires-clause-made g c).After-write_batch))
 
 pub start_at-start-requires-clause-place : goal.start_at-start-requires-clause-place
 start_at-start-requires-clause-place g c =
@@ -111,8 +122,25 @@ start_at-start-requires-clause-place g c =
 
 pub start_at-start-requires-clause-start : goal.start_at-start-requires-clause-start
 start_at-start-requires-clause-start g c =
-    subst (λ (n : ℕ). c.loop-k.start < n) (same_states g.W.Graph.network g.W.Terrain.cells c.is_terrain.ensures.law _ _
+    subst (λ (n : ℕ). c.loop-k.start < n) (same_told_states g.W.Graph.network g.W.Workspace.wording.told g.W.Terrain.cells
+    g.met.W.Workspace.same_states c.is_terrain.ensures.law _ _
     c.loop-k.invariant.kept c.write_batch.ensures.kept c.write_batch.ensures.others) c.loop-k.invariant.state
+
+-- memory ran out while the guide was aimed
+pub returns-in-Err-aim-clause-ends : goal.returns-in-Err-aim-clause-ends
+returns-in-Err-aim-clause-ends g c =
+    let so = c.loop-k.invariant in
+    let course = c.args.course.now in
+    let k = c.loop-k.k in
+    let on : Site _ = (site_of g.W.Graph.network g.W.Terrain.cells g.W.Best.Heuristic.says g.W.Workspace.wording) in
+    let case : Case on = case_of on c.args.world.now course c.args.start c.args.goal in
+    let left : ℕ = length course.batches - k in
+    let whole : k + left ≡ length course.batches =
+    (let test = c.loop-k-test.true in let count = c.batches-k-end.ensures.value in omega arith) in
+    so.leads left whole _ c.plain.result
+    (goes_on case c.args.labels.now c.plain.result k left (c.in-Ok.ensures.holds case (plan_in so))
+    c.check_plan.ensures.frame.writes
+    (runs_out case (k + 1) left _ c.args.labels.now _ c.plain.result c.plain.ensures.status c.plain.ensures.untold))
 
 pub loop-k-preserved : goal.loop-k-preserved
 loop-k-preserved g c =
@@ -125,12 +153,13 @@ loop-k-preserved g c =
     let k = c.loop-k.k in
     let here : k < length course.batches =
     (let test = c.loop-k-test.true in let count = c.batches-k-end.ensures.value in omega arith) in
-    let case : Case on g.S.Searched.direction = case_of on g.S.Searched.direction w course c.args.start c.args.goal in
+    let case : Case on = case_of on w course c.args.start c.args.goal in
     record {
       leads = λ more whole after e ends. so.leads (suc more) (let is = whole in omega arith) after e
           (goes_on case c.args.labels.now e k (suc more) (c.in-Ok.ensures.holds case (plan_in so))
           c.check_plan.ensures.frame.writes ends);
-      made = c.rebuild.ensures.made (g.W.Terrain.cells.map c.loop-k.world) c.args.goal (made_before g at);
+      made = subst (λ (t : ℕ). g.W.Best.Heuristic.is_made_for c.aim.new.guide now t) c.way-from-in-loop-k.ensures.to
+          c.in_default.ensures.made;
       far = omega (arith, here);
       map_after = after_batch g at;
       other_parts = over_first g at;
@@ -146,7 +175,8 @@ loop-k-preserved g c =
 
 pub check_plan-requires-2-clause-goal : goal.check_plan-requires-2-clause-goal
 check_plan-requires-2-clause-goal g c =
-    subst (λ (n : ℕ). c.args.goal < n) (same_states g.W.Graph.network g.W.Terrain.cells c.is_terrain.ensures.law _ _
+    subst (λ (n : ℕ). c.args.goal < n) (same_told_states g.W.Graph.network g.W.Workspace.wording.told g.W.Terrain.cells
+    g.met.W.Workspace.same_states c.is_terrain.ensures.law _ _
     c.requires.kept c.loop-k.invariant.kept c.loop-k.invariant.other_parts) c.requires.goal
 
 -- the loop ends at the last plan
@@ -163,8 +193,8 @@ returns-in-Ok-check_plan-clause-ends g c =
     let so = c.loop-k.invariant in
     let course = c.args.course.now in
     let on : Site _ = (site_of g.W.Graph.network g.W.Terrain.cells g.W.Best.Heuristic.says g.W.Workspace.wording) in
-    let case : Case on g.S.Searched.direction =
-    case_of on g.S.Searched.direction c.args.world.now course c.args.start c.args.goal in
+    let case : Case on =
+    case_of on c.args.world.now course c.args.start c.args.goal in
     let last = last_is g (goal.at.returns-in-Ok-check_plan-clause-ends g c).After-batches-last in
     let count = c.batches-last.ensures.value in
     let plan =
@@ -182,8 +212,8 @@ returns-in-Err-check_plan-clause-ends g c =
     let so = c.loop-k.invariant in
     let course = c.args.course.now in
     let on : Site _ = (site_of g.W.Graph.network g.W.Terrain.cells g.W.Best.Heuristic.says g.W.Workspace.wording) in
-    let case : Case on g.S.Searched.direction =
-    case_of on g.S.Searched.direction c.args.world.now course c.args.start c.args.goal in
+    let case : Case on =
+    case_of on c.args.world.now course c.args.start c.args.goal in
     let last = last_is g (goal.at.returns-in-Err-check_plan-clause-ends g c).After-batches-last in
     let count = c.batches-last.ensures.value in
     let plan =

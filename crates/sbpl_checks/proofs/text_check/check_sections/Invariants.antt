@@ -1,9 +1,10 @@
-use Rattle.sbpl_worlds.specs.sbpl_promises.Sites.{site_of}
+use Rattle.sbpl_worlds.specs.sbpl_promises.Sites.{site_of, to_of}
 use Rattle.sbpl_checks.proofs.Verifying.{IsCheckedTo}
 use Rattle.sbpl_checks.proofs.text_check.check_sections.Given as goal
 
 abbrev pub invariant-loop-k : goal.invariant-loop-k
 invariant-loop-k g l =
     IsCheckedTo (site_of g.W.Graph.network g.W.Terrain.cells g.W.Best.Heuristic.says g.W.Workspace.wording)
-    g.S.Searched.direction l.fn.world l.world (g.S.Searched.is_made_for l.searched l.world l.fn.goal) l.fn.course
+    l.fn.world l.world
+    (g.W.Best.Heuristic.is_made_for l.guide l.world (to_of g.W.Workspace.wording.back l.start l.fn.goal)) l.fn.course
     l.fn.start l.start l.fn.goal l.fn.labels l.k l.at (g.D.Desk.state l.fn.desk) (g.D.Desk.state l.desk)

@@ -1,7 +1,7 @@
 use Rattle.std.proofs.Common.{List, ℕ, suc, length, refl, subst, ◌∙◌}
 use Rattle.sbpl_checks.specs.sbpl_fixed.Formats.{start_at}
 use Rattle.sbpl_checks.specs.sbpl_promises.Checked.{AreChecked, IsShownHolding, case_of, to_in}
-use Rattle.sbpl_checks.specs.sbpl_promises.Asked.{checked_direction}
+use Rattle.sbpl_checks.specs.sbpl_promises.Sites.{searched_on}
 use Rattle.sbpl_checks.specs.sbpl_promises.LatticeSite.{lattice_site}
 use Rattle.sbpl_checks.specs.sbpl_promises.Intents.{Checked}
 use Rattle.sbpl_checks.proofs.Frames.{writes_after}
@@ -16,9 +16,9 @@ pub returns-clause-ends : goal.returns-clause-ends
 returns-clause-ends g c =
     let w = c.in_ok-lattice.lattice in
     let course = c.in_ok-lattice.course in
-    let ends = c.check_either_way-ending.ensures.ends in
+    let ends = c.check_on_lattice-ending.ensures.ends in
     let case =
-    case_of lattice_site (checked_direction lattice_site c.args.job.now.back) w course c.ends-start.result.0 c.ends-start.result.1 in
+    case_of (searched_on lattice_site c.args.job.now.back) w course c.ends-start.result.0 c.ends-start.result.1 in
     let files = check_files c.args.job.now in
     let checked : IsChecked (g.D.Desk.state c.args.desk.now).held files c.args.job.now.changes c.args.job.now.labels
     (to_in case) ends.outcomes ends.end = record {
@@ -48,7 +48,7 @@ returns-clause-ends g c =
         gives = checked;
         ends = since;
         others = λ name no.
-            c.check_either_way-ending.ensures.frame.others name no ∙ c.in_ok-lattice.ensures.frame.written name;
+            c.check_on_lattice-ending.ensures.frame.others name no ∙ c.in_ok-lattice.ensures.frame.written name;
         begins = tt;
         published = refl;
       };
@@ -58,4 +58,4 @@ returns-clause-ends g c =
     }
 
 pub returns-clause-frame : goal.returns-clause-frame
-returns-clause-frame g c = writes_after _ _ _ _ c.in_ok-lattice.ensures.frame c.check_either_way-ending.ensures.frame
+returns-clause-frame g c = writes_after _ _ _ _ c.in_ok-lattice.ensures.frame c.check_on_lattice-ending.ensures.frame

@@ -1,5 +1,6 @@
 use Rattle.std.proofs.Common.{◌≡◌, ◌∙◌, inl, [], ◌∷◌, List, Bool, Err, length, refl, sym, ap, subst, false, arith}
 use Rattle.sbpl_checks.specs.sbpl_cost.World.{World}
+use Rattle.sbpl_checks.specs.sbpl_job.Jobs.{may_move}
 use Rattle.sbpl_checks.specs.sbpl_job.declared.job.Job.TheVariants as job
 use Rattle.sbpl_checks.specs.sbpl_job.declared.job.Planner.TheVariants as planner
 use Rattle.sbpl_checks.specs.sbpl_job.declared.job.SearchJob.{SearchJob}
@@ -15,7 +16,7 @@ use Rattle.sbpl_checks.specs.sbpl_report.declared.record.PlanRecord.{PlanRecord}
 use Rattle.sbpl_checks.proofs.Frames.{same_state, writes_on}
 use Rattle.sbpl_checks.proofs.Writings.{ends_as_after, status_ends}
 use Rattle.sbpl_jobs.proofs.Ends.{ended}
-use Rattle.sbpl_jobs.proofs.Planned.{all_shown, planned}
+use Rattle.sbpl_jobs.proofs.Planned.{all_shown, as_told, planned}
 use Rattle.sbpl_jobs.proofs.demo_job.demonstrate.Goals as goal
 
 pub returns-in-Err-clause-ends : goal.returns-in-Err-clause-ends
@@ -56,11 +57,13 @@ as_asked {w} {course} {how} {records} {all} {log} {broken} search stays plans =
 pub returns-clause-ends : goal.returns-clause-ends
 returns-clause-ends g c =
     let search = c.demo_search-how.ensures.search in
-    let e = ends_by planner.AdStar (ap (λ (h : SearchJob). h.planner) search) c.plans_by_adstar.ensures.ends in
+    let same = ap (λ (h : SearchJob). h.planner) search in
+    let e = as_told lattice_site false (ap may_move same)
+    (ends_by planner.AdStar same c.plans_by_adstar.ensures.ends) in
     let batches = ap (λ (x : Course). x.batches) c.requires.course in
     ended _ (g.D.Desk.state c.args.desk.now) _ _ _ (job.Demo c.args.job.now) (Demonstrated c.args.lattice.now
     (length c.args.course.now.batches) e.records e.all c.args.publisher.now.published e.broken) _
-    refl (all_shown c.args.course.now c.ends-start.result.0 e) (
+    refl (all_shown lattice_site c.args.course.now c.ends-start.result.0 e) (
       c.args.course.now.batches,
       refl,
       record {
@@ -68,7 +71,7 @@ returns-clause-ends g c =
         changes = batches;
         plans =
             as_asked search (c.requires.course ∙ ap still (sym batches))
-            (planned c.args.course.now c.ends-start.result.0 e c.ends-start.ensures.start c.ends-start.ensures.goal);
+            (planned lattice_site c.args.course.now c.ends-start.result.0 e c.ends-start.ensures.start c.ends-start.ensures.goal);
       },
     )
     (same_state _)

@@ -1,6 +1,5 @@
-use Rattle.std.proofs.Common.{List, ℕ, suc, length, refl, false, subst, ◌∙◌}
+use Rattle.std.proofs.Common.{List, ℕ, suc, length, refl, subst, ◌∙◌}
 use Rattle.sbpl_checks.specs.sbpl_fixed.Formats.{start_at}
-use Rattle.sbpl_checks.specs.sbpl_promises.Asked.{checked_direction}
 use Rattle.sbpl_checks.specs.sbpl_promises.Checked.{AreChecked, IsShownHolding, case_of, to_in}
 use Rattle.sbpl_checks.specs.sbpl_promises.GridSite.{grid_site}
 use Rattle.sbpl_checks.specs.sbpl_promises.Intents.{Checked}
@@ -18,7 +17,7 @@ returns-clause-ends g c =
     let course = c.in_ok-nav.course in
     let ends = c.check_text-ending.ensures.ends in
     let case =
-    case_of grid_site (checked_direction grid_site false) w course c.ends-start.result.0 c.ends-start.result.1 in
+    case_of grid_site w course c.ends-start.result.0 c.ends-start.result.1 in
     let files = grid_files c.args.job.now.env in
     let checked : IsChecked (g.D.Desk.state c.args.desk.now).held files c.args.job.now.changes c.args.job.now.labels
     (to_in case) ends.outcomes ends.end = record {

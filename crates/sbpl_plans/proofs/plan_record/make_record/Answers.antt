@@ -1,4 +1,4 @@
-use Rattle.std.proofs.Common.{map, arith, ◌≡◌, ℕ, ◌+◌, ◌*◌, ◌^◌, ◌≤◌, length, Bool, true, false, MatchBool}
+use Rattle.std.proofs.Common.{map, arith, ◌≡◌, ℕ, ◌+◌, ◌*◌, ◌^◌, ◌≤◌, ◌<◌, length, Bool, true, false, MatchBool}
 use Rattle.std.proofs.Common.{if◌then◌else◌, List, [], Option, None, Some, Result, Ok, Err, IfOk, refl, sym, ◌∙◌, ap}
 use Rattle.std.proofs.Common.{subst, inl, inr, ◌⊎◌}
 use Rattle.std.proofs.lemmas.List.{length-map}
@@ -16,21 +16,22 @@ use Rattle.sbpl_worlds.specs.sbpl_plan.Outcomes as search
 use Rattle.sbpl_worlds.specs.sbpl_plan.Outcomes.{IsResultOf, IsTrueOutcome}
 use Rattle.sbpl_worlds.specs.sbpl_plan.Asked.{most_passes}
 use Rattle.sbpl_worlds.specs.sbpl_plan.Passing.{ArePasses, expansions, inquiry_of}
-use Rattle.sbpl_worlds.specs.sbpl_replan.Directions.{Direction}
-use Rattle.sbpl_worlds.specs.sbpl_replan.Replanning.{GoesBetween, Standing, StaysTheSame, inquiry}
+use Rattle.sbpl_worlds.specs.sbpl_graph.Network.{Network}
+use Rattle.sbpl_worlds.specs.sbpl_search.Meaning.{Meaning}
+use Rattle.sbpl_worlds.specs.sbpl_replan.Replanning.{GoesBetween, IsReadyIn, Replanning, Standing, StaysTheSame, inquiry, standing_of}
 use Rattle.sbpl_worlds.specs.sbpl_report.Traces.{traced_pass}
 use Rattle.sbpl_worlds.specs.sbpl_plan.declared.passes.Pass.{Pass}
 use Rattle.sbpl_worlds.specs.sbpl_report.declared.record.TraceLine.{TraceLine}
 use Rattle.sbpl_worlds.specs.sbpl_promises.Published.{Entry, founds, with_paths, with_plan}
-use Rattle.sbpl_plans.specs.Planning.{known_by}
 use Rattle.sbpl_plans.proofs.Founds.{broken_by, first_of_all, founds_traced, none_published}
 use Rattle.sbpl_plans.proofs.Founds.{on_err_is, stands_broken, expansions_traced}
 use Rattle.sbpl_worlds.specs.sbpl_report.declared.record.PlanRecord.{PlanRecord}
-use Rattle.sbpl_worlds.specs.sbpl_promises.Asked.{Known, ask_of}
-use Rattle.sbpl_worlds.specs.sbpl_promises.Sites.{Site, site_of}
+use Rattle.sbpl_worlds.specs.sbpl_promises.Asked.{Known, ask_of, from_by, known_by, to_by}
+use Rattle.sbpl_worlds.specs.sbpl_promises.Sites.{Leads, Site, from_of, site_of, to_of}
 use Rattle.sbpl_worlds.specs.sbpl_promises.Headline.{Begins, Carried, IsKnownWithin, IsMarked, IsNoneThere, IsSearched, IsToldOf}
 use Rattle.sbpl_worlds.specs.sbpl_promises.Headline.{IsWithinBound, Joins, KeepsPromises, expanded_before}
 use Rattle.sbpl_worlds.specs.sbpl_report.Shown.{IsShown, IsThere}
+use Rattle.sbpl_worlds.proofs.OnMaps.{to_inside}
 use Rattle.sbpl_plans.proofs.plan_record.make_record.Goals as goal
 
 -- a plan that was spent used up the budget, or the run's
@@ -60,25 +61,25 @@ module _ {W : Type 0} (by : Known W) (w : W) (guide : ℕ → ℕ) (start goal :
     (before : Option Carried) (begun final : Marks) (raised : List ℕ) (per_plan run used : ℕ)
     (planned : Planned by.Note) (section : Option Section) where
   searched_by : (asked : Ask) (wanted : Bool) (plan : ℕ) (r : Result PlanRecord NoMemory)
-      → by.direction.guides w start goal guide
-      → Begins by.means by.on by.direction w (by.direction.from start goal) before begun raised
+      → by.on.says w (to_by by start goal) guide
+      → Begins by.means by.on w (from_by by start goal) before begun raised
       → asked ≡ ask_of how outputs
-      → ArePasses by.means (inquiry_of (by.direction.network w) guide (by.direction.to start goal) asked) asked.first
+      → ArePasses by.means (inquiry_of (by.on.network w) guide (to_by by start goal) asked) asked.first
       begun planned.passes final planned.spent
-      → IsResultOf (by.direction.network w) guide (by.direction.to start goal) final planned.outcome
+      → IsResultOf (by.on.network w) guide (to_by by start goal) final planned.outcome
       → per_plan ≡ how.budget → run ≡ expanded_before before + expansions planned.passes
       → used ≡ expansions planned.passes
       → (planned.spent ≡ true → (expansions planned.passes ≡ per_plan) ⊎ (run ≡ 2 ^ 30))
       → expansions planned.passes ≤ per_plan → run ≤ 2 ^ 30
       → length planned.passes ≤ most_passes asked.step asked.first
-      → (planned.spent ≡ true → most_passes asked.step asked.first * (by.means.most * (by.direction.network w).states)
+      → (planned.spent ≡ true → most_passes asked.step asked.first * (by.means.most * (by.on.network w).states)
       ≤ how.budget → run ≡ 2 ^ 30)
       → wanted ≡ is_some outputs.labels
-      → IsThere wanted (IsShown outputs.form (by.direction.network w) guide (by.direction.from start goal)
-      (by.direction.to start goal) plan final planned.outcome) section
+      → IsThere wanted (IsShown outputs.form (by.on.network w) guide (from_by by start goal)
+      (to_by by start goal) plan final planned.outcome) section
       → IfOk r (λ x. x.plan ≡ plan) → IfOk r (λ x. x.passes ≡ map (traced_pass by.line) planned.passes)
       → IfOk r (λ x. x.expanded ≡ used)
-      → IfOk r (λ x. IsToldOf (by.direction.leads w start goal) planned.outcome x.outcome)
+      → IfOk r (λ x. IsToldOf (Leads by.on.wording.back (by.on.wording.told w) start goal) planned.outcome x.outcome)
       → IfOk r (λ x. x.labels ≡ section)
       → IfOk r (λ x. x.raised ≡ (if asked.traced then raised else []))
       → IfOk r (λ x. MatchBool planned.spent (x.spent ≡ Some used) (x.spent ≡ None))
@@ -102,8 +103,8 @@ module _ {W : Type 0} (by : Known W) (w : W) (guide : ℕ → ℕ) (start goal :
         spent = planned.spent;
         notes = planned.passes;
         passes =
-            subst (λ (a : Ask). ArePasses by.means (inquiry_of (by.direction.network w) guide
-            (by.direction.to start goal) a) a.first begun planned.passes final planned.spent) same passes;
+            subst (λ (a : Ask). ArePasses by.means (inquiry_of (by.on.network w) guide
+            (to_by by start goal) a) a.first begun planned.passes final planned.spent) same passes;
         lines = copied;
         found = planned.outcome;
         is_result = outcome;
@@ -118,60 +119,80 @@ module _ {W : Type 0} (by : Known W) (w : W) (guide : ℕ → ℕ) (start goal :
         few = rw (copied, length-map planned.passes (traced_pass by.line), sym step, sym first) few;
         ample = rw (sym step, sym first) enough;
         labels =
-            rw kept (subst (λ (b : Bool). IsThere b (IsShown outputs.form (by.direction.network w) guide
-            (by.direction.from start goal) (by.direction.to start goal) x.plan final planned.outcome) section) asks
-            (subst (λ (k : ℕ). IsThere wanted (IsShown outputs.form (by.direction.network w) guide (by.direction.from
-            start goal) (by.direction.to start goal) k final planned.outcome) section) (sym number) shown));
+            rw kept (subst (λ (b : Bool). IsThere b (IsShown outputs.form (by.on.network w) guide
+            (from_by by start goal) (to_by by start goal) x.plan final planned.outcome) section) asks
+            (subst (λ (k : ℕ). IsThere wanted (IsShown outputs.form (by.on.network w) guide (from_by by start goal) (to_by by start goal) k final planned.outcome) section) (sym number) shown));
       }
 
 -- after a plan it goes between the same states
-between_after : {Note W : Type 0} (d : Direction W) (start goal : ℕ) (old new : Standing Note)
-    → GoesBetween d start goal old → StaysTheSame old new → GoesBetween d start goal new
-between_after d start goal old new between same =
-    record { from = same.start ∙ between.from; to = same.goal ∙ between.to }
+between_after : {Note : Type 0} (from to : ℕ) (old new : Standing Note)
+    → GoesBetween from to old → StaysTheSame old new → GoesBetween from to new
+between_after from to old new between same =
+    record { from_is = same.start ∙ between.from_is; to_is = same.goal ∙ between.to_is }
 
-pub section-requires-clause-between : goal.section-requires-clause-between
-section-requires-clause-between g c = between_after _ _ _ _ _ c.requires.set.between c.in_ok-planned.ensures.same
+-- what guides the search, where a plan may begin between these states
+guided : {Note H W : Type 0} {means : Meaning Note} {network : W → Network} (is_made_for : H → W → ℕ → Type 0)
+    (says : W → ℕ → (ℕ → ℕ) → Type 0) (distance : H → ℕ → ℕ)
+    → ((h : H) (w : W) (goal : ℕ) → is_made_for h w goal → says w goal (distance h))
+    → (w : W) (r : Replanning Note H) (from to : ℕ) → IsReadyIn means network is_made_for w r
+    → GoesBetween from to (standing_of r) → says w to (distance r.guide)
+guided is_made_for says distance so w r from to ready between =
+    subst (λ (t : ℕ). says w t (distance r.guide)) (sym ready.to_goal ∙ between.to_is) (so r.guide w r.goal ready.made)
 
-pub section-requires-clause-found : goal.section-requires-clause-found
-section-requires-clause-found g c =
-    let d = g.R.Replan.direction in
+pub section_of-requires-clause-goal : goal.section_of-requires-clause-goal
+section_of-requires-clause-goal g c =
+    let task = c.args.task.now in
     let w = c.args.world.now in
+    let told = (g.W.Workspace.wording.told w).states in
+    let as_many = g.met.W.Workspace.same_states w in
+    let there =
+    to_inside g.W.Workspace.wording.back c.args.start task.goal told c.requires.start c.requires.goal in
+    let same = c.in_ok-planned.ensures.same in
+    let to = sym c.in_ok-planned.ensures.ready.to_goal ∙ same.goal ∙ c.requires.set.between.to_is in
+    subst (λ (t : ℕ). t < (g.W.Graph.network w).states) (sym to)
+    (subst (λ (n : ℕ). to_of g.W.Workspace.wording.back c.args.start task.goal < n) as_many there)
+
+pub section_of-requires-clause-found : goal.section_of-requires-clause-found
+section_of-requires-clause-found g c =
+    let n = g.W.Graph.network c.args.world.now in
     let made = c.in_ok-planned.ensures.planned in
-    let labels = (g.R.Replan.standing c.plan_on.new.replanner).search.labels in
-    subst (λ (h : ℕ → ℕ). IsResultOf (d.network w) h (d.to c.args.start c.args.task.now.goal) labels
-    c.in_ok-planned.planned.outcome) (sym c.plan_on.ensures.guide)
-    (subst (λ (t : ℕ). IsResultOf (d.network w) (g.R.Replan.guide c.args.replanner.now w) t labels
-    c.in_ok-planned.planned.outcome) c.requires.set.between.to made.outcome)
+    let new = c.plan_on.new.replanner in
+    subst (λ (h : ℕ → ℕ). IsResultOf n h new.goal new.search.labels c.in_ok-planned.planned.outcome)
+    (ap g.W.Best.Guide.distance (sym c.plan_on.ensures.guide))
+    (subst (λ (t : ℕ). IsResultOf n (g.W.Best.Guide.distance c.args.replanner.now.guide) t new.search.labels
+    c.in_ok-planned.planned.outcome) (sym c.in_ok-planned.ensures.same.goal ∙ c.in_ok-planned.ensures.ready.to_goal)
+    made.outcome)
 
 pub record_of-requires-clause-so : goal.record_of-requires-clause-so
 record_of-requires-clause-so g c =
     let task = c.args.task.now in
-    let d = g.R.Replan.direction in
-    let w = c.args.world.now in
+    let back = g.W.Workspace.wording.back in
+    let n = g.W.Graph.network c.args.world.now in
     let made = c.in_ok-planned.ensures.planned in
-    subst (λ (s : ℕ). IsTrueOutcome (d.network w) s (d.to c.args.start task.goal) c.in_ok-planned.planned.outcome)
-    c.requires.set.between.from
-    (subst (λ (t : ℕ). IsTrueOutcome (d.network w) (g.R.Replan.standing c.args.replanner.now).search.labels.start t
-    c.in_ok-planned.planned.outcome) c.requires.set.between.to made.so)
+    subst (λ (s : ℕ). IsTrueOutcome n s (to_of back c.args.start task.goal) c.in_ok-planned.planned.outcome)
+    c.requires.set.between.from_is
+    (subst (λ (t : ℕ). IsTrueOutcome n c.args.replanner.now.search.labels.start t
+    c.in_ok-planned.planned.outcome) c.requires.set.between.to_is made.so)
 
 pub returns-clause-searched : goal.returns-clause-searched
 returns-clause-searched g c = λ before goes.
     let task = c.args.task.now in
-    let d = g.R.Replan.direction in
+    let back = g.W.Workspace.wording.back in
     let w = c.args.world.now in
-    let means = g.R.Replan.meaning in
+    let n = g.W.Graph.network w in
+    let means = g.S.Search.meaning in
     let by : Known _ =
     known_by (site_of g.W.Graph.network g.W.Terrain.cells g.W.Best.Heuristic.says g.W.Workspace.wording)
-    g.R.Replan.meaning g.R.Note.Traced.line d in
+    means g.S.Note.Traced.line in
     let set = c.requires.set in
     let planned = c.in_ok-planned.planned in
     let made = c.in_ok-planned.ensures.planned in
     let within = c.in_ok-planned.ensures.within in
-    let old = g.R.Replan.standing c.args.replanner.now in
-    let new = g.R.Replan.standing c.plan_on.new.replanner in
-    let guide = g.R.Replan.guide c.args.replanner.now w in
-    let to = d.to c.args.start task.goal in
+    let old = standing_of c.args.replanner.now in
+    let new = standing_of c.plan_on.new.replanner in
+    let guide = g.W.Best.Guide.distance c.args.replanner.now.guide in
+    let from = from_of back c.args.start task.goal in
+    let to = to_of back c.args.start task.goal in
     let rises : new.counts.run ≡ old.counts.run + expansions planned.passes =
     ap (λ (k : Counts). k.run) made.leaves.counted in
     let run : new.counts.run ≡ expanded_before before + expansions planned.passes =
@@ -182,19 +203,28 @@ returns-clause-searched g c = λ before goes.
     searched_by by w guide c.args.start task.goal task.how.now task.outputs.now before old.search.labels
     new.search.labels old.search.raised
     old.counts.per_plan new.counts.run c.expanded-expanded.result planned c.in_ok-labels.labels c.ask_of-ask.result
-    c.is_some.result c.args.plan c.record_of.result
-    (g.met.R.Replan.guided c.args.replanner.now w c.args.start task.goal c.requires.ready set.between) goes.begins
+    (is_some task.outputs.now.labels) c.args.plan c.record_of.result
+    (guided g.W.Best.Heuristic.is_made_for g.W.Best.Heuristic.says g.W.Best.Guide.distance
+    g.met.W.Best.Heuristic.says_so w c.args.replanner.now from to c.requires.ready set.between) goes.begins
     c.ask_of-ask.ensures.ask
-    (subst (λ (t : ℕ). ArePasses means (inquiry_of (d.network w) guide t c.ask_of-ask.result) c.ask_of-ask.result.first
-    old.search.labels planned.passes new.search.labels planned.spent) set.between.to made.passes)
-    (subst (λ (t : ℕ). IsResultOf (d.network w) guide t new.search.labels planned.outcome) set.between.to made.outcome)
+    (subst (λ (t : ℕ). ArePasses means (inquiry_of n guide t c.ask_of-ask.result) c.ask_of-ask.result.first
+    old.search.labels planned.passes new.search.labels planned.spent) set.between.to_is made.passes)
+    (subst (λ (t : ℕ). IsResultOf n guide t new.search.labels planned.outcome) set.between.to_is made.outcome)
     set.budget_is run used (λ is. in_run old.counts.run rises (within.used_up is)) within.of_plan
     c.in_ok-planned.ensures.run made.few
     (λ is ample. made.enough is (omega (arith, ample, set.budget_is)))
-    c.is_some.ensures
-    (subst (λ (h : ℕ → ℕ). IsThere c.is_some.result (IsShown task.outputs.now.form (d.network w) h
-    (d.from c.args.start task.goal) to c.args.plan new.search.labels planned.outcome) c.in_ok-labels.labels)
-    c.plan_on.ensures.guide c.in_ok-labels.ensures.shown)
+    refl
+    (subst (λ (h : ℕ → ℕ). IsThere (is_some task.outputs.now.labels) (IsShown task.outputs.now.form n h from to
+    c.args.plan new.search.labels planned.outcome) c.in_ok-labels.labels)
+    (ap g.W.Best.Guide.distance c.plan_on.ensures.guide)
+    (subst (λ (s : ℕ). IsThere (is_some task.outputs.now.labels) (IsShown task.outputs.now.form n
+    (g.W.Best.Guide.distance c.plan_on.new.replanner.guide) s to c.args.plan new.search.labels planned.outcome)
+    c.in_ok-labels.labels) (c.in_ok-planned.ensures.same.start ∙ set.between.from_is)
+    (subst (λ (t : ℕ). IsThere (is_some task.outputs.now.labels) (IsShown task.outputs.now.form n
+    (g.W.Best.Guide.distance c.plan_on.new.replanner.guide) new.search.labels.start t c.args.plan new.search.labels
+    planned.outcome) c.in_ok-labels.labels)
+    (sym c.in_ok-planned.ensures.ready.to_goal ∙ c.in_ok-planned.ensures.same.goal ∙ set.between.to_is)
+    c.in_ok-labels.ensures.shown)))
     c.record_of.ensures.number c.record_of.ensures.passes c.record_of.ensures.expanded c.record_of.ensures.told
     c.record_of.ensures.labels
     (subst (λ (l : List ℕ). IfOk c.record_of.result (λ x. x.raised ≡ l)) (c.in_ok-raised.ensures.told
@@ -210,8 +240,8 @@ unmarked false expanded x mark is = refl
 
 promises_by : {Note W : Type 0} (on : Site W) (w : W) (start goal asked expanded : ℕ) (planned : Planned Note)
     (r : Result PlanRecord NoMemory) → IfOk r (λ x. Joins on w start goal x.outcome)
-    → IfOk r (λ x. IsWithinBound (on.network w) start goal x.outcome)
-    → IfOk r (λ x. IsNoneThere (on.network w) start goal x.outcome)
+    → IfOk r (λ x. IsWithinBound (on.wording.told w) start goal x.outcome)
+    → IfOk r (λ x. IsNoneThere (on.wording.told w) start goal x.outcome)
     → IfOk r (λ x. MatchBool planned.spent (x.spent ≡ Some expanded) (x.spent ≡ None))
     → (planned.spent ≡ false → search.IsConclusive asked planned.outcome)
     → IfOk r (λ x. (a : ℕ) → search.IsConclusive a planned.outcome → IsKnownWithin a x.outcome)
@@ -265,7 +295,7 @@ if_shown line log shown plan ps (Err e) number passes is = tt
 
 pub returns-clause-shown : goal.returns-clause-shown
 returns-clause-shown g c =
-    if_shown g.R.Note.Traced.line _ _ _ _ c.record_of.result c.record_of.ensures.number c.record_of.ensures.passes
+    if_shown g.S.Note.Traced.line _ _ _ _ c.record_of.result c.record_of.ensures.number c.record_of.ensures.passes
     (ap (λ p. p.published) c.newest_on.ensures.same ∙ c.in_ok-planned.ensures.shown)
 
 pub returns-in_err-raised-clause-broken : goal.returns-in_err-raised-clause-broken
@@ -275,36 +305,43 @@ returns-in_err-raised-clause-broken g c =
 pub returns-in_err-planned-clause-broken : goal.returns-in_err-planned-clause-broken
 returns-in_err-planned-clause-broken g c = λ before goes.
     let task = c.args.task.now in
-    let d = g.R.Replan.direction in
+    let back = g.W.Workspace.wording.back in
     let w = c.args.world.now in
     let by : Known _ =
     known_by (site_of g.W.Graph.network g.W.Terrain.cells g.W.Best.Heuristic.says g.W.Workspace.wording)
-    g.R.Replan.meaning g.R.Note.Traced.line d in
-    let guide = g.R.Replan.guide c.args.replanner.now w in
+    g.S.Search.meaning g.S.Note.Traced.line in
+    let guide = g.W.Best.Guide.distance c.args.replanner.now.guide in
+    let from = from_of back c.args.start task.goal in
+    let to = to_of back c.args.start task.goal in
     on_err_is _ c.from_residual-in_err-planned.result
     (stands_broken by w guide c.args.start task.goal c.args.plan task.how.now task.outputs.now _ _ before _
-    (g.R.Replan.standing c.args.replanner.now) (g.R.Replan.standing c.plan_on.new.replanner) c.ask_of-ask.result
-    (g.met.R.Replan.guided c.args.replanner.now w c.args.start task.goal c.requires.ready c.requires.set.between)
-    goes.begins c.ask_of-ask.ensures.ask c.requires.set.between.to c.in_err-planned.ensures.memory)
+    (standing_of c.args.replanner.now) (standing_of c.plan_on.new.replanner) c.ask_of-ask.result
+    (guided g.W.Best.Heuristic.is_made_for g.W.Best.Heuristic.says g.W.Best.Guide.distance
+    g.met.W.Best.Heuristic.says_so w c.args.replanner.now from to c.requires.ready c.requires.set.between)
+    goes.begins c.ask_of-ask.ensures.ask c.requires.set.between.to_is c.in_err-planned.ensures.memory)
 
 pub returns-in_err-incumbent-clause-broken : goal.returns-in_err-incumbent-clause-broken
 returns-in_err-incumbent-clause-broken g c = λ before goes.
     let task = c.args.task.now in
     let by : Known _ =
     known_by (site_of g.W.Graph.network g.W.Terrain.cells g.W.Best.Heuristic.says g.W.Workspace.wording)
-    g.R.Replan.meaning g.R.Note.Traced.line g.R.Replan.direction in
+    g.S.Search.meaning g.S.Note.Traced.line in
     let w = c.args.world.now in
-    let guide = g.R.Replan.guide c.args.replanner.now w in
-    let old = g.R.Replan.standing c.args.replanner.now in
+    let back = g.W.Workspace.wording.back in
+    let guide = g.W.Best.Guide.distance c.args.replanner.now.guide in
+    let from = from_of back c.args.start task.goal in
+    let to = to_of back c.args.start task.goal in
+    let old = standing_of c.args.replanner.now in
     let ask = c.ask_of-ask.result in
     let planned = c.in_ok-planned.planned in
-    let left = (g.R.Replan.standing c.plan_on.new.replanner).search.labels in
+    let left = c.plan_on.new.replanner.search.labels in
     on_err_is _ c.from_residual-in_err-incumbent.result
     (broken_by by w guide c.args.start task.goal c.args.plan task.how.now task.outputs.now _ _ before
     old ask left planned.passes
-    (g.met.R.Replan.guided c.args.replanner.now w c.args.start task.goal c.requires.ready
-    c.requires.set.between) goes.begins c.ask_of-ask.ensures.ask c.requires.set.between.to
-    (first_of_all by.means (inquiry by.direction w guide old ask) planned.passes ask.first old.search.labels left
+    (guided g.W.Best.Heuristic.is_made_for g.W.Best.Heuristic.says g.W.Best.Guide.distance
+    g.met.W.Best.Heuristic.says_so w c.args.replanner.now from to c.requires.ready c.requires.set.between)
+    goes.begins c.ask_of-ask.ensures.ask c.requires.set.between.to_is
+    (first_of_all by.means (inquiry (g.W.Graph.network w) guide old ask) planned.passes ask.first old.search.labels left
     planned.spent c.in_ok-planned.ensures.planned.passes)
     (ap (λ p. p.published) c.newest_on.ensures.same ∙ c.in_ok-planned.ensures.shown))
 
@@ -313,19 +350,23 @@ returns-in_err-labels-clause-broken g c = λ before goes.
     let task = c.args.task.now in
     let by : Known _ =
     known_by (site_of g.W.Graph.network g.W.Terrain.cells g.W.Best.Heuristic.says g.W.Workspace.wording)
-    g.R.Replan.meaning g.R.Note.Traced.line g.R.Replan.direction in
+    g.S.Search.meaning g.S.Note.Traced.line in
     let w = c.args.world.now in
-    let guide = g.R.Replan.guide c.args.replanner.now w in
-    let old = g.R.Replan.standing c.args.replanner.now in
+    let back = g.W.Workspace.wording.back in
+    let guide = g.W.Best.Guide.distance c.args.replanner.now.guide in
+    let from = from_of back c.args.start task.goal in
+    let to = to_of back c.args.start task.goal in
+    let old = standing_of c.args.replanner.now in
     let ask = c.ask_of-ask.result in
     let planned = c.in_ok-planned.planned in
-    let left = (g.R.Replan.standing c.plan_on.new.replanner).search.labels in
+    let left = c.plan_on.new.replanner.search.labels in
     on_err_is _ c.from_residual-in_err-labels.result
     (broken_by by w guide c.args.start task.goal c.args.plan task.how.now task.outputs.now _ _ before
     old ask left planned.passes
-    (g.met.R.Replan.guided c.args.replanner.now w c.args.start task.goal c.requires.ready
-    c.requires.set.between) goes.begins c.ask_of-ask.ensures.ask c.requires.set.between.to
-    (first_of_all by.means (inquiry by.direction w guide old ask) planned.passes ask.first old.search.labels left
+    (guided g.W.Best.Heuristic.is_made_for g.W.Best.Heuristic.says g.W.Best.Guide.distance
+    g.met.W.Best.Heuristic.says_so w c.args.replanner.now from to c.requires.ready c.requires.set.between)
+    goes.begins c.ask_of-ask.ensures.ask c.requires.set.between.to_is
+    (first_of_all by.means (inquiry (g.W.Graph.network w) guide old ask) planned.passes ask.first old.search.labels left
     planned.spent c.in_ok-planned.ensures.planned.passes)
     (ap (λ p. p.published) c.newest_on.ensures.same ∙ c.in_ok-planned.ensures.shown))
 
@@ -334,18 +375,22 @@ returns-clause-broken g c = λ before goes.
     let task = c.args.task.now in
     let by : Known _ =
     known_by (site_of g.W.Graph.network g.W.Terrain.cells g.W.Best.Heuristic.says g.W.Workspace.wording)
-    g.R.Replan.meaning g.R.Note.Traced.line g.R.Replan.direction in
+    g.S.Search.meaning g.S.Note.Traced.line in
     let w = c.args.world.now in
-    let guide = g.R.Replan.guide c.args.replanner.now w in
-    let old = g.R.Replan.standing c.args.replanner.now in
+    let back = g.W.Workspace.wording.back in
+    let guide = g.W.Best.Guide.distance c.args.replanner.now.guide in
+    let from = from_of back c.args.start task.goal in
+    let to = to_of back c.args.start task.goal in
+    let old = standing_of c.args.replanner.now in
     let ask = c.ask_of-ask.result in
     let planned = c.in_ok-planned.planned in
-    let left = (g.R.Replan.standing c.plan_on.new.replanner).search.labels in
+    let left = c.plan_on.new.replanner.search.labels in
     on_err_is _ c.record_of.result
     (broken_by by w guide c.args.start task.goal c.args.plan task.how.now task.outputs.now _ _ before
     old ask left planned.passes
-    (g.met.R.Replan.guided c.args.replanner.now w c.args.start task.goal c.requires.ready
-    c.requires.set.between) goes.begins c.ask_of-ask.ensures.ask c.requires.set.between.to
-    (first_of_all by.means (inquiry by.direction w guide old ask) planned.passes ask.first old.search.labels left
+    (guided g.W.Best.Heuristic.is_made_for g.W.Best.Heuristic.says g.W.Best.Guide.distance
+    g.met.W.Best.Heuristic.says_so w c.args.replanner.now from to c.requires.ready c.requires.set.between)
+    goes.begins c.ask_of-ask.ensures.ask c.requires.set.between.to_is
+    (first_of_all by.means (inquiry (g.W.Graph.network w) guide old ask) planned.passes ask.first old.search.labels left
     planned.spent c.in_ok-planned.ensures.planned.passes)
     (ap (λ p. p.published) c.newest_on.ensures.same ∙ c.in_ok-planned.ensures.shown))

@@ -1,17 +1,16 @@
-use Rattle.std.proofs.Common.{◌≡◌, ◌∙◌, refl, sym, true}
-use Rattle.sbpl_worlds.specs.sbpl_job.Jobs.{may_move}
-use Rattle.sbpl_worlds.specs.sbpl_job.declared.job.Planner.{Planner}
+use Rattle.std.proofs.Common.{inl, inr}
 use Rattle.sbpl_worlds.specs.sbpl_job.declared.job.Planner.TheVariants as planner
 use Rattle.sbpl_plans.proofs.Going.{ends_by}
 use Rattle.sbpl_plans.proofs.planners.make_plans.Goals as goal
 
--- the planner that lets the robot move is `back`
-is_back : (p : Planner) → may_move p ≡ true → p ≡ planner.Back
-is_back planner.Back is = refl
-is_back planner.Ara is = absurd cc
-is_back planner.AdStar is = absurd cc
-is_back planner.Epase is = absurd cc
+pub returns-in-Ara-clause-ends : goal.returns-in-Ara-clause-ends
+returns-in-Ara-clause-ends g c = ends_by planner.Ara c.in-Ara.is c.plans_by_ara.ensures.ends
 
-pub returns-then-may_move-clause-ends : goal.returns-then-may_move-clause-ends
-returns-then-may_move-clause-ends g c =
-    ends_by planner.Back (is_back _ (sym c.may_move.ensures.value ∙ c.if-may_move.true)) c.plans_by_back.ensures.ends
+pub returns-in-AdStar-clause-ends : goal.returns-in-AdStar-clause-ends
+returns-in-AdStar-clause-ends g c = elim c.in-AdStar.is [
+  | inl is ↦ ends_by planner.AdStar is c.plans_by_adstar.ensures.ends
+  | inr is ↦ ends_by planner.Back is c.plans_by_adstar.ensures.ends
+]
+
+pub returns-in-Epase-clause-ends : goal.returns-in-Epase-clause-ends
+returns-in-Epase-clause-ends g c = ends_by planner.Epase c.in-Epase.is c.plans_by_epase.ensures.ends

@@ -3,7 +3,8 @@ use Rattle.sbpl_worlds.specs.sbpl_plan.Asked.{MOST_PASSES}
 use Rattle.sbpl_worlds.specs.sbpl_promises.Sites.{site_of, start_after}
 use Rattle.sbpl_worlds.specs.sbpl_promises.Writing.{WritesOnly}
 use Rattle.sbpl_plans.proofs.Going.{IsGoing}
-use Rattle.sbpl_plans.specs.Planning.{known_by}
+use Rattle.sbpl_worlds.specs.sbpl_promises.Asked.{known_by}
+use Rattle.sbpl_worlds.specs.sbpl_replan.Replanning.{IsReadyIn, standing_of}
 use Rattle.sbpl_plans.proofs.plans.go_through.Given as goal
 
 -- the plans so far were made and told, the map is that after this number of batches, and the start is a state
@@ -12,7 +13,7 @@ invariant-loop-k g l = record {
   going : IsGoing (record {
     by =
         known_by (site_of g.W.Graph.network g.W.Terrain.cells g.W.Best.Heuristic.says g.W.Workspace.wording)
-        g.R.Replan.meaning g.R.Note.Traced.line g.R.Replan.direction;
+        g.S.Search.meaning g.S.Note.Traced.line;
     written_of = g.T.Telling.written l.fn.telling;
     world = l.fn.world;
     batches = l.fn.task.course.now.batches;
@@ -20,10 +21,10 @@ invariant-loop-k g l = record {
     outputs = l.fn.task.outputs.now;
     starts = start_after g.W.Workspace.wording l.fn.world l.fn.task.start l.fn.task.course.now.moves;
     goal = l.fn.task.goal;
-  }) l.world l.k l.start l.fn.publisher.published l.publisher.published (g.R.Replan.standing l.replanner)
+  }) l.world l.k l.start l.fn.publisher.published l.publisher.published (standing_of l.replanner)
       (g.D.Desk.state l.fn.desk) (g.D.Desk.state l.desk);
-  ready : g.R.Replan.ready l.replanner l.world;
-  inside : l.start < (g.W.Graph.network l.world).states;
+  ready : IsReadyIn g.S.Search.meaning g.W.Graph.network g.W.Best.Heuristic.is_made_for l.world l.replanner;
+  inside : l.start < (g.W.Workspace.wording.told l.world).states;
   board : l.publisher.board ≡ l.fn.publisher.board;
   grown : length l.publisher.published ≤ length l.fn.publisher.published + l.k * MOST_PASSES;
   frame : WritesOnly (g.T.Telling.under l.fn.telling) (g.D.Desk.state l.fn.desk) (g.D.Desk.state l.desk);

@@ -1,6 +1,7 @@
 use Rattle.std.proofs.Common.{ap, sym, ◌∙◌}
 use Rattle.sbpl_cost.specs.Gaps.{gap_of}
 use Rattle.sbpl_cost.specs.States.{place_of}
+use Rattle.sbpl_cost.proofs.Lessers.{gap_by_is}
 use Rattle.sbpl_cost.proofs.TailViews.{gap_is, gap_is_small}
 use Rattle.sbpl_cost.proofs.Views.{state_below}
 use Rattle.sbpl_cost.proofs.lattice.LatticeGraph.gap.Goals as goal
@@ -15,7 +16,9 @@ place_at-to-requires c =
 
 pub returns-clause-value : goal.returns-clause-value
 returns-clause-value c =
-    rw (← c.self.view_is) (c.between.ensures.value c.self.inside.prims.items c.self.invariant.fractions
+    rw (← c.self.view_is) (c.between.ensures.value
+    ∙ gap_by_is c.self.inside.env c.self.inside.prims.items c.self.inside.gaps c.self.invariant.fractions
+    c.place_at-from.result c.place_at-to.result
     ∙ ap (λ p. gap_of c.self.inside.env c.self.inside.prims.items p c.place_at-to.result) c.place_at-from.ensures.value
     ∙ ap (λ p. gap_of c.self.inside.env c.self.inside.prims.items (place_of c.self.inside.env c.args.a) p)
     c.place_at-to.ensures.value

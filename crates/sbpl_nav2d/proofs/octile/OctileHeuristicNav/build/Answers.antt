@@ -1,4 +1,4 @@
-use Rattle.std.proofs.Common.{ℕ, ◌*◌, ◌<◌, ap, sym, subst, ◌∙◌}
+use Rattle.std.proofs.Common.{ℕ, ◌*◌, ◌<◌, ap, refl, sym, subst, ◌∙◌}
 use Rattle.sbpl_nav2d.specs.Environment.{NavEnvironment}
 use Rattle.sbpl_nav2d.specs.Grids.{network_of}
 use Rattle.sbpl_nav2d.specs.Guides.{OctileTo}
@@ -25,4 +25,5 @@ returns c = record {
         ap (λ (o : OctileTo). o.width) c.to.ensures.made ∙ ap (λ (e : NavEnvironment). e.width) c.env.ensures.env;
     guides = c.to.ensures.guides c.args.nav.now c.env.ensures.kept (sym c.env.ensures.env);
   };
+  free = λ _. refl;
 }
