@@ -127,6 +127,13 @@ impl<F> Epase<F> {
         self.goal = goal;
     }
 
+    /// The goal of the passes, a state by its number.
+    pub fn goal(&self) -> u32
+        ensures value { result ≡ self.now.search.goal }
+    {
+        self.goal
+    }
+
     /// The labels.
     pub fn labels(&self) -> &Labels
         ensures value { result.now ≡ self.now.search.labels }

@@ -80,6 +80,10 @@ impl<
         Epase::aim(self, goal);
     }
 
+    fn goal(&self) -> u32 {
+        Epase::goal(self)
+    }
+
     fn labels(&self) -> &Labels {
         Epase::labels(self)
     }

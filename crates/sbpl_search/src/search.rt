@@ -79,6 +79,10 @@ pub trait Search<G: Graph, H: Guide> {
         ensures aimed { state self.new ≡ record (state self.old) { goal = goal } }
         ensures serves { serves self.old → serves self.new };
 
+    /// The goal of the passes, a state by its number.
+    fn goal(&self) -> u32
+        ensures value { result ≡ (state self.now).goal };
+
     /// The labels.
     fn labels(&self) -> &Labels
         ensures value { result.now ≡ (state self.now).labels }

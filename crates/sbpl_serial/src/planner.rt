@@ -39,6 +39,10 @@ impl<G: Graph, H: Guide, P: Policy> Search<G, H> for Serial<P> {
         Serial::aim(self, goal);
     }
 
+    fn goal(&self) -> u32 {
+        Serial::goal(self)
+    }
+
     fn labels(&self) -> &Labels {
         Serial::labels(self)
     }

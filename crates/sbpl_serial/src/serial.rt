@@ -163,6 +163,13 @@ impl<P> Serial<P> {
         }
     }
 
+    /// The goal of the passes, a state by its number.
+    pub fn goal(&self) -> u32
+        ensures value { result ≡ self.now.goal }
+    {
+        self.goal
+    }
+
     /// The labels.
     pub fn labels(&self) -> &Labels
         ensures value { result.now ≡ self.now.labels }
