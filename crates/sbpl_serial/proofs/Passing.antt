@@ -1,14 +1,16 @@
 -- A pass from its beginning on.
 use Rattle.std.proofs.Common.{◌≡◌, ◌≢◌, ℕ, ◌+◌, ◌*◌, ◌<◌, ◌≤◌, Bool, true, false, List, [], ◌∷◌, ◌++◌, length, arith}
-use Rattle.std.proofs.Common.{⊎_elim, refl, sym, ◌∙◌, ap, add-zero, length-append}
+use Rattle.std.proofs.Common.{Some, ⊎_elim, refl, sym, ◌∙◌, ap, subst, add-zero, length-append}
 use Rattle.std.proofs.lemmas.Bool.{eq-eqb, ne_eqb, or_left}
 use Rattle.sbpl_search.specs.sbpl_graph.Laws.{IsSound, IsConsistent}
+use Rattle.sbpl_search.specs.sbpl_graph.Network.{Network}
 use Rattle.sbpl_search.specs.sbpl_graph.Exact.{AreExact}
 use Rattle.sbpl_search.proofs.Paths.{label_at_most}
 use Rattle.sbpl_search.specs.sbpl_labels.Counts.{Counts}
 use Rattle.sbpl_search.specs.sbpl_labels.Marks.{Marks, AreLabels, states_of, g_of, v_of, back_of}
 use Rattle.sbpl_serial.specs.declared.step.Step.{Step}
-use Rattle.sbpl_serial.specs.Queue.{AreQueued}
+use Rattle.sbpl_serial.specs.Keys.{goal_key}
+use Rattle.sbpl_serial.specs.Queue.{AreQueued, IsFirstBelow}
 use Rattle.sbpl_search.specs.Query.{Query}
 use Rattle.sbpl_serial.specs.Run.{IsOver, IsUnder, IsNext, IsSerialRun, IsExpansion, LowersHeads, RaisesState}
 use Rattle.sbpl_serial.specs.Run.{none_closed, closed_with, closed_after}
@@ -16,6 +18,7 @@ use Rattle.sbpl_serial.specs.Serial.{SerialState}
 use Rattle.sbpl_search.specs.Ready.{AreUsable}
 use Rattle.sbpl_serial.proofs.Closing.{closed_after_push}
 use Rattle.sbpl_serial.proofs.Opening.{open_alike}
+use Rattle.sbpl_serial.proofs.Resting.{next_from_queue}
 use Rattle.sbpl_serial.specs.Taken.{IsTaken, step_of}
 use Rattle.sbpl_serial.proofs.Counting.{AreCounted, left, left_near, left_lowered, left_raised}
 use Rattle.sbpl_serial.proofs.Counting.{counted_none, counted_more, counted_room}
@@ -83,6 +86,25 @@ passing_none {q} {old} {now} {counts} same goal empty usable queued =
       ordered = λ one. ordered_none none;
       queued = rw empty queued;
     }
+
+-- the state that the queue gives is next
+pub passing_next : {q : Query} {old now : SerialState} {before counts : Counts} (s : ℕ) → q.goal ≡ old.goal
+    → IsPassing q old now before counts → IsFirstBelow now.queue (goal_key (g_of now.labels now.goal)) (Some s)
+    → IsNext q (closed_by now) now.labels s
+passing_next {q} {now = now} s same here first =
+    next_from_queue q s here.queued
+    (subst (λ (t : ℕ). IsFirstBelow now.queue (goal_key (g_of now.labels t)) (Some s)) (here.same_goal ∙ sym same) first)
+
+-- labels that are usable after a count of expansions are so after one more
+pub usable_more : {n : Network} {m : Marks} {count : ℕ} → AreUsable n m count → AreUsable n m (count + 1)
+usable_more {count = count} usable = record {
+  states = usable.states;
+  exact = usable.exact;
+  fits = record {
+    near_g = λ s inside near. omega (arith, usable.fits.near_g s inside near);
+    near_v = λ s inside near. omega (arith, usable.fits.near_v s inside near);
+  };
+}
 
 -- a state that is next can still be taken
 pub next_left : {q : Query} {closed : ℕ → Bool} {m : Marks} {s : ℕ} → AreLabels m → IsNext q closed m s

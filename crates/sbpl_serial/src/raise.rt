@@ -1,53 +1,64 @@
 //! The expansion of one underconsistent state.
 
-ghost use Rattle.std.specs.Prelude.{◌≡◌, ◌≢◌, ℕ, ◌+◌, ◌-◌, ◌^◌, ◌<◌, ◌≤◌, Some, length};
-ghost use Rattle.sbpl_search.specs.sbpl_graph.declared.TheConstants.{FAR};
+ghost use Rattle.std.specs.Prelude.{◌≡◌, ℕ, ◌-◌, ◌*◌, ◌^◌, ◌<◌, true, length};
 ghost use Rattle.sbpl_search.specs.sbpl_graph.Fit.{FitCount};
-ghost use Rattle.sbpl_search.specs.sbpl_labels.Marks.{states_of, g_of, v_of, back_of};
-ghost use Rattle.sbpl_serial.specs.Marked.{closed_at};
-ghost use Rattle.sbpl_serial.specs.Run.{RaisesState, IsUnder};
-ghost use Rattle.sbpl_serial.specs.Queue.{AreQueued, AreQueuedBut};
+ghost use Rattle.sbpl_search.specs.sbpl_labels.Marks.{states_of, g_of, v_of};
+ghost use Rattle.sbpl_serial.specs.Run.{IsOpen, IsUnder, closed_after, none_closed};
+ghost use Rattle.sbpl_serial.specs.Queue.{AreQueued};
 ghost use Rattle.sbpl_serial.specs.Raised.{IsReturned};
 ghost use Rattle.sbpl_search.specs.Ready.{AreUsable};
+ghost use Rattle.sbpl_serial.specs.Taken.{IsTaken};
 
-use crate::Closed;
 use crate::queue::requeue;
-use sbpl_open::Open;
+use crate::{Serial, Step};
 use sbpl_search::{Graph, Guide, Labels};
 
-/// Raises the underconsistent state `s`: its v becomes infinite, each head whose back arc comes from
-/// `s` is recomputed, and they are placed.
-pub(crate) fn raise<G: Graph, H: Guide>(
-    labels: &mut Labels,
-    queue: &mut Open,
-    closed: &Closed,
-    graph: &G,
-    guide: &H,
-    eps: u32,
-    s: u32,
-)
-    requires state { s < states_of labels.old }
-    requires under { IsUnder labels.old s }
-    requires usable { AreUsable (G.network graph.now) labels.old (2 ^ 30 - 1) }
-    requires known { (u : ℕ) → u < states_of labels.old → H.knows guide.now u }
-    requires closed { length closed.now ≡ states_of labels.old }
-    requires queued { AreQueuedBut eps (H.distance guide.now) (closed_at closed.now) labels.old
-        queue.old s }
-    ensures raised { RaisesState (G.network graph.now) labels.old labels.new s }
-    ensures usable { (count : ℕ) → AreUsable (G.network graph.now) labels.old count
-        → AreUsable (G.network graph.now) labels.new count }
-    ensures queued { AreQueued eps (H.distance guide.now) (closed_at closed.now) labels.new
-        queue.new }
-{
-    let _start = labels.start();
-    let _states = graph.states();
-    labels.raise(s);
-    requeue(queue, Some(s), closed, labels, guide, eps);
-    for k in 0..graph.fan(s) {
-        let head = recompute_head(labels, graph, s, k);
-        requeue(queue, head, closed, labels, guide, eps);
+impl<P> Serial<P> {
+    /// Raises the underconsistent state `s`: its v becomes infinite, each head whose back arc comes from `s` is recomputed, and they
+    /// are placed in the queue.
+    pub(crate) fn raise<G: Graph, H: Guide>(&mut self, graph: &G, guide: &H, eps: u32, s: u32)
+        requires open { IsOpen (closed_after none_closed self.old.trace) self.old.labels s }
+        requires under { IsUnder self.old.labels s }
+        requires usable { AreUsable (G.network graph.now) self.old.labels (2 ^ 30 - 1) }
+        requires known { (u : ℕ) → u < states_of self.old.labels → H.knows guide.now u }
+        requires queued { AreQueued eps (H.distance guide.now)
+            (closed_after none_closed self.old.trace) self.old.labels self.old.queue }
+        requires room { length self.old.trace < 3 * states_of self.old.labels }
+        ensures taken { IsTaken (G.network graph.now) self.old self.new s true }
+        ensures usable { (count : ℕ) → AreUsable (G.network graph.now) self.old.labels count
+            → AreUsable (G.network graph.now) self.new.labels count }
+        ensures queued { AreQueued eps (H.distance guide.now)
+            (closed_after none_closed self.new.trace) self.new.labels self.new.queue }
+        ensures goal { self.new.goal ≡ self.old.goal }
+    {
+        let _start = self.labels.start();
+        let _states = graph.states();
+        self.labels.raise(s);
+        requeue(
+            &mut self.queue,
+            Some(s),
+            &self.closed,
+            &self.labels,
+            guide,
+            eps,
+        );
+        for k in 0..graph.fan(s) {
+            let head = recompute_head(&mut self.labels, graph, s, k);
+            requeue(
+                &mut self.queue,
+                head,
+                &self.closed,
+                &self.labels,
+                guide,
+                eps,
+            );
+        }
+        let _raised = self.labels.start();
+        self.steps.push(Step {
+            state: s,
+            raised: true,
+        });
     }
-    let _raised = labels.start();
 }
 
 /// Recomputes the head of arc `k` of `s` where this arc is its back arc, and answers it.

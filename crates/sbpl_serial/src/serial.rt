@@ -1,6 +1,6 @@
 //! A serial search: its parts, and the passes on them.
 
-ghost use Rattle.std.specs.Prelude.{◌≡◌, ℕ, ◌+◌, ◌-◌, ◌*◌, ◌^◌, ◌<◌, ◌≤◌, [], length, Bool, true, false, IfOk};
+ghost use Rattle.std.specs.Prelude.{◌≡◌, ℕ, ◌<◌, ◌≤◌, [], IfOk};
 ghost use Rattle.std.specs.List.{All};
 ghost use Rattle.sbpl_search.specs.sbpl_graph.Bound.{IsLow};
 ghost use Rattle.sbpl_search.specs.sbpl_graph.Fit.{FitCount};
@@ -8,21 +8,17 @@ ghost use Rattle.sbpl_search.specs.sbpl_graph.Network.{Network};
 ghost use Rattle.sbpl_search.specs.sbpl_labels.Marks.{AreLabels, AreInitial, states_of, g_of, v_of};
 ghost use Rattle.sbpl_open.specs.OpenList as open_list;
 ghost use Rattle.sbpl_search.specs.Query.{query};
-ghost use Rattle.sbpl_search.specs.Ready.{AreReady, AreUsable, IsStartFresh};
-ghost use Rattle.sbpl_serial.specs.Marked.{closed_at};
+ghost use Rattle.sbpl_search.specs.Ready.{AreReady, IsStartFresh};
 ghost use Rattle.sbpl_serial.specs.Meant.{AreRenewable, AreRenewed, MayBeginPass, trace_left};
 ghost use Rattle.sbpl_serial.specs.Keys.{goal_key};
 ghost use Rattle.sbpl_serial.specs.Passed.{GoesForward, IsSerialPass};
 ghost use Rattle.sbpl_serial.specs.Queue.{AreQueued, IsFirstBelow};
-ghost use Rattle.sbpl_serial.specs.Run.{none_closed, closed_after, IsOpen, IsOver, IsUnder};
+ghost use Rattle.sbpl_serial.specs.Run.{none_closed};
 ghost use Rattle.sbpl_serial.specs.Serial.{AreSerialParts};
-ghost use Rattle.sbpl_serial.specs.Taken.{IsTaken};
 
-use crate::expansion::expand;
 use crate::low::low_among;
 use crate::note::{note_taken, note_touched};
 use crate::queue::{gather, refill};
-use crate::raise::raise;
 use crate::{Anew, Closed, Parts, Policy, Repair, Step, Steps, change_labels};
 use sbpl_open::{Key, Open};
 use sbpl_search::{Budget, Graph, Guide, Labels, NoMemory, PassEnd};
@@ -35,11 +31,11 @@ use std::marker::{Model, PhantomData};
 /// Gordon, Stentz and Thrun 2005), whose labels are repaired. All memory is taken when it is opened.
 #[derive(Drop)]
 pub struct Serial<P> {
-    labels: Labels,
+    pub(crate) labels: Labels,
     goal: u32,
-    closed: Closed,
-    steps: Steps,
-    queue: Open,
+    pub(crate) closed: Closed,
+    pub(crate) steps: Steps,
+    pub(crate) queue: Open,
     policy: PhantomData<P>,
 }
 
@@ -263,7 +259,11 @@ impl<P: Policy> Serial<P> {
                 return PassEnd::Spent;
             }
             budget.spend();
-            self.take(graph, guide, eps, s);
+            if self.labels.v(s) < self.labels.g(s) {
+                self.raise(graph, guide, eps, s);
+            } else {
+                self.expand(graph, guide, eps, s);
+            }
         }
         PassEnd::Rest
     }
@@ -321,92 +321,5 @@ impl<P> Serial<P> {
         let (s, key) = self.queue.least()?;
         let g = self.labels.g(self.goal);
         key.is_below(Key(1000 * u128::from(g), g)).then_some(s)
-    }
-
-    /// Takes the open state `s`: it is lowered or raised.
-    fn take<G: Graph, H: Guide>(&mut self, graph: &G, guide: &H, eps: u32, s: u32)
-        requires open { IsOpen (closed_after none_closed self.old.trace) self.old.labels s }
-        requires usable { AreUsable (G.network graph.now) self.old.labels (2 ^ 30 - 1) }
-        requires known { (u : ℕ) → u < states_of self.old.labels → H.knows guide.now u }
-        requires queued { AreQueued eps (H.distance guide.now)
-            (closed_after none_closed self.old.trace) self.old.labels self.old.queue }
-        requires room { length self.old.trace < 3 * states_of self.old.labels }
-        ensures taken { (raised : Bool) × IsTaken (G.network graph.now) self.old self.new s raised }
-        ensures usable { (count : ℕ) → AreUsable (G.network graph.now) self.old.labels count
-            → AreUsable (G.network graph.now) self.new.labels (count + 1) }
-        ensures queued { AreQueued eps (H.distance guide.now)
-            (closed_after none_closed self.new.trace) self.new.labels self.new.queue }
-        ensures goal { self.new.goal ≡ self.old.goal }
-        ensures start { self.new.labels.start ≡ self.old.labels.start }
-        ensures states { states_of self.new.labels ≡ states_of self.old.labels }
-    {
-        if self.labels.v(s) < self.labels.g(s) {
-            self.raise(graph, guide, eps, s);
-        } else {
-            self.lower(graph, guide, eps, s);
-        }
-    }
-
-    /// Lowers by the overconsistent state `s`, and closes it.
-    fn lower<G: Graph, H: Guide>(&mut self, graph: &G, guide: &H, eps: u32, s: u32)
-        requires open { IsOpen (closed_after none_closed self.old.trace) self.old.labels s }
-        requires over { IsOver self.old.labels s }
-        requires usable { AreUsable (G.network graph.now) self.old.labels (2 ^ 30 - 1) }
-        requires known { (u : ℕ) → u < states_of self.old.labels → H.knows guide.now u }
-        requires queued { AreQueued eps (H.distance guide.now)
-            (closed_after none_closed self.old.trace) self.old.labels self.old.queue }
-        requires room { length self.old.trace < 3 * states_of self.old.labels }
-        ensures taken { IsTaken (G.network graph.now) self.old self.new s false }
-        ensures usable { (count : ℕ) → AreUsable (G.network graph.now) self.old.labels count
-            → AreUsable (G.network graph.now) self.new.labels (count + 1) }
-        ensures queued { AreQueued eps (H.distance guide.now)
-            (closed_after none_closed self.new.trace) self.new.labels self.new.queue }
-        ensures goal { self.new.goal ≡ self.old.goal }
-    {
-        self.closed.insert(s);
-        expand(
-            &mut self.labels,
-            &mut self.queue,
-            &self.closed,
-            graph,
-            guide,
-            eps,
-            s,
-        );
-        self.steps.push(Step {
-            state: s,
-            raised: false,
-        });
-    }
-
-    /// Raises the underconsistent state `s`.
-    fn raise<G: Graph, H: Guide>(&mut self, graph: &G, guide: &H, eps: u32, s: u32)
-        requires open { IsOpen (closed_after none_closed self.old.trace) self.old.labels s }
-        requires under { IsUnder self.old.labels s }
-        requires usable { AreUsable (G.network graph.now) self.old.labels (2 ^ 30 - 1) }
-        requires known { (u : ℕ) → u < states_of self.old.labels → H.knows guide.now u }
-        requires queued { AreQueued eps (H.distance guide.now)
-            (closed_after none_closed self.old.trace) self.old.labels self.old.queue }
-        requires room { length self.old.trace < 3 * states_of self.old.labels }
-        ensures taken { IsTaken (G.network graph.now) self.old self.new s true }
-        ensures usable { (count : ℕ) → AreUsable (G.network graph.now) self.old.labels count
-            → AreUsable (G.network graph.now) self.new.labels count }
-        ensures queued { AreQueued eps (H.distance guide.now)
-            (closed_after none_closed self.new.trace) self.new.labels self.new.queue }
-        ensures goal { self.new.goal ≡ self.old.goal }
-    {
-        raise(
-            &mut self.labels,
-            &mut self.queue,
-            &self.closed,
-            graph,
-            guide,
-            eps,
-            s,
-        );
-        self.steps.push(Step {
-            state: s,
-            raised: true,
-        });
     }
 }

@@ -1,9 +1,0 @@
-use Rattle.sbpl_serial.specs.Marked.{closed_at}
-use Rattle.sbpl_serial.specs.Queue.{AreQueued}
-use Rattle.sbpl_serial.proofs.Relaxing.{IsExpanding}
-use Rattle.sbpl_serial.proofs.expansion.expand.Given as goal
-
-abbrev pub invariant-loop-k : goal.invariant-loop-k
-invariant-loop-k g l =
-    IsExpanding (g.G.Graph.network l.graph) l.fn.labels l.labels l.s l.k
-    × AreQueued l.eps (g.H.Guide.distance l.guide) (closed_at l.closed) l.labels l.queue
