@@ -17,8 +17,7 @@ use Rattle.sbpl_search.specs.State.{State}
 use Rattle.sbpl_plan.specs.declared.ask.Ask.{Ask}
 use Rattle.sbpl_plan.specs.declared.found.Found.{Found}
 use Rattle.sbpl_plan.specs.declared.found.Found.TheVariants as found
-use Rattle.sbpl_plan.specs.declared.passes.Pass.{Pass}
-use Rattle.sbpl_plan.specs.Iterations.{IsIteration, IsTight}
+use Rattle.sbpl_plan.proofs.Iterations.{IsIteration, IsTight}
 use Rattle.sbpl_plan.specs.Looking.{WalkFinds}
 use Rattle.sbpl_plan.specs.Passing.{EndsPass, inquiry_of}
 
@@ -56,17 +55,18 @@ module _ {Note : Type 0} (means : Meaning Note) {n : Network} {h : ℕ → ℕ} 
   ends_pass true is = passed.goes_on (was_spent is)
   ends_pass false is = passed.rests (rested is)
 
-  module _ {ask : Ask} {p : Pass Note} {arcs : List ℕ} (inflation : p.inflation ≡ eps) (expanded : p.expanded
-      ≡ means.expansions new.notes) (told : p.trace ≡ (if ask.traced then new.notes else [])) where
-    to_own_goal : WalkFinds n h old.goal new.labels arcs p.found
-        → IsIteration means (inquiry_of n h old.goal ask) eps old new before after arcs spent p
+  module _ {ask : Ask} {expanded : ℕ} {found : Found} {trace : List Note} {arcs : List ℕ}
+      (counted : expanded ≡ means.expansions new.notes) (told : trace ≡ (if ask.traced then new.notes else [])) where
+    to_own_goal : WalkFinds n h old.goal new.labels arcs found
+        → IsIteration means (inquiry_of n h old.goal ask) eps old new before after arcs spent
+        (record { inflation = eps; expanded = expanded; found = found; trace = trace })
     to_own_goal finds = record {
       pass = record {
-        inflation = inflation;
+        inflation = refl;
         notes = new.notes;
         leads = passed.leads;
         ends = ends_pass spent refl;
-        expanded = expanded;
+        expanded = counted;
         told = told;
         arcs = arcs;
         found = finds;
@@ -75,7 +75,7 @@ module _ {Note : Type 0} (means : Meaning Note) {n : Network} {h : ℕ → ℕ} 
       leaves = record {
         counted =
             subst (λ (k : ℕ). after ≡ record before { plan = before.plan + k; run = before.run + k })
-            (sym expanded) passed.counted;
+            (sym counted) passed.counted;
         ready = passed.ready;
         fresh = passed.fresh fresh;
         start = passed.start;
@@ -83,19 +83,22 @@ module _ {Note : Type 0} (means : Meaning Note) {n : Network} {h : ℕ → ℕ} 
         same_goal = passed.goal;
       };
       supported = passed.supported;
-      traced = (expanded, told);
+      traced = (counted, told);
       is_spent = λ is. passed.is_spent (was_spent is);
-      few = subst (λ (k : ℕ). k ≤ means.most * states_of old.labels) (sym expanded) passed.few;
+      few = subst (λ (k : ℕ). k ≤ means.most * states_of old.labels) (sym counted) passed.few;
       unfinished = λ is.
-          subst (λ (k : ℕ). k < means.most * states_of old.labels) (sym expanded) (passed.unfinished (was_spent is));
+          subst (λ (k : ℕ). k < means.most * states_of old.labels) (sym counted) (passed.unfinished (was_spent is));
       none_at_rest = λ is one far. cut_off n new.labels.start old.goal (states_of new.labels) (g_of new.labels)
           (v_of new.labels) sized (passed.none (rested is) one far);
-      tight_at_rest = λ is one. tight_found n h old.goal new.labels arcs p.found sized (passed.unbroken (rested is))
+      tight_at_rest = λ is one. tight_found n h old.goal new.labels arcs found sized (passed.unbroken (rested is))
           (passed.tight (rested is) one) finds;
     }
 
-    pub iteration_of : {goal : ℕ} → goal ≡ old.goal → WalkFinds n h goal new.labels arcs p.found
-        → IsIteration means (inquiry_of n h goal ask) eps old new before after arcs spent p
+    -- where the goal is that of the plan, and the walk was to the goal of the search
+    pub iteration_of : {goal : ℕ} → old.goal ≡ goal → WalkFinds n h new.goal new.labels arcs found
+        → IsIteration means (inquiry_of n h goal ask) eps old new before after arcs spent
+        (record { inflation = eps; expanded = expanded; found = found; trace = trace })
     iteration_of {goal} is finds =
-        subst (λ (t : ℕ). IsIteration means (inquiry_of n h t ask) eps old new before after arcs spent p) (sym is)
-        (to_own_goal (subst (λ (t : ℕ). WalkFinds n h t new.labels arcs p.found) is finds))
+        subst (λ (t : ℕ). IsIteration means (inquiry_of n h t ask) eps old new before after arcs spent
+        (record { inflation = eps; expanded = expanded; found = found; trace = trace })) is
+        (to_own_goal (subst (λ (t : ℕ). WalkFinds n h t new.labels arcs found) passed.goal finds))

@@ -1,5 +1,5 @@
 -- An observer that is told of passes, and the bounds of which it is told.
-use Rattle.std.proofs.Common.{◌≡◌, ℕ, zero, suc, ◌+◌, ◌*◌, ◌^◌, ◌≤◌, ◌<◌, List, [], ◌∷◌, ◌++◌, length, subst, arith}
+use Rattle.std.proofs.Common.{◌≡◌, ℕ, zero, suc, ◌+◌, ◌*◌, ◌^◌, ◌≤◌, ◌<◌, List, [], ◌∷◌, ◌++◌, length, refl, subst, arith}
 use Rattle.std.proofs.Math.Nat.{mul-le-mul_left}
 use Rattle.sbpl_search.specs.sbpl_graph.declared.TheConstants.{FAR}
 use Rattle.sbpl_search.specs.sbpl_graph.Bound.{IsBound}
@@ -7,7 +7,7 @@ use Rattle.sbpl_search.specs.sbpl_graph.Network.{Network}
 use Rattle.sbpl_search.specs.sbpl_labels.Marks.{Marks, g_of}
 use Rattle.sbpl_plan.specs.declared.passes.Pass.{Pass}
 use Rattle.sbpl_plan.specs.Looking.{IsPathFound}
-use Rattle.sbpl_plan.specs.Observed.{AreTold}
+use Rattle.sbpl_plan.specs.Observed.{AreTold, IsTold}
 
 module _ {Note O : Type 0} (told : O → (pass cost bound : ℕ) → O → Type 0) where
   -- told of some passes, and then of more
@@ -23,12 +23,15 @@ module _ {Note O : Type 0} (told : O → (pass cost bound : ℕ) → O → Type 
         (let e : k + suc (length ps) ≡ k + 1 + length ps = omega arith in e) rest),
   )
 
-  -- told of the passes that were made so far, and then of more
-  pub told_on : (ps qs : List (Pass Note)) (a b c : O) → AreTold told 0 ps a b → AreTold told (length ps) qs b c
-      → AreTold told 0 (ps ++ qs) a c
-  told_on ps qs a b c first rest =
-      told_both 0 ps qs a b c first
-      (subst (λ (n : ℕ). AreTold told n qs b c) (let e : length ps ≡ 0 + length ps = omega arith in e) rest)
+  -- told of the passes that were made so far, and then of one more
+  pub told_more : {number : ℕ} (ps : List (Pass Note)) (p : Pass Note) (a b c : O) → number ≡ length ps
+      → AreTold told 0 ps a b → IsTold told number p.found b c → AreTold told 0 (ps ++ p ∷ []) a c
+  told_more {number} ps p a b c many first one =
+      told_both 0 ps (p ∷ []) a b c first (
+        c,
+        subst (λ (n : ℕ). IsTold told n p.found b c) (let e : number ≡ 0 + length ps = omega arith in e) one,
+        refl,
+      )
 
 -- the bound of a cost of one word is far below what an observer is told at most
 pub bound_below : (cost low b : ℕ) → cost < 2 ^ 64 → IsBound cost low b → b < 2 ^ 100

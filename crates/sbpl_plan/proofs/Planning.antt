@@ -5,9 +5,11 @@ use Rattle.std.proofs.Common.{append_assoc, length-append, add-zero}
 use Rattle.std.specs.Prelude.{OnErr}
 use Rattle.std.proofs.Math.Nat.{add-mul, div-eq_of_lt, div-eq-sub-div}
 use Rattle.std.proofs.lemmas.Bool.{cases_lt}
+use Rattle.std.proofs.lemmas.List.{append-nil}
 use Rattle.sbpl_search.specs.sbpl_labels.Counts.{AreCounts, Counts}
 use Rattle.sbpl_search.specs.sbpl_labels.Marks.{Marks, states_of}
 use Rattle.sbpl_search.specs.Meaning.{Meaning}
+use Rattle.sbpl_search.specs.Query.{query}
 use Rattle.sbpl_search.specs.Ready.{IsStartFresh}
 use Rattle.sbpl_search.specs.State.{State}
 use Rattle.sbpl_search.specs.sbpl_graph.Certificate.{BoundHolds, NoneHolds}
@@ -18,7 +20,7 @@ use Rattle.sbpl_plan.specs.declared.passes.Pass.{Pass}
 use Rattle.sbpl_plan.specs.Asked.{IsAsk, lowered, most_passes}
 use Rattle.sbpl_plan.specs.declared.result.FoundPath.{FoundPath}
 use Rattle.sbpl_plan.specs.declared.result.Outcome.{Outcome}
-use Rattle.sbpl_plan.specs.Iterations.{IsIteration}
+use Rattle.sbpl_plan.proofs.Iterations.{IsIteration}
 use Rattle.sbpl_plan.specs.OutOfMemory.{IsPartOfPlan, RunsOutOfMemory}
 use Rattle.sbpl_plan.specs.Outcomes.{AgreesWithFound, IsConclusive, IsResultOf}
 use Rattle.sbpl_plan.specs.Passing.{AreFirstPasses, ArePasses, EndWith, EndsPlan, Inquiry, IsPass, expansions}
@@ -130,22 +132,42 @@ module _ {Note : Type 0} (means : Meaning Note) {q : Inquiry} {old : State Note}
 
   module _ {now new : State Note} {mid after : Counts} {passes : List (Pass Note)} {eps : ℕ}
       (so : AreGoingOn means q old now before mid passes eps) where
-    part_after : (Later Told : List (Pass Note) → Type 0) → ((ps : List (Pass Note)) → Later ps → Told (passes ++ ps))
-        → IsPartOfPlan means q eps now new mid after Later → IsPartOfPlan means q q.ask.first old new before after Told
-    part_after Later Told tells part = record {
-      passes = passes ++ part.passes;
-      told = tells part.passes part.told;
-      made = so.prefix part.passes new.labels part.made;
-      leaves =
-          ready_twice means q.network _ _ _ old now new before mid after
-          (expansions_of_both passes part.passes) so.leaves part.leaves;
-    }
+    -- memory ran out in the pass after them
+    pub cut_after : (Told : List (Pass Note) → Type 0) → Told passes → q.goal ≡ old.goal
+        → means.cut (query q.network q.guide eps now.goal) now new mid after
+        → RunsOutOfMemory means q q.ask.first old new before after Told
+    cut_after Told told own cut = inr (record {
+      mid = now;
+      between = mid;
+      part = record {
+        passes = passes;
+        told = told;
+        made =
+            subst (λ (l : List (Pass Note)). AreFirstPasses means q q.ask.first old.labels l now.labels)
+            (append-nil passes) (so.prefix [] now.labels refl);
+        leaves = so.leaves;
+      };
+      inflation = eps;
+      cut =
+          subst (λ (t : ℕ). means.cut (query q.network q.guide eps t) now new mid after)
+          (so.leaves.same_goal ∙ sym own) cut;
+    })
 
     module _ {arcs : List ℕ} {spent : Bool} {p : Pass Note}
         (t : IsIteration means q eps now new mid after arcs spent p) where
       leaves_more : IsReadyAfter means q.network (expansions (passes ++ p ∷ [])) old new before after
       leaves_more =
           ready_twice means q.network _ _ _ old now new before mid after (expansions_more passes p) so.leaves t.leaves
+
+      -- memory ran out after them and one more pass
+      pub runs_out_after : (Told : List (Pass Note) → Type 0) → Told (passes ++ p ∷ [])
+          → RunsOutOfMemory means q q.ask.first old new before after Told
+      runs_out_after Told told = inl (record {
+        passes = passes ++ p ∷ [];
+        told = told;
+        made = so.prefix (p ∷ []) new.labels (inl (refl, (spent, t.pass)));
+        leaves = leaves_more;
+      })
 
       -- a pass after them that is not the last
       not_spent : (b : Bool) → spent ≡ b → (EndsPlan q eps new.labels spent p.found → ⊥) → spent ≡ false
@@ -243,31 +265,3 @@ part_of_none means q eps old before Told told ready fresh = record {
     same_goal = refl;
   };
 }
-
--- an iteration is a part of a plan
-pub part_of_one : {Note : Type 0} (means : Meaning Note) {q : Inquiry} {eps : ℕ} {old new : State Note}
-    {before after : Counts} {arcs : List ℕ} {spent : Bool} {p : Pass Note} {Told : List (Pass Note) → Type 0}
-    → Told (p ∷ []) → IsIteration means q eps old new before after arcs spent p
-    → IsPartOfPlan means q eps old new before after Told
-part_of_one means {q} {old} {new} {before} {after} {spent} {p} told t = record {
-  passes = p ∷ [];
-  told = told;
-  made = inl (refl, (spent, t.pass));
-  leaves = subst (λ (n : ℕ). IsReadyAfter means q.network n old new before after) (sym (add-zero p.expanded)) t.leaves;
-}
-
--- memory runs out after passes that were made
-pub runs_out_after : {Note : Type 0} (means : Meaning Note) {q : Inquiry} {old now new : State Note}
-    {before mid after : Counts} {passes : List (Pass Note)} {eps : ℕ}
-    (Later Told : List (Pass Note) → Type 0) → ((ps : List (Pass Note)) → Later ps → Told (passes ++ ps))
-    → AreGoingOn means q old now before mid passes eps → RunsOutOfMemory means q eps now new mid after Later
-    → RunsOutOfMemory means q q.ask.first old new before after Told
-runs_out_after means Later Told tells so (inl part) =
-    inl (part_after means so Later Told tells part)
-runs_out_after means Later Told tells so (inr cut) = inr (record {
-  mid = cut.mid;
-  between = cut.between;
-  part = part_after means so Later Told tells cut.part;
-  inflation = cut.inflation;
-  cut = cut.cut;
-})

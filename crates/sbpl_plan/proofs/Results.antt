@@ -17,7 +17,7 @@ use Rattle.sbpl_plan.specs.declared.result.Outcome.TheVariants as outcome
 use Rattle.sbpl_plan.specs.Looking.{IsPathFound, WalkFinds}
 use Rattle.sbpl_plan.specs.Outcomes.{IsConclusive, IsResultOf, AgreesWithFound, IsTrueOutcome}
 use Rattle.sbpl_plan.specs.Passing.{Inquiry, EndsPlan}
-use Rattle.sbpl_plan.specs.Iterations.{IsTight}
+use Rattle.sbpl_plan.proofs.Iterations.{IsTight}
 
 -- labels that show none, or a break, have no path
 none_no_path : (n : Network) (h : ℕ → ℕ) (goal : ℕ) (m : Marks) → g_of m goal ≡ FAR → (arcs : List ℕ) (cost bound : ℕ)

@@ -3,7 +3,6 @@ pub mod Looking
 pub mod Passing
 pub mod Outcomes
 pub mod ReadyAfter
-pub mod Iterations
 pub mod Planned
 pub mod OutOfMemory
 pub mod Observed

@@ -1,8 +1,9 @@
 //! When a plan ends, and its result.
 
-ghost use Rattle.std.specs.Prelude.{◌≡◌, ℕ, ◌<◌, ◌↔◌, IsTrue, ◌⊎◌, true};
+ghost use Rattle.std.specs.Prelude.{◌≡◌, ℕ, ◌<◌, ◌↔◌, IsTrue, IsFalse, ◌⊎◌, true};
 ghost use Rattle.sbpl_search.specs.sbpl_graph.Network.{Network};
 ghost use Rattle.sbpl_search.specs.sbpl_labels.CutOff.{IsCutOff};
+ghost use Rattle.sbpl_search.specs.sbpl_labels.declared.pass_end.PassEnd.TheVariants as PassEnd;
 ghost use Rattle.sbpl_search.specs.sbpl_labels.Marks.{states_of, g_of, v_of};
 ghost use Rattle.sbpl_plan.specs.Asked.{lowered};
 ghost use Rattle.sbpl_plan.specs.Looking.{IsEnough, WalkFinds};
@@ -11,7 +12,18 @@ ghost use Rattle.sbpl_plan.specs.Outcomes.{AgreesWithFound, IsResultOf};
 use crate::ask::Ask;
 use crate::found::Found;
 use crate::result::{Arcs, FoundPath, Outcome};
-use sbpl_search::Labels;
+use sbpl_search::{Labels, PassEnd};
+
+/// Whether a pass was spent.
+pub(crate) fn is_spent(end: PassEnd) -> bool
+    ensures spent { IsTrue result ↔ (end ≡ PassEnd.Spent) }
+    ensures rest { IsFalse result ↔ (end ≡ PassEnd.Rest) }
+{
+    match end {
+        PassEnd::Spent => true,
+        PassEnd::Rest => false,
+    }
+}
 
 /// Whether a path with a bound that is good enough was found.
 fn is_enough(asked: u32, found: Found) -> bool

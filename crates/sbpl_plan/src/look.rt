@@ -15,21 +15,21 @@ pub(crate) fn look<G: Graph, H: Guide, S: Search<G, H>>(
     graph: &G,
     guide: &H,
     search: &S,
-    goal: u32,
     into: &mut Vec<u32>,
 ) -> Found
-    requires guide { H.guides guide.now (G.network graph.now) goal }
-    requires goal { goal ≡ (S.state search.now).goal }
+    requires guide { H.guides guide.now (G.network graph.now) (S.state search.now).goal }
     requires states { states_of (S.state search.now).labels ≡ (G.network graph.now).states }
-    requires exact { AreExact (G.network graph.now) (S.state search.now).labels.start (g_of (S.state search.now).labels) (v_of (S.state search.now).labels) (back_of (S.state search.now).labels) }
+    requires exact { AreExact (G.network graph.now) (S.state search.now).labels.start (g_of (S.state search.now).labels)
+        (v_of (S.state search.now).labels) (back_of (S.state search.now).labels) }
     requires fresh { IsStartFresh (S.state search.now).labels }
     requires empty { into.old.items ≡ [] }
     requires room { states_of (S.state search.now).labels ≤ vec_capacity into.old }
-    ensures found { WalkFinds (G.network graph.now) (H.distance guide.now) goal (S.state search.now).labels into.new.items result }
+    ensures found { WalkFinds (G.network graph.now) (H.distance guide.now) (S.state search.now).goal
+        (S.state search.now).labels into.new.items result }
     ensures room { vec_capacity into.new ≡ vec_capacity into.old }
 {
     let _states = graph.states();
-    match search.labels().walk(graph, goal, into) {
+    match search.labels().walk(graph, search.goal(), into) {
         Walk::Path(cost) => {
             let bound = bound_of(cost, search.low(guide)).unwrap();
             Found::Path { cost, bound }

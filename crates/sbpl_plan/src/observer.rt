@@ -1,6 +1,10 @@
 //! Who is told of paths while a plan is made.
 
-ghost use Rattle.std.specs.Prelude.{◌≤◌, ◌<◌, ◌+◌, ◌^◌, ℕ};
+ghost use Rattle.std.specs.Prelude.{◌≡◌, ◌≤◌, ◌<◌, ◌+◌, ◌^◌, ℕ};
+ghost use Rattle.sbpl_plan.specs.declared.found.Found.TheVariants as Found;
+ghost use Rattle.sbpl_plan.specs.Observed.{IsTold};
+
+use crate::found::Found;
 
 /// Someone who is told of each path as soon as the walk of a pass has given it, while the planner works on.
 pub trait Observer {
@@ -17,6 +21,18 @@ pub trait Observer {
         requires bound { bound < 2 ^ 100 }
         ensures told { told self.old pass cost bound self.new }
         ensures room { room self.old ≤ room self.new + 1 };
+}
+
+/// Tells an observer of what the walk of a pass gave, where it is a path.
+pub(crate) fn tell<O: Observer>(observer: &mut O, pass: u32, found: Found)
+    requires room { 1 ≤ O.room observer.old }
+    requires bound { (cost bound : ℕ) → found ≡ Found.Path cost bound → bound < 2 ^ 100 }
+    ensures told { IsTold O.told pass found observer.old observer.new }
+    ensures room { O.room observer.old ≤ O.room observer.new + 1 }
+{
+    if let Found::Path { cost, bound } = found {
+        observer.path_found(pass, cost, bound);
+    }
 }
 
 /// An observer that is told everything and does nothing.

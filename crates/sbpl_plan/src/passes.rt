@@ -1,7 +1,11 @@
 //! The passes of a plan.
 
+ghost use Rattle.std.specs.Prelude.{◌≡◌, true, [], IfOk, if◌then◌else◌};
+
 use crate::found::Found;
 use sbpl_lists::ListOf;
+use sbpl_search::{Graph, Guide, NoMemory, Search};
+use std::alloc::Global;
 
 /// What a pass did, in order.
 pub type Trace<N> = ListOf<N>;
@@ -21,3 +25,19 @@ pub struct Pass<N> {
 
 /// The passes of a plan in order.
 pub type Passes<N> = ListOf<Pass<N>>;
+
+/// What a pass did, where it is to be told.
+pub(crate) fn trace_of<G: Graph, H: Guide, S: Search<G, H>>(
+    alloc: Global,
+    search: &S,
+    traced: bool,
+) -> Result<Trace<S::Note>, NoMemory>
+    requires kept { traced ≡ true → (S.state search.now).kept ≡ true }
+    ensures trace { IfOk result (λ t. t ≡ (if traced then (S.state search.now).notes else [])) }
+{
+    let mut trace = Vec::new(alloc);
+    if traced {
+        trace.extend_from_slice(search.notes())?;
+    }
+    Ok(Trace::of(trace))
+}

@@ -13,7 +13,7 @@ ghost use Rattle.sbpl_replan.specs.Replanning.{BeginsWith, IsAimed, IsReadyIn, S
 
 use crate::change::change;
 use sbpl_heur::{Best, Heuristic, Lattice, Terrain, Write};
-use sbpl_plan::{Ask, Budget, Labels, NoMemory, Observer, Planned, Search, plan};
+use sbpl_plan::{Ask, Budget, Inquiry, Labels, NoMemory, Observer, Planned, Search, plan};
 use std::alloc::Global;
 use std::marker::{Model, PhantomData};
 
@@ -136,13 +136,15 @@ impl<W: Terrain, H: Heuristic<W>, S: Search<W, H> + Drop> Replanner<W, H, S> {
         ensures observed { O.room observer.old ≤ O.room observer.new + MOST_PASSES }
     {
         self.budget.next_plan();
+        let inquiry = Inquiry {
+            graph: world,
+            guide: &self.guide,
+            ask,
+        };
         let planned = plan(
             alloc,
-            world,
-            &self.guide,
+            &inquiry,
             &mut self.search,
-            self.goal,
-            ask,
             &mut self.budget,
             observer,
         );

@@ -8,7 +8,7 @@ ghost use Rattle.sbpl_plan.specs.sbpl_search.Ready.{IsStartFresh};
 use crate::table::{Table, row};
 use crate::texts::reads;
 use sbpl_adstar::AdStar;
-use sbpl_plan::{Ask, Budget, Graph, Nobody, Zero, plan};
+use sbpl_plan::{Ask, Budget, Graph, Inquiry, Nobody, Zero, plan};
 use std::alloc::Global;
 use std::test::Fail;
 
@@ -60,7 +60,12 @@ fn replans(
     let _used = budget.used();
     let _states = graph.states();
     search.change(graph, [1, 2].as_slice());
-    match plan(alloc, graph, &Zero, search, 2, &ASK, budget, &mut Nobody) {
+    let inquiry = Inquiry {
+        graph,
+        guide: &Zero,
+        ask: &ASK,
+    };
+    match plan(alloc, &inquiry, search, budget, &mut Nobody) {
         Ok(planned) => {
             let is = reads(format!(in alloc; "{planned:?}"), want);
             drop(planned);

@@ -8,7 +8,7 @@ ghost use Rattle.sbpl_epase.specs.Making.{CanPass, Leaves};
 
 use sbpl_epase::{Epase, Event, NoGate, Parts, parallel_pass_parts};
 use sbpl_heur::{Best, Lattice};
-use sbpl_plan::{Ask, Budget, Graph, Nobody, Outcome, Planned, plan};
+use sbpl_plan::{Ask, Budget, Graph, Inquiry, Nobody, Outcome, Planned, plan};
 use std::alloc::Global;
 use std::sync::Wait;
 use std::thread::Threads;
@@ -75,16 +75,12 @@ pub(crate) fn falling<R: Threads + Wait + Sync>(
         return None;
     };
     let mut budget = Budget::new(1 << 30);
-    let planned = plan(
-        alloc,
-        lattice,
-        best,
-        &mut search,
-        goal,
-        &FALLING,
-        &mut budget,
-        &mut Nobody,
-    );
+    let inquiry = Inquiry {
+        graph: lattice,
+        guide: best,
+        ask: &FALLING,
+    };
+    let planned = plan(alloc, &inquiry, &mut search, &mut budget, &mut Nobody);
     search.reset();
     drop(search);
     told(&planned.ok()?)

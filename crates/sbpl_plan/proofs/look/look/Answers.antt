@@ -9,7 +9,7 @@ some_unless None P none not = absurd (not (none refl))
 
 pub unwrap-bound-requires : goal.unwrap-bound-requires
 unwrap-bound-requires g c = some_unless _ _ (λ none. c.bound_of.ensures.none.0 none) (λ (dear, zero).
-    let walk = rw c.requires.goal at (rw c.labels.ensures.value at c.in-Path.ensures.walk) in
+    let walk = rw c.goal.ensures.value at (rw c.labels.ensures.value at c.in-Path.ensures.walk) in
     let some =
     low_some _ c.states-states.ensures.sound c.requires.states c.requires.exact (let s =
     c.requires.states in omega (arith, c.labels.ensures.goal)) c.requires.fresh c.low.ensures.least walk dear in

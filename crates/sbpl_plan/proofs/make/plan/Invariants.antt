@@ -5,10 +5,11 @@ use Rattle.sbpl_plan.specs.Passing.{inquiry_of}
 use Rattle.sbpl_plan.proofs.Planning.{AreGoingOn}
 use Rattle.sbpl_plan.proofs.make.plan.Given as goal
 
-abbrev pub invariant-loop-passes : goal.invariant-loop-passes
-invariant-loop-passes g l = record {
-  going_on : AreGoingOn g.S.Search.meaning (inquiry_of (g.G.Graph.network l.graph) (g.H.Guide.distance l.guide) l.goal
-      l.ask) (g.S.Search.state l.fn.search) (g.S.Search.state l.search) l.fn.budget l.budget l.passes.items l.eps;
+abbrev pub invariant-passes : goal.invariant-passes
+invariant-passes g l = record {
+  going_on : AreGoingOn g.S.Search.meaning (inquiry_of (g.G.Graph.network l.graph) (g.H.Guide.distance l.guide)
+      (g.S.Search.state l.fn.search).goal l.ask) (g.S.Search.state l.fn.search) (g.S.Search.state l.search)
+      l.fn.budget l.budget l.passes.items l.eps;
   low : 1000 ≤ l.eps;
   high : l.eps ≤ 100000;
   room : states_of (g.S.Search.state l.fn.search).labels ≤ vec_capacity l.arcs;
@@ -18,5 +19,5 @@ invariant-loop-passes g l = record {
   observed : g.O.Observer.room l.fn.observer ≤ g.O.Observer.room l.observer + length l.passes.items;
 }
 
-abbrev pub decreases-loop-passes : goal.decreases-loop-passes
-decreases-loop-passes g l = l.eps
+abbrev pub decreases-passes : goal.decreases-passes
+decreases-passes g l = l.eps

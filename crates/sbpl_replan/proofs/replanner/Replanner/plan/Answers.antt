@@ -1,11 +1,10 @@
-use Rattle.std.proofs.Common.{ℕ, List, sym, subst}
+use Rattle.std.proofs.Common.{List, subst}
 use Rattle.std.specs.Prelude.{IfOk, OnErr}
 use Rattle.sbpl_plan.specs.Planned.{IsPlanned}
 use Rattle.sbpl_plan.specs.sbpl_labels.Counts.{Counts}
 use Rattle.sbpl_plan.specs.declared.passes.Pass.{Pass}
 use Rattle.sbpl_plan.specs.Observed.{AreTold}
 use Rattle.sbpl_plan.specs.OutOfMemory.{RunsOutOfMemory}
-use Rattle.sbpl_plan.specs.Passing.{inquiry_of}
 use Rattle.sbpl_replan.specs.Replanning.{IsReadyIn, Replanning, StandsOutOfMemory, at_plan, inquiry, standing_of}
 use Rattle.sbpl_replan.proofs.Changing.{on_err_so, ready_again, stands}
 use Rattle.sbpl_replan.proofs.replanner.Replanner.plan.Goals as goal
@@ -14,7 +13,6 @@ pub returns-clause-planned : goal.returns-clause-planned
 returns-clause-planned g c =
     let means = g.S.Search.meaning in
     let n = g.W.Graph.network in
-    let made = g.H.Heuristic.is_made_for in
     let distance = g.H.Guide.distance in
     let w = c.args.world.now in
     let ask = c.args.ask.now in
@@ -26,14 +24,12 @@ returns-clause-planned g c =
       guide = c.self.inside.guide;
       counts = c.self.inside.budget;
     } in
-    subst (λ (r : Replanning g.row.S-Note.Denot g.row.H.Denot). IsReadyIn means n made w r
-    → IfOk result (IsPlanned means (inquiry (n w) (distance r.guide) (standing_of r) ask) r.search new
-    (at_plan r.counts) c.plan-planned.new.budget)) c.self.view_is
-    (λ ready. subst (λ (t : ℕ). IfOk result (IsPlanned means (inquiry_of (n w) (distance old.guide) t ask) old.search
-    new (at_plan old.counts) c.plan-planned.new.budget)) (sym ready.to_goal)
-    (subst (λ (before : Counts). IfOk result (IsPlanned means (inquiry_of (n w) (distance old.guide) old.goal ask)
-    old.search new before c.plan-planned.new.budget)) c.next_plan.ensures.begun c.plan-planned.ensures.planned))
-    c.requires.ready
+    subst (λ (r : Replanning g.row.S-Note.Denot g.row.H.Denot). IfOk result (IsPlanned means
+    (inquiry (n w) (distance r.guide) (standing_of r) ask) r.search new (at_plan r.counts) c.plan-planned.new.budget))
+    c.self.view_is
+    (subst (λ (before : Counts). IfOk result (IsPlanned means
+    (inquiry (n w) (distance old.guide) (standing_of old) ask) old.search new before c.plan-planned.new.budget))
+    c.next_plan.ensures.begun c.plan-planned.ensures.planned)
 
 pub returns-clause-memory : goal.returns-clause-memory
 returns-clause-memory g c =
@@ -66,9 +62,7 @@ returns-clause-memory g c =
     (λ runs. stands means (inquiry (n w) (distance guide) (standing_of old) ask)
     (IsReadyIn means n made w new) Told (standing_of old) (standing_of new) c.used-counts.ensures.counts
     (λ labels same fresh. ready_again means n made w old new.search new.counts ready labels same fresh)
-    (subst (λ (t : ℕ). RunsOutOfMemory means (inquiry_of (n w) (distance guide) t ask) ask.first old.search new.search
-    (at_plan old.counts) new.counts Told) (sym ready.to_goal)
-    (subst (λ (before : Counts). RunsOutOfMemory means (inquiry_of (n w) (distance guide) c.self.inside.goal ask)
-    ask.first old.search new.search before new.counts Told) c.next_plan.ensures.begun runs)))
+    (subst (λ (before : Counts). RunsOutOfMemory means (inquiry (n w) (distance guide) (standing_of old) ask)
+    ask.first old.search new.search before new.counts Told) c.next_plan.ensures.begun runs))
     c.plan-planned.ensures.memory)
     c.requires.ready
