@@ -4,6 +4,7 @@
 ghost use Rattle.std.specs.Prelude.{◌≡◌, ◌<◌, ℕ, IfOk, IfSome, OnOk};
 ghost use Rattle.sbpl_replan.specs.sbpl_adstar.Planner.{adstar};
 ghost use Rattle.sbpl_replan.specs.sbpl_cost.Lattices.{network_of};
+ghost use Rattle.sbpl_replan.specs.sbpl_ara.sbpl_search.Ready.{IsStartFresh};
 ghost use Rattle.sbpl_replan.specs.sbpl_graph.Path.{IsFreePath};
 ghost use Rattle.sbpl_replan.specs.sbpl_plan.Outcomes.{IsTrueOutcome};
 ghost use Rattle.sbpl_replan.specs.OnLattice.{IsReadyOn};
@@ -14,7 +15,7 @@ mod room;
 use crate::room::{FREE, WALL, door, lattice};
 use anyhow::Context;
 use sbpl_replan::{
-    AdStar, Ask, FoundPath, Graph, Lattice, LatticeReplanner, NoMemory, Nobody, Outcome, Write,
+    AdStar, Ask, FoundPath, Graph, Lattice, LatticeSession, NoMemory, Nobody, Outcome, Write,
     are_on_map, place_at,
 };
 use std::alloc::Global;
@@ -49,20 +50,28 @@ fn trip_on(lattice: &Lattice) -> Option<Trip>
     Some(Trip { start, goal })
 }
 
-/// A planner that repairs its labels where the map changes: Anytime D*.
-fn planner(
-    alloc: Global,
-    lattice: &Lattice,
-    trip: Trip,
-) -> Result<LatticeReplanner<AdStar>, NoMemory>
+/// A search that repairs its labels where the map changes: Anytime D*.
+fn search_on(alloc: Global, lattice: &Lattice, trip: Trip) -> Result<AdStar, NoMemory>
     requires start { trip.start < (network_of lattice.now).states }
     requires goal { trip.goal < (network_of lattice.now).states }
-    ensures ready { IfOk result (IsReadyOn adstar lattice.now) }
-    ensures start { IfOk result (λ plans. plans.search.labels.start ≡ trip.start) }
-    ensures goal { IfOk result (λ plans. plans.search.goal ≡ trip.goal) }
+    ensures ready { IfOk result (λ s. adstar.ready (network_of lattice.now) s.labels 0) }
+    ensures fresh { IfOk result (λ s. IsStartFresh s.labels) }
+    ensures start { IfOk result (λ s. s.labels.start ≡ trip.start) }
+    ensures goal { IfOk result (λ s. s.goal ≡ trip.goal) }
 {
-    let search = AdStar::open(alloc, lattice.states(), trip.start, trip.goal)?;
-    LatticeReplanner::new(alloc, lattice, search, trip.goal, BUDGET)
+    AdStar::open(alloc, lattice.states(), trip.start, trip.goal)
+}
+
+/// A session on a lattice, which goes from the start to the goal.
+fn session(alloc: Global, lattice: Lattice, trip: Trip) -> Result<LatticeSession<AdStar>, NoMemory>
+    requires start { trip.start < (network_of lattice).states }
+    requires goal { trip.goal < (network_of lattice).states }
+    ensures ready { IfOk result (IsReadyOn adstar) }
+    ensures start { IfOk result (λ s. s.search.labels.start ≡ trip.start) }
+    ensures goal { IfOk result (λ s. s.search.goal ≡ trip.goal) }
+{
+    let search = search_on(alloc, &lattice, trip)?;
+    LatticeSession::open(alloc, lattice, search, BUDGET)
 }
 
 /// The steps of a path: the primitive that is driven, and the cell and the heading that it leads to. That the path is free is what
@@ -111,77 +120,72 @@ fn show(
 fn plan(
     rt: &impl Print,
     alloc: Global,
-    lattice: &Lattice,
-    plans: &mut LatticeReplanner<AdStar>,
+    session: &mut LatticeSession<AdStar>,
     trip: Trip,
 ) -> anyhow::Result<()>
-    requires ready { IsReadyOn adstar lattice.now plans.old }
-    requires start { plans.old.search.labels.start ≡ trip.start }
-    requires goal { plans.old.search.goal ≡ trip.goal }
-    ensures ready { OnOk result (IsReadyOn adstar lattice.now plans.new) }
-    ensures same { OnOk result (StaysTheSame (standing_of plans.old) (standing_of plans.new)) }
+    requires ready { IsReadyOn adstar session.old }
+    requires start { session.old.search.labels.start ≡ trip.start }
+    requires goal { session.old.search.goal ≡ trip.goal }
+    ensures ready { OnOk result (IsReadyOn adstar session.new) }
+    ensures same { OnOk result (StaysTheSame (standing_of session.old) (standing_of session.new)) }
 {
-    let planned = plans.plan(alloc, lattice, &ASK, &mut Nobody)?;
-    let shown = show(rt, lattice, trip, &planned.outcome);
+    let planned = session.plan(alloc, &ASK, &mut Nobody)?;
+    let shown = show(rt, session.world(), trip, &planned.outcome);
     drop(planned);
     Ok(shown?)
 }
 
-/// Writes costs to the map, and makes the planner ready for a plan on it.
+/// Writes costs to the map, and makes the session ready for a plan on it.
 fn change(
     alloc: Global,
-    lattice: &mut Lattice,
-    plans: &mut LatticeReplanner<AdStar>,
+    session: &mut LatticeSession<AdStar>,
     writes: &[Write],
 ) -> anyhow::Result<()>
-    requires ready { IsReadyOn adstar lattice.old plans.old }
-    ensures ready { OnOk result (IsReadyOn adstar lattice.new plans.new) }
-    ensures same { OnOk result (StaysTheSame (standing_of plans.old) (standing_of plans.new)) }
+    requires ready { IsReadyOn adstar session.old }
+    ensures ready { OnOk result (IsReadyOn adstar session.new) }
+    ensures same { OnOk result (StaysTheSame (standing_of session.old) (standing_of session.new)) }
 {
-    if !are_on_map(lattice, writes) {
+    if !are_on_map(session.world(), writes) {
         anyhow::bail!("a cell off the map");
     }
-    Ok(plans.change(alloc, lattice, writes)?)
+    Ok(session.change(alloc, writes)?)
 }
 
 /// Plans, and repairs the plan as the doors close and open.
 fn plan_and_repair(
     rt: &impl Print,
     alloc: Global,
-    lattice: &mut Lattice,
-    plans: &mut LatticeReplanner<AdStar>,
+    session: &mut LatticeSession<AdStar>,
     trip: Trip,
 ) -> anyhow::Result<()>
-    requires ready { IsReadyOn adstar lattice.old plans.old }
-    requires start { plans.old.search.labels.start ≡ trip.start }
-    requires goal { plans.old.search.goal ≡ trip.goal }
+    requires ready { IsReadyOn adstar session.old }
+    requires start { session.old.search.labels.start ≡ trip.start }
+    requires goal { session.old.search.goal ≡ trip.goal }
 {
     println!(rt; "both doors are open")?;
-    plan(rt, alloc, lattice, plans, trip)?;
+    plan(rt, alloc, session, trip)?;
     println!(rt; "the near door closes")?;
-    change(alloc, lattice, plans, [door(2, WALL)].as_slice())?;
-    plan(rt, alloc, lattice, plans, trip)?;
+    change(alloc, session, [door(2, WALL)].as_slice())?;
+    plan(rt, alloc, session, trip)?;
     println!(rt; "the far door closes too")?;
-    change(alloc, lattice, plans, [door(0, WALL)].as_slice())?;
-    plan(rt, alloc, lattice, plans, trip)?;
+    change(alloc, session, [door(0, WALL)].as_slice())?;
+    plan(rt, alloc, session, trip)?;
     println!(rt; "the near door opens")?;
-    change(alloc, lattice, plans, [door(2, FREE)].as_slice())?;
-    plan(rt, alloc, lattice, plans, trip)
+    change(alloc, session, [door(2, FREE)].as_slice())?;
+    plan(rt, alloc, session, trip)
 }
 
-/// Makes a planner on a lattice, and plans. Large values, such as a planner and a lattice, are dropped by a call of `drop` and
-/// not at the end of the function, which keeps the proofs short.
-fn go(rt: &impl Print, alloc: Global, lattice: &mut Lattice) -> anyhow::Result<()> {
-    let trip = trip_on(lattice).context("the start or the end is off the map")?;
-    let mut plans = planner(alloc, lattice, trip)?;
-    let done = plan_and_repair(rt, alloc, lattice, &mut plans, trip);
-    drop(plans);
+/// Makes a session on a lattice, and plans. A large value, such as a session, is dropped by a call of `drop` and not at the
+/// end of the function, which keeps the proofs short.
+fn go(rt: &impl Print, alloc: Global, lattice: Lattice) -> anyhow::Result<()> {
+    let trip = trip_on(&lattice).context("the start or the end is off the map")?;
+    let mut session = session(alloc, lattice, trip)?;
+    let done = plan_and_repair(rt, alloc, &mut session, trip);
+    drop(session);
     done
 }
 
 fn main(rt: HostRuntime) -> anyhow::Result<()> {
-    let mut lattice = lattice(rt.alloc())?;
-    let done = go(&rt, rt.alloc(), &mut lattice);
-    drop(lattice);
-    done
+    let lattice = lattice(rt.alloc())?;
+    go(&rt, rt.alloc(), lattice)
 }

@@ -9,11 +9,12 @@ ghost use Rattle.sbpl_jobs.specs.sbpl_promises.Run.{IsOrUnwritten, IsStatus, May
 ghost use Rattle.sbpl_jobs.specs.sbpl_promises.RunPromises.{RunPromises};
 ghost use Rattle.sbpl_jobs.specs.sbpl_promises.Writing.{IsOutput, WritesOnly, output};
 ghost use Rattle.sbpl_jobs.specs.sbpl_job.Asked.{asked_for};
+ghost use Rattle.sbpl_jobs.specs.sbpl_plans.Boards.{IsSamePublisher, entries_of};
 ghost use Rattle.sbpl_jobs.specs.sbpl_telling.Endings.{message_of};
 
-use crate::Gate;
-use crate::top::run_to_end;
-use sbpl_jobs::{Asked, Board, Desk, Ending, Publisher, WriteStop, read_asked, told};
+use sbpl_headline::promises_show_the_headline;
+use sbpl_jobs::{Asked, Desk, Ending, Gate, LiveBoard, WriteStop, read_asked, run_words, told};
+use sbpl_laws::runs_keep_promises;
 use std::alloc::Global;
 use std::io;
 use std::sync::Wait;
@@ -55,39 +56,41 @@ fn explain<E: io::Write>(ending: &Ending, err: &mut E)
 #[tactic(none)]
 /// Does what the words after the program's name ask for, and answers the program's status: tells help or the version, or does
 /// the job that they name, as `run_with` does it. Where the job was not done, a line on `err` says why: which word, which file, or
-/// where in a file and what must stand there (`run_to_end`). The publisher is the board's, and has published fewer than 2^62 entries.
+/// where in a file and what must stand there (`run_to_end`). The board's publisher has published fewer than 2^62 entries.
 pub fn answer<R: Threads + Wait + Sync, D: Desk, T: Gate + Sync, E: io::Write>(
-    rt: &R,
     alloc: Global,
     words: &[String],
+    live: &mut LiveBoard<R>,
     desk: &mut D,
     gate: &T,
     err: &mut E,
-    board: &Board,
-    publisher: &mut Publisher,
 ) -> u8
-    requires board { publisher.old.board ≡ board.now }
-    requires few { length publisher.old.published < 2 ^ 62 }
+    requires few { length (entries_of live.old) < 2 ^ 62 }
     // Words that ask for help or the version are told it, unless that cannot be written or memory runs out.
     ensures asked { IsSome (asked_for (map string_bytes words.now)) → IsOrUnwritten 0 result }
-    ensures unwritten { IsSome (asked_for (map string_bytes words.now)) → result ≡ 7 → Rose ((D.state desk.old).write_faults output) ((D.state desk.new).write_faults output) }
+    ensures unwritten { IsSome (asked_for (map string_bytes words.now)) → result ≡ 7
+        → Rose ((D.state desk.old).write_faults output) ((D.state desk.new).write_faults output) }
     // All other words get what `run_with` promises, of this status.
-    ensures run { asked_for (map string_bytes words.now) ≡ None → RunPromises (job_named words.now) (D.state desk.old) (D.state desk.new) publisher.old.published publisher.new.published result }
+    ensures run { asked_for (map string_bytes words.now) ≡ None → RunPromises (job_named words.now) (D.state desk.old)
+        (D.state desk.new) (entries_of live.old) (entries_of live.new) result }
     // And the headline, of `plan` and `nav`, in definitions of its own.
-    ensures headline { asked_for (map string_bytes words.now) ≡ None → IsHeadline (map string_bytes words.now) (D.state desk.old) (D.state desk.new) result }
+    ensures headline { asked_for (map string_bytes words.now) ≡ None
+        → IsHeadline (map string_bytes words.now) (D.state desk.old) (D.state desk.new) result }
     ensures statuses { IsStatus result }
     // The publisher stays the board's, and where help or the version is told nothing is published.
-    ensures board { publisher.new.board ≡ publisher.old.board }
-    ensures unpublished { IsSome (asked_for (map string_bytes words.now)) → publisher.new ≡ publisher.old }
+    ensures same { IsSamePublisher live.old live.new }
+    ensures unpublished { IsSome (asked_for (map string_bytes words.now)) → entries_of live.new ≡ entries_of live.old }
     // A message comes with the statuses 2 to 7 and 10 alone.
     ensures quiet { has_message result ≡ false → Keeps (E.contents err.old) (E.contents err.new) }
     // Nothing that is held changes, nothing is written under names other than the job's, and no count falls.
     ensures frame { WritesOnly (MayBeWritten (job_named words.now)) (D.state desk.old) (D.state desk.new) }
 {
+    runs_keep_promises();
+    promises_show_the_headline();
     match read_asked(words) {
         Some(asked) => tell(alloc, asked, desk),
         None => {
-            let ending = run_to_end(rt, alloc, words, desk, gate, board, publisher);
+            let ending = run_words(alloc, words, live, desk, gate);
             explain(&ending, err);
             ending.status
         }

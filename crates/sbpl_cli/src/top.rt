@@ -11,14 +11,14 @@ ghost use Rattle.sbpl_jobs.specs.sbpl_promises.Writing.{WritesOnly};
 ghost use Rattle.sbpl_jobs.specs.sbpl_telling.Endings.{message_of};
 
 use sbpl_headline::promises_show_the_headline;
-use sbpl_jobs::{Board, Desk, Ending, Gate, NoMemory, Publisher, end_run};
+use sbpl_jobs::{Board, Desk, Ending, Gate, LiveBoard, NoMemory, Publisher, run_words};
 use sbpl_laws::runs_keep_promises;
 use std::alloc::Global;
 use std::sync::Wait;
 use std::thread::Threads;
 
-/// Does what `run_with` does, and answers what people are told besides the status: which word is wrong, which file could not be read,
-/// where a file has its fault and what must stand there, or that a write failed.
+/// Does what `run_with` does, and answers what people are told besides the status: which word is wrong, which file could
+/// not be read, where a file has its fault and what must stand there, or that a write failed.
 pub fn run_to_end<R: Threads + Wait + Sync, D: Desk, T: Gate + Sync>(
     rt: &R,
     alloc: Global,
@@ -30,7 +30,8 @@ pub fn run_to_end<R: Threads + Wait + Sync, D: Desk, T: Gate + Sync>(
 ) -> Ending
     requires board { publisher.old.board ≡ board.now }
     requires few { length publisher.old.published < 2 ^ 62 }
-    ensures promises { RunPromises (job_named words.now) (D.state desk.old) (D.state desk.new) publisher.old.published publisher.new.published result.status }
+    ensures promises { RunPromises (job_named words.now) (D.state desk.old) (D.state desk.new) publisher.old.published
+        publisher.new.published result.status }
     ensures headline { IsHeadline (map string_bytes words.now) (D.state desk.old) (D.state desk.new) result.status }
     ensures told { IsTold (job_named words.now) (D.state desk.old) (D.state desk.new) result.status (message_of result) }
     ensures board { publisher.new.board ≡ publisher.old.board }
@@ -38,7 +39,8 @@ pub fn run_to_end<R: Threads + Wait + Sync, D: Desk, T: Gate + Sync>(
 {
     runs_keep_promises();
     promises_show_the_headline();
-    end_run(rt, alloc, words, desk, gate, board, publisher)
+    let mut live = LiveBoard::new(rt, board, publisher);
+    run_words(alloc, words, &mut live, desk, gate)
 }
 
 /// Does the job that the words after the program's name stand for, writes what came of it to the standard output, which has
@@ -62,7 +64,8 @@ pub fn run_with<R: Threads + Wait + Sync, D: Desk, T: Gate + Sync>(
     requires board { publisher.old.board ≡ board.now }
     requires few { length publisher.old.published < 2 ^ 62 }
     // Every promise, with what each status says, and what was published.
-    ensures promises { RunPromises (job_named words.now) (D.state desk.old) (D.state desk.new) publisher.old.published publisher.new.published result }
+    ensures promises { RunPromises (job_named words.now) (D.state desk.old) (D.state desk.new) publisher.old.published
+        publisher.new.published result }
     // The headline, of `plan` and `nav`, in definitions of its own.
     ensures headline { IsHeadline (map string_bytes words.now) (D.state desk.old) (D.state desk.new) result }
     ensures board { publisher.new.board ≡ publisher.old.board }
@@ -81,7 +84,8 @@ pub fn run<R: Threads + Wait + Sync, D: Desk, T: Gate + Sync>(
     gate: &T,
 ) -> u8
     // Every promise, with what each status says, where nothing was published before.
-    ensures promises { (published : List Entry) × RunPromises (job_named words.now) (D.state desk.old) (D.state desk.new) [] published result }
+    ensures promises { (published : List Entry) × RunPromises (job_named words.now) (D.state desk.old) (D.state desk.new) []
+        published result }
     // The headline, of `plan` and `nav`, in definitions of its own.
     ensures headline { IsHeadline (map string_bytes words.now) (D.state desk.old) (D.state desk.new) result }
     // Nothing that is held changes, nothing is written under names other than the job's, and no count falls.

@@ -47,8 +47,8 @@ fn read_check<D: Desk>(
     }
 }
 
-/// Checks the sections of a file of labels on a lattice, as `check_text` does: those of the planner `back` on the lattice the other way
-/// round.
+/// Checks the sections of a file of labels on a lattice, as `check_text` does: those of the planner `back` on the lattice
+/// the other way round.
 fn check_on_lattice<D: Desk>(
     alloc: Global,
     lattice: Lattice,
@@ -81,13 +81,14 @@ fn check_on_lattice<D: Desk>(
 }
 
 /// Checks labels that a plan wrote, and writes what came of it.
-pub(crate) fn check_labels<D: Desk>(
+pub(crate) fn run_check<D: Desk>(
     alloc: Global,
     job: &CheckJob,
     desk: &mut D,
 ) -> Result<Ending, Stop>
     requires range { job.now.sources.radius ≤ 10 ^ 12 }
-    ensures ends { IfOk result (λ e. (log : List Entry) → IsJobEnding (D.state desk.old) (D.state desk.new) log log (Jobs.Check job.now) e) }
+    ensures ends { IfOk result (λ e. (log : List Entry) → IsJobEnding (D.state desk.old) (D.state desk.new) log log
+        (Jobs.Check job.now) e) }
     ensures stop { IfErr result (IsJobStop (D.state desk.old) (D.state desk.new) (Jobs.Check job.now)) }
     ensures unwritten { OnErr result (ReadsOnly (D.state desk.old) (D.state desk.new)) }
     ensures frame { WritesOnly IsOutput (D.state desk.old) (D.state desk.new) }

@@ -12,16 +12,18 @@ ghost use Rattle.sbpl_checks.specs.sbpl_report.Report.{demo_text};
 ghost use Rattle.sbpl_checks.specs.sbpl_promises.Texts.{still};
 ghost use Rattle.sbpl_checks.specs.sbpl_promises.Writing.{EndsIn, IsOutput, WritesOnly, to_output};
 ghost use Rattle.sbpl_checks.specs.sbpl_promises.Promises.{EndsJob, IsOrUnwritten};
+ghost use Rattle.sbpl_plans.specs.Boards.{IsSamePublisher, entries_of};
 ghost use Rattle.sbpl_jobs.specs.Endings.{IsJobEnding};
 
 use sbpl_checks::{
-    Changes, Course, DemoJob, Desk, Ending, Graph, LabelForm, Lattice, Lines, NoMemory, OUTPUT,
-    Outputs, Planner, Publisher, SearchJob, Workspace, WriteStop, demo_line, draw, status_after,
+    Changes, Course, DemoJob, Desk, Ending, Gate, Graph, LabelForm, Lattice, Lines, NoMemory,
+    OUTPUT, Outputs, Planner, SearchJob, Workspace, WriteStop, demo_line, draw, status_after,
     write_text,
 };
-use sbpl_plans::{LiveBoard, Task, plans_by_adstar};
+use sbpl_plans::{LiveBoard, Task, make_plans};
 use std::alloc::Global;
 use std::sync::Wait;
+use std::thread::Threads;
 
 /// How a demonstration is planned.
 fn demo_search() -> SearchJob
@@ -44,7 +46,8 @@ fn write_first<D: Desk>(
     changes: &Changes,
     desk: &mut D,
 ) -> Result<(), WriteStop>
-    ensures ends { EndsIn (D.state desk.old) (D.state desk.new) (to_output (demo_text (network_of lattice.now).states (length lattice.now.prims.items) (length changes.now)) ∷ []) result }
+    ensures ends { EndsIn (D.state desk.old) (D.state desk.new) (to_output
+        (demo_text (network_of lattice.now).states (length lattice.now.prims.items) (length changes.now)) ∷ []) result }
     ensures frame { WritesOnly IsOutput (D.state desk.old) (D.state desk.new) }
 {
     let line = demo_line(
@@ -60,28 +63,28 @@ fn write_first<D: Desk>(
 }
 
 /// Plans on an example that was drawn, writes a line for each plan, and answers the status.
-fn demonstrate<D: Desk, W: Wait>(
+fn demonstrate<R: Threads + Wait + Sync, D: Desk, T: Gate + Sync>(
     alloc: Global,
     job: &DemoJob,
-    lattice: &mut Lattice,
+    lattice: Lattice,
     course: &Course,
-    live: &LiveBoard<W>,
-    publisher: &mut Publisher,
+    live: &mut LiveBoard<R>,
     desk: &mut D,
+    gate: &T,
 ) -> u8
-    requires drawn { IsDrawn job.now lattice.old }
+    requires drawn { IsDrawn job.now lattice }
     requires course { course.now ≡ still (changes_drawn job.now.width job.now.height job.now.seed) }
-    requires kept { IsWorld lattice.old }
-    requires in_world { IsCourseIn lattice_site false lattice.old course.now }
-    requires board { publisher.old.board ≡ live.now.board.now }
-    requires few { length publisher.old.published < 2 ^ 62 }
-    ensures ends { EndsJob (D.state desk.old) (D.state desk.new) publisher.old.published publisher.new.published (Jobs.Demo job.now) result }
+    requires kept { IsWorld lattice }
+    requires in_world { IsCourseIn lattice_site false lattice course.now }
+    requires few { length (entries_of live.old) < 2 ^ 62 }
+    ensures ends { EndsJob (D.state desk.old) (D.state desk.new) (entries_of live.old) (entries_of live.new)
+        (Jobs.Demo job.now) result }
     ensures status { IsOrUnwritten 0 result }
-    ensures board { publisher.new.board ≡ publisher.old.board }
+    ensures same { IsSamePublisher live.old live.new }
     ensures frame { WritesOnly IsOutput (D.state desk.old) (D.state desk.new) }
 {
     let (start, goal) = lattice.ends();
-    if let Err(stop) = write_first(alloc, lattice, &course.batches, desk) {
+    if let Err(stop) = write_first(alloc, &lattice, &course.batches, desk) {
         return status_after(Err(stop), 9);
     }
     let outputs = Outputs {
@@ -98,33 +101,32 @@ fn demonstrate<D: Desk, W: Wait>(
         start,
         goal,
     };
-    plans_by_adstar(alloc, lattice, &task, live, publisher, &Lines, desk)
+    make_plans(gate, alloc, lattice, &task, live, &Lines, desk)
 }
 
 /// Draws an example, plans on it, and writes a line for each plan. Nothing is read from the desk.
-pub(crate) fn end_demo<D: Desk, W: Wait>(
+pub(crate) fn run_demo<R: Threads + Wait + Sync, D: Desk, T: Gate + Sync>(
     alloc: Global,
     job: &DemoJob,
-    live: &LiveBoard<W>,
-    publisher: &mut Publisher,
+    live: &mut LiveBoard<R>,
     desk: &mut D,
+    gate: &T,
 ) -> Ending
     requires range { IsDemoJob job.now }
-    requires board { publisher.old.board ≡ live.now.board.now }
-    requires few { length publisher.old.published < 2 ^ 62 }
-    ensures ends { IsJobEnding (D.state desk.old) (D.state desk.new) publisher.old.published publisher.new.published (Jobs.Demo job.now) result }
-    ensures board { publisher.new.board ≡ publisher.old.board }
+    requires few { length (entries_of live.old) < 2 ^ 62 }
+    ensures ends { IsJobEnding (D.state desk.old) (D.state desk.new) (entries_of live.old) (entries_of live.new)
+        (Jobs.Demo job.now) result }
+    ensures same { IsSamePublisher live.old live.new }
     ensures frame { WritesOnly IsOutput (D.state desk.old) (D.state desk.new) }
 {
     match draw(alloc, job) {
-        Ok((mut lattice, batches)) => {
+        Ok((lattice, batches)) => {
             let course = Course {
                 batches,
                 moves: None,
             };
-            let status = demonstrate(alloc, job, &mut lattice, &course, live, publisher, desk);
+            let status = demonstrate(alloc, job, lattice, &course, live, desk, gate);
             // Let go by a call: the drop of each field here would make the proof long.
-            drop(lattice);
             drop(course);
             Ending::plain(alloc, status)
         }

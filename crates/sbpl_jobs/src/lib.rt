@@ -3,12 +3,12 @@
 
 mod check_job;
 mod demo_job;
-mod ending;
 mod nav_job;
 mod plan_job;
+mod running;
 mod sweep_job;
 
-pub use ending::end_run;
+pub use running::run_words;
 pub use sbpl_checks::{
     Asked, Board, CheckJob, Command, DemoJob, Desk, Ending, Entry, Gate, Job, JobFault, ListOf,
     MemoryDesk, Name, NavCheckJob, NavJob, NoGate, NoMemory, Outputs, PlanJob, Planner, Publisher,
@@ -16,3 +16,4 @@ pub use sbpl_checks::{
     print_env, print_prims, read_asked, read_env, read_job, read_prims,
 };
 pub use sbpl_message::told;
+pub use sbpl_plans::LiveBoard;

@@ -6,11 +6,12 @@ ghost use Rattle.sbpl_checks.specs.sbpl_job.declared.job.Job.TheVariants as Jobs
 ghost use Rattle.sbpl_checks.specs.sbpl_promises.Causes.{AreRead, IsReadText, grid_files};
 ghost use Rattle.sbpl_checks.specs.sbpl_promises.Published.{Entry};
 ghost use Rattle.sbpl_checks.specs.sbpl_promises.Writing.{IsOutput, IsOutputOf, ReadsOnly, WritesOnly};
+ghost use Rattle.sbpl_plans.specs.Boards.{IsSamePublisher, entries_of};
 ghost use Rattle.sbpl_jobs.specs.Endings.{IsJobEnding, IsJobStop};
 
 use sbpl_checks::{
-    Course, Desk, Ending, Gate, Input, LabelFile, Nav, NavCheckJob, NavJob, Publisher, Stop,
-    Workspace, check_text, read_file, read_grid_course,
+    Course, Desk, Ending, Gate, Input, LabelFile, Nav, NavCheckJob, NavJob, Stop, Workspace,
+    check_text, read_file, read_grid_course,
 };
 use sbpl_plans::{LiveBoard, Task, make_plans};
 use std::alloc::Global;
@@ -18,25 +19,24 @@ use std::sync::Wait;
 use std::thread::Threads;
 
 /// Makes the plans of a job on a grid and writes what came of it; or answers why nothing was written.
-pub(crate) fn end_nav<R: Threads + Wait + Sync, D: Desk, T: Gate + Sync>(
+pub(crate) fn run_nav<R: Threads + Wait + Sync, D: Desk, T: Gate + Sync>(
     alloc: Global,
     job: &NavJob,
-    live: &LiveBoard<R>,
-    publisher: &mut Publisher,
+    live: &mut LiveBoard<R>,
     desk: &mut D,
     gate: &T,
 ) -> Result<Ending, Stop>
     requires range { IsJob (Jobs.Nav job.now) }
-    requires board { publisher.old.board ≡ live.now.board.now }
-    requires few { length publisher.old.published < 2 ^ 62 }
-    ensures ends { IfOk result (IsJobEnding (D.state desk.old) (D.state desk.new) publisher.old.published publisher.new.published (Jobs.Nav job.now)) }
+    requires few { length (entries_of live.old) < 2 ^ 62 }
+    ensures ends { IfOk result (IsJobEnding (D.state desk.old) (D.state desk.new) (entries_of live.old)
+        (entries_of live.new) (Jobs.Nav job.now)) }
     ensures stop { IfErr result (IsJobStop (D.state desk.old) (D.state desk.new) (Jobs.Nav job.now)) }
     ensures unwritten { OnErr result (ReadsOnly (D.state desk.old) (D.state desk.new)) }
-    ensures unpublished { OnErr result (publisher.new ≡ publisher.old) }
-    ensures board { publisher.new.board ≡ publisher.old.board }
+    ensures unpublished { OnErr result (entries_of live.new ≡ entries_of live.old) }
+    ensures same { IsSamePublisher live.old live.new }
     ensures frame { WritesOnly (IsOutputOf job.now.outputs) (D.state desk.old) (D.state desk.new) }
 {
-    let (mut nav, course) = read_grid_course(alloc, &job.env, &job.changes, desk)?;
+    let (nav, course) = read_grid_course(alloc, &job.env, &job.changes, desk)?;
     let (start, goal) = nav.ends();
     let task = Task {
         how: &job.search,
@@ -45,16 +45,7 @@ pub(crate) fn end_nav<R: Threads + Wait + Sync, D: Desk, T: Gate + Sync>(
         start,
         goal,
     };
-    let status = make_plans(
-        gate,
-        alloc,
-        &mut nav,
-        &task,
-        live,
-        publisher,
-        &job.outputs,
-        desk,
-    );
+    let status = make_plans(gate, alloc, nav, &task, live, &job.outputs, desk);
     Ok(Ending::plain(alloc, status))
 }
 
@@ -80,12 +71,13 @@ fn read_nav_check<D: Desk>(
 }
 
 /// Checks labels that a plan on a grid wrote, and writes what came of it.
-pub(crate) fn check_nav<D: Desk>(
+pub(crate) fn run_navcheck<D: Desk>(
     alloc: Global,
     job: &NavCheckJob,
     desk: &mut D,
 ) -> Result<Ending, Stop>
-    ensures ends { IfOk result (λ e. (log : List Entry) → IsJobEnding (D.state desk.old) (D.state desk.new) log log (Jobs.NavCheck job.now) e) }
+    ensures ends { IfOk result (λ e. (log : List Entry) → IsJobEnding (D.state desk.old) (D.state desk.new) log log
+        (Jobs.NavCheck job.now) e) }
     ensures stop { IfErr result (IsJobStop (D.state desk.old) (D.state desk.new) (Jobs.NavCheck job.now)) }
     ensures unwritten { OnErr result (ReadsOnly (D.state desk.old) (D.state desk.new)) }
     ensures frame { WritesOnly IsOutput (D.state desk.old) (D.state desk.new) }

@@ -51,13 +51,14 @@ pub(crate) fn write_listings<D: Desk>(
 }
 
 /// Lists what each primitive costs and sweeps; or answers why nothing was written.
-pub(crate) fn end_sweep<D: Desk>(
+pub(crate) fn run_sweep<D: Desk>(
     alloc: Global,
     from: &Sources,
     desk: &mut D,
 ) -> Result<Ending, Stop>
     requires range { IsJob (Jobs.Sweep from.now) }
-    ensures ends { IfOk result (λ e. (log : List Entry) → IsJobEnding (D.state desk.old) (D.state desk.new) log log (Jobs.Sweep from.now) e) }
+    ensures ends { IfOk result (λ e. (log : List Entry) → IsJobEnding (D.state desk.old) (D.state desk.new) log log
+        (Jobs.Sweep from.now) e) }
     ensures stop { IfErr result (IsJobStop (D.state desk.old) (D.state desk.new) (Jobs.Sweep from.now)) }
     ensures unwritten { OnErr result (ReadsOnly (D.state desk.old) (D.state desk.new)) }
     ensures frame { WritesOnly IsOutput (D.state desk.old) (D.state desk.new) }

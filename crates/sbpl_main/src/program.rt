@@ -4,7 +4,7 @@ ghost use Rattle.std.specs.Prelude.{◌≡◌, drop};
 ghost use Rattle.sbpl_cli.specs.sbpl_promises.Promises.{IsStatus};
 
 use crate::progress::answer_at_terminal;
-use sbpl_cli::{Board, NO_MEMORY, NoGate, RealDesk, answer};
+use sbpl_cli::{Board, LiveBoard, NO_MEMORY, NoGate, RealDesk, answer};
 use std::io::IsTerminal;
 use std::rt::{Env, Files};
 use std::sync::Wait;
@@ -50,14 +50,6 @@ pub fn start<
         return answer_at_terminal(rt, words, err, &board, &mut publisher);
     }
     let mut desk = RealDesk::new(rt);
-    answer(
-        rt,
-        rt.alloc(),
-        words,
-        &mut desk,
-        &NoGate,
-        err,
-        &board,
-        &mut publisher,
-    )
+    let mut live = LiveBoard::new(rt, &board, &mut publisher);
+    answer(rt.alloc(), words, &mut live, &mut desk, &NoGate, err)
 }

@@ -4,7 +4,8 @@ ghost use Rattle.std.specs.Prelude.{◌≡◌, ◌<◌, ◌^◌, length};
 ghost use Rattle.sbpl_cli.specs.sbpl_promises.Promises.{IsStatus};
 
 use sbpl_cli::{
-    Board, Desk, Entry, NO_MEMORY, NoGate, Publisher, ReadStop, Reader, RealDesk, WriteStop, answer,
+    Board, Desk, Entry, LiveBoard, NO_MEMORY, NoGate, Publisher, ReadStop, Reader, RealDesk,
+    WriteStop, answer,
 };
 use std::alloc::{AllocError, Global};
 use std::io;
@@ -117,6 +118,24 @@ fn show<R: Wait + Clock, E: io::Write>(
     }
 }
 
+/// Does what `answer` does at this desk with this board.
+fn answer_live<R: Threads + Wait + Sync, D: Desk, E: io::Write>(
+    rt: &R,
+    alloc: Global,
+    words: &[String],
+    desk: &mut D,
+    err: &mut E,
+    board: &Board,
+    publisher: &mut Publisher,
+) -> u8
+    requires board { publisher.old.board ≡ board.now }
+    requires few { length publisher.old.published < 2 ^ 62 }
+    ensures status { IsStatus result }
+{
+    let mut live = LiveBoard::new(rt, board, publisher);
+    answer(alloc, words, &mut live, desk, &NoGate, err)
+}
+
 /// Does what `answer` does at this desk, and writes the message, if there is one, once the newest path is no longer shown.
 fn answer_beside<R: Threads + Wait + Clock + Sync, D: Desk, E: io::Write + Send>(
     rt: &R,
@@ -142,16 +161,7 @@ fn answer_beside<R: Threads + Wait + Clock + Sync, D: Desk, E: io::Write + Send>
         requires { (publisher.now.board ≡ board.now) × (length publisher.now.published < 2 ^ 62) }
         ensures { IsStatus result }
     {
-        let status = answer(
-            rt,
-            alloc,
-            words,
-            desk,
-            &NoGate,
-            &mut message,
-            board,
-            publisher,
-        );
+        let status = answer_live(rt, alloc, words, desk, &mut message, board, publisher);
         console.lock(rt).end();
         status
     };

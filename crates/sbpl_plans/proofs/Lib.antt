@@ -1,3 +1,4 @@
 pub mod Founds
 pub mod PathSteps
 pub mod Going
+pub mod Observed

@@ -1,2 +1,3 @@
+pub mod Boards
 pub mod Planning
 pub mod Tasks

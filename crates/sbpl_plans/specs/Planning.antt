@@ -7,13 +7,25 @@ use Rattle.sbpl_worlds.specs.sbpl_job.declared.job.Outputs.{Outputs}
 use Rattle.sbpl_worlds.specs.sbpl_job.declared.job.SearchJob.{SearchJob}
 use Rattle.sbpl_worlds.specs.sbpl_replan.Replanning.{GoesBetween, Standing}
 use Rattle.sbpl_worlds.specs.sbpl_report.declared.record.PlanRecord.{PlanRecord}
+use Rattle.sbpl_worlds.specs.sbpl_graph.Network.{Network}
+use Rattle.sbpl_worlds.specs.sbpl_labels.Marks.{AreInitial}
 use Rattle.sbpl_worlds.specs.sbpl_search.Meaning.{Meaning}
+use Rattle.sbpl_worlds.specs.sbpl_search.Ready.{IsStartFresh}
+use Rattle.sbpl_worlds.specs.sbpl_search.State.{State}
 use Rattle.sbpl_worlds.specs.sbpl_promises.Asked.{Known}
 use Rattle.sbpl_worlds.specs.sbpl_promises.Sites.{Site}
 use Rattle.sbpl_worlds.specs.sbpl_plan.declared.found.Found.{Found}
 use Rattle.sbpl_worlds.specs.sbpl_promises.Headline.{Begins, Carried, IsBrokenOff, IsPlanOf, expanded_before}
 use Rattle.sbpl_worlds.specs.sbpl_promises.Published.{Entry, with_paths, with_plan}
 use Rattle.sbpl_worlds.specs.sbpl_promises.Writing.{AreAppended, DeskState, EndsIn, Stays, Write}
+
+-- a search that has made no pass yet, on a graph, from the one state to the other
+pub record IsNewSearch {Note : Type 0} (means : Meaning Note) (n : Network) (from to : ℕ) (s : State Note) : Type 0 where
+  pub initial : AreInitial s.labels n.states from
+  pub none_raised : s.raised ≡ []
+  pub ready : means.ready n s.labels 0
+  pub to_goal : s.goal ≡ to
+  pub fresh : IsStartFresh s.labels
 
 -- the plans are searched from the one state to the other, with the budget that is asked
 pub record IsSetFor {Note : Type 0} (how : SearchJob) (from to : ℕ) (s : Standing Note) : Type 0 where

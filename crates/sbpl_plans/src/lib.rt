@@ -1,12 +1,13 @@
 //! The plans of a job: made by the planner that it asks for, published, and told.
 #![tactic(auto)]
 
+mod live_board;
 mod plan_record;
 mod planners;
 mod plans;
 mod publishing;
 mod task;
 
-pub use planners::{make_plans, plans_by_adstar};
-pub use publishing::LiveBoard;
+pub use live_board::LiveBoard;
+pub use planners::make_plans;
 pub use task::Task;

@@ -1,15 +1,17 @@
 //! One plan on a world.
 
-ghost use Rattle.std.specs.Prelude.{map, [], if◌then◌else◌, ◌≡◌, ◌+◌, ◌^◌, ◌<◌, ◌≤◌, ℕ, length, IfOk, MatchBool, None, OnErr, Option, Some};
-ghost use Rattle.sbpl_worlds.specs.sbpl_promises.Headline.{AreSteps, Carried, IsKnownWithin, IsNoneThere, IsPathFrom, IsSearched, IsWithinBound, KeepsPromises, Joins, JoinsStates, IsSameResult, IsToldOf};
+ghost use Rattle.std.specs.Prelude.{map, [], if◌then◌else◌, ◌≡◌, ◌+◌, ◌^◌, ◌<◌, ◌≤◌, ℕ, length, IfOk, MatchBool, None};
+ghost use Rattle.std.specs.Prelude.{OnErr, Option, Some};
+ghost use Rattle.sbpl_worlds.specs.sbpl_promises.Headline.{AreSteps, Carried, IsKnownWithin, IsNoneThere, IsPathFrom};
+ghost use Rattle.sbpl_worlds.specs.sbpl_promises.Headline.{IsSearched, IsWithinBound, KeepsPromises, Joins, JoinsStates};
+ghost use Rattle.sbpl_worlds.specs.sbpl_promises.Headline.{IsSameResult, IsToldOf};
 ghost use Rattle.sbpl_worlds.specs.sbpl_promises.Sites.{Leads, from_of, site_of, to_of};
 ghost use Rattle.sbpl_worlds.specs.sbpl_report.Traces.{traced_pass};
 ghost use Rattle.sbpl_plans.specs.Planning.{GoesOnFrom, IsPublishedInPart, IsSetFor, carried_of};
-ghost use Rattle.sbpl_worlds.specs.sbpl_promises.Published.{founds, newest, with_paths, with_plan};
+ghost use Rattle.sbpl_plans.specs.Boards.{IsSamePublisher, entries_of};
+ghost use Rattle.sbpl_worlds.specs.sbpl_promises.Published.{newest, with_plan};
 ghost use Rattle.sbpl_worlds.specs.sbpl_plan.Asked.{IsAsk, MOST_PASSES};
-ghost use Rattle.sbpl_worlds.specs.sbpl_plan.Determined.{AreWithin};
-ghost use Rattle.sbpl_worlds.specs.sbpl_plan.Planned.{IsPlanned};
-ghost use Rattle.sbpl_worlds.specs.sbpl_replan.Replanning.{IsReadyIn, StandsOutOfMemory, StaysTheSame, at_plan, inquiry, standing_of};
+ghost use Rattle.sbpl_worlds.specs.sbpl_replan.Replanning.{IsReady, standing_of};
 ghost use Rattle.sbpl_worlds.specs.sbpl_job.Jobs.{IsSearchJob};
 ghost use Rattle.sbpl_worlds.specs.sbpl_promises.Asked.{ask_of, known_by};
 ghost use Rattle.sbpl_worlds.specs.sbpl_plan.Outcomes.{IsResultOf, IsTrueOutcome};
@@ -20,12 +22,11 @@ ghost use Rattle.std.specs.Option.{is_some};
 ghost use Rattle.sbpl_worlds.specs.sbpl_plan.Outcomes as Conclusions;
 ghost use Rattle.sbpl_worlds.specs.sbpl_plan.declared.result.Outcome.TheVariants as Results;
 
-use crate::publishing::{LiveBoard, Publishes, newest_on};
-use crate::task::Task;
+use crate::live_board::LiveBoard;
+use crate::task::{Task, Turn};
 use sbpl_worlds::{
-    Ask, Entry, FoundPath, NoMemory, Outcome, Outputs, PathRecord, PlanRecord, Planned, Publisher,
-    Raised, Replanner, Search, SearchJob, Section, Steps, Traced, Workspace, labels_of,
-    traced_passes,
+    Ask, Entry, FoundPath, NoMemory, Outcome, Outputs, PathRecord, PlanRecord, Planned, Raised,
+    Search, SearchJob, Section, Session, Steps, Traced, Workspace, labels_of, traced_passes,
 };
 use std::alloc::Global;
 use std::sync::Wait;
@@ -130,29 +131,29 @@ fn mark_of(spent: bool, expanded: u64) -> Option<u64>
 }
 
 /// The section of the labels that plan `plan` left, where it is asked for.
-fn section_of<W: Workspace, S: Search<W, W::Best> + Drop>(
+fn section_of<W: Workspace + Drop, S: Search<W, W::Best> + Drop>(
     alloc: Global,
-    world: &W,
-    replanner: &Replanner<W, W::Best, S>,
+    session: &Session<W, W::Best, S>,
     plan: u32,
     found: &Outcome<FoundPath>,
     outputs: &Outputs,
 ) -> Result<Option<Section>, NoMemory>
-    requires ready { IsReadyIn S.meaning W.network W.Best.is_made_for world.now replanner.now }
-    requires goal { replanner.now.goal < (W.network world.now).states }
-    requires found { IsResultOf (W.network world.now) (W.Best.distance replanner.now.guide) replanner.now.goal replanner.now.search.labels found.now }
-    requires supported { AreSupported (W.network world.now) replanner.now.search.labels.start
-        (g_of replanner.now.search.labels) (v_of replanner.now.search.labels) }
-    ensures shown { IfOk result (IsThere (is_some outputs.now.labels) (IsShown outputs.now.form (W.network world.now)
-        (W.Best.distance replanner.now.guide) replanner.now.search.labels.start replanner.now.goal plan
-        replanner.now.search.labels found.now)) }
+    requires ready { IsReady S.meaning W.network W.Best.is_made_for session.now }
+    requires goal { session.now.search.goal < (W.network session.now.world).states }
+    requires found { IsResultOf (W.network session.now.world) (W.Best.distance session.now.guide) session.now.search.goal
+        session.now.search.labels found.now }
+    requires supported { AreSupported (W.network session.now.world) session.now.search.labels.start
+        (g_of session.now.search.labels) (v_of session.now.search.labels) }
+    ensures shown { IfOk result (IsThere (is_some outputs.now.labels) (IsShown outputs.now.form (W.network session.now.world)
+        (W.Best.distance session.now.guide) session.now.search.labels.start session.now.search.goal plan
+        session.now.search.labels found.now)) }
 {
     labels_of(
         alloc,
-        world,
-        replanner.guide(),
-        replanner.labels(),
-        replanner.goal(),
+        session.world(),
+        session.guide(),
+        session.labels(),
+        session.goal(),
         plan,
         found,
         outputs.labels.is_some(),
@@ -175,11 +176,13 @@ fn record_of<W: Workspace, N: Traced + Copy>(
 ) -> Result<PlanRecord, NoMemory>
     requires start { start < (W.wording.told world.now).states }
     requires goal { goal < (W.wording.told world.now).states }
-    requires so { IsTrueOutcome (W.network world.now) (from_of W.wording.back start goal) (to_of W.wording.back start goal) planned.outcome }
+    requires so { IsTrueOutcome (W.network world.now) (from_of W.wording.back start goal) (to_of W.wording.back start goal)
+        planned.outcome }
     ensures number { IfOk result (λ r. r.plan ≡ plan) }
     ensures passes { IfOk result (λ r. r.passes ≡ map (traced_pass N.line) planned.passes) }
     ensures expanded { IfOk result (λ r. r.expanded ≡ expanded) }
-    ensures told { IfOk result (λ r. IsToldOf (Leads W.wording.back (W.wording.told world.now) start goal) planned.outcome r.outcome) }
+    ensures told { IfOk result (λ r. IsToldOf (Leads W.wording.back (W.wording.told world.now) start goal) planned.outcome
+        r.outcome) }
     ensures labels { IfOk result (λ r. r.labels ≡ labels) }
     ensures raised { IfOk result (λ r. r.raised ≡ raised) }
     ensures incumbent { IfOk result (λ r. r.incumbent ≡ incumbent) }
@@ -187,7 +190,8 @@ fn record_of<W: Workspace, N: Traced + Copy>(
     ensures joins { IfOk result (λ r. Joins (site_of W.network W.cells W.Best.says W.wording) world.now start goal r.outcome) }
     ensures within_the_bound { IfOk result (λ r. IsWithinBound (W.wording.told world.now) start goal r.outcome) }
     ensures none { IfOk result (λ r. IsNoneThere (W.wording.told world.now) start goal r.outcome) }
-    ensures answered { IfOk result (λ r. (asked : ℕ) → Conclusions.IsConclusive asked planned.outcome → IsKnownWithin asked r.outcome) }
+    ensures answered { IfOk result (λ r. (asked : ℕ) → Conclusions.IsConclusive asked planned.outcome
+        → IsKnownWithin asked r.outcome) }
 {
     let passes = traced_passes(alloc, planned.passes.as_slice())?;
     let found = world.turn(alloc, start, goal, planned.outcome)?;
@@ -204,99 +208,62 @@ fn record_of<W: Workspace, N: Traced + Copy>(
     })
 }
 
-/// Makes a plan on the present map of a world, and publishes each path as soon as it is found.
-fn plan_on<W: Workspace, S: Search<W, W::Best> + Drop, B: Wait>(
+/// Makes a plan on the present map of a session, publishes each path as soon as it is found, and makes the plan's record.
+pub(crate) fn make_record<W: Workspace + Drop, S: Search<W, W::Best> + Drop, B: Wait>(
     alloc: Global,
-    world: &W,
-    replanner: &mut Replanner<W, W::Best, S>,
-    ask: &Ask,
-    plan: u32,
-    live: &LiveBoard<B>,
-    publisher: &mut Publisher,
-) -> Result<Planned<S::Note>, NoMemory>
-    requires ready { IsReadyIn S.meaning W.network W.Best.is_made_for world.now replanner.old }
-    requires asked { IsAsk ask.now }
-    requires board { publisher.old.board ≡ live.now.board.now }
-    requires few { length publisher.old.published + MOST_PASSES < 2 ^ 63 }
-    ensures planned { IfOk result (IsPlanned S.meaning
-        (inquiry (W.network world.now) (W.Best.distance replanner.old.guide) (standing_of replanner.old) ask.now)
-        replanner.old.search replanner.new.search (at_plan replanner.old.counts) replanner.new.counts) }
-    ensures within { IfOk result (λ r. AreWithin replanner.old.counts.per_plan replanner.old.counts.run r.passes r.spent) }
-    ensures run { replanner.new.counts.run ≤ 2 ^ 30 }
-    ensures ready { IfOk result (λ _. IsReadyIn S.meaning W.network W.Best.is_made_for world.now replanner.new) }
-    ensures same { IfOk result (λ _. StaysTheSame (standing_of replanner.old) (standing_of replanner.new)) }
-    ensures guide { replanner.new.guide ≡ replanner.old.guide }
-    ensures shown { IfOk result (λ r. publisher.new.published ≡ with_paths publisher.old.published plan 0 (founds r.passes)) }
-    ensures memory { OnErr result (StandsOutOfMemory S.meaning
-        (inquiry (W.network world.now) (W.Best.distance replanner.old.guide) (standing_of replanner.old) ask.now)
-        (IsReadyIn S.meaning W.network W.Best.is_made_for world.now replanner.new)
-        (λ ps. publisher.new.published ≡ with_paths publisher.old.published plan 0 (founds ps))
-        (standing_of replanner.old) (standing_of replanner.new)) }
-    ensures board { publisher.new.board ≡ publisher.old.board }
-    ensures grown { length publisher.new.published ≤ length publisher.old.published + MOST_PASSES }
-{
-    let mut publishes = Publishes {
-        rt: live.rt,
-        board: live.board,
-        publisher,
-        plan,
-    };
-    replanner.plan(alloc, world, ask, &mut publishes)
-}
-
-/// Makes plan `plan` on the present map of a world, publishes each path as soon as it is found, and makes the plan's record.
-pub(crate) fn make_record<W: Workspace, S: Search<W, W::Best> + Drop, B: Wait>(
-    alloc: Global,
-    world: &W,
-    replanner: &mut Replanner<W, W::Best, S>,
+    session: &mut Session<W, W::Best, S>,
     task: &Task,
-    start: u32,
-    plan: u32,
-    live: &LiveBoard<B>,
-    publisher: &mut Publisher,
+    turn: Turn,
+    live: &mut LiveBoard<B>,
 ) -> Result<PlanRecord, NoMemory>
 where
     S::Note: Traced,
-    requires start { start < (W.wording.told world.now).states }
-    requires goal { task.now.goal < (W.wording.told world.now).states }
-    requires board { publisher.old.board ≡ live.now.board.now }
-    requires few { length publisher.old.published + MOST_PASSES < 2 ^ 63 }
+    requires start { turn.start < (W.wording.told session.old.world).states }
+    requires goal { task.now.goal < (W.wording.told session.old.world).states }
+    requires few { length (entries_of live.old) + MOST_PASSES < 2 ^ 63 }
     requires search { IsSearchJob task.now.how.now }
-    requires ready { IsReadyIn S.meaning W.network W.Best.is_made_for world.now replanner.old }
-    requires set { IsSetFor task.now.how.now (from_of W.wording.back start task.now.goal) (to_of W.wording.back start task.now.goal)
-        (standing_of replanner.old) }
-    ensures number { IfOk result (λ r. r.plan ≡ plan) }
-    ensures promises { IfOk result (KeepsPromises (site_of W.network W.cells W.Best.says W.wording) world.now start task.now.goal task.now.how.now.bound) }
-    ensures searched { (before : Option Carried) → GoesOnFrom S.meaning (site_of W.network W.cells W.Best.says W.wording) world.now
-        (from_of W.wording.back start task.now.goal) before (standing_of replanner.old)
-        → IfOk result (IsSearched (known_by (site_of W.network W.cells W.Best.says W.wording) S.meaning S.Note.line) world.now
-        task.now.how.now task.now.outputs.now start task.now.goal before (carried_of (W.cells.map world.now) (standing_of replanner.new))) }
-    ensures ready { IfOk result (λ _. IsReadyIn S.meaning W.network W.Best.is_made_for world.now replanner.new) }
-    ensures set { IfOk result (λ _. IsSetFor task.now.how.now (from_of W.wording.back start task.now.goal)
-        (to_of W.wording.back start task.now.goal) (standing_of replanner.new)) }
-    ensures shown { IfOk result (λ r. publisher.new.published ≡ with_plan publisher.old.published r) }
-    ensures incumbent { IfOk result (λ r. r.incumbent ≡ newest publisher.new.published) }
-    ensures broken { (before : Option Carried) → GoesOnFrom S.meaning (site_of W.network W.cells W.Best.says W.wording) world.now
-        (from_of W.wording.back start task.now.goal) before (standing_of replanner.old)
-        → OnErr result (IsPublishedInPart (known_by (site_of W.network W.cells W.Best.says W.wording) S.meaning S.Note.line) world.now
-        task.now.how.now task.now.outputs.now start task.now.goal plan publisher.old.published publisher.new.published before) }
-    ensures board { publisher.new.board ≡ publisher.old.board }
-    ensures grown { length publisher.new.published ≤ length publisher.old.published + MOST_PASSES }
+    requires ready { IsReady S.meaning W.network W.Best.is_made_for session.old }
+    requires set { IsSetFor task.now.how.now (from_of W.wording.back turn.start task.now.goal)
+        (to_of W.wording.back turn.start task.now.goal) (standing_of session.old) }
+    ensures number { IfOk result (λ r. r.plan ≡ turn.plan) }
+    ensures promises { IfOk result (KeepsPromises (site_of W.network W.cells W.Best.says W.wording) session.old.world
+        turn.start task.now.goal task.now.how.now.bound) }
+    ensures searched { (before : Option Carried) → GoesOnFrom S.meaning (site_of W.network W.cells W.Best.says W.wording)
+        session.old.world (from_of W.wording.back turn.start task.now.goal) before (standing_of session.old)
+        → IfOk result (IsSearched (known_by (site_of W.network W.cells W.Best.says W.wording) S.meaning S.Note.line)
+        session.old.world task.now.how.now task.now.outputs.now turn.start task.now.goal before
+        (carried_of (W.cells.map session.old.world) (standing_of session.new))) }
+    ensures ready { IfOk result (λ _. IsReady S.meaning W.network W.Best.is_made_for session.new) }
+    ensures set { IfOk result (λ _. IsSetFor task.now.how.now (from_of W.wording.back turn.start task.now.goal)
+        (to_of W.wording.back turn.start task.now.goal) (standing_of session.new)) }
+    ensures world { session.new.world ≡ session.old.world }
+    ensures shown { IfOk result (λ r. entries_of live.new ≡ with_plan (entries_of live.old) r) }
+    ensures incumbent { IfOk result (λ r. r.incumbent ≡ newest (entries_of live.new)) }
+    ensures broken { (before : Option Carried) → GoesOnFrom S.meaning (site_of W.network W.cells W.Best.says W.wording)
+        session.old.world (from_of W.wording.back turn.start task.now.goal) before (standing_of session.old)
+        → OnErr result (IsPublishedInPart (known_by (site_of W.network W.cells W.Best.says W.wording) S.meaning S.Note.line)
+        session.old.world task.now.how.now task.now.outputs.now turn.start task.now.goal turn.plan
+        (entries_of live.old) (entries_of live.new) before) }
+    ensures same { IsSamePublisher live.old live.new }
+    ensures grown { length (entries_of live.new) ≤ length (entries_of live.old) + MOST_PASSES }
 {
     let ask = ask_of(task.how, task.outputs);
-    let raised = raised_of(alloc, replanner.raised(), ask.traced)?;
-    let planned = plan_on(alloc, world, replanner, &ask, plan, live, publisher)?;
-    let incumbent = newest_on(live, publisher)?;
-    let labels = section_of(
-        alloc,
-        world,
-        replanner,
-        plan,
-        &planned.outcome,
-        task.outputs,
-    )?;
-    let expanded = replanner.expanded();
+    let raised = raised_of(alloc, session.raised(), ask.traced)?;
+    live.begin(turn.plan);
+    let planned = session.plan(alloc, &ask, live)?;
+    let incumbent = live.newest()?;
+    let labels = section_of(alloc, session, turn.plan, &planned.outcome, task.outputs)?;
+    let expanded = session.expanded();
     record_of(
-        alloc, world, start, task.goal, plan, planned, expanded, labels, raised, incumbent,
+        alloc,
+        session.world(),
+        turn.start,
+        task.goal,
+        turn.plan,
+        planned,
+        expanded,
+        labels,
+        raised,
+        incumbent,
     )
 }

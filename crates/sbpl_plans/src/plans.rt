@@ -5,115 +5,143 @@ ghost use Rattle.sbpl_worlds.specs.sbpl_job.Jobs.{IsSearchJob};
 ghost use Rattle.sbpl_worlds.specs.sbpl_promises.Headline.{Carried};
 ghost use Rattle.sbpl_worlds.specs.sbpl_promises.Asked.{known_by};
 ghost use Rattle.sbpl_worlds.specs.sbpl_promises.Sites.{from_of, site_of, to_of};
-ghost use Rattle.sbpl_worlds.specs.sbpl_replan.Replanning.{IsReadyIn, standing_of};
-ghost use Rattle.sbpl_plans.specs.Planning.{EndsOnePlan, GoesOnFrom, IsSetFor, carried_of};
+ghost use Rattle.sbpl_worlds.specs.sbpl_replan.Replanning.{IsReady, standing_of};
+ghost use Rattle.sbpl_plans.specs.Planning.{EndsOnePlan, GoesOnFrom, IsNewSearch, IsSetFor, carried_of};
+ghost use Rattle.sbpl_plans.specs.Boards.{IsSamePublisher, entries_of};
 ghost use Rattle.sbpl_plans.specs.Tasks.{CanBeMade, EndsTask};
 ghost use Rattle.sbpl_worlds.specs.sbpl_plan.Asked.{MOST_PASSES};
 ghost use Rattle.sbpl_worlds.specs.sbpl_promises.Writing.{WritesOnly};
 
+use crate::live_board::LiveBoard;
 use crate::plan_record::make_record;
-use crate::publishing::LiveBoard;
-use crate::task::Task;
+use crate::task::{Task, Turn};
 use sbpl_telling::{Telling, status_after, write_last};
 use sbpl_worlds::{
-    Desk, NoMemory, Publisher, Replanner, Search, Traced, Workspace, WriteStop, place_in,
+    Desk, NoMemory, Search, Session, Traced, Workspace, WriteStop, place_in,
     writes_lead_to_the_next_map,
 };
 use std::alloc::Global;
 use std::sync::Wait;
 
-/// Makes plan `plan` on the present map of a world, and tells it.
-fn make_plan<D: Desk, T: Telling, W: Workspace, S: Search<W, W::Best> + Drop, B: Wait>(
+/// Makes a plan on the present map of a session, and tells it.
+fn make_plan<D: Desk, T: Telling, W: Workspace + Drop, S: Search<W, W::Best> + Drop, B: Wait>(
     alloc: Global,
-    world: &W,
-    replanner: &mut Replanner<W, W::Best, S>,
+    session: &mut Session<W, W::Best, S>,
     task: &Task,
-    start: u32,
-    plan: u32,
-    live: &LiveBoard<B>,
-    publisher: &mut Publisher,
+    turn: Turn,
+    live: &mut LiveBoard<B>,
     telling: &T,
     desk: &mut D,
 ) -> Result<(), WriteStop>
 where
     S::Note: Traced,
-    requires start { start < (W.wording.told world.now).states }
-    requires goal { task.now.goal < (W.wording.told world.now).states }
-    requires board { publisher.old.board ≡ live.now.board.now }
-    requires few { length publisher.old.published + MOST_PASSES < 2 ^ 63 }
+    requires start { turn.start < (W.wording.told session.old.world).states }
+    requires goal { task.now.goal < (W.wording.told session.old.world).states }
+    requires few { length (entries_of live.old) + MOST_PASSES < 2 ^ 63 }
     requires search { IsSearchJob task.now.how.now }
-    requires kept { W.cells.is_made world.now }
-    requires ready { IsReadyIn S.meaning W.network W.Best.is_made_for world.now replanner.old }
-    requires set { IsSetFor task.now.how.now (from_of W.wording.back start task.now.goal)
-        (to_of W.wording.back start task.now.goal) (standing_of replanner.old) }
-    ensures ends { (before : Option Carried) → GoesOnFrom S.meaning (site_of W.network W.cells W.Best.says W.wording) world.now
-        (from_of W.wording.back start task.now.goal) before (standing_of replanner.old)
-        → EndsOnePlan (known_by (site_of W.network W.cells W.Best.says W.wording) S.meaning S.Note.line) (T.written telling.now) world.now
-        task.now.how.now task.now.outputs.now start task.now.goal plan publisher.old.published publisher.new.published before
-        (carried_of (W.cells.map world.now) (standing_of replanner.new)) (D.state desk.old) (D.state desk.new) result }
-    ensures ready { IfOk result (λ _. IsReadyIn S.meaning W.network W.Best.is_made_for world.now replanner.new) }
-    ensures set { IfOk result (λ _. IsSetFor task.now.how.now (from_of W.wording.back start task.now.goal)
-        (to_of W.wording.back start task.now.goal) (standing_of replanner.new)) }
-    ensures board { publisher.new.board ≡ publisher.old.board }
-    ensures grown { length publisher.new.published ≤ length publisher.old.published + MOST_PASSES }
+    requires kept { W.cells.is_made session.old.world }
+    requires ready { IsReady S.meaning W.network W.Best.is_made_for session.old }
+    requires set { IsSetFor task.now.how.now (from_of W.wording.back turn.start task.now.goal)
+        (to_of W.wording.back turn.start task.now.goal) (standing_of session.old) }
+    ensures ends { (before : Option Carried) → GoesOnFrom S.meaning (site_of W.network W.cells W.Best.says W.wording)
+        session.old.world (from_of W.wording.back turn.start task.now.goal) before (standing_of session.old)
+        → EndsOnePlan (known_by (site_of W.network W.cells W.Best.says W.wording) S.meaning S.Note.line)
+        (T.written telling.now) session.old.world task.now.how.now task.now.outputs.now turn.start task.now.goal turn.plan
+        (entries_of live.old) (entries_of live.new) before
+        (carried_of (W.cells.map session.old.world) (standing_of session.new)) (D.state desk.old) (D.state desk.new) result }
+    ensures ready { IfOk result (λ _. IsReady S.meaning W.network W.Best.is_made_for session.new) }
+    ensures set { IfOk result (λ _. IsSetFor task.now.how.now (from_of W.wording.back turn.start task.now.goal)
+        (to_of W.wording.back turn.start task.now.goal) (standing_of session.new)) }
+    ensures world { session.new.world ≡ session.old.world }
+    ensures same { IsSamePublisher live.old live.new }
+    ensures grown { length (entries_of live.new) ≤ length (entries_of live.old) + MOST_PASSES }
     ensures frame { WritesOnly (T.under telling.now) (D.state desk.old) (D.state desk.new) }
 {
     W::has_its_arcs();
-    match make_record(alloc, world, replanner, task, start, plan, live, publisher) {
+    match make_record(alloc, session, task, turn, live) {
         Ok(record) => telling.tell(alloc, &record, desk),
         Err(NoMemory) => Err(WriteStop::NoMemory),
     }
 }
 
-/// Makes and tells the plans on a world, while its map changes batch by batch and the start moves where it may, writes the last line,
-/// and answers the status. The labels that the search begins with are initial.
-pub(crate) fn go_through<D: Desk, T: Telling, W: Workspace, S: Search<W, W::Best> + Drop, B: Wait>(
+/// A session on this world for the plans of a task, whose first plan begins with the labels of a search that has made no pass yet.
+fn open_session<W: Workspace + Drop, S: Search<W, W::Best> + Drop>(
     alloc: Global,
-    world: &mut W,
-    replanner: &mut Replanner<W, W::Best, S>,
+    world: W,
+    search: S,
     task: &Task,
-    live: &LiveBoard<B>,
-    publisher: &mut Publisher,
+) -> Result<Session<W, W::Best, S>, NoMemory>
+    requires task { CanBeMade (site_of W.network W.cells W.Best.says W.wording) world task.now }
+    requires new { IsNewSearch S.meaning (W.network world) (from_of W.wording.back task.now.start task.now.goal)
+        (to_of W.wording.back task.now.start task.now.goal) (S.state search) }
+    requires serves { S.serves search }
+    ensures world { IfOk result (λ s. s.world ≡ world) }
+    ensures ready { IfOk result (IsReady S.meaning W.network W.Best.is_made_for) }
+    ensures set { IfOk result (λ s. IsSetFor task.now.how.now (from_of W.wording.back task.now.start task.now.goal)
+        (to_of W.wording.back task.now.start task.now.goal) (standing_of s)) }
+    ensures begun { IfOk result (λ s. GoesOnFrom S.meaning (site_of W.network W.cells W.Best.says W.wording) world
+        (from_of W.wording.back task.now.start task.now.goal) None (standing_of s)) }
+{
+    Session::open(alloc, world, search, task.how.budget)
+}
+
+/// Makes and tells the plans of a task on this world, while its map changes batch by batch and the start moves where it
+/// may, writes the last line, and answers the status. The search has made no pass yet.
+pub(crate) fn go_through<
+    D: Desk,
+    T: Telling,
+    W: Workspace + Drop,
+    S: Search<W, W::Best> + Drop,
+    B: Wait,
+>(
+    alloc: Global,
+    world: W,
+    search: S,
+    task: &Task,
+    live: &mut LiveBoard<B>,
     telling: &T,
     desk: &mut D,
 ) -> u8
 where
     S::Note: Traced,
-    requires task { CanBeMade (site_of W.network W.cells W.Best.says W.wording) world.old task.now }
-    requires board { publisher.old.board ≡ live.now.board.now }
-    requires few { length publisher.old.published < 2 ^ 62 }
-    requires ready { IsReadyIn S.meaning W.network W.Best.is_made_for world.old replanner.old }
-    requires set { IsSetFor task.now.how.now (from_of W.wording.back task.now.start task.now.goal)
-        (to_of W.wording.back task.now.start task.now.goal) (standing_of replanner.old) }
-    requires begun { GoesOnFrom S.meaning (site_of W.network W.cells W.Best.says W.wording) world.old
-        (from_of W.wording.back task.now.start task.now.goal) None (standing_of replanner.old) }
-    ensures ends { EndsTask (known_by (site_of W.network W.cells W.Best.says W.wording) S.meaning S.Note.line) (T.written telling.now) world.old task.now publisher.old.published publisher.new.published (D.state desk.old) (D.state desk.new) result }
-    ensures board { publisher.new.board ≡ publisher.old.board }
+    requires task { CanBeMade (site_of W.network W.cells W.Best.says W.wording) world task.now }
+    requires few { length (entries_of live.old) < 2 ^ 62 }
+    requires new { IsNewSearch S.meaning (W.network world) (from_of W.wording.back task.now.start task.now.goal)
+        (to_of W.wording.back task.now.start task.now.goal) (S.state search) }
+    requires serves { S.serves search }
+    ensures ends { EndsTask (known_by (site_of W.network W.cells W.Best.says W.wording) S.meaning S.Note.line)
+        (T.written telling.now) world task.now (entries_of live.old) (entries_of live.new)
+        (D.state desk.old) (D.state desk.new) result }
+    ensures same { IsSamePublisher live.old live.new }
     ensures frame { WritesOnly (T.under telling.now) (D.state desk.old) (D.state desk.new) }
 {
     W::is_terrain();
     writes_lead_to_the_next_map();
+    let mut session = match open_session(alloc, world, search, task) {
+        Ok(session) => session,
+        Err(NoMemory) => return 9,
+    };
     let course = task.course;
     let mut start = task.start;
     for k in 0..course.batches.batches() {
-        if let Err(stop) = make_plan(
-            alloc, world, replanner, task, start, k, live, publisher, telling, desk,
-        ) {
+        let turn = Turn { plan: k, start };
+        if let Err(stop) = make_plan(alloc, &mut session, task, turn, live, telling, desk) {
             return status_after(Err(stop), 9);
         }
-        if let Err(NoMemory) = replanner.change(alloc, world, course.batches.batch(k)) {
+        if let Err(NoMemory) = session.change(alloc, course.batches.batch(k)) {
             return 9;
         }
-        start = world.start_at(place_in(course, k), start);
+        start = session.world().start_at(place_in(course, k), start);
         let (_from, to) = W::way(start, task.goal);
-        if let Err(NoMemory) = replanner.aim(alloc, world, to) {
+        if let Err(NoMemory) = session.aim(alloc, to) {
             return 9;
         }
     }
-    let last = course.batches.batches();
-    match make_plan(
-        alloc, world, replanner, task, start, last, live, publisher, telling, desk,
-    ) {
+    let last = Turn {
+        plan: course.batches.batches(),
+        start,
+    };
+    match make_plan(alloc, &mut session, task, last, live, telling, desk) {
         Ok(()) => status_after(write_last(desk), 0),
         Err(stop) => status_after(Err(stop), 9),
     }

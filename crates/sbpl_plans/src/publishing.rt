@@ -1,37 +1,23 @@
 //! The newest path, published as soon as it is found.
 
-ghost use Rattle.std.specs.Prelude.{◌≡◌, ◌≤◌, ◌^◌, length, IfOk};
+ghost use Rattle.std.specs.Prelude.{◌≡◌, IfOk};
 ghost use Rattle.sbpl_worlds.specs.sbpl_promises.Published.{newest};
+ghost use Rattle.sbpl_plans.specs.Boards.{IsSamePublisher, entries_of};
 
-use sbpl_worlds::{Board, Entry, NoMemory, Observer, Publisher, told_readers_get_the_newest};
+use crate::live_board::LiveBoard;
+use sbpl_worlds::{Entry, NoMemory, Observer, told_readers_get_the_newest};
 use std::sync::Wait;
 
-/// A board, and the runtime by which its calls wait for other threads.
-#[derive(Drop)]
-pub struct LiveBoard<'a, W> {
-    pub rt: &'a W,
-    pub board: &'a Board,
-}
-
-/// Publishes the paths of one plan.
-#[derive(Drop)]
-pub(crate) struct Publishes<'a, W> {
-    pub(crate) rt: &'a W,
-    pub(crate) board: &'a Board,
-    pub(crate) publisher: &'a mut Publisher,
-    pub(crate) plan: u32,
-    ghost fits: { (publisher.now.board ≡ board.now) × (length publisher.now.published ≤ 2 ^ 63) },
-}
-
-impl<'a, W: Wait> Observer for Publishes<'a, W> {
+impl<R: Wait> Observer for LiveBoard<'_, R> {
     ghost use Rattle.std.specs.Prelude.{◌≡◌, ◌-◌, ◌^◌, ◌++◌, ◌∷◌, [], length};
     ghost use Rattle.sbpl_worlds.specs.sbpl_incumbent.Entries.{next_entry};
+    ghost use Rattle.sbpl_plans.specs.Boards.{IsSamePublisher, entries_of};
 
     ghost told = { λ old pass cost bound new.
-        (new.publisher.ghost_name ≡ old.publisher.ghost_name) × (new.plan ≡ old.plan) × (new.publisher.now.board ≡ old.publisher.now.board)
-        × (new.publisher.now.published ≡ old.publisher.now.published ++ next_entry old.publisher.now.published old.plan pass cost bound ∷ []) };
+        IsSamePublisher old new × (new.plan ≡ old.plan)
+        × (entries_of new ≡ entries_of old ++ next_entry (entries_of old) old.plan pass cost bound ∷ []) };
 
-    ghost room = { λ a. 2 ^ 63 - length a.publisher.now.published };
+    ghost room = { λ a. 2 ^ 63 - length (entries_of a) };
 
     fn path_found(&mut self, pass: u32, cost: u64, bound: u128) {
         self.board
@@ -39,20 +25,30 @@ impl<'a, W: Wait> Observer for Publishes<'a, W> {
     }
 }
 
-/// The newest entry on a board, if there is one, which a reader gets that was told of all that was published.
-pub(crate) fn newest_on<W: Wait>(
-    live: &LiveBoard<W>,
-    publisher: &mut Publisher,
-) -> Result<Option<Entry>, NoMemory>
-    requires board { publisher.old.board ≡ live.now.board.now }
-    ensures newest { IfOk result (λ answer. answer ≡ newest publisher.old.published) }
-    ensures same { publisher.new ≡ publisher.old }
-{
-    told_readers_get_the_newest();
-    let note = live.board.note(publisher)?;
-    let mut reader = live.board.reader(publisher)?;
-    live.board.learn(&mut reader, note);
-    let answer = live.board.read(live.rt, &mut reader);
-    live.board.give_back(live.rt, publisher, reader);
-    Ok(answer)
+impl<R> LiveBoard<'_, R> {
+    /// Goes on to the plan of this number.
+    pub(crate) fn begin(&mut self, plan: u32)
+        ensures plan { self.new.plan ≡ plan }
+        ensures same { IsSamePublisher self.old self.new }
+        ensures entries { entries_of self.new ≡ entries_of self.old }
+    {
+        self.plan = plan;
+    }
+}
+
+impl<R: Wait> LiveBoard<'_, R> {
+    /// The newest entry on the board, if there is one, which a reader gets that was told of all that was published.
+    pub(crate) fn newest(&mut self) -> Result<Option<Entry>, NoMemory>
+        ensures newest { IfOk result (λ answer. answer ≡ newest (entries_of self.old)) }
+        ensures same { IsSamePublisher self.old self.new }
+        ensures published { entries_of self.new ≡ entries_of self.old }
+    {
+        told_readers_get_the_newest();
+        let note = self.board.note(self.publisher)?;
+        let mut reader = self.board.reader(self.publisher)?;
+        self.board.learn(&mut reader, note);
+        let answer = self.board.read(self.rt, &mut reader);
+        self.board.give_back(self.rt, self.publisher, reader);
+        Ok(answer)
+    }
 }

@@ -2,8 +2,8 @@
 
 use sbpl_worlds::{Course, Outputs, SearchJob};
 
-/// What the plans of a job are asked for: how they are searched, what is written of them, how the map changes from plan to plan and the
-/// robot moves, from which state the first goes, and to which all go.
+/// What the plans of a job are asked for: how they are searched, what is written of them, how the map changes from plan to
+/// plan and the robot moves, from which state the first goes, and to which all go.
 #[derive(Drop)]
 pub struct Task<'a> {
     pub how: &'a SearchJob,
@@ -11,4 +11,11 @@ pub struct Task<'a> {
     pub course: &'a Course,
     pub start: u32,
     pub goal: u32,
+}
+
+/// The number of a plan, and the state from which it goes.
+#[derive(Clone, Copy)]
+pub(crate) struct Turn {
+    pub(crate) plan: u32,
+    pub(crate) start: u32,
 }

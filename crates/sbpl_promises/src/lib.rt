@@ -94,7 +94,7 @@ pub use sbpl_report::{
 };
 
 // Of `sbpl_replan`.
-pub use sbpl_replan::Replanner;
+pub use sbpl_replan::Session;
 
 // Of `sbpl_job`.
 pub use sbpl_report::{

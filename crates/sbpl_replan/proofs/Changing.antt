@@ -17,7 +17,7 @@ use Rattle.sbpl_plan.specs.Passing.{Inquiry, expansions}
 use Rattle.sbpl_heur.specs.sbpl_terrain.Affected.{AreStates, KeepArcsElsewhere}
 use Rattle.sbpl_heur.specs.sbpl_terrain.Cells.{Cells, DifferInCostsAlone, IsTerrain}
 use Rattle.sbpl_heur.specs.sbpl_terrain.declared.arc_end.ArcEnd.TheVariants as end
-use Rattle.sbpl_replan.specs.Replanning.{IsReadyIn, Replanning, Standing, StandsOutOfMemory, at_plan}
+use Rattle.sbpl_replan.specs.Replanning.{IsReady, SessionState, Standing, StandsOutOfMemory, at_plan}
 
 -- another map gives a graph that differs in what arcs cost alone
 pub differ : {W : Type 0} (network : W → Network) (cells : Cells W) → IsTerrain network cells → (w v : W)
@@ -83,9 +83,12 @@ stands means q Ready Told old new are again (inr cut) = inr cut
 
 -- another plan may begin where the search went on to the same goal on the same map
 pub ready_again : {Note H W : Type 0} (means : Meaning Note) (network : W → Network) (is_made_for : H → W → ℕ → Type 0)
-    (w : W) (r : Replanning Note H) (search : State Note) (counts : Counts)
-    → IsReadyIn means network is_made_for w r → means.ready (network w) search.labels counts.run
-    → search.goal ≡ r.search.goal → IsStartFresh search.labels
-    → IsReadyIn means network is_made_for w (record r { search = search; counts = counts })
-ready_again means network is_made_for w r search counts ready labels same fresh =
-    record { to_goal = same ∙ ready.to_goal; made = ready.made; labels = labels; fresh = fresh }
+    (s : SessionState Note H W) (search : State Note) (counts : Counts)
+    → IsReady means network is_made_for s → means.ready (network s.world) search.labels counts.run
+    → search.goal ≡ s.search.goal → IsStartFresh search.labels
+    → IsReady means network is_made_for (record s { search = search; counts = counts })
+ready_again means network is_made_for s search counts ready labels same fresh = record {
+  made = subst (λ (t : ℕ). is_made_for s.guide s.world t) (sym same) ready.made;
+  labels = labels;
+  fresh = fresh;
+}

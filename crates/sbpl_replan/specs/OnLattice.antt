@@ -2,9 +2,9 @@
 use Rattle.sbpl_heur.specs.sbpl_cost.Lattices.{network_of}
 use Rattle.sbpl_heur.specs.sbpl_cost.World.{World}
 use Rattle.sbpl_heur.specs.Bests.{IsBestGuide, Table}
-use Rattle.sbpl_replan.specs.Replanning.{IsReadyIn, Replanning}
+use Rattle.sbpl_replan.specs.Replanning.{IsReady, SessionState}
 use Rattle.sbpl_plan.specs.sbpl_search.Meaning.{Meaning}
 
--- a plan may begin in a world
-abbrev pub IsReadyOn : {Note : Type 0} → Meaning Note → World → Replanning Note Table → Type 0
-IsReadyOn means w r = IsReadyIn means network_of (λ b v goal. IsBestGuide v goal b) w r
+-- a plan may begin
+abbrev pub IsReadyOn : {Note : Type 0} → Meaning Note → SessionState Note Table World → Type 0
+IsReadyOn means s = IsReady means network_of (λ b v goal. IsBestGuide v goal b) s

@@ -65,22 +65,20 @@ pub record IsCutPlan {Note : Type 0} (means : Meaning Note) (q : Inquiry) (Ready
 abbrev pub StandsOutOfMemory : {Note : Type 0} → Meaning Note → Inquiry → (Ready : Type 0) → (Told : List (Pass Note) → Type 0) → (old new : Standing Note) → Type 0
 StandsOutOfMemory means q Ready Told old new = IsCutPlan means q Ready Told old new ⊎ IsCutAfterPart means q q.ask.first old.search new.search (at_plan old.counts) new.counts Told
 
--- ---- a planner
+-- ---- a session
 
--- what goes on from plan to plan, the goal of the plans, and the heuristic
-pub record Replanning (Note H : Type 0) : Type 0 where
+-- what is planned on, what goes on from plan to plan, and the heuristic
+pub record SessionState (Note H W : Type 0) : Type 0 where
+  pub world : W
   pub search : State Note
-  pub goal : ℕ
   pub guide : H
   pub counts : Counts
 
-abbrev pub standing_of : {Note H : Type 0} → Replanning Note H → Standing Note
-standing_of r = record { search = r.search; counts = r.counts }
+abbrev pub standing_of : {Note H W : Type 0} → SessionState Note H W → Standing Note
+standing_of s = record { search = s.search; counts = s.counts }
 
--- a plan may begin in a world: the search goes to the goal, the heuristic is made for the world and the goal, and the labels are those
--- of the world's graph
-pub record IsReadyIn {Note H W : Type 0} (means : Meaning Note) (network : W → Network) (is_made_for : H → W → ℕ → Type 0) (w : W) (r : Replanning Note H) : Type 0 where
-  pub to_goal : r.search.goal ≡ r.goal
-  pub made : is_made_for r.guide w r.goal
-  pub labels : means.ready (network w) r.search.labels r.counts.run
-  pub fresh : IsStartFresh r.search.labels
+-- a plan may begin: the heuristic is made for the world and the goal of the search, and the labels are those of the world's graph
+pub record IsReady {Note H W : Type 0} (means : Meaning Note) (network : W → Network) (is_made_for : H → W → ℕ → Type 0) (s : SessionState Note H W) : Type 0 where
+  pub made : is_made_for s.guide s.world s.search.goal
+  pub labels : means.ready (network s.world) s.search.labels s.counts.run
+  pub fresh : IsStartFresh s.search.labels

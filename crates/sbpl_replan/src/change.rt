@@ -23,11 +23,14 @@ pub(crate) fn change<W: Terrain, H: Heuristic<W>, S: Search<W, H>>(
     requires usable { AreUsable (W.network world.old) (S.state search.old).labels (2 ^ 30) }
     requires fresh { IsStartFresh (S.state search.old).labels }
     ensures written { OnOk result (AreWritten (W.cells.map world.old) batch.now (W.cells.map world.new)) }
-    ensures refused { OnErr result ((W.cells.map world.new ≡ W.cells.map world.old) ⊎ AreWritten (W.cells.map world.old) batch.now (W.cells.map world.new)) }
+    ensures refused { OnErr result ((W.cells.map world.new ≡ W.cells.map world.old)
+        ⊎ AreWritten (W.cells.map world.old) batch.now (W.cells.map world.new)) }
     ensures others { world.new ≡ W.cells.over world.old (W.cells.map world.new) }
     ensures kept { W.cells.is_made world.new }
-    ensures begun { OnOk result (BeginsWith S.meaning W.network W.cells world.old world.new (S.state search.old).labels (S.state search.new).labels (S.state search.new).raised) }
-    ensures ready { (count : ℕ) → S.meaning.ready (W.network world.old) (S.state search.old).labels count → OnOk result (S.meaning.ready (W.network world.new) (S.state search.new).labels count) }
+    ensures begun { OnOk result (BeginsWith S.meaning W.network W.cells world.old world.new (S.state search.old).labels
+        (S.state search.new).labels (S.state search.new).raised) }
+    ensures ready { (count : ℕ) → S.meaning.ready (W.network world.old) (S.state search.old).labels count
+        → OnOk result (S.meaning.ready (W.network world.new) (S.state search.new).labels count) }
     ensures fresh { OnOk result (IsStartFresh (S.state search.new).labels) }
     ensures start { OnOk result ((S.state search.new).labels.start ≡ (S.state search.old).labels.start) }
     ensures same_goal { OnOk result ((S.state search.new).goal ≡ (S.state search.old).goal) }

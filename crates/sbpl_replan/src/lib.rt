@@ -2,12 +2,12 @@
 #![tactic(auto)]
 
 mod change;
-mod replanner;
+mod session;
 
-pub use replanner::{LatticeReplanner, Replanner};
 pub use sbpl_adstar::{AdStar, Ara};
 pub use sbpl_back::{Back, FromStart, Reversed, paths_turn_round, turned_round};
 pub use sbpl_heur::{
     Best, Env, Grid, Lattice, Map, Pose, Sweeps, Write, are_on_map, place_at, read_prims,
 };
 pub use sbpl_plan::{Ask, FoundPath, Graph, NoMemory, Nobody, Outcome};
+pub use session::{LatticeSession, Session};

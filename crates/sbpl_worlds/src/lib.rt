@@ -78,7 +78,7 @@ pub use sbpl_promises::{
 pub use sbpl_promises::{Arcs, Ask, FoundPath, Observer, Outcome, Planned};
 
 // Of `sbpl_replan`.
-pub use sbpl_promises::Replanner;
+pub use sbpl_promises::Session;
 
 // Of `sbpl_job`.
 pub use sbpl_promises::{

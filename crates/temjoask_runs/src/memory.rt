@@ -11,9 +11,9 @@ use std::{fs, io};
 /// One byte more than a file may have.
 const TOO_LONG: u64 = (1 << 30) + 1;
 
-/// Lets a desk have faults, which are separated by a comma and a blank each: `CALL AFTER` is a call that fails, counted from 0, and the
-/// number of bytes that it takes before, and `long NAME` a file that is too long. Answers whether all have this form, and memory did
-/// not run out.
+/// Lets a desk have faults, which are separated by a comma and a blank each: `CALL AFTER` is a call that fails, counted
+/// from 0, and the number of bytes that it takes before, and `long NAME` a file that is too long. Answers whether all have
+/// this form, and memory did not run out.
 fn fails(faults: &str, desk: &mut MemoryDesk) -> Option<()> {
     for fault in faults.split(", ") {
         let (call, after) = fault.split_once(' ')?;

@@ -1,6 +1,6 @@
 //! The program, run on the words of a line.
 
-use sbpl_cli::{Board, Desk, NO_MEMORY, NoGate, RealDesk, answer};
+use sbpl_cli::{Board, Desk, LiveBoard, NO_MEMORY, NoGate, RealDesk, answer};
 use std::alloc::AllocError;
 use std::io;
 use std::rt::Files;
@@ -31,15 +31,14 @@ pub(crate) fn answer_at<R: AllocGlobal + Threads + Wait + Sync, D: Desk>(
     let Ok((board, mut publisher)) = Board::new(rt.alloc()) else {
         return NO_MEMORY;
     };
+    let mut live = LiveBoard::new(rt, &board, &mut publisher);
     answer(
-        rt,
         rt.alloc(),
         words.as_slice(),
+        &mut live,
         desk,
         &NoGate,
         error,
-        &board,
-        &mut publisher,
     )
 }
 

@@ -1,8 +1,8 @@
-use Rattle.std.proofs.Common.{◌≡◌, ℕ, List, [], None, Option, Some, IsSome, true, false, rules, inl, inr, refl, sym, ◌∙◌, subst}
+use Rattle.std.proofs.Common.{◌≡◌, ℕ, List, [], map, string_bytes, None, Option, Some, IsSome, true, false, rules, inl, inr, refl, sym, ◌∙◌, subst}
 use Rattle.std.proofs.lemmas.Bool.{false≢true}
 use Rattle.sbpl_jobs.specs.sbpl_promises.Explained.{Explains, IsTold, IsToldOf, by_job, has_message, nothing, of_labels}
 use Rattle.sbpl_jobs.specs.sbpl_promises.Explained.{of_refusal, of_words, of_write, out_of_memory, unwritten}
-use Rattle.sbpl_jobs.specs.sbpl_promises.Run.{IsOrUnwritten, IsStatus, Job, refusal_status}
+use Rattle.sbpl_jobs.specs.sbpl_promises.Run.{IsOrUnwritten, IsStatus, Job, job_named, refusal_status}
 use Rattle.sbpl_jobs.specs.sbpl_promises.Writing.{DeskState, Told}
 use Rattle.sbpl_jobs.specs.sbpl_report.Refusals.{input_name}
 use Rattle.sbpl_jobs.specs.sbpl_report.declared.refusal.Input.{Input}
@@ -75,8 +75,8 @@ returns-in-Some-clause-headline g c =
 pub returns-in-Some-clause-statuses : goal.returns-in-Some-clause-statuses
 returns-in-Some-clause-statuses g c = told_status c.tell.result c.tell.ensures.told
 
-pub returns-in-Some-clause-board : goal.returns-in-Some-clause-board
-returns-in-Some-clause-board g c = refl
+pub returns-in-Some-clause-same : goal.returns-in-Some-clause-same
+returns-in-Some-clause-same g c = (refl, refl)
 
 pub returns-in-Some-clause-unpublished : goal.returns-in-Some-clause-unpublished
 returns-in-Some-clause-unpublished g c = λ _. refl
@@ -95,16 +95,24 @@ returns-in-None-clause-unwritten g c =
     λ some. absurd (none_asked _ (sym c.read_asked.ensures.asked ∙ c.in-None.is) some)
 
 pub returns-in-None-clause-run : goal.returns-in-None-clause-run
-returns-in-None-clause-run g c = λ _. c.run_to_end-ending.ensures.promises
+returns-in-None-clause-run g c = λ _.
+    c.runs_keep_promises.ensures.law (job_named c.args.words.now) (g.D.Desk.state c.args.desk.now) _ _ _ _
+    c.run_words-ending.ensures.ends.ends
 
 pub returns-in-None-clause-headline : goal.returns-in-None-clause-headline
-returns-in-None-clause-headline g c = λ _. c.run_to_end-ending.ensures.headline
+returns-in-None-clause-headline g c = λ _.
+    c.promises_show_the_headline.ensures.law (map string_bytes c.args.words.now) (g.D.Desk.state c.args.desk.now) _ _ _
+    _
+    (c.runs_keep_promises.ensures.law (job_named c.args.words.now) (g.D.Desk.state c.args.desk.now) _ _ _ _
+    c.run_words-ending.ensures.ends.ends)
 
 pub returns-in-None-clause-statuses : goal.returns-in-None-clause-statuses
-returns-in-None-clause-statuses g c = c.run_to_end-ending.ensures.promises.statuses
+returns-in-None-clause-statuses g c =
+    (c.runs_keep_promises.ensures.law (job_named c.args.words.now) (g.D.Desk.state c.args.desk.now) _ _ _ _
+    c.run_words-ending.ensures.ends.ends).statuses
 
-pub returns-in-None-clause-board : goal.returns-in-None-clause-board
-returns-in-None-clause-board g c = c.run_to_end-ending.ensures.board
+pub returns-in-None-clause-same : goal.returns-in-None-clause-same
+returns-in-None-clause-same g c = c.run_words-ending.ensures.same
 
 pub returns-in-None-clause-unpublished : goal.returns-in-None-clause-unpublished
 returns-in-None-clause-unpublished g c =
@@ -112,13 +120,10 @@ returns-in-None-clause-unpublished g c =
 
 pub returns-in-None-clause-quiet : goal.returns-in-None-clause-quiet
 returns-in-None-clause-quiet g c = λ none.
-    c.explain.ensures.quiet (quiet_by c.run_to_end-ending.ensures.told none)
+    c.explain.ensures.quiet (quiet_by c.run_words-ending.ensures.ends.told none)
 
 pub returns-in-None-clause-frame : goal.returns-in-None-clause-frame
-returns-in-None-clause-frame g c = c.run_to_end-ending.ensures.frame
+returns-in-None-clause-frame g c = c.run_words-ending.ensures.frame
 
-pub run_to_end-ending-requires-clause-board : goal.run_to_end-ending-requires-clause-board
-run_to_end-ending-requires-clause-board g c = search rules
-
-pub run_to_end-ending-requires-clause-few : goal.run_to_end-ending-requires-clause-few
-run_to_end-ending-requires-clause-few g c = search rules
+pub run_words-ending-requires-clause-few : goal.run_words-ending-requires-clause-few
+run_words-ending-requires-clause-few g c = search rules

@@ -2,9 +2,7 @@ use Rattle.std.proofs.Common.{◌≡◌, ◌∙◌, inl, [], ◌∷◌, List, Bo
 use Rattle.sbpl_checks.specs.sbpl_cost.World.{World}
 use Rattle.sbpl_checks.specs.sbpl_job.Jobs.{may_move}
 use Rattle.sbpl_checks.specs.sbpl_job.declared.job.Job.TheVariants as job
-use Rattle.sbpl_checks.specs.sbpl_job.declared.job.Planner.TheVariants as planner
 use Rattle.sbpl_checks.specs.sbpl_job.declared.job.SearchJob.{SearchJob}
-use Rattle.sbpl_plans.proofs.Going.{ends_by}
 use Rattle.sbpl_checks.specs.sbpl_promises.Causes.{demo_search, no_outputs}
 use Rattle.sbpl_checks.specs.sbpl_promises.Headline.{ArePlans}
 use Rattle.sbpl_checks.specs.sbpl_promises.Intents.{Demonstrated, lines_writes}
@@ -15,14 +13,15 @@ use Rattle.sbpl_checks.specs.sbpl_promises.declared.course.Course.{Course}
 use Rattle.sbpl_checks.specs.sbpl_report.declared.record.PlanRecord.{PlanRecord}
 use Rattle.sbpl_checks.proofs.Frames.{same_state, writes_on}
 use Rattle.sbpl_checks.proofs.Writings.{ends_as_after, status_ends}
+use Rattle.sbpl_plans.specs.Boards.{entries_of}
 use Rattle.sbpl_jobs.proofs.Ends.{ended}
 use Rattle.sbpl_jobs.proofs.Planned.{all_shown, as_told, planned}
 use Rattle.sbpl_jobs.proofs.demo_job.demonstrate.Goals as goal
 
 pub returns-in-Err-clause-ends : goal.returns-in-Err-clause-ends
 returns-in-Err-clause-ends g c =
-    ended _ (g.D.Desk.state c.args.desk.now) _ _ _ (job.Demo c.args.job.now) (Demonstrated c.args.lattice.now
-    (length c.args.course.now.batches) [] false c.args.publisher.now.published []) _ refl refl (
+    ended _ (g.D.Desk.state c.args.desk.now) _ _ _ (job.Demo c.args.job.now) (Demonstrated c.args.lattice
+    (length c.args.course.now.batches) [] false (entries_of c.args.live.now) []) _ refl refl (
       c.args.course.now.batches,
       refl,
       record {
@@ -58,11 +57,10 @@ pub returns-clause-ends : goal.returns-clause-ends
 returns-clause-ends g c =
     let search = c.demo_search-how.ensures.search in
     let same = ap (λ (h : SearchJob). h.planner) search in
-    let e = as_told lattice_site false (ap may_move same)
-    (ends_by planner.AdStar same c.plans_by_adstar.ensures.ends) in
+    let e = as_told lattice_site false (ap may_move same) c.make_plans.ensures.ends in
     let batches = ap (λ (x : Course). x.batches) c.requires.course in
-    ended _ (g.D.Desk.state c.args.desk.now) _ _ _ (job.Demo c.args.job.now) (Demonstrated c.args.lattice.now
-    (length c.args.course.now.batches) e.records e.all c.args.publisher.now.published e.broken) _
+    ended _ (g.D.Desk.state c.args.desk.now) _ _ _ (job.Demo c.args.job.now) (Demonstrated c.args.lattice
+    (length c.args.course.now.batches) e.records e.all (entries_of c.args.live.now) e.broken) _
     refl (all_shown lattice_site c.args.course.now c.ends-start.result.0 e) (
       c.args.course.now.batches,
       refl,
@@ -77,7 +75,7 @@ returns-clause-ends g c =
     (same_state _)
     (ends_as_after _ _ _ (_ ∷ []) (lines_writes e.records e.all) _ _ c.in_default.ensures.ends
     c.write_first.ensures.frame.writes e.ends)
-    (writes_on _ _ _ _ c.write_first.ensures.frame c.plans_by_adstar.ensures.frame).others
+    (writes_on _ _ _ _ c.write_first.ensures.frame c.make_plans.ensures.frame).others
 
 pub returns-clause-frame : goal.returns-clause-frame
-returns-clause-frame g c = writes_on _ _ _ _ c.write_first.ensures.frame c.plans_by_adstar.ensures.frame
+returns-clause-frame g c = writes_on _ _ _ _ c.write_first.ensures.frame c.make_plans.ensures.frame

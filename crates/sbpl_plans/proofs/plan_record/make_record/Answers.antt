@@ -18,13 +18,14 @@ use Rattle.sbpl_worlds.specs.sbpl_plan.Asked.{most_passes}
 use Rattle.sbpl_worlds.specs.sbpl_plan.Passing.{ArePasses, expansions, inquiry_of}
 use Rattle.sbpl_worlds.specs.sbpl_graph.Network.{Network}
 use Rattle.sbpl_worlds.specs.sbpl_search.Meaning.{Meaning}
-use Rattle.sbpl_worlds.specs.sbpl_replan.Replanning.{GoesBetween, IsReadyIn, Replanning, Standing, StaysTheSame, inquiry, standing_of}
+use Rattle.sbpl_worlds.specs.sbpl_replan.Replanning.{GoesBetween, IsReady, SessionState, Standing, StaysTheSame, inquiry, standing_of}
 use Rattle.sbpl_worlds.specs.sbpl_report.Traces.{traced_pass}
 use Rattle.sbpl_worlds.specs.sbpl_plan.declared.passes.Pass.{Pass}
 use Rattle.sbpl_worlds.specs.sbpl_report.declared.record.TraceLine.{TraceLine}
 use Rattle.sbpl_worlds.specs.sbpl_promises.Published.{Entry, founds, with_paths, with_plan}
 use Rattle.sbpl_plans.proofs.Founds.{broken_by, first_of_all, founds_traced, none_published}
-use Rattle.sbpl_plans.proofs.Founds.{on_err_is, stands_broken, expansions_traced}
+use Rattle.sbpl_plans.proofs.Founds.{on_err_is, stands_broken, stands_so, expansions_traced}
+use Rattle.sbpl_plans.proofs.Observed.{same_if, shown, stands_same, then_same}
 use Rattle.sbpl_worlds.specs.sbpl_report.declared.record.PlanRecord.{PlanRecord}
 use Rattle.sbpl_worlds.specs.sbpl_promises.Asked.{Known, ask_of, from_by, known_by, to_by}
 use Rattle.sbpl_worlds.specs.sbpl_promises.Sites.{Leads, Site, from_of, site_of, to_of}
@@ -134,51 +135,59 @@ between_after from to old new between same =
 guided : {Note H W : Type 0} {means : Meaning Note} {network : W → Network} (is_made_for : H → W → ℕ → Type 0)
     (says : W → ℕ → (ℕ → ℕ) → Type 0) (distance : H → ℕ → ℕ)
     → ((h : H) (w : W) (goal : ℕ) → is_made_for h w goal → says w goal (distance h))
-    → (w : W) (r : Replanning Note H) (from to : ℕ) → IsReadyIn means network is_made_for w r
-    → GoesBetween from to (standing_of r) → says w to (distance r.guide)
-guided is_made_for says distance so w r from to ready between =
-    subst (λ (t : ℕ). says w t (distance r.guide)) (sym ready.to_goal ∙ between.to_is) (so r.guide w r.goal ready.made)
+    → (s : SessionState Note H W) (from to : ℕ) → IsReady means network is_made_for s
+    → GoesBetween from to (standing_of s) → says s.world to (distance s.guide)
+guided is_made_for says distance so s from to ready between =
+    subst (λ (t : ℕ). says s.world t (distance s.guide)) between.to_is (so s.guide s.world s.search.goal ready.made)
 
 pub section_of-requires-clause-goal : goal.section_of-requires-clause-goal
 section_of-requires-clause-goal g c =
     let task = c.args.task.now in
-    let w = c.args.world.now in
+    let w = c.args.session.now.world in
     let told = (g.W.Workspace.wording.told w).states in
     let as_many = g.met.W.Workspace.same_states w in
     let there =
-    to_inside g.W.Workspace.wording.back c.args.start task.goal told c.requires.start c.requires.goal in
-    let same = c.in_ok-planned.ensures.same in
-    let to = sym c.in_ok-planned.ensures.ready.to_goal ∙ same.goal ∙ c.requires.set.between.to_is in
-    subst (λ (t : ℕ). t < (g.W.Graph.network w).states) (sym to)
-    (subst (λ (n : ℕ). to_of g.W.Workspace.wording.back c.args.start task.goal < n) as_many there)
+    to_inside g.W.Workspace.wording.back c.args.turn.start task.goal told c.requires.start c.requires.goal in
+    let to = c.in_ok-planned.ensures.same.goal ∙ c.requires.set.between.to_is in
+    rw c.plan.ensures.world (subst (λ (t : ℕ). t < (g.W.Graph.network w).states) (sym to)
+    (subst (λ (n : ℕ). to_of g.W.Workspace.wording.back c.args.turn.start task.goal < n) as_many there))
 
 pub section_of-requires-clause-found : goal.section_of-requires-clause-found
 section_of-requires-clause-found g c =
-    let n = g.W.Graph.network c.args.world.now in
+    let n = g.W.Graph.network c.args.session.now.world in
     let made = c.in_ok-planned.ensures.planned in
-    let new = c.plan_on.new.replanner in
-    subst (λ (h : ℕ → ℕ). IsResultOf n h new.goal new.search.labels c.in_ok-planned.planned.outcome)
-    (ap g.W.Best.Guide.distance (sym c.plan_on.ensures.guide))
-    (subst (λ (t : ℕ). IsResultOf n (g.W.Best.Guide.distance c.args.replanner.now.guide) t new.search.labels
-    c.in_ok-planned.planned.outcome) (sym c.in_ok-planned.ensures.same.goal ∙ c.in_ok-planned.ensures.ready.to_goal)
-    made.outcome)
+    let new = c.plan.new.self in
+    rw c.plan.ensures.world (subst (λ (h : ℕ → ℕ). IsResultOf n h new.search.goal new.search.labels
+    c.in_ok-planned.planned.outcome) (ap g.W.Best.Guide.distance (sym c.plan.ensures.guide))
+    (subst (λ (t : ℕ). IsResultOf n (g.W.Best.Guide.distance c.args.session.now.guide) t new.search.labels
+    c.in_ok-planned.planned.outcome) (sym c.in_ok-planned.ensures.same.goal) made.outcome))
+
+pub section_of-requires-clause-supported : goal.section_of-requires-clause-supported
+section_of-requires-clause-supported g c = rw c.plan.ensures.world c.in_ok-planned.ensures.planned.supported
+
+pub record_of-requires-clause-start : goal.record_of-requires-clause-start
+record_of-requires-clause-start g c = rw (c.world.ensures.value, c.plan.ensures.world) c.requires.start
+
+pub record_of-requires-clause-goal : goal.record_of-requires-clause-goal
+record_of-requires-clause-goal g c = rw (c.world.ensures.value, c.plan.ensures.world) c.requires.goal
 
 pub record_of-requires-clause-so : goal.record_of-requires-clause-so
 record_of-requires-clause-so g c =
     let task = c.args.task.now in
     let back = g.W.Workspace.wording.back in
-    let n = g.W.Graph.network c.args.world.now in
+    let n = g.W.Graph.network c.args.session.now.world in
     let made = c.in_ok-planned.ensures.planned in
-    subst (λ (s : ℕ). IsTrueOutcome n s (to_of back c.args.start task.goal) c.in_ok-planned.planned.outcome)
+    rw (c.world.ensures.value, c.plan.ensures.world)
+    (subst (λ (s : ℕ). IsTrueOutcome n s (to_of back c.args.turn.start task.goal) c.in_ok-planned.planned.outcome)
     c.requires.set.between.from_is
-    (subst (λ (t : ℕ). IsTrueOutcome n c.args.replanner.now.search.labels.start t
-    c.in_ok-planned.planned.outcome) c.requires.set.between.to_is made.so)
+    (subst (λ (t : ℕ). IsTrueOutcome n c.args.session.now.search.labels.start t
+    c.in_ok-planned.planned.outcome) c.requires.set.between.to_is made.so))
 
 pub returns-clause-searched : goal.returns-clause-searched
 returns-clause-searched g c = λ before goes.
     let task = c.args.task.now in
     let back = g.W.Workspace.wording.back in
-    let w = c.args.world.now in
+    let w = c.args.session.now.world in
     let n = g.W.Graph.network w in
     let means = g.S.Search.meaning in
     let by : Known _ =
@@ -188,11 +197,11 @@ returns-clause-searched g c = λ before goes.
     let planned = c.in_ok-planned.planned in
     let made = c.in_ok-planned.ensures.planned in
     let within = c.in_ok-planned.ensures.within in
-    let old = standing_of c.args.replanner.now in
-    let new = standing_of c.plan_on.new.replanner in
-    let guide = g.W.Best.Guide.distance c.args.replanner.now.guide in
-    let from = from_of back c.args.start task.goal in
-    let to = to_of back c.args.start task.goal in
+    let old = standing_of c.args.session.now in
+    let new = standing_of c.plan.new.self in
+    let guide = g.W.Best.Guide.distance c.args.session.now.guide in
+    let from = from_of back c.args.turn.start task.goal in
+    let to = to_of back c.args.turn.start task.goal in
     let rises : new.counts.run ≡ old.counts.run + expansions planned.passes =
     ap (λ (k : Counts). k.run) made.leaves.counted in
     let run : new.counts.run ≡ expanded_before before + expansions planned.passes =
@@ -200,12 +209,12 @@ returns-clause-searched g c = λ before goes.
     let of_plan : new.counts.plan ≡ 0 + expansions planned.passes = ap (λ (k : Counts). k.plan) made.leaves.counted in
     let used : c.expanded-expanded.result ≡ expansions planned.passes =
     omega (arith, c.expanded-expanded.ensures.value, of_plan) in
-    searched_by by w guide c.args.start task.goal task.how.now task.outputs.now before old.search.labels
+    searched_by by w guide c.args.turn.start task.goal task.how.now task.outputs.now before old.search.labels
     new.search.labels old.search.raised
     old.counts.per_plan new.counts.run c.expanded-expanded.result planned c.in_ok-labels.labels c.ask_of-ask.result
-    (is_some task.outputs.now.labels) c.args.plan c.record_of.result
+    (is_some task.outputs.now.labels) c.args.turn.plan c.record_of.result
     (guided g.W.Best.Heuristic.is_made_for g.W.Best.Heuristic.says g.W.Best.Guide.distance
-    g.met.W.Best.Heuristic.says_so w c.args.replanner.now from to c.requires.ready set.between) goes.begins
+    g.met.W.Best.Heuristic.says_so c.args.session.now from to c.requires.ready set.between) goes.begins
     c.ask_of-ask.ensures.ask
     (subst (λ (t : ℕ). ArePasses means (inquiry_of n guide t c.ask_of-ask.result) c.ask_of-ask.result.first
     old.search.labels planned.passes new.search.labels planned.spent) set.between.to_is made.passes)
@@ -215,18 +224,18 @@ returns-clause-searched g c = λ before goes.
     (λ is ample. made.enough is (omega (arith, ample, set.budget_is)))
     refl
     (subst (λ (h : ℕ → ℕ). IsThere (is_some task.outputs.now.labels) (IsShown task.outputs.now.form n h from to
-    c.args.plan new.search.labels planned.outcome) c.in_ok-labels.labels)
-    (ap g.W.Best.Guide.distance c.plan_on.ensures.guide)
+    c.args.turn.plan new.search.labels planned.outcome) c.in_ok-labels.labels)
+    (ap g.W.Best.Guide.distance c.plan.ensures.guide)
     (subst (λ (s : ℕ). IsThere (is_some task.outputs.now.labels) (IsShown task.outputs.now.form n
-    (g.W.Best.Guide.distance c.plan_on.new.replanner.guide) s to c.args.plan new.search.labels planned.outcome)
+    (g.W.Best.Guide.distance c.plan.new.self.guide) s to c.args.turn.plan new.search.labels planned.outcome)
     c.in_ok-labels.labels) (c.in_ok-planned.ensures.same.start ∙ set.between.from_is)
     (subst (λ (t : ℕ). IsThere (is_some task.outputs.now.labels) (IsShown task.outputs.now.form n
-    (g.W.Best.Guide.distance c.plan_on.new.replanner.guide) new.search.labels.start t c.args.plan new.search.labels
+    (g.W.Best.Guide.distance c.plan.new.self.guide) new.search.labels.start t c.args.turn.plan new.search.labels
     planned.outcome) c.in_ok-labels.labels)
-    (sym c.in_ok-planned.ensures.ready.to_goal ∙ c.in_ok-planned.ensures.same.goal ∙ set.between.to_is)
-    c.in_ok-labels.ensures.shown)))
-    c.record_of.ensures.number c.record_of.ensures.passes c.record_of.ensures.expanded c.record_of.ensures.told
-    c.record_of.ensures.labels
+    (c.in_ok-planned.ensures.same.goal ∙ set.between.to_is)
+    (rw c.plan.ensures.world at c.in_ok-labels.ensures.shown))))
+    c.record_of.ensures.number c.record_of.ensures.passes c.record_of.ensures.expanded
+    (rw (c.world.ensures.value, c.plan.ensures.world) at c.record_of.ensures.told) c.record_of.ensures.labels
     (subst (λ (l : List ℕ). IfOk c.record_of.result (λ x. x.raised ≡ l)) (c.in_ok-raised.ensures.told
     ∙ ap (λ (l : List ℕ). if c.ask_of-ask.result.traced then l else []) c.raised.ensures.value)
     c.record_of.ensures.raised)
@@ -257,11 +266,12 @@ promises_by on w start goal asked expanded planned (Err e) joins within none mar
 pub returns-clause-promises : goal.returns-clause-promises
 returns-clause-promises g c =
     let bound = ap (λ (a : Ask). a.bound) c.ask_of-ask.ensures.ask in
+    let made = rw (c.world.ensures.value, c.plan.ensures.world) at c.record_of.ensures in
     promises_by (site_of g.W.Graph.network g.W.Terrain.cells g.W.Best.Heuristic.says g.W.Workspace.wording)
-    c.args.world.now c.args.start c.args.task.now.goal _ _ c.in_ok-planned.planned c.record_of.result
-    c.record_of.ensures.joins c.record_of.ensures.within_the_bound c.record_of.ensures.none c.record_of.ensures.marked
+    c.args.session.now.world c.args.turn.start c.args.task.now.goal _ _ c.in_ok-planned.planned c.record_of.result
+    made.joins made.within_the_bound made.none made.marked
     (λ is. subst (λ (b : ℕ). search.IsConclusive b c.in_ok-planned.planned.outcome) bound
-    (c.in_ok-planned.ensures.planned.answered is)) c.record_of.ensures.answered
+    (c.in_ok-planned.ensures.planned.answered is)) made.answered
 
 -- what is said of a value holds where there is none
 no_value : {A E : Type 0} (P : A → Type 0) (r : Result A E) → IsErr r → IfOk r P
@@ -296,7 +306,8 @@ if_shown line log shown plan ps (Err e) number passes is = tt
 pub returns-clause-shown : goal.returns-clause-shown
 returns-clause-shown g c =
     if_shown g.S.Note.Traced.line _ _ _ _ c.record_of.result c.record_of.ensures.number c.record_of.ensures.passes
-    (ap (λ p. p.published) c.newest_on.ensures.same ∙ c.in_ok-planned.ensures.shown)
+    (c.newest.ensures.published ∙ shown c.args.live.now c.begin.new.self c.plan.new.observer c.args.turn.plan c.begin.ensures.same
+    c.begin.ensures.entries c.begin.ensures.plan _ c.in_ok-planned.ensures.told)
 
 pub returns-in_err-raised-clause-broken : goal.returns-in_err-raised-clause-broken
 returns-in_err-raised-clause-broken g c =
@@ -306,19 +317,21 @@ pub returns-in_err-planned-clause-broken : goal.returns-in_err-planned-clause-br
 returns-in_err-planned-clause-broken g c = λ before goes.
     let task = c.args.task.now in
     let back = g.W.Workspace.wording.back in
-    let w = c.args.world.now in
+    let w = c.args.session.now.world in
     let by : Known _ =
     known_by (site_of g.W.Graph.network g.W.Terrain.cells g.W.Best.Heuristic.says g.W.Workspace.wording)
     g.S.Search.meaning g.S.Note.Traced.line in
-    let guide = g.W.Best.Guide.distance c.args.replanner.now.guide in
-    let from = from_of back c.args.start task.goal in
-    let to = to_of back c.args.start task.goal in
+    let guide = g.W.Best.Guide.distance c.args.session.now.guide in
+    let from = from_of back c.args.turn.start task.goal in
+    let to = to_of back c.args.turn.start task.goal in
     on_err_is _ c.from_residual-in_err-planned.result
-    (stands_broken by w guide c.args.start task.goal c.args.plan task.how.now task.outputs.now _ _ before _
-    (standing_of c.args.replanner.now) (standing_of c.plan_on.new.replanner) c.ask_of-ask.result
+    (stands_broken by w guide c.args.turn.start task.goal c.args.turn.plan task.how.now task.outputs.now _ _ before _
+    (standing_of c.args.session.now) (standing_of c.plan.new.self) c.ask_of-ask.result
     (guided g.W.Best.Heuristic.is_made_for g.W.Best.Heuristic.says g.W.Best.Guide.distance
-    g.met.W.Best.Heuristic.says_so w c.args.replanner.now from to c.requires.ready c.requires.set.between)
-    goes.begins c.ask_of-ask.ensures.ask c.requires.set.between.to_is c.in_err-planned.ensures.memory)
+    g.met.W.Best.Heuristic.says_so c.args.session.now from to c.requires.ready c.requires.set.between)
+    goes.begins c.ask_of-ask.ensures.ask c.requires.set.between.to_is
+    (stands_so _ _ (λ ps told. shown c.args.live.now c.begin.new.self c.plan.new.observer c.args.turn.plan c.begin.ensures.same
+    c.begin.ensures.entries c.begin.ensures.plan ps told) c.in_err-planned.ensures.memory))
 
 pub returns-in_err-incumbent-clause-broken : goal.returns-in_err-incumbent-clause-broken
 returns-in_err-incumbent-clause-broken g c = λ before goes.
@@ -326,24 +339,25 @@ returns-in_err-incumbent-clause-broken g c = λ before goes.
     let by : Known _ =
     known_by (site_of g.W.Graph.network g.W.Terrain.cells g.W.Best.Heuristic.says g.W.Workspace.wording)
     g.S.Search.meaning g.S.Note.Traced.line in
-    let w = c.args.world.now in
+    let w = c.args.session.now.world in
     let back = g.W.Workspace.wording.back in
-    let guide = g.W.Best.Guide.distance c.args.replanner.now.guide in
-    let from = from_of back c.args.start task.goal in
-    let to = to_of back c.args.start task.goal in
-    let old = standing_of c.args.replanner.now in
+    let guide = g.W.Best.Guide.distance c.args.session.now.guide in
+    let from = from_of back c.args.turn.start task.goal in
+    let to = to_of back c.args.turn.start task.goal in
+    let old = standing_of c.args.session.now in
     let ask = c.ask_of-ask.result in
     let planned = c.in_ok-planned.planned in
-    let left = c.plan_on.new.replanner.search.labels in
+    let left = c.plan.new.self.search.labels in
     on_err_is _ c.from_residual-in_err-incumbent.result
-    (broken_by by w guide c.args.start task.goal c.args.plan task.how.now task.outputs.now _ _ before
+    (broken_by by w guide c.args.turn.start task.goal c.args.turn.plan task.how.now task.outputs.now _ _ before
     old ask left planned.passes
     (guided g.W.Best.Heuristic.is_made_for g.W.Best.Heuristic.says g.W.Best.Guide.distance
-    g.met.W.Best.Heuristic.says_so w c.args.replanner.now from to c.requires.ready c.requires.set.between)
+    g.met.W.Best.Heuristic.says_so c.args.session.now from to c.requires.ready c.requires.set.between)
     goes.begins c.ask_of-ask.ensures.ask c.requires.set.between.to_is
     (first_of_all by.means (inquiry (g.W.Graph.network w) guide old ask) planned.passes ask.first old.search.labels left
     planned.spent c.in_ok-planned.ensures.planned.passes)
-    (ap (λ p. p.published) c.newest_on.ensures.same ∙ c.in_ok-planned.ensures.shown))
+    (c.newest.ensures.published ∙ shown c.args.live.now c.begin.new.self c.plan.new.observer c.args.turn.plan c.begin.ensures.same
+    c.begin.ensures.entries c.begin.ensures.plan _ c.in_ok-planned.ensures.told))
 
 pub returns-in_err-labels-clause-broken : goal.returns-in_err-labels-clause-broken
 returns-in_err-labels-clause-broken g c = λ before goes.
@@ -351,24 +365,25 @@ returns-in_err-labels-clause-broken g c = λ before goes.
     let by : Known _ =
     known_by (site_of g.W.Graph.network g.W.Terrain.cells g.W.Best.Heuristic.says g.W.Workspace.wording)
     g.S.Search.meaning g.S.Note.Traced.line in
-    let w = c.args.world.now in
+    let w = c.args.session.now.world in
     let back = g.W.Workspace.wording.back in
-    let guide = g.W.Best.Guide.distance c.args.replanner.now.guide in
-    let from = from_of back c.args.start task.goal in
-    let to = to_of back c.args.start task.goal in
-    let old = standing_of c.args.replanner.now in
+    let guide = g.W.Best.Guide.distance c.args.session.now.guide in
+    let from = from_of back c.args.turn.start task.goal in
+    let to = to_of back c.args.turn.start task.goal in
+    let old = standing_of c.args.session.now in
     let ask = c.ask_of-ask.result in
     let planned = c.in_ok-planned.planned in
-    let left = c.plan_on.new.replanner.search.labels in
+    let left = c.plan.new.self.search.labels in
     on_err_is _ c.from_residual-in_err-labels.result
-    (broken_by by w guide c.args.start task.goal c.args.plan task.how.now task.outputs.now _ _ before
+    (broken_by by w guide c.args.turn.start task.goal c.args.turn.plan task.how.now task.outputs.now _ _ before
     old ask left planned.passes
     (guided g.W.Best.Heuristic.is_made_for g.W.Best.Heuristic.says g.W.Best.Guide.distance
-    g.met.W.Best.Heuristic.says_so w c.args.replanner.now from to c.requires.ready c.requires.set.between)
+    g.met.W.Best.Heuristic.says_so c.args.session.now from to c.requires.ready c.requires.set.between)
     goes.begins c.ask_of-ask.ensures.ask c.requires.set.between.to_is
     (first_of_all by.means (inquiry (g.W.Graph.network w) guide old ask) planned.passes ask.first old.search.labels left
     planned.spent c.in_ok-planned.ensures.planned.passes)
-    (ap (λ p. p.published) c.newest_on.ensures.same ∙ c.in_ok-planned.ensures.shown))
+    (c.newest.ensures.published ∙ shown c.args.live.now c.begin.new.self c.plan.new.observer c.args.turn.plan c.begin.ensures.same
+    c.begin.ensures.entries c.begin.ensures.plan _ c.in_ok-planned.ensures.told))
 
 pub returns-clause-broken : goal.returns-clause-broken
 returns-clause-broken g c = λ before goes.
@@ -376,21 +391,62 @@ returns-clause-broken g c = λ before goes.
     let by : Known _ =
     known_by (site_of g.W.Graph.network g.W.Terrain.cells g.W.Best.Heuristic.says g.W.Workspace.wording)
     g.S.Search.meaning g.S.Note.Traced.line in
-    let w = c.args.world.now in
+    let w = c.args.session.now.world in
     let back = g.W.Workspace.wording.back in
-    let guide = g.W.Best.Guide.distance c.args.replanner.now.guide in
-    let from = from_of back c.args.start task.goal in
-    let to = to_of back c.args.start task.goal in
-    let old = standing_of c.args.replanner.now in
+    let guide = g.W.Best.Guide.distance c.args.session.now.guide in
+    let from = from_of back c.args.turn.start task.goal in
+    let to = to_of back c.args.turn.start task.goal in
+    let old = standing_of c.args.session.now in
     let ask = c.ask_of-ask.result in
     let planned = c.in_ok-planned.planned in
-    let left = c.plan_on.new.replanner.search.labels in
+    let left = c.plan.new.self.search.labels in
     on_err_is _ c.record_of.result
-    (broken_by by w guide c.args.start task.goal c.args.plan task.how.now task.outputs.now _ _ before
+    (broken_by by w guide c.args.turn.start task.goal c.args.turn.plan task.how.now task.outputs.now _ _ before
     old ask left planned.passes
     (guided g.W.Best.Heuristic.is_made_for g.W.Best.Heuristic.says g.W.Best.Guide.distance
-    g.met.W.Best.Heuristic.says_so w c.args.replanner.now from to c.requires.ready c.requires.set.between)
+    g.met.W.Best.Heuristic.says_so c.args.session.now from to c.requires.ready c.requires.set.between)
     goes.begins c.ask_of-ask.ensures.ask c.requires.set.between.to_is
     (first_of_all by.means (inquiry (g.W.Graph.network w) guide old ask) planned.passes ask.first old.search.labels left
     planned.spent c.in_ok-planned.ensures.planned.passes)
-    (ap (λ p. p.published) c.newest_on.ensures.same ∙ c.in_ok-planned.ensures.shown))
+    (c.newest.ensures.published ∙ shown c.args.live.now c.begin.new.self c.plan.new.observer c.args.turn.plan c.begin.ensures.same
+    c.begin.ensures.entries c.begin.ensures.plan _ c.in_ok-planned.ensures.told))
+
+-- ---- the board
+
+pub returns-in_err-planned-clause-same : goal.returns-in_err-planned-clause-same
+returns-in_err-planned-clause-same g c =
+    same_if c.args.live.now c.begin.new.self c.plan.new.observer c.args.turn.plan c.begin.ensures.same
+    c.begin.ensures.entries c.begin.ensures.plan _
+    (stands_same c.args.live.now c.begin.new.self c.plan.new.observer c.args.turn.plan c.begin.ensures.same
+    c.begin.ensures.entries c.begin.ensures.plan) c.plan.result
+    c.plan.ensures.told c.plan.ensures.memory
+
+pub returns-in_err-incumbent-clause-same : goal.returns-in_err-incumbent-clause-same
+returns-in_err-incumbent-clause-same g c =
+    then_same c.args.live.now c.plan.new.observer c.newest.new.self
+    (same_if c.args.live.now c.begin.new.self c.plan.new.observer c.args.turn.plan c.begin.ensures.same
+    c.begin.ensures.entries c.begin.ensures.plan _
+    (stands_same c.args.live.now c.begin.new.self c.plan.new.observer c.args.turn.plan c.begin.ensures.same
+    c.begin.ensures.entries c.begin.ensures.plan) c.plan.result
+    c.plan.ensures.told c.plan.ensures.memory)
+    c.newest.ensures.same
+
+pub returns-in_err-labels-clause-same : goal.returns-in_err-labels-clause-same
+returns-in_err-labels-clause-same g c =
+    then_same c.args.live.now c.plan.new.observer c.newest.new.self
+    (same_if c.args.live.now c.begin.new.self c.plan.new.observer c.args.turn.plan c.begin.ensures.same
+    c.begin.ensures.entries c.begin.ensures.plan _
+    (stands_same c.args.live.now c.begin.new.self c.plan.new.observer c.args.turn.plan c.begin.ensures.same
+    c.begin.ensures.entries c.begin.ensures.plan) c.plan.result
+    c.plan.ensures.told c.plan.ensures.memory)
+    c.newest.ensures.same
+
+pub returns-clause-same : goal.returns-clause-same
+returns-clause-same g c =
+    then_same c.args.live.now c.plan.new.observer c.newest.new.self
+    (same_if c.args.live.now c.begin.new.self c.plan.new.observer c.args.turn.plan c.begin.ensures.same
+    c.begin.ensures.entries c.begin.ensures.plan _
+    (stands_same c.args.live.now c.begin.new.self c.plan.new.observer c.args.turn.plan c.begin.ensures.same
+    c.begin.ensures.entries c.begin.ensures.plan) c.plan.result
+    c.plan.ensures.told c.plan.ensures.memory)
+    c.newest.ensures.same

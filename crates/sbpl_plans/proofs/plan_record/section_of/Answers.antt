@@ -1,10 +1,8 @@
-use Rattle.std.proofs.Common.{subst, sym, ℕ, ◌<◌}
 use Rattle.sbpl_plans.proofs.plan_record.section_of.Goals as goal
 
 pub labels_of-requires-clause-goal : goal.labels_of-requires-clause-goal
-labels_of-requires-clause-goal g c =
-    subst (λ (t : ℕ). t < (g.W.Graph.network c.args.world.now).states) (sym c.goal.ensures.value) c.requires.goal
+labels_of-requires-clause-goal g c = rw (c.world.ensures.value, c.goal.ensures.value) c.requires.goal
 
 pub labels_of-requires-clause-found : goal.labels_of-requires-clause-found
 labels_of-requires-clause-found g c =
-    rw (c.guide.ensures.value, c.labels.ensures.value, c.goal.ensures.value) c.requires.found
+    rw (c.world.ensures.value, c.guide.ensures.value, c.labels.ensures.value, c.goal.ensures.value) c.requires.found

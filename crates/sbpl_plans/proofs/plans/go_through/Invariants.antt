@@ -1,10 +1,11 @@
-use Rattle.std.proofs.Common.{◌≡◌, ◌+◌, ◌*◌, ◌<◌, ◌≤◌, length}
+use Rattle.std.proofs.Common.{◌+◌, ◌*◌, ◌<◌, ◌≤◌, length}
 use Rattle.sbpl_worlds.specs.sbpl_plan.Asked.{MOST_PASSES}
 use Rattle.sbpl_worlds.specs.sbpl_promises.Sites.{site_of, start_after}
 use Rattle.sbpl_worlds.specs.sbpl_promises.Writing.{WritesOnly}
+use Rattle.sbpl_plans.specs.Boards.{IsSamePublisher, entries_of}
 use Rattle.sbpl_plans.proofs.Going.{IsGoing}
 use Rattle.sbpl_worlds.specs.sbpl_promises.Asked.{known_by}
-use Rattle.sbpl_worlds.specs.sbpl_replan.Replanning.{IsReadyIn, standing_of}
+use Rattle.sbpl_worlds.specs.sbpl_replan.Replanning.{IsReady, standing_of}
 use Rattle.sbpl_plans.proofs.plans.go_through.Given as goal
 
 -- the plans so far were made and told, the map is that after this number of batches, and the start is a state
@@ -21,11 +22,11 @@ invariant-loop-k g l = record {
     outputs = l.fn.task.outputs.now;
     starts = start_after g.W.Workspace.wording l.fn.world l.fn.task.start l.fn.task.course.now.moves;
     goal = l.fn.task.goal;
-  }) l.world l.k l.start l.fn.publisher.published l.publisher.published (standing_of l.replanner)
+  }) l.session.world l.k l.start (entries_of l.fn.live) (entries_of l.live) (standing_of l.session)
       (g.D.Desk.state l.fn.desk) (g.D.Desk.state l.desk);
-  ready : IsReadyIn g.S.Search.meaning g.W.Graph.network g.W.Best.Heuristic.is_made_for l.world l.replanner;
-  inside : l.start < (g.W.Workspace.wording.told l.world).states;
-  board : l.publisher.board ≡ l.fn.publisher.board;
-  grown : length l.publisher.published ≤ length l.fn.publisher.published + l.k * MOST_PASSES;
+  ready : IsReady g.S.Search.meaning g.W.Graph.network g.W.Best.Heuristic.is_made_for l.session;
+  inside : l.start < (g.W.Workspace.wording.told l.session.world).states;
+  publisher : IsSamePublisher l.fn.live l.live;
+  grown : length (entries_of l.live) ≤ length (entries_of l.fn.live) + l.k * MOST_PASSES;
   frame : WritesOnly (g.T.Telling.under l.fn.telling) (g.D.Desk.state l.fn.desk) (g.D.Desk.state l.desk);
 }

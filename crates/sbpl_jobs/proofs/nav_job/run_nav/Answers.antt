@@ -1,0 +1,37 @@
+use Rattle.std.proofs.Common.{None, false, refl}
+use Rattle.sbpl_checks.specs.sbpl_promises.GridSite.{grid_site}
+use Rattle.std.proofs.lemmas.Result.{err_from_is_err_and}
+use Rattle.sbpl_checks.specs.sbpl_job.declared.job.Job.TheVariants as job
+use Rattle.sbpl_checks.specs.sbpl_promises.Intents.{Planned}
+use Rattle.sbpl_checks.proofs.Frames.{writes_after}
+use Rattle.sbpl_plans.specs.Boards.{entries_of}
+use Rattle.sbpl_jobs.proofs.Ends.{ended}
+use Rattle.sbpl_jobs.proofs.Planned.{all_shown, as_told, planned}
+use Rattle.sbpl_jobs.proofs.Telling.{plain_ending, plans_end}
+use Rattle.sbpl_jobs.proofs.nav_job.run_nav.Goals as goal
+
+pub returns-clause-ends : goal.returns-clause-ends
+returns-clause-ends g c =
+    let e = as_told grid_site false c.requires.range.1 c.make_plans-status.ensures.ends in
+    plain_ending _ _ _ _ _ _ _ c.plain.ensures.status c.plain.ensures.untold (plans_end e.all _ e.ends)
+    (ended _ (g.D.Desk.state c.read_grid_course.new.desk) _ _ _ (job.Nav c.args.job.now)
+    (Planned e.records e.all (entries_of c.args.live.now) e.broken) _ refl
+    (all_shown grid_site c.in_ok-nav.course c.ends-start.result.0 e)
+    (record {
+      world = c.in_ok-nav.nav;
+      course = c.in_ok-nav.course;
+      says = c.in_ok-nav.ensures.course.says;
+      changes_say = c.in_ok-nav.ensures.course.course_is;
+      plans =
+          planned grid_site c.in_ok-nav.course c.ends-start.result.0 e c.ends-start.ensures.start
+          c.ends-start.ensures.goal;
+    })
+    c.in_ok-nav.ensures.frame e.ends c.make_plans-status.ensures.frame.others)
+
+pub returns-clause-frame : goal.returns-clause-frame
+returns-clause-frame g c = writes_after _ _ _ _ c.in_ok-nav.ensures.frame c.make_plans-status.ensures.frame
+
+pub returns-in_err-nav-clause-stop : goal.returns-in_err-nav-clause-stop
+returns-in_err-nav-clause-stop g c =
+    let p = err_from_is_err_and c.from_residual.result c.from_residual.ensures.1 in
+    rw (p.1, p.2) (record { cause = c.in_err-nav.ensures.stop; told = c.in_err-nav.ensures.explained None })

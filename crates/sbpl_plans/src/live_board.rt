@@ -1,0 +1,32 @@
+//! A board and its publisher, while a run goes on.
+
+ghost use Rattle.std.specs.Prelude.{◌≡◌, ◌≤◌, ◌<◌, ◌^◌, length};
+
+use sbpl_worlds::{Board, Publisher};
+
+/// A board and its publisher, and the runtime by which their calls wait for other threads. Each path of which it is told is
+/// published at once, as a path of the present plan.
+#[derive(Drop)]
+pub struct LiveBoard<'a, R> {
+    pub(crate) rt: &'a R,
+    pub(crate) board: &'a Board,
+    pub(crate) publisher: &'a mut Publisher,
+    pub(crate) plan: u32,
+    ghost fits: { (publisher.now.board ≡ board.now) × (length publisher.now.published ≤ 2 ^ 63) },
+}
+
+impl<'a, R> LiveBoard<'a, R> {
+    /// The board of this publisher, which has published fewer than 2^62 entries. The present plan is number 0.
+    pub fn new(rt: &'a R, board: &'a Board, publisher: &'a mut Publisher) -> LiveBoard<'a, R>
+        requires board { publisher.now.board ≡ board.now }
+        requires few { length publisher.now.published < 2 ^ 62 }
+        ensures publisher { result.publisher ≡ publisher.entry }
+    {
+        LiveBoard {
+            rt,
+            board,
+            publisher,
+            plan: 0,
+        }
+    }
+}
