@@ -10,8 +10,8 @@ use sbpl_cost::{Graph, Guide, Heuristic, Lattice, NoMemory, StateGaps, gaps_rise
 use std::alloc::Global;
 use std::marker::Model;
 
-/// For the reversed graph of a lattice, the guide to the state where a robot is: at each state the lattice's gap from there to it. It
-/// borrows nothing, and no call takes memory.
+/// For the reversed graph of a lattice, the guide to the state where a robot is: at each state the lattice's gap from there
+/// to it. It borrows nothing, and no call takes memory.
 #[derive(Drop)]
 pub struct FromStart {
     gaps: StateGaps,

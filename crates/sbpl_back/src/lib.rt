@@ -1,5 +1,5 @@
-//! A lattice the other way round: its reversed graph, as a view of a lattice and as something that is planned on, and the guide for a
-//! search that goes from the goal to where a robot is.
+//! A lattice the other way round: its reversed graph, as a view of a lattice and as something that is planned on, and the
+//! guide for a search that goes from the goal to where a robot is.
 #![tactic(auto)]
 
 mod back;

@@ -6,8 +6,9 @@ use crate::back::Back;
 use sbpl_cost::{ArcEnd, Graph, Lattice, Map, NoMemory, OffMap, Terrain};
 use std::marker::Model;
 
-/// A lattice that is searched the other way round, as `Back` has it, with its map: what plans from the goal back to the robot are made
-/// and repaired on. It owns the lattice. `ends_reading` takes memory for the list that it adds to, and no other call takes any.
+/// A lattice that is searched the other way round, as `Back` has it, with its map: what plans from the goal back to the
+/// robot are made and repaired on. It owns the lattice. `ends_reading` takes memory for the list that it adds to, and no
+/// other call takes any.
 #[derive(Drop)]
 pub struct Reversed {
     pub(crate) lattice: Lattice,

@@ -8,8 +8,8 @@ ghost use Rattle.sbpl_back.specs.Reversed.{IsPathTurned, reversed};
 use sbpl_cost::{Graph, Lattice, NoMemory};
 use std::alloc::Global;
 
-/// The arcs of a free path of the reversed graph from state `from`, turned round: a free path of the lattice that leads to `from`, at
-/// the same cost.
+/// The arcs of a free path of the reversed graph from state `from`, turned round: a free path of the lattice that leads to
+/// `from`, at the same cost.
 pub fn turned_round(
     alloc: Global,
     lattice: &Lattice,

@@ -7,7 +7,11 @@ ghost use Rattle.sbpl_labels.specs.sbpl_graph.Network.{IsFreeArc};
 ghost use Rattle.sbpl_labels.specs.sbpl_graph.Path.{IsFreePath};
 ghost use Rattle.sbpl_labels.specs.sbpl_graph.declared.TheConstants.{FAR as Far};
 ghost use Rattle.sbpl_cert.specs.declared.flaw.Flaw.{Flaw as AFlaw};
-ghost use Rattle.sbpl_cert.specs.Checking.{AreAllKept, IsArcFlaw, IsArcFlawAt, IsArcKept, IsBoundFlaw, IsFirstArcFlaw, IsFirstGuideFlaw, IsFirstLowFlaw, IsFirstUnsettledFlaw, IsGuideFlaw, IsGuideFlawAt, IsGuideKept, IsGuideOffFirst, IsGuideRight, IsLowAllowed, IsLowFlaw, IsLowKept, IsOutcomeFlaw, IsOutcomeRight, IsPathFlaw, IsSettled, IsShut, IsStepFlaw, IsSupportFlaw};
+ghost use Rattle.sbpl_cert.specs.Checking.{AreAllKept, IsArcFlaw, IsArcFlawAt, IsArcKept, IsBoundFlaw, IsFirstArcFlaw};
+ghost use Rattle.sbpl_cert.specs.Checking.{IsFirstGuideFlaw, IsFirstLowFlaw, IsFirstUnsettledFlaw, IsGuideFlaw};
+ghost use Rattle.sbpl_cert.specs.Checking.{IsGuideFlawAt, IsGuideKept, IsGuideOffFirst, IsGuideRight, IsLowAllowed};
+ghost use Rattle.sbpl_cert.specs.Checking.{IsLowFlaw, IsLowKept, IsOutcomeFlaw, IsOutcomeRight, IsPathFlaw, IsSettled};
+ghost use Rattle.sbpl_cert.specs.Checking.{IsShut, IsStepFlaw, IsSupportFlaw};
 ghost use Rattle.sbpl_cert.specs.Claims.{claim_of};
 ghost use Rattle.sbpl_cert.specs.Flaws.{HasNoFlaw, IsFirstFlaw};
 ghost use Rattle.sbpl_cert.specs.Sections.{HasArcs};
@@ -47,7 +51,8 @@ fn check_arc<G: Graph, T: LabelTable>(
     requires number { k < (G.network graph.now).fan from.state }
     requires v { from.v ≡ (T.labelling labels.now).v from.state }
     requires near { from.v < 2 ^ 62 }
-    ensures arc { MatchResult result (λ _. IsArcKept (G.network graph.now) (T.labelling labels.now).g (T.labelling labels.now).v from.state k)
+    ensures arc { MatchResult result (λ _. IsArcKept (G.network graph.now) (T.labelling labels.now).g
+        (T.labelling labels.now).v from.state k)
         (IsArcFlaw (G.network graph.now) (T.labelling labels.now).g (T.labelling labels.now).v from.state k) }
 {
     let Some((head, cost)) = free_arc(graph, from.state, k) else {
@@ -76,7 +81,8 @@ fn check_arcs_of<G: Graph, T: LabelTable>(
     requires state { from.state < (G.network graph.now).states }
     requires v { from.v ≡ (T.labelling labels.now).v from.state }
     requires label { IsLabel from.v }
-    ensures arcs { MatchResult result (λ _. (k : ℕ) → IsArcKept (G.network graph.now) (T.labelling labels.now).g (T.labelling labels.now).v from.state k)
+    ensures arcs { MatchResult result (λ _. (k : ℕ) → IsArcKept (G.network graph.now) (T.labelling labels.now).g
+        (T.labelling labels.now).v from.state k)
         (IsArcFlawAt (G.network graph.now) (T.labelling labels.now).g (T.labelling labels.now).v from.state) }
 {
     if from.v == FAR {
@@ -91,7 +97,8 @@ fn check_arcs_of<G: Graph, T: LabelTable>(
 /// The labels along all free arcs from states of finite v.
 fn check_arcs<G: Graph, T: LabelTable>(graph: &G, labels: &T) -> Result<(), Flaw>
     requires states { (T.labelling labels.now).states ≡ (G.network graph.now).states }
-    ensures arcs { MatchResult result (λ _. (s k : ℕ) → IsArcKept (G.network graph.now) (T.labelling labels.now).g (T.labelling labels.now).v s k)
+    ensures arcs { MatchResult result (λ _. (s k : ℕ) → IsArcKept (G.network graph.now) (T.labelling labels.now).g
+        (T.labelling labels.now).v s k)
         (IsFirstArcFlaw (G.network graph.now) (T.labelling labels.now).g (T.labelling labels.now).v) }
 {
     for i in 0..labels.count() {
@@ -104,7 +111,8 @@ fn check_arcs<G: Graph, T: LabelTable>(graph: &G, labels: &T) -> Result<(), Flaw
 fn check_support<G: Graph, T: LabelTable>(graph: &G, start: u32, labels: &T) -> Result<(), Flaw>
     requires states { (T.labelling labels.now).states ≡ (G.network graph.now).states }
     requires start { start < (G.network graph.now).states }
-    ensures support { MatchResult result (λ _. AreAllKept (G.network graph.now) start (T.labelling labels.now).g (T.labelling labels.now).v)
+    ensures support { MatchResult result (λ _. AreAllKept (G.network graph.now) start (T.labelling labels.now).g
+        (T.labelling labels.now).v)
         (IsSupportFlaw (G.network graph.now) start (T.labelling labels.now).g (T.labelling labels.now).v) }
 {
     let g = labels.g(start);
@@ -181,8 +189,10 @@ fn check_guide<G: Graph, H: Guide>(graph: &G, goal: u32, guide: &H) -> Result<()
 fn check_lows<T: LabelTable, H: Guide>(labels: &T, guide: &H, low: u64) -> Result<(), Flaw>
     requires known { (u : ℕ) → u < (T.labelling labels.now).states → H.knows guide.now u }
     ensures low { MatchResult result
-        (λ _. (s : ℕ) → s < (T.labelling labels.now).states → IsLowKept (T.labelling labels.now).g (T.labelling labels.now).v (H.distance guide.now) low s)
-        (IsFirstLowFlaw (T.labelling labels.now).states (T.labelling labels.now).g (T.labelling labels.now).v (H.distance guide.now) low) }
+        (λ _. (s : ℕ) → s < (T.labelling labels.now).states
+        → IsLowKept (T.labelling labels.now).g (T.labelling labels.now).v (H.distance guide.now) low s)
+        (IsFirstLowFlaw (T.labelling labels.now).states (T.labelling labels.now).g (T.labelling labels.now).v
+        (H.distance guide.now) low) }
 {
     for i in 0..labels.count() {
         let row = labels.row(i);
@@ -208,8 +218,10 @@ fn check_low<T: LabelTable, H: Guide>(
     requires known { (u : ℕ) → u < (T.labelling labels.now).states → H.knows guide.now u }
     requires goal { goal < (T.labelling labels.now).states }
     ensures low { MatchResult result
-        (λ _. IsLowAllowed (T.labelling labels.now).states goal (T.labelling labels.now).g (T.labelling labels.now).v (H.distance guide.now) low)
-        (IsLowFlaw (T.labelling labels.now).states goal (T.labelling labels.now).g (T.labelling labels.now).v (H.distance guide.now) low) }
+        (λ _. IsLowAllowed (T.labelling labels.now).states goal (T.labelling labels.now).g (T.labelling labels.now).v
+        (H.distance guide.now) low)
+        (IsLowFlaw (T.labelling labels.now).states goal (T.labelling labels.now).g (T.labelling labels.now).v
+        (H.distance guide.now) low) }
 {
     let most = labels.g(goal);
     if low > most {
@@ -226,7 +238,8 @@ fn check_low<T: LabelTable, H: Guide>(
 fn walk<G: Graph>(graph: &G, start: u32, arcs: &[u32]) -> Result<(u32, u64), Flaw>
     requires start { start < (G.network graph.now).states }
     requires few { length arcs.now < 2 ^ 23 }
-    ensures walk { MatchResult result (λ x. IsFreePath (G.network graph.now) start arcs.now x.0 x.1) (IsStepFlaw (G.network graph.now) start arcs.now) }
+    ensures walk { MatchResult result (λ x. IsFreePath (G.network graph.now) start arcs.now x.0 x.1)
+        (IsStepFlaw (G.network graph.now) start arcs.now) }
 {
     let mut at = start;
     let mut sum = 0;
@@ -261,7 +274,8 @@ fn check_bound(cost: u64, low: u64, bound: u128) -> Result<(), Flaw>
 /// No state of finite g is the goal or has an infinite v.
 fn check_none<T: LabelTable>(labels: &T, goal: u32) -> Result<(), Flaw>
     ensures settled { MatchResult result
-        (λ _. (s : ℕ) → s < (T.labelling labels.now).states → IsSettled goal (T.labelling labels.now).g (T.labelling labels.now).v s)
+        (λ _. (s : ℕ) → s < (T.labelling labels.now).states
+        → IsSettled goal (T.labelling labels.now).g (T.labelling labels.now).v s)
         (IsFirstUnsettledFlaw (T.labelling labels.now).states goal (T.labelling labels.now).g (T.labelling labels.now).v) }
 {
     for i in 0..labels.count() {
@@ -313,8 +327,10 @@ fn check_outcome<G: Graph, T: LabelTable>(
     requires start { start < (G.network graph.now).states }
     requires arcs { HasArcs outcome arcs.now }
     ensures outcome { MatchResult result
-        (λ _. IsOutcomeRight (G.network graph.now) start goal low arcs.now (T.labelling labels.now).g (T.labelling labels.now).v outcome)
-        (IsOutcomeFlaw (G.network graph.now) start goal low arcs.now (T.labelling labels.now).g (T.labelling labels.now).v outcome) }
+        (λ _. IsOutcomeRight (G.network graph.now) start goal low arcs.now (T.labelling labels.now).g
+        (T.labelling labels.now).v outcome)
+        (IsOutcomeFlaw (G.network graph.now) start goal low arcs.now (T.labelling labels.now).g (T.labelling labels.now).v
+        outcome) }
 {
     match outcome {
         Outcome::Path { cost, bound } => check_path(graph, start, goal, arcs, low, cost, bound),
@@ -328,7 +344,8 @@ fn first_flaw<G: Graph>(graph: &G, start: u32, goal: u32, set: &LabelSet) -> Res
     requires start { start < (G.network graph.now).states }
     requires goal { goal < (G.network graph.now).states }
     requires states { length set.now.labels ≡ (G.network graph.now).states }
-    ensures answer { MatchResult result (λ _. ShowsAll (G.network graph.now) start goal (claim_of set.now)) (IsFirstFlaw (G.network graph.now) start goal (claim_of set.now)) }
+    ensures answer { MatchResult result (λ _. ShowsAll (G.network graph.now) start goal (claim_of set.now))
+        (IsFirstFlaw (G.network graph.now) start goal (claim_of set.now)) }
 {
     let _count = set.count();
     check_support(graph, start, set)?;
@@ -357,7 +374,8 @@ fn first_sparse_flaw<G: Graph, H: Guide>(
     requires goal { goal < (G.network graph.now).states }
     requires states { set.now.states ≡ (G.network graph.now).states }
     requires guide { H.guides guide.now (G.network graph.now) goal }
-    ensures answer { MatchResult result (λ _. ShowsAll (G.network graph.now) start goal (sparse_claim (H.distance guide.now) set.now))
+    ensures answer { MatchResult result (λ _. ShowsAll (G.network graph.now) start goal
+        (sparse_claim (H.distance guide.now) set.now))
         (IsFirstFlaw (G.network graph.now) start goal (sparse_claim (H.distance guide.now) set.now)) }
 {
     let _count = set.count();
@@ -417,7 +435,8 @@ pub fn check_sparse<G: Graph, H: Guide>(
     ensures only_none { HasNoFlaw (G.network graph.now) start goal (sparse_claim (H.distance guide.now) set.now) → result ≡ Ok tt }
     // The flaw that is answered is the first one, with its states and numbers.
     ensures first { IfErr result (IsFirstFlaw (G.network graph.now) start goal (sparse_claim (H.distance guide.now) set.now)) }
-    ensures only_first { (f : AFlaw) → IsFirstFlaw (G.network graph.now) start goal (sparse_claim (H.distance guide.now) set.now) f → result ≡ Err f }
+    ensures only_first { (f : AFlaw) → IsFirstFlaw (G.network graph.now) start goal
+        (sparse_claim (H.distance guide.now) set.now) f → result ≡ Err f }
     // What is accepted shows its bound and its outcome.
     ensures shows { OnOk result (ShowsAll (G.network graph.now) start goal (sparse_claim (H.distance guide.now) set.now)) }
     // A path that is accepted is one, with its cost and within its bound; where no path is accepted there is none.

@@ -28,7 +28,8 @@ fn is_reached_by<G: Graph, H: Guide>(
     requires state { t < (G.network graph.now).states }
     requires number { j < (G.network graph.now).tail_fan t }
     ensures reached { IsTrue result → IsReachedBy (G.network graph.now) (kept_v (g_of labels.now) (H.distance guide.now) low) t j }
-    ensures unreached { IsReachedBy (G.network graph.now) (kept_v (g_of labels.now) (H.distance guide.now) low) t j → IsTrue result }
+    ensures unreached { IsReachedBy (G.network graph.now) (kept_v (g_of labels.now) (H.distance guide.now) low) t j
+        → IsTrue result }
 {
     let _states = graph.states();
     let Some((s, k)) = graph.tail(t, j) else {
@@ -138,9 +139,10 @@ fn is_finite(row: SparseRow) -> bool
 }
 
 /// The rows that a section of this outcome needs of the labels that a search by this guide left, with the low that they give: a row
-/// for each state of which a label is finite, upwards. Where there is no path, all labels are needed. Otherwise they are cut: v is g
-/// where g and the guide are below the low; g is 0 at the start and left where a free arc leads from a state of such a v; all else
-/// is infinite. The cut labels show what the whole ones show. States of infinite g are passed over at once.
+/// for each state of which a label is finite, upwards. Where there is no path, all labels are needed. Otherwise they are
+/// cut: v is g where g and the guide are below the low; g is 0 at the start and left where a free arc leads from a state of
+/// such a v; all else is infinite. The cut labels show what the whole ones show. States of infinite g are passed over at
+/// once.
 pub fn cut<G: Graph, H: Guide>(
     alloc: Global,
     graph: &G,

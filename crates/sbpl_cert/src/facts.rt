@@ -8,7 +8,8 @@ pub fn cut_labels_show()
     ensures shows { CutLabelsShow }
 {}
 
-/// The rows of labels that are cut to what a low needs are determined by the labels, the low, and what the guide says at the states.
+/// The rows of labels that are cut to what a low needs are determined by the labels, the low, and what the guide says at
+/// the states.
 pub fn cut_rows_are_one()
     ensures one { CutRowsAreOne }
 {}

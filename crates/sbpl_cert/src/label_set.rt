@@ -37,7 +37,14 @@ impl Model for LabelSet {
 
     ghost view = { λ s. record { plan = s.plan; low = s.low; outcome = s.outcome; arcs = s.arcs; labels = s.labels } };
 
-    ghost invariant = { λ s. IsFullSection (record { plan = s.plan; low = s.low; outcome = s.outcome; arcs = s.arcs; labels = s.labels }) };
+    ghost invariant = { λ s. IsFullSection (record {
+      plan = s.plan;
+      low = s.low;
+      outcome = s.outcome;
+      arcs = s.arcs;
+      labels
+          = s.labels;
+    }) };
 }
 
 impl LabelTable for LabelSet {

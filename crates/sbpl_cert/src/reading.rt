@@ -6,7 +6,10 @@ ghost use Rattle.sbpl_fixed.specs.Tokens.{Piece, tokens_from};
 ghost use Rattle.sbpl_cert.specs.declared.fault.LabelFault.{LabelFault as AFault};
 ghost use Rattle.sbpl_cert.specs.declared.fault.LabelFault.TheVariants.{NoMemory as Memory};
 ghost use Rattle.sbpl_cert.specs.Faults.{told};
-ghost use Rattle.sbpl_cert.specs.Format.{arc_turn, bound, count_format, digits, digits_from, front_format, full_format, head_format, label, low_format, outcome_format, path_format, row_format, row_turn, rows_format, section_format, sparse_format, sparse_head_format, sparse_row_format, sparse_turn, title_format, version_word};
+ghost use Rattle.sbpl_cert.specs.Format.{arc_turn, bound, count_format, digits, digits_from, front_format, full_format};
+ghost use Rattle.sbpl_cert.specs.Format.{head_format, label, low_format, outcome_format, path_format, row_format, row_turn};
+ghost use Rattle.sbpl_cert.specs.Format.{rows_format, section_format, sparse_format, sparse_head_format, sparse_row_format};
+ghost use Rattle.sbpl_cert.specs.Format.{sparse_turn, title_format, version_word};
 ghost use Rattle.sbpl_cert.specs.declared.section.Section.{Section as ASection};
 ghost use Rattle.sbpl_cert.specs.Text.{AreTokensOf, EndsWith, HasFault, IsAfterEnd, with_rest};
 ghost use Rattle.sbpl_cert.specs.Versions.{IsOf};
@@ -200,7 +203,8 @@ fn read_arc(arcs: &mut Vec<u32>, reader: &mut Reader) -> Result<(), LabelFault>
 
 /// Reads this number of further arc numbers.
 fn read_arcs(count: u32, arcs: &mut Vec<u32>, reader: &mut Reader) -> Result<(), LabelFault>
-    ensures read { Gives Memory (λ _. arcs.new.items) result reader.new (reads told (turns count arc_turn arcs.old.items) reader.old) }
+    ensures read { Gives Memory (λ _. arcs.new.items) result reader.new
+        (reads told (turns count arc_turn arcs.old.items) reader.old) }
 {
     for _ in 0..count {
         read_arc(arcs, reader)?;
@@ -263,7 +267,8 @@ fn read_next_row(rows: &mut Vec<Row>, reader: &mut Reader) -> Result<(), LabelFa
 
 /// Reads this number of further rows.
 fn read_rows(count: u32, rows: &mut Vec<Row>, reader: &mut Reader) -> Result<(), LabelFault>
-    ensures read { Gives Memory (λ _. rows.new.items) result reader.new (reads told (turns count row_turn rows.old.items) reader.old) }
+    ensures read { Gives Memory (λ _. rows.new.items) result reader.new
+        (reads told (turns count row_turn rows.old.items) reader.old) }
 {
     for _ in 0..count {
         read_next_row(rows, reader)?;
@@ -291,7 +296,8 @@ fn read_next_sparse_row(
     rows: &mut Vec<SparseRow>,
     reader: &mut Reader,
 ) -> Result<u32, LabelFault>
-    ensures read { Gives Memory (λ next. (next, rows.new.items)) result reader.new (reads told (sparse_turn states (least, rows.old.items)) reader.old) }
+    ensures read { Gives Memory (λ next. (next, rows.new.items)) result reader.new
+        (reads told (sparse_turn states (least, rows.old.items)) reader.old) }
 {
     let row = read_sparse_row(least, states, reader)?;
     rows.push(row)?;
@@ -306,7 +312,8 @@ fn read_sparse_rows(
     rows: &mut Vec<SparseRow>,
     reader: &mut Reader,
 ) -> Result<u32, LabelFault>
-    ensures read { Gives Memory (λ next. (next, rows.new.items)) result reader.new (reads told (turns count (sparse_turn states) (least, rows.old.items)) reader.old) }
+    ensures read { Gives Memory (λ next. (next, rows.new.items)) result reader.new
+        (reads told (turns count (sparse_turn states) (least, rows.old.items)) reader.old) }
 {
     for _ in 0..count {
         least = read_next_sparse_row(least, states, rows, reader)?;
@@ -322,7 +329,8 @@ fn read_full_parts(
     states: u32,
     reader: &mut Reader,
 ) -> Result<(u64, Outcome, Arcs, Vec<Row>), LabelFault>
-    ensures read { Gives Memory (λ x. record { plan = plan; low = x.0; outcome = x.1; arcs = x.2; labels = x.3.items }) result reader.new (reads told (full_format plan states) reader.old) }
+    ensures read { Gives Memory (λ x. record { plan = plan; low = x.0; outcome = x.1; arcs = x.2; labels = x.3.items })
+        result reader.new (reads told (full_format plan states) reader.old) }
 {
     let low = read_head(plan, states, reader)?;
     let (outcome, arcs) = read_outcome(alloc, reader)?;
@@ -360,7 +368,15 @@ fn read_sparse_parts(
     states: u32,
     reader: &mut Reader,
 ) -> Result<(u64, Outcome, Arcs, Vec<SparseRow>), LabelFault>
-    ensures read { Gives Memory (λ x. record { plan = plan; states = states; low = x.0; outcome = x.1; arcs = x.2; rows = x.3.items }) result reader.new (reads told (sparse_format plan states) reader.old) }
+    ensures read { Gives Memory (λ x. record {
+      plan = plan;
+      states = states;
+      low = x.0;
+      outcome = x.1;
+      arcs = x.2;
+      rows =
+          x.3.items;
+    }) result reader.new (reads told (sparse_format plan states) reader.old) }
 {
     let (count, low) = read_sparse_head(plan, states, reader)?;
     let (outcome, arcs) = read_outcome(alloc, reader)?;
@@ -438,7 +454,8 @@ fn read_exactly(
     requires inside { at ≤ length text.now }
     ensures inside { IfOk result (λ x. (at < x.1) × (x.1 ≤ length text.now)) }
     ensures after { IfOk result (λ x. IsAfterEnd text.now at x.1) }
-    ensures exact { Answers Memory (λ x. (x.0, start_at text.now x.1)) result (reads told (section_format plan states) (start_at text.now at)) }
+    ensures exact { Answers Memory (λ x. (x.0, start_at text.now x.1)) result
+        (reads told (section_format plan states) (start_at text.now at)) }
 {
     tokens_are_longest_runs();
     let mut reader = Reader::from(text, at);
@@ -446,10 +463,10 @@ fn read_exactly(
     Ok((set, place + LAST_LENGTH))
 }
 
-/// Reads the section of either version that begins at an offset of a text, and answers the offset after it. Where the text ends before the
-/// offset it has no more tokens. The section must be of this plan and this number of states. Any blanks separate its
-/// tokens. Any other text has exactly one first fault in reading order, which is answered with its place. `Trailing` is
-/// never answered, since more sections may follow this one. `NoMemory` says nothing of the text.
+/// Reads the section of either version that begins at an offset of a text, and answers the offset after it. Where the text
+/// ends before the offset it has no more tokens. The section must be of this plan and this number of states. Any blanks
+/// separate its tokens. Any other text has exactly one first fault in reading order, which is answered with its place.
+/// `Trailing` is never answered, since more sections may follow this one. `NoMemory` says nothing of the text.
 pub fn read_labels(
     alloc: Global,
     text: &[u8],
@@ -465,13 +482,15 @@ pub fn read_labels(
     // The tokens from `at` on stand for what is read, one by one, and then go on from the offset that is answered.
     ensures found { IfOk result (λ x. AreTokensOf (tokens_from text.now at) x.0 (tokens_from text.now x.1)) }
     // What the tokens stand for is read, unless memory runs out.
-    ensures only { (s : ASection) (rest : List Piece) → IsOf plan states s → AreTokensOf (tokens_from text.now at) s rest → Answers Memory (λ x. with_rest x.0 (tokens_from text.now x.1)) result (Ok (with_rest s rest)) }
+    ensures only { (s : ASection) (rest : List Piece) → IsOf plan states s → AreTokensOf (tokens_from text.now at) s rest
+        → Answers Memory (λ x. with_rest x.0 (tokens_from text.now x.1)) result (Ok (with_rest s rest)) }
     // The fault is the first one, where it stands.
     ensures faulty { IfErr result (λ e. e ≢ Memory → HasFault plan states (start_at text.now at) e) }
     // A first fault is answered, unless memory runs out.
     ensures only_faulty { (e : AFault) → HasFault plan states (start_at text.now at) e → Answers Memory (λ x. x.0) result (Err e) }
     // All of this at once: the answer is what reading by the format gives.
-    ensures exact { Answers Memory (λ x. (x.0, start_at text.now x.1)) result (reads told (section_format plan states) (start_at text.now at)) }
+    ensures exact { Answers Memory (λ x. (x.0, start_at text.now x.1)) result
+        (reads told (section_format plan states) (start_at text.now at)) }
 {
     unsigned_numbers_are_their_digits();
     reading_is_what_is_said::<LabelFault, Section>();

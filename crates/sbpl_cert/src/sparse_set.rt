@@ -38,9 +38,24 @@ impl Model for SparseSet {
 
     ghost Value = { SparseSection };
 
-    ghost view = { λ s. record { plan = s.plan; states = s.states; low = s.low; outcome = s.outcome; arcs = s.arcs; rows = s.rows } };
+    ghost view = { λ s. record {
+      plan = s.plan;
+      states = s.states;
+      low = s.low;
+      outcome = s.outcome;
+      arcs = s.arcs;
+      rows =
+          s.rows;
+    } };
 
-    ghost invariant = { λ s. IsSparseSection (record { plan = s.plan; states = s.states; low = s.low; outcome = s.outcome; arcs = s.arcs; rows = s.rows }) };
+    ghost invariant = { λ s. IsSparseSection (record {
+      plan = s.plan;
+      states = s.states;
+      low = s.low;
+      outcome = s.outcome;
+      arcs = s.arcs;
+      rows = s.rows;
+    }) };
 }
 
 /// The number of the row of a state, if it has one.

@@ -4,7 +4,8 @@ ghost use Rattle.std.specs.Prelude.{◌≡◌, ℕ, List, ◌+◌, ◌<◌, ◌�
 ghost use Rattle.std.specs.List.{flat_map};
 ghost use Rattle.sbpl_fixed.specs.Printed.{line_text};
 ghost use Rattle.sbpl_lists.specs.Pieces.{piece_text};
-ghost use Rattle.sbpl_cert.specs.Printed.{BeginsWith, full_text, head_line, label_text, outcome_line, row_text, sparse_head_line, sparse_row_text, sparse_text};
+ghost use Rattle.sbpl_cert.specs.Printed.{BeginsWith, full_text, head_line, label_text, outcome_line, row_text};
+ghost use Rattle.sbpl_cert.specs.Printed.{sparse_head_line, sparse_row_text, sparse_text};
 ghost use Rattle.sbpl_cert.specs.declared.outcome.Outcome.TheVariants as outcome;
 
 use crate::label_set::LabelSet;
@@ -223,7 +224,8 @@ fn front_of(
     outcome: Outcome,
     arcs: &[u32],
 ) -> Result<Vec<u8>, NoMemory>
-    ensures text { IfOk result (λ text. text.items ≡ line_text (map piece_text words.now) ++ line_text (outcome_line outcome arcs.now)) }
+    ensures text { IfOk result (λ text. text.items ≡ line_text (map piece_text words.now)
+        ++ line_text (outcome_line outcome arcs.now)) }
 {
     let mut text = Vec::new(alloc);
     push_line(&mut text, words)?;
@@ -233,7 +235,8 @@ fn front_of(
 
 /// The lines of a section before its rows.
 fn full_front(alloc: Global, set: &LabelSet) -> Result<Vec<u8>, NoMemory>
-    ensures text { IfOk result (λ text. text.items ≡ line_text (head_line set.now) ++ line_text (outcome_line set.now.outcome set.now.arcs)) }
+    ensures text { IfOk result (λ text. text.items ≡ line_text (head_line set.now)
+        ++ line_text (outcome_line set.now.outcome set.now.arcs)) }
 {
     let plan = Number(u64::from(set.plan));
     let states = Number(set.labels.as_slice().len() as u64);
@@ -268,7 +271,8 @@ pub fn write_labels(set: &LabelSet, out: &mut Vec<u8>) -> Result<(), NoMemory>
 
 /// The lines of a sparse section before its rows.
 fn sparse_front(alloc: Global, set: &SparseSet) -> Result<Vec<u8>, NoMemory>
-    ensures text { IfOk result (λ text. text.items ≡ line_text (sparse_head_line set.now) ++ line_text (outcome_line set.now.outcome set.now.arcs)) }
+    ensures text { IfOk result (λ text. text.items ≡ line_text (sparse_head_line set.now)
+        ++ line_text (outcome_line set.now.outcome set.now.arcs)) }
 {
     let plan = Number(u64::from(set.plan));
     let states = Number(u64::from(set.states));

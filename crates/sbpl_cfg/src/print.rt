@@ -2,7 +2,8 @@
 
 ghost use Rattle.std.specs.Prelude.{◌≡◌, ◌*◌, ◌++◌, length, OnOk, OnErr};
 ghost use Rattle.sbpl_fixed.specs.Printed.{line_text, lines_text};
-ghost use Rattle.sbpl_cfg.specs.Printed.{end_lines, environment_text, grid_lines, heading_lines, pose_words, rate_lines, size_lines, threshold_lines};
+ghost use Rattle.sbpl_cfg.specs.Printed.{end_lines, environment_text, grid_lines, heading_lines, pose_words, rate_lines};
+ghost use Rattle.sbpl_cfg.specs.Printed.{size_lines, threshold_lines};
 
 use crate::env::{Env, Grid, HEADINGS_WORD, USUAL_HEADINGS};
 use crate::pose::Pose;

@@ -1,13 +1,19 @@
 //! An environment file is read.
 
-ghost use Rattle.std.specs.Prelude.{true, false, bytes_eq, ℕ, List, Ok, Err, ◌≡◌, ◌≢◌, ◌*◌, ◌<◌, ◌≤◌, pos, negsuc, ◌≤ℤ◌, ◌<ℤ◌, IfOk, IfErr, MatchResult, length};
+ghost use Rattle.std.specs.Prelude.{true, false, bytes_eq, ℕ, List, Ok, Err, ◌≡◌, ◌≢◌, ◌*◌, ◌<◌, ◌≤◌, pos, negsuc, ◌≤ℤ◌};
+ghost use Rattle.std.specs.Prelude.{◌<ℤ◌, IfOk, IfErr, MatchResult, length};
 ghost use Rattle.sbpl_fixed.specs.Formats.{Answers, Gives, reads};
 ghost use Rattle.sbpl_fixed.specs.Tokens.{tokens};
 ghost use Rattle.sbpl_cfg.specs.declared.fault.EnvFault.{EnvFault};
 ghost use Rattle.sbpl_cfg.specs.declared.fault.EnvFault.TheVariants.{NoMemory};
 ghost use Rattle.sbpl_cfg.specs.Environment.{Environment, IsEnvironment, IsHeadingCount, IsPoseInRange, IsWithin};
 ghost use Rattle.sbpl_cfg.specs.Faults.{told};
-ghost use Rattle.sbpl_cfg.specs.Format.{cell_format, circumscribed_format, cost_format, end_format, end_pose_format, ends_format, environment_format, environment_of, extent_format, grid_format, header_format, headings_format, headings_word, inscribed_format, is_fourth_token, is_on_map_of, IsHeaderInRange, nano_format, numbers_format, obsthresh_format, pose_format, rates_format, says_headings, size_format, speed_format, start_format, start_pose_format, thresholds_format, turn45_format, whole_format};
+ghost use Rattle.sbpl_cfg.specs.Format.{cell_format, circumscribed_format, cost_format, end_format, end_pose_format};
+ghost use Rattle.sbpl_cfg.specs.Format.{ends_format, environment_format, environment_of, extent_format, grid_format};
+ghost use Rattle.sbpl_cfg.specs.Format.{header_format, headings_format, headings_word, inscribed_format, is_fourth_token};
+ghost use Rattle.sbpl_cfg.specs.Format.{is_on_map_of, IsHeaderInRange, nano_format, numbers_format, obsthresh_format};
+ghost use Rattle.sbpl_cfg.specs.Format.{pose_format, rates_format, says_headings, size_format, speed_format, start_format};
+ghost use Rattle.sbpl_cfg.specs.Format.{start_pose_format, thresholds_format, turn45_format, whole_format};
 ghost use Rattle.sbpl_cfg.specs.Text.{HasFault, IsTextOf};
 
 use crate::env::{Env, Grid, HEADINGS_WORD, USUAL_HEADINGS};
@@ -30,7 +36,8 @@ const FARTHEST: i64 = 1_000_000_000_000_000_000;
 /// A word, and a number of zero or more after it.
 #[tactic(auto, unfolding(sbpl_fixed::specs::Formats::reads, crate::specs::Format::whole_format))]
 fn natural(reader: &mut Reader, word: &[u8], low: u32, high: u32) -> Result<u32, EnvFault>
-    ensures read { Gives NoMemory (λ x. pos x) result reader.new (reads told (whole_format word.now (pos low) (pos high)) reader.old) }
+    ensures read { Gives NoMemory (λ x. pos x) result reader.new (reads told (whole_format word.now (pos low) (pos high))
+        reader.old) }
     ensures between { IfOk result (λ x. (low ≤ x) × (x ≤ high)) }
 {
     reader.word(word)?;

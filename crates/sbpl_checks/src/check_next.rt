@@ -62,7 +62,8 @@ fn tell_stop<D: Desk>(
     stop: &SectionStop,
     desk: &mut D,
 ) -> Ending
-    ensures ends { EndsAs (D.state desk.old) (D.state desk.new) (stop_writes goal plan stop.now) (stop_status stop.now) result.status }
+    ensures ends { EndsAs (D.state desk.old) (D.state desk.new) (stop_writes goal plan stop.now) (stop_status stop.now)
+        result.status }
     ensures told { IsStopTold labels.now (Some stop.now) result }
     ensures frame { WritesOnly IsOutput (D.state desk.old) (D.state desk.new) }
 {
@@ -89,8 +90,8 @@ fn write_holds<D: Desk>(
     }
 }
 
-/// Checks the section of a plan on a graph and writes that it holds, and answers the offset after it; or writes why the checking ends.
-/// The search went from the state `from` to the state `to`, with this guide.
+/// Checks the section of a plan on a graph and writes that it holds, and answers the offset after it; or writes why the
+/// checking ends. The search went from the state `from` to the state `to`, with this guide.
 pub(crate) fn check_next<G: Graph, H: Guide, D: Desk>(
     alloc: Global,
     graph: &G,
@@ -107,8 +108,10 @@ pub(crate) fn check_next<G: Graph, H: Guide, D: Desk>(
     requires guide { H.guides guide.now (G.network graph.now) to }
     requires at { at ≤ length labels.now.text.now }
     ensures inside { IfOk result (λ next. next ≤ length labels.now.text.now) }
-    ensures holds { IfOk result (λ next. HoldsAndPrints (ground (G.network graph.now) (H.distance guide.now)) from to plan (start_at labels.now.text.now at) (start_at labels.now.text.now next) (D.state desk.old) (D.state desk.new)) }
-    ensures ends { IfErr result (EndsAtSection (ground (G.network graph.now) (H.distance guide.now)) from to plan (start_at labels.now.text.now at) labels.now (D.state desk.old) (D.state desk.new)) }
+    ensures holds { IfOk result (λ next. HoldsAndPrints (ground (G.network graph.now) (H.distance guide.now)) from to plan
+        (start_at labels.now.text.now at) (start_at labels.now.text.now next) (D.state desk.old) (D.state desk.new)) }
+    ensures ends { IfErr result (EndsAtSection (ground (G.network graph.now) (H.distance guide.now)) from to plan
+        (start_at labels.now.text.now at) labels.now (D.state desk.old) (D.state desk.new)) }
     ensures frame { WritesOnly IsOutput (D.state desk.old) (D.state desk.new) }
 {
     match check_section(alloc, graph, guide, from, to, plan, labels.text, at) {

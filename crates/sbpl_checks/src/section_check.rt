@@ -59,8 +59,8 @@ fn check_either<G: Graph, H: Guide>(
     }
 }
 
-/// Reads the section of a plan and checks it on a graph, with a guide to the goal. Answers what the plan answered, and the offset after the
-/// section.
+/// Reads the section of a plan and checks it on a graph, with a guide to the goal. Answers what the plan answered, and the
+/// offset after the section.
 pub(crate) fn check_section<G: Graph, H: Guide>(
     alloc: Global,
     graph: &G,
@@ -75,9 +75,11 @@ pub(crate) fn check_section<G: Graph, H: Guide>(
     requires goal { goal < (G.network graph.now).states }
     requires guide { H.guides guide.now (G.network graph.now) goal }
     requires at { at ≤ length text.now }
-    ensures holds { IfOk result (λ x. IsShownHolding (ground (G.network graph.now) (H.distance guide.now)) start goal plan (start_at text.now at) x.0 (start_at text.now x.1)) }
+    ensures holds { IfOk result (λ x. IsShownHolding (ground (G.network graph.now) (H.distance guide.now)) start goal plan
+        (start_at text.now at) x.0 (start_at text.now x.1)) }
     ensures inside { IfOk result (λ x. x.1 ≤ length text.now) }
-    ensures stop { IfErr result (IsSectionStop (ground (G.network graph.now) (H.distance guide.now)) start goal plan (start_at text.now at)) }
+    ensures stop { IfErr result (IsSectionStop (ground (G.network graph.now) (H.distance guide.now)) start goal plan
+        (start_at text.now at)) }
 {
     let (section, next) = read_section(alloc, text, at, plan, graph.states())?;
     match check_either(graph, guide, start, goal, &section) {

@@ -47,9 +47,11 @@ fn check_plan<D: Desk, W: Workspace>(
     requires at { at ≤ length labels.now.text.now }
     ensures inside { IfOk result (λ next. next ≤ length labels.now.text.now) }
     ensures holds { (c : Case (site_of W.network W.cells W.Best.says W.wording)) → IsPlanIn c plan world.now start goal
-        → IfOk result (λ next. HoldsInCase c plan (start_at labels.now.text.now at) (start_at labels.now.text.now next) (D.state desk.old) (D.state desk.new)) }
+        → IfOk result (λ next. HoldsInCase c plan (start_at labels.now.text.now at) (start_at labels.now.text.now next)
+        (D.state desk.old) (D.state desk.new)) }
     ensures ends { (c : Case (site_of W.network W.cells W.Best.says W.wording)) (more : ℕ) → IsPlanIn c plan world.now start goal
-        → IfErr result (EndsSections c plan (suc more) (start_at labels.now.text.now at) labels.now (D.state desk.old) (D.state desk.new)) }
+        → IfErr result (EndsSections c plan (suc more) (start_at labels.now.text.now at) labels.now (D.state desk.old)
+        (D.state desk.new)) }
     ensures frame { WritesOnly IsOutput (D.state desk.old) (D.state desk.new) }
 {
     let (from, to) = W::way(start, goal);
@@ -74,8 +76,8 @@ fn aim<W: Workspace>(
     guide.aim(alloc, world, to)
 }
 
-/// Checks the sections of a file of labels, one for each map, while batches of changes are written to the map and the robot moves, and
-/// writes what came of it. The guide is to the state to which the search of the first plan goes.
+/// Checks the sections of a file of labels, one for each map, while batches of changes are written to the map and the robot
+/// moves, and writes what came of it. The guide is to the state to which the search of the first plan goes.
 fn check_sections<D: Desk, W: Workspace>(
     alloc: Global,
     world: &mut W,
@@ -91,7 +93,9 @@ fn check_sections<D: Desk, W: Workspace>(
     requires kept { W.cells.is_made world.old }
     requires course { (moving : Bool) × IsCourseIn (site_of W.network W.cells W.Best.says W.wording) moving world.old course.now }
     requires made { W.Best.is_made_for guide.old world.old (to_of W.wording.back start goal) }
-    ensures ends { EndsSections (case_of (site_of W.network W.cells W.Best.says W.wording) world.old course.now start goal) 0 (suc (length course.now.batches)) (start_at labels.now.text.now 0) labels.now (D.state desk.old) (D.state desk.new) result }
+    ensures ends { EndsSections (case_of (site_of W.network W.cells W.Best.says W.wording) world.old course.now start goal)
+        0 (suc (length course.now.batches)) (start_at labels.now.text.now 0) labels.now (D.state desk.old)
+        (D.state desk.new) result }
     ensures frame { WritesOnly IsOutput (D.state desk.old) (D.state desk.new) }
 {
     W::is_terrain();
@@ -119,8 +123,8 @@ fn check_sections<D: Desk, W: Workspace>(
     }
 }
 
-/// Checks the sections of a file of labels, which were searched as `W` is, on the maps while batches of changes are written, and writes
-/// what came of it.
+/// Checks the sections of a file of labels, which were searched as `W` is, on the maps while batches of changes are
+/// written, and writes what came of it.
 pub fn check_text<D: Desk, W: Workspace>(
     alloc: Global,
     world: &mut W,
@@ -134,7 +138,9 @@ pub fn check_text<D: Desk, W: Workspace>(
     requires goal { goal < (W.wording.told world.old).states }
     requires kept { W.cells.is_made world.old }
     requires course { (moving : Bool) × IsCourseIn (site_of W.network W.cells W.Best.says W.wording) moving world.old course.now }
-    ensures ends { EndsSections (case_of (site_of W.network W.cells W.Best.says W.wording) world.old course.now start goal) 0 (suc (length course.now.batches)) (start_at labels.now.text.now 0) labels.now (D.state desk.old) (D.state desk.new) result }
+    ensures ends { EndsSections (case_of (site_of W.network W.cells W.Best.says W.wording) world.old course.now start goal)
+        0 (suc (length course.now.batches)) (start_at labels.now.text.now 0) labels.now (D.state desk.old)
+        (D.state desk.new) result }
     ensures frame { WritesOnly IsOutput (D.state desk.old) (D.state desk.new) }
 {
     let (_from, to) = W::way(start, goal);

@@ -27,7 +27,8 @@ impl Model for Claims {
 
     ghost view = { λ a. a.table.shared.table_id };
 
-    ghost invariant = { λ a. (a.table.shared.table_id.words ≡ 1) × (a.seat.table_id ≡ a.table.shared.table_id) × (a.seat.me ≡ (none_made, [])) };
+    ghost invariant = { λ a. (a.table.shared.table_id.words ≡ 1) × (a.seat.table_id ≡ a.table.shared.table_id)
+        × (a.seat.me ≡ (none_made, [])) };
 }
 
 impl Claims {

@@ -28,7 +28,8 @@ impl<M: Naming> Model for Keeper<M> {
 
     ghost view = { λ a. standing_of a.seat.me.0 };
 
-    ghost invariant = { λ a. (a.table.shared.table_id ≡ M.table) × (M.table.words ≡ 1) × (a.seat.table_id ≡ M.table) × (a.seat.me ≡ (whole (standing_of a.seat.me.0) None, [])) };
+    ghost invariant = { λ a. (a.table.shared.table_id ≡ M.table) × (M.table.words ≡ 1) × (a.seat.table_id ≡ M.table)
+        × (a.seat.me ≡ (whole (standing_of a.seat.me.0) None, [])) };
 }
 
 impl<M: Naming> Keeper<M> {

@@ -30,7 +30,8 @@ fn push_others(list: &mut Vec<Cell>, cells: &[Cell], known: &[Cell]) -> Result<(
 
 /// The centre cells of a primitive, its end cell first.
 fn along_cells(alloc: Global, prim: &Prim, centres: &[Cell]) -> Result<Vec<Cell>, NoMemory>
-    ensures along { IfOk result (λ v. (size : _) (headings : _) → IsPrimitive size headings prim.now → AreCentres size prim.now.poses centres.now → AreAlong size prim.now v.items) }
+    ensures along { IfOk result (λ v. (size : _) (headings : _) → IsPrimitive size headings prim.now
+        → AreCentres size prim.now.poses centres.now → AreAlong size prim.now v.items) }
 {
     ends_are_centres();
     let end = [Cell {

@@ -111,7 +111,8 @@ fn least_rate(env: &Env, prims: &[Prim], costs: &[u32], way: Way) -> Rate
 
 /// What it costs to get along an axis from one cell to another, by the rates of going forwards and backwards.
 fn along(from: u32, to: u32, forwards: &Rate, backwards: &Rate) -> u64
-    ensures cost { result ≡ max ((to - from) * forwards.now.cost / forwards.now.cells) ((from - to) * backwards.now.cost / backwards.now.cells) }
+    ensures cost { result ≡ max ((to - from) * forwards.now.cost / forwards.now.cells)
+        ((from - to) * backwards.now.cost / backwards.now.cells) }
 {
     if from <= to {
         forwards.floor(to - from)

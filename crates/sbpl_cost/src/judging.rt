@@ -7,7 +7,8 @@ ghost use Rattle.sbpl_sweep.specs.declared.cell.Cell.{Cell};
 ghost use Rattle.sbpl_cost.specs.Strips.{cells_in, strip_cells};
 ghost use Rattle.sbpl_cost.specs.Reaches.{AreOnMap, IsReach, LieWithin};
 ghost use Rattle.sbpl_cost.specs.Walls.{AreWalls};
-ghost use Rattle.sbpl_cost.specs.Judging.{IsNear, IsCellBelow, IsGreatestBelow, IsSomeBlocked, AreBelow, IsGreatestPassed, IsObstructed};
+ghost use Rattle.sbpl_cost.specs.Judging.{IsNear, IsCellBelow, IsGreatestBelow, IsSomeBlocked, AreBelow, IsGreatestPassed};
+ghost use Rattle.sbpl_cost.specs.Judging.{IsObstructed};
 
 use crate::reach::Reach;
 use crate::strip::Strip;
@@ -176,8 +177,8 @@ fn are_clear(
 const HERE: Cell = Cell { y: 0, x: 0 };
 
 /// The greatest cost of the source cell of a motion and the cells along it, where the source cell and the cells around
-/// the motion are low enough for the robot, and those along it for the robot and its centre. The cells around the motion lie within a
-/// reach.
+/// the motion are low enough for the robot, and those along it for the robot and its centre. The cells around the motion
+/// lie within a reach.
 pub(crate) fn greatest_paid(
     env: &Env,
     map: &Map,

@@ -1,6 +1,7 @@
 //! The lattice: an environment, primitives and a map, as a graph.
 
-ghost use Rattle.std.specs.Prelude.{◌≡◌, pos, ◌^◌, ◌<◌, ◌≤◌, ◌↔◌, ◌++◌, length, slice_get, Some, IsSome, IfSome, IsOk, IfOk, IfErr, OnOk, OnErr};
+ghost use Rattle.std.specs.Prelude.{◌≡◌, pos, ◌^◌, ◌<◌, ◌≤◌, ◌↔◌, ◌++◌, length, slice_get, Some, IsSome, IfSome, IsOk};
+ghost use Rattle.std.specs.Prelude.{IfOk, IfErr, OnOk, OnErr};
 ghost use Rattle.std.specs.List.{filter_map};
 ghost use Rattle.std.specs.Option.{option_map};
 ghost use Rattle.sbpl_terrain.specs.sbpl_graph.Laws.{IsTail};
@@ -72,7 +73,8 @@ impl Model for Lattice {
 
     ghost view = { λ l. record { env = l.env; prims = l.prims; sweeps = l.sweeps; map = l.map } };
 
-    ghost invariant = { λ l. AreTables (record { env = l.env; prims = l.prims; sweeps = l.sweeps; map = l.map }) l.leaving l.entering l.numbers.items l.tail_numbers.items l.costs.items l.along l.around l.reaches.items l.walls l.gaps };
+    ghost invariant = { λ l. AreTables (record { env = l.env; prims = l.prims; sweeps = l.sweeps; map = l.map }) l.leaving
+        l.entering l.numbers.items l.tail_numbers.items l.costs.items l.along l.around l.reaches.items l.walls l.gaps };
 }
 
 impl Lattice {
@@ -263,7 +265,8 @@ impl Lattice {
     /// Adds to a list the heads of all arcs with a head whose judgement reads cell `(x, y)`, as `ends_reading` does.
     pub fn heads_reading(&self, x: u32, y: u32, into: &mut Vec<u32>) -> Result<(), NoMemory>
         ensures heads { OnOk result (AddsFewEnds Ends.Head self.now (pos x) (pos y) into.old.items into.new.items) }
-        ensures listed { OnOk result (into.new.items ≡ into.old.items ++ filter_map (end_of_read Ends.Head self.now.env self.now.prims.items (pos x) (pos y)) self.now.sweeps.reads) }
+        ensures listed { OnOk result (into.new.items ≡ into.old.items ++ filter_map
+            (end_of_read Ends.Head self.now.env self.now.prims.items (pos x) (pos y)) self.now.sweeps.reads) }
         ensures memory { OnErr result (into.new.items ≡ into.old.items) }
     {
         self.ends_reading(x, y, ArcEnd::Head, into)
@@ -272,7 +275,8 @@ impl Lattice {
     /// Adds to a list the sources of all arcs with a head whose judgement reads cell `(x, y)`, as `ends_reading` does.
     pub fn tails_reading(&self, x: u32, y: u32, into: &mut Vec<u32>) -> Result<(), NoMemory>
         ensures sources { OnOk result (AddsFewEnds Ends.Source self.now (pos x) (pos y) into.old.items into.new.items) }
-        ensures listed { OnOk result (into.new.items ≡ into.old.items ++ filter_map (end_of_read Ends.Source self.now.env self.now.prims.items (pos x) (pos y)) self.now.sweeps.reads) }
+        ensures listed { OnOk result (into.new.items ≡ into.old.items ++ filter_map
+            (end_of_read Ends.Source self.now.env self.now.prims.items (pos x) (pos y)) self.now.sweeps.reads) }
         ensures memory { OnErr result (into.new.items ≡ into.old.items) }
     {
         self.ends_reading(x, y, ArcEnd::Source, into)
@@ -290,7 +294,8 @@ impl Lattice {
         into: &mut Vec<u32>,
     ) -> Result<(), NoMemory>
         ensures ends { OnOk result (AddsFewEnds end self.now (pos x) (pos y) into.old.items into.new.items) }
-        ensures listed { OnOk result (into.new.items ≡ into.old.items ++ filter_map (end_of_read end self.now.env self.now.prims.items (pos x) (pos y)) self.now.sweeps.reads) }
+        ensures listed { OnOk result (into.new.items ≡ into.old.items ++ filter_map
+            (end_of_read end self.now.env self.now.prims.items (pos x) (pos y)) self.now.sweeps.reads) }
         ensures memory { OnErr result (into.new.items ≡ into.old.items) }
     {
         add_ends(&self.env, &self.prims, self.sweeps.reads(), x, y, end, into)?;

@@ -1,10 +1,13 @@
 //! The cost of a primitive by itself: SBPL's rule, in whole numbers.
 
-ghost use Rattle.std.specs.Prelude.{◌≡◌, ◌≢◌, ℕ, pos, negsuc, ◌-ℤ◌, ◌+◌, ◌*◌, ◌^◌, ◌<◌, ◌≤◌, length, slice_get, Some, IfSome, IfNone};
+ghost use Rattle.std.specs.Prelude.{◌≡◌, ◌≢◌, ℕ, pos, negsuc, ◌-ℤ◌, ◌+◌, ◌*◌, ◌^◌, ◌<◌, ◌≤◌, length, slice_get, Some};
+ghost use Rattle.std.specs.Prelude.{IfSome, IfNone};
 ghost use Rattle.sbpl_sweep.specs.sbpl_cfg.declared.pose.Pose.{Pose};
 ghost use Rattle.sbpl_sweep.specs.sbpl_cfg.Environment.{IsWithin};
 ghost use Rattle.sbpl_sweep.specs.sbpl_mprim.Primitives.{IsPrimitive, IsOffsetInRange, pose_count};
-ghost use Rattle.sbpl_cost.specs.PrimitiveCost.{squared, distance, way_length, heading_gap, linear_time, angular_time, primitive_cost, most_cost, IsTooDear, DistancesRoundUp, CeilingsRoundUp, GapsAreShortest};
+ghost use Rattle.sbpl_cost.specs.PrimitiveCost.{squared, distance, way_length, heading_gap, linear_time, angular_time};
+ghost use Rattle.sbpl_cost.specs.PrimitiveCost.{primitive_cost, most_cost, IsTooDear, DistancesRoundUp, CeilingsRoundUp};
+ghost use Rattle.sbpl_cost.specs.PrimitiveCost.{GapsAreShortest};
 
 use sbpl_sweep::{Env, Pose, Prim, ceil_div, ceil_root};
 

@@ -60,7 +60,8 @@ fn push_ends(
     requires primitives { ArePrimitives prims.now }
     requires headings { prims.now.headings ≡ env.now.headings }
     requires reads { AreReadable prims.now.items reads.now }
-    ensures added { OnOk result (into.new.items ≡ into.old.items ++ filter_map (end_of_read end env.now prims.now.items (pos x) (pos y)) reads.now) }
+    ensures added { OnOk result (into.new.items ≡ into.old.items ++ filter_map
+        (end_of_read end env.now prims.now.items (pos x) (pos y)) reads.now) }
     ensures front { OnErr result (take (length into.old.items) into.new.items ≡ into.old.items) }
 {
     for read in reads {
@@ -82,7 +83,8 @@ pub(crate) fn add_ends(
     requires primitives { ArePrimitives prims.now }
     requires headings { prims.now.headings ≡ env.now.headings }
     requires reads { AreReadable prims.now.items reads.now }
-    ensures added { OnOk result (into.new.items ≡ into.old.items ++ filter_map (end_of_read end env.now prims.now.items (pos x) (pos y)) reads.now) }
+    ensures added { OnOk result (into.new.items ≡ into.old.items ++ filter_map
+        (end_of_read end env.now prims.now.items (pos x) (pos y)) reads.now) }
     ensures refused { OnErr result (into.new.items ≡ into.old.items) }
 {
     let count = into.len();

@@ -9,8 +9,8 @@ use crate::places::place_at;
 use sbpl_sweep::Env;
 use std::marker::Model;
 
-/// What going from one state of a lattice to another costs at least, on each of its maps. It is a few numbers and borrows nothing, so
-/// a guide that needs no more of the lattice can keep it. No call takes memory.
+/// What going from one state of a lattice to another costs at least, on each of its maps. It is a few numbers and borrows
+/// nothing, so a guide that needs no more of the lattice can keep it. No call takes memory.
 #[derive(Drop)]
 pub struct StateGaps {
     pub(crate) env: Env,

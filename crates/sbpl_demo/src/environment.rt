@@ -102,7 +102,8 @@ pub(crate) fn draw_environment(
 ) -> Result<Vec<u8>, NoMemory>
     requires width { (8 ≤ width) × (width ≤ 512) }
     requires height { (8 ≤ height) × (height ≤ 512) }
-    ensures text { IfOk result (λ text. text.items ≡ environment_text (environment width height) (costs width height draws.old.word)) }
+    ensures text { IfOk result (λ text. text.items ≡ environment_text (environment width height)
+        (costs width height draws.old.word)) }
     ensures word { OnOk result (draws.new.word ≡ word_after (width * height) draws.old.word) }
 {
     let grid = Grid::of(draw_grid(alloc, draws, width, height)?);

@@ -3,7 +3,9 @@
 ghost use Rattle.std.specs.Prelude.{◌≡◌, ◌<◌, ◌≤◌, ◌++◌, pos, negsuc, ◌≤ℤ◌, OnOk, IfOk};
 ghost use Rattle.std.specs.List.{flat_map};
 ghost use Rattle.sbpl_fixed.specs.Printed.{line_text, lines_text};
-ghost use Rattle.sbpl_demo.specs.Primitives.{IsMotion, IsWithinTwoCells, along, angle, backward, far, forward, heading_at, left, motion_head, motion_lines, motions_from, nearest_ninth, pose_lines, pose_words, primitives_text, right, way_along};
+ghost use Rattle.sbpl_demo.specs.Primitives.{IsMotion, IsWithinTwoCells, along, angle, backward, far, forward, heading_at};
+ghost use Rattle.sbpl_demo.specs.Primitives.{left, motion_head, motion_lines, motions_from, nearest_ninth, pose_lines};
+ghost use Rattle.sbpl_demo.specs.Primitives.{pose_words, primitives_text, right, way_along};
 
 use crate::put::Parts;
 use sbpl_cost::Piece::{Bytes, Number, Signed};

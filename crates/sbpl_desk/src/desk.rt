@@ -1,6 +1,7 @@
 //! What the program sees of the outside.
 ghost use Rattle.std.specs.Prelude.{◌≡◌, ◌≤◌, ◌^◌, [], OnOk, OnErr, IfSome, IsErrOf, vec_len};
-ghost use Rattle.sbpl_desk.specs.Desk.{Appends, AppendsPrefix, DeskState, Keeps, ReadFailed, ReadsOnly, TooLongWhere, WriteFailed, WritesOnly};
+ghost use Rattle.sbpl_desk.specs.Desk.{Appends, AppendsPrefix, DeskState, Keeps, ReadFailed, ReadsOnly, TooLongWhere};
+ghost use Rattle.sbpl_desk.specs.Desk.{WriteFailed, WritesOnly};
 ghost use Rattle.sbpl_desk.specs.declared.desk.ReadStop.TheVariants as ReadStops;
 ghost use Rattle.sbpl_desk.specs.declared.desk.WriteStop.TheVariants as WriteStops;
 
@@ -99,8 +100,10 @@ pub trait Desk {
     /// - `NoMemory` where memory ran out. Nothing was appended.
     fn write(&mut self, name: &str, bytes: &[u8]) -> Result<(), WriteStop>
         ensures bytes { OnOk result (Appends ((state self.old).written name.now) ((state self.new).written name.now) bytes.now) }
-        ensures prefix { IsErrOf result WriteStop.Failed → AppendsPrefix ((state self.old).written name.now) ((state self.new).written name.now) bytes.now }
-        ensures memory { IsErrOf result WriteStop.NoMemory → Keeps ((state self.old).written name.now) ((state self.new).written name.now) }
+        ensures prefix { IsErrOf result WriteStop.Failed → AppendsPrefix ((state self.old).written name.now)
+            ((state self.new).written name.now) bytes.now }
+        ensures memory { IsErrOf result WriteStop.NoMemory → Keeps ((state self.old).written name.now)
+            ((state self.new).written name.now) }
         ensures failed { IsErrOf result WriteStop.Failed → WriteFailed (state self.old) (state self.new) name.now }
         ensures frame { WritesOnly (λ other. other ≡ name.now) (state self.old) (state self.new) };
 }

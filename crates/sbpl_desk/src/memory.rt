@@ -1,10 +1,12 @@
 //! A desk in memory, for tests.
-ghost use Rattle.std.specs.Prelude.{◌≡◌, ◌≢◌, ◌≤◌, ◌^◌, ◌++◌, [], Some, None, Err, IsSome, IsNone, IfSome, IsErr, IsErrOf, IsOkUnless, OnOk, OnErr, ℕ, List, replicate, take, vec_len};
+ghost use Rattle.std.specs.Prelude.{◌≡◌, ◌≢◌, ◌≤◌, ◌^◌, ◌++◌, [], Some, None, Err, IsSome, IsNone, IfSome, IsErr, IsErrOf};
+ghost use Rattle.std.specs.Prelude.{IsOkUnless, OnOk, OnErr, ℕ, List, replicate, take, vec_len};
 ghost use Rattle.std.specs.BTreeMap.{get};
 ghost use Rattle.std.specs.Ordering.{nat_cmp};
 ghost use Rattle.sbpl_desk.specs.Counts.{risen, read_count, write_count};
 ghost use Rattle.sbpl_desk.specs.Desk.{AppendsPrefix, Stays, TooLongWhere};
-ghost use Rattle.sbpl_desk.specs.Memory.{MakesNoCall, memory_held, memory_written, memory_failing, memory_calls, memory_read_faults, memory_state, memory_write_faults, text_at, content_bytes};
+ghost use Rattle.sbpl_desk.specs.Memory.{MakesNoCall, memory_held, memory_written, memory_failing, memory_calls};
+ghost use Rattle.sbpl_desk.specs.Memory.{memory_read_faults, memory_state, memory_write_faults, text_at, content_bytes};
 
 use crate::desk::MOST;
 use crate::{Desk, ReadStop, WriteStop};
@@ -187,7 +189,8 @@ impl Desk for MemoryDesk {
         // It fails exactly where the call is listed or the name isn't held, and counts that.
         ensures listed { IsSome (memory_failing self.old (memory_calls self.old)) → IsErrOf result ReadStop.Failed }
         ensures absent { IsNone (memory_held self.old name.now) → IsErrOf result ReadStop.Failed }
-        ensures present { IsNone (memory_failing self.old (memory_calls self.old)) → IsSome (memory_held self.old name.now) → result ≢ Err ReadStop.Failed }
+        ensures present { IsNone (memory_failing self.old (memory_calls self.old)) → IsSome (memory_held self.old name.now)
+            → result ≢ Err ReadStop.Failed }
         ensures reads { memory_read_faults self.new ≡ read_count result (memory_read_faults self.old) }
         ensures counts { memory_read_faults self.old ≤ memory_read_faults self.new }
         ensures writes { memory_write_faults self.new ≡ memory_write_faults self.old }
@@ -207,14 +210,17 @@ impl Desk for MemoryDesk {
     fn write(&mut self, name: &str, bytes: &[u8]) -> Result<(), WriteStop>
         // As each desk.
         ensures bytes { OnOk result (memory_written self.new name.now ≡ memory_written self.old name.now ++ bytes.now) }
-        ensures prefix { IsErrOf result WriteStop.Failed → AppendsPrefix (Some (memory_written self.old name.now)) (Some (memory_written self.new name.now)) bytes.now }
+        ensures prefix { IsErrOf result WriteStop.Failed → AppendsPrefix (Some (memory_written self.old name.now))
+            (Some (memory_written self.new name.now)) bytes.now }
         ensures memory { IsErrOf result WriteStop.NoMemory → Stays (memory_written self.old) (memory_written self.new) }
         ensures others { (other : List ℕ) → other ≢ name.now → memory_written self.new other ≡ memory_written self.old other }
         ensures held { Stays (memory_held self.old) (memory_held self.new) }
 
         // It fails exactly where the call is listed, after as many bytes as listed, and counts that.
         ensures listed { IsSome (memory_failing self.old (memory_calls self.old)) → IsErr result }
-        ensures after { IfSome (memory_failing self.old (memory_calls self.old)) (λ after. IsErrOf result WriteStop.Failed → memory_written self.new name.now ≡ memory_written self.old name.now ++ take after bytes.now) }
+        ensures after { IfSome (memory_failing self.old (memory_calls self.old))
+            (λ after. IsErrOf result WriteStop.Failed → memory_written self.new name.now ≡ memory_written self.old name.now
+            ++ take after bytes.now) }
         ensures unlisted { IsNone (memory_failing self.old (memory_calls self.old)) → IsOkUnless result WriteStop.NoMemory }
         ensures reads { memory_read_faults self.new ≡ memory_read_faults self.old }
         ensures writes { memory_write_faults self.new ≡ write_count result (memory_write_faults self.old) }

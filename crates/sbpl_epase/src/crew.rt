@@ -55,7 +55,8 @@ pub(crate) fn run_workers<
         rt,
         move |scope| -> (Vec<Seat<N, M, L>>, Result<(), NoMemory>)
             requires { (G.network floor.now.graph.now ≡ N.query.network) × All (λ s. length s.posts ≡ s.takes) seats.items }
-            ensures { (vec_len result.0 ≡ vec_len seats) × All (λ s. length s.posts ≡ s.takes) result.0.items × OnOk result.1 (All (HasEnded N.query N.opening N.counts) result.0.items) }
+            ensures { (vec_len result.0 ≡ vec_len seats) × All (λ s. length s.posts ≡ s.takes) result.0.items
+                × OnOk result.1 (All (HasEnded N.query N.opening N.counts) result.0.items) }
         {
             let mut seats = seats;
             let outcome = work_all(scope, alloc, floor, &mut seats);

@@ -83,7 +83,8 @@ impl<F> Epase<F> {
     /// Makes the labels initial again. The start, the goal and the number of states stay. It takes no memory.
     pub fn reset(&mut self)
         ensures opened { AreInitial self.new.search.labels (states_of self.old.search.labels) self.old.search.labels.start }
-        ensures ready { (n : Network) (count : ℕ) → n.states ≡ states_of self.old.search.labels → AreReady n self.new.search.labels count }
+        ensures ready { (n : Network) (count : ℕ) → n.states ≡ states_of self.old.search.labels
+            → AreReady n self.new.search.labels count }
         ensures fresh { IsStartFresh self.new.search.labels }
         ensures none_raised { self.new.search.raised ≡ [] }
         ensures goal { self.new.search.goal ≡ self.old.search.goal }
@@ -96,17 +97,19 @@ impl<F> Epase<F> {
         self.raiser.clear();
     }
 
-    /// Makes the labels ready for a plan on a graph that has changed. Each touched state is recomputed on the graph as it now is, and
-    /// then states are raised until none is underconsistent: first the touched ones that are, upwards, and then each state that
-    /// becomes so, as this is seen. The condition is that every other state, but the start, has on this graph the g and the back arc,
-    /// or none, that exact labels ask for. The touched states come upwards, once each. Only these are looked at, and the heads of
-    /// the raised ones. It takes no memory.
+    /// Makes the labels ready for a plan on a graph that has changed. Each touched state is recomputed on the graph as it
+    /// now is, and then states are raised until none is underconsistent: first the touched ones that are, upwards, and then
+    /// each state that becomes so, as this is seen. The condition is that every other state, but the start, has on this
+    /// graph the g and the back arc, or none, that exact labels ask for. The touched states come upwards, once each. Only
+    /// these are looked at, and the heads of the raised ones. It takes no memory.
     pub fn change<G: Graph>(&mut self, graph: &G, touched: &[u32])
         requires states { states_of self.old.search.labels ≡ (G.network graph.now).states }
         requires changeable { IsChangeable (G.network graph.now) touched.now self.old.search.labels }
         requires upwards { IsStrictlyIncreasing touched.now }
-        ensures begun { BeginsRaised (G.network graph.now) touched.now self.old.search.labels self.new.search.labels self.new.search.raised }
-        ensures ready { (n : Network) (count : ℕ) → n.states ≡ (G.network graph.now).states → AreReady n self.old.search.labels count → AreReady (G.network graph.now) self.new.search.labels count }
+        ensures begun { BeginsRaised (G.network graph.now) touched.now self.old.search.labels self.new.search.labels
+            self.new.search.raised }
+        ensures ready { (n : Network) (count : ℕ) → n.states ≡ (G.network graph.now).states
+            → AreReady n self.old.search.labels count → AreReady (G.network graph.now) self.new.search.labels count }
         ensures fresh { IsStartFresh self.old.search.labels → IsStartFresh self.new.search.labels }
         ensures start { self.new.search.labels.start ≡ self.old.search.labels.start }
         ensures same_states { states_of self.new.search.labels ≡ states_of self.old.search.labels }
@@ -118,8 +121,8 @@ impl<F> Epase<F> {
         }
     }
 
-    /// Sets the goal of the passes to come, a state by its number. All else stays, so the next pass goes on from these labels. It takes
-    /// no memory.
+    /// Sets the goal of the passes to come, a state by its number. All else stays, so the next pass goes on from these
+    /// labels. It takes no memory.
     pub fn aim(&mut self, goal: u32)
         requires goal { goal < states_of self.old.search.labels }
         ensures aimed { self.new ≡ record self.old { search = record self.old.search { goal = goal } } }
@@ -149,7 +152,8 @@ impl<F> Epase<F> {
     /// h by this guide. It looks only at the states that may be open.
     pub fn low<H: Guide>(&self, guide: &H) -> u64
         requires known { (s : ℕ) → s < states_of self.now.search.labels → H.knows guide.now s }
-        ensures least { IsLow (states_of self.now.search.labels) self.now.search.goal (g_of self.now.search.labels) (v_of self.now.search.labels) (H.distance guide.now) result }
+        ensures least { IsLow (states_of self.now.search.labels) self.now.search.goal (g_of self.now.search.labels)
+            (v_of self.now.search.labels) (H.distance guide.now) result }
     {
         let space = self.space.as_ref().unwrap();
         space.low(self.labels(), guide, self.goal)

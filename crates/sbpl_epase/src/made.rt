@@ -27,10 +27,13 @@ pub(crate) fn pass_by<
     keeps: bool,
 ) -> Result<Passed, Parts>
     requires makes { MakesPasses G.network H.distance H.guides F.pre F.post make.now }
-    requires can { CanPass (query (G.network graph.now) (H.distance guide.now) eps goal) (H.guides guide.now (G.network graph.now) goal) parts }
-    ensures finished { IfOk result (λ r. IsPassFinished (query (G.network graph.now) (H.distance guide.now) eps goal) parts.labels parts.budget keeps r.parts.labels r.parts.budget r.journal r.end) }
+    requires can { CanPass (query (G.network graph.now) (H.distance guide.now) eps goal)
+        (H.guides guide.now (G.network graph.now) goal) parts }
+    ensures finished { IfOk result (λ r. IsPassFinished (query (G.network graph.now) (H.distance guide.now) eps goal)
+        parts.labels parts.budget keeps r.parts.labels r.parts.budget r.journal r.end) }
     ensures over { IfOk result (λ r. HoldsOver r.parts.space r.parts.labels) }
-    ensures given_up { IfErr result (λ r. IsPassGivenUp (query (G.network graph.now) (H.distance guide.now) eps goal) parts.labels parts.budget r.labels r.budget) }
+    ensures given_up { IfErr result (λ r. IsPassGivenUp (query (G.network graph.now) (H.distance guide.now) eps goal)
+        parts.labels parts.budget r.labels r.budget) }
     ensures over_left { IfErr result (λ r. HoldsOver r.space r.labels) }
 {
     make(alloc, graph, guide, parts, goal, eps, keeps)

@@ -209,12 +209,15 @@ pub fn parallel_pass_parts<
 ) -> Result<Passed, Parts>
     requires some { 1 ≤ workers }
     requires few { workers ≤ 64 }
-    requires can { CanPass (query (G.network graph.now) (H.distance guide.now) eps goal) (H.guides guide.now (G.network graph.now) goal) parts }
+    requires can { CanPass (query (G.network graph.now) (H.distance guide.now) eps goal)
+        (H.guides guide.now (G.network graph.now) goal) parts }
     ensures left { Leaves (query (G.network graph.now) (H.distance guide.now) eps goal) parts keeps result }
     // The workers sit in the seats from 0 upwards.
     ensures seats { IfOk result (λ passed. AreTakenBelow workers passed.journal.events) }
     // Where there are several, each of them works until it sees how the pass ends.
-    ensures worked { 2 ≤ workers → IfOk result (λ passed. BeginsWithWork (query (G.network graph.now) (H.distance guide.now) eps goal) parts.labels parts.budget workers passed.journal.events) }
+    ensures worked { 2 ≤ workers → IfOk result (λ passed. BeginsWithWork
+        (query (G.network graph.now) (H.distance guide.now) eps goal) parts.labels parts.budget workers
+        passed.journal.events) }
 {
     parts_as::<Brand, R, T, G, H>(
         rt, gate, workers, alloc, graph, guide, parts, goal, eps, keeps,
@@ -246,7 +249,8 @@ fn parts_as<
     requires labels { parts.labels ≡ N.opening }
     requires budget { parts.budget ≡ N.counts }
     requires keeps { keeps ≡ N.keeps }
-    requires can { CanPass (query (G.network graph.now) (H.distance guide.now) eps goal) (H.guides guide.now (G.network graph.now) goal) parts }
+    requires can { CanPass (query (G.network graph.now) (H.distance guide.now) eps goal)
+        (H.guides guide.now (G.network graph.now) goal) parts }
     ensures left { Leaves N.query parts keeps result }
     ensures seats { IfOk result (λ passed. AreTakenBelow workers passed.journal.events) }
     ensures worked { 2 ≤ workers → IfOk result (λ passed. BeginsWithWork N.query N.opening N.counts workers passed.journal.events) }

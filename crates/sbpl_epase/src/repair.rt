@@ -31,7 +31,8 @@ pub(crate) fn repair<G: Graph>(
     ensures begun { BeginsRaised (G.network graph.now) touched.now labels.old labels.new raiser.new.raised }
     ensures none_under { NoneUnder (states_of labels.new) (g_of labels.new) (v_of labels.new) }
     ensures over { HoldsOver space.new labels.new }
-    ensures ready { (n : Network) (count : ℕ) → n.states ≡ (G.network graph.now).states → AreReady n labels.old count → AreReady (G.network graph.now) labels.new count }
+    ensures ready { (n : Network) (count : ℕ) → n.states ≡ (G.network graph.now).states → AreReady n labels.old count
+        → AreReady (G.network graph.now) labels.new count }
     ensures fresh { IsStartFresh labels.old → IsStartFresh labels.new }
     ensures start { labels.new.start ≡ labels.old.start }
     ensures same_states { states_of labels.new ≡ states_of labels.old }

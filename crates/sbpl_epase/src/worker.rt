@@ -10,8 +10,8 @@ use sbpl_adstar::{Graph, Guide, NoMemory, PassEnd};
 use sbpl_frontier::{Claim, Lined, Pass, Past, Seat, Second, Shared, Ticket, Turn, judge};
 use std::sync::Wait;
 
-/// The seat of a worker that has ended, which posted the judgement of each arc that it took, and why it ended: because it saw how the
-/// pass ends, or because memory ran out for it.
+/// The seat of a worker that has ended, which posted the judgement of each arc that it took, and why it ended: because it
+/// saw how the pass ends, or because memory ran out for it.
 #[derive(Drop)]
 pub(crate) struct Done<N: Pass, M: Second, L: Lined> {
     pub(crate) seat: Seat<N, M, L>,

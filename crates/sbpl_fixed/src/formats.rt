@@ -1,6 +1,7 @@
 //! What holds of every format, whatever its text.
 
-ghost use Rattle.sbpl_fixed.specs.Meaning.{ReadingIsWhatIsSaid, WordsAreMet, WordsAreMissed, NumbersAreMet, NumbersWithoutForm, NumbersOutOfRange};
+ghost use Rattle.sbpl_fixed.specs.Meaning.{ReadingIsWhatIsSaid, WordsAreMet, WordsAreMissed, NumbersAreMet};
+ghost use Rattle.sbpl_fixed.specs.Meaning.{NumbersWithoutForm, NumbersOutOfRange};
 
 /// A format of values `A` with faults `E` is read from left to right, with the first fault that is met. What is read so
 /// is just what the format says of the tokens, and the fault that is answered is just the one at the first place where

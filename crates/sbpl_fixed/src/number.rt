@@ -2,8 +2,10 @@
 
 ghost use Rattle.std.specs.Prelude.{◌≡◌, ◌+◌, ◌*◌, ◌^◌, ◌<◌, ◌≤◌, true, min, length, slice_index_or};
 ghost use Rattle.std.specs.List.{prefix_len};
-ghost use Rattle.sbpl_fixed.specs.Numbers.{all_digits, decimals_part, is_digit, is_minus, is_no_point, most, nano_of, nine_decimals, number_of, signed, sized, whole_of, whole_part, without_sign};
-ghost use Rattle.sbpl_fixed.specs.NumberForms.{WholesHaveValues, NoOthersAreWhole, DecimalsHaveValues, NoOthersAreDecimals, MissingDecimalsAreZeros, DigitsWriteNumbers};
+ghost use Rattle.sbpl_fixed.specs.Numbers.{all_digits, decimals_part, is_digit, is_minus, is_no_point, most, nano_of};
+ghost use Rattle.sbpl_fixed.specs.Numbers.{nine_decimals, number_of, signed, sized, whole_of, whole_part, without_sign};
+ghost use Rattle.sbpl_fixed.specs.NumberForms.{WholesHaveValues, NoOthersAreWhole, DecimalsHaveValues, NoOthersAreDecimals};
+ghost use Rattle.sbpl_fixed.specs.NumberForms.{MissingDecimalsAreZeros, DigitsWriteNumbers};
 
 use crate::fault::NumFault;
 

@@ -2,7 +2,8 @@
 
 ghost use Rattle.std.specs.Prelude.{◌≡◌, ◌+◌, ◌-◌, ◌^◌, ◌<◌, ◌≤◌, ◌++◌, ◌∷◌, length, drop, OnOk, OnErr, decimal, slice_set};
 ghost use Rattle.sbpl_fixed.specs.Printed.{last_digits, milli_text, nano_text, point_text};
-ghost use Rattle.sbpl_fixed.specs.ReadBack.{NanosAreReadBack, MillisAreReadBack, WholesAreReadBack, NanosAreWords, WholesAreWords, WordsAreTokens, LastWordsAreTokens, BlanksPartTokens};
+ghost use Rattle.sbpl_fixed.specs.ReadBack.{NanosAreReadBack, MillisAreReadBack, WholesAreReadBack, NanosAreWords};
+ghost use Rattle.sbpl_fixed.specs.ReadBack.{WholesAreWords, WordsAreTokens, LastWordsAreTokens, BlanksPartTokens};
 
 use crate::no_memory::NoMemory;
 

@@ -64,7 +64,8 @@ impl<'g, G: Graph, H: Guide, N: Pass, U: Past, M: Second, L: Lined> Locked<'g, G
         }
     }
 
-    /// Takes all judgements out of the line that are in it, and applies them: all that this sender put in, and those that have ended.
+    /// Takes all judgements out of the line that are in it, and applies them: all that this sender put in, and those that
+    /// have ended.
     pub(crate) fn receive_all<R: Wait>(
         &mut self,
         rt: &R,
@@ -93,7 +94,8 @@ impl<'g, G: Graph, H: Guide, N: Pass, U: Past, M: Second, L: Lined> Locked<'g, G
         self.receive_all(rt, queue, &mut sender);
     }
 
-    /// Takes one judgement out of the line and applies it, whose ticket is out as its claim shows. It answers whether there was one.
+    /// Takes one judgement out of the line and applies it, whose ticket is out as its claim shows. It answers whether there
+    /// was one.
     fn receive<R: Wait>(
         &mut self,
         rt: &R,

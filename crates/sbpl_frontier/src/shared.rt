@@ -87,8 +87,8 @@ impl<'g, G: Graph, H: Guide, N: Pass, U: Past, M: Second, L: Lined> Shared<'g, G
         locked.next(seat)
     }
 
-    /// Brings a judgement back, with the claim on its ticket: whoever next asks for an arc applies it. It takes no memory, and no lock
-    /// where the line has room.
+    /// Brings a judgement back, with the claim on its ticket: whoever next asks for an arc applies it. It takes no memory,
+    /// and no lock where the line has room.
     pub fn post<R: Wait>(
         &self,
         rt: &R,

@@ -73,7 +73,8 @@ fn pop_to_clear<G: Graph>(
     requires empty { aside.old.items ≡ [] }
     requires room { 64 ≤ vec_capacity aside.old }
     ensures popped { ArePopped (G.network graph.now) eps labels.now out.now (goal.0, goal.1) queue.old aside.new.items queue.new }
-    ensures leads { PopsTo (G.network graph.now) eps labels.now out.now (goal.0, goal.1) queue.old aside.new.items queue.new result }
+    ensures leads { PopsTo (G.network graph.now) eps labels.now out.now (goal.0, goal.1) queue.old aside.new.items queue.new
+        result }
     ensures room { vec_capacity aside.new ≡ vec_capacity aside.old }
 {
     while aside.len() < MOST_TRIED {

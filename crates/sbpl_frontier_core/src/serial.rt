@@ -22,7 +22,8 @@ pub fn go_on<'g, T: Gate, G: Graph, H: Guide, N: Pass, U: Past>(
     ensures ends { IfOk result (λ r. EndsSo N.query r.1 r.0.frontier) }
     ensures longer { IfOk result (λ r. IsLonger core.entry.journal r.0.journal) }
     // The journal tells only seats below a number, where it told no others before.
-    ensures seats { (seats : ℕ) → 0 < seats → AreTakenBelow seats core.entry.journal → IfOk result (λ r. AreTakenBelow seats r.0.journal) }
+    ensures seats { (seats : ℕ) → 0 < seats → AreTakenBelow seats core.entry.journal
+        → IfOk result (λ r. AreTakenBelow seats r.0.journal) }
 {
     let mut core = core;
     'arcs: loop {
@@ -51,7 +52,8 @@ pub fn nothing_begun<G: Graph, H: Guide>(
     requires guide { H.guides guide.now (G.network graph.now) goal }
     requires eps_low { 1000 ≤ eps }
     requires ready { AreReady (G.network graph.now) labels.now budget.now.run }
-    ensures given_up { IsPassGivenUp (query (G.network graph.now) (H.distance guide.now) eps goal) labels.now budget.now labels.now budget.now }
+    ensures given_up { IsPassGivenUp (query (G.network graph.now) (H.distance guide.now) eps goal) labels.now budget.now
+        labels.now budget.now }
 {
     events_keep();
     let _states = graph.states();

@@ -38,7 +38,8 @@ impl Model for Space {
 
     ghost view = { λ a. record { marks = a.opened; queue = a.queue; expanded = a.expanded.items } };
 
-    ghost invariant = { λ a. (length a.opened ≡ open_list.states_of a.queue) × All (λ s. s < open_list.states_of a.queue) a.expanded.items
+    ghost invariant = { λ a. (length a.opened ≡ open_list.states_of a.queue)
+        × All (λ s. s < open_list.states_of a.queue) a.expanded.items
         × (a.aside.items ≡ []) × (64 ≤ vec_capacity a.aside) };
 }
 

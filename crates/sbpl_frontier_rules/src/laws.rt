@@ -1,6 +1,7 @@
 //! What every list of events keeps.
 
-ghost use Rattle.sbpl_frontier_rules.specs.Laws.{EachOpensOnce, EventsKeep, FirstIsKept, IdleIsExact, IdleShows, SettledAtOne, TakesComeBack, TicketsGoOnce};
+ghost use Rattle.sbpl_frontier_rules.specs.Laws.{EachOpensOnce, EventsKeep, FirstIsKept, IdleIsExact, IdleShows};
+ghost use Rattle.sbpl_frontier_rules.specs.Laws.{SettledAtOne, TakesComeBack, TicketsGoOnce};
 ghost use Rattle.sbpl_frontier_rules.specs.Passes.{CountsAreFree, OpenedByEvents, StartStaysFresh};
 
 /// On every graph that keeps its laws, with a guide that is consistent on it and an inflation of at least 1: a frontier that is

@@ -41,8 +41,8 @@ pub trait Graph {
         ensures small { IfSome result (λ c. c < 2 ^ 32) }
         ensures headed { IfSome result (λ _. IsSome ((network self.now).head s k)) };
 
-    /// A floor on the cost of arc `k` of `s`, at least 1: where the arc is free it costs no less. A search asks for it to leave out the judgement
-    /// of an arc that cannot help, so it has to be quick. It is 1 where a graph knows no better.
+    /// A floor on the cost of arc `k` of `s`, at least 1: where the arc is free it costs no less. A search asks for it to
+    /// leave out the judgement of an arc that cannot help, so it has to be quick. It is 1 where a graph knows no better.
     fn floor(&self, s: u32, k: u32) -> u32
         requires state { s < (network self.now).states }
         requires number { k < (network self.now).fan s }

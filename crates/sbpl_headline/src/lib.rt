@@ -1,5 +1,5 @@
-//! The headline of `plan` and `nav` in definitions of its own, which stand on little else, and the law that what a run promises shows
-//! it.
+//! The headline of `plan` and `nav` in definitions of its own, which stand on little else, and the law that what a run
+//! promises shows it.
 #![tactic(auto)]
 
 mod law;

@@ -43,7 +43,13 @@ impl Model for Best {
 
     ghost view = { λ b. record { goal = b.goal; cells = b.cells.items; turns = b.turns.items; room = vec_capacity b.hops } };
 
-    ghost invariant = { λ b. AreParts (record { goal = b.goal; cells = b.cells.items; turns = b.turns.items; room = vec_capacity b.hops }) b.walks };
+    ghost invariant = { λ b. AreParts (record {
+      goal = b.goal;
+      cells = b.cells.items;
+      turns = b.turns.items;
+      room =
+          vec_capacity b.hops;
+    }) b.walks };
 }
 
 /// The number of headings.

@@ -1,6 +1,7 @@
 //! The cells of a map as a graph, for a search backwards.
 
-ghost use Rattle.std.specs.Prelude.{◌≡◌, ◌+◌, ◌*◌, ◌/◌, ◌%◌, ◌<◌, ◌≤◌, ◌↔◌, ◌+ℤ◌, pos, length, slice_index, slice_set, IsTrue, IfOk, IfSome, IfNone, [], vec_capacity};
+ghost use Rattle.std.specs.Prelude.{◌≡◌, ◌+◌, ◌*◌, ◌/◌, ◌%◌, ◌<◌, ◌≤◌, ◌↔◌, ◌+ℤ◌, pos, length, slice_index, slice_set};
+ghost use Rattle.std.specs.Prelude.{IsTrue, IfOk, IfSome, IfNone, [], vec_capacity};
 ghost use Rattle.sbpl_cost.specs.PrimitiveCost.{most_cost};
 ghost use Rattle.sbpl_cost.specs.States.{IsOff};
 ghost use Rattle.sbpl_heur.specs.Boards.{IsBoard, cell_in, cell_before, cell_after, step_cost, cell_count};
@@ -29,7 +30,13 @@ impl Model for Cells {
 
     ghost view = { λ c. record { env = c.env; costs = c.costs.items; hops = c.hops.items; room = vec_capacity c.hops } };
 
-    ghost invariant = { λ c. IsBoard (record { env = c.env; costs = c.costs.items; hops = c.hops.items; room = vec_capacity c.hops }) };
+    ghost invariant = { λ c. IsBoard (record {
+      env = c.env;
+      costs = c.costs.items;
+      hops = c.hops.items;
+      room = vec_capacity
+          c.hops;
+    }) };
 }
 
 /// A coordinate as one of the `count` cells of its axis.

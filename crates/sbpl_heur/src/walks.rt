@@ -120,7 +120,8 @@ impl Walks {
         requires board { IsBoard (record { env = env.now; costs = costs.now; hops = hops.now; room = self.old.board.room }) }
         ensures board { self.new.board ≡ record { env = env.now; costs = costs.now; hops = hops.now; room = self.old.board.room } }
         ensures start { self.new.labels.start ≡ self.old.labels.start }
-        ensures least { AreLeast self.new.board.env (map_of self.new.board) self.new.board.hops self.new.labels.start (g_of self.new.labels) }
+        ensures least { AreLeast self.new.board.env (map_of self.new.board) self.new.board.hops self.new.labels.start
+            (g_of self.new.labels) }
     {
         let few = self.cells.count() / FEW;
         if self.cells.is_made_of(env, hops) && self.cells.count_changed(costs) <= few {
@@ -174,7 +175,8 @@ impl Walks {
     fn settle(&mut self)
         ensures board { self.new.board ≡ self.old.board }
         ensures start { self.new.labels.start ≡ self.old.labels.start }
-        ensures least { AreLeast self.new.board.env (map_of self.new.board) self.new.board.hops self.new.labels.start (g_of self.new.labels) }
+        ensures least { AreLeast self.new.board.env (map_of self.new.board) self.new.board.hops self.new.labels.start
+            (g_of self.new.labels) }
     {
         let states = self.cells.states();
         make_room(&mut self.search, &mut self.budget, states);

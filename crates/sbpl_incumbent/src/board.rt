@@ -49,8 +49,10 @@ impl Board {
         Ok((Board { cell }, Publisher { pass, count: 0 }))
     }
 
-    /// Publishes the next entry: the path of this cost, and of this bound in thousandths, that this pass of a plan found. Fewer than
-    /// 2^63 entries were published before, and the bound is below 2^100. It takes no memory, and may wait for another thread's call.
+    /// Publishes the next entry: the path of this cost, and of this bound in thousandths, that this pass of a plan found.
+    /// Fewer than
+    /// 2^63 entries were published before, and the bound is below 2^100. It takes no memory, and may wait for another
+    /// thread's call.
     pub fn publish<R: Wait>(
         &self,
         rt: &R,
@@ -64,7 +66,8 @@ impl Board {
         requires few { length publisher.old.published < 2 ^ 63 }
         requires bound { bound < 2 ^ 100 }
         ensures board { publisher.new.board ≡ publisher.old.board }
-        ensures published { publisher.new.published ≡ publisher.old.published ++ next_entry publisher.old.published plan pass cost bound ∷ [] }
+        ensures published { publisher.new.published ≡ publisher.old.published ++ next_entry publisher.old.published plan
+            pass cost bound ∷ [] }
     {
         publisher.count += 1;
         let entry = Entry {
@@ -90,8 +93,8 @@ impl Board {
         Ok(Reader { pass })
     }
 
-    /// The newest entry, or `None` where nothing is published yet. It is as new as all that this reader got or was told of. It takes
-    /// no memory, and may wait for another thread's call.
+    /// The newest entry, or `None` where nothing is published yet. It is as new as all that this reader got or was told of.
+    /// It takes no memory, and may wait for another thread's call.
     pub fn read<R: Wait>(&self, rt: &R, reader: &mut Reader) -> Option<Entry>
         requires board { reader.old.board ≡ self.now }
         ensures some { IfSome result (λ entry. 0 < entry.number) }

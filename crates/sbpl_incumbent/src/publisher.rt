@@ -3,7 +3,8 @@
 use crate::rule::CellPass;
 use std::marker::Model;
 
-/// The right to publish on a board. There is one for each board. Contracts see it as its board and what was published, oldest first.
+/// The right to publish on a board. There is one for each board. Contracts see it as its board and what was published,
+/// oldest first.
 #[derive(Drop)]
 pub struct Publisher {
     pub(crate) pass: CellPass,
@@ -21,5 +22,6 @@ impl Model for Publisher {
 
     ghost view = { λ a. record { board = a.pass.table_id; published = published_of (cell_view a.pass) } };
 
-    ghost invariant = { λ a. (cell_view a.pass ≡ as_publisher (cell_view a.pass)) × (a.count ≡ length (published_of (cell_view a.pass))) };
+    ghost invariant = { λ a. (cell_view a.pass ≡ as_publisher (cell_view a.pass))
+        × (a.count ≡ length (published_of (cell_view a.pass))) };
 }

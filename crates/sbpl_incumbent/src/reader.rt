@@ -3,8 +3,8 @@
 use crate::rule::CellPass;
 use std::marker::Model;
 
-/// The right of a thread to read a board. Contracts see it as its board, what its loads found, oldest first, and the greatest number
-/// that it was told.
+/// The right of a thread to read a board. Contracts see it as its board, what its loads found, oldest first, and the
+/// greatest number that it was told.
 #[derive(Drop)]
 pub struct Reader {
     pub(crate) pass: CellPass,

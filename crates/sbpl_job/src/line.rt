@@ -16,8 +16,8 @@ use clap::error::ErrorKind;
 use clap::{Arg, ArgMatches, Error};
 use std::alloc::{AllocError, Global};
 
-/// A command line, if there was memory for it. Each call below passes on a line that lacked memory, so that a line is dropped in two
-/// functions alone.
+/// A command line, if there was memory for it. Each call below passes on a line that lacked memory, so that a line is
+/// dropped in two functions alone.
 type Line<'a> = Result<clap::Command<'a>, AllocError>;
 
 /// A line without arguments, which knows no name of a program and no help, of a command that does this.

@@ -2,7 +2,8 @@
 
 ghost use Rattle.std.specs.Prelude.{◌≡◌, ◌≤◌, ◌^◌, false, IfErr, IfOk, None, Some, option_and_then};
 ghost use Rattle.sbpl_job.specs.Found.{job_found, set_in};
-ghost use Rattle.sbpl_job.specs.Jobs.{IsJob, IsSearchJob, check_in, command_named, demo_in, job_by, job_named, may_move, nav_by, nav_check_in, nav_in, nav_on, plan_by, plan_in, plan_on, sweep_in};
+ghost use Rattle.sbpl_job.specs.Jobs.{IsJob, IsSearchJob, check_in, command_named, demo_in, job_by, job_named, may_move};
+ghost use Rattle.sbpl_job.specs.Jobs.{nav_by, nav_check_in, nav_in, nav_on, plan_by, plan_in, plan_on, sweep_in};
 ghost use Rattle.sbpl_job.specs.Words.{Names, parts_in, texts};
 
 use crate::demo::{read_extent, read_seed};
@@ -39,7 +40,8 @@ fn plan_settings(
     changes: &Option<Name>,
     matches: &ArgMatches,
 ) -> Result<(SearchJob, Outputs), JobFault>
-    ensures job { IfOk result (λ x. plan_on from.now changes.now (set_in matches.now) ≡ Some (plan_by from.now changes.now x.1 x.0)) }
+    ensures job { IfOk result (λ x. plan_on from.now changes.now (set_in matches.now)
+        ≡ Some (plan_by from.now changes.now x.1 x.0)) }
     ensures none { IfErr result (λ e. e ≡ JobFault.Words → plan_on from.now changes.now (set_in matches.now) ≡ None) }
     ensures range { IfOk result (λ x. IsSearchJob x.0) }
 {

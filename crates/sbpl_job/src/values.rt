@@ -4,7 +4,9 @@ ghost use Rattle.std.specs.Prelude.{◌≡◌, ◌≤◌, ◌^◌, false, IfOk, 
 ghost use Rattle.sbpl_fixed.specs.Numbers.{nano_of, whole_of};
 ghost use Rattle.sbpl_job.specs.declared.words.Setting.TheVariants as Settings;
 ghost use Rattle.sbpl_job.specs.Found.{set_in};
-ghost use Rattle.sbpl_job.specs.Jobs.{IsSearchJob, back_by, budget_by, budget_in, grid_search_in, has_workers, may_move, milli_by, milli_from, milli_in, most_workers, planner_by, planner_named, radius_by, radius_in, search_in, workers_by, workers_in};
+ghost use Rattle.sbpl_job.specs.Jobs.{IsSearchJob, back_by, budget_by, budget_in, grid_search_in, has_workers, may_move};
+ghost use Rattle.sbpl_job.specs.Jobs.{milli_by, milli_from, milli_in, most_workers, planner_by, planner_named, radius_by};
+ghost use Rattle.sbpl_job.specs.Jobs.{radius_in, search_in, workers_by, workers_in};
 ghost use Rattle.sbpl_job.specs.Words.{Names, text_of};
 
 use crate::job::{JobFault, Planner, SearchJob};

@@ -4,7 +4,8 @@ ghost use Rattle.std.specs.Prelude.{◌≡◌, ◌&&◌, IfOk, map, option_map, 
 ghost use Rattle.std.specs.List.{list_any};
 ghost use Rattle.std.specs.Str.{bytes_eq};
 ghost use Rattle.sbpl_job.specs.Forms.{NoPartsWithoutForms, PartsAreOfForms};
-ghost use Rattle.sbpl_job.specs.Words.{are_fit, both_texts, is_known, is_plain_word, joined_word, setting_named, setting_of, spaced, stands_once, takes, texts};
+ghost use Rattle.sbpl_job.specs.Words.{are_fit, both_texts, is_known, is_plain_word, joined_word, setting_named};
+ghost use Rattle.sbpl_job.specs.Words.{setting_of, spaced, stands_once, takes, texts};
 
 use std::alloc::{AllocError, Global};
 

@@ -1,6 +1,7 @@
 //! The labels of all states.
 
-ghost use Rattle.std.specs.Prelude.{◌≡◌, ◌≢◌, ℕ, ◌^◌, ◌<◌, ◌≤◌, ◌↔◌, IfOk, IsTrue, Some, List, [], length, vec_capacity, slice_index_or};
+ghost use Rattle.std.specs.Prelude.{◌≡◌, ◌≢◌, ℕ, ◌^◌, ◌<◌, ◌≤◌, ◌↔◌, IfOk, IsTrue, Some, List, [], length, vec_capacity};
+ghost use Rattle.std.specs.Prelude.{slice_index_or};
 ghost use Rattle.sbpl_graph.specs.Bound.{IsLow};
 ghost use Rattle.sbpl_graph.specs.Certificate.{IsLabel, AreSupported};
 ghost use Rattle.sbpl_graph.specs.Exact.{AreExact};
@@ -11,7 +12,8 @@ ghost use Rattle.sbpl_graph.specs.Network.{Network};
 ghost use Rattle.sbpl_graph.specs.Path.{IsFreePath};
 ghost use Rattle.sbpl_labels.specs.Cut.{kept_v};
 ghost use Rattle.sbpl_labels.specs.CutOff.{IsCutOff};
-ghost use Rattle.sbpl_labels.specs.Marks.{Marks, AreLabels, AreInitial, ChangesRow, states_of, g_of, v_of, back_of, no_row, far_row};
+ghost use Rattle.sbpl_labels.specs.Marks.{Marks, AreLabels, AreInitial, ChangesRow, states_of, g_of, v_of, back_of, no_row};
+ghost use Rattle.sbpl_labels.specs.Marks.{far_row};
 ghost use Rattle.sbpl_labels.specs.Recomputed.{Recomputes};
 ghost use Rattle.sbpl_labels.specs.Walks.{WalkGives};
 ghost use Rattle.sbpl_graph.specs.declared.TheConstants.{FAR};

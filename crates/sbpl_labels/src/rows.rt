@@ -85,7 +85,12 @@ impl Rows {
     /// Gives a state this v.
     pub(crate) fn set_v(&mut self, s: u32, v: u64)
         requires state { s < length self.old }
-        ensures set { SetsRow self.old self.new s (record { g = (slice_index_or self.old s no_row).g; v = v; back = (slice_index_or self.old s no_row).back }) }
+        ensures set { SetsRow self.old self.new s (record {
+          g = (slice_index_or self.old s no_row).g;
+          v = v;
+          back =
+              (slice_index_or self.old s no_row).back;
+        }) }
     {
         self.v[s as usize] = v;
     }

@@ -33,9 +33,9 @@ pub fn texts_are_clear()
 }
 
 /// The records of all plans by a planner whose passes are determined are determined too: by the environment, the primitives,
-/// the map, the radius and the batches of changes, and by what is asked; on a grid by its environment, its map and the batches. So are each pass with its expansions, each result with
-/// its path, cost and bound, what was spent, and the final labels. Records of the first few plans are the first of them. It
-/// does nothing.
+/// the map, the radius and the batches of changes, and by what is asked; on a grid by its environment, its map and the
+/// batches. So are each pass with its expansions, each result with its path, cost and bound, what was spent, and the final
+/// labels. Records of the first few plans are the first of them. It does nothing.
 pub fn records_are_determined()
     ensures law { RecordsAreOne lattice_site AreAlikeWorlds }
     ensures few { FewAreFirst lattice_site AreAlikeWorlds }
@@ -58,8 +58,8 @@ pub fn writes_have_texts()
     ensures count { WritesAreCounted }
 {}
 
-/// However a run ends, it keeps every promise: its status, what was written and what was published come of the job that the words name
-/// and of the files. It does nothing.
+/// However a run ends, it keeps every promise: its status, what was written and what was published come of the job that the
+/// words name and of the files. It does nothing.
 pub fn runs_keep_promises()
     ensures law { RunsKeepPromises }
 {

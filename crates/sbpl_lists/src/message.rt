@@ -124,7 +124,8 @@ pub fn message_at(
     place: usize,
     wanted: &str,
 ) -> Result<Message, NoMemory>
-    ensures text { IfOk result (λ m. m ≡ message_text name.now (line_of text.now place) (column_of text.now place) wanted.now (filled_at text.now place)) }
+    ensures text { IfOk result (λ m. m ≡ message_text name.now (line_of text.now place) (column_of text.now place)
+        wanted.now (filled_at text.now place)) }
 {
     let (line, column) = line_and_column(text, place);
     message_on_line(alloc, name, line, column, wanted, filled_at(text, place))

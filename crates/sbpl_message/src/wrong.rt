@@ -76,8 +76,8 @@ fn wrong_words(alloc: Global, words: &[String]) -> Result<String, AllocError> {
     wrong_after(alloc, command, spaced.as_slice())
 }
 
-/// The message for words that name no job: what `clap` says of them, or which value is out of its range. For words that name a job it
-/// says nothing useful.
+/// The message for words that name no job: what `clap` says of them, or which value is out of its range. For words that
+/// name a job it says nothing useful.
 pub fn words_message(alloc: Global, words: &[String]) -> Result<Message, NoMemory>
     ensures message { IfOk result (λ m. IsPlainMessage (codes "temjoask") m) }
 {

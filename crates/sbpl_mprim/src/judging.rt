@@ -7,7 +7,8 @@ ghost use Rattle.sbpl_cfg.specs.Environment.{IsWithin};
 ghost use Rattle.sbpl_cfg.specs.Place.{heading_of};
 ghost use Rattle.sbpl_cfg.specs.declared.pose.Pose.{Pose as APose};
 ghost use Rattle.sbpl_mprim.specs.declared.prim.Primitive.{Primitive};
-ghost use Rattle.sbpl_mprim.specs.Judging.{CostsNothing, HasId, are_at_one_point, costs_nothing, has_id, heading_modulo, is_in_bin, is_in_cell, is_same_point};
+ghost use Rattle.sbpl_mprim.specs.Judging.{CostsNothing, HasId, are_at_one_point, costs_nothing, has_id, heading_modulo};
+ghost use Rattle.sbpl_mprim.specs.Judging.{is_in_bin, is_in_cell, is_same_point};
 ghost use Rattle.sbpl_mprim.specs.Primitives.{offset_cell, IsOffsetInRange};
 
 use crate::prim::Prim;
@@ -92,7 +93,8 @@ pub(crate) fn costs_nothing(prim: &Prim) -> bool
 /// costs nothing where its multiplier is 0, or where all its poses are at one point and it doesn't turn; and an id is taken
 /// where a primitive with the same start heading has it.
 pub fn primitives_are_judged_in_plain_words()
-    ensures cell { (cell dx dy : ℤ) (p : APose) → (is_in_cell cell dx dy p ≡ true) ↔ ((offset_cell cell p.x ≡ dx) × (offset_cell cell p.y ≡ dy)) }
+    ensures cell { (cell dx dy : ℤ) (p : APose) → (is_in_cell cell dx dy p ≡ true)
+        ↔ ((offset_cell cell p.x ≡ dx) × (offset_cell cell p.y ≡ dy)) }
     ensures cost { (prim : Primitive) → (costs_nothing prim ≡ true) ↔ CostsNothing prim }
     ensures id { (prims : List Primitive) (from id : ℕ) → (has_id prims from id ≡ true) ↔ HasId prims from id }
 {}

@@ -44,7 +44,8 @@ pub fn read_prims(alloc: Global, text: &[u8], cell: i64, headings: u32) -> Resul
     // The text stands for what is read, token by token.
     ensures found { IfOk result (λ ps. IsTextOf text.now ps) }
     // What the text stands for is read, unless memory runs out.
-    ensures only { (ps : Primitives) → ps.cell ≡ cell → ps.headings ≡ headings → IsTextOf text.now ps → Answers Memory (λ x. x) result (Ok ps) }
+    ensures only { (ps : Primitives) → ps.cell ≡ cell → ps.headings ≡ headings → IsTextOf text.now ps
+        → Answers Memory (λ x. x) result (Ok ps) }
     // The fault is the first one, where it stands.
     ensures faulty { IfErr result (λ e. e ≢ Memory → HasFault cell headings text.now e) }
     // A first fault is answered, unless memory runs out.

@@ -6,7 +6,9 @@ ghost use Rattle.sbpl_fixed.specs.Formats.{Gives, Left, reads, turns};
 ghost use Rattle.sbpl_mprim.specs.declared.fault.PrimFault.TheVariants.{NoMemory as Memory};
 ghost use Rattle.sbpl_mprim.specs.Faults.{told};
 ghost use Rattle.sbpl_mprim.specs.Primitives.{IsOffsetInRange, pose_count};
-ghost use Rattle.sbpl_mprim.specs.Reading.{angles_format, count_format, end_format, front_format, head_format, judged, made, mult_format, path_format, pose_format, pose_turn, prim_format, prim_turn, prims_format, resolution_format, signed_format, start_format, total_format};
+ghost use Rattle.sbpl_mprim.specs.Reading.{angles_format, count_format, end_format, front_format, head_format, judged};
+ghost use Rattle.sbpl_mprim.specs.Reading.{made, mult_format, path_format, pose_format, pose_turn, prim_format, prim_turn};
+ghost use Rattle.sbpl_mprim.specs.Reading.{prims_format, resolution_format, signed_format, start_format, total_format};
 ghost use Rattle.sbpl_mprim.specs.Text.{AreSizes};
 
 use crate::earlier::Earlier;
@@ -128,7 +130,8 @@ fn read_next_pose(poses: &mut Vec<Pose>, reader: &mut Reader) -> Result<(), Prim
 /// Reads `count` more poses.
 #[tactic(auto, using(sbpl_fixed::specs::Parts::reads_and_then, sbpl_fixed::specs::Parts::turns_next, sbpl_fixed::specs::Parts::turns_over), unfolding(sbpl_fixed::specs::Formats::reads))]
 fn read_poses(count: u32, poses: &mut Vec<Pose>, reader: &mut Reader) -> Result<(), PrimFault>
-    ensures read { Gives Memory (λ _. poses.new.items) result reader.new (reads told (turns count pose_turn poses.old.items) reader.old) }
+    ensures read { Gives Memory (λ _. poses.new.items) result reader.new
+        (reads told (turns count pose_turn poses.old.items) reader.old) }
     ensures count { OnOk result (vec_len poses.new ≡ vec_len poses.old + count) }
 {
     for _ in 0..count {
@@ -168,7 +171,8 @@ fn judge(
     requires cell { IsWithin (pos 1) (pos 1000000000000) cell }
     requires headings { 0 < headings }
     requires last { IsOffsetInRange last.pose }
-    ensures judged { (left : Left) → Gives Memory (λ _. prim.now) result left (reads told (judged cell headings id_place last prim.now) left) }
+    ensures judged { (left : Left) → Gives Memory (λ _. prim.now) result left
+        (reads told (judged cell headings id_place last prim.now) left) }
 {
     if !is_in_cell(cell, prim.dx, prim.dy, last.pose) {
         return Err(PrimFault::EndCell(last.x_place));
@@ -191,7 +195,8 @@ fn read_front(
 ) -> Result<(Start, End, u32), PrimFault>
     requires some { 0 < headings }
     requires few { headings ≤ 64 }
-    ensures read { Gives Memory (λ x. (x.0, x.1, x.2)) result reader.new (reads told (front_format headings earlier.now) reader.old) }
+    ensures read { Gives Memory (λ x. (x.0, x.1, x.2)) result reader.new
+        (reads told (front_format headings earlier.now) reader.old) }
 {
     let start = read_start(headings, earlier, reader)?;
     let end = read_end(headings, reader)?;

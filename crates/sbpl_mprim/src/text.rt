@@ -15,11 +15,16 @@ ghost use Rattle.sbpl_mprim.specs.Text.{AreShown, AreSizes, HasFault, IsFaulty, 
 /// same. What is printed of primitives stands for them, so reading it gives them back; and so do other lines of words
 /// that say the same.
 pub fn texts_are_primitives_or_faulty()
-    ensures format { (text : List ℕ) (ps : Primitives) → AreSizes ps.cell ps.headings → StandsFor (prims_format ps.cell ps.headings) text ps.items ↔ IsTextOf text ps }
-    ensures either { (cell : ℤ) (headings : ℕ) (text : List ℕ) → AreSizes cell headings → IsText cell headings text ⊎ IsFaulty cell headings text }
-    ensures not_both { (cell : ℤ) (headings : ℕ) (text : List ℕ) (f : PrimFault) → IsText cell headings text → HasFault cell headings text f → ⊥ }
+    ensures format { (text : List ℕ) (ps : Primitives) → AreSizes ps.cell ps.headings
+        → StandsFor (prims_format ps.cell ps.headings) text ps.items ↔ IsTextOf text ps }
+    ensures either { (cell : ℤ) (headings : ℕ) (text : List ℕ) → AreSizes cell headings → IsText cell headings text
+        ⊎ IsFaulty cell headings text }
+    ensures not_both { (cell : ℤ) (headings : ℕ) (text : List ℕ) (f : PrimFault) → IsText cell headings text
+        → HasFault cell headings text f → ⊥ }
     ensures one_value { (text : List ℕ) (ps qs : Primitives) → IsTextOf text ps → IsTextOf text qs → ps ≡ qs }
-    ensures one_fault { (cell : ℤ) (headings : ℕ) (text : List ℕ) (f g : PrimFault) → HasFault cell headings text f → HasFault cell headings text g → f ≡ g }
+    ensures one_fault { (cell : ℤ) (headings : ℕ) (text : List ℕ) (f g : PrimFault) → HasFault cell headings text f
+        → HasFault cell headings text g → f ≡ g }
     ensures printed { (ps : Primitives) → ArePrimitives ps → IsTextOf (prims_text ps) ps }
-    ensures worded { (ps : Primitives) (lines : List (List (List ℕ))) → ArePrimitives ps → AreShown ps.headings (spelled ps) (words_of lines) → IsTextOf (lines_text lines) ps }
+    ensures worded { (ps : Primitives) (lines : List (List (List ℕ))) → ArePrimitives ps
+        → AreShown ps.headings (spelled ps) (words_of lines) → IsTextOf (lines_text lines) ps }
 {}

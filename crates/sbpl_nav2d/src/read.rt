@@ -6,7 +6,9 @@ ghost use Rattle.sbpl_terrain.specs.sbpl_cfg.Faults.{told};
 ghost use Rattle.sbpl_terrain.specs.sbpl_cfg.declared.fault.EnvFault.{EnvFault};
 ghost use Rattle.sbpl_terrain.specs.sbpl_cfg.declared.fault.EnvFault.TheVariants.{NoMemory};
 ghost use Rattle.sbpl_nav2d.specs.Environment.{NavEnvironment};
-ghost use Rattle.sbpl_nav2d.specs.Format.{cost_format, end_format, end_spot_format, environment_format, grid_format, is_on_map, numbers_format, obsthresh_format, size_format, spot_format, start_format, start_spot_format, state_of};
+ghost use Rattle.sbpl_nav2d.specs.Format.{cost_format, end_format, end_spot_format, environment_format, grid_format};
+ghost use Rattle.sbpl_nav2d.specs.Format.{is_on_map, numbers_format, obsthresh_format, size_format, spot_format};
+ghost use Rattle.sbpl_nav2d.specs.Format.{start_format, start_spot_format, state_of};
 ghost use Rattle.sbpl_nav2d.specs.Text.{HasFault, IsTextOf};
 
 use crate::env::NavEnv;

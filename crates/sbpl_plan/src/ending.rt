@@ -52,7 +52,8 @@ pub(crate) fn is_last(
     found: Found,
 ) -> bool
     requires goal { goal < states_of labels.now }
-    ensures last { IsTrue result ↔ (IsEnough ask.now.bound found ⊎ (IsCutOff (states_of labels.now) goal (g_of labels.now) (v_of labels.now) ⊎ ((spent ≡ true) ⊎ (eps ≡ 1000)))) }
+    ensures last { IsTrue result ↔ (IsEnough ask.now.bound found ⊎ (IsCutOff (states_of labels.now) goal (g_of labels.now)
+        (v_of labels.now) ⊎ ((spent ≡ true) ⊎ (eps ≡ 1000)))) }
 {
     is_enough(ask.bound, found) || spent || eps == 1000 || labels.shows_none(goal)
 }
@@ -65,7 +66,8 @@ pub(crate) fn outcome_of(
     arcs: Vec<u32>,
 ) -> Outcome<FoundPath>
     requires goal { goal < states_of labels.now }
-    ensures outcome { (n : Network) (h : ℕ → ℕ) → WalkFinds n h goal labels.now arcs.items found → IsResultOf n h goal labels.now result }
+    ensures outcome { (n : Network) (h : ℕ → ℕ) → WalkFinds n h goal labels.now arcs.items found
+        → IsResultOf n h goal labels.now result }
     ensures agrees { AgreesWithFound found result }
 {
     match found {

@@ -13,8 +13,8 @@ use sbpl_frontier_core::Pass;
 use std::marker::{Model, PhantomData};
 use std::sync::Wait;
 
-/// The right to take postings out of a line, and to make its senders. Contracts see it as how many senders were made, what came out,
-/// and what each sender that has ended had put in.
+/// The right to take postings out of a line, and to make its senders. Contracts see it as how many senders were made, what
+/// came out, and what each sender that has ended had put in.
 #[derive(Drop)]
 pub struct Drain<N: Pass, M: Naming, L: Lined> {
     pub(crate) pass: PostingPass<N, M>,
@@ -31,7 +31,8 @@ impl<N: Pass, M: Naming, L: Lined> Model for Drain<N, M, L> {
 
     ghost view = { λ a. drained_of (known_by a.pass) };
 
-    ghost invariant = { λ a. (a.pass.table_id ≡ L.line) × (a.pass.me.1 ≡ []) × (known_by a.pass ≡ whole (drained_of (known_by a.pass))) };
+    ghost invariant = { λ a. (a.pass.table_id ≡ L.line) × (a.pass.me.1 ≡ [])
+        × (known_by a.pass ≡ whole (drained_of (known_by a.pass))) };
 }
 
 impl<N: Pass, M: Naming, L: Lined> Drain<N, M, L> {

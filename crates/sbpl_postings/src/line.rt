@@ -10,8 +10,8 @@ use sbpl_frontier_core::Pass;
 use std::alloc::Global;
 use std::marker::{Model, PhantomData};
 
-/// A line with its drain, before it has a name: no sender was made, and nothing was put in. Contracts see it as the table that it is
-/// made of.
+/// A line with its drain, before it has a name: no sender was made, and nothing was put in. Contracts see it as the table
+/// that it is made of.
 #[derive(Drop)]
 pub struct Line<N: Pass, M: Naming> {
     postings: Postings<N, M>,

@@ -25,5 +25,6 @@ impl<N: Pass, M: Naming, L: Lined> Model for Sender<N, M, L> {
 
     ghost view = { λ a. sent_of (known_by a.pass) };
 
-    ghost invariant = { λ a. (a.pass.table_id ≡ L.line) × (a.pass.me.1 ≡ []) × (known_by a.pass ≡ One (sent_of (known_by a.pass))) };
+    ghost invariant = { λ a. (a.pass.table_id ≡ L.line) × (a.pass.me.1 ≡ [])
+        × (known_by a.pass ≡ One (sent_of (known_by a.pass))) };
 }

@@ -65,8 +65,8 @@ fn pop_posting<R: Wait, N: Pass, M: Naming>(
     postings.pop_as::<Popped, R>(rt, drain)
 }
 
-/// Takes a posting out while a sender stands by. Where there is none, all that it put in has come, as all that the senders that have
-/// ended put in. For the time of the call the sender has ended.
+/// Takes a posting out while a sender stands by. Where there is none, all that it put in has come, as all that the senders
+/// that have ended put in. For the time of the call the sender has ended.
 pub(crate) fn pop_beside<R: Wait, N: Pass, M: Naming>(
     rt: &R,
     postings: &Postings<N, M>,

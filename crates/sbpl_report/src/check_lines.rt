@@ -1,7 +1,8 @@
 //! The lines of a check.
 
 ghost use Rattle.std.specs.Prelude.{◌≡◌, ◌++◌, IfOk, OnOk};
-ghost use Rattle.sbpl_report.specs.Verdicts.{at_arc, at_goal, at_state, bound_text, flaw_kind, flaw_numbers, flaw_text, holds_text, limit_text, outcome_word, two_bounds, two_limits};
+ghost use Rattle.sbpl_report.specs.Verdicts.{at_arc, at_goal, at_state, bound_text, flaw_kind, flaw_numbers, flaw_text};
+ghost use Rattle.sbpl_report.specs.Verdicts.{holds_text, limit_text, outcome_word, two_bounds, two_limits};
 
 use sbpl_cert::{Flaw, Outcome};
 use sbpl_job::{NoMemory, print_milli};

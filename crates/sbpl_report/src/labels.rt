@@ -54,7 +54,8 @@ fn make_full<G: Graph, H: Guide>(
     requires guides { H.guides guide.now (G.network graph.now) goal }
     requires found { IsResultOf (G.network graph.now) (H.distance guide.now) goal labels.now found.now }
     requires supported { AreSupported (G.network graph.now) labels.now.start (g_of labels.now) (v_of labels.now) }
-    ensures shown { IfOk result (IsShownInFull (G.network graph.now) (H.distance guide.now) labels.now.start goal plan labels.now found.now) }
+    ensures shown { IfOk result (IsShownInFull (G.network graph.now) (H.distance guide.now) labels.now.start goal plan
+        labels.now found.now) }
 {
     let states = graph.states();
     let arcs = arcs_of(alloc, found)?;
@@ -77,7 +78,8 @@ fn make_sparse<G: Graph, H: Guide>(
     requires guides { H.guides guide.now (G.network graph.now) goal }
     requires found { IsResultOf (G.network graph.now) (H.distance guide.now) goal labels.now found.now }
     requires supported { AreSupported (G.network graph.now) labels.now.start (g_of labels.now) (v_of labels.now) }
-    ensures shown { IfOk result (IsShownSparsely (G.network graph.now) (H.distance guide.now) labels.now.start goal plan labels.now found.now) }
+    ensures shown { IfOk result (IsShownSparsely (G.network graph.now) (H.distance guide.now) labels.now.start goal plan
+        labels.now found.now) }
 {
     let _states = graph.states();
     let arcs = arcs_of(alloc, found)?;
@@ -101,7 +103,8 @@ fn make_section<G: Graph, H: Guide>(
     requires guides { H.guides guide.now (G.network graph.now) goal }
     requires found { IsResultOf (G.network graph.now) (H.distance guide.now) goal labels.now found.now }
     requires supported { AreSupported (G.network graph.now) labels.now.start (g_of labels.now) (v_of labels.now) }
-    ensures shown { IfOk result (IsShown form (G.network graph.now) (H.distance guide.now) labels.now.start goal plan labels.now found.now) }
+    ensures shown { IfOk result (IsShown form (G.network graph.now) (H.distance guide.now) labels.now.start goal plan
+        labels.now found.now) }
 {
     match form {
         LabelForm::Full => match make_full(alloc, graph, guide, labels, goal, plan, found) {
@@ -132,7 +135,8 @@ pub fn labels_of<G: Graph, H: Guide>(
     requires guides { H.guides guide.now (G.network graph.now) goal }
     requires found { IsResultOf (G.network graph.now) (H.distance guide.now) goal labels.now found.now }
     requires supported { AreSupported (G.network graph.now) labels.now.start (g_of labels.now) (v_of labels.now) }
-    ensures shown { IfOk result (IsThere asked (IsShown form (G.network graph.now) (H.distance guide.now) labels.now.start goal plan labels.now found.now)) }
+    ensures shown { IfOk result (IsThere asked (IsShown form (G.network graph.now) (H.distance guide.now) labels.now.start
+        goal plan labels.now found.now)) }
 {
     if !asked {
         return Ok(None);

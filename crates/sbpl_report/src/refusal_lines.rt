@@ -1,7 +1,8 @@
 //! The lines of refusals.
 
 ghost use Rattle.std.specs.Prelude.{◌≡◌, ◌++◌, OnOk, IfOk, None, Some};
-ghost use Rattle.sbpl_report.specs.Refusals.{fault_text, file_name, input_name, label_fault_text, name_or_nothing, refusal_text, unread_text};
+ghost use Rattle.sbpl_report.specs.Refusals.{fault_text, file_name, input_name, label_fault_text, name_or_nothing};
+ghost use Rattle.sbpl_report.specs.Refusals.{refusal_text, unread_text};
 
 use crate::refusal::{Input, Refusal};
 use sbpl_cert::LabelFault;
@@ -89,7 +90,8 @@ fn plan_name(job: &PlanJob, input: Input) -> &str
 
 /// The name of a file that a job `check` reads; empty where it reads none.
 fn check_name(job: &CheckJob, input: Input) -> &str
-    ensures name { result.now ≡ file_name job.now.sources.env (Some job.now.sources.prims) job.now.changes (Some job.now.labels) input }
+    ensures name { result.now ≡ file_name job.now.sources.env (Some job.now.sources.prims) job.now.changes
+        (Some job.now.labels) input }
 {
     match input {
         Input::Environment => job.sources.env.as_str(),

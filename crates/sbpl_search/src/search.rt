@@ -48,9 +48,11 @@ pub trait Search<G: Graph, H: Guide> {
         requires guide { H.guides guide.now (G.network graph.now) (state self.old).goal }
         requires ready { meaning.ready (G.network graph.now) (state self.old).labels budget.old.run }
         requires serves { serves self.old }
-        ensures passed { IfOk result (IsPassed meaning (query (G.network graph.now) (H.distance guide.now) eps (state self.old).goal) (state self.old) (state self.new) budget.old budget.new) }
+        ensures passed { IfOk result (IsPassed meaning (query (G.network graph.now) (H.distance guide.now) eps
+            (state self.old).goal) (state self.old) (state self.new) budget.old budget.new) }
         ensures kept { traced ≡ true → OnOk result ((state self.new).kept ≡ true) }
-        ensures cut { OnErr result (meaning.cut (query (G.network graph.now) (H.distance guide.now) eps (state self.old).goal) (state self.old) (state self.new) budget.old budget.new) }
+        ensures cut { OnErr result (meaning.cut (query (G.network graph.now) (H.distance guide.now) eps
+            (state self.old).goal) (state self.old) (state self.new) budget.old budget.new) }
         ensures serves { serves self.new };
 
     /// Whether labels are repaired after a change of the graph, for which the touched states are wanted.
@@ -64,16 +66,19 @@ pub trait Search<G: Graph, H: Guide> {
         requires states { states_of (state self.old).labels ≡ (G.network graph.now).states }
         requires fits { meaning.repairs ≡ true → IsChangeable (G.network graph.now) touched.now (state self.old).labels }
         requires upwards { meaning.repairs ≡ true → IsStrictlyIncreasing touched.now }
-        ensures begun { meaning.begun (G.network graph.now) touched.now (state self.old).labels (state self.new).labels (state self.new).raised }
-        ensures ready { (n : Network) (count : ℕ) → n.states ≡ (G.network graph.now).states → meaning.ready n (state self.old).labels count → meaning.ready (G.network graph.now) (state self.new).labels count }
+        ensures begun { meaning.begun (G.network graph.now) touched.now (state self.old).labels (state self.new).labels
+            (state self.new).raised }
+        ensures ready { (n : Network) (count : ℕ) → n.states ≡ (G.network graph.now).states
+            → meaning.ready n (state self.old).labels count → meaning.ready (G.network graph.now) (state self.new).labels
+            count }
         ensures fresh { IsStartFresh (state self.old).labels → IsStartFresh (state self.new).labels }
         ensures start { (state self.new).labels.start ≡ (state self.old).labels.start }
         ensures states { states_of (state self.new).labels ≡ states_of (state self.old).labels }
         ensures goal { (state self.new).goal ≡ (state self.old).goal }
         ensures serves { serves self.old → serves self.new };
 
-    /// Sets the goal of the passes to come, a state by its number. All else stays, so the next pass goes on from these labels, and may
-    /// be guided to the new goal; `low` is right for the new goal at once. It takes no memory.
+    /// Sets the goal of the passes to come, a state by its number. All else stays, so the next pass goes on from these
+    /// labels, and may be guided to the new goal; `low` is right for the new goal at once. It takes no memory.
     fn aim(&mut self, goal: u32)
         requires goal { goal < states_of (state self.old).labels }
         ensures aimed { state self.new ≡ record (state self.old) { goal = goal } }

@@ -2,7 +2,8 @@
 
 ghost use Rattle.std.specs.Prelude.{true, false};
 ghost use Rattle.sbpl_search.specs.Determined.{DeterminesBeginnings};
-ghost use Rattle.sbpl_serial.specs.Determined.{EqualRunsAgree, GuideAtStates, RestEndsRuns, RunsGoOn, SerialIsDetermined, InitialLabelsAreOne};
+ghost use Rattle.sbpl_serial.specs.Determined.{EqualRunsAgree, GuideAtStates, RestEndsRuns, RunsGoOn, SerialIsDetermined};
+ghost use Rattle.sbpl_serial.specs.Determined.{InitialLabelsAreOne};
 ghost use Rattle.sbpl_serial.specs.Meant.{Begins};
 ghost use Rattle.sbpl_serial.specs.Raised.{RaisingBegins, RaisingEnds, RaisingGoesOn, RaisingLowersNone};
 ghost use Rattle.sbpl_serial.specs.Repaired.{ExactWhereSame};
@@ -30,8 +31,8 @@ pub fn exact_where_same()
 {}
 
 /// Raising goes arc by arc: from exact labels it begins where v of an underconsistent state becomes infinite, it goes on as
-/// each head whose back arc comes from that state is recomputed, by which no g falls, and after the last arc the state is raised and
-/// the labels are exact again.
+/// each head whose back arc comes from that state is recomputed, by which no g falls, and after the last arc the state is
+/// raised and the labels are exact again.
 pub fn raising_goes_arc_by_arc()
     ensures begins { RaisingBegins }
     ensures goes_on { RaisingGoesOn }

@@ -14,8 +14,8 @@ use crate::{Serial, Step};
 use sbpl_search::{Graph, Guide, Labels};
 
 impl<P> Serial<P> {
-    /// Raises the underconsistent state `s`: its v becomes infinite, each head whose back arc comes from `s` is recomputed, and they
-    /// are placed in the queue.
+    /// Raises the underconsistent state `s`: its v becomes infinite, each head whose back arc comes from `s` is recomputed,
+    /// and they are placed in the queue.
     pub(crate) fn raise<G: Graph, H: Guide>(&mut self, graph: &G, guide: &H, eps: u32, s: u32)
         requires open { IsOpen (closed_after none_closed self.old.trace) self.old.labels s }
         requires under { IsUnder self.old.labels s }

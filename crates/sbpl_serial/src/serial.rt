@@ -96,9 +96,9 @@ impl<P> Serial<P> {
 
     /// Sets the goal of the passes to come: a state, by its number. All else stays: the labels, the trace of the last pass, and
     /// the queue, in which each state whose g and v differ is, unless that pass expanded it. So the next pass goes on from these
-    /// labels. It may have another guide, one to the new goal, since a pass gives each open state a new key when it begins; `low` is
-    /// right for the new goal at once. Whether the back arcs lead from the new goal to the start is known only after a pass. It takes
-    /// no memory.
+    /// labels. It may have another guide, one to the new goal, since a pass gives each open state a new key when it begins;
+    /// `low` is right for the new goal at once. Whether the back arcs lead from the new goal to the start is known only
+    /// after a pass. It takes no memory.
     pub fn aim(&mut self, goal: u32)
         requires goal { goal < states_of self.old.labels }
         ensures aimed { self.new ≡ record self.old { goal = goal } }

@@ -3,7 +3,8 @@
 ghost use Rattle.std.specs.Prelude.{◌≡◌, ◌↔◌, ℤ, pos, ◌<◌, ◌≤◌, ◌≤ℤ◌, [], ◌∷◌, ◌++◌, length, IfOk, OnOk, IfErr, IsErrOf, IsTrue};
 ghost use Rattle.sbpl_sweep.specs.Bands.{IsIn, IsCovered};
 ghost use Rattle.sbpl_sweep.specs.Widths.{most_cells};
-ghost use Rattle.sbpl_sweep.specs.Gathered.{IsListed, AreInOrder, AreCovered, IsStopOf, GoesOn, IsNext, AddsBand, AreSortedBands, CoverTheSame, AreBounded};
+ghost use Rattle.sbpl_sweep.specs.Gathered.{IsListed, AreInOrder, AreCovered, IsStopOf, GoesOn, IsNext, AddsBand};
+ghost use Rattle.sbpl_sweep.specs.Gathered.{AreSortedBands, CoverTheSame, AreBounded};
 
 use crate::band::Band;
 use crate::cell::Cell;
@@ -40,7 +41,8 @@ fn push_cell(cells: &mut Vec<Cell>, cell: Cell) -> Result<(), Stop>
     requires few { length cells.old.items ≤ most_cells }
     ensures added { OnOk result (cells.new.items ≡ cells.old.items ++ cell ∷ []) }
     ensures few { OnOk result (length cells.new.items ≤ most_cells) }
-    ensures more { IsErrOf result Stop.TooMany → (cells.new.items ≡ cells.old.items ++ cell ∷ []) × (most_cells < length cells.new.items) }
+    ensures more { IsErrOf result Stop.TooMany → (cells.new.items ≡ cells.old.items ++ cell ∷ [])
+        × (most_cells < length cells.new.items) }
 {
     if let Err(_) = cells.push(cell) {
         return Err(Stop::NoMemory);
@@ -60,7 +62,8 @@ fn push_band(cells: &mut Vec<Cell>, band: &Band) -> Result<(), Stop>
     ensures added { OnOk result (AddsBand cells.old.items band.now cells.new.items) }
     ensures all { OnOk result ((x : ℤ) → IsIn band.now x band.now.y → IsListed cells.new.items x band.now.y) }
     ensures few { OnOk result (length cells.new.items ≤ most_cells) }
-    ensures more { IsErrOf result Stop.TooMany → AddsBand cells.old.items band.now cells.new.items × (most_cells < length cells.new.items) }
+    ensures more { IsErrOf result Stop.TooMany → AddsBand cells.old.items band.now cells.new.items
+        × (most_cells < length cells.new.items) }
 {
     let mut x = next_column(cells, band);
     while x <= band.last {

@@ -45,7 +45,8 @@ impl Ending {
     }
 }
 
-/// Writes the last line of a run, which is to answer this status and to tell why. Where the line was not written, nothing more is told.
+/// Writes the last line of a run, which is to answer this status and to tell why. Where the line was not written, nothing
+/// more is told.
 pub fn end_with<D: Desk>(
     alloc: Global,
     line: &[u8],

@@ -1,7 +1,8 @@
 //! The section of a plan in the report.
 
 ghost use Rattle.std.specs.Prelude.{◌≡◌, ◌++◌, IfOk, OnOk, flat_map};
-ghost use Rattle.sbpl_promises.specs.sbpl_report.Report.{found_text, outcome_text, pass_text, path_text, place_text, section_text, spent_text, spot_text, step_text};
+ghost use Rattle.sbpl_promises.specs.sbpl_report.Report.{found_text, outcome_text, pass_text, path_text, place_text};
+ghost use Rattle.sbpl_promises.specs.sbpl_report.Report.{section_text, spent_text, spot_text, step_text};
 
 use sbpl_promises::Piece::{Bytes, Milli, Number};
 use sbpl_promises::{

@@ -89,7 +89,8 @@ fn write_last_outputs<D: Desk>(
     plan: &PlanRecord,
     desk: &mut D,
 ) -> Result<(), WriteStop>
-    ensures ends { EndsIn (D.state desk.old) (D.state desk.new) (trace_writes outputs.now plan.now ++ incumbent_writes outputs.now plan.now) result }
+    ensures ends { EndsIn (D.state desk.old) (D.state desk.new) (trace_writes outputs.now plan.now
+        ++ incumbent_writes outputs.now plan.now) result }
     ensures frame { WritesOnly (IsOutputOf outputs.now) (D.state desk.old) (D.state desk.new) }
 {
     match write_trace(alloc, outputs, plan, desk) {
@@ -105,7 +106,8 @@ fn write_outputs<D: Desk>(
     plan: &PlanRecord,
     desk: &mut D,
 ) -> Result<(), WriteStop>
-    ensures ends { EndsIn (D.state desk.old) (D.state desk.new) (labels_writes outputs.now plan.now ++ (trace_writes outputs.now plan.now ++ incumbent_writes outputs.now plan.now)) result }
+    ensures ends { EndsIn (D.state desk.old) (D.state desk.new) (labels_writes outputs.now plan.now
+        ++ (trace_writes outputs.now plan.now ++ incumbent_writes outputs.now plan.now)) result }
     ensures frame { WritesOnly (IsOutputOf outputs.now) (D.state desk.old) (D.state desk.new) }
 {
     match write_labels(alloc, outputs, plan, desk) {

@@ -25,7 +25,8 @@ pub fn are_on_map<W: Terrain>(world: &W, batch: &[Write]) -> bool
 /// Makes a write.
 fn make<W: Terrain>(world: &mut W, write: &Write)
     requires on_map { IsOnMap (W.cells.map world.old) (pos write.now.x) (pos write.now.y) }
-    ensures changes { ChangesCell (W.cells.map world.old) (W.cells.map world.new) (pos write.now.x) (pos write.now.y) write.now.cost }
+    ensures changes { ChangesCell (W.cells.map world.old) (W.cells.map world.new) (pos write.now.x) (pos write.now.y)
+        write.now.cost }
     ensures others { world.new ≡ W.cells.over world.old (W.cells.map world.new) }
 {
     // The cell is on the map, so this is not refused.
@@ -67,7 +68,8 @@ pub fn apply<W: Terrain>(
     ensures once { OnOk result (IsStrictlyIncreasing touched.new.items) }
     ensures same_arcs { OnOk result (KeepArcsElsewhere end (W.network world.old) (W.network world.new) touched.new.items) }
     ensures states { OnOk result (AreStates (W.network world.new) touched.new.items) }
-    ensures refused { OnErr result ((W.cells.map world.new ≡ W.cells.map world.old) ⊎ AreWritten (W.cells.map world.old) batch.now (W.cells.map world.new)) }
+    ensures refused { OnErr result ((W.cells.map world.new ≡ W.cells.map world.old)
+        ⊎ AreWritten (W.cells.map world.old) batch.now (W.cells.map world.new)) }
 {
     W::is_terrain();
     let _map = world.map();

@@ -28,7 +28,8 @@ pub trait Heuristic<W: Terrain>: Guide + Drop {
     /// Makes the guide anew for the present map, where it was made for another map of the same graph. It takes no memory.
     fn rebuild(&mut self, world: &W)
         requires made { (m : CellMap) × (goal : ℕ) × is_made_for self.old (W.cells.over world.now m) goal }
-        ensures made { (m : CellMap) (goal : ℕ) → is_made_for self.old (W.cells.over world.now m) goal → is_made_for self.new world.now goal };
+        ensures made { (m : CellMap) (goal : ℕ) → is_made_for self.old (W.cells.over world.now m) goal
+            → is_made_for self.new world.now goal };
 
     /// Makes the guide one to another goal, on the present map. After `NoMemory` it is the guide that it was.
     fn aim(&mut self, alloc: Global, world: &W, goal: u32) -> Result<(), NoMemory>

@@ -23,7 +23,8 @@ use std::alloc::Global;
 
 /// The environment and the costs that are drawn.
 fn env_of(alloc: Global, text: &[u8], job: &DemoJob) -> Result<(Env, Grid), NoMemory>
-    requires said { IsEnvironmentText text.now (environment job.now.width job.now.height) (costs job.now.width job.now.height job.now.seed) }
+    requires said { IsEnvironmentText text.now (environment job.now.width job.now.height)
+        (costs job.now.width job.now.height job.now.seed) }
     ensures env { IfOk result (λ x. x.0 ≡ environment job.now.width job.now.height) }
     ensures grid { IfOk result (λ x. x.1 ≡ costs job.now.width job.now.height job.now.seed) }
 {
@@ -92,7 +93,12 @@ fn lattice_of(
     requires wide { map.width ≡ job.now.width }
     requires high { map.height ≡ job.now.height }
     requires cheap { NoneTooDear (environment job.now.width job.now.height) primitives }
-    ensures lattice { IfOk result (λ l. l ≡ record { env = environment job.now.width job.now.height; prims = primitives; sweeps = sweeps; map = map }) }
+    ensures lattice { IfOk result (λ l. l ≡ record {
+      env = environment job.now.width job.now.height;
+      prims = primitives;
+      sweeps = sweeps;
+      map = map;
+    }) }
     ensures kept { IfOk result IsWorld }
 {
     match Lattice::new(alloc, env, prims, sweeps, map) {
@@ -105,7 +111,8 @@ fn lattice_of(
 
 /// The lattice that the texts of a drawn example stand for.
 fn lattice_from(alloc: Global, demo: &Demo, job: &DemoJob) -> Result<Lattice, NoMemory>
-    requires env { IsEnvironmentText demo.now.env (environment job.now.width job.now.height) (costs job.now.width job.now.height job.now.seed) }
+    requires env { IsEnvironmentText demo.now.env (environment job.now.width job.now.height)
+        (costs job.now.width job.now.height job.now.seed) }
     requires prims { IsPrimitiveText demo.now.prims primitives }
     requires narrow { NoneTooWide primitives 0 }
     requires cheap { NoneTooDear (environment job.now.width job.now.height) primitives }
@@ -121,9 +128,11 @@ fn lattice_from(alloc: Global, demo: &Demo, job: &DemoJob) -> Result<Lattice, No
 
 /// The lattice and the batches of changes that the texts of a drawn example stand for.
 fn parts_of(alloc: Global, demo: &Demo, job: &DemoJob) -> Result<(Lattice, Changes), NoMemory>
-    requires env { IsEnvironmentText demo.now.env (environment job.now.width job.now.height) (costs job.now.width job.now.height job.now.seed) }
+    requires env { IsEnvironmentText demo.now.env (environment job.now.width job.now.height)
+        (costs job.now.width job.now.height job.now.seed) }
     requires prims { IsPrimitiveText demo.now.prims primitives }
-    requires changes { (m : CellMap) → m.width ≡ job.now.width → m.height ≡ job.now.height → IsChangeText m demo.now.changes (changes_drawn job.now.width job.now.height job.now.seed) }
+    requires changes { (m : CellMap) → m.width ≡ job.now.width → m.height ≡ job.now.height
+        → IsChangeText m demo.now.changes (changes_drawn job.now.width job.now.height job.now.seed) }
     requires short { length demo.now.changes ≤ 429 }
     requires narrow { NoneTooWide primitives 0 }
     requires cheap { NoneTooDear (environment job.now.width job.now.height) primitives }

@@ -3,7 +3,9 @@
 ghost use Rattle.std.specs.Prelude.{◌≡◌, ◌≢◌, ◌≤◌, ◌^◌, [], true, None, length, IfOk, IfErr};
 ghost use Rattle.sbpl_promises.specs.LatticeSite.{lattice_site};
 ghost use Rattle.sbpl_promises.specs.sbpl_lists.Messages.{IsPlainMessage};
-ghost use Rattle.sbpl_promises.specs.Causes.{ChangesStopFor, IsChangesRefused, IsEnvironmentRefused, IsPrimitivesRefused, IsReadText, IsUnread, LatticeStopsFor, PrimitivesStopFor, IsCourseIn, ReadsCourse, ReadsEnvironment, ReadsPrimitives, scope_of};
+ghost use Rattle.sbpl_promises.specs.Causes.{ChangesStopFor, IsChangesRefused, IsEnvironmentRefused, IsPrimitivesRefused};
+ghost use Rattle.sbpl_promises.specs.Causes.{IsReadText, IsUnread, LatticeStopsFor, PrimitivesStopFor, IsCourseIn};
+ghost use Rattle.sbpl_promises.specs.Causes.{ReadsCourse, ReadsEnvironment, ReadsPrimitives, scope_of};
 ghost use Rattle.sbpl_promises.specs.Explained.{ExplainsChanges, ExplainsLattice};
 ghost use Rattle.sbpl_promises.specs.Texts.{HasChangeFault, IsChangeText, IsEnvironmentText, IsPrimitiveText, Scope, still_scope};
 ghost use Rattle.sbpl_promises.specs.sbpl_map.ChangeText.{AreOnMap};
@@ -115,10 +117,11 @@ pub(crate) fn read_primitives<D: Desk>(
     judge_primitives(alloc, &from.prims, text.as_slice(), env)
 }
 
-/// Why the change file of this name is refused, whose text has this fault, or that memory ran out. `moves` says whether its lines can say
-/// where the robot is.
+/// Why the change file of this name is refused, whose text has this fault, or that memory ran out. `moves` says whether its
+/// lines can say where the robot is.
 fn stop_for(alloc: Global, name: &Name, text: &[u8], moves: bool, fault: ChangeFault) -> Stop
-    ensures stop { (s : Scope) → (fault ≢ ChangeFaults.NoMemory → HasChangeFault s text.now fault) → IsChangesRefused s name.now text.now result }
+    ensures stop { (s : Scope) → (fault ≢ ChangeFaults.NoMemory → HasChangeFault s text.now fault)
+        → IsChangesRefused s name.now text.now result }
 {
     if let ChangeFault::NoMemory = fault {
         return Stop::NoMemory;

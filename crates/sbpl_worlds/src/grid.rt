@@ -15,7 +15,8 @@ use std::alloc::Global;
 
 /// The grid that the text of the file of this name stands for.
 fn judge_grid(alloc: Global, name: &Name, text: &[u8]) -> Result<Nav, Stop>
-    ensures stands { IfOk result (λ w. (cells : List ℕ) × IsGridText text.now w.env cells × (w.map ≡ record { width = w.env.width; height = w.env.height; costs = cells })) }
+    ensures stands { IfOk result (λ w. (cells : List ℕ) × IsGridText text.now w.env cells
+        × (w.map ≡ record { width = w.env.width; height = w.env.height; costs = cells })) }
     ensures kept { IfOk result IsGridWorld }
     ensures stop { IfErr result (IsGridRefused name.now text.now) }
 {

@@ -6,7 +6,8 @@ ghost use Rattle.sbpl_promises.specs.sbpl_sweep.Swept.{AreSweepsOf};
 ghost use Rattle.sbpl_promises.specs.sbpl_sweep.Widths.{NoneTooWide};
 ghost use Rattle.sbpl_promises.specs.sbpl_lists.Messages.{IsPlainMessage};
 ghost use Rattle.sbpl_promises.specs.Explained.{ExplainsCourse, ExplainsLattice};
-ghost use Rattle.sbpl_promises.specs.Causes.{AreRead, EarlyStopsFor, IsDearStop, IsWideStop, LatticeStopsFor, ReadsWorld, lattice_files};
+ghost use Rattle.sbpl_promises.specs.Causes.{AreRead, EarlyStopsFor, IsDearStop, IsWideStop, LatticeStopsFor, ReadsWorld};
+ghost use Rattle.sbpl_promises.specs.Causes.{lattice_files};
 ghost use Rattle.sbpl_promises.specs.Writing.{ReadsOnly};
 
 use crate::files::{read_change_file, read_environment, read_primitives};

@@ -11,8 +11,8 @@ ghost use Rattle.sbpl_promises.specs.sbpl_plan.Outcomes.{IsTrueOutcome};
 use sbpl_promises::{FoundPath, Heuristic, NoMemory, Outcome, PathStep, Place, Spot, Terrain};
 use std::alloc::Global;
 
-/// What a job plans on: a graph over a map, which is made of the job's files. Plans are told of a graph whose states and arcs a report
-/// can name, from its start to its goal; a search may go over that graph or over it the other way round.
+/// What a job plans on: a graph over a map, which is made of the job's files. Plans are told of a graph whose states and
+/// arcs a report can name, from its start to its goal; a search may go over that graph or over it the other way round.
 pub trait Workspace: Terrain {
     /// What guides a search.
     type Best: Heuristic<Self>;
@@ -52,8 +52,8 @@ pub trait Workspace: Terrain {
         ensures state { result ≡ state_or wording self.now place start }
         ensures inside { result < (wording.told self.now).states };
 
-    /// The result of a plan from `start` to `goal`, as it is told, of what a search found. It takes memory only where a path is turned
-    /// round.
+    /// The result of a plan from `start` to `goal`, as it is told, of what a search found. It takes memory only where a
+    /// path is turned round.
     fn turn(
         &self,
         alloc: Global,
@@ -63,7 +63,8 @@ pub trait Workspace: Terrain {
     ) -> Result<Outcome<FoundPath>, NoMemory>
         requires start { start < (wording.told self.now).states }
         requires goal { goal < (wording.told self.now).states }
-        requires so { IsTrueOutcome (Self.network self.now) (from_of wording.back start goal) (to_of wording.back start goal) found }
+        requires so { IsTrueOutcome (Self.network self.now) (from_of wording.back start goal)
+            (to_of wording.back start goal) found }
         ensures so { IfOk result (IsTrueOutcome (wording.told self.now) start goal) }
         ensures turned { IfOk result (IsTurned (Leads wording.back (wording.told self.now) start goal) found) };
 

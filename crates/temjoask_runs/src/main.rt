@@ -4,12 +4,11 @@
 //! A line of a session is one of these; `\n` in an edit stands for the end of a line.
 //!
 //! - `$ temjoask WORDS` runs the program on these words, and prints its status and its message; `$ quiet WORDS` leaves the
-//! message out.
+//!   message out.
 //! - `$ cat NAME` prints a file.
 //! - `$ edit NAME: OLD -> NEW` writes the file `edited`, which is the file of that name with one text in place of another, once.
-//! - `$ prefixes NAME: WORDS` runs the program for each prefix of a file, which it writes to the file `edited`, the
-//! shortest first, and
-//!   leaves the messages out.
+//! - `$ prefixes NAME: WORDS` runs the program for each prefix of a file, which it writes to the file `edited`, the shortest
+//!   first, and leaves the messages out.
 //! - `$ memory FAULTS: WORDS` runs the program at a desk in memory with faults, as `memory.rt` says.
 //! - `$ print NAME` writes what an environment file or a primitive file says to the file `printed`.
 //! - `$ job WORDS` prints the job that these words name.

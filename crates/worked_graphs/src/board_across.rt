@@ -37,8 +37,8 @@ fn publish_all<R: Wait>(rt: &R, board: &Board, publisher: &mut Publisher, count:
     }
 }
 
-/// Reads until this number is there, or until the turns are used up. Returns the last number that was read, or 0 where one was below
-/// the one before.
+/// Reads until this number is there, or until the turns are used up. Returns the last number that was read, or 0 where one
+/// was below the one before.
 fn follow<R: Wait>(rt: &R, board: &Board, reader: Reader, until: u64) -> (Reader, u64)
     requires board { reader.board ≡ board.now }
     ensures board { result.0.board ≡ board.now }

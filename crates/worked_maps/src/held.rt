@@ -31,8 +31,8 @@ fn comes(flag: &AtomicBool) -> bool {
     false
 }
 
-/// Two states, each with two arcs, which lead to the other and cost 1. Whoever asks where a second arc leads is held up there until a
-/// judgement is posted, or until the turns are used up. A frontier asks for it while it holds its lock.
+/// Two states, each with two arcs, which lead to the other and cost 1. Whoever asks where a second arc leads is held up
+/// there until a judgement is posted, or until the turns are used up. A frontier asks for it while it holds its lock.
 #[derive(Drop)]
 struct Held {
     /// Whether somebody is held up.

@@ -46,7 +46,8 @@ fn follows(lattice: &mut Lattice, best: &mut Best, goal: u32) -> bool
     free && first == Some(OPEN) && then == Some(SHUT)
 }
 
-/// What is shown by the guide to this goal: judgements that come back by the line, passes by more and fewer workers, and the values.
+/// What is shown by the guide to this goal: judgements that come back by the line, passes by more and fewer workers, and
+/// the values.
 fn guides<R: Threads + Wait + Sync>(
     rt: &R,
     alloc: Global,

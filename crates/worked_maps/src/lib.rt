@@ -1,5 +1,6 @@
-//! Worked examples of the crates that sweep, change and plan on maps, and of passes by several workers, as tests and nothing else. They
-//! stand here, in one crate, since a crate with tests is proved twice, and each check of a crate reads all that it stands on.
+//! Worked examples of the crates that sweep, change and plan on maps, and of passes by several workers, as tests and
+//! nothing else. They stand here, in one crate, since a crate with tests is proved twice, and each check of a crate reads
+//! all that it stands on.
 #![tactic(auto)]
 
 #[cfg(test)]

@@ -72,8 +72,8 @@ fn cost_by<R: Threads + Wait + Sync, G: Graph + Sync>(
     )
 }
 
-/// Whether a worker judges an arc while another one is still judging the first, since no lock is held meanwhile, and the two find the
-/// cheap way.
+/// Whether a worker judges an arc while another one is still judging the first, since no lock is held meanwhile, and the
+/// two find the cheap way.
 pub(crate) fn meet<R: Threads + Wait + Sync>(rt: &R, alloc: Global, lattice: &Lattice) -> bool {
     let graph = Watched::new(lattice);
     match cost_by(rt, alloc, &graph, 0, 32, 2) {

@@ -19,7 +19,8 @@ use std::sync::ledger::Blank;
 /// Whether a fourth arc is taken and its judgement posted, what the journal then holds, and which arcs are taken next.
 type Row = (bool, &'static str, [Option<(u32, u32)>; 2]);
 
-/// Three judgements come back: the second and the third find the line full, which has room for one, and the end finds the third there.
+/// Three judgements come back: the second and the third find the line full, which has room for one, and the end finds the
+/// third there.
 pub(crate) const THREE: Row = (
     false,
     "[Opened { state: 0 }, Taken { ticket: 0, seat: 0, state: 0, arc: 0 }, Taken { ticket: 1, seat: 0, state: 0, arc: 1 }, Taken { ticket: 2, seat: 0, state: 0, arc: 2 }, Posted { ticket: 0, cost: Some(75) }, Posted { ticket: 1, cost: Some(150) }, Posted { ticket: 2, cost: Some(25) }]",

@@ -42,8 +42,9 @@ fn told(planned: &Planned<Event>) -> Option<(usize, u64)> {
     }
 }
 
-/// The passes of a plan from the first state to this one are made by one, four, two and three workers, and each begins with the labels
-/// of the pass before: how many passes there are, and the cost of the path. The labels are then made initial again.
+/// The passes of a plan from the first state to this one are made by one, four, two and three workers, and each begins with
+/// the labels of the pass before: how many passes there are, and the cost of the path. The labels are then made initial
+/// again.
 pub(crate) fn falling<R: Threads + Wait + Sync>(
     rt: &R,
     alloc: Global,
@@ -55,7 +56,8 @@ pub(crate) fn falling<R: Threads + Wait + Sync>(
     requires guide { IsGuide (network_of lattice.now) goal best.now }
 {
     let make = move |alloc: Global, graph: &Lattice, guide: &Best, parts: Parts, goal: u32, eps: u32, keeps: bool|
-        requires can { CanPass (query (network_of graph.now) (distance_in guide.now) eps goal) (IsGuide (network_of graph.now) goal guide.now) parts }
+        requires can { CanPass (query (network_of graph.now) (distance_in guide.now) eps goal)
+            (IsGuide (network_of graph.now) goal guide.now) parts }
         ensures left { Leaves (query (network_of graph.now) (distance_in guide.now) eps goal) parts keeps result }
     {
         parallel_pass_parts(

@@ -56,8 +56,8 @@ fn draw(word: &mut u64, limit: u32) -> u32
     ((*word >> 33) % u64::from(limit)) as u32
 }
 
-/// A path of the least cost from the start on, and the last line. Which states are expanded depends on the workers, and nothing is said
-/// of them.
+/// A path of the least cost from the start on, and the last line. Which states are expanded depends on the workers, and
+/// nothing is said of them.
 const PATH: &str = ".. cost 100 bound 1.000\npose 0 0 0\n..\ndone\n";
 
 /// What a check of labels writes, of one plan and of three.
@@ -82,8 +82,8 @@ environment:
     None,
 ];
 
-/// Whether the first judgement is held; the words of a plan that workers make with labels, and the report; and then the words of a check
-/// of these labels, and its report.
+/// Whether the first judgement is held; the words of a plan that workers make with labels, and the report; and then the
+/// words of a check of these labels, and its report.
 type Row = (bool, &'static str, &'static str, &'static str, &'static str);
 
 /// Plans on the map with a way around, and one on the grid, round its wall.
@@ -237,8 +237,8 @@ fn thirty_batches(alloc: Global) -> Result<String, Fail> {
     Ok(text)
 }
 
-/// Whether repairing by four workers makes known these costs on the map with a way around; and what planning anew does on these files,
-/// for 31 plans, of which some find a path and some none.
+/// Whether repairing by four workers makes known these costs on the map with a way around; and what planning anew does on
+/// these files, for 31 plans, of which some find a path and some none.
 fn repairs<R: Threads + Wait + Sync>(
     rt: &R,
     alloc: Global,

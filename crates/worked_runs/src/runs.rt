@@ -60,8 +60,8 @@ fn is_as(report: &[u8], wanted: &str) -> bool {
     report.starts_with(start) && report.contains(middle) && report.ends_with(end)
 }
 
-/// Whether a run of these words on a desk with these files, whose workers call a gate, ends with status 0 and this report, in which up
-/// to two `..` stand for any text.
+/// Whether a run of these words on a desk with these files, whose workers call a gate, ends with status 0 and this report,
+/// in which up to two `..` stand for any text.
 pub(crate) fn reports<R: Threads + Wait + Sync, T: Gate + Sync>(
     rt: &R,
     alloc: Global,
